@@ -1,0 +1,5 @@
+//! Texts and programs.
+
+#![tactic(auto)]
+
+pub mod tree;

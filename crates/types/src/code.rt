@@ -1,0 +1,200 @@
+//! A program with its names resolved. Scalars are slots of their procedure's frame, sections are numbers of
+//! their procedure, arrays and procedures are numbers of the program, and each statement carries its label.
+
+use syntax::tree::{ElementType, Relation};
+
+/// A statement's number in the order of the text, from 1.
+pub type Label = u32;
+
+/// A resolved program. The first sections of `main` are the arrays.
+#[derive(Drop)]
+pub struct Program {
+    pub arrays: Vec<Array>,
+    pub procedures: Vec<Procedure>,
+    pub main: Procedure,
+}
+
+/// A declared array.
+#[derive(Drop)]
+pub struct Array {
+    pub name: String,
+    pub element: ElementType,
+    pub length: usize,
+}
+
+/// A procedure, or `main`. Its section parameters are its first sections, its scalar parameters its first
+/// slots.
+#[derive(Drop)]
+pub struct Procedure {
+    pub name: String,
+    /// The section parameters, in the order of the text.
+    pub parameters: Vec<SectionParameter>,
+    /// How many scalar parameters there are.
+    pub scalars: usize,
+    /// How many slots a frame of it has, scalar parameters among them.
+    pub slots: usize,
+    /// Where each section comes from.
+    pub sections: Vec<Section>,
+    pub body: Vec<Stmt>,
+}
+
+/// A section parameter.
+#[derive(Clone, Copy)]
+pub struct SectionParameter {
+    /// `mut`
+    pub may_write: bool,
+    pub element: ElementType,
+}
+
+/// A section of a procedure: its name and where it comes from.
+#[derive(Drop)]
+pub struct Section {
+    pub name: String,
+    pub origin: Origin,
+}
+
+/// Where a section comes from. The two sides of a split are numbered in turn.
+#[derive(Clone, Copy, PartialEq, Eq, Debug)]
+pub enum Origin {
+    /// An array, or a section parameter.
+    Root,
+    /// The left side of a split of `parent`.
+    Left { parent: usize },
+    /// The right side of a split of `parent`.
+    Right { parent: usize },
+}
+
+/// A statement with its label.
+#[derive(Drop)]
+#[cycle(statement)]
+pub struct Stmt {
+    pub label: Label,
+    pub kind: StmtKind,
+}
+
+/// What a statement does.
+#[derive(Drop)]
+#[cycle(statement)]
+pub enum StmtKind {
+    /// `a[0] = 7;`: one step, with no statement inside.
+    Do(Primitive),
+    /// `if x < 2 { .. } else { .. }`
+    If {
+        guard: Truth,
+        body: Vec<Stmt>,
+        other: Vec<Stmt>,
+    },
+    /// `while x < 2 { .. }`
+    While {
+        guard: Truth,
+        body: Vec<Stmt>,
+    },
+    /// `split s at 2 as l, r { .. }`
+    Split {
+        section: usize,
+        at: Number,
+        left: usize,
+        right: usize,
+        body: Vec<Stmt>,
+    },
+    /// `f(a, 1);`
+    Call {
+        procedure: usize,
+        values: Vec<Number>,
+        sections: Vec<usize>,
+    },
+    /// `async { .. }`
+    Async {
+        body: Vec<Stmt>,
+    },
+    /// `finish { .. }`
+    Finish {
+        body: Vec<Stmt>,
+    },
+}
+
+/// A statement that runs in one step.
+#[derive(Drop)]
+pub enum Primitive {
+    /// `skip;`
+    Skip,
+    /// `x = 1;`, and `var x = 1;`
+    Assign {
+        slot: usize,
+        value: Number,
+    },
+    /// `a[0] = 7;`
+    Store {
+        section: usize,
+        index: Number,
+        value: Number,
+    },
+    /// `print a[0], 2;`
+    Print {
+        values: Vec<Number>,
+    },
+    /// `fault 3;`
+    Fault {
+        value: Number,
+    },
+}
+
+/// An expression for a number.
+#[derive(Drop)]
+#[cycle(number)]
+pub enum Number {
+    /// `7`, never negative.
+    Literal(i64),
+    /// `x`
+    Scalar { slot: usize },
+    /// `a[0]`
+    Element { section: usize, index: Box<Number> },
+    /// `len(a)`
+    Length { section: usize },
+    /// `-x`
+    Negative(Box<Number>),
+    /// `x + 1 - y`, or `x * 2 % y`: the first operand and the others in turn.
+    Chain { first: Box<Number>, rest: Vec<Link> },
+}
+
+/// An operator of a chain and the operand behind it.
+#[derive(Drop)]
+#[cycle(number)]
+pub struct Link {
+    pub operator: Operator,
+    pub operand: Number,
+}
+
+/// An operator of a sum or of a product.
+#[derive(Clone, Copy, PartialEq, Eq, Debug)]
+pub enum Operator {
+    /// `+`
+    Plus,
+    /// `-`
+    Minus,
+    /// `*`
+    Times,
+    /// `/`, toward zero.
+    Over,
+    /// `%`, with the sign of the dividend.
+    Modulo,
+}
+
+/// An expression for a truth value.
+#[derive(Drop)]
+pub enum Truth {
+    /// `true`
+    Constant(bool),
+    /// `x < 1`
+    Compare {
+        relation: Relation,
+        left: Number,
+        right: Number,
+    },
+    /// `not x < 1`
+    Not(Box<Truth>),
+    /// `x < 1 and y < 1`, in turn.
+    Both(Vec<Truth>),
+    /// `x < 1 or y < 1`, in turn.
+    Either(Vec<Truth>),
+}

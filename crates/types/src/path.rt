@@ -1,0 +1,31 @@
+//! The names of tasks.
+
+use std::alloc::AllocError;
+use std::fmt;
+
+/// The name of a task: the root is `0`, and the n-th child that a task spawns (from 1) has its path, a dot
+/// and n.
+#[derive(Clone, PartialEq, Eq, Hash, Debug, Drop)]
+pub struct Path {
+    /// The child numbers that lead from the root to the task; none for the root.
+    pub turns: Vec<u32>,
+}
+
+impl fmt::Display for Path {
+    fn fmt<W: fmt::Write>(&self, f: &mut fmt::Formatter<W>) -> fmt::Result {
+        write!(f, "0")?;
+        for turn in &self.turns {
+            write!(f, ".{turn}")?;
+        }
+        Ok(())
+    }
+}
+
+impl Path {
+    /// The path of the n-th child.
+    pub fn child(&self, number: u32) -> Result<Path, AllocError> {
+        let mut turns = self.turns.clone()?;
+        turns.push(number)?;
+        Ok(Path { turns })
+    }
+}

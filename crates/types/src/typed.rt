@@ -1,0 +1,22 @@
+//! A well-typed program.
+
+use crate::code;
+
+/// A program that breaks no rule of the language, with its names resolved. `type_check` alone makes it.
+#[derive(Drop)]
+pub struct Typed {
+    program: syntax::tree::Program,
+    code: code::Program,
+}
+
+impl Typed {
+    /// The program as it was read.
+    pub fn program(&self) -> &syntax::tree::Program {
+        &self.program
+    }
+
+    /// The resolved program.
+    pub fn code(&self) -> &code::Program {
+        &self.code
+    }
+}
