@@ -6,6 +6,7 @@ pub mod budget;
 pub mod code;
 pub mod fault;
 pub mod input;
+pub mod laws;
 pub mod outcome;
 pub mod path;
 pub mod typed;
