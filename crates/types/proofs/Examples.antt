@@ -7,7 +7,7 @@ use Rattle.types.specs.Code.{Program, Chain, Link, Done, Negative}
 use Rattle.types.specs.FirstPart.{is_first_part}
 use Rattle.types.specs.Run.{Fault}
 use Rattle.types.specs.Outcome.{Budget, Ending, Outcome, Ended, Halted, outcome}
-use Rattle.types.proofs.Programs.{lit, two_arrays, doubling, splits, split_below, two_readers, three_faults, child_faults, fault_after_async, nested_tasks, nested_faults, byte_store, past_the_end, endless, signs, least_by, least, by_zero, count_to, scalars, deep_call, one_async}
+use Rattle.types.proofs.Programs.{lit, two_arrays, doubling, splits, split_below, two_readers, three_faults, child_faults, fault_after_async, nested_tasks, nested_faults, byte_store, past_the_end, endless, signs, least_by, least, by_zero, count_to, scalars, deep_call, one_async, late_async}
 
 abbrev budget : (steps nest : ℕ) → Budget
 budget steps nest = record { steps = steps; nest = nest }
@@ -130,6 +130,10 @@ no_nest_stops = refl
 
 one_nest_suffices : outcome one_async [] (budget 100 1) ≡ prints ((z 1 ∷ []) ∷ (z 2 ∷ []) ∷ [])
 one_nest_suffices = refl
+
+-- a child begins with all steps, whatever its parent has left
+late_async_ends : outcome late_async [] (budget 3 1) ≡ prints []
+late_async_ends = refl
 
 two_arrays_is_first_part : is_first_part two_arrays ≡ true
 two_arrays_is_first_part = refl

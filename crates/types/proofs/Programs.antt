@@ -172,3 +172,7 @@ deep_call n = record {
 -- async { print 1; } print 2;
 abbrev pub one_async : Program
 one_async = main_of [] 0 [] ((1, Async ((2, Do (Print (lit 1 ∷ []))) ⨾ End)) ⨾ (3, Do (Print (lit 2 ∷ []))) ⨾ End)
+
+-- skip; skip; async { skip; skip; skip; }
+abbrev pub late_async : Program
+late_async = main_of [] 0 [] ((1, Do Skip) ⨾ (2, Do Skip) ⨾ (3, Async ((4, Do Skip) ⨾ (5, Do Skip) ⨾ (6, Do Skip) ⨾ End)) ⨾ End)
