@@ -1,2 +1,3 @@
 pub mod Programs
 pub mod Examples
+pub mod Solutions
