@@ -1,3 +1,4 @@
 pub mod Programs
 pub mod Examples
 pub mod Solutions
+pub mod Views
