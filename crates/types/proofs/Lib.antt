@@ -2,3 +2,5 @@ pub mod Programs
 pub mod Examples
 pub mod Solutions
 pub mod Views
+pub mod Adds
+pub mod Larger

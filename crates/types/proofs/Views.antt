@@ -10,7 +10,7 @@ use Rattle.types.specs.Value.{Environment, Valued, element_of, holds_number, num
 use Rattle.types.specs.Run.{Flow, On, Faulted, Stopped, State, Work, Block, Turn, stopped, at_flow, go_on, spend, with_step, fault, with_value, number_at, numbers_at, truth_at, window_at, assign, print, put, choose, in_environment, entry, with_sides, bind, array_of, procedure_of, Rules, primitive, counted, act, block, work}
 
 -- one of two, where the equation may begin elsewhere
-begin_at : {L A : Type 0} {a b c : A} → a ≡ b → L ⊎ (b ≡ c) → L ⊎ (a ≡ c)
+pub begin_at : {L A : Type 0} {a b c : A} → a ≡ b → L ⊎ (b ≡ c) → L ⊎ (a ≡ c)
 begin_at e (inl l) = inl l
 begin_at e (inr h) = inr (e ∙ h)
 

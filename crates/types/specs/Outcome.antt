@@ -51,9 +51,12 @@ outcome_by Stopped e = Halted
 outcome_by On e = Ended e
 outcome_by Faulted e = Ended e
 
+abbrev pub ending_of : {X : Type 0} → Program → State X → Ending
+ending_of p st = record { arrays = shown p.arrays st.store; lines = st.lines; faults = st.faults }
+
 -- what a run of `main` comes to
 abbrev pub outcome_of : {X : Type 0} → Program → State X → Outcome
-outcome_of p st = outcome_by st.flow (record { arrays = shown p.arrays st.store; lines = st.lines; faults = st.faults })
+outcome_of p st = outcome_by st.flow (ending_of p st)
 
 -- the one-thread outcome; `main` stands in an outer finish
 abbrev pub outcome : Program → (input : List (List ℤ)) → Budget → Outcome
