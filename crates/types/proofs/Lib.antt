@@ -4,3 +4,4 @@ pub mod Solutions
 pub mod Views
 pub mod Adds
 pub mod Larger
+pub mod Readings
