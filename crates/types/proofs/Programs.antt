@@ -14,7 +14,7 @@ abbrev pub lit : ℕ → Number
 lit n = Literal (pos n)
 
 abbrev pub ints : ℕ → Array
-ints n = record { name = []; element = Int; count = n }
+ints n = record { name = []; element = Int; length = n }
 
 abbrev pub main_of : List Array → (slots : ℕ) → List Origin → Codes → Program
 main_of arrays slots sections body = record {
@@ -104,7 +104,7 @@ nested_faults = main_of [] 0 [] (
 
 -- array a: byte[1]; a[0] = 255; a[0] = 256; print 1;
 abbrev pub byte_store : Program
-byte_store = main_of (record { name = []; element = Byte; count = 1 } ∷ []) 0 (Root ∷ []) (
+byte_store = main_of (record { name = []; element = Byte; length = 1 } ∷ []) 0 (Root ∷ []) (
   (1, Do (Store 0 (lit 0) (lit 255))) ⨾ (2, Do (Store 0 (lit 0) (lit 256))) ⨾ (3, Do (Print (lit 1 ∷ []))) ⨾ End)
 
 -- a[1] = 2; with a of one element

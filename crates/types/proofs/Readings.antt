@@ -32,7 +32,7 @@ module _ (env : Environment) (read other : Place → ℤ) where
 
   element_same : (w : Window) (v : ℤ) → ((q : Place) → In w q → read q ≡ other q) → then_try (element_of w v) (λ q. Ok (read q)) ≡ then_try (element_of w v) (λ q. Ok (other q))
   element_same w (negsuc n) h = refl
-  element_same w (pos n) h = inside (nat_lt n w.count) (λ e. let lt = ltb-true n w.count e in record { array = refl; low = omega arith; high = omega (arith, lt) })
+  element_same w (pos n) h = inside (nat_lt n w.length) (λ e. let lt = ltb-true n w.length e in record { array = refl; low = omega arith; high = omega (arith, lt) })
     where
       q : Place
       q = record { array = w.array; index = w.at + n }

@@ -59,7 +59,7 @@ module _ {X : Type 0} where
   spend_agree m (suc n) st go to e le h = h (record st { steps = n }) (omega (arith, e, le))
 
 module _ (p : Program) {X : Type 0} (r : Rules X) where
-  primitive_less : (l : ℕ) (s : Primitive) → Less (primitive p r l s)
+  primitive_less : (l : ℕ) (s : Primitive) → Less {X = X} (primitive p l s)
   primitive_less l Skip st = le_refl st.steps
   primitive_less l (Assign x e) st = value_less l (number_at st e) (assign x) st (λ v. le_refl st.steps)
   primitive_less l (Store s i e) st =
@@ -68,7 +68,7 @@ module _ (p : Program) {X : Type 0} (r : Rules X) where
   primitive_less l (Print es) st = value_less l (numbers_at st es) print st (λ vs. le_refl st.steps)
   primitive_less l (Raise e) st = value_less l (number_at st e) _ st (λ v. le_refl st.steps)
 
-  counted_less : (s : Code) (st : State X) → (counted p r s st).steps ≡ st.steps
+  counted_less : (s : Code) (st : State X) → (counted r s st).steps ≡ st.steps
   counted_less (Do s) st = refl
   counted_less (If t b c) st = refl
   counted_less (While t b) st = refl
@@ -77,14 +77,14 @@ module _ (p : Program) {X : Type 0} (r : Rules X) where
   counted_less (Async b) st = refl
   counted_less (Finish b) st = refl
 
-  counted_act_less : (d : Work → State X → State X) (l : ℕ) (s : Code) → Less (act p r d l s) → Less (λ st. act p r d l s (counted p r s st))
-  counted_act_less d l s h st = let i = h (counted p r s st) in let j = counted_less s st in omega (arith, i, j)
+  counted_act_less : (d : Work → State X → State X) (l : ℕ) (s : Code) → Less (act p r d l s) → Less (λ st. act p r d l s (counted r s st))
+  counted_act_less d l s h st = let i = h (counted r s st) in let j = counted_less s st in omega (arith, i, j)
 
   step_agree : (m : ℕ) (d e : Work → State X → State X) (l : ℕ) (s : Code) → ((st : State X) → st.steps < m → act p r d l s st ≡ act p r e l s st) → (st : State X) → st.steps ≤ m
-    → with_step (λ st. act p r d l s (counted p r s st)) st ≡ with_step (λ st. act p r e l s (counted p r s st)) st
+    → with_step (λ st. act p r d l s (counted r s st)) st ≡ with_step (λ st. act p r e l s (counted r s st)) st
   step_agree m d e l s h st le =
-      spend_agree m st.steps st (λ st. act p r d l s (counted p r s st)) (λ st. act p r e l s (counted p r s st)) refl le
-        (λ x lt. h (counted p r s x) (let j = counted_less s x in omega (arith, j, lt)))
+      spend_agree m st.steps st (λ st. act p r d l s (counted r s st)) (λ st. act p r e l s (counted r s st)) refl le
+        (λ x lt. h (counted r s x) (let j = counted_less s x in omega (arith, j, lt)))
 
 module _ (p : Program) {X : Type 0} (r : Rules X) (thrifty : IsThrifty r) where
   abbrev Deeper : Type 0
@@ -115,13 +115,13 @@ module _ (p : Program) {X : Type 0} (r : Rules X) (thrifty : IsThrifty r) where
       block_less : (b : Codes) → Less (block p r d b)
       block_less End st = le_refl st.steps
       block_less (Then l s rest) st =
-          let after = with_step (λ st. act p r d l s (counted p r s st)) st in
-          let i = spend_less st.steps st (λ st. act p r d l s (counted p r s st)) refl (counted_act_less p r d l s (act_less s l)) in
+          let after = with_step (λ st. act p r d l s (counted r s st)) st in
+          let i = spend_less st.steps st (λ st. act p r d l s (counted r s st)) refl (counted_act_less p r d l s (act_less s l)) in
           let j = flow_less after.flow after (block p r d rest) (block_less rest) in omega (arith, i, j)
 
     work_less : LessIn (work p r d)
     work_less (Block b) st = block_less b st
-    work_less (Turn l t b) st = spend_less st.steps st (λ st. act p r d l (While t b) (counted p r (While t b) st)) refl (counted_act_less p r d l (While t b) (act_less (While t b) l))
+    work_less (Turn l t b) st = spend_less st.steps st (λ st. act p r d l (While t b) (counted r (While t b) st)) refl (counted_act_less p r d l (While t b) (act_less (While t b) l))
 
   within_less : (k : ℕ) → LessIn (within p r k)
   within_less zero w st = le_refl st.steps
@@ -159,9 +159,9 @@ module _ (p : Program) {X : Type 0} (r : Rules X) (thrifty : IsThrifty r) where
       block_agree : (b : Codes) (st : State X) → st.steps ≤ m → block p r d b st ≡ block p r e b st
       block_agree End st le = refl
       block_agree (Then l s rest) st le =
-          let after = with_step (λ st. act p r d l s (counted p r s st)) st in
-          let i = spend_less st.steps st (λ st. act p r d l s (counted p r s st)) refl (counted_act_less p r d l s (act_less d less s l)) in
-          then_agree after (with_step (λ st. act p r e l s (counted p r s st)) st) (block p r d rest) (block p r e rest)
+          let after = with_step (λ st. act p r d l s (counted r s st)) st in
+          let i = spend_less st.steps st (λ st. act p r d l s (counted r s st)) refl (counted_act_less p r d l s (act_less d less s l)) in
+          then_agree after (with_step (λ st. act p r e l s (counted r s st)) st) (block p r d rest) (block p r e rest)
             (step_agree p r m d e l s (act_agree s l) st le) (block_agree rest after (omega (arith, i, le)))
 
     work_agree : (w : Work) (st : State X) → st.steps ≤ m → work p r d w st ≡ work p r e w st

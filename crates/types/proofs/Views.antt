@@ -76,7 +76,7 @@ module _ (p : Program) {I X Y : Type 0} (r : Rules X) (s : Rules Y) (v : I → S
   choose_follows i true f g h k st a b = a
   choose_follows i false f g h k st a b = b
 
-  primitive_follows : (l : ℕ) (c : Primitive) → Follows v Lost (primitive p r l c) (primitive p s l c)
+  primitive_follows : (l : ℕ) (c : Primitive) → Follows v Lost (primitive p l c) (primitive p l c)
   primitive_follows l Skip i st = inr refl
   primitive_follows l (Assign x e) i st =
       value_follows i l (number_at st e) (number_at (v i st) e) (same_reading i (λ env c. number env (read c) e) st) (assign x) (assign x) st (λ n. assign_follows x n i st)
@@ -90,7 +90,7 @@ module _ (p : Program) {I X Y : Type 0} (r : Rules X) (s : Rules Y) (v : I → S
   primitive_follows l (Raise e) i st =
       value_follows i l (number_at st e) (number_at (v i st) e) (same_reading i (λ env c. number env (read c) e) st) _ _ st (λ n. inr (view.faulted i st l (Raised n)))
 
-  counted_is : (i : I) (c : Code) (st : State X) → counted p s c (v i st) ≡ v i (counted p r c st)
+  counted_is : (i : I) (c : Code) (st : State X) → counted s c (v i st) ≡ v i (counted r c st)
   counted_is i (Do c) st = view.stepped i st
   counted_is i (If t b c) st = view.stepped i st
   counted_is i (While t b) st = view.stepped i st
@@ -111,10 +111,10 @@ module _ (p : Program) {I X Y : Type 0} (r : Rules X) (s : Rules Y) (v : I → S
 
   -- with a step taken before
   step_follows : (d : Work → State X → State X) (e : Work → State Y → State Y) (l : ℕ) (c : Code) → Follows v Lost (act p r d l c) (act p s e l c)
-    → Follows v Lost (with_step (λ st. act p r d l c (counted p r c st))) (with_step (λ st. act p s e l c (counted p s c st)))
+    → Follows v Lost (with_step (λ st. act p r d l c (counted r c st))) (with_step (λ st. act p s e l c (counted s c st)))
   step_follows d e l c h i st =
-      view.spends i st (λ st. act p r d l c (counted p r c st)) (λ st. act p s e l c (counted p s c st))
-        (λ i st. begin_at (ap (act p s e l c) (counted_is i c st)) (h i (counted p r c st)))
+      view.spends i st (λ st. act p r d l c (counted r c st)) (λ st. act p s e l c (counted s c st))
+        (λ i st. begin_at (ap (act p s e l c) (counted_is i c st)) (h i (counted r c st)))
 
   module _ (d : Work → State X → State X) (e : Work → State Y → State Y) (deeper : (w : Work) → Follows v Lost (d w) (e w)) where
     mutual
@@ -143,7 +143,7 @@ module _ (p : Program) {I X Y : Type 0} (r : Rules X) (s : Rules Y) (v : I → S
       block_follows : (b : Codes) → Follows v Lost (block p r d b) (block p s e b)
       block_follows End i st = inr refl
       block_follows (Then l c rest) i st =
-          after_follows i (with_step (λ st. act p r d l c (counted p r c st))) (block p r d rest) (with_step (λ st. act p s e l c (counted p s c st))) (block p s e rest) st
+          after_follows i (with_step (λ st. act p r d l c (counted r c st))) (block p r d rest) (with_step (λ st. act p s e l c (counted s c st))) (block p s e rest) st
             (step_follows d e l c (act_follows c l) i st) (block_follows rest)
 
     -- where what is deeper follows, so does the whole

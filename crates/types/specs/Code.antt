@@ -64,7 +64,7 @@ pub record Array : Type 0 where
   -- the bytes of its name
   pub name : List ℕ
   pub element : ElementType
-  pub count : ℕ
+  pub length : ℕ
 
 -- a section parameter
 pub record Parameter : Type 0 where

@@ -27,7 +27,7 @@ row c array at (suc n) = read c (record { array = array; index = at }) ∷ row c
 -- the numbers of arrays, the first of which has the number `array`
 abbrev pub rows : Contents → (array : ℕ) → List Array → List (List ℤ)
 rows c array [] = []
-rows c array (x ∷ xs) = row c array 0 x.count ∷ rows c (array + 1) xs
+rows c array (x ∷ xs) = row c array 0 x.length ∷ rows c (array + 1) xs
 
 -- the numbers of all arrays, in the order of declaration
 abbrev pub shown : List Array → Contents → List (List ℤ)
@@ -36,4 +36,4 @@ shown arrays c = rows c 0 arrays
 -- one list for each array, with a number for each element
 pub data Fits : List Array → List (List ℤ) → Type 0 where
   no_more : Fits [] []
-  also : {x : Array} {xs : List Array} {row : List ℤ} {rows : List (List ℤ)} → length row ≡ x.count → Fits xs rows → Fits (x ∷ xs) (row ∷ rows)
+  also : {x : Array} {xs : List Array} {row : List ℤ} {rows : List (List ℤ)} → length row ≡ x.length → Fits xs rows → Fits (x ∷ xs) (row ∷ rows)

@@ -30,7 +30,7 @@ pub data Outcome : Type 0 where
 -- all places of each array, the first of which has the number `array`
 abbrev pub whole_arrays : (array : ℕ) → List Array → List Window
 whole_arrays array [] = []
-whole_arrays array (x ∷ xs) = record { array = array; at = 0; count = x.count } ∷ whole_arrays (array + 1) xs
+whole_arrays array (x ∷ xs) = record { array = array; at = 0; length = x.length } ∷ whole_arrays (array + 1) xs
 
 -- a task with the path of the root at the beginning of `main`
 abbrev pub start : {X : Type 0} → X → Program → (steps : ℕ) → Contents → State X

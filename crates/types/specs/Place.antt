@@ -6,17 +6,17 @@ pub record Place : Type 0 where
   pub array : ℕ
   pub index : ℕ
 
--- `count` places of an array, from its place `at` on
+-- `length` places of an array, from its place `at` on
 pub record Window : Type 0 where
   pub array : ℕ
   pub at : ℕ
-  pub count : ℕ
+  pub length : ℕ
 
 -- a place of a window
 pub record In (w : Window) (q : Place) : Type 0 where
   pub array : q.array ≡ w.array
   pub low : w.at ≤ q.index
-  pub high : q.index < w.at + w.count
+  pub high : q.index < w.at + w.length
 
 -- whether two places are the same
 abbrev pub same_place : Place → Place → Bool
@@ -24,15 +24,15 @@ same_place p q = nat_eq p.array q.array && nat_eq p.index q.index
 
 -- the window without places
 abbrev pub nowhere : Window
-nowhere = record { array = 0; at = 0; count = 0 }
+nowhere = record { array = 0; at = 0; length = 0 }
 
 -- the place of the element i of a window, where it has one
 abbrev pub place_in : Window → ℤ → Option Place
 place_in w (negsuc n) = None
-place_in w (pos i) = if nat_lt i w.count then Some (record { array = w.array; index = w.at + i }) else None
+place_in w (pos i) = if nat_lt i w.length then Some (record { array = w.array; index = w.at + i }) else None
 
 -- the first n places of a window and the others, where it has that many
 abbrev pub sides_of : Window → ℤ → Option (Window × Window)
 sides_of w (negsuc n) = None
 sides_of w (pos n) =
-    if nat_le n w.count then Some (record w { count = n }, record w { at = w.at + n; count = w.count - n }) else None
+    if nat_le n w.length then Some (record w { length = n }, record w { at = w.at + n; length = w.length - n }) else None

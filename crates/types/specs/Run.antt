@@ -53,7 +53,7 @@ with_sides left right ws env = record env { windows = bind left ws.0 (bind right
 
 -- an array and a procedure that no program has
 abbrev pub no_array : Array
-no_array = record { name = []; element = Int; count = 0 }
+no_array = record { name = []; element = Int; length = 0 }
 
 abbrev pub no_procedure : Procedure
 no_procedure = record { parameters = []; scalars = 0; slots = 0; sections = []; body = End }
@@ -146,7 +146,7 @@ pub record Rules (X : Type 0) : Type 0 where
   -- a finish that began at `before` is at its end
   pub leave : (before : State X) → State X → State X
 
-module _ (p : Program) {X : Type 0} (r : Rules X) where
+module _ (p : Program) {X : Type 0} where
   -- a statement of one step, whose step was taken
   abbrev pub primitive : (label : ℕ) → Primitive → State X → State X
   primitive l Skip st = st
@@ -158,15 +158,18 @@ module _ (p : Program) {X : Type 0} (r : Rules X) where
   primitive l (Print es) st = with_value l (numbers_at st es) print st
   primitive l (Raise e) st = with_value l (number_at st e) (λ v. fault l (Raised v)) st
 
+module _ {X : Type 0} (r : Rules X) where
+  -- tells the rules of the step of a statement, unless they see it anyway
   abbrev pub counted : Code → State X → State X
   counted (Async b) st = st
   counted (Finish b) st = st
   counted s st = record st { extra = r.stepped st.extra }
 
+module _ (p : Program) {X : Type 0} (r : Rules X) where
   abbrev mutual
     -- a statement whose step was taken; `deeper` is what calls and further turns of a loop do
     pub act : (deeper : Work → State X → State X) → (label : ℕ) → Code → State X → State X
-    act deeper l (Do s) st = primitive l s st
+    act deeper l (Do s) st = primitive p l s st
     act deeper l (If t b c) st = with_value l (truth_at st t) (choose (block deeper b) (block deeper c)) st
     act deeper l (While t b) st =
         with_value l (truth_at st t) (choose (λ s. go_on (deeper (Turn l t b)) (block deeper b s)) (λ s. s)) st
@@ -184,12 +187,12 @@ module _ (p : Program) {X : Type 0} (r : Rules X) where
     pub block : (deeper : Work → State X → State X) → Codes → State X → State X
     block deeper End st = st
     block deeper (Then l s rest) st =
-        go_on (block deeper rest) (with_step (λ st. act deeper l s (counted s st)) st)
+        go_on (block deeper rest) (with_step (λ st. act deeper l s (counted r s st)) st)
 
   -- what work does, where `deeper` does what is inside its calls and further turns
   abbrev pub work : (deeper : Work → State X → State X) → Work → State X → State X
   work deeper (Block b) st = block deeper b st
-  work deeper (Turn l t b) st = with_step (λ st. act deeper l (While t b) (counted (While t b) st)) st
+  work deeper (Turn l t b) st = with_step (λ st. act deeper l (While t b) (counted r (While t b) st)) st
 
   -- at most k calls and turns within one another
   abbrev pub within : ℕ → Work → State X → State X

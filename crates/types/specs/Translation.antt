@@ -76,7 +76,7 @@ origin (rLeft s) = Left s
 origin (rRight s) = Right s
 
 abbrev pub array : rArray → Array
-array a = record { name = string_bytes a.name; element = a.element; count = a.length }
+array a = record { name = string_bytes a.name; element = a.element; length = a.length }
 
 abbrev pub parameter : SectionParameter → Parameter
 parameter x = record { may_write = x.may_write; element = x.element }
