@@ -5,3 +5,4 @@ pub mod Views
 pub mod Adds
 pub mod Larger
 pub mod Readings
+pub mod Lists
