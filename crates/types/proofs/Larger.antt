@@ -5,7 +5,7 @@ use Rattle.types.specs.Code.{Codes, Program}
 use Rattle.types.specs.Contents.{held_by}
 use Rattle.types.specs.Run.{Flow, On, Faulted, Stopped, State, Rules, Work, Block, stopped, at_flow, go_on, spend, with_step, within, run}
 use Rattle.types.specs.Meaning.{hushed, joined, child, after_async, after_body, after_finish, one_rules_by, begin_one, one_rules, one}
-use Rattle.types.specs.Outcome.{Budget, IsLarger, Ending, Outcome, Ended, Halted, start, outcome_by, ending_of, outcome_of, outcome}
+use Rattle.types.specs.Outcome.{Budget, IsLarger, Ending, Outcome, Ended, Halted, start, outcome_by, ending_of, outcome_of, outcome, Means}
 use Rattle.types.specs.Laws.{IsThrifty}
 use Rattle.types.proofs.Solutions.{solves}
 use Rattle.types.proofs.Views.{Follows, FollowsAt, IsView, begin_at, work_follows}
@@ -126,3 +126,17 @@ larger_ends p input b larger e is_larger ends =
     let steps : b.steps + (larger.steps - b.steps) ≡ larger.steps = let le = is_larger.steps in omega (arith, le) in
     subst (λ k. outcome p input (record { steps = k; nest = larger.nest }) ≡ Ended e) steps
       (larger_by p input b.steps (larger.steps - b.steps) b.nest larger.nest e is_larger.nest ends)
+
+abbrev ending_or : Ending → Outcome → Ending
+ending_or other (Ended e) = e
+ending_or other Halted = other
+
+-- a program means one ending at most
+pub one_ending : (p : Program) (input : List (List ℤ)) (e f : Ending) → Means p input e → Means p input f → e ≡ f
+one_ending p input e f some other =
+    let b = some.0 in
+    let c = other.0 in
+    let both : Budget = record { steps = b.steps + c.steps; nest = b.nest + c.nest } in
+    let as_e = larger_ends p input b both e (record { steps = omega arith; nest = omega arith }) some.1 in
+    let as_f = larger_ends p input c both f (record { steps = omega arith; nest = omega arith }) other.1 in
+    ap (ending_or e) (sym as_e ∙ as_f)

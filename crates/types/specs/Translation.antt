@@ -2,12 +2,14 @@
 use Rattle.std.specs.Prelude.{ℕ, ℤ, List, [], ◌∷◌, map, Vec}
 use Rattle.std.specs.String.{string_bytes}
 use Rattle.types.specs.Code.{Number, Literal, Scalar, Element, Length, Negative, Chain, Links, Done, Link, Truth, Constant, Compare, Not, Both, Either, Truths, NoMore, Also, Primitive, Skip, Assign, Store, Print, Raise, Code, Do, If, While, Split, Call, Async, Finish, Codes, End, Then, Origin, Root, Left, Right, Array, Parameter, Procedure, Program}
+use Rattle.types.specs.Run.{Fault}
+use Rattle.types.specs.Outcome.{Budget, Outcome, Ended, Halted}
 use Rattle.types.specs.declared.code.Number.{Number as rNumber, Row_of-Link, end_of-Link, more_of-Link}
 use Rattle.types.specs.declared.code.Number.TheVariants.{Literal as rLiteral, Scalar as rScalar, Element' as rElement, Length as rLength, Negative' as rNegative, Chain' as rChain}
 use Rattle.types.specs.declared.code.Truth.{Truth as rTruth, Row_of-Truth, end_of-Truth, more_of-Truth}
 use Rattle.types.specs.declared.code.Truth.TheVariants.{Constant as rConstant, Compare as rCompare, Not' as rNot, Both' as rBoth, Either' as rEither}
 use Rattle.types.specs.declared.code.Primitive.{Primitive as rPrimitive}
-use Rattle.types.specs.declared.code.Primitive.TheVariants.{Skip as rSkip, Assign as rAssign, Store as rStore, Print as rPrint, Fault as rFault}
+use Rattle.types.specs.declared.code.Primitive.TheVariants.{Skip as rSkip, Assign as rAssign, Store as rStore, Print as rPrint, Fault as rRaise}
 use Rattle.types.specs.declared.code.Stmt.{Stmt}
 use Rattle.types.specs.declared.code.StmtKind.{StmtKind, Row_of-Stmt, end_of-Stmt, more_of-Stmt}
 use Rattle.types.specs.declared.code.StmtKind.TheVariants.{Do as rDo, If' as rIf, While' as rWhile, Split' as rSplit, Call as rCall, Async' as rAsync, Finish' as rFinish}
@@ -18,6 +20,11 @@ use Rattle.types.specs.declared.code.SectionParameter.{SectionParameter}
 use Rattle.types.specs.declared.code.Section.{Section}
 use Rattle.types.specs.declared.code.Procedure.{Procedure as rProcedure}
 use Rattle.types.specs.declared.code.Program.{Program as rProgram}
+use Rattle.types.specs.declared.fault.Fault.{Fault as rFault}
+use Rattle.types.specs.declared.budget.Budget.{Budget as rBudget}
+use Rattle.types.specs.declared.input.Input.{Input}
+use Rattle.types.specs.declared.outcome.Outcome.{Outcome as rOutcome}
+use Rattle.types.specs.declared.outcome.Outcome.TheVariants.{Ended as rEnded, Stopped as rStopped}
 
 abbrev mutual
   pub number : rNumber → Number
@@ -49,7 +56,7 @@ primitive rSkip = Skip
 primitive (rAssign x e) = Assign x (number e)
 primitive (rStore s i e) = Store s (number i) (number e)
 primitive (rPrint es) = Print (map number es.items)
-primitive (rFault e) = Raise (number e)
+primitive (rRaise e) = Raise (number e)
 
 abbrev mutual
   pub code : StmtKind → Code
@@ -96,3 +103,21 @@ program p = record {
   procedures = map procedure p.procedures.items;
   main = procedure p.main;
 }
+
+abbrev pub fault : rFault → Fault
+fault f = record { path = f.path.turns.items; label = f.label; kind = f.kind }
+
+abbrev pub budget : rBudget → Budget
+budget b = record { steps = b.steps; nest = b.nest }
+
+-- the lists of an input, one for each array
+abbrev pub input : Input → List (List ℤ)
+input i = map (λ v. v.items) i.arrays.items
+
+abbrev pub outcome : rOutcome → Outcome
+outcome (rEnded arrays lines faults) = Ended (record {
+  arrays = map (λ v. v.items) arrays.items;
+  lines = map (λ v. v.items) lines.items;
+  faults = map fault faults.items;
+})
+outcome rStopped = Halted

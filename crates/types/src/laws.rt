@@ -1,12 +1,13 @@
 //! Laws of the definitions, each the contract of a function that does nothing.
 
-ghost use Rattle.std.specs.Prelude.{◌≡◌, ℕ, ℤ, List};
-ghost use Rattle.types.specs.Code.{Number, Truth, Program};
+ghost use Rattle.std.specs.Prelude.{◌≡◌, ◌<◌, ℕ, ℤ, List, [], length, slice_index_or, slice_set};
+ghost use Rattle.types.specs.Code.{Number, Truth, Array, Program};
 ghost use Rattle.types.specs.Place.{Place};
+ghost use Rattle.types.specs.Contents.{held_by, shown, write, Fits};
 ghost use Rattle.types.specs.Value.{Environment, number, truth};
-ghost use Rattle.types.specs.Run.{Rules, Work, run};
+ghost use Rattle.types.specs.Run.{Rules, Work, run, bind, by_number};
 ghost use Rattle.types.specs.Meaning.{one, one_rules};
-ghost use Rattle.types.specs.Outcome.{Budget, IsLarger, Ending, Ended, outcome};
+ghost use Rattle.types.specs.Outcome.{Budget, IsLarger, Ending, Ended, outcome, Means};
 ghost use Rattle.types.specs.Indexed.{indexed, indexed_truth};
 ghost use Rattle.types.specs.Laws.{IsThrifty, Solves, IsOnly, OnlyAdds, SameOn};
 
@@ -31,10 +32,12 @@ pub fn meaning_only_adds()
 {
 }
 
-/// Under a larger budget an ended outcome is the same.
-pub fn larger_budget_ends_alike()
-    ensures { (p : Program) (input : List (List ℤ)) (b larger : Budget) (e : Ending)
+/// Under a larger budget an ended outcome is the same, so a program has one ending at most.
+pub fn larger_budgets_end_alike()
+    ensures same { (p : Program) (input : List (List ℤ)) (b larger : Budget) (e : Ending)
         → IsLarger larger b → outcome p input b ≡ Ended e → outcome p input larger ≡ Ended e }
+    ensures one { (p : Program) (input : List (List ℤ)) (e f : Ending)
+        → Means p input e → Means p input f → e ≡ f }
 {
 }
 
@@ -44,5 +47,17 @@ pub fn values_depend_on_indexed_sections()
         → SameOn env (indexed e) read other → number env read e ≡ number env other e }
     ensures truth { (env : Environment) (read other : Place → ℤ) (t : Truth)
         → SameOn env (indexed_truth t) read other → truth env read t ≡ truth env other t }
+{
+}
+
+/// Lists show what contents and environments are, and a write to a list is a write there.
+pub fn lists_show_contents()
+    ensures shown { (arrays : List Array) (lists : List (List ℤ))
+        → Fits arrays lists → shown arrays (held_by lists) ≡ lists }
+    ensures written { (lists : List (List ℤ)) (a i : ℕ) (v : ℤ) → i < length (slice_index_or lists a [])
+        → held_by (slice_set lists a (slice_set (slice_index_or lists a []) i v))
+            ≡ write (record { array = a; index = i }) v (held_by lists) }
+    ensures assigned { (slots : List ℤ) (x : ℕ) (v d : ℤ) → x < length slots
+        → by_number d (slice_set slots x v) ≡ bind x v (by_number d slots) }
 {
 }
