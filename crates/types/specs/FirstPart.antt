@@ -22,6 +22,7 @@ module _ (p : Program) where
   store_fits a (Literal i) (Literal v) = index_fits a i && holds_number (array_of p a).element v
   store_fits a i e = false
 
+  -- a statement of one step
   abbrev pub primitive_fits : Primitive → Bool
   primitive_fits Skip = true
   primitive_fits (Store a i e) = store_fits a i e
@@ -29,6 +30,7 @@ module _ (p : Program) where
   primitive_fits s = false
 
   abbrev mutual
+    -- a statement, and a list of them
     pub code_fits : Code → Bool
     code_fits (Do s) = primitive_fits s
     code_fits (Async b) = codes_fit b
