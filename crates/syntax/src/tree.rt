@@ -268,23 +268,3 @@ pub enum Operator {
     /// `%`
     Modulo,
 }
-
-impl Expr {
-    /// The atom that the expression is alone, without an operator, a sign, a comparison or `not`.
-    pub fn as_atom(&self) -> Option<&Atom> {
-        let conjunction = &self.first;
-        let negation = &conjunction.first;
-        let comparison = &negation.comparison;
-        let sum = &comparison.left;
-        let product = &sum.first;
-        let unary = &product.first;
-        let is_alone = self.rest.is_empty()
-            && conjunction.rest.is_empty()
-            && !negation.negated
-            && comparison.right.is_none()
-            && sum.rest.is_empty()
-            && product.rest.is_empty()
-            && !unary.negative;
-        if is_alone { Some(&unary.atom) } else { None }
-    }
-}

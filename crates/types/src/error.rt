@@ -5,6 +5,8 @@ ghost use Rattle.types.specs.declared.error.TypeError.TheVariants.{OutOfMemory};
 
 use crate::code::Label;
 use std::alloc::{AllocError, AllocFailed};
+use std::error::Error;
+use std::fmt;
 
 /// A rule of the language that a program breaks, with the label of a statement that breaks it where the rule
 /// is broken in one.
@@ -61,3 +63,15 @@ impl<T: Drop> From<AllocFailed<T>> for TypeError {
         TypeError::OutOfMemory
     }
 }
+
+impl fmt::Display for TypeError {
+    fn fmt<W: fmt::Write>(&self, f: &mut fmt::Formatter<W>) -> fmt::Result {
+        let code = self.code();
+        match self.label() {
+            None => write!(f, "{code}"),
+            Some(label) => write!(f, "{code} at label {label}"),
+        }
+    }
+}
+
+impl Error for TypeError {}
