@@ -87,13 +87,7 @@ fn least_clash(access: Access, later: &[Access]) -> Option<Meeting> {
 /// The lesser of the meetings that are there.
 fn least(one: Option<Meeting>, other: Option<Meeting>) -> Option<Meeting> {
     match (one, other) {
-        (Some(x), Some(y)) => {
-            if y.is_before(x) {
-                Some(y)
-            } else {
-                Some(x)
-            }
-        }
+        (Some(x), Some(y)) => { if y.is_before(x) { Some(y) } else { Some(x) } }
         (Some(x), None) => Some(x),
         (None, found) => found,
     }
