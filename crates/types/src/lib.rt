@@ -3,9 +3,14 @@
 #![tactic(auto)]
 
 pub mod budget;
+pub mod check;
 pub mod code;
+pub mod error;
 pub mod fault;
+pub mod first_part;
 pub mod input;
 pub mod outcome;
 pub mod path;
 pub mod typed;
+pub mod value;
+pub mod window;
