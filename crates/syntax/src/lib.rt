@@ -2,4 +2,19 @@
 
 #![tactic(auto)]
 
+pub mod cursor;
+pub mod error;
+pub mod expressions;
+pub mod lexer;
+pub mod parser;
+pub mod place;
+pub mod programs;
+pub mod statements;
+#[cfg(test)]
+mod tests;
+pub mod token;
 pub mod tree;
+
+pub use error::SyntaxError;
+pub use parser::parse;
+pub use place::Place;

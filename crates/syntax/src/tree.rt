@@ -123,6 +123,23 @@ pub struct Expr {
     pub rest: Vec<Conj>,
 }
 
+impl Expr {
+    /// The lone atom of an expression without operators, `not`, sign or comparison.
+    pub fn as_atom(&self) -> Option<&Atom> {
+        let neg = &self.first.first;
+        let sum = &neg.comparison.left;
+        let unary = &sum.first.first;
+        let plain = self.rest.is_empty()
+            && self.first.rest.is_empty()
+            && !neg.negated
+            && neg.comparison.right.is_none()
+            && sum.rest.is_empty()
+            && sum.first.rest.is_empty()
+            && !unary.negative;
+        if plain { Some(&unary.atom) } else { None }
+    }
+}
+
 /// `a < 1 and b < 1`: the first operand and those behind an `and`.
 #[derive(Drop)]
 #[cycle(expr)]

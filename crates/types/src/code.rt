@@ -1,6 +1,8 @@
 //! A program with its names resolved. Scalars are slots of their procedure's frame, sections are numbers of
 //! their procedure, arrays and procedures are numbers of the program, and each statement carries its label.
 
+ghost use Rattle.std.specs.Prelude.{◌≤◌};
+
 use syntax::tree::{ElementType, Relation};
 
 /// A statement's number in the order of the text, from 1.
@@ -20,6 +22,7 @@ pub struct Array {
     pub name: String,
     pub element: ElementType,
     pub length: usize,
+    ghost within: { length ≤ 4194304 },
 }
 
 /// A procedure, or `main`. Its section parameters are its first sections, its scalar parameters its first

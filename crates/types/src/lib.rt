@@ -3,10 +3,15 @@
 #![tactic(auto)]
 
 pub mod budget;
+pub mod check;
 pub mod code;
+pub mod error;
 pub mod fault;
+pub mod first_part;
 pub mod input;
 pub mod laws;
 pub mod outcome;
 pub mod path;
 pub mod typed;
+pub mod value;
+pub mod window;

@@ -5,8 +5,8 @@ use crate::code;
 /// A program that breaks no rule of the language, with its names resolved. `type_check` alone makes it.
 #[derive(Drop)]
 pub struct Typed {
-    program: syntax::tree::Program,
-    code: code::Program,
+    pub(crate) program: syntax::tree::Program,
+    pub(crate) code: code::Program,
 }
 
 impl Typed {

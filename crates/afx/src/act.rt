@@ -1,0 +1,125 @@
+//! The whole program, over files and writers that it is lent.
+
+use crate::command_line::{Request, request_of};
+use crate::emit::{append, emit};
+use crate::failure::Failure;
+use crate::files::{FileError, FileSource};
+use clap::Error;
+use std::alloc::{AllocError, Global};
+use std::io::Write;
+use syntax::parse;
+use types::budget::Budget;
+use types::check::type_check;
+use types::first_part::first_part;
+use types::input::Input;
+use types::outcome::Outcome;
+use types::typed::Typed;
+
+/// Does what the words behind the program's name ask, and answers the exit status.
+pub fn act<F: FileSource, O: Write, E: Write>(
+    alloc: Global,
+    words: &[String],
+    files: &mut F,
+    out: &mut O,
+    err: &mut E,
+) -> u8 {
+    match request_of(alloc, words) {
+        Err(error) => tell_command_line(alloc, &error, out, err),
+        Ok(request) => match perform(alloc, request, files, out) {
+            Ok(status) => status,
+            Err(failure) => {
+                let _ = writeln!(err, "{failure}");
+                failure.status()
+            }
+        },
+    }
+}
+
+/// Does one command.
+fn perform<F: FileSource, O: Write>(
+    alloc: Global,
+    request: Request<'_>,
+    files: &mut F,
+    out: &mut O,
+) -> Result<u8, Failure> {
+    match request {
+        Request::Run { file } => {
+            let typed = load(alloc, files, file)?;
+            let accepted = workers::check::check(alloc, typed).map_err(
+                |refused| Failure::of_refused(alloc, refused),
+            )?;
+            let input = zeros(alloc, accepted.typed())?;
+            let outcome = workers::run::run(alloc, &accepted, &input, Budget::usual()).map_err(
+                Failure::Run,
+            )?;
+            show(out, accepted.typed(), &outcome)
+        }
+        Request::Serial { file } => {
+            let typed = load(alloc, files, file)?;
+            let input = zeros(alloc, &typed)?;
+            let outcome = serial_run::serial(alloc, &typed, &input, Budget::usual()).map_err(
+                |_| Failure::NoMemory,
+            )?;
+            show(out, &typed, &outcome)
+        }
+    }
+}
+
+/// Reads a program that is served.
+fn load<F: FileSource>(alloc: Global, files: &mut F, name: &str) -> Result<Typed, Failure> {
+    let bytes = match files.read(name) {
+        Ok(bytes) => bytes,
+        Err(FileError::NoMemory) => return Err(Failure::NoMemory),
+        Err(FileError::Failed) => return Err(Failure::cannot_read(alloc, name)),
+    };
+    let text = match std::str::from_utf8(&bytes) {
+        Ok(text) => text,
+        Err(_) => return Err(Failure::not_utf8(alloc, name)),
+    };
+    let program = parse(alloc, text).map_err(Failure::Syntax)?;
+    let typed = type_check(alloc, program).map_err(Failure::Types)?;
+    if first_part(&typed) {
+        Ok(typed)
+    } else {
+        Err(Failure::NotYet)
+    }
+}
+
+/// An input of zeros.
+fn zeros(alloc: Global, typed: &Typed) -> Result<Input, Failure> {
+    Input::zeros(alloc, typed).map_err(|_| Failure::NoMemory)
+}
+
+/// Writes an outcome, and gives its exit status: 0 ended, 2 ended with faults, 3 stopped.
+fn show<O: Write>(out: &mut O, typed: &Typed, outcome: &Outcome) -> Result<u8, Failure> {
+    emit(out, outcome, &typed.code().arrays, false).map_err(|_| Failure::CannotWriteOutput)?;
+    match outcome {
+        Outcome::Stopped => Ok(3),
+        Outcome::Ended { faults, .. } => Ok(if faults.is_empty() { 0 } else { 2 }),
+    }
+}
+
+/// Prints what `clap` says of a command line: help on the output with status 0, a mistake on the other with 1.
+fn tell_command_line<O: Write, E: Write>(
+    alloc: Global,
+    error: &Error,
+    out: &mut O,
+    err: &mut E,
+) -> u8 {
+    let text = match format!(in alloc; "{error}") {
+        Ok(text) => text,
+        Err(AllocError) => return 1,
+    };
+    if error.use_stderr() {
+        let _ = append(err, text.as_bytes());
+        1
+    } else {
+        match append(out, text.as_bytes()) {
+            Ok(()) => 0,
+            Err(_) => {
+                let _ = append(err, b"cannot write output\n");
+                1
+            }
+        }
+    }
+}

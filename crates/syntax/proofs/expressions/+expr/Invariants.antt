@@ -1,0 +1,57 @@
+use Rattle.std.proofs.Common.{◌<◌, length, ◌+◌, ◌*◌}
+use Rattle.syntax.proofs.expressions.+expr.Given as goal
+
+-- An expression is read from no more tokens than the ones that it is called with; the levels follow each other.
+abbrev pub decreases-enclosed : goal.decreases-enclosed
+decreases-enclosed l = 10 * length l.tokens.now + 9
+
+abbrev pub decreases-expr : goal.decreases-expr
+decreases-expr l = 10 * length l.tokens.now + 8
+
+abbrev pub decreases-conj : goal.decreases-conj
+decreases-conj l = 10 * length l.tokens.now + 7
+
+abbrev pub decreases-neg : goal.decreases-neg
+decreases-neg l = 10 * length l.tokens.now + 6
+
+abbrev pub decreases-cmp : goal.decreases-cmp
+decreases-cmp l = 10 * length l.tokens.now + 5
+
+abbrev pub decreases-sum : goal.decreases-sum
+decreases-sum l = 10 * length l.tokens.now + 4
+
+abbrev pub decreases-prod : goal.decreases-prod
+decreases-prod l = 10 * length l.tokens.now + 3
+
+abbrev pub decreases-unary : goal.decreases-unary
+decreases-unary l = 10 * length l.tokens.now + 2
+
+abbrev pub decreases-atom : goal.decreases-atom
+decreases-atom l = 10 * length l.tokens.now + 1
+
+abbrev pub decreases-named : goal.decreases-named
+decreases-named l = 10 * length l.tokens.now + 0
+
+abbrev pub invariant-expr-loop-after : goal.invariant-expr-loop-after
+invariant-expr-loop-after l = length l.left < length l.fn.tokens
+
+abbrev pub decreases-expr-loop-after : goal.decreases-expr-loop-after
+decreases-expr-loop-after l = length l.left
+
+abbrev pub invariant-conj-loop-after : goal.invariant-conj-loop-after
+invariant-conj-loop-after l = length l.left < length l.fn.tokens
+
+abbrev pub decreases-conj-loop-after : goal.decreases-conj-loop-after
+decreases-conj-loop-after l = length l.left
+
+abbrev pub invariant-sum-loop-sign : goal.invariant-sum-loop-sign
+invariant-sum-loop-sign l = length l.left < length l.fn.tokens
+
+abbrev pub decreases-sum-loop-sign : goal.decreases-sum-loop-sign
+decreases-sum-loop-sign l = length l.left
+
+abbrev pub invariant-prod-loop-operator : goal.invariant-prod-loop-operator
+invariant-prod-loop-operator l = length l.left < length l.fn.tokens
+
+abbrev pub decreases-prod-loop-operator : goal.decreases-prod-loop-operator
+decreases-prod-loop-operator l = length l.left

@@ -1,0 +1,26 @@
+use Rattle.std.proofs.Common.{◌≤◌, length, ◌+◌, ◌*◌}
+use Rattle.syntax.proofs.statements.+stmt.Given as goal
+
+abbrev pub decreases-block : goal.decreases-block
+decreases-block l = 2 * length l.tokens.now + 0
+
+abbrev pub decreases-conditional : goal.decreases-conditional
+decreases-conditional l = 2 * length l.tokens.now + 0
+
+abbrev pub decreases-repeated : goal.decreases-repeated
+decreases-repeated l = 2 * length l.tokens.now + 0
+
+abbrev pub decreases-split : goal.decreases-split
+decreases-split l = 2 * length l.tokens.now + 0
+
+abbrev pub decreases-statement : goal.decreases-statement
+decreases-statement l = 2 * length l.tokens.now + 0
+
+abbrev pub decreases-statements : goal.decreases-statements
+decreases-statements l = 2 * length l.tokens.now + 1
+
+abbrev pub invariant-statements-loop-rest : goal.invariant-statements-loop-rest
+invariant-statements-loop-rest l = length l.left ≤ length l.fn.tokens
+
+abbrev pub decreases-statements-loop-rest : goal.decreases-statements-loop-rest
+decreases-statements-loop-rest l = length l.left

@@ -1,0 +1,115 @@
+//! Reading what stands first among the tokens that are left.
+
+ghost use Rattle.std.specs.Prelude.{◌≡◌, ◌<◌, length, IfOk, IfSome};
+
+use crate::token::{Mark, Spanned, Token, Word};
+use std::alloc::{AllocError, AllocFailed};
+
+/// Why no more can be read.
+#[derive(Clone, Copy, Debug)]
+pub enum Stuck {
+    /// The token with this many behind it and itself left may not stand here; with none left the text ends.
+    Unexpected { left: usize },
+    OutOfMemory,
+}
+
+impl From<AllocError> for Stuck {
+    ghost use Rattle.syntax.specs.declared.cursor.Stuck.TheVariants.{OutOfMemory};
+
+    ghost from_gives = { λ _ e. e ≡ OutOfMemory };
+
+    fn from(_e: AllocError) -> Stuck {
+        Stuck::OutOfMemory
+    }
+}
+
+impl<T: Drop> From<AllocFailed<T>> for Stuck {
+    ghost use Rattle.syntax.specs.declared.cursor.Stuck.TheVariants.{OutOfMemory};
+
+    ghost from_gives = { λ _ e. e ≡ OutOfMemory };
+
+    fn from(_e: AllocFailed<T>) -> Stuck {
+        Stuck::OutOfMemory
+    }
+}
+
+/// The first of these tokens may not stand here.
+pub fn unexpected(tokens: &[Spanned]) -> Stuck {
+    Stuck::Unexpected { left: tokens.len() }
+}
+
+/// The first token.
+pub fn peek(tokens: &[Spanned]) -> Option<&Token> {
+    match tokens.first() {
+        None => None,
+        Some(first) => Some(&first.token),
+    }
+}
+
+/// The tokens behind a mark, if it stands first.
+pub fn after_mark(tokens: &[Spanned], wanted: Mark) -> Option<&[Spanned]>
+    ensures shorter { IfSome result (λ rest. length rest.now < length tokens.now) }
+{
+    let (first, rest) = tokens.split_first()?;
+    match &first.token {
+        Token::Mark(mark) => { if *mark == wanted { Some(rest) } else { None } }
+        _ => None,
+    }
+}
+
+/// The tokens behind a word, if it stands first.
+pub fn after_word(tokens: &[Spanned], wanted: Word) -> Option<&[Spanned]>
+    ensures shorter { IfSome result (λ rest. length rest.now < length tokens.now) }
+{
+    let (first, rest) = tokens.split_first()?;
+    match &first.token {
+        Token::Word(word) => { if *word == wanted { Some(rest) } else { None } }
+        _ => None,
+    }
+}
+
+/// The tokens behind a mark that has to stand here.
+pub fn mark(tokens: &[Spanned], wanted: Mark) -> Result<&[Spanned], Stuck>
+    ensures shorter { IfOk result (λ rest. length rest.now < length tokens.now) }
+{
+    match after_mark(tokens, wanted) {
+        None => Err(unexpected(tokens)),
+        Some(rest) => Ok(rest),
+    }
+}
+
+/// The tokens behind a word that has to stand here.
+pub fn word(tokens: &[Spanned], wanted: Word) -> Result<&[Spanned], Stuck>
+    ensures shorter { IfOk result (λ rest. length rest.now < length tokens.now) }
+{
+    match after_word(tokens, wanted) {
+        None => Err(unexpected(tokens)),
+        Some(rest) => Ok(rest),
+    }
+}
+
+/// A name that has to stand here.
+pub fn name(tokens: &[Spanned]) -> Result<(String, &[Spanned]), Stuck>
+    ensures shorter { IfOk result (λ read. length read.1.now < length tokens.now) }
+{
+    let Some((first, rest)) = tokens.split_first() else {
+        return Err(unexpected(tokens));
+    };
+    match &first.token {
+        Token::Name(name) => Ok((name.clone()?, rest)),
+        _ => Err(unexpected(tokens)),
+    }
+}
+
+/// A number that has to stand here.
+pub fn number(tokens: &[Spanned]) -> Result<(u64, &[Spanned]), Stuck>
+    ensures shorter { IfOk result (λ read. length read.1.now < length tokens.now) }
+{
+    let Some((first, rest)) = tokens.split_first() else {
+        return Err(unexpected(tokens));
+    };
+    match &first.token {
+        Token::Number(value) => Ok((*value, rest)),
+        _ => Err(unexpected(tokens)),
+    }
+}

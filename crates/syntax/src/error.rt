@@ -1,0 +1,86 @@
+//! Why a text is no program.
+
+ghost use Rattle.std.specs.Prelude.{◌≡◌};
+
+use crate::place::Place;
+use std::alloc::{AllocError, AllocFailed};
+use std::error::Error;
+use std::fmt;
+
+/// Why a text is no program.
+#[derive(Clone, Copy, PartialEq, Eq, Debug)]
+pub enum SyntaxError {
+    /// A character outside of a comment that begins no token, as `!` alone.
+    NotACharacter { place: Place },
+    /// A token that may not stand here, or the end of the text.
+    UnexpectedToken { place: Place },
+    /// A number over 9,223,372,036,854,775,807.
+    NumberTooLarge { place: Place },
+    /// The bracket by which more than 100 are open.
+    TooDeep { place: Place },
+    /// A text over 1,048,576 bytes.
+    TooLong,
+    OutOfMemory,
+}
+
+impl SyntaxError {
+    /// The code that the program prints.
+    pub fn code(&self) -> &'static str {
+        match self {
+            SyntaxError::NotACharacter { .. } => "S1",
+            SyntaxError::UnexpectedToken { .. } => "S2",
+            SyntaxError::NumberTooLarge { .. } => "S3",
+            SyntaxError::TooDeep { .. } => "S4",
+            SyntaxError::TooLong => "S5",
+            SyntaxError::OutOfMemory => "S6",
+        }
+    }
+
+    /// Where the text goes wrong, unless it is too long or memory ran out.
+    pub fn place(&self) -> Option<Place> {
+        match self {
+            SyntaxError::NotACharacter { place } => Some(*place),
+            SyntaxError::UnexpectedToken { place } => Some(*place),
+            SyntaxError::NumberTooLarge { place } => Some(*place),
+            SyntaxError::TooDeep { place } => Some(*place),
+            SyntaxError::TooLong => None,
+            SyntaxError::OutOfMemory => None,
+        }
+    }
+}
+
+impl fmt::Display for SyntaxError {
+    fn fmt<W: fmt::Write>(&self, f: &mut fmt::Formatter<W>) -> fmt::Result {
+        let code = self.code();
+        match self.place() {
+            None => write!(f, "{code}"),
+            Some(place) => {
+                let line = place.line;
+                let column = place.column;
+                write!(f, "{code} at {line}:{column}")
+            }
+        }
+    }
+}
+
+impl Error for SyntaxError {}
+
+impl From<AllocError> for SyntaxError {
+    ghost use Rattle.syntax.specs.declared.error.SyntaxError.TheVariants.{OutOfMemory};
+
+    ghost from_gives = { λ _ e. e ≡ OutOfMemory };
+
+    fn from(_e: AllocError) -> SyntaxError {
+        SyntaxError::OutOfMemory
+    }
+}
+
+impl<T: Drop> From<AllocFailed<T>> for SyntaxError {
+    ghost use Rattle.syntax.specs.declared.error.SyntaxError.TheVariants.{OutOfMemory};
+
+    ghost from_gives = { λ _ e. e ≡ OutOfMemory };
+
+    fn from(_e: AllocFailed<T>) -> SyntaxError {
+        SyntaxError::OutOfMemory
+    }
+}

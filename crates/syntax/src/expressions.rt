@@ -1,0 +1,289 @@
+//! Expressions, one function for each production.
+
+ghost use Rattle.std.specs.Prelude.{◌≡◌, ◌<◌, ◌≤◌, length, IfOk, IfSome};
+
+use crate::cursor;
+use crate::cursor::Stuck;
+use crate::token::{Mark, Spanned, Token, Word};
+use crate::tree::{
+    Atom, Cmp, Compared, Conj, Expr, Factor, Neg, Operator, Prod, Relation, Sign, Sum, Term, Unary,
+};
+use std::alloc::Global;
+
+/// Reads an expression.
+#[cycle(expr)]
+pub fn expr(alloc: Global, tokens: &[Spanned]) -> Result<(Expr, &[Spanned]), Stuck>
+    ensures shorter { IfOk result (λ read. length read.1.now < length tokens.now) }
+{
+    // expr = conj { "or" conj }
+    let (first, mut left) = conj(alloc, tokens)?;
+    let mut rest = Vec::new(alloc);
+    while let Some(after) = cursor::after_word(left, Word::Or) {
+        let (operand, behind) = conj(alloc, after)?;
+        rest.push(operand)?;
+        left = behind;
+    }
+    Ok((Expr { first, rest }, left))
+}
+
+#[cycle(expr)]
+fn conj(alloc: Global, tokens: &[Spanned]) -> Result<(Conj, &[Spanned]), Stuck>
+    ensures shorter { IfOk result (λ read. length read.1.now < length tokens.now) }
+{
+    // conj = neg { "and" neg }
+    let (first, mut left) = neg(alloc, tokens)?;
+    let mut rest = Vec::new(alloc);
+    while let Some(after) = cursor::after_word(left, Word::And) {
+        let (operand, behind) = neg(alloc, after)?;
+        rest.push(operand)?;
+        left = behind;
+    }
+    Ok((Conj { first, rest }, left))
+}
+
+#[cycle(expr)]
+fn neg(alloc: Global, tokens: &[Spanned]) -> Result<(Neg, &[Spanned]), Stuck>
+    ensures shorter { IfOk result (λ read. length read.1.now < length tokens.now) }
+{
+    // neg = [ "not" ] cmp
+    match cursor::after_word(tokens, Word::Not) {
+        None => {
+            let (comparison, left) = cmp(alloc, tokens)?;
+            Ok((
+                Neg {
+                    negated: false,
+                    comparison,
+                },
+                left,
+            ))
+        }
+        Some(after) => {
+            let (comparison, left) = cmp(alloc, after)?;
+            Ok((
+                Neg {
+                    negated: true,
+                    comparison,
+                },
+                left,
+            ))
+        }
+    }
+}
+
+#[cycle(expr)]
+fn cmp(alloc: Global, tokens: &[Spanned]) -> Result<(Cmp, &[Spanned]), Stuck>
+    ensures shorter { IfOk result (λ read. length read.1.now < length tokens.now) }
+{
+    // cmp = sum [ ( "<" | "<=" | ">" | ">=" | "==" | "!=" ) sum ]
+    let (left, rest) = sum(alloc, tokens)?;
+    match relation(rest) {
+        None => Ok((Cmp { left, right: None }, rest)),
+        Some((relation, after)) => {
+            let (right, rest) = sum(alloc, after)?;
+            let right = Some(Compared { relation, right });
+            Ok((Cmp { left, right }, rest))
+        }
+    }
+}
+
+#[cycle(expr)]
+fn sum(alloc: Global, tokens: &[Spanned]) -> Result<(Sum, &[Spanned]), Stuck>
+    ensures shorter { IfOk result (λ read. length read.1.now < length tokens.now) }
+{
+    // sum = prod { ( "+" | "-" ) prod }
+    let (first, mut left) = prod(alloc, tokens)?;
+    let mut rest = Vec::new(alloc);
+    while let Some((sign, after)) = sign(left) {
+        let (operand, behind) = prod(alloc, after)?;
+        rest.push(Term { sign, operand })?;
+        left = behind;
+    }
+    Ok((Sum { first, rest }, left))
+}
+
+#[cycle(expr)]
+fn prod(alloc: Global, tokens: &[Spanned]) -> Result<(Prod, &[Spanned]), Stuck>
+    ensures shorter { IfOk result (λ read. length read.1.now < length tokens.now) }
+{
+    // prod = unary { ( "*" | "/" | "%" ) unary }
+    let (first, mut left) = unary(alloc, tokens)?;
+    let mut rest = Vec::new(alloc);
+    while let Some((operator, after)) = operator(left) {
+        let (operand, behind) = unary(alloc, after)?;
+        rest.push(Factor { operator, operand })?;
+        left = behind;
+    }
+    Ok((Prod { first, rest }, left))
+}
+
+#[cycle(expr)]
+fn unary(alloc: Global, tokens: &[Spanned]) -> Result<(Unary, &[Spanned]), Stuck>
+    ensures shorter { IfOk result (λ read. length read.1.now < length tokens.now) }
+{
+    // unary = [ "-" ] atom
+    match cursor::after_mark(tokens, Mark::Minus) {
+        None => {
+            let (atom, left) = atom(alloc, tokens)?;
+            Ok((
+                Unary {
+                    negative: false,
+                    atom,
+                },
+                left,
+            ))
+        }
+        Some(after) => {
+            let (atom, left) = atom(alloc, after)?;
+            Ok((
+                Unary {
+                    negative: true,
+                    atom,
+                },
+                left,
+            ))
+        }
+    }
+}
+
+#[cycle(expr)]
+fn atom(alloc: Global, tokens: &[Spanned]) -> Result<(Atom, &[Spanned]), Stuck>
+    ensures shorter { IfOk result (λ read. length read.1.now < length tokens.now) }
+{
+    // atom = number | "true" | "false" | name | name "[" expr "]"
+    //      | "len" "(" name ")" | "(" expr ")"
+    match cursor::peek(tokens) {
+        Some(Token::Name(_)) => named(alloc, tokens),
+        Some(Token::Mark(_)) => {
+            let after = cursor::mark(tokens, Mark::LeftParen)?;
+            let (inner, left) = enclosed(alloc, after, Mark::RightParen)?;
+            Ok((Atom::Parens(inner), left))
+        }
+        _ => constant(tokens),
+    }
+}
+
+/// An atom that a name begins.
+#[cycle(expr)]
+fn named(alloc: Global, tokens: &[Spanned]) -> Result<(Atom, &[Spanned]), Stuck>
+    ensures shorter { IfOk result (λ read. length read.1.now < length tokens.now) }
+{
+    // name | name "[" expr "]"
+    let (name, rest) = cursor::name(tokens)?;
+    match cursor::after_mark(rest, Mark::LeftBracket) {
+        None => Ok((Atom::Name(name), rest)),
+        Some(after) => {
+            let (index, left) = enclosed(alloc, after, Mark::RightBracket)?;
+            Ok((
+                Atom::Element {
+                    section: name,
+                    index,
+                },
+                left,
+            ))
+        }
+    }
+}
+
+/// An expression and the bracket that closes it.
+#[cycle(expr)]
+fn enclosed(
+    alloc: Global,
+    tokens: &[Spanned],
+    closing: Mark,
+) -> Result<(Box<Expr>, &[Spanned]), Stuck>
+    ensures shorter { IfOk result (λ read. length read.1.now < length tokens.now) }
+{
+    // expr ")" | expr "]"
+    let (inner, left) = expr(alloc, tokens)?;
+    let rest = cursor::mark(left, closing)?;
+    Ok((Box::new(alloc, inner)?, rest))
+}
+
+/// An atom that holds no expression and begins with no name.
+fn constant(tokens: &[Spanned]) -> Result<(Atom, &[Spanned]), Stuck>
+    ensures shorter { IfOk result (λ read. length read.1.now < length tokens.now) }
+{
+    // number | "true" | "false" | "len" "(" name ")"
+    if let Some(rest) = cursor::after_word(tokens, Word::True) {
+        return Ok((Atom::True, rest));
+    }
+    if let Some(rest) = cursor::after_word(tokens, Word::False) {
+        return Ok((Atom::False, rest));
+    }
+    if let Some(rest) = cursor::after_word(tokens, Word::Len) {
+        let rest = cursor::mark(rest, Mark::LeftParen)?;
+        let (name, rest) = cursor::name(rest)?;
+        let rest = cursor::mark(rest, Mark::RightParen)?;
+        return Ok((Atom::Length(name), rest));
+    }
+    let (value, rest) = cursor::number(tokens)?;
+    Ok((Atom::Number(value), rest))
+}
+
+/// A relation, if one stands first, and the tokens behind it.
+fn relation(tokens: &[Spanned]) -> Option<(Relation, &[Spanned])>
+    ensures shorter { IfSome result (λ read. length read.1.now < length tokens.now) }
+{
+    let (first, rest) = tokens.split_first()?;
+    let Token::Mark(mark) = &first.token else {
+        return None;
+    };
+    match mark {
+        Mark::Less => Some((Relation::Less, rest)),
+        Mark::AtMost => Some((Relation::AtMost, rest)),
+        Mark::Greater => Some((Relation::Greater, rest)),
+        Mark::AtLeast => Some((Relation::AtLeast, rest)),
+        Mark::Equal => Some((Relation::Equal, rest)),
+        Mark::Differs => Some((Relation::Differs, rest)),
+        _ => None,
+    }
+}
+
+/// A sign, if one stands first, and the tokens behind it.
+fn sign(tokens: &[Spanned]) -> Option<(Sign, &[Spanned])>
+    ensures shorter { IfSome result (λ read. length read.1.now < length tokens.now) }
+{
+    let (first, rest) = tokens.split_first()?;
+    let Token::Mark(mark) = &first.token else {
+        return None;
+    };
+    match mark {
+        Mark::Plus => Some((Sign::Plus, rest)),
+        Mark::Minus => Some((Sign::Minus, rest)),
+        _ => None,
+    }
+}
+
+/// An operator of a product, if one stands first, and the tokens behind it.
+fn operator(tokens: &[Spanned]) -> Option<(Operator, &[Spanned])>
+    ensures shorter { IfSome result (λ read. length read.1.now < length tokens.now) }
+{
+    let (first, rest) = tokens.split_first()?;
+    let Token::Mark(mark) = &first.token else {
+        return None;
+    };
+    match mark {
+        Mark::Star => Some((Operator::Times, rest)),
+        Mark::Slash => Some((Operator::Over, rest)),
+        Mark::Percent => Some((Operator::Modulo, rest)),
+        _ => None,
+    }
+}
+
+/// Expressions behind commas, put behind those that were read before.
+pub fn more(
+    alloc: Global,
+    tokens: &[Spanned],
+    mut exprs: Vec<Expr>,
+) -> Result<(Vec<Expr>, &[Spanned]), Stuck>
+    ensures shorter { IfOk result (λ read. length read.1.now ≤ length tokens.now) }
+{
+    // { "," expr }
+    let mut left = tokens;
+    while let Some(after) = cursor::after_mark(left, Mark::Comma) {
+        let (next, behind) = expr(alloc, after)?;
+        exprs.push(next)?;
+        left = behind;
+    }
+    Ok((exprs, left))
+}

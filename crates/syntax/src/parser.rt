@@ -1,0 +1,111 @@
+//! Texts as programs.
+
+ghost use Rattle.std.specs.Prelude.{◌≡◌, ◌≢◌, ◌↔◌, ◌<◌, ◌≤◌, ◌^◌, length, vec_len, IfOk};
+ghost use Rattle.std.specs.Str.{chars};
+
+use crate::cursor::Stuck;
+use crate::error::SyntaxError;
+use crate::lexer::Unread;
+use crate::place::Place;
+use crate::token::{Mark, Spanned, Token};
+use crate::tree::Program;
+use crate::{lexer, programs};
+use std::alloc::{AllocError, Global};
+
+/// The most bytes of a text.
+pub const MOST_BYTES: usize = 1_048_576;
+
+/// The most brackets that may be open at once.
+pub const MOST_OPEN: usize = 100;
+
+/// The program that a text spells.
+pub fn parse(alloc: Global, text: &str) -> Result<Program, SyntaxError>
+    ensures too_long { (result ≡ Err SyntaxError.TooLong) ↔ (MOST_BYTES < length text.now) }
+{
+    if text.len() > MOST_BYTES {
+        return Err(SyntaxError::TooLong);
+    }
+    let characters = characters(alloc, text)?;
+    program(alloc, &characters)
+}
+
+/// The characters of a text.
+fn characters(alloc: Global, text: &str) -> Result<Vec<char>, AllocError>
+    ensures value { IfOk result (λ found. found.items ≡ chars text.now) }
+    ensures short { IfOk result (λ found. vec_len found ≤ length text.now) }
+{
+    text.chars().collect(alloc)
+}
+
+/// The program that these characters spell.
+fn program(alloc: Global, text: &[char]) -> Result<Program, SyntaxError>
+    requires { length text.now < 2 ^ 31 }
+    ensures { result ≢ Err SyntaxError.TooLong }
+{
+    let tokens = match lexer::tokens(alloc, text) {
+        Ok(tokens) => tokens,
+        Err(unread) => return Err(no_tokens(text, unread)),
+    };
+    if let Some(at) = too_deep(&tokens) {
+        return Err(SyntaxError::TooDeep {
+            place: Place::of(text, at),
+        });
+    }
+    match programs::program(alloc, &tokens) {
+        Ok(program) => Ok(program),
+        Err(stuck) => Err(no_program(text, &tokens, stuck)),
+    }
+}
+
+/// Where the text has no token.
+fn no_tokens(text: &[char], unread: Unread) -> SyntaxError
+    requires { length text.now < 2 ^ 31 }
+    ensures { result ≢ SyntaxError.TooLong }
+{
+    match unread {
+        Unread::NotACharacter { left } => SyntaxError::NotACharacter {
+            place: Place::of(text, text.len().saturating_sub(left)),
+        },
+        Unread::NumberTooLarge { left } => SyntaxError::NumberTooLarge {
+            place: Place::of(text, text.len().saturating_sub(left)),
+        },
+        Unread::OutOfMemory => SyntaxError::OutOfMemory,
+    }
+}
+
+/// Where the tokens spell no program.
+fn no_program(text: &[char], tokens: &[Spanned], stuck: Stuck) -> SyntaxError
+    requires { length text.now < 2 ^ 31 }
+    ensures { result ≢ SyntaxError.TooLong }
+{
+    match stuck {
+        Stuck::Unexpected { left } => {
+            let at = match tokens.get(tokens.len().saturating_sub(left)) {
+                Some(token) => token.at,
+                None => text.len(),
+            };
+            SyntaxError::UnexpectedToken {
+                place: Place::of(text, at),
+            }
+        }
+        Stuck::OutOfMemory => SyntaxError::OutOfMemory,
+    }
+}
+
+/// The bracket by which too many are open.
+fn too_deep(tokens: &[Spanned]) -> Option<usize> {
+    let mut open = 0usize;
+    for spanned in tokens {
+        if let Token::Mark(mark) = &spanned.token {
+            open = match mark {
+                Mark::LeftParen | Mark::LeftBrace | Mark::LeftBracket => open + 1,
+                Mark::RightParen | Mark::RightBrace | Mark::RightBracket => open.saturating_sub(1),
+                _ => open,
+            };
+        }
+        if open > MOST_OPEN {
+            return Some(spanned.at);
+        }
+    }
+    None
+}

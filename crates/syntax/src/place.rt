@@ -1,0 +1,32 @@
+//! Places in a text.
+
+ghost use Rattle.std.specs.Prelude.{◌<◌, ◌^◌, length};
+
+/// A line and a column, both from 1. A line ends at a line feed alone, and columns count characters.
+#[derive(Clone, Copy, PartialEq, Eq, Debug)]
+pub struct Place {
+    pub line: u32,
+    pub column: u32,
+}
+
+impl Place {
+    /// The place of the character with this number, counted from 0, or the one just behind the text.
+    pub fn of(text: &[char], at: usize) -> Place
+        requires { length text.now < 2 ^ 31 }
+    {
+        let mut line = 1;
+        let mut column = 1;
+        for (i, character) in text.iter().enumerate() {
+            if i == at {
+                break;
+            }
+            if *character == '\n' {
+                line += 1;
+                column = 1;
+            } else {
+                column += 1;
+            }
+        }
+        Place { line, column }
+    }
+}

@@ -1,0 +1,159 @@
+//! Programs, procedures and declarations, one function for each production.
+
+ghost use Rattle.std.specs.Prelude.{◌≡◌, ◌<◌, ◌≤◌, length, IfOk, IfSome};
+
+use crate::cursor::Stuck;
+use crate::token::{Mark, Spanned, Word};
+use crate::tree::{Array, ElementType, Main, Parameter, Procedure, Program};
+use crate::{cursor, statements};
+use std::alloc::Global;
+
+/// Reads a whole program.
+pub fn program(alloc: Global, tokens: &[Spanned]) -> Result<Program, Stuck> {
+    // program = { proc } [ "main" "{" { array } { stmt } "}" ]
+    let mut procedures = Vec::new(alloc);
+    let mut left = tokens;
+    while let Some(after) = cursor::after_word(left, Word::Proc) {
+        let (next, behind) = procedure(alloc, after)?;
+        procedures.push(next)?;
+        left = behind;
+    }
+    if left.is_empty() {
+        return Ok(Program {
+            procedures,
+            main: None,
+        });
+    }
+    let (body, rest) = main(alloc, left)?;
+    if !rest.is_empty() {
+        return Err(cursor::unexpected(rest));
+    }
+    Ok(Program {
+        procedures,
+        main: Some(body),
+    })
+}
+
+fn main(alloc: Global, tokens: &[Spanned]) -> Result<(Main, &[Spanned]), Stuck>
+    ensures shorter { IfOk result (λ read. length read.1.now < length tokens.now) }
+{
+    // "main" "{" { array } { stmt } "}"
+    let rest = cursor::word(tokens, Word::Main)?;
+    let rest = cursor::mark(rest, Mark::LeftBrace)?;
+    let (arrays, rest) = arrays(alloc, rest)?;
+    let (body, rest) = statements::statements(alloc, rest)?;
+    Ok((Main { arrays, body }, rest))
+}
+
+fn arrays(alloc: Global, tokens: &[Spanned]) -> Result<(Vec<Array>, &[Spanned]), Stuck>
+    ensures shorter { IfOk result (λ read. length read.1.now ≤ length tokens.now) }
+{
+    // { array }
+    let mut arrays = Vec::new(alloc);
+    let mut left = tokens;
+    while let Some(after) = cursor::after_word(left, Word::Array) {
+        let (next, behind) = array(after)?;
+        arrays.push(next)?;
+        left = behind;
+    }
+    Ok((arrays, left))
+}
+
+fn array(tokens: &[Spanned]) -> Result<(Array, &[Spanned]), Stuck>
+    ensures shorter { IfOk result (λ read. length read.1.now < length tokens.now) }
+{
+    // array = "array" name ":" elem "[" number "]" ";", its first word read
+    let (name, rest) = cursor::name(tokens)?;
+    let rest = cursor::mark(rest, Mark::Colon)?;
+    let (element, rest) = element_type(rest)?;
+    let rest = cursor::mark(rest, Mark::LeftBracket)?;
+    let (length, rest) = cursor::number(rest)?;
+    let rest = cursor::mark(rest, Mark::RightBracket)?;
+    let rest = cursor::mark(rest, Mark::Semicolon)?;
+    Ok((
+        Array {
+            name,
+            element,
+            length,
+        },
+        rest,
+    ))
+}
+
+fn element_type(tokens: &[Spanned]) -> Result<(ElementType, &[Spanned]), Stuck>
+    ensures shorter { IfOk result (λ read. length read.1.now < length tokens.now) }
+{
+    // elem = "int" | "byte"
+    if let Some(rest) = cursor::after_word(tokens, Word::Int) {
+        return Ok((ElementType::Int, rest));
+    }
+    let rest = cursor::word(tokens, Word::Byte)?;
+    Ok((ElementType::Byte, rest))
+}
+
+fn procedure(alloc: Global, tokens: &[Spanned]) -> Result<(Procedure, &[Spanned]), Stuck>
+    ensures shorter { IfOk result (λ read. length read.1.now < length tokens.now) }
+{
+    // proc = "proc" name "(" [ param { "," param } ] ")" block, its first word read
+    let (name, rest) = cursor::name(tokens)?;
+    let rest = cursor::mark(rest, Mark::LeftParen)?;
+    let (parameters, rest) = parameters(alloc, rest)?;
+    let (body, rest) = statements::block(alloc, rest)?;
+    Ok((
+        Procedure {
+            name,
+            parameters,
+            body,
+        },
+        rest,
+    ))
+}
+
+/// The parameters of a procedure and the parenthesis that closes them.
+fn parameters(alloc: Global, tokens: &[Spanned]) -> Result<(Vec<Parameter>, &[Spanned]), Stuck>
+    ensures shorter { IfOk result (λ read. length read.1.now < length tokens.now) }
+{
+    // [ param { "," param } ] ")"
+    let mut parameters = Vec::new(alloc);
+    if let Some(rest) = cursor::after_mark(tokens, Mark::RightParen) {
+        return Ok((parameters, rest));
+    }
+    let (first, mut left) = parameter(tokens)?;
+    parameters.push(first)?;
+    while let Some(after) = cursor::after_mark(left, Mark::Comma) {
+        let (next, behind) = parameter(after)?;
+        parameters.push(next)?;
+        left = behind;
+    }
+    let rest = cursor::mark(left, Mark::RightParen)?;
+    Ok((parameters, rest))
+}
+
+fn parameter(tokens: &[Spanned]) -> Result<(Parameter, &[Spanned]), Stuck>
+    ensures shorter { IfOk result (λ read. length read.1.now < length tokens.now) }
+{
+    // param = ( "mut" | "read" ) name ":" elem | name ":" "int"
+    if let Some(rest) = cursor::after_word(tokens, Word::Mut) {
+        let (name, element, rest) = section(rest)?;
+        return Ok((Parameter::Written { name, element }, rest));
+    }
+    if let Some(rest) = cursor::after_word(tokens, Word::Read) {
+        let (name, element, rest) = section(rest)?;
+        return Ok((Parameter::Read { name, element }, rest));
+    }
+    let (name, rest) = cursor::name(tokens)?;
+    let rest = cursor::mark(rest, Mark::Colon)?;
+    let rest = cursor::word(rest, Word::Int)?;
+    Ok((Parameter::Scalar { name }, rest))
+}
+
+/// The name and the element type of a section.
+fn section(tokens: &[Spanned]) -> Result<(String, ElementType, &[Spanned]), Stuck>
+    ensures shorter { IfOk result (λ read. length read.2.now < length tokens.now) }
+{
+    // name ":" elem
+    let (name, rest) = cursor::name(tokens)?;
+    let rest = cursor::mark(rest, Mark::Colon)?;
+    let (element, rest) = element_type(rest)?;
+    Ok((name, element, rest))
+}

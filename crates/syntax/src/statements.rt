@@ -1,0 +1,241 @@
+//! Statements and blocks, one function for each production.
+
+ghost use Rattle.std.specs.Prelude.{◌≡◌, ◌<◌, ◌≤◌, length, IfOk, IfSome};
+
+use crate::cursor::Stuck;
+use crate::token::{Mark, Spanned, Token, Word};
+use crate::tree::{Expr, Stmt};
+use crate::{cursor, expressions};
+use std::alloc::Global;
+
+/// Reads statements up to the brace that closes their block, and that brace.
+#[cycle(stmt)]
+pub fn statements(alloc: Global, tokens: &[Spanned]) -> Result<(Vec<Stmt>, &[Spanned]), Stuck>
+    ensures shorter { IfOk result (λ read. length read.1.now < length tokens.now) }
+{
+    // { stmt } "}"
+    let mut body = Vec::new(alloc);
+    let mut left = tokens;
+    loop {
+        if let Some(rest) = cursor::after_mark(left, Mark::RightBrace) {
+            return Ok((body, rest));
+        }
+        let (statement, behind) = statement(alloc, left)?;
+        body.push(statement)?;
+        left = behind;
+    }
+}
+
+/// Reads a block with its braces.
+#[cycle(stmt)]
+pub fn block(alloc: Global, tokens: &[Spanned]) -> Result<(Vec<Stmt>, &[Spanned]), Stuck>
+    ensures shorter { IfOk result (λ read. length read.1.now < length tokens.now) }
+{
+    // block = "{" { stmt } "}"
+    let rest = cursor::mark(tokens, Mark::LeftBrace)?;
+    statements(alloc, rest)
+}
+
+#[cycle(stmt)]
+fn statement(alloc: Global, tokens: &[Spanned]) -> Result<(Stmt, &[Spanned]), Stuck>
+    ensures shorter { IfOk result (λ read. length read.1.now < length tokens.now) }
+{
+    let Some((first, rest)) = tokens.split_first() else {
+        return Err(cursor::unexpected(tokens));
+    };
+    let Token::Word(word) = &first.token else {
+        return named(alloc, tokens);
+    };
+    match word {
+        Word::If => conditional(alloc, rest),
+        Word::While => repeated(alloc, rest),
+        Word::Split => split(alloc, rest),
+        Word::Async => {
+            // stmt = "async" block
+            let (body, left) = block(alloc, rest)?;
+            Ok((Stmt::Async { body }, left))
+        }
+        Word::Finish => {
+            // stmt = "finish" block
+            let (body, left) = block(alloc, rest)?;
+            Ok((Stmt::Finish { body }, left))
+        }
+        _ => simple(alloc, tokens),
+    }
+}
+
+#[cycle(stmt)]
+fn conditional(alloc: Global, tokens: &[Spanned]) -> Result<(Stmt, &[Spanned]), Stuck>
+    ensures shorter { IfOk result (λ read. length read.1.now < length tokens.now) }
+{
+    // "if" expr block [ "else" block ], its first word read
+    let (guard, rest) = expressions::expr(alloc, tokens)?;
+    let (body, rest) = block(alloc, rest)?;
+    match cursor::after_word(rest, Word::Else) {
+        None => Ok((
+            Stmt::If {
+                guard,
+                body,
+                other: None,
+            },
+            rest,
+        )),
+        Some(after) => {
+            let (other, rest) = block(alloc, after)?;
+            Ok((
+                Stmt::If {
+                    guard,
+                    body,
+                    other: Some(other),
+                },
+                rest,
+            ))
+        }
+    }
+}
+
+#[cycle(stmt)]
+fn repeated(alloc: Global, tokens: &[Spanned]) -> Result<(Stmt, &[Spanned]), Stuck>
+    ensures shorter { IfOk result (λ read. length read.1.now < length tokens.now) }
+{
+    // "while" expr block, its first word read
+    let (guard, rest) = expressions::expr(alloc, tokens)?;
+    let (body, rest) = block(alloc, rest)?;
+    Ok((Stmt::While { guard, body }, rest))
+}
+
+#[cycle(stmt)]
+fn split(alloc: Global, tokens: &[Spanned]) -> Result<(Stmt, &[Spanned]), Stuck>
+    ensures shorter { IfOk result (λ read. length read.1.now < length tokens.now) }
+{
+    // "split" name "at" expr "as" name "," name block, its first word read
+    let (section, rest) = cursor::name(tokens)?;
+    let rest = cursor::word(rest, Word::At)?;
+    let (at, rest) = expressions::expr(alloc, rest)?;
+    let rest = cursor::word(rest, Word::As)?;
+    let (left, rest) = cursor::name(rest)?;
+    let rest = cursor::mark(rest, Mark::Comma)?;
+    let (right, rest) = cursor::name(rest)?;
+    let (body, rest) = block(alloc, rest)?;
+    Ok((
+        Stmt::Split {
+            section,
+            at,
+            left,
+            right,
+            body,
+        },
+        rest,
+    ))
+}
+
+/// A statement without a block that a word begins.
+fn simple(alloc: Global, tokens: &[Spanned]) -> Result<(Stmt, &[Spanned]), Stuck>
+    ensures shorter { IfOk result (λ read. length read.1.now < length tokens.now) }
+{
+    if let Some(rest) = cursor::after_word(tokens, Word::Skip) {
+        // stmt = "skip" ";"
+        let rest = cursor::mark(rest, Mark::Semicolon)?;
+        return Ok((Stmt::Skip, rest));
+    }
+    if let Some(rest) = cursor::after_word(tokens, Word::Var) {
+        return declared(alloc, rest);
+    }
+    if let Some(rest) = cursor::after_word(tokens, Word::Print) {
+        return printed(alloc, rest);
+    }
+    // stmt = "fault" expr ";"
+    let rest = cursor::word(tokens, Word::Fault)?;
+    let (value, rest) = ended(alloc, rest)?;
+    Ok((Stmt::Fault { value }, rest))
+}
+
+/// An expression and the semicolon that ends its statement.
+fn ended(alloc: Global, tokens: &[Spanned]) -> Result<(Expr, &[Spanned]), Stuck>
+    ensures shorter { IfOk result (λ read. length read.1.now < length tokens.now) }
+{
+    // expr ";"
+    let (value, rest) = expressions::expr(alloc, tokens)?;
+    let rest = cursor::mark(rest, Mark::Semicolon)?;
+    Ok((value, rest))
+}
+
+fn declared(alloc: Global, tokens: &[Spanned]) -> Result<(Stmt, &[Spanned]), Stuck>
+    ensures shorter { IfOk result (λ read. length read.1.now < length tokens.now) }
+{
+    // "var" name "=" expr ";", its first word read
+    let (name, rest) = cursor::name(tokens)?;
+    let rest = cursor::mark(rest, Mark::Becomes)?;
+    let (value, rest) = ended(alloc, rest)?;
+    Ok((Stmt::Var { name, value }, rest))
+}
+
+fn printed(alloc: Global, tokens: &[Spanned]) -> Result<(Stmt, &[Spanned]), Stuck>
+    ensures shorter { IfOk result (λ read. length read.1.now < length tokens.now) }
+{
+    // "print" expr { "," expr } ";", its first word read
+    let (first, rest) = expressions::expr(alloc, tokens)?;
+    let (others, rest) = expressions::more(alloc, rest, Vec::new(alloc))?;
+    let rest = cursor::mark(rest, Mark::Semicolon)?;
+    Ok((
+        Stmt::Print {
+            first,
+            rest: others,
+        },
+        rest,
+    ))
+}
+
+/// A statement that a name begins.
+fn named(alloc: Global, tokens: &[Spanned]) -> Result<(Stmt, &[Spanned]), Stuck>
+    ensures shorter { IfOk result (λ read. length read.1.now < length tokens.now) }
+{
+    let (name, rest) = cursor::name(tokens)?;
+    if let Some(rest) = cursor::after_mark(rest, Mark::LeftBracket) {
+        // stmt = name "[" expr "]" "=" expr ";"
+        let (index, rest) = expressions::expr(alloc, rest)?;
+        let rest = cursor::mark(rest, Mark::RightBracket)?;
+        let rest = cursor::mark(rest, Mark::Becomes)?;
+        let (value, rest) = ended(alloc, rest)?;
+        return Ok((
+            Stmt::Store {
+                section: name,
+                index,
+                value,
+            },
+            rest,
+        ));
+    }
+    if let Some(rest) = cursor::after_mark(rest, Mark::LeftParen) {
+        // stmt = name "(" [ expr { "," expr } ] ")" ";"
+        let (arguments, rest) = arguments(alloc, rest)?;
+        let rest = cursor::mark(rest, Mark::Semicolon)?;
+        return Ok((
+            Stmt::Call {
+                procedure: name,
+                arguments,
+            },
+            rest,
+        ));
+    }
+    // stmt = name "=" expr ";"
+    let rest = cursor::mark(rest, Mark::Becomes)?;
+    let (value, rest) = ended(alloc, rest)?;
+    Ok((Stmt::Assign { name, value }, rest))
+}
+
+/// The arguments of a call and the parenthesis that closes them.
+fn arguments(alloc: Global, tokens: &[Spanned]) -> Result<(Vec<Expr>, &[Spanned]), Stuck>
+    ensures shorter { IfOk result (λ read. length read.1.now < length tokens.now) }
+{
+    // [ expr { "," expr } ] ")"
+    let mut exprs = Vec::new(alloc);
+    if let Some(rest) = cursor::after_mark(tokens, Mark::RightParen) {
+        return Ok((exprs, rest));
+    }
+    let (first, rest) = expressions::expr(alloc, tokens)?;
+    exprs.push(first)?;
+    let (exprs, rest) = expressions::more(alloc, rest, exprs)?;
+    let rest = cursor::mark(rest, Mark::RightParen)?;
+    Ok((exprs, rest))
+}

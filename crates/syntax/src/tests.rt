@@ -1,0 +1,118 @@
+//! Rows of texts.
+
+use crate::parser::parse;
+use crate::tree::{Program, Stmt};
+use std::alloc::{AllocError, Global};
+use std::test::Fail;
+
+/// `main { print `, brackets, a number, brackets, `; }`
+fn nested(alloc: Global, depth: usize, closed: bool) -> Result<String, AllocError> {
+    let mut text = String::from_str(alloc, "main { print ")?;
+    for _ in 0..depth {
+        text.push('(')?;
+    }
+    if closed {
+        text.push('1')?;
+        for _ in 0..depth {
+            text.push(')')?;
+        }
+        text.push_str("; }")?;
+    }
+    Ok(text)
+}
+
+/// What `parse` says of a text.
+fn verdict(alloc: Global, text: &str) -> Result<String, AllocError> {
+    match parse(alloc, text) {
+        Ok(_) => String::from_str(alloc, "program"),
+        Err(error) => format!(in alloc; "{error}"),
+    }
+}
+
+#[test]
+fn verdicts(rt: HostRuntime) -> Result<(), Fail> {
+    let rows = [
+        ("", "program"),
+        ("main { }", "program"),
+        ("main { print 1 ! 2; }", "S1 at 1:16"),
+        ("main { by }", "S2 at 1:8"),
+        ("main { skip }", "S2 at 1:13"),
+        ("main { print 9223372036854775808; }", "S3 at 1:14"),
+        ("main { print 9223372036854775807; }", "program"),
+        ("main { print 007; }", "program"),
+        ("main {\n\tskip;\r\n // \u{e9}\u{1f600}!\n  }}", "S2 at 4:4"),
+        ("main { // the end", "S2 at 1:18"),
+        ("main {\n", "S2 at 2:1"),
+        ("main { } // the end", "program"),
+        (
+            "proc f(mut s: int, read t: byte, n: int) { } proc g() { f(a, b, 1); }",
+            "program",
+        ),
+        ("proc f(mut s: int,) { }", "S2 at 1:19"),
+        ("main { a[0] = -1 * 2 + b[a] % (3 - len(a)); }", "program"),
+        (
+            "main { if not a < 1 and b == 2 or true { skip; } else { } }",
+            "program",
+        ),
+        (
+            "main { while x <= 1 { split s at k as l, r { async { } } } finish { } }",
+            "program",
+        ),
+        ("main { if a < b < c { } }", "S2 at 1:17"),
+        (
+            "main { print 1, x != 2; fault 3; var x = 1; x = x + 1; f(); }",
+            "program",
+        ),
+        ("main { array a: int[8]; array b: byte[2]; }", "program"),
+        ("main { skip; array a: int[8]; }", "S2 at 1:14"),
+        ("main { } main { }", "S2 at 1:10"),
+        ("skip;", "S2 at 1:1"),
+    ];
+    for (text, want) in rows {
+        let said = verdict(rt.alloc(), text)?;
+        assert_eq!(rt; said.as_str(), want, "at {text}");
+    }
+    Ok(())
+}
+
+#[test]
+fn nesting(rt: HostRuntime) -> Result<(), Fail> {
+    let deep = nested(rt.alloc(), 100, false)?;
+    assert_eq!(rt; verdict(rt.alloc(), deep.as_str())?.as_str(), "S4 at 1:113");
+    let deep = nested(rt.alloc(), 99, true)?;
+    assert_eq!(rt; verdict(rt.alloc(), deep.as_str())?.as_str(), "program");
+    Ok(())
+}
+
+#[test]
+fn empty_text_is_the_empty_program(rt: HostRuntime) -> Result<(), Fail> {
+    let Program { procedures, main } = parse(rt.alloc(), "")?;
+    assert!(rt; procedures.is_empty());
+    assert!(rt; main.is_none());
+    Ok(())
+}
+
+#[test]
+fn lone_atoms(rt: HostRuntime) -> Result<(), Fail> {
+    let rows = [
+        ("main { fault 1; }", true),
+        ("main { fault a[1 + 1]; }", true),
+        ("main { fault (1 + 1); }", true),
+        ("main { fault -1; }", false),
+        ("main { fault not a; }", false),
+        ("main { fault a * 1; }", false),
+        ("main { fault a - 1; }", false),
+        ("main { fault a < 1; }", false),
+        ("main { fault a and b; }", false),
+        ("main { fault a or b; }", false),
+    ];
+    for (text, want) in rows {
+        let program = parse(rt.alloc(), text)?;
+        let main = program.main.as_ref().ok_or("no main")?;
+        let Some(Stmt::Fault { value }) = main.body.first() else {
+            return Err("no fault".into());
+        };
+        assert_eq!(rt; value.as_atom().is_some(), want, "at {text}");
+    }
+    Ok(())
+}

@@ -1,0 +1,175 @@
+//! What a text is made of.
+
+/// A token with the number of its first character, counted from 0.
+#[derive(Drop, Debug)]
+pub struct Spanned {
+    pub token: Token,
+    pub at: usize,
+}
+
+/// A token.
+#[derive(Drop, Debug)]
+pub enum Token {
+    /// `total_2`
+    Name(String),
+    /// `007`, at most 9,223,372,036,854,775,807
+    Number(u64),
+    /// `while`
+    Word(Word),
+    /// `<=`
+    Mark(Mark),
+}
+
+/// A word that is no name.
+#[derive(Clone, Copy, PartialEq, Eq, Debug)]
+pub enum Word {
+    And,
+    Array,
+    As,
+    Async,
+    At,
+    By,
+    Byte,
+    Else,
+    False,
+    Fault,
+    Finish,
+    If,
+    Int,
+    Len,
+    Main,
+    Mut,
+    Not,
+    Or,
+    Parts,
+    Print,
+    Proc,
+    Read,
+    Rescue,
+    Skip,
+    Split,
+    True,
+    Var,
+    While,
+}
+
+/// A mark of one or two characters.
+#[derive(Clone, Copy, PartialEq, Eq, Debug)]
+pub enum Mark {
+    /// `(`
+    LeftParen,
+    /// `)`
+    RightParen,
+    /// `{`
+    LeftBrace,
+    /// `}`
+    RightBrace,
+    /// `[`
+    LeftBracket,
+    /// `]`
+    RightBracket,
+    /// `,`
+    Comma,
+    /// `;`
+    Semicolon,
+    /// `:`
+    Colon,
+    /// `=`
+    Becomes,
+    /// `+`
+    Plus,
+    /// `-`
+    Minus,
+    /// `*`
+    Star,
+    /// `/`
+    Slash,
+    /// `%`
+    Percent,
+    /// `<`
+    Less,
+    /// `<=`
+    AtMost,
+    /// `>`
+    Greater,
+    /// `>=`
+    AtLeast,
+    /// `==`
+    Equal,
+    /// `!=`
+    Differs,
+}
+
+impl Word {
+    /// The word that a name would be, if it is reserved.
+    pub fn of(name: &str) -> Option<Word> {
+        Some(match name {
+            "and" => Word::And,
+            "array" => Word::Array,
+            "as" => Word::As,
+            "async" => Word::Async,
+            "at" => Word::At,
+            "by" => Word::By,
+            "byte" => Word::Byte,
+            "else" => Word::Else,
+            "false" => Word::False,
+            "fault" => Word::Fault,
+            "finish" => Word::Finish,
+            "if" => Word::If,
+            "int" => Word::Int,
+            "len" => Word::Len,
+            "main" => Word::Main,
+            "mut" => Word::Mut,
+            "not" => Word::Not,
+            "or" => Word::Or,
+            "parts" => Word::Parts,
+            "print" => Word::Print,
+            "proc" => Word::Proc,
+            "read" => Word::Read,
+            "rescue" => Word::Rescue,
+            "skip" => Word::Skip,
+            "split" => Word::Split,
+            "true" => Word::True,
+            "var" => Word::Var,
+            "while" => Word::While,
+            _ => return None,
+        })
+    }
+}
+
+impl Mark {
+    /// The mark of one character.
+    pub fn of_one(character: char) -> Option<Mark> {
+        Some(match character {
+            '(' => Mark::LeftParen,
+            ')' => Mark::RightParen,
+            '{' => Mark::LeftBrace,
+            '}' => Mark::RightBrace,
+            '[' => Mark::LeftBracket,
+            ']' => Mark::RightBracket,
+            ',' => Mark::Comma,
+            ';' => Mark::Semicolon,
+            ':' => Mark::Colon,
+            '=' => Mark::Becomes,
+            '+' => Mark::Plus,
+            '-' => Mark::Minus,
+            '*' => Mark::Star,
+            '/' => Mark::Slash,
+            '%' => Mark::Percent,
+            '<' => Mark::Less,
+            '>' => Mark::Greater,
+            _ => return None,
+        })
+    }
+
+    /// The mark of two characters, the second of which is always `=`.
+    pub fn of_two(first: char) -> Option<Mark> {
+        match first {
+            '<' => Some(Mark::AtMost),
+            '>' => Some(Mark::AtLeast),
+            '=' => Some(Mark::Equal),
+            '!' => Some(Mark::Differs),
+            _ => None,
+        }
+    }
+}

@@ -1,0 +1,13 @@
+//! The race check, and the run of an accepted program as tasks.
+
+#![tactic(auto)]
+
+pub mod check;
+pub mod contents;
+pub mod effect;
+pub mod gather;
+pub mod needs;
+pub mod race;
+pub mod run;
+pub mod scope;
+pub mod task;

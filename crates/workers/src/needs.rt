@@ -1,0 +1,38 @@
+//! What the body of an async needs of the arrays.
+
+use crate::effect::effect_of;
+use std::alloc::{AllocError, Global};
+use types::code::Stmt;
+
+/// What a task needs of an array.
+#[derive(Clone, Copy, PartialEq, Eq, Debug)]
+pub enum Need {
+    /// It doesn't name it.
+    Nothing,
+    /// It only reads it.
+    Copy,
+    /// It writes it.
+    Whole,
+}
+
+/// What a body needs of each of the arrays, in their order, also for the tasks that it begins.
+pub fn needs_of(alloc: Global, arrays: usize, body: &[Stmt]) -> Result<Vec<Need>, AllocError> {
+    let effect = effect_of(alloc, body)?;
+    let mut needs = vec![in alloc; Need::Nothing; arrays]?;
+    for access in &effect.all {
+        if access.section < needs.len() {
+            needs[access.section] = needs[access.section].with(access.write);
+        }
+    }
+    Ok(needs)
+}
+
+impl Need {
+    /// The need after one more access.
+    fn with(self, write: bool) -> Need {
+        match self {
+            Need::Whole => Need::Whole,
+            _ => { if write { Need::Whole } else { Need::Copy } }
+        }
+    }
+}

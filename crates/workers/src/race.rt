@@ -1,0 +1,68 @@
+//! What statements do to arrays, and which two of these deeds clash.
+
+use types::code::Label;
+
+/// A statement reads or writes an array.
+#[derive(Clone, Copy, PartialEq, Eq, Debug)]
+pub struct Access {
+    pub label: Label,
+    /// The array's number.
+    pub section: usize,
+    pub write: bool,
+}
+
+/// Two accesses that may happen together. The first has the smaller label; with equal labels it has the
+/// smaller section, and then it is the read.
+#[derive(Clone, Copy, PartialEq, Eq, Debug)]
+pub struct Meeting {
+    pub first: Access,
+    pub second: Access,
+}
+
+impl Access {
+    /// Whether it stands before the other in a meeting.
+    pub fn is_before(self, other: Access) -> bool {
+        if self.label != other.label {
+            self.label < other.label
+        } else if self.section != other.section {
+            self.section < other.section
+        } else {
+            !self.write && other.write
+        }
+    }
+}
+
+impl Meeting {
+    /// The meeting of two accesses.
+    pub fn of(one: Access, other: Access) -> Meeting {
+        if other.is_before(one) {
+            Meeting {
+                first: other,
+                second: one,
+            }
+        } else {
+            Meeting {
+                first: one,
+                second: other,
+            }
+        }
+    }
+
+    /// Whether both are of one array and at least one writes.
+    pub fn is_clash(self) -> bool {
+        self.first.section == self.second.section && (self.first.write || self.second.write)
+    }
+
+    /// Whether it is told before the other: ordered by both labels, then by what each access is.
+    pub fn is_before(self, other: Meeting) -> bool {
+        if self.first.label != other.first.label {
+            self.first.label < other.first.label
+        } else if self.second.label != other.second.label {
+            self.second.label < other.second.label
+        } else if self.first != other.first {
+            self.first.is_before(other.first)
+        } else {
+            self.second.is_before(other.second)
+        }
+    }
+}

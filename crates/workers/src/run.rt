@@ -1,0 +1,174 @@
+//! The run of an accepted program, task by task.
+
+ghost use Rattle.std.specs.Prelude.{◌+◌, ◌<◌, OnOk};
+ghost use Rattle.workers.specs.Left.{left_of, left_in};
+
+use crate::check::Accepted;
+use crate::contents::{Contents, Held};
+use crate::gather::{GatherError, Settled, settle};
+use crate::scope::Tasks;
+use crate::task::{Piece, Plan, Task, Told, Turn};
+use std::alloc::{AllocError, AllocFailed, Global};
+use types::budget::Budget;
+use types::code::Array;
+use types::input::Input;
+use types::outcome::Outcome;
+use types::path::Path;
+
+/// Why a run has no outcome.
+#[derive(PartialEq, Eq, Debug, Drop)]
+pub enum RunError {
+    /// E1: memory.
+    OutOfMemory,
+    /// E3: the results of tasks don't make a whole.
+    Gather(GatherError),
+}
+
+impl From<AllocError> for RunError {
+    fn from(_: AllocError) -> RunError {
+        RunError::OutOfMemory
+    }
+}
+
+impl<T: Drop> From<AllocFailed<T>> for RunError {
+    fn from(_: AllocFailed<T>) -> RunError {
+        RunError::OutOfMemory
+    }
+}
+
+impl RunError {
+    /// The code that the program prints.
+    pub fn code(&self) -> &'static str {
+        match self {
+            RunError::OutOfMemory => "E1",
+            RunError::Gather(_) => "E3",
+        }
+    }
+}
+
+/// Runs a program on an input. Each async is a task of its own, and the oldest task that may go on does.
+pub fn run(
+    alloc: Global,
+    accepted: &Accepted,
+    input: &Input,
+    budget: Budget,
+) -> Result<Outcome, RunError> {
+    let plan = Plan {
+        alloc,
+        program: accepted.typed().code(),
+        budget,
+    };
+    let mut tasks = Tasks::new(alloc)?;
+    tasks.begin(root(&plan, input)?)?;
+    while let Some(task) = tasks.take() {
+        drive(&plan, &mut tasks, task)?;
+    }
+    let mut contents = Contents::absent(alloc, plan.program.arrays.len())?;
+    let whole = vec![in alloc; Piece::Child(root_path(alloc))]?;
+    let settled = settle(alloc, whole, tasks.into_results(), &mut contents)?;
+    if settled.stopped {
+        return Ok(Outcome::Stopped);
+    }
+    let arrays = whole_arrays(alloc, &plan.program.arrays, contents)?;
+    ended(alloc, arrays, settled)
+}
+
+/// The path of the root.
+fn root_path(alloc: Global) -> Path {
+    Path {
+        turns: Vec::new(alloc),
+    }
+}
+
+/// The task that runs `main`. It has all arrays.
+fn root<'p>(plan: &Plan<'p>, input: &Input) -> Result<Task<'p>, AllocError> {
+    let contents = Contents::of_input(plan.alloc, input)?;
+    let body = &plan.program.main.body;
+    Task::begun(
+        plan,
+        root_path(plan.alloc),
+        plan.budget.nest,
+        contents,
+        0,
+        body,
+    )
+}
+
+/// Lets a task go on until it waits or has ended.
+fn drive<'p>(plan: &Plan<'p>, tasks: &mut Tasks<'p>, task: Task<'p>) -> Result<(), RunError>
+    ensures { let fresh = plan.now.budget.steps in OnOk result (left_in fresh tasks.new < left_in fresh tasks.old + left_of fresh task.entry) }
+{
+    let mut task = task;
+    loop {
+        match task.advance(plan)? {
+            Turn::Going(next) => task = next,
+            Turn::Spawns(next, child) => {
+                tasks.begin(child)?;
+                task = next;
+            }
+            Turn::EntersFinish(owner) => task = tasks.open(owner)?,
+            Turn::EndsFinish(owner) => {
+                tasks.park(owner)?;
+                return Ok(());
+            }
+            Turn::Ended(left) => {
+                tasks.end(left)?;
+                return Ok(());
+            }
+        }
+    }
+}
+
+/// The arrays, each of them whole.
+fn whole_arrays(
+    alloc: Global,
+    declared: &[Array],
+    contents: Contents,
+) -> Result<Vec<Vec<i64>>, RunError> {
+    let mut arrays = Vec::new(alloc);
+    let mut held = contents.arrays.into_iter();
+    for array in declared {
+        match held.next() {
+            Some(own) => arrays.push(whole(alloc, array, own)?)?,
+            None => return Err(lost(alloc)),
+        }
+    }
+    Ok(arrays)
+}
+
+/// An array that is there, whole.
+fn whole(alloc: Global, declared: &Array, held: Held) -> Result<Vec<i64>, RunError> {
+    match held {
+        Held::Owned(numbers) => {
+            if numbers.len() == declared.length {
+                Ok(numbers)
+            } else {
+                Err(lost(alloc))
+            }
+        }
+        Held::Copied(_numbers) => Err(lost(alloc)),
+        Held::Absent => Err(lost(alloc)),
+    }
+}
+
+/// An array is missing at the end.
+fn lost(alloc: Global) -> RunError {
+    RunError::Gather(GatherError::Lost(root_path(alloc)))
+}
+
+/// The outcome of a run that wasn't stopped.
+fn ended(alloc: Global, arrays: Vec<Vec<i64>>, settled: Settled) -> Result<Outcome, RunError> {
+    let mut lines = Vec::new(alloc);
+    let mut faults = Vec::new(alloc);
+    for told in settled.told {
+        match told {
+            Told::Line(line) => lines.push(line)?,
+            Told::Fault(fault) => faults.push(fault)?,
+        }
+    }
+    Ok(Outcome::Ended {
+        arrays,
+        lines,
+        faults,
+    })
+}
