@@ -13,8 +13,9 @@ s ⨾ b = Then s.0 s.1 b
 abbrev pub lit : ℕ → Number
 lit n = Literal (pos n)
 
-abbrev pub ints : ℕ → Array
-ints n = record { name = []; element = Int; length = n }
+-- an array of ints whose name is one letter
+abbrev pub ints : (letter n : ℕ) → Array
+ints letter n = record { name = letter ∷ []; element = Int; length = n }
 
 abbrev pub main_of : List Array → (slots : ℕ) → List Origin → Codes → Program
 main_of arrays slots sections body = record {
@@ -25,7 +26,7 @@ main_of arrays slots sections body = record {
 
 -- finish { async { a[0] = 7; } b[0] = 8; } print a[0], b[0];
 abbrev pub two_arrays : Program
-two_arrays = main_of (ints 1 ∷ ints 1 ∷ []) 0 (Root ∷ Root ∷ []) (
+two_arrays = main_of (ints 97 1 ∷ ints 98 1 ∷ []) 0 (Root ∷ Root ∷ []) (
   (1, Finish ((2, Async ((3, Do (Store 0 (lit 0) (lit 7))) ⨾ End)) ⨾ (4, Do (Store 1 (lit 0) (lit 8))) ⨾ End)) ⨾
   (5, Do (Print (Element 0 (lit 0) ∷ Element 1 (lit 0) ∷ []))) ⨾ End)
 
@@ -46,14 +47,14 @@ twice = record {
 -- array a: int[n]; finish { twice(a); }
 abbrev pub doubling : ℕ → Program
 doubling n = record {
-  arrays = ints n ∷ [];
+  arrays = ints 97 n ∷ [];
   procedures = twice ∷ [];
   main = record { parameters = []; scalars = 0; slots = 0; sections = Root ∷ []; body = (8, Finish ((9, Call 0 [] (0 ∷ [])) ⨾ End)) ⨾ End };
 }
 
 -- split a at 0 as l, r { r[2] = 5; } split a at 3 as m, n { m[0] = len(n); } print a[0], a[2]; split a at 4 as u, v { u[0] = 9; }
 abbrev pub splits : Program
-splits = main_of (ints 3 ∷ []) 0 (Root ∷ Left 0 ∷ Right 0 ∷ Left 0 ∷ Right 0 ∷ Left 0 ∷ Right 0 ∷ []) (
+splits = main_of (ints 97 3 ∷ []) 0 (Root ∷ Left 0 ∷ Right 0 ∷ Left 0 ∷ Right 0 ∷ Left 0 ∷ Right 0 ∷ []) (
   (1, Split 0 (lit 0) 1 2 ((2, Do (Store 2 (lit 2) (lit 5))) ⨾ End)) ⨾
   (3, Split 0 (lit 3) 3 4 ((4, Do (Store 3 (lit 0) (Length 4))) ⨾ End)) ⨾
   (5, Do (Print (Element 0 (lit 0) ∷ Element 0 (lit 2) ∷ []))) ⨾
@@ -61,12 +62,12 @@ splits = main_of (ints 3 ∷ []) 0 (Root ∷ Left 0 ∷ Right 0 ∷ Left 0 ∷ R
 
 -- split a at -1 as l, r { } print 1;
 abbrev pub split_below : Program
-split_below = main_of (ints 3 ∷ []) 0 (Root ∷ Left 0 ∷ Right 0 ∷ []) (
+split_below = main_of (ints 97 3 ∷ []) 0 (Root ∷ Left 0 ∷ Right 0 ∷ []) (
   (1, Split 0 (Negative (lit 1)) 1 2 End) ⨾ (2, Do (Print (lit 1 ∷ []))) ⨾ End)
 
 -- finish { async { b[0] = a[0]; } async { c[0] = a[0]; } print a[0]; } print b[0], c[0];
 abbrev pub two_readers : Program
-two_readers = main_of (ints 1 ∷ ints 1 ∷ ints 1 ∷ []) 0 (Root ∷ Root ∷ Root ∷ []) (
+two_readers = main_of (ints 97 1 ∷ ints 98 1 ∷ ints 99 1 ∷ []) 0 (Root ∷ Root ∷ Root ∷ []) (
   (1, Finish (
     (2, Async ((3, Do (Store 1 (lit 0) (Element 0 (lit 0)))) ⨾ End)) ⨾
     (4, Async ((5, Do (Store 2 (lit 0) (Element 0 (lit 0)))) ⨾ End)) ⨾
@@ -104,12 +105,12 @@ nested_faults = main_of [] 0 [] (
 
 -- array a: byte[1]; a[0] = 255; a[0] = 256; print 1;
 abbrev pub byte_store : Program
-byte_store = main_of (record { name = []; element = Byte; length = 1 } ∷ []) 0 (Root ∷ []) (
+byte_store = main_of (record { name = 97 ∷ []; element = Byte; length = 1 } ∷ []) 0 (Root ∷ []) (
   (1, Do (Store 0 (lit 0) (lit 255))) ⨾ (2, Do (Store 0 (lit 0) (lit 256))) ⨾ (3, Do (Print (lit 1 ∷ []))) ⨾ End)
 
 -- a[1] = 2; with a of one element
 abbrev pub past_the_end : Program
-past_the_end = main_of (ints 1 ∷ []) 0 (Root ∷ []) ((1, Do (Store 0 (lit 1) (lit 2))) ⨾ End)
+past_the_end = main_of (ints 97 1 ∷ []) 0 (Root ∷ []) ((1, Do (Store 0 (lit 1) (lit 2))) ⨾ End)
 
 -- finish { async { while true { skip; } } print 1; }
 abbrev pub endless : Program
@@ -164,7 +165,7 @@ down = record {
 -- array a: int[1]; down(a, n); print a[0];
 abbrev pub deep_call : ℕ → Program
 deep_call n = record {
-  arrays = ints 1 ∷ [];
+  arrays = ints 97 1 ∷ [];
   procedures = down ∷ [];
   main = record { parameters = []; scalars = 0; slots = 0; sections = Root ∷ []; body = (4, Call 0 (lit n ∷ []) (0 ∷ [])) ⨾ (5, Do (Print (Element 0 (lit 0) ∷ []))) ⨾ End };
 }

@@ -9,3 +9,4 @@ pub mod Outcome
 pub mod FirstPart
 pub mod Indexed
 pub mod Laws
+pub mod Resolution
