@@ -1,12 +1,12 @@
 -- What worked texts resolve to, computed.
-use Rattle.std.proofs.Common.{◌≡◌, ℕ, List, [], ◌∷◌, Option, Some, None, refl}
+use Rattle.std.proofs.Common.{◌≡◌, ℕ, List, [], ◌∷◌, Some, None, refl}
 use Rattle.syntax.specs.declared.tree.ElementType.TheVariants.{Int}
 use Rattle.syntax.specs.declared.tree.Relation.{Relation}
 use Rattle.syntax.specs.declared.tree.Relation.TheVariants.{AtMost, Equal}
 use Rattle.syntax.specs.declared.tree.Sign.TheVariants.{Plus}
 use Rattle.syntax.specs.declared.tree.Operator.{Operator}
 use Rattle.syntax.specs.declared.tree.Operator.TheVariants.{Times, Over}
-use Rattle.syntax.specs.Tree.{Expr, Or, NoConj, And, NoNeg, Plainly, Alone, Compare, Add, NoTerm, AddTerm, Multiply, NoFactor, MultiplyFactor, Positive, Atom, Number, Name, Element, Length, Stmt, Var, Assign, Store, Print, If, IfElse, Split, Call, Async, Finish, Block, End, Then, Array, Written, Procedure, Main, Program}
+use Rattle.syntax.specs.Tree.{Expr, Or, NoConj, And, NoNeg, Plainly, Alone, Compare, Add, NoTerm, AddTerm, Multiply, NoFactor, MultiplyFactor, Positive, Atom, Number, Name, Element, Length, Var, Assign, Store, Print, If, IfElse, Split, Call, Async, Finish, End, Then, Array, Written, Program}
 use Rattle.types.specs.Resolution.{resolution}
 use Rattle.types.proofs.Programs.{two_arrays, doubling, scalars}
 
@@ -38,7 +38,7 @@ two_arrays_text = record {
   main = Some (record {
     arrays = int_array 97 1 ∷ int_array 98 1 ∷ [];
     body =
-      Then (Finish (Then (Async (Then (Store (name 97) (num 0) (num 7)) End)) (Then (Store (name 98) (num 0) (num 8)) End)))
+        Then (Finish (Then (Async (Then (Store (name 97) (num 0) (num 7)) End)) (Then (Store (name 98) (num 0) (num 8)) End)))
         (Then (Print (atom (Element (name 97) (num 0))) (atom (Element (name 98) (num 0)) ∷ [])) End);
   });
 }
@@ -54,8 +54,8 @@ doubling_text = record {
     name = name 116;
     parameters = Written (name 115) Int ∷ [];
     body = Then (IfElse (compare (Length (name 115)) AtMost 1)
-      (Then (If (compare (Length (name 115)) Equal 1) (Then (Store (name 115) (num 0) (product (Element (name 115) (num 0)) Times 2)) End)) End)
-      (Then (Split (name 115) (product (Length (name 115)) Over 2) (name 108) (name 114) (
+        (Then (If (compare (Length (name 115)) Equal 1) (Then (Store (name 115) (num 0) (product (Element (name 115) (num 0)) Times 2)) End)) End)
+        (Then (Split (name 115) (product (Length (name 115)) Over 2) (name 108) (name 114) (
         Then (Async (Then (Call (name 116) (atom (Name (name 108)) ∷ [])) End)) (Then (Call (name 116) (atom (Name (name 114)) ∷ [])) End))) End)) End;
   } ∷ [];
   main = Some (record {
@@ -74,10 +74,10 @@ scalars_text = record {
   main = Some (record {
     arrays = [];
     body =
-      Then (Var (name 120) (num 1)) (
-      Then (Async (Then (Var (name 121) (num 2)) (Then (Print (total (Name (name 120)) (Name (name 121))) []) End))) (
-      Then (Finish (Then (Assign (name 120) (num 3)) End)) (
-      Then (Print (atom (Name (name 120))) []) End)));
+        Then (Var (name 120) (num 1)) (
+        Then (Async (Then (Var (name 121) (num 2)) (Then (Print (total (Name (name 120)) (Name (name 121))) []) End))) (
+        Then (Finish (Then (Assign (name 120) (num 3)) End)) (
+        Then (Print (atom (Name (name 120))) []) End)));
   });
 }
 

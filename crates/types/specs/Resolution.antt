@@ -1,5 +1,5 @@
 -- The code of a program: what its names mean, and which label each statement has.
-use Rattle.std.specs.Prelude.{ℕ, ◌+◌, ◌*◌, List, [], ◌∷◌, ◌++◌, map, length, replicate, Bool, true, false, pos, Option, Some, None, option_map, nat_eq, if◌then◌else◌}
+use Rattle.std.specs.Prelude.{ℕ, ◌+◌, List, [], ◌∷◌, ◌++◌, map, length, replicate, true, false, pos, Option, Some, None, option_map, nat_eq, if◌then◌else◌}
 use Rattle.std.specs.Cmp.Lexicographic.{pointwise}
 use Rattle.syntax.specs.declared.tree.Sign.{Sign}
 use Rattle.syntax.specs.declared.tree.Sign.TheVariants.{Plus as SignPlus, Minus as SignMinus}
@@ -339,7 +339,7 @@ module _ (all : List DeclaredProcedure) where
   procedures label [] = []
   procedures label (f ∷ fs) =
       resolved (section_parameters f.parameters) (scalar_parameters f.parameters) (in_procedure label f.parameters) f.body
-        ∷ procedures (label + labels f.body) fs
+      ∷ procedures (label + labels f.body) fs
 
 -- how many statements procedures have
 abbrev pub labels_before : List DeclaredProcedure → ℕ

@@ -1,5 +1,5 @@
 -- The Rust types as plain trees, without what says where they lie in memory.
-use Rattle.std.specs.Prelude.{ℕ, ℤ, List, [], ◌∷◌, map, Vec}
+use Rattle.std.specs.Prelude.{ℤ, List, [], ◌∷◌, map}
 use Rattle.std.specs.String.{string_bytes}
 use Rattle.types.specs.Code.{Number, Literal, Scalar, Element, Length, Negative, Chain, Links, Done, Link, Truth, Constant, Compare, Not, Both, Either, Truths, NoMore, Also, Primitive, Skip, Assign, Store, Print, Raise, Code, Do, If, While, Split, Call, Async, Finish, Codes, End, Then, Origin, Root, Left, Right, Array, Parameter, Procedure, Program}
 use Rattle.types.specs.Run.{Fault}
@@ -17,7 +17,6 @@ use Rattle.types.specs.declared.code.Origin.{Origin as rOrigin}
 use Rattle.types.specs.declared.code.Origin.TheVariants.{Root as rRoot, Left as rLeft, Right as rRight}
 use Rattle.types.specs.declared.code.Array.{Array as rArray}
 use Rattle.types.specs.declared.code.SectionParameter.{SectionParameter}
-use Rattle.types.specs.declared.code.Section.{Section}
 use Rattle.types.specs.declared.code.Procedure.{Procedure as rProcedure}
 use Rattle.types.specs.declared.code.Program.{Program as rProgram}
 use Rattle.types.specs.declared.fault.Fault.{Fault as rFault}

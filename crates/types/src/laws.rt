@@ -16,21 +16,18 @@ ghost use Rattle.types.specs.Laws.{IsThrifty, Solves, IsOnly, OnlyAdds, SameOn};
 pub fn runs_are_determined<X>()
     ensures solves { (p : Program) (r : Rules X) → IsThrifty r → Solves p r (run p r) }
     ensures only { (p : Program) (r : Rules X) → IsThrifty r → IsOnly p r (run p r) }
-{
-}
+{}
 
 /// The one-thread meaning is the one function that does what its work says.
 pub fn meaning_is_determined()
     ensures solves { (p : Program) (fresh nest : ℕ) → Solves p (one_rules p fresh nest) (one p fresh nest) }
     ensures only { (p : Program) (fresh nest : ℕ) → IsOnly p (one_rules p fresh nest) (one p fresh nest) }
-{
-}
+{}
 
 /// What work leaves told is what was told before, followed by what it tells.
 pub fn meaning_only_adds()
     ensures { (p : Program) (fresh nest : ℕ) (w : Work) → OnlyAdds (one p fresh nest w) }
-{
-}
+{}
 
 /// Under a larger budget an ended outcome is the same, so a program has one ending at most.
 pub fn larger_budgets_end_alike()
@@ -38,8 +35,7 @@ pub fn larger_budgets_end_alike()
         → IsLarger larger b → outcome p input b ≡ Ended e → outcome p input larger ≡ Ended e }
     ensures one { (p : Program) (input : List (List ℤ)) (e f : Ending)
         → Means p input e → Means p input f → e ≡ f }
-{
-}
+{}
 
 /// A value depends only on the places of the sections that its expression indexes.
 pub fn values_depend_on_indexed_sections()
@@ -47,8 +43,7 @@ pub fn values_depend_on_indexed_sections()
         → SameOn env (indexed e) read other → number env read e ≡ number env other e }
     ensures truth { (env : Environment) (read other : Place → ℤ) (t : Truth)
         → SameOn env (indexed_truth t) read other → truth env read t ≡ truth env other t }
-{
-}
+{}
 
 /// Lists show what contents and environments are, and a write to a list is a write there.
 pub fn lists_show_contents()
@@ -56,8 +51,7 @@ pub fn lists_show_contents()
         → FitsArrays arrays lists → shown arrays (held_by lists) ≡ lists }
     ensures written { (lists : List (List ℤ)) (a i : ℕ) (v : ℤ) → i < length (slice_index_or lists a [])
         → held_by (slice_set lists a (slice_set (slice_index_or lists a []) i v))
-            ≡ write (record { array = a; index = i }) v (held_by lists) }
+        ≡ write (record { array = a; index = i }) v (held_by lists) }
     ensures assigned { (slots : List ℤ) (x : ℕ) (v d : ℤ) → x < length slots
         → by_number d (slice_set slots x v) ≡ bind x v (by_number d slots) }
-{
-}
+{}
