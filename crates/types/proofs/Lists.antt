@@ -1,13 +1,14 @@
 -- Contents and environments as lists show them.
-use Rattle.std.proofs.Common.{◌≡◌, ℕ, zero, suc, ◌+◌, ◌<◌, List, [], ◌∷◌, length, Some, refl, sym, ap, ◌∙◌, arith}
+use Rattle.std.proofs.Common.{◌≡◌, ℕ, zero, suc, ◌+◌, ◌<◌, List, [], ◌∷◌, ◌++◌, length, Option, Some, None, refl, sym, ap, ◌∙◌, subst, arith}
 use Rattle.std.proofs.lemmas.Bool.{eqb-true, eqb-false}
 use Rattle.std.proofs.lemmas.Option.{unwrap_or-slice_get}
 use Rattle.std.proofs.lemmas.List.{get_or-set_same, get_or-set_other}
-use Rattle.std.specs.Prelude.{ℤ, pos, Bool, true, false, ◌&&◌, nat_eq, slice_get, slice_index_or, slice_set, if◌then◌else◌}
+use Rattle.std.specs.Prelude.{ℤ, pos, Bool, true, false, ◌&&◌, nat_eq, slice_get, slice_index_or, slice_set, replicate, if◌then◌else◌}
 use Rattle.types.specs.Code.{Array}
-use Rattle.types.specs.Place.{Place}
+use Rattle.types.specs.Place.{Place, nowhere}
 use Rattle.types.specs.Contents.{Contents, read, write, held_by, row, rows, shown, FitsArrays, no_more, also}
 use Rattle.types.specs.Run.{bind, by_number}
+use Rattle.types.specs.Outcome.{whole_arrays}
 
 row_is : (c : Contents) (a at : ℕ) (xs : List ℤ) → ((k : ℕ) → read c (record { array = a; index = at + k }) ≡ slice_index_or xs k (pos 0)) → row c a at (length xs) ≡ xs
 row_is c a at [] h = refl
@@ -34,6 +35,20 @@ pub shown-held_by : (arrays : List Array) (lists : List (List ℤ)) → FitsArra
 shown-held_by arrays lists fits =
     rows_are (held_by lists) 0 arrays lists fits (λ j k. let z : 0 + j ≡ j = omega arith in
     unwrap_or-slice_get (slice_index_or lists (0 + j) []) k (pos 0) ∙ ap (λ j. slice_index_or (slice_index_or lists j []) k (pos 0)) z)
+
+none_is_some : {A : Type 0} {x : A} → None ≡ Some x → ⊥
+none_is_some {A} e = subst IsNothing e tt
+  where
+    IsNothing : Option A → Type 0
+    IsNothing None = Unit {0}
+    IsNothing (Some y) = ⊥
+
+some_same : {A : Type 0} {x y : A} → Some x ≡ Some y → x ≡ y
+some_same {A} {x} e = ap or_x e
+  where
+    or_x : Option A → A
+    or_x None = x
+    or_x (Some y) = y
 
 -- a list after a write, by number
 set_by_number : {A : Type 0} (d : A) (xs : List A) (i : ℕ) (v : A) → i < length xs → (k : ℕ) → slice_index_or (slice_set xs i v) k d ≡ bind i v (by_number d xs) k
@@ -89,3 +104,32 @@ held_by-slice_set lists a i v lt = λ t q. by_array q (nat_eq a q.array) refl t
         ∙ by_index q.index (nat_eq i q.index) refl
         ∙ ap (λ b. if nat_eq i q.index then Some v else slice_get (slice_index_or lists b []) q.index) same
     by_array q false e = ap (λ l. slice_get l q.index) (get_or-set_other lists a q.array new [] (λ same. eqb-false a q.array e (sym same)))
+
+default_there : {A : Type 0} (d : A) (n k : ℕ) → slice_index_or (replicate n d) k d ≡ d
+default_there d zero k = refl
+default_there d (suc n) zero = refl
+default_there d (suc n) (suc k) = default_there d n k
+
+padded_by_number : {A : Type 0} (d : A) (xs : List A) (n k : ℕ) → slice_index_or (xs ++ replicate n d) k d ≡ slice_index_or xs k d
+padded_by_number d [] n k = default_there d n k
+padded_by_number d (x ∷ xs) n zero = refl
+padded_by_number d (x ∷ xs) n (suc k) = padded_by_number d xs n k
+
+-- slots that hold the default behind those of a list are as if they weren't there
+pub by_number-append-replicate : {A : Type 0} (d : A) (xs : List A) (n : ℕ) → by_number d (xs ++ replicate n d) ≡ by_number d xs
+by_number-append-replicate d xs n = λ t k. padded_by_number d xs n k t
+
+-- the windows of all arrays, by number
+whole_by_number : (n : ℕ) (arrays : List Array) (k : ℕ) (x : Array) → slice_get arrays k ≡ Some x → by_number nowhere (whole_arrays n arrays) k ≡ record { array = n + k; at = 0; length = x.length }
+whole_by_number n [] k x e = absurd (none_is_some e)
+whole_by_number n (y ∷ ys) zero x e =
+    let here : n ≡ n + 0 = omega arith in
+    ap (λ (z : Array). record { array = n; at = 0; length = z.length }) (some_same e) ∙ ap (λ m. record { array = m; at = 0; length = x.length }) here
+whole_by_number n (y ∷ ys) (suc k) x e =
+    let there : n + 1 + k ≡ n + suc k = omega arith in
+    whole_by_number (n + 1) ys k x e ∙ ap (λ m. record { array = m; at = 0; length = x.length }) there
+
+-- the first sections of `main` are the arrays
+pub whole_array-by_number : (arrays : List Array) (k : ℕ) (x : Array) → slice_get arrays k ≡ Some x → by_number nowhere (whole_arrays 0 arrays) k ≡ record { array = k; at = 0; length = x.length }
+whole_array-by_number arrays k x e =
+    let z : 0 + k ≡ k = omega arith in whole_by_number 0 arrays k x e ∙ ap (λ m. record { array = m; at = 0; length = x.length }) z

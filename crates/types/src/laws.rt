@@ -1,13 +1,13 @@
 //! Laws of the definitions, each the contract of a function that does nothing.
 
-ghost use Rattle.std.specs.Prelude.{◌≡◌, ◌<◌, ℕ, ℤ, List, [], length, slice_index_or, slice_set};
+ghost use Rattle.std.specs.Prelude.{◌≡◌, ◌<◌, ℕ, ℤ, List, [], ◌++◌, length, replicate, slice_get, slice_index_or, slice_set};
 ghost use Rattle.types.specs.Code.{Number, Truth, Array, Program};
-ghost use Rattle.types.specs.Place.{Place};
+ghost use Rattle.types.specs.Place.{Place, nowhere};
 ghost use Rattle.types.specs.Contents.{held_by, shown, write, FitsArrays};
 ghost use Rattle.types.specs.Value.{Environment, number, truth};
 ghost use Rattle.types.specs.Run.{Rules, Work, run, bind, by_number};
 ghost use Rattle.types.specs.Meaning.{one, one_rules};
-ghost use Rattle.types.specs.Outcome.{Budget, IsLarger, Ending, Ended, outcome, Means};
+ghost use Rattle.types.specs.Outcome.{Budget, IsLarger, Ending, Ended, outcome, Means, whole_arrays};
 ghost use Rattle.types.specs.Indexed.{indexed, indexed_truth};
 ghost use Rattle.types.specs.Laws.{IsThrifty, Solves, IsOnly, OnlyAdds, SameOn};
 
@@ -52,6 +52,10 @@ pub fn lists_show_contents()
     ensures written { (lists : List (List ℤ)) (a i : ℕ) (v : ℤ) → i < length (slice_index_or lists a [])
         → held_by (slice_set lists a (slice_set (slice_index_or lists a []) i v))
         ≡ write (record { array = a; index = i }) v (held_by lists) }
+    ensures arrays { (arrays : List Array) (k : ℕ) (x : Array) → slice_get arrays k ≡ Some x
+        → by_number nowhere (whole_arrays 0 arrays) k ≡ record { array = k; at = 0; length = x.length } }
+    ensures slots { (slots : List ℤ) (n : ℕ) (d : ℤ)
+        → by_number d (slots ++ replicate n d) ≡ by_number d slots }
     ensures assigned { (slots : List ℤ) (x : ℕ) (v d : ℤ) → x < length slots
         → by_number d (slice_set slots x v) ≡ bind x v (by_number d slots) }
 {}
