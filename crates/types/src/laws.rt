@@ -11,8 +11,8 @@ ghost use Rattle.types.specs.Outcome.{Budget, IsLarger, Ending, Ended, outcome, 
 ghost use Rattle.types.specs.Indexed.{indexed, indexed_truth};
 ghost use Rattle.types.specs.Laws.{IsThrifty, Solves, IsOnly, OnlyAdds, SameOn};
 
-/// Where the rules spend steps honestly, a run does what its work says, with runs in place of what is
-/// inside of its calls and further turns; and it alone does. So the bound on depth says nothing.
+/// Where the rules spend steps honestly, a run does what its work says, with runs in place of what
+/// is inside of its calls and further turns; and it alone does. So the bound on depth says nothing.
 pub fn runs_are_determined<X>()
     ensures solves { (p : Program) (r : Rules X) → IsThrifty r → Solves p r (run p r) }
     ensures only { (p : Program) (r : Rules X) → IsThrifty r → IsOnly p r (run p r) }
@@ -20,8 +20,10 @@ pub fn runs_are_determined<X>()
 
 /// The one-thread meaning is the one function that does what its work says.
 pub fn meaning_is_determined()
-    ensures solves { (p : Program) (fresh nest : ℕ) → Solves p (one_rules p fresh nest) (one p fresh nest) }
-    ensures only { (p : Program) (fresh nest : ℕ) → IsOnly p (one_rules p fresh nest) (one p fresh nest) }
+    ensures solves { (p : Program) (fresh nest : ℕ)
+        → Solves p (one_rules p fresh nest) (one p fresh nest) }
+    ensures only { (p : Program) (fresh nest : ℕ)
+        → IsOnly p (one_rules p fresh nest) (one p fresh nest) }
 {}
 
 /// What work leaves told is what was told before, followed by what it tells.
@@ -49,11 +51,13 @@ pub fn values_depend_on_indexed_sections()
 pub fn lists_show_contents()
     ensures shown { (arrays : List Array) (lists : List (List ℤ))
         → FitsArrays arrays lists → shown arrays (held_by lists) ≡ lists }
-    ensures written { (lists : List (List ℤ)) (a i : ℕ) (v : ℤ) → i < length (slice_index_or lists a [])
+    ensures written { (lists : List (List ℤ)) (a i : ℕ) (v : ℤ)
+        → i < length (slice_index_or lists a [])
         → held_by (slice_set lists a (slice_set (slice_index_or lists a []) i v))
         ≡ write (record { array = a; index = i }) v (held_by lists) }
     ensures arrays { (arrays : List Array) (k : ℕ) (x : Array) → slice_get arrays k ≡ Some x
-        → by_number nowhere (whole_arrays 0 arrays) k ≡ record { array = k; at = 0; length = x.length } }
+        → by_number nowhere (whole_arrays 0 arrays) k
+        ≡ record { array = k; at = 0; length = x.length } }
     ensures slots { (slots : List ℤ) (n : ℕ) (d : ℤ)
         → by_number d (slots ++ replicate n d) ≡ by_number d slots }
     ensures assigned { (slots : List ℤ) (x : ℕ) (v d : ℤ) → x < length slots
