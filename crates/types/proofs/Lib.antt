@@ -6,4 +6,6 @@ pub mod Adds
 pub mod Larger
 pub mod Readings
 pub mod Lists
+pub mod Slots
+pub mod Chains
 pub mod Resolved

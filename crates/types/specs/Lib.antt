@@ -3,10 +3,12 @@ pub mod Translation
 pub mod Place
 pub mod Contents
 pub mod Value
+pub mod Rows
 pub mod Run
 pub mod Meaning
 pub mod Outcome
 pub mod FirstPart
+pub mod Frame
 pub mod Indexed
 pub mod Laws
 pub mod Resolution

@@ -1,6 +1,6 @@
 //! Parts of arrays.
 
-ghost use Rattle.std.specs.Prelude.{◌≡◌, ◌≤◌, ◌<◌, ◌↔◌, ◌+◌, ◌-◌, IsNone, IfSome};
+ghost use Rattle.std.specs.Prelude.{◌≡◌, ◌≤◌, ◌<◌, ◌↔◌, ◌+◌, ◌-◌, IsNone, IfSome, IfOk, IfErr};
 
 use crate::fault::FaultKind;
 
@@ -24,6 +24,10 @@ pub struct Place {
 }
 
 impl Window {
+    ghost use Rattle.types.specs.Frame.{place as place_of};
+    ghost use Rattle.types.specs.Translation.{window as window_of};
+    ghost use Rattle.types.specs.Value.{element_of};
+
     /// The window of no place.
     pub const NOWHERE: Window = Window {
         array: 0,
@@ -70,7 +74,10 @@ impl Window {
     }
 
     /// The place of the element `index`, or F1 where the window has none.
-    pub fn place(self, index: i64) -> Result<Place, FaultKind> {
+    pub fn place(self, index: i64) -> Result<Place, FaultKind>
+        ensures ok { IfOk result (λ q. element_of (window_of self) index ≡ Ok (place_of q)) }
+        ensures err { IfErr result (λ f. element_of (window_of self) index ≡ Err f) }
+    {
         match usize::try_from(index) {
             Ok(index) if index < self.len => Ok(Place {
                 array: self.array,

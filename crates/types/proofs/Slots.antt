@@ -1,0 +1,53 @@
+-- What a list gives by number, once it has grown by an item.
+use Rattle.std.proofs.Common.{◌≡◌, ℕ, zero, suc, List, [], ◌∷◌, ◌++◌, length, refl, sym, ap, ◌∙◌}
+use Rattle.std.proofs.lemmas.Bool.{eqb-true, eqb-false}
+use Rattle.std.specs.Prelude.{map, Bool, true, false, nat_eq, slice_index_or, if◌then◌else◌}
+use Rattle.types.specs.Run.{bind, by_number}
+use Rattle.types.proofs.Lists.{by_number-append-replicate}
+
+-- an item more that is what a list gives past its end changes nothing
+pub by_number-filled : {A : Type 0} (d : A) (xs ys : List A) → ys ≡ xs ++ d ∷ [] → by_number d ys ≡ by_number d xs
+by_number-filled d xs ys e = ap (by_number d) e ∙ by_number-append-replicate d xs 1
+
+at_end : {A : Type 0} (d v : A) (xs : List A) → slice_index_or (xs ++ v ∷ []) (length xs) d ≡ v
+at_end d v [] = refl
+at_end d v (x ∷ xs) = at_end d v xs
+
+elsewhere : {A : Type 0} (d v : A) (xs : List A) (k : ℕ) → (length xs ≡ k → ⊥) → slice_index_or (xs ++ v ∷ []) k d ≡ slice_index_or xs k d
+elsewhere d v [] zero ne = absurd (ne refl)
+elsewhere d v [] (suc k) ne = refl
+elsewhere d v (x ∷ xs) zero ne = refl
+elsewhere d v (x ∷ xs) (suc k) ne = elsewhere d v xs k (λ e. ne (ap suc e))
+
+added_is : {A : Type 0} (d v : A) (xs : List A) (k : ℕ) (b : Bool) → nat_eq (length xs) k ≡ b → slice_index_or (xs ++ v ∷ []) k d ≡ (if b then v else slice_index_or xs k d)
+added_is d v xs k true e = ap (λ k. slice_index_or (xs ++ v ∷ []) k d) (sym (eqb-true (length xs) k e)) ∙ at_end d v xs
+added_is d v xs k false e = elsewhere d v xs k (eqb-false (length xs) k e)
+
+-- an item more is bound to the number that the length was
+pub by_number-added : {A : Type 0} (d v : A) (xs ys : List A) (i : ℕ) → i ≡ length xs → ys ≡ xs ++ v ∷ [] → by_number d ys ≡ bind i v (by_number d xs)
+by_number-added d v xs ys i at e =
+    ap (by_number d) e
+    ∙ (λ t k. added_is d v xs k (nat_eq (length xs) k) refl t)
+    ∙ ap (λ i. bind i v (by_number d xs)) (sym at)
+
+-- what a list of views gives is the view of what the list gives
+map_is : {A B : Type 0} (f : A → B) (d : A) (xs : List A) (k : ℕ) → slice_index_or (map f xs) k (f d) ≡ f (slice_index_or xs k d)
+map_is f d [] k = refl
+map_is f d (x ∷ xs) zero = refl
+map_is f d (x ∷ xs) (suc k) = map_is f d xs k
+
+pub by_number-map : {A B : Type 0} (f : A → B) (d : A) (xs : List A) → by_number (f d) (map f xs) ≡ (λ k. f (by_number d xs k))
+by_number-map f d xs = λ t k. map_is f d xs k t
+
+view_of_bound : {A B : Type 0} (f : A → B) (b : Bool) (v w : A) → f (if b then v else w) ≡ (if b then f v else f w)
+view_of_bound f true v w = refl
+view_of_bound f false v w = refl
+
+-- a view of a list after a write is the write of the view
+pub by_number-map-bound : {A B : Type 0} (f : A → B) (d : A) (xs ys : List A) (i : ℕ) (v : A) → by_number d ys ≡ bind i v (by_number d xs)
+    → by_number (f d) (map f ys) ≡ bind i (f v) (by_number (f d) (map f xs))
+by_number-map-bound f d xs ys i v e =
+    by_number-map f d ys
+    ∙ (λ t k. f (e t k))
+    ∙ (λ t k. view_of_bound f (nat_eq i k) v (slice_index_or xs k d) t)
+    ∙ ap (bind i (f v)) (sym (by_number-map f d xs))
