@@ -1,1 +1,3 @@
 pub mod Left
+pub mod Lengths
+pub mod Refusal

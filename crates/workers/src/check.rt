@@ -1,7 +1,10 @@
 //! The race check.
 
+ghost use Rattle.std.specs.Prelude.{◌≡◌, IfOk, IfErr};
+ghost use Rattle.workers.specs.Refusal.{GivesBack};
+
 use crate::effect::effect_of;
-use crate::race::{Access, Meeting};
+use crate::race::Meeting;
 use std::alloc::Global;
 use types::typed::Typed;
 
@@ -11,17 +14,10 @@ pub struct Accepted {
     typed: Typed,
 }
 
-/// Two accesses that clash, in `main`.
-#[derive(Clone, Copy, PartialEq, Eq, Debug)]
-pub struct Race {
-    pub first: Access,
-    pub second: Access,
-}
-
 /// Why a program isn't accepted.
 #[derive(Drop)]
 pub enum Refused {
-    /// C1: it has a race, of which this is the least.
+    /// C1: two accesses of `main` clash, of which this is the least meeting.
     Race {
         race: Meeting,
         /// The program, for the names in it.
@@ -32,7 +28,10 @@ pub enum Refused {
 }
 
 /// Whether a program has a race.
-pub fn check(alloc: Global, typed: Typed) -> Result<Accepted, Refused> {
+pub fn check(alloc: Global, typed: Typed) -> Result<Accepted, Refused>
+    ensures accepted { IfOk result (λ accepted. accepted.typed ≡ typed) }
+    ensures refused { IfErr result (GivesBack typed) }
+{
     match effect_of(alloc, &typed.code().main.body) {
         Err(_) => Err(Refused::OutOfMemory),
         Ok(effect) => match effect.race {
@@ -44,7 +43,9 @@ pub fn check(alloc: Global, typed: Typed) -> Result<Accepted, Refused> {
 
 impl Accepted {
     /// The program.
-    pub fn typed(&self) -> &Typed {
+    pub fn typed(&self) -> &Typed
+        ensures { result.now ≡ self.now.typed }
+    {
         &self.typed
     }
 }

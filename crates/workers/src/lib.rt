@@ -11,3 +11,5 @@ pub mod race;
 pub mod run;
 pub mod scope;
 pub mod task;
+#[cfg(test)]
+mod tests;
