@@ -1,1 +1,3 @@
 pub mod LeftLemmas
+pub mod Order
+pub mod Rows

@@ -3,8 +3,8 @@
 ghost use Rattle.std.specs.Prelude.{◌≡◌, IfOk, IfErr};
 ghost use Rattle.workers.specs.Refusal.{GivesBack};
 
-use crate::effect::effect_of;
 use crate::race::Meeting;
+use crate::search::least_race;
 use std::alloc::Global;
 use types::typed::Typed;
 
@@ -32,12 +32,10 @@ pub fn check(alloc: Global, typed: Typed) -> Result<Accepted, Refused>
     ensures accepted { IfOk result (λ accepted. accepted.typed ≡ typed) }
     ensures refused { IfErr result (GivesBack typed) }
 {
-    match effect_of(alloc, &typed.code().main.body) {
+    match least_race(alloc, None, &typed.code().main.body) {
         Err(_) => Err(Refused::OutOfMemory),
-        Ok(effect) => match effect.race {
-            Some(race) => Err(Refused::Race { race, typed }),
-            None => Ok(Accepted { typed }),
-        },
+        Ok(Some(race)) => Err(Refused::Race { race, typed }),
+        Ok(None) => Ok(Accepted { typed }),
     }
 }
 
