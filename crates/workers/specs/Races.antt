@@ -1,8 +1,7 @@
 -- Which pairs of accesses clash, and which clash is the least.
-use Rattle.std.specs.Prelude.{◌≡◌, ℕ, Bool, true, false, ◌&&◌, ◌||◌, List, [], ◌∷◌, Option, None, Some, Contains, nat_eq, nat_lt, if◌then◌else◌}
+use Rattle.std.specs.Prelude.{◌≡◌, ℕ, Bool, true, false, ◌&&◌, ◌||◌, List, [], ◌∷◌, Option, None, Some, MatchOption, Contains, nat_eq, nat_lt, if◌then◌else◌}
 use Rattle.workers.specs.declared.race.Access.{Access}
 use Rattle.workers.specs.declared.race.Meeting.{Meeting}
-use Rattle.workers.specs.Deeds.{Deeds, pairs_in}
 
 -- a read comes before a write
 abbrev pub kind_number : Bool → ℕ
@@ -30,21 +29,25 @@ meeting_of p = if is_less (access_key p.1) (access_key p.0) then record { first 
 abbrev pub is_clash : Meeting → Bool
 is_clash m = nat_eq m.first.section m.second.section && (m.first.write || m.second.write)
 
--- a meeting of two accesses that may happen together, and that clash
-pub record IsClash (body : Deeds) (m : Meeting) : Type 0 where
+-- a meeting of two of the accesses that may happen together, which clash
+pub record IsClash (together : List (Access × Access)) (m : Meeting) : Type 0 where
   pub pair : Access × Access
-  pub together : Contains (pairs_in body) pair
+  pub stands : Contains together pair
   pub meets : meeting_of pair ≡ m
   pub clashes : is_clash m ≡ true
 
--- there is no clash
-abbrev pub IsRaceFree : Deeds → Type 0
-IsRaceFree body = (m : Meeting) → IsClash body m → ⊥
+-- no two clash
+abbrev pub IsRaceFree : List (Access × Access) → Type 0
+IsRaceFree together = (m : Meeting) → IsClash together m → ⊥
 
--- a clash, before which no other one stands
-pub record IsLeastClash (body : Deeds) (m : Meeting) : Type 0 where
-  pub clash : IsClash body m
-  pub least : (n : Meeting) → IsClash body n → is_less (meeting_key n) (meeting_key m) ≡ false
+-- a clash, before which no other one comes
+pub record IsLeastClash (together : List (Access × Access)) (m : Meeting) : Type 0 where
+  pub clash : IsClash together m
+  pub least : (n : Meeting) → IsClash together n → is_less (meeting_key n) (meeting_key m) ≡ false
+
+-- the least clash, where there is one
+abbrev pub IsLeast : List (Access × Access) → Option Meeting → Type 0
+IsLeast together found = MatchOption found (IsRaceFree together) (IsLeastClash together)
 
 -- the lesser of a race found before and a pair, where that clashes
 abbrev pub lesser : Option Meeting → Meeting → Option Meeting

@@ -1,10 +1,11 @@
 //! The race check.
 
-ghost use Rattle.std.specs.Prelude.{◌≡◌, IfOk, IfErr};
-ghost use Rattle.workers.specs.Refusal.{GivesBack};
+ghost use Rattle.std.specs.Prelude.{◌≡◌, IfOk, IfErr, OnOk};
+ghost use Rattle.workers.specs.Refusal.{pairs_of, IsRefusalOf};
+ghost use Rattle.workers.specs.Races.{IsRaceFree};
 
 use crate::race::Meeting;
-use crate::search::least_race;
+use crate::search::race_in;
 use std::alloc::Global;
 use types::typed::Typed;
 
@@ -30,12 +31,15 @@ pub enum Refused {
 /// Whether a program has a race.
 pub fn check(alloc: Global, typed: Typed) -> Result<Accepted, Refused>
     ensures accepted { IfOk result (λ accepted. accepted.typed ≡ typed) }
-    ensures refused { IfErr result (GivesBack typed) }
+    ensures race_free { OnOk result (IsRaceFree (pairs_of typed)) }
+    ensures refused { IfErr result (IsRefusalOf typed) }
 {
-    match least_race(alloc, None, &typed.code().main.body) {
+    match race_in(alloc, &typed.code().main.body) {
         Err(_) => Err(Refused::OutOfMemory),
-        Ok(Some(race)) => Err(Refused::Race { race, typed }),
-        Ok(None) => Ok(Accepted { typed }),
+        Ok(found) => match found {
+            Some(race) => Err(Refused::Race { race, typed }),
+            None => Ok(Accepted { typed }),
+        },
     }
 }
 

@@ -2,17 +2,23 @@
 
 ghost use Rattle.std.specs.Prelude.{◌≡◌, IfOk, fold, map};
 ghost use Rattle.workers.specs.Deeds.{deed, deeds, pairs, pairs_in, each_with};
-ghost use Rattle.workers.specs.Races.{tell};
+ghost use Rattle.workers.specs.Races.{tell, IsLeast};
 
 use crate::access::accesses_of;
 use crate::race::{Access, Meeting};
 use std::alloc::{AllocError, Global};
 use types::code::{Stmt, StmtKind};
 
-/// The least of a race found before and the clashes in a list of statements. The time grows with the square
-/// of the number of accesses.
+/// The least clash in a list of statements. The time grows with the square of the number of accesses.
+pub fn race_in(alloc: Global, body: &[Stmt]) -> Result<Option<Meeting>, AllocError>
+    ensures { IfOk result (IsLeast (pairs_in (deeds body.now))) }
+{
+    least_race(alloc, None, body)
+}
+
+/// The least of a race found before and the clashes in a list of statements.
 #[cycle(search)]
-pub fn least_race(
+fn least_race(
     alloc: Global,
     before: Option<Meeting>,
     body: &[Stmt],
