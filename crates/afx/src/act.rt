@@ -1,6 +1,6 @@
 //! The whole program, over files and writers that it is lent.
 
-use crate::command_line::{Request, request};
+use crate::command_line::{Request, request_of};
 use crate::emit::{append, emit};
 use crate::failure::Failure;
 use crate::files::{FileError, FileSource};
@@ -23,7 +23,7 @@ pub fn act<F: FileSource, O: Write, E: Write>(
     out: &mut O,
     err: &mut E,
 ) -> u8 {
-    match request(alloc, words) {
+    match request_of(alloc, words) {
         Err(error) => tell_command_line(alloc, &error, out, err),
         Ok(request) => match perform(alloc, request, files, out) {
             Ok(status) => status,
@@ -45,18 +45,21 @@ fn perform<F: FileSource, O: Write>(
     match request {
         Request::Run { file } => {
             let typed = load(alloc, files, file)?;
-            let accepted = workers::check::check(alloc, typed)
-                .map_err(|refused| Failure::of_refused(alloc, refused))?;
+            let accepted = workers::check::check(alloc, typed).map_err(
+                |refused| Failure::of_refused(alloc, refused),
+            )?;
             let input = zeros(alloc, accepted.typed())?;
-            let outcome = workers::run::run(alloc, &accepted, &input, Budget::usual())
-                .map_err(Failure::Run)?;
+            let outcome = workers::run::run(alloc, &accepted, &input, Budget::usual()).map_err(
+                Failure::Run,
+            )?;
             show(out, accepted.typed(), &outcome)
         }
         Request::Serial { file } => {
             let typed = load(alloc, files, file)?;
             let input = zeros(alloc, &typed)?;
-            let outcome = serial_run::serial(alloc, &typed, &input, Budget::usual())
-                .map_err(|_| Failure::NoMemory)?;
+            let outcome = serial_run::serial(alloc, &typed, &input, Budget::usual()).map_err(
+                |_| Failure::NoMemory,
+            )?;
             show(out, &typed, &outcome)
         }
     }

@@ -13,15 +13,11 @@ pub enum Request<'w> {
 }
 
 /// Reads the words behind the program's name. No word at all means `run -`.
-pub fn request<'w>(alloc: Global, words: &'w [String]) -> Result<Request<'w>, Error> {
+pub fn request_of<'w>(alloc: Global, words: &'w [String]) -> Result<Request<'w>, Error> {
     if words.is_empty() {
         return Ok(Request::Run { file: "-" });
     }
-    let mut line = Vec::with_capacity(alloc, words.len())?;
-    for word in words {
-        line.push(word.as_str())?;
-    }
-    let matches = command(alloc)?.try_get_matches_from(&line)?;
+    let matches = command(alloc)?.try_get_matches_from(words)?;
     match matches.subcommand() {
         Some(("serial", given)) => Ok(Request::Serial {
             file: given.get_str("FILE").unwrap_or("-"),

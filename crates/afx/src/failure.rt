@@ -70,7 +70,10 @@ impl Failure {
             Refused::OutOfMemory => Failure::NoMemoryInCheck,
             Refused::Race { race, typed } => {
                 let arrays = &typed.code().arrays;
-                match (told(alloc, arrays, race.first), told(alloc, arrays, race.second)) {
+                match (
+                    told(alloc, arrays, race.first),
+                    told(alloc, arrays, race.second),
+                ) {
                     (Ok(first), Ok(second)) => Failure::Race { first, second },
                     _ => Failure::NoMemoryInCheck,
                 }

@@ -1,9 +1,8 @@
 //! Where the program finds what its words name.
 
-use std::fs;
-use std::io;
 use std::io::{ErrorKind, Read};
 use std::rt::Files;
+use std::{fs, io};
 
 /// Why a file isn't there.
 #[derive(Clone, Copy, PartialEq, Eq, Debug)]

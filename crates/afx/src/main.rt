@@ -12,9 +12,8 @@ mod tests;
 
 use crate::act::act;
 use crate::files::MachineFiles;
-use std::env;
-use std::io;
 use std::process::ExitCode;
+use std::{env, io};
 
 /// Does what the words behind the program's name ask.
 fn main(rt: HostRuntime) -> io::Result<ExitCode> {

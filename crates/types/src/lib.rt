@@ -9,6 +9,7 @@ pub mod error;
 pub mod fault;
 pub mod first_part;
 pub mod input;
+pub mod laws;
 pub mod outcome;
 pub mod path;
 pub mod typed;

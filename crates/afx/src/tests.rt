@@ -1,0 +1,286 @@
+//! What the program prints, and the status that it ends with.
+
+use crate::act::act;
+use crate::files::{FileError, FileSource};
+use std::alloc::{AllocError, Global};
+use std::io;
+use std::process::Abort;
+use std::test::Fail;
+
+/// A command over one file.
+#[derive(Clone, Copy)]
+struct Row {
+    name: &'static str,
+    words: &'static [&'static str],
+    text: &'static str,
+    out: &'static str,
+    err: &'static str,
+    status: u8,
+}
+
+/// The one file that there is, under the names `program.afx` and `-`.
+#[derive(Drop)]
+struct OneFile<'t> {
+    alloc: Global,
+    bytes: &'t [u8],
+}
+
+impl FileSource for OneFile<'_> {
+    fn read(&mut self, name: &str) -> Result<Vec<u8>, FileError> {
+        if name != "program.afx" && name != "-" {
+            return Err(FileError::Failed);
+        }
+        self.bytes
+            .to_vec(self.alloc)
+            .map_err(|_| FileError::NoMemory)
+    }
+}
+
+/// A writer that fails from its n-th call on, and takes one byte a call.
+#[derive(Drop)]
+struct Failing {
+    left: usize,
+    taken: Vec<u8>,
+}
+
+impl io::Write for Failing {
+    fn write(&mut self, buf: &[u8]) -> io::Result<usize> {
+        if self.left == 0 || buf.is_empty() {
+            return Ok(0);
+        }
+        self.left -= 1;
+        self.taken.push(buf[0])?;
+        Ok(1)
+    }
+
+    fn flush(&mut self) -> io::Result<()> {
+        Ok(())
+    }
+}
+
+/// The words as strings.
+fn owned(alloc: Global, words: &[&str]) -> Result<Vec<String>, AllocError> {
+    let mut all = Vec::new(alloc);
+    for word in words {
+        all.push(String::from_str(alloc, word)?)?;
+    }
+    Ok(all)
+}
+
+/// Compares what each row's command does with what the row wants.
+fn compare(rt: &impl Abort, alloc: Global, rows: &[Row]) -> Result<(), AllocError> {
+    for row in rows {
+        let words = owned(alloc, row.words)?;
+        let mut files = OneFile {
+            alloc,
+            bytes: row.text.as_bytes(),
+        };
+        let mut out = Vec::new(alloc);
+        let mut err = Vec::new(alloc);
+        let status = act(alloc, &words, &mut files, &mut out, &mut err);
+        assert_eq!(rt; err.as_slice(), row.err.as_bytes(), "err of {}", row.name);
+        assert_eq!(rt; out.as_slice(), row.out.as_bytes(), "out of {}", row.name);
+        assert_eq!(rt; status, row.status, "status of {}", row.name);
+    }
+    Ok(())
+}
+
+const RUN: &[&str] = &["run", "program.afx"];
+
+const SERIAL: &[&str] = &["serial", "program.afx"];
+
+const TWO_ARRAYS: &str =
+    "main { array a: int[1]; array b: int[1]; finish { async { a[0] = 7; } b[0] = 8; } print a[0], b[0]; }";
+
+const RACE: &str =
+    "main { array a: int[1]; array b: int[1]; async { a[0] = 7; } b[0] = 8; print a[0]; }";
+
+const NESTED: &str = "main { finish { async { async { print 1; } print 2; } } print 3; }";
+
+const READERS: &str = "main {
+  array a: int[1];
+  array b: int[1];
+  a[0] = 4;
+  finish {
+    async { print a[0]; }
+    async { print a[0]; b[0] = 1; }
+    print a[0], 5;
+  }
+  print b[0];
+}";
+
+#[test]
+fn programs_that_run(rt: HostRuntime) -> Result<(), Fail> {
+    let rows = [
+        Row {
+            name: "nothing",
+            words: RUN,
+            text: "main { }",
+            out: "",
+            err: "",
+            status: 0,
+        },
+        Row {
+            name: "nothing on one thread",
+            words: SERIAL,
+            text: "main { }",
+            out: "",
+            err: "",
+            status: 0,
+        },
+        Row {
+            name: "two arrays",
+            words: RUN,
+            text: TWO_ARRAYS,
+            out: "7 8\n",
+            err: "",
+            status: 0,
+        },
+        Row {
+            name: "two arrays on one thread",
+            words: SERIAL,
+            text: TWO_ARRAYS,
+            out: "7 8\n",
+            err: "",
+            status: 0,
+        },
+        Row {
+            name: "no word",
+            words: &[],
+            text: TWO_ARRAYS,
+            out: "7 8\n",
+            err: "",
+            status: 0,
+        },
+        Row {
+            name: "standard input",
+            words: &["serial", "-"],
+            text: TWO_ARRAYS,
+            out: "7 8\n",
+            err: "",
+            status: 0,
+        },
+        Row {
+            name: "nested tasks in depth-first order",
+            words: RUN,
+            text: NESTED,
+            out: "1\n2\n3\n",
+            err: "",
+            status: 0,
+        },
+        Row {
+            name: "nested tasks on one thread",
+            words: SERIAL,
+            text: NESTED,
+            out: "1\n2\n3\n",
+            err: "",
+            status: 0,
+        },
+        Row {
+            name: "several readers of one array",
+            words: RUN,
+            text: READERS,
+            out: "4\n4\n4 5\n1\n",
+            err: "",
+            status: 0,
+        },
+        Row {
+            name: "a race on one thread",
+            words: SERIAL,
+            text: RACE,
+            out: "7\n",
+            err: "",
+            status: 0,
+        },
+    ];
+    compare(&rt, rt.alloc(), rows.as_slice())?;
+    Ok(())
+}
+
+#[test]
+fn programs_that_are_refused(rt: HostRuntime) -> Result<(), Fail> {
+    let rows = [
+        Row {
+            name: "a race",
+            words: RUN,
+            text: RACE,
+            out: "",
+            err: "C1 race in main: 2 write a, 4 read a\n",
+            status: 1,
+        },
+        Row {
+            name: "no semicolon",
+            words: RUN,
+            text: "main { skip }",
+            out: "",
+            err: "S2 at 1:13\n",
+            status: 1,
+        },
+        Row {
+            name: "a number too large",
+            words: RUN,
+            text: "main { print 9223372036854775808; }",
+            out: "",
+            err: "S3 at 1:14\n",
+            status: 1,
+        },
+        Row {
+            name: "a lone exclamation mark",
+            words: SERIAL,
+            text: "main { print 1 ! 2; }",
+            out: "",
+            err: "S1 at 1:16\n",
+            status: 1,
+        },
+        Row {
+            name: "no main",
+            words: RUN,
+            text: "",
+            out: "",
+            err: "Y8\n",
+            status: 1,
+        },
+        Row {
+            name: "an unknown name",
+            words: RUN,
+            text: "main { skip; print a[0]; }",
+            out: "",
+            err: "Y1 at label 2\n",
+            status: 1,
+        },
+        Row {
+            name: "two arrays of one name",
+            words: RUN,
+            text: "main { array a: int[1]; array a: byte[1]; }",
+            out: "",
+            err: "Y2\n",
+            status: 1,
+        },
+        Row {
+            name: "too many elements",
+            words: RUN,
+            text: "main { array a: int[4194304]; array b: byte[1]; }",
+            out: "",
+            err: "Y9\n",
+            status: 1,
+        },
+        Row {
+            name: "an index at the length",
+            words: RUN,
+            text: "main { array a: int[2]; a[2] = 1; }",
+            out: "",
+            err: "Z1\n",
+            status: 1,
+        },
+        Row {
+            name: "a byte too large",
+            words: SERIAL,
+            text: "main { array a: byte[1]; a[0] = 256; }",
+            out: "",
+            err: "Z1\n",
+            status: 1,
+        },
+    ];
+    compare(&rt, rt.alloc(), rows.as_slice())?;
+    Ok(())
+}

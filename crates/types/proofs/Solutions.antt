@@ -1,0 +1,193 @@
+-- A run solves its equation, and no other function does.
+use Rattle.std.proofs.Common.{◌≡◌, ℕ, zero, suc, ◌+◌, ◌<◌, ◌≤◌, List, Ok, Err, refl, sym, ap, ◌∙◌, arith, le_refl}
+use Rattle.std.specs.Prelude.{ℤ, Bool, true, false, map, ok_or}
+use Rattle.types.specs.declared.fault.FaultKind.{FaultKind}
+use Rattle.types.specs.declared.fault.FaultKind.TheVariants.{SplitPoint, Raised}
+use Rattle.types.specs.Code.{Number, Truth, Primitive, Skip, Assign, Store, Print, Raise, Code, Do, If, While, Split, Call, Async, Finish, Codes, End, Then, Program}
+use Rattle.types.specs.Place.{Window, Place, sides_of}
+use Rattle.types.specs.Value.{Environment, Valued, element_of, holds_number}
+use Rattle.types.specs.Run.{Flow, On, Faulted, Stopped, State, Work, Block, Turn, stopped, at_flow, go_on, spend, with_step, fault, with_value, number_at, numbers_at, truth_at, window_at, assign, print, put, choose, in_environment, entry, with_sides, array_of, procedure_of, Rules, primitive, counted, act, block, work, within, run}
+use Rattle.types.specs.Laws.{IsThrifty, Solves, IsOnly}
+
+module _ {X : Type 0} where
+  -- it gives no step back
+  abbrev pub Less : (State X → State X) → Type 0
+  Less go = (st : State X) → (go st).steps ≤ st.steps
+
+  flow_less : (f : Flow) (st : State X) (go : State X → State X) → Less go → (at_flow f st go).steps ≤ st.steps
+  flow_less On st go h = h st
+  flow_less Faulted st go h = le_refl st.steps
+  flow_less Stopped st go h = le_refl st.steps
+
+  spend_less : (n : ℕ) (st : State X) (go : State X → State X) → n ≡ st.steps → Less go → (spend n st go).steps ≤ st.steps
+  spend_less zero st go e h = le_refl st.steps
+  spend_less (suc n) st go e h = let k = h (record st { steps = n }) in omega (arith, e, k)
+
+  value_less : {A : Type 0} (l : ℕ) (v : Valued A) (go : A → State X → State X) (st : State X) → ((x : A) → (go x st).steps ≤ st.steps) → (with_value l v go st).steps ≤ st.steps
+  value_less l (Ok x) go st h = h x
+  value_less l (Err f) go st h = le_refl st.steps
+
+  put_less : (l : ℕ) (fits : Bool) (q : Place) (v : ℤ) → Less (put l fits q v)
+  put_less l true q v st = le_refl st.steps
+  put_less l false q v st = le_refl st.steps
+
+  again_less : (body again : State X → State X) → Less body → Less again → Less (λ s. go_on again (body s))
+  again_less body again h k st = let i = h st in let j = flow_less (body st).flow (body st) again k in omega (arith, i, j)
+
+  choose_less : (b : Bool) (body other : State X → State X) → Less body → Less other → Less (choose body other b)
+  choose_less true body other h k = h
+  choose_less false body other h k = k
+
+  flow_agree : (f : Flow) (st : State X) (go to : State X → State X) → go st ≡ to st → at_flow f st go ≡ at_flow f st to
+  flow_agree On st go to h = h
+  flow_agree Faulted st go to h = refl
+  flow_agree Stopped st go to h = refl
+
+  then_agree : (a b : State X) (go to : State X → State X) → a ≡ b → go a ≡ to a → go_on go a ≡ go_on to b
+  then_agree a b go to e h = flow_agree a.flow a go to h ∙ ap (go_on to) e
+
+  value_agree : {A : Type 0} (l : ℕ) (v : Valued A) (go to : A → State X → State X) (st : State X) → ((x : A) → go x st ≡ to x st) → with_value l v go st ≡ with_value l v to st
+  value_agree l (Ok x) go to st h = h x
+  value_agree l (Err f) go to st h = refl
+
+  choose_agree : (b : Bool) (f g other : State X → State X) (st : State X) (h : State X → State X) → f st ≡ g st → other st ≡ h st → choose f other b st ≡ choose g h b st
+  choose_agree true f g other st h e d = e
+  choose_agree false f g other st h e d = d
+
+  spend_agree : (m n : ℕ) (st : State X) (go to : State X → State X) → n ≡ st.steps → st.steps ≤ m → ((s : State X) → s.steps < m → go s ≡ to s) → spend n st go ≡ spend n st to
+  spend_agree m zero st go to e le h = refl
+  spend_agree m (suc n) st go to e le h = h (record st { steps = n }) (omega (arith, e, le))
+
+module _ (p : Program) {X : Type 0} (r : Rules X) where
+  primitive_less : (l : ℕ) (s : Primitive) → Less {X = X} (primitive p l s)
+  primitive_less l Skip st = le_refl st.steps
+  primitive_less l (Assign x e) st = value_less l (number_at st e) (assign x) st (λ v. le_refl st.steps)
+  primitive_less l (Store s i e) st =
+      value_less l (number_at st i) _ st (λ at. value_less l (number_at st e) _ st (λ v.
+        value_less l (element_of (window_at st s) at) _ st (λ q. put_less l (holds_number (array_of p q.array).element v) q v st)))
+  primitive_less l (Print es) st = value_less l (numbers_at st es) print st (λ vs. le_refl st.steps)
+  primitive_less l (Raise e) st = value_less l (number_at st e) _ st (λ v. le_refl st.steps)
+
+  counted_less : (s : Code) (st : State X) → (counted r s st).steps ≡ st.steps
+  counted_less (Do s) st = refl
+  counted_less (If t b c) st = refl
+  counted_less (While t b) st = refl
+  counted_less (Split s e x y b) st = refl
+  counted_less (Call f es ss) st = refl
+  counted_less (Async b) st = refl
+  counted_less (Finish b) st = refl
+
+  counted_act_less : (d : Work → State X → State X) (l : ℕ) (s : Code) → Less (act p r d l s) → Less (λ st. act p r d l s (counted r s st))
+  counted_act_less d l s h st = let i = h (counted r s st) in let j = counted_less s st in omega (arith, i, j)
+
+  step_agree : (m : ℕ) (d e : Work → State X → State X) (l : ℕ) (s : Code) → ((st : State X) → st.steps < m → act p r d l s st ≡ act p r e l s st) → (st : State X) → st.steps ≤ m
+    → with_step (λ st. act p r d l s (counted r s st)) st ≡ with_step (λ st. act p r e l s (counted r s st)) st
+  step_agree m d e l s h st le =
+      spend_agree m st.steps st (λ st. act p r d l s (counted r s st)) (λ st. act p r e l s (counted r s st)) refl le
+        (λ x lt. h (counted r s x) (let j = counted_less s x in omega (arith, j, lt)))
+
+module _ (p : Program) {X : Type 0} (r : Rules X) (thrifty : IsThrifty r) where
+  abbrev Deeper : Type 0
+  Deeper = Work → State X → State X
+
+  abbrev LessIn : Deeper → Type 0
+  LessIn d = (w : Work) → Less (d w)
+
+  module _ (d : Deeper) (h : LessIn d) where
+    mutual
+      act_less : (s : Code) (l : ℕ) → Less (act p r d l s)
+      act_less (Do s) l st = primitive_less p r l s st
+      act_less (If t b c) l st = value_less l (truth_at st t) _ st (λ v. choose_less v (block p r d b) (block p r d c) (block_less b) (block_less c) st)
+      act_less (While t b) l st =
+          value_less l (truth_at st t) _ st (λ v.
+            choose_less v (λ s. go_on (d (Turn l t b)) (block p r d b s)) (λ s. s) (again_less (block p r d b) (d (Turn l t b)) (block_less b) (h (Turn l t b))) (λ s. le_refl s.steps) st)
+      act_less (Split s e x y b) l st =
+          value_less l (number_at st e) _ st (λ v. value_less l (ok_or (sides_of (window_at st s) v) SplitPoint) _ st (λ ws.
+            block_less b (record st { environment = with_sides x y ws st.environment })))
+      act_less (Call f es ss) l st =
+          value_less l (numbers_at st es) _ st (λ vs. h (Block (procedure_of p f).body) (record st { environment = entry vs (map (window_at st) ss) }))
+      act_less (Async b) l st = thrifty.begin b st
+      act_less (Finish b) l st =
+          let i = thrifty.enter st in
+          let j = block_less b (r.enter st) in
+          let k = thrifty.leave st (block p r d b (r.enter st)) in omega (arith, i, j, k)
+
+      block_less : (b : Codes) → Less (block p r d b)
+      block_less End st = le_refl st.steps
+      block_less (Then l s rest) st =
+          let after = with_step (λ st. act p r d l s (counted r s st)) st in
+          let i = spend_less st.steps st (λ st. act p r d l s (counted r s st)) refl (counted_act_less p r d l s (act_less s l)) in
+          let j = flow_less after.flow after (block p r d rest) (block_less rest) in omega (arith, i, j)
+
+    work_less : LessIn (work p r d)
+    work_less (Block b) st = block_less b st
+    work_less (Turn l t b) st = spend_less st.steps st (λ st. act p r d l (While t b) (counted r (While t b) st)) refl (counted_act_less p r d l (While t b) (act_less (While t b) l))
+
+  within_less : (k : ℕ) → LessIn (within p r k)
+  within_less zero w st = le_refl st.steps
+  within_less (suc k) w st = work_less (within p r k) (within_less k) w st
+
+  -- a run gives no step back
+  pub run_less : LessIn (run p r)
+  run_less w st = within_less (st.steps + 1) w st
+
+  -- two ways down that agree where fewer than m steps are left
+  abbrev Agree : ℕ → Deeper → Deeper → Type 0
+  Agree m d e = (w : Work) (st : State X) → st.steps < m → d w st ≡ e w st
+
+  module _ (m : ℕ) (d e : Deeper) (less : LessIn d) (agree : Agree m d e) where
+    mutual
+      act_agree : (s : Code) (l : ℕ) (st : State X) → st.steps < m → act p r d l s st ≡ act p r e l s st
+      act_agree (Do s) l st lt = refl
+      act_agree (If t b c) l st lt =
+          value_agree l (truth_at st t) _ _ st (λ v. choose_agree v (block p r d b) (block p r e b) (block p r d c) st (block p r e c) (block_agree b st (omega (arith, lt))) (block_agree c st (omega (arith, lt))))
+      act_agree (While t b) l st lt =
+          let out = block p r d b st in
+          let i = block_less d less b st in
+          value_agree l (truth_at st t) _ _ st (λ v.
+            choose_agree v (λ s. go_on (d (Turn l t b)) (block p r d b s)) (λ s. go_on (e (Turn l t b)) (block p r e b s)) (λ s. s) st (λ s. s)
+              (then_agree out (block p r e b st) (d (Turn l t b)) (e (Turn l t b)) (block_agree b st (omega (arith, lt))) (agree (Turn l t b) out (omega (arith, i, lt)))) refl)
+      act_agree (Split s x left right b) l st lt =
+          value_agree l (number_at st x) _ _ st (λ v. value_agree l (ok_or (sides_of (window_at st s) v) SplitPoint) _ _ st (λ ws.
+            block_agree b (record st { environment = with_sides left right ws st.environment }) (omega (arith, lt))))
+      act_agree (Call f es ss) l st lt =
+          value_agree l (numbers_at st es) _ _ st (λ vs.
+            ap {A = State X} (λ out. record out { environment = st.environment }) (agree (Block (procedure_of p f).body) (record st { environment = entry vs (map (window_at st) ss) }) lt))
+      act_agree (Async b) l st lt = refl
+      act_agree (Finish b) l st lt = let i = thrifty.enter st in ap (r.leave st) (block_agree b (r.enter st) (omega (arith, i, lt)))
+
+      block_agree : (b : Codes) (st : State X) → st.steps ≤ m → block p r d b st ≡ block p r e b st
+      block_agree End st le = refl
+      block_agree (Then l s rest) st le =
+          let after = with_step (λ st. act p r d l s (counted r s st)) st in
+          let i = spend_less st.steps st (λ st. act p r d l s (counted r s st)) refl (counted_act_less p r d l s (act_less d less s l)) in
+          then_agree after (with_step (λ st. act p r e l s (counted r s st)) st) (block p r d rest) (block p r e rest)
+            (step_agree p r m d e l s (act_agree s l) st le) (block_agree rest after (omega (arith, i, le)))
+
+    work_agree : (w : Work) (st : State X) → st.steps ≤ m → work p r d w st ≡ work p r e w st
+    work_agree (Block b) st le = block_agree b st le
+    work_agree (Turn l t b) st le = step_agree p r m d e l (While t b) (act_agree (While t b) l) st le
+
+  enough : (j k : ℕ) (w : Work) (st : State X) → st.steps < j → st.steps < k → within p r j w st ≡ within p r k w st
+  enough zero k w st a b = absurd (omega (arith, a))
+  enough (suc j) zero w st a b = absurd (omega (arith, b))
+  enough (suc j) (suc k) w st a b =
+      work_agree st.steps (within p r j) (within p r k) (within_less j) (λ v s lt. enough j k v s (omega (arith, a, lt)) (omega (arith, b, lt))) w st (le_refl st.steps)
+
+  -- a run does what its work says, with runs inside of calls and further turns
+  pub solves : Solves p r (run p r)
+  solves w st =
+      let e : st.steps + 1 ≡ suc st.steps = omega arith in
+      ap (λ k. within p r k w st) e
+      ∙ work_agree st.steps (within p r st.steps) (run p r) (within_less st.steps) (λ v s lt. enough st.steps (s.steps + 1) v s lt (omega arith)) w st (le_refl st.steps)
+
+  only_below : (g : Deeper) → Solves p r g → (k : ℕ) (w : Work) (st : State X) → st.steps < k → run p r w st ≡ g w st
+  only_below g h zero w st lt = absurd (omega (arith, lt))
+  only_below g h (suc k) w st lt =
+      solves w st
+      ∙ work_agree st.steps (run p r) g run_less (λ v s less. only_below g h k v s (omega (arith, less, lt))) w st (le_refl st.steps)
+      ∙ sym (h w st)
+
+  -- and no other function does
+  pub is_only : IsOnly p r (run p r)
+  is_only g h w st = sym (only_below g h (st.steps + 1) w st (omega arith))

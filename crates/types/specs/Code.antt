@@ -1,0 +1,86 @@
+-- A program with its names resolved: scalars are slots of their procedure's frame, sections are numbers of their procedure, arrays and procedures are numbers of the program.
+use Rattle.std.specs.Prelude.{ℕ, ℤ, Bool, List}
+use Rattle.syntax.specs.declared.tree.ElementType.{ElementType}
+use Rattle.syntax.specs.declared.tree.Relation.{Relation}
+use Rattle.types.specs.declared.code.Operator.{Operator}
+
+-- an expression for a number; a chain is its first operand and the others, each behind its operator
+mutual
+  pub data Number : Type 0 where
+    Literal : ℤ → Number
+    Scalar : (slot : ℕ) → Number
+    Element : (section : ℕ) → (index : Number) → Number
+    Length : (section : ℕ) → Number
+    Negative : Number → Number
+    Chain : (first : Number) → (rest : Links) → Number
+
+  pub data Links : Type 0 where
+    Done : Links
+    Link : Operator → (operand : Number) → Links → Links
+
+-- an expression for a truth value
+mutual
+  pub data Truth : Type 0 where
+    Constant : Bool → Truth
+    Compare : Relation → (left right : Number) → Truth
+    Not : Truth → Truth
+    Both : Truths → Truth
+    Either : Truths → Truth
+
+  pub data Truths : Type 0 where
+    NoMore : Truths
+    Also : Truth → Truths → Truths
+
+-- a statement that runs in one step
+pub data Primitive : Type 0 where
+  Skip : Primitive
+  Assign : (slot : ℕ) → (value : Number) → Primitive
+  Store : (section : ℕ) → (index value : Number) → Primitive
+  Print : (values : List Number) → Primitive
+  Raise : (value : Number) → Primitive
+
+-- a statement; and a list of statements, each behind its label
+mutual
+  pub data Code : Type 0 where
+    Do : Primitive → Code
+    If : (guard : Truth) → (body other : Codes) → Code
+    While : (guard : Truth) → (body : Codes) → Code
+    Split : (section : ℕ) → (at : Number) → (left right : ℕ) → (body : Codes) → Code
+    Call : (procedure : ℕ) → (values : List Number) → (sections : List ℕ) → Code
+    Async : (body : Codes) → Code
+    Finish : (body : Codes) → Code
+
+  pub data Codes : Type 0 where
+    End : Codes
+    Then : (label : ℕ) → Code → (rest : Codes) → Codes
+
+-- where a section of a procedure comes from: it is an array or a parameter, or a side of a split
+pub data Origin : Type 0 where
+  Root : Origin
+  Left : (parent : ℕ) → Origin
+  Right : (parent : ℕ) → Origin
+
+pub record Array : Type 0 where
+  -- the bytes of its name
+  pub name : List ℕ
+  pub element : ElementType
+  pub length : ℕ
+
+-- a section parameter
+pub record Parameter : Type 0 where
+  pub may_write : Bool
+  pub element : ElementType
+
+-- a procedure, or `main`; its section parameters are its first sections, its scalar parameters its first slots
+pub record Procedure : Type 0 where
+  pub parameters : List Parameter
+  pub scalars : ℕ
+  pub slots : ℕ
+  pub sections : List Origin
+  pub body : Codes
+
+-- the first sections of `main` are the arrays
+pub record Program : Type 0 where
+  pub arrays : List Array
+  pub procedures : List Procedure
+  pub main : Procedure

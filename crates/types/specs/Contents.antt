@@ -1,0 +1,39 @@
+-- The number at each place, and the lists of numbers that show it.
+use Rattle.std.specs.Prelude.{ℕ, zero, suc, ◌+◌, ◌≡◌, List, [], ◌∷◌, length, ℤ, pos, Option, Some, None, unwrap_or, slice_get, slice_index_or, if◌then◌else◌}
+use Rattle.types.specs.Code.{Array}
+use Rattle.types.specs.Place.{Place, same_place}
+
+-- a number for each place that is there
+abbrev pub Contents : Type 0
+Contents = Place → Option ℤ
+
+-- the number at a place; 0 where there is none
+abbrev pub read : Contents → Place → ℤ
+read c q = unwrap_or (c q) (pos 0)
+
+-- the contents with the number v at the place q
+abbrev pub write : Place → ℤ → Contents → Contents
+write q v c other = if same_place q other then Some v else c other
+
+-- what lists hold, one for each array
+abbrev pub held_by : List (List ℤ) → Contents
+held_by arrays q = slice_get (slice_index_or arrays q.array []) q.index
+
+-- the n numbers of an array from the place `at` on
+abbrev pub row : Contents → (array at n : ℕ) → List ℤ
+row c array at zero = []
+row c array at (suc n) = read c (record { array = array; index = at }) ∷ row c array (at + 1) n
+
+-- the numbers of arrays, the first of which has the number `array`
+abbrev pub rows : Contents → (array : ℕ) → List Array → List (List ℤ)
+rows c array [] = []
+rows c array (x ∷ xs) = row c array 0 x.length ∷ rows c (array + 1) xs
+
+-- the numbers of all arrays, in the order of declaration
+abbrev pub shown : List Array → Contents → List (List ℤ)
+shown arrays c = rows c 0 arrays
+
+-- one list for each array, with a number for each element
+pub data Fits : List Array → List (List ℤ) → Type 0 where
+  no_more : Fits [] []
+  also : {x : Array} {xs : List Array} {row : List ℤ} {rows : List (List ℤ)} → length row ≡ x.length → Fits xs rows → Fits (x ∷ xs) (row ∷ rows)

@@ -1,0 +1,59 @@
+-- The first part of the language: whole arrays, literals, asyncs and finishes.
+use Rattle.std.specs.Prelude.{ℕ, zero, suc, ◌+◌, List, [], ◌∷◌, Bool, true, false, ◌&&◌, ℤ, pos, negsuc, nat_eq, nat_lt, nat_le, length}
+use Rattle.std.specs.List.{list_all}
+use Rattle.types.specs.Code.{Number, Literal, Scalar, Element, Length, Negative, Chain, Primitive, Skip, Assign, Store, Print, Raise, Code, Do, If, While, Split, Call, Async, Finish, Codes, End, Then, Array, Program}
+use Rattle.types.specs.Run.{array_of}
+use Rattle.types.specs.Value.{holds_number}
+
+module _ (p : Program) where
+  -- an index below the length of its array
+  abbrev pub index_fits : (array : ℕ) → ℤ → Bool
+  index_fits a (negsuc n) = false
+  index_fits a (pos i) = nat_lt i (array_of p a).length
+
+  -- a literal, or an element at a literal index
+  abbrev pub printed_fits : Number → Bool
+  printed_fits (Literal v) = true
+  printed_fits (Element a (Literal i)) = index_fits a i
+  printed_fits e = false
+
+  -- a store of a literal at a literal index
+  abbrev pub store_fits : (array : ℕ) → (index value : Number) → Bool
+  store_fits a (Literal i) (Literal v) = index_fits a i && holds_number (array_of p a).element v
+  store_fits a i e = false
+
+  abbrev pub primitive_fits : Primitive → Bool
+  primitive_fits Skip = true
+  primitive_fits (Store a i e) = store_fits a i e
+  primitive_fits (Print es) = list_all printed_fits es
+  primitive_fits s = false
+
+  abbrev mutual
+    pub code_fits : Code → Bool
+    code_fits (Do s) = primitive_fits s
+    code_fits (Async b) = codes_fit b
+    code_fits (Finish b) = codes_fit b
+    code_fits s = false
+
+    pub codes_fit : Codes → Bool
+    codes_fit End = true
+    codes_fit (Then l s rest) = code_fits s && codes_fit rest
+
+abbrev mutual
+  -- how many statements there are, those inside others among them
+  pub statements_in : Code → ℕ
+  statements_in (Do s) = 1
+  statements_in (If t b c) = 1 + statements b + statements c
+  statements_in (While t b) = 1 + statements b
+  statements_in (Split s e l r b) = 1 + statements b
+  statements_in (Call f es ss) = 1
+  statements_in (Async b) = 1 + statements b
+  statements_in (Finish b) = 1 + statements b
+
+  pub statements : Codes → ℕ
+  statements End = 0
+  statements (Then l s rest) = statements_in s + statements rest
+
+-- no procedures, only statements of the first part, and not too many
+abbrev pub is_first_part : Program → Bool
+is_first_part p = nat_eq (length p.procedures) 0 && (codes_fit p p.main.body && nat_le (statements p.main.body) 10000)

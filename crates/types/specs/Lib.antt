@@ -1,0 +1,11 @@
+pub mod Code
+pub mod Translation
+pub mod Place
+pub mod Contents
+pub mod Value
+pub mod Run
+pub mod Meaning
+pub mod Outcome
+pub mod FirstPart
+pub mod Indexed
+pub mod Laws

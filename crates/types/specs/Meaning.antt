@@ -1,0 +1,63 @@
+-- The one-thread meaning: an async's body runs where it stands, on the same store.
+use Rattle.std.specs.Prelude.{ℕ, zero, suc, ◌+◌, List, [], ◌∷◌, ◌++◌}
+use Rattle.types.specs.Code.{Codes, Program}
+use Rattle.types.specs.Run.{Flow, On, Faulted, Stopped, Fault, State, Rules, Work, Block, stopped, run}
+
+module _ {X : Type 0} where
+  -- as it stands, with nothing told
+  abbrev pub hushed : State X → State X
+  hushed st = record st { lines = []; faults = [] }
+
+  -- what was told before, followed by what was told since
+  abbrev pub joined : (before out : State X) → State X
+  joined before out = record out { lines = before.lines ++ out.lines; faults = before.faults ++ out.faults }
+
+  -- the next child as it begins, with fresh steps, its parent's environment and contents
+  abbrev pub child : (fresh : ℕ) → State X → State X
+  child fresh st = record (hushed st) { flow = On; steps = fresh; path = st.path ++ (st.spawned + 1) ∷ []; spawned = 0 }
+
+-- a stopped body stops all at once
+abbrev pub after_async : Flow → Flow
+after_async Stopped = Stopped
+after_async On = On
+after_async Faulted = On
+
+-- the parent goes on as it was, but with what the body wrote and told
+abbrev pub after_body : (before out : State (Unit {0})) → State (Unit {0})
+after_body before out =
+    joined before (record before {
+      flow = after_async out.flow;
+      store = out.store;
+      lines = out.lines;
+      faults = out.faults;
+      spawned = before.spawned + 1;
+    })
+
+-- a finish with faults ends abruptly
+abbrev pub after_finish : Flow → List Fault → Flow
+after_finish Stopped faults = Stopped
+after_finish On [] = On
+after_finish On (f ∷ faults) = Faulted
+after_finish Faulted [] = On
+after_finish Faulted (f ∷ faults) = Faulted
+
+abbrev pub one_rules_by : (Codes → State (Unit {0}) → State (Unit {0})) → Rules (Unit {0})
+one_rules_by begin = record {
+  stepped = λ x. x;
+  begin = begin;
+  enter = hushed;
+  leave = λ before out. joined before (record out { flow = after_finish out.flow out.faults });
+}
+
+module _ (p : Program) where
+  -- an async where so many may stand inside one another; a child begins with `fresh` steps
+  abbrev pub begin_one : (fresh nest : ℕ) → Codes → State (Unit {0}) → State (Unit {0})
+  begin_one fresh zero b st = stopped st
+  begin_one fresh (suc n) b st = after_body st (run p (one_rules_by (begin_one fresh n)) (Block b) (child fresh st))
+
+  abbrev pub one_rules : (fresh nest : ℕ) → Rules (Unit {0})
+  one_rules fresh nest = one_rules_by (begin_one fresh nest)
+
+  -- the one-thread meaning
+  abbrev pub one : (fresh nest : ℕ) → Work → State (Unit {0}) → State (Unit {0})
+  one fresh nest = run p (one_rules fresh nest)

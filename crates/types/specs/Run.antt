@@ -1,0 +1,204 @@
+-- What a task does: the one recursion over statements, by rules for what an async and a finish do.
+use Rattle.std.specs.Prelude.{ℕ, zero, suc, ◌+◌, List, [], ◌∷◌, ◌++◌, map, Bool, true, false, ℤ, pos, Option, Some, None, Result, Ok, Err, ok_or, nat_eq, slice_index_or, if◌then◌else◌}
+use Rattle.syntax.specs.declared.tree.ElementType.TheVariants.{Int}
+use Rattle.types.specs.declared.fault.FaultKind.{FaultKind}
+use Rattle.types.specs.declared.fault.FaultKind.TheVariants.{OutOfElement, SplitPoint, Raised}
+use Rattle.types.specs.Code.{Number, Truth, Primitive, Skip, Assign, Store, Print, Raise, Code, Do, If, While, Split, Call, Async, Finish, Codes, End, Then, Array, Procedure, Program}
+use Rattle.types.specs.Place.{Window, Place, nowhere, sides_of}
+use Rattle.types.specs.Contents.{Contents, read, write}
+use Rattle.types.specs.Value.{Environment, Valued, then_try, element_of, holds_number, number, numbers, truth}
+
+-- whether a task goes on
+pub data Flow : Type 0 where
+  On : Flow
+  -- a fault ended its statements up to the nearest finish
+  Faulted : Flow
+  -- it is over its budget, or a task that it waited for was
+  Stopped : Flow
+
+-- the path is the child numbers from the root down to the task; none for the root
+pub record Fault : Type 0 where
+  pub path : List ℕ
+  pub label : ℕ
+  pub kind : FaultKind
+
+-- where a task stands; `extra` is what its kind of run keeps beside
+pub record State (X : Type 0) : Type 0 where
+  pub flow : Flow
+  pub environment : Environment
+  pub store : Contents
+  -- what it told since its beginning, or since that of its innermost open finish
+  pub lines : List (List ℤ)
+  pub faults : List Fault
+  -- the steps left, the task's name, and how many children it spawned
+  pub steps : ℕ
+  pub path : List ℕ
+  pub spawned : ℕ
+  pub extra : X
+
+-- the function that gives v at x and is f elsewhere
+abbrev pub bind : {A : Type 0} → ℕ → A → (ℕ → A) → ℕ → A
+bind x v f y = if nat_eq x y then v else f y
+
+-- what a list gives by number, and d past its end
+abbrev pub by_number : {A : Type 0} → A → List A → ℕ → A
+by_number d xs k = slice_index_or xs k d
+
+-- the environment in which a procedure begins: its parameters, and zeros
+abbrev pub entry : List ℤ → List Window → Environment
+entry values windows = record { scalars = by_number (pos 0) values; windows = by_number nowhere windows }
+
+abbrev pub with_sides : (left right : ℕ) → Window × Window → Environment → Environment
+with_sides left right ws env = record env { windows = bind left ws.0 (bind right ws.1 env.windows) }
+
+-- an array and a procedure that no program has
+abbrev pub no_array : Array
+no_array = record { name = []; element = Int; length = 0 }
+
+abbrev pub no_procedure : Procedure
+no_procedure = record { parameters = []; scalars = 0; slots = 0; sections = []; body = End }
+
+abbrev pub array_of : Program → ℕ → Array
+array_of p a = slice_index_or p.arrays a no_array
+
+abbrev pub procedure_of : Program → ℕ → Procedure
+procedure_of p f = slice_index_or p.procedures f no_procedure
+
+-- what is left to do: a block, or the next turn of a loop
+pub data Work : Type 0 where
+  Block : Codes → Work
+  Turn : (label : ℕ) → (guard : Truth) → (body : Codes) → Work
+
+module _ {X : Type 0} where
+  abbrev pub stopped : State X → State X
+  stopped st = record st { flow = Stopped }
+
+  -- goes on while the flow is on
+  abbrev pub at_flow : Flow → State X → (State X → State X) → State X
+  at_flow On st go = go st
+  at_flow Faulted st go = st
+  at_flow Stopped st go = st
+
+  abbrev pub go_on : (State X → State X) → State X → State X
+  go_on go st = at_flow st.flow st go
+
+  -- takes one of so many steps, or is over the budget
+  abbrev pub spend : ℕ → State X → (State X → State X) → State X
+  spend zero st go = stopped st
+  spend (suc n) st go = go (record st { steps = n })
+
+  abbrev pub with_step : (State X → State X) → State X → State X
+  with_step go st = spend st.steps st go
+
+  abbrev pub fault : (label : ℕ) → FaultKind → State X → State X
+  fault label kind st = record st {
+    flow = Faulted;
+    faults = st.faults ++ record { path = st.path; label = label; kind = kind } ∷ [];
+  }
+
+  -- goes on with a value, or faults
+  abbrev pub with_value : {A : Type 0} → (label : ℕ) → Valued A → (A → State X → State X) → State X → State X
+  with_value label (Ok v) go st = go v st
+  with_value label (Err f) go st = fault label f st
+
+  abbrev pub number_at : State X → Number → Valued ℤ
+  number_at st e = number st.environment (read st.store) e
+
+  abbrev pub numbers_at : State X → List Number → Valued (List ℤ)
+  numbers_at st es = numbers st.environment (read st.store) es
+
+  abbrev pub truth_at : State X → Truth → Valued Bool
+  truth_at st t = truth st.environment (read st.store) t
+
+  abbrev pub window_at : State X → ℕ → Window
+  window_at st s = st.environment.windows s
+
+  abbrev pub assign : (slot : ℕ) → ℤ → State X → State X
+  assign x v st = record st { environment = record st.environment { scalars = bind x v st.environment.scalars } }
+
+  abbrev pub print : List ℤ → State X → State X
+  print vs st = record st { lines = st.lines ++ vs ∷ [] }
+
+  -- writes a number that the element type holds, or faults
+  abbrev pub put : (label : ℕ) → (fits : Bool) → Place → ℤ → State X → State X
+  put label true q v st = record st { store = write q v st.store }
+  put label false q v st = fault label OutOfElement st
+
+  -- goes one of two ways
+  abbrev pub choose : (State X → State X) → (State X → State X) → Bool → State X → State X
+  choose body other true st = body st
+  choose body other false st = other st
+
+  -- goes on in another environment, and comes back to its own
+  abbrev pub in_environment : Environment → (State X → State X) → State X → State X
+  in_environment env go st =
+      let out = go (record st { environment = env }) in
+      record out { environment = st.environment }
+
+-- what a kind of run does where it isn't alone
+pub record Rules (X : Type 0) : Type 0 where
+  -- a step was taken, other than that of an async or a finish
+  pub stepped : X → X
+  -- an async with its body, whose step was taken
+  pub begin : Codes → State X → State X
+  -- a finish begins
+  pub enter : State X → State X
+  -- a finish that began at `before` is at its end
+  pub leave : (before : State X) → State X → State X
+
+module _ (p : Program) {X : Type 0} where
+  -- a statement of one step, whose step was taken
+  abbrev pub primitive : (label : ℕ) → Primitive → State X → State X
+  primitive l Skip st = st
+  primitive l (Assign x e) st = with_value l (number_at st e) (assign x) st
+  primitive l (Store s i e) st =
+      with_value l (number_at st i) (λ at.
+        with_value l (number_at st e) (λ v.
+          with_value l (element_of (window_at st s) at) (λ q. put l (holds_number (array_of p q.array).element v) q v))) st
+  primitive l (Print es) st = with_value l (numbers_at st es) print st
+  primitive l (Raise e) st = with_value l (number_at st e) (λ v. fault l (Raised v)) st
+
+module _ {X : Type 0} (r : Rules X) where
+  -- tells the rules of the step of a statement, unless they see it anyway
+  abbrev pub counted : Code → State X → State X
+  counted (Async b) st = st
+  counted (Finish b) st = st
+  counted s st = record st { extra = r.stepped st.extra }
+
+module _ (p : Program) {X : Type 0} (r : Rules X) where
+  abbrev mutual
+    -- a statement whose step was taken; `deeper` is what calls and further turns of a loop do
+    pub act : (deeper : Work → State X → State X) → (label : ℕ) → Code → State X → State X
+    act deeper l (Do s) st = primitive p l s st
+    act deeper l (If t b c) st = with_value l (truth_at st t) (choose (block deeper b) (block deeper c)) st
+    act deeper l (While t b) st =
+        with_value l (truth_at st t) (choose (λ s. go_on (deeper (Turn l t b)) (block deeper b s)) (λ s. s)) st
+    act deeper l (Split s e x y b) st =
+        with_value l (number_at st e) (λ v.
+          with_value l (ok_or (sides_of (window_at st s) v) SplitPoint) (λ ws.
+            λ st. block deeper b (record st { environment = with_sides x y ws st.environment }))) st
+    act deeper l (Call f es ss) st =
+        with_value l (numbers_at st es) (λ vs.
+          in_environment (entry vs (map (window_at st) ss)) (deeper (Block (procedure_of p f).body))) st
+    act deeper l (Async b) st = r.begin b st
+    act deeper l (Finish b) st = r.leave st (block deeper b (r.enter st))
+
+    -- a list of statements
+    pub block : (deeper : Work → State X → State X) → Codes → State X → State X
+    block deeper End st = st
+    block deeper (Then l s rest) st =
+        go_on (block deeper rest) (with_step (λ st. act deeper l s (counted r s st)) st)
+
+  -- what work does, where `deeper` does what is inside its calls and further turns
+  abbrev pub work : (deeper : Work → State X → State X) → Work → State X → State X
+  work deeper (Block b) st = block deeper b st
+  work deeper (Turn l t b) st = with_step (λ st. act deeper l (While t b) (counted r (While t b) st)) st
+
+  -- at most k calls and turns within one another
+  abbrev pub within : ℕ → Work → State X → State X
+  within zero w st = stopped st
+  within (suc k) w st = work (within k) w st
+
+  -- no call and no turn goes without a step
+  abbrev pub run : Work → State X → State X
+  run w st = within (st.steps + 1) w st

@@ -1,0 +1,123 @@
+-- The Rust types as plain trees, without what says where they lie in memory.
+use Rattle.std.specs.Prelude.{ℕ, ℤ, List, [], ◌∷◌, map, Vec}
+use Rattle.std.specs.String.{string_bytes}
+use Rattle.types.specs.Code.{Number, Literal, Scalar, Element, Length, Negative, Chain, Links, Done, Link, Truth, Constant, Compare, Not, Both, Either, Truths, NoMore, Also, Primitive, Skip, Assign, Store, Print, Raise, Code, Do, If, While, Split, Call, Async, Finish, Codes, End, Then, Origin, Root, Left, Right, Array, Parameter, Procedure, Program}
+use Rattle.types.specs.Run.{Fault}
+use Rattle.types.specs.Outcome.{Budget, Outcome, Ended, Halted}
+use Rattle.types.specs.declared.code.Number.{Number as rNumber, Row_of-Link, end_of-Link, more_of-Link}
+use Rattle.types.specs.declared.code.Number.TheVariants.{Literal as rLiteral, Scalar as rScalar, Element' as rElement, Length as rLength, Negative' as rNegative, Chain' as rChain}
+use Rattle.types.specs.declared.code.Truth.{Truth as rTruth, Row_of-Truth, end_of-Truth, more_of-Truth}
+use Rattle.types.specs.declared.code.Truth.TheVariants.{Constant as rConstant, Compare as rCompare, Not' as rNot, Both' as rBoth, Either' as rEither}
+use Rattle.types.specs.declared.code.Primitive.{Primitive as rPrimitive}
+use Rattle.types.specs.declared.code.Primitive.TheVariants.{Skip as rSkip, Assign as rAssign, Store as rStore, Print as rPrint, Fault as rRaise}
+use Rattle.types.specs.declared.code.Stmt.{Stmt}
+use Rattle.types.specs.declared.code.StmtKind.{StmtKind, Row_of-Stmt, end_of-Stmt, more_of-Stmt}
+use Rattle.types.specs.declared.code.StmtKind.TheVariants.{Do as rDo, If' as rIf, While' as rWhile, Split' as rSplit, Call as rCall, Async' as rAsync, Finish' as rFinish}
+use Rattle.types.specs.declared.code.Origin.{Origin as rOrigin}
+use Rattle.types.specs.declared.code.Origin.TheVariants.{Root as rRoot, Left as rLeft, Right as rRight}
+use Rattle.types.specs.declared.code.Array.{Array as rArray}
+use Rattle.types.specs.declared.code.SectionParameter.{SectionParameter}
+use Rattle.types.specs.declared.code.Section.{Section}
+use Rattle.types.specs.declared.code.Procedure.{Procedure as rProcedure}
+use Rattle.types.specs.declared.code.Program.{Program as rProgram}
+use Rattle.types.specs.declared.fault.Fault.{Fault as rFault}
+use Rattle.types.specs.declared.budget.Budget.{Budget as rBudget}
+use Rattle.types.specs.declared.input.Input.{Input}
+use Rattle.types.specs.declared.outcome.Outcome.{Outcome as rOutcome}
+use Rattle.types.specs.declared.outcome.Outcome.TheVariants.{Ended as rEnded, Stopped as rStopped}
+
+abbrev mutual
+  pub number : rNumber → Number
+  number (rLiteral n) = Literal n
+  number (rScalar x) = Scalar x
+  number (rElement s p e) = Element s (number e)
+  number (rLength s) = Length s
+  number (rNegative p e) = Negative (number e)
+  number (rChain p e q more) = Chain (number e) (links more)
+
+  pub links : {m : _} → Row_of-Link m → Links
+  links end_of-Link = Done
+  links (more_of-Link o e more) = Link o (number e) (links more)
+
+abbrev mutual
+  pub truth : rTruth → Truth
+  truth (rConstant b) = Constant b
+  truth (rCompare r a b) = Compare r (number a) (number b)
+  truth (rNot p t) = Not (truth t)
+  truth (rBoth p ts) = Both (truths ts)
+  truth (rEither p ts) = Either (truths ts)
+
+  pub truths : {m : _} → Row_of-Truth m → Truths
+  truths end_of-Truth = NoMore
+  truths (more_of-Truth t ts) = Also (truth t) (truths ts)
+
+abbrev pub primitive : rPrimitive → Primitive
+primitive rSkip = Skip
+primitive (rAssign x e) = Assign x (number e)
+primitive (rStore s i e) = Store s (number i) (number e)
+primitive (rPrint es) = Print (map number es.items)
+primitive (rRaise e) = Raise (number e)
+
+abbrev mutual
+  pub code : StmtKind → Code
+  code (rDo s) = Do (primitive s)
+  code (rIf t p b q c) = If (truth t) (row_codes b) (row_codes c)
+  code (rWhile t p b) = While (truth t) (row_codes b)
+  code (rSplit s e l r p b) = Split s (number e) l r (row_codes b)
+  code (rCall f es ss) = Call f (map number es.items) ss.items
+  code (rAsync p b) = Async (row_codes b)
+  code (rFinish p b) = Finish (row_codes b)
+
+  pub row_codes : {m : _} → Row_of-Stmt m → Codes
+  row_codes end_of-Stmt = End
+  row_codes (more_of-Stmt l s rest) = Then l (code s) (row_codes rest)
+
+-- a block
+abbrev pub codes : List Stmt → Codes
+codes [] = End
+codes (s ∷ rest) = Then s.label (code s.kind) (codes rest)
+
+abbrev pub origin : rOrigin → Origin
+origin rRoot = Root
+origin (rLeft s) = Left s
+origin (rRight s) = Right s
+
+abbrev pub array : rArray → Array
+array a = record { name = string_bytes a.name; element = a.element; length = a.length }
+
+abbrev pub parameter : SectionParameter → Parameter
+parameter x = record { may_write = x.may_write; element = x.element }
+
+abbrev pub procedure : rProcedure → Procedure
+procedure f = record {
+  parameters = map parameter f.parameters.items;
+  scalars = f.scalars;
+  slots = f.slots;
+  sections = map (λ s. origin s.origin) f.sections.items;
+  body = codes f.body.items;
+}
+
+abbrev pub program : rProgram → Program
+program p = record {
+  arrays = map array p.arrays.items;
+  procedures = map procedure p.procedures.items;
+  main = procedure p.main;
+}
+
+abbrev pub fault : rFault → Fault
+fault f = record { path = f.path.turns.items; label = f.label; kind = f.kind }
+
+abbrev pub budget : rBudget → Budget
+budget b = record { steps = b.steps; nest = b.nest }
+
+-- the lists of an input, one for each array
+abbrev pub input : Input → List (List ℤ)
+input i = map (λ v. v.items) i.arrays.items
+
+abbrev pub outcome : rOutcome → Outcome
+outcome (rEnded arrays lines faults) = Ended (record {
+  arrays = map (λ v. v.items) arrays.items;
+  lines = map (λ v. v.items) lines.items;
+  faults = map fault faults.items;
+})
+outcome rStopped = Halted
