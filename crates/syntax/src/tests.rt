@@ -1,5 +1,6 @@
 //! Rows of texts.
 
+use crate::canonical::{format, listing};
 use crate::parser::parse;
 use crate::tree::{Program, Stmt};
 use std::alloc::{AllocError, Global};
@@ -113,6 +114,48 @@ fn lone_atoms(rt: HostRuntime) -> Result<(), Fail> {
             return Err("no fault".into());
         };
         assert_eq!(rt; value.as_atom().is_some(), want, "at {text}");
+    }
+    Ok(())
+}
+
+#[test]
+fn listings(rt: HostRuntime) -> Result<(), Fail> {
+    let rows = [
+        ("", ""),
+        (
+            "main { array a: int[1]; array b: int[1]; finish { async { a[0] = 7; } b[0] = 8; } print a[0], b[0]; }",
+            "      main {\n        array a: int[1];\n        array b: int[1];\n    1   finish {\n    2     async {\n    3       a[0] = 7;\n          }\n    4     b[0] = 8;\n        }\n    5   print a[0], b[0];\n      }\n",
+        ),
+        (
+            "main{array a:byte[2];if a[0]==1{a[1]=(-1)+2;}else{}}",
+            "      main {\n        array a: byte[2];\n    1   if a[0] == 1 {\n    2     a[1] = (-1) + 2;\n        } else {\n        }\n      }\n",
+        ),
+        (
+            "proc f(mut s:int,read t:byte,n:int){while not(n<len(s)-1)and true or false{}}proc g(){f(a,b,- n);}",
+            "      proc f(mut s: int, read t: byte, n: int) {\n    1   while not (n < len(s) - 1) and true or false {\n        }\n      }\n      proc g() {\n    2   f(a, b, -n);\n      }\n",
+        ),
+    ];
+    for (text, want) in rows {
+        let program = parse(rt.alloc(), text)?;
+        let said = listing(rt.alloc(), &program)?;
+        assert_eq!(rt; said.as_str(), want, "at {text}");
+    }
+    Ok(())
+}
+
+#[test]
+fn canonical_text_is_a_fixed_point(rt: HostRuntime) -> Result<(), Fail> {
+    let rows = [
+        "",
+        "main {\n}\n",
+        "main {\n  skip;\n  var x = 1 + 2 * -3 % 4 / 5 - x;\n  x = a[b[0]];\n  fault 7;\n}\n",
+        "main {\n  split s at k as l, r {\n    l[0] = 1 <= 2;\n  }\n  g();\n}\n",
+        "main {\n  if x > 1 {\n  }\n  if x >= 1 {\n  } else {\n    skip;\n  }\n  if x != 1 {\n  }\n}\n",
+    ];
+    for text in rows {
+        let program = parse(rt.alloc(), text)?;
+        let said = format(rt.alloc(), &program)?;
+        assert_eq!(rt; said.as_str(), text);
     }
     Ok(())
 }
