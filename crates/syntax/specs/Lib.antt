@@ -1,3 +1,4 @@
+pub mod Lexical
 pub mod Reading
 pub mod Spelling
 pub mod Token
