@@ -2,6 +2,9 @@
 
 ghost use Rattle.std.specs.Prelude.{◌≡◌, ◌≢◌, ◌↔◌, ◌<◌, ◌≤◌, ◌^◌, length, vec_len, IfOk};
 ghost use Rattle.std.specs.Str.{chars};
+ghost use Rattle.syntax.specs.Lexical.{AreTokensOf};
+ghost use Rattle.syntax.specs.Spelling.{spelling};
+ghost use Rattle.syntax.specs.Tree.{program as program_tree};
 
 use crate::cursor::Stuck;
 use crate::error::SyntaxError;
@@ -20,6 +23,7 @@ pub const MOST_OPEN: usize = 100;
 
 /// The program that a text spells.
 pub fn parse(alloc: Global, text: &str) -> Result<Program, SyntaxError>
+    ensures spelled { IfOk result (λ read. AreTokensOf (chars text.now) (spelling (program_tree read))) }
     ensures too_long { (result ≡ Err SyntaxError.TooLong) ↔ (MOST_BYTES < length text.now) }
 {
     if text.len() > MOST_BYTES {
@@ -40,7 +44,8 @@ fn characters(alloc: Global, text: &str) -> Result<Vec<char>, AllocError>
 /// The program that these characters spell.
 fn program(alloc: Global, text: &[char]) -> Result<Program, SyntaxError>
     requires { length text.now < 2 ^ 31 }
-    ensures { result ≢ Err SyntaxError.TooLong }
+    ensures spelled { IfOk result (λ read. AreTokensOf text.now (spelling (program_tree read))) }
+    ensures not_too_long { result ≢ Err SyntaxError.TooLong }
 {
     let tokens = match lexer::tokens(alloc, text) {
         Ok(tokens) => tokens,
