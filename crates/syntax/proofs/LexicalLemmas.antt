@@ -1,12 +1,13 @@
 -- What stands first in a text, and what pieces leave.
-use Rattle.std.proofs.Common.{◌≡◌, ℕ, zero, suc, ◌+◌, ◌<◌, ◌⊎◌, inl, inr, ⊎_elim, lit<, Bool, true, false, cond, ◌&&◌, ◌||◌, List, [], ◌∷◌, ◌++◌, length, take, drop, refl, ap, sym, ◌∙◌, subst, take-append-drop, append-nil, append_assoc, arith}
+use Rattle.std.proofs.Common.{◌≡◌, ℕ, zero, suc, ◌+◌, ◌<◌, ◌⊎◌, inl, inr, ⊎_elim, lit<, Bool, true, false, cond, ◌&&◌, ◌||◌, ◌==◌, List, [], ◌∷◌, ◌++◌, length, take, drop, refl, ap, sym, ◌∙◌, subst, take-append-drop, append-nil, append_assoc, arith}
 use Rattle.std.specs.List.{prefix_len, list_all, flat_map}
 use Rattle.std.proofs.lemmas.List.Sums.{take_while-cons}
 use Rattle.syntax.specs.Token.{Token}
+use Rattle.std.specs.Char.{is_ascii_alphabetic, is_ascii_digit}
 use Rattle.std.specs.Int.{is_in_range}
 use Rattle.std.specs.Str.{IsAscii}
 use Rattle.std.proofs.lemmas.Bool.{eqb-true, leb-true, false≢true}
-use Rattle.syntax.specs.Lexical.{is_in_name, starts, Piece, token_of, Begins, AreCut, Reads, HasTokens}
+use Rattle.syntax.specs.Lexical.{begins_name, is_in_name, starts, Piece, token_of, Begins, AreCut, Reads, HasTokens}
 
 module _ (p : ℕ → Bool) where
   passes_more : (x : ℕ) (xs : List ℕ) (b : Bool) → p x ≡ b → list_all p xs ≡ true → list_all p (cond b (x ∷ xs) []) ≡ true
@@ -74,11 +75,11 @@ in_name_is_ascii : (c : ℕ) → is_in_name c ≡ true → c < 128
 in_name_is_ascii c e =
     ⊎_elim
     (λ begins. ⊎_elim
-    (λ letter. ⊎_elim (in_range_is_below 65 90 c (lit< tt)) (in_range_is_below 97 122 c (lit< tt)) (either _ _ letter))
-    (λ underscore. omega (arith, eqb-true c 95 underscore))
-    (either _ _ begins))
+    (λ letter. ⊎_elim (in_range_is_below 65 90 c (lit< tt)) (in_range_is_below 97 122 c (lit< tt)) (either (is_in_range 65 90 c) (is_in_range 97 122 c) letter))
+    (λ underscore. subst (λ n. n < 128) (sym (eqb-true c 95 underscore)) (lit< tt))
+    (either (is_ascii_alphabetic c) (c == 95) begins))
     (in_range_is_below 48 57 c (lit< tt))
-    (either _ _ e)
+    (either (begins_name c) (is_ascii_digit c) e)
 
 all_in_name : (c : ℕ) (cs : List ℕ) → list_all is_in_name (c ∷ cs) ≡ true → (is_in_name c ≡ true) × (list_all is_in_name cs ≡ true)
 all_in_name c cs e = both (is_in_name c) (list_all is_in_name cs) e

@@ -1,3 +1,4 @@
+pub mod Brackets
 pub mod Lexical
 pub mod Reading
 pub mod Spelling
