@@ -1,5 +1,5 @@
 -- What spells a chain, with one more operand behind it.
-use Rattle.std.proofs.Common.{◌≡◌, List, [], ◌∷◌, ◌++◌, Option, Some, None, Bool, true, false, Vec, Global, refl, ap, sym, ◌∙◌, append_assoc, append-nil}
+use Rattle.std.proofs.Common.{◌≡◌, List, [], ◌∷◌, ◌++◌, Some, None, true, false, Vec, Global, refl, ap, sym, ◌∙◌, append_assoc, append-nil}
 use Rattle.syntax.specs.declared.tree.Expr.{Expr as rExpr, roll-Expr}
 use Rattle.syntax.specs.declared.tree.Conj.{Conj as rConj, roll-Conj}
 use Rattle.syntax.specs.declared.tree.Neg.{Neg as rNeg, roll-Neg}
@@ -10,16 +10,14 @@ use Rattle.syntax.specs.declared.tree.Relation.{Relation}
 use Rattle.syntax.specs.declared.tree.Prod.{Prod as rProd, roll-Prod}
 use Rattle.syntax.specs.declared.tree.Unary.{Unary as rUnary}
 use Rattle.syntax.specs.declared.tree.Sign.{Sign}
-use Rattle.syntax.specs.declared.tree.Operator.{Operator}
 use Rattle.syntax.specs.declared.tree.Term.{Term as rTerm, Term' as rSigned, roll-Term}
 use Rattle.syntax.specs.declared.tree.Factor.{Factor as rFactor}
-use Rattle.syntax.specs.declared.tree.Stmt.{Stmt as rStmt}
 use Rattle.syntax.specs.declared.token.Word.TheVariants.{And as WordAnd, Not as WordNot, Or as WordOr}
-use Rattle.syntax.specs.declared.token.Mark.TheVariants.{Comma, RightBrace}
+use Rattle.syntax.specs.declared.token.Mark.TheVariants.{Comma}
 use Rattle.syntax.specs.Token.{Token, WordToken, MarkToken}
-use Rattle.syntax.specs.Tree.{Terms, NoTerm, expr, conj, neg, cmp, sum, prod, unary, term, factor, conjs, negs, terms, factors, exprs, stmt, block}
+use Rattle.syntax.specs.Tree.{Terms, NoTerm, expr, conj, neg, cmp, sum, prod, unary, term, conjs, negs, terms, factors, exprs}
 use Rattle.syntax.specs.Reading.{AddsExprs}
-use Rattle.syntax.specs.Spelling.{expr_then, conj_then, conjs_then, neg_then, negs_then, cmp_then, sum_then, relation_mark, prod_then, terms_then, unary_then, factors_then, more_then, exprs_then, stmt_then, block_then, sign_mark, operator_mark}
+use Rattle.syntax.specs.Spelling.{expr_then, conj_then, conjs_then, neg_then, negs_then, cmp_then, sum_then, relation_mark, prod_then, terms_then, unary_then, factors_then, more_then, exprs_then, sign_mark, operator_mark}
 use Rattle.syntax.proofs.RowLemmas.{expr_built, conj_built, neg_built, cmp_alone, cmp_compared, sum_built, term_built, prod_built}
 
 -- tokens that are equal are equal behind one token

@@ -1,5 +1,5 @@
 -- What spells lists of arrays, parameters and procedures, with one more behind them.
-use Rattle.std.proofs.Common.{◌≡◌, ℕ, ◌<◌, ◌==◌, true, List, [], ◌∷◌, ◌++◌, length, map, refl, ap, sym, ◌∙◌, arith, rules}
+use Rattle.std.proofs.Common.{◌≡◌, ◌<◌, List, [], ◌∷◌, ◌++◌, length, map, refl, ap, sym, ◌∙◌, arith}
 use Rattle.syntax.specs.declared.tree.Array.{Array as rArray}
 use Rattle.syntax.specs.declared.tree.Parameter.{Parameter as rParameter}
 use Rattle.syntax.specs.declared.tree.Procedure.{Procedure as rProcedure}

@@ -1,16 +1,15 @@
 -- The tree of a value is that of its parts.
-use Rattle.std.proofs.Common.{◌≡◌, ℕ, List, [], ◌∷◌, Option, Some, None, Bool, Vec, Box, String, Global, refl, ap, ◌∙◌}
+use Rattle.std.proofs.Common.{◌≡◌, Some, None, Bool, Vec, String, Global, refl, ap, ◌∙◌}
 use Rattle.std.specs.String.{string_bytes}
 use mathlib.Core.Former.{Count}
-use Rattle.syntax.specs.Tree.{Expr, Or, Conj, And, Sum, Add, Terms, Prod, Multiply, Factors, OrConj, AndNeg, AddTerm, MultiplyFactor, Alone, Compare, Parens, Element, Stmt, Block, Then, If, IfElse, While, Split, Async, Finish, expr, conj, neg, cmp, compared, compared_to, sum, term, prod, unary, atom, negated, negative, conjs, row_conjs, negs, row_negs, terms, row_terms, factors, row_factors, stmt, conditional, block, row_block}
+use Rattle.syntax.specs.Tree.{Or, And, Add, Terms, Multiply, OrConj, AndNeg, AddTerm, MultiplyFactor, Alone, Compare, Then, If, IfElse, While, Split, Async, Finish, expr, conj, neg, cmp, compared, compared_to, sum, term, prod, unary, atom, negated, negative, conjs, row_conjs, negs, row_negs, terms, row_terms, factors, row_factors, stmt, conditional, block, row_block}
 use Rattle.syntax.specs.declared.tree.Relation.{Relation}
 use Rattle.syntax.specs.declared.tree.Sign.{Sign}
-use Rattle.syntax.specs.declared.tree.Operator.{Operator}
 use Rattle.syntax.specs.declared.tree.Expr.{Expr as rExpr, Expr' as rOr, roll-Expr, Row_of-Conj, end_of-Conj, more_of-Conj, items-the_row-Conj, items_hidden-the_row-Conj-1}
 use Rattle.syntax.specs.declared.tree.Conj.{Conj as rConj, Conj' as rAnd, roll-Conj, Row_of-Neg, end_of-Neg, more_of-Neg, items-the_row-Neg, items_hidden-the_row-Neg-0}
 use Rattle.syntax.specs.declared.tree.Neg.{Neg as rNeg, roll-Neg}
 use Rattle.syntax.specs.declared.tree.Cmp.{Cmp as rCmp, roll-Cmp}
-use Rattle.syntax.specs.declared.tree.Compared.{Compared as rCompared, roll-Compared}
+use Rattle.syntax.specs.declared.tree.Compared.{roll-Compared}
 use Rattle.syntax.specs.declared.tree.Sum.{Sum as rSum, Sum' as rAdd, roll-Sum, Row_of-Term, end_of-Term, more_of-Term, items-the_row-Term, items_hidden-the_row-Term-3}
 use Rattle.syntax.specs.declared.tree.Term.{Term as rTerm, roll-Term}
 use Rattle.syntax.specs.declared.tree.Prod.{Prod as rProd, Prod' as rMultiply, roll-Prod, Row_of-Factor, end_of-Factor, more_of-Factor, items-the_row-Factor, items_hidden-the_row-Factor-2}

@@ -1,7 +1,6 @@
 -- What a loop over a list of the grammar adds.
 use Rattle.std.specs.Prelude.{◌≡◌, List, ◌++◌}
 use Rattle.syntax.specs.declared.tree.Expr.{Expr}
-use Rattle.syntax.specs.declared.tree.Parameter.{Parameter}
 use Rattle.syntax.specs.Spelling.{more_then}
 use Rattle.syntax.specs.Token.{Token}
 use Rattle.syntax.specs.Tree.{exprs}

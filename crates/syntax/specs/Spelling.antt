@@ -1,5 +1,5 @@
 -- The tokens that spell a program: for each production its tokens, with other tokens behind them.
-use Rattle.std.specs.Prelude.{ℕ, List, [], ◌∷◌, Option, None, Some}
+use Rattle.std.specs.Prelude.{List, [], ◌∷◌, Option, None, Some}
 use Rattle.syntax.specs.declared.tree.ElementType.{ElementType}
 use Rattle.syntax.specs.declared.tree.ElementType.TheVariants.{Int as IntElement, Byte as ByteElement}
 use Rattle.syntax.specs.declared.tree.Relation.{Relation}

@@ -26,6 +26,7 @@ pub const MOST_OPEN: usize = 100;
 /// The program that a text spells.
 pub fn parse(alloc: Global, text: &str) -> Result<Program, SyntaxError>
     ensures spelled { IfOk result (λ read. AreTokensOf (chars text.now) (spelling (program_tree read))) }
+    ensures shallow { IfOk result (λ read. AreShallow 0 (spelling (program_tree read))) }
     ensures too_long { (result ≡ Err SyntaxError.TooLong) ↔ (MOST_BYTES < length text.now) }
 {
     if text.len() > MOST_BYTES {
@@ -47,6 +48,7 @@ fn characters(alloc: Global, text: &str) -> Result<Vec<char>, AllocError>
 fn program(alloc: Global, text: &[char]) -> Result<Program, SyntaxError>
     requires { length text.now < 2 ^ 31 }
     ensures spelled { IfOk result (λ read. AreTokensOf text.now (spelling (program_tree read))) }
+    ensures shallow { IfOk result (λ read. AreShallow 0 (spelling (program_tree read))) }
     ensures not_too_long { result ≢ Err SyntaxError.TooLong }
 {
     let tokens = match lexer::tokens(alloc, text) {

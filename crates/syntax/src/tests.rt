@@ -159,3 +159,59 @@ fn canonical_text_is_a_fixed_point(rt: HostRuntime) -> Result<(), Fail> {
     }
     Ok(())
 }
+
+/// A comment of so many bytes.
+fn comment(alloc: Global, bytes: usize) -> Result<String, AllocError> {
+    let mut text = String::from_str(alloc, "//")?;
+    for _ in 2..bytes {
+        text.push('x')?;
+    }
+    Ok(text)
+}
+
+#[test]
+fn longest_text(rt: HostRuntime) -> Result<(), Fail> {
+    let rows = [(1_048_576, "program"), (1_048_577, "S5")];
+    for (bytes, want) in rows {
+        let text = comment(rt.alloc(), bytes)?;
+        assert_eq!(rt; text.len(), bytes);
+        assert_eq!(rt; verdict(rt.alloc(), text.as_str())?.as_str(), want, "at {bytes}");
+    }
+    Ok(())
+}
+
+#[test]
+fn unexpected_tokens(rt: HostRuntime) -> Result<(), Fail> {
+    let rows = [
+        ("main { var x; }", "S2 at 1:13"),
+        ("main { x; }", "S2 at 1:9"),
+        ("main { x[1]; }", "S2 at 1:12"),
+        ("main { f(1,); }", "S2 at 1:12"),
+        ("main { print; }", "S2 at 1:13"),
+        ("main { if { } }", "S2 at 1:11"),
+        ("main { while 1 }", "S2 at 1:16"),
+        ("main { split s as l, r { } }", "S2 at 1:16"),
+        ("main { split s at 1 as l { } }", "S2 at 1:26"),
+        ("main { async skip; }", "S2 at 1:14"),
+        ("main { else { } }", "S2 at 1:8"),
+        ("main { x = - - 1; }", "S2 at 1:14"),
+        ("main { x = not not y; }", "S2 at 1:16"),
+        ("main { x = len(1); }", "S2 at 1:16"),
+        ("main { x = a[]; }", "S2 at 1:14"),
+        ("main { array a: int; }", "S2 at 1:20"),
+        ("main { array a: bool[1]; }", "S2 at 1:17"),
+        ("proc f(a) { }", "S2 at 1:9"),
+        ("proc f(mut a: int) skip;", "S2 at 1:20"),
+        ("main { x = 1 < 2 < 3; }", "S2 at 1:18"),
+        ("main { x = rescue; }", "S2 at 1:12"),
+        ("main { parts = 1; }", "S2 at 1:8"),
+        ("main { x = 1 &&", "S1 at 1:14"),
+        ("main } } } { ( !", "S1 at 1:16"),
+        ("main { x = 99999999999999999999999999; ! }", "S3 at 1:12"),
+    ];
+    for (text, want) in rows {
+        let said = verdict(rt.alloc(), text)?;
+        assert_eq!(rt; said.as_str(), want, "at {text}");
+    }
+    Ok(())
+}

@@ -1,4 +1,4 @@
-use Rattle.std.proofs.Common.{[], ◌∷◌, ◌++◌, ◌||◌, ◌∙◌, ap, sym, arith, rules, refl}
+use Rattle.std.proofs.Common.{[], ◌∷◌, ◌++◌, ◌||◌, ◌∙◌, ap, sym, arith}
 use Rattle.std.specs.Char.{is_ascii_digit}
 use Rattle.std.proofs.lemmas.List.Sums.{prefix_len-le-length}
 use Rattle.syntax.specs.Lexical.{begins_name, is_in_name, NumberPiece}

@@ -1,5 +1,5 @@
 use Rattle.std.proofs.Common.{◌∙◌, ap}
-use Rattle.syntax.specs.Spelling.{expr_then, exprs_then, more_then, stmt_then}
+use Rattle.syntax.specs.Spelling.{expr_then, more_then, stmt_then}
 use Rattle.syntax.specs.Tree.{expr, exprs, stmt}
 use Rattle.syntax.proofs.ChainLemmas.{behind, adds_to_none}
 use Rattle.syntax.proofs.statements.printed.Goals as goal

@@ -1,7 +1,7 @@
-use Rattle.std.proofs.Common.{◌∙◌, ap}
-use Rattle.syntax.specs.Spelling.{expr_then, exprs_then, more_then, stmt_then}
-use Rattle.syntax.specs.Tree.{expr, exprs, stmt}
-use Rattle.syntax.proofs.ChainLemmas.{behind, adds_to_none}
+use Rattle.std.proofs.Common.{◌∙◌}
+use Rattle.syntax.specs.Spelling.{stmt_then}
+use Rattle.syntax.specs.Tree.{stmt}
+use Rattle.syntax.proofs.ChainLemmas.{behind}
 use Rattle.syntax.proofs.statements.simple.Goals as goal
 
 pub returns-in-Some-clause-spelled : goal.returns-in-Some-clause-spelled
