@@ -194,7 +194,13 @@ fn line(statement: &Stmt, lines: &mut Lines) -> Result<(), AllocError> {
             header("while ", guard, lines)?;
             block(body, lines)
         }
-        Stmt::Split { section, at, left, right, body } => {
+        Stmt::Split {
+            section,
+            at,
+            left,
+            right,
+            body,
+        } => {
             split(section, at, left, right, &mut lines.text)?;
             block(body, lines)
         }
@@ -243,7 +249,11 @@ fn simple(statement: &Stmt, out: &mut String) -> Result<(), AllocError> {
             assignment(name, value, out)
         }
         Stmt::Assign { name, value } => assignment(name, value, out),
-        Stmt::Store { section, index, value } => {
+        Stmt::Store {
+            section,
+            index,
+            value,
+        } => {
             out.push_str(section.as_str())?;
             out.push('[')?;
             expressions::expr(index, out)?;
@@ -263,7 +273,10 @@ fn simple(statement: &Stmt, out: &mut String) -> Result<(), AllocError> {
             out.push_str("fault ")?;
             expressions::expr(value, out)
         }
-        Stmt::Call { procedure, arguments } => {
+        Stmt::Call {
+            procedure,
+            arguments,
+        } => {
             out.push_str(procedure.as_str())?;
             out.push('(')?;
             expressions::listed(arguments, out)?;

@@ -44,8 +44,8 @@ fn main(alloc: Global, tokens: &[Spanned]) -> Result<(Main, &[Spanned]), Stuck>
     ensures shorter { IfOk result (λ read. length read.1.now < length tokens.now) }
     ensures spelled { IfOk result (λ read.
         plain tokens.now ≡ WordToken Word.Main ∷ MarkToken Mark.LeftBrace
-            ∷ arrays_then (map array_tree read.0.arrays.items)
-                (block_then (block read.0.body.items) (plain read.1.now))) }
+        ∷ arrays_then (map array_tree read.0.arrays.items)
+        (block_then (block read.0.body.items) (plain read.1.now))) }
 {
     // "main" "{" { array } { stmt } "}"
     let rest = cursor::word(tokens, Word::Main)?;
@@ -111,7 +111,7 @@ fn procedure(alloc: Global, tokens: &[Spanned]) -> Result<(Procedure, &[Spanned]
     ensures shorter { IfOk result (λ read. length read.1.now < length tokens.now) }
     ensures spelled { IfOk result (λ read.
         WordToken Word.Proc ∷ plain tokens.now
-            ≡ procedures_then (procedure_tree read.0 ∷ []) (plain read.1.now)) }
+        ≡ procedures_then (procedure_tree read.0 ∷ []) (plain read.1.now)) }
 {
     // proc = "proc" name "(" [ param { "," param } ] ")" block, its first word read
     let (name, rest) = cursor::name(tokens)?;
@@ -133,7 +133,7 @@ fn parameters(alloc: Global, tokens: &[Spanned]) -> Result<(Vec<Parameter>, &[Sp
     ensures shorter { IfOk result (λ read. length read.1.now < length tokens.now) }
     ensures spelled { IfOk result (λ read.
         plain tokens.now
-            ≡ parameters_then (map parameter_tree read.0.items) (MarkToken Mark.RightParen ∷ plain read.1.now)) }
+        ≡ parameters_then (map parameter_tree read.0.items) (MarkToken Mark.RightParen ∷ plain read.1.now)) }
 {
     // [ param { "," param } ] ")"
     let mut parameters = Vec::new(alloc);
@@ -176,7 +176,7 @@ fn section(tokens: &[Spanned]) -> Result<(String, ElementType, &[Spanned]), Stuc
     ensures shorter { IfOk result (λ read. length read.2.now < length tokens.now) }
     ensures spelled { IfOk result (λ read.
         plain tokens.now ≡ NameToken (string_bytes read.0) ∷ MarkToken Mark.Colon
-            ∷ WordToken (element_word read.1) ∷ plain read.2.now) }
+        ∷ WordToken (element_word read.1) ∷ plain read.2.now) }
 {
     // name ":" elem
     let (name, rest) = cursor::name(tokens)?;

@@ -175,7 +175,11 @@ fn longest_text(rt: HostRuntime) -> Result<(), Fail> {
     for (bytes, want) in rows {
         let text = comment(rt.alloc(), bytes)?;
         assert_eq!(rt; text.len(), bytes);
-        assert_eq!(rt; verdict(rt.alloc(), text.as_str())?.as_str(), want, "at {bytes}");
+        assert_eq!(rt;
+            verdict(rt.alloc(), text.as_str())?.as_str(),
+            want,
+            "at {bytes}"
+        );
     }
     Ok(())
 }
