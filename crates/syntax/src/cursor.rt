@@ -10,7 +10,7 @@ use std::alloc::{AllocError, AllocFailed};
 /// Why no more can be read.
 #[derive(Clone, Copy, Debug)]
 pub enum Stuck {
-    /// The token with this many behind it and itself left may not stand here; with none left the text ends.
+    /// A token may not stand where so many are left, itself among them; with none left the text ends.
     Unexpected { left: usize },
     OutOfMemory,
 }

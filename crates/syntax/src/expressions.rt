@@ -215,7 +215,8 @@ fn enclosed(
 ) -> Result<(Box<Expr>, &[Spanned]), Stuck>
     ensures shorter { IfOk result (λ read. length read.1.now < length tokens.now) }
     ensures spelled { IfOk result (λ read.
-        plain tokens.now ≡ expr_then (expr_tree read.0.value) (MarkToken closing ∷ plain read.1.now)) }
+        plain tokens.now
+        ≡ expr_then (expr_tree read.0.value) (MarkToken closing ∷ plain read.1.now)) }
 {
     // expr ")" | expr "]"
     let (inner, left) = expr(alloc, tokens)?;

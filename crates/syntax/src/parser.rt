@@ -25,7 +25,8 @@ pub const MOST_OPEN: usize = 100;
 
 /// The program that a text spells.
 pub fn parse(alloc: Global, text: &str) -> Result<Program, SyntaxError>
-    ensures spelled { IfOk result (λ read. AreTokensOf (chars text.now) (spelling (program_tree read))) }
+    ensures spelled { IfOk result (λ read.
+        AreTokensOf (chars text.now) (spelling (program_tree read))) }
     ensures shallow { IfOk result (λ read. AreShallow 0 (spelling (program_tree read))) }
     ensures too_long { (result ≡ Err SyntaxError.TooLong) ↔ (MOST_BYTES < length text.now) }
 {

@@ -74,7 +74,8 @@ fn arrays(alloc: Global, tokens: &[Spanned]) -> Result<(Vec<Array>, &[Spanned]),
 fn array(tokens: &[Spanned]) -> Result<(Array, &[Spanned]), Stuck>
     ensures shorter { IfOk result (λ read. length read.1.now < length tokens.now) }
     ensures spelled { IfOk result (λ read.
-        WordToken Word.Array ∷ plain tokens.now ≡ arrays_then (array_tree read.0 ∷ []) (plain read.1.now)) }
+        WordToken Word.Array ∷ plain tokens.now
+        ≡ arrays_then (array_tree read.0 ∷ []) (plain read.1.now)) }
 {
     // array = "array" name ":" elem "[" number "]" ";", its first word read
     let (name, rest) = cursor::name(tokens)?;
@@ -133,7 +134,8 @@ fn parameters(alloc: Global, tokens: &[Spanned]) -> Result<(Vec<Parameter>, &[Sp
     ensures shorter { IfOk result (λ read. length read.1.now < length tokens.now) }
     ensures spelled { IfOk result (λ read.
         plain tokens.now
-        ≡ parameters_then (map parameter_tree read.0.items) (MarkToken Mark.RightParen ∷ plain read.1.now)) }
+        ≡ parameters_then (map parameter_tree read.0.items)
+        (MarkToken Mark.RightParen ∷ plain read.1.now)) }
 {
     // [ param { "," param } ] ")"
     let mut parameters = Vec::new(alloc);

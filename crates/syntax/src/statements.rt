@@ -36,7 +36,8 @@ pub fn statements(alloc: Global, tokens: &[Spanned]) -> Result<(Vec<Stmt>, &[Spa
 pub fn block(alloc: Global, tokens: &[Spanned]) -> Result<(Vec<Stmt>, &[Spanned]), Stuck>
     ensures shorter { IfOk result (λ read. length read.1.now < length tokens.now) }
     ensures spelled { IfOk result (λ read.
-        plain tokens.now ≡ MarkToken Mark.LeftBrace ∷ block_then (block_tree read.0.items) (plain read.1.now)) }
+        plain tokens.now
+        ≡ MarkToken Mark.LeftBrace ∷ block_then (block_tree read.0.items) (plain read.1.now)) }
 {
     // block = "{" { stmt } "}"
     let rest = cursor::mark(tokens, Mark::LeftBrace)?;
@@ -168,7 +169,8 @@ fn simple(alloc: Global, tokens: &[Spanned]) -> Result<(Stmt, &[Spanned]), Stuck
 fn ended(alloc: Global, tokens: &[Spanned]) -> Result<(Expr, &[Spanned]), Stuck>
     ensures shorter { IfOk result (λ read. length read.1.now < length tokens.now) }
     ensures spelled { IfOk result (λ read.
-        plain tokens.now ≡ expr_then (expr_tree read.0) (MarkToken Mark.Semicolon ∷ plain read.1.now)) }
+        plain tokens.now
+        ≡ expr_then (expr_tree read.0) (MarkToken Mark.Semicolon ∷ plain read.1.now)) }
 {
     // expr ";"
     let (value, rest) = expressions::expr(alloc, tokens)?;
@@ -250,7 +252,8 @@ fn named(alloc: Global, tokens: &[Spanned]) -> Result<(Stmt, &[Spanned]), Stuck>
 fn arguments(alloc: Global, tokens: &[Spanned]) -> Result<(Vec<Expr>, &[Spanned]), Stuck>
     ensures shorter { IfOk result (λ read. length read.1.now < length tokens.now) }
     ensures spelled { IfOk result (λ read.
-        plain tokens.now ≡ exprs_then (exprs read.0.items) (MarkToken Mark.RightParen ∷ plain read.1.now)) }
+        plain tokens.now
+        ≡ exprs_then (exprs read.0.items) (MarkToken Mark.RightParen ∷ plain read.1.now)) }
 {
     // [ expr { "," expr } ] ")"
     let mut arguments = Vec::new(alloc);
