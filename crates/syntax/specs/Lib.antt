@@ -1,1 +1,6 @@
+pub mod Brackets
+pub mod Lexical
+pub mod Reading
+pub mod Spelling
+pub mod Token
 pub mod Tree

@@ -1,6 +1,11 @@
 //! Texts as tokens.
 
-ghost use Rattle.std.specs.Prelude.{◌≡◌, ◌<◌, ◌≤◌, length, IfOk, IfSome};
+ghost use Rattle.std.specs.Prelude.{◌≡◌, ◌<◌, ◌≤◌, true, false, [], ◌∷◌, length, IfOk, IfSome, IfNone};
+ghost use Rattle.std.specs.Char.{is_ascii_digit};
+ghost use Rattle.std.specs.List.{list_all, prefix_len};
+ghost use Rattle.std.specs.String.{string_bytes};
+ghost use Rattle.syntax.specs.Lexical.{begins_name, is_blank, is_in_name, is_in_line, begins_comment, number_of, starts, MarkPiece, Begins, Reads, SpellsWord, AreTokensOf};
+ghost use Rattle.syntax.specs.Token.{token as token_tree, plain};
 
 use crate::token::{Mark, Spanned, Token, Word};
 use std::alloc::{AllocError, AllocFailed, Global};
@@ -39,13 +44,14 @@ impl<T: Drop> From<AllocFailed<T>> for Unread {
 }
 
 /// The tokens of a text, or the first place where there is none.
-pub fn tokens(alloc: Global, text: &[char]) -> Result<Vec<Spanned>, Unread> {
+pub fn tokens(alloc: Global, text: &[char]) -> Result<Vec<Spanned>, Unread>
+    ensures { IfOk result (λ found. AreTokensOf text.now (plain found.items)) }
+{
     let mut tokens = Vec::new(alloc);
     let mut rest = text;
     while !rest.is_empty() {
-        let blank = blank_length(rest);
-        if blank > 0 {
-            rest = &rest[blank..];
+        if let Some(behind) = blank(rest) {
+            rest = behind;
         } else {
             let at = text.len() - rest.len();
             let (token, behind) = token(alloc, rest)?;
@@ -56,36 +62,53 @@ pub fn tokens(alloc: Global, text: &[char]) -> Result<Vec<Spanned>, Unread> {
     Ok(tokens)
 }
 
-/// How many characters the blank or the comment has that stands first: 0 where none does.
-fn blank_length(chars: &[char]) -> usize
-    ensures { result ≤ length chars.now }
+/// The characters behind the blank or the comment that stands first.
+fn blank(chars: &[char]) -> Option<&[char]>
+    ensures shorter { IfSome result (λ rest. length rest.now < length chars.now) }
+    ensures found { IfSome result (λ rest. Reads chars.now [] rest.now) }
+    ensures absent { IfNone result (begins_comment chars.now ≡ false) }
 {
-    match chars {
-        [' ' | '\t' | '\r' | '\n', ..] => 1,
-        ['/', '/', ..] => line_length(chars),
-        _ => 0,
+    let (first, after) = chars.split_first()?;
+    if is_blank(*first) {
+        return Some(after);
     }
+    let (second, behind) = after.split_first()?;
+    if *first == '/' && *second == '/' {
+        let (_, rest) = behind.split_at(line_length(behind));
+        return Some(rest);
+    }
+    None
+}
+
+/// Whether this character stands between tokens.
+fn is_blank(c: char) -> bool
+    ensures { result ≡ is_blank c }
+{
+    c == ' ' || c == '\t' || c == '\r' || c == '\n'
 }
 
 /// How many characters stand before the first line feed.
 fn line_length(chars: &[char]) -> usize
-    ensures { result ≤ length chars.now }
+    ensures { result ≡ prefix_len is_in_line chars.now }
 {
     chars.iter().take_while(|c| **c != '\n').count()
 }
 
 /// The token that stands first, the longest, and the characters behind it.
 fn token(alloc: Global, chars: &[char]) -> Result<(Token, &[char]), Unread>
+    requires { begins_comment chars.now ≡ false }
     ensures shorter { IfOk result (λ read. length read.1.now < length chars.now) }
+    ensures found { IfOk result (λ read. Reads chars.now (token_tree read.0 ∷ []) read.1.now) }
 {
-    let name = name_length(chars);
-    if name > 0 {
-        let (letters, rest) = chars.split_at(name);
+    let Some((first, _)) = chars.split_first() else {
+        return Err(Unread::NotACharacter { left: 0 });
+    };
+    if begins_name(*first) {
+        let (letters, rest) = chars.split_at(name_length(chars));
         return Ok((word_or_name(alloc, letters)?, rest));
     }
-    let digits = digits_length(chars);
-    if digits > 0 {
-        let (digits, rest) = chars.split_at(digits);
+    if first.is_ascii_digit() {
+        let (digits, rest) = chars.split_at(digits_length(chars));
         let Some(value) = value_of(digits) else {
             return Err(Unread::NumberTooLarge { left: chars.len() });
         };
@@ -98,49 +121,59 @@ fn token(alloc: Global, chars: &[char]) -> Result<(Token, &[char]), Unread>
 }
 
 /// Whether a name may begin with this character.
-fn begins_name(c: char) -> bool {
+fn begins_name(c: char) -> bool
+    ensures { result ≡ begins_name c }
+{
     c.is_ascii_alphabetic() || c == '_'
 }
 
 /// Whether this character may stand in a name.
-fn is_in_name(c: char) -> bool {
+fn is_in_name(c: char) -> bool
+    ensures { result ≡ is_in_name c }
+{
     begins_name(c) || c.is_ascii_digit()
 }
 
-/// How many characters the longest name has that stands first: 0 where none does.
+/// How many characters that may stand in a name stand first.
 fn name_length(chars: &[char]) -> usize
-    ensures { result ≤ length chars.now }
+    ensures { result ≡ prefix_len is_in_name chars.now }
 {
-    match chars.first() {
-        None => 0,
-        Some(first) => {
-            if begins_name(*first) {
-                chars.iter().take_while(|c| is_in_name(**c)).count()
-            } else {
-                0
-            }
-        }
-    }
+    chars.iter().take_while(|c| is_in_name(**c)).count()
 }
 
 /// How many digits stand first.
 fn digits_length(chars: &[char]) -> usize
-    ensures { result ≤ length chars.now }
+    ensures { result ≡ prefix_len is_ascii_digit chars.now }
 {
     chars.iter().take_while(|c| c.is_ascii_digit()).count()
 }
 
 /// The word that these letters spell, or else the name.
-fn word_or_name(alloc: Global, letters: &[char]) -> Result<Token, AllocError> {
-    let name: String = letters.iter().copied().collect(alloc)?;
-    Ok(match Word::of(name.as_str()) {
-        Some(word) => Token::Word(word),
-        None => Token::Name(name),
-    })
+fn word_or_name(alloc: Global, letters: &[char]) -> Result<Token, AllocError>
+    requires begins { starts begins_name letters.now ≡ true }
+    requires in_name { list_all is_in_name letters.now ≡ true }
+    ensures { IfOk result (λ token. SpellsWord letters.now (token_tree token)) }
+{
+    let name = text_of(alloc, letters)?;
+    match Word::of(name.as_str()) {
+        Some(word) => Ok(Token::Word(word)),
+        None => Ok(Token::Name(name)),
+    }
+}
+
+/// The text of these letters.
+fn text_of(alloc: Global, letters: &[char]) -> Result<String, AllocError>
+    requires { list_all is_in_name letters.now ≡ true }
+    ensures { IfOk result (λ text. string_bytes text ≡ letters.now) }
+{
+    letters.iter().copied().collect(alloc)
 }
 
 /// The number that these digits spell, unless it is too large.
-fn value_of(digits: &[char]) -> Option<u64> {
+fn value_of(digits: &[char]) -> Option<u64>
+    ensures found { IfSome result (λ value. value ≡ number_of digits.now) }
+    ensures small { IfSome result (λ value. value ≤ MOST) }
+{
     let mut value = 0u64;
     for c in digits {
         let digit = c.to_digit(10)?;
@@ -151,6 +184,8 @@ fn value_of(digits: &[char]) -> Option<u64> {
 
 /// The mark that stands first, the longest, and the characters behind it.
 fn mark(chars: &[char]) -> Option<(Mark, &[char])>
+    requires { begins_comment chars.now ≡ false }
+    ensures found { IfSome result (λ read. Begins chars.now (MarkPiece read.0) read.1.now) }
     ensures shorter { IfSome result (λ read. length read.1.now < length chars.now) }
 {
     let (first, after) = chars.split_first()?;

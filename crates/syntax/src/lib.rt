@@ -2,8 +2,10 @@
 
 #![tactic(auto)]
 
+pub mod canonical;
 pub mod cursor;
 pub mod error;
+pub mod expression_text;
 pub mod expressions;
 pub mod lexer;
 pub mod parser;
@@ -15,6 +17,7 @@ mod tests;
 pub mod token;
 pub mod tree;
 
+pub use canonical::{format, listing};
 pub use error::SyntaxError;
 pub use parser::parse;
 pub use place::Place;

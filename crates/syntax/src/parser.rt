@@ -1,7 +1,12 @@
 //! Texts as programs.
 
-ghost use Rattle.std.specs.Prelude.{◌≡◌, ◌≢◌, ◌↔◌, ◌<◌, ◌≤◌, ◌^◌, length, vec_len, IfOk};
+ghost use Rattle.std.specs.Prelude.{◌≡◌, ◌≢◌, ◌↔◌, ◌<◌, ◌≤◌, ◌^◌, length, vec_len, IfOk, IfNone, OnSome};
 ghost use Rattle.std.specs.Str.{chars};
+ghost use Rattle.syntax.specs.Brackets.{AreShallow, open_behind};
+ghost use Rattle.syntax.specs.Lexical.{AreTokensOf};
+ghost use Rattle.syntax.specs.Spelling.{spelling};
+ghost use Rattle.syntax.specs.Token.{plain, token as token_tree};
+ghost use Rattle.syntax.specs.Tree.{program as program_tree};
 
 use crate::cursor::Stuck;
 use crate::error::SyntaxError;
@@ -20,6 +25,9 @@ pub const MOST_OPEN: usize = 100;
 
 /// The program that a text spells.
 pub fn parse(alloc: Global, text: &str) -> Result<Program, SyntaxError>
+    ensures spelled { IfOk result (λ read.
+        AreTokensOf (chars text.now) (spelling (program_tree read))) }
+    ensures shallow { IfOk result (λ read. AreShallow 0 (spelling (program_tree read))) }
     ensures too_long { (result ≡ Err SyntaxError.TooLong) ↔ (MOST_BYTES < length text.now) }
 {
     if text.len() > MOST_BYTES {
@@ -40,7 +48,9 @@ fn characters(alloc: Global, text: &str) -> Result<Vec<char>, AllocError>
 /// The program that these characters spell.
 fn program(alloc: Global, text: &[char]) -> Result<Program, SyntaxError>
     requires { length text.now < 2 ^ 31 }
-    ensures { result ≢ Err SyntaxError.TooLong }
+    ensures spelled { IfOk result (λ read. AreTokensOf text.now (spelling (program_tree read))) }
+    ensures shallow { IfOk result (λ read. AreShallow 0 (spelling (program_tree read))) }
+    ensures not_too_long { result ≢ Err SyntaxError.TooLong }
 {
     let tokens = match lexer::tokens(alloc, text) {
         Ok(tokens) => tokens,
@@ -93,19 +103,31 @@ fn no_program(text: &[char], tokens: &[Spanned], stuck: Stuck) -> SyntaxError
 }
 
 /// The bracket by which too many are open.
-fn too_deep(tokens: &[Spanned]) -> Option<usize> {
-    let mut open = 0usize;
+fn too_deep(tokens: &[Spanned]) -> Option<usize>
+    ensures none { IfNone result (AreShallow 0 (plain tokens.now)) }
+    ensures some { OnSome result (AreShallow 0 (plain tokens.now) → ⊥) }
+{
+    let mut count = 0usize;
     for spanned in tokens {
-        if let Token::Mark(mark) = &spanned.token {
-            open = match mark {
-                Mark::LeftParen | Mark::LeftBrace | Mark::LeftBracket => open + 1,
-                Mark::RightParen | Mark::RightBrace | Mark::RightBracket => open.saturating_sub(1),
-                _ => open,
-            };
-        }
-        if open > MOST_OPEN {
+        count = open_behind(count, &spanned.token);
+        if count > MOST_OPEN {
             return Some(spanned.at);
         }
     }
     None
+}
+
+/// How many brackets are open behind a token.
+fn open_behind(count: usize, token: &Token) -> usize
+    requires { count ≤ MOST_OPEN }
+    ensures { result ≡ open_behind count (token_tree token.now) }
+{
+    let Token::Mark(mark) = token else {
+        return count;
+    };
+    match mark {
+        Mark::LeftParen | Mark::LeftBrace | Mark::LeftBracket => count + 1,
+        Mark::RightParen | Mark::RightBrace | Mark::RightBracket => count.saturating_sub(1),
+        _ => count,
+    }
 }

@@ -2,7 +2,7 @@
 
 ghost use Rattle.std.specs.Prelude.{◌<◌, ◌^◌, length};
 
-/// A line and a column, both from 1. A line ends at a line feed alone, and columns count characters.
+/// A line and a column, both from 1. A line ends at a line feed alone; columns count characters.
 #[derive(Clone, Copy, PartialEq, Eq, Debug)]
 pub struct Place {
     pub line: u32,
@@ -10,7 +10,7 @@ pub struct Place {
 }
 
 impl Place {
-    /// The place of the character with this number, counted from 0, or the one just behind the text.
+    /// The place of the character with this number from 0, or the one just behind the text.
     pub fn of(text: &[char], at: usize) -> Place
         requires { length text.now < 2 ^ 31 }
     {

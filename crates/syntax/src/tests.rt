@@ -1,5 +1,6 @@
 //! Rows of texts.
 
+use crate::canonical::{format, listing};
 use crate::parser::parse;
 use crate::tree::{Program, Stmt};
 use std::alloc::{AllocError, Global};
@@ -113,6 +114,108 @@ fn lone_atoms(rt: HostRuntime) -> Result<(), Fail> {
             return Err("no fault".into());
         };
         assert_eq!(rt; value.as_atom().is_some(), want, "at {text}");
+    }
+    Ok(())
+}
+
+#[test]
+fn listings(rt: HostRuntime) -> Result<(), Fail> {
+    let rows = [
+        ("", ""),
+        (
+            "main { array a: int[1]; array b: int[1]; finish { async { a[0] = 7; } b[0] = 8; } print a[0], b[0]; }",
+            "      main {\n        array a: int[1];\n        array b: int[1];\n    1   finish {\n    2     async {\n    3       a[0] = 7;\n          }\n    4     b[0] = 8;\n        }\n    5   print a[0], b[0];\n      }\n",
+        ),
+        (
+            "main{array a:byte[2];if a[0]==1{a[1]=(-1)+2;}else{}}",
+            "      main {\n        array a: byte[2];\n    1   if a[0] == 1 {\n    2     a[1] = (-1) + 2;\n        } else {\n        }\n      }\n",
+        ),
+        (
+            "proc f(mut s:int,read t:byte,n:int){while not(n<len(s)-1)and true or false{}}proc g(){f(a,b,- n);}",
+            "      proc f(mut s: int, read t: byte, n: int) {\n    1   while not (n < len(s) - 1) and true or false {\n        }\n      }\n      proc g() {\n    2   f(a, b, -n);\n      }\n",
+        ),
+    ];
+    for (text, want) in rows {
+        let program = parse(rt.alloc(), text)?;
+        let said = listing(rt.alloc(), &program)?;
+        assert_eq!(rt; said.as_str(), want, "at {text}");
+    }
+    Ok(())
+}
+
+#[test]
+fn canonical_text_is_a_fixed_point(rt: HostRuntime) -> Result<(), Fail> {
+    let rows = [
+        "",
+        "main {\n}\n",
+        "main {\n  skip;\n  var x = 1 + 2 * -3 % 4 / 5 - x;\n  x = a[b[0]];\n  fault 7;\n}\n",
+        "main {\n  split s at k as l, r {\n    l[0] = 1 <= 2;\n  }\n  g();\n}\n",
+        "main {\n  if x > 1 {\n  }\n  if x >= 1 {\n  } else {\n    skip;\n  }\n  if x != 1 {\n  }\n}\n",
+    ];
+    for text in rows {
+        let program = parse(rt.alloc(), text)?;
+        let said = format(rt.alloc(), &program)?;
+        assert_eq!(rt; said.as_str(), text);
+    }
+    Ok(())
+}
+
+/// A comment of so many bytes.
+fn comment(alloc: Global, bytes: usize) -> Result<String, AllocError> {
+    let mut text = String::from_str(alloc, "//")?;
+    for _ in 2..bytes {
+        text.push('x')?;
+    }
+    Ok(text)
+}
+
+#[test]
+fn longest_text(rt: HostRuntime) -> Result<(), Fail> {
+    let rows = [(1_048_576, "program"), (1_048_577, "S5")];
+    for (bytes, want) in rows {
+        let text = comment(rt.alloc(), bytes)?;
+        assert_eq!(rt; text.len(), bytes);
+        assert_eq!(rt;
+            verdict(rt.alloc(), text.as_str())?.as_str(),
+            want,
+            "at {bytes}"
+        );
+    }
+    Ok(())
+}
+
+#[test]
+fn unexpected_tokens(rt: HostRuntime) -> Result<(), Fail> {
+    let rows = [
+        ("main { var x; }", "S2 at 1:13"),
+        ("main { x; }", "S2 at 1:9"),
+        ("main { x[1]; }", "S2 at 1:12"),
+        ("main { f(1,); }", "S2 at 1:12"),
+        ("main { print; }", "S2 at 1:13"),
+        ("main { if { } }", "S2 at 1:11"),
+        ("main { while 1 }", "S2 at 1:16"),
+        ("main { split s as l, r { } }", "S2 at 1:16"),
+        ("main { split s at 1 as l { } }", "S2 at 1:26"),
+        ("main { async skip; }", "S2 at 1:14"),
+        ("main { else { } }", "S2 at 1:8"),
+        ("main { x = - - 1; }", "S2 at 1:14"),
+        ("main { x = not not y; }", "S2 at 1:16"),
+        ("main { x = len(1); }", "S2 at 1:16"),
+        ("main { x = a[]; }", "S2 at 1:14"),
+        ("main { array a: int; }", "S2 at 1:20"),
+        ("main { array a: bool[1]; }", "S2 at 1:17"),
+        ("proc f(a) { }", "S2 at 1:9"),
+        ("proc f(mut a: int) skip;", "S2 at 1:20"),
+        ("main { x = 1 < 2 < 3; }", "S2 at 1:18"),
+        ("main { x = rescue; }", "S2 at 1:12"),
+        ("main { parts = 1; }", "S2 at 1:8"),
+        ("main { x = 1 &&", "S1 at 1:14"),
+        ("main } } } { ( !", "S1 at 1:16"),
+        ("main { x = 99999999999999999999999999; ! }", "S3 at 1:12"),
+    ];
+    for (text, want) in rows {
+        let said = verdict(rt.alloc(), text)?;
+        assert_eq!(rt; said.as_str(), want, "at {text}");
     }
     Ok(())
 }

@@ -101,8 +101,15 @@ pub enum Mark {
 }
 
 impl Word {
+    ghost use Rattle.std.specs.Prelude.{◌≡◌, ◌≢◌, IfSome, IfNone};
+    ghost use Rattle.syntax.specs.declared.token.Word.{Word};
+    ghost use Rattle.syntax.specs.Lexical.{word_text};
+
     /// The word that a name would be, if it is reserved.
-    pub fn of(name: &str) -> Option<Word> {
+    pub fn of(name: &str) -> Option<Word>
+        ensures found { IfSome result (λ word. word_text word ≡ name.now) }
+        ensures absent { IfNone result ((word : Word) → word_text word ≢ name.now) }
+    {
         Some(match name {
             "and" => Word::And,
             "array" => Word::Array,
@@ -138,8 +145,15 @@ impl Word {
 }
 
 impl Mark {
+    ghost use Rattle.std.specs.Prelude.{◌≡◌, ◌≢◌, [], ◌∷◌, IfSome, IfNone};
+    ghost use Rattle.syntax.specs.declared.token.Mark.{Mark};
+    ghost use Rattle.syntax.specs.Lexical.{mark_text};
+
     /// The mark of one character.
-    pub fn of_one(character: char) -> Option<Mark> {
+    pub fn of_one(character: char) -> Option<Mark>
+        ensures found { IfSome result (λ mark. mark_text mark ≡ character ∷ []) }
+        ensures absent { IfNone result ((mark : Mark) → mark_text mark ≢ character ∷ []) }
+    {
         Some(match character {
             '(' => Mark::LeftParen,
             ')' => Mark::RightParen,
@@ -163,7 +177,10 @@ impl Mark {
     }
 
     /// The mark of two characters, the second of which is always `=`.
-    pub fn of_two(first: char) -> Option<Mark> {
+    pub fn of_two(first: char) -> Option<Mark>
+        ensures found { IfSome result (λ mark. mark_text mark ≡ first ∷ 61 ∷ []) }
+        ensures absent { IfNone result ((mark : Mark) → mark_text mark ≢ first ∷ 61 ∷ []) }
+    {
         match first {
             '<' => Some(Mark::AtMost),
             '>' => Some(Mark::AtLeast),

@@ -1,0 +1,5 @@
+pub mod BlockLemmas
+pub mod ChainLemmas
+pub mod LexicalLemmas
+pub mod ProgramLemmas
+pub mod RowLemmas

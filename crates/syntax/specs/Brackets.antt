@@ -1,0 +1,24 @@
+-- How many brackets are open.
+use Rattle.std.specs.Prelude.{◌+◌, ◌-◌, ◌≤◌, ℕ, List, [], ◌∷◌}
+use Rattle.syntax.specs.declared.token.Mark.{Mark}
+use Rattle.syntax.specs.declared.token.Mark.TheVariants.{LeftParen, RightParen, LeftBrace, RightBrace, LeftBracket, RightBracket}
+use Rattle.syntax.specs.Token.{Token, MarkToken}
+
+-- a mark that opens a bracket adds one, and one that closes a bracket takes one away, never below 0
+abbrev pub open_behind_mark : ℕ → Mark → ℕ
+open_behind_mark count LeftParen = count + 1
+open_behind_mark count LeftBrace = count + 1
+open_behind_mark count LeftBracket = count + 1
+open_behind_mark count RightParen = count - 1
+open_behind_mark count RightBrace = count - 1
+open_behind_mark count RightBracket = count - 1
+open_behind_mark count _ = count
+
+abbrev pub open_behind : ℕ → Token → ℕ
+open_behind count (MarkToken mark) = open_behind_mark count mark
+open_behind count _ = count
+
+-- with so many open before the tokens, no more than 100 are open at any of them
+abbrev pub AreShallow : ℕ → List Token → Type 0
+AreShallow count [] = Unit {0}
+AreShallow count (t ∷ ts) = (open_behind count t ≤ 100) × AreShallow (open_behind count t) ts
