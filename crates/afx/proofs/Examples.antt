@@ -1,8 +1,8 @@
 -- The texts of worked outcomes, computed.
-use Rattle.std.proofs.Common.{◌≡◌, List, [], ◌∷◌, ◌++◌, refl, codes}
-use Rattle.std.specs.Prelude.{ℕ, ℤ, pos, negsuc, true, false}
+use Rattle.std.proofs.Common.{◌≡◌, List, [], ◌∷◌, refl, codes}
+use Rattle.std.specs.Prelude.{ℕ, pos, negsuc, true, false}
 use Rattle.std.specs.Fmt.{digits}
-use Rattle.syntax.specs.declared.tree.ElementType.TheVariants.{Int, Byte}
+use Rattle.syntax.specs.declared.tree.ElementType.TheVariants.{Byte}
 use Rattle.types.specs.declared.fault.FaultKind.{FaultKind}
 use Rattle.types.specs.declared.fault.FaultKind.TheVariants.{OutOfElement, Raised}
 use Rattle.types.specs.Code.{Array}

@@ -1,5 +1,10 @@
 //! The whole program, over files and writers that it is lent.
 
+ghost use Rattle.std.specs.Prelude.{◌≡◌, map, IfOk, IfErr, false};
+ghost use Rattle.types.specs.Translation.{array, outcome as outcome_of};
+ghost use Rattle.afx.specs.Appending.{Writes};
+ghost use Rattle.afx.specs.OutcomeText.{outcome_text, status_of};
+
 use crate::command_line::{Request, request_of};
 use crate::emit::{append, emit};
 use crate::failure::Failure;
@@ -10,6 +15,7 @@ use std::io::Write;
 use syntax::parse;
 use types::budget::Budget;
 use types::check::type_check;
+use types::code::Array;
 use types::first_part::first_part;
 use types::input::Input;
 use types::outcome::Outcome;
@@ -52,7 +58,7 @@ fn perform<F: FileSource, O: Write>(
             let outcome = workers::run::run(alloc, &accepted, &input, Budget::usual()).map_err(
                 Failure::Run,
             )?;
-            show(out, accepted.typed(), &outcome)
+            show(out, &accepted.typed().code().arrays, &outcome)
         }
         Request::Serial { file } => {
             let typed = load(alloc, files, file)?;
@@ -60,7 +66,7 @@ fn perform<F: FileSource, O: Write>(
             let outcome = serial_run::serial(alloc, &typed, &input, Budget::usual()).map_err(
                 |_| Failure::NoMemory,
             )?;
-            show(out, &typed, &outcome)
+            show(out, &typed.code().arrays, &outcome)
         }
     }
 }
@@ -91,8 +97,15 @@ fn zeros(alloc: Global, typed: &Typed) -> Result<Input, Failure> {
 }
 
 /// Writes an outcome, and gives its exit status: 0 ended, 2 ended with faults, 3 stopped.
-fn show<O: Write>(out: &mut O, typed: &Typed, outcome: &Outcome) -> Result<u8, Failure> {
-    emit(out, outcome, &typed.code().arrays, false).map_err(|_| Failure::CannotWriteOutput)?;
+fn show<O: Write>(out: &mut O, declared: &[Array], outcome: &Outcome) -> Result<u8, Failure>
+    ensures text { Writes (O.contents out.old) (O.contents out.new) result
+        (outcome_text (map array declared.now) false (outcome_of outcome.now)) }
+    ensures status { IfOk result (λ status. status ≡ status_of (outcome_of outcome.now)) }
+    ensures failure { IfErr result (λ failure. failure ≡ Failure.CannotWriteOutput) }
+{
+    if emit(out, outcome, declared, false).is_err() {
+        return Err(Failure::CannotWriteOutput);
+    }
     match outcome {
         Outcome::Stopped => Ok(3),
         Outcome::Ended { faults, .. } => Ok(if faults.is_empty() { 0 } else { 2 }),

@@ -175,7 +175,7 @@ fn emit_arrays<W: Write>(
 ) -> Result<(), EmitError>
     ensures { Writes (W.contents out.old) (W.contents out.new) result
         (flat_map (λ (a, elements). array_text (array a, elements.items))
-            (zip declared.now contents.now)) }
+        (zip declared.now contents.now)) }
 {
     for (array, elements) in declared.iter().zip(contents) {
         emit_array(out, array, elements)?;

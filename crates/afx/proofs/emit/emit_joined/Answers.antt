@@ -1,4 +1,4 @@
-use Rattle.std.proofs.Common.{◌≡◌, sym, ap, ◌∙◌, subst}
+use Rattle.std.proofs.Common.{sym, ap, ◌∙◌, subst}
 use Rattle.afx.specs.Appending.{Writes}
 use Rattle.afx.specs.OutcomeText.{joined_text}
 use Rattle.afx.proofs.Appending.{fails, begins_longer, then_writes}
