@@ -1,5 +1,7 @@
 //! A well-typed program.
 
+ghost use Rattle.std.specs.Prelude.{◌≡◌};
+
 use crate::code;
 
 /// A program that breaks no rule of the language, with its names resolved. `type_check` alone makes it.
@@ -16,7 +18,9 @@ impl Typed {
     }
 
     /// The resolved program.
-    pub fn code(&self) -> &code::Program {
+    pub fn code(&self) -> &code::Program
+        ensures { result.now ≡ self.now.code }
+    {
         &self.code
     }
 }

@@ -1,1 +1,4 @@
+pub mod Least
 pub mod LeftLemmas
+pub mod Order
+pub mod Rows

@@ -1,7 +1,11 @@
 //! The race check.
 
-use crate::effect::effect_of;
-use crate::race::{Access, Meeting};
+ghost use Rattle.std.specs.Prelude.{◌≡◌, IfOk, IfErr, OnOk};
+ghost use Rattle.workers.specs.Refusal.{pairs_of, IsRefusalOf};
+ghost use Rattle.workers.specs.Races.{IsRaceFree};
+
+use crate::race::Meeting;
+use crate::search::race_in;
 use std::alloc::Global;
 use types::typed::Typed;
 
@@ -11,17 +15,10 @@ pub struct Accepted {
     typed: Typed,
 }
 
-/// Two accesses that clash, in `main`.
-#[derive(Clone, Copy, PartialEq, Eq, Debug)]
-pub struct Race {
-    pub first: Access,
-    pub second: Access,
-}
-
 /// Why a program isn't accepted.
 #[derive(Drop)]
 pub enum Refused {
-    /// C1: it has a race, of which this is the least.
+    /// C1: two accesses of `main` clash, of which this is the least meeting.
     Race {
         race: Meeting,
         /// The program, for the names in it.
@@ -32,10 +29,14 @@ pub enum Refused {
 }
 
 /// Whether a program has a race.
-pub fn check(alloc: Global, typed: Typed) -> Result<Accepted, Refused> {
-    match effect_of(alloc, &typed.code().main.body) {
+pub fn check(alloc: Global, typed: Typed) -> Result<Accepted, Refused>
+    ensures accepted { IfOk result (λ accepted. accepted.typed ≡ typed) }
+    ensures race_free { OnOk result (IsRaceFree (pairs_of typed)) }
+    ensures refused { IfErr result (IsRefusalOf typed) }
+{
+    match race_in(alloc, &typed.code().main.body) {
         Err(_) => Err(Refused::OutOfMemory),
-        Ok(effect) => match effect.race {
+        Ok(found) => match found {
             Some(race) => Err(Refused::Race { race, typed }),
             None => Ok(Accepted { typed }),
         },
@@ -44,7 +45,9 @@ pub fn check(alloc: Global, typed: Typed) -> Result<Accepted, Refused> {
 
 impl Accepted {
     /// The program.
-    pub fn typed(&self) -> &Typed {
+    pub fn typed(&self) -> &Typed
+        ensures { result.now ≡ self.now.typed }
+    {
         &self.typed
     }
 }

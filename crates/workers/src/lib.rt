@@ -2,12 +2,15 @@
 
 #![tactic(auto)]
 
+pub mod access;
 pub mod check;
 pub mod contents;
-pub mod effect;
 pub mod gather;
 pub mod needs;
 pub mod race;
 pub mod run;
 pub mod scope;
+pub mod search;
 pub mod task;
+#[cfg(test)]
+mod tests;

@@ -1,6 +1,6 @@
 //! What the body of an async needs of the arrays.
 
-use crate::effect::effect_of;
+use crate::access::accesses_in;
 use std::alloc::{AllocError, Global};
 use types::code::Stmt;
 
@@ -17,9 +17,9 @@ pub enum Need {
 
 /// What a body needs of each of the arrays, in their order, also for the tasks that it begins.
 pub fn needs_of(alloc: Global, arrays: usize, body: &[Stmt]) -> Result<Vec<Need>, AllocError> {
-    let effect = effect_of(alloc, body)?;
+    let accesses = accesses_in(alloc, body)?;
     let mut needs = vec![in alloc; Need::Nothing; arrays]?;
-    for access in &effect.all {
+    for access in &accesses {
         if access.section < needs.len() {
             needs[access.section] = needs[access.section].with(access.write);
         }

@@ -1,5 +1,8 @@
 //! What statements do to arrays, and which two of these deeds clash.
 
+ghost use Rattle.std.specs.Prelude.{◌≡◌};
+ghost use Rattle.workers.specs.Races.{access_key, meeting_key, is_less, meeting_of, is_clash as clashes};
+
 use types::code::Label;
 
 /// A statement reads or writes an array.
@@ -21,7 +24,9 @@ pub struct Meeting {
 
 impl Access {
     /// Whether it stands before the other in a meeting.
-    pub fn is_before(self, other: Access) -> bool {
+    pub fn is_before(self, other: Access) -> bool
+        ensures { result ≡ is_less (access_key self) (access_key other) }
+    {
         if self.label != other.label {
             self.label < other.label
         } else if self.section != other.section {
@@ -34,7 +39,9 @@ impl Access {
 
 impl Meeting {
     /// The meeting of two accesses.
-    pub fn of(one: Access, other: Access) -> Meeting {
+    pub fn of(one: Access, other: Access) -> Meeting
+        ensures { result ≡ meeting_of (one, other) }
+    {
         if other.is_before(one) {
             Meeting {
                 first: other,
@@ -49,20 +56,28 @@ impl Meeting {
     }
 
     /// Whether both are of one array and at least one writes.
-    pub fn is_clash(self) -> bool {
+    pub fn is_clash(self) -> bool
+        ensures { result ≡ clashes self }
+    {
         self.first.section == self.second.section && (self.first.write || self.second.write)
     }
 
     /// Whether it is told before the other: ordered by both labels, then by what each access is.
-    pub fn is_before(self, other: Meeting) -> bool {
+    pub fn is_before(self, other: Meeting) -> bool
+        ensures { result ≡ is_less (meeting_key self) (meeting_key other) }
+    {
         if self.first.label != other.first.label {
             self.first.label < other.first.label
         } else if self.second.label != other.second.label {
             self.second.label < other.second.label
-        } else if self.first != other.first {
-            self.first.is_before(other.first)
+        } else if self.first.section != other.first.section {
+            self.first.section < other.first.section
+        } else if self.first.write != other.first.write {
+            other.first.write
+        } else if self.second.section != other.second.section {
+            self.second.section < other.second.section
         } else {
-            self.second.is_before(other.second)
+            !self.second.write && other.second.write
         }
     }
 }

@@ -1,7 +1,8 @@
 //! The run of an accepted program, task by task.
 
-ghost use Rattle.std.specs.Prelude.{◌+◌, ◌<◌, OnOk};
+ghost use Rattle.std.specs.Prelude.{◌≡◌, ◌+◌, ◌<◌, IfOk, OnOk, map, vec_len};
 ghost use Rattle.workers.specs.Left.{left_of, left_in};
+ghost use Rattle.workers.specs.Lengths.{lengths_of, HasLengths};
 
 use crate::check::Accepted;
 use crate::contents::{Contents, Held};
@@ -10,7 +11,6 @@ use crate::scope::Tasks;
 use crate::task::{Piece, Plan, Task, Told, Turn};
 use std::alloc::{AllocError, AllocFailed, Global};
 use types::budget::Budget;
-use types::code::Array;
 use types::input::Input;
 use types::outcome::Outcome;
 use types::path::Path;
@@ -52,7 +52,9 @@ pub fn run(
     accepted: &Accepted,
     input: &Input,
     budget: Budget,
-) -> Result<Outcome, RunError> {
+) -> Result<Outcome, RunError>
+    ensures { IfOk result (HasLengths (lengths_of input.now)) }
+{
     let plan = Plan {
         alloc,
         program: accepted.typed().code(),
@@ -69,7 +71,7 @@ pub fn run(
     if settled.stopped {
         return Ok(Outcome::Stopped);
     }
-    let arrays = whole_arrays(alloc, &plan.program.arrays, contents)?;
+    let arrays = whole_arrays(alloc, input, contents)?;
     ended(alloc, arrays, settled)
 }
 
@@ -119,17 +121,15 @@ fn drive<'p>(plan: &Plan<'p>, tasks: &mut Tasks<'p>, task: Task<'p>) -> Result<(
     }
 }
 
-/// The arrays, each of them whole.
-fn whole_arrays(
-    alloc: Global,
-    declared: &[Array],
-    contents: Contents,
-) -> Result<Vec<Vec<i64>>, RunError> {
+/// The arrays of the input, each of them whole.
+fn whole_arrays(alloc: Global, input: &Input, contents: Contents) -> Result<Vec<Vec<i64>>, RunError>
+    ensures { IfOk result (λ arrays. map vec_len arrays.items ≡ lengths_of input.now) }
+{
     let mut arrays = Vec::new(alloc);
     let mut held = contents.arrays.into_iter();
-    for array in declared {
+    for array in &input.arrays {
         match held.next() {
-            Some(own) => arrays.push(whole(alloc, array, own)?)?,
+            Some(own) => arrays.push(whole(alloc, array.len(), own)?)?,
             None => return Err(lost(alloc)),
         }
     }
@@ -137,10 +137,12 @@ fn whole_arrays(
 }
 
 /// An array that is there, whole.
-fn whole(alloc: Global, declared: &Array, held: Held) -> Result<Vec<i64>, RunError> {
+fn whole(alloc: Global, length: usize, held: Held) -> Result<Vec<i64>, RunError>
+    ensures { IfOk result (λ numbers. vec_len numbers ≡ length) }
+{
     match held {
         Held::Owned(numbers) => {
-            if numbers.len() == declared.length {
+            if numbers.len() == length {
                 Ok(numbers)
             } else {
                 Err(lost(alloc))
@@ -157,7 +159,9 @@ fn lost(alloc: Global) -> RunError {
 }
 
 /// The outcome of a run that wasn't stopped.
-fn ended(alloc: Global, arrays: Vec<Vec<i64>>, settled: Settled) -> Result<Outcome, RunError> {
+fn ended(alloc: Global, arrays: Vec<Vec<i64>>, settled: Settled) -> Result<Outcome, RunError>
+    ensures { IfOk result (HasLengths (map vec_len arrays.items)) }
+{
     let mut lines = Vec::new(alloc);
     let mut faults = Vec::new(alloc);
     for told in settled.told {

@@ -1,0 +1,78 @@
+//! The accesses of statements.
+
+ghost use Rattle.std.specs.Prelude.{◌≡◌, IfOk};
+ghost use Rattle.workers.specs.Deeds.{own_of, reads_of, read_of, deed, deeds, all, all_in};
+
+use crate::race::Access;
+use std::alloc::{AllocError, Global};
+use types::code::{Label, Number, Primitive, Stmt, StmtKind};
+
+/// Every access in a list of statements.
+#[cycle(accesses)]
+pub fn accesses_in(alloc: Global, body: &[Stmt]) -> Result<Vec<Access>, AllocError>
+    ensures { IfOk result (λ found. found.items ≡ all_in (deeds body.now)) }
+{
+    let mut found = Vec::new(alloc);
+    for statement in body {
+        let more = accesses_of(alloc, statement)?;
+        found.extend_from_slice(&more)?;
+    }
+    Ok(found)
+}
+
+/// Every access in a statement.
+#[cycle(accesses)]
+pub fn accesses_of(alloc: Global, statement: &Stmt) -> Result<Vec<Access>, AllocError>
+    ensures { IfOk result (λ found. found.items ≡ all (deed statement.now.label statement.now.kind)) }
+{
+    match &statement.kind {
+        StmtKind::Do(primitive) => own(alloc, statement.label, primitive),
+        StmtKind::Async { body } => accesses_in(alloc, body),
+        StmtKind::Finish { body } => accesses_in(alloc, body),
+        // The statements that the first part of the language doesn't have.
+        _ => Ok(Vec::new(alloc)),
+    }
+}
+
+/// What a primitive statement does: a store writes its array, a print reads each array that it indexes.
+fn own(alloc: Global, label: Label, primitive: &Primitive) -> Result<Vec<Access>, AllocError>
+    ensures { IfOk result (λ found. found.items ≡ own_of label primitive.now) }
+{
+    match primitive {
+        Primitive::Store { section, .. } => {
+            let mut found = Vec::new(alloc);
+            found.push(Access {
+                label,
+                section: *section,
+                write: true,
+            })?;
+            Ok(found)
+        }
+        Primitive::Print { values } => reads(alloc, label, values),
+        _ => Ok(Vec::new(alloc)),
+    }
+}
+
+/// A read of each array that is indexed.
+fn reads(alloc: Global, label: Label, values: &[Number]) -> Result<Vec<Access>, AllocError>
+    ensures { IfOk result (λ found. found.items ≡ reads_of label values.now) }
+{
+    values
+        .iter()
+        .filter_map(|value| read(label, value))
+        .collect(alloc)
+}
+
+/// What an expression reads: an element at a literal index reads its array.
+fn read(label: Label, value: &Number) -> Option<Access>
+    ensures { result ≡ read_of label value.now }
+{
+    match value {
+        Number::Element { section, .. } => Some(Access {
+            label,
+            section: *section,
+            write: false,
+        }),
+        _ => None,
+    }
+}

@@ -1,0 +1,97 @@
+//! The search for the least race.
+
+ghost use Rattle.std.specs.Prelude.{◌≡◌, IfOk, fold, map};
+ghost use Rattle.workers.specs.Deeds.{deed, deeds, pairs, pairs_in, each_with};
+ghost use Rattle.workers.specs.Races.{tell, IsLeast};
+
+use crate::access::accesses_of;
+use crate::race::{Access, Meeting};
+use std::alloc::{AllocError, Global};
+use types::code::{Stmt, StmtKind};
+
+/// The least clash in a list of statements. The time grows with the square of the number of accesses.
+pub fn race_in(alloc: Global, body: &[Stmt]) -> Result<Option<Meeting>, AllocError>
+    ensures { IfOk result (IsLeast (pairs_in (deeds body.now))) }
+{
+    least_race(alloc, None, body)
+}
+
+/// The least of a race found before and the clashes in a list of statements.
+#[cycle(search)]
+fn least_race(
+    alloc: Global,
+    before: Option<Meeting>,
+    body: &[Stmt],
+) -> Result<Option<Meeting>, AllocError>
+    ensures { IfOk result (λ least. least ≡ fold tell before (pairs_in (deeds body.now))) }
+{
+    let mut race = before;
+    let mut pending = Vec::new(alloc);
+    for statement in body {
+        race = least_race_inside(alloc, race, statement)?;
+        let later = accesses_of(alloc, statement)?;
+        race = least_clash(race, &pending, &later);
+        if let StmtKind::Async { .. } = &statement.kind {
+            pending.extend_from_slice(&later)?;
+        }
+    }
+    Ok(race)
+}
+
+/// The least of a race found before and the clashes inside a statement.
+#[cycle(search)]
+fn least_race_inside(
+    alloc: Global,
+    before: Option<Meeting>,
+    statement: &Stmt,
+) -> Result<Option<Meeting>, AllocError>
+    ensures { IfOk result (λ least. least ≡ fold tell before (pairs (deed statement.now.label statement.now.kind))) }
+{
+    match &statement.kind {
+        StmtKind::Async { body } => least_race(alloc, before, body),
+        StmtKind::Finish { body } => least_race(alloc, before, body),
+        _ => Ok(before),
+    }
+}
+
+/// The least of a race found before and the clashes of each pending access with each later one.
+fn least_clash(before: Option<Meeting>, pending: &[Access], later: &[Access]) -> Option<Meeting>
+    ensures { result ≡ fold tell before (each_with pending.now later.now) }
+{
+    let mut race = before;
+    for access in pending {
+        race = least_clash_of(race, *access, later);
+    }
+    race
+}
+
+/// The least of a race found before and the clashes of one access with each later one.
+fn least_clash_of(before: Option<Meeting>, access: Access, later: &[Access]) -> Option<Meeting>
+    ensures { result ≡ fold tell before (map (λ y. (access, y)) later.now) }
+{
+    let mut race = before;
+    for other in later {
+        race = told(race, access, *other);
+    }
+    race
+}
+
+/// The least of a race found before and a pair, where that clashes.
+fn told(before: Option<Meeting>, access: Access, other: Access) -> Option<Meeting>
+    ensures { result ≡ tell before (access, other) }
+{
+    let meeting = Meeting::of(access, other);
+    if !meeting.is_clash() {
+        return before;
+    }
+    match before {
+        None => Some(meeting),
+        Some(found) => {
+            if meeting.is_before(found) {
+                Some(meeting)
+            } else {
+                Some(found)
+            }
+        }
+    }
+}
