@@ -1,24 +1,16 @@
 //! The whole program, over files and writers that it is lent.
 
-ghost use Rattle.std.specs.Prelude.{◌≡◌, map, IfOk, IfErr, false};
-ghost use Rattle.types.specs.Translation.{array, outcome as outcome_of};
-ghost use Rattle.afx.specs.Appending.{Writes};
-ghost use Rattle.afx.specs.OutcomeText.{outcome_text, status_of};
-
 use crate::command_line::{Request, request_of};
-use crate::emit::{append, emit};
+use crate::commands::{run_as_tasks, run_serially};
+use crate::emit::append;
 use crate::failure::Failure;
 use crate::files::{FileError, FileSource};
 use clap::Error;
 use std::alloc::{AllocError, Global};
 use std::io::Write;
 use syntax::parse;
-use types::budget::Budget;
 use types::check::type_check;
-use types::code::Array;
 use types::first_part::first_part;
-use types::input::Input;
-use types::outcome::Outcome;
 use types::typed::Typed;
 
 /// Does what the words behind the program's name ask, and answers the exit status.
@@ -51,22 +43,11 @@ fn perform<F: FileSource, O: Write>(
     match request {
         Request::Run { file } => {
             let typed = load(alloc, files, file)?;
-            let accepted = workers::check::check(alloc, typed).map_err(
-                |refused| Failure::of_refused(alloc, refused),
-            )?;
-            let input = zeros(alloc, accepted.typed())?;
-            let outcome = workers::run::run(alloc, &accepted, &input, Budget::usual()).map_err(
-                Failure::Run,
-            )?;
-            show(out, &accepted.typed().code().arrays, &outcome)
+            run_as_tasks(alloc, typed, out)
         }
         Request::Serial { file } => {
             let typed = load(alloc, files, file)?;
-            let input = zeros(alloc, &typed)?;
-            let outcome = serial_run::serial(alloc, &typed, &input, Budget::usual()).map_err(
-                |_| Failure::NoMemory,
-            )?;
-            show(out, &typed.code().arrays, &outcome)
+            run_serially(alloc, &typed, out)
         }
     }
 }
@@ -88,27 +69,6 @@ fn load<F: FileSource>(alloc: Global, files: &mut F, name: &str) -> Result<Typed
         Ok(typed)
     } else {
         Err(Failure::NotYet)
-    }
-}
-
-/// An input of zeros.
-fn zeros(alloc: Global, typed: &Typed) -> Result<Input, Failure> {
-    Input::zeros(alloc, typed).map_err(|_| Failure::NoMemory)
-}
-
-/// Writes an outcome, and gives its exit status: 0 ended, 2 ended with faults, 3 stopped.
-fn show<O: Write>(out: &mut O, declared: &[Array], outcome: &Outcome) -> Result<u8, Failure>
-    ensures text { Writes (O.contents out.old) (O.contents out.new) result
-        (outcome_text (map array declared.now) false (outcome_of outcome.now)) }
-    ensures status { IfOk result (λ status. status ≡ status_of (outcome_of outcome.now)) }
-    ensures failure { IfErr result (λ failure. failure ≡ Failure.CannotWriteOutput) }
-{
-    if emit(out, outcome, declared, false).is_err() {
-        return Err(Failure::CannotWriteOutput);
-    }
-    match outcome {
-        Outcome::Stopped => Ok(3),
-        Outcome::Ended { faults, .. } => Ok(if faults.is_empty() { 0 } else { 2 }),
     }
 }
 
