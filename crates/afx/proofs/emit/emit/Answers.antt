@@ -1,3 +1,4 @@
+use Rattle.std.proofs.Common.{rules}
 use Rattle.std.proofs.lemmas.List.{append-nil}
 use Rattle.std.proofs.KnownBytes.{Appends-trans}
 use Rattle.afx.proofs.Appending.{fails, begins_longer, then_begins}
@@ -7,14 +8,14 @@ use Rattle.afx.proofs.emit.emit.Goals as goal
 pub returns-in_err-emit_lines-in-Ended : goal.returns-in_err-emit_lines-in-Ended
 returns-in_err-emit_lines-in-Ended g c =
     let failed = rw c.deref.ensures.value at c.in_err-emit_lines-in-Ended.ensures in
-    rw (c.in-Ended.is, ending_text-map) (fails _ c.from_residual.ensures.0 (begins_longer _ _ _ _ (begins_longer _ _ _ _ failed)))
+    rw (c.in-Ended.is, ending_text-map) (fails _ (search rules) (begins_longer _ _ _ _ (begins_longer _ _ _ _ failed)))
 
 pub returns-in_err-emit_faults-in-Ended : goal.returns-in_err-emit_faults-in-Ended
 returns-in_err-emit_faults-in-Ended g c =
     let lines = rw c.deref.ensures.value at c.in_ok-emit_lines-in-Ended.ensures in
     let failed = rw c.deref-in-Ended.ensures.value at c.in_err-emit_faults-in-Ended.ensures in
     rw (c.in-Ended.is, ending_text-map)
-    (fails _ c.from_residual-in_err-emit_faults-in-Ended.ensures.0 (begins_longer _ _ _ _ (then_begins _ _ _ _ _ lines failed)))
+    (fails _ (search rules) (begins_longer _ _ _ _ (then_begins _ _ _ _ _ lines failed)))
 
 pub returns-in_err-emit_arrays-in-Ended : goal.returns-in_err-emit_arrays-in-Ended
 returns-in_err-emit_arrays-in-Ended g c =
@@ -22,7 +23,7 @@ returns-in_err-emit_arrays-in-Ended g c =
     let faults = rw c.deref-in-Ended.ensures.value at c.in_ok-emit_faults-in-Ended.ensures in
     let failed = rw c.deref-then-arrays.ensures.value at c.in_err-emit_arrays-in-Ended.ensures in
     rw (c.in-Ended.is, c.if-arrays.true, ending_text-map)
-    (fails _ c.from_residual-in_err-emit_arrays-in-Ended.ensures.0 (then_begins _ _ _ _ _ (Appends-trans _ _ _ _ _ lines faults) failed))
+    (fails _ (search rules) (then_begins _ _ _ _ _ (Appends-trans _ _ _ _ _ lines faults) failed))
 
 pub returns-in_ok-emit_arrays-in-Ended : goal.returns-in_ok-emit_arrays-in-Ended
 returns-in_ok-emit_arrays-in-Ended g c =
