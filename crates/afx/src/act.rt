@@ -1,18 +1,16 @@
 //! The whole program, over files and writers that it is lent.
 
 use crate::command_line::{Request, request_of};
-use crate::emit::{append, emit};
+use crate::commands::{run_as_tasks, run_serially};
+use crate::emit::append;
 use crate::failure::Failure;
 use crate::files::{FileError, FileSource};
 use clap::Error;
 use std::alloc::{AllocError, Global};
 use std::io::Write;
 use syntax::parse;
-use types::budget::Budget;
 use types::check::type_check;
 use types::first_part::first_part;
-use types::input::Input;
-use types::outcome::Outcome;
 use types::typed::Typed;
 
 /// Does what the words behind the program's name ask, and answers the exit status.
@@ -45,22 +43,11 @@ fn perform<F: FileSource, O: Write>(
     match request {
         Request::Run { file } => {
             let typed = load(alloc, files, file)?;
-            let accepted = workers::check::check(alloc, typed).map_err(
-                |refused| Failure::of_refused(alloc, refused),
-            )?;
-            let input = zeros(alloc, accepted.typed())?;
-            let outcome = workers::run::run(alloc, &accepted, &input, Budget::usual()).map_err(
-                Failure::Run,
-            )?;
-            show(out, accepted.typed(), &outcome)
+            run_as_tasks(alloc, typed, out)
         }
         Request::Serial { file } => {
             let typed = load(alloc, files, file)?;
-            let input = zeros(alloc, &typed)?;
-            let outcome = serial_run::serial(alloc, &typed, &input, Budget::usual()).map_err(
-                |_| Failure::NoMemory,
-            )?;
-            show(out, &typed, &outcome)
+            run_serially(alloc, &typed, out)
         }
     }
 }
@@ -82,20 +69,6 @@ fn load<F: FileSource>(alloc: Global, files: &mut F, name: &str) -> Result<Typed
         Ok(typed)
     } else {
         Err(Failure::NotYet)
-    }
-}
-
-/// An input of zeros.
-fn zeros(alloc: Global, typed: &Typed) -> Result<Input, Failure> {
-    Input::zeros(alloc, typed).map_err(|_| Failure::NoMemory)
-}
-
-/// Writes an outcome, and gives its exit status: 0 ended, 2 ended with faults, 3 stopped.
-fn show<O: Write>(out: &mut O, typed: &Typed, outcome: &Outcome) -> Result<u8, Failure> {
-    emit(out, outcome, &typed.code().arrays, false).map_err(|_| Failure::CannotWriteOutput)?;
-    match outcome {
-        Outcome::Stopped => Ok(3),
-        Outcome::Ended { faults, .. } => Ok(if faults.is_empty() { 0 } else { 2 }),
     }
 }
 

@@ -38,6 +38,7 @@ fn command<'w>(alloc: Global) -> Result<Command<'w>, AllocError> {
         .about("Runs a program on one thread")
         .arg(file(alloc))?;
     Command::new(alloc, "afx")
+        .bin_name("afx")?
         .about("Checks and runs programs of tasks")
         .no_binary_name(true)
         .subcommand_required(true)

@@ -4,6 +4,7 @@
 
 mod act;
 mod command_line;
+mod commands;
 mod emit;
 mod failure;
 mod files;

@@ -1,11 +1,18 @@
 //! What the program prints, and the status that it ends with.
 
 use crate::act::act;
+use crate::emit::{EmitError, emit};
 use crate::files::{FileError, FileSource};
 use std::alloc::{AllocError, Global};
 use std::io;
+use std::io::ErrorKind;
 use std::process::Abort;
 use std::test::Fail;
+use syntax::tree::ElementType;
+use types::code::Array;
+use types::fault::{Fault, FaultKind};
+use types::outcome::Outcome;
+use types::path::Path;
 
 /// A command over one file.
 #[derive(Clone, Copy)]
@@ -36,21 +43,34 @@ impl FileSource for OneFile<'_> {
     }
 }
 
-/// A writer that fails from its n-th call on, and takes one byte a call.
+/// How a writer ends.
+#[derive(Clone, Copy)]
+enum End {
+    /// It answers an error.
+    Fails,
+    /// It takes nothing.
+    TakesNothing,
+}
+
+/// A writer that takes one byte a call, and ends after `left` calls.
 #[derive(Drop)]
-struct Failing {
+struct Ending {
     left: usize,
+    end: End,
     taken: Vec<u8>,
 }
 
-impl io::Write for Failing {
+impl io::Write for Ending {
     fn write(&mut self, buf: &[u8]) -> io::Result<usize> {
-        if self.left == 0 || buf.is_empty() {
-            return Ok(0);
+        if self.left > 0 && !buf.is_empty() {
+            self.left -= 1;
+            self.taken.push(buf[0])?;
+            return Ok(1);
         }
-        self.left -= 1;
-        self.taken.push(buf[0])?;
-        Ok(1)
+        match self.end {
+            End::Fails => Err(io::Error::from(ErrorKind::Other)),
+            End::TakesNothing => Ok(0),
+        }
     }
 
     fn flush(&mut self) -> io::Result<()> {
@@ -67,20 +87,41 @@ fn owned(alloc: Global, words: &[&str]) -> Result<Vec<String>, AllocError> {
     Ok(all)
 }
 
+/// What a command told.
+#[derive(Drop)]
+struct Answer {
+    out: Vec<u8>,
+    err: Vec<u8>,
+    status: u8,
+}
+
+/// Does what the words ask, over a file of these bytes.
+fn answered(alloc: Global, words: &[&str], bytes: &[u8]) -> Result<Answer, AllocError> {
+    let words = owned(alloc, words)?;
+    let mut files = OneFile { alloc, bytes };
+    let mut out = Vec::new(alloc);
+    let mut err = Vec::new(alloc);
+    let status = act(alloc, &words, &mut files, &mut out, &mut err);
+    Ok(Answer { out, err, status })
+}
+
 /// Compares what each row's command does with what the row wants.
 fn compare(rt: &impl Abort, alloc: Global, rows: &[Row]) -> Result<(), AllocError> {
     for row in rows {
-        let words = owned(alloc, row.words)?;
-        let mut files = OneFile {
-            alloc,
-            bytes: row.text.as_bytes(),
-        };
-        let mut out = Vec::new(alloc);
-        let mut err = Vec::new(alloc);
-        let status = act(alloc, &words, &mut files, &mut out, &mut err);
-        assert_eq!(rt; err.as_slice(), row.err.as_bytes(), "err of {}", row.name);
-        assert_eq!(rt; out.as_slice(), row.out.as_bytes(), "out of {}", row.name);
-        assert_eq!(rt; status, row.status, "status of {}", row.name);
+        let told = answered(alloc, row.words, row.text.as_bytes())?;
+        assert_eq!(rt;
+            told.err.as_slice(),
+            row.err.as_bytes(),
+            "err of {}",
+            row.name
+        );
+        assert_eq!(rt;
+            told.out.as_slice(),
+            row.out.as_bytes(),
+            "out of {}",
+            row.name
+        );
+        assert_eq!(rt; told.status, row.status, "status of {}", row.name);
     }
     Ok(())
 }
@@ -282,5 +323,251 @@ fn programs_that_are_refused(rt: HostRuntime) -> Result<(), Fail> {
         },
     ];
     compare(&rt, rt.alloc(), rows.as_slice())?;
+    Ok(())
+}
+
+const HELP: &str = "Checks and runs programs of tasks
+
+Usage: afx <COMMAND>
+
+Commands:
+  run     Runs a program as tasks
+  serial  Runs a program on one thread
+  help    Print this message or the help of the given subcommand(s)
+
+Options:
+  -h, --help  Print help
+";
+
+#[test]
+fn command_lines_and_files(rt: HostRuntime) -> Result<(), Fail> {
+    let rows = [
+        Row {
+            name: "help",
+            words: &["--help"],
+            text: "",
+            out: HELP,
+            err: "",
+            status: 0,
+        },
+        Row {
+            name: "an unknown command",
+            words: &["fly"],
+            text: "",
+            out: "",
+            err: "error: unrecognized subcommand 'fly'\n\nUsage: afx <COMMAND>\n\nFor more information, try '--help'.\n",
+            status: 1,
+        },
+        Row {
+            name: "an unknown option",
+            words: &["run", "--fast", "program.afx"],
+            text: "",
+            out: "",
+            err: "error: unexpected argument '--fast' found\n\n  tip: to pass '--fast' as a value, use '-- --fast'\n\nUsage: afx run <FILE>\n\nFor more information, try '--help'.\n",
+            status: 1,
+        },
+        Row {
+            name: "no file",
+            words: &["serial"],
+            text: "",
+            out: "",
+            err: "error: the following required arguments were not provided:\n  <FILE>\n\nUsage: afx serial <FILE>\n\nFor more information, try '--help'.\n",
+            status: 1,
+        },
+        Row {
+            name: "a file that can't be read",
+            words: &["run", "absent.afx"],
+            text: "",
+            out: "",
+            err: "cannot read absent.afx\n",
+            status: 1,
+        },
+    ];
+    compare(&rt, rt.alloc(), rows.as_slice())?;
+    let broken = answered(rt.alloc(), RUN, b"main { \xff }")?;
+    assert_eq!(rt;
+        broken.err.as_slice(),
+        b"not UTF-8 program.afx\n".as_slice()
+    );
+    assert_eq!(rt; broken.status, 1);
+    Ok(())
+}
+
+/// A text that begins with `head` and goes on with `count` times `part`, then `tail`.
+fn repeated(
+    alloc: Global,
+    head: &str,
+    count: u32,
+    part: &str,
+    tail: &str,
+) -> Result<String, AllocError> {
+    let mut text = String::from_str(alloc, head)?;
+    for _ in 0..count {
+        text.push_str(part)?;
+    }
+    text.push_str(tail)?;
+    Ok(text)
+}
+
+#[test]
+fn long_programs(rt: HostRuntime) -> Result<(), Fail> {
+    let alloc = rt.alloc();
+    let rows = [
+        ("main { print ", 100, "(", "", "S4 at 1:113\n", 1),
+        ("main { ", 10_000, "skip; ", "}", "", 0),
+        ("main { ", 10_001, "skip; ", "}", "Z1\n", 1),
+    ];
+    for (head, count, part, tail, err, status) in rows {
+        let text = repeated(alloc, head, count, part, tail)?;
+        let told = answered(alloc, SERIAL, text.as_bytes())?;
+        assert_eq!(rt;
+            told.err.as_slice(),
+            err.as_bytes(),
+            "err of {count} times {part}"
+        );
+        assert_eq!(rt; told.status, status, "status of {count} times {part}");
+    }
+    Ok(())
+}
+
+/// A fault of the task `0.1.12`.
+fn fault_of_a_task(alloc: Global, label: u32, kind: FaultKind) -> Result<Fault, AllocError> {
+    let turns = Vec::from_slice(alloc, &[1, 12])?;
+    Ok(Fault {
+        path: Path { turns },
+        label,
+        kind,
+    })
+}
+
+/// An ending with two lines, two arrays, and a fault of each kind.
+fn faulted(alloc: Global) -> Result<Outcome, AllocError> {
+    let mut lines = Vec::new(alloc);
+    lines.push(Vec::from_slice(alloc, &[7, 8])?)?;
+    lines.push(Vec::from_slice(alloc, &[i64::MIN])?)?;
+    let mut arrays = Vec::new(alloc);
+    arrays.push(Vec::from_slice(alloc, &[255])?)?;
+    arrays.push(Vec::from_slice(alloc, &[-1, 0, 10])?)?;
+    let kinds = [
+        FaultKind::Index,
+        FaultKind::Overflow,
+        FaultKind::ZeroDivisor,
+        FaultKind::OutOfElement,
+        FaultKind::SplitPoint,
+        FaultKind::Raised(-3),
+    ];
+    let mut faults = Vec::new(alloc);
+    for kind in kinds {
+        faults.push(fault_of_a_task(alloc, 65_535, kind)?)?;
+    }
+    Ok(Outcome::Ended {
+        arrays,
+        lines,
+        faults,
+    })
+}
+
+/// The arrays `a` and `b_2`.
+fn two_arrays(alloc: Global) -> Result<Vec<Array>, AllocError> {
+    let mut arrays = Vec::new(alloc);
+    for (name, length) in [("a", 1), ("b_2", 3)] {
+        arrays.push(Array {
+            name: String::from_str(alloc, name)?,
+            element: ElementType::Int,
+            length,
+        })?;
+    }
+    Ok(arrays)
+}
+
+const FAULTED: &str = "7 8
+-9223372036854775808
+fault 0.1.12 at 65535: F1
+fault 0.1.12 at 65535: F2
+fault 0.1.12 at 65535: F3
+fault 0.1.12 at 65535: F4
+fault 0.1.12 at 65535: F5
+fault 0.1.12 at 65535: F6 -3
+array a 255
+array b_2 -1 0 10
+";
+
+#[test]
+fn outcomes_as_text(rt: HostRuntime) -> Result<(), Fail> {
+    let alloc = rt.alloc();
+    let declared = two_arrays(alloc)?;
+    for (outcome, text) in [(faulted(alloc)?, FAULTED), (Outcome::Stopped, "stopped\n")] {
+        let mut out = Vec::new(alloc);
+        assert_eq!(rt; emit(&mut out, &outcome, &declared, true), Ok(()));
+        assert_eq!(rt; out.as_slice(), text.as_bytes());
+        let without_arrays = text.split("array").next();
+        let mut out = Vec::new(alloc);
+        assert_eq!(rt; emit(&mut out, &outcome, &declared, false), Ok(()));
+        assert_eq!(rt;
+            Some(out.as_slice()),
+            without_arrays.map(|text| text.as_bytes())
+        );
+    }
+    Ok(())
+}
+
+#[test]
+fn a_writer_that_ends_has_a_beginning(rt: HostRuntime) -> Result<(), Fail> {
+    let alloc = rt.alloc();
+    let outcome = faulted(alloc)?;
+    let declared = two_arrays(alloc)?;
+    let text = FAULTED.as_bytes();
+    for end in [End::Fails, End::TakesNothing] {
+        for left in 0..text.len() + 1 {
+            let mut out = Ending {
+                left,
+                end,
+                taken: Vec::new(alloc),
+            };
+            let emitted = emit(&mut out, &outcome, &declared, true);
+            let wanted = if left < text.len() {
+                Err(EmitError)
+            } else {
+                Ok(())
+            };
+            assert_eq!(rt; emitted, wanted, "after {left} bytes");
+            assert_eq!(rt; out.taken.len(), left);
+            assert!(rt;
+                text.starts_with(&out.taken),
+                "what was taken of {left} bytes"
+            );
+        }
+    }
+    Ok(())
+}
+
+#[test]
+fn an_output_or_an_error_output_that_ends(rt: HostRuntime) -> Result<(), Fail> {
+    let alloc = rt.alloc();
+    let words = owned(alloc, SERIAL)?;
+    for (text, left, err_left, told, status) in [
+        (TWO_ARRAYS, 3, 100, "cannot write output\n", 1),
+        (TWO_ARRAYS, 3, 6, "cannot", 1),
+        (RACE, 2, 0, "", 0),
+        ("main { skip }", 0, 0, "", 1),
+    ] {
+        let mut files = OneFile {
+            alloc,
+            bytes: text.as_bytes(),
+        };
+        let mut out = Ending {
+            left,
+            end: End::Fails,
+            taken: Vec::new(alloc),
+        };
+        let mut err = Ending {
+            left: err_left,
+            end: End::Fails,
+            taken: Vec::new(alloc),
+        };
+        let given = act(alloc, &words, &mut files, &mut out, &mut err);
+        assert_eq!(rt; given, status, "status of {text}");
+        assert_eq!(rt; err.taken.as_slice(), told.as_bytes(), "err of {text}");
+    }
     Ok(())
 }
