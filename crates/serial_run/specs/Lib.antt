@@ -1,1 +1,4 @@
+pub mod Lists
+pub mod Standing
+pub mod Primitive
 pub mod Frames

@@ -1,5 +1,9 @@
 //! The contents of all arrays.
 
+ghost use Rattle.std.specs.Prelude.{◌≡◌, IfOk, OnOk};
+
+use std::alloc::{AllocError, Global};
+use types::input::Input;
 use types::value::Places;
 use types::window::Place;
 
@@ -10,6 +14,11 @@ pub struct Store {
 }
 
 impl Places for Store {
+    ghost use Rattle.types.specs.Contents.{read as read_of};
+    ghost use Rattle.serial_run.specs.Lists.{contents_of};
+
+    ghost number_at = { λ s array index. read_of (contents_of s) (record { array = array; index = index }) };
+
     fn read(&self, array: usize, index: usize) -> i64 {
         match self.arrays.get(array) {
             None => 0,
@@ -22,12 +31,37 @@ impl Places for Store {
 }
 
 impl Store {
-    /// Writes the number at a place.
-    pub fn write(&mut self, place: Place, value: i64) {
-        if let Some(contents) = self.arrays.get_mut(place.array) {
-            if let Some(element) = contents.get_mut(place.index) {
-                *element = value;
-            }
+    ghost use Rattle.types.specs.Translation.{input as lists_in};
+    ghost use Rattle.serial_run.specs.Lists.{lists_of};
+    ghost use Rattle.types.specs.Contents.{write as written};
+    ghost use Rattle.types.specs.Frame.{place as place_of};
+    ghost use Rattle.serial_run.specs.Lists.{contents_of, lengths_of};
+
+    /// The contents as a run begins.
+    pub fn of_input(alloc: Global, input: &Input) -> Result<Store, AllocError>
+        ensures { IfOk result (λ s. lists_of s ≡ lists_in input.now) }
+    {
+        let mut arrays = Vec::new(alloc);
+        for contents in &input.arrays {
+            arrays.push(Vec::from_slice(alloc, contents)?)?;
         }
+        Ok(Store { arrays })
+    }
+
+    /// Writes the number at a place. A place that isn't there is refused as want of memory; no run of a
+    /// well-typed program comes to one, since windows lie in their arrays, but that isn't proved yet.
+    pub fn write(&mut self, place: Place, value: i64) -> Result<(), AllocError>
+        ensures written { OnOk result (contents_of self.new ≡ written (place_of place) value (contents_of self.old)) }
+        ensures lengths { lengths_of self.new ≡ lengths_of self.old }
+    {
+        if place.array >= self.arrays.len() {
+            return Err(AllocError);
+        }
+        let contents = &mut self.arrays[place.array];
+        if place.index >= contents.len() {
+            return Err(AllocError);
+        }
+        contents[place.index] = value;
+        Ok(())
     }
 }

@@ -8,6 +8,7 @@ use crate::thread::{Flow, Plan, Thread};
 use std::alloc::AllocError;
 use types::code::{Label, Number, Stmt, StmtKind, Truth};
 use types::fault::FaultKind;
+use types::window::Window;
 
 /// What a frame does, once those above it are done.
 pub fn turn<'p>(
@@ -107,7 +108,7 @@ fn statement<'p>(
     match &stmt.kind {
         StmtKind::Do(primitive) => thread.primitive(plan, label, primitive),
         StmtKind::If { guard, body, other } => match thread.truth(guard) {
-            Err(kind) => thread.fault(label, kind),
+            Err(kind) => thread.fault(plan, label, kind),
             Ok(true) => push(frames, Frame::Rest(body)),
             Ok(false) => push(frames, Frame::Rest(other)),
         },
@@ -118,9 +119,13 @@ fn statement<'p>(
             left,
             right,
             body,
-        } => match split(thread, *section, at, *left, *right) {
-            Err(kind) => thread.fault(label, kind),
-            Ok(()) => push(frames, Frame::Rest(body)),
+        } => match sides(thread, *section, at) {
+            Err(kind) => thread.fault(plan, label, kind),
+            Ok((first, second)) => {
+                thread.environment.name_window(*right, second)?;
+                thread.environment.name_window(*left, first)?;
+                push(frames, Frame::Rest(body))
+            }
         },
         StmtKind::Call {
             procedure,
@@ -148,7 +153,7 @@ fn turn_loop<'p>(
     ensures ends { OnOk result (turns_left plan.entry.fresh thread.new frames.new.items < turns_left plan.entry.fresh thread.old frames.old.items + 3) }
 {
     match thread.truth(guard) {
-        Err(kind) => thread.fault(label, kind),
+        Err(kind) => thread.fault(plan, label, kind),
         Ok(false) => Ok(()),
         Ok(true) => {
             push(frames, Frame::Again { label, guard, body })?;
@@ -157,23 +162,12 @@ fn turn_loop<'p>(
     }
 }
 
-/// Names both sides of a section.
-fn split(
-    thread: &mut Thread,
-    section: usize,
-    at: &Number,
-    left: usize,
-    right: usize,
-) -> Result<(), FaultKind>
-    ensures budget { KeepsBudget thread.old thread.new }
-{
+/// Both sides of a section, or F5 where it has no such place.
+fn sides(thread: &Thread, section: usize, at: &Number) -> Result<(Window, Window), FaultKind> {
     let at = thread.number(at)?;
     let at = u64::try_from(at).map_err(|_| FaultKind::SplitPoint)?;
     let window = thread.environment.window(section);
-    let (first, second) = window.split(at).ok_or(FaultKind::SplitPoint)?;
-    thread.environment.name_window(left, first);
-    thread.environment.name_window(right, second);
-    Ok(())
+    window.split(at).ok_or(FaultKind::SplitPoint)
 }
 
 /// The scalar arguments from left to right, then the body with the sections' windows.
@@ -189,7 +183,7 @@ fn call<'p>(
     ensures ends { OnOk result (turns_left plan.entry.fresh thread.new frames.new.items < turns_left plan.entry.fresh thread.old frames.old.items + 3) }
 {
     let values = match thread.numbers(plan, values)? {
-        Err(kind) => return thread.fault(label, kind),
+        Err(kind) => return thread.fault(plan, label, kind),
         Ok(values) => values,
     };
     match plan.program.procedures.get(procedure) {

@@ -1,3 +1,4 @@
+pub mod Gathering
 pub mod Least
 pub mod LeftLemmas
 pub mod Order

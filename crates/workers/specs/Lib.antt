@@ -1,4 +1,5 @@
 pub mod Deeds
+pub mod Gathered
 pub mod Left
 pub mod Lengths
 pub mod Races

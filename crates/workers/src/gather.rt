@@ -1,6 +1,7 @@
 //! The results of the tasks that were begun in a finish, merged by path.
 
-ghost use Rattle.std.specs.Prelude.{◌≡◌, ◌+◌, OnOk, IfSome, IfNone, vec_len};
+ghost use Rattle.std.specs.Prelude.{◌≡◌, ℕ, ◌+◌, OnOk, IfOk, IfSome, IfNone, length, sum_by, vec_len};
+ghost use Rattle.workers.specs.Gathered.{one_told, one_hole, count_in, count_of, sum_in};
 ghost use Rattle.workers.specs.Left.{pieces_in};
 
 use crate::contents::Contents;
@@ -38,7 +39,10 @@ pub fn settle(
     part: Vec<Piece>,
     results: Vec<TaskResult>,
     contents: &mut Contents,
-) -> Result<Settled, RunError> {
+) -> Result<Settled, RunError>
+    ensures told { IfOk result (λ s. vec_len s.told ≡ count_in one_told part.items + sum_by (count_of one_told) results.items) }
+    ensures listed { OnOk result (count_in one_hole part.items + sum_by (count_of one_hole) results.items ≡ length results.items) }
+{
     let mut results = by_path(alloc, results)?;
     let mut settled = Settled::nothing(alloc);
     let mut left = Vec::new(alloc);
@@ -65,17 +69,17 @@ pub fn settle(
 }
 
 /// The results by their paths.
-fn by_path(
-    alloc: Global,
-    results: Vec<TaskResult>,
-) -> Result<IndexMap<Path, TaskResult>, RunError> {
+fn by_path(alloc: Global, results: Vec<TaskResult>) -> Result<IndexMap<Path, TaskResult>, RunError>
+    ensures { (f : TaskResult → ℕ) → IfOk result (λ m. sum_in f m ≡ sum_by f results.items) }
+{
+    let mut results = results;
     let mut map = IndexMap::new(alloc);
-    for result in results {
+    while let Some(result) = results.pop() {
         let path = result.path.clone()?;
-        if map.contains_key(&path) {
-            return Err(RunError::Gather(GatherError::Double(path)));
+        match map.insert(path, result)? {
+            None => {}
+            Some(other) => return Err(RunError::Gather(GatherError::Double(other.path))),
         }
-        map.insert(path, result)?;
     }
     Ok(map)
 }
@@ -84,6 +88,7 @@ fn by_path(
 #[tactic(auto, using(crate::proofs::LeftLemmas::taken))]
 fn take_result(results: &mut IndexMap<Path, TaskResult>, path: &Path) -> Option<TaskResult>
     ensures some { IfSome result (λ r. pieces_in results.new + vec_len r.part.pieces ≡ pieces_in results.old) }
+    ensures sum { (f : TaskResult → ℕ) → IfSome result (λ r. sum_in f results.new + f r ≡ sum_in f results.old) }
     ensures none { IfNone result (pieces_in results.new ≡ pieces_in results.old) }
 {
     let index = results.get_index_of(path)?;
@@ -95,7 +100,8 @@ fn take_result(results: &mut IndexMap<Path, TaskResult>, path: &Path) -> Option<
 
 /// Puts pieces on a stack, the first on top.
 fn stack(left: &mut Vec<Piece>, pieces: Vec<Piece>) -> Result<(), RunError>
-    ensures { OnOk result (vec_len left.new ≡ vec_len left.old + vec_len pieces) }
+    ensures len { OnOk result (vec_len left.new ≡ vec_len left.old + vec_len pieces) }
+    ensures count { (one : Piece → ℕ) → OnOk result (count_in one left.new.items ≡ count_in one left.old.items + count_in one pieces.items) }
 {
     let mut pieces = pieces;
     while let Some(piece) = pieces.pop() {
@@ -106,7 +112,9 @@ fn stack(left: &mut Vec<Piece>, pieces: Vec<Piece>) -> Result<(), RunError>
 
 impl Settled {
     /// Nothing yet.
-    fn nothing(alloc: Global) -> Settled {
+    fn nothing(alloc: Global) -> Settled
+        ensures { vec_len result.told ≡ 0 }
+    {
         Settled {
             told: Vec::new(alloc),
             faulted: false,
@@ -115,7 +123,9 @@ impl Settled {
     }
 
     /// Adds what comes next.
-    fn tell(&mut self, told: Told) -> Result<(), RunError> {
+    fn tell(&mut self, told: Told) -> Result<(), RunError>
+        ensures { OnOk result (vec_len self.new.told ≡ vec_len self.old.told + 1) }
+    {
         if matches!(told, Told::Fault(_)) {
             self.faulted = true;
         }

@@ -1,8 +1,13 @@
-use Rattle.std.proofs.Common.{◌≡◌, ◌+◌, vec_len}
+use Rattle.std.proofs.Common.{◌≡◌, ℕ, ◌+◌, vec_len}
+use Rattle.workers.specs.declared.task.Piece.{Piece}
+use Rattle.workers.specs.Gathered.{count_in}
 use Rattle.workers.proofs.gather.stack.Given as goal
 
 abbrev pub invariant-loop-piece : goal.invariant-loop-piece
-invariant-loop-piece l = vec_len l.left + vec_len l.pieces ≡ vec_len l.fn.left + vec_len l.fn.pieces
+invariant-loop-piece l = record {
+  len : vec_len l.left + vec_len l.pieces ≡ vec_len l.fn.left + vec_len l.fn.pieces;
+  count : (one : Piece → ℕ) → count_in one l.left.items + count_in one l.pieces.items ≡ count_in one l.fn.left.items + count_in one l.fn.pieces.items;
+}
 
 abbrev pub decreases-loop-piece : goal.decreases-loop-piece
 decreases-loop-piece l = vec_len l.pieces

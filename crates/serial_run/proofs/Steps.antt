@@ -1,0 +1,65 @@
+-- What loops over lists keep.
+use Rattle.std.proofs.Common.{◌≡◌, ℕ, zero, suc, ◌+◌, ◌<◌, List, [], ◌∷◌, ◌++◌, length, get_or, take, drop, Result, Ok, Err, refl, sym, ap, ◌∙◌, append_assoc, append-nil, arith}
+use Rattle.std.proofs.Math.Seq.{drop-cons, take-suc}
+use Rattle.std.proofs.lemmas.List.{map-append}
+use Rattle.std.specs.Prelude.{ℤ, map}
+use Rattle.types.specs.declared.fault.FaultKind.{FaultKind}
+use Rattle.types.specs.declared.code.Number.{Number as rNumber}
+use Rattle.types.specs.declared.code.Array.{Array as rArray}
+use Rattle.types.specs.Outcome.{whole_arrays}
+use Rattle.types.specs.Place.{Place, Window}
+use Rattle.types.specs.Translation.{number as number_of, array}
+use Rattle.types.specs.Value.{Environment, Valued, then_try, number, numbers}
+
+pub map-pushed : {A B : Type 0} (f : A → B) (xs ys : List A) (x : A) → ys ≡ xs ++ x ∷ [] → map f ys ≡ map f xs ++ f x ∷ []
+map-pushed f xs ys x e = ap (map f) e ∙ map-append f xs (x ∷ [])
+
+-- an item more of the views of a list
+pub map-taken : {A B : Type 0} (f : A → B) (xs : List A) (bs : List B) (i : ℕ) (x : A) → i < length xs → x ≡ get_or xs i x
+    → bs ≡ map f (take i xs) → bs ++ f x ∷ [] ≡ map f (take (i + 1) xs)
+map-taken f xs bs i x lt at e =
+    let more : i + 1 ≡ suc i = omega arith in
+    ap (λ l. l ++ f x ∷ []) e
+    ∙ sym (map-append f (take i xs) (x ∷ []))
+    ∙ ap (λ y. map f (take i xs ++ y ∷ [])) at
+    ∙ ap (map f) (sym (take-suc xs i x lt) ∙ ap (λ j. take j xs) (sym more))
+
+module _ (env : Environment) (read : Place → ℤ) where
+  -- the numbers so far, followed by those of the expressions that are left
+  abbrev pub followed : List rNumber → List ℤ → Valued (List ℤ)
+  followed es so_far = then_try (numbers env read (map number_of es)) (λ vs. Ok (so_far ++ vs))
+
+  grown : (r : Valued (List ℤ)) (so_far : List ℤ) (v : ℤ) → then_try (then_try r (λ vs. Ok (v ∷ vs))) (λ vs. Ok (so_far ++ vs)) ≡ then_try r (λ vs. Ok ((so_far ++ v ∷ []) ++ vs))
+  grown (Ok vs) so_far v = ap Ok (sym (append_assoc so_far (v ∷ []) vs))
+  grown (Err f) so_far v = refl
+
+  left_at : (es : List rNumber) (i : ℕ) (e : rNumber) (so_far : List ℤ) → i < length es → e ≡ get_or es i e → followed (drop i es) so_far ≡ followed (e ∷ drop (i + 1) es) so_far
+  left_at es i e so_far lt at =
+      let more : suc i ≡ i + 1 = omega arith in
+      ap (λ l. followed l so_far) (drop-cons es i e lt ∙ ap (λ x. x ∷ drop (suc i) es) (sym at) ∙ ap (λ j. e ∷ drop j es) more)
+
+  pub followed-Ok : (es : List rNumber) (i : ℕ) (e : rNumber) (so_far : List ℤ) (v : ℤ) → i < length es → e ≡ get_or es i e → Ok v ≡ number env read (number_of e)
+      → followed (drop (i + 1) es) (so_far ++ v ∷ []) ≡ followed (drop i es) so_far
+  followed-Ok es i e so_far v lt at is =
+      sym (left_at es i e so_far lt at
+      ∙ ap (λ r. then_try (then_try r (λ v. then_try (numbers env read (map number_of (drop (i + 1) es))) (λ vs. Ok (v ∷ vs)))) (λ vs. Ok (so_far ++ vs))) (sym is)
+      ∙ grown (numbers env read (map number_of (drop (i + 1) es))) so_far v)
+
+  pub followed-Err : (es : List rNumber) (i : ℕ) (e : rNumber) (so_far : List ℤ) (f : FaultKind) → i < length es → e ≡ get_or es i e → Err f ≡ number env read (number_of e)
+      → Err f ≡ followed (drop i es) so_far
+  followed-Err es i e so_far f lt at is =
+      sym (left_at es i e so_far lt at
+      ∙ ap (λ r. then_try (then_try r (λ v. then_try (numbers env read (map number_of (drop (i + 1) es))) (λ vs. Ok (v ∷ vs)))) (λ vs. Ok (so_far ++ vs))) (sym is))
+
+  pub followed-none : (es : List rNumber) (so_far : List ℤ) → es ≡ [] → Ok so_far ≡ followed es so_far
+  followed-none es so_far none = ap Ok (sym (append-nil so_far)) ∙ ap (λ l. followed l so_far) (sym none)
+
+-- the windows so far, followed by those of the arrays that are left
+pub windows-more : (arrays : List rArray) (i : ℕ) (a : rArray) (ws : List Window) (w : Window) → i < length arrays → a ≡ get_or arrays i a
+    → w ≡ record { array = i; at = 0; length = a.length }
+    → (ws ++ w ∷ []) ++ whole_arrays (i + 1) (map array (drop (i + 1) arrays)) ≡ ws ++ whole_arrays i (map array (drop i arrays))
+windows-more arrays i a ws w lt at is =
+    let more : suc i ≡ i + 1 = omega arith in
+    append_assoc ws (w ∷ []) (whole_arrays (i + 1) (map array (drop (i + 1) arrays)))
+    ∙ ap (λ v. ws ++ v ∷ whole_arrays (i + 1) (map array (drop (i + 1) arrays))) is
+    ∙ ap (λ l. ws ++ whole_arrays i (map array l)) (sym (drop-cons arrays i a lt ∙ ap (λ x. x ∷ drop (suc i) arrays) (sym at) ∙ ap (λ j. a ∷ drop j arrays) more))

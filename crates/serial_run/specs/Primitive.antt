@@ -1,0 +1,31 @@
+-- What a statement of one step is in one go: its values, then what it does with them.
+use Rattle.std.specs.Prelude.{ℕ, ℤ, List, Bool, true, false, Result, Ok, Err, Vec}
+use Rattle.std.specs.Global.{Global}
+use Rattle.types.specs.declared.fault.FaultKind.{FaultKind}
+use Rattle.types.specs.declared.fault.FaultKind.TheVariants.{OutOfElement}
+use Rattle.types.specs.declared.window.Place.{Place as rPlace}
+use Rattle.types.specs.Code.{Number, Program}
+use Rattle.types.specs.Frame.{place}
+use Rattle.types.specs.Place.{Place}
+use Rattle.types.specs.Run.{State, number_at, window_at, array_of}
+use Rattle.types.specs.Value.{Valued, then_try, element_of, holds_number}
+
+-- a place and a number, where the element type holds the number
+abbrev pub fitting : (fits : Bool) → Place → ℤ → Valued (Place × ℤ)
+fitting true q v = Ok (q, v)
+fitting false q v = Err OutOfElement
+
+-- where a store writes, and what
+abbrev pub target : Program → State (Unit {0}) → (section : ℕ) → (index value : Number) → Valued (Place × ℤ)
+target p st s i e =
+    then_try (number_at st i) (λ at.
+    then_try (number_at st e) (λ v.
+    then_try (element_of (st.environment.windows s) at) (λ q. fitting (holds_number (array_of p q.array).element v) q v)))
+
+abbrev pub found : Result (rPlace × ℤ) FaultKind → Valued (Place × ℤ)
+found (Ok t) = Ok (place t.0, t.1)
+found (Err f) = Err f
+
+abbrev pub listed : Result (Vec ℤ Global) FaultKind → Valued (List ℤ)
+listed (Ok vs) = Ok vs.items
+listed (Err f) = Err f
