@@ -6,7 +6,7 @@ use Rattle.std.proofs.lemmas.List.{get_or-set_same, get_or-set_other}
 use Rattle.std.specs.Prelude.{ℤ, pos, Bool, true, false, ◌&&◌, nat_eq, unwrap_or, slice_get, slice_index_or, slice_set, replicate, if◌then◌else◌}
 use Rattle.types.specs.Code.{Array}
 use Rattle.types.specs.Place.{Place, same_place}
-use Rattle.types.specs.Contents.{Contents, read, write, held_by, row, rows, shown, Fits, no_more, also}
+use Rattle.types.specs.Contents.{Contents, read, write, held_by, row, rows, shown, FitsArrays, no_more, also}
 use Rattle.types.specs.Run.{bind, by_number}
 
 row_is : (c : Contents) (a at : ℕ) (xs : List ℤ) → ((k : ℕ) → read c (record { array = a; index = at + k }) ≡ slice_index_or xs k (pos 0)) → row c a at (length xs) ≡ xs
@@ -17,7 +17,7 @@ row_is c a at (x ∷ xs) h =
     let rest = row_is c a (at + 1) xs (λ k. let e : at + 1 + k ≡ at + suc k = omega arith in ap (λ k. read c (record { array = a; index = k })) e ∙ h (suc k)) in
     ap (λ y. y ∷ row c a (at + 1) (length xs)) first ∙ ap (λ ys. x ∷ ys) rest
 
-rows_are : (c : Contents) (a : ℕ) (arrays : List Array) (lists : List (List ℤ)) → Fits arrays lists
+rows_are : (c : Contents) (a : ℕ) (arrays : List Array) (lists : List (List ℤ)) → FitsArrays arrays lists
   → ((j k : ℕ) → read c (record { array = a + j; index = k }) ≡ slice_index_or (slice_index_or lists j []) k (pos 0)) → rows c a arrays ≡ lists
 rows_are c a [] [] no_more h = refl
 rows_are c a [] (l ∷ ls) fits h = elim fits [ ]
@@ -30,7 +30,7 @@ rows_are c a (x ∷ xs) (l ∷ ls) (also e fits) h =
     ap (λ y. y ∷ rows c (a + 1) xs) first ∙ ap (λ ys. l ∷ ys) rest
 
 -- lists that fit the arrays are what their contents show
-pub shown-held_by : (arrays : List Array) (lists : List (List ℤ)) → Fits arrays lists → shown arrays (held_by lists) ≡ lists
+pub shown-held_by : (arrays : List Array) (lists : List (List ℤ)) → FitsArrays arrays lists → shown arrays (held_by lists) ≡ lists
 shown-held_by arrays lists fits =
     rows_are (held_by lists) 0 arrays lists fits (λ j k. let z : 0 + j ≡ j = omega arith in
       unwrap_or-slice_get (slice_index_or lists (0 + j) []) k (pos 0) ∙ ap (λ j. slice_index_or (slice_index_or lists j []) k (pos 0)) z)

@@ -60,8 +60,8 @@ pub data Origin : Type 0 where
   Left : (parent : ℕ) → Origin
   Right : (parent : ℕ) → Origin
 
+-- a declared array; its name is bytes
 pub record Array : Type 0 where
-  -- the bytes of its name
   pub name : List ℕ
   pub element : ElementType
   pub length : ℕ

@@ -34,6 +34,6 @@ abbrev pub shown : List Array → Contents → List (List ℤ)
 shown arrays c = rows c 0 arrays
 
 -- one list for each array, with a number for each element
-pub data Fits : List Array → List (List ℤ) → Type 0 where
-  no_more : Fits [] []
-  also : {x : Array} {xs : List Array} {row : List ℤ} {rows : List (List ℤ)} → length row ≡ x.length → Fits xs rows → Fits (x ∷ xs) (row ∷ rows)
+pub data FitsArrays : List Array → List (List ℤ) → Type 0 where
+  no_more : FitsArrays [] []
+  also : {x : Array} {xs : List Array} {row : List ℤ} {rows : List (List ℤ)} → length row ≡ x.length → FitsArrays xs rows → FitsArrays (x ∷ xs) (row ∷ rows)

@@ -1,5 +1,5 @@
 -- The first part of the language: whole arrays, literals, asyncs and finishes.
-use Rattle.std.specs.Prelude.{ℕ, zero, suc, ◌+◌, List, [], ◌∷◌, Bool, true, false, ◌&&◌, ℤ, pos, negsuc, nat_eq, nat_lt, nat_le, length}
+use Rattle.std.specs.Prelude.{ℕ, zero, suc, ◌+◌, List, [], ◌∷◌, Bool, true, false, ◌&&◌, ℤ, pos, negsuc, nat_lt, nat_le}
 use Rattle.std.specs.List.{list_all}
 use Rattle.types.specs.Code.{Number, Literal, Scalar, Element, Length, Negative, Chain, Primitive, Skip, Assign, Store, Print, Raise, Code, Do, If, While, Split, Call, Async, Finish, Codes, End, Then, Array, Program}
 use Rattle.types.specs.Run.{array_of}
@@ -22,6 +22,7 @@ module _ (p : Program) where
   store_fits a (Literal i) (Literal v) = index_fits a i && holds_number (array_of p a).element v
   store_fits a i e = false
 
+  -- a statement of one step
   abbrev pub primitive_fits : Primitive → Bool
   primitive_fits Skip = true
   primitive_fits (Store a i e) = store_fits a i e
@@ -29,6 +30,7 @@ module _ (p : Program) where
   primitive_fits s = false
 
   abbrev mutual
+    -- a statement, and a list of them
     pub code_fits : Code → Bool
     code_fits (Do s) = primitive_fits s
     code_fits (Async b) = codes_fit b
@@ -54,6 +56,6 @@ abbrev mutual
   statements End = 0
   statements (Then l s rest) = statements_in s + statements rest
 
--- no procedures, only statements of the first part, and not too many
+-- `main` has only statements of the first part, and not too many; procedures are never called
 abbrev pub is_first_part : Program → Bool
-is_first_part p = nat_eq (length p.procedures) 0 && (codes_fit p p.main.body && nat_le (statements p.main.body) 10000)
+is_first_part p = codes_fit p p.main.body && nat_le (statements p.main.body) 10000

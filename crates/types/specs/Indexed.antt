@@ -3,6 +3,7 @@ use Rattle.std.specs.Prelude.{ℕ, List, [], ◌∷◌, ◌++◌}
 use Rattle.types.specs.Code.{Number, Literal, Scalar, Element, Length, Negative, Chain, Links, Done, Link, Truth, Constant, Compare, Not, Both, Either, Truths, NoMore, Also}
 
 abbrev mutual
+  -- of an expression for a number
   pub indexed : Number → List ℕ
   indexed (Literal v) = []
   indexed (Scalar x) = []
@@ -16,6 +17,7 @@ abbrev mutual
   indexed_links (Link o e rest) = indexed e ++ indexed_links rest
 
 abbrev mutual
+  -- of an expression for a truth value
   pub indexed_truth : Truth → List ℕ
   indexed_truth (Constant b) = []
   indexed_truth (Compare r a b) = indexed a ++ indexed b

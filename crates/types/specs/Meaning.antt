@@ -41,6 +41,7 @@ after_finish On (f ∷ faults) = Faulted
 after_finish Faulted [] = On
 after_finish Faulted (f ∷ faults) = Faulted
 
+-- the rules of one thread, where `begin` runs an async's body
 abbrev pub one_rules_by : (Codes → State (Unit {0}) → State (Unit {0})) → Rules (Unit {0})
 one_rules_by begin = record {
   stepped = λ x. x;
@@ -55,6 +56,7 @@ module _ (p : Program) where
   begin_one fresh zero b st = stopped st
   begin_one fresh (suc n) b st = after_body st (run p (one_rules_by (begin_one fresh n)) (Block b) (child fresh st))
 
+  -- the rules of one thread
   abbrev pub one_rules : (fresh nest : ℕ) → Rules (Unit {0})
   one_rules fresh nest = one_rules_by (begin_one fresh nest)
 

@@ -22,6 +22,7 @@ pub record Ending : Type 0 where
   pub lines : List (List ℤ)
   pub faults : List Fault
 
+-- what is told of a run
 pub data Outcome : Type 0 where
   Ended : Ending → Outcome
   -- a task was over its budget, and nothing more is told
@@ -46,11 +47,13 @@ start x p steps input = record {
   extra = x;
 }
 
+-- nothing but that it was stopped, or its ending
 abbrev pub outcome_by : Flow → Ending → Outcome
 outcome_by Stopped e = Halted
 outcome_by On e = Ended e
 outcome_by Faulted e = Ended e
 
+-- what a run of `main` leaves and tells
 abbrev pub ending_of : {X : Type 0} → Program → State X → Ending
 ending_of p st = record { arrays = shown p.arrays st.store; lines = st.lines; faults = st.faults }
 

@@ -16,7 +16,7 @@ pub data Flow : Type 0 where
   -- it is over its budget, or a task that it waited for was
   Stopped : Flow
 
--- the path is the child numbers from the root down to the task; none for the root
+-- what went wrong, in which task and at which statement; a path is the child numbers from the root down, none for the root itself
 pub record Fault : Type 0 where
   pub path : List ℕ
   pub label : ℕ
@@ -48,16 +48,18 @@ by_number d xs k = slice_index_or xs k d
 abbrev pub entry : List ℤ → List Window → Environment
 entry values windows = record { scalars = by_number (pos 0) values; windows = by_number nowhere windows }
 
+-- an environment that names the two sides of a split
 abbrev pub with_sides : (left right : ℕ) → Window × Window → Environment → Environment
 with_sides left right ws env = record env { windows = bind left ws.0 (bind right ws.1 env.windows) }
 
--- an array and a procedure that no program has
+-- an array and a procedure in place of those that a program doesn't have
 abbrev pub no_array : Array
 no_array = record { name = []; element = Int; length = 0 }
 
 abbrev pub no_procedure : Procedure
 no_procedure = record { parameters = []; scalars = 0; slots = 0; sections = []; body = End }
 
+-- the array, and the procedure, of a number
 abbrev pub array_of : Program → ℕ → Array
 array_of p a = slice_index_or p.arrays a no_array
 
@@ -70,6 +72,7 @@ pub data Work : Type 0 where
   Turn : (label : ℕ) → (guard : Truth) → (body : Codes) → Work
 
 module _ {X : Type 0} where
+  -- over the budget
   abbrev pub stopped : State X → State X
   stopped st = record st { flow = Stopped }
 
@@ -82,14 +85,16 @@ module _ {X : Type 0} where
   abbrev pub go_on : (State X → State X) → State X → State X
   go_on go st = at_flow st.flow st go
 
-  -- takes one of so many steps, or is over the budget
-  abbrev pub spend : ℕ → State X → (State X → State X) → State X
+  -- goes on with one step less than n, or is over the budget
+  abbrev pub spend : (n : ℕ) → State X → (State X → State X) → State X
   spend zero st go = stopped st
   spend (suc n) st go = go (record st { steps = n })
 
+  -- takes a step and goes on
   abbrev pub with_step : (State X → State X) → State X → State X
   with_step go st = spend st.steps st go
 
+  -- notes a fault, and ends the statements up to the nearest finish
   abbrev pub fault : (label : ℕ) → FaultKind → State X → State X
   fault label kind st = record st {
     flow = Faulted;
@@ -101,6 +106,7 @@ module _ {X : Type 0} where
   with_value label (Ok v) go st = go v st
   with_value label (Err f) go st = fault label f st
 
+  -- values and windows where a task stands
   abbrev pub number_at : State X → Number → Valued ℤ
   number_at st e = number st.environment (read st.store) e
 
@@ -113,18 +119,20 @@ module _ {X : Type 0} where
   abbrev pub window_at : State X → ℕ → Window
   window_at st s = st.environment.windows s
 
+  -- changes one scalar
   abbrev pub assign : (slot : ℕ) → ℤ → State X → State X
   assign x v st = record st { environment = record st.environment { scalars = bind x v st.environment.scalars } }
 
+  -- adds a line
   abbrev pub print : List ℤ → State X → State X
   print vs st = record st { lines = st.lines ++ vs ∷ [] }
 
-  -- writes a number that the element type holds, or faults
+  -- writes a number to a place if its element type holds it, or faults
   abbrev pub put : (label : ℕ) → (fits : Bool) → Place → ℤ → State X → State X
   put label true q v st = record st { store = write q v st.store }
   put label false q v st = fault label OutOfElement st
 
-  -- goes one of two ways
+  -- goes on by what a guard says
   abbrev pub choose : (State X → State X) → (State X → State X) → Bool → State X → State X
   choose body other true st = body st
   choose body other false st = other st

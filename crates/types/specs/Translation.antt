@@ -27,6 +27,7 @@ use Rattle.types.specs.declared.outcome.Outcome.{Outcome as rOutcome}
 use Rattle.types.specs.declared.outcome.Outcome.TheVariants.{Ended as rEnded, Stopped as rStopped}
 
 abbrev mutual
+  -- an expression for a number
   pub number : rNumber → Number
   number (rLiteral n) = Literal n
   number (rScalar x) = Scalar x
@@ -40,6 +41,7 @@ abbrev mutual
   links (more_of-Link o e more) = Link o (number e) (links more)
 
 abbrev mutual
+  -- an expression for a truth value
   pub truth : rTruth → Truth
   truth (rConstant b) = Constant b
   truth (rCompare r a b) = Compare r (number a) (number b)
@@ -51,6 +53,7 @@ abbrev mutual
   truths end_of-Truth = NoMore
   truths (more_of-Truth t ts) = Also (truth t) (truths ts)
 
+-- a statement that runs in one step
 abbrev pub primitive : rPrimitive → Primitive
 primitive rSkip = Skip
 primitive (rAssign x e) = Assign x (number e)
@@ -59,6 +62,7 @@ primitive (rPrint es) = Print (map number es.items)
 primitive (rRaise e) = Raise (number e)
 
 abbrev mutual
+  -- a statement
   pub code : StmtKind → Code
   code (rDo s) = Do (primitive s)
   code (rIf t p b q c) = If (truth t) (row_codes b) (row_codes c)
@@ -77,17 +81,21 @@ abbrev pub codes : List Stmt → Codes
 codes [] = End
 codes (s ∷ rest) = Then s.label (code s.kind) (codes rest)
 
+-- where a section comes from
 abbrev pub origin : rOrigin → Origin
 origin rRoot = Root
 origin (rLeft s) = Left s
 origin (rRight s) = Right s
 
+-- a declared array
 abbrev pub array : rArray → Array
 array a = record { name = string_bytes a.name; element = a.element; length = a.length }
 
+-- a section parameter
 abbrev pub parameter : SectionParameter → Parameter
 parameter x = record { may_write = x.may_write; element = x.element }
 
+-- a procedure, or `main`
 abbrev pub procedure : rProcedure → Procedure
 procedure f = record {
   parameters = map parameter f.parameters.items;
@@ -97,6 +105,7 @@ procedure f = record {
   body = codes f.body.items;
 }
 
+-- a resolved program
 abbrev pub program : rProgram → Program
 program p = record {
   arrays = map array p.arrays.items;
@@ -104,9 +113,11 @@ program p = record {
   main = procedure p.main;
 }
 
+-- a fault
 abbrev pub fault : rFault → Fault
 fault f = record { path = f.path.turns.items; label = f.label; kind = f.kind }
 
+-- a budget
 abbrev pub budget : rBudget → Budget
 budget b = record { steps = b.steps; nest = b.nest }
 
@@ -114,6 +125,7 @@ budget b = record { steps = b.steps; nest = b.nest }
 abbrev pub input : Input → List (List ℤ)
 input i = map (λ v. v.items) i.arrays.items
 
+-- an outcome
 abbrev pub outcome : rOutcome → Outcome
 outcome (rEnded arrays lines faults) = Ended (record {
   arrays = map (λ v. v.items) arrays.items;

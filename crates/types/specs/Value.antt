@@ -29,10 +29,11 @@ then_try (Err f) go = Err f
 abbrev pub fits_64_bits : ℤ → Bool
 fits_64_bits v = int_le (negsuc (2 ^ 63 - 1)) v && int_lt v (pos (2 ^ 63))
 
+-- a result, or F2 where 64 bits don't hold it
 abbrev pub within_64_bits : ℤ → Valued ℤ
 within_64_bits v = if fits_64_bits v then Ok v else Err Overflow
 
--- x / y, rounded toward zero
+-- x / y, rounded toward zero, or F3; F2 for the least number by -1
 abbrev pub quotient : ℤ → ℤ → Valued ℤ
 quotient x (pos zero) = Err ZeroDivisor
 quotient x y = within_64_bits (int_div x y)
@@ -59,13 +60,14 @@ abbrev pub holds_number : ElementType → ℤ → Bool
 holds_number Int v = true
 holds_number Byte v = int_le (pos 0) v && int_lt v (pos 256)
 
--- the place of an element of a window
+-- the place of an element of a window, or F1
 abbrev pub element_of : Window → ℤ → Valued Place
 element_of w i = ok_or (place_in w i) Index
 
 -- in an environment, where `read` gives the number at a place; operands go from left to right
 module _ (env : Environment) (read : Place → ℤ) where
   abbrev mutual
+    -- the value of an expression for a number
     pub number : Number → Valued ℤ
     number (Literal v) = Ok v
     number (Scalar x) = Ok (env.scalars x)
@@ -86,6 +88,7 @@ module _ (env : Environment) (read : Place → ℤ) where
 
   -- `and` and `or` leave the rest out once the answer is known
   abbrev mutual
+    -- the value of an expression for a truth value
     pub truth : Truth → Valued Bool
     truth (Constant b) = Ok b
     truth (Compare r a b) = then_try (number a) (λ x. then_try (number b) (λ y. Ok (holds r x y)))

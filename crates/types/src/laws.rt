@@ -3,7 +3,7 @@
 ghost use Rattle.std.specs.Prelude.{◌≡◌, ◌<◌, ℕ, ℤ, List, [], length, slice_index_or, slice_set};
 ghost use Rattle.types.specs.Code.{Number, Truth, Array, Program};
 ghost use Rattle.types.specs.Place.{Place};
-ghost use Rattle.types.specs.Contents.{held_by, shown, write, Fits};
+ghost use Rattle.types.specs.Contents.{held_by, shown, write, FitsArrays};
 ghost use Rattle.types.specs.Value.{Environment, number, truth};
 ghost use Rattle.types.specs.Run.{Rules, Work, run, bind, by_number};
 ghost use Rattle.types.specs.Meaning.{one, one_rules};
@@ -53,7 +53,7 @@ pub fn values_depend_on_indexed_sections()
 /// Lists show what contents and environments are, and a write to a list is a write there.
 pub fn lists_show_contents()
     ensures shown { (arrays : List Array) (lists : List (List ℤ))
-        → Fits arrays lists → shown arrays (held_by lists) ≡ lists }
+        → FitsArrays arrays lists → shown arrays (held_by lists) ≡ lists }
     ensures written { (lists : List (List ℤ)) (a i : ℕ) (v : ℤ) → i < length (slice_index_or lists a [])
         → held_by (slice_set lists a (slice_set (slice_index_or lists a []) i v))
             ≡ write (record { array = a; index = i }) v (held_by lists) }
