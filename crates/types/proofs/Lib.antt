@@ -6,3 +6,4 @@ pub mod Adds
 pub mod Larger
 pub mod Readings
 pub mod Lists
+pub mod Blocks

@@ -7,5 +7,6 @@ pub mod Run
 pub mod Meaning
 pub mod Outcome
 pub mod FirstPart
+pub mod Typed
 pub mod Indexed
 pub mod Laws

@@ -1,5 +1,7 @@
 //! A well-typed program.
 
+ghost use Rattle.std.specs.Prelude.{◌≡◌};
+
 use crate::code;
 
 /// A program that breaks no rule of the language, with its names resolved. `type_check` alone makes it.
@@ -10,13 +12,21 @@ pub struct Typed {
 }
 
 impl Typed {
+    ghost use Rattle.syntax.specs.Tree.{program as tree_of};
+    ghost use Rattle.types.specs.Translation.{program as plain};
+    ghost use Rattle.types.specs.Typed.{program_of, code_of};
+
     /// The program as it was read.
-    pub fn program(&self) -> &syntax::tree::Program {
+    pub fn program(&self) -> &syntax::tree::Program
+        ensures { tree_of result.now ≡ program_of self.now }
+    {
         &self.program
     }
 
     /// The resolved program.
-    pub fn code(&self) -> &code::Program {
+    pub fn code(&self) -> &code::Program
+        ensures { plain result.now ≡ code_of self.now }
+    {
         &self.code
     }
 }
