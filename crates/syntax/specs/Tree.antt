@@ -134,7 +134,7 @@ abbrev pub negative : Bool → Atom → Unary
 negative false a = Positive a
 negative true a = Negative a
 
-abbrev mutual
+unfoldable mutual
   pub expr : rExpr → Expr
   expr (rOr first _ rest) = Or (conj first) (row_conjs rest)
 
@@ -213,7 +213,7 @@ factors (f ∷ rest) = factor f (factors rest)
 abbrev pub exprs : List rExpr → List Expr
 exprs = map expr
 
-abbrev mutual
+unfoldable mutual
   pub stmt : rStmt → Stmt
   stmt rSkip = Skip
   stmt (rVar x e) = Var (string_bytes x) (expr e)

@@ -1,6 +1,8 @@
 //! Reading what stands first among the tokens that are left.
 
-ghost use Rattle.std.specs.Prelude.{◌≡◌, ◌<◌, length, IfOk, IfSome};
+ghost use Rattle.std.specs.Prelude.{◌≡◌, ◌<◌, ◌∷◌, length, IfOk, IfSome};
+ghost use Rattle.std.specs.String.{string_bytes};
+ghost use Rattle.syntax.specs.Token.{NameToken, NumberToken, WordToken, MarkToken, plain};
 
 use crate::token::{Mark, Spanned, Token, Word};
 use std::alloc::{AllocError, AllocFailed};
@@ -49,6 +51,7 @@ pub fn peek(tokens: &[Spanned]) -> Option<&Token> {
 /// The tokens behind a mark, if it stands first.
 pub fn after_mark(tokens: &[Spanned], wanted: Mark) -> Option<&[Spanned]>
     ensures shorter { IfSome result (λ rest. length rest.now < length tokens.now) }
+    ensures found { IfSome result (λ rest. plain tokens.now ≡ MarkToken wanted ∷ plain rest.now) }
 {
     let (first, rest) = tokens.split_first()?;
     match &first.token {
@@ -60,6 +63,7 @@ pub fn after_mark(tokens: &[Spanned], wanted: Mark) -> Option<&[Spanned]>
 /// The tokens behind a word, if it stands first.
 pub fn after_word(tokens: &[Spanned], wanted: Word) -> Option<&[Spanned]>
     ensures shorter { IfSome result (λ rest. length rest.now < length tokens.now) }
+    ensures found { IfSome result (λ rest. plain tokens.now ≡ WordToken wanted ∷ plain rest.now) }
 {
     let (first, rest) = tokens.split_first()?;
     match &first.token {
@@ -68,9 +72,22 @@ pub fn after_word(tokens: &[Spanned], wanted: Word) -> Option<&[Spanned]>
     }
 }
 
+/// The word that stands first, and the tokens behind it.
+pub fn first_word(tokens: &[Spanned]) -> Option<(Word, &[Spanned])>
+    ensures shorter { IfSome result (λ read. length read.1.now < length tokens.now) }
+    ensures found { IfSome result (λ read. plain tokens.now ≡ WordToken read.0 ∷ plain read.1.now) }
+{
+    let (first, rest) = tokens.split_first()?;
+    match &first.token {
+        Token::Word(word) => Some((*word, rest)),
+        _ => None,
+    }
+}
+
 /// The tokens behind a mark that has to stand here.
 pub fn mark(tokens: &[Spanned], wanted: Mark) -> Result<&[Spanned], Stuck>
     ensures shorter { IfOk result (λ rest. length rest.now < length tokens.now) }
+    ensures found { IfOk result (λ rest. plain tokens.now ≡ MarkToken wanted ∷ plain rest.now) }
 {
     match after_mark(tokens, wanted) {
         None => Err(unexpected(tokens)),
@@ -81,6 +98,7 @@ pub fn mark(tokens: &[Spanned], wanted: Mark) -> Result<&[Spanned], Stuck>
 /// The tokens behind a word that has to stand here.
 pub fn word(tokens: &[Spanned], wanted: Word) -> Result<&[Spanned], Stuck>
     ensures shorter { IfOk result (λ rest. length rest.now < length tokens.now) }
+    ensures found { IfOk result (λ rest. plain tokens.now ≡ WordToken wanted ∷ plain rest.now) }
 {
     match after_word(tokens, wanted) {
         None => Err(unexpected(tokens)),
@@ -91,6 +109,8 @@ pub fn word(tokens: &[Spanned], wanted: Word) -> Result<&[Spanned], Stuck>
 /// A name that has to stand here.
 pub fn name(tokens: &[Spanned]) -> Result<(String, &[Spanned]), Stuck>
     ensures shorter { IfOk result (λ read. length read.1.now < length tokens.now) }
+    ensures found { IfOk result (λ read.
+        plain tokens.now ≡ NameToken (string_bytes read.0) ∷ plain read.1.now) }
 {
     let Some((first, rest)) = tokens.split_first() else {
         return Err(unexpected(tokens));
@@ -104,6 +124,7 @@ pub fn name(tokens: &[Spanned]) -> Result<(String, &[Spanned]), Stuck>
 /// A number that has to stand here.
 pub fn number(tokens: &[Spanned]) -> Result<(u64, &[Spanned]), Stuck>
     ensures shorter { IfOk result (λ read. length read.1.now < length tokens.now) }
+    ensures found { IfOk result (λ read. plain tokens.now ≡ NumberToken read.0 ∷ plain read.1.now) }
 {
     let Some((first, rest)) = tokens.split_first() else {
         return Err(unexpected(tokens));

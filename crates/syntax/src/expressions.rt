@@ -1,6 +1,10 @@
 //! Expressions, one function for each production.
 
-ghost use Rattle.std.specs.Prelude.{◌≡◌, ◌<◌, ◌≤◌, length, IfOk, IfSome};
+ghost use Rattle.std.specs.Prelude.{◌≡◌, ◌<◌, ◌≤◌, ◌∷◌, length, IfOk, IfSome};
+ghost use Rattle.syntax.specs.Reading.{AddsExprs};
+ghost use Rattle.syntax.specs.Spelling.{expr_then, conj_then, neg_then, cmp_then, sum_then, prod_then, unary_then, atom_then, relation_mark, sign_mark, operator_mark};
+ghost use Rattle.syntax.specs.Token.{MarkToken, plain};
+ghost use Rattle.syntax.specs.Tree.{expr as expr_tree, conj as conj_tree, neg as neg_tree, cmp as cmp_tree, sum as sum_tree, prod as prod_tree, unary as unary_tree, atom as atom_tree};
 
 use crate::cursor;
 use crate::cursor::Stuck;
@@ -14,6 +18,8 @@ use std::alloc::Global;
 #[cycle(expr)]
 pub fn expr(alloc: Global, tokens: &[Spanned]) -> Result<(Expr, &[Spanned]), Stuck>
     ensures shorter { IfOk result (λ read. length read.1.now < length tokens.now) }
+    ensures spelled { IfOk result (λ read.
+        plain tokens.now ≡ expr_then (expr_tree read.0) (plain read.1.now)) }
 {
     // expr = conj { "or" conj }
     let (first, mut left) = conj(alloc, tokens)?;
@@ -29,6 +35,8 @@ pub fn expr(alloc: Global, tokens: &[Spanned]) -> Result<(Expr, &[Spanned]), Stu
 #[cycle(expr)]
 fn conj(alloc: Global, tokens: &[Spanned]) -> Result<(Conj, &[Spanned]), Stuck>
     ensures shorter { IfOk result (λ read. length read.1.now < length tokens.now) }
+    ensures spelled { IfOk result (λ read.
+        plain tokens.now ≡ conj_then (conj_tree read.0) (plain read.1.now)) }
 {
     // conj = neg { "and" neg }
     let (first, mut left) = neg(alloc, tokens)?;
@@ -44,6 +52,8 @@ fn conj(alloc: Global, tokens: &[Spanned]) -> Result<(Conj, &[Spanned]), Stuck>
 #[cycle(expr)]
 fn neg(alloc: Global, tokens: &[Spanned]) -> Result<(Neg, &[Spanned]), Stuck>
     ensures shorter { IfOk result (λ read. length read.1.now < length tokens.now) }
+    ensures spelled { IfOk result (λ read.
+        plain tokens.now ≡ neg_then (neg_tree read.0) (plain read.1.now)) }
 {
     // neg = [ "not" ] cmp
     match cursor::after_word(tokens, Word::Not) {
@@ -73,6 +83,8 @@ fn neg(alloc: Global, tokens: &[Spanned]) -> Result<(Neg, &[Spanned]), Stuck>
 #[cycle(expr)]
 fn cmp(alloc: Global, tokens: &[Spanned]) -> Result<(Cmp, &[Spanned]), Stuck>
     ensures shorter { IfOk result (λ read. length read.1.now < length tokens.now) }
+    ensures spelled { IfOk result (λ read.
+        plain tokens.now ≡ cmp_then (cmp_tree read.0) (plain read.1.now)) }
 {
     // cmp = sum [ ( "<" | "<=" | ">" | ">=" | "==" | "!=" ) sum ]
     let (left, rest) = sum(alloc, tokens)?;
@@ -89,6 +101,8 @@ fn cmp(alloc: Global, tokens: &[Spanned]) -> Result<(Cmp, &[Spanned]), Stuck>
 #[cycle(expr)]
 fn sum(alloc: Global, tokens: &[Spanned]) -> Result<(Sum, &[Spanned]), Stuck>
     ensures shorter { IfOk result (λ read. length read.1.now < length tokens.now) }
+    ensures spelled { IfOk result (λ read.
+        plain tokens.now ≡ sum_then (sum_tree read.0) (plain read.1.now)) }
 {
     // sum = prod { ( "+" | "-" ) prod }
     let (first, mut left) = prod(alloc, tokens)?;
@@ -104,6 +118,8 @@ fn sum(alloc: Global, tokens: &[Spanned]) -> Result<(Sum, &[Spanned]), Stuck>
 #[cycle(expr)]
 fn prod(alloc: Global, tokens: &[Spanned]) -> Result<(Prod, &[Spanned]), Stuck>
     ensures shorter { IfOk result (λ read. length read.1.now < length tokens.now) }
+    ensures spelled { IfOk result (λ read.
+        plain tokens.now ≡ prod_then (prod_tree read.0) (plain read.1.now)) }
 {
     // prod = unary { ( "*" | "/" | "%" ) unary }
     let (first, mut left) = unary(alloc, tokens)?;
@@ -119,6 +135,8 @@ fn prod(alloc: Global, tokens: &[Spanned]) -> Result<(Prod, &[Spanned]), Stuck>
 #[cycle(expr)]
 fn unary(alloc: Global, tokens: &[Spanned]) -> Result<(Unary, &[Spanned]), Stuck>
     ensures shorter { IfOk result (λ read. length read.1.now < length tokens.now) }
+    ensures spelled { IfOk result (λ read.
+        plain tokens.now ≡ unary_then (unary_tree read.0) (plain read.1.now)) }
 {
     // unary = [ "-" ] atom
     match cursor::after_mark(tokens, Mark::Minus) {
@@ -148,6 +166,8 @@ fn unary(alloc: Global, tokens: &[Spanned]) -> Result<(Unary, &[Spanned]), Stuck
 #[cycle(expr)]
 fn atom(alloc: Global, tokens: &[Spanned]) -> Result<(Atom, &[Spanned]), Stuck>
     ensures shorter { IfOk result (λ read. length read.1.now < length tokens.now) }
+    ensures spelled { IfOk result (λ read.
+        plain tokens.now ≡ atom_then (atom_tree read.0) (plain read.1.now)) }
 {
     // atom = number | "true" | "false" | name | name "[" expr "]"
     //      | "len" "(" name ")" | "(" expr ")"
@@ -166,6 +186,8 @@ fn atom(alloc: Global, tokens: &[Spanned]) -> Result<(Atom, &[Spanned]), Stuck>
 #[cycle(expr)]
 fn named(alloc: Global, tokens: &[Spanned]) -> Result<(Atom, &[Spanned]), Stuck>
     ensures shorter { IfOk result (λ read. length read.1.now < length tokens.now) }
+    ensures spelled { IfOk result (λ read.
+        plain tokens.now ≡ atom_then (atom_tree read.0) (plain read.1.now)) }
 {
     // name | name "[" expr "]"
     let (name, rest) = cursor::name(tokens)?;
@@ -192,6 +214,8 @@ fn enclosed(
     closing: Mark,
 ) -> Result<(Box<Expr>, &[Spanned]), Stuck>
     ensures shorter { IfOk result (λ read. length read.1.now < length tokens.now) }
+    ensures spelled { IfOk result (λ read.
+        plain tokens.now ≡ expr_then (expr_tree read.0.value) (MarkToken closing ∷ plain read.1.now)) }
 {
     // expr ")" | expr "]"
     let (inner, left) = expr(alloc, tokens)?;
@@ -202,6 +226,8 @@ fn enclosed(
 /// An atom that holds no expression and begins with no name.
 fn constant(tokens: &[Spanned]) -> Result<(Atom, &[Spanned]), Stuck>
     ensures shorter { IfOk result (λ read. length read.1.now < length tokens.now) }
+    ensures spelled { IfOk result (λ read.
+        plain tokens.now ≡ atom_then (atom_tree read.0) (plain read.1.now)) }
 {
     // number | "true" | "false" | "len" "(" name ")"
     if let Some(rest) = cursor::after_word(tokens, Word::True) {
@@ -223,6 +249,8 @@ fn constant(tokens: &[Spanned]) -> Result<(Atom, &[Spanned]), Stuck>
 /// A relation, if one stands first, and the tokens behind it.
 fn relation(tokens: &[Spanned]) -> Option<(Relation, &[Spanned])>
     ensures shorter { IfSome result (λ read. length read.1.now < length tokens.now) }
+    ensures found { IfSome result (λ read.
+        plain tokens.now ≡ MarkToken (relation_mark read.0) ∷ plain read.1.now) }
 {
     let (first, rest) = tokens.split_first()?;
     let Token::Mark(mark) = &first.token else {
@@ -242,6 +270,8 @@ fn relation(tokens: &[Spanned]) -> Option<(Relation, &[Spanned])>
 /// A sign, if one stands first, and the tokens behind it.
 fn sign(tokens: &[Spanned]) -> Option<(Sign, &[Spanned])>
     ensures shorter { IfSome result (λ read. length read.1.now < length tokens.now) }
+    ensures found { IfSome result (λ read.
+        plain tokens.now ≡ MarkToken (sign_mark read.0) ∷ plain read.1.now) }
 {
     let (first, rest) = tokens.split_first()?;
     let Token::Mark(mark) = &first.token else {
@@ -257,6 +287,8 @@ fn sign(tokens: &[Spanned]) -> Option<(Sign, &[Spanned])>
 /// An operator of a product, if one stands first, and the tokens behind it.
 fn operator(tokens: &[Spanned]) -> Option<(Operator, &[Spanned])>
     ensures shorter { IfSome result (λ read. length read.1.now < length tokens.now) }
+    ensures found { IfSome result (λ read.
+        plain tokens.now ≡ MarkToken (operator_mark read.0) ∷ plain read.1.now) }
 {
     let (first, rest) = tokens.split_first()?;
     let Token::Mark(mark) = &first.token else {
@@ -270,15 +302,18 @@ fn operator(tokens: &[Spanned]) -> Option<(Operator, &[Spanned])>
     }
 }
 
-/// Expressions behind commas, put behind those that were read before.
+/// Expressions behind commas, put behind those that were read earlier.
 pub fn more(
     alloc: Global,
     tokens: &[Spanned],
-    mut exprs: Vec<Expr>,
+    earlier: Vec<Expr>,
 ) -> Result<(Vec<Expr>, &[Spanned]), Stuck>
     ensures shorter { IfOk result (λ read. length read.1.now ≤ length tokens.now) }
+    ensures spelled { IfOk result (λ read.
+        AddsExprs earlier.items read.0.items (plain tokens.now) (plain read.1.now)) }
 {
     // { "," expr }
+    let mut exprs = earlier;
     let mut left = tokens;
     while let Some(after) = cursor::after_mark(left, Mark::Comma) {
         let (next, behind) = expr(alloc, after)?;

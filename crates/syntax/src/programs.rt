@@ -1,6 +1,10 @@
 //! Programs, procedures and declarations, one function for each production.
 
-ghost use Rattle.std.specs.Prelude.{◌≡◌, ◌<◌, ◌≤◌, length, IfOk, IfSome};
+ghost use Rattle.std.specs.Prelude.{◌≡◌, ◌<◌, ◌≤◌, ◌∷◌, [], length, map, IfOk};
+ghost use Rattle.std.specs.String.{string_bytes};
+ghost use Rattle.syntax.specs.Spelling.{arrays_then, block_then, element_word, main_tokens, parameter_then, parameters_then, procedures_then, spelling};
+ghost use Rattle.syntax.specs.Token.{NameToken, WordToken, MarkToken, plain};
+ghost use Rattle.syntax.specs.Tree.{array as array_tree, block, parameter as parameter_tree, procedure as procedure_tree, program as program_tree};
 
 use crate::cursor::Stuck;
 use crate::token::{Mark, Spanned, Word};
@@ -9,7 +13,9 @@ use crate::{cursor, statements};
 use std::alloc::Global;
 
 /// Reads a whole program.
-pub fn program(alloc: Global, tokens: &[Spanned]) -> Result<Program, Stuck> {
+pub fn program(alloc: Global, tokens: &[Spanned]) -> Result<Program, Stuck>
+    ensures spelled { IfOk result (λ read. plain tokens.now ≡ spelling (program_tree read)) }
+{
     // program = { proc } [ "main" "{" { array } { stmt } "}" ]
     let mut procedures = Vec::new(alloc);
     let mut left = tokens;
@@ -36,6 +42,10 @@ pub fn program(alloc: Global, tokens: &[Spanned]) -> Result<Program, Stuck> {
 
 fn main(alloc: Global, tokens: &[Spanned]) -> Result<(Main, &[Spanned]), Stuck>
     ensures shorter { IfOk result (λ read. length read.1.now < length tokens.now) }
+    ensures spelled { IfOk result (λ read.
+        plain tokens.now ≡ WordToken Word.Main ∷ MarkToken Mark.LeftBrace
+            ∷ arrays_then (map array_tree read.0.arrays.items)
+                (block_then (block read.0.body.items) (plain read.1.now))) }
 {
     // "main" "{" { array } { stmt } "}"
     let rest = cursor::word(tokens, Word::Main)?;
@@ -47,6 +57,8 @@ fn main(alloc: Global, tokens: &[Spanned]) -> Result<(Main, &[Spanned]), Stuck>
 
 fn arrays(alloc: Global, tokens: &[Spanned]) -> Result<(Vec<Array>, &[Spanned]), Stuck>
     ensures shorter { IfOk result (λ read. length read.1.now ≤ length tokens.now) }
+    ensures spelled { IfOk result (λ read.
+        plain tokens.now ≡ arrays_then (map array_tree read.0.items) (plain read.1.now)) }
 {
     // { array }
     let mut arrays = Vec::new(alloc);
@@ -61,6 +73,8 @@ fn arrays(alloc: Global, tokens: &[Spanned]) -> Result<(Vec<Array>, &[Spanned]),
 
 fn array(tokens: &[Spanned]) -> Result<(Array, &[Spanned]), Stuck>
     ensures shorter { IfOk result (λ read. length read.1.now < length tokens.now) }
+    ensures spelled { IfOk result (λ read.
+        WordToken Word.Array ∷ plain tokens.now ≡ arrays_then (array_tree read.0 ∷ []) (plain read.1.now)) }
 {
     // array = "array" name ":" elem "[" number "]" ";", its first word read
     let (name, rest) = cursor::name(tokens)?;
@@ -82,6 +96,8 @@ fn array(tokens: &[Spanned]) -> Result<(Array, &[Spanned]), Stuck>
 
 fn element_type(tokens: &[Spanned]) -> Result<(ElementType, &[Spanned]), Stuck>
     ensures shorter { IfOk result (λ read. length read.1.now < length tokens.now) }
+    ensures spelled { IfOk result (λ read.
+        plain tokens.now ≡ WordToken (element_word read.0) ∷ plain read.1.now) }
 {
     // elem = "int" | "byte"
     if let Some(rest) = cursor::after_word(tokens, Word::Int) {
@@ -93,6 +109,9 @@ fn element_type(tokens: &[Spanned]) -> Result<(ElementType, &[Spanned]), Stuck>
 
 fn procedure(alloc: Global, tokens: &[Spanned]) -> Result<(Procedure, &[Spanned]), Stuck>
     ensures shorter { IfOk result (λ read. length read.1.now < length tokens.now) }
+    ensures spelled { IfOk result (λ read.
+        WordToken Word.Proc ∷ plain tokens.now
+            ≡ procedures_then (procedure_tree read.0 ∷ []) (plain read.1.now)) }
 {
     // proc = "proc" name "(" [ param { "," param } ] ")" block, its first word read
     let (name, rest) = cursor::name(tokens)?;
@@ -112,6 +131,9 @@ fn procedure(alloc: Global, tokens: &[Spanned]) -> Result<(Procedure, &[Spanned]
 /// The parameters of a procedure and the parenthesis that closes them.
 fn parameters(alloc: Global, tokens: &[Spanned]) -> Result<(Vec<Parameter>, &[Spanned]), Stuck>
     ensures shorter { IfOk result (λ read. length read.1.now < length tokens.now) }
+    ensures spelled { IfOk result (λ read.
+        plain tokens.now
+            ≡ parameters_then (map parameter_tree read.0.items) (MarkToken Mark.RightParen ∷ plain read.1.now)) }
 {
     // [ param { "," param } ] ")"
     let mut parameters = Vec::new(alloc);
@@ -131,6 +153,8 @@ fn parameters(alloc: Global, tokens: &[Spanned]) -> Result<(Vec<Parameter>, &[Sp
 
 fn parameter(tokens: &[Spanned]) -> Result<(Parameter, &[Spanned]), Stuck>
     ensures shorter { IfOk result (λ read. length read.1.now < length tokens.now) }
+    ensures spelled { IfOk result (λ read.
+        plain tokens.now ≡ parameter_then (parameter_tree read.0) (plain read.1.now)) }
 {
     // param = ( "mut" | "read" ) name ":" elem | name ":" "int"
     if let Some(rest) = cursor::after_word(tokens, Word::Mut) {
@@ -150,6 +174,9 @@ fn parameter(tokens: &[Spanned]) -> Result<(Parameter, &[Spanned]), Stuck>
 /// The name and the element type of a section.
 fn section(tokens: &[Spanned]) -> Result<(String, ElementType, &[Spanned]), Stuck>
     ensures shorter { IfOk result (λ read. length read.2.now < length tokens.now) }
+    ensures spelled { IfOk result (λ read.
+        plain tokens.now ≡ NameToken (string_bytes read.0) ∷ MarkToken Mark.Colon
+            ∷ WordToken (element_word read.1) ∷ plain read.2.now) }
 {
     // name ":" elem
     let (name, rest) = cursor::name(tokens)?;

@@ -1,9 +1,12 @@
 //! Statements and blocks, one function for each production.
 
-ghost use Rattle.std.specs.Prelude.{◌≡◌, ◌<◌, ◌≤◌, length, IfOk, IfSome};
+ghost use Rattle.std.specs.Prelude.{◌≡◌, ◌<◌, ◌∷◌, length, IfOk};
+ghost use Rattle.syntax.specs.Spelling.{expr_then, exprs_then, stmt_then, block_then};
+ghost use Rattle.syntax.specs.Token.{WordToken, MarkToken, plain};
+ghost use Rattle.syntax.specs.Tree.{expr as expr_tree, exprs, stmt, block as block_tree};
 
 use crate::cursor::Stuck;
-use crate::token::{Mark, Spanned, Token, Word};
+use crate::token::{Mark, Spanned, Word};
 use crate::tree::{Expr, Stmt};
 use crate::{cursor, expressions};
 use std::alloc::Global;
@@ -12,6 +15,8 @@ use std::alloc::Global;
 #[cycle(stmt)]
 pub fn statements(alloc: Global, tokens: &[Spanned]) -> Result<(Vec<Stmt>, &[Spanned]), Stuck>
     ensures shorter { IfOk result (λ read. length read.1.now < length tokens.now) }
+    ensures spelled { IfOk result (λ read.
+        plain tokens.now ≡ block_then (block_tree read.0.items) (plain read.1.now)) }
 {
     // { stmt } "}"
     let mut body = Vec::new(alloc);
@@ -30,6 +35,8 @@ pub fn statements(alloc: Global, tokens: &[Spanned]) -> Result<(Vec<Stmt>, &[Spa
 #[cycle(stmt)]
 pub fn block(alloc: Global, tokens: &[Spanned]) -> Result<(Vec<Stmt>, &[Spanned]), Stuck>
     ensures shorter { IfOk result (λ read. length read.1.now < length tokens.now) }
+    ensures spelled { IfOk result (λ read.
+        plain tokens.now ≡ MarkToken Mark.LeftBrace ∷ block_then (block_tree read.0.items) (plain read.1.now)) }
 {
     // block = "{" { stmt } "}"
     let rest = cursor::mark(tokens, Mark::LeftBrace)?;
@@ -39,11 +46,10 @@ pub fn block(alloc: Global, tokens: &[Spanned]) -> Result<(Vec<Stmt>, &[Spanned]
 #[cycle(stmt)]
 fn statement(alloc: Global, tokens: &[Spanned]) -> Result<(Stmt, &[Spanned]), Stuck>
     ensures shorter { IfOk result (λ read. length read.1.now < length tokens.now) }
+    ensures spelled { IfOk result (λ read.
+        plain tokens.now ≡ stmt_then (stmt read.0) (plain read.1.now)) }
 {
-    let Some((first, rest)) = tokens.split_first() else {
-        return Err(cursor::unexpected(tokens));
-    };
-    let Token::Word(word) = &first.token else {
+    let Some((word, rest)) = cursor::first_word(tokens) else {
         return named(alloc, tokens);
     };
     match word {
@@ -67,6 +73,8 @@ fn statement(alloc: Global, tokens: &[Spanned]) -> Result<(Stmt, &[Spanned]), St
 #[cycle(stmt)]
 fn conditional(alloc: Global, tokens: &[Spanned]) -> Result<(Stmt, &[Spanned]), Stuck>
     ensures shorter { IfOk result (λ read. length read.1.now < length tokens.now) }
+    ensures spelled { IfOk result (λ read.
+        WordToken Word.If ∷ plain tokens.now ≡ stmt_then (stmt read.0) (plain read.1.now)) }
 {
     // "if" expr block [ "else" block ], its first word read
     let (guard, rest) = expressions::expr(alloc, tokens)?;
@@ -97,6 +105,8 @@ fn conditional(alloc: Global, tokens: &[Spanned]) -> Result<(Stmt, &[Spanned]), 
 #[cycle(stmt)]
 fn repeated(alloc: Global, tokens: &[Spanned]) -> Result<(Stmt, &[Spanned]), Stuck>
     ensures shorter { IfOk result (λ read. length read.1.now < length tokens.now) }
+    ensures spelled { IfOk result (λ read.
+        WordToken Word.While ∷ plain tokens.now ≡ stmt_then (stmt read.0) (plain read.1.now)) }
 {
     // "while" expr block, its first word read
     let (guard, rest) = expressions::expr(alloc, tokens)?;
@@ -107,6 +117,8 @@ fn repeated(alloc: Global, tokens: &[Spanned]) -> Result<(Stmt, &[Spanned]), Stu
 #[cycle(stmt)]
 fn split(alloc: Global, tokens: &[Spanned]) -> Result<(Stmt, &[Spanned]), Stuck>
     ensures shorter { IfOk result (λ read. length read.1.now < length tokens.now) }
+    ensures spelled { IfOk result (λ read.
+        WordToken Word.Split ∷ plain tokens.now ≡ stmt_then (stmt read.0) (plain read.1.now)) }
 {
     // "split" name "at" expr "as" name "," name block, its first word read
     let (section, rest) = cursor::name(tokens)?;
@@ -132,6 +144,8 @@ fn split(alloc: Global, tokens: &[Spanned]) -> Result<(Stmt, &[Spanned]), Stuck>
 /// A statement without a block that a word begins.
 fn simple(alloc: Global, tokens: &[Spanned]) -> Result<(Stmt, &[Spanned]), Stuck>
     ensures shorter { IfOk result (λ read. length read.1.now < length tokens.now) }
+    ensures spelled { IfOk result (λ read.
+        plain tokens.now ≡ stmt_then (stmt read.0) (plain read.1.now)) }
 {
     if let Some(rest) = cursor::after_word(tokens, Word::Skip) {
         // stmt = "skip" ";"
@@ -153,6 +167,8 @@ fn simple(alloc: Global, tokens: &[Spanned]) -> Result<(Stmt, &[Spanned]), Stuck
 /// An expression and the semicolon that ends its statement.
 fn ended(alloc: Global, tokens: &[Spanned]) -> Result<(Expr, &[Spanned]), Stuck>
     ensures shorter { IfOk result (λ read. length read.1.now < length tokens.now) }
+    ensures spelled { IfOk result (λ read.
+        plain tokens.now ≡ expr_then (expr_tree read.0) (MarkToken Mark.Semicolon ∷ plain read.1.now)) }
 {
     // expr ";"
     let (value, rest) = expressions::expr(alloc, tokens)?;
@@ -162,6 +178,8 @@ fn ended(alloc: Global, tokens: &[Spanned]) -> Result<(Expr, &[Spanned]), Stuck>
 
 fn declared(alloc: Global, tokens: &[Spanned]) -> Result<(Stmt, &[Spanned]), Stuck>
     ensures shorter { IfOk result (λ read. length read.1.now < length tokens.now) }
+    ensures spelled { IfOk result (λ read.
+        WordToken Word.Var ∷ plain tokens.now ≡ stmt_then (stmt read.0) (plain read.1.now)) }
 {
     // "var" name "=" expr ";", its first word read
     let (name, rest) = cursor::name(tokens)?;
@@ -172,6 +190,8 @@ fn declared(alloc: Global, tokens: &[Spanned]) -> Result<(Stmt, &[Spanned]), Stu
 
 fn printed(alloc: Global, tokens: &[Spanned]) -> Result<(Stmt, &[Spanned]), Stuck>
     ensures shorter { IfOk result (λ read. length read.1.now < length tokens.now) }
+    ensures spelled { IfOk result (λ read.
+        WordToken Word.Print ∷ plain tokens.now ≡ stmt_then (stmt read.0) (plain read.1.now)) }
 {
     // "print" expr { "," expr } ";", its first word read
     let (first, rest) = expressions::expr(alloc, tokens)?;
@@ -189,6 +209,8 @@ fn printed(alloc: Global, tokens: &[Spanned]) -> Result<(Stmt, &[Spanned]), Stuc
 /// A statement that a name begins.
 fn named(alloc: Global, tokens: &[Spanned]) -> Result<(Stmt, &[Spanned]), Stuck>
     ensures shorter { IfOk result (λ read. length read.1.now < length tokens.now) }
+    ensures spelled { IfOk result (λ read.
+        plain tokens.now ≡ stmt_then (stmt read.0) (plain read.1.now)) }
 {
     let (name, rest) = cursor::name(tokens)?;
     if let Some(rest) = cursor::after_mark(rest, Mark::LeftBracket) {
@@ -227,15 +249,17 @@ fn named(alloc: Global, tokens: &[Spanned]) -> Result<(Stmt, &[Spanned]), Stuck>
 /// The arguments of a call and the parenthesis that closes them.
 fn arguments(alloc: Global, tokens: &[Spanned]) -> Result<(Vec<Expr>, &[Spanned]), Stuck>
     ensures shorter { IfOk result (λ read. length read.1.now < length tokens.now) }
+    ensures spelled { IfOk result (λ read.
+        plain tokens.now ≡ exprs_then (exprs read.0.items) (MarkToken Mark.RightParen ∷ plain read.1.now)) }
 {
     // [ expr { "," expr } ] ")"
-    let mut exprs = Vec::new(alloc);
+    let mut arguments = Vec::new(alloc);
     if let Some(rest) = cursor::after_mark(tokens, Mark::RightParen) {
-        return Ok((exprs, rest));
+        return Ok((arguments, rest));
     }
     let (first, rest) = expressions::expr(alloc, tokens)?;
-    exprs.push(first)?;
-    let (exprs, rest) = expressions::more(alloc, rest, exprs)?;
+    arguments.push(first)?;
+    let (arguments, rest) = expressions::more(alloc, rest, arguments)?;
     let rest = cursor::mark(rest, Mark::RightParen)?;
-    Ok((exprs, rest))
+    Ok((arguments, rest))
 }

@@ -1,4 +1,7 @@
-use Rattle.std.proofs.Common.{◌<◌, length, ◌+◌, ◌*◌}
+use Rattle.std.proofs.Common.{◌≡◌, ◌<◌, ◌≤◌, length, ◌+◌, ◌*◌}
+use Rattle.syntax.specs.Spelling.{conj_then, conjs_then, neg_then, negs_then, prod_then, terms_then, unary_then, factors_then}
+use Rattle.syntax.specs.Token.{plain}
+use Rattle.syntax.specs.Tree.{conj, conjs, neg, negs, prod, terms, unary, factors}
 use Rattle.syntax.proofs.expressions.+expr.Given as goal
 
 -- An expression is read from no more tokens than the ones that it is called with; the levels follow each other.
@@ -32,26 +35,39 @@ decreases-atom l = 10 * length l.tokens.now + 1
 abbrev pub decreases-named : goal.decreases-named
 decreases-named l = 10 * length l.tokens.now + 0
 
+-- What was read so far is spelled by the tokens before those that are left.
 abbrev pub invariant-expr-loop-after : goal.invariant-expr-loop-after
-invariant-expr-loop-after l = length l.left < length l.fn.tokens
+invariant-expr-loop-after l = record {
+  shorter : length l.left < length l.fn.tokens;
+  spelled : plain l.fn.tokens ≡ conj_then (conj l.first) (conjs_then (conjs l.rest.items) (plain l.left));
+}
 
 abbrev pub decreases-expr-loop-after : goal.decreases-expr-loop-after
 decreases-expr-loop-after l = length l.left
 
 abbrev pub invariant-conj-loop-after : goal.invariant-conj-loop-after
-invariant-conj-loop-after l = length l.left < length l.fn.tokens
+invariant-conj-loop-after l = record {
+  shorter : length l.left < length l.fn.tokens;
+  spelled : plain l.fn.tokens ≡ neg_then (neg l.first) (negs_then (negs l.rest.items) (plain l.left));
+}
 
 abbrev pub decreases-conj-loop-after : goal.decreases-conj-loop-after
 decreases-conj-loop-after l = length l.left
 
 abbrev pub invariant-sum-loop-sign : goal.invariant-sum-loop-sign
-invariant-sum-loop-sign l = length l.left < length l.fn.tokens
+invariant-sum-loop-sign l = record {
+  shorter : length l.left < length l.fn.tokens;
+  spelled : plain l.fn.tokens ≡ prod_then (prod l.first) (terms_then (terms l.rest.items) (plain l.left));
+}
 
 abbrev pub decreases-sum-loop-sign : goal.decreases-sum-loop-sign
 decreases-sum-loop-sign l = length l.left
 
 abbrev pub invariant-prod-loop-operator : goal.invariant-prod-loop-operator
-invariant-prod-loop-operator l = length l.left < length l.fn.tokens
+invariant-prod-loop-operator l = record {
+  shorter : length l.left < length l.fn.tokens;
+  spelled : plain l.fn.tokens ≡ unary_then (unary l.first) (factors_then (factors l.rest.items) (plain l.left));
+}
 
 abbrev pub decreases-prod-loop-operator : goal.decreases-prod-loop-operator
 decreases-prod-loop-operator l = length l.left

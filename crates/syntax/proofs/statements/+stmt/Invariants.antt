@@ -1,4 +1,6 @@
-use Rattle.std.proofs.Common.{◌≤◌, length, ◌+◌, ◌*◌}
+use Rattle.std.proofs.Common.{◌≡◌, ◌≤◌, length, ◌+◌, ◌*◌}
+use Rattle.syntax.specs.Token.{plain}
+use Rattle.syntax.proofs.BlockLemmas.{stmts_then}
 use Rattle.syntax.proofs.statements.+stmt.Given as goal
 
 abbrev pub decreases-block : goal.decreases-block
@@ -20,7 +22,10 @@ abbrev pub decreases-statements : goal.decreases-statements
 decreases-statements l = 2 * length l.tokens.now + 1
 
 abbrev pub invariant-statements-loop-rest : goal.invariant-statements-loop-rest
-invariant-statements-loop-rest l = length l.left ≤ length l.fn.tokens
+invariant-statements-loop-rest l = record {
+  shorter : length l.left ≤ length l.fn.tokens;
+  spelled : plain l.fn.tokens ≡ stmts_then l.body.items (plain l.left);
+}
 
 abbrev pub decreases-statements-loop-rest : goal.decreases-statements-loop-rest
 decreases-statements-loop-rest l = length l.left

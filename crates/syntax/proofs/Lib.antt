@@ -1,0 +1,4 @@
+pub mod BlockLemmas
+pub mod ChainLemmas
+pub mod ProgramLemmas
+pub mod RowLemmas

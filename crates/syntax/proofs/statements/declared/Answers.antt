@@ -1,0 +1,9 @@
+use Rattle.std.proofs.Common.{◌∙◌, ap}
+use Rattle.syntax.specs.Spelling.{expr_then, exprs_then, more_then, stmt_then}
+use Rattle.syntax.specs.Tree.{expr, exprs, stmt}
+use Rattle.syntax.proofs.ChainLemmas.{behind, adds_to_none}
+use Rattle.syntax.proofs.statements.declared.Goals as goal
+
+pub returns-clause-spelled : goal.returns-clause-spelled
+unfolding stmt_then stmt
+returns-clause-spelled c = behind (c.in_ok-name.ensures.found ∙ behind (c.in_ok-rest.ensures.found ∙ behind c.in_ok-value.ensures.spelled))

@@ -1,0 +1,13 @@
+use Rattle.std.proofs.Common.{◌∙◌, ap}
+use Rattle.syntax.specs.Spelling.{expr_then, exprs_then, more_then, stmt_then}
+use Rattle.syntax.specs.Tree.{expr, exprs, stmt}
+use Rattle.syntax.proofs.ChainLemmas.{behind, adds_to_none}
+use Rattle.syntax.proofs.statements.simple.Goals as goal
+
+pub returns-in-Some-clause-spelled : goal.returns-in-Some-clause-spelled
+unfolding stmt_then stmt
+returns-in-Some-clause-spelled c = c.in-Some.ensures.found ∙ behind c.in_ok-rest.ensures.found
+
+pub returns-clause-spelled : goal.returns-clause-spelled
+unfolding stmt_then stmt
+returns-clause-spelled c = c.in_ok-rest-2.ensures.found ∙ behind c.in_ok-value.ensures.spelled
