@@ -4,8 +4,8 @@ use Rattle.std.proofs.lemmas.List.{append-nil}
 use Rattle.std.specs.Prelude.{ℤ, ◌⊎◌}
 use Rattle.types.specs.declared.fault.FaultKind.{FaultKind}
 use Rattle.types.specs.Code.{Codes, Program}
-use Rattle.types.specs.Run.{Fault, fault, State, Rules, Work, Block, stopped, spend, with_step, within, run}
-use Rattle.types.specs.Meaning.{hushed, joined, child, after_body, after_async, one_rules_by, begin_one, one_rules, one}
+use Rattle.types.specs.Run.{Fault, fault, State, Work, spend, with_step, within, run}
+use Rattle.types.specs.Meaning.{hushed, joined, one_rules_by, begin_one, one}
 use Rattle.types.specs.Laws.{OnlyAdds}
 use Rattle.types.proofs.Views.{Follows, FollowsAt, IsView, work_follows}
 
@@ -68,7 +68,7 @@ module _ (begin : Codes → S → S) (grows : (b : Codes) → Grows (begin b)) w
           by_steps (suc n) = h t (record st { steps = n })
 
       finish_behind : (go to : S → S) → Follows behind Never go to
-        → Follows behind Never (λ st. (one_rules_by begin).leave st (go ((one_rules_by begin).enter st))) (λ st. (one_rules_by begin).leave st (to ((one_rules_by begin).enter st)))
+          → Follows behind Never (λ st. (one_rules_by begin).leave st (go ((one_rules_by begin).enter st))) (λ st. (one_rules_by begin).leave st (to ((one_rules_by begin).enter st)))
       finish_behind go to h t st =
           inr (ap ((one_rules_by begin).leave (behind t st)) (alone go to h (hushed st)) ∙ joined_behind t st _)
 

@@ -1,12 +1,12 @@
 -- What worked programs come to, computed.
 use Rattle.std.proofs.Common.{◌≡◌, ℕ, zero, suc, ◌+◌, ◌*◌, List, [], ◌∷◌, refl}
 use Rattle.std.specs.Prelude.{ℤ, pos, negsuc, replicate, true, false}
-use Rattle.types.specs.declared.code.Operator.TheVariants.{Over, Modulo, Times}
+use Rattle.types.specs.declared.code.Operator.TheVariants.{Over, Modulo}
 use Rattle.types.specs.declared.fault.FaultKind.TheVariants.{Index, Overflow, ZeroDivisor, OutOfElement, SplitPoint, Raised}
-use Rattle.types.specs.Code.{Program, Chain, Link, Done, Negative}
+use Rattle.types.specs.Code.{Chain, Link, Done, Negative}
 use Rattle.types.specs.FirstPart.{is_first_part}
 use Rattle.types.specs.Run.{Fault}
-use Rattle.types.specs.Outcome.{Budget, Ending, Outcome, Ended, Halted, outcome}
+use Rattle.types.specs.Outcome.{Budget, Outcome, Ended, Halted, outcome}
 use Rattle.types.proofs.Programs.{lit, two_arrays, doubling, splits, split_below, two_readers, three_faults, child_faults, fault_after_async, nested_tasks, nested_faults, byte_store, past_the_end, endless, signs, least_by, least, by_zero, count_to, scalars, deep_call, one_async, late_async}
 
 abbrev budget : (steps nest : ℕ) → Budget

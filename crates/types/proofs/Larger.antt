@@ -1,10 +1,10 @@
 -- Under a larger budget an ended outcome is the same.
-use Rattle.std.proofs.Common.{◌≡◌, ℕ, zero, suc, ◌+◌, ◌-◌, ◌<◌, ◌≤◌, List, [], ◌∷◌, ◌++◌, refl, sym, ap, ◌∙◌, subst, inl, inr, arith, le_refl}
+use Rattle.std.proofs.Common.{◌≡◌, ℕ, zero, suc, ◌+◌, ◌-◌, ◌≤◌, List, refl, sym, ap, ◌∙◌, subst, inl, inr, arith, le_refl}
 use Rattle.std.specs.Prelude.{ℤ, ◌⊎◌}
 use Rattle.types.specs.Code.{Codes, Program}
 use Rattle.types.specs.Contents.{held_by}
-use Rattle.types.specs.Run.{Flow, On, Faulted, Stopped, State, Rules, Work, Block, stopped, at_flow, go_on, spend, with_step, within, run}
-use Rattle.types.specs.Meaning.{hushed, joined, child, after_async, after_body, after_finish, one_rules_by, begin_one, one_rules, one}
+use Rattle.types.specs.Run.{Stopped, State, Rules, Work, Block, at_flow, go_on, spend, with_step, within, run}
+use Rattle.types.specs.Meaning.{hushed, joined, child, after_async, after_body, after_finish, begin_one, one_rules, one}
 use Rattle.types.specs.Outcome.{Budget, IsLarger, Ending, Outcome, Ended, Halted, start, outcome_by, ending_of, outcome_of, outcome, Means}
 use Rattle.types.specs.Laws.{IsThrifty}
 use Rattle.types.proofs.Solutions.{solves}
@@ -81,7 +81,7 @@ module _ (p : Program) (fresh more : ℕ) where
     within_richer zero w d st = inl refl
     within_richer (suc k) w d st =
         begin_at (solves p s (one_is_thrifty p (fresh + more) m) w (richer d st))
-          (work_follows p r s richer IsStopped view (within p r k) (run p s) (within_richer k) w d st)
+        (work_follows p r s richer IsStopped view (within p r k) (run p s) (within_richer k) w d st)
 
     run_richer : (w : Work) → Follows richer IsStopped (run p r w) (run p s w)
     run_richer w d st = within_richer (st.steps + 1) w d st
@@ -91,7 +91,7 @@ module _ (p : Program) (fresh more : ℕ) where
   begin_richer (suc n) zero le b d st = absurd (omega (arith, le))
   begin_richer (suc n) (suc m) le b d st =
       left (run p (one_rules p fresh n) (Block b) (child fresh st)) (run p (one_rules p (fresh + more) m) (Block b) (child (fresh + more) (richer d st)))
-        (run_richer n m (begin_richer n m (omega (arith, le))) (Block b) more (child fresh st))
+      (run_richer n m (begin_richer n m (omega (arith, le))) (Block b) more (child fresh st))
     where
       left : (out other : S) → IsStopped out ⊎ (other ≡ richer more out) → IsStopped (after_body st out) ⊎ (after_body (richer d st) other ≡ richer d (after_body st out))
       left out other (inl e) = inl (ap after_async e)
@@ -105,7 +105,7 @@ not_halted e h = subst Is_halted h tt
     Is_halted (Ended e) = ⊥
 
 larger_by : (p : Program) (input : List (List ℤ)) (fresh more n m : ℕ) (e : Ending) → n ≤ m
-  → outcome p input (record { steps = fresh; nest = n }) ≡ Ended e → outcome p input (record { steps = fresh + more; nest = m }) ≡ Ended e
+    → outcome p input (record { steps = fresh; nest = n }) ≡ Ended e → outcome p input (record { steps = fresh + more; nest = m }) ≡ Ended e
 larger_by p input fresh more n m e le ends =
     by_run (one p fresh n (Block p.main.body) st) (one p (fresh + more) m (Block p.main.body) (richer more st)) (run_richer p fresh more n m (begin_richer p fresh more n m le) (Block p.main.body) more st) ends
   where
@@ -125,7 +125,7 @@ pub larger_ends : (p : Program) (input : List (List ℤ)) (b larger : Budget) (e
 larger_ends p input b larger e is_larger ends =
     let steps : b.steps + (larger.steps - b.steps) ≡ larger.steps = let le = is_larger.steps in omega (arith, le) in
     subst (λ k. outcome p input (record { steps = k; nest = larger.nest }) ≡ Ended e) steps
-      (larger_by p input b.steps (larger.steps - b.steps) b.nest larger.nest e is_larger.nest ends)
+    (larger_by p input b.steps (larger.steps - b.steps) b.nest larger.nest e is_larger.nest ends)
 
 abbrev ending_or : Ending → Outcome → Ending
 ending_or other (Ended e) = e

@@ -7,3 +7,4 @@ pub mod Larger
 pub mod Readings
 pub mod Lists
 pub mod Blocks
+pub mod Resolved

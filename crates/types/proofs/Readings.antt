@@ -1,11 +1,11 @@
 -- A value depends only on the places of the sections that its expression indexes.
-use Rattle.std.proofs.Common.{◌≡◌, ℕ, zero, suc, ◌+◌, ◌<◌, ◌≤◌, List, [], ◌∷◌, ◌++◌, Option, Some, None, Ok, Err, refl, sym, ap, ◌∙◌, arith, length}
+use Rattle.std.proofs.Common.{◌≡◌, ℕ, ◌+◌, List, [], ◌∷◌, ◌++◌, Some, None, Ok, Err, refl, ap, ◌∙◌, arith}
 use Rattle.std.proofs.lemmas.Bool.{ltb-true}
 use Rattle.std.proofs.lemmas.List.Elements.{Contains-append_left, Contains-append_right}
-use Rattle.std.specs.Prelude.{ℤ, pos, negsuc, neg_ℤ, nat_lt, Bool, true, false, not, ok_or, if◌then◌else◌, Contains}
+use Rattle.std.specs.Prelude.{ℤ, pos, negsuc, neg_ℤ, nat_lt, Bool, true, false, not, ok_or, if◌then◌else◌}
 use Rattle.types.specs.declared.fault.FaultKind.TheVariants.{Index}
 use Rattle.types.specs.Code.{Number, Literal, Scalar, Element, Length, Negative, Chain, Links, Done, Link, Truth, Constant, Compare, Not, Both, Either, Truths, NoMore, Also}
-use Rattle.types.specs.Place.{Window, Place, In, place_in}
+use Rattle.types.specs.Place.{Window, Place, In}
 use Rattle.types.specs.Value.{Environment, Valued, then_try, element_of, within_64_bits, operate, holds, number, links, truth, all, any}
 use Rattle.types.specs.Indexed.{indexed, indexed_links, indexed_truth, indexed_truths}
 use Rattle.types.specs.Laws.{SameOn}
@@ -47,25 +47,25 @@ module _ (env : Environment) (read other : Place → ℤ) where
     number_same (Scalar x) h = refl
     number_same (Element s i) h =
         tried (number env read i) (number env other i) _ _ (number_same i (same_right (s ∷ []) (indexed i) h))
-          (λ v. element_same (env.windows s) v (same_first s (indexed i) h))
+        (λ v. element_same (env.windows s) v (same_first s (indexed i) h))
     number_same (Length s) h = refl
     number_same (Negative e) h = ap (λ x. then_try x (λ v. within_64_bits (neg_ℤ v))) (number_same e h)
     number_same (Chain e rest) h =
         tried (number env read e) (number env other e) (links env read rest) (links env other rest)
-          (number_same e (same_left (indexed e) (indexed_links rest) h)) (links_same rest (same_right (indexed e) (indexed_links rest) h))
+        (number_same e (same_left (indexed e) (indexed_links rest) h)) (links_same rest (same_right (indexed e) (indexed_links rest) h))
 
     links_same : (rest : Links) → Same (indexed_links rest) → (x : ℤ) → links env read rest x ≡ links env other rest x
     links_same Done h x = refl
     links_same (Link o e rest) h x =
         tried (number env read e) (number env other e) _ _ (number_same e (same_left (indexed e) (indexed_links rest) h))
-          (λ y. tried (operate o x y) (operate o x y) (links env read rest) (links env other rest) refl (links_same rest (same_right (indexed e) (indexed_links rest) h)))
+        (λ y. tried (operate o x y) (operate o x y) (links env read rest) (links env other rest) refl (links_same rest (same_right (indexed e) (indexed_links rest) h)))
 
   mutual
     pub truth_same : (t : Truth) → Same (indexed_truth t) → truth env read t ≡ truth env other t
     truth_same (Constant b) h = refl
     truth_same (Compare r a b) h =
         tried (number env read a) (number env other a) _ _ (number_same a (same_left (indexed a) (indexed b) h))
-          (λ x. ap (λ v. then_try v (λ y. Ok (holds r x y))) (number_same b (same_right (indexed a) (indexed b) h)))
+        (λ x. ap (λ v. then_try v (λ y. Ok (holds r x y))) (number_same b (same_right (indexed a) (indexed b) h)))
     truth_same (Not t) h = ap (λ v. then_try v (λ b. Ok (not b))) (truth_same t h)
     truth_same (Both ts) h = all_same ts h true
     truth_same (Either ts) h = any_same ts h false
@@ -75,11 +75,11 @@ module _ (env : Environment) (read other : Place → ℤ) where
     all_same (Also t rest) h false = refl
     all_same (Also t rest) h true =
         tried (truth env read t) (truth env other t) (all env read rest) (all env other rest)
-          (truth_same t (same_left (indexed_truth t) (indexed_truths rest) h)) (all_same rest (same_right (indexed_truth t) (indexed_truths rest) h))
+        (truth_same t (same_left (indexed_truth t) (indexed_truths rest) h)) (all_same rest (same_right (indexed_truth t) (indexed_truths rest) h))
 
     any_same : (ts : Truths) → Same (indexed_truths ts) → (b : Bool) → any env read ts b ≡ any env other ts b
     any_same NoMore h b = refl
     any_same (Also t rest) h true = refl
     any_same (Also t rest) h false =
         tried (truth env read t) (truth env other t) (any env read rest) (any env other rest)
-          (truth_same t (same_left (indexed_truth t) (indexed_truths rest) h)) (any_same rest (same_right (indexed_truth t) (indexed_truths rest) h))
+        (truth_same t (same_left (indexed_truth t) (indexed_truths rest) h)) (any_same rest (same_right (indexed_truth t) (indexed_truths rest) h))

@@ -1,12 +1,11 @@
 -- A run solves its equation, and no other function does.
-use Rattle.std.proofs.Common.{◌≡◌, ℕ, zero, suc, ◌+◌, ◌<◌, ◌≤◌, List, Ok, Err, refl, sym, ap, ◌∙◌, arith, le_refl}
+use Rattle.std.proofs.Common.{◌≡◌, ℕ, zero, suc, ◌+◌, ◌<◌, ◌≤◌, Ok, Err, refl, sym, ap, ◌∙◌, arith, le_refl}
 use Rattle.std.specs.Prelude.{ℤ, Bool, true, false, map, ok_or}
-use Rattle.types.specs.declared.fault.FaultKind.{FaultKind}
-use Rattle.types.specs.declared.fault.FaultKind.TheVariants.{SplitPoint, Raised}
-use Rattle.types.specs.Code.{Number, Truth, Primitive, Skip, Assign, Store, Print, Raise, Code, Do, If, While, Split, Call, Async, Finish, Codes, End, Then, Program}
-use Rattle.types.specs.Place.{Window, Place, sides_of}
-use Rattle.types.specs.Value.{Environment, Valued, element_of, holds_number}
-use Rattle.types.specs.Run.{Flow, On, Faulted, Stopped, State, Work, Block, Turn, stopped, at_flow, go_on, spend, with_step, fault, with_value, number_at, numbers_at, truth_at, window_at, assign, print, put, choose, in_environment, entry, with_sides, array_of, procedure_of, Rules, primitive, counted, act, block, work, within, run}
+use Rattle.types.specs.declared.fault.FaultKind.TheVariants.{SplitPoint}
+use Rattle.types.specs.Code.{Primitive, Skip, Assign, Store, Print, Raise, Code, Do, If, While, Split, Call, Async, Finish, Codes, End, Then, Program}
+use Rattle.types.specs.Place.{Place, sides_of}
+use Rattle.types.specs.Value.{Valued, element_of, holds_number}
+use Rattle.types.specs.Run.{Flow, On, Faulted, Stopped, State, Work, Block, Turn, at_flow, go_on, spend, with_step, with_value, number_at, numbers_at, truth_at, window_at, assign, print, put, choose, entry, with_sides, array_of, procedure_of, Rules, primitive, counted, act, block, work, within, run}
 use Rattle.types.specs.Laws.{IsThrifty, Solves, IsOnly}
 
 module _ {X : Type 0} where
@@ -64,7 +63,7 @@ module _ (p : Program) {X : Type 0} (r : Rules X) where
   primitive_less l (Assign x e) st = value_less l (number_at st e) (assign x) st (λ v. le_refl st.steps)
   primitive_less l (Store s i e) st =
       value_less l (number_at st i) _ st (λ at. value_less l (number_at st e) _ st (λ v.
-        value_less l (element_of (window_at st s) at) _ st (λ q. put_less l (holds_number (array_of p q.array).element v) q v st)))
+      value_less l (element_of (window_at st s) at) _ st (λ q. put_less l (holds_number (array_of p q.array).element v) q v st)))
   primitive_less l (Print es) st = value_less l (numbers_at st es) print st (λ vs. le_refl st.steps)
   primitive_less l (Raise e) st = value_less l (number_at st e) _ st (λ v. le_refl st.steps)
 
@@ -81,10 +80,10 @@ module _ (p : Program) {X : Type 0} (r : Rules X) where
   counted_act_less d l s h st = let i = h (counted r s st) in let j = counted_less s st in omega (arith, i, j)
 
   step_agree : (m : ℕ) (d e : Work → State X → State X) (l : ℕ) (s : Code) → ((st : State X) → st.steps < m → act p r d l s st ≡ act p r e l s st) → (st : State X) → st.steps ≤ m
-    → with_step (λ st. act p r d l s (counted r s st)) st ≡ with_step (λ st. act p r e l s (counted r s st)) st
+      → with_step (λ st. act p r d l s (counted r s st)) st ≡ with_step (λ st. act p r e l s (counted r s st)) st
   step_agree m d e l s h st le =
       spend_agree m st.steps st (λ st. act p r d l s (counted r s st)) (λ st. act p r e l s (counted r s st)) refl le
-        (λ x lt. h (counted r s x) (let j = counted_less s x in omega (arith, j, lt)))
+      (λ x lt. h (counted r s x) (let j = counted_less s x in omega (arith, j, lt)))
 
 module _ (p : Program) {X : Type 0} (r : Rules X) (thrifty : IsThrifty r) where
   abbrev Deeper : Type 0
@@ -100,10 +99,10 @@ module _ (p : Program) {X : Type 0} (r : Rules X) (thrifty : IsThrifty r) where
       act_less (If t b c) l st = value_less l (truth_at st t) _ st (λ v. choose_less v (block p r d b) (block p r d c) (block_less b) (block_less c) st)
       act_less (While t b) l st =
           value_less l (truth_at st t) _ st (λ v.
-            choose_less v (λ s. go_on (d (Turn l t b)) (block p r d b s)) (λ s. s) (again_less (block p r d b) (d (Turn l t b)) (block_less b) (h (Turn l t b))) (λ s. le_refl s.steps) st)
+          choose_less v (λ s. go_on (d (Turn l t b)) (block p r d b s)) (λ s. s) (again_less (block p r d b) (d (Turn l t b)) (block_less b) (h (Turn l t b))) (λ s. le_refl s.steps) st)
       act_less (Split s e x y b) l st =
           value_less l (number_at st e) _ st (λ v. value_less l (ok_or (sides_of (window_at st s) v) SplitPoint) _ st (λ ws.
-            block_less b (record st { environment = with_sides x y ws st.environment })))
+          block_less b (record st { environment = with_sides x y ws st.environment })))
       act_less (Call f es ss) l st =
           value_less l (numbers_at st es) _ st (λ vs. h (Block (procedure_of p f).body) (record st { environment = entry vs (map (window_at st) ss) }))
       act_less (Async b) l st = thrifty.begin b st
@@ -145,14 +144,14 @@ module _ (p : Program) {X : Type 0} (r : Rules X) (thrifty : IsThrifty r) where
           let out = block p r d b st in
           let i = block_less d less b st in
           value_agree l (truth_at st t) _ _ st (λ v.
-            choose_agree v (λ s. go_on (d (Turn l t b)) (block p r d b s)) (λ s. go_on (e (Turn l t b)) (block p r e b s)) (λ s. s) st (λ s. s)
-              (then_agree out (block p r e b st) (d (Turn l t b)) (e (Turn l t b)) (block_agree b st (omega (arith, lt))) (agree (Turn l t b) out (omega (arith, i, lt)))) refl)
+          choose_agree v (λ s. go_on (d (Turn l t b)) (block p r d b s)) (λ s. go_on (e (Turn l t b)) (block p r e b s)) (λ s. s) st (λ s. s)
+          (then_agree out (block p r e b st) (d (Turn l t b)) (e (Turn l t b)) (block_agree b st (omega (arith, lt))) (agree (Turn l t b) out (omega (arith, i, lt)))) refl)
       act_agree (Split s x left right b) l st lt =
           value_agree l (number_at st x) _ _ st (λ v. value_agree l (ok_or (sides_of (window_at st s) v) SplitPoint) _ _ st (λ ws.
-            block_agree b (record st { environment = with_sides left right ws st.environment }) (omega (arith, lt))))
+          block_agree b (record st { environment = with_sides left right ws st.environment }) (omega (arith, lt))))
       act_agree (Call f es ss) l st lt =
           value_agree l (numbers_at st es) _ _ st (λ vs.
-            ap {A = State X} (λ out. record out { environment = st.environment }) (agree (Block (procedure_of p f).body) (record st { environment = entry vs (map (window_at st) ss) }) lt))
+          ap {A = State X} (λ out. record out { environment = st.environment }) (agree (Block (procedure_of p f).body) (record st { environment = entry vs (map (window_at st) ss) }) lt))
       act_agree (Async b) l st lt = refl
       act_agree (Finish b) l st lt = let i = thrifty.enter st in ap (r.leave st) (block_agree b (r.enter st) (omega (arith, i, lt)))
 
@@ -162,7 +161,7 @@ module _ (p : Program) {X : Type 0} (r : Rules X) (thrifty : IsThrifty r) where
           let after = with_step (λ st. act p r d l s (counted r s st)) st in
           let i = spend_less st.steps st (λ st. act p r d l s (counted r s st)) refl (counted_act_less p r d l s (act_less d less s l)) in
           then_agree after (with_step (λ st. act p r e l s (counted r s st)) st) (block p r d rest) (block p r e rest)
-            (step_agree p r m d e l s (act_agree s l) st le) (block_agree rest after (omega (arith, i, le)))
+          (step_agree p r m d e l s (act_agree s l) st le) (block_agree rest after (omega (arith, i, le)))
 
     work_agree : (w : Work) (st : State X) → st.steps ≤ m → work p r d w st ≡ work p r e w st
     work_agree (Block b) st le = block_agree b st le

@@ -1,13 +1,13 @@
 -- Two runs side by side: where each state of the second is a view of a state of the first, the second follows the first.
-use Rattle.std.proofs.Common.{◌≡◌, ℕ, zero, suc, ◌+◌, List, Ok, Err, refl, sym, ap, ◌∙◌, inl, inr}
+use Rattle.std.proofs.Common.{◌≡◌, ℕ, List, Ok, Err, refl, ap, ◌∙◌, inl, inr}
 use Rattle.std.specs.Prelude.{ℤ, ◌⊎◌, Bool, true, false, map, ok_or}
 use Rattle.types.specs.declared.fault.FaultKind.{FaultKind}
 use Rattle.types.specs.declared.fault.FaultKind.TheVariants.{SplitPoint, Raised}
-use Rattle.types.specs.Code.{Number, Truth, Primitive, Skip, Assign, Store, Print, Raise, Code, Do, If, While, Split, Call, Async, Finish, Codes, End, Then, Program}
-use Rattle.types.specs.Place.{Window, Place, sides_of}
+use Rattle.types.specs.Code.{Primitive, Skip, Assign, Store, Print, Raise, Code, Do, If, While, Split, Call, Async, Finish, Codes, End, Then, Program}
+use Rattle.types.specs.Place.{Place, sides_of}
 use Rattle.types.specs.Contents.{Contents, read, write}
 use Rattle.types.specs.Value.{Environment, Valued, element_of, holds_number, number, numbers, truth}
-use Rattle.types.specs.Run.{Flow, On, Faulted, Stopped, State, Work, Block, Turn, stopped, at_flow, go_on, spend, with_step, fault, with_value, number_at, numbers_at, truth_at, window_at, assign, print, put, choose, in_environment, entry, with_sides, bind, array_of, procedure_of, Rules, primitive, counted, act, block, work}
+use Rattle.types.specs.Run.{Flow, On, Faulted, Stopped, State, Work, Block, Turn, at_flow, go_on, with_step, fault, with_value, number_at, numbers_at, truth_at, window_at, assign, print, put, choose, in_environment, entry, with_sides, bind, array_of, procedure_of, Rules, primitive, counted, act, block, work}
 
 -- one of two, where the equation may begin elsewhere
 pub begin_at : {L A : Type 0} {a b c : A} → a ≡ b → L ⊎ (b ≡ c) → L ⊎ (a ≡ c)
@@ -82,9 +82,9 @@ module _ (p : Program) {I X Y : Type 0} (r : Rules X) (s : Rules Y) (v : I → S
       value_follows i l (number_at st e) (number_at (v i st) e) (same_reading i (λ env c. number env (read c) e) st) (assign x) (assign x) st (λ n. assign_follows x n i st)
   primitive_follows l (Store sec at e) i st =
       value_follows i l (number_at st at) (number_at (v i st) at) (same_reading i (λ env c. number env (read c) at) st) _ _ st (λ n_at.
-        value_follows i l (number_at st e) (number_at (v i st) e) (same_reading i (λ env c. number env (read c) e) st) _ _ st (λ n.
-          value_follows i l (element_of (window_at st sec) n_at) (element_of (window_at (v i st) sec) n_at) (same_reading i (λ env c. element_of (env.windows sec) n_at) st) _ _ st (λ q.
-            put_follows l (holds_number (array_of p q.array).element n) q n i st)))
+      value_follows i l (number_at st e) (number_at (v i st) e) (same_reading i (λ env c. number env (read c) e) st) _ _ st (λ n.
+      value_follows i l (element_of (window_at st sec) n_at) (element_of (window_at (v i st) sec) n_at) (same_reading i (λ env c. element_of (env.windows sec) n_at) st) _ _ st (λ q.
+      put_follows l (holds_number (array_of p q.array).element n) q n i st)))
   primitive_follows l (Print es) i st =
       value_follows i l (numbers_at st es) (numbers_at (v i st) es) (same_reading i (λ env c. numbers env (read c) es) st) print print st (λ vs. inr (view.printed i st vs))
   primitive_follows l (Raise e) i st =
@@ -106,15 +106,15 @@ module _ (p : Program) {I X Y : Type 0} (r : Rules X) (s : Rules Y) (v : I → S
   environment_follows : (env : Environment) (go : State X → State X) (to : State Y → State Y) → Follows v Lost go to → Follows v Lost (in_environment env go) (in_environment env to)
   environment_follows env go to h i st =
       begin_at (ap (λ back. record (to (record (v i st) { environment = env })) { environment = back }) (view.environment i st))
-        (moved_back i st.environment (go (record st { environment = env })) (to (record (v i st) { environment = env }))
-          (begin_at (ap to (view.moved i st env)) (h i (record st { environment = env }))))
+      (moved_back i st.environment (go (record st { environment = env })) (to (record (v i st) { environment = env }))
+      (begin_at (ap to (view.moved i st env)) (h i (record st { environment = env }))))
 
   -- with a step taken before
   step_follows : (d : Work → State X → State X) (e : Work → State Y → State Y) (l : ℕ) (c : Code) → Follows v Lost (act p r d l c) (act p s e l c)
-    → Follows v Lost (with_step (λ st. act p r d l c (counted r c st))) (with_step (λ st. act p s e l c (counted s c st)))
+      → Follows v Lost (with_step (λ st. act p r d l c (counted r c st))) (with_step (λ st. act p s e l c (counted s c st)))
   step_follows d e l c h i st =
       view.spends i st (λ st. act p r d l c (counted r c st)) (λ st. act p s e l c (counted s c st))
-        (λ i st. begin_at (ap (act p s e l c) (counted_is i c st)) (h i (counted r c st)))
+      (λ i st. begin_at (ap (act p s e l c) (counted_is i c st)) (h i (counted r c st)))
 
   module _ (d : Work → State X → State X) (e : Work → State Y → State Y) (deeper : (w : Work) → Follows v Lost (d w) (e w)) where
     mutual
@@ -122,21 +122,21 @@ module _ (p : Program) {I X Y : Type 0} (r : Rules X) (s : Rules Y) (v : I → S
       act_follows (Do c) l i st = primitive_follows l c i st
       act_follows (If t b c) l i st =
           value_follows i l (truth_at st t) (truth_at (v i st) t) (same_reading i (λ env c. truth env (read c) t) st) _ _ st (λ x.
-            choose_follows i x (block p r d b) (block p r d c) (block p s e b) (block p s e c) st (block_follows b i st) (block_follows c i st))
+          choose_follows i x (block p r d b) (block p r d c) (block p s e b) (block p s e c) st (block_follows b i st) (block_follows c i st))
       act_follows (While t b) l i st =
           value_follows i l (truth_at st t) (truth_at (v i st) t) (same_reading i (λ env c. truth env (read c) t) st) _ _ st (λ x.
-            choose_follows i x (λ st. go_on (d (Turn l t b)) (block p r d b st)) (λ st. st) (λ st. go_on (e (Turn l t b)) (block p s e b st)) (λ st. st) st
-              (after_follows i (block p r d b) (d (Turn l t b)) (block p s e b) (e (Turn l t b)) st (block_follows b i st) (deeper (Turn l t b))) (inr refl))
+          choose_follows i x (λ st. go_on (d (Turn l t b)) (block p r d b st)) (λ st. st) (λ st. go_on (e (Turn l t b)) (block p s e b st)) (λ st. st) st
+          (after_follows i (block p r d b) (d (Turn l t b)) (block p s e b) (e (Turn l t b)) st (block_follows b i st) (deeper (Turn l t b))) (inr refl))
       act_follows (Split sec n x y b) l i st =
           value_follows i l (number_at st n) (number_at (v i st) n) (same_reading i (λ env c. number env (read c) n) st) _ _ st (λ k.
-            value_follows i l (ok_or (sides_of (window_at st sec) k) SplitPoint) (ok_or (sides_of (window_at (v i st) sec) k) SplitPoint) (same_reading i (λ env c. ok_or (sides_of (env.windows sec) k) SplitPoint) st) _ _ st (λ ws.
-              begin_at (ap (λ env. block p s e b (record (v i st) { environment = with_sides x y ws env })) (view.environment i st)
-                        ∙ ap (block p s e b) (view.moved i st (with_sides x y ws st.environment)))
-                (block_follows b i (record st { environment = with_sides x y ws st.environment }))))
+          value_follows i l (ok_or (sides_of (window_at st sec) k) SplitPoint) (ok_or (sides_of (window_at (v i st) sec) k) SplitPoint) (same_reading i (λ env c. ok_or (sides_of (env.windows sec) k) SplitPoint) st) _ _ st (λ ws.
+          begin_at (ap (λ env. block p s e b (record (v i st) { environment = with_sides x y ws env })) (view.environment i st)
+          ∙ ap (block p s e b) (view.moved i st (with_sides x y ws st.environment)))
+          (block_follows b i (record st { environment = with_sides x y ws st.environment }))))
       act_follows (Call f es ss) l i st =
           value_follows i l (numbers_at st es) (numbers_at (v i st) es) (same_reading i (λ env c. numbers env (read c) es) st) _ _ st (λ vs.
-            begin_at (ap (λ env. in_environment (entry vs (map env.windows ss)) (e (Block (procedure_of p f).body)) (v i st)) (view.environment i st))
-              (environment_follows (entry vs (map (window_at st) ss)) (d (Block (procedure_of p f).body)) (e (Block (procedure_of p f).body)) (deeper (Block (procedure_of p f).body)) i st))
+          begin_at (ap (λ env. in_environment (entry vs (map env.windows ss)) (e (Block (procedure_of p f).body)) (v i st)) (view.environment i st))
+          (environment_follows (entry vs (map (window_at st) ss)) (d (Block (procedure_of p f).body)) (e (Block (procedure_of p f).body)) (deeper (Block (procedure_of p f).body)) i st))
       act_follows (Async b) l i st = view.begin b i st
       act_follows (Finish b) l i st = view.finish (block p r d b) (block p s e b) (block_follows b) i st
 
@@ -144,7 +144,7 @@ module _ (p : Program) {I X Y : Type 0} (r : Rules X) (s : Rules Y) (v : I → S
       block_follows End i st = inr refl
       block_follows (Then l c rest) i st =
           after_follows i (with_step (λ st. act p r d l c (counted r c st))) (block p r d rest) (with_step (λ st. act p s e l c (counted s c st))) (block p s e rest) st
-            (step_follows d e l c (act_follows c l) i st) (block_follows rest)
+          (step_follows d e l c (act_follows c l) i st) (block_follows rest)
 
     -- where what is deeper follows, so does the whole
     pub work_follows : (w : Work) → Follows v Lost (work p r d w) (work p s e w)

@@ -1,5 +1,5 @@
 -- The number at each place, and the lists of numbers that show it.
-use Rattle.std.specs.Prelude.{ℕ, zero, suc, ◌+◌, ◌≡◌, List, [], ◌∷◌, length, ℤ, pos, Option, Some, None, unwrap_or, slice_get, slice_index_or, if◌then◌else◌}
+use Rattle.std.specs.Prelude.{ℕ, zero, suc, ◌+◌, ◌≡◌, List, [], ◌∷◌, length, ℤ, pos, Option, Some, unwrap_or, slice_get, slice_index_or, if◌then◌else◌}
 use Rattle.types.specs.Code.{Array}
 use Rattle.types.specs.Place.{Place, same_place}
 

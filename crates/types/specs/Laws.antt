@@ -1,9 +1,9 @@
 -- What holds of runs and of values, whatever the program.
-use Rattle.std.specs.Prelude.{ℕ, ℤ, ◌≡◌, ◌≤◌, List, [], Contains}
-use Rattle.types.specs.Code.{Number, Truth, Codes, Program}
+use Rattle.std.specs.Prelude.{ℕ, ℤ, ◌≡◌, ◌≤◌, List, Contains}
+use Rattle.types.specs.Code.{Codes, Program}
 use Rattle.types.specs.Place.{Place, In}
 use Rattle.types.specs.Value.{Environment}
-use Rattle.types.specs.Run.{State, Rules, Work, work, run}
+use Rattle.types.specs.Run.{State, Rules, Work, work}
 use Rattle.types.specs.Meaning.{hushed, joined}
 
 module _ {X : Type 0} where

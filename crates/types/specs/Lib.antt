@@ -10,3 +10,4 @@ pub mod FirstPart
 pub mod Typed
 pub mod Indexed
 pub mod Laws
+pub mod Resolution

@@ -3,7 +3,7 @@ use Rattle.std.specs.Prelude.{ℕ, ◌+◌, ◌≡◌, ◌≤◌, List, [], ◌�
 use Rattle.types.specs.Code.{Array, Program}
 use Rattle.types.specs.Place.{Window}
 use Rattle.types.specs.Contents.{Contents, held_by, shown}
-use Rattle.types.specs.Run.{Flow, On, Faulted, Stopped, Fault, State, Rules, Block, entry}
+use Rattle.types.specs.Run.{Flow, On, Faulted, Stopped, Fault, State, Block, entry}
 use Rattle.types.specs.Meaning.{one_rules, one}
 
 -- how many steps each task may take, and how many asyncs may stand inside one another

@@ -1,12 +1,12 @@
 -- What a task does: the one recursion over statements, by rules for what an async and a finish do.
-use Rattle.std.specs.Prelude.{ℕ, zero, suc, ◌+◌, List, [], ◌∷◌, ◌++◌, map, Bool, true, false, ℤ, pos, Option, Some, None, Result, Ok, Err, ok_or, nat_eq, slice_index_or, if◌then◌else◌}
+use Rattle.std.specs.Prelude.{ℕ, zero, suc, ◌+◌, List, [], ◌∷◌, ◌++◌, map, Bool, true, false, ℤ, pos, Ok, Err, ok_or, nat_eq, slice_index_or, if◌then◌else◌}
 use Rattle.syntax.specs.declared.tree.ElementType.TheVariants.{Int}
 use Rattle.types.specs.declared.fault.FaultKind.{FaultKind}
 use Rattle.types.specs.declared.fault.FaultKind.TheVariants.{OutOfElement, SplitPoint, Raised}
 use Rattle.types.specs.Code.{Number, Truth, Primitive, Skip, Assign, Store, Print, Raise, Code, Do, If, While, Split, Call, Async, Finish, Codes, End, Then, Array, Procedure, Program}
 use Rattle.types.specs.Place.{Window, Place, nowhere, sides_of}
 use Rattle.types.specs.Contents.{Contents, read, write}
-use Rattle.types.specs.Value.{Environment, Valued, then_try, element_of, holds_number, number, numbers, truth}
+use Rattle.types.specs.Value.{Environment, Valued, element_of, holds_number, number, numbers, truth}
 
 -- whether a task goes on
 pub data Flow : Type 0 where
@@ -161,8 +161,8 @@ module _ (p : Program) {X : Type 0} where
   primitive l (Assign x e) st = with_value l (number_at st e) (assign x) st
   primitive l (Store s i e) st =
       with_value l (number_at st i) (λ at.
-        with_value l (number_at st e) (λ v.
-          with_value l (element_of (window_at st s) at) (λ q. put l (holds_number (array_of p q.array).element v) q v))) st
+      with_value l (number_at st e) (λ v.
+      with_value l (element_of (window_at st s) at) (λ q. put l (holds_number (array_of p q.array).element v) q v))) st
   primitive l (Print es) st = with_value l (numbers_at st es) print st
   primitive l (Raise e) st = with_value l (number_at st e) (λ v. fault l (Raised v)) st
 
@@ -183,11 +183,11 @@ module _ (p : Program) {X : Type 0} (r : Rules X) where
         with_value l (truth_at st t) (choose (λ s. go_on (deeper (Turn l t b)) (block deeper b s)) (λ s. s)) st
     act deeper l (Split s e x y b) st =
         with_value l (number_at st e) (λ v.
-          with_value l (ok_or (sides_of (window_at st s) v) SplitPoint) (λ ws.
-            λ st. block deeper b (record st { environment = with_sides x y ws st.environment }))) st
+        with_value l (ok_or (sides_of (window_at st s) v) SplitPoint) (λ ws.
+        λ st. block deeper b (record st { environment = with_sides x y ws st.environment }))) st
     act deeper l (Call f es ss) st =
         with_value l (numbers_at st es) (λ vs.
-          in_environment (entry vs (map (window_at st) ss)) (deeper (Block (procedure_of p f).body))) st
+        in_environment (entry vs (map (window_at st) ss)) (deeper (Block (procedure_of p f).body))) st
     act deeper l (Async b) st = r.begin b st
     act deeper l (Finish b) st = r.leave st (block deeper b (r.enter st))
 

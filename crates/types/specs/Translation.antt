@@ -1,8 +1,10 @@
 -- The Rust types as plain trees, without what says where they lie in memory.
-use Rattle.std.specs.Prelude.{ℕ, ℤ, List, [], ◌∷◌, map, Vec}
+use Rattle.std.specs.Prelude.{ℤ, List, [], ◌∷◌, map, pos}
 use Rattle.std.specs.String.{string_bytes}
 use Rattle.types.specs.Code.{Number, Literal, Scalar, Element, Length, Negative, Chain, Links, Done, Link, Truth, Constant, Compare, Not, Both, Either, Truths, NoMore, Also, Primitive, Skip, Assign, Store, Print, Raise, Code, Do, If, While, Split, Call, Async, Finish, Codes, End, Then, Origin, Root, Left, Right, Array, Parameter, Procedure, Program}
-use Rattle.types.specs.Run.{Fault}
+use Rattle.types.specs.Place.{Window, nowhere}
+use Rattle.types.specs.Value.{Environment}
+use Rattle.types.specs.Run.{Fault, by_number}
 use Rattle.types.specs.Outcome.{Budget, Outcome, Ended, Halted}
 use Rattle.types.specs.declared.code.Number.{Number as rNumber, Row_of-Link, end_of-Link, more_of-Link}
 use Rattle.types.specs.declared.code.Number.TheVariants.{Literal as rLiteral, Scalar as rScalar, Element' as rElement, Length as rLength, Negative' as rNegative, Chain' as rChain}
@@ -17,9 +19,10 @@ use Rattle.types.specs.declared.code.Origin.{Origin as rOrigin}
 use Rattle.types.specs.declared.code.Origin.TheVariants.{Root as rRoot, Left as rLeft, Right as rRight}
 use Rattle.types.specs.declared.code.Array.{Array as rArray}
 use Rattle.types.specs.declared.code.SectionParameter.{SectionParameter}
-use Rattle.types.specs.declared.code.Section.{Section}
 use Rattle.types.specs.declared.code.Procedure.{Procedure as rProcedure}
 use Rattle.types.specs.declared.code.Program.{Program as rProgram}
+use Rattle.types.specs.declared.window.Window.{Window as rWindow}
+use Rattle.types.specs.declared.value.Environment.{Environment as rEnvironment}
 use Rattle.types.specs.declared.fault.Fault.{Fault as rFault}
 use Rattle.types.specs.declared.budget.Budget.{Budget as rBudget}
 use Rattle.types.specs.declared.input.Input.{Input}
@@ -133,3 +136,14 @@ outcome (rEnded arrays lines faults) = Ended (record {
   faults = map fault faults.items;
 })
 outcome rStopped = Halted
+
+-- a window
+abbrev pub window : rWindow → Window
+window w = record { array = w.array; at = w.at; length = w.len }
+
+-- what a frame knows
+abbrev pub environment : rEnvironment → Environment
+environment e = record {
+  scalars = by_number (pos 0) e.scalars.items;
+  windows = by_number nowhere (map window e.windows.items);
+}

@@ -1,36 +1,35 @@
 //! Laws of the definitions, each the contract of a function that does nothing.
 
-ghost use Rattle.std.specs.Prelude.{◌≡◌, ◌<◌, ℕ, ℤ, List, [], length, slice_index_or, slice_set};
+ghost use Rattle.std.specs.Prelude.{◌≡◌, ◌<◌, ℕ, ℤ, List, [], ◌++◌, length, replicate, slice_get, slice_index_or, slice_set};
 ghost use Rattle.types.specs.Code.{Number, Truth, Array, Program};
-ghost use Rattle.types.specs.Place.{Place};
+ghost use Rattle.types.specs.Place.{Place, nowhere};
 ghost use Rattle.types.specs.Contents.{held_by, shown, write, FitsArrays};
 ghost use Rattle.types.specs.Value.{Environment, number, truth};
 ghost use Rattle.types.specs.Run.{Rules, Work, run, bind, by_number};
 ghost use Rattle.types.specs.Meaning.{one, one_rules};
-ghost use Rattle.types.specs.Outcome.{Budget, IsLarger, Ending, Ended, outcome, Means};
+ghost use Rattle.types.specs.Outcome.{Budget, IsLarger, Ending, Ended, outcome, Means, whole_arrays};
 ghost use Rattle.types.specs.Indexed.{indexed, indexed_truth};
 ghost use Rattle.types.specs.Laws.{IsThrifty, Solves, IsOnly, OnlyAdds, SameOn};
 
-/// Where the rules spend steps honestly, a run does what its work says, with runs in place of what is
-/// inside of its calls and further turns; and it alone does. So the bound on depth says nothing.
+/// Where the rules spend steps honestly, a run does what its work says, with runs in place of what
+/// is inside of its calls and further turns; and it alone does. So the bound on depth says nothing.
 pub fn runs_are_determined<X>()
     ensures solves { (p : Program) (r : Rules X) → IsThrifty r → Solves p r (run p r) }
     ensures only { (p : Program) (r : Rules X) → IsThrifty r → IsOnly p r (run p r) }
-{
-}
+{}
 
 /// The one-thread meaning is the one function that does what its work says.
 pub fn meaning_is_determined()
-    ensures solves { (p : Program) (fresh nest : ℕ) → Solves p (one_rules p fresh nest) (one p fresh nest) }
-    ensures only { (p : Program) (fresh nest : ℕ) → IsOnly p (one_rules p fresh nest) (one p fresh nest) }
-{
-}
+    ensures solves { (p : Program) (fresh nest : ℕ)
+        → Solves p (one_rules p fresh nest) (one p fresh nest) }
+    ensures only { (p : Program) (fresh nest : ℕ)
+        → IsOnly p (one_rules p fresh nest) (one p fresh nest) }
+{}
 
 /// What work leaves told is what was told before, followed by what it tells.
 pub fn meaning_only_adds()
     ensures { (p : Program) (fresh nest : ℕ) (w : Work) → OnlyAdds (one p fresh nest w) }
-{
-}
+{}
 
 /// Under a larger budget an ended outcome is the same, so a program has one ending at most.
 pub fn larger_budgets_end_alike()
@@ -38,8 +37,7 @@ pub fn larger_budgets_end_alike()
         → IsLarger larger b → outcome p input b ≡ Ended e → outcome p input larger ≡ Ended e }
     ensures one { (p : Program) (input : List (List ℤ)) (e f : Ending)
         → Means p input e → Means p input f → e ≡ f }
-{
-}
+{}
 
 /// A value depends only on the places of the sections that its expression indexes.
 pub fn values_depend_on_indexed_sections()
@@ -47,17 +45,21 @@ pub fn values_depend_on_indexed_sections()
         → SameOn env (indexed e) read other → number env read e ≡ number env other e }
     ensures truth { (env : Environment) (read other : Place → ℤ) (t : Truth)
         → SameOn env (indexed_truth t) read other → truth env read t ≡ truth env other t }
-{
-}
+{}
 
 /// Lists show what contents and environments are, and a write to a list is a write there.
 pub fn lists_show_contents()
     ensures shown { (arrays : List Array) (lists : List (List ℤ))
         → FitsArrays arrays lists → shown arrays (held_by lists) ≡ lists }
-    ensures written { (lists : List (List ℤ)) (a i : ℕ) (v : ℤ) → i < length (slice_index_or lists a [])
+    ensures written { (lists : List (List ℤ)) (a i : ℕ) (v : ℤ)
+        → i < length (slice_index_or lists a [])
         → held_by (slice_set lists a (slice_set (slice_index_or lists a []) i v))
-            ≡ write (record { array = a; index = i }) v (held_by lists) }
+        ≡ write (record { array = a; index = i }) v (held_by lists) }
+    ensures arrays { (arrays : List Array) (k : ℕ) (x : Array) → slice_get arrays k ≡ Some x
+        → by_number nowhere (whole_arrays 0 arrays) k
+        ≡ record { array = k; at = 0; length = x.length } }
+    ensures slots { (slots : List ℤ) (n : ℕ) (d : ℤ)
+        → by_number d (slots ++ replicate n d) ≡ by_number d slots }
     ensures assigned { (slots : List ℤ) (x : ℕ) (v d : ℤ) → x < length slots
         → by_number d (slice_set slots x v) ≡ bind x v (by_number d slots) }
-{
-}
+{}
