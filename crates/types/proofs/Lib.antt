@@ -7,4 +7,5 @@ pub mod Larger
 pub mod Readings
 pub mod Lists
 pub mod Blocks
+pub mod Served
 pub mod Resolved

@@ -11,3 +11,5 @@ pub mod Typed
 pub mod Indexed
 pub mod Laws
 pub mod Resolution
+pub mod Rules
+pub mod ArrayScope
