@@ -1,3 +1,4 @@
+pub mod Atoms
 pub mod BlockLemmas
 pub mod ChainLemmas
 pub mod LexicalLemmas

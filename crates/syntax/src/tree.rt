@@ -124,19 +124,15 @@ pub struct Expr {
 }
 
 impl Expr {
+    ghost use Rattle.std.specs.Prelude.{◌≡◌, option_copied};
+    ghost use Rattle.std.specs.Option.{option_map};
+    ghost use Rattle.syntax.specs.Tree.{expr, atom, lone_atom};
+
     /// The lone atom of an expression without operators, `not`, sign or comparison.
-    pub fn as_atom(&self) -> Option<&Atom> {
-        let neg = &self.first.first;
-        let sum = &neg.comparison.left;
-        let unary = &sum.first.first;
-        let plain = self.rest.is_empty()
-            && self.first.rest.is_empty()
-            && !neg.negated
-            && neg.comparison.right.is_none()
-            && sum.rest.is_empty()
-            && sum.first.rest.is_empty()
-            && !unary.negative;
-        if plain { Some(&unary.atom) } else { None }
+    pub fn as_atom(&self) -> Option<&Atom>
+        ensures { option_map atom (option_copied result) ≡ lone_atom (expr self.now) }
+    {
+        if self.rest.is_empty() { self.first.as_atom() } else { None }
     }
 }
 
@@ -148,12 +144,44 @@ pub struct Conj {
     pub rest: Vec<Neg>,
 }
 
+impl Conj {
+    ghost use Rattle.std.specs.Prelude.{◌≡◌, option_copied};
+    ghost use Rattle.std.specs.Option.{option_map};
+    ghost use Rattle.syntax.specs.Tree.{conj, atom, atom_of_conj};
+
+    /// Its lone atom.
+    fn as_atom(&self) -> Option<&Atom>
+        ensures { option_map atom (option_copied result) ≡ atom_of_conj (conj self.now) }
+    {
+        if self.rest.is_empty() { self.first.as_atom() } else { None }
+    }
+}
+
 /// `not a < 1`
 #[derive(Drop)]
 #[cycle(expr)]
 pub struct Neg {
     pub negated: bool,
     pub comparison: Cmp,
+}
+
+impl Neg {
+    ghost use Rattle.std.specs.Prelude.{◌≡◌, option_copied};
+    ghost use Rattle.std.specs.Option.{option_map};
+    ghost use Rattle.syntax.specs.Tree.{neg, atom, atom_of_neg};
+
+    /// Its lone atom.
+    fn as_atom(&self) -> Option<&Atom>
+        ensures { option_map atom (option_copied result) ≡ atom_of_neg (neg self.now) }
+    {
+        if self.negated {
+            return None;
+        }
+        match &self.comparison.right {
+            None => self.comparison.left.as_atom(),
+            Some(_) => None,
+        }
+    }
 }
 
 /// `a < 1`, or a sum alone.
@@ -180,6 +208,19 @@ pub struct Sum {
     pub rest: Vec<Term>,
 }
 
+impl Sum {
+    ghost use Rattle.std.specs.Prelude.{◌≡◌, option_copied};
+    ghost use Rattle.std.specs.Option.{option_map};
+    ghost use Rattle.syntax.specs.Tree.{sum, atom, atom_of_sum};
+
+    /// Its lone atom.
+    fn as_atom(&self) -> Option<&Atom>
+        ensures { option_map atom (option_copied result) ≡ atom_of_sum (sum self.now) }
+    {
+        if self.rest.is_empty() { self.first.as_atom() } else { None }
+    }
+}
+
 /// `- b` in a sum.
 #[derive(Drop)]
 #[cycle(expr)]
@@ -196,6 +237,19 @@ pub struct Prod {
     pub rest: Vec<Factor>,
 }
 
+impl Prod {
+    ghost use Rattle.std.specs.Prelude.{◌≡◌, option_copied};
+    ghost use Rattle.std.specs.Option.{option_map};
+    ghost use Rattle.syntax.specs.Tree.{prod, atom, atom_of_prod};
+
+    /// Its lone atom.
+    fn as_atom(&self) -> Option<&Atom>
+        ensures { option_map atom (option_copied result) ≡ atom_of_prod (prod self.now) }
+    {
+        if self.rest.is_empty() { self.first.as_atom() } else { None }
+    }
+}
+
 /// `% b` in a product.
 #[derive(Drop)]
 #[cycle(expr)]
@@ -210,6 +264,19 @@ pub struct Factor {
 pub struct Unary {
     pub negative: bool,
     pub atom: Atom,
+}
+
+impl Unary {
+    ghost use Rattle.std.specs.Prelude.{◌≡◌, option_copied};
+    ghost use Rattle.std.specs.Option.{option_map};
+    ghost use Rattle.syntax.specs.Tree.{unary, atom, atom_of_unary};
+
+    /// Its lone atom.
+    fn as_atom(&self) -> Option<&Atom>
+        ensures { option_map atom (option_copied result) ≡ atom_of_unary (unary self.now) }
+    {
+        if !self.negative { Some(&self.atom) } else { None }
+    }
 }
 
 /// What stands in an expression without an operator.

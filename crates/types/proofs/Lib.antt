@@ -8,4 +8,6 @@ pub mod Readings
 pub mod Lists
 pub mod Slots
 pub mod Chains
+pub mod Blocks
+pub mod Served
 pub mod Resolved

@@ -9,6 +9,9 @@ pub mod Meaning
 pub mod Outcome
 pub mod FirstPart
 pub mod Frame
+pub mod Typed
 pub mod Indexed
 pub mod Laws
 pub mod Resolution
+pub mod Rules
+pub mod ArrayScope

@@ -1,5 +1,22 @@
 //! The typing rules, and the resolution of names.
 
+ghost use Rattle.std.specs.Prelude.{◌≡◌, ◌≤◌, ◌+◌, IsTrue, IfOk, IfErr, OnOk, IsOkUnless, Some, false};
+ghost use Rattle.std.specs.Prelude.{[], ◌∷◌, map, length, replicate};
+ghost use Rattle.std.specs.List.{list_all};
+ghost use Rattle.std.specs.String.{string_bytes};
+ghost use Rattle.syntax.specs.Tree.{block as block_of, stmt as stmt_of, expr as expr_of, atom as atom_of};
+ghost use Rattle.syntax.specs.Tree.{array as array_of, main as main_of, program as tree_of};
+ghost use Rattle.types.specs.ArrayScope.{place_among, lone, only_main, TellsName};
+ghost use Rattle.types.specs.Code.{Root};
+ghost use Rattle.types.specs.Resolution.{labels as labels_of, number as number_of, number_atom};
+ghost use Rattle.types.specs.Resolution.{array as array_at};
+ghost use Rattle.types.specs.Resolution.{Scope, section_of, code as code_at, codes as codes_at, with_main, resolution};
+ghost use Rattle.types.specs.Rules.{is_served};
+ghost use Rattle.types.specs.Rules.{is_number, is_literal, is_printed, is_item, is_served_block, is_unknown};
+ghost use Rattle.types.specs.Translation.{array, origin, number, primitive, codes, code};
+ghost use Rattle.types.specs.Translation.{program as plain};
+ghost use Rattle.types.specs.Typed.{code_of, program_of};
+
 use crate::code::{
     Array, Label, Number, Origin, Primitive, Procedure, Program, Section, Stmt, StmtKind,
 };
@@ -21,7 +38,11 @@ pub const MOST_LABELS: Label = 65_535;
 ///
 /// So far only programs of the first part are served: `main` with arrays, `skip`, stores and prints of
 /// literals and of elements at a literal index, `async` and `finish`. The others are answered by `NotYet`.
-pub fn type_check(alloc: Global, program: tree::Program) -> Result<Typed, TypeError> {
+pub fn type_check(alloc: Global, program: tree::Program) -> Result<Typed, TypeError>
+    ensures code { IfOk result (λ t. resolution (tree_of program) ≡ Some (code_of t)) }
+    ensures program { IfOk result (λ t. program_of t ≡ tree_of program) }
+    ensures served { OnOk result (IsTrue (is_served (tree_of program))) }
+{
     let code = match &program.main {
         None => return Err(TypeError::NoMain),
         Some(main) => {
@@ -35,23 +56,30 @@ pub fn type_check(alloc: Global, program: tree::Program) -> Result<Typed, TypeEr
 }
 
 /// `main`: its arrays, then its statements.
-fn resolve_main(alloc: Global, main: &tree::Main) -> Result<Program, TypeError> {
-    let names = array_names(alloc, &main.arrays)?;
-    let arrays = resolve_arrays(alloc, &main.arrays)?;
-    let mut resolver = Resolver {
+fn resolve_main(alloc: Global, main: &tree::Main) -> Result<Program, TypeError>
+    ensures code { IfOk result (λ p. with_main [] (main_of main.now) ≡ plain p) }
+    ensures served { OnOk result (IsTrue (is_served (only_main (main_of main.now)))) }
+{
+    let declared = main.arrays.as_slice();
+    let statements = main.body.as_slice();
+    let names = array_names(alloc, declared)?;
+    let arrays = resolve_arrays(alloc, declared)?;
+    let resolver = Resolver {
         alloc,
         sections: &names,
-        labels: 0,
     };
-    let body = resolver.block(&main.body)?;
-    let sections = array_sections(alloc, &main.arrays)?;
+    let mut labels = 0;
+    let body = resolver.block(&mut labels, statements)?;
+    let sections = array_sections(alloc, declared)?;
     let name = "main".to_string(alloc)?;
+    let parameters = Vec::new(alloc);
+    let procedures = Vec::new(alloc);
     Ok(Program {
         arrays,
-        procedures: Vec::new(alloc),
+        procedures,
         main: Procedure {
             name,
-            parameters: Vec::new(alloc),
+            parameters,
             scalars: 0,
             slots: 0,
             sections,
@@ -61,7 +89,10 @@ fn resolve_main(alloc: Global, main: &tree::Main) -> Result<Program, TypeError> 
 }
 
 /// The names of the arrays, each once.
-fn array_names(alloc: Global, arrays: &[tree::Array]) -> Result<IndexSet<String>, TypeError> {
+fn array_names(alloc: Global, arrays: &[tree::Array]) -> Result<IndexSet<String>, TypeError>
+    ensures { IfOk result
+        (λ s. map string_bytes s.keys ≡ map (λ a. string_bytes a.name) arrays.now) }
+{
     let mut names = IndexSet::new(alloc);
     for array in arrays {
         let name = array.name.clone()?;
@@ -74,7 +105,10 @@ fn array_names(alloc: Global, arrays: &[tree::Array]) -> Result<IndexSet<String>
 }
 
 /// The declared arrays, within the limits.
-fn resolve_arrays(alloc: Global, arrays: &[tree::Array]) -> Result<Vec<Array>, TypeError> {
+fn resolve_arrays(alloc: Global, arrays: &[tree::Array]) -> Result<Vec<Array>, TypeError>
+    ensures { IfOk result
+        (λ v. map array_at (map array_of arrays.now) ≡ map array v.items) }
+{
     if arrays.len() > MOST_ARRAYS {
         return Err(TypeError::OverLimit);
     }
@@ -97,7 +131,10 @@ fn resolve_arrays(alloc: Global, arrays: &[tree::Array]) -> Result<Vec<Array>, T
 }
 
 /// The arrays as the first sections of `main`.
-fn array_sections(alloc: Global, arrays: &[tree::Array]) -> Result<Vec<Section>, AllocError> {
+fn array_sections(alloc: Global, arrays: &[tree::Array]) -> Result<Vec<Section>, AllocError>
+    ensures { IfOk result
+        (λ v. replicate (length arrays.now) Root ≡ map (λ s. origin s.origin) v.items) }
+{
     let mut sections = Vec::new(alloc);
     for array in arrays {
         sections.push(Section {
@@ -108,21 +145,27 @@ fn array_sections(alloc: Global, arrays: &[tree::Array]) -> Result<Vec<Section>,
     Ok(sections)
 }
 
-/// What names mean at a place of the text, and how many statements began before it.
+/// What names mean in a text. Labels are counted beside it.
 #[derive(Drop)]
 struct Resolver<'n> {
     alloc: Global,
     sections: &'n IndexSet<String>,
-    labels: Label,
 }
 
 impl Resolver<'_> {
     /// `{ stmt }`
     #[cycle(resolve)]
-    fn block(&mut self, block: &[tree::Stmt]) -> Result<Vec<Stmt>, TypeError> {
+    fn block(&self, labels: &mut Label, block: &[tree::Stmt]) -> Result<Vec<Stmt>, TypeError>
+        requires { labels.old ≤ MOST_LABELS }
+        ensures within { labels.new ≤ MOST_LABELS }
+        ensures labels { OnOk result (labels.new ≡ labels.old + labels_of (block_of block.now)) }
+        ensures served { OnOk result (IsTrue (is_served_block (block_of block.now))) }
+        ensures code { IfOk result (λ v. codes_at []
+            (place_among self.now.sections.now.keys (labels.old + 1)) (block_of block.now) ≡ codes v.items) }
+    {
         let mut resolved = Vec::new(self.alloc);
         for stmt in block {
-            let stmt = self.statement(stmt)?;
+            let stmt = self.statement(labels, stmt)?;
             resolved.push(stmt)?;
         }
         Ok(resolved)
@@ -130,66 +173,119 @@ impl Resolver<'_> {
 
     /// A statement takes the next label, before those inside it.
     #[cycle(resolve)]
-    fn statement(&mut self, stmt: &tree::Stmt) -> Result<Stmt, TypeError> {
-        if self.labels >= MOST_LABELS {
+    fn statement(&self, labels: &mut Label, stmt: &tree::Stmt) -> Result<Stmt, TypeError>
+        requires { labels.old ≤ MOST_LABELS }
+        ensures within { labels.new ≤ MOST_LABELS }
+        ensures labels { OnOk result (labels.new ≡ labels.old + labels_of (lone (stmt_of stmt.now))) }
+        ensures served { OnOk result (IsTrue (is_served_block (lone (stmt_of stmt.now)))) }
+        ensures code { IfOk result (λ s. codes_at []
+            (place_among self.now.sections.now.keys (labels.old + 1)) (lone (stmt_of stmt.now)) ≡ codes (s ∷ [])) }
+    {
+        if *labels >= MOST_LABELS {
             return Err(TypeError::OverLimit);
         }
-        self.labels += 1;
-        let label = self.labels;
-        let kind = match stmt {
-            tree::Stmt::Async { body } => StmtKind::Async {
-                body: self.block(body)?,
-            },
-            tree::Stmt::Finish { body } => StmtKind::Finish {
-                body: self.block(body)?,
-            },
-            _ => StmtKind::Do(self.primitive(label, stmt)?),
-        };
+        *labels += 1;
+        let label = *labels;
+        let kind = self.kind(labels, stmt)?;
         Ok(Stmt { label, kind })
     }
 
-    /// A statement with no statement inside.
-    fn primitive(&self, label: Label, stmt: &tree::Stmt) -> Result<Primitive, TypeError> {
+    /// What the statement with the latest label does.
+    #[cycle(resolve)]
+    fn kind(&self, labels: &mut Label, stmt: &tree::Stmt) -> Result<StmtKind, TypeError>
+        requires { labels.old ≤ MOST_LABELS }
+        ensures within { labels.new ≤ MOST_LABELS }
+        ensures labels { OnOk result (labels.new + 1 ≡ labels.old + labels_of (lone (stmt_of stmt.now))) }
+        ensures served { OnOk result (IsTrue (is_served_block (lone (stmt_of stmt.now)))) }
+        ensures code { IfOk result (λ k. code_at []
+            (place_among self.now.sections.now.keys labels.old) (stmt_of stmt.now) ≡ code k) }
+    {
         match stmt {
-            tree::Stmt::Skip => Ok(Primitive::Skip),
+            tree::Stmt::Skip => Ok(StmtKind::Do(Primitive::Skip)),
             tree::Stmt::Store {
                 section,
                 index,
                 value,
-            } => Ok(Primitive::Store {
-                section: self.section(label, section)?,
-                index: literal(index)?,
-                value: literal(value)?,
-            }),
-            tree::Stmt::Print { first, rest } => self.print(label, first, rest),
+            } => {
+                let section = self.section(*labels, section)?;
+                let index = literal(index)?;
+                let value = literal(value)?;
+                Ok(StmtKind::Do(Primitive::Store {
+                    section,
+                    index,
+                    value,
+                }))
+            }
+            tree::Stmt::Print { first, rest } => {
+                let values = self.items(*labels, first, rest)?;
+                Ok(StmtKind::Do(Primitive::Print { values }))
+            }
+            tree::Stmt::Async { body } => {
+                let body = self.block(labels, body)?;
+                Ok(StmtKind::Async { body })
+            }
+            tree::Stmt::Finish { body } => {
+                let body = self.block(labels, body)?;
+                Ok(StmtKind::Finish { body })
+            }
             _ => Err(TypeError::NotYet),
         }
     }
 
-    /// `"print" item { "," item } ";"`
-    fn print(&self, label: Label, first: &Expr, rest: &[Expr]) -> Result<Primitive, TypeError> {
+    /// `item { "," item }`
+    fn items(&self, label: Label, first: &Expr, rest: &[Expr]) -> Result<Vec<Number>, TypeError>
+        ensures served { OnOk result (IsTrue (list_all is_item (expr_of first.now ∷ map expr_of rest.now))) }
+        ensures code { IfOk result (λ v. map (number_of (place_among self.now.sections.now.keys label))
+            (expr_of first.now ∷ map expr_of rest.now) ≡ map number v.items) }
+    {
         let mut values = Vec::new(self.alloc);
-        values.push(self.item(label, first)?)?;
-        for value in rest {
-            values.push(self.item(label, value)?)?;
+        let value = self.item(label, first)?;
+        values.push(value)?;
+        for expr in rest {
+            let value = self.item(label, expr)?;
+            values.push(value)?;
         }
-        Ok(Primitive::Print { values })
+        Ok(values)
     }
 
     /// `number | name "[" number "]"`
-    fn item(&self, label: Label, expr: &Expr) -> Result<Number, TypeError> {
+    fn item(&self, label: Label, expr: &Expr) -> Result<Number, TypeError>
+        ensures served { OnOk result (IsTrue (is_item (expr_of expr.now))) }
+        ensures code { IfOk result (λ n.
+            number_of (place_among self.now.sections.now.keys label) (expr_of expr.now) ≡ number n) }
+    {
         match expr.as_atom() {
-            Some(Atom::Element { section, index }) => {
+            Some(atom) => self.item_atom(label, atom),
+            None => Err(TypeError::NotYet),
+        }
+    }
+
+    #[tactic(auto, unfolding(syntax::specs::Tree::atom))]
+    fn item_atom(&self, label: Label, atom: &Atom) -> Result<Number, TypeError>
+        ensures served { OnOk result (IsTrue (is_printed (Some (atom_of atom.now)))) }
+        ensures code { IfOk result (λ n.
+            number_atom (place_among self.now.sections.now.keys label) (atom_of atom.now) ≡ number n) }
+    {
+        match atom {
+            Atom::Element { section, index } => {
                 let section = self.section(label, section)?;
-                let index = Box::new(self.alloc, literal(index)?)?;
+                let index = literal(index)?;
+                let index = Box::new(self.alloc, index)?;
                 Ok(Number::Element { section, index })
             }
-            _ => literal(expr),
+            _ => literal_atom(atom),
         }
     }
 
     /// The section of a name in scope.
-    fn section(&self, label: Label, name: &String) -> Result<usize, TypeError> {
+    fn section(&self, label: Label, name: &String) -> Result<usize, TypeError>
+        ensures names { OnOk result
+            (is_unknown (place_among self.now.sections.now.keys label) (string_bytes name.now) ≡ false) }
+        ensures code { IfOk result (λ s.
+            section_of (place_among self.now.sections.now.keys label) (string_bytes name.now) ≡ s) }
+        ensures error { IfErr result
+            (TellsName (place_among self.now.sections.now.keys label) (string_bytes name.now)) }
+    {
         self.sections
             .get_index_of(name)
             .ok_or(TypeError::NotInScope { label })
@@ -197,9 +293,27 @@ impl Resolver<'_> {
 }
 
 /// A number alone.
-fn literal(expr: &Expr) -> Result<Number, TypeError> {
+fn literal(expr: &Expr) -> Result<Number, TypeError>
+    ensures served { OnOk result (IsTrue (is_literal (expr_of expr.now))) }
+    ensures code { IfOk result (λ n. (here : Scope) → number_of here (expr_of expr.now) ≡ number n) }
+    ensures error { IfErr result (λ e.
+        (e ≡ TypeError.NotYet) × (is_literal (expr_of expr.now) ≡ false)) }
+{
     match expr.as_atom() {
-        Some(Atom::Number(value)) => match i64::try_from(*value) {
+        Some(atom) => literal_atom(atom),
+        None => Err(TypeError::NotYet),
+    }
+}
+
+#[tactic(auto, unfolding(syntax::specs::Tree::atom))]
+fn literal_atom(atom: &Atom) -> Result<Number, TypeError>
+    ensures served { OnOk result (IsTrue (is_number (Some (atom_of atom.now)))) }
+    ensures code { IfOk result (λ n. (here : Scope) → number_atom here (atom_of atom.now) ≡ number n) }
+    ensures error { IfErr result (λ e.
+        (e ≡ TypeError.NotYet) × (is_number (Some (atom_of atom.now)) ≡ false)) }
+{
+    match atom {
+        Atom::Number(value) => match i64::try_from(*value) {
             Ok(value) => Ok(Number::Literal(value)),
             Err(_) => Err(TypeError::NotYet),
         },

@@ -1,97 +1,157 @@
 //! The programs that are served first: they come to their end without a fault, and within the usual budget.
 
-use crate::code::{Array, Number, Primitive, Stmt, StmtKind};
+ghost use Rattle.std.specs.Prelude.{◌≡◌, ◌^◌, ◌-◌, map, min};
+ghost use Rattle.std.specs.List.{list_all};
+ghost use Rattle.types.specs.FirstPart.{index_fits, printed_fits, store_fits, primitive_fits};
+ghost use Rattle.types.specs.FirstPart.{code_fits, codes_fit, statements_in, statements, is_first_part};
+ghost use Rattle.types.specs.Run.{array_of};
+ghost use Rattle.types.specs.Translation.{program, codes, code as plain_code, number};
+ghost use Rattle.types.specs.Translation.{primitive as plain_primitive};
+ghost use Rattle.types.specs.Typed.{code_of};
+ghost use Rattle.types.specs.Value.{holds_number};
+
+use crate::code::{Number, Primitive, Program, Stmt, StmtKind};
 use crate::typed::Typed;
 use syntax::tree::ElementType;
 
 /// How many statements a program of the first part has, at most.
 pub const MOST_STATEMENTS: u32 = 10_000;
 
-/// Whether a program is of the first part: it skips, stores, prints, begins asyncs and finishes, and nothing
-/// else; each index is a literal below the length of its array, each stored number is a literal of the
-/// element type, and there are at most 10,000 statements.
-pub fn first_part(typed: &Typed) -> bool {
+/// Whether a program is of the first part: its `main` skips, stores, prints, begins asyncs and finishes, and
+/// does nothing else; each index is a literal below the length of its array, each stored number is a literal
+/// of the element type, and there are at most 10,000 statements.
+pub fn first_part(typed: &Typed) -> bool
+    ensures { result ≡ is_first_part (code_of typed.now) }
+{
     let code = typed.code();
-    match counted(&code.arrays, &code.main.body) {
-        Some(count) => count <= MOST_STATEMENTS,
-        None => false,
-    }
+    all_fit(code, &code.main.body) && count(&code.main.body) <= MOST_STATEMENTS
 }
 
-/// How many statements there are, where all of them are of the first part.
-#[cycle(first_part)]
-fn counted(arrays: &[Array], block: &[Stmt]) -> Option<u32> {
-    let mut count = 0u32;
+/// Whether all of these statements, and those inside them, are of the first part.
+#[cycle(fits)]
+fn all_fit(code: &Program, block: &[Stmt]) -> bool
+    ensures { result ≡ codes_fit (program code.now) (codes block.now) }
+{
     for stmt in block {
-        count = count.checked_add(counted_in(arrays, stmt)?)?;
+        if !fits(code, &stmt.kind) {
+            return false;
+        }
     }
-    Some(count)
+    true
 }
 
-/// The statement itself and those inside.
-#[cycle(first_part)]
-fn counted_in(arrays: &[Array], stmt: &Stmt) -> Option<u32> {
-    match &stmt.kind {
-        StmtKind::Do(primitive) => {
-            if is_served(arrays, primitive) {
-                Some(1)
-            } else {
-                None
-            }
-        }
-        StmtKind::Async { body } => counted(arrays, body)?.checked_add(1),
-        StmtKind::Finish { body } => counted(arrays, body)?.checked_add(1),
-        _ => None,
+#[cycle(fits)]
+fn fits(code: &Program, kind: &StmtKind) -> bool
+    ensures { result ≡ code_fits (program code.now) (plain_code kind.now) }
+{
+    match kind {
+        StmtKind::Do(primitive) => primitive_fits(code, primitive),
+        StmtKind::Async { body } => all_fit(code, body),
+        StmtKind::Finish { body } => all_fit(code, body),
+        _ => false,
+    }
+}
+
+/// How many statements there are, those inside others among them; 4,294,967,295 where there are more.
+#[cycle(count)]
+fn count(block: &[Stmt]) -> u32
+    ensures { result ≡ min (statements (codes block.now)) (2 ^ 32 - 1) }
+{
+    let mut sum = 0u32;
+    for stmt in block {
+        sum = sum.saturating_add(count_in(&stmt.kind));
+    }
+    sum
+}
+
+/// A statement and those inside.
+#[cycle(count)]
+fn count_in(kind: &StmtKind) -> u32
+    ensures { result ≡ min (statements_in (plain_code kind.now)) (2 ^ 32 - 1) }
+{
+    match kind {
+        StmtKind::If { body, other, .. } => count(body).saturating_add(count(other)).saturating_add(1),
+        StmtKind::While { body, .. } => count(body).saturating_add(1),
+        StmtKind::Split { body, .. } => count(body).saturating_add(1),
+        StmtKind::Async { body } => count(body).saturating_add(1),
+        StmtKind::Finish { body } => count(body).saturating_add(1),
+        _ => 1,
     }
 }
 
 /// A statement of one step that never faults.
-fn is_served(arrays: &[Array], primitive: &Primitive) -> bool {
+fn primitive_fits(code: &Program, primitive: &Primitive) -> bool
+    ensures { result ≡ primitive_fits (program code.now) (plain_primitive primitive.now) }
+{
     match primitive {
         Primitive::Skip => true,
         Primitive::Store {
             section,
             index,
             value,
-        } => match arrays.get(*section) {
-            Some(array) => is_below(index, array.length) && is_of(array.element, value),
-            None => false,
-        },
-        Primitive::Print { values } => values.iter().all(|value| is_item(arrays, value)),
+        } => store_fits(code, *section, index, value),
+        Primitive::Print { values } => all_printed_fit(code, values),
         _ => false,
     }
+}
+
+/// A store of a literal at a literal index.
+fn store_fits(code: &Program, array: usize, index: &Number, value: &Number) -> bool
+    ensures { result ≡ store_fits (program code.now) array (number index.now) (number value.now) }
+{
+    match (index, value) {
+        (Number::Literal(index), Number::Literal(value)) => {
+            index_fits(code, array, *index) && value_fits(code, array, *value)
+        }
+        _ => false,
+    }
+}
+
+/// Literals, and elements at literal indices of their arrays.
+fn all_printed_fit(code: &Program, values: &[Number]) -> bool
+    ensures { result ≡ list_all (printed_fits (program code.now)) (map number values.now) }
+{
+    for value in values {
+        if !printed_fits(code, value) {
+            return false;
+        }
+    }
+    true
 }
 
 /// A literal, or an element at a literal index of its array.
-fn is_item(arrays: &[Array], value: &Number) -> bool {
+fn printed_fits(code: &Program, value: &Number) -> bool
+    ensures { result ≡ printed_fits (program code.now) (number value.now) }
+{
     match value {
         Number::Literal(_) => true,
-        Number::Element { section, index } => match arrays.get(*section) {
-            Some(array) => is_below(index, array.length),
-            None => false,
+        Number::Element { section, index } => match &**index {
+            Number::Literal(index) => index_fits(code, *section, *index),
+            _ => false,
         },
         _ => false,
     }
 }
 
-/// A literal from 0 on, below a length.
-fn is_below(index: &Number, length: usize) -> bool {
-    match index {
-        Number::Literal(index) => match usize::try_from(*index) {
-            Ok(index) => index < length,
-            Err(_) => false,
-        },
+/// An index from 0 on, below the length of an array.
+fn index_fits(code: &Program, array: usize, index: i64) -> bool
+    ensures { result ≡ index_fits (program code.now) array index }
+{
+    match (code.arrays.get(array), usize::try_from(index)) {
+        (Some(array), Ok(index)) => index < array.length,
         _ => false,
     }
 }
 
-/// A literal that an element holds.
-fn is_of(element: ElementType, value: &Number) -> bool {
-    match value {
-        Number::Literal(value) => match element {
+/// A number that the elements of an array hold.
+fn value_fits(code: &Program, array: usize, value: i64) -> bool
+    ensures { result ≡ holds_number (array_of (program code.now) array).element value }
+{
+    match code.arrays.get(array) {
+        Some(array) => match array.element {
             ElementType::Int => true,
-            ElementType::Byte => 0 <= *value && *value < 256,
+            ElementType::Byte => 0 <= value && value < 256,
         },
-        _ => false,
+        None => true,
     }
 }

@@ -1,5 +1,7 @@
 //! The names of tasks.
 
+ghost use Rattle.std.specs.Prelude.{◌≡◌, ◌++◌, ◌∷◌, [], IfOk};
+
 use std::alloc::AllocError;
 use std::fmt;
 
@@ -23,7 +25,9 @@ impl fmt::Display for Path {
 
 impl Path {
     /// The path of the n-th child.
-    pub fn child(&self, number: u32) -> Result<Path, AllocError> {
+    pub fn child(&self, number: u32) -> Result<Path, AllocError>
+        ensures { IfOk result (λ p. p.turns.items ≡ self.now.turns.items ++ number ∷ []) }
+    {
         let mut turns = self.turns.clone()?;
         turns.push(number)?;
         Ok(Path { turns })

@@ -12,14 +12,21 @@ pub struct Typed {
 }
 
 impl Typed {
+    ghost use Rattle.syntax.specs.Tree.{program as tree_of};
+    ghost use Rattle.types.specs.Translation.{program as plain};
+    ghost use Rattle.types.specs.Typed.{program_of, code_of};
+
     /// The program as it was read.
-    pub fn program(&self) -> &syntax::tree::Program {
+    pub fn program(&self) -> &syntax::tree::Program
+        ensures { tree_of result.now ≡ program_of self.now }
+    {
         &self.program
     }
 
     /// The resolved program.
     pub fn code(&self) -> &code::Program
-        ensures { result.now ≡ self.now.code }
+        ensures field { result.now ≡ self.now.code }
+        ensures code { plain result.now ≡ code_of self.now }
     {
         &self.code
     }

@@ -1,6 +1,12 @@
-use Rattle.std.proofs.Common.{◌≤◌}
+use Rattle.std.proofs.Common.{◌≡◌, ◌≤◌, ◌++◌, drop, map}
+use Rattle.syntax.specs.Tree as tree
+use Rattle.types.specs.Resolution as resolution
+use Rattle.types.specs.Translation as plain
 use Rattle.types.proofs.check.resolve_arrays.Given as goal
 
--- what is left of the elements that a program may have
+-- what is left of the elements that a program may have; the arrays so far, and the others
 abbrev pub invariant-loop-array : goal.invariant-loop-array
-invariant-loop-array l = l.left ≤ 4194304
+invariant-loop-array l =
+    (l.left ≤ 4194304)
+    × (map plain.array l.resolved.items ++ map resolution.array (map tree.array (drop l.array-index l.arrays))
+      ≡ map resolution.array (map tree.array l.arrays))

@@ -1,0 +1,45 @@
+-- The code of a statement is that of its blocks.
+use Rattle.std.proofs.Common.{◌≡◌, ℕ, List, [], ◌∷◌, Vec, Global, refl, ap, ◌∙◌}
+use mathlib.Core.Former.{Count}
+use Rattle.types.specs.Code.{Code, If, While, Split, Async, Finish, Codes, Then}
+use Rattle.types.specs.Translation.{number, truth, code, row_codes, codes}
+use Rattle.types.specs.declared.code.Number.{Number}
+use Rattle.types.specs.declared.code.Truth.{Truth}
+use Rattle.types.specs.declared.code.Stmt.{Stmt}
+use Rattle.types.specs.declared.code.StmtKind.{StmtKind, Row_of-Stmt, end_of-Stmt, more_of-Stmt, items-the_row-Stmt, items_hidden-the_row-Stmt-0}
+use Rattle.types.specs.declared.code.StmtKind.TheVariants.{If as rIf, If' as rIf', While as rWhile, While' as rWhile', Split as rSplit, Split' as rSplit', Async as rAsync, Async' as rAsync', Finish as rFinish, Finish' as rFinish'}
+
+row_codes_are : (n : Count) (row : Row_of-Stmt n) → row_codes row ≡ codes (items-the_row-Stmt n row)
+row_codes_are n end_of-Stmt = refl
+row_codes_are n (more_of-Stmt l s rest) = ap (Then l (code s)) (row_codes_are _ rest)
+
+abbrev block_in : StmtKind → (n : Count) × Row_of-Stmt n
+block_in (rIf' _ _ b _ _) = (_, b)
+block_in (rWhile' _ _ b) = (_, b)
+block_in (rSplit' _ _ _ _ _ b) = (_, b)
+block_in (rAsync' _ b) = (_, b)
+block_in (rFinish' _ b) = (_, b)
+block_in _ = (_, end_of-Stmt)
+
+abbrev other_in : StmtKind → (n : Count) × Row_of-Stmt n
+other_in (rIf' _ _ _ _ b) = (_, b)
+other_in _ = (_, end_of-Stmt)
+
+pub code_While : (t : Truth) (v : Vec Stmt Global) → code (rWhile t v) ≡ While (truth t) (codes v.items)
+code_While t v = let r = block_in (rWhile t v) in ap (While (truth t)) (row_codes_are r.0 r.1 ∙ ap codes (items_hidden-the_row-Stmt-0 v))
+
+pub code_Async : (v : Vec Stmt Global) → code (rAsync v) ≡ Async (codes v.items)
+code_Async v = let r = block_in (rAsync v) in ap Async (row_codes_are r.0 r.1 ∙ ap codes (items_hidden-the_row-Stmt-0 v))
+
+pub code_Finish : (v : Vec Stmt Global) → code (rFinish v) ≡ Finish (codes v.items)
+code_Finish v = let r = block_in (rFinish v) in ap Finish (row_codes_are r.0 r.1 ∙ ap codes (items_hidden-the_row-Stmt-0 v))
+
+pub code_Split : (s : ℕ) (e : Number) (l r : ℕ) (v : Vec Stmt Global) → code (rSplit s e l r v) ≡ Split s (number e) l r (codes v.items)
+code_Split s e l r v = let b = block_in (rSplit s e l r v) in ap (Split s (number e) l r) (row_codes_are b.0 b.1 ∙ ap codes (items_hidden-the_row-Stmt-0 v))
+
+pub code_If : (t : Truth) (v w : Vec Stmt Global) → code (rIf t v w) ≡ If (truth t) (codes v.items) (codes w.items)
+code_If t v w =
+    let b = block_in (rIf t v w) in
+    let o = other_in (rIf t v w) in
+    ap (λ x. If (truth t) x (row_codes o.1)) (row_codes_are b.0 b.1 ∙ ap codes (items_hidden-the_row-Stmt-0 v))
+    ∙ ap (If (truth t) (codes v.items)) (row_codes_are o.0 o.1 ∙ ap codes (items_hidden-the_row-Stmt-0 w))

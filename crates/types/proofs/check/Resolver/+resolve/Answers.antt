@@ -1,0 +1,137 @@
+use Rattle.std.proofs.Common.{◌≡◌, ◌+◌, ◌<◌, ◌≤◌, ◌&&◌, true, [], ◌∷◌, drop, length, map, refl, sym, ap, ◌∙◌, arith, rules}
+use Rattle.std.specs.List.{list_all}
+use Rattle.std.specs.String.{string_bytes}
+use Rattle.std.proofs.lemmas.List.{at_drop_more, at_drop_all}
+use Rattle.syntax.specs.Tree.{Then, stmt, block, expr}
+use Rattle.syntax.proofs.RowLemmas.{stmt_Async, stmt_Finish}
+use Rattle.types.specs.ArrayScope.{place_among}
+use Rattle.types.specs.Code.{Do, Store, Print, Async, Finish}
+use Rattle.types.specs.Resolution as resolution
+use Rattle.types.specs.Rules.{is_item, is_served_statement, is_served_block}
+use Rattle.types.specs.Translation.{number}
+use Rattle.types.proofs.Blocks.{code_Async, code_Finish}
+use Rattle.types.proofs.Served.{joined, joined_push, joined_all, one_more, both_true, and_true, stmt_Skip, stmt_Store, stmt_Print}
+use Rattle.types.proofs.check.Resolver.+resolve.Goals as goal
+
+pub block-loop-stmt-preserved : goal.block-loop-stmt-preserved
+block-loop-stmt-preserved t c =
+    let keys = c.args.self.now.sections.now.keys in
+    let xs = c.args.block.now in
+    let i = c.loop-stmt.stmt-index in
+    let x = c.stmt-item.result in
+    let rest = block (drop (i + 1) xs) in
+    let made = c.in_ok-stmt.ensures in
+    let within_block : i < length xs = search rules in
+    let front : block (drop i xs) ≡ Then (stmt x) rest =
+      at_drop_more block xs i x within_block ∙ ap (λ y. Then (stmt y) rest) (sym c.stmt-item.is) in
+    let is_served = (both_true (is_served_statement (stmt x)) true made.served).0 in
+    record {
+      within = c.statement.ensures.within;
+      counted = omega (arith, made.labels, c.loop-stmt.invariant.counted, ap resolution.labels front);
+      served = sym (ap is_served_block front ∙ ap (λ b. b && is_served_block rest) is_served) ∙ c.loop-stmt.invariant.served;
+      same = c.loop-stmt.invariant.same
+        ∙ ap (joined c.loop-stmt.resolved.items)
+          (ap (resolution.codes [] (place_among keys (c.loop-stmt.labels + 1))) front
+          ∙ one_more (map string_bytes keys) (stmt x) rest c.in_ok-stmt.stmt c.loop-stmt.labels c.statement.new.labels made.served made.labels made.code)
+        ∙ joined_push c.loop-stmt.resolved.items c.in_ok-stmt.stmt (resolution.codes [] (place_among keys (c.statement.new.labels + 1)) rest)
+        ∙ ap (λ rs. joined rs (resolution.codes [] (place_among keys (c.statement.new.labels + 1)) rest)) (sym c.in_ok-push.ensures.items);
+    }
+
+pub block-returns-clause-code : goal.block-returns-clause-code
+block-returns-clause-code t c =
+    let keys = c.args.self.now.sections.now.keys in
+    let xs = c.args.block.now in
+    let at_end : length xs ≤ c.loop-stmt.stmt-index = search rules in
+    c.loop-stmt.invariant.same
+    ∙ ap (λ b. joined c.loop-stmt.resolved.items (resolution.codes [] (place_among keys (c.loop-stmt.labels + 1)) b)) (at_drop_all block xs c.loop-stmt.stmt-index at_end)
+    ∙ joined_all c.loop-stmt.resolved.items
+
+pub kind-returns-in-Skip-clause-labels : goal.kind-returns-in-Skip-clause-labels
+kind-returns-in-Skip-clause-labels t c = omega (arith, ap resolution.labels_in (ap stmt c.in-Skip.is ∙ stmt_Skip))
+
+pub kind-returns-in-Skip-clause-served : goal.kind-returns-in-Skip-clause-served
+kind-returns-in-Skip-clause-served t c = ap (λ s. is_served_statement s && true) (ap stmt c.in-Skip.is ∙ stmt_Skip)
+
+pub kind-returns-in-Skip-clause-code : goal.kind-returns-in-Skip-clause-code
+kind-returns-in-Skip-clause-code t c =
+    ap (resolution.code [] (place_among c.args.self.now.sections.now.keys c.args.labels.now)) (ap stmt c.in-Skip.is ∙ stmt_Skip)
+
+pub kind-returns-in_ok-value-in-Store-clause-labels : goal.kind-returns-in_ok-value-in-Store-clause-labels
+kind-returns-in_ok-value-in-Store-clause-labels t c =
+    let is = ap stmt c.in-Store.is ∙ stmt_Store c.in-Store.section c.in-Store.index c.in-Store.value in
+    omega (arith, ap resolution.labels_in is)
+
+pub kind-returns-in_ok-value-in-Store-clause-served : goal.kind-returns-in_ok-value-in-Store-clause-served
+kind-returns-in_ok-value-in-Store-clause-served t c =
+    let is = ap stmt c.in-Store.is ∙ stmt_Store c.in-Store.section c.in-Store.index c.in-Store.value in
+    let both = and_true _ _ c.in_ok-index-in-Store.ensures.served c.in_ok-value-in-Store.ensures.served in
+    ap (λ s. is_served_statement s && true) is ∙ and_true _ true both refl
+
+pub kind-returns-in_ok-value-in-Store-clause-code : goal.kind-returns-in_ok-value-in-Store-clause-code
+kind-returns-in_ok-value-in-Store-clause-code t c =
+    let here = place_among c.args.self.now.sections.now.keys c.args.labels.now in
+    let is = ap stmt c.in-Store.is ∙ stmt_Store c.in-Store.section c.in-Store.index c.in-Store.value in
+    let x = c.in_ok-section-in-Store.section in
+    ap (resolution.code [] here) is
+    ∙ ap (λ s. Do (Store s (resolution.number here (expr c.in-Store.index)) (resolution.number here (expr c.in-Store.value)))) c.in_ok-section-in-Store.ensures.code
+    ∙ ap (λ n. Do (Store x n (resolution.number here (expr c.in-Store.value)))) (c.in_ok-index-in-Store.ensures.code here)
+    ∙ ap (λ n. Do (Store x (number c.in_ok-index-in-Store.index) n)) (c.in_ok-value-in-Store.ensures.code here)
+
+pub kind-returns-in_ok-values-in-Print-clause-labels : goal.kind-returns-in_ok-values-in-Print-clause-labels
+kind-returns-in_ok-values-in-Print-clause-labels t c =
+    let is = ap stmt c.in-Print.is ∙ stmt_Print c.in-Print.first c.in-Print.rest in
+    omega (arith, ap resolution.labels_in is)
+
+pub kind-returns-in_ok-values-in-Print-clause-served : goal.kind-returns-in_ok-values-in-Print-clause-served
+kind-returns-in_ok-values-in-Print-clause-served t c =
+    let is = ap stmt c.in-Print.is ∙ stmt_Print c.in-Print.first c.in-Print.rest in
+    let all = ap (λ es. list_all is_item (expr c.in-Print.first ∷ map expr es)) (sym c.deref.ensures.value) ∙ c.in_ok-values-in-Print.ensures.served in
+    ap (λ s. is_served_statement s && true) is ∙ and_true _ true all refl
+
+pub kind-returns-in_ok-values-in-Print-clause-code : goal.kind-returns-in_ok-values-in-Print-clause-code
+kind-returns-in_ok-values-in-Print-clause-code t c =
+    let here = place_among c.args.self.now.sections.now.keys c.args.labels.now in
+    let is = ap stmt c.in-Print.is ∙ stmt_Print c.in-Print.first c.in-Print.rest in
+    ap (resolution.code [] here) is
+    ∙ ap (λ es. Do (Print (map (resolution.number here) (expr c.in-Print.first ∷ map expr es)))) (sym c.deref.ensures.value)
+    ∙ ap (λ vs. Do (Print vs)) c.in_ok-values-in-Print.ensures.code
+
+pub kind-returns-in_ok-body-in-Async-clause-labels : goal.kind-returns-in_ok-body-in-Async-clause-labels
+kind-returns-in_ok-body-in-Async-clause-labels t c =
+    let is = ap stmt c.in-Async.is ∙ stmt_Async c.in-Async.body in
+    omega (arith, ap resolution.labels_in is, ap (λ b. resolution.labels (block b)) c.deref-in-Async.ensures.value, c.in_ok-body-in-Async.ensures.labels)
+
+pub kind-returns-in_ok-body-in-Async-clause-served : goal.kind-returns-in_ok-body-in-Async-clause-served
+kind-returns-in_ok-body-in-Async-clause-served t c =
+    let is = ap stmt c.in-Async.is ∙ stmt_Async c.in-Async.body in
+    let inside = ap (λ b. is_served_block (block b)) (sym c.deref-in-Async.ensures.value) ∙ c.in_ok-body-in-Async.ensures.served in
+    ap (λ s. is_served_statement s && true) is ∙ and_true _ true inside refl
+
+pub kind-returns-in_ok-body-in-Async-clause-code : goal.kind-returns-in_ok-body-in-Async-clause-code
+kind-returns-in_ok-body-in-Async-clause-code t c =
+    let here = place_among c.args.self.now.sections.now.keys c.args.labels.now in
+    let is = ap stmt c.in-Async.is ∙ stmt_Async c.in-Async.body in
+    ap (resolution.code [] here) is
+    ∙ ap (λ b. Async (resolution.codes [] (resolution.inside here) (block b))) (sym c.deref-in-Async.ensures.value)
+    ∙ ap Async c.in_ok-body-in-Async.ensures.code
+    ∙ sym (code_Async c.in_ok-body-in-Async.body)
+
+pub kind-returns-in_ok-body-in-Finish-clause-labels : goal.kind-returns-in_ok-body-in-Finish-clause-labels
+kind-returns-in_ok-body-in-Finish-clause-labels t c =
+    let is = ap stmt c.in-Finish.is ∙ stmt_Finish c.in-Finish.body in
+    omega (arith, ap resolution.labels_in is, ap (λ b. resolution.labels (block b)) c.deref-in-Finish.ensures.value, c.in_ok-body-in-Finish.ensures.labels)
+
+pub kind-returns-in_ok-body-in-Finish-clause-served : goal.kind-returns-in_ok-body-in-Finish-clause-served
+kind-returns-in_ok-body-in-Finish-clause-served t c =
+    let is = ap stmt c.in-Finish.is ∙ stmt_Finish c.in-Finish.body in
+    let inside = ap (λ b. is_served_block (block b)) (sym c.deref-in-Finish.ensures.value) ∙ c.in_ok-body-in-Finish.ensures.served in
+    ap (λ s. is_served_statement s && true) is ∙ and_true _ true inside refl
+
+pub kind-returns-in_ok-body-in-Finish-clause-code : goal.kind-returns-in_ok-body-in-Finish-clause-code
+kind-returns-in_ok-body-in-Finish-clause-code t c =
+    let here = place_among c.args.self.now.sections.now.keys c.args.labels.now in
+    let is = ap stmt c.in-Finish.is ∙ stmt_Finish c.in-Finish.body in
+    ap (resolution.code [] here) is
+    ∙ ap (λ b. Finish (resolution.codes [] (resolution.inside here) (block b))) (sym c.deref-in-Finish.ensures.value)
+    ∙ ap Finish c.in_ok-body-in-Finish.ensures.code
+    ∙ sym (code_Finish c.in_ok-body-in-Finish.body)
