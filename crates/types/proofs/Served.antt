@@ -20,8 +20,8 @@ use Rattle.types.specs.declared.error.TypeError.{TypeError}
 use Rattle.types.specs.declared.error.TypeError.TheVariants.{NotInScope, DeclaredTwice, NoMain, OverLimit, OutOfMemory, NotYet}
 use Rattle.types.specs.Resolution.{Scope, Meant, ASection, meant, section_or_0, section_of, number, number_conj, number_neg, number_cmp, number_sum, number_prod, number_unary, number_atom, labels, labels_in, slots, slots_in, sides, sides_in, inside, behind}
 use Rattle.types.specs.Resolution as resolution
-use Rattle.types.specs.Rules.{Stands, first, later, in_if, in_then, in_else, in_while, in_split, in_async, in_finish, is_unknown, names_unknown, is_served_statement, is_served_block}
-use Rattle.types.specs.ArrayScope.{numbered, place, place_among, lone, KnowsNames, UnknownAt, TellsBlock, TellsName}
+use Rattle.types.specs.Rules.{is_unknown, is_served_statement, is_served_block}
+use Rattle.types.specs.ArrayScope.{numbered, place, place_among, lone, TellsName}
 
 -- ---- an expression that is an atom alone
 module _ (here : Scope) where
