@@ -1,7 +1,7 @@
 -- The code of a statement is that of its blocks.
-use Rattle.std.proofs.Common.{◌≡◌, ℕ, List, [], ◌∷◌, Vec, Global, refl, ap, ◌∙◌}
+use Rattle.std.proofs.Common.{◌≡◌, ℕ, Vec, Global, refl, ap, ◌∙◌}
 use mathlib.Core.Former.{Count}
-use Rattle.types.specs.Code.{Code, If, While, Split, Async, Finish, Codes, Then}
+use Rattle.types.specs.Code.{If, While, Split, Async, Finish, Then}
 use Rattle.types.specs.Translation.{number, truth, code, row_codes, codes}
 use Rattle.types.specs.declared.code.Number.{Number}
 use Rattle.types.specs.declared.code.Truth.{Truth}

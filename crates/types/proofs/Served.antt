@@ -1,6 +1,5 @@
 -- What is found out of the statements of a block, one after another.
-use Rattle.std.proofs.Common.{◌≡◌, ◌≢◌, ℕ, ◌+◌, ◌<◌, ◌≤◌, nat_eq, List, [], ◌∷◌, ◌++◌, map, length, Bool, true, false, ◌&&◌, ◌||◌, Option, Some, None, position, is_none, is_some, ok_or, OnOk, IfOk, IfErr, if◌then◌else◌, suc, replicate, append-nil, Global, String, Vec, Box, refl, sym, ap, ◌∙◌, arith}
-use Rattle.std.specs.Cmp.Lexicographic.{pointwise}
+use Rattle.std.proofs.Common.{◌≡◌, ℕ, ◌+◌, List, [], ◌∷◌, ◌++◌, map, length, Bool, true, false, ◌&&◌, Option, Some, None, position, is_none, ok_or, OnOk, IfOk, IfErr, if◌then◌else◌, suc, replicate, append-nil, Global, String, Vec, Box, refl, sym, ap, ◌∙◌, arith}
 use Rattle.std.specs.List.{position_from}
 use Rattle.std.specs.Option.{option_map}
 use Rattle.std.specs.String.{string_bytes, string_eq}
@@ -16,12 +15,11 @@ use Rattle.types.specs.Code as code
 use Rattle.types.specs.Translation.{codes}
 use Rattle.types.specs.Translation as plain
 use Rattle.types.specs.declared.code.Stmt.{Stmt as Resolved}
-use Rattle.types.specs.declared.error.TypeError.{TypeError}
-use Rattle.types.specs.declared.error.TypeError.TheVariants.{NotInScope, DeclaredTwice, NoMain, OverLimit, OutOfMemory, NotYet}
+use Rattle.types.specs.declared.error.TypeError.TheVariants.{NotInScope}
 use Rattle.types.specs.Resolution.{Scope, Meant, ASection, meant, section_or_0, section_of, number, number_conj, number_neg, number_cmp, number_sum, number_prod, number_unary, number_atom, labels, labels_in, slots, slots_in, sides, sides_in, inside, behind}
 use Rattle.types.specs.Resolution as resolution
-use Rattle.types.specs.Rules.{Stands, first, later, in_if, in_then, in_else, in_while, in_split, in_async, in_finish, is_unknown, names_unknown, is_served_statement, is_served_block}
-use Rattle.types.specs.ArrayScope.{numbered, place, place_among, lone, KnowsNames, UnknownAt, TellsBlock, TellsName}
+use Rattle.types.specs.Rules.{is_unknown, is_served_statement, is_served_block}
+use Rattle.types.specs.ArrayScope.{numbered, place, place_among, lone, TellsName}
 
 -- ---- an expression that is an atom alone
 module _ (here : Scope) where
@@ -188,8 +186,8 @@ before (code.Then l c rest) cs = code.Then l c cs
 
 -- one statement more
 pub one_more : (names : List (List ℕ)) (s : Stmt) (rest : Block) (r : Resolved) (n after : ℕ) → is_served_block (lone s) ≡ true → after ≡ n + labels (lone s)
-  → resolution.codes [] (place names (n + 1)) (lone s) ≡ codes (r ∷ [])
-  → resolution.codes [] (place names (n + 1)) (Then s rest) ≡ code.Then r.label (plain.code r.kind) (resolution.codes [] (place names (after + 1)) rest)
+    → resolution.codes [] (place names (n + 1)) (lone s) ≡ codes (r ∷ [])
+    → resolution.codes [] (place names (n + 1)) (Then s rest) ≡ code.Then r.label (plain.code r.kind) (resolution.codes [] (place names (after + 1)) rest)
 one_more names s rest r n after served counted same =
     let here = place names (n + 1) in
     let is_served = (both_true (is_served_statement s) true served).0 in
@@ -239,9 +237,9 @@ main_of xs ps qs n os cs = record { arrays = xs; procedures = ps; main = record 
 
 -- a served `main` is what its parts are
 pub main_is : (arrays : List tree.Array) (b : Block) (names : List (List ℕ)) (xs : List code.Array) (ps : List code.Procedure) (qs : List code.Parameter) (os : List code.Origin) (cs : Codes)
-  → names ≡ map (λ a. a.name) arrays → is_served_block b ≡ true
-  → map resolution.array arrays ≡ xs → [] ≡ ps → [] ≡ qs → replicate (length arrays) code.Root ≡ os → resolution.codes [] (place names 1) b ≡ cs
-  → resolution.with_main [] (record { arrays = arrays; body = b }) ≡ main_of xs ps qs 0 os cs
+    → names ≡ map (λ a. a.name) arrays → is_served_block b ≡ true
+    → map resolution.array arrays ≡ xs → [] ≡ ps → [] ≡ qs → replicate (length arrays) code.Root ≡ os → resolution.codes [] (place names 1) b ≡ cs
+    → resolution.with_main [] (record { arrays = arrays; body = b }) ≡ main_of xs ps qs 0 os cs
 main_is arrays b names xs ps qs os cs named served arrays_are no_procedures no_parameters roots body =
     let here = resolution.in_main 1 arrays in
     let slots_are : 0 + slots b ≡ 0 = omega (arith, no_slots b served) in

@@ -70,7 +70,9 @@ fn count_in(kind: &StmtKind) -> u32
     ensures { result ≡ min (statements_in (plain_code kind.now)) (2 ^ 32 - 1) }
 {
     match kind {
-        StmtKind::If { body, other, .. } => count(body).saturating_add(count(other)).saturating_add(1),
+        StmtKind::If { body, other, .. } => count(body)
+            .saturating_add(count(other))
+            .saturating_add(1),
         StmtKind::While { body, .. } => count(body).saturating_add(1),
         StmtKind::Split { body, .. } => count(body).saturating_add(1),
         StmtKind::Async { body } => count(body).saturating_add(1),

@@ -10,7 +10,7 @@ use Rattle.types.proofs.Served.{number-lone}
 use Rattle.types.proofs.check.literal.Goals as goal
 
 same_number : (r : Result Number TypeError) (e : Expr) (a : Atom) → Some a ≡ lone_atom e
-  → IfOk r (λ n. (here : Scope) → number_atom here a ≡ plain.number n) → IfOk r (λ n. (here : Scope) → number here e ≡ plain.number n)
+    → IfOk r (λ n. (here : Scope) → number_atom here a ≡ plain.number n) → IfOk r (λ n. (here : Scope) → number here e ≡ plain.number n)
 same_number (Ok n) e a is same = λ here. number-lone here e a is ∙ same here
 same_number (Err x) e a is same = tt
 

@@ -9,4 +9,4 @@ abbrev pub invariant-loop-array : goal.invariant-loop-array
 invariant-loop-array l =
     (l.left ≤ 4194304)
     × (map plain.array l.resolved.items ++ map resolution.array (map tree.array (drop l.array-index l.arrays))
-      ≡ map resolution.array (map tree.array l.arrays))
+    ≡ map resolution.array (map tree.array l.arrays))

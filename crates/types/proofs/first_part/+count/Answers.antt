@@ -1,6 +1,6 @@
-use Rattle.std.proofs.Common.{◌≡◌, ◌+◌, min, sym, ap, ◌∙◌, arith}
+use Rattle.std.proofs.Common.{min, ap, ◌∙◌, arith}
 use Rattle.types.specs.FirstPart.{statements, statements_in}
-use Rattle.types.specs.Translation.{codes, code as plain_code, truth, number}
+use Rattle.types.specs.Translation.{codes, code as plain_code}
 use Rattle.types.proofs.Blocks.{code_If, code_While, code_Split, code_Async, code_Finish}
 use Rattle.types.proofs.first_part.+count.Goals as goal
 

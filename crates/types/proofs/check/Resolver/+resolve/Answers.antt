@@ -23,18 +23,18 @@ block-loop-stmt-preserved t c =
     let made = c.in_ok-stmt.ensures in
     let within_block : i < length xs = search rules in
     let front : block (drop i xs) ≡ Then (stmt x) rest =
-      at_drop_more block xs i x within_block ∙ ap (λ y. Then (stmt y) rest) (sym c.stmt-item.is) in
+    at_drop_more block xs i x within_block ∙ ap (λ y. Then (stmt y) rest) (sym c.stmt-item.is) in
     let is_served = (both_true (is_served_statement (stmt x)) true made.served).0 in
     record {
       within = c.statement.ensures.within;
       counted = omega (arith, made.labels, c.loop-stmt.invariant.counted, ap resolution.labels front);
       served = sym (ap is_served_block front ∙ ap (λ b. b && is_served_block rest) is_served) ∙ c.loop-stmt.invariant.served;
       same = c.loop-stmt.invariant.same
-        ∙ ap (joined c.loop-stmt.resolved.items)
+          ∙ ap (joined c.loop-stmt.resolved.items)
           (ap (resolution.codes [] (place_among keys (c.loop-stmt.labels + 1))) front
           ∙ one_more (map string_bytes keys) (stmt x) rest c.in_ok-stmt.stmt c.loop-stmt.labels c.statement.new.labels made.served made.labels made.code)
-        ∙ joined_push c.loop-stmt.resolved.items c.in_ok-stmt.stmt (resolution.codes [] (place_among keys (c.statement.new.labels + 1)) rest)
-        ∙ ap (λ rs. joined rs (resolution.codes [] (place_among keys (c.statement.new.labels + 1)) rest)) (sym c.in_ok-push.ensures.items);
+          ∙ joined_push c.loop-stmt.resolved.items c.in_ok-stmt.stmt (resolution.codes [] (place_among keys (c.statement.new.labels + 1)) rest)
+          ∙ ap (λ rs. joined rs (resolution.codes [] (place_among keys (c.statement.new.labels + 1)) rest)) (sym c.in_ok-push.ensures.items);
     }
 
 pub block-returns-clause-code : goal.block-returns-clause-code

@@ -16,5 +16,5 @@ invariant-block-loop-stmt l =
       counted : l.labels + resolution.labels left ≡ l.fn.labels + resolution.labels (block l.block);
       served : is_served_block left ≡ is_served_block (block l.block);
       same : resolution.codes [] (place_among keys (l.fn.labels + 1)) (block l.block)
-        ≡ joined l.resolved.items (resolution.codes [] (place_among keys (l.labels + 1)) left);
+          ≡ joined l.resolved.items (resolution.codes [] (place_among keys (l.labels + 1)) left);
     }

@@ -10,7 +10,7 @@ use Rattle.types.proofs.Served.{number-lone}
 use Rattle.types.proofs.check.Resolver.item.Goals as goal
 
 same_number : (r : Result Number TypeError) (here : Scope) (e : Expr) (a : Atom) → Some a ≡ lone_atom e
-  → IfOk r (λ n. number_atom here a ≡ plain.number n) → IfOk r (λ n. number here e ≡ plain.number n)
+    → IfOk r (λ n. number_atom here a ≡ plain.number n) → IfOk r (λ n. number here e ≡ plain.number n)
 same_number (Ok n) here e a is same = number-lone here e a is ∙ same
 same_number (Err x) here e a is same = tt
 

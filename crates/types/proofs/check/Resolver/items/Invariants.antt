@@ -13,4 +13,4 @@ invariant-loop-expr l =
     let here = place_among l.self.sections.now.keys l.label in
     (list_all is_item (map expr (drop l.expr-index l.rest)) ≡ list_all is_item (expr l.first ∷ map expr l.rest))
     × (map number l.values.items ++ map (resolution.number here) (map expr (drop l.expr-index l.rest))
-      ≡ map (resolution.number here) (expr l.first ∷ map expr l.rest))
+    ≡ map (resolution.number here) (expr l.first ∷ map expr l.rest))

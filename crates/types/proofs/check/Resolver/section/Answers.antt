@@ -1,4 +1,3 @@
-use Rattle.std.proofs.Common.{rules, sym, subst}
 use Rattle.types.proofs.Served.{found_is_known, found_is_numbered, not_found_is_unknown}
 use Rattle.types.proofs.check.Resolver.section.Goals as goal
 
