@@ -1,14 +1,16 @@
 -- What loops over lists keep.
-use Rattle.std.proofs.Common.{◌≡◌, ℕ, zero, suc, ◌+◌, ◌<◌, List, [], ◌∷◌, ◌++◌, length, get_or, take, drop, Result, Ok, Err, refl, sym, ap, ◌∙◌, append_assoc, append-nil, arith}
+use Rattle.std.proofs.Common.{◌≡◌, ℕ, zero, suc, ◌+◌, ◌<◌, List, [], ◌∷◌, ◌++◌, length, get_or, take, drop, Ok, Err, refl, sym, ap, ◌∙◌, append_assoc, append-nil, arith}
 use Rattle.std.proofs.Math.Seq.{drop-cons, take-suc}
 use Rattle.std.proofs.lemmas.List.{map-append}
-use Rattle.std.specs.Prelude.{ℤ, map}
+use Rattle.std.specs.Prelude.{ℤ, map, slice_get, slice_index_or, Some}
 use Rattle.types.specs.declared.fault.FaultKind.{FaultKind}
 use Rattle.types.specs.declared.code.Number.{Number as rNumber}
 use Rattle.types.specs.declared.code.Array.{Array as rArray}
+use Rattle.types.specs.declared.code.Procedure.{Procedure as rProcedure}
 use Rattle.types.specs.Outcome.{whole_arrays}
+use Rattle.types.specs.Run.{no_procedure}
 use Rattle.types.specs.Place.{Place, Window}
-use Rattle.types.specs.Translation.{number as number_of, array}
+use Rattle.types.specs.Translation.{number as number_of, array, codes, procedure}
 use Rattle.types.specs.Value.{Environment, Valued, then_try, number, numbers}
 
 pub map-pushed : {A B : Type 0} (f : A → B) (xs ys : List A) (x : A) → ys ≡ xs ++ x ∷ [] → map f ys ≡ map f xs ++ f x ∷ []
@@ -63,3 +65,12 @@ windows-more arrays i a ws w lt at is =
     append_assoc ws (w ∷ []) (whole_arrays (i + 1) (map array (drop (i + 1) arrays)))
     ∙ ap (λ v. ws ++ v ∷ whole_arrays (i + 1) (map array (drop (i + 1) arrays))) is
     ∙ ap (λ l. ws ++ whole_arrays i (map array l)) (sym (drop-cons arrays i a lt ∙ ap (λ x. x ∷ drop (suc i) arrays) (sym at) ∙ ap (λ j. a ∷ drop j arrays) more))
+
+-- the body of the procedure at a number
+pub body_at : (ps : List rProcedure) (f : ℕ) (x : rProcedure) → slice_get ps f ≡ Some x → codes x.body.items ≡ (slice_index_or (map procedure ps) f no_procedure).body
+body_at ps f x e = by_lookup ps f e
+  where
+    by_lookup : (ps : List rProcedure) (f : ℕ) → slice_get ps f ≡ Some x → codes x.body.items ≡ (slice_index_or (map procedure ps) f no_procedure).body
+    by_lookup [] f e = cc
+    by_lookup (y ∷ ys) zero e = let same : y ≡ x = cc in ap (λ (z : rProcedure). codes z.body.items) (sym same)
+    by_lookup (y ∷ ys) (suc f) e = by_lookup ys f e

@@ -1,12 +1,14 @@
--- What a statement of one step is in one go: its values, then what it does with them.
-use Rattle.std.specs.Prelude.{ℕ, ℤ, List, Bool, true, false, Result, Ok, Err, Vec}
+-- What a statement wants to know before it does anything.
+use Rattle.std.specs.Prelude.{ℕ, ℤ, List, Bool, true, false, Result, Ok, Err, Vec, ok_or}
 use Rattle.std.specs.Global.{Global}
 use Rattle.types.specs.declared.fault.FaultKind.{FaultKind}
-use Rattle.types.specs.declared.fault.FaultKind.TheVariants.{OutOfElement}
+use Rattle.types.specs.declared.fault.FaultKind.TheVariants.{OutOfElement, SplitPoint}
 use Rattle.types.specs.declared.window.Place.{Place as rPlace}
+use Rattle.types.specs.declared.window.Window.{Window as rWindow}
 use Rattle.types.specs.Code.{Number, Program}
 use Rattle.types.specs.Frame.{place}
-use Rattle.types.specs.Place.{Place}
+use Rattle.types.specs.Place.{Place, Window, sides_of}
+use Rattle.types.specs.Translation.{window}
 use Rattle.types.specs.Run.{State, number_at, window_at, array_of}
 use Rattle.types.specs.Value.{Valued, then_try, element_of, holds_number}
 
@@ -29,3 +31,11 @@ found (Err f) = Err f
 abbrev pub listed : Result (Vec ℤ Global) FaultKind → Valued (List ℤ)
 listed (Ok vs) = Ok vs.items
 listed (Err f) = Err f
+
+-- both sides of a section, split where an expression says
+abbrev pub halves : State (Unit {0}) → (section : ℕ) → Number → Valued (Window × Window)
+halves st s e = then_try (number_at st e) (λ v. ok_or (sides_of (window_at st s) v) SplitPoint)
+
+abbrev pub cut : Result (rWindow × rWindow) FaultKind → Valued (Window × Window)
+cut (Ok ws) = Ok (window ws.0, window ws.1)
+cut (Err f) = Err f

@@ -1,6 +1,6 @@
 -- Where the one thread stands, as the definitions see it.
-use Rattle.std.specs.Prelude.{ℕ, map}
-use Rattle.types.specs.Run.{Flow, On, Faulted, Stopped, State}
+use Rattle.std.specs.Prelude.{ℕ, ◌+◌, ◌≡◌, map}
+use Rattle.types.specs.Run.{Flow, On, Faulted, Stopped, State, at_flow, stopped}
 use Rattle.types.specs.Translation.{environment, fault}
 use Rattle.serial_run.specs.declared.thread.Flow.{Flow as rFlow}
 use Rattle.serial_run.specs.declared.thread.Flow.TheVariants.{On as rOn, Faulted as rFaulted, Stopped as rStopped}
@@ -33,3 +33,17 @@ pub record Standing : Type 0 where
 
 abbrev pub standing : Thread → Standing
 standing t = record { state = state_of t; nest = t.nest }
+
+-- the flow was on, and a step less is left
+pub record TakesStep (old new : Thread) : Type 0 where
+  pub on : old.flow ≡ rOn
+  pub less : new.steps + 1 ≡ old.steps
+  pub same : new ≡ record old { steps = new.steps }
+
+-- nothing is done: the flow wasn't on, or no step was left, by which the task is stopped
+pub record MissesStep (old new : Thread) : Type 0 where
+  pub none : old.flow ≡ rOn → old.steps ≡ 0
+  pub state : state_of new ≡ at_flow (state_of old).flow (state_of old) stopped
+  pub nest : new.nest ≡ old.nest
+  pub steps : new.steps ≡ old.steps
+  pub store : new.store ≡ old.store

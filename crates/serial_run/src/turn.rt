@@ -1,13 +1,21 @@
 //! What a frame does.
 
-ghost use Rattle.std.specs.Prelude.{◌≡◌, ◌<◌, ◌+◌, ◌++◌, ◌∷◌, [], OnOk};
-ghost use Rattle.serial_run.specs.Frames.{KeepsBudget, rate, cost, turns_left};
+ghost use Rattle.std.specs.Prelude.{◌≡◌, ◌<◌, ◌+◌, ◌++◌, ◌∷◌, [], map, drop, OnOk};
+ghost use Rattle.types.specs.Meaning.{after_finish as flow_behind};
+ghost use Rattle.types.specs.Code.{Async, Call, If, While};
+ghost use Rattle.types.specs.Run.{Block, Turn};
+ghost use Rattle.types.specs.Translation.{program as program_of, truth as truth_of, number as number_of, code as code_of, codes as codes_of, fault as fault_of};
+ghost use Rattle.serial_run.specs.Frames.{rate, cost, turns_left};
+ghost use Rattle.serial_run.specs.Lists.{lengths_of};
+ghost use Rattle.serial_run.specs.Primitive.{cut, halves};
+ghost use Rattle.serial_run.specs.Resume.{acted, doing, frame as done, resume};
+ghost use Rattle.serial_run.specs.Standing.{standing, state_of, flow as flow_of};
 
 use crate::frame::Frame;
 use crate::thread::{Flow, Plan, Thread};
 use std::alloc::AllocError;
 use types::code::{Label, Number, Stmt, StmtKind, Truth};
-use types::fault::FaultKind;
+use types::fault::{Fault, FaultKind};
 use types::window::Window;
 
 /// What a frame does, once those above it are done.
@@ -17,22 +25,21 @@ pub fn turn<'p>(
     frames: &mut Vec<Frame<'p>>,
     frame: Frame<'p>,
 ) -> Result<(), AllocError>
+    ensures meaning { let p = program_of plan.entry.program.now in let fresh = plan.entry.fresh in
+        OnOk result (resume p fresh frames.new.items (standing thread.new)
+        ≡ resume p fresh frames.old.items (done p fresh frame.entry (standing thread.old))) }
+    ensures lengths { OnOk result (lengths_of thread.new.store ≡ lengths_of thread.old.store) }
     ensures ends { OnOk result (turns_left plan.entry.fresh thread.new frames.new.items < turns_left plan.entry.fresh thread.old frames.old.items + cost plan.entry.fresh frame.entry) }
 {
     match frame {
         Frame::Rest(block) => rest(plan, thread, frames, block),
         Frame::Again { label, guard, body } => again(plan, thread, frames, label, guard, body),
         Frame::EndFinish { faults } => {
-            if !matches!(thread.flow, Flow::Stopped) {
-                thread.flow = if faults < thread.faults.len() {
-                    Flow::Faulted
-                } else {
-                    Flow::On
-                };
-            }
+            thread.flow = after_finish(thread.flow, faults, &thread.faults);
             Ok(())
         }
         Frame::EndAsync {
+            path,
             environment,
             steps,
             nest,
@@ -45,12 +52,36 @@ pub fn turn<'p>(
             thread.steps = steps;
             thread.nest = nest;
             thread.children = children;
-            let _ = thread.path.turns.pop();
+            thread.path = path;
             Ok(())
         }
         Frame::EndCall { environment } => {
             thread.environment = environment;
             Ok(())
+        }
+    }
+}
+
+/// The flow behind a finish, before which there were so many faults: further ones end it abruptly.
+#[tactic(auto, using(crate::proofs::Finishes::gathered_on, crate::proofs::Finishes::gathered_faulted, crate::proofs::Finishes::none_on, crate::proofs::Finishes::none_faulted))]
+fn after_finish(flow: Flow, before: usize, faults: &[Fault]) -> Flow
+    ensures { flow_of result ≡ flow_behind (flow_of flow) (drop before (map fault_of faults.now)) }
+{
+    match flow {
+        Flow::Stopped => Flow::Stopped,
+        Flow::On => {
+            if before < faults.len() {
+                Flow::Faulted
+            } else {
+                Flow::On
+            }
+        }
+        Flow::Faulted => {
+            if before < faults.len() {
+                Flow::Faulted
+            } else {
+                Flow::On
+            }
         }
     }
 }
@@ -62,6 +93,10 @@ fn rest<'p>(
     frames: &mut Vec<Frame<'p>>,
     block: &'p [Stmt],
 ) -> Result<(), AllocError>
+    ensures meaning { let p = program_of plan.entry.program.now in let fresh = plan.entry.fresh in
+        OnOk result (resume p fresh frames.new.items (standing thread.new)
+        ≡ resume p fresh frames.old.items (doing p fresh (Block (codes_of block.entry.now)) (standing thread.old))) }
+    ensures lengths { OnOk result (lengths_of thread.new.store ≡ lengths_of thread.old.store) }
     ensures ends { OnOk result (turns_left plan.entry.fresh thread.new frames.new.items < turns_left plan.entry.fresh thread.old frames.old.items + 1) }
 {
     match block.split_first() {
@@ -86,6 +121,10 @@ fn again<'p>(
     guard: &'p Truth,
     body: &'p [Stmt],
 ) -> Result<(), AllocError>
+    ensures meaning { let p = program_of plan.entry.program.now in let fresh = plan.entry.fresh in
+        OnOk result (resume p fresh frames.new.items (standing thread.new)
+        ≡ resume p fresh frames.old.items (doing p fresh (Turn label (truth_of guard.entry.now) (codes_of body.entry.now)) (standing thread.old))) }
+    ensures lengths { OnOk result (lengths_of thread.new.store ≡ lengths_of thread.old.store) }
     ensures ends { OnOk result (turns_left plan.entry.fresh thread.new frames.new.items < turns_left plan.entry.fresh thread.old frames.old.items + 1) }
 {
     if thread.takes_step() {
@@ -102,6 +141,11 @@ fn statement<'p>(
     frames: &mut Vec<Frame<'p>>,
     stmt: &'p Stmt,
 ) -> Result<(), AllocError>
+    requires { thread.old.flow ≡ Flow.On }
+    ensures meaning { let p = program_of plan.entry.program.now in let fresh = plan.entry.fresh in
+        OnOk result (resume p fresh frames.new.items (standing thread.new)
+        ≡ resume p fresh frames.old.items (acted p fresh stmt.entry.now.label (code_of stmt.entry.now.kind) (standing thread.old))) }
+    ensures lengths { OnOk result (lengths_of thread.new.store ≡ lengths_of thread.old.store) }
     ensures ends { OnOk result (turns_left plan.entry.fresh thread.new frames.new.items < turns_left plan.entry.fresh thread.old frames.old.items + rate plan.entry.fresh thread.old.nest) }
 {
     let label = stmt.label;
@@ -150,6 +194,11 @@ fn turn_loop<'p>(
     guard: &'p Truth,
     body: &'p [Stmt],
 ) -> Result<(), AllocError>
+    requires { thread.old.flow ≡ Flow.On }
+    ensures meaning { let p = program_of plan.entry.program.now in let fresh = plan.entry.fresh in
+        OnOk result (resume p fresh frames.new.items (standing thread.new)
+        ≡ resume p fresh frames.old.items (acted p fresh label (While (truth_of guard.entry.now) (codes_of body.entry.now)) (standing thread.old))) }
+    ensures lengths { OnOk result (lengths_of thread.new.store ≡ lengths_of thread.old.store) }
     ensures ends { OnOk result (turns_left plan.entry.fresh thread.new frames.new.items < turns_left plan.entry.fresh thread.old frames.old.items + 3) }
 {
     match thread.truth(guard) {
@@ -163,7 +212,9 @@ fn turn_loop<'p>(
 }
 
 /// Both sides of a section, or F5 where it has no such place.
-fn sides(thread: &Thread, section: usize, at: &Number) -> Result<(Window, Window), FaultKind> {
+fn sides(thread: &Thread, section: usize, at: &Number) -> Result<(Window, Window), FaultKind>
+    ensures { cut result ≡ halves (state_of thread.now) section (number_of at.now) }
+{
     let at = thread.number(at)?;
     let at = u64::try_from(at).map_err(|_| FaultKind::SplitPoint)?;
     let window = thread.environment.window(section);
@@ -180,6 +231,11 @@ fn call<'p>(
     values: &[Number],
     sections: &[usize],
 ) -> Result<(), AllocError>
+    requires { thread.old.flow ≡ Flow.On }
+    ensures meaning { let p = program_of plan.entry.program.now in let fresh = plan.entry.fresh in
+        OnOk result (resume p fresh frames.new.items (standing thread.new)
+        ≡ resume p fresh frames.old.items (acted p fresh label (Call procedure (map number_of values.now) sections.now) (standing thread.old))) }
+    ensures lengths { OnOk result (lengths_of thread.new.store ≡ lengths_of thread.old.store) }
     ensures ends { OnOk result (turns_left plan.entry.fresh thread.new frames.new.items < turns_left plan.entry.fresh thread.old frames.old.items + 3) }
 {
     let values = match thread.numbers(plan, values)? {
@@ -204,16 +260,25 @@ fn begin_async<'p>(
     frames: &mut Vec<Frame<'p>>,
     body: &'p [Stmt],
 ) -> Result<(), AllocError>
+    requires { thread.old.flow ≡ Flow.On }
+    ensures meaning { let p = program_of plan.entry.program.now in let fresh = plan.entry.fresh in
+        OnOk result (resume p fresh frames.new.items (standing thread.new)
+        ≡ resume p fresh frames.old.items (acted p fresh 0 (Async (codes_of body.entry.now)) (standing thread.old))) }
+    ensures lengths { OnOk result (lengths_of thread.new.store ≡ lengths_of thread.old.store) }
     ensures ends { OnOk result (turns_left plan.entry.fresh thread.new frames.new.items < turns_left plan.entry.fresh thread.old frames.old.items + rate plan.entry.fresh thread.old.nest) }
 {
     if thread.nest == 0 {
         thread.flow = Flow::Stopped;
         return Ok(());
     }
-    let number = thread.children.saturating_add(1);
-    let environment = thread.environment.clone()?;
-    thread.path.turns.push(number)?;
+    let Some(number) = thread.children.checked_add(1) else {
+        return Err(AllocError);
+    };
+    let environment = thread.environment.copied(plan.alloc)?;
+    let child = thread.path.child(number)?;
+    let path = std::mem::replace(&mut thread.path, child);
     let end = Frame::EndAsync {
+        path,
         environment,
         steps: thread.steps,
         nest: thread.nest,

@@ -1,4 +1,4 @@
-use Rattle.std.proofs.Common.{◌≡◌, ◌∙◌, map, ap}
+use Rattle.std.proofs.Common.{◌∙◌, map}
 use Rattle.std.specs.Prelude.{pos}
 use Rattle.types.specs.Place.{nowhere}
 use Rattle.types.specs.Translation.{window}

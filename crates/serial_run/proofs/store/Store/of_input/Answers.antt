@@ -1,4 +1,4 @@
-use Rattle.std.proofs.Common.{◌≡◌, ap, ◌∙◌, sym, map, ◌++◌, ◌∷◌, [], List, Vec, Global}
+use Rattle.std.proofs.Common.{ap, ◌∙◌, map, ◌++◌, ◌∷◌, [], List, Vec, Global}
 use Rattle.std.specs.Prelude.{ℤ}
 use Rattle.serial_run.proofs.Steps.{map-pushed, map-taken}
 use Rattle.serial_run.proofs.store.Store.of_input.Goals as goal

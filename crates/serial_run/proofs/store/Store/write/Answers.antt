@@ -1,4 +1,4 @@
-use Rattle.std.proofs.Common.{◌≡◌, ◌<◌, w64, length, arith}
+use Rattle.std.proofs.Common.{◌<◌, w64, length, arith}
 use Rattle.std.proofs.lemmas.Int.{to_z-of_z}
 use Rattle.serial_run.proofs.Writes.{held_by-with_item, lengths-with_item}
 use Rattle.serial_run.proofs.store.Store.write.Goals as goal

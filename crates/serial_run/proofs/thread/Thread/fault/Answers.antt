@@ -1,4 +1,4 @@
-use Rattle.std.proofs.Common.{◌≡◌, ap, ◌∙◌, List, ℕ, ◌++◌, ◌∷◌, [], rules}
+use Rattle.std.proofs.Common.{◌≡◌, ap, ◌∙◌, List, ℕ, ◌++◌, ◌∷◌, []}
 use Rattle.types.specs.Run.{Fault, State, Faulted}
 use Rattle.types.specs.Translation.{fault as fault_of}
 use Rattle.serial_run.specs.Standing.{state_of}
