@@ -1,6 +1,6 @@
 -- The lone atom of each level is that of the next, where nothing stands beside it.
 use Rattle.std.proofs.Common.{◌≡◌, ◌≢◌, List, [], ◌∷◌, length, Option, Some, None, Bool, true, false, refl, sym, ap, ◌∙◌, arith}
-use Rattle.syntax.specs.Tree.{Or, Conj, And, Neg, Cmp, Alone, Compare, Sum, Add, Prod, Multiply, Unary, Atom, expr, conj, neg, cmp, sum, term, prod, unary, conjs, negs, terms, factors, negated, lone_atom, atom_of_conj, atom_of_neg, atom_of_sum, atom_of_prod, atom_of_unary}
+use Rattle.syntax.specs.Tree.{Or, Conj, And, Neg, Cmp, Alone, Compare, Add, Prod, Multiply, Unary, expr, conj, neg, cmp, sum, term, prod, unary, conjs, negs, terms, factors, negated, lone_atom, atom_of_conj, atom_of_neg, atom_of_sum, atom_of_prod, atom_of_unary}
 use Rattle.syntax.specs.declared.tree.Expr.{Expr as rExpr, out-Expr, roll-out-Expr}
 use Rattle.syntax.specs.declared.tree.Conj.{Conj as rConj, out-Conj, roll-out-Conj}
 use Rattle.syntax.specs.declared.tree.Neg.{Neg as rNeg, out-Neg, roll-out-Neg}

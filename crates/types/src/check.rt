@@ -1,18 +1,21 @@
 //! The typing rules, and the resolution of names.
 
-ghost use Rattle.std.specs.Prelude.{◌≡◌, ◌≤◌, ◌+◌, IsTrue, IfOk, IfErr, OnOk, IsOkUnless, Some, false};
-ghost use Rattle.std.specs.Prelude.{[], ◌∷◌, map, length, replicate};
+ghost use Rattle.std.specs.Prelude.{◌≡◌, ◌≤◌, ◌+◌, IsTrue, IfOk, IfErr, OnOk, Some, Err};
+ghost use Rattle.std.specs.Prelude.{[], ◌∷◌, map, length, replicate, false};
 ghost use Rattle.std.specs.List.{list_all};
 ghost use Rattle.std.specs.String.{string_bytes};
-ghost use Rattle.syntax.specs.Tree.{block as block_of, stmt as stmt_of, expr as expr_of, atom as atom_of};
+ghost use Rattle.syntax.specs.Tree.{block as block_of, stmt as stmt_of};
+ghost use Rattle.syntax.specs.Tree.{expr as expr_of, atom as atom_of};
 ghost use Rattle.syntax.specs.Tree.{array as array_of, main as main_of, program as tree_of};
 ghost use Rattle.types.specs.ArrayScope.{place_among, lone, only_main, TellsName};
 ghost use Rattle.types.specs.Code.{Root};
 ghost use Rattle.types.specs.Resolution.{labels as labels_of, number as number_of, number_atom};
 ghost use Rattle.types.specs.Resolution.{array as array_at};
-ghost use Rattle.types.specs.Resolution.{Scope, section_of, code as code_at, codes as codes_at, with_main, resolution};
-ghost use Rattle.types.specs.Rules.{is_served};
-ghost use Rattle.types.specs.Rules.{is_number, is_literal, is_printed, is_item, is_served_block, is_unknown};
+ghost use Rattle.types.specs.Resolution.{Scope, section_of, with_main, resolution};
+ghost use Rattle.types.specs.Resolution.{code as code_at, codes as codes_at};
+ghost use Rattle.types.specs.Rules.{HasNoMain, is_served};
+ghost use Rattle.types.specs.Rules.{is_number, is_literal, is_printed, is_item};
+ghost use Rattle.types.specs.Rules.{is_served_block, is_unknown};
 ghost use Rattle.types.specs.Translation.{array, origin, number, primitive, codes, code};
 ghost use Rattle.types.specs.Translation.{program as plain};
 ghost use Rattle.types.specs.Typed.{code_of, program_of};
@@ -42,6 +45,7 @@ pub fn type_check(alloc: Global, program: tree::Program) -> Result<Typed, TypeEr
     ensures code { IfOk result (λ t. resolution (tree_of program) ≡ Some (code_of t)) }
     ensures program { IfOk result (λ t. program_of t ≡ tree_of program) }
     ensures served { OnOk result (IsTrue (is_served (tree_of program))) }
+    ensures no_main { HasNoMain (tree_of program) → result ≡ Err TypeError.NoMain }
 {
     let code = match &program.main {
         None => return Err(TypeError::NoMain),
@@ -161,7 +165,8 @@ impl Resolver<'_> {
         ensures labels { OnOk result (labels.new ≡ labels.old + labels_of (block_of block.now)) }
         ensures served { OnOk result (IsTrue (is_served_block (block_of block.now))) }
         ensures code { IfOk result (λ v. codes_at []
-            (place_among self.now.sections.now.keys (labels.old + 1)) (block_of block.now) ≡ codes v.items) }
+            (place_among self.now.sections.now.keys (labels.old + 1)) (block_of block.now)
+            ≡ codes v.items) }
     {
         let mut resolved = Vec::new(self.alloc);
         for stmt in block {
@@ -176,10 +181,12 @@ impl Resolver<'_> {
     fn statement(&self, labels: &mut Label, stmt: &tree::Stmt) -> Result<Stmt, TypeError>
         requires { labels.old ≤ MOST_LABELS }
         ensures within { labels.new ≤ MOST_LABELS }
-        ensures labels { OnOk result (labels.new ≡ labels.old + labels_of (lone (stmt_of stmt.now))) }
+        ensures labels { OnOk result
+            (labels.new ≡ labels.old + labels_of (lone (stmt_of stmt.now))) }
         ensures served { OnOk result (IsTrue (is_served_block (lone (stmt_of stmt.now)))) }
         ensures code { IfOk result (λ s. codes_at []
-            (place_among self.now.sections.now.keys (labels.old + 1)) (lone (stmt_of stmt.now)) ≡ codes (s ∷ [])) }
+            (place_among self.now.sections.now.keys (labels.old + 1)) (lone (stmt_of stmt.now))
+            ≡ codes (s ∷ [])) }
     {
         if *labels >= MOST_LABELS {
             return Err(TypeError::OverLimit);
@@ -195,7 +202,8 @@ impl Resolver<'_> {
     fn kind(&self, labels: &mut Label, stmt: &tree::Stmt) -> Result<StmtKind, TypeError>
         requires { labels.old ≤ MOST_LABELS }
         ensures within { labels.new ≤ MOST_LABELS }
-        ensures labels { OnOk result (labels.new + 1 ≡ labels.old + labels_of (lone (stmt_of stmt.now))) }
+        ensures labels { OnOk result
+            (labels.new + 1 ≡ labels.old + labels_of (lone (stmt_of stmt.now))) }
         ensures served { OnOk result (IsTrue (is_served_block (lone (stmt_of stmt.now)))) }
         ensures code { IfOk result (λ k. code_at []
             (place_among self.now.sections.now.keys labels.old) (stmt_of stmt.now) ≡ code k) }
@@ -234,8 +242,10 @@ impl Resolver<'_> {
 
     /// `item { "," item }`
     fn items(&self, label: Label, first: &Expr, rest: &[Expr]) -> Result<Vec<Number>, TypeError>
-        ensures served { OnOk result (IsTrue (list_all is_item (expr_of first.now ∷ map expr_of rest.now))) }
-        ensures code { IfOk result (λ v. map (number_of (place_among self.now.sections.now.keys label))
+        ensures served { OnOk result
+            (IsTrue (list_all is_item (expr_of first.now ∷ map expr_of rest.now))) }
+        ensures code { IfOk result (λ v.
+            map (number_of (place_among self.now.sections.now.keys label))
             (expr_of first.now ∷ map expr_of rest.now) ≡ map number v.items) }
     {
         let mut values = Vec::new(self.alloc);
@@ -252,7 +262,8 @@ impl Resolver<'_> {
     fn item(&self, label: Label, expr: &Expr) -> Result<Number, TypeError>
         ensures served { OnOk result (IsTrue (is_item (expr_of expr.now))) }
         ensures code { IfOk result (λ n.
-            number_of (place_among self.now.sections.now.keys label) (expr_of expr.now) ≡ number n) }
+            number_of (place_among self.now.sections.now.keys label) (expr_of expr.now)
+            ≡ number n) }
     {
         match expr.as_atom() {
             Some(atom) => self.item_atom(label, atom),
@@ -264,7 +275,8 @@ impl Resolver<'_> {
     fn item_atom(&self, label: Label, atom: &Atom) -> Result<Number, TypeError>
         ensures served { OnOk result (IsTrue (is_printed (Some (atom_of atom.now)))) }
         ensures code { IfOk result (λ n.
-            number_atom (place_among self.now.sections.now.keys label) (atom_of atom.now) ≡ number n) }
+            number_atom (place_among self.now.sections.now.keys label) (atom_of atom.now)
+            ≡ number n) }
     {
         match atom {
             Atom::Element { section, index } => {
@@ -280,7 +292,8 @@ impl Resolver<'_> {
     /// The section of a name in scope.
     fn section(&self, label: Label, name: &String) -> Result<usize, TypeError>
         ensures names { OnOk result
-            (is_unknown (place_among self.now.sections.now.keys label) (string_bytes name.now) ≡ false) }
+            (is_unknown (place_among self.now.sections.now.keys label) (string_bytes name.now)
+            ≡ false) }
         ensures code { IfOk result (λ s.
             section_of (place_among self.now.sections.now.keys label) (string_bytes name.now) ≡ s) }
         ensures error { IfErr result
@@ -295,7 +308,8 @@ impl Resolver<'_> {
 /// A number alone.
 fn literal(expr: &Expr) -> Result<Number, TypeError>
     ensures served { OnOk result (IsTrue (is_literal (expr_of expr.now))) }
-    ensures code { IfOk result (λ n. (here : Scope) → number_of here (expr_of expr.now) ≡ number n) }
+    ensures code { IfOk result
+        (λ n. (here : Scope) → number_of here (expr_of expr.now) ≡ number n) }
     ensures error { IfErr result (λ e.
         (e ≡ TypeError.NotYet) × (is_literal (expr_of expr.now) ≡ false)) }
 {
@@ -308,7 +322,8 @@ fn literal(expr: &Expr) -> Result<Number, TypeError>
 #[tactic(auto, unfolding(syntax::specs::Tree::atom))]
 fn literal_atom(atom: &Atom) -> Result<Number, TypeError>
     ensures served { OnOk result (IsTrue (is_number (Some (atom_of atom.now)))) }
-    ensures code { IfOk result (λ n. (here : Scope) → number_atom here (atom_of atom.now) ≡ number n) }
+    ensures code { IfOk result
+        (λ n. (here : Scope) → number_atom here (atom_of atom.now) ≡ number n) }
     ensures error { IfErr result (λ e.
         (e ≡ TypeError.NotYet) × (is_number (Some (atom_of atom.now)) ≡ false)) }
 {
