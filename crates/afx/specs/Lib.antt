@@ -1,3 +1,4 @@
 pub mod Appending
+pub mod FailureStatus
 pub mod OutcomeText
 pub mod Telling

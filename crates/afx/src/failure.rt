@@ -1,5 +1,8 @@
 //! What ends a command, and the line and the exit status that tell it.
 
+ghost use Rattle.std.specs.Prelude.{◌≡◌};
+ghost use Rattle.afx.specs.FailureStatus.{failure_status};
+
 use std::alloc::{AllocError, Global};
 use syntax::error::SyntaxError;
 use thiserror::Error;
@@ -36,7 +39,9 @@ pub enum Failure {
 
 impl Failure {
     /// The exit status: 1 refused, 4 want of memory, 5 a lost or strange result of a task.
-    pub fn status(&self) -> u8 {
+    pub fn status(&self) -> u8
+        ensures { result ≡ failure_status self.now }
+    {
         match self {
             Failure::Syntax(SyntaxError::OutOfMemory) => 4,
             Failure::Types(TypeError::OutOfMemory) => 4,
