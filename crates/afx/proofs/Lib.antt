@@ -1,3 +1,4 @@
 pub mod Examples
 pub mod Appending
 pub mod OutcomeText
+pub mod Told

@@ -1,5 +1,13 @@
 //! The whole program, over files and writers that it is lent.
 
+ghost use Rattle.std.specs.Prelude.{◌≡◌, IfOk, IsTrue};
+ghost use Rattle.std.specs.Str.{chars};
+ghost use Rattle.syntax.specs.Lexical.{AreTokensOf};
+ghost use Rattle.syntax.specs.Spelling.{spelling};
+ghost use Rattle.types.specs.FirstPart.{is_first_part};
+ghost use Rattle.types.specs.Resolution.{resolution};
+ghost use Rattle.types.specs.Typed.{program_of, code_of};
+
 use crate::command_line::{Request, request_of};
 use crate::commands::{run_as_tasks, run_serially};
 use crate::emit::append;
@@ -63,8 +71,23 @@ fn load<F: FileSource>(alloc: Global, files: &mut F, name: &str) -> Result<Typed
         Ok(text) => text,
         Err(_) => return Err(Failure::not_utf8(alloc, name)),
     };
-    let program = parse(alloc, text).map_err(Failure::Syntax)?;
-    let typed = type_check(alloc, program).map_err(Failure::Types)?;
+    typed_of(alloc, text)
+}
+
+/// The program of a text, where it is served. So far these are the programs of the first part.
+pub fn typed_of(alloc: Global, text: &str) -> Result<Typed, Failure>
+    ensures spelled { IfOk result (λ t. AreTokensOf (chars text.now) (spelling (program_of t))) }
+    ensures resolved { IfOk result (λ t. resolution (program_of t) ≡ Some (code_of t)) }
+    ensures first_part { IfOk result (λ t. IsTrue (is_first_part (code_of t))) }
+{
+    let program = match parse(alloc, text) {
+        Ok(program) => program,
+        Err(error) => return Err(Failure::Syntax(error)),
+    };
+    let typed = match type_check(alloc, program) {
+        Ok(typed) => typed,
+        Err(error) => return Err(Failure::Types(error)),
+    };
     if first_part(&typed) {
         Ok(typed)
     } else {

@@ -3,10 +3,12 @@
 ghost use Rattle.std.specs.Prelude.{◌≡◌, ◌≢◌, map, IfOk, IfErr, false};
 ghost use Rattle.std.specs.Io.KnownBytes.{Keeps};
 ghost use Rattle.types.specs.Outcome.{Outcome as PlainOutcome};
-ghost use Rattle.types.specs.Translation.{array, program, outcome as outcome_of};
+ghost use Rattle.types.specs.Contents.{FitsArrays};
+ghost use Rattle.types.specs.Translation.{array, program, input as lists_of, outcome as outcome_of};
+ghost use Rattle.types.specs.Typed.{code_of};
 ghost use Rattle.afx.specs.Appending.{Writes};
 ghost use Rattle.afx.specs.OutcomeText.{outcome_text, status_of};
-ghost use Rattle.afx.specs.Telling.{Tells};
+ghost use Rattle.afx.specs.Telling.{Tells, on_one_thread, zeros as zeros_of};
 
 use crate::emit::emit;
 use crate::failure::Failure;
@@ -38,12 +40,15 @@ pub fn run_as_tasks<O: Write>(alloc: Global, typed: Typed, out: &mut O) -> Resul
 
 /// Runs a program on one thread on zeros, under the usual budget, and writes its outcome; gives the exit status.
 pub fn run_serially<O: Write>(alloc: Global, typed: &Typed, out: &mut O) -> Result<u8, Failure>
-    ensures told { IfOk result (λ status. (o : PlainOutcome)
-        × Tells o (program typed.now.code).arrays (O.contents out.old) (O.contents out.new) status) }
+    ensures told { let code = code_of typed.now in IfOk result (λ status.
+        Tells (on_one_thread code) code.arrays (O.contents out.old) (O.contents out.new) status) }
     ensures silent { IfErr result (λ failure. failure ≢ Failure.CannotWriteOutput
         → Keeps (O.contents out.old) (O.contents out.new)) }
 {
-    let input = zeros(alloc, typed)?;
+    let input = match zeros(alloc, typed) {
+        Ok(input) => input,
+        Err(failure) => return Err(failure),
+    };
     match serial_run::serial(alloc, typed, &input, Budget::usual()) {
         Ok(outcome) => show(out, &typed.code().arrays, &outcome),
         Err(_) => Err(Failure::NoMemory),
@@ -51,8 +56,15 @@ pub fn run_serially<O: Write>(alloc: Global, typed: &Typed, out: &mut O) -> Resu
 }
 
 /// An input of zeros.
-fn zeros(alloc: Global, typed: &Typed) -> Result<Input, Failure> {
-    Input::zeros(alloc, typed).map_err(|_| Failure::NoMemory)
+fn zeros(alloc: Global, typed: &Typed) -> Result<Input, Failure>
+    ensures zeros { IfOk result (λ i. lists_of i ≡ zeros_of (code_of typed.now)) }
+    ensures fits { IfOk result (λ i. FitsArrays (code_of typed.now).arrays (lists_of i)) }
+    ensures failure { IfErr result (λ failure. failure ≡ Failure.NoMemory) }
+{
+    match Input::zeros(alloc, typed) {
+        Ok(input) => Ok(input),
+        Err(_) => Err(Failure::NoMemory),
+    }
 }
 
 /// Writes an outcome, and gives its exit status: 0 ended, 2 ended with faults, 3 stopped.
