@@ -132,7 +132,11 @@ impl Expr {
     pub fn as_atom(&self) -> Option<&Atom>
         ensures { option_map atom (option_copied result) ≡ lone_atom (expr self.now) }
     {
-        if self.rest.is_empty() { self.first.as_atom() } else { None }
+        if self.rest.is_empty() {
+            self.first.as_atom()
+        } else {
+            None
+        }
     }
 }
 
@@ -153,7 +157,11 @@ impl Conj {
     fn as_atom(&self) -> Option<&Atom>
         ensures { option_map atom (option_copied result) ≡ atom_of_conj (conj self.now) }
     {
-        if self.rest.is_empty() { self.first.as_atom() } else { None }
+        if self.rest.is_empty() {
+            self.first.as_atom()
+        } else {
+            None
+        }
     }
 }
 
@@ -217,7 +225,11 @@ impl Sum {
     fn as_atom(&self) -> Option<&Atom>
         ensures { option_map atom (option_copied result) ≡ atom_of_sum (sum self.now) }
     {
-        if self.rest.is_empty() { self.first.as_atom() } else { None }
+        if self.rest.is_empty() {
+            self.first.as_atom()
+        } else {
+            None
+        }
     }
 }
 
@@ -246,7 +258,11 @@ impl Prod {
     fn as_atom(&self) -> Option<&Atom>
         ensures { option_map atom (option_copied result) ≡ atom_of_prod (prod self.now) }
     {
-        if self.rest.is_empty() { self.first.as_atom() } else { None }
+        if self.rest.is_empty() {
+            self.first.as_atom()
+        } else {
+            None
+        }
     }
 }
 
@@ -275,7 +291,11 @@ impl Unary {
     fn as_atom(&self) -> Option<&Atom>
         ensures { option_map atom (option_copied result) ≡ atom_of_unary (unary self.now) }
     {
-        if !self.negative { Some(&self.atom) } else { None }
+        if !self.negative {
+            Some(&self.atom)
+        } else {
+            None
+        }
     }
 }
 
