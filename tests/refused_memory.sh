@@ -1,6 +1,7 @@
 #!/bin/sh
-# Runs `run` and `serial` on examples/two_arrays.afx with the n-th allocation refused, for every n. Each run must
-# print the whole right output with status 0, or end with one of the refusals below; anything else is a wrong answer.
+# Runs `run` and `serial` on the two-array program and on one of three nested tasks, with the n-th allocation refused,
+# for every n. Each run must print the whole right output with status 0, or end with one of the refusals below; anything
+# else is a wrong answer.
 #
 #   tests/refused_memory.sh            the proved program, with `malloc` replaced (seconds)
 #   tests/refused_memory.sh try [N]    the unproved build of `rt try --fail-alloc n`, from n = N on (half a minute for
@@ -9,8 +10,6 @@
 # RT names another rt, CC another C compiler than the kit's.
 set -u
 top=$(CDPATH= cd -- "$(dirname -- "$0")/.." && pwd)
-program=$top/examples/two_arrays.afx
-right='7 8'
 rt=${RT:-rt}
 way=${1:-proved}
 first=${2:-1}
@@ -55,15 +54,15 @@ sweep() {
         whole) whole=$((whole + 1)) ;;
         refused) refused=$((refused + 1)) whole=0 ;;
         *)
-            echo "$1, allocation $n refused: status '$status', output '$out', error '$err'"
+            echo "$1 of $name, allocation $n refused: status '$status', output '$out', error '$err'"
             exit 1
             ;;
         esac
         n=$((n + 1))
     done
-    echo "$1: allocations $first to $((n - 1)) refused in turn, $refused refusals told, no wrong output"
+    echo "$1 of $name: allocations $first to $((n - 1)) refused in turn, $refused refusals told, no wrong output"
     if [ "$first" = 1 ] && [ "$refused" = 0 ]; then
-        echo "$1: nothing was refused"
+        echo "$1 of $name: nothing was refused"
         exit 1
     fi
 }
@@ -71,12 +70,23 @@ sweep() {
 case $way in
 proved)
     enough=20
-    "$top/afx" serial "$program" >/dev/null || exit 1
+    "$top/afx" serial "$top/examples/two_arrays.afx" >/dev/null || exit 1
     "${CC:-$(dirname "$("$rt" doc)")/toolchain/bin/clang}" -shared -fPIC -O1 -nostdlib -fuse-ld=lld \
         -o "$folder/refuse.so" "$top/tests/refuse_allocation.c" || exit 2
     ;;
 try) enough=5 ;;
 *) echo "usage: $0 [try [N]]" >&2; exit 2 ;;
 esac
-sweep run
-sweep serial
+# A program, and what it prints.
+sweep_program() {
+    name=$1
+    program=$top/examples/$1.afx
+    right=$2
+    sweep run
+    sweep serial
+}
+
+sweep_program two_arrays '7 8'
+sweep_program nested_tasks '1
+2
+3'
