@@ -34,7 +34,7 @@ impl Store {
     ghost use Rattle.types.specs.Translation.{input as lists_in};
     ghost use Rattle.serial_run.specs.Lists.{lists_of};
     ghost use Rattle.types.specs.Contents.{write as written};
-    ghost use Rattle.types.specs.Frame.{place as place_of};
+    ghost use Rattle.types.specs.Reading.{place as place_of};
     ghost use Rattle.serial_run.specs.Lists.{contents_of, lengths_of};
 
     /// The contents as a run begins.

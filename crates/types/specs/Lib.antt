@@ -8,7 +8,7 @@ pub mod Run
 pub mod Meaning
 pub mod Outcome
 pub mod FirstPart
-pub mod Frame
+pub mod Reading
 pub mod Typed
 pub mod Indexed
 pub mod Laws

@@ -24,7 +24,7 @@ pub struct Place {
 }
 
 impl Window {
-    ghost use Rattle.types.specs.Frame.{place as place_of};
+    ghost use Rattle.types.specs.Reading.{place as place_of};
     ghost use Rattle.types.specs.Translation.{window as window_of};
     ghost use Rattle.types.specs.Value.{element_of};
 

@@ -1,5 +1,5 @@
 use Rattle.std.proofs.Common.{◌≡◌, drop, true, false}
-use Rattle.types.specs.Frame.{reading}
+use Rattle.types.specs.Reading.{reading}
 use Rattle.types.specs.Translation.{environment}
 use Rattle.types.specs.Rows.{truths}
 use Rattle.types.specs.Value.{all, any}

@@ -1,5 +1,5 @@
 use Rattle.std.proofs.Common.{◌≡◌, drop}
-use Rattle.types.specs.Frame.{reading}
+use Rattle.types.specs.Reading.{reading}
 use Rattle.types.specs.Rows.{links as links_of}
 use Rattle.types.specs.Translation.{environment}
 use Rattle.types.specs.Value.{links}
