@@ -1,8 +1,8 @@
 //! What a frame does.
 
-ghost use Rattle.std.specs.Prelude.{◌≡◌, ◌<◌, ◌+◌, ◌++◌, ◌∷◌, [], map, drop, OnOk};
+ghost use Rattle.std.specs.Prelude.{ℕ, ◌≡◌, ◌<◌, ◌+◌, ◌++◌, ◌∷◌, [], map, drop, OnOk};
 ghost use Rattle.types.specs.Meaning.{after_finish as flow_behind};
-ghost use Rattle.types.specs.Code.{Async, Call, If, While};
+ghost use Rattle.types.specs.Code.{Async, Call, Finish, If, Program, While};
 ghost use Rattle.types.specs.Run.{Block, Turn};
 ghost use Rattle.types.specs.Translation.{program as program_of, truth as truth_of, number as number_of, code as code_of, codes as codes_of, fault as fault_of};
 ghost use Rattle.serial_run.specs.Frames.{rate, cost, turns_left};
@@ -151,11 +151,9 @@ fn statement<'p>(
     let label = stmt.label;
     match &stmt.kind {
         StmtKind::Do(primitive) => thread.primitive(plan, label, primitive),
-        StmtKind::If { guard, body, other } => match thread.truth(guard) {
-            Err(kind) => thread.fault(plan, label, kind),
-            Ok(true) => push(frames, Frame::Rest(body)),
-            Ok(false) => push(frames, Frame::Rest(other)),
-        },
+        StmtKind::If { guard, body, other } => {
+            conditional(plan, thread, frames, label, guard, body, other)
+        }
         StmtKind::While { guard, body } => turn_loop(plan, thread, frames, label, guard, body),
         StmtKind::Split {
             section,
@@ -177,12 +175,54 @@ fn statement<'p>(
             sections,
         } => call(plan, thread, frames, label, *procedure, values, sections),
         StmtKind::Async { body } => begin_async(plan, thread, frames, body),
-        StmtKind::Finish { body } => {
-            let faults = thread.faults.len();
-            push(frames, Frame::EndFinish { faults })?;
-            push(frames, Frame::Rest(body))
-        }
+        StmtKind::Finish { body } => begin_finish(thread, frames, body),
     }
+}
+
+/// The one block or the other, as the guard says.
+fn conditional<'p>(
+    plan: Plan<'p>,
+    thread: &mut Thread,
+    frames: &mut Vec<Frame<'p>>,
+    label: Label,
+    guard: &Truth,
+    body: &'p [Stmt],
+    other: &'p [Stmt],
+) -> Result<(), AllocError>
+    requires { thread.old.flow ≡ Flow.On }
+    ensures meaning { let p = program_of plan.entry.program.now in let fresh = plan.entry.fresh in
+        OnOk result (resume p fresh frames.new.items (standing thread.new)
+        ≡ resume p fresh frames.old.items (acted p fresh label
+        (If (truth_of guard.now) (codes_of body.entry.now) (codes_of other.entry.now)) (standing thread.old))) }
+    ensures lengths { OnOk result (lengths_of thread.new.store ≡ lengths_of thread.old.store) }
+    ensures ends { let fresh = plan.entry.fresh in
+        OnOk result (turns_left fresh thread.new frames.new.items
+        < turns_left fresh thread.old frames.old.items + 3) }
+{
+    match thread.truth(guard) {
+        Err(kind) => thread.fault(plan, label, kind),
+        Ok(true) => push(frames, Frame::Rest(body)),
+        Ok(false) => push(frames, Frame::Rest(other)),
+    }
+}
+
+/// The body of a finish, and behind it the end, which tells how many faults there were before.
+fn begin_finish<'p>(
+    thread: &Thread,
+    frames: &mut Vec<Frame<'p>>,
+    body: &'p [Stmt],
+) -> Result<(), AllocError>
+    requires { thread.now.flow ≡ Flow.On }
+    ensures meaning { (p : Program) → (fresh : ℕ) → OnOk result
+        (resume p fresh frames.new.items (standing thread.now) ≡ resume p fresh frames.old.items
+        (acted p fresh 0 (Finish (codes_of body.entry.now)) (standing thread.now))) }
+    ensures ends { (fresh : ℕ) → OnOk result
+        (turns_left fresh thread.now frames.new.items
+        < turns_left fresh thread.now frames.old.items + 5) }
+{
+    let faults = thread.faults.len();
+    push(frames, Frame::EndFinish { faults })?;
+    push(frames, Frame::Rest(body))
 }
 
 /// A guard of a loop: its body and a further turn, where it holds.
