@@ -1,4 +1,5 @@
 pub mod Appending
 pub mod FailureStatus
+pub mod Failures
 pub mod OutcomeText
 pub mod Telling

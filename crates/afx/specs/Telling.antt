@@ -1,8 +1,13 @@
 -- What a command leaves that tells an outcome.
-use Rattle.std.specs.Prelude.{ℕ, ℤ, pos, ◌≡◌, List, Option, false, map, replicate}
+use Rattle.std.specs.Prelude.{ℕ, ℤ, pos, ◌≡◌, List, Option, Some, IsTrue, false, map, replicate}
 use Rattle.std.specs.Io.KnownBytes.{Appends}
+use Rattle.syntax.specs.Lexical.{AreTokensOf}
+use Rattle.syntax.specs.Spelling.{spelling}
+use Rattle.syntax.specs.Tree as tree
 use Rattle.types.specs.Code.{Array, Program}
+use Rattle.types.specs.FirstPart.{is_first_part}
 use Rattle.types.specs.Outcome.{Budget, Outcome, outcome}
+use Rattle.types.specs.Resolution.{resolution}
 use Rattle.afx.specs.OutcomeText.{outcome_text, status_of}
 
 -- the outcome's text was appended, without the arrays, and its status was given
@@ -21,3 +26,29 @@ usual = record { steps = 1000000; nest = 100 }
 -- what a program comes to on one thread, on zeros and under the usual budget
 abbrev pub on_one_thread : Program → Outcome
 on_one_thread p = outcome p (zeros p) usual
+
+-- the text spells a program of the first part, of which this is the code
+pub record IsCodeOf (text : List ℕ) (code : Program) : Type 0 where
+  pub program : tree.Program
+  pub spelled : AreTokensOf text (spelling program)
+  pub resolved : resolution program ≡ Some code
+  pub first_part : IsTrue (is_first_part code)
+
+-- the text is that of a program whose one-thread outcome was told
+pub record TellsOnOneThread (text : List ℕ) (old new : Option (List ℕ)) (status : ℕ) : Type 0 where
+  pub code : Program
+  pub is_code : IsCodeOf text code
+  pub told : Tells (on_one_thread code) code.arrays old new status
+
+-- the text is that of a program of which some outcome was told
+pub record TellsRun (text : List ℕ) (old new : Option (List ℕ)) (status : ℕ) : Type 0 where
+  pub code : Program
+  pub is_code : IsCodeOf text code
+  pub outcome : Outcome
+  pub told : Tells outcome code.arrays old new status
+
+-- some outcome was told
+pub record TellsSome (old new : Option (List ℕ)) (status : ℕ) : Type 0 where
+  pub declared : List Array
+  pub outcome : Outcome
+  pub told : Tells outcome declared old new status

@@ -1,32 +1,40 @@
-//! What each command does with a program that was read.
+//! What each command does with the text of its file.
 
-ghost use Rattle.std.specs.Prelude.{◌≡◌, ◌≢◌, map, IfOk, IfErr, false};
+ghost use Rattle.std.specs.Prelude.{◌≡◌, ◌≢◌, map, IfOk, IfErr, IsErr, false};
 ghost use Rattle.std.specs.Io.KnownBytes.{Keeps};
-ghost use Rattle.types.specs.Outcome.{Outcome as PlainOutcome};
+ghost use Rattle.std.specs.Str.{chars};
+ghost use Rattle.syntax.specs.Lexical.{AreTokensOf};
+ghost use Rattle.syntax.specs.Spelling.{spelling};
+ghost use Rattle.syntax.specs.Tree.{program as tree_of};
 ghost use Rattle.types.specs.Contents.{FitsArrays};
-ghost use Rattle.types.specs.Translation.{array, program, input as lists_of, outcome as outcome_of};
+ghost use Rattle.types.specs.Translation.{array, input as lists_of, outcome as outcome_of};
 ghost use Rattle.types.specs.Typed.{code_of};
 ghost use Rattle.afx.specs.Appending.{Writes};
 ghost use Rattle.afx.specs.OutcomeText.{outcome_text, status_of};
-ghost use Rattle.afx.specs.Telling.{Tells, on_one_thread, zeros as zeros_of};
+ghost use Rattle.afx.specs.Telling.{IsCodeOf, TellsRun, TellsOnOneThread, zeros as zeros_of};
 
-use crate::emit::emit;
+use crate::emit::{append, emit};
 use crate::failure::Failure;
-use std::alloc::Global;
+use std::alloc::{AllocError, Global};
 use std::io::Write;
+use syntax::tree::Program;
 use types::budget::Budget;
+use types::check::type_check;
 use types::code::Array;
+use types::first_part::first_part;
 use types::input::Input;
 use types::outcome::Outcome;
 use types::typed::Typed;
 
-/// Runs a program task by task on zeros, under the usual budget, and writes its outcome; gives the exit status.
-pub fn run_as_tasks<O: Write>(alloc: Global, typed: Typed, out: &mut O) -> Result<u8, Failure>
-    ensures told { IfOk result (λ status. (o : PlainOutcome)
-        × Tells o (program typed.code).arrays (O.contents out.old) (O.contents out.new) status) }
+/// `run`: runs the program task by task on zeros, under the usual budget, and writes its outcome; gives the
+/// exit status.
+pub fn run_as_tasks<O: Write>(alloc: Global, text: &str, out: &mut O) -> Result<u8, Failure>
+    ensures told { IfOk result
+        (TellsRun (chars text.now) (O.contents out.old) (O.contents out.new)) }
     ensures silent { IfErr result (λ failure. failure ≢ Failure.CannotWriteOutput
         → Keeps (O.contents out.old) (O.contents out.new)) }
 {
+    let typed = typed_of(alloc, text)?;
     let accepted = match workers::check::check(alloc, typed) {
         Ok(accepted) => accepted,
         Err(refused) => return Err(Failure::of_refused(alloc, refused)),
@@ -38,20 +46,71 @@ pub fn run_as_tasks<O: Write>(alloc: Global, typed: Typed, out: &mut O) -> Resul
     }
 }
 
-/// Runs a program on one thread on zeros, under the usual budget, and writes its outcome; gives the exit status.
-pub fn run_serially<O: Write>(alloc: Global, typed: &Typed, out: &mut O) -> Result<u8, Failure>
-    ensures told { let code = code_of typed.now in IfOk result (λ status.
-        Tells (on_one_thread code) code.arrays (O.contents out.old) (O.contents out.new) status) }
+/// `serial`: runs the program on one thread on zeros, under the usual budget, and writes its outcome; gives the
+/// exit status.
+pub fn run_serially<O: Write>(alloc: Global, text: &str, out: &mut O) -> Result<u8, Failure>
+    ensures told { IfOk result
+        (TellsOnOneThread (chars text.now) (O.contents out.old) (O.contents out.new)) }
     ensures silent { IfErr result (λ failure. failure ≢ Failure.CannotWriteOutput
         → Keeps (O.contents out.old) (O.contents out.new)) }
 {
-    let input = match zeros(alloc, typed) {
-        Ok(input) => input,
-        Err(failure) => return Err(failure),
-    };
-    match serial_run::serial(alloc, typed, &input, Budget::usual()) {
+    let typed = typed_of(alloc, text)?;
+    let input = zeros(alloc, &typed)?;
+    match serial_run::serial(alloc, &typed, &input, Budget::usual()) {
         Ok(outcome) => show(out, &typed.code().arrays, &outcome),
         Err(_) => Err(Failure::NoMemory),
+    }
+}
+
+/// `check --list`: writes the listing of any program.
+pub fn list<O: Write>(alloc: Global, text: &str, out: &mut O) -> Result<u8, Failure>
+    ensures status { IfOk result (λ status. status ≡ 0) }
+    ensures silent { IfErr result (λ failure. failure ≢ Failure.CannotWriteOutput
+        → Keeps (O.contents out.old) (O.contents out.new)) }
+{
+    let program = program_of(alloc, text)?;
+    let Ok(listing) = syntax::listing(alloc, &program) else {
+        return Err(Failure::NoMemory);
+    };
+    match append(out, listing.as_bytes()) {
+        Ok(()) => Ok(0),
+        Err(_) => Err(Failure::CannotWriteOutput),
+    }
+}
+
+/// `check`, which no program passes as yet: tells why this one doesn't.
+pub fn reject(alloc: Global, text: &str) -> Result<u8, Failure>
+    ensures refused { IsErr result }
+{
+    typed_of(alloc, text)?;
+    Err(Failure::NotYet)
+}
+
+/// The program that a text spells.
+fn program_of(alloc: Global, text: &str) -> Result<Program, Failure>
+    ensures spelled { IfOk result (λ p. AreTokensOf (chars text.now) (spelling (tree_of p))) }
+    ensures failure { IfErr result (λ failure. failure ≢ Failure.CannotWriteOutput) }
+{
+    match syntax::parse(alloc, text) {
+        Ok(program) => Ok(program),
+        Err(error) => Err(Failure::Syntax(error)),
+    }
+}
+
+/// The program of a text, where it is served. So far these are the programs of the first part.
+fn typed_of(alloc: Global, text: &str) -> Result<Typed, Failure>
+    ensures code { IfOk result (λ t. IsCodeOf (chars text.now) (code_of t)) }
+    ensures failure { IfErr result (λ failure. failure ≢ Failure.CannotWriteOutput) }
+{
+    let program = program_of(alloc, text)?;
+    let typed = match type_check(alloc, program) {
+        Ok(typed) => typed,
+        Err(error) => return Err(Failure::Types(error)),
+    };
+    if first_part(&typed) {
+        Ok(typed)
+    } else {
+        Err(Failure::NotYet)
     }
 }
 

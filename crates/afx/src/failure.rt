@@ -1,7 +1,9 @@
 //! What ends a command, and the line and the exit status that tell it.
 
-ghost use Rattle.std.specs.Prelude.{◌≡◌};
+ghost use Rattle.std.specs.Prelude.{◌≡◌, IfOk, slice_get};
+ghost use Rattle.std.specs.String.{string_bytes};
 ghost use Rattle.afx.specs.FailureStatus.{failure_status};
+ghost use Rattle.afx.specs.Failures.{TellsUnread, TellsNotUtf8, TellsRefusal, access_text, kind_of, name_of};
 
 use std::alloc::{AllocError, Global};
 use syntax::error::SyntaxError;
@@ -54,7 +56,9 @@ impl Failure {
     }
 
     /// A file that can't be read.
-    pub fn cannot_read(alloc: Global, name: &str) -> Failure {
+    pub fn cannot_read(alloc: Global, name: &str) -> Failure
+        ensures { TellsUnread name.now result }
+    {
         match String::from_str(alloc, name) {
             Ok(name) => Failure::CannotRead { name },
             Err(AllocError) => Failure::NoMemory,
@@ -62,7 +66,9 @@ impl Failure {
     }
 
     /// A file that isn't text.
-    pub fn not_utf8(alloc: Global, name: &str) -> Failure {
+    pub fn not_utf8(alloc: Global, name: &str) -> Failure
+        ensures { TellsNotUtf8 name.now result }
+    {
         match String::from_str(alloc, name) {
             Ok(name) => Failure::NotUtf8 { name },
             Err(AllocError) => Failure::NoMemory,
@@ -70,7 +76,9 @@ impl Failure {
     }
 
     /// A program that the race check refuses.
-    pub fn of_refused(alloc: Global, refused: Refused) -> Failure {
+    pub fn of_refused(alloc: Global, refused: Refused) -> Failure
+        ensures { TellsRefusal refused result }
+    {
         match refused {
             Refused::OutOfMemory => Failure::NoMemoryInCheck,
             Refused::Race { race, typed } => {
@@ -88,12 +96,28 @@ impl Failure {
 }
 
 /// An access as the message tells it: `2 write a`.
-fn told(alloc: Global, arrays: &[Array], access: Access) -> Result<String, AllocError> {
+fn told(alloc: Global, arrays: &[Array], access: Access) -> Result<String, AllocError>
+    ensures { IfOk result (λ text. string_bytes text ≡ access_text arrays.now access) }
+{
     let label = access.label;
-    let kind = if access.write { "write" } else { "read" };
-    let name = match arrays.get(access.section) {
+    let kind = kind(access.write);
+    let name = name(arrays, access.section);
+    format!(in alloc; "{label} {kind} {name}")
+}
+
+/// What an access does.
+fn kind(write: bool) -> &'static str
+    ensures { result.now ≡ kind_of write }
+{
+    if write { "write" } else { "read" }
+}
+
+/// The name of an array.
+fn name(arrays: &[Array], section: usize) -> &str
+    ensures { result.now ≡ name_of (slice_get arrays.now section) }
+{
+    match arrays.get(section) {
         Some(array) => array.name.as_str(),
         None => "",
-    };
-    format!(in alloc; "{label} {kind} {name}")
+    }
 }

@@ -284,6 +284,96 @@ fn programs_that_are_refused(rt: HostRuntime) -> Result<(), Fail> {
     Ok(())
 }
 
+const LIST: &[&str] = &["check", "--list", "program.afx"];
+
+const TWO_ARRAYS_LISTED: &str = "      main {
+        array a: int[1];
+        array b: int[1];
+    1   finish {
+    2     async {
+    3       a[0] = 7;
+          }
+    4     b[0] = 8;
+        }
+    5   print a[0], b[0];
+      }
+";
+
+const CHOICE: &str = "main{array a:byte[2];if a[0]==1{a[1]=(-1)+2;}else{}}";
+
+const CHOICE_LISTED: &str = "      main {
+        array a: byte[2];
+    1   if a[0] == 1 {
+    2     a[1] = (-1) + 2;
+        } else {
+        }
+      }
+";
+
+#[test]
+fn programs_that_are_checked_or_listed(rt: HostRuntime) -> Result<(), Fail> {
+    let rows = [
+        Row {
+            name: "two arrays listed",
+            words: LIST,
+            text: TWO_ARRAYS,
+            out: TWO_ARRAYS_LISTED,
+            err: "",
+            status: 0,
+        },
+        Row {
+            name: "a program that isn't served listed, the option last",
+            words: &["check", "program.afx", "--list"],
+            text: CHOICE,
+            out: CHOICE_LISTED,
+            err: "",
+            status: 0,
+        },
+        Row {
+            name: "the empty text listed",
+            words: LIST,
+            text: "",
+            out: "",
+            err: "",
+            status: 0,
+        },
+        Row {
+            name: "no program listed",
+            words: LIST,
+            text: "main { by }",
+            out: "",
+            err: "S2 at 1:8\n",
+            status: 1,
+        },
+        Row {
+            name: "a program of the first part checked",
+            words: &["check", "program.afx"],
+            text: TWO_ARRAYS,
+            out: "",
+            err: "Z1\n",
+            status: 1,
+        },
+        Row {
+            name: "another program checked",
+            words: &["check", "-"],
+            text: CHOICE,
+            out: "",
+            err: "Z1\n",
+            status: 1,
+        },
+        Row {
+            name: "a program that breaks a rule checked",
+            words: &["check", "program.afx"],
+            text: "main { print a[0]; }",
+            out: "",
+            err: "Y1 at label 1\n",
+            status: 1,
+        },
+    ];
+    compare(&rt, rt.alloc(), rows.as_slice())?;
+    Ok(())
+}
+
 const HELP: &str = "Checks and runs programs of tasks
 
 Usage: afx <COMMAND>
@@ -291,6 +381,7 @@ Usage: afx <COMMAND>
 Commands:
   run     Runs a program as tasks
   serial  Runs a program on one thread
+  check   Tells whether a program would be run
   help    Print this message or the help of the given subcommand(s)
 
 Options:
