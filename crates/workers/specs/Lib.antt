@@ -1,6 +1,9 @@
+pub mod Codes
 pub mod Deeds
 pub mod Gathered
+pub mod Holdings
 pub mod Left
 pub mod Lengths
 pub mod Races
 pub mod Refusal
+pub mod Scopes

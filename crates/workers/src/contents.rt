@@ -1,6 +1,11 @@
 //! The arrays that a task has.
 
-ghost use Rattle.std.specs.Prelude.{◌≡◌, ◌<◌, IfOk, pos};
+ghost use Rattle.std.specs.Prelude.{ℕ, ◌≡◌, ◌≢◌, ◌<◌, IfOk, OnOk, OnErr, Ok, Some, map, pos};
+ghost use Rattle.std.specs.Prelude.{replicate, length, slice_get, vec_len};
+ghost use Rattle.types.specs.Value.{holds_number};
+ghost use Rattle.types.specs.Translation.{input as lists_of};
+ghost use Rattle.workers.specs.Holdings.{CopyOf, Without, Own, holding, holdings, given, kept};
+ghost use Rattle.workers.specs.Holdings.{element_at, length_of, read_from};
 
 use crate::needs::Need;
 use std::alloc::{AllocError, Global};
@@ -37,16 +42,20 @@ pub enum Trouble {
 
 impl Contents {
     /// The arrays of an input, all owned.
-    pub fn of_input(alloc: Global, input: &Input) -> Result<Contents, AllocError> {
+    pub fn of_input(alloc: Global, input: &Input) -> Result<Contents, AllocError>
+        ensures { IfOk result (λ contents. holdings contents ≡ map Own (lists_of input.now)) }
+    {
         let mut arrays = Vec::new(alloc);
         for array in &input.arrays {
-            arrays.push(Held::Owned(array.clone()?))?;
+            arrays.push(Held::Owned(Vec::from_slice(alloc, array)?))?;
         }
         Ok(Contents { arrays })
     }
 
     /// None of so many arrays.
-    pub fn absent(alloc: Global, count: usize) -> Result<Contents, AllocError> {
+    pub fn absent(alloc: Global, count: usize) -> Result<Contents, AllocError>
+        ensures { IfOk result (λ contents. holdings contents ≡ replicate count Without) }
+    {
         let mut arrays = Vec::new(alloc);
         for _ in 0..count {
             arrays.push(Held::Absent)?;
@@ -55,7 +64,9 @@ impl Contents {
     }
 
     /// An element.
-    pub fn read(&self, section: usize, index: i64) -> Result<i64, Trouble> {
+    pub fn read(&self, section: usize, index: i64) -> Result<i64, Trouble>
+        ensures { result ≡ read_from (slice_get (holdings self.now) section) index }
+    {
         match self.arrays.get(section) {
             Some(Held::Owned(numbers)) => element(numbers, index),
             Some(Held::Copied(numbers)) => element(numbers, index),
@@ -70,20 +81,30 @@ impl Contents {
         kind: ElementType,
         index: i64,
         value: i64,
-    ) -> Result<(), Trouble> {
-        match self.arrays.get_mut(section) {
-            Some(Held::Owned(numbers)) => store(numbers, kind, index, value),
+    ) -> Result<(), Trouble>
+        ensures lengths { map (λ h. length_of (holding h)) self.new.arrays.items
+            ≡ map (λ h. length_of (holding h)) self.old.arrays.items }
+        ensures within { OnOk result (section < vec_len self.old.arrays) }
+    {
+        if section >= self.arrays.len() {
+            return Err(Trouble::Absent);
+        }
+        match &mut self.arrays[section] {
+            Held::Owned(numbers) => store(numbers, kind, index, value),
             _ => Err(Trouble::Absent),
         }
     }
 
     /// What a child needs: arrays that it writes leave these contents, the others are copied.
-    pub fn carve(&mut self, alloc: Global, needs: &[Need]) -> Result<Contents, AllocError> {
+    pub fn carve(&mut self, alloc: Global, needs: &[Need]) -> Result<Contents, AllocError>
+        ensures child { IfOk result (λ child. vec_len child.arrays ≡ length needs.now) }
+        ensures parent { vec_len self.new.arrays ≡ vec_len self.old.arrays }
+    {
         let mut arrays = Vec::new(alloc);
         for (section, need) in needs.iter().enumerate() {
             let held = match self.arrays.get_mut(section) {
                 None => Held::Absent,
-                Some(held) => held.part(*need)?,
+                Some(held) => held.part(alloc, *need)?,
             };
             arrays.push(held)?;
         }
@@ -91,7 +112,9 @@ impl Contents {
     }
 
     /// Takes in the arrays that a child owned. False where one is owned here already.
-    pub fn paste(&mut self, child: Contents) -> bool {
+    pub fn paste(&mut self, child: Contents) -> bool
+        ensures { vec_len self.new.arrays ≡ vec_len self.old.arrays }
+    {
         let mut fits = true;
         for (section, held) in child.arrays.into_iter().enumerate() {
             if let Held::Owned(numbers) = held {
@@ -108,17 +131,27 @@ impl Contents {
 
 impl Held {
     /// What a child gets of the array.
-    fn part(&mut self, need: Need) -> Result<Held, AllocError> {
+    fn part(&mut self, alloc: Global, need: Need) -> Result<Held, AllocError>
+        ensures child { IfOk result (λ part. holding part ≡ given need (holding self.old)) }
+        ensures parent { holding self.new ≡ kept need (holding self.old) }
+    {
         match need {
             Need::Nothing => Ok(Held::Absent),
             Need::Whole => Ok(mem::replace(self, Held::Absent)),
             Need::Copy => match self {
                 Held::Absent => Ok(Held::Absent),
-                Held::Copied(numbers) => Ok(Held::Copied(numbers.clone()?)),
-                Held::Owned(numbers) => Ok(Held::Copied(numbers.clone()?)),
+                Held::Copied(numbers) => copied(alloc, numbers),
+                Held::Owned(numbers) => copied(alloc, numbers),
             },
         }
     }
+}
+
+/// A copy, to be read.
+fn copied(alloc: Global, numbers: &[i64]) -> Result<Held, AllocError>
+    ensures { IfOk result (λ copy. holding copy ≡ CopyOf numbers.now) }
+{
+    Ok(Held::Copied(Vec::from_slice(alloc, numbers)?))
 }
 
 /// The place of an index in an array of this length.
@@ -133,13 +166,24 @@ fn place(length: usize, index: i64) -> Result<usize, Trouble>
 }
 
 /// The element at an index.
-fn element(numbers: &[i64], index: i64) -> Result<i64, Trouble> {
-    let place = place(numbers.len(), index)?;
-    Ok(numbers[place])
+fn element(numbers: &[i64], index: i64) -> Result<i64, Trouble>
+    ensures { result ≡ element_at numbers.now index }
+{
+    let Ok(place) = usize::try_from(index) else {
+        return Err(Trouble::Fault(FaultKind::Index));
+    };
+    match numbers.get(place) {
+        None => Err(Trouble::Fault(FaultKind::Index)),
+        Some(number) => Ok(*number),
+    }
 }
 
 /// Stores a number at an index.
-fn store(numbers: &mut Vec<i64>, kind: ElementType, index: i64, value: i64) -> Result<(), Trouble> {
+fn store(numbers: &mut Vec<i64>, kind: ElementType, index: i64, value: i64) -> Result<(), Trouble>
+    ensures stored { OnOk result (element_at numbers.new.items index ≡ Ok value) }
+    ensures refused { OnErr result (numbers.new.items ≡ numbers.old.items) }
+    ensures length { length numbers.new.items ≡ length numbers.old.items }
+{
     let place = place(numbers.len(), index)?;
     if !fits(kind, value) {
         return Err(Trouble::Fault(FaultKind::OutOfElement));
@@ -149,7 +193,9 @@ fn store(numbers: &mut Vec<i64>, kind: ElementType, index: i64, value: i64) -> R
 }
 
 /// Whether an array of this type holds the number.
-fn fits(kind: ElementType, value: i64) -> bool {
+fn fits(kind: ElementType, value: i64) -> bool
+    ensures { result ≡ holds_number kind value }
+{
     match kind {
         ElementType::Int => true,
         ElementType::Byte => 0 <= value && value <= 255,

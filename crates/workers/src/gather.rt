@@ -1,6 +1,6 @@
 //! The results of the tasks that were begun in a finish, merged by path.
 
-ghost use Rattle.std.specs.Prelude.{◌≡◌, ℕ, ◌+◌, OnOk, IfOk, IfSome, IfNone, length, sum_by, vec_len};
+ghost use Rattle.std.specs.Prelude.{◌≡◌, ◌↔◌, ◌||◌, true, false, ℕ, ◌+◌, OnOk, IfOk, IfSome, IfNone, length, sum_by, vec_len};
 ghost use Rattle.workers.specs.Gathered.{one_told, one_hole, count_in, count_of, sum_in};
 ghost use Rattle.workers.specs.Left.{pieces_in};
 
@@ -134,7 +134,10 @@ impl Settled {
     }
 
     /// How the owner goes on.
-    pub fn flow(&self) -> Flow {
+    pub fn flow(&self) -> Flow
+        ensures stopped { result ≡ Flow.Stopped ↔ self.now.stopped ≡ true }
+        ensures on { result ≡ Flow.On ↔ (self.now.stopped || self.now.faulted) ≡ false }
+    {
         if self.stopped {
             Flow::Stopped
         } else if self.faulted {

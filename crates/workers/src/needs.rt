@@ -1,5 +1,8 @@
 //! What the body of an async needs of the arrays.
 
+ghost use Rattle.std.specs.Prelude.{◌≡◌, IfOk, vec_len};
+ghost use Rattle.workers.specs.Holdings.{more};
+
 use crate::access::accesses_in;
 use std::alloc::{AllocError, Global};
 use types::code::Stmt;
@@ -16,7 +19,9 @@ pub enum Need {
 }
 
 /// What a body needs of each of the arrays, in their order, also for the tasks that it begins.
-pub fn needs_of(alloc: Global, arrays: usize, body: &[Stmt]) -> Result<Vec<Need>, AllocError> {
+pub fn needs_of(alloc: Global, arrays: usize, body: &[Stmt]) -> Result<Vec<Need>, AllocError>
+    ensures { IfOk result (λ needs. vec_len needs ≡ arrays) }
+{
     let accesses = accesses_in(alloc, body)?;
     let mut needs = vec![in alloc; Need::Nothing; arrays]?;
     for access in &accesses {
@@ -29,7 +34,9 @@ pub fn needs_of(alloc: Global, arrays: usize, body: &[Stmt]) -> Result<Vec<Need>
 
 impl Need {
     /// The need after one more access.
-    fn with(self, write: bool) -> Need {
+    fn with(self, write: bool) -> Need
+        ensures { result ≡ more self write }
+    {
         match self {
             Need::Whole => Need::Whole,
             _ => { if write { Need::Whole } else { Need::Copy } }

@@ -1,6 +1,7 @@
 //! The run of an accepted program, task by task.
 
 ghost use Rattle.std.specs.Prelude.{◌≡◌, ◌+◌, ◌<◌, IfOk, OnOk, map, vec_len};
+ghost use Rattle.workers.specs.Codes.{code_of};
 ghost use Rattle.workers.specs.Left.{left_of, left_in};
 ghost use Rattle.workers.specs.Lengths.{lengths_of, HasLengths};
 
@@ -38,7 +39,9 @@ impl<T: Drop> From<AllocFailed<T>> for RunError {
 
 impl RunError {
     /// The code that the program prints.
-    pub fn code(&self) -> &'static str {
+    pub fn code(&self) -> &'static str
+        ensures { result.now ≡ code_of self.now }
+    {
         match self {
             RunError::OutOfMemory => "E1",
             RunError::Gather(_) => "E3",

@@ -1,7 +1,9 @@
 //! The finishes of a run, each with a count of its tasks.
 
 ghost use Rattle.std.specs.Prelude.{◌≡◌, ℕ, ◌+◌, ◌≤◌, OnOk, IfOk, MatchOption, None};
+ghost use Rattle.std.specs.Prelude.{vec_len};
 ghost use Rattle.workers.specs.Left.{left_of, left_in};
+ghost use Rattle.workers.specs.Scopes.{outer_results};
 
 use crate::gather::GatherError;
 use crate::run::RunError;
@@ -48,7 +50,9 @@ impl<'p> Scope<'p> {
 
 impl<'p> Tasks<'p> {
     /// No task, and the outer scope, which has no owner.
-    pub fn new(alloc: Global) -> Result<Tasks<'p>, RunError> {
+    pub fn new(alloc: Global) -> Result<Tasks<'p>, RunError>
+        ensures { IfOk result (λ tasks. vec_len tasks.scopes ≡ 1) }
+    {
         let mut scopes = Vec::new(alloc);
         scopes.push(Scope::new(alloc))?;
         Ok(Tasks {
@@ -143,7 +147,9 @@ impl<'p> Tasks<'p> {
     }
 
     /// The results of the tasks that were begun in the outer scope.
-    pub fn into_results(self) -> Vec<TaskResult> {
+    pub fn into_results(self) -> Vec<TaskResult>
+        ensures { result.items ≡ outer_results self.entry.scopes.items }
+    {
         let mut scopes = self.scopes;
         match scopes.get_mut(0) {
             None => Vec::new(self.alloc),

@@ -1,6 +1,6 @@
 //! A task: what it has left to do, what it has, and what it told.
 
-ghost use Rattle.std.specs.Prelude.{◌≡◌, ◌+◌, ◌*◌, ◌<◌, IfOk, OnOk};
+ghost use Rattle.std.specs.Prelude.{◌≡◌, ◌+◌, ◌*◌, ◌<◌, [], IfOk, OnOk};
 ghost use Rattle.workers.specs.Left.{rate, left_of, LeavesLess, KeepsLeft};
 
 use crate::contents::{Contents, Trouble};
@@ -353,7 +353,9 @@ impl<'p> Task<'p> {
     }
 
     /// The innermost scope that the task stands in.
-    pub fn scope(&self) -> ScopeNumber {
+    pub fn scope(&self) -> ScopeNumber
+        ensures { self.now.«open».items ≡ [] → result ≡ self.now.outside.scope }
+    {
         match self.open.last() {
             Some(part) => part.scope,
             None => self.outside.scope,

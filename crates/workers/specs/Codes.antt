@@ -1,0 +1,9 @@
+-- The codes of errors.
+use Rattle.std.specs.Prelude.{ℕ, List, codes}
+use Rattle.workers.specs.declared.run.RunError.{RunError}
+use Rattle.workers.specs.declared.run.RunError.TheVariants.{OutOfMemory, Gather}
+
+-- E1 for want of memory, E3 for results of tasks that don't make a whole
+abbrev pub code_of : RunError → List ℕ
+code_of OutOfMemory = codes "E1"
+code_of (Gather e) = codes "E3"
