@@ -11,3 +11,4 @@ pub mod Chains
 pub mod Blocks
 pub mod Served
 pub mod Resolved
+pub mod Declared

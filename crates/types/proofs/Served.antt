@@ -19,7 +19,8 @@ use Rattle.types.specs.declared.error.TypeError.TheVariants.{NotInScope}
 use Rattle.types.specs.Resolution.{Scope, Meant, ASection, meant, section_or_0, section_of, number, number_conj, number_neg, number_cmp, number_sum, number_prod, number_unary, number_atom, labels, labels_in, slots, slots_in, sides, sides_in, inside, behind}
 use Rattle.types.specs.Resolution as resolution
 use Rattle.types.specs.Rules.{is_unknown, is_served_statement, is_served_block}
-use Rattle.types.specs.ArrayScope.{numbered, place, place_among, lone, TellsName}
+use Rattle.types.specs.ArrayScope.{numbered, place, place_among, lone}
+use Rattle.types.specs.Told.{TellsName}
 
 -- ---- an expression that is an atom alone
 module _ (here : Scope) where

@@ -1,21 +1,23 @@
 //! The typing rules, and the resolution of names.
 
-ghost use Rattle.std.specs.Prelude.{◌≡◌, ◌≤◌, ◌+◌, IsTrue, IfOk, IfErr, OnOk, Some, Err};
+ghost use Rattle.std.specs.Prelude.{◌≡◌, ◌≤◌, ◌+◌, IsTrue, IfOk, IfErr, OnOk, IsOkUnless, Some, Err};
 ghost use Rattle.std.specs.Prelude.{[], ◌∷◌, map, length, replicate, false};
-ghost use Rattle.std.specs.List.{list_all};
+ghost use Rattle.std.specs.List.{list_all, list_any};
 ghost use Rattle.std.specs.String.{string_bytes};
 ghost use Rattle.syntax.specs.Tree.{block as block_of, stmt as stmt_of};
 ghost use Rattle.syntax.specs.Tree.{expr as expr_of, atom as atom_of};
 ghost use Rattle.syntax.specs.Tree.{array as array_of, main as main_of, program as tree_of};
-ghost use Rattle.types.specs.ArrayScope.{place_among, lone, only_main, TellsName};
+ghost use Rattle.types.specs.ArrayScope.{place_among, lone, only_main};
 ghost use Rattle.types.specs.Code.{Root};
 ghost use Rattle.types.specs.Resolution.{labels as labels_of, number as number_of, number_atom};
 ghost use Rattle.types.specs.Resolution.{array as array_at};
 ghost use Rattle.types.specs.Resolution.{Scope, section_of, with_main, resolution};
 ghost use Rattle.types.specs.Resolution.{code as code_at, codes as codes_at};
-ghost use Rattle.types.specs.Rules.{HasNoMain, is_served};
+ghost use Rattle.types.specs.Rules.{HasNameTwice, TooMany, HasNoMain, BreaksNoRule, Tells, is_served};
 ghost use Rattle.types.specs.Rules.{is_number, is_literal, is_printed, is_item};
-ghost use Rattle.types.specs.Rules.{is_served_block, is_unknown};
+ghost use Rattle.types.specs.Rules.{is_served_block, is_unknown, atom_unknown, item_unknown};
+ghost use Rattle.types.specs.Told.{KnowsNames};
+ghost use Rattle.types.specs.Told.{TellsArrays, TellsBlock, TellsItems, TellsItem, TellsAtom, TellsName};
 ghost use Rattle.types.specs.Translation.{array, origin, number, primitive, codes, code};
 ghost use Rattle.types.specs.Translation.{program as plain};
 ghost use Rattle.types.specs.Typed.{code_of, program_of};
@@ -94,8 +96,10 @@ fn resolve_main(alloc: Global, main: &tree::Main) -> Result<Program, TypeError>
 
 /// The names of the arrays, each once.
 fn array_names(alloc: Global, arrays: &[tree::Array]) -> Result<IndexSet<String>, TypeError>
-    ensures { IfOk result
+    ensures names { IfOk result
         (λ s. map string_bytes s.keys ≡ map (λ a. string_bytes a.name) arrays.now) }
+    ensures apart { OnOk result (¬ HasNameTwice (map array_of arrays.now)) }
+    ensures error { IfErr result (TellsArrays (map array_of arrays.now)) }
 {
     let mut names = IndexSet::new(alloc);
     for array in arrays {
@@ -110,8 +114,10 @@ fn array_names(alloc: Global, arrays: &[tree::Array]) -> Result<IndexSet<String>
 
 /// The declared arrays, within the limits.
 fn resolve_arrays(alloc: Global, arrays: &[tree::Array]) -> Result<Vec<Array>, TypeError>
-    ensures { IfOk result
+    ensures arrays { IfOk result
         (λ v. map array_at (map array_of arrays.now) ≡ map array v.items) }
+    ensures limits { OnOk result (¬ TooMany (map array_of arrays.now)) }
+    ensures error { IfErr result (TellsArrays (map array_of arrays.now)) }
 {
     if arrays.len() > MOST_ARRAYS {
         return Err(TypeError::OverLimit);

@@ -16,9 +16,9 @@ returns-clause-code c =
     let declared = c.as_slice-declared.ensures.value in
     let statements = c.as_slice-statements.ensures.value in
     main_is (map tree.array arrays) (tree.block c.args.main.now.body.items) names _ _ _ _ _
-    (c.in_ok-names.ensures ∙ ap (map (λ a. string_bytes a.name)) declared ∙ names_are arrays)
+    (c.in_ok-names.ensures.names ∙ ap (map (λ a. string_bytes a.name)) declared ∙ names_are arrays)
     (ap (λ b. is_served_block (tree.block b)) (sym statements) ∙ c.in_ok-body.ensures.served)
-    (ap (λ xs. map resolution.array (map tree.array xs)) (sym declared) ∙ c.in_ok-arrays.ensures)
+    (ap (λ xs. map resolution.array (map tree.array xs)) (sym declared) ∙ c.in_ok-arrays.ensures.arrays)
     (sym (ap (map plain.procedure) c.new-procedures.ensures.items))
     (sym (ap (map plain.parameter) c.new-parameters.ensures.items))
     (ap (λ n. replicate n Root) (as_many arrays) ∙ ap (λ xs. replicate (length xs) Root) (sym declared) ∙ c.in_ok-sections.ensures)
