@@ -1,7 +1,7 @@
 -- A chain stands for what its operands in turn stand for.
-use Rattle.std.proofs.Common.{◌≡◌, ℕ, suc, ◌<◌, List, [], ◌∷◌, length, drop, get_or, Vec, Box, Global, Result, Ok, refl, sym, ap, ◌∙◌}
+use Rattle.std.proofs.Common.{◌≡◌, ℕ, suc, ◌<◌, List, length, drop, get_or, Vec, Box, Global, Ok, refl, sym, ap, ◌∙◌}
 use Rattle.std.proofs.Math.Seq.{drop-cons}
-use Rattle.std.specs.Prelude.{ℤ, Bool, true, false}
+use Rattle.std.specs.Prelude.{ℤ, true, false}
 use mathlib.Core.Former.{Count}
 use Rattle.types.specs.declared.code.Number.{Number as rNumber, Row_of-Link, end_of-Link, more_of-Link, items-the_row-Link, items_hidden-the_row-Link-0}
 use Rattle.types.specs.declared.code.Number.TheVariants.{Chain as rChain, Chain' as rChain'}
@@ -10,7 +10,7 @@ use Rattle.types.specs.declared.code.Truth.{Truth as rTruth, Row_of-Truth, end_o
 use Rattle.types.specs.declared.code.Truth.TheVariants.{Both as rBoth, Both' as rBoth', Either as rEither, Either' as rEither'}
 use Rattle.types.specs.Code.{Chain, Link, Both, Either, Truths, NoMore, Also}
 use Rattle.types.specs.Place.{Place}
-use Rattle.types.specs.Value.{Environment, Valued, then_try, all, any, truth as truth_value}
+use Rattle.types.specs.Value.{Environment, then_try, all, any, truth as truth_value}
 use Rattle.types.specs.Translation.{number, truth, links as row_links, truths as row_truths}
 use Rattle.types.specs.Rows.{links, truths}
 

@@ -12,3 +12,6 @@ pub mod Blocks
 pub mod Served
 pub mod Resolved
 pub mod Declared
+pub mod Places
+pub mod ByKind
+pub mod Mains

@@ -158,7 +158,7 @@ no_names (Async b) here h = refl
 no_names (Finish b) here h = refl
 
 -- behind it are the same names
-behind_served : (names : List (List ℕ)) (s : Stmt) (label after : ℕ) → is_served_statement s ≡ true → after ≡ label + labels_in s → behind s (place names label) ≡ place names after
+pub behind_served : (names : List (List ℕ)) (s : Stmt) (label after : ℕ) → is_served_statement s ≡ true → after ≡ label + labels_in s → behind s (place names label) ≡ place names after
 behind_served names s label after h e =
     let slots : 0 + slots_in s ≡ 0 = omega (arith, no_slots_in s h) in
     let sides : length names + sides_in s ≡ length names = omega (arith, no_sides_in s h) in
@@ -227,7 +227,7 @@ as_many_names [] = refl
 as_many_names (a ∷ arrays) = ap suc (as_many_names arrays)
 
 -- where only arrays are in scope, `main` begins
-at_main : (names : List (List ℕ)) (arrays : List tree.Array) → names ≡ map (λ a. a.name) arrays → place names 1 ≡ resolution.in_main 1 arrays
+pub at_main : (names : List (List ℕ)) (arrays : List tree.Array) → names ≡ map (λ a. a.name) arrays → place names 1 ≡ resolution.in_main 1 arrays
 at_main names arrays same =
     ap (λ ns. place ns 1) same
     ∙ ap (λ ns. record { names = ns; label = 1; slot = 0; section = length (map (λ a. a.name) arrays) }) (numbered_names 0 arrays)

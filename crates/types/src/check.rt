@@ -47,6 +47,10 @@ pub fn type_check(alloc: Global, program: tree::Program) -> Result<Typed, TypeEr
     ensures code { IfOk result (λ t. resolution (tree_of program) ≡ Some (code_of t)) }
     ensures program { IfOk result (λ t. program_of t ≡ tree_of program) }
     ensures served { OnOk result (IsTrue (is_served (tree_of program))) }
+    ensures right { OnOk result (BreaksNoRule (tree_of program)) }
+    ensures error { IfErr result (Tells (tree_of program)) }
+    ensures exact { BreaksNoRule (tree_of program) → IsTrue (is_served (tree_of program))
+        → IsOkUnless result TypeError.OutOfMemory }
     ensures no_main { HasNoMain (tree_of program) → result ≡ Err TypeError.NoMain }
 {
     let code = match &program.main {
@@ -65,6 +69,8 @@ pub fn type_check(alloc: Global, program: tree::Program) -> Result<Typed, TypeEr
 fn resolve_main(alloc: Global, main: &tree::Main) -> Result<Program, TypeError>
     ensures code { IfOk result (λ p. with_main [] (main_of main.now) ≡ plain p) }
     ensures served { OnOk result (IsTrue (is_served (only_main (main_of main.now)))) }
+    ensures right { OnOk result (BreaksNoRule (only_main (main_of main.now))) }
+    ensures error { IfErr result (Tells (only_main (main_of main.now))) }
 {
     let declared = main.arrays.as_slice();
     let statements = main.body.as_slice();
@@ -170,9 +176,15 @@ impl Resolver<'_> {
         ensures within { labels.new ≤ MOST_LABELS }
         ensures labels { OnOk result (labels.new ≡ labels.old + labels_of (block_of block.now)) }
         ensures served { OnOk result (IsTrue (is_served_block (block_of block.now))) }
+        ensures names { OnOk result
+            (KnowsNames (place_among self.now.sections.now.keys (labels.old + 1))
+            (block_of block.now)) }
         ensures code { IfOk result (λ v. codes_at []
             (place_among self.now.sections.now.keys (labels.old + 1)) (block_of block.now)
             ≡ codes v.items) }
+        ensures error { IfErr result
+            (TellsBlock (place_among self.now.sections.now.keys (labels.old + 1))
+            (block_of block.now)) }
     {
         let mut resolved = Vec::new(self.alloc);
         for stmt in block {
@@ -190,9 +202,15 @@ impl Resolver<'_> {
         ensures labels { OnOk result
             (labels.new ≡ labels.old + labels_of (lone (stmt_of stmt.now))) }
         ensures served { OnOk result (IsTrue (is_served_block (lone (stmt_of stmt.now)))) }
+        ensures names { OnOk result
+            (KnowsNames (place_among self.now.sections.now.keys (labels.old + 1))
+            (lone (stmt_of stmt.now))) }
         ensures code { IfOk result (λ s. codes_at []
             (place_among self.now.sections.now.keys (labels.old + 1)) (lone (stmt_of stmt.now))
             ≡ codes (s ∷ [])) }
+        ensures error { IfErr result
+            (TellsBlock (place_among self.now.sections.now.keys (labels.old + 1))
+            (lone (stmt_of stmt.now))) }
     {
         if *labels >= MOST_LABELS {
             return Err(TypeError::OverLimit);
@@ -211,8 +229,14 @@ impl Resolver<'_> {
         ensures labels { OnOk result
             (labels.new + 1 ≡ labels.old + labels_of (lone (stmt_of stmt.now))) }
         ensures served { OnOk result (IsTrue (is_served_block (lone (stmt_of stmt.now)))) }
+        ensures names { OnOk result
+            (KnowsNames (place_among self.now.sections.now.keys labels.old)
+            (lone (stmt_of stmt.now))) }
         ensures code { IfOk result (λ k. code_at []
             (place_among self.now.sections.now.keys labels.old) (stmt_of stmt.now) ≡ code k) }
+        ensures error { IfErr result
+            (TellsBlock (place_among self.now.sections.now.keys labels.old)
+            (lone (stmt_of stmt.now))) }
     {
         match stmt {
             tree::Stmt::Skip => Ok(StmtKind::Do(Primitive::Skip)),
@@ -250,9 +274,15 @@ impl Resolver<'_> {
     fn items(&self, label: Label, first: &Expr, rest: &[Expr]) -> Result<Vec<Number>, TypeError>
         ensures served { OnOk result
             (IsTrue (list_all is_item (expr_of first.now ∷ map expr_of rest.now))) }
+        ensures names { OnOk result
+            (list_any (item_unknown (place_among self.now.sections.now.keys label))
+            (expr_of first.now ∷ map expr_of rest.now) ≡ false) }
         ensures code { IfOk result (λ v.
             map (number_of (place_among self.now.sections.now.keys label))
             (expr_of first.now ∷ map expr_of rest.now) ≡ map number v.items) }
+        ensures error { IfErr result
+            (TellsItems (place_among self.now.sections.now.keys label)
+            (expr_of first.now ∷ map expr_of rest.now)) }
     {
         let mut values = Vec::new(self.alloc);
         let value = self.item(label, first)?;
@@ -267,9 +297,14 @@ impl Resolver<'_> {
     /// `number | name "[" number "]"`
     fn item(&self, label: Label, expr: &Expr) -> Result<Number, TypeError>
         ensures served { OnOk result (IsTrue (is_item (expr_of expr.now))) }
+        ensures names { OnOk result
+            (item_unknown (place_among self.now.sections.now.keys label) (expr_of expr.now)
+            ≡ false) }
         ensures code { IfOk result (λ n.
             number_of (place_among self.now.sections.now.keys label) (expr_of expr.now)
             ≡ number n) }
+        ensures error { IfErr result
+            (TellsItem (place_among self.now.sections.now.keys label) (expr_of expr.now)) }
     {
         match expr.as_atom() {
             Some(atom) => self.item_atom(label, atom),
@@ -280,9 +315,15 @@ impl Resolver<'_> {
     #[tactic(auto, unfolding(syntax::specs::Tree::atom))]
     fn item_atom(&self, label: Label, atom: &Atom) -> Result<Number, TypeError>
         ensures served { OnOk result (IsTrue (is_printed (Some (atom_of atom.now)))) }
+        ensures names { OnOk result
+            (atom_unknown (place_among self.now.sections.now.keys label)
+            (Some (atom_of atom.now)) ≡ false) }
         ensures code { IfOk result (λ n.
             number_atom (place_among self.now.sections.now.keys label) (atom_of atom.now)
             ≡ number n) }
+        ensures error { IfErr result
+            (TellsAtom (place_among self.now.sections.now.keys label)
+            (Some (atom_of atom.now))) }
     {
         match atom {
             Atom::Element { section, index } => {

@@ -20,8 +20,8 @@ returns-then-not-added-clause-error c =
     let within : i < length xs = search rules in
     let next : map (λ a. string_bytes a.name) (drop i xs) ≡ string_bytes name ∷ others =
     at_drop_more (map (λ a. string_bytes a.name)) xs i c.array-item.result within
-        ∙ ap (λ x. string_bytes x.name ∷ others) (sym c.array-item.is)
-        ∙ ap (λ x. x ∷ others) (sym c.in_ok-name.ensures.cases) in
+    ∙ ap (λ x. string_bytes x.name ∷ others) (sym c.array-item.is)
+    ∙ ap (λ x. x ∷ others) (sym c.in_ok-name.ensures.cases) in
     let all = ap (λ ns. map string_bytes keys ++ ns) (sym next) ∙ c.loop-array.invariant.named ∙ names_are xs in
     has_name_twice-found name keys others (map tree.array xs) all (was_there _ (sym c.in_ok-added.ensures.added ∙ c.if-not-added.true))
 

@@ -1,4 +1,4 @@
-use Rattle.std.proofs.Common.{◌≡◌, ap, sym, ◌∙◌, rules, w64, FitsSigned}
+use Rattle.std.proofs.Common.{ap, sym, ◌∙◌, rules, w64, FitsSigned}
 use Rattle.std.proofs.lemmas.Int.{to_z-of_z}
 use Rattle.types.specs.Reading.{reading}
 use Rattle.types.specs.Translation.{environment}
