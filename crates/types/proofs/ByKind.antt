@@ -23,7 +23,8 @@ pub knows_Store : (from : Scope) (x : List ℕ) (i e : Expr) → is_unknown from
 knows_Store from x i e known here s first = known
 knows_Store from x i e known here s (later h) = elim h [ ]
 
-pub knows_Print : (from : Scope) (e : Expr) (es : List Expr) → list_any (item_unknown from) (e ∷ es) ≡ false → KnowsNames from (lone (Print e es))
+pub knows_Print : (from : Scope) (e : Expr) (es : List Expr) → list_any (item_unknown from) (e ∷ es) ≡ false
+    → KnowsNames from (lone (Print e es))
 knows_Print from e es known here s first = known
 knows_Print from e es known here s (later h) = elim h [ ]
 
@@ -57,15 +58,20 @@ and_false false b h = refl
 pub tells_Store : (from : Scope) (x : List ℕ) (i v : Expr) (e : TypeError) → TellsName from x e → TellsBlock from (lone (Store x i v)) e
 tells_Store from x i v = says-weaker (λ label h. unknown_here from (Store x i v) label h.0 h.1) (λ h. h) absurd absurd
 
-pub tells_index : (from : Scope) (x : List ℕ) (i v : Expr) (e : TypeError) → (e ≡ NotYet) × (is_literal i ≡ false) → TellsBlock from (lone (Store x i v)) e
+pub tells_index : (from : Scope) (x : List ℕ) (i v : Expr) (e : TypeError) → (e ≡ NotYet) × (is_literal i ≡ false)
+    → TellsBlock from (lone (Store x i v)) e
 tells_index from x i v e h =
-    subst (TellsBlock from (lone (Store x i v))) (sym h.0) (false_and (is_literal i && is_literal v) true (false_and (is_literal i) (is_literal v) h.1))
+    let unserved = false_and (is_literal i) (is_literal v) h.1 in
+    subst (TellsBlock from (lone (Store x i v))) (sym h.0) (false_and (is_literal i && is_literal v) true unserved)
 
-pub tells_value : (from : Scope) (x : List ℕ) (i v : Expr) (e : TypeError) → (e ≡ NotYet) × (is_literal v ≡ false) → TellsBlock from (lone (Store x i v)) e
+pub tells_value : (from : Scope) (x : List ℕ) (i v : Expr) (e : TypeError) → (e ≡ NotYet) × (is_literal v ≡ false)
+    → TellsBlock from (lone (Store x i v)) e
 tells_value from x i v e h =
-    subst (TellsBlock from (lone (Store x i v))) (sym h.0) (false_and (is_literal i && is_literal v) true (and_false (is_literal i) (is_literal v) h.1))
+    let unserved = and_false (is_literal i) (is_literal v) h.1 in
+    subst (TellsBlock from (lone (Store x i v))) (sym h.0) (false_and (is_literal i && is_literal v) true unserved)
 
-pub tells_Print : (from : Scope) (i : Expr) (is : List Expr) (e : TypeError) → TellsItems from (i ∷ is) e → TellsBlock from (lone (Print i is)) e
+pub tells_Print : (from : Scope) (i : Expr) (is : List Expr) (e : TypeError) → TellsItems from (i ∷ is) e
+    → TellsBlock from (lone (Print i is)) e
 tells_Print from i is =
     says-weaker (λ label h. unknown_here from (Print i is) label h.0 h.1) (λ h. h) absurd (λ h. false_and (list_all is_item (i ∷ is)) true h)
 
@@ -119,10 +125,18 @@ other_kind_unserved (rIf' e n b other) h = conditional_unserved (tree.expr e) (t
 other_kind_unserved (rWhile' e n b) h = refl
 other_kind_unserved (rSplit' x e l r n b) h = refl
 other_kind_unserved (rCall f es) h = refl
-other_kind_unserved (rAsync' n b) h = absurd (h.not_Async _ (sym (roll-out-Stmt (rAsync' n b)) ∙ ap roll-Stmt (outs-Async' n b) ∙ rolls-Async _))
-other_kind_unserved (rFinish' n b) h = absurd (h.not_Finish _ (sym (roll-out-Stmt (rFinish' n b)) ∙ ap roll-Stmt (outs-Finish' n b) ∙ rolls-Finish _))
+other_kind_unserved (rAsync' n b) h =
+    absurd (h.not_Async _ (sym (roll-out-Stmt (rAsync' n b)) ∙ ap roll-Stmt (outs-Async' n b) ∙ rolls-Async _))
+other_kind_unserved (rFinish' n b) h =
+    absurd (h.not_Finish _ (sym (roll-out-Stmt (rFinish' n b)) ∙ ap roll-Stmt (outs-Finish' n b) ∙ rolls-Finish _))
 
 -- ---- what an error that is passed on says
 pub at_exit : {A : Type 0} (P : TypeError → Type 0) (r : Result A TypeError) (e : TypeError) → IsErrAnd r (λ y. y ≡ e) → P e → IfErr r P
 at_exit P (Ok x) e passed h = tt
 at_exit P (Err y) e passed h = subst P (sym passed) h
+
+-- the same of a statement, from what it says of the statement's tree
+pub statement_exit : {A : Type 0} {s t : Stmt} (here : Scope) (r : Result A TypeError) (e : TypeError) → s ≡ t → IsErrAnd r (λ y. y ≡ e)
+    → TellsBlock here (lone t) e → IfErr r (TellsBlock here (lone s))
+statement_exit {s = s} here r e is passed told =
+    at_exit (TellsBlock here (lone s)) r e passed (subst (λ u. TellsBlock here (lone u) e) (sym is) told)

@@ -24,7 +24,8 @@ has_name_twice-later a arrays t = record {
 
 -- the array behind some that have these names
 array_behind : (keys : List (String Global)) (name : List ℕ) (rest : List (List ℕ)) (arrays : List Array)
-    → map string_bytes keys ++ name ∷ rest ≡ map (λ a. a.name) arrays → (a : Array) × (slice_get arrays (length keys) ≡ Some a) × (name ≡ a.name)
+    → map string_bytes keys ++ name ∷ rest ≡ map (λ a. a.name) arrays
+    → (a : Array) × (slice_get arrays (length keys) ≡ Some a) × (name ≡ a.name)
 array_behind [] name rest [] e = cc
 array_behind [] name rest (a ∷ arrays) e = (a, refl, cc)
 array_behind (k ∷ keys) name rest [] e = cc
@@ -34,11 +35,13 @@ same_bytes : (x y : List ℕ) → bytes_eq x y ≡ true → x ≡ y
 same_bytes x y h = (bytes_eq-Decides x y).0 h
 
 pub has_name_twice-found : (name : String Global) (keys : List (String Global)) (rest : List (List ℕ)) (arrays : List Array)
-    → map string_bytes keys ++ string_bytes name ∷ rest ≡ map (λ a. a.name) arrays → list_any (string_eq name) keys ≡ true → HasNameTwice arrays
+    → map string_bytes keys ++ string_bytes name ∷ rest ≡ map (λ a. a.name) arrays → list_any (string_eq name) keys ≡ true
+    → HasNameTwice arrays
 has_name_twice-found name [] rest arrays e found = cc
 has_name_twice-found name (k ∷ keys) rest [] e found = cc
 has_name_twice-found name (k ∷ keys) rest (a ∷ arrays) e found =
-    by (string_eq name k) refl (λ differ. has_name_twice-found name keys rest arrays (cc) (ap (λ b. b || list_any (string_eq name) keys) (sym differ) ∙ found))
+    by (string_eq name k) refl
+    (λ differ. has_name_twice-found name keys rest arrays (cc) (ap (λ b. b || list_any (string_eq name) keys) (sym differ) ∙ found))
   where
     by : (b : Bool) → string_eq name k ≡ b → (string_eq name k ≡ false → HasNameTwice arrays) → HasNameTwice (a ∷ arrays)
     by true same others =
@@ -66,14 +69,20 @@ unfolding IsDistinct
 distinct_as_bytes [] all = tt
 distinct_as_bytes (k ∷ keys) all = (differ_as_bytes k keys all.0, distinct_as_bytes keys all.1)
 
-name_at : (arrays : List Array) (i : ℕ) (a : Array) (d : List ℕ) → slice_get arrays i ≡ Some a → slice_index_or (map (λ a. a.name) arrays) i d ≡ a.name
-name_at arrays i a d at =
-    get_or_from_slice_get (map (λ a. a.name) arrays) i a.name d (slice_get-map (λ (a : Array). a.name) arrays i ∙ ap (option_map (λ (a : Array). a.name)) at)
+abbrev names_of : List Array → List (List ℕ)
+names_of arrays = map (λ a. a.name) arrays
 
-pub no_name_twice : (keys : List (String Global)) (arrays : List Array) → map string_bytes keys ≡ map (λ a. a.name) arrays → IsDistinct string_eq keys → HasNameTwice arrays → ⊥
+name_there : (arrays : List Array) (i : ℕ) (a : Array) → slice_get arrays i ≡ Some a → slice_get (names_of arrays) i ≡ Some a.name
+name_there arrays i a at = slice_get-map (λ (a : Array). a.name) arrays i ∙ ap (option_map (λ (a : Array). a.name)) at
+
+name_at : (arrays : List Array) (i : ℕ) (a : Array) → slice_get arrays i ≡ Some a → slice_index_or (names_of arrays) i [] ≡ a.name
+name_at arrays i a at = get_or_from_slice_get (names_of arrays) i a.name [] (name_there arrays i a at)
+
+pub no_name_twice : (keys : List (String Global)) (arrays : List Array) → map string_bytes keys ≡ map (λ a. a.name) arrays
+    → IsDistinct string_eq keys → HasNameTwice arrays → ⊥
 no_name_twice keys arrays named distinct t =
-    let apart : AllPairs (λ x y. x ≢ y) (map (λ (a : Array). a.name) arrays) =
-    AllPairs-from_IsDistinct bytes_eq-Decides (map (λ (a : Array). a.name) arrays) (subst (IsDistinct bytes_eq) named (distinct_as_bytes keys distinct)) in
-    let within : t.late < length (map (λ (a : Array). a.name) arrays) =
-    slice_get_within (map (λ (a : Array). a.name) arrays) t.late t.other.name (slice_get-map (λ (a : Array). a.name) arrays t.late ∙ ap (option_map (λ (a : Array). a.name)) t.other_there) in
-    apart t.early t.late [] t.apart within (name_at arrays t.early t.one [] t.one_there ∙ t.same ∙ sym (name_at arrays t.late t.other [] t.other_there))
+    let distinct_names = subst (IsDistinct bytes_eq) named (distinct_as_bytes keys distinct) in
+    let apart : AllPairs (λ x y. x ≢ y) (names_of arrays) = AllPairs-from_IsDistinct bytes_eq-Decides (names_of arrays) distinct_names in
+    let within = slice_get_within (names_of arrays) t.late t.other.name (name_there arrays t.late t.other t.other_there) in
+    apart t.early t.late [] t.apart within
+    (name_at arrays t.early t.one t.one_there ∙ t.same ∙ sym (name_at arrays t.late t.other t.other_there))

@@ -29,7 +29,8 @@ module _ (m : Main) (names : List (List ℕ)) (named : names ≡ map (λ a. a.na
   tells_main OutOfMemory h = tt
   tells_main NotYet h = h
 
-  known_in_main : KnowsNames (place names 1) m.body → (here : Scope) (s : Stmt) → StandsIn (only_main m) here s → names_unknown here s ≡ false
+  known_in_main : KnowsNames (place names 1) m.body → (here : Scope) (s : Stmt) → StandsIn (only_main m) here s
+      → names_unknown here s ≡ false
   known_in_main known here s (in_a_procedure h) = elim h [ ]
   known_in_main known here s (in_the_main n is h) =
       let same : n ≡ m = cc in
@@ -41,7 +42,8 @@ module _ (m : Main) (names : List (List ℕ)) (named : names ≡ map (λ a. a.na
   limited few short (over_by_statements h) = omega (arith, h, short)
 
   -- it breaks no rule if its parts break none
-  pub main_breaks_none : KnowsNames (place names 1) m.body → ¬ HasNameTwice m.arrays → ¬ TooMany m.arrays → labels m.body ≤ MOST_LABELS → BreaksNoRule (only_main m)
+  pub main_breaks_none : KnowsNames (place names 1) m.body → ¬ HasNameTwice m.arrays → ¬ TooMany m.arrays
+      → labels m.body ≤ MOST_LABELS → BreaksNoRule (only_main m)
   main_breaks_none known apart few short = record {
     names = λ label u. let a = known_in_main known u.here u.statement u.stands in let b = u.unknown in cc;
     arrays = apart;

@@ -32,7 +32,8 @@ stands_in_front (in_async h) = in_async h
 stands_in_front (in_finish h) = in_finish h
 
 -- in the first statement, or behind it
-stands_first_or_later : {from here : Scope} {s t : Stmt} {rest : Block} → Stands from (Then s rest) here t → Stands from (lone s) here t ⊎ Stands (behind s from) rest here t
+stands_first_or_later : {from here : Scope} {s t : Stmt} {rest : Block} → Stands from (Then s rest) here t
+    → Stands from (lone s) here t ⊎ Stands (behind s from) rest here t
 stands_first_or_later first = inl first
 stands_first_or_later (later h) = inr h
 stands_first_or_later (in_if h) = inl (in_if h)
@@ -77,7 +78,8 @@ module _ (names : List (List ℕ)) (s : Stmt) (rest : Block) (n after : ℕ) (se
   knows_by here t alone others (inr h) = others here t (subst (λ from. Stands from rest here t) behind_it h)
 
   -- a block knows its names if its first statement does, and what is behind it
-  pub knows_later : KnowsNames (place names (n + 1)) (lone s) → KnowsNames (place names (after + 1)) rest → KnowsNames (place names (n + 1)) (Then s rest)
+  pub knows_later : KnowsNames (place names (n + 1)) (lone s) → KnowsNames (place names (after + 1)) rest
+      → KnowsNames (place names (n + 1)) (Then s rest)
   knows_later alone others here t stands = knows_by here t alone others (stands_first_or_later stands)
 
   unknown_later : (label : ℕ) → UnknownAt (place names (after + 1)) rest label → UnknownAt (place names (n + 1)) (Then s rest) label

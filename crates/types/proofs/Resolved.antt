@@ -17,13 +17,16 @@ abbrev atom : Atom → Expr
 atom a = Or (And (Plainly (Alone (Add (Multiply (Positive a) NoFactor) NoTerm))) NoNeg) NoConj
 
 abbrev product : Atom → Operator → ℕ → Expr
-product a o n = Or (And (Plainly (Alone (Add (Multiply (Positive a) (MultiplyFactor o (Positive (Number n)) NoFactor)) NoTerm))) NoNeg) NoConj
+product a o n =
+    Or (And (Plainly (Alone (Add (Multiply (Positive a) (MultiplyFactor o (Positive (Number n)) NoFactor)) NoTerm))) NoNeg) NoConj
 
 abbrev total : Atom → Atom → Expr
-total a b = Or (And (Plainly (Alone (Add (Multiply (Positive a) NoFactor) (AddTerm Plus (Multiply (Positive b) NoFactor) NoTerm)))) NoNeg) NoConj
+total a b =
+    Or (And (Plainly (Alone (Add (Multiply (Positive a) NoFactor) (AddTerm Plus (Multiply (Positive b) NoFactor) NoTerm)))) NoNeg) NoConj
 
 abbrev compare : Atom → Relation → ℕ → Expr
-compare a r n = Or (And (Plainly (Compare (Add (Multiply (Positive a) NoFactor) NoTerm) r (Add (Multiply (Positive (Number n)) NoFactor) NoTerm))) NoNeg) NoConj
+compare a r n =
+    Or (And (Plainly (Compare (Add (Multiply (Positive a) NoFactor) NoTerm) r (Add (Multiply (Positive (Number n)) NoFactor) NoTerm))) NoNeg) NoConj
 
 abbrev num : ℕ → Expr
 num n = atom (Number n)

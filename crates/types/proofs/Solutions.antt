@@ -22,7 +22,8 @@ module _ {X : Type 0} where
   spend_less zero st go e h = le_refl st.steps
   spend_less (suc n) st go e h = let k = h (record st { steps = n }) in omega (arith, e, k)
 
-  value_less : {A : Type 0} (l : ℕ) (v : Valued A) (go : A → State X → State X) (st : State X) → ((x : A) → (go x st).steps ≤ st.steps) → (with_value l v go st).steps ≤ st.steps
+  value_less : {A : Type 0} (l : ℕ) (v : Valued A) (go : A → State X → State X) (st : State X)
+      → ((x : A) → (go x st).steps ≤ st.steps) → (with_value l v go st).steps ≤ st.steps
   value_less l (Ok x) go st h = h x
   value_less l (Err f) go st h = le_refl st.steps
 
@@ -45,15 +46,18 @@ module _ {X : Type 0} where
   then_agree : (a b : State X) (go to : State X → State X) → a ≡ b → go a ≡ to a → go_on go a ≡ go_on to b
   then_agree a b go to e h = flow_agree a.flow a go to h ∙ ap (go_on to) e
 
-  value_agree : {A : Type 0} (l : ℕ) (v : Valued A) (go to : A → State X → State X) (st : State X) → ((x : A) → go x st ≡ to x st) → with_value l v go st ≡ with_value l v to st
+  value_agree : {A : Type 0} (l : ℕ) (v : Valued A) (go to : A → State X → State X) (st : State X) → ((x : A) → go x st ≡ to x st)
+      → with_value l v go st ≡ with_value l v to st
   value_agree l (Ok x) go to st h = h x
   value_agree l (Err f) go to st h = refl
 
-  choose_agree : (b : Bool) (f g other : State X → State X) (st : State X) (h : State X → State X) → f st ≡ g st → other st ≡ h st → choose f other b st ≡ choose g h b st
+  choose_agree : (b : Bool) (f g other : State X → State X) (st : State X) (h : State X → State X) → f st ≡ g st → other st ≡ h st
+      → choose f other b st ≡ choose g h b st
   choose_agree true f g other st h e d = e
   choose_agree false f g other st h e d = d
 
-  spend_agree : (m n : ℕ) (st : State X) (go to : State X → State X) → n ≡ st.steps → st.steps ≤ m → ((s : State X) → s.steps < m → go s ≡ to s) → spend n st go ≡ spend n st to
+  spend_agree : (m n : ℕ) (st : State X) (go to : State X → State X) → n ≡ st.steps → st.steps ≤ m
+      → ((s : State X) → s.steps < m → go s ≡ to s) → spend n st go ≡ spend n st to
   spend_agree m zero st go to e le h = refl
   spend_agree m (suc n) st go to e le h = h (record st { steps = n }) (omega (arith, e, le))
 
@@ -79,7 +83,8 @@ module _ (p : Program) {X : Type 0} (r : Rules X) where
   counted_act_less : (d : Work → State X → State X) (l : ℕ) (s : Code) → Less (act p r d l s) → Less (λ st. act p r d l s (counted r s st))
   counted_act_less d l s h st = let i = h (counted r s st) in let j = counted_less s st in omega (arith, i, j)
 
-  step_agree : (m : ℕ) (d e : Work → State X → State X) (l : ℕ) (s : Code) → ((st : State X) → st.steps < m → act p r d l s st ≡ act p r e l s st) → (st : State X) → st.steps ≤ m
+  step_agree : (m : ℕ) (d e : Work → State X → State X) (l : ℕ) (s : Code)
+      → ((st : State X) → st.steps < m → act p r d l s st ≡ act p r e l s st) → (st : State X) → st.steps ≤ m
       → with_step (λ st. act p r d l s (counted r s st)) st ≡ with_step (λ st. act p r e l s (counted r s st)) st
   step_agree m d e l s h st le =
       spend_agree m st.steps st (λ st. act p r d l s (counted r s st)) (λ st. act p r e l s (counted r s st)) refl le
@@ -96,7 +101,8 @@ module _ (p : Program) {X : Type 0} (r : Rules X) (thrifty : IsThrifty r) where
     mutual
       act_less : (s : Code) (l : ℕ) → Less (act p r d l s)
       act_less (Do s) l st = primitive_less p r l s st
-      act_less (If t b c) l st = value_less l (truth_at st t) _ st (λ v. choose_less v (block p r d b) (block p r d c) (block_less b) (block_less c) st)
+      act_less (If t b c) l st =
+          value_less l (truth_at st t) _ st (λ v. choose_less v (block p r d b) (block p r d c) (block_less b) (block_less c) st)
       act_less (While t b) l st =
           value_less l (truth_at st t) _ st (λ v.
           choose_less v (λ s. go_on (d (Turn l t b)) (block p r d b s)) (λ s. s) (again_less (block p r d b) (d (Turn l t b)) (block_less b) (h (Turn l t b))) (λ s. le_refl s.steps) st)
@@ -120,7 +126,8 @@ module _ (p : Program) {X : Type 0} (r : Rules X) (thrifty : IsThrifty r) where
 
     work_less : LessIn (work p r d)
     work_less (Block b) st = block_less b st
-    work_less (Turn l t b) st = spend_less st.steps st (λ st. act p r d l (While t b) (counted r (While t b) st)) refl (counted_act_less p r d l (While t b) (act_less (While t b) l))
+    work_less (Turn l t b) st =
+        spend_less st.steps st (λ st. act p r d l (While t b) (counted r (While t b) st)) refl (counted_act_less p r d l (While t b) (act_less (While t b) l))
 
   within_less : (k : ℕ) → LessIn (within p r k)
   within_less zero w st = le_refl st.steps

@@ -8,7 +8,7 @@ use Rattle.types.specs.declared.check.TheConstants.{MOST_LABELS}
 use Rattle.types.specs.declared.error.TypeError.{TypeError}
 use Rattle.types.specs.declared.error.TypeError.TheVariants.{NotInScope, DeclaredTwice, NoMain, OverLimit, OutOfMemory, NotYet}
 
--- what an error says of a part in which a name is unknown, a name is declared twice, a limit is passed, or something isn't served
+-- what an error says of a part, by its kind; want of memory says nothing, and no part lacks a `main`
 abbrev pub Says : (unknown : ℕ → Type 0) → (twice over unserved : Type 0) → TypeError → Type 0
 Says unknown twice over unserved (NotInScope label) = unknown label
 Says unknown twice over unserved DeclaredTwice = twice

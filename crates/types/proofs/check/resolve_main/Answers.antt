@@ -31,7 +31,8 @@ pub returns-in_err-body-clause-error : goal.returns-in_err-body-clause-error
 returns-in_err-body-clause-error c =
     let m = tree.main c.args.main.now in
     let names = map string_bytes c.in_ok-names.names.keys in
-    let named = c.in_ok-names.ensures.names ∙ ap (map (λ a. string_bytes a.name)) c.as_slice-declared.ensures.value ∙ names_are c.args.main.now.arrays.items in
+    let declared = c.as_slice-declared.ensures.value in
+    let named = c.in_ok-names.ensures.names ∙ ap (map (λ a. string_bytes a.name)) declared ∙ names_are c.args.main.now.arrays.items in
     let e = c.in_err-body.field-0.0 in
     at_exit (Tells (only_main m)) c.from_residual-in_err-body.result e c.from_residual-in_err-body.ensures.1
     (tells_main m names named e

@@ -27,7 +27,8 @@ returns-in-Some-clause-names c =
     subst P c.in-Some.ensures c.item_atom.ensures.names
 
 pub returns-in-Some-clause-code : goal.returns-in-Some-clause-code
-returns-in-Some-clause-code c = same_number _ (place_among c.args.self.now.sections.now.keys c.args.label) _ _ c.in-Some.ensures c.item_atom.ensures.code
+returns-in-Some-clause-code c =
+    same_number _ (place_among c.args.self.now.sections.now.keys c.args.label) _ _ c.in-Some.ensures c.item_atom.ensures.code
 
 pub returns-in-Some-clause-error : goal.returns-in-Some-clause-error
 returns-in-Some-clause-error c =
