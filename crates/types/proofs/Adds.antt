@@ -71,7 +71,8 @@ module _ (begin : Codes → S → S) (grows : (b : Codes) → Grows (begin b)) w
           by_steps (suc n) = h t (record st { steps = n })
 
       finish_behind : (go to : S → S) → Follows behind Never go to
-          → Follows behind Never (λ st. (one_rules_by begin).leave st (go ((one_rules_by begin).enter st))) (λ st. (one_rules_by begin).leave st (to ((one_rules_by begin).enter st)))
+          → Follows behind Never (λ st. (one_rules_by begin).leave st (go ((one_rules_by begin).enter st)))
+          (λ st. (one_rules_by begin).leave st (to ((one_rules_by begin).enter st)))
       finish_behind go to h t st =
           inr (ap ((one_rules_by begin).leave (behind t st)) (alone go to h (hushed st)) ∙ joined_behind t st _)
 
@@ -79,7 +80,8 @@ module _ (begin : Codes → S → S) (grows : (b : Codes) → Grows (begin b)) w
     within_grows : (k : ℕ) (w : Work) → Grows (within p (one_rules_by begin) k w)
     within_grows zero w t st = inr refl
     within_grows (suc k) w t st =
-        work_follows p (one_rules_by begin) (one_rules_by begin) behind Never view (within p (one_rules_by begin) k) (within p (one_rules_by begin) k) (within_grows k) w t st
+        work_follows p (one_rules_by begin) (one_rules_by begin) behind Never view (within p (one_rules_by begin) k)
+        (within p (one_rules_by begin) k) (within_grows k) w t st
 
     run_grows : (w : Work) → Grows (run p (one_rules_by begin) w)
     run_grows w t st = within_grows (st.steps + 1) w t st

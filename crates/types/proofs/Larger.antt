@@ -93,7 +93,8 @@ module _ (p : Program) (fresh more : ℕ) where
   begin_richer zero m le b d st = inl refl
   begin_richer (suc n) zero le b d st = absurd (omega (arith, le))
   begin_richer (suc n) (suc m) le b d st =
-      left (run p (one_rules p fresh n) (Block b) (child fresh st)) (run p (one_rules p (fresh + more) m) (Block b) (child (fresh + more) (richer d st)))
+      left (run p (one_rules p fresh n) (Block b) (child fresh st))
+      (run p (one_rules p (fresh + more) m) (Block b) (child (fresh + more) (richer d st)))
       (run_richer n m (begin_richer n m (omega (arith, le))) (Block b) more (child fresh st))
     where
       left : (out other : S) → IsStopped out ⊎ (other ≡ richer more out)
@@ -111,7 +112,8 @@ not_halted e h = subst Is_halted h tt
 larger_by : (p : Program) (input : List (List ℤ)) (fresh more n m : ℕ) (e : Ending) → n ≤ m
     → outcome p input (record { steps = fresh; nest = n }) ≡ Ended e → outcome p input (record { steps = fresh + more; nest = m }) ≡ Ended e
 larger_by p input fresh more n m e le ends =
-    by_run (one p fresh n (Block p.main.body) st) (one p (fresh + more) m (Block p.main.body) (richer more st)) (run_richer p fresh more n m (begin_richer p fresh more n m le) (Block p.main.body) more st) ends
+    by_run (one p fresh n (Block p.main.body) st) (one p (fresh + more) m (Block p.main.body) (richer more st))
+    (run_richer p fresh more n m (begin_richer p fresh more n m le) (Block p.main.body) more st) ends
   where
     st : S
     st = start tt p fresh (held_by input)

@@ -16,7 +16,8 @@ row_is c a at [] h = refl
 row_is c a at (x ∷ xs) h =
     let here : at + 0 ≡ at = omega arith in
     let first : read c (record { array = a; index = at }) ≡ x = ap (λ k. read c (record { array = a; index = k })) (sym here) ∙ h 0 in
-    let rest = row_is c a (at + 1) xs (λ k. let e : at + 1 + k ≡ at + suc k = omega arith in ap (λ k. read c (record { array = a; index = k })) e ∙ h (suc k)) in
+    let rest = row_is c a (at + 1) xs
+    (λ k. let e : at + 1 + k ≡ at + suc k = omega arith in ap (λ k. read c (record { array = a; index = k })) e ∙ h (suc k)) in
     ap (λ y. y ∷ row c a (at + 1) (length xs)) first ∙ ap (λ ys. x ∷ ys) rest
 
 rows_are : (c : Contents) (a : ℕ) (arrays : List Array) (lists : List (List ℤ)) → FitsArrays arrays lists
@@ -30,7 +31,8 @@ rows_are c a (x ∷ xs) (l ∷ ls) (also e fits) h =
     let first : row c a 0 x.length ≡ l =
     ap (row c a 0) (sym e)
     ∙ row_is c a 0 l (λ k. let z : 0 + k ≡ k = omega arith in ap (λ k. read c (record { array = a; index = k })) z ∙ ap (λ b. read c (record { array = b; index = k })) (sym here) ∙ h 0 k) in
-    let rest = rows_are c (a + 1) xs ls fits (λ j k. let e : a + 1 + j ≡ a + suc j = omega arith in ap (λ b. read c (record { array = b; index = k })) e ∙ h (suc j) k) in
+    let rest = rows_are c (a + 1) xs ls fits
+    (λ j k. let e : a + 1 + j ≡ a + suc j = omega arith in ap (λ b. read c (record { array = b; index = k })) e ∙ h (suc j) k) in
     ap (λ y. y ∷ rows c (a + 1) xs) first ∙ ap (λ ys. l ∷ ys) rest
 
 -- lists that fit the arrays are what their contents show

@@ -40,7 +40,8 @@ module _ (env : Environment) (read other : Place → ℤ) where
       q = record { array = w.array; index = w.at + n }
 
       inside : (b : Bool) → (b ≡ true → In w q)
-          → then_try (ok_or (if b then Some q else None) Index) (λ q. Ok (read q)) ≡ then_try (ok_or (if b then Some q else None) Index) (λ q. Ok (other q))
+          → then_try (ok_or (if b then Some q else None) Index) (λ q. Ok (read q))
+          ≡ then_try (ok_or (if b then Some q else None) Index) (λ q. Ok (other q))
       inside true k = ap Ok (h q (k refl))
       inside false k = refl
 

@@ -59,7 +59,8 @@ doubling_text = record {
     body = Then (IfElse (compare (Length (name 115)) AtMost 1)
         (Then (If (compare (Length (name 115)) Equal 1) (Then (Store (name 115) (num 0) (product (Element (name 115) (num 0)) Times 2)) End)) End)
         (Then (Split (name 115) (product (Length (name 115)) Over 2) (name 108) (name 114) (
-        Then (Async (Then (Call (name 116) (atom (Name (name 108)) ∷ [])) End)) (Then (Call (name 116) (atom (Name (name 114)) ∷ [])) End))) End)) End;
+        Then (Async (Then (Call (name 116) (atom (Name (name 108)) ∷ [])) End))
+        (Then (Call (name 116) (atom (Name (name 114)) ∷ [])) End))) End)) End;
   } ∷ [];
   main = Some (record {
     arrays = int_array 97 8 ∷ [];

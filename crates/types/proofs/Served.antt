@@ -169,7 +169,8 @@ pub behind_served : (names : List (List ℕ)) (s : Stmt) (label after : ℕ) →
 behind_served names s label after h e =
     let slots : 0 + slots_in s ≡ 0 = omega (arith, no_slots_in s h) in
     let sides : length names + sides_in s ≡ length names = omega (arith, no_sides_in s h) in
-    ap (λ ns. record { names = ns; label = label + labels_in s; slot = 0 + slots_in s; section = length names + sides_in s }) (no_names s (place names label) h)
+    ap (λ ns. record { names = ns; label = label + labels_in s; slot = 0 + slots_in s; section = length names + sides_in s })
+    (no_names s (place names label) h)
     ∙ ap (λ n. record { names = numbered 0 names; label = n; slot = 0 + slots_in s; section = length names + sides_in s }) (sym e)
     ∙ ap (λ n. record { names = numbered 0 names; label = after; slot = n; section = length names + sides_in s }) slots
     ∙ ap (λ n. record { names = numbered 0 names; label = after; slot = 0; section = n }) sides
@@ -197,12 +198,14 @@ before (code.Then l c rest) cs = code.Then l c cs
 pub one_more : (names : List (List ℕ)) (s : Stmt) (rest : Block) (r : Resolved) (n after : ℕ) → is_served_block (lone s) ≡ true
     → after ≡ n + labels (lone s)
     → resolution.codes [] (place names (n + 1)) (lone s) ≡ codes (r ∷ [])
-    → resolution.codes [] (place names (n + 1)) (Then s rest) ≡ code.Then r.label (plain.code r.kind) (resolution.codes [] (place names (after + 1)) rest)
+    → resolution.codes [] (place names (n + 1)) (Then s rest)
+    ≡ code.Then r.label (plain.code r.kind) (resolution.codes [] (place names (after + 1)) rest)
 one_more names s rest r n after served counted same =
     let here = place names (n + 1) in
     let is_served = (both_true (is_served_statement s) true served).0 in
     ap (λ cs. before cs (resolution.codes [] (behind s here) rest)) same
-    ∙ ap (λ p. code.Then r.label (plain.code r.kind) (resolution.codes [] p rest)) (behind_served names s (n + 1) (after + 1) is_served (omega (arith, counted)))
+    ∙ ap (λ p. code.Then r.label (plain.code r.kind) (resolution.codes [] p rest))
+    (behind_served names s (n + 1) (after + 1) is_served (omega (arith, counted)))
 
 -- ---- `main`
 mutual
@@ -248,7 +251,8 @@ main_of xs ps qs n os cs =
     record { arrays = xs; procedures = ps; main = record { parameters = qs; scalars = 0; slots = n; sections = os; body = cs } }
 
 -- a served `main` is what its parts are
-pub main_is : (arrays : List tree.Array) (b : Block) (names : List (List ℕ)) (xs : List code.Array) (ps : List code.Procedure) (qs : List code.Parameter) (os : List code.Origin) (cs : Codes)
+pub main_is : (arrays : List tree.Array) (b : Block) (names : List (List ℕ)) (xs : List code.Array) (ps : List code.Procedure)
+    (qs : List code.Parameter) (os : List code.Origin) (cs : Codes)
     → names ≡ map (λ a. a.name) arrays → is_served_block b ≡ true
     → map resolution.array arrays ≡ xs → [] ≡ ps → [] ≡ qs → replicate (length arrays) code.Root ≡ os
     → resolution.codes [] (place names 1) b ≡ cs
@@ -257,7 +261,8 @@ main_is arrays b names xs ps qs os cs named served arrays_are no_procedures no_p
     let here = resolution.in_main 1 arrays in
     let slots_are : 0 + slots b ≡ 0 = omega (arith, no_slots b served) in
     let all = replicate (length arrays) code.Root ++ resolution.origins here b in
-    let all_are : all ≡ os = ap (λ o. replicate (length arrays) code.Root ++ o) (no_origins b here served) ∙ append-nil (replicate (length arrays) code.Root) ∙ roots in
+    let all_are : all ≡ os = ap (λ o. replicate (length arrays) code.Root ++ o) (no_origins b here served)
+    ∙ append-nil (replicate (length arrays) code.Root) ∙ roots in
     let body_is : resolution.codes [] here b ≡ cs = ap (λ h. resolution.codes [] h b) (sym (at_main names arrays named)) ∙ body in
     ap (λ x. main_of x [] [] (0 + slots b) all (resolution.codes [] here b)) arrays_are
     ∙ ap (λ x. main_of xs x [] (0 + slots b) all (resolution.codes [] here b)) no_procedures

@@ -105,12 +105,14 @@ module _ (p : Program) {X : Type 0} (r : Rules X) (thrifty : IsThrifty r) where
           value_less l (truth_at st t) _ st (λ v. choose_less v (block p r d b) (block p r d c) (block_less b) (block_less c) st)
       act_less (While t b) l st =
           value_less l (truth_at st t) _ st (λ v.
-          choose_less v (λ s. go_on (d (Turn l t b)) (block p r d b s)) (λ s. s) (again_less (block p r d b) (d (Turn l t b)) (block_less b) (h (Turn l t b))) (λ s. le_refl s.steps) st)
+          choose_less v (λ s. go_on (d (Turn l t b)) (block p r d b s)) (λ s. s)
+          (again_less (block p r d b) (d (Turn l t b)) (block_less b) (h (Turn l t b))) (λ s. le_refl s.steps) st)
       act_less (Split s e x y b) l st =
           value_less l (number_at st e) _ st (λ v. value_less l (ok_or (sides_of (window_at st s) v) SplitPoint) _ st (λ ws.
           block_less b (record st { environment = with_sides x y ws st.environment })))
       act_less (Call f es ss) l st =
-          value_less l (numbers_at st es) _ st (λ vs. h (Block (procedure_of p f).body) (record st { environment = entry vs (map (window_at st) ss) }))
+          value_less l (numbers_at st es) _ st
+          (λ vs. h (Block (procedure_of p f).body) (record st { environment = entry vs (map (window_at st) ss) }))
       act_less (Async b) l st = thrifty.begin b st
       act_less (Finish b) l st =
           let i = thrifty.enter st in
@@ -127,7 +129,8 @@ module _ (p : Program) {X : Type 0} (r : Rules X) (thrifty : IsThrifty r) where
     work_less : LessIn (work p r d)
     work_less (Block b) st = block_less b st
     work_less (Turn l t b) st =
-        spend_less st.steps st (λ st. act p r d l (While t b) (counted r (While t b) st)) refl (counted_act_less p r d l (While t b) (act_less (While t b) l))
+        spend_less st.steps st (λ st. act p r d l (While t b) (counted r (While t b) st)) refl
+        (counted_act_less p r d l (While t b) (act_less (While t b) l))
 
   within_less : (k : ℕ) → LessIn (within p r k)
   within_less zero w st = le_refl st.steps
@@ -146,7 +149,8 @@ module _ (p : Program) {X : Type 0} (r : Rules X) (thrifty : IsThrifty r) where
       act_agree : (s : Code) (l : ℕ) (st : State X) → st.steps < m → act p r d l s st ≡ act p r e l s st
       act_agree (Do s) l st lt = refl
       act_agree (If t b c) l st lt =
-          value_agree l (truth_at st t) _ _ st (λ v. choose_agree v (block p r d b) (block p r e b) (block p r d c) st (block p r e c) (block_agree b st (omega (arith, lt))) (block_agree c st (omega (arith, lt))))
+          value_agree l (truth_at st t) _ _ st
+          (λ v. choose_agree v (block p r d b) (block p r e b) (block p r d c) st (block p r e c) (block_agree b st (omega (arith, lt))) (block_agree c st (omega (arith, lt))))
       act_agree (While t b) l st lt =
           let out = block p r d b st in
           let i = block_less d less b st in
@@ -158,7 +162,8 @@ module _ (p : Program) {X : Type 0} (r : Rules X) (thrifty : IsThrifty r) where
           block_agree b (record st { environment = with_sides left right ws st.environment }) (omega (arith, lt))))
       act_agree (Call f es ss) l st lt =
           value_agree l (numbers_at st es) _ _ st (λ vs.
-          ap {A = State X} (λ out. record out { environment = st.environment }) (agree (Block (procedure_of p f).body) (record st { environment = entry vs (map (window_at st) ss) }) lt))
+          ap {A = State X} (λ out. record out { environment = st.environment })
+          (agree (Block (procedure_of p f).body) (record st { environment = entry vs (map (window_at st) ss) }) lt))
       act_agree (Async b) l st lt = refl
       act_agree (Finish b) l st lt = let i = thrifty.enter st in ap (r.leave st) (block_agree b (r.enter st) (omega (arith, i, lt)))
 
@@ -178,14 +183,16 @@ module _ (p : Program) {X : Type 0} (r : Rules X) (thrifty : IsThrifty r) where
   enough zero k w st a b = absurd (omega (arith, a))
   enough (suc j) zero w st a b = absurd (omega (arith, b))
   enough (suc j) (suc k) w st a b =
-      work_agree st.steps (within p r j) (within p r k) (within_less j) (λ v s lt. enough j k v s (omega (arith, a, lt)) (omega (arith, b, lt))) w st (le_refl st.steps)
+      work_agree st.steps (within p r j) (within p r k) (within_less j)
+      (λ v s lt. enough j k v s (omega (arith, a, lt)) (omega (arith, b, lt))) w st (le_refl st.steps)
 
   -- a run does what its work says, with runs inside of calls and further turns
   pub solves : Solves p r (run p r)
   solves w st =
       let e : st.steps + 1 ≡ suc st.steps = omega arith in
       ap (λ k. within p r k w st) e
-      ∙ work_agree st.steps (within p r st.steps) (run p r) (within_less st.steps) (λ v s lt. enough st.steps (s.steps + 1) v s lt (omega arith)) w st (le_refl st.steps)
+      ∙ work_agree st.steps (within p r st.steps) (run p r) (within_less st.steps)
+      (λ v s lt. enough st.steps (s.steps + 1) v s lt (omega arith)) w st (le_refl st.steps)
 
   only_below : (g : Deeper) → Solves p r g → (k : ℕ) (w : Work) (st : State X) → st.steps < k → run p r w st ≡ g w st
   only_below g h zero w st lt = absurd (omega (arith, lt))

@@ -90,16 +90,20 @@ module _ (p : Program) {I X Y : Type 0} (r : Rules X) (s : Rules Y) (v : I → S
   primitive_follows : (l : ℕ) (c : Primitive) → Follows v Lost (primitive p l c) (primitive p l c)
   primitive_follows l Skip i st = inr refl
   primitive_follows l (Assign x e) i st =
-      value_follows i l (number_at st e) (number_at (v i st) e) (same_reading i (λ env c. number env (read c) e) st) (assign x) (assign x) st (λ n. assign_follows x n i st)
+      value_follows i l (number_at st e) (number_at (v i st) e) (same_reading i (λ env c. number env (read c) e) st) (assign x)
+      (assign x) st (λ n. assign_follows x n i st)
   primitive_follows l (Store sec at e) i st =
       value_follows i l (number_at st at) (number_at (v i st) at) (same_reading i (λ env c. number env (read c) at) st) _ _ st (λ n_at.
       value_follows i l (number_at st e) (number_at (v i st) e) (same_reading i (λ env c. number env (read c) e) st) _ _ st (λ n.
-      value_follows i l (element_of (window_at st sec) n_at) (element_of (window_at (v i st) sec) n_at) (same_reading i (λ env c. element_of (env.windows sec) n_at) st) _ _ st (λ q.
+      value_follows i l (element_of (window_at st sec) n_at) (element_of (window_at (v i st) sec) n_at)
+      (same_reading i (λ env c. element_of (env.windows sec) n_at) st) _ _ st (λ q.
       put_follows l (holds_number (array_of p q.array).element n) q n i st)))
   primitive_follows l (Print es) i st =
-      value_follows i l (numbers_at st es) (numbers_at (v i st) es) (same_reading i (λ env c. numbers env (read c) es) st) print print st (λ vs. inr (view.printed i st vs))
+      value_follows i l (numbers_at st es) (numbers_at (v i st) es)
+      (same_reading i (λ env c. numbers env (read c) es) st) print print st (λ vs. inr (view.printed i st vs))
   primitive_follows l (Raise e) i st =
-      value_follows i l (number_at st e) (number_at (v i st) e) (same_reading i (λ env c. number env (read c) e) st) _ _ st (λ n. inr (view.faulted i st l (Raised n)))
+      value_follows i l (number_at st e) (number_at (v i st) e) (same_reading i (λ env c. number env (read c) e) st) _ _ st
+      (λ n. inr (view.faulted i st l (Raised n)))
 
   counted_is : (i : I) (c : Code) (st : State X) → counted s c (v i st) ≡ v i (counted r c st)
   counted_is i (Do c) st = view.stepped i st
@@ -139,11 +143,14 @@ module _ (p : Program) {I X Y : Type 0} (r : Rules X) (s : Rules Y) (v : I → S
           choose_follows i x (block p r d b) (block p r d c) (block p s e b) (block p s e c) st (block_follows b i st) (block_follows c i st))
       act_follows (While t b) l i st =
           value_follows i l (truth_at st t) (truth_at (v i st) t) (same_reading i (λ env c. truth env (read c) t) st) _ _ st (λ x.
-          choose_follows i x (λ st. go_on (d (Turn l t b)) (block p r d b st)) (λ st. st) (λ st. go_on (e (Turn l t b)) (block p s e b st)) (λ st. st) st
-          (after_follows i (block p r d b) (d (Turn l t b)) (block p s e b) (e (Turn l t b)) st (block_follows b i st) (deeper (Turn l t b))) (inr refl))
+          choose_follows i x (λ st. go_on (d (Turn l t b)) (block p r d b st)) (λ st. st)
+          (λ st. go_on (e (Turn l t b)) (block p s e b st)) (λ st. st) st
+          (after_follows i (block p r d b) (d (Turn l t b)) (block p s e b) (e (Turn l t b)) st (block_follows b i st) (deeper (Turn l t b)))
+          (inr refl))
       act_follows (Split sec n x y b) l i st =
           value_follows i l (number_at st n) (number_at (v i st) n) (same_reading i (λ env c. number env (read c) n) st) _ _ st (λ k.
-          value_follows i l (ok_or (sides_of (window_at st sec) k) SplitPoint) (ok_or (sides_of (window_at (v i st) sec) k) SplitPoint) (same_reading i (λ env c. ok_or (sides_of (env.windows sec) k) SplitPoint) st) _ _ st (λ ws.
+          value_follows i l (ok_or (sides_of (window_at st sec) k) SplitPoint) (ok_or (sides_of (window_at (v i st) sec) k) SplitPoint)
+          (same_reading i (λ env c. ok_or (sides_of (env.windows sec) k) SplitPoint) st) _ _ st (λ ws.
           begin_at (ap (λ env. block p s e b (record (v i st) { environment = with_sides x y ws env })) (view.environment i st)
           ∙ ap (block p s e b) (view.moved i st (with_sides x y ws st.environment)))
           (block_follows b i (record st { environment = with_sides x y ws st.environment }))))
@@ -157,7 +164,8 @@ module _ (p : Program) {I X Y : Type 0} (r : Rules X) (s : Rules Y) (v : I → S
       block_follows : (b : Codes) → Follows v Lost (block p r d b) (block p s e b)
       block_follows End i st = inr refl
       block_follows (Then l c rest) i st =
-          after_follows i (with_step (λ st. act p r d l c (counted r c st))) (block p r d rest) (with_step (λ st. act p s e l c (counted s c st))) (block p s e rest) st
+          after_follows i (with_step (λ st. act p r d l c (counted r c st))) (block p r d rest)
+          (with_step (λ st. act p s e l c (counted s c st))) (block p s e rest) st
           (step_follows d e l c (act_follows c l) i st) (block_follows rest)
 
     -- where what is deeper follows, so does the whole
