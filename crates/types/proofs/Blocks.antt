@@ -35,7 +35,8 @@ pub code_Finish : (v : Vec Stmt Global) → code (rFinish v) ≡ Finish (codes v
 code_Finish v = let r = block_in (rFinish v) in ap Finish (row_codes_are r.0 r.1 ∙ ap codes (items_hidden-the_row-Stmt-0 v))
 
 pub code_Split : (s : ℕ) (e : Number) (l r : ℕ) (v : Vec Stmt Global) → code (rSplit s e l r v) ≡ Split s (number e) l r (codes v.items)
-code_Split s e l r v = let b = block_in (rSplit s e l r v) in ap (Split s (number e) l r) (row_codes_are b.0 b.1 ∙ ap codes (items_hidden-the_row-Stmt-0 v))
+code_Split s e l r v =
+    let b = block_in (rSplit s e l r v) in ap (Split s (number e) l r) (row_codes_are b.0 b.1 ∙ ap codes (items_hidden-the_row-Stmt-0 v))
 
 pub code_If : (t : Truth) (v w : Vec Stmt Global) → code (rIf t v w) ≡ If (truth t) (codes v.items) (codes w.items)
 code_If t v w =

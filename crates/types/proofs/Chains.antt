@@ -1,7 +1,7 @@
 -- A chain stands for what its operands in turn stand for.
-use Rattle.std.proofs.Common.{◌≡◌, ℕ, suc, ◌<◌, List, [], ◌∷◌, length, drop, get_or, Vec, Box, Global, Result, Ok, refl, sym, ap, ◌∙◌}
+use Rattle.std.proofs.Common.{◌≡◌, ℕ, suc, ◌<◌, List, length, drop, get_or, Vec, Box, Global, Ok, refl, sym, ap, ◌∙◌}
 use Rattle.std.proofs.Math.Seq.{drop-cons}
-use Rattle.std.specs.Prelude.{ℤ, Bool, true, false}
+use Rattle.std.specs.Prelude.{ℤ, true, false}
 use mathlib.Core.Former.{Count}
 use Rattle.types.specs.declared.code.Number.{Number as rNumber, Row_of-Link, end_of-Link, more_of-Link, items-the_row-Link, items_hidden-the_row-Link-0}
 use Rattle.types.specs.declared.code.Number.TheVariants.{Chain as rChain, Chain' as rChain'}
@@ -10,7 +10,7 @@ use Rattle.types.specs.declared.code.Truth.{Truth as rTruth, Row_of-Truth, end_o
 use Rattle.types.specs.declared.code.Truth.TheVariants.{Both as rBoth, Both' as rBoth', Either as rEither, Either' as rEither'}
 use Rattle.types.specs.Code.{Chain, Link, Both, Either, Truths, NoMore, Also}
 use Rattle.types.specs.Place.{Place}
-use Rattle.types.specs.Value.{Environment, Valued, then_try, all, any, truth as truth_value}
+use Rattle.types.specs.Value.{Environment, then_try, all, any, truth as truth_value}
 use Rattle.types.specs.Translation.{number, truth, links as row_links, truths as row_truths}
 use Rattle.types.specs.Rows.{links, truths}
 
@@ -22,7 +22,8 @@ abbrev links_in : rNumber → (n : Count) × Row_of-Link n
 links_in (rChain' _ _ _ rest) = (_, rest)
 links_in _ = (_, end_of-Link)
 
-pub number-Chain : (first : Box rNumber Global) (rest : Vec rLink Global) → number (rChain first rest) ≡ Chain (number first.value) (links rest.items)
+pub number-Chain : (first : Box rNumber Global) (rest : Vec rLink Global)
+    → number (rChain first rest) ≡ Chain (number first.value) (links rest.items)
 number-Chain first rest =
     let row = links_in (rChain first rest) in ap (Chain (number first.value)) (links_are row.0 row.1 ∙ ap links (items_hidden-the_row-Link-0 rest))
 
@@ -47,7 +48,8 @@ truth-Either operands =
     let row = either_in (rEither operands) in ap Either (truths_are row.0 row.1 ∙ ap truths (items_hidden-the_row-Truth-0 operands))
 
 -- where those that are left begin with an operand
-operands_from : (ts : List rTruth) (i : ℕ) (t : rTruth) → i < length ts → t ≡ get_or ts i t → truths (drop i ts) ≡ Also (truth t) (truths (drop (suc i) ts))
+operands_from : (ts : List rTruth) (i : ℕ) (t : rTruth) → i < length ts → t ≡ get_or ts i t
+    → truths (drop i ts) ≡ Also (truth t) (truths (drop (suc i) ts))
 operands_from ts i t lt at = ap truths (drop-cons ts i t lt) ∙ ap (λ u. Also (truth u) (truths (drop (suc i) ts))) (sym at)
 
 module _ (env : Environment) (read : Place → ℤ) where
@@ -60,14 +62,16 @@ module _ (env : Environment) (read : Place → ℤ) where
   any-true (Also t rest) = refl
 
   -- the first operand that doesn't hold ends it
-  pub all_end : (ts : List rTruth) (i : ℕ) (t : rTruth) → i < length ts → t ≡ get_or ts i t → Ok false ≡ truth_value env read (truth t) → Ok false ≡ all env read (truths (drop i ts)) true
+  pub all_end : (ts : List rTruth) (i : ℕ) (t : rTruth) → i < length ts → t ≡ get_or ts i t
+      → Ok false ≡ truth_value env read (truth t) → Ok false ≡ all env read (truths (drop i ts)) true
   all_end ts i t lt at e =
       sym (all-false (truths (drop (suc i) ts)))
       ∙ ap (λ v. then_try v (all env read (truths (drop (suc i) ts)))) e
       ∙ ap (λ l. all env read l true) (sym (operands_from ts i t lt at))
 
   -- the first operand that holds ends it
-  pub any_ends : (ts : List rTruth) (i : ℕ) (t : rTruth) → i < length ts → t ≡ get_or ts i t → Ok true ≡ truth_value env read (truth t) → Ok true ≡ any env read (truths (drop i ts)) false
+  pub any_ends : (ts : List rTruth) (i : ℕ) (t : rTruth) → i < length ts → t ≡ get_or ts i t
+      → Ok true ≡ truth_value env read (truth t) → Ok true ≡ any env read (truths (drop i ts)) false
   any_ends ts i t lt at e =
       sym (any-true (truths (drop (suc i) ts)))
       ∙ ap (λ v. then_try v (any env read (truths (drop (suc i) ts)))) e

@@ -28,11 +28,13 @@ fails lines faults = Ended (record { arrays = []; lines = lines; faults = faults
 abbrev zeros : ℕ → List ℤ
 zeros n = replicate n (z 0)
 
-two_arrays_end : outcome two_arrays (zeros 1 ∷ zeros 1 ∷ []) usual ≡ Ended (record { arrays = (z 7 ∷ []) ∷ (z 8 ∷ []) ∷ []; lines = (z 7 ∷ z 8 ∷ []) ∷ []; faults = [] })
+two_arrays_end : outcome two_arrays (zeros 1 ∷ zeros 1 ∷ []) usual
+    ≡ Ended (record { arrays = (z 7 ∷ []) ∷ (z 8 ∷ []) ∷ []; lines = (z 7 ∷ z 8 ∷ []) ∷ []; faults = [] })
 two_arrays_end = refl
 
 -- `main` needs four steps: the finish, the async, the store and the print
-four_steps_suffice : outcome two_arrays (zeros 1 ∷ zeros 1 ∷ []) (budget 4 1) ≡ Ended (record { arrays = (z 7 ∷ []) ∷ (z 8 ∷ []) ∷ []; lines = (z 7 ∷ z 8 ∷ []) ∷ []; faults = [] })
+four_steps_suffice : outcome two_arrays (zeros 1 ∷ zeros 1 ∷ []) (budget 4 1)
+    ≡ Ended (record { arrays = (z 7 ∷ []) ∷ (z 8 ∷ []) ∷ []; lines = (z 7 ∷ z 8 ∷ []) ∷ []; faults = [] })
 four_steps_suffice = refl
 
 three_steps_stop : outcome two_arrays (zeros 1 ∷ zeros 1 ∷ []) (budget 3 100) ≡ Halted
@@ -60,17 +62,21 @@ doubling_16_nest_3 : outcome (doubling 16) (upto 1 16 ∷ []) (budget 1000 3) �
 doubling_16_nest_3 = refl
 
 -- at 0, at the length, and beyond it
-splits_end : outcome splits (zeros 3 ∷ []) usual ≡ Ended (record { arrays = (z 0 ∷ z 0 ∷ z 5 ∷ []) ∷ []; lines = (z 0 ∷ z 5 ∷ []) ∷ []; faults = record { path = []; label = 6; kind = SplitPoint } ∷ [] })
+splits_end : outcome splits (zeros 3 ∷ []) usual ≡ Ended
+    (record { arrays = (z 0 ∷ z 0 ∷ z 5 ∷ []) ∷ []; lines = (z 0 ∷ z 5 ∷ []) ∷ []; faults = record { path = []; label = 6; kind = SplitPoint } ∷ [] })
 splits_end = refl
 
-split_below_faults : outcome split_below (zeros 3 ∷ []) usual ≡ Ended (record { arrays = zeros 3 ∷ []; lines = []; faults = record { path = []; label = 1; kind = SplitPoint } ∷ [] })
+split_below_faults : outcome split_below (zeros 3 ∷ []) usual
+    ≡ Ended (record { arrays = zeros 3 ∷ []; lines = []; faults = record { path = []; label = 1; kind = SplitPoint } ∷ [] })
 split_below_faults = refl
 
-readers_end : outcome two_readers ((z 4 ∷ []) ∷ zeros 1 ∷ zeros 1 ∷ []) usual ≡ Ended (record { arrays = (z 4 ∷ []) ∷ (z 4 ∷ []) ∷ (z 4 ∷ []) ∷ []; lines = (z 4 ∷ []) ∷ (z 4 ∷ z 4 ∷ []) ∷ []; faults = [] })
+readers_end : outcome two_readers ((z 4 ∷ []) ∷ zeros 1 ∷ zeros 1 ∷ []) usual
+    ≡ Ended (record { arrays = (z 4 ∷ []) ∷ (z 4 ∷ []) ∷ (z 4 ∷ []) ∷ []; lines = (z 4 ∷ []) ∷ (z 4 ∷ z 4 ∷ []) ∷ []; faults = [] })
 readers_end = refl
 
 -- faults come in depth-first order, and what follows the finish doesn't run
-three_faults_end : outcome three_faults [] usual ≡ fails [] (record { path = 1 ∷ []; label = 3; kind = Raised (z 1) } ∷ record { path = 2 ∷ []; label = 5; kind = Raised (z 2) } ∷ record { path = []; label = 6; kind = Raised (z 3) } ∷ [])
+three_faults_end : outcome three_faults [] usual ≡ fails []
+    (record { path = 1 ∷ []; label = 3; kind = Raised (z 1) } ∷ record { path = 2 ∷ []; label = 5; kind = Raised (z 2) } ∷ record { path = []; label = 6; kind = Raised (z 3) } ∷ [])
 three_faults_end = refl
 
 -- a child's fault leaves its parent alone up to the finish
@@ -84,13 +90,16 @@ nested_tasks_end : outcome nested_tasks [] usual ≡ prints ((z 1 ∷ []) ∷ (z
 nested_tasks_end = refl
 
 -- a child's child has its path behind the child's
-nested_faults_end : outcome nested_faults [] usual ≡ fails [] (record { path = 1 ∷ 1 ∷ []; label = 4; kind = Raised (z 1) } ∷ record { path = 1 ∷ []; label = 5; kind = Raised (z 2) } ∷ [])
+nested_faults_end : outcome nested_faults [] usual
+    ≡ fails [] (record { path = 1 ∷ 1 ∷ []; label = 4; kind = Raised (z 1) } ∷ record { path = 1 ∷ []; label = 5; kind = Raised (z 2) } ∷ [])
 nested_faults_end = refl
 
-byte_store_end : outcome byte_store (zeros 1 ∷ []) usual ≡ Ended (record { arrays = (z 255 ∷ []) ∷ []; lines = []; faults = record { path = []; label = 2; kind = OutOfElement } ∷ [] })
+byte_store_end : outcome byte_store (zeros 1 ∷ []) usual
+    ≡ Ended (record { arrays = (z 255 ∷ []) ∷ []; lines = []; faults = record { path = []; label = 2; kind = OutOfElement } ∷ [] })
 byte_store_end = refl
 
-past_the_end_faults : outcome past_the_end (zeros 1 ∷ []) usual ≡ Ended (record { arrays = zeros 1 ∷ []; lines = []; faults = record { path = []; label = 1; kind = Index } ∷ [] })
+past_the_end_faults : outcome past_the_end (zeros 1 ∷ []) usual
+    ≡ Ended (record { arrays = zeros 1 ∷ []; lines = []; faults = record { path = []; label = 1; kind = Index } ∷ [] })
 past_the_end_faults = refl
 
 endless_stops : outcome endless [] (budget 100 100) ≡ Halted
@@ -100,10 +109,12 @@ endless_stops = refl
 signs_end : outcome signs [] usual ≡ fails ((negsuc 2 ∷ negsuc 0 ∷ []) ∷ []) (record { path = []; label = 2; kind = Overflow } ∷ [])
 signs_end = refl
 
-least_over : outcome (least_by (Chain least (Link Over (Negative (lit 1)) Done))) [] usual ≡ fails [] (record { path = []; label = 1; kind = Overflow } ∷ [])
+least_over : outcome (least_by (Chain least (Link Over (Negative (lit 1)) Done))) [] usual
+    ≡ fails [] (record { path = []; label = 1; kind = Overflow } ∷ [])
 least_over = refl
 
-least_modulo : outcome (least_by (Chain least (Link Modulo (Negative (lit 1)) Done))) [] usual ≡ fails [] (record { path = []; label = 1; kind = Overflow } ∷ [])
+least_modulo : outcome (least_by (Chain least (Link Modulo (Negative (lit 1)) Done))) [] usual
+    ≡ fails [] (record { path = []; label = 1; kind = Overflow } ∷ [])
 least_modulo = refl
 
 least_negative : outcome (least_by (Negative least)) [] usual ≡ fails [] (record { path = []; label = 1; kind = Overflow } ∷ [])

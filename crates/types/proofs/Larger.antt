@@ -61,7 +61,8 @@ module _ (p : Program) (fresh more : ℕ) where
       lost_moved = λ st env e. e;
     }
       where
-        spends_richer : (d : ℕ) (st : S) (go to : S → S) → Follows richer IsStopped go to → FollowsAt richer IsStopped d st (with_step go) (with_step to)
+        spends_richer : (d : ℕ) (st : S) (go to : S → S) → Follows richer IsStopped go to
+            → FollowsAt richer IsStopped d st (with_step go) (with_step to)
         spends_richer d st go to h = by_steps st.steps
           where
             by_steps : (k : ℕ) → IsStopped (spend k st go) ⊎ (spend (k + d) (richer d st) to ≡ richer d (spend k st go))
@@ -70,10 +71,12 @@ module _ (p : Program) (fresh more : ℕ) where
                 let e : suc k + d ≡ suc (k + d) = omega arith in
                 begin_at (ap (λ j. spend j (richer d st) to) e) (h d (record st { steps = k }))
 
-        finish_richer : (go to : S → S) → Follows richer IsStopped go to → Follows richer IsStopped (λ st. r.leave st (go (r.enter st))) (λ st. s.leave st (to (s.enter st)))
+        finish_richer : (go to : S → S) → Follows richer IsStopped go to
+            → Follows richer IsStopped (λ st. r.leave st (go (r.enter st))) (λ st. s.leave st (to (s.enter st)))
         finish_richer go to h d st = left (go (hushed st)) (to (hushed (richer d st))) (h d (hushed st))
           where
-            left : (out other : S) → IsStopped out ⊎ (other ≡ richer d out) → IsStopped (r.leave st out) ⊎ (s.leave (richer d st) other ≡ richer d (r.leave st out))
+            left : (out other : S) → IsStopped out ⊎ (other ≡ richer d out)
+                → IsStopped (r.leave st out) ⊎ (s.leave (richer d st) other ≡ richer d (r.leave st out))
             left out other (inl e) = inl (ap (λ f. after_finish f out.faults) e)
             left out other (inr e) = inr (ap (s.leave (richer d st)) e)
 
@@ -90,10 +93,12 @@ module _ (p : Program) (fresh more : ℕ) where
   begin_richer zero m le b d st = inl refl
   begin_richer (suc n) zero le b d st = absurd (omega (arith, le))
   begin_richer (suc n) (suc m) le b d st =
-      left (run p (one_rules p fresh n) (Block b) (child fresh st)) (run p (one_rules p (fresh + more) m) (Block b) (child (fresh + more) (richer d st)))
+      left (run p (one_rules p fresh n) (Block b) (child fresh st))
+      (run p (one_rules p (fresh + more) m) (Block b) (child (fresh + more) (richer d st)))
       (run_richer n m (begin_richer n m (omega (arith, le))) (Block b) more (child fresh st))
     where
-      left : (out other : S) → IsStopped out ⊎ (other ≡ richer more out) → IsStopped (after_body st out) ⊎ (after_body (richer d st) other ≡ richer d (after_body st out))
+      left : (out other : S) → IsStopped out ⊎ (other ≡ richer more out)
+          → IsStopped (after_body st out) ⊎ (after_body (richer d st) other ≡ richer d (after_body st out))
       left out other (inl e) = inl (ap after_async e)
       left out other (inr e) = inr (ap (after_body (richer d st)) e)
 
@@ -107,7 +112,8 @@ not_halted e h = subst Is_halted h tt
 larger_by : (p : Program) (input : List (List ℤ)) (fresh more n m : ℕ) (e : Ending) → n ≤ m
     → outcome p input (record { steps = fresh; nest = n }) ≡ Ended e → outcome p input (record { steps = fresh + more; nest = m }) ≡ Ended e
 larger_by p input fresh more n m e le ends =
-    by_run (one p fresh n (Block p.main.body) st) (one p (fresh + more) m (Block p.main.body) (richer more st)) (run_richer p fresh more n m (begin_richer p fresh more n m le) (Block p.main.body) more st) ends
+    by_run (one p fresh n (Block p.main.body) st) (one p (fresh + more) m (Block p.main.body) (richer more st))
+    (run_richer p fresh more n m (begin_richer p fresh more n m le) (Block p.main.body) more st) ends
   where
     st : S
     st = start tt p fresh (held_by input)
@@ -115,13 +121,15 @@ larger_by p input fresh more n m e le ends =
     at_end : S → Outcome
     at_end out = outcome_of p ((one_rules p fresh n).leave st out)
 
-    by_run : (out other : S) → IsStopped out ⊎ (other ≡ richer more out) → at_end out ≡ Ended e → outcome_of p ((one_rules p (fresh + more) m).leave (richer more st) other) ≡ Ended e
+    by_run : (out other : S) → IsStopped out ⊎ (other ≡ richer more out) → at_end out ≡ Ended e
+        → outcome_of p ((one_rules p (fresh + more) m).leave (richer more st) other) ≡ Ended e
     by_run out other (inl stops) ends =
         absurd (not_halted e (sym (ap (λ f. outcome_by (after_finish f out.faults) (ending_of p (joined st out))) stops) ∙ ends))
     by_run out other (inr same) ends = ap (λ o. outcome_of p ((one_rules p (fresh + more) m).leave (richer more st) o)) same ∙ ends
 
 -- an ended outcome stays under a larger budget
-pub larger_ends : (p : Program) (input : List (List ℤ)) (b larger : Budget) (e : Ending) → IsLarger larger b → outcome p input b ≡ Ended e → outcome p input larger ≡ Ended e
+pub larger_ends : (p : Program) (input : List (List ℤ)) (b larger : Budget) (e : Ending) → IsLarger larger b
+    → outcome p input b ≡ Ended e → outcome p input larger ≡ Ended e
 larger_ends p input b larger e is_larger ends =
     let steps : b.steps + (larger.steps - b.steps) ≡ larger.steps = let le = is_larger.steps in omega (arith, le) in
     subst (λ k. outcome p input (record { steps = k; nest = larger.nest }) ≡ Ended e) steps

@@ -11,3 +11,7 @@ pub mod Chains
 pub mod Blocks
 pub mod Served
 pub mod Resolved
+pub mod Declared
+pub mod Places
+pub mod ByKind
+pub mod Mains

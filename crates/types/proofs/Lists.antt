@@ -10,24 +10,29 @@ use Rattle.types.specs.Contents.{Contents, read, write, held_by, row, rows, show
 use Rattle.types.specs.Run.{bind, by_number}
 use Rattle.types.specs.Outcome.{whole_arrays}
 
-row_is : (c : Contents) (a at : ℕ) (xs : List ℤ) → ((k : ℕ) → read c (record { array = a; index = at + k }) ≡ slice_index_or xs k (pos 0)) → row c a at (length xs) ≡ xs
+row_is : (c : Contents) (a at : ℕ) (xs : List ℤ)
+    → ((k : ℕ) → read c (record { array = a; index = at + k }) ≡ slice_index_or xs k (pos 0)) → row c a at (length xs) ≡ xs
 row_is c a at [] h = refl
 row_is c a at (x ∷ xs) h =
     let here : at + 0 ≡ at = omega arith in
     let first : read c (record { array = a; index = at }) ≡ x = ap (λ k. read c (record { array = a; index = k })) (sym here) ∙ h 0 in
-    let rest = row_is c a (at + 1) xs (λ k. let e : at + 1 + k ≡ at + suc k = omega arith in ap (λ k. read c (record { array = a; index = k })) e ∙ h (suc k)) in
+    let rest = row_is c a (at + 1) xs
+    (λ k. let e : at + 1 + k ≡ at + suc k = omega arith in ap (λ k. read c (record { array = a; index = k })) e ∙ h (suc k)) in
     ap (λ y. y ∷ row c a (at + 1) (length xs)) first ∙ ap (λ ys. x ∷ ys) rest
 
 rows_are : (c : Contents) (a : ℕ) (arrays : List Array) (lists : List (List ℤ)) → FitsArrays arrays lists
-    → ((j k : ℕ) → read c (record { array = a + j; index = k }) ≡ slice_index_or (slice_index_or lists j []) k (pos 0)) → rows c a arrays ≡ lists
+    → ((j k : ℕ) → read c (record { array = a + j; index = k }) ≡ slice_index_or (slice_index_or lists j []) k (pos 0))
+    → rows c a arrays ≡ lists
 rows_are c a [] [] no_more h = refl
 rows_are c a [] (l ∷ ls) fits h = elim fits [ ]
 rows_are c a (x ∷ xs) [] fits h = elim fits [ ]
 rows_are c a (x ∷ xs) (l ∷ ls) (also e fits) h =
     let here : a + 0 ≡ a = omega arith in
     let first : row c a 0 x.length ≡ l =
-    ap (row c a 0) (sym e) ∙ row_is c a 0 l (λ k. let z : 0 + k ≡ k = omega arith in ap (λ k. read c (record { array = a; index = k })) z ∙ ap (λ b. read c (record { array = b; index = k })) (sym here) ∙ h 0 k) in
-    let rest = rows_are c (a + 1) xs ls fits (λ j k. let e : a + 1 + j ≡ a + suc j = omega arith in ap (λ b. read c (record { array = b; index = k })) e ∙ h (suc j) k) in
+    ap (row c a 0) (sym e)
+    ∙ row_is c a 0 l (λ k. let z : 0 + k ≡ k = omega arith in ap (λ k. read c (record { array = a; index = k })) z ∙ ap (λ b. read c (record { array = b; index = k })) (sym here) ∙ h 0 k) in
+    let rest = rows_are c (a + 1) xs ls fits
+    (λ j k. let e : a + 1 + j ≡ a + suc j = omega arith in ap (λ b. read c (record { array = b; index = k })) e ∙ h (suc j) k) in
     ap (λ y. y ∷ rows c (a + 1) xs) first ∙ ap (λ ys. l ∷ ys) rest
 
 -- lists that fit the arrays are what their contents show
@@ -51,7 +56,8 @@ some_same {A} {x} e = ap or_x e
     or_x (Some y) = y
 
 -- a list after a write, by number
-set_by_number : {A : Type 0} (d : A) (xs : List A) (i : ℕ) (v : A) → i < length xs → (k : ℕ) → slice_index_or (slice_set xs i v) k d ≡ bind i v (by_number d xs) k
+set_by_number : {A : Type 0} (d : A) (xs : List A) (i : ℕ) (v : A) → i < length xs → (k : ℕ)
+    → slice_index_or (slice_set xs i v) k d ≡ bind i v (by_number d xs) k
 set_by_number d xs i v lt k = by_test (nat_eq i k) refl
   where
     by_test : (b : Bool) → nat_eq i k ≡ b → slice_index_or (slice_set xs i v) k d ≡ (if b then v else slice_index_or xs k d)
@@ -59,7 +65,8 @@ set_by_number d xs i v lt k = by_test (nat_eq i k) refl
     by_test false e = get_or-set_other xs i k v d (λ same. eqb-false i k e (sym same))
 
 -- a write to a slot of a list is a write to that slot
-pub by_number-slice_set : {A : Type 0} (d : A) (xs : List A) (i : ℕ) (v : A) → i < length xs → by_number d (slice_set xs i v) ≡ bind i v (by_number d xs)
+pub by_number-slice_set : {A : Type 0} (d : A) (xs : List A) (i : ℕ) (v : A) → i < length xs
+    → by_number d (slice_set xs i v) ≡ bind i v (by_number d xs)
 by_number-slice_set d xs i v lt = λ t k. set_by_number d xs i v lt k t
 
 get_same : {A : Type 0} (xs : List A) (i : ℕ) (v : A) → i < length xs → slice_get (slice_set xs i v) i ≡ Some v
@@ -120,16 +127,19 @@ pub by_number-append-replicate : {A : Type 0} (d : A) (xs : List A) (n : ℕ) �
 by_number-append-replicate d xs n = λ t k. padded_by_number d xs n k t
 
 -- the windows of all arrays, by number
-whole_by_number : (n : ℕ) (arrays : List Array) (k : ℕ) (x : Array) → slice_get arrays k ≡ Some x → by_number nowhere (whole_arrays n arrays) k ≡ record { array = n + k; at = 0; length = x.length }
+whole_by_number : (n : ℕ) (arrays : List Array) (k : ℕ) (x : Array) → slice_get arrays k ≡ Some x
+    → by_number nowhere (whole_arrays n arrays) k ≡ record { array = n + k; at = 0; length = x.length }
 whole_by_number n [] k x e = absurd (none_is_some e)
 whole_by_number n (y ∷ ys) zero x e =
     let here : n ≡ n + 0 = omega arith in
-    ap (λ (z : Array). record { array = n; at = 0; length = z.length }) (some_same e) ∙ ap (λ m. record { array = m; at = 0; length = x.length }) here
+    ap (λ (z : Array). record { array = n; at = 0; length = z.length }) (some_same e)
+    ∙ ap (λ m. record { array = m; at = 0; length = x.length }) here
 whole_by_number n (y ∷ ys) (suc k) x e =
     let there : n + 1 + k ≡ n + suc k = omega arith in
     whole_by_number (n + 1) ys k x e ∙ ap (λ m. record { array = m; at = 0; length = x.length }) there
 
 -- the first sections of `main` are the arrays
-pub whole_array-by_number : (arrays : List Array) (k : ℕ) (x : Array) → slice_get arrays k ≡ Some x → by_number nowhere (whole_arrays 0 arrays) k ≡ record { array = k; at = 0; length = x.length }
+pub whole_array-by_number : (arrays : List Array) (k : ℕ) (x : Array) → slice_get arrays k ≡ Some x
+    → by_number nowhere (whole_arrays 0 arrays) k ≡ record { array = k; at = 0; length = x.length }
 whole_array-by_number arrays k x e =
     let z : 0 + k ≡ k = omega arith in whole_by_number 0 arrays k x e ∙ ap (λ m. record { array = m; at = 0; length = x.length }) z

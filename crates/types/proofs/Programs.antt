@@ -176,7 +176,8 @@ abbrev pub deep_call : ℕ → Program
 deep_call n = record {
   arrays = ints 97 1 ∷ [];
   procedures = down ∷ [];
-  main = record { parameters = []; scalars = 0; slots = 0; sections = Root ∷ []; body = (4, Call 0 (lit n ∷ []) (0 ∷ [])) ⨾ (5, Do (Print (Element 0 (lit 0) ∷ []))) ⨾ End };
+  main =
+      record { parameters = []; scalars = 0; slots = 0; sections = Root ∷ []; body = (4, Call 0 (lit n ∷ []) (0 ∷ [])) ⨾ (5, Do (Print (Element 0 (lit 0) ∷ []))) ⨾ End };
 }
 
 -- async { print 1; } print 2;

@@ -30,14 +30,18 @@ module _ (env : Environment) (read other : Place → ℤ) where
   same_first : (s : ℕ) (ss : List ℕ) → Same (s ∷ ss) → (q : Place) → In (env.windows s) q → read q ≡ other q
   same_first s ss h = h s (0, omega arith, refl)
 
-  element_same : (w : Window) (v : ℤ) → ((q : Place) → In w q → read q ≡ other q) → then_try (element_of w v) (λ q. Ok (read q)) ≡ then_try (element_of w v) (λ q. Ok (other q))
+  element_same : (w : Window) (v : ℤ) → ((q : Place) → In w q → read q ≡ other q)
+      → then_try (element_of w v) (λ q. Ok (read q)) ≡ then_try (element_of w v) (λ q. Ok (other q))
   element_same w (negsuc n) h = refl
-  element_same w (pos n) h = inside (nat_lt n w.length) (λ e. let lt = ltb-true n w.length e in record { array = refl; low = omega arith; high = omega (arith, lt) })
+  element_same w (pos n) h =
+      inside (nat_lt n w.length) (λ e. let lt = ltb-true n w.length e in record { array = refl; low = omega arith; high = omega (arith, lt) })
     where
       q : Place
       q = record { array = w.array; index = w.at + n }
 
-      inside : (b : Bool) → (b ≡ true → In w q) → then_try (ok_or (if b then Some q else None) Index) (λ q. Ok (read q)) ≡ then_try (ok_or (if b then Some q else None) Index) (λ q. Ok (other q))
+      inside : (b : Bool) → (b ≡ true → In w q)
+          → then_try (ok_or (if b then Some q else None) Index) (λ q. Ok (read q))
+          ≡ then_try (ok_or (if b then Some q else None) Index) (λ q. Ok (other q))
       inside true k = ap Ok (h q (k refl))
       inside false k = refl
 

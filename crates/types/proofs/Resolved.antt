@@ -17,13 +17,16 @@ abbrev atom : Atom → Expr
 atom a = Or (And (Plainly (Alone (Add (Multiply (Positive a) NoFactor) NoTerm))) NoNeg) NoConj
 
 abbrev product : Atom → Operator → ℕ → Expr
-product a o n = Or (And (Plainly (Alone (Add (Multiply (Positive a) (MultiplyFactor o (Positive (Number n)) NoFactor)) NoTerm))) NoNeg) NoConj
+product a o n =
+    Or (And (Plainly (Alone (Add (Multiply (Positive a) (MultiplyFactor o (Positive (Number n)) NoFactor)) NoTerm))) NoNeg) NoConj
 
 abbrev total : Atom → Atom → Expr
-total a b = Or (And (Plainly (Alone (Add (Multiply (Positive a) NoFactor) (AddTerm Plus (Multiply (Positive b) NoFactor) NoTerm)))) NoNeg) NoConj
+total a b =
+    Or (And (Plainly (Alone (Add (Multiply (Positive a) NoFactor) (AddTerm Plus (Multiply (Positive b) NoFactor) NoTerm)))) NoNeg) NoConj
 
 abbrev compare : Atom → Relation → ℕ → Expr
-compare a r n = Or (And (Plainly (Compare (Add (Multiply (Positive a) NoFactor) NoTerm) r (Add (Multiply (Positive (Number n)) NoFactor) NoTerm))) NoNeg) NoConj
+compare a r n =
+    Or (And (Plainly (Compare (Add (Multiply (Positive a) NoFactor) NoTerm) r (Add (Multiply (Positive (Number n)) NoFactor) NoTerm))) NoNeg) NoConj
 
 abbrev num : ℕ → Expr
 num n = atom (Number n)
@@ -56,7 +59,8 @@ doubling_text = record {
     body = Then (IfElse (compare (Length (name 115)) AtMost 1)
         (Then (If (compare (Length (name 115)) Equal 1) (Then (Store (name 115) (num 0) (product (Element (name 115) (num 0)) Times 2)) End)) End)
         (Then (Split (name 115) (product (Length (name 115)) Over 2) (name 108) (name 114) (
-        Then (Async (Then (Call (name 116) (atom (Name (name 108)) ∷ [])) End)) (Then (Call (name 116) (atom (Name (name 114)) ∷ [])) End))) End)) End;
+        Then (Async (Then (Call (name 116) (atom (Name (name 108)) ∷ [])) End))
+        (Then (Call (name 116) (atom (Name (name 114)) ∷ [])) End))) End)) End;
   } ∷ [];
   main = Some (record {
     arrays = int_array 97 8 ∷ [];

@@ -19,7 +19,8 @@ use Rattle.types.specs.declared.error.TypeError.TheVariants.{NotInScope}
 use Rattle.types.specs.Resolution.{Scope, Meant, ASection, meant, section_or_0, section_of, number, number_conj, number_neg, number_cmp, number_sum, number_prod, number_unary, number_atom, labels, labels_in, slots, slots_in, sides, sides_in, inside, behind}
 use Rattle.types.specs.Resolution as resolution
 use Rattle.types.specs.Rules.{is_unknown, is_served_statement, is_served_block}
-use Rattle.types.specs.ArrayScope.{numbered, place, place_among, lone, TellsName}
+use Rattle.types.specs.ArrayScope.{numbered, place, place_among, lone}
+use Rattle.types.specs.Told.{TellsName}
 
 -- ---- an expression that is an atom alone
 module _ (here : Scope) where
@@ -50,27 +51,33 @@ module _ (here : Scope) where
   number-lone (Or c (OrConj d rest)) a h = cc
 
 -- ---- a section's number is the place of its name
-found_or_later : (b : Bool) (n : ℕ) (o : Option ℕ) (m : Option Meant) → m ≡ option_map ASection o → (if b then Some (ASection n) else m) ≡ option_map ASection (if b then Some n else o)
+found_or_later : (b : Bool) (n : ℕ) (o : Option ℕ) (m : Option Meant) → m ≡ option_map ASection o
+    → (if b then Some (ASection n) else m) ≡ option_map ASection (if b then Some n else o)
 found_or_later true n o m e = refl
 found_or_later false n o m e = e
 
-meant-numbered : (x : String Global) (ks : List (String Global)) (n : ℕ) → meant (string_bytes x) (numbered n (map string_bytes ks)) ≡ option_map ASection (position_from (string_eq x) n ks)
+meant-numbered : (x : String Global) (ks : List (String Global)) (n : ℕ)
+    → meant (string_bytes x) (numbered n (map string_bytes ks)) ≡ option_map ASection (position_from (string_eq x) n ks)
 meant-numbered x [] n = refl
 meant-numbered x (k ∷ ks) n = found_or_later (string_eq x k) n _ _ (meant-numbered x ks (n + 1))
 
-meant_is_position : (x : String Global) (ks : List (String Global)) → meant (string_bytes x) (numbered 0 (map string_bytes ks)) ≡ option_map ASection (position (string_eq x) ks)
+meant_is_position : (x : String Global) (ks : List (String Global))
+    → meant (string_bytes x) (numbered 0 (map string_bytes ks)) ≡ option_map ASection (position (string_eq x) ks)
 meant_is_position x ks = meant-numbered x ks 0 ∙ ap (option_map ASection) (sym (position_from-zero (string_eq x) ks))
 
 module _ (x : String Global) (ks : List (String Global)) (label : ℕ) where
-  known_by : (r : Option ℕ) → option_map ASection r ≡ meant (string_bytes x) (numbered 0 (map string_bytes ks)) → OnOk (ok_or r (NotInScope label)) (is_unknown (place_among ks label) (string_bytes x) ≡ false)
+  known_by : (r : Option ℕ) → option_map ASection r ≡ meant (string_bytes x) (numbered 0 (map string_bytes ks))
+      → OnOk (ok_or r (NotInScope label)) (is_unknown (place_among ks label) (string_bytes x) ≡ false)
   known_by None is = tt
   known_by (Some i) is = ap is_none (sym is)
 
-  numbered_by : (r : Option ℕ) → option_map ASection r ≡ meant (string_bytes x) (numbered 0 (map string_bytes ks)) → IfOk (ok_or r (NotInScope label)) (λ s. section_of (place_among ks label) (string_bytes x) ≡ s)
+  numbered_by : (r : Option ℕ) → option_map ASection r ≡ meant (string_bytes x) (numbered 0 (map string_bytes ks))
+      → IfOk (ok_or r (NotInScope label)) (λ s. section_of (place_among ks label) (string_bytes x) ≡ s)
   numbered_by None is = tt
   numbered_by (Some i) is = ap section_or_0 (sym is)
 
-  unknown_by : (r : Option ℕ) → option_map ASection r ≡ meant (string_bytes x) (numbered 0 (map string_bytes ks)) → IfErr (ok_or r (NotInScope label)) (TellsName (place_among ks label) (string_bytes x))
+  unknown_by : (r : Option ℕ) → option_map ASection r ≡ meant (string_bytes x) (numbered 0 (map string_bytes ks))
+      → IfErr (ok_or r (NotInScope label)) (TellsName (place_among ks label) (string_bytes x))
   unknown_by None is = (refl, ap is_none (sym is))
   unknown_by (Some i) is = tt
 
@@ -157,11 +164,13 @@ no_names (Async b) here h = refl
 no_names (Finish b) here h = refl
 
 -- behind it are the same names
-behind_served : (names : List (List ℕ)) (s : Stmt) (label after : ℕ) → is_served_statement s ≡ true → after ≡ label + labels_in s → behind s (place names label) ≡ place names after
+pub behind_served : (names : List (List ℕ)) (s : Stmt) (label after : ℕ) → is_served_statement s ≡ true
+    → after ≡ label + labels_in s → behind s (place names label) ≡ place names after
 behind_served names s label after h e =
     let slots : 0 + slots_in s ≡ 0 = omega (arith, no_slots_in s h) in
     let sides : length names + sides_in s ≡ length names = omega (arith, no_sides_in s h) in
-    ap (λ ns. record { names = ns; label = label + labels_in s; slot = 0 + slots_in s; section = length names + sides_in s }) (no_names s (place names label) h)
+    ap (λ ns. record { names = ns; label = label + labels_in s; slot = 0 + slots_in s; section = length names + sides_in s })
+    (no_names s (place names label) h)
     ∙ ap (λ n. record { names = numbered 0 names; label = n; slot = 0 + slots_in s; section = length names + sides_in s }) (sym e)
     ∙ ap (λ n. record { names = numbered 0 names; label = after; slot = n; section = length names + sides_in s }) slots
     ∙ ap (λ n. record { names = numbered 0 names; label = after; slot = 0; section = n }) sides
@@ -171,7 +180,8 @@ abbrev pub joined : List Resolved → Codes → Codes
 joined [] cs = cs
 joined (s ∷ rest) cs = code.Then s.label (plain.code s.kind) (joined rest cs)
 
-pub joined_push : (rs : List Resolved) (s : Resolved) (cs : Codes) → joined rs (code.Then s.label (plain.code s.kind) cs) ≡ joined (rs ++ s ∷ []) cs
+pub joined_push : (rs : List Resolved) (s : Resolved) (cs : Codes)
+    → joined rs (code.Then s.label (plain.code s.kind) cs) ≡ joined (rs ++ s ∷ []) cs
 joined_push [] s cs = refl
 joined_push (r ∷ rs) s cs = ap (code.Then r.label (plain.code r.kind)) (joined_push rs s cs)
 
@@ -185,14 +195,17 @@ before code.End cs = code.End
 before (code.Then l c rest) cs = code.Then l c cs
 
 -- one statement more
-pub one_more : (names : List (List ℕ)) (s : Stmt) (rest : Block) (r : Resolved) (n after : ℕ) → is_served_block (lone s) ≡ true → after ≡ n + labels (lone s)
+pub one_more : (names : List (List ℕ)) (s : Stmt) (rest : Block) (r : Resolved) (n after : ℕ) → is_served_block (lone s) ≡ true
+    → after ≡ n + labels (lone s)
     → resolution.codes [] (place names (n + 1)) (lone s) ≡ codes (r ∷ [])
-    → resolution.codes [] (place names (n + 1)) (Then s rest) ≡ code.Then r.label (plain.code r.kind) (resolution.codes [] (place names (after + 1)) rest)
+    → resolution.codes [] (place names (n + 1)) (Then s rest)
+    ≡ code.Then r.label (plain.code r.kind) (resolution.codes [] (place names (after + 1)) rest)
 one_more names s rest r n after served counted same =
     let here = place names (n + 1) in
     let is_served = (both_true (is_served_statement s) true served).0 in
     ap (λ cs. before cs (resolution.codes [] (behind s here) rest)) same
-    ∙ ap (λ p. code.Then r.label (plain.code r.kind) (resolution.codes [] p rest)) (behind_served names s (n + 1) (after + 1) is_served (omega (arith, counted)))
+    ∙ ap (λ p. code.Then r.label (plain.code r.kind) (resolution.codes [] p rest))
+    (behind_served names s (n + 1) (after + 1) is_served (omega (arith, counted)))
 
 -- ---- `main`
 mutual
@@ -226,25 +239,30 @@ as_many_names [] = refl
 as_many_names (a ∷ arrays) = ap suc (as_many_names arrays)
 
 -- where only arrays are in scope, `main` begins
-at_main : (names : List (List ℕ)) (arrays : List tree.Array) → names ≡ map (λ a. a.name) arrays → place names 1 ≡ resolution.in_main 1 arrays
+pub at_main : (names : List (List ℕ)) (arrays : List tree.Array) → names ≡ map (λ a. a.name) arrays
+    → place names 1 ≡ resolution.in_main 1 arrays
 at_main names arrays same =
     ap (λ ns. place ns 1) same
     ∙ ap (λ ns. record { names = ns; label = 1; slot = 0; section = length (map (λ a. a.name) arrays) }) (numbered_names 0 arrays)
     ∙ ap (λ n. record { names = resolution.array_names 0 arrays; label = 1; slot = 0; section = n }) (as_many_names arrays)
 
 abbrev main_of : List code.Array → List code.Procedure → List code.Parameter → ℕ → List code.Origin → Codes → code.Program
-main_of xs ps qs n os cs = record { arrays = xs; procedures = ps; main = record { parameters = qs; scalars = 0; slots = n; sections = os; body = cs } }
+main_of xs ps qs n os cs =
+    record { arrays = xs; procedures = ps; main = record { parameters = qs; scalars = 0; slots = n; sections = os; body = cs } }
 
 -- a served `main` is what its parts are
-pub main_is : (arrays : List tree.Array) (b : Block) (names : List (List ℕ)) (xs : List code.Array) (ps : List code.Procedure) (qs : List code.Parameter) (os : List code.Origin) (cs : Codes)
+pub main_is : (arrays : List tree.Array) (b : Block) (names : List (List ℕ)) (xs : List code.Array) (ps : List code.Procedure)
+    (qs : List code.Parameter) (os : List code.Origin) (cs : Codes)
     → names ≡ map (λ a. a.name) arrays → is_served_block b ≡ true
-    → map resolution.array arrays ≡ xs → [] ≡ ps → [] ≡ qs → replicate (length arrays) code.Root ≡ os → resolution.codes [] (place names 1) b ≡ cs
+    → map resolution.array arrays ≡ xs → [] ≡ ps → [] ≡ qs → replicate (length arrays) code.Root ≡ os
+    → resolution.codes [] (place names 1) b ≡ cs
     → resolution.with_main [] (record { arrays = arrays; body = b }) ≡ main_of xs ps qs 0 os cs
 main_is arrays b names xs ps qs os cs named served arrays_are no_procedures no_parameters roots body =
     let here = resolution.in_main 1 arrays in
     let slots_are : 0 + slots b ≡ 0 = omega (arith, no_slots b served) in
     let all = replicate (length arrays) code.Root ++ resolution.origins here b in
-    let all_are : all ≡ os = ap (λ o. replicate (length arrays) code.Root ++ o) (no_origins b here served) ∙ append-nil (replicate (length arrays) code.Root) ∙ roots in
+    let all_are : all ≡ os = ap (λ o. replicate (length arrays) code.Root ++ o) (no_origins b here served)
+    ∙ append-nil (replicate (length arrays) code.Root) ∙ roots in
     let body_is : resolution.codes [] here b ≡ cs = ap (λ h. resolution.codes [] h b) (sym (at_main names arrays named)) ∙ body in
     ap (λ x. main_of x [] [] (0 + slots b) all (resolution.codes [] here b)) arrays_are
     ∙ ap (λ x. main_of xs x [] (0 + slots b) all (resolution.codes [] here b)) no_procedures

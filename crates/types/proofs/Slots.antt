@@ -19,12 +19,14 @@ elsewhere d v [] (suc k) ne = refl
 elsewhere d v (x ∷ xs) zero ne = refl
 elsewhere d v (x ∷ xs) (suc k) ne = elsewhere d v xs k (λ e. ne (ap suc e))
 
-added_is : {A : Type 0} (d v : A) (xs : List A) (k : ℕ) (b : Bool) → nat_eq (length xs) k ≡ b → slice_index_or (xs ++ v ∷ []) k d ≡ (if b then v else slice_index_or xs k d)
+added_is : {A : Type 0} (d v : A) (xs : List A) (k : ℕ) (b : Bool) → nat_eq (length xs) k ≡ b
+    → slice_index_or (xs ++ v ∷ []) k d ≡ (if b then v else slice_index_or xs k d)
 added_is d v xs k true e = ap (λ k. slice_index_or (xs ++ v ∷ []) k d) (sym (eqb-true (length xs) k e)) ∙ at_end d v xs
 added_is d v xs k false e = elsewhere d v xs k (eqb-false (length xs) k e)
 
 -- an item more is bound to the number that the length was
-pub by_number-added : {A : Type 0} (d v : A) (xs ys : List A) (i : ℕ) → i ≡ length xs → ys ≡ xs ++ v ∷ [] → by_number d ys ≡ bind i v (by_number d xs)
+pub by_number-added : {A : Type 0} (d v : A) (xs ys : List A) (i : ℕ) → i ≡ length xs → ys ≡ xs ++ v ∷ []
+    → by_number d ys ≡ bind i v (by_number d xs)
 by_number-added d v xs ys i at e =
     ap (by_number d) e
     ∙ (λ t k. added_is d v xs k (nat_eq (length xs) k) refl t)

@@ -22,7 +22,8 @@ module _ {X : Type 0} where
   spend_less zero st go e h = le_refl st.steps
   spend_less (suc n) st go e h = let k = h (record st { steps = n }) in omega (arith, e, k)
 
-  value_less : {A : Type 0} (l : ℕ) (v : Valued A) (go : A → State X → State X) (st : State X) → ((x : A) → (go x st).steps ≤ st.steps) → (with_value l v go st).steps ≤ st.steps
+  value_less : {A : Type 0} (l : ℕ) (v : Valued A) (go : A → State X → State X) (st : State X)
+      → ((x : A) → (go x st).steps ≤ st.steps) → (with_value l v go st).steps ≤ st.steps
   value_less l (Ok x) go st h = h x
   value_less l (Err f) go st h = le_refl st.steps
 
@@ -45,15 +46,18 @@ module _ {X : Type 0} where
   then_agree : (a b : State X) (go to : State X → State X) → a ≡ b → go a ≡ to a → go_on go a ≡ go_on to b
   then_agree a b go to e h = flow_agree a.flow a go to h ∙ ap (go_on to) e
 
-  value_agree : {A : Type 0} (l : ℕ) (v : Valued A) (go to : A → State X → State X) (st : State X) → ((x : A) → go x st ≡ to x st) → with_value l v go st ≡ with_value l v to st
+  value_agree : {A : Type 0} (l : ℕ) (v : Valued A) (go to : A → State X → State X) (st : State X) → ((x : A) → go x st ≡ to x st)
+      → with_value l v go st ≡ with_value l v to st
   value_agree l (Ok x) go to st h = h x
   value_agree l (Err f) go to st h = refl
 
-  choose_agree : (b : Bool) (f g other : State X → State X) (st : State X) (h : State X → State X) → f st ≡ g st → other st ≡ h st → choose f other b st ≡ choose g h b st
+  choose_agree : (b : Bool) (f g other : State X → State X) (st : State X) (h : State X → State X) → f st ≡ g st → other st ≡ h st
+      → choose f other b st ≡ choose g h b st
   choose_agree true f g other st h e d = e
   choose_agree false f g other st h e d = d
 
-  spend_agree : (m n : ℕ) (st : State X) (go to : State X → State X) → n ≡ st.steps → st.steps ≤ m → ((s : State X) → s.steps < m → go s ≡ to s) → spend n st go ≡ spend n st to
+  spend_agree : (m n : ℕ) (st : State X) (go to : State X → State X) → n ≡ st.steps → st.steps ≤ m
+      → ((s : State X) → s.steps < m → go s ≡ to s) → spend n st go ≡ spend n st to
   spend_agree m zero st go to e le h = refl
   spend_agree m (suc n) st go to e le h = h (record st { steps = n }) (omega (arith, e, le))
 
@@ -79,7 +83,8 @@ module _ (p : Program) {X : Type 0} (r : Rules X) where
   counted_act_less : (d : Work → State X → State X) (l : ℕ) (s : Code) → Less (act p r d l s) → Less (λ st. act p r d l s (counted r s st))
   counted_act_less d l s h st = let i = h (counted r s st) in let j = counted_less s st in omega (arith, i, j)
 
-  step_agree : (m : ℕ) (d e : Work → State X → State X) (l : ℕ) (s : Code) → ((st : State X) → st.steps < m → act p r d l s st ≡ act p r e l s st) → (st : State X) → st.steps ≤ m
+  step_agree : (m : ℕ) (d e : Work → State X → State X) (l : ℕ) (s : Code)
+      → ((st : State X) → st.steps < m → act p r d l s st ≡ act p r e l s st) → (st : State X) → st.steps ≤ m
       → with_step (λ st. act p r d l s (counted r s st)) st ≡ with_step (λ st. act p r e l s (counted r s st)) st
   step_agree m d e l s h st le =
       spend_agree m st.steps st (λ st. act p r d l s (counted r s st)) (λ st. act p r e l s (counted r s st)) refl le
@@ -96,15 +101,18 @@ module _ (p : Program) {X : Type 0} (r : Rules X) (thrifty : IsThrifty r) where
     mutual
       act_less : (s : Code) (l : ℕ) → Less (act p r d l s)
       act_less (Do s) l st = primitive_less p r l s st
-      act_less (If t b c) l st = value_less l (truth_at st t) _ st (λ v. choose_less v (block p r d b) (block p r d c) (block_less b) (block_less c) st)
+      act_less (If t b c) l st =
+          value_less l (truth_at st t) _ st (λ v. choose_less v (block p r d b) (block p r d c) (block_less b) (block_less c) st)
       act_less (While t b) l st =
           value_less l (truth_at st t) _ st (λ v.
-          choose_less v (λ s. go_on (d (Turn l t b)) (block p r d b s)) (λ s. s) (again_less (block p r d b) (d (Turn l t b)) (block_less b) (h (Turn l t b))) (λ s. le_refl s.steps) st)
+          choose_less v (λ s. go_on (d (Turn l t b)) (block p r d b s)) (λ s. s)
+          (again_less (block p r d b) (d (Turn l t b)) (block_less b) (h (Turn l t b))) (λ s. le_refl s.steps) st)
       act_less (Split s e x y b) l st =
           value_less l (number_at st e) _ st (λ v. value_less l (ok_or (sides_of (window_at st s) v) SplitPoint) _ st (λ ws.
           block_less b (record st { environment = with_sides x y ws st.environment })))
       act_less (Call f es ss) l st =
-          value_less l (numbers_at st es) _ st (λ vs. h (Block (procedure_of p f).body) (record st { environment = entry vs (map (window_at st) ss) }))
+          value_less l (numbers_at st es) _ st
+          (λ vs. h (Block (procedure_of p f).body) (record st { environment = entry vs (map (window_at st) ss) }))
       act_less (Async b) l st = thrifty.begin b st
       act_less (Finish b) l st =
           let i = thrifty.enter st in
@@ -120,7 +128,9 @@ module _ (p : Program) {X : Type 0} (r : Rules X) (thrifty : IsThrifty r) where
 
     work_less : LessIn (work p r d)
     work_less (Block b) st = block_less b st
-    work_less (Turn l t b) st = spend_less st.steps st (λ st. act p r d l (While t b) (counted r (While t b) st)) refl (counted_act_less p r d l (While t b) (act_less (While t b) l))
+    work_less (Turn l t b) st =
+        spend_less st.steps st (λ st. act p r d l (While t b) (counted r (While t b) st)) refl
+        (counted_act_less p r d l (While t b) (act_less (While t b) l))
 
   within_less : (k : ℕ) → LessIn (within p r k)
   within_less zero w st = le_refl st.steps
@@ -139,7 +149,8 @@ module _ (p : Program) {X : Type 0} (r : Rules X) (thrifty : IsThrifty r) where
       act_agree : (s : Code) (l : ℕ) (st : State X) → st.steps < m → act p r d l s st ≡ act p r e l s st
       act_agree (Do s) l st lt = refl
       act_agree (If t b c) l st lt =
-          value_agree l (truth_at st t) _ _ st (λ v. choose_agree v (block p r d b) (block p r e b) (block p r d c) st (block p r e c) (block_agree b st (omega (arith, lt))) (block_agree c st (omega (arith, lt))))
+          value_agree l (truth_at st t) _ _ st
+          (λ v. choose_agree v (block p r d b) (block p r e b) (block p r d c) st (block p r e c) (block_agree b st (omega (arith, lt))) (block_agree c st (omega (arith, lt))))
       act_agree (While t b) l st lt =
           let out = block p r d b st in
           let i = block_less d less b st in
@@ -151,7 +162,8 @@ module _ (p : Program) {X : Type 0} (r : Rules X) (thrifty : IsThrifty r) where
           block_agree b (record st { environment = with_sides left right ws st.environment }) (omega (arith, lt))))
       act_agree (Call f es ss) l st lt =
           value_agree l (numbers_at st es) _ _ st (λ vs.
-          ap {A = State X} (λ out. record out { environment = st.environment }) (agree (Block (procedure_of p f).body) (record st { environment = entry vs (map (window_at st) ss) }) lt))
+          ap {A = State X} (λ out. record out { environment = st.environment })
+          (agree (Block (procedure_of p f).body) (record st { environment = entry vs (map (window_at st) ss) }) lt))
       act_agree (Async b) l st lt = refl
       act_agree (Finish b) l st lt = let i = thrifty.enter st in ap (r.leave st) (block_agree b (r.enter st) (omega (arith, i, lt)))
 
@@ -171,14 +183,16 @@ module _ (p : Program) {X : Type 0} (r : Rules X) (thrifty : IsThrifty r) where
   enough zero k w st a b = absurd (omega (arith, a))
   enough (suc j) zero w st a b = absurd (omega (arith, b))
   enough (suc j) (suc k) w st a b =
-      work_agree st.steps (within p r j) (within p r k) (within_less j) (λ v s lt. enough j k v s (omega (arith, a, lt)) (omega (arith, b, lt))) w st (le_refl st.steps)
+      work_agree st.steps (within p r j) (within p r k) (within_less j)
+      (λ v s lt. enough j k v s (omega (arith, a, lt)) (omega (arith, b, lt))) w st (le_refl st.steps)
 
   -- a run does what its work says, with runs inside of calls and further turns
   pub solves : Solves p r (run p r)
   solves w st =
       let e : st.steps + 1 ≡ suc st.steps = omega arith in
       ap (λ k. within p r k w st) e
-      ∙ work_agree st.steps (within p r st.steps) (run p r) (within_less st.steps) (λ v s lt. enough st.steps (s.steps + 1) v s lt (omega arith)) w st (le_refl st.steps)
+      ∙ work_agree st.steps (within p r st.steps) (run p r) (within_less st.steps)
+      (λ v s lt. enough st.steps (s.steps + 1) v s lt (omega arith)) w st (le_refl st.steps)
 
   only_below : (g : Deeper) → Solves p r g → (k : ℕ) (w : Work) (st : State X) → st.steps < k → run p r w st ≡ g w st
   only_below g h zero w st lt = absurd (omega (arith, lt))

@@ -1,11 +1,8 @@
 -- What is in scope where only arrays are.
-use Rattle.std.specs.Prelude.{ℕ, ◌+◌, ◌≡◌, List, [], ◌∷◌, Some, length, map, IsTrue, String}
+use Rattle.std.specs.Prelude.{ℕ, ◌+◌, List, [], ◌∷◌, Some, length, map, String}
 use Rattle.std.specs.String.{string_bytes}
 use Rattle.syntax.specs.Tree.{Stmt, Block, End, Then, Main, Program}
 use Rattle.types.specs.Resolution.{Meant, ASection, Scope}
-use Rattle.types.specs.Rules.{is_unknown}
-use Rattle.types.specs.declared.error.TypeError.{TypeError}
-use Rattle.types.specs.declared.error.TypeError.TheVariants.{NotInScope}
 
 -- names of arrays, the first of which has the number n
 abbrev pub numbered : (n : ℕ) → List (List ℕ) → List (List ℕ × Meant)
@@ -27,8 +24,3 @@ lone s = Then s End
 -- a program of this `main` alone
 abbrev pub only_main : Main → Program
 only_main m = record { procedures = []; main = Some m }
-
--- what an error says of a name that has to be a section's, in the statement at the place
-abbrev pub TellsName : Scope → List ℕ → TypeError → Type 0
-TellsName here x (NotInScope label) = (label ≡ here.label) × IsTrue (is_unknown here x)
-TellsName here x error = ⊥

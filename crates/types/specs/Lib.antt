@@ -15,3 +15,4 @@ pub mod Laws
 pub mod Resolution
 pub mod Rules
 pub mod ArrayScope
+pub mod Told

@@ -12,18 +12,27 @@ use Rattle.types.specs.declared.error.TypeError.TheVariants.{NotInScope, Declare
 pub data Stands : (from : Scope) → Block → (here : Scope) → Stmt → Type 0 where
   first : {from : Scope} {s : Stmt} {rest : Block} → Stands from (Then s rest) from s
   later : {from here : Scope} {s t : Stmt} {rest : Block} → Stands (behind t from) rest here s → Stands from (Then t rest) here s
-  in_if : {from here : Scope} {s : Stmt} {e : Expr} {b rest : Block} → Stands (inside from) b here s → Stands from (Then (If e b) rest) here s
-  in_then : {from here : Scope} {s : Stmt} {e : Expr} {b c rest : Block} → Stands (inside from) b here s → Stands from (Then (IfElse e b c) rest) here s
-  in_else : {from here : Scope} {s : Stmt} {e : Expr} {b c rest : Block} → Stands (past b (inside from)) c here s → Stands from (Then (IfElse e b c) rest) here s
-  in_while : {from here : Scope} {s : Stmt} {e : Expr} {b rest : Block} → Stands (inside from) b here s → Stands from (Then (While e b) rest) here s
-  in_split : {from here : Scope} {s : Stmt} {x l r : List ℕ} {e : Expr} {b rest : Block} → Stands (between l r from) b here s → Stands from (Then (Split x e l r b) rest) here s
-  in_async : {from here : Scope} {s : Stmt} {b rest : Block} → Stands (inside from) b here s → Stands from (Then (Async b) rest) here s
-  in_finish : {from here : Scope} {s : Stmt} {b rest : Block} → Stands (inside from) b here s → Stands from (Then (Finish b) rest) here s
+  in_if : {from here : Scope} {s : Stmt} {e : Expr} {b rest : Block}
+      → Stands (inside from) b here s → Stands from (Then (If e b) rest) here s
+  in_then : {from here : Scope} {s : Stmt} {e : Expr} {b c rest : Block}
+      → Stands (inside from) b here s → Stands from (Then (IfElse e b c) rest) here s
+  in_else : {from here : Scope} {s : Stmt} {e : Expr} {b c rest : Block}
+      → Stands (past b (inside from)) c here s → Stands from (Then (IfElse e b c) rest) here s
+  in_while : {from here : Scope} {s : Stmt} {e : Expr} {b rest : Block}
+      → Stands (inside from) b here s → Stands from (Then (While e b) rest) here s
+  in_split : {from here : Scope} {s : Stmt} {x l r : List ℕ} {e : Expr} {b rest : Block}
+      → Stands (between l r from) b here s → Stands from (Then (Split x e l r b) rest) here s
+  in_async : {from here : Scope} {s : Stmt} {b rest : Block}
+      → Stands (inside from) b here s → Stands from (Then (Async b) rest) here s
+  in_finish : {from here : Scope} {s : Stmt} {b rest : Block}
+      → Stands (inside from) b here s → Stands from (Then (Finish b) rest) here s
 
 -- the statement s stands at the place `here` in one of these procedures, the first of which begins with the label
 pub data StandsInProcedures : (label : ℕ) → List Procedure → (here : Scope) → Stmt → Type 0 where
-  in_first : {label : ℕ} {f : Procedure} {fs : List Procedure} {here : Scope} {s : Stmt} → Stands (in_procedure label f.parameters) f.body here s → StandsInProcedures label (f ∷ fs) here s
-  in_later : {label : ℕ} {f : Procedure} {fs : List Procedure} {here : Scope} {s : Stmt} → StandsInProcedures (label + labels f.body) fs here s → StandsInProcedures label (f ∷ fs) here s
+  in_first : {label : ℕ} {f : Procedure} {fs : List Procedure} {here : Scope} {s : Stmt}
+      → Stands (in_procedure label f.parameters) f.body here s → StandsInProcedures label (f ∷ fs) here s
+  in_later : {label : ℕ} {f : Procedure} {fs : List Procedure} {here : Scope} {s : Stmt}
+      → StandsInProcedures (label + labels f.body) fs here s → StandsInProcedures label (f ∷ fs) here s
 
 -- the statement s stands at the place `here` in the program
 pub data StandsIn (p : Program) (here : Scope) (s : Stmt) : Type 0 where

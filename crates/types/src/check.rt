@@ -1,21 +1,23 @@
 //! The typing rules, and the resolution of names.
 
-ghost use Rattle.std.specs.Prelude.{◌≡◌, ◌≤◌, ◌+◌, IsTrue, IfOk, IfErr, OnOk, Some, Err};
+ghost use Rattle.std.specs.Prelude.{◌≡◌, ◌≤◌, ◌+◌, IsTrue, IfOk, IfErr, OnOk, IsOkUnless, Some, Err};
 ghost use Rattle.std.specs.Prelude.{[], ◌∷◌, map, length, replicate, false};
-ghost use Rattle.std.specs.List.{list_all};
+ghost use Rattle.std.specs.List.{list_all, list_any};
 ghost use Rattle.std.specs.String.{string_bytes};
 ghost use Rattle.syntax.specs.Tree.{block as block_of, stmt as stmt_of};
 ghost use Rattle.syntax.specs.Tree.{expr as expr_of, atom as atom_of};
 ghost use Rattle.syntax.specs.Tree.{array as array_of, main as main_of, program as tree_of};
-ghost use Rattle.types.specs.ArrayScope.{place_among, lone, only_main, TellsName};
+ghost use Rattle.types.specs.ArrayScope.{place_among, lone, only_main};
 ghost use Rattle.types.specs.Code.{Root};
 ghost use Rattle.types.specs.Resolution.{labels as labels_of, number as number_of, number_atom};
 ghost use Rattle.types.specs.Resolution.{array as array_at};
 ghost use Rattle.types.specs.Resolution.{Scope, section_of, with_main, resolution};
 ghost use Rattle.types.specs.Resolution.{code as code_at, codes as codes_at};
-ghost use Rattle.types.specs.Rules.{HasNoMain, is_served};
+ghost use Rattle.types.specs.Rules.{HasNameTwice, TooMany, HasNoMain, BreaksNoRule, Tells, is_served};
 ghost use Rattle.types.specs.Rules.{is_number, is_literal, is_printed, is_item};
-ghost use Rattle.types.specs.Rules.{is_served_block, is_unknown};
+ghost use Rattle.types.specs.Rules.{is_served_block, is_unknown, atom_unknown, item_unknown};
+ghost use Rattle.types.specs.Told.{KnowsNames};
+ghost use Rattle.types.specs.Told.{TellsArrays, TellsBlock, TellsItems, TellsItem, TellsAtom, TellsName};
 ghost use Rattle.types.specs.Translation.{array, origin, number, primitive, codes, code};
 ghost use Rattle.types.specs.Translation.{program as plain};
 ghost use Rattle.types.specs.Typed.{code_of, program_of};
@@ -45,6 +47,10 @@ pub fn type_check(alloc: Global, program: tree::Program) -> Result<Typed, TypeEr
     ensures code { IfOk result (λ t. resolution (tree_of program) ≡ Some (code_of t)) }
     ensures program { IfOk result (λ t. program_of t ≡ tree_of program) }
     ensures served { OnOk result (IsTrue (is_served (tree_of program))) }
+    ensures right { OnOk result (BreaksNoRule (tree_of program)) }
+    ensures error { IfErr result (Tells (tree_of program)) }
+    ensures exact { BreaksNoRule (tree_of program) → IsTrue (is_served (tree_of program))
+        → IsOkUnless result TypeError.OutOfMemory }
     ensures no_main { HasNoMain (tree_of program) → result ≡ Err TypeError.NoMain }
 {
     let code = match &program.main {
@@ -63,6 +69,8 @@ pub fn type_check(alloc: Global, program: tree::Program) -> Result<Typed, TypeEr
 fn resolve_main(alloc: Global, main: &tree::Main) -> Result<Program, TypeError>
     ensures code { IfOk result (λ p. with_main [] (main_of main.now) ≡ plain p) }
     ensures served { OnOk result (IsTrue (is_served (only_main (main_of main.now)))) }
+    ensures right { OnOk result (BreaksNoRule (only_main (main_of main.now))) }
+    ensures error { IfErr result (Tells (only_main (main_of main.now))) }
 {
     let declared = main.arrays.as_slice();
     let statements = main.body.as_slice();
@@ -94,8 +102,10 @@ fn resolve_main(alloc: Global, main: &tree::Main) -> Result<Program, TypeError>
 
 /// The names of the arrays, each once.
 fn array_names(alloc: Global, arrays: &[tree::Array]) -> Result<IndexSet<String>, TypeError>
-    ensures { IfOk result
+    ensures names { IfOk result
         (λ s. map string_bytes s.keys ≡ map (λ a. string_bytes a.name) arrays.now) }
+    ensures apart { OnOk result (¬ HasNameTwice (map array_of arrays.now)) }
+    ensures error { IfErr result (TellsArrays (map array_of arrays.now)) }
 {
     let mut names = IndexSet::new(alloc);
     for array in arrays {
@@ -110,8 +120,10 @@ fn array_names(alloc: Global, arrays: &[tree::Array]) -> Result<IndexSet<String>
 
 /// The declared arrays, within the limits.
 fn resolve_arrays(alloc: Global, arrays: &[tree::Array]) -> Result<Vec<Array>, TypeError>
-    ensures { IfOk result
+    ensures arrays { IfOk result
         (λ v. map array_at (map array_of arrays.now) ≡ map array v.items) }
+    ensures limits { OnOk result (¬ TooMany (map array_of arrays.now)) }
+    ensures error { IfErr result (TellsArrays (map array_of arrays.now)) }
 {
     if arrays.len() > MOST_ARRAYS {
         return Err(TypeError::OverLimit);
@@ -164,9 +176,15 @@ impl Resolver<'_> {
         ensures within { labels.new ≤ MOST_LABELS }
         ensures labels { OnOk result (labels.new ≡ labels.old + labels_of (block_of block.now)) }
         ensures served { OnOk result (IsTrue (is_served_block (block_of block.now))) }
+        ensures names { OnOk result
+            (KnowsNames (place_among self.now.sections.now.keys (labels.old + 1))
+            (block_of block.now)) }
         ensures code { IfOk result (λ v. codes_at []
             (place_among self.now.sections.now.keys (labels.old + 1)) (block_of block.now)
             ≡ codes v.items) }
+        ensures error { IfErr result
+            (TellsBlock (place_among self.now.sections.now.keys (labels.old + 1))
+            (block_of block.now)) }
     {
         let mut resolved = Vec::new(self.alloc);
         for stmt in block {
@@ -184,9 +202,15 @@ impl Resolver<'_> {
         ensures labels { OnOk result
             (labels.new ≡ labels.old + labels_of (lone (stmt_of stmt.now))) }
         ensures served { OnOk result (IsTrue (is_served_block (lone (stmt_of stmt.now)))) }
+        ensures names { OnOk result
+            (KnowsNames (place_among self.now.sections.now.keys (labels.old + 1))
+            (lone (stmt_of stmt.now))) }
         ensures code { IfOk result (λ s. codes_at []
             (place_among self.now.sections.now.keys (labels.old + 1)) (lone (stmt_of stmt.now))
             ≡ codes (s ∷ [])) }
+        ensures error { IfErr result
+            (TellsBlock (place_among self.now.sections.now.keys (labels.old + 1))
+            (lone (stmt_of stmt.now))) }
     {
         if *labels >= MOST_LABELS {
             return Err(TypeError::OverLimit);
@@ -205,8 +229,14 @@ impl Resolver<'_> {
         ensures labels { OnOk result
             (labels.new + 1 ≡ labels.old + labels_of (lone (stmt_of stmt.now))) }
         ensures served { OnOk result (IsTrue (is_served_block (lone (stmt_of stmt.now)))) }
+        ensures names { OnOk result
+            (KnowsNames (place_among self.now.sections.now.keys labels.old)
+            (lone (stmt_of stmt.now))) }
         ensures code { IfOk result (λ k. code_at []
             (place_among self.now.sections.now.keys labels.old) (stmt_of stmt.now) ≡ code k) }
+        ensures error { IfErr result
+            (TellsBlock (place_among self.now.sections.now.keys labels.old)
+            (lone (stmt_of stmt.now))) }
     {
         match stmt {
             tree::Stmt::Skip => Ok(StmtKind::Do(Primitive::Skip)),
@@ -244,9 +274,15 @@ impl Resolver<'_> {
     fn items(&self, label: Label, first: &Expr, rest: &[Expr]) -> Result<Vec<Number>, TypeError>
         ensures served { OnOk result
             (IsTrue (list_all is_item (expr_of first.now ∷ map expr_of rest.now))) }
+        ensures names { OnOk result
+            (list_any (item_unknown (place_among self.now.sections.now.keys label))
+            (expr_of first.now ∷ map expr_of rest.now) ≡ false) }
         ensures code { IfOk result (λ v.
             map (number_of (place_among self.now.sections.now.keys label))
             (expr_of first.now ∷ map expr_of rest.now) ≡ map number v.items) }
+        ensures error { IfErr result
+            (TellsItems (place_among self.now.sections.now.keys label)
+            (expr_of first.now ∷ map expr_of rest.now)) }
     {
         let mut values = Vec::new(self.alloc);
         let value = self.item(label, first)?;
@@ -261,9 +297,14 @@ impl Resolver<'_> {
     /// `number | name "[" number "]"`
     fn item(&self, label: Label, expr: &Expr) -> Result<Number, TypeError>
         ensures served { OnOk result (IsTrue (is_item (expr_of expr.now))) }
+        ensures names { OnOk result
+            (item_unknown (place_among self.now.sections.now.keys label) (expr_of expr.now)
+            ≡ false) }
         ensures code { IfOk result (λ n.
             number_of (place_among self.now.sections.now.keys label) (expr_of expr.now)
             ≡ number n) }
+        ensures error { IfErr result
+            (TellsItem (place_among self.now.sections.now.keys label) (expr_of expr.now)) }
     {
         match expr.as_atom() {
             Some(atom) => self.item_atom(label, atom),
@@ -274,9 +315,15 @@ impl Resolver<'_> {
     #[tactic(auto, unfolding(syntax::specs::Tree::atom))]
     fn item_atom(&self, label: Label, atom: &Atom) -> Result<Number, TypeError>
         ensures served { OnOk result (IsTrue (is_printed (Some (atom_of atom.now)))) }
+        ensures names { OnOk result
+            (atom_unknown (place_among self.now.sections.now.keys label)
+            (Some (atom_of atom.now)) ≡ false) }
         ensures code { IfOk result (λ n.
             number_atom (place_among self.now.sections.now.keys label) (atom_of atom.now)
             ≡ number n) }
+        ensures error { IfErr result
+            (TellsAtom (place_among self.now.sections.now.keys label)
+            (Some (atom_of atom.now))) }
     {
         match atom {
             Atom::Element { section, index } => {

@@ -1,4 +1,4 @@
-use Rattle.std.proofs.Common.{◌≡◌, ap, sym, ◌∙◌, true, false, Ok}
+use Rattle.std.proofs.Common.{ap, sym, ◌∙◌, true, false, Ok}
 use Rattle.types.specs.Reading.{reading}
 use Rattle.types.specs.Translation.{environment}
 use Rattle.types.specs.Translation.{truth as truth_of}

@@ -1,8 +1,9 @@
-use Rattle.std.proofs.Common.{◌≡◌, Option, Some, Result, Ok, Err, IfOk, OnOk, IsTrue, ◌∙◌, subst}
+use Rattle.std.proofs.Common.{◌≡◌, Option, Some, Result, Ok, Err, IfOk, IfErr, OnOk, IsTrue, false, ◌∙◌, subst}
 use Rattle.syntax.specs.Tree.{Expr, Atom, lone_atom}
 use Rattle.types.specs.Resolution.{Scope, number, number_atom}
 use Rattle.types.specs.ArrayScope.{place_among}
-use Rattle.types.specs.Rules.{is_printed}
+use Rattle.types.specs.Rules.{is_printed, atom_unknown}
+use Rattle.types.specs.Told.{TellsAtom}
 use Rattle.types.specs.Translation as plain
 use Rattle.types.specs.declared.code.Number.{Number}
 use Rattle.types.specs.declared.error.TypeError.{TypeError}
@@ -19,5 +20,18 @@ returns-in-Some-clause-served c =
     let P : Option Atom → Type 0 = λ o. OnOk c.item_atom.result (IsTrue (is_printed o)) in
     subst P c.in-Some.ensures c.item_atom.ensures.served
 
+pub returns-in-Some-clause-names : goal.returns-in-Some-clause-names
+returns-in-Some-clause-names c =
+    let here = place_among c.args.self.now.sections.now.keys c.args.label in
+    let P : Option Atom → Type 0 = λ o. OnOk c.item_atom.result (atom_unknown here o ≡ false) in
+    subst P c.in-Some.ensures c.item_atom.ensures.names
+
 pub returns-in-Some-clause-code : goal.returns-in-Some-clause-code
-returns-in-Some-clause-code c = same_number _ (place_among c.args.self.now.sections.now.keys c.args.label) _ _ c.in-Some.ensures c.item_atom.ensures.code
+returns-in-Some-clause-code c =
+    same_number _ (place_among c.args.self.now.sections.now.keys c.args.label) _ _ c.in-Some.ensures c.item_atom.ensures.code
+
+pub returns-in-Some-clause-error : goal.returns-in-Some-clause-error
+returns-in-Some-clause-error c =
+    let here = place_among c.args.self.now.sections.now.keys c.args.label in
+    let P : Option Atom → Type 0 = λ o. IfErr c.item_atom.result (TellsAtom here o) in
+    subst P c.in-Some.ensures c.item_atom.ensures.error

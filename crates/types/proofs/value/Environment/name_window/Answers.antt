@@ -1,4 +1,4 @@
-use Rattle.std.proofs.Common.{◌≡◌, map, ap}
+use Rattle.std.proofs.Common.{ap}
 use Rattle.std.proofs.lemmas.Result.{on_ok_weaker}
 use Rattle.types.specs.Translation.{window, environment}
 use Rattle.types.specs.Value.{Environment}

@@ -1,0 +1,52 @@
+-- What is said of a `main` is said of the program of that `main` alone.
+use Rattle.std.proofs.Common.{◌≡◌, ℕ, ◌≤◌, List, map, false, refl, sym, subst, arith}
+use Rattle.syntax.specs.Tree.{Stmt, Main}
+use Rattle.types.specs.Resolution.{Scope, in_main, labels}
+use Rattle.types.specs.Rules.{Stands, StandsIn, in_a_procedure, in_the_main, names_unknown, NamesUnknown, HasNameTwice, TooMany, IsOverLimit, over_by_arrays, over_by_statements, BreaksNoRule, Tells}
+use Rattle.types.specs.ArrayScope.{place, only_main}
+use Rattle.types.specs.Told.{KnowsNames, UnknownAt, TellsBlock}
+use Rattle.types.specs.declared.check.TheConstants.{MOST_LABELS}
+use Rattle.types.specs.declared.error.TypeError.{TypeError}
+use Rattle.types.specs.declared.error.TypeError.TheVariants.{NotInScope, DeclaredTwice, NoMain, OverLimit, OutOfMemory, NotYet}
+use Rattle.types.proofs.Served.{at_main}
+
+module _ (m : Main) (names : List (List ℕ)) (named : names ≡ map (λ a. a.name) m.arrays) where
+  unknown_in_main : (label : ℕ) → UnknownAt (place names 1) m.body label → NamesUnknown (only_main m) label
+  unknown_in_main label u = record {
+    statement = u.statement;
+    here = u.here;
+    stands = in_the_main m refl (subst (λ from. Stands from m.body u.here u.statement) (at_main names m.arrays named) u.stands);
+    labelled = u.labelled;
+    unknown = u.unknown;
+  }
+
+  -- what is told of its block
+  pub tells_main : (e : TypeError) → TellsBlock (place names 1) m.body e → Tells (only_main m) e
+  tells_main (NotInScope label) u = unknown_in_main label u
+  tells_main DeclaredTwice h = absurd h
+  tells_main NoMain h = absurd h
+  tells_main OverLimit h = over_by_statements (omega (arith, h))
+  tells_main OutOfMemory h = tt
+  tells_main NotYet h = h
+
+  known_in_main : KnowsNames (place names 1) m.body → (here : Scope) (s : Stmt) → StandsIn (only_main m) here s
+      → names_unknown here s ≡ false
+  known_in_main known here s (in_a_procedure h) = elim h [ ]
+  known_in_main known here s (in_the_main n is h) =
+      let same : n ≡ m = cc in
+      let there : Stands (in_main 1 m.arrays) m.body here s = subst (λ (n : Main). Stands (in_main 1 n.arrays) n.body here s) same h in
+      known here s (subst (λ from. Stands from m.body here s) (sym (at_main names m.arrays named)) there)
+
+  limited : ¬ TooMany m.arrays → labels m.body ≤ MOST_LABELS → IsOverLimit (only_main m) → ⊥
+  limited few short (over_by_arrays h) = few h
+  limited few short (over_by_statements h) = omega (arith, h, short)
+
+  -- it breaks no rule if its parts break none
+  pub main_breaks_none : KnowsNames (place names 1) m.body → ¬ HasNameTwice m.arrays → ¬ TooMany m.arrays
+      → labels m.body ≤ MOST_LABELS → BreaksNoRule (only_main m)
+  main_breaks_none known apart few short = record {
+    names = λ label u. let a = known_in_main known u.here u.statement u.stands in let b = u.unknown in cc;
+    arrays = apart;
+    main = λ none. cc;
+    limits = limited few short;
+  }
