@@ -1,5 +1,8 @@
 //! The words of a command line.
 
+ghost use Rattle.std.specs.Prelude.{◌≡◌, [], IfOk, IsOk};
+ghost use Rattle.afx.specs.Requests.{file_of, IsRunOfInput};
+
 use clap::{Arg, ArgAction, ArgMatches, Command, Error};
 use std::alloc::{AllocError, Global};
 
@@ -16,7 +19,9 @@ pub enum Request<'w> {
 
 impl<'w> Request<'w> {
     /// The file that is named.
-    pub fn file(&self) -> &'w str {
+    pub fn file(&self) -> &'w str
+        ensures { result.now ≡ file_of self.now }
+    {
         match self {
             Request::Run { file } => file,
             Request::Serial { file } => file,
@@ -26,7 +31,10 @@ impl<'w> Request<'w> {
 }
 
 /// Reads the words behind the program's name. No word at all means `run -`.
-pub fn request_of<'w>(alloc: Global, words: &'w [String]) -> Result<Request<'w>, Error> {
+pub fn request_of<'w>(alloc: Global, words: &'w [String]) -> Result<Request<'w>, Error>
+    ensures no_word { words.now ≡ [] → IsOk result }
+    ensures input { words.now ≡ [] → IfOk result IsRunOfInput }
+{
     if words.is_empty() {
         return Ok(Request::Run { file: "-" });
     }

@@ -2,6 +2,7 @@
 
 ghost use Rattle.std.specs.Prelude.{◌≡◌};
 ghost use Rattle.types.specs.declared.error.TypeError.TheVariants.{OutOfMemory};
+ghost use Rattle.types.specs.Codes.{code_of, label_of};
 
 use crate::code::Label;
 use std::alloc::{AllocError, AllocFailed};
@@ -28,7 +29,9 @@ pub enum TypeError {
 
 impl TypeError {
     /// The code that the program prints.
-    pub fn code(self) -> &'static str {
+    pub fn code(self) -> &'static str
+        ensures { result.now ≡ code_of self }
+    {
         match self {
             TypeError::NotInScope { .. } => "Y1",
             TypeError::DeclaredTwice => "Y2",
@@ -40,7 +43,9 @@ impl TypeError {
     }
 
     /// The label that is told.
-    pub fn label(self) -> Option<Label> {
+    pub fn label(self) -> Option<Label>
+        ensures { result ≡ label_of self }
+    {
         match self {
             TypeError::NotInScope { label } => Some(label),
             _ => None,
