@@ -1,6 +1,11 @@
 -- What is said of a `main` is said of the program of that `main` alone.
-use Rattle.std.proofs.Common.{◌≡◌, ℕ, ◌≤◌, List, map, false, refl, sym, subst, arith}
+use Rattle.std.proofs.Common.{◌≡◌, ℕ, ◌≤◌, List, map, false, refl, sym, subst, arith, ◌==◌, ◌∷◌, length, vec_len, true, [], Some, ap, ◌∙◌}
+use Rattle.std.specs.Option.{option_map}
+use Rattle.std.proofs.lemmas.Bool.{eqb-true}
 use Rattle.syntax.specs.Tree.{Stmt, Main}
+use Rattle.syntax.specs.Tree as tree
+use Rattle.syntax.specs.declared.tree.Main.{Main as rMain}
+use Rattle.syntax.specs.declared.tree.Program.{Program as rProgram}
 use Rattle.types.specs.Resolution.{Scope, in_main, labels}
 use Rattle.types.specs.Rules.{Stands, StandsIn, in_a_procedure, in_the_main, names_unknown, NamesUnknown, HasNameTwice, TooMany, IsOverLimit, over_by_arrays, over_by_statements, BreaksNoRule, Tells}
 use Rattle.types.specs.ArrayScope.{place, only_main}
@@ -50,3 +55,15 @@ module _ (m : Main) (names : List (List ℕ)) (named : names ≡ map (λ a. a.na
     main = λ none. cc;
     limits = limited few short;
   }
+
+no_items : {A : Type 0} (xs : List A) → length xs ≡ 0 → xs ≡ []
+no_items [] h = refl
+no_items (x ∷ xs) h = absurd (omega (arith, h))
+
+-- a program without procedures is its `main` alone
+pub program-only_main : (p : rProgram) (m : rMain) → p.main ≡ Some m → true ≡ (vec_len p.procedures == 0)
+    → tree.program p ≡ only_main (tree.main m)
+program-only_main p m is empty =
+    let none = no_items p.procedures.items (sym p.procedures.ok.0 ∙ eqb-true (vec_len p.procedures) 0 (sym empty)) in
+    ap (λ ps. record { procedures = map tree.procedure ps; main = option_map tree.main p.main }) none
+    ∙ ap (λ o. record { procedures = []; main = option_map tree.main o }) is
