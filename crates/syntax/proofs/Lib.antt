@@ -2,5 +2,10 @@ pub mod Atoms
 pub mod BlockLemmas
 pub mod ChainLemmas
 pub mod LexicalLemmas
+pub mod Numbers
+pub mod Pieces
+pub mod Places
 pub mod ProgramLemmas
 pub mod RowLemmas
+pub mod Shallow
+pub mod Stops

@@ -7,6 +7,7 @@ pub mod cursor;
 pub mod error;
 pub mod expression_text;
 pub mod expressions;
+pub mod laws;
 pub mod lexer;
 pub mod parser;
 pub mod place;
