@@ -11,7 +11,7 @@ use Rattle.syntax.specs.declared.token.Word.TheVariants.{And, Array, As, Async, 
 use Rattle.syntax.specs.declared.token.Mark.{Mark}
 use Rattle.syntax.specs.declared.token.Mark.TheVariants.{LeftParen, RightParen, LeftBrace, RightBrace, LeftBracket, RightBracket, Comma, Semicolon, Colon, Becomes, Plus, Minus, Star, Slash, Percent, Less, AtMost, Greater, AtLeast, Equal, Differs}
 use Rattle.syntax.specs.Token.{Token}
-use Rattle.syntax.specs.Lexical.{word_text, mark_text, is_blank, begins_name, is_in_name, is_in_line, starts, begins_comment, number_of, Piece, BlankPiece, CommentPiece, NamePiece, NumberPiece, WordPiece, MarkPiece, letters, token_of, IsMark, MayStand, Begins, AreCut, AreTokensOf, BeginsNoPiece, BeginsNoMark, BeginsLargeNumber, StopsAt}
+use Rattle.syntax.specs.Lexical.{word_text, mark_text, is_blank, begins_name, is_in_name, is_in_line, starts, begins_comment, number_of, Piece, BlankPiece, CommentPiece, NamePiece, NumberPiece, WordPiece, MarkPiece, letters, token_of, IsMark, MayStand, Begins, AreCut, AreTokensOf, BeginsNoPiece, BeginsLargeNumber, StopsAt}
 
 -- Words and marks are told apart by their characters.
 
@@ -456,13 +456,3 @@ large_begins_no_piece text large p rest begins =
     let small = fits_in_number p rest large.digits begins.fits (ap (λ l. l.kind) looks) (ap (λ l. l.front) looks) in
     let over = large.over in
     absurd (omega (arith, small, over))
-
-is_no_mark : (text : List ℕ) (p : Piece) (rest : List ℕ) → BeginsNoMark text → Begins text p rest → kind p ≡ IsOther → ⊥
-is_no_mark text (MarkPiece m) rest none begins k = none m rest begins
-is_no_mark text p rest none begins k = cc
-
-pub other_begins_no_piece : (text : List ℕ) → starts is_blank text ≡ false → begins_comment text ≡ false → starts begins_name text ≡ false → starts is_ascii_digit text ≡ false → BeginsNoMark text → BeginsNoPiece text
-unfolding look
-other_begins_no_piece text blank comment name digit none p rest begins =
-    let there = by_first-other _ _ _ _ _ _ _ _ _ blank comment name digit in
-    is_no_mark text p rest none begins (ap (λ l. l.kind) (sym (look-begins text p rest begins) ∙ there))

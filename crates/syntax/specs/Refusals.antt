@@ -14,22 +14,23 @@ use Rattle.syntax.specs.Lexical.{starts, HasTokens, AreTokensOf, Reads, BeginsNo
 use Rattle.syntax.specs.Place.{place_at}
 use Rattle.syntax.specs.Token.{Token, token, plain}
 
--- a text can be read up to the character with this number, which begins no piece and is no digit
+-- S1: a text can be read up to the character with this number, which begins no piece and is no digit
 pub record IsNoCharacter (text : List ℕ) (at : ℕ) : Type 0 where
   pub stops : StopsAt text at
   pub no_digit : starts is_ascii_digit (drop at text) ≡ false
 
--- a text can be read up to the character with this number, where a number begins that is too large
+-- S3: a text can be read up to the character with this number, where a number begins that is too large
 pub record IsLargeNumber (text : List ℕ) (at : ℕ) : Type 0 where
   pub stops : StopsAt text at
   pub large : BeginsLargeNumber (drop at text)
 
--- why no token stands first, where so many characters are left
+-- so many characters are left, of which the first begins no piece and is no digit
 pub record BeginsNoCharacter (left : ℕ) (text : List ℕ) : Type 0 where
   pub all_left : left ≡ length text
   pub no_piece : BeginsNoPiece text
   pub no_digit : starts is_ascii_digit text ≡ false
 
+-- why no token stands first, where so many characters are left
 abbrev pub BeginsNoToken : List ℕ → Unread → Type 0
 BeginsNoToken text (Unreadable left) = BeginsNoCharacter left text
 BeginsNoToken text (OverLimit left) = (left ≡ length text) × BeginsLargeNumber text
@@ -49,7 +50,8 @@ pub record StandsAt (text : List ℕ) (before : List Token) (t : Token) (at : �
 
 -- each token stands in the text where it says, behind those before it
 abbrev pub ArePlaced : List ℕ → List Spanned → Type 0
-ArePlaced text found = (before : List Spanned) (s : Spanned) (after : List Spanned) → found ≡ before ++ s ∷ after → StandsAt text (plain before) (token s.token) s.at
+ArePlaced text found =
+    (before : List Spanned) (s : Spanned) (after : List Spanned) → found ≡ before ++ s ∷ after → StandsAt text (plain before) (token s.token) s.at
 
 -- by the token that begins with this character, and by none before it, more than 100 brackets are open
 pub record OpensTooMany (found : List Spanned) (at : ℕ) : Type 0 where
@@ -61,7 +63,7 @@ pub record OpensTooMany (found : List Spanned) (at : ℕ) : Type 0 where
   pub deep : AreShallow 0 (plain before ++ token last.token ∷ []) → ⊥
   pub there : at ≡ last.at
 
--- the same of a text that has tokens
+-- S4: a text has tokens, and by the one at this character more than 100 brackets are open for the first time
 pub record IsTooDeep (text : List ℕ) (at : ℕ) : Type 0 where
   pub tokens : List Token
   pub read : AreTokensOf text tokens
@@ -72,7 +74,7 @@ pub record IsTooDeep (text : List ℕ) (at : ℕ) : Type 0 where
   pub deep : AreShallow 0 (before ++ last ∷ []) → ⊥
   pub all_deep : AreShallow 0 tokens → ⊥
 
--- a text has tokens, by which no more than 100 brackets are open
+-- S2: a text has tokens, by which no more than 100 brackets are open
 pub record IsReadable (text : List ℕ) : Type 0 where
   pub tokens : List Token
   pub read : AreTokensOf text tokens
