@@ -1,11 +1,13 @@
 pub mod Atoms
 pub mod BlockLemmas
 pub mod ChainLemmas
+pub mod Deepest
 pub mod LexicalLemmas
 pub mod Numbers
 pub mod Pieces
 pub mod Places
 pub mod ProgramLemmas
+pub mod Refused
 pub mod RowLemmas
 pub mod Shallow
 pub mod Stops

@@ -22,8 +22,14 @@ abbrev word_with : ℕ → List Word → Word
 word_with n [] = And
 word_with n (w ∷ ws) = cond (code (word_text w) == n) w (word_with n ws)
 
+abbrev more_words : List Word
+more_words = Parts ∷ Print ∷ Proc ∷ Read ∷ Rescue ∷ Skip ∷ Split ∷ True ∷ Var ∷ While ∷ []
+
 abbrev word_of : List ℕ → Word
-word_of cs = word_with (code cs) (Array ∷ As ∷ Async ∷ At ∷ By ∷ Byte ∷ Else ∷ False ∷ Fault ∷ Finish ∷ If ∷ Int ∷ Len ∷ Main ∷ Mut ∷ Not ∷ Or ∷ Parts ∷ Print ∷ Proc ∷ Read ∷ Rescue ∷ Skip ∷ Split ∷ True ∷ Var ∷ While ∷ [])
+word_of cs =
+    word_with
+    (code cs)
+    (Array ∷ As ∷ Async ∷ At ∷ By ∷ Byte ∷ Else ∷ False ∷ Fault ∷ Finish ∷ If ∷ Int ∷ Len ∷ Main ∷ Mut ∷ Not ∷ Or ∷ more_words)
 
 word_of-word_text : (w : Word) → word_of (word_text w) ≡ w
 unfolding code
@@ -63,8 +69,14 @@ abbrev mark_with : ℕ → List Mark → Mark
 mark_with n [] = LeftParen
 mark_with n (m ∷ ms) = cond (code (mark_text m) == n) m (mark_with n ms)
 
+abbrev more_marks : List Mark
+more_marks = Plus ∷ Minus ∷ Star ∷ Slash ∷ Percent ∷ Less ∷ AtMost ∷ Greater ∷ AtLeast ∷ Equal ∷ Differs ∷ []
+
 abbrev mark_of : List ℕ → Mark
-mark_of cs = mark_with (code cs) (RightParen ∷ LeftBrace ∷ RightBrace ∷ LeftBracket ∷ RightBracket ∷ Comma ∷ Semicolon ∷ Colon ∷ Becomes ∷ Plus ∷ Minus ∷ Star ∷ Slash ∷ Percent ∷ Less ∷ AtMost ∷ Greater ∷ AtLeast ∷ Equal ∷ Differs ∷ [])
+mark_of cs =
+    mark_with
+    (code cs)
+    (RightParen ∷ LeftBrace ∷ RightBrace ∷ LeftBracket ∷ RightBracket ∷ Comma ∷ Semicolon ∷ Colon ∷ Becomes ∷ more_marks)
 
 mark_of-mark_text : (m : Mark) → mark_of (mark_text m) ≡ m
 unfolding code
@@ -227,7 +239,16 @@ mark_first (c ∷ d ∷ cs) = cond (may_grow c && d == 61) (c ∷ d ∷ []) (c �
 
 look : List ℕ → Look
 look text =
-    by_first (looked IsBlank (one_first text)) (looked IsComment (47 ∷ 47 ∷ front_of is_in_line (behind_two text))) (looked IsWord (front_of is_in_name text)) (looked IsNumber (front_of is_ascii_digit text)) (looked IsOther (mark_first text)) (starts is_blank text) (begins_comment text) (starts begins_name text) (starts is_ascii_digit text)
+    by_first
+    (looked IsBlank (one_first text))
+    (looked IsComment (47 ∷ 47 ∷ front_of is_in_line (behind_two text)))
+    (looked IsWord (front_of is_in_name text))
+    (looked IsNumber (front_of is_ascii_digit text))
+    (looked IsOther (mark_first text))
+    (starts is_blank text)
+    (begins_comment text)
+    (starts begins_name text)
+    (starts is_ascii_digit text)
 
 -- what passes, and behind it nothing that does, is the longest front that passes
 front_is : (p : ℕ → Bool) (cs rest : List ℕ) → list_all p cs ≡ true → starts p rest ≡ false → front_of p (cs ++ rest) ≡ cs
@@ -237,7 +258,7 @@ front_is p (c ∷ cs) rest all ends =
     let parts = and_parts (p c) (list_all p cs) all in
     take_while-cons p c (cs ++ rest) ∙ ap (λ b. cond b (c ∷ front_of p (cs ++ rest)) []) parts.0 ∙ ap (λ l. c ∷ l) (front_is p cs rest parts.1 ends)
 
-starts-append : (q : ℕ → Bool) (cs rest : List ℕ) → starts q cs ≡ true → starts q (cs ++ rest) ≡ true
+pub starts-append : (q : ℕ → Bool) (cs rest : List ℕ) → starts q cs ≡ true → starts q (cs ++ rest) ≡ true
 starts-append q [] rest begins = absurd (false≢true begins)
 starts-append q (c ∷ cs) rest begins = begins
 
@@ -288,14 +309,19 @@ digit_begins_no_name c e =
 look-word : (cs rest : List ℕ) → starts begins_name cs ≡ true → list_all is_in_name cs ≡ true → starts is_in_name rest ≡ false → look (cs ++ rest) ≡ looked IsWord cs
 unfolding look
 look-word cs rest begins all ends =
-    by_first-word _ _ _ _ _ _ _ _ _ (starts-not begins_name is_blank cs rest (λ c e. above_is_no_blank c (omega (arith, letter_is_above c e))) begins) (begins_no_comment begins_name cs rest (λ c e. ne_eqb c 47 (λ f. omega (arith, letter_is_above c e))) begins) (starts-append begins_name cs rest begins) ∙
+    let no_blank = starts-not begins_name is_blank cs rest (λ c e. above_is_no_blank c (omega (arith, letter_is_above c e))) begins in
+    let no_line = begins_no_comment begins_name cs rest (λ c e. ne_eqb c 47 (λ f. omega (arith, letter_is_above c e))) begins in
+    by_first-word _ _ _ _ _ _ _ _ _ no_blank no_line (starts-append begins_name cs rest begins) ∙
     ap (looked IsWord) (front_is is_in_name cs rest all ends)
 
 -- and so are digits
 look-digits : (cs rest : List ℕ) → starts is_ascii_digit cs ≡ true → list_all is_ascii_digit cs ≡ true → starts is_ascii_digit rest ≡ false → look (cs ++ rest) ≡ looked IsNumber cs
 unfolding look
 look-digits cs rest begins all ends =
-    by_first-number _ _ _ _ _ _ _ _ _ (starts-not is_ascii_digit is_blank cs rest (λ c e. above_is_no_blank c (digit_is_above c e)) begins) (begins_no_comment is_ascii_digit cs rest (λ c e. ne_eqb c 47 (λ f. omega (arith, digit_is_above c e))) begins) (starts-not is_ascii_digit begins_name cs rest digit_begins_no_name begins) (starts-append is_ascii_digit cs rest begins) ∙
+    let no_blank = starts-not is_ascii_digit is_blank cs rest (λ c e. above_is_no_blank c (digit_is_above c e)) begins in
+    let no_line = begins_no_comment is_ascii_digit cs rest (λ c e. ne_eqb c 47 (λ f. omega (arith, digit_is_above c e))) begins in
+    let no_name = starts-not is_ascii_digit begins_name cs rest digit_begins_no_name begins in
+    by_first-number _ _ _ _ _ _ _ _ _ no_blank no_line no_name (starts-append is_ascii_digit cs rest begins) ∙
     ap (looked IsNumber) (front_is is_ascii_digit cs rest all ends)
 
 record IsOtherFirst (text : List ℕ) : Type 0 where
@@ -390,7 +416,7 @@ same_piece (MarkPiece m) (MarkPiece n) r s f g k l = ap MarkPiece (mark_text-inj
 same_piece p q r s f g k l = cc
 
 -- a text begins with one piece at most
-one_piece : (text : List ℕ) (p q : Piece) (r s : List ℕ) → Begins text p r → Begins text q s → (p ≡ q) × (r ≡ s)
+pub one_piece : (text : List ℕ) (p q : Piece) (r s : List ℕ) → Begins text p r → Begins text q s → (p ≡ q) × (r ≡ s)
 one_piece text p q r s b c =
     let looks = sym (look-begins text p r b) ∙ look-begins text q s c in
     let front : letters p ≡ letters q = ap (λ l. l.front) looks in
@@ -401,7 +427,7 @@ some_stand : (q : ℕ → Bool) (cs rest : List ℕ) → starts q cs ≡ true �
 some_stand q [] rest begins e = false≢true begins
 some_stand q (c ∷ cs) rest begins e = cc
 
-piece_is_some : (p : Piece) (rest : List ℕ) → MayStand p rest → letters p ++ rest ≡ [] → ⊥
+pub piece_is_some : (p : Piece) (rest : List ℕ) → MayStand p rest → letters p ++ rest ≡ [] → ⊥
 piece_is_some (BlankPiece c) rest fits e = cc
 piece_is_some (CommentPiece cs) rest fits e = cc
 piece_is_some (NamePiece cs) rest fits e = some_stand begins_name cs rest fits.begins e

@@ -23,7 +23,7 @@ pub few_behind : (n : ℕ) (ts : List Token) (t : Token) → AreShallow n (ts ++
 few_behind n [] t shallow = shallow.0
 few_behind n (u ∷ ts) t shallow = few_behind (open_behind n u) ts t shallow.1
 
-shallow_up_to : (n : ℕ) (ts : List Token) (t : Token) (us : List Token) → AreShallow n (ts ++ t ∷ us) → AreShallow n (ts ++ t ∷ [])
+pub shallow_up_to : (n : ℕ) (ts : List Token) (t : Token) (us : List Token) → AreShallow n (ts ++ t ∷ us) → AreShallow n (ts ++ t ∷ [])
 shallow_up_to n [] t us shallow = (shallow.0, tt)
 shallow_up_to n (u ∷ ts) t us shallow = (shallow.0, shallow_up_to (open_behind n u) ts t us shallow.1)
 

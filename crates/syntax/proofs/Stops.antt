@@ -65,7 +65,8 @@ module _ (text rest : List ℕ) (ts : List Token) (has : HasTokens text ts rest)
   tells_unread OutOfMemory some why = tt
 
 -- a list with one more at its end, parted at some place: it is parted at the end, or the list is parted
-split_last : {A : Type 0} (xs : List A) (x : A) (before : List A) (s : A) (after : List A) → xs ++ x ∷ [] ≡ before ++ s ∷ after → ((before ≡ xs) × (s ≡ x)) ⊎ ((more : List A) × (xs ≡ before ++ s ∷ more))
+split_last : {A : Type 0} (xs : List A) (x : A) (before : List A) (s : A) (after : List A)
+    → xs ++ x ∷ [] ≡ before ++ s ∷ after → ((before ≡ xs) × (s ≡ x)) ⊎ ((more : List A) × (xs ≡ before ++ s ∷ more))
 split_last [] x [] s after e = inl (refl, cc)
 split_last [] x (b ∷ []) s after e = cc
 split_last [] x (b ∷ c ∷ before) s after e = cc
@@ -83,10 +84,13 @@ none_are_placed text [] s after e = cc
 none_are_placed text (b ∷ before) s after e = cc
 
 -- one more token stands where it says
-pub one_more_placed : (text rest after : List ℕ) (found : List Spanned) (s : Spanned) → HasTokens text (plain found) rest → Reads rest (token s.token ∷ []) after → s.at ≡ length text - length rest → ArePlaced text found → ArePlaced text (found ++ s ∷ [])
+pub one_more_placed : (text rest after : List ℕ) (found : List Spanned) (s : Spanned)
+    → HasTokens text (plain found) rest → Reads rest (token s.token ∷ []) after → s.at ≡ length text - length rest → ArePlaced text found → ArePlaced text (found ++ s ∷ [])
 one_more_placed text rest after found s has reads number placed before t later e =
     ⊎_elim
     (λ last.
-    subst (λ l. StandsAt text (plain l) (token t.token) t.at) (sym last.0) (subst (λ u. StandsAt text (plain found) (token u.token) u.at) (sym last.1) (stands_at text rest (plain found) has after (token s.token) s.at number reads)))
+    let stands = stands_at text rest (plain found) has after (token s.token) s.at number reads in
+    let this = subst (λ u. StandsAt text (plain found) (token u.token) u.at) (sym last.1) stands in
+    subst (λ l. StandsAt text (plain l) (token t.token) t.at) (sym last.0) this)
     (λ inner. placed before t inner.0 inner.1)
     (split_last found s before t later e)

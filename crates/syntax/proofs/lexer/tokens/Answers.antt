@@ -1,4 +1,4 @@
-use Rattle.std.proofs.Common.{◌∙◌, ap, sym, subst, refl, append-nil, arith, rules}
+use Rattle.std.proofs.Common.{◌<◌, ◌∙◌, length, ap, sym, subst, refl, append-nil, arith, rules}
 use Rattle.std.proofs.lemmas.List.{map-append}
 use Rattle.std.proofs.lemmas.Bool.Decides.{nat_tests}
 use Rattle.syntax.specs.Lexical.{HasTokens}
@@ -36,7 +36,10 @@ loop-rest-preserved c =
 
 pub returns-in_err-token-clause-unread : goal.returns-in_err-token-clause-unread
 returns-in_err-token-clause-unread c =
-    let told = tells_unread c.args.text.now c.loop-rest.rest.now (plain c.loop-rest.tokens.items) c.loop-rest.invariant.read _ (grind (arith, nat_tests, c.loop-rest-test.ensures)) c.in_err-token.ensures.absent in
+    let rest = c.loop-rest.rest.now in
+    let some : 0 < length rest = grind (arith, nat_tests, c.loop-rest-test.ensures) in
+    let read = c.loop-rest.invariant.read in
+    let told = tells_unread c.args.text.now rest _ read _ some c.in_err-token.ensures.absent in
     search (rules, told)
 
 pub returns-clause-placed : goal.returns-clause-placed

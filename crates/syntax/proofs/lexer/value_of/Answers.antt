@@ -15,5 +15,6 @@ returns-in_err-value-clause-large c digits =
     let next = next_is_no_larger c.args.digits.now c.loop-c.c-index c.c-item.result (omega arith) in
     let digit : c.in_ok-digit.digit ≡ digit_value c.c-item.result = search rules in
     let item = ap digit_value c.c-item.is in
-    let large : 9223372036854775807 < number_of c.args.digits.now = omega (arith, next, digit, item, c.in_err-value.ensures, c.in_ok-checked_mul.ensures, c.from.ensures, c.loop-c.invariant) in
+    let large : 9223372036854775807 < number_of c.args.digits.now =
+    omega (arith, next, digit, item, c.in_err-value.ensures, c.in_ok-checked_mul.ensures, c.from.ensures, c.loop-c.invariant) in
     search (rules, large)

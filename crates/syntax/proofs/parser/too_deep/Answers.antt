@@ -17,7 +17,10 @@ returns-then-count-gt-MOST_OPEN-clause-some c =
       after = drop (i + 1) tokens;
       found_are = parted_at tokens i here within c.spanned-item.is;
       shallow = c.loop-spanned.invariant.shallow;
-      deep = λ shallow. absurd (omega (arith, few_behind 0 (plain (take i tokens)) (token here.token) shallow, ap (λ n. open_behind n (token here.token)) c.loop-spanned.invariant.opened, c.open_behind-count.ensures, c.if-count-gt-MOST_OPEN.true));
+      deep = λ shallow.
+          let few = few_behind 0 (plain (take i tokens)) (token here.token) shallow in
+          let opened = ap (λ n. open_behind n (token here.token)) c.loop-spanned.invariant.opened in
+          absurd (omega (arith, few, opened, c.open_behind-count.ensures, c.if-count-gt-MOST_OPEN.true));
       there = refl;
     }
 
