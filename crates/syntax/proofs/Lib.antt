@@ -1,6 +1,9 @@
 pub mod Atoms
 pub mod BlockLemmas
 pub mod ChainLemmas
+pub mod ExprSpellings
 pub mod LexicalLemmas
 pub mod ProgramLemmas
 pub mod RowLemmas
+pub mod SpellingLemmas
+pub mod StmtSpellings
