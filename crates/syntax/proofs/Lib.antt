@@ -2,6 +2,7 @@ pub mod Atoms
 pub mod BlockLemmas
 pub mod ChainLemmas
 pub mod Deepest
+pub mod ExprSpellings
 pub mod LexicalLemmas
 pub mod Numbers
 pub mod Pieces
@@ -10,4 +11,6 @@ pub mod ProgramLemmas
 pub mod Refused
 pub mod RowLemmas
 pub mod Shallow
+pub mod SpellingLemmas
+pub mod StmtSpellings
 pub mod Stops

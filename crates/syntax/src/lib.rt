@@ -12,6 +12,7 @@ pub mod lexer;
 pub mod parser;
 pub mod place;
 pub mod programs;
+pub mod spelling_laws;
 pub mod statements;
 #[cfg(test)]
 mod tests;
