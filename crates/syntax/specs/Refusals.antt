@@ -1,5 +1,5 @@
 -- What an error says of a text.
-use Rattle.std.specs.Prelude.{◌≡◌, ◌-◌, ◌<◌, ℕ, false, List, [], ◌∷◌, ◌++◌, Option, Some, None, codes, drop, length}
+use Rattle.std.specs.Prelude.{◌≡◌, ◌≢◌, ◌-◌, ◌<◌, ℕ, false, List, [], ◌∷◌, ◌++◌, Option, Some, None, codes, drop, length}
 use Rattle.std.specs.Char.{is_ascii_digit}
 use Rattle.std.specs.Str.{chars}
 use Rattle.syntax.specs.declared.error.SyntaxError.{SyntaxError}
@@ -12,7 +12,9 @@ use Rattle.syntax.specs.declared.token.Spanned.{Spanned}
 use Rattle.syntax.specs.Brackets.{AreShallow}
 use Rattle.syntax.specs.Lexical.{starts, HasTokens, AreTokensOf, Reads, BeginsNoPiece, BeginsLargeNumber, StopsAt}
 use Rattle.syntax.specs.Place.{place_at}
+use Rattle.syntax.specs.Spelling.{spelling}
 use Rattle.syntax.specs.Token.{Token, token, plain}
+use Rattle.syntax.specs.Tree.{Program}
 
 -- S1: a text can be read up to the character with this number, which begins no piece and is no digit
 pub record IsNoCharacter (text : List ℕ) (at : ℕ) : Type 0 where
@@ -74,11 +76,12 @@ pub record IsTooDeep (text : List ℕ) (at : ℕ) : Type 0 where
   pub deep : AreShallow 0 (before ++ last ∷ []) → ⊥
   pub all_deep : AreShallow 0 tokens → ⊥
 
--- S2: a text has tokens, by which no more than 100 brackets are open
-pub record IsReadable (text : List ℕ) : Type 0 where
+-- S2: a text has tokens, by which no more than 100 brackets are open, and no program is spelled by them
+pub record SpellsNoProgram (text : List ℕ) : Type 0 where
   pub tokens : List Token
   pub read : AreTokensOf text tokens
   pub shallow : AreShallow 0 tokens
+  pub no_program : (p : Program) → tokens ≢ spelling p
 
 -- a fact of a character of a text, which stands at this place
 pub record IsPlace (text : List ℕ) (Fact : ℕ → Type 0) (place : Place) : Type 0 where
@@ -89,7 +92,7 @@ pub record IsPlace (text : List ℕ) (Fact : ℕ → Type 0) (place : Place) : T
 -- what an error says of the characters of a text
 abbrev pub TellsOf : List ℕ → SyntaxError → Type 0
 TellsOf text (NotACharacter place) = IsPlace text (IsNoCharacter text) place
-TellsOf text (UnexpectedToken place) = IsReadable text
+TellsOf text (UnexpectedToken place) = SpellsNoProgram text
 TellsOf text (NumberTooLarge place) = IsPlace text (IsLargeNumber text) place
 TellsOf text (TooDeep place) = IsPlace text (IsTooDeep text) place
 TellsOf text TooLong = ⊥

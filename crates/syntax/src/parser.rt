@@ -1,13 +1,13 @@
 //! Texts as programs.
 
-ghost use Rattle.std.specs.Prelude.{◌≡◌, ◌≢◌, ◌↔◌, ◌<◌, ◌≤◌, ◌^◌, length, vec_len, IfOk, IfErr, IfNone, IfSome};
+ghost use Rattle.std.specs.Prelude.{◌≡◌, ◌≢◌, ◌↔◌, ◌<◌, ◌≤◌, ◌^◌, length, vec_len, IfOk, IfErr, IfNone, IfSome, MatchResult};
 ghost use Rattle.std.specs.Str.{chars};
 ghost use Rattle.syntax.specs.Brackets.{AreShallow, open_behind};
 ghost use Rattle.syntax.specs.Lexical.{AreTokensOf};
 ghost use Rattle.syntax.specs.Refusals.{OpensTooMany, Tells, TellsOf, TellsUnread};
 ghost use Rattle.syntax.specs.Spelling.{spelling};
 ghost use Rattle.syntax.specs.Token.{plain, token as token_tree};
-ghost use Rattle.syntax.specs.Tree.{program as program_tree};
+ghost use Rattle.syntax.specs.Tree.{Program as ProgramTree, program as program_tree};
 
 use crate::cursor::Stuck;
 use crate::error::SyntaxError;
@@ -30,6 +30,9 @@ pub fn parse(alloc: Global, text: &str) -> Result<Program, SyntaxError>
         AreTokensOf (chars text.now) (spelling (program_tree read))) }
     ensures shallow { IfOk result (λ read. AreShallow 0 (spelling (program_tree read))) }
     ensures error { IfErr result (Tells text.now) }
+    ensures complete { (p : ProgramTree) → AreTokensOf (chars text.now) (spelling p)
+        → AreShallow 0 (spelling p) → length text.now ≤ MOST_BYTES
+        → MatchResult result (λ read. program_tree read ≡ p) (λ e. e ≡ SyntaxError.OutOfMemory) }
     ensures too_long { (result ≡ Err SyntaxError.TooLong) ↔ (MOST_BYTES < length text.now) }
 {
     if text.len() > MOST_BYTES {
@@ -91,6 +94,8 @@ fn no_program(text: &[char], tokens: &[Spanned], stuck: Stuck) -> SyntaxError
     requires short { length text.now < 2 ^ 31 }
     requires read { AreTokensOf text.now (plain tokens.now) }
     requires shallow { AreShallow 0 (plain tokens.now) }
+    requires refused { stuck ≢ Stuck.OutOfMemory
+        → (p : ProgramTree) → plain tokens.now ≢ spelling p }
     ensures { TellsOf text.now result }
 {
     match stuck {
