@@ -1,5 +1,5 @@
 -- A text is refused for one reason, and for none where it spells a program.
-use Rattle.std.proofs.Common.{◌≡◌, ◌≢◌, ℕ, true, false, List, drop, refl, ap, sym, ◌∙◌, subst}
+use Rattle.std.proofs.Common.{◌≡◌, ◌≢◌, ℕ, List, drop, refl, ap, sym, ◌∙◌, subst}
 use Rattle.std.specs.Char.{is_ascii_digit}
 use Rattle.std.proofs.lemmas.Bool.{both_ways}
 use Rattle.syntax.specs.declared.error.SyntaxError.{SyntaxError}
