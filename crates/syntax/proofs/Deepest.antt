@@ -4,9 +4,8 @@ use Rattle.std.specs.List.{flat_map}
 use Rattle.std.proofs.lemmas.List.{length-drop}
 use Rattle.std.proofs.lemmas.Grind.{flat_map-append}
 use Rattle.syntax.specs.Brackets.{AreShallow}
-use Rattle.syntax.specs.Lexical.{Piece, letters, token_of, Begins, AreCut}
+use Rattle.syntax.specs.Lexical.{Piece, token_of, Begins, AreCut}
 use Rattle.syntax.specs.Refusals.{IsTooDeep}
-use Rattle.syntax.specs.Token.{Token}
 use Rattle.syntax.proofs.Pieces.{one_piece, piece_is_some}
 use Rattle.syntax.proofs.Shallow.{shallow_up_to}
 

@@ -50,6 +50,11 @@ pub record StandsAt (text : List ℕ) (before : List Token) (t : Token) (at : �
   pub read : HasTokens text before (drop at text)
   pub stands : Reads (drop at text) (t ∷ []) behind
 
+-- some token begins with this character, or the text ends before it
+pub data BeginsToken (text : List ℕ) (at : ℕ) : Type 0 where
+  at_token : (before : List Token) (t : Token) → StandsAt text before t at → BeginsToken text at
+  at_end : at ≡ length text → BeginsToken text at
+
 -- each token stands in the text where it says, behind those before it
 abbrev pub ArePlaced : List ℕ → List Spanned → Type 0
 ArePlaced text found =
@@ -77,11 +82,12 @@ pub record IsTooDeep (text : List ℕ) (at : ℕ) : Type 0 where
   pub all_deep : AreShallow 0 tokens → ⊥
 
 -- S2: a text has tokens, by which no more than 100 brackets are open, and no program is spelled by them
-pub record SpellsNoProgram (text : List ℕ) : Type 0 where
+pub record SpellsNoProgram (text : List ℕ) (at : ℕ) : Type 0 where
   pub tokens : List Token
   pub read : AreTokensOf text tokens
   pub shallow : AreShallow 0 tokens
   pub no_program : (p : Program) → tokens ≢ spelling p
+  pub begins : BeginsToken text at
 
 -- a fact of a character of a text, which stands at this place
 pub record IsPlace (text : List ℕ) (Fact : ℕ → Type 0) (place : Place) : Type 0 where
@@ -92,7 +98,7 @@ pub record IsPlace (text : List ℕ) (Fact : ℕ → Type 0) (place : Place) : T
 -- what an error says of the characters of a text
 abbrev pub TellsOf : List ℕ → SyntaxError → Type 0
 TellsOf text (NotACharacter place) = IsPlace text (IsNoCharacter text) place
-TellsOf text (UnexpectedToken place) = SpellsNoProgram text
+TellsOf text (UnexpectedToken place) = IsPlace text (SpellsNoProgram text) place
 TellsOf text (NumberTooLarge place) = IsPlace text (IsLargeNumber text) place
 TellsOf text (TooDeep place) = IsPlace text (IsTooDeep text) place
 TellsOf text TooLong = ⊥

@@ -4,7 +4,7 @@ ghost use Rattle.std.specs.Prelude.{◌≡◌, ◌≢◌, ◌↔◌, ◌<◌, �
 ghost use Rattle.std.specs.Str.{chars};
 ghost use Rattle.syntax.specs.Brackets.{AreShallow, open_behind};
 ghost use Rattle.syntax.specs.Lexical.{AreTokensOf};
-ghost use Rattle.syntax.specs.Refusals.{OpensTooMany, Tells, TellsOf, TellsUnread};
+ghost use Rattle.syntax.specs.Refusals.{ArePlaced, BeginsToken, OpensTooMany, Tells, TellsOf, TellsUnread};
 ghost use Rattle.syntax.specs.Spelling.{spelling};
 ghost use Rattle.syntax.specs.Token.{plain, token as token_tree};
 ghost use Rattle.syntax.specs.Tree.{Program as ProgramTree, program as program_tree};
@@ -94,21 +94,27 @@ fn no_program(text: &[char], tokens: &[Spanned], stuck: Stuck) -> SyntaxError
     requires short { length text.now < 2 ^ 31 }
     requires read { AreTokensOf text.now (plain tokens.now) }
     requires shallow { AreShallow 0 (plain tokens.now) }
+    requires placed { ArePlaced text.now tokens.now }
     requires refused { stuck ≢ Stuck.OutOfMemory
         → (p : ProgramTree) → plain tokens.now ≢ spelling p }
     ensures { TellsOf text.now result }
 {
     match stuck {
-        Stuck::Unexpected { left } => {
-            let at = match tokens.get(tokens.len().saturating_sub(left)) {
-                Some(token) => token.at,
-                None => text.len(),
-            };
-            SyntaxError::UnexpectedToken {
-                place: Place::of(text, at),
-            }
-        }
+        Stuck::Unexpected { left } => SyntaxError::UnexpectedToken {
+            place: Place::of(text, beginning(text, tokens, left)),
+        },
         Stuck::OutOfMemory => SyntaxError::OutOfMemory,
+    }
+}
+
+/// Where the token begins from which on so many are left, or where the text ends.
+fn beginning(text: &[char], tokens: &[Spanned], left: usize) -> usize
+    requires { ArePlaced text.now tokens.now }
+    ensures { BeginsToken text.now result }
+{
+    match tokens.get(tokens.len().saturating_sub(left)) {
+        Some(token) => token.at,
+        None => text.len(),
     }
 }
 
