@@ -120,6 +120,7 @@ expr_begins (Or (And n ns) cs) r = neg_begins n _
 
 mutual
   unfolding expr_then
+
   pub expr_one : (x y : Expr) (r s : List Token) → binds r < 2 → binds s < 2 → expr_then x r ≡ expr_then y s → (x ≡ y) × (r ≡ s)
   expr_one (Or c cs) (Or d ds) r s ends other same =
       let first = conj_one c d _ _ (conjs_bind cs r ends) (conjs_bind ds s other) same in

@@ -4,6 +4,9 @@ pub mod ChainLemmas
 pub mod ExprSpellings
 pub mod LexicalLemmas
 pub mod ProgramLemmas
+pub mod ProgramRefusals
+pub mod RefusalLemmas
 pub mod RowLemmas
 pub mod SpellingLemmas
+pub mod StmtRefusals
 pub mod StmtSpellings

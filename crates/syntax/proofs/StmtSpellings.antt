@@ -73,6 +73,7 @@ block_binds (Then s b) r = stmt_binds s (block_then b r)
 
 mutual
   unfolding stmt_then
+
   pub stmt_one : (x y : Stmt) (r s : List Token) → binds r < 8 → binds s < 8 → stmt_then x r ≡ stmt_then y s → (x ≡ y) × (r ≡ s)
   stmt_one Skip Skip r s ends other same = (refl, cc)
   stmt_one (Var x e) (Var y f) r s ends other same =

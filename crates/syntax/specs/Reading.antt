@@ -49,6 +49,22 @@ binds (NumberToken _ ∷ _) = 0
 binds (WordToken w ∷ _) = word_binds w
 binds (MarkToken m ∷ _) = mark_binds m
 
--- the tokens spell no such tree, with anything behind it that binds less tightly
+-- the tokens spell no tree, with anything behind it that binds less tightly
 abbrev pub SpellsNone : {Tree : Type 0} → (Tree → List Token → List Token) → ℕ → List Token → Type 0
 SpellsNone spelled level tokens = (tree : _) (rest : List Token) → binds rest < level → tokens ≢ spelled tree rest
+
+-- whatever tree the tokens spell, with anything behind it that binds less tightly, these stand behind it
+abbrev pub Leaves : {Tree : Type 0} → (Tree → List Token → List Token) → ℕ → List Token → List Token → Type 0
+Leaves spelled level tokens left = (tree : _) (rest : List Token) → binds rest < level → tokens ≡ spelled tree rest → left ≡ rest
+
+-- the same of trees that end by a token of their own, behind which anything may stand
+abbrev pub SpellsNoneClosed : {Tree : Type 0} → (Tree → List Token → List Token) → List Token → Type 0
+SpellsNoneClosed spelled tokens = (tree : _) (rest : List Token) → tokens ≢ spelled tree rest
+
+abbrev pub LeavesClosed : {Tree : Type 0} → (Tree → List Token → List Token) → List Token → List Token → Type 0
+LeavesClosed spelled tokens left = (tree : _) (rest : List Token) → tokens ≡ spelled tree rest → left ≡ rest
+
+-- whatever chain the tokens spell, with anything behind it that binds less tightly, these spell the chain's end
+abbrev pub LeavesEnd : {First More : Type 0} → (First → List Token → List Token) → (More → List Token → List Token) → ℕ → List Token → List Token → Type 0
+LeavesEnd {First} {More} first others level tokens left =
+    (x : First) (all : More) (rest : List Token) → binds rest < level → tokens ≡ first x (others all rest) → (end : More) × (left ≡ others end rest)
