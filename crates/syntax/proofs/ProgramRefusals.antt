@@ -8,7 +8,7 @@ use Rattle.syntax.specs.declared.token.Mark.TheVariants.{RightParen, LeftBrace, 
 use Rattle.syntax.specs.Token.{Token, NameToken, WordToken, MarkToken, plain}
 use Rattle.syntax.specs.Tree.{Array, Parameter, Written, Read, Scalar, Procedure, Main}
 use Rattle.syntax.specs.Spelling.{element_word, block_then, arrays_then, parameter_then, more_parameters_then, parameters_then, procedures_then, main_tokens}
-use Rattle.syntax.specs.Reading.{binds}
+use Rattle.syntax.specs.Reading.{binds, list_level}
 use Rattle.syntax.proofs.SpellingLemmas.{paren_begins_no_parameter}
 use Rattle.syntax.proofs.RefusalLemmas.{next}
 
@@ -20,7 +20,7 @@ pub no_element : (ts : List Token) → ((rest : List Token) → ts ≢ WordToken
 no_element ts int byte IntElement r same = int _ same
 no_element ts int byte ByteElement r same = byte _ same
 
-pub arrays_opened : (all : List Array) (ts r : List Token) → binds r < 1 → WordToken WordArray ∷ ts ≡ arrays_then all r → (a : Array) × (more : List Array) × (WordToken WordArray ∷ ts ≡ arrays_then (a ∷ []) (arrays_then more r))
+pub arrays_opened : (all : List Array) (ts r : List Token) → binds r < list_level → WordToken WordArray ∷ ts ≡ arrays_then all r → (a : Array) × (more : List Array) × (WordToken WordArray ∷ ts ≡ arrays_then (a ∷ []) (arrays_then more r))
 unfolding arrays_then
 arrays_opened [] ts r ends same = absurd (omega (arith, ap binds same))
 arrays_opened (a ∷ more) ts r ends same = (a, more, same)
@@ -66,7 +66,7 @@ unfolding more_parameters_then
 more_parameters_closed [] ts r none same = same
 more_parameters_closed (p ∷ more) ts r none same = absurd (none _ same)
 
-pub procedures_opened : (all : List Procedure) (ts r : List Token) → binds r < 1 → WordToken WordProc ∷ ts ≡ procedures_then all r → (p : Procedure) × (more : List Procedure) × (WordToken WordProc ∷ ts ≡ procedures_then (p ∷ []) (procedures_then more r))
+pub procedures_opened : (all : List Procedure) (ts r : List Token) → binds r < list_level → WordToken WordProc ∷ ts ≡ procedures_then all r → (p : Procedure) × (more : List Procedure) × (WordToken WordProc ∷ ts ≡ procedures_then (p ∷ []) (procedures_then more r))
 unfolding procedures_then
 procedures_opened [] ts r ends same = absurd (omega (arith, ap binds same))
 procedures_opened (p ∷ more) ts r ends same = (p, more, same)

@@ -13,7 +13,7 @@ use Rattle.syntax.specs.declared.tree.Operator.{Operator}
 use Rattle.syntax.specs.Token.{Token, NameToken, NumberToken, WordToken, MarkToken}
 use Rattle.syntax.specs.Tree.{Expr, Or, Conjs, NoConj, OrConj, Conj, And, Negs, NoNeg, AndNeg, Neg, Plainly, Not, Cmp, Alone, Compare, Sum, Add, Terms, NoTerm, AddTerm, Prod, Multiply, Factors, NoFactor, MultiplyFactor, Unary, Positive, Negative, Atom, Number, True, False, Name, Element, Length, Parens}
 use Rattle.syntax.specs.Spelling.{relation_mark, sign_mark, operator_mark, expr_then, conjs_then, conj_then, negs_then, neg_then, cmp_then, sum_then, terms_then, prod_then, factors_then, unary_then, atom_then, more_then}
-use Rattle.syntax.specs.Reading.{binds}
+use Rattle.syntax.specs.Reading.{binds, list_level, or_level, and_level, relation_level, sign_level, operator_level, bracket_level}
 use Rattle.syntax.proofs.ExprSpellings.{begins, atom_begins, cmp_begins, relation_binds, sign_binds, operator_binds}
 
 -- what `?` returns is refused where what it was given is
@@ -54,7 +54,7 @@ name_alone (Name y) x ts r none same = cc
 name_alone (Element y e) x ts r none same = absurd (none _ (next same))
 name_alone _ x ts r none same = cc
 
-pub name_indexed : (a : Atom) (x : List ℕ) (ts r : List Token) → binds r < 7 → NameToken x ∷ MarkToken LeftBracket ∷ ts ≡ atom_then a r → (e : Expr) × (ts ≡ expr_then e (MarkToken RightBracket ∷ r))
+pub name_indexed : (a : Atom) (x : List ℕ) (ts r : List Token) → binds r < bracket_level → NameToken x ∷ MarkToken LeftBracket ∷ ts ≡ atom_then a r → (e : Expr) × (ts ≡ expr_then e (MarkToken RightBracket ∷ r))
 unfolding atom_then
 name_indexed (Name y) x ts r ends same = absurd (omega (arith, ap binds (next same)))
 name_indexed (Element y e) x ts r ends same = (e, next (next same))
@@ -82,7 +82,7 @@ pub expr_opened : (e : Expr) (ts r : List Token) → ts ≡ expr_then e r → (d
 unfolding expr_then
 expr_opened (Or d ds) ts r same = (d, ds, same)
 
-pub conjs_opened : (cs : Conjs) (ts r : List Token) → binds r < 2 → WordToken WordOr ∷ ts ≡ conjs_then cs r → (d : Conj) × (ds : Conjs) × (ts ≡ conj_then d (conjs_then ds r))
+pub conjs_opened : (cs : Conjs) (ts r : List Token) → binds r < or_level → WordToken WordOr ∷ ts ≡ conjs_then cs r → (d : Conj) × (ds : Conjs) × (ts ≡ conj_then d (conjs_then ds r))
 unfolding conjs_then
 conjs_opened NoConj ts r ends same = absurd (omega (arith, ap binds same))
 conjs_opened (OrConj d ds) ts r ends same = (d, ds, next same)
@@ -96,7 +96,7 @@ pub conj_opened : (c : Conj) (ts r : List Token) → ts ≡ conj_then c r → (n
 unfolding conj_then
 conj_opened (And n ns) ts r same = (n, ns, same)
 
-pub negs_opened : (ns : Negs) (ts r : List Token) → binds r < 3 → WordToken WordAnd ∷ ts ≡ negs_then ns r → (m : Neg) × (ms : Negs) × (ts ≡ neg_then m (negs_then ms r))
+pub negs_opened : (ns : Negs) (ts r : List Token) → binds r < and_level → WordToken WordAnd ∷ ts ≡ negs_then ns r → (m : Neg) × (ms : Negs) × (ts ≡ neg_then m (negs_then ms r))
 unfolding negs_then
 negs_opened NoNeg ts r ends same = absurd (omega (arith, ap binds same))
 negs_opened (AndNeg m ms) ts r ends same = (m, ms, next same)
@@ -121,10 +121,10 @@ pub record Compared (ts r : List Token) : Type 0 where
   pub left : Sum
   pub after : List Token
   pub spelled : ts ≡ sum_then left after
-  pub ends : binds after < 5
+  pub ends : binds after < sign_level
   pub right : (after ≡ r) ⊎ ((o : Relation) × (t : Sum) × (after ≡ MarkToken (relation_mark o) ∷ sum_then t r))
 
-pub cmp_opened : (c : Cmp) (ts r : List Token) → binds r < 4 → ts ≡ cmp_then c r → Compared ts r
+pub cmp_opened : (c : Cmp) (ts r : List Token) → binds r < relation_level → ts ≡ cmp_then c r → Compared ts r
 unfolding cmp_then
 cmp_opened (Alone s) ts r ends same = record { left = s; after = r; spelled = same; ends = omega arith; right = inl refl }
 cmp_opened (Compare s o t) ts r ends same = record {
@@ -138,7 +138,7 @@ cmp_opened (Compare s o t) ts r ends same = record {
 pub cmp_alone : {ts r : List Token} (c : Compared ts r) (left : List Token) → ((o : Relation) (rest : List Token) → left ≢ MarkToken (relation_mark o) ∷ rest) → left ≡ c.after → left ≡ r
 cmp_alone c left none same = elim c.right [ inl e ↦ same ∙ e | inr w ↦ absurd (none w.0 _ (same ∙ w.2)) ]
 
-pub cmp_compared_to : {ts r : List Token} (c : Compared ts r) (o : Relation) (left : List Token) → binds r < 4 → MarkToken (relation_mark o) ∷ left ≡ c.after → (t : Sum) × (left ≡ sum_then t r)
+pub cmp_compared_to : {ts r : List Token} (c : Compared ts r) (o : Relation) (left : List Token) → binds r < relation_level → MarkToken (relation_mark o) ∷ left ≡ c.after → (t : Sum) × (left ≡ sum_then t r)
 cmp_compared_to c o left ends same =
     elim c.right [ inl e ↦ absurd (omega (arith, relation_binds o left, ap binds (same ∙ e))) | inr w ↦ (w.1, next (same ∙ w.2)) ]
 
@@ -146,7 +146,7 @@ pub sum_opened : (s : Sum) (ts r : List Token) → ts ≡ sum_then s r → (p : 
 unfolding sum_then
 sum_opened (Add p us) ts r same = (p, us, same)
 
-pub terms_opened : (us : Terms) (o : Sign) (ts r : List Token) → binds r < 5 → MarkToken (sign_mark o) ∷ ts ≡ terms_then us r → (p : Prod) × (vs : Terms) × (ts ≡ prod_then p (terms_then vs r))
+pub terms_opened : (us : Terms) (o : Sign) (ts r : List Token) → binds r < sign_level → MarkToken (sign_mark o) ∷ ts ≡ terms_then us r → (p : Prod) × (vs : Terms) × (ts ≡ prod_then p (terms_then vs r))
 unfolding terms_then
 terms_opened NoTerm o ts r ends same = absurd (omega (arith, ap binds same, sign_binds o ts))
 terms_opened (AddTerm t p vs) o ts r ends same = (p, vs, next same)
@@ -160,7 +160,7 @@ pub prod_opened : (p : Prod) (ts r : List Token) → ts ≡ prod_then p r → (u
 unfolding prod_then
 prod_opened (Multiply u fs) ts r same = (u, fs, same)
 
-pub factors_opened : (fs : Factors) (o : Operator) (ts r : List Token) → binds r < 6 → MarkToken (operator_mark o) ∷ ts ≡ factors_then fs r → (u : Unary) × (gs : Factors) × (ts ≡ unary_then u (factors_then gs r))
+pub factors_opened : (fs : Factors) (o : Operator) (ts r : List Token) → binds r < operator_level → MarkToken (operator_mark o) ∷ ts ≡ factors_then fs r → (u : Unary) × (gs : Factors) × (ts ≡ unary_then u (factors_then gs r))
 unfolding factors_then
 factors_opened NoFactor o ts r ends same = absurd (omega (arith, ap binds same, operator_binds o ts))
 factors_opened (MultiplyFactor t u gs) o ts r ends same = (u, gs, next same)
@@ -180,7 +180,7 @@ unfolding unary_then
 unary_signed (Positive a) ts r same = absurd (omega (arith, ap begins same, atom_begins a r))
 unary_signed (Negative a) ts r same = (a, next same)
 
-pub more_opened : (es : List Expr) (ts r : List Token) → binds r < 1 → MarkToken Comma ∷ ts ≡ more_then es r → (e : Expr) × (fs : List Expr) × (ts ≡ expr_then e (more_then fs r))
+pub more_opened : (es : List Expr) (ts r : List Token) → binds r < list_level → MarkToken Comma ∷ ts ≡ more_then es r → (e : Expr) × (fs : List Expr) × (ts ≡ expr_then e (more_then fs r))
 unfolding more_then
 more_opened [] ts r ends same = absurd (omega (arith, ap binds same))
 more_opened (e ∷ fs) ts r ends same = (e, fs, next same)

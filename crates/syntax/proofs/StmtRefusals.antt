@@ -6,7 +6,7 @@ use Rattle.syntax.specs.declared.token.Mark.TheVariants.{LeftParen, RightParen, 
 use Rattle.syntax.specs.Token.{Token, NameToken, WordToken, MarkToken}
 use Rattle.syntax.specs.Tree.{Expr, Stmt, Skip, Var, Assign, Store, Print, Fault, If, IfElse, While, Split, Call, Async, Finish, Block, End, Then}
 use Rattle.syntax.specs.Spelling.{expr_then, more_then, exprs_then, stmt_then, block_then}
-use Rattle.syntax.specs.Reading.{binds}
+use Rattle.syntax.specs.Reading.{binds, or_level, else_level}
 use Rattle.syntax.proofs.ExprSpellings.{begins, expr_begins}
 use Rattle.syntax.proofs.StmtSpellings.{begun}
 use Rattle.syntax.proofs.RefusalLemmas.{next}
@@ -38,7 +38,7 @@ if_opened _ ts r same = cc
 pub if_alone : {ts r : List Token} (c : Conditional ts r) (left : List Token) → ((rest : List Token) → left ≢ WordToken WordElse ∷ rest) → left ≡ c.after → left ≡ r
 if_alone c left none same = elim c.other [ inl e ↦ same ∙ e | inr w ↦ absurd (none _ (same ∙ w.1)) ]
 
-pub if_otherwise : {ts r : List Token} (c : Conditional ts r) (left : List Token) → binds r < 8 → WordToken WordElse ∷ left ≡ c.after → (d : Block) × (left ≡ MarkToken LeftBrace ∷ block_then d r)
+pub if_otherwise : {ts r : List Token} (c : Conditional ts r) (left : List Token) → binds r < else_level → WordToken WordElse ∷ left ≡ c.after → (d : Block) × (left ≡ MarkToken LeftBrace ∷ block_then d r)
 if_otherwise c left ends same = elim c.other [ inl e ↦ absurd (omega (arith, ends, ap binds (same ∙ e))) | inr w ↦ (w.0, next (same ∙ w.1)) ]
 
 pub while_opened : (s : Stmt) (ts r : List Token) → WordToken WordWhile ∷ ts ≡ stmt_then s r → (e : Expr) × (b : Block) × (ts ≡ expr_then e (MarkToken LeftBrace ∷ block_then b r))
@@ -55,7 +55,7 @@ pub record Splitting (ts r : List Token) : Type 0 where
   pub right : List ℕ
   pub body : Block
   pub spelled : ts ≡ NameToken section ∷ WordToken WordAt ∷ expr_then at sides
-  pub ends : binds sides < 2
+  pub ends : binds sides < or_level
   pub sided : sides ≡ WordToken WordAs ∷ NameToken left ∷ MarkToken Comma ∷ NameToken right ∷ MarkToken LeftBrace ∷ block_then body r
 
 pub split_opened : (s : Stmt) (ts r : List Token) → WordToken WordSplit ∷ ts ≡ stmt_then s r → Splitting ts r

@@ -3,7 +3,7 @@
 ghost use Rattle.std.specs.Prelude.{◌≡◌, ◌≢◌, ◌<◌, ◌≤◌, ℕ, List, ◌∷◌, [], length, map, IfOk, IfErr};
 ghost use Rattle.std.specs.String.{string_bytes};
 ghost use Rattle.syntax.specs.declared.tree.ElementType.{ElementType as AnyElement};
-ghost use Rattle.syntax.specs.Reading.{Leaves, LeavesClosed, SpellsNone, SpellsNoneClosed};
+ghost use Rattle.syntax.specs.Reading.{Leaves, LeavesClosed, SpellsNone, SpellsNoneClosed, list_level};
 ghost use Rattle.syntax.specs.Spelling.{arrays_then, block_then, element_word, main_tokens, parameter_then, parameters_then, procedures_then, spelling};
 ghost use Rattle.syntax.specs.Token.{Token as PlainToken, NameToken, WordToken, MarkToken, plain};
 ghost use Rattle.syntax.specs.Tree.{Main as MainTree, Program as ProgramTree, array as array_tree, block, parameter as parameter_tree, procedure as procedure_tree, program as program_tree};
@@ -73,9 +73,9 @@ fn arrays(alloc: Global, tokens: &[Spanned]) -> Result<(Vec<Array>, &[Spanned]),
     ensures spelled { IfOk result (λ read.
         plain tokens.now ≡ arrays_then (map array_tree read.0.items) (plain read.1.now)) }
     ensures whole { IfOk result (λ read.
-        Leaves arrays_then 1 (plain tokens.now) (plain read.1.now)) }
+        Leaves arrays_then list_level (plain tokens.now) (plain read.1.now)) }
     ensures refused { IfErr result (λ stuck. stuck ≢ Stuck.OutOfMemory
-        → SpellsNone arrays_then 1 (plain tokens.now)) }
+        → SpellsNone arrays_then list_level (plain tokens.now)) }
 {
     // { array }
     let mut arrays = Vec::new(alloc);

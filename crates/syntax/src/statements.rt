@@ -2,7 +2,7 @@
 
 ghost use Rattle.std.specs.Prelude.{◌≡◌, ◌≢◌, ◌<◌, List, ◌∷◌, length, IfOk, IfErr};
 ghost use Rattle.syntax.specs.declared.token.Word.{Word as AnyWord};
-ghost use Rattle.syntax.specs.Reading.{Leaves, LeavesClosed, SpellsNone, SpellsNoneClosed};
+ghost use Rattle.syntax.specs.Reading.{Leaves, LeavesClosed, SpellsNone, SpellsNoneClosed, else_level};
 ghost use Rattle.syntax.specs.Spelling.{expr_then, exprs_then, stmt_then, block_then};
 ghost use Rattle.syntax.specs.Token.{Token as PlainToken, WordToken, MarkToken, plain};
 ghost use Rattle.syntax.specs.Tree.{expr as expr_tree, exprs, stmt, block as block_tree};
@@ -62,9 +62,9 @@ fn statement(alloc: Global, tokens: &[Spanned]) -> Result<(Stmt, &[Spanned]), St
     ensures spelled { IfOk result (λ read.
         plain tokens.now ≡ stmt_then (stmt read.0) (plain read.1.now)) }
     ensures whole { IfOk result (λ read.
-        Leaves stmt_then 8 (plain tokens.now) (plain read.1.now)) }
+        Leaves stmt_then else_level (plain tokens.now) (plain read.1.now)) }
     ensures refused { IfErr result (λ stuck. stuck ≢ Stuck.OutOfMemory
-        → SpellsNone stmt_then 8 (plain tokens.now)) }
+        → SpellsNone stmt_then else_level (plain tokens.now)) }
 {
     let Some((word, rest)) = cursor::first_word(tokens) else {
         return named(alloc, tokens);
@@ -93,9 +93,9 @@ fn conditional(alloc: Global, tokens: &[Spanned]) -> Result<(Stmt, &[Spanned]), 
     ensures spelled { IfOk result (λ read.
         WordToken Word.If ∷ plain tokens.now ≡ stmt_then (stmt read.0) (plain read.1.now)) }
     ensures whole { IfOk result (λ read.
-        Leaves stmt_then 8 (WordToken Word.If ∷ plain tokens.now) (plain read.1.now)) }
+        Leaves stmt_then else_level (WordToken Word.If ∷ plain tokens.now) (plain read.1.now)) }
     ensures refused { IfErr result (λ stuck. stuck ≢ Stuck.OutOfMemory
-        → SpellsNone stmt_then 8 (WordToken Word.If ∷ plain tokens.now)) }
+        → SpellsNone stmt_then else_level (WordToken Word.If ∷ plain tokens.now)) }
 {
     // "if" expr block [ "else" block ], its first word read
     let (guard, rest) = expressions::expr(alloc, tokens)?;
@@ -129,9 +129,9 @@ fn repeated(alloc: Global, tokens: &[Spanned]) -> Result<(Stmt, &[Spanned]), Stu
     ensures spelled { IfOk result (λ read.
         WordToken Word.While ∷ plain tokens.now ≡ stmt_then (stmt read.0) (plain read.1.now)) }
     ensures whole { IfOk result (λ read.
-        Leaves stmt_then 8 (WordToken Word.While ∷ plain tokens.now) (plain read.1.now)) }
+        Leaves stmt_then else_level (WordToken Word.While ∷ plain tokens.now) (plain read.1.now)) }
     ensures refused { IfErr result (λ stuck. stuck ≢ Stuck.OutOfMemory
-        → SpellsNone stmt_then 8 (WordToken Word.While ∷ plain tokens.now)) }
+        → SpellsNone stmt_then else_level (WordToken Word.While ∷ plain tokens.now)) }
 {
     // "while" expr block, its first word read
     let (guard, rest) = expressions::expr(alloc, tokens)?;
@@ -145,9 +145,9 @@ fn split(alloc: Global, tokens: &[Spanned]) -> Result<(Stmt, &[Spanned]), Stuck>
     ensures spelled { IfOk result (λ read.
         WordToken Word.Split ∷ plain tokens.now ≡ stmt_then (stmt read.0) (plain read.1.now)) }
     ensures whole { IfOk result (λ read.
-        Leaves stmt_then 8 (WordToken Word.Split ∷ plain tokens.now) (plain read.1.now)) }
+        Leaves stmt_then else_level (WordToken Word.Split ∷ plain tokens.now) (plain read.1.now)) }
     ensures refused { IfErr result (λ stuck. stuck ≢ Stuck.OutOfMemory
-        → SpellsNone stmt_then 8 (WordToken Word.Split ∷ plain tokens.now)) }
+        → SpellsNone stmt_then else_level (WordToken Word.Split ∷ plain tokens.now)) }
 {
     // "split" name "at" expr "as" name "," name block, its first word read
     let (section, rest) = cursor::name(tokens)?;
@@ -176,12 +176,12 @@ fn simple(alloc: Global, tokens: &[Spanned]) -> Result<(Stmt, &[Spanned]), Stuck
     ensures spelled { IfOk result (λ read.
         plain tokens.now ≡ stmt_then (stmt read.0) (plain read.1.now)) }
     ensures whole { IfOk result (λ read.
-        Leaves stmt_then 8 (plain tokens.now) (plain read.1.now)) }
+        Leaves stmt_then else_level (plain tokens.now) (plain read.1.now)) }
     ensures refused { IfErr result (λ stuck. stuck ≢ Stuck.OutOfMemory
         → (word : AnyWord) (rest : List PlainToken) → plain tokens.now ≡ WordToken word ∷ rest
         → word ≢ Word.If → word ≢ Word.While → word ≢ Word.Split
         → word ≢ Word.Async → word ≢ Word.Finish
-        → SpellsNone stmt_then 8 (plain tokens.now)) }
+        → SpellsNone stmt_then else_level (plain tokens.now)) }
 {
     if let Some(rest) = cursor::after_word(tokens, Word::Skip) {
         // stmt = "skip" ";"
@@ -224,9 +224,9 @@ fn declared(alloc: Global, tokens: &[Spanned]) -> Result<(Stmt, &[Spanned]), Stu
     ensures spelled { IfOk result (λ read.
         WordToken Word.Var ∷ plain tokens.now ≡ stmt_then (stmt read.0) (plain read.1.now)) }
     ensures whole { IfOk result (λ read.
-        Leaves stmt_then 8 (WordToken Word.Var ∷ plain tokens.now) (plain read.1.now)) }
+        Leaves stmt_then else_level (WordToken Word.Var ∷ plain tokens.now) (plain read.1.now)) }
     ensures refused { IfErr result (λ stuck. stuck ≢ Stuck.OutOfMemory
-        → SpellsNone stmt_then 8 (WordToken Word.Var ∷ plain tokens.now)) }
+        → SpellsNone stmt_then else_level (WordToken Word.Var ∷ plain tokens.now)) }
 {
     // "var" name "=" expr ";", its first word read
     let (name, rest) = cursor::name(tokens)?;
@@ -240,9 +240,9 @@ fn printed(alloc: Global, tokens: &[Spanned]) -> Result<(Stmt, &[Spanned]), Stuc
     ensures spelled { IfOk result (λ read.
         WordToken Word.Print ∷ plain tokens.now ≡ stmt_then (stmt read.0) (plain read.1.now)) }
     ensures whole { IfOk result (λ read.
-        Leaves stmt_then 8 (WordToken Word.Print ∷ plain tokens.now) (plain read.1.now)) }
+        Leaves stmt_then else_level (WordToken Word.Print ∷ plain tokens.now) (plain read.1.now)) }
     ensures refused { IfErr result (λ stuck. stuck ≢ Stuck.OutOfMemory
-        → SpellsNone stmt_then 8 (WordToken Word.Print ∷ plain tokens.now)) }
+        → SpellsNone stmt_then else_level (WordToken Word.Print ∷ plain tokens.now)) }
 {
     // "print" expr { "," expr } ";", its first word read
     let (first, rest) = expressions::expr(alloc, tokens)?;
@@ -263,10 +263,10 @@ fn named(alloc: Global, tokens: &[Spanned]) -> Result<(Stmt, &[Spanned]), Stuck>
     ensures spelled { IfOk result (λ read.
         plain tokens.now ≡ stmt_then (stmt read.0) (plain read.1.now)) }
     ensures whole { IfOk result (λ read.
-        Leaves stmt_then 8 (plain tokens.now) (plain read.1.now)) }
+        Leaves stmt_then else_level (plain tokens.now) (plain read.1.now)) }
     ensures refused { IfErr result (λ stuck. stuck ≢ Stuck.OutOfMemory
         → ((word : AnyWord) (rest : List PlainToken) → plain tokens.now ≢ WordToken word ∷ rest)
-        → SpellsNone stmt_then 8 (plain tokens.now)) }
+        → SpellsNone stmt_then else_level (plain tokens.now)) }
 {
     let (name, rest) = cursor::name(tokens)?;
     if let Some(rest) = cursor::after_mark(rest, Mark::LeftBracket) {

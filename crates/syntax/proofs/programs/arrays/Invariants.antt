@@ -1,5 +1,5 @@
 use Rattle.std.proofs.Common.{◌≡◌, ◌<◌, ◌≤◌, List, length, map}
-use Rattle.syntax.specs.Reading.{binds}
+use Rattle.syntax.specs.Reading.{binds, list_level}
 use Rattle.syntax.specs.Spelling.{arrays_then}
 use Rattle.syntax.specs.Token.{Token, plain}
 use Rattle.syntax.specs.Tree.{Array, array}
@@ -9,7 +9,7 @@ abbrev pub invariant-loop-after : goal.invariant-loop-after
 invariant-loop-after l = record {
   shorter : length l.left ≤ length l.fn.tokens;
   spelled : plain l.fn.tokens ≡ arrays_then (map array l.arrays.items) (plain l.left);
-  whole : (all : List Array) (rest : List Token) → binds rest < 1 → plain l.fn.tokens ≡ arrays_then all rest → (end : List Array) × (plain l.left ≡ arrays_then end rest);
+  whole : (all : List Array) (rest : List Token) → binds rest < list_level → plain l.fn.tokens ≡ arrays_then all rest → (end : List Array) × (plain l.left ≡ arrays_then end rest);
 }
 
 abbrev pub decreases-loop-after : goal.decreases-loop-after
