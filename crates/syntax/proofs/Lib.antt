@@ -8,9 +8,12 @@ pub mod Numbers
 pub mod Pieces
 pub mod Places
 pub mod ProgramLemmas
+pub mod ProgramRefusals
+pub mod RefusalLemmas
 pub mod Refused
 pub mod RowLemmas
 pub mod Shallow
 pub mod SpellingLemmas
+pub mod StmtRefusals
 pub mod StmtSpellings
 pub mod Stops

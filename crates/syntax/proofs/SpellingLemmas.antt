@@ -6,7 +6,7 @@ use Rattle.syntax.specs.declared.token.Mark.TheVariants.{RightParen, LeftBrace}
 use Rattle.syntax.specs.Token.{Token, MarkToken}
 use Rattle.syntax.specs.Tree.{Array, Parameter, Written, Read, Scalar, Procedure, Main, Program}
 use Rattle.syntax.specs.Spelling.{element_word, block_then, arrays_then, parameter_then, more_parameters_then, parameters_then, procedures_then, main_tokens, spelling}
-use Rattle.syntax.specs.Reading.{binds}
+use Rattle.syntax.specs.Reading.{binds, list_level}
 use Rattle.syntax.proofs.StmtSpellings.{block_binds, block_one}
 
 element_one : (x y : ElementType) → element_word x ≡ element_word y → x ≡ y
@@ -14,7 +14,7 @@ element_one IntElement IntElement e = refl
 element_one ByteElement ByteElement e = refl
 element_one _ _ e = cc
 
-pub arrays_one : (x y : List Array) (r s : List Token) → binds r < 1 → binds s < 1 → arrays_then x r ≡ arrays_then y s → (x ≡ y) × (r ≡ s)
+pub arrays_one : (x y : List Array) (r s : List Token) → binds r < list_level → binds s < list_level → arrays_then x r ≡ arrays_then y s → (x ≡ y) × (r ≡ s)
 unfolding arrays_then
 arrays_one [] [] r s ends other same = (refl, same)
 arrays_one [] (b ∷ bs) r s ends other same = absurd (omega (arith, ap binds same))
@@ -34,7 +34,7 @@ parameter_one (Read x e) (Read y f) r s same = let elements = element_one e f (c
 parameter_one (Scalar x) (Scalar y) r s same = (cc, cc)
 parameter_one _ _ r s same = cc
 
-pub more_parameters_one : (x y : List Parameter) (r s : List Token) → binds r < 1 → binds s < 1 → more_parameters_then x r ≡ more_parameters_then y s → (x ≡ y) × (r ≡ s)
+pub more_parameters_one : (x y : List Parameter) (r s : List Token) → binds r < list_level → binds s < list_level → more_parameters_then x r ≡ more_parameters_then y s → (x ≡ y) × (r ≡ s)
 unfolding more_parameters_then
 more_parameters_one [] [] r s ends other same = (refl, same)
 more_parameters_one [] (q ∷ qs) r s ends other same = absurd (omega (arith, ap binds same))
@@ -61,7 +61,7 @@ parameters_one (p ∷ ps) (q ∷ qs) r s same =
     let last = more.1 in
     (cc (first.0, more.0), cc)
 
-pub procedures_one : (x y : List Procedure) (r s : List Token) → binds r < 1 → binds s < 1 → procedures_then x r ≡ procedures_then y s → (x ≡ y) × (r ≡ s)
+pub procedures_one : (x y : List Procedure) (r s : List Token) → binds r < list_level → binds s < list_level → procedures_then x r ≡ procedures_then y s → (x ≡ y) × (r ≡ s)
 unfolding procedures_then
 procedures_one [] [] r s ends other same = (refl, same)
 procedures_one [] (q ∷ qs) r s ends other same = absurd (omega (arith, ap binds same))

@@ -5,15 +5,15 @@ use Rattle.syntax.specs.declared.token.Mark.TheVariants.{RightParen, LeftBrace, 
 use Rattle.syntax.specs.Token.{Token, NameToken, WordToken, MarkToken}
 use Rattle.syntax.specs.Tree.{Expr, Stmt, Skip, Var, Assign, Store, Print, Fault, If, IfElse, While, Split, Call, Async, Finish, Block, End, Then}
 use Rattle.syntax.specs.Spelling.{expr_then, more_then, exprs_then, stmt_then, block_then}
-use Rattle.syntax.specs.Reading.{binds}
+use Rattle.syntax.specs.Reading.{binds, list_level, or_level, else_level}
 use Rattle.syntax.proofs.ExprSpellings.{begins, expr_begins, expr_one}
 
-pub more_bind : (es : List Expr) (r : List Token) → binds r < 1 → binds (more_then es r) < 2
+pub more_bind : (es : List Expr) (r : List Token) → binds r < list_level → binds (more_then es r) < or_level
 unfolding more_then
 more_bind [] r ends = omega arith
 more_bind (e ∷ es) r ends = omega arith
 
-pub more_one : (x y : List Expr) (r s : List Token) → binds r < 1 → binds s < 1 → more_then x r ≡ more_then y s → (x ≡ y) × (r ≡ s)
+pub more_one : (x y : List Expr) (r s : List Token) → binds r < list_level → binds s < list_level → more_then x r ≡ more_then y s → (x ≡ y) × (r ≡ s)
 unfolding more_then
 more_one [] [] r s ends other same = (refl, same)
 more_one [] (f ∷ fs) r s ends other same = absurd (omega (arith, ap binds same))
@@ -23,7 +23,7 @@ more_one (e ∷ es) (f ∷ fs) r s ends other same =
     let more = more_one es fs r s ends other first.1 in
     (cc (first.0, more.0), more.1)
 
-pub exprs_one : (x y : List Expr) (r s : List Token) → binds r < 1 → binds s < 1 → begins r < 1 → begins s < 1 → exprs_then x r ≡ exprs_then y s → (x ≡ y) × (r ≡ s)
+pub exprs_one : (x y : List Expr) (r s : List Token) → binds r < list_level → binds s < list_level → begins r < 1 → begins s < 1 → exprs_then x r ≡ exprs_then y s → (x ≡ y) × (r ≡ s)
 unfolding exprs_then
 exprs_one [] [] r s ends other closed closes same = (refl, same)
 exprs_one [] (f ∷ fs) r s ends other closed closes same = absurd (omega (arith, ap begins same, expr_begins f (more_then fs s)))
@@ -73,7 +73,8 @@ block_binds (Then s b) r = stmt_binds s (block_then b r)
 
 mutual
   unfolding stmt_then
-  pub stmt_one : (x y : Stmt) (r s : List Token) → binds r < 8 → binds s < 8 → stmt_then x r ≡ stmt_then y s → (x ≡ y) × (r ≡ s)
+
+  pub stmt_one : (x y : Stmt) (r s : List Token) → binds r < else_level → binds s < else_level → stmt_then x r ≡ stmt_then y s → (x ≡ y) × (r ≡ s)
   stmt_one Skip Skip r s ends other same = (refl, cc)
   stmt_one (Var x e) (Var y f) r s ends other same =
       let value = expr_one e f (MarkToken Semicolon ∷ r) (MarkToken Semicolon ∷ s) (omega arith) (omega arith) (cc) in

@@ -15,33 +15,67 @@ pub record AddsExprs (earlier all : List Expr) (before rest : List Token) : Type
   pub added : all ≡ earlier ++ others
   pub spelled : before ≡ more_then (exprs others) rest
 
--- what goes on: a list, a chain of `or`, one of `and`, an `if`
+-- What goes on with what stands before it, the looser first.
+
+-- a comma, `array`, `proc`: one more in a list
+abbrev pub list_level : ℕ
+list_level = 1
+
+-- `or`
+abbrev pub or_level : ℕ
+or_level = 2
+
+-- `and`
+abbrev pub and_level : ℕ
+and_level = 3
+
+-- `<` and the like
+abbrev pub relation_level : ℕ
+relation_level = 4
+
+-- `+`, `-`
+abbrev pub sign_level : ℕ
+sign_level = 5
+
+-- `*`, `/`, `%`
+abbrev pub operator_level : ℕ
+operator_level = 6
+
+-- `[`, behind a name
+abbrev pub bracket_level : ℕ
+bracket_level = 7
+
+-- `else`
+abbrev pub else_level : ℕ
+else_level = 8
+
+-- how tightly a word binds what stands before it; 0 where it does not go on with it
 abbrev pub word_binds : Word → ℕ
-word_binds WordArray = 1
-word_binds WordProc = 1
-word_binds WordOr = 2
-word_binds WordAnd = 3
-word_binds WordElse = 8
+word_binds WordArray = list_level
+word_binds WordProc = list_level
+word_binds WordOr = or_level
+word_binds WordAnd = and_level
+word_binds WordElse = else_level
 word_binds _ = 0
 
--- what goes on: a list, a comparison, a chain of signs, one of `*`, `/` and `%`, the name of a section
+-- the same of a mark
 abbrev pub mark_binds : Mark → ℕ
-mark_binds Comma = 1
-mark_binds Less = 4
-mark_binds AtMost = 4
-mark_binds Greater = 4
-mark_binds AtLeast = 4
-mark_binds Equal = 4
-mark_binds Differs = 4
-mark_binds Plus = 5
-mark_binds Minus = 5
-mark_binds Star = 6
-mark_binds Slash = 6
-mark_binds Percent = 6
-mark_binds LeftBracket = 7
+mark_binds Comma = list_level
+mark_binds Less = relation_level
+mark_binds AtMost = relation_level
+mark_binds Greater = relation_level
+mark_binds AtLeast = relation_level
+mark_binds Equal = relation_level
+mark_binds Differs = relation_level
+mark_binds Plus = sign_level
+mark_binds Minus = sign_level
+mark_binds Star = operator_level
+mark_binds Slash = operator_level
+mark_binds Percent = operator_level
+mark_binds LeftBracket = bracket_level
 mark_binds _ = 0
 
--- how tightly the first of these tokens binds what stands before it; 0 where it does not go on with it
+-- the same of the first of these tokens
 abbrev pub binds : List Token → ℕ
 binds [] = 0
 binds (NameToken _ ∷ _) = 0
@@ -49,6 +83,22 @@ binds (NumberToken _ ∷ _) = 0
 binds (WordToken w ∷ _) = word_binds w
 binds (MarkToken m ∷ _) = mark_binds m
 
--- the tokens spell no such tree, with anything behind it that binds less tightly
+-- the tokens spell no tree, with anything behind it that binds less tightly
 abbrev pub SpellsNone : {Tree : Type 0} → (Tree → List Token → List Token) → ℕ → List Token → Type 0
 SpellsNone spelled level tokens = (tree : _) (rest : List Token) → binds rest < level → tokens ≢ spelled tree rest
+
+-- whatever tree the tokens spell, with anything behind it that binds less tightly, these stand behind it
+abbrev pub Leaves : {Tree : Type 0} → (Tree → List Token → List Token) → ℕ → List Token → List Token → Type 0
+Leaves spelled level tokens left = (tree : _) (rest : List Token) → binds rest < level → tokens ≡ spelled tree rest → left ≡ rest
+
+-- the same of trees that end by a token of their own, behind which anything may stand
+abbrev pub SpellsNoneClosed : {Tree : Type 0} → (Tree → List Token → List Token) → List Token → Type 0
+SpellsNoneClosed spelled tokens = (tree : _) (rest : List Token) → tokens ≢ spelled tree rest
+
+abbrev pub LeavesClosed : {Tree : Type 0} → (Tree → List Token → List Token) → List Token → List Token → Type 0
+LeavesClosed spelled tokens left = (tree : _) (rest : List Token) → tokens ≡ spelled tree rest → left ≡ rest
+
+-- whatever chain the tokens spell, with anything behind it that binds less tightly, these spell the chain's end
+abbrev pub LeavesEnd : {First More : Type 0} → (First → List Token → List Token) → (More → List Token → List Token) → ℕ → List Token → List Token → Type 0
+LeavesEnd {First} {More} first others level tokens left =
+    (x : First) (all : More) (rest : List Token) → binds rest < level → tokens ≡ first x (others all rest) → (end : More) × (left ≡ others end rest)
