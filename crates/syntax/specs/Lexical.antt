@@ -1,6 +1,6 @@
 -- The tokens of a text: a text is cut into pieces, each the longest that stands there, and a piece is a
 -- token, a blank or a comment.
-use Rattle.std.specs.Prelude.{◌≡◌, ◌≢◌, ◌+◌, ◌*◌, ◌≤◌, ℕ, Bool, true, false, not, ◌==◌, ◌||◌, ◌&&◌, List, [], ◌∷◌, ◌++◌, codes, fold}
+use Rattle.std.specs.Prelude.{◌≡◌, ◌≢◌, ◌+◌, ◌*◌, ◌<◌, ◌≤◌, ℕ, Bool, true, false, not, ◌==◌, ◌||◌, ◌&&◌, List, [], ◌∷◌, ◌++◌, codes, drop, fold, length}
 use Rattle.std.specs.Char.{is_ascii_alphabetic, is_ascii_digit, digit_value}
 use Rattle.std.specs.List.{flat_map, list_all}
 use Rattle.syntax.specs.declared.token.Word.{Word}
@@ -181,3 +181,28 @@ pub record SpellsWord (cs : List ℕ) (t : Token) : Type 0 where
   pub spelled : cs ≡ letters piece
   pub tokens : token_of piece ≡ t ∷ []
   pub stands : (rest : List ℕ) → starts is_in_name rest ≡ false → MayStand piece rest
+
+-- no piece stands first
+abbrev pub BeginsNoPiece : List ℕ → Type 0
+BeginsNoPiece text = (p : Piece) (rest : List ℕ) → Begins text p rest → ⊥
+
+-- no mark stands first
+abbrev pub BeginsNoMark : List ℕ → Type 0
+BeginsNoMark text = (m : Mark) (rest : List ℕ) → Begins text (MarkPiece m) rest → ⊥
+
+-- digits stand first whose number is too large
+pub record BeginsLargeNumber (text : List ℕ) : Type 0 where
+  pub digits : List ℕ
+  pub behind : List ℕ
+  pub spelled : text ≡ digits ++ behind
+  pub begins : starts is_ascii_digit digits ≡ true
+  pub all_digits : list_all is_ascii_digit digits ≡ true
+  pub ends : starts is_ascii_digit behind ≡ false
+  pub over : 9223372036854775807 < number_of digits
+
+-- so many characters of a text are cut into pieces, and behind them others stand that begin with no piece
+pub record StopsAt (text : List ℕ) (at : ℕ) : Type 0 where
+  pub tokens : List Token
+  pub read : HasTokens text tokens (drop at text)
+  pub within : at < length text
+  pub stuck : BeginsNoPiece (drop at text)

@@ -1,8 +1,9 @@
 //! Reading what stands first among the tokens that are left.
 
-ghost use Rattle.std.specs.Prelude.{◌≡◌, ◌<◌, ◌∷◌, length, IfOk, IfSome};
+ghost use Rattle.std.specs.Prelude.{◌≡◌, ◌≢◌, ◌<◌, ℕ, List, [], ◌∷◌, length, IfOk, IfErr, IfSome, IfNone, MatchOption};
 ghost use Rattle.std.specs.String.{string_bytes};
-ghost use Rattle.syntax.specs.Token.{NameToken, NumberToken, WordToken, MarkToken, plain};
+ghost use Rattle.syntax.specs.declared.token.Word.{Word as AnyWord};
+ghost use Rattle.syntax.specs.Token.{Token as PlainToken, NameToken, NumberToken, WordToken, MarkToken, token, plain};
 
 use crate::token::{Mark, Spanned, Token, Word};
 use std::alloc::{AllocError, AllocFailed};
@@ -36,12 +37,18 @@ impl<T: Drop> From<AllocFailed<T>> for Stuck {
 }
 
 /// The first of these tokens may not stand here.
-pub fn unexpected(tokens: &[Spanned]) -> Stuck {
+pub fn unexpected(tokens: &[Spanned]) -> Stuck
+    ensures { result ≡ Stuck.Unexpected (length tokens.now) }
+{
     Stuck::Unexpected { left: tokens.len() }
 }
 
 /// The first token.
-pub fn peek(tokens: &[Spanned]) -> Option<&Token> {
+pub fn peek(tokens: &[Spanned]) -> Option<&Token>
+    ensures found { IfSome result (λ first.
+        (rest : List PlainToken) × (plain tokens.now ≡ token first.now ∷ rest)) }
+    ensures absent { IfNone result (plain tokens.now ≡ []) }
+{
     match tokens.first() {
         None => None,
         Some(first) => Some(&first.token),
@@ -52,6 +59,8 @@ pub fn peek(tokens: &[Spanned]) -> Option<&Token> {
 pub fn after_mark(tokens: &[Spanned], wanted: Mark) -> Option<&[Spanned]>
     ensures shorter { IfSome result (λ rest. length rest.now < length tokens.now) }
     ensures found { IfSome result (λ rest. plain tokens.now ≡ MarkToken wanted ∷ plain rest.now) }
+    ensures absent { IfNone result
+        ((rest : List PlainToken) → plain tokens.now ≢ MarkToken wanted ∷ rest) }
 {
     let (first, rest) = tokens.split_first()?;
     match &first.token {
@@ -64,6 +73,8 @@ pub fn after_mark(tokens: &[Spanned], wanted: Mark) -> Option<&[Spanned]>
 pub fn after_word(tokens: &[Spanned], wanted: Word) -> Option<&[Spanned]>
     ensures shorter { IfSome result (λ rest. length rest.now < length tokens.now) }
     ensures found { IfSome result (λ rest. plain tokens.now ≡ WordToken wanted ∷ plain rest.now) }
+    ensures absent { IfNone result
+        ((rest : List PlainToken) → plain tokens.now ≢ WordToken wanted ∷ rest) }
 {
     let (first, rest) = tokens.split_first()?;
     match &first.token {
@@ -76,6 +87,8 @@ pub fn after_word(tokens: &[Spanned], wanted: Word) -> Option<&[Spanned]>
 pub fn first_word(tokens: &[Spanned]) -> Option<(Word, &[Spanned])>
     ensures shorter { IfSome result (λ read. length read.1.now < length tokens.now) }
     ensures found { IfSome result (λ read. plain tokens.now ≡ WordToken read.0 ∷ plain read.1.now) }
+    ensures absent { IfNone result
+        ((word : AnyWord) (rest : List PlainToken) → plain tokens.now ≢ WordToken word ∷ rest) }
 {
     let (first, rest) = tokens.split_first()?;
     match &first.token {
@@ -88,6 +101,9 @@ pub fn first_word(tokens: &[Spanned]) -> Option<(Word, &[Spanned])>
 pub fn mark(tokens: &[Spanned], wanted: Mark) -> Result<&[Spanned], Stuck>
     ensures shorter { IfOk result (λ rest. length rest.now < length tokens.now) }
     ensures found { IfOk result (λ rest. plain tokens.now ≡ MarkToken wanted ∷ plain rest.now) }
+    ensures refused { IfErr result (λ _.
+        (rest : List PlainToken) → plain tokens.now ≢ MarkToken wanted ∷ rest) }
+    ensures place { IfErr result (λ stuck. stuck ≡ Stuck.Unexpected (length tokens.now)) }
 {
     match after_mark(tokens, wanted) {
         None => Err(unexpected(tokens)),
@@ -99,6 +115,9 @@ pub fn mark(tokens: &[Spanned], wanted: Mark) -> Result<&[Spanned], Stuck>
 pub fn word(tokens: &[Spanned], wanted: Word) -> Result<&[Spanned], Stuck>
     ensures shorter { IfOk result (λ rest. length rest.now < length tokens.now) }
     ensures found { IfOk result (λ rest. plain tokens.now ≡ WordToken wanted ∷ plain rest.now) }
+    ensures refused { IfErr result (λ _.
+        (rest : List PlainToken) → plain tokens.now ≢ WordToken wanted ∷ rest) }
+    ensures place { IfErr result (λ stuck. stuck ≡ Stuck.Unexpected (length tokens.now)) }
 {
     match after_word(tokens, wanted) {
         None => Err(unexpected(tokens)),
@@ -111,6 +130,10 @@ pub fn name(tokens: &[Spanned]) -> Result<(String, &[Spanned]), Stuck>
     ensures shorter { IfOk result (λ read. length read.1.now < length tokens.now) }
     ensures found { IfOk result (λ read.
         plain tokens.now ≡ NameToken (string_bytes read.0) ∷ plain read.1.now) }
+    ensures refused { IfErr result (λ stuck. stuck ≢ Stuck.OutOfMemory
+        → (name : List ℕ) (rest : List PlainToken) → plain tokens.now ≢ NameToken name ∷ rest) }
+    ensures place { IfErr result (λ stuck. stuck ≢ Stuck.OutOfMemory
+        → stuck ≡ Stuck.Unexpected (length tokens.now)) }
 {
     let Some((first, rest)) = tokens.split_first() else {
         return Err(unexpected(tokens));
@@ -125,6 +148,9 @@ pub fn name(tokens: &[Spanned]) -> Result<(String, &[Spanned]), Stuck>
 pub fn number(tokens: &[Spanned]) -> Result<(u64, &[Spanned]), Stuck>
     ensures shorter { IfOk result (λ read. length read.1.now < length tokens.now) }
     ensures found { IfOk result (λ read. plain tokens.now ≡ NumberToken read.0 ∷ plain read.1.now) }
+    ensures refused { IfErr result (λ _.
+        (number : ℕ) (rest : List PlainToken) → plain tokens.now ≢ NumberToken number ∷ rest) }
+    ensures place { IfErr result (λ stuck. stuck ≡ Stuck.Unexpected (length tokens.now)) }
 {
     let Some((first, rest)) = tokens.split_first() else {
         return Err(unexpected(tokens));

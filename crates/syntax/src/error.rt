@@ -1,6 +1,7 @@
 //! Why a text is no program.
 
 ghost use Rattle.std.specs.Prelude.{◌≡◌};
+ghost use Rattle.syntax.specs.Refusals.{code_of, place_of};
 
 use crate::place::Place;
 use std::alloc::{AllocError, AllocFailed};
@@ -25,7 +26,9 @@ pub enum SyntaxError {
 
 impl SyntaxError {
     /// The code that the program prints.
-    pub fn code(&self) -> &'static str {
+    pub fn code(&self) -> &'static str
+        ensures { result.now ≡ code_of self.now }
+    {
         match self {
             SyntaxError::NotACharacter { .. } => "S1",
             SyntaxError::UnexpectedToken { .. } => "S2",
@@ -37,7 +40,9 @@ impl SyntaxError {
     }
 
     /// Where the text goes wrong, unless it is too long or memory ran out.
-    pub fn place(&self) -> Option<Place> {
+    pub fn place(&self) -> Option<Place>
+        ensures { result ≡ place_of self.now }
+    {
         match self {
             SyntaxError::NotACharacter { place } => Some(*place),
             SyntaxError::UnexpectedToken { place } => Some(*place),

@@ -1,9 +1,13 @@
 //! Expressions, one function for each production.
 
-ghost use Rattle.std.specs.Prelude.{◌≡◌, ◌<◌, ◌≤◌, ◌∷◌, length, IfOk, IfSome};
-ghost use Rattle.syntax.specs.Reading.{AddsExprs};
-ghost use Rattle.syntax.specs.Spelling.{expr_then, conj_then, neg_then, cmp_then, sum_then, prod_then, unary_then, atom_then, relation_mark, sign_mark, operator_mark};
-ghost use Rattle.syntax.specs.Token.{MarkToken, plain};
+ghost use Rattle.std.specs.Prelude.{◌≡◌, ◌≢◌, ◌<◌, ◌≤◌, ℕ, List, ◌∷◌, length, IfOk, IfErr, IfSome, IfNone};
+ghost use Rattle.syntax.specs.declared.token.Mark.{Mark as AnyMark};
+ghost use Rattle.syntax.specs.declared.tree.Relation.{Relation as AnyRelation};
+ghost use Rattle.syntax.specs.declared.tree.Sign.{Sign as AnySign};
+ghost use Rattle.syntax.specs.declared.tree.Operator.{Operator as AnyOperator};
+ghost use Rattle.syntax.specs.Reading.{AddsExprs, Leaves, LeavesClosed, SpellsNone, SpellsNoneClosed, mark_binds, list_level, or_level, and_level, relation_level, sign_level, operator_level, bracket_level};
+ghost use Rattle.syntax.specs.Spelling.{more_then, expr_then, conj_then, neg_then, cmp_then, sum_then, prod_then, unary_then, atom_then, relation_mark, sign_mark, operator_mark};
+ghost use Rattle.syntax.specs.Token.{Token as PlainToken, NameToken, MarkToken, plain};
 ghost use Rattle.syntax.specs.Tree.{expr as expr_tree, conj as conj_tree, neg as neg_tree, cmp as cmp_tree, sum as sum_tree, prod as prod_tree, unary as unary_tree, atom as atom_tree};
 
 use crate::cursor;
@@ -20,6 +24,10 @@ pub fn expr(alloc: Global, tokens: &[Spanned]) -> Result<(Expr, &[Spanned]), Stu
     ensures shorter { IfOk result (λ read. length read.1.now < length tokens.now) }
     ensures spelled { IfOk result (λ read.
         plain tokens.now ≡ expr_then (expr_tree read.0) (plain read.1.now)) }
+    ensures whole { IfOk result (λ read.
+        Leaves expr_then or_level (plain tokens.now) (plain read.1.now)) }
+    ensures refused { IfErr result (λ stuck. stuck ≢ Stuck.OutOfMemory
+        → SpellsNone expr_then or_level (plain tokens.now)) }
 {
     // expr = conj { "or" conj }
     let (first, mut left) = conj(alloc, tokens)?;
@@ -37,6 +45,10 @@ fn conj(alloc: Global, tokens: &[Spanned]) -> Result<(Conj, &[Spanned]), Stuck>
     ensures shorter { IfOk result (λ read. length read.1.now < length tokens.now) }
     ensures spelled { IfOk result (λ read.
         plain tokens.now ≡ conj_then (conj_tree read.0) (plain read.1.now)) }
+    ensures whole { IfOk result (λ read.
+        Leaves conj_then and_level (plain tokens.now) (plain read.1.now)) }
+    ensures refused { IfErr result (λ stuck. stuck ≢ Stuck.OutOfMemory
+        → SpellsNone conj_then and_level (plain tokens.now)) }
 {
     // conj = neg { "and" neg }
     let (first, mut left) = neg(alloc, tokens)?;
@@ -54,6 +66,10 @@ fn neg(alloc: Global, tokens: &[Spanned]) -> Result<(Neg, &[Spanned]), Stuck>
     ensures shorter { IfOk result (λ read. length read.1.now < length tokens.now) }
     ensures spelled { IfOk result (λ read.
         plain tokens.now ≡ neg_then (neg_tree read.0) (plain read.1.now)) }
+    ensures whole { IfOk result (λ read.
+        Leaves neg_then relation_level (plain tokens.now) (plain read.1.now)) }
+    ensures refused { IfErr result (λ stuck. stuck ≢ Stuck.OutOfMemory
+        → SpellsNone neg_then relation_level (plain tokens.now)) }
 {
     // neg = [ "not" ] cmp
     match cursor::after_word(tokens, Word::Not) {
@@ -85,6 +101,10 @@ fn cmp(alloc: Global, tokens: &[Spanned]) -> Result<(Cmp, &[Spanned]), Stuck>
     ensures shorter { IfOk result (λ read. length read.1.now < length tokens.now) }
     ensures spelled { IfOk result (λ read.
         plain tokens.now ≡ cmp_then (cmp_tree read.0) (plain read.1.now)) }
+    ensures whole { IfOk result (λ read.
+        Leaves cmp_then relation_level (plain tokens.now) (plain read.1.now)) }
+    ensures refused { IfErr result (λ stuck. stuck ≢ Stuck.OutOfMemory
+        → SpellsNone cmp_then relation_level (plain tokens.now)) }
 {
     // cmp = sum [ ( "<" | "<=" | ">" | ">=" | "==" | "!=" ) sum ]
     let (left, rest) = sum(alloc, tokens)?;
@@ -103,6 +123,10 @@ fn sum(alloc: Global, tokens: &[Spanned]) -> Result<(Sum, &[Spanned]), Stuck>
     ensures shorter { IfOk result (λ read. length read.1.now < length tokens.now) }
     ensures spelled { IfOk result (λ read.
         plain tokens.now ≡ sum_then (sum_tree read.0) (plain read.1.now)) }
+    ensures whole { IfOk result (λ read.
+        Leaves sum_then sign_level (plain tokens.now) (plain read.1.now)) }
+    ensures refused { IfErr result (λ stuck. stuck ≢ Stuck.OutOfMemory
+        → SpellsNone sum_then sign_level (plain tokens.now)) }
 {
     // sum = prod { ( "+" | "-" ) prod }
     let (first, mut left) = prod(alloc, tokens)?;
@@ -120,6 +144,10 @@ fn prod(alloc: Global, tokens: &[Spanned]) -> Result<(Prod, &[Spanned]), Stuck>
     ensures shorter { IfOk result (λ read. length read.1.now < length tokens.now) }
     ensures spelled { IfOk result (λ read.
         plain tokens.now ≡ prod_then (prod_tree read.0) (plain read.1.now)) }
+    ensures whole { IfOk result (λ read.
+        Leaves prod_then operator_level (plain tokens.now) (plain read.1.now)) }
+    ensures refused { IfErr result (λ stuck. stuck ≢ Stuck.OutOfMemory
+        → SpellsNone prod_then operator_level (plain tokens.now)) }
 {
     // prod = unary { ( "*" | "/" | "%" ) unary }
     let (first, mut left) = unary(alloc, tokens)?;
@@ -137,6 +165,10 @@ fn unary(alloc: Global, tokens: &[Spanned]) -> Result<(Unary, &[Spanned]), Stuck
     ensures shorter { IfOk result (λ read. length read.1.now < length tokens.now) }
     ensures spelled { IfOk result (λ read.
         plain tokens.now ≡ unary_then (unary_tree read.0) (plain read.1.now)) }
+    ensures whole { IfOk result (λ read.
+        Leaves unary_then bracket_level (plain tokens.now) (plain read.1.now)) }
+    ensures refused { IfErr result (λ stuck. stuck ≢ Stuck.OutOfMemory
+        → SpellsNone unary_then bracket_level (plain tokens.now)) }
 {
     // unary = [ "-" ] atom
     match cursor::after_mark(tokens, Mark::Minus) {
@@ -168,6 +200,10 @@ fn atom(alloc: Global, tokens: &[Spanned]) -> Result<(Atom, &[Spanned]), Stuck>
     ensures shorter { IfOk result (λ read. length read.1.now < length tokens.now) }
     ensures spelled { IfOk result (λ read.
         plain tokens.now ≡ atom_then (atom_tree read.0) (plain read.1.now)) }
+    ensures whole { IfOk result (λ read.
+        Leaves atom_then bracket_level (plain tokens.now) (plain read.1.now)) }
+    ensures refused { IfErr result (λ stuck. stuck ≢ Stuck.OutOfMemory
+        → SpellsNone atom_then bracket_level (plain tokens.now)) }
 {
     // atom = number | "true" | "false" | name | name "[" expr "]"
     //      | "len" "(" name ")" | "(" expr ")"
@@ -188,6 +224,11 @@ fn named(alloc: Global, tokens: &[Spanned]) -> Result<(Atom, &[Spanned]), Stuck>
     ensures shorter { IfOk result (λ read. length read.1.now < length tokens.now) }
     ensures spelled { IfOk result (λ read.
         plain tokens.now ≡ atom_then (atom_tree read.0) (plain read.1.now)) }
+    ensures whole { IfOk result (λ read.
+        Leaves atom_then bracket_level (plain tokens.now) (plain read.1.now)) }
+    ensures refused { IfErr result (λ stuck. stuck ≢ Stuck.OutOfMemory
+        → (name : List ℕ) (rest : List PlainToken) → plain tokens.now ≡ NameToken name ∷ rest
+        → SpellsNone atom_then bracket_level (plain tokens.now)) }
 {
     // name | name "[" expr "]"
     let (name, rest) = cursor::name(tokens)?;
@@ -217,6 +258,12 @@ fn enclosed(
     ensures spelled { IfOk result (λ read.
         plain tokens.now
         ≡ expr_then (expr_tree read.0.value) (MarkToken closing ∷ plain read.1.now)) }
+    ensures whole { IfOk result (λ read. mark_binds closing < or_level
+        → LeavesClosed (λ inner rest. expr_then inner (MarkToken closing ∷ rest))
+        (plain tokens.now) (plain read.1.now)) }
+    ensures refused { IfErr result (λ stuck. stuck ≢ Stuck.OutOfMemory → mark_binds closing < or_level
+        → SpellsNoneClosed (λ inner rest. expr_then inner (MarkToken closing ∷ rest))
+        (plain tokens.now)) }
 {
     // expr ")" | expr "]"
     let (inner, left) = expr(alloc, tokens)?;
@@ -229,6 +276,12 @@ fn constant(tokens: &[Spanned]) -> Result<(Atom, &[Spanned]), Stuck>
     ensures shorter { IfOk result (λ read. length read.1.now < length tokens.now) }
     ensures spelled { IfOk result (λ read.
         plain tokens.now ≡ atom_then (atom_tree read.0) (plain read.1.now)) }
+    ensures whole { IfOk result (λ read.
+        Leaves atom_then bracket_level (plain tokens.now) (plain read.1.now)) }
+    ensures refused { IfErr result (λ stuck. stuck ≢ Stuck.OutOfMemory
+        → ((name : List ℕ) (rest : List PlainToken) → plain tokens.now ≢ NameToken name ∷ rest)
+        → ((mark : AnyMark) (rest : List PlainToken) → plain tokens.now ≢ MarkToken mark ∷ rest)
+        → SpellsNone atom_then bracket_level (plain tokens.now)) }
 {
     // number | "true" | "false" | "len" "(" name ")"
     if let Some(rest) = cursor::after_word(tokens, Word::True) {
@@ -252,6 +305,8 @@ fn relation(tokens: &[Spanned]) -> Option<(Relation, &[Spanned])>
     ensures shorter { IfSome result (λ read. length read.1.now < length tokens.now) }
     ensures found { IfSome result (λ read.
         plain tokens.now ≡ MarkToken (relation_mark read.0) ∷ plain read.1.now) }
+    ensures absent { IfNone result ((relation : AnyRelation) (rest : List PlainToken)
+        → plain tokens.now ≢ MarkToken (relation_mark relation) ∷ rest) }
 {
     let (first, rest) = tokens.split_first()?;
     let Token::Mark(mark) = &first.token else {
@@ -273,6 +328,8 @@ fn sign(tokens: &[Spanned]) -> Option<(Sign, &[Spanned])>
     ensures shorter { IfSome result (λ read. length read.1.now < length tokens.now) }
     ensures found { IfSome result (λ read.
         plain tokens.now ≡ MarkToken (sign_mark read.0) ∷ plain read.1.now) }
+    ensures absent { IfNone result ((sign : AnySign) (rest : List PlainToken)
+        → plain tokens.now ≢ MarkToken (sign_mark sign) ∷ rest) }
 {
     let (first, rest) = tokens.split_first()?;
     let Token::Mark(mark) = &first.token else {
@@ -290,6 +347,8 @@ fn operator(tokens: &[Spanned]) -> Option<(Operator, &[Spanned])>
     ensures shorter { IfSome result (λ read. length read.1.now < length tokens.now) }
     ensures found { IfSome result (λ read.
         plain tokens.now ≡ MarkToken (operator_mark read.0) ∷ plain read.1.now) }
+    ensures absent { IfNone result ((operator : AnyOperator) (rest : List PlainToken)
+        → plain tokens.now ≢ MarkToken (operator_mark operator) ∷ rest) }
 {
     let (first, rest) = tokens.split_first()?;
     let Token::Mark(mark) = &first.token else {
@@ -312,6 +371,10 @@ pub fn more(
     ensures shorter { IfOk result (λ read. length read.1.now ≤ length tokens.now) }
     ensures spelled { IfOk result (λ read.
         AddsExprs earlier.items read.0.items (plain tokens.now) (plain read.1.now)) }
+    ensures whole { IfOk result (λ read.
+        Leaves more_then list_level (plain tokens.now) (plain read.1.now)) }
+    ensures refused { IfErr result (λ stuck. stuck ≢ Stuck.OutOfMemory
+        → SpellsNone more_then list_level (plain tokens.now)) }
 {
     // { "," expr }
     let mut exprs = earlier;

@@ -1,10 +1,11 @@
 //! Texts as tokens.
 
-ghost use Rattle.std.specs.Prelude.{◌≡◌, ◌<◌, ◌≤◌, true, false, [], ◌∷◌, length, IfOk, IfSome, IfNone};
+ghost use Rattle.std.specs.Prelude.{◌≡◌, ◌<◌, ◌≤◌, true, false, [], ◌∷◌, length, IfOk, IfErr, IfSome, IfNone};
 ghost use Rattle.std.specs.Char.{is_ascii_digit};
 ghost use Rattle.std.specs.List.{list_all, prefix_len};
 ghost use Rattle.std.specs.String.{string_bytes};
-ghost use Rattle.syntax.specs.Lexical.{begins_name, is_blank, is_in_name, is_in_line, begins_comment, number_of, starts, MarkPiece, Begins, Reads, SpellsWord, AreTokensOf};
+ghost use Rattle.syntax.specs.Lexical.{begins_name, is_blank, is_in_name, is_in_line, begins_comment, number_of, starts, MarkPiece, Begins, BeginsNoMark, Reads, SpellsWord, AreTokensOf};
+ghost use Rattle.syntax.specs.Refusals.{ArePlaced, BeginsNoToken, TellsUnread};
 ghost use Rattle.syntax.specs.Token.{token as token_tree, plain};
 
 use crate::token::{Mark, Spanned, Token, Word};
@@ -45,7 +46,9 @@ impl<T: Drop> From<AllocFailed<T>> for Unread {
 
 /// The tokens of a text, or the first place where there is none.
 pub fn tokens(alloc: Global, text: &[char]) -> Result<Vec<Spanned>, Unread>
-    ensures { IfOk result (λ found. AreTokensOf text.now (plain found.items)) }
+    ensures read { IfOk result (λ found. AreTokensOf text.now (plain found.items)) }
+    ensures placed { IfOk result (λ found. ArePlaced text.now found.items) }
+    ensures unread { IfErr result (TellsUnread text.now) }
 {
     let mut tokens = Vec::new(alloc);
     let mut rest = text;
@@ -66,7 +69,8 @@ pub fn tokens(alloc: Global, text: &[char]) -> Result<Vec<Spanned>, Unread>
 fn blank(chars: &[char]) -> Option<&[char]>
     ensures shorter { IfSome result (λ rest. length rest.now < length chars.now) }
     ensures found { IfSome result (λ rest. Reads chars.now [] rest.now) }
-    ensures absent { IfNone result (begins_comment chars.now ≡ false) }
+    ensures no_blank { IfNone result (starts is_blank chars.now ≡ false) }
+    ensures no_comment { IfNone result (begins_comment chars.now ≡ false) }
 {
     let (first, after) = chars.split_first()?;
     if is_blank(*first) {
@@ -96,9 +100,11 @@ fn line_length(chars: &[char]) -> usize
 
 /// The token that stands first, the longest, and the characters behind it.
 fn token(alloc: Global, chars: &[char]) -> Result<(Token, &[char]), Unread>
-    requires { begins_comment chars.now ≡ false }
+    requires no_blank { starts is_blank chars.now ≡ false }
+    requires no_comment { begins_comment chars.now ≡ false }
     ensures shorter { IfOk result (λ read. length read.1.now < length chars.now) }
     ensures found { IfOk result (λ read. Reads chars.now (token_tree read.0 ∷ []) read.1.now) }
+    ensures absent { IfErr result (BeginsNoToken chars.now) }
 {
     let Some((first, _)) = chars.split_first() else {
         return Err(Unread::NotACharacter { left: 0 });
@@ -173,6 +179,8 @@ fn text_of(alloc: Global, letters: &[char]) -> Result<String, AllocError>
 fn value_of(digits: &[char]) -> Option<u64>
     ensures found { IfSome result (λ value. value ≡ number_of digits.now) }
     ensures small { IfSome result (λ value. value ≤ MOST) }
+    ensures large { list_all is_ascii_digit digits.now ≡ true
+        → IfNone result (MOST < number_of digits.now) }
 {
     let mut value = 0u64;
     for c in digits {
@@ -187,6 +195,7 @@ fn mark(chars: &[char]) -> Option<(Mark, &[char])>
     requires { begins_comment chars.now ≡ false }
     ensures found { IfSome result (λ read. Begins chars.now (MarkPiece read.0) read.1.now) }
     ensures shorter { IfSome result (λ read. length read.1.now < length chars.now) }
+    ensures absent { IfNone result (BeginsNoMark chars.now) }
 {
     let (first, after) = chars.split_first()?;
     if let Some((second, behind)) = after.split_first() {

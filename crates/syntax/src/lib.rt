@@ -7,10 +7,12 @@ pub mod cursor;
 pub mod error;
 pub mod expression_text;
 pub mod expressions;
+pub mod laws;
 pub mod lexer;
 pub mod parser;
 pub mod place;
 pub mod programs;
+pub mod spelling_laws;
 pub mod statements;
 #[cfg(test)]
 mod tests;

@@ -1,12 +1,13 @@
 //! Texts as programs.
 
-ghost use Rattle.std.specs.Prelude.{◌≡◌, ◌≢◌, ◌↔◌, ◌<◌, ◌≤◌, ◌^◌, length, vec_len, IfOk, IfNone, OnSome};
+ghost use Rattle.std.specs.Prelude.{◌≡◌, ◌≢◌, ◌↔◌, ◌<◌, ◌≤◌, ◌^◌, length, vec_len, IfOk, IfErr, IfNone, IfSome, MatchResult};
 ghost use Rattle.std.specs.Str.{chars};
 ghost use Rattle.syntax.specs.Brackets.{AreShallow, open_behind};
 ghost use Rattle.syntax.specs.Lexical.{AreTokensOf};
+ghost use Rattle.syntax.specs.Refusals.{ArePlaced, BeginsToken, OpensTooMany, Tells, TellsOf, TellsUnread};
 ghost use Rattle.syntax.specs.Spelling.{spelling};
 ghost use Rattle.syntax.specs.Token.{plain, token as token_tree};
-ghost use Rattle.syntax.specs.Tree.{program as program_tree};
+ghost use Rattle.syntax.specs.Tree.{Program as ProgramTree, program as program_tree};
 
 use crate::cursor::Stuck;
 use crate::error::SyntaxError;
@@ -28,6 +29,10 @@ pub fn parse(alloc: Global, text: &str) -> Result<Program, SyntaxError>
     ensures spelled { IfOk result (λ read.
         AreTokensOf (chars text.now) (spelling (program_tree read))) }
     ensures shallow { IfOk result (λ read. AreShallow 0 (spelling (program_tree read))) }
+    ensures error { IfErr result (Tells text.now) }
+    ensures complete { (p : ProgramTree) → AreTokensOf (chars text.now) (spelling p)
+        → AreShallow 0 (spelling p) → length text.now ≤ MOST_BYTES
+        → MatchResult result (λ read. program_tree read ≡ p) (λ e. e ≡ SyntaxError.OutOfMemory) }
     ensures too_long { (result ≡ Err SyntaxError.TooLong) ↔ (MOST_BYTES < length text.now) }
 {
     if text.len() > MOST_BYTES {
@@ -50,7 +55,7 @@ fn program(alloc: Global, text: &[char]) -> Result<Program, SyntaxError>
     requires { length text.now < 2 ^ 31 }
     ensures spelled { IfOk result (λ read. AreTokensOf text.now (spelling (program_tree read))) }
     ensures shallow { IfOk result (λ read. AreShallow 0 (spelling (program_tree read))) }
-    ensures not_too_long { result ≢ Err SyntaxError.TooLong }
+    ensures error { IfErr result (TellsOf text.now) }
 {
     let tokens = match lexer::tokens(alloc, text) {
         Ok(tokens) => tokens,
@@ -69,8 +74,9 @@ fn program(alloc: Global, text: &[char]) -> Result<Program, SyntaxError>
 
 /// Where the text has no token.
 fn no_tokens(text: &[char], unread: Unread) -> SyntaxError
-    requires { length text.now < 2 ^ 31 }
-    ensures { result ≢ SyntaxError.TooLong }
+    requires short { length text.now < 2 ^ 31 }
+    requires told { TellsUnread text.now unread }
+    ensures { TellsOf text.now result }
 {
     match unread {
         Unread::NotACharacter { left } => SyntaxError::NotACharacter {
@@ -85,27 +91,37 @@ fn no_tokens(text: &[char], unread: Unread) -> SyntaxError
 
 /// Where the tokens spell no program.
 fn no_program(text: &[char], tokens: &[Spanned], stuck: Stuck) -> SyntaxError
-    requires { length text.now < 2 ^ 31 }
-    ensures { result ≢ SyntaxError.TooLong }
+    requires short { length text.now < 2 ^ 31 }
+    requires read { AreTokensOf text.now (plain tokens.now) }
+    requires shallow { AreShallow 0 (plain tokens.now) }
+    requires placed { ArePlaced text.now tokens.now }
+    requires refused { stuck ≢ Stuck.OutOfMemory
+        → (p : ProgramTree) → plain tokens.now ≢ spelling p }
+    ensures { TellsOf text.now result }
 {
     match stuck {
-        Stuck::Unexpected { left } => {
-            let at = match tokens.get(tokens.len().saturating_sub(left)) {
-                Some(token) => token.at,
-                None => text.len(),
-            };
-            SyntaxError::UnexpectedToken {
-                place: Place::of(text, at),
-            }
-        }
+        Stuck::Unexpected { left } => SyntaxError::UnexpectedToken {
+            place: Place::of(text, beginning(text, tokens, left)),
+        },
         Stuck::OutOfMemory => SyntaxError::OutOfMemory,
+    }
+}
+
+/// Where the token begins from which on so many are left, or where the text ends.
+fn beginning(text: &[char], tokens: &[Spanned], left: usize) -> usize
+    requires { ArePlaced text.now tokens.now }
+    ensures { BeginsToken text.now result }
+{
+    match tokens.get(tokens.len().saturating_sub(left)) {
+        Some(token) => token.at,
+        None => text.len(),
     }
 }
 
 /// The bracket by which too many are open.
 fn too_deep(tokens: &[Spanned]) -> Option<usize>
     ensures none { IfNone result (AreShallow 0 (plain tokens.now)) }
-    ensures some { OnSome result (AreShallow 0 (plain tokens.now) → ⊥) }
+    ensures some { IfSome result (OpensTooMany tokens.now) }
 {
     let mut count = 0usize;
     for spanned in tokens {

@@ -1,6 +1,7 @@
 //! Places in a text.
 
-ghost use Rattle.std.specs.Prelude.{◌<◌, ◌^◌, length};
+ghost use Rattle.std.specs.Prelude.{◌≡◌, ◌<◌, ◌^◌, length};
+ghost use Rattle.syntax.specs.Place.{place_at};
 
 /// A line and a column, both from 1. A line ends at a line feed alone; columns count characters.
 #[derive(Clone, Copy, PartialEq, Eq, Debug)]
@@ -13,6 +14,7 @@ impl Place {
     /// The place of the character with this number from 0, or the one just behind the text.
     pub fn of(text: &[char], at: usize) -> Place
         requires { length text.now < 2 ^ 31 }
+        ensures { result ≡ place_at text.now at }
     {
         let mut line = 1;
         let mut column = 1;

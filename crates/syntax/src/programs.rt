@@ -1,10 +1,12 @@
 //! Programs, procedures and declarations, one function for each production.
 
-ghost use Rattle.std.specs.Prelude.{◌≡◌, ◌<◌, ◌≤◌, ◌∷◌, [], length, map, IfOk};
+ghost use Rattle.std.specs.Prelude.{◌≡◌, ◌≢◌, ◌<◌, ◌≤◌, ℕ, List, ◌∷◌, [], length, map, IfOk, IfErr};
 ghost use Rattle.std.specs.String.{string_bytes};
+ghost use Rattle.syntax.specs.declared.tree.ElementType.{ElementType as AnyElement};
+ghost use Rattle.syntax.specs.Reading.{Leaves, LeavesClosed, SpellsNone, SpellsNoneClosed, list_level};
 ghost use Rattle.syntax.specs.Spelling.{arrays_then, block_then, element_word, main_tokens, parameter_then, parameters_then, procedures_then, spelling};
-ghost use Rattle.syntax.specs.Token.{NameToken, WordToken, MarkToken, plain};
-ghost use Rattle.syntax.specs.Tree.{array as array_tree, block, parameter as parameter_tree, procedure as procedure_tree, program as program_tree};
+ghost use Rattle.syntax.specs.Token.{Token as PlainToken, NameToken, WordToken, MarkToken, plain};
+ghost use Rattle.syntax.specs.Tree.{Main as MainTree, Program as ProgramTree, array as array_tree, block, parameter as parameter_tree, procedure as procedure_tree, program as program_tree};
 
 use crate::cursor::Stuck;
 use crate::token::{Mark, Spanned, Word};
@@ -15,6 +17,8 @@ use std::alloc::Global;
 /// Reads a whole program.
 pub fn program(alloc: Global, tokens: &[Spanned]) -> Result<Program, Stuck>
     ensures spelled { IfOk result (λ read. plain tokens.now ≡ spelling (program_tree read)) }
+    ensures refused { IfErr result (λ stuck. stuck ≢ Stuck.OutOfMemory
+        → (program : ProgramTree) → plain tokens.now ≢ spelling program) }
 {
     // program = { proc } [ "main" "{" { array } { stmt } "}" ]
     let mut procedures = Vec::new(alloc);
@@ -46,6 +50,15 @@ fn main(alloc: Global, tokens: &[Spanned]) -> Result<(Main, &[Spanned]), Stuck>
         plain tokens.now ≡ WordToken Word.Main ∷ MarkToken Mark.LeftBrace
         ∷ arrays_then (map array_tree read.0.arrays.items)
         (block_then (block read.0.body.items) (plain read.1.now))) }
+    ensures whole { IfOk result (λ read.
+        (main : MainTree) (rest : List PlainToken)
+        → plain tokens.now ≡ WordToken Word.Main ∷ MarkToken Mark.LeftBrace
+        ∷ arrays_then main.arrays (block_then main.body rest)
+        → plain read.1.now ≡ rest) }
+    ensures refused { IfErr result (λ stuck. stuck ≢ Stuck.OutOfMemory
+        → (main : MainTree) (rest : List PlainToken)
+        → plain tokens.now ≢ WordToken Word.Main ∷ MarkToken Mark.LeftBrace
+        ∷ arrays_then main.arrays (block_then main.body rest)) }
 {
     // "main" "{" { array } { stmt } "}"
     let rest = cursor::word(tokens, Word::Main)?;
@@ -59,6 +72,10 @@ fn arrays(alloc: Global, tokens: &[Spanned]) -> Result<(Vec<Array>, &[Spanned]),
     ensures shorter { IfOk result (λ read. length read.1.now ≤ length tokens.now) }
     ensures spelled { IfOk result (λ read.
         plain tokens.now ≡ arrays_then (map array_tree read.0.items) (plain read.1.now)) }
+    ensures whole { IfOk result (λ read.
+        Leaves arrays_then list_level (plain tokens.now) (plain read.1.now)) }
+    ensures refused { IfErr result (λ stuck. stuck ≢ Stuck.OutOfMemory
+        → SpellsNone arrays_then list_level (plain tokens.now)) }
 {
     // { array }
     let mut arrays = Vec::new(alloc);
@@ -76,6 +93,12 @@ fn array(tokens: &[Spanned]) -> Result<(Array, &[Spanned]), Stuck>
     ensures spelled { IfOk result (λ read.
         WordToken Word.Array ∷ plain tokens.now
         ≡ arrays_then (array_tree read.0 ∷ []) (plain read.1.now)) }
+    ensures whole { IfOk result (λ read.
+        LeavesClosed (λ array rest. arrays_then (array ∷ []) rest)
+        (WordToken Word.Array ∷ plain tokens.now) (plain read.1.now)) }
+    ensures refused { IfErr result (λ stuck. stuck ≢ Stuck.OutOfMemory
+        → SpellsNoneClosed (λ array rest. arrays_then (array ∷ []) rest)
+        (WordToken Word.Array ∷ plain tokens.now)) }
 {
     // array = "array" name ":" elem "[" number "]" ";", its first word read
     let (name, rest) = cursor::name(tokens)?;
@@ -99,6 +122,12 @@ fn element_type(tokens: &[Spanned]) -> Result<(ElementType, &[Spanned]), Stuck>
     ensures shorter { IfOk result (λ read. length read.1.now < length tokens.now) }
     ensures spelled { IfOk result (λ read.
         plain tokens.now ≡ WordToken (element_word read.0) ∷ plain read.1.now) }
+    ensures whole { IfOk result (λ read.
+        LeavesClosed (λ element rest. WordToken (element_word element) ∷ rest)
+        (plain tokens.now) (plain read.1.now)) }
+    ensures refused { IfErr result (λ stuck. stuck ≢ Stuck.OutOfMemory
+        → SpellsNoneClosed (λ element rest. WordToken (element_word element) ∷ rest)
+        (plain tokens.now)) }
 {
     // elem = "int" | "byte"
     if let Some(rest) = cursor::after_word(tokens, Word::Int) {
@@ -113,6 +142,12 @@ fn procedure(alloc: Global, tokens: &[Spanned]) -> Result<(Procedure, &[Spanned]
     ensures spelled { IfOk result (λ read.
         WordToken Word.Proc ∷ plain tokens.now
         ≡ procedures_then (procedure_tree read.0 ∷ []) (plain read.1.now)) }
+    ensures whole { IfOk result (λ read.
+        LeavesClosed (λ procedure rest. procedures_then (procedure ∷ []) rest)
+        (WordToken Word.Proc ∷ plain tokens.now) (plain read.1.now)) }
+    ensures refused { IfErr result (λ stuck. stuck ≢ Stuck.OutOfMemory
+        → SpellsNoneClosed (λ procedure rest. procedures_then (procedure ∷ []) rest)
+        (WordToken Word.Proc ∷ plain tokens.now)) }
 {
     // proc = "proc" name "(" [ param { "," param } ] ")" block, its first word read
     let (name, rest) = cursor::name(tokens)?;
@@ -136,6 +171,12 @@ fn parameters(alloc: Global, tokens: &[Spanned]) -> Result<(Vec<Parameter>, &[Sp
         plain tokens.now
         ≡ parameters_then (map parameter_tree read.0.items)
         (MarkToken Mark.RightParen ∷ plain read.1.now)) }
+    ensures whole { IfOk result (λ read.
+        LeavesClosed (λ all rest. parameters_then all (MarkToken Mark.RightParen ∷ rest))
+        (plain tokens.now) (plain read.1.now)) }
+    ensures refused { IfErr result (λ stuck. stuck ≢ Stuck.OutOfMemory
+        → SpellsNoneClosed (λ all rest. parameters_then all (MarkToken Mark.RightParen ∷ rest))
+        (plain tokens.now)) }
 {
     // [ param { "," param } ] ")"
     let mut parameters = Vec::new(alloc);
@@ -157,6 +198,10 @@ fn parameter(tokens: &[Spanned]) -> Result<(Parameter, &[Spanned]), Stuck>
     ensures shorter { IfOk result (λ read. length read.1.now < length tokens.now) }
     ensures spelled { IfOk result (λ read.
         plain tokens.now ≡ parameter_then (parameter_tree read.0) (plain read.1.now)) }
+    ensures whole { IfOk result (λ read.
+        LeavesClosed parameter_then (plain tokens.now) (plain read.1.now)) }
+    ensures refused { IfErr result (λ stuck. stuck ≢ Stuck.OutOfMemory
+        → SpellsNoneClosed parameter_then (plain tokens.now)) }
 {
     // param = ( "mut" | "read" ) name ":" elem | name ":" "int"
     if let Some(rest) = cursor::after_word(tokens, Word::Mut) {
@@ -179,6 +224,14 @@ fn section(tokens: &[Spanned]) -> Result<(String, ElementType, &[Spanned]), Stuc
     ensures spelled { IfOk result (λ read.
         plain tokens.now ≡ NameToken (string_bytes read.0) ∷ MarkToken Mark.Colon
         ∷ WordToken (element_word read.1) ∷ plain read.2.now) }
+    ensures whole { IfOk result (λ read.
+        (name : List ℕ) (element : AnyElement) (rest : List PlainToken)
+        → plain tokens.now ≡ NameToken name ∷ MarkToken Mark.Colon
+        ∷ WordToken (element_word element) ∷ rest → plain read.2.now ≡ rest) }
+    ensures refused { IfErr result (λ stuck. stuck ≢ Stuck.OutOfMemory
+        → (name : List ℕ) (element : AnyElement) (rest : List PlainToken)
+        → plain tokens.now ≢ NameToken name ∷ MarkToken Mark.Colon
+        ∷ WordToken (element_word element) ∷ rest) }
 {
     // name ":" elem
     let (name, rest) = cursor::name(tokens)?;

@@ -1,8 +1,10 @@
 //! Statements and blocks, one function for each production.
 
-ghost use Rattle.std.specs.Prelude.{◌≡◌, ◌<◌, ◌∷◌, length, IfOk};
+ghost use Rattle.std.specs.Prelude.{◌≡◌, ◌≢◌, ◌<◌, List, ◌∷◌, length, IfOk, IfErr};
+ghost use Rattle.syntax.specs.declared.token.Word.{Word as AnyWord};
+ghost use Rattle.syntax.specs.Reading.{Leaves, LeavesClosed, SpellsNone, SpellsNoneClosed, else_level};
 ghost use Rattle.syntax.specs.Spelling.{expr_then, exprs_then, stmt_then, block_then};
-ghost use Rattle.syntax.specs.Token.{WordToken, MarkToken, plain};
+ghost use Rattle.syntax.specs.Token.{Token as PlainToken, WordToken, MarkToken, plain};
 ghost use Rattle.syntax.specs.Tree.{expr as expr_tree, exprs, stmt, block as block_tree};
 
 use crate::cursor::Stuck;
@@ -17,6 +19,10 @@ pub fn statements(alloc: Global, tokens: &[Spanned]) -> Result<(Vec<Stmt>, &[Spa
     ensures shorter { IfOk result (λ read. length read.1.now < length tokens.now) }
     ensures spelled { IfOk result (λ read.
         plain tokens.now ≡ block_then (block_tree read.0.items) (plain read.1.now)) }
+    ensures whole { IfOk result (λ read.
+        LeavesClosed block_then (plain tokens.now) (plain read.1.now)) }
+    ensures refused { IfErr result (λ stuck. stuck ≢ Stuck.OutOfMemory
+        → SpellsNoneClosed block_then (plain tokens.now)) }
 {
     // { stmt } "}"
     let mut body = Vec::new(alloc);
@@ -38,6 +44,12 @@ pub fn block(alloc: Global, tokens: &[Spanned]) -> Result<(Vec<Stmt>, &[Spanned]
     ensures spelled { IfOk result (λ read.
         plain tokens.now
         ≡ MarkToken Mark.LeftBrace ∷ block_then (block_tree read.0.items) (plain read.1.now)) }
+    ensures whole { IfOk result (λ read.
+        LeavesClosed (λ body rest. MarkToken Mark.LeftBrace ∷ block_then body rest)
+        (plain tokens.now) (plain read.1.now)) }
+    ensures refused { IfErr result (λ stuck. stuck ≢ Stuck.OutOfMemory
+        → SpellsNoneClosed (λ body rest. MarkToken Mark.LeftBrace ∷ block_then body rest)
+        (plain tokens.now)) }
 {
     // block = "{" { stmt } "}"
     let rest = cursor::mark(tokens, Mark::LeftBrace)?;
@@ -49,6 +61,10 @@ fn statement(alloc: Global, tokens: &[Spanned]) -> Result<(Stmt, &[Spanned]), St
     ensures shorter { IfOk result (λ read. length read.1.now < length tokens.now) }
     ensures spelled { IfOk result (λ read.
         plain tokens.now ≡ stmt_then (stmt read.0) (plain read.1.now)) }
+    ensures whole { IfOk result (λ read.
+        Leaves stmt_then else_level (plain tokens.now) (plain read.1.now)) }
+    ensures refused { IfErr result (λ stuck. stuck ≢ Stuck.OutOfMemory
+        → SpellsNone stmt_then else_level (plain tokens.now)) }
 {
     let Some((word, rest)) = cursor::first_word(tokens) else {
         return named(alloc, tokens);
@@ -76,6 +92,10 @@ fn conditional(alloc: Global, tokens: &[Spanned]) -> Result<(Stmt, &[Spanned]), 
     ensures shorter { IfOk result (λ read. length read.1.now < length tokens.now) }
     ensures spelled { IfOk result (λ read.
         WordToken Word.If ∷ plain tokens.now ≡ stmt_then (stmt read.0) (plain read.1.now)) }
+    ensures whole { IfOk result (λ read.
+        Leaves stmt_then else_level (WordToken Word.If ∷ plain tokens.now) (plain read.1.now)) }
+    ensures refused { IfErr result (λ stuck. stuck ≢ Stuck.OutOfMemory
+        → SpellsNone stmt_then else_level (WordToken Word.If ∷ plain tokens.now)) }
 {
     // "if" expr block [ "else" block ], its first word read
     let (guard, rest) = expressions::expr(alloc, tokens)?;
@@ -108,6 +128,10 @@ fn repeated(alloc: Global, tokens: &[Spanned]) -> Result<(Stmt, &[Spanned]), Stu
     ensures shorter { IfOk result (λ read. length read.1.now < length tokens.now) }
     ensures spelled { IfOk result (λ read.
         WordToken Word.While ∷ plain tokens.now ≡ stmt_then (stmt read.0) (plain read.1.now)) }
+    ensures whole { IfOk result (λ read.
+        Leaves stmt_then else_level (WordToken Word.While ∷ plain tokens.now) (plain read.1.now)) }
+    ensures refused { IfErr result (λ stuck. stuck ≢ Stuck.OutOfMemory
+        → SpellsNone stmt_then else_level (WordToken Word.While ∷ plain tokens.now)) }
 {
     // "while" expr block, its first word read
     let (guard, rest) = expressions::expr(alloc, tokens)?;
@@ -120,6 +144,10 @@ fn split(alloc: Global, tokens: &[Spanned]) -> Result<(Stmt, &[Spanned]), Stuck>
     ensures shorter { IfOk result (λ read. length read.1.now < length tokens.now) }
     ensures spelled { IfOk result (λ read.
         WordToken Word.Split ∷ plain tokens.now ≡ stmt_then (stmt read.0) (plain read.1.now)) }
+    ensures whole { IfOk result (λ read.
+        Leaves stmt_then else_level (WordToken Word.Split ∷ plain tokens.now) (plain read.1.now)) }
+    ensures refused { IfErr result (λ stuck. stuck ≢ Stuck.OutOfMemory
+        → SpellsNone stmt_then else_level (WordToken Word.Split ∷ plain tokens.now)) }
 {
     // "split" name "at" expr "as" name "," name block, its first word read
     let (section, rest) = cursor::name(tokens)?;
@@ -147,6 +175,13 @@ fn simple(alloc: Global, tokens: &[Spanned]) -> Result<(Stmt, &[Spanned]), Stuck
     ensures shorter { IfOk result (λ read. length read.1.now < length tokens.now) }
     ensures spelled { IfOk result (λ read.
         plain tokens.now ≡ stmt_then (stmt read.0) (plain read.1.now)) }
+    ensures whole { IfOk result (λ read.
+        Leaves stmt_then else_level (plain tokens.now) (plain read.1.now)) }
+    ensures refused { IfErr result (λ stuck. stuck ≢ Stuck.OutOfMemory
+        → (word : AnyWord) (rest : List PlainToken) → plain tokens.now ≡ WordToken word ∷ rest
+        → word ≢ Word.If → word ≢ Word.While → word ≢ Word.Split
+        → word ≢ Word.Async → word ≢ Word.Finish
+        → SpellsNone stmt_then else_level (plain tokens.now)) }
 {
     if let Some(rest) = cursor::after_word(tokens, Word::Skip) {
         // stmt = "skip" ";"
@@ -171,6 +206,12 @@ fn ended(alloc: Global, tokens: &[Spanned]) -> Result<(Expr, &[Spanned]), Stuck>
     ensures spelled { IfOk result (λ read.
         plain tokens.now
         ≡ expr_then (expr_tree read.0) (MarkToken Mark.Semicolon ∷ plain read.1.now)) }
+    ensures whole { IfOk result (λ read.
+        LeavesClosed (λ value rest. expr_then value (MarkToken Mark.Semicolon ∷ rest))
+        (plain tokens.now) (plain read.1.now)) }
+    ensures refused { IfErr result (λ stuck. stuck ≢ Stuck.OutOfMemory
+        → SpellsNoneClosed (λ value rest. expr_then value (MarkToken Mark.Semicolon ∷ rest))
+        (plain tokens.now)) }
 {
     // expr ";"
     let (value, rest) = expressions::expr(alloc, tokens)?;
@@ -182,6 +223,10 @@ fn declared(alloc: Global, tokens: &[Spanned]) -> Result<(Stmt, &[Spanned]), Stu
     ensures shorter { IfOk result (λ read. length read.1.now < length tokens.now) }
     ensures spelled { IfOk result (λ read.
         WordToken Word.Var ∷ plain tokens.now ≡ stmt_then (stmt read.0) (plain read.1.now)) }
+    ensures whole { IfOk result (λ read.
+        Leaves stmt_then else_level (WordToken Word.Var ∷ plain tokens.now) (plain read.1.now)) }
+    ensures refused { IfErr result (λ stuck. stuck ≢ Stuck.OutOfMemory
+        → SpellsNone stmt_then else_level (WordToken Word.Var ∷ plain tokens.now)) }
 {
     // "var" name "=" expr ";", its first word read
     let (name, rest) = cursor::name(tokens)?;
@@ -194,6 +239,10 @@ fn printed(alloc: Global, tokens: &[Spanned]) -> Result<(Stmt, &[Spanned]), Stuc
     ensures shorter { IfOk result (λ read. length read.1.now < length tokens.now) }
     ensures spelled { IfOk result (λ read.
         WordToken Word.Print ∷ plain tokens.now ≡ stmt_then (stmt read.0) (plain read.1.now)) }
+    ensures whole { IfOk result (λ read.
+        Leaves stmt_then else_level (WordToken Word.Print ∷ plain tokens.now) (plain read.1.now)) }
+    ensures refused { IfErr result (λ stuck. stuck ≢ Stuck.OutOfMemory
+        → SpellsNone stmt_then else_level (WordToken Word.Print ∷ plain tokens.now)) }
 {
     // "print" expr { "," expr } ";", its first word read
     let (first, rest) = expressions::expr(alloc, tokens)?;
@@ -213,6 +262,11 @@ fn named(alloc: Global, tokens: &[Spanned]) -> Result<(Stmt, &[Spanned]), Stuck>
     ensures shorter { IfOk result (λ read. length read.1.now < length tokens.now) }
     ensures spelled { IfOk result (λ read.
         plain tokens.now ≡ stmt_then (stmt read.0) (plain read.1.now)) }
+    ensures whole { IfOk result (λ read.
+        Leaves stmt_then else_level (plain tokens.now) (plain read.1.now)) }
+    ensures refused { IfErr result (λ stuck. stuck ≢ Stuck.OutOfMemory
+        → ((word : AnyWord) (rest : List PlainToken) → plain tokens.now ≢ WordToken word ∷ rest)
+        → SpellsNone stmt_then else_level (plain tokens.now)) }
 {
     let (name, rest) = cursor::name(tokens)?;
     if let Some(rest) = cursor::after_mark(rest, Mark::LeftBracket) {
@@ -254,6 +308,12 @@ fn arguments(alloc: Global, tokens: &[Spanned]) -> Result<(Vec<Expr>, &[Spanned]
     ensures spelled { IfOk result (λ read.
         plain tokens.now
         ≡ exprs_then (exprs read.0.items) (MarkToken Mark.RightParen ∷ plain read.1.now)) }
+    ensures whole { IfOk result (λ read.
+        LeavesClosed (λ all rest. exprs_then all (MarkToken Mark.RightParen ∷ rest))
+        (plain tokens.now) (plain read.1.now)) }
+    ensures refused { IfErr result (λ stuck. stuck ≢ Stuck.OutOfMemory
+        → SpellsNoneClosed (λ all rest. exprs_then all (MarkToken Mark.RightParen ∷ rest))
+        (plain tokens.now)) }
 {
     // [ expr { "," expr } ] ")"
     let mut arguments = Vec::new(alloc);

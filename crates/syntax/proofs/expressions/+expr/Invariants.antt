@@ -1,4 +1,5 @@
 use Rattle.std.proofs.Common.{◌≡◌, ◌<◌, length, ◌+◌, ◌*◌}
+use Rattle.syntax.specs.Reading.{LeavesEnd, or_level, and_level, sign_level, operator_level}
 use Rattle.syntax.specs.Spelling.{conj_then, conjs_then, neg_then, negs_then, prod_then, terms_then, unary_then, factors_then}
 use Rattle.syntax.specs.Token.{plain}
 use Rattle.syntax.specs.Tree.{conj, conjs, neg, negs, prod, terms, unary, factors}
@@ -40,6 +41,7 @@ abbrev pub invariant-expr-loop-after : goal.invariant-expr-loop-after
 invariant-expr-loop-after l = record {
   shorter : length l.left < length l.fn.tokens;
   spelled : plain l.fn.tokens ≡ conj_then (conj l.first) (conjs_then (conjs l.rest.items) (plain l.left));
+  whole : LeavesEnd conj_then conjs_then or_level (plain l.fn.tokens) (plain l.left);
 }
 
 abbrev pub decreases-expr-loop-after : goal.decreases-expr-loop-after
@@ -49,6 +51,7 @@ abbrev pub invariant-conj-loop-after : goal.invariant-conj-loop-after
 invariant-conj-loop-after l = record {
   shorter : length l.left < length l.fn.tokens;
   spelled : plain l.fn.tokens ≡ neg_then (neg l.first) (negs_then (negs l.rest.items) (plain l.left));
+  whole : LeavesEnd neg_then negs_then and_level (plain l.fn.tokens) (plain l.left);
 }
 
 abbrev pub decreases-conj-loop-after : goal.decreases-conj-loop-after
@@ -58,6 +61,7 @@ abbrev pub invariant-sum-loop-sign : goal.invariant-sum-loop-sign
 invariant-sum-loop-sign l = record {
   shorter : length l.left < length l.fn.tokens;
   spelled : plain l.fn.tokens ≡ prod_then (prod l.first) (terms_then (terms l.rest.items) (plain l.left));
+  whole : LeavesEnd prod_then terms_then sign_level (plain l.fn.tokens) (plain l.left);
 }
 
 abbrev pub decreases-sum-loop-sign : goal.decreases-sum-loop-sign
@@ -67,6 +71,7 @@ abbrev pub invariant-prod-loop-operator : goal.invariant-prod-loop-operator
 invariant-prod-loop-operator l = record {
   shorter : length l.left < length l.fn.tokens;
   spelled : plain l.fn.tokens ≡ unary_then (unary l.first) (factors_then (factors l.rest.items) (plain l.left));
+  whole : LeavesEnd unary_then factors_then operator_level (plain l.fn.tokens) (plain l.left);
 }
 
 abbrev pub decreases-prod-loop-operator : goal.decreases-prod-loop-operator

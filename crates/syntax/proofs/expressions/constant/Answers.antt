@@ -1,7 +1,8 @@
-use Rattle.std.proofs.Common.{rules, ◌∙◌}
+use Rattle.std.proofs.Common.{rules, sym, ◌∙◌}
 use Rattle.syntax.specs.Spelling.{atom_then}
 use Rattle.syntax.specs.Tree.{atom}
 use Rattle.syntax.proofs.ChainLemmas.{behind}
+use Rattle.syntax.proofs.RefusalLemmas.{passed_on, next, true_atom, false_atom, number_atom, length_atom, no_atom}
 use Rattle.syntax.proofs.expressions.constant.Goals as goal
 
 pub returns-in-Some-clause-spelled : goal.returns-in-Some-clause-spelled
@@ -21,3 +22,41 @@ returns-in-Some-after_word-2-clause-spelled c =
 pub returns-clause-spelled : goal.returns-clause-spelled
 unfolding atom_then atom
 returns-clause-spelled c = c.in_ok-value.ensures.found
+
+pub returns-in-Some-clause-whole : goal.returns-in-Some-clause-whole
+returns-in-Some-clause-whole c = λ a r ends spelled. true_atom a _ r (sym c.in-Some.ensures.found ∙ spelled)
+
+pub returns-in-Some-after_word-clause-whole : goal.returns-in-Some-after_word-clause-whole
+returns-in-Some-after_word-clause-whole c = λ a r ends spelled. false_atom a _ r (sym c.in-Some-after_word.ensures.found ∙ spelled)
+
+pub returns-in_err-rest-clause-refused : goal.returns-in_err-rest-clause-refused
+returns-in_err-rest-clause-refused c =
+    passed_on _ _ c.from_residual.ensures.1 (λ room no_name no_mark a r ends spelled.
+    let section = length_atom a _ r (sym c.in-Some-after_word-2.ensures.found ∙ spelled) in
+    c.in_err-rest.ensures.refused _ section.1)
+
+pub returns-in_err-name-clause-refused : goal.returns-in_err-name-clause-refused
+returns-in_err-name-clause-refused c =
+    passed_on _ _ c.from_residual-in_err-name.ensures.1 (λ room no_name no_mark a r ends spelled.
+    let section = length_atom a _ r (sym c.in-Some-after_word-2.ensures.found ∙ spelled) in
+    c.in_err-name.ensures.refused room _ _ (next (sym c.in_ok-rest.ensures.found ∙ section.1)))
+
+pub returns-in_err-rest-2-clause-refused : goal.returns-in_err-rest-2-clause-refused
+returns-in_err-rest-2-clause-refused c =
+    passed_on _ _ c.from_residual-in_err-rest-2.ensures.1 (λ room no_name no_mark a r ends spelled.
+    let section = length_atom a _ r (sym c.in-Some-after_word-2.ensures.found ∙ spelled) in
+    c.in_err-rest-2.ensures.refused _ (next (sym c.in_ok-name.ensures.found ∙ next (sym c.in_ok-rest.ensures.found ∙ section.1))))
+
+pub returns-in-Some-after_word-2-clause-whole : goal.returns-in-Some-after_word-2-clause-whole
+returns-in-Some-after_word-2-clause-whole c = λ a r ends spelled.
+    let section = length_atom a _ r (sym c.in-Some-after_word-2.ensures.found ∙ spelled) in
+    let paren = next (sym c.in_ok-name.ensures.found ∙ next (sym c.in_ok-rest.ensures.found ∙ section.1)) in
+    next (sym c.in_ok-rest-2.ensures.found ∙ paren)
+
+pub returns-in_err-value-clause-refused : goal.returns-in_err-value-clause-refused
+returns-in_err-value-clause-refused c =
+    passed_on _ _ c.from_residual-in_err-value.ensures.1 (λ room no_name no_mark a r ends.
+    no_atom _ c.in_err-value.ensures.refused c.in_default.ensures.absent c.in_default-after_word.ensures.absent c.in_default-after_word-2.ensures.absent no_name no_mark a r)
+
+pub returns-clause-whole : goal.returns-clause-whole
+returns-clause-whole c = λ a r ends spelled. number_atom a _ _ r (sym c.in_ok-value.ensures.found ∙ spelled)

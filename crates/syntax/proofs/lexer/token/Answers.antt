@@ -1,4 +1,4 @@
-use Rattle.std.proofs.Common.{[], ◌∷◌, ◌++◌, ◌||◌, ◌∙◌, ap, sym, arith}
+use Rattle.std.proofs.Common.{[], ◌∷◌, ◌++◌, ◌||◌, ◌∙◌, ap, refl, sym, arith}
 use Rattle.std.specs.Char.{is_ascii_digit}
 use Rattle.std.proofs.lemmas.List.Sums.{prefix_len-le-length}
 use Rattle.syntax.specs.Lexical.{begins_name, is_in_name, NumberPiece}
@@ -52,3 +52,20 @@ returns-then-is_ascii_digit-clause-found c =
       };
       tokens = ap (λ n. NumberToken n ∷ []) (sym c.in-Some-value_of.ensures.found);
     }
+
+pub returns-in_default-value_of-clause-absent : goal.returns-in_default-value_of-clause-absent
+returns-in_default-value_of-clause-absent c =
+    let split = c.split_at-then-is_ascii_digit.ensures in
+    let digit = sym c.is_ascii_digit.ensures.value ∙ c.if-is_ascii_digit.true in
+    let all = passes_at is_ascii_digit _ c.args.chars.now _ c.digits_length.ensures split.front in (
+      refl,
+      record {
+        digits = c.split_at-then-is_ascii_digit.result.0.now;
+        behind = c.split_at-then-is_ascii_digit.result.1.now;
+        spelled = cut_at _ c.args.chars.now _ _ split.front split.back;
+        begins = begins_at is_ascii_digit is_ascii_digit _ _ c.args.chars.now _ _ c.in-Some.ensures.cases.0 c.digits_length.ensures split.front digit digit;
+        all_digits = all;
+        ends = stops_at is_ascii_digit _ c.args.chars.now _ c.digits_length.ensures split.back;
+        over = c.in_default-value_of.ensures.large all;
+      },
+    )

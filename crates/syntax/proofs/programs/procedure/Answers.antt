@@ -1,7 +1,10 @@
-use Rattle.std.proofs.Common.{◌∙◌, ap, map}
-use Rattle.syntax.specs.Spelling.{parameters_then, procedures_then}
+use Rattle.std.proofs.Common.{◌∷◌, ◌∙◌, ap, sym, map}
+use Rattle.syntax.specs.Spelling.{block_then, parameters_then, procedures_then}
 use Rattle.syntax.specs.Tree.{parameter}
 use Rattle.syntax.proofs.ChainLemmas.{behind}
+use Rattle.syntax.specs.declared.token.Mark.TheVariants.{LeftBrace}
+use Rattle.syntax.specs.Token.{MarkToken}
+use Rattle.syntax.proofs.RefusalLemmas.{passed_on, next}
 use Rattle.syntax.proofs.programs.procedure.Goals as goal
 
 pub returns-clause-spelled : goal.returns-clause-spelled
@@ -9,3 +12,41 @@ unfolding procedures_then
 returns-clause-spelled c =
     let parameters = c.in_ok-parameters.ensures.spelled ∙ ap (parameters_then (map parameter c.in_ok-parameters.parameters.items)) (behind c.in_ok-body.ensures.spelled) in
     behind (c.in_ok-name.ensures.found ∙ behind (c.in_ok-rest.ensures.found ∙ behind parameters))
+
+pub returns-in_err-name-clause-refused : goal.returns-in_err-name-clause-refused
+unfolding procedures_then
+returns-in_err-name-clause-refused c =
+    passed_on _ _ c.from_residual.ensures.1 (λ room p r spelled.
+    c.in_err-name.ensures.refused room _ _ (next spelled))
+
+pub returns-in_err-rest-clause-refused : goal.returns-in_err-rest-clause-refused
+unfolding procedures_then
+returns-in_err-rest-clause-refused c =
+    passed_on _ _ c.from_residual-in_err-rest.ensures.1 (λ room p r spelled.
+    let opening = next (sym c.in_ok-name.ensures.found ∙ next spelled) in
+    c.in_err-rest.ensures.refused _ opening)
+
+pub returns-in_err-parameters-clause-refused : goal.returns-in_err-parameters-clause-refused
+unfolding procedures_then
+returns-in_err-parameters-clause-refused c =
+    passed_on _ _ c.from_residual-in_err-parameters.ensures.1 (λ room p r spelled.
+    let opening = next (sym c.in_ok-name.ensures.found ∙ next spelled) in
+    let parameters = next (sym c.in_ok-rest.ensures.found ∙ opening) in
+    c.in_err-parameters.ensures.refused room p.parameters (MarkToken LeftBrace ∷ block_then p.body r) parameters)
+
+pub returns-in_err-body-clause-refused : goal.returns-in_err-body-clause-refused
+unfolding procedures_then
+returns-in_err-body-clause-refused c =
+    passed_on _ _ c.from_residual-in_err-body.ensures.1 (λ room p r spelled.
+    let opening = next (sym c.in_ok-name.ensures.found ∙ next spelled) in
+    let parameters = next (sym c.in_ok-rest.ensures.found ∙ opening) in
+    let body = c.in_ok-parameters.ensures.whole p.parameters (MarkToken LeftBrace ∷ block_then p.body r) parameters in
+    c.in_err-body.ensures.refused room p.body r body)
+
+pub returns-clause-whole : goal.returns-clause-whole
+unfolding procedures_then
+returns-clause-whole c = λ p r spelled.
+    let opening = next (sym c.in_ok-name.ensures.found ∙ next spelled) in
+    let parameters = next (sym c.in_ok-rest.ensures.found ∙ opening) in
+    let body = c.in_ok-parameters.ensures.whole p.parameters (MarkToken LeftBrace ∷ block_then p.body r) parameters in
+    c.in_ok-body.ensures.whole p.body r body

@@ -1,9 +1,13 @@
 use Rattle.std.proofs.Common.{◌∷◌, ◌∙◌, ap, sym, arith}
 use Rattle.syntax.specs.Spelling.{expr_then, block_then}
-use Rattle.syntax.specs.Token.{WordToken, plain}
+use Rattle.syntax.specs.declared.token.Mark.TheVariants.{LeftBrace}
+use Rattle.syntax.specs.Token.{WordToken, MarkToken, plain}
 use Rattle.syntax.specs.Tree.{expr, block}
 use Rattle.syntax.proofs.ChainLemmas.{behind}
 use Rattle.syntax.proofs.BlockLemmas.{stmts_then, stmts_read, block_then-block, stmt_then_If, stmt_then_IfElse, stmt_then_While, stmt_then_Split, stmt_then_Async, stmt_then_Finish}
+use Rattle.syntax.proofs.RefusalLemmas.{passed_on, next}
+use Rattle.syntax.proofs.StmtRefusals.{block_closed, block_opened, if_opened, if_alone, if_otherwise, while_opened, split_opened, async_opened, finish_opened}
+use Rattle.syntax.proofs.StmtSpellings.{block_binds}
 use Rattle.syntax.proofs.statements.+stmt.Goals as goal
 
 pub conditional-returns-in-None-clause-spelled : goal.conditional-returns-in-None-clause-spelled
@@ -50,10 +54,202 @@ unfolding stmts_then
 statements-loop-rest-init t c = record {
   shorter = omega arith;
   spelled = ap (λ l. stmts_then l (plain c.args.tokens.now)) (sym c.new-body.ensures.items);
+  whole = λ b r spelled. (b, spelled);
 }
 
 pub statements-loop-rest-preserved : goal.statements-loop-rest-preserved
 statements-loop-rest-preserved t c = record {
   shorter = omega (arith, c.loop-rest.invariant.shorter, c.in_ok-statement.ensures.shorter);
   spelled = stmts_read _ _ _ _ _ _ c.loop-rest.invariant.spelled c.in_ok-statement.ensures.spelled c.in_ok-push.ensures.items;
+  whole = λ b r spelled.
+      let end = c.loop-rest.invariant.whole b r spelled in
+      let one = block_opened end.0 _ r c.in_default.ensures.absent end.1 in
+      (one.1, c.in_ok-statement.ensures.whole one.0 (block_then one.1 r) (omega (arith, block_binds one.1 r)) one.2);
 }
+
+pub statements-returns-in-Some-clause-whole : goal.statements-returns-in-Some-clause-whole
+statements-returns-in-Some-clause-whole t c = λ b r spelled.
+    let end = c.loop-rest.invariant.whole b r spelled in
+    block_closed end.0 _ r (sym c.in-Some.ensures.found ∙ end.1)
+
+pub statements-returns-in_err-statement-clause-refused : goal.statements-returns-in_err-statement-clause-refused
+statements-returns-in_err-statement-clause-refused t c =
+    passed_on _ _ c.from_residual.ensures.1 (λ room b r spelled.
+    let end = c.loop-rest.invariant.whole b r spelled in
+    let one = block_opened end.0 _ r c.in_default.ensures.absent end.1 in
+    c.in_err-statement.ensures.refused room one.0 (block_then one.1 r) (omega (arith, block_binds one.1 r)) one.2)
+
+pub block-returns-in_err-rest-clause-refused : goal.block-returns-in_err-rest-clause-refused
+block-returns-in_err-rest-clause-refused t c =
+    passed_on _ _ c.from_residual.ensures.1 (λ room b r spelled.
+    c.in_err-rest.ensures.refused _ spelled)
+
+pub conditional-returns-in_err-guard-clause-refused : goal.conditional-returns-in_err-guard-clause-refused
+conditional-returns-in_err-guard-clause-refused t c =
+    passed_on _ _ c.from_residual.ensures.1 (λ room s r ends spelled.
+    let parts = if_opened s _ r spelled in
+    c.in_err-guard.ensures.refused room parts.guard (MarkToken LeftBrace ∷ block_then parts.body parts.after) (omega arith) parts.spelled)
+
+pub conditional-returns-in_err-body-clause-refused : goal.conditional-returns-in_err-body-clause-refused
+conditional-returns-in_err-body-clause-refused t c =
+    passed_on _ _ c.from_residual-in_err-body.ensures.1 (λ room s r ends spelled.
+    let parts = if_opened s _ r spelled in
+    let body = c.in_ok-guard.ensures.whole parts.guard (MarkToken LeftBrace ∷ block_then parts.body parts.after) (omega arith) parts.spelled in
+    c.in_err-body.ensures.refused room parts.body parts.after body)
+
+pub conditional-returns-in-None-clause-whole : goal.conditional-returns-in-None-clause-whole
+conditional-returns-in-None-clause-whole t c = λ s r ends spelled.
+    let parts = if_opened s _ r spelled in
+    let body = c.in_ok-guard.ensures.whole parts.guard (MarkToken LeftBrace ∷ block_then parts.body parts.after) (omega arith) parts.spelled in
+    let after = c.in_ok-body.ensures.whole parts.body parts.after body in
+    if_alone parts _ c.in-None.ensures.absent after
+
+pub conditional-returns-in_err-other-in-Some-clause-refused : goal.conditional-returns-in_err-other-in-Some-clause-refused
+conditional-returns-in_err-other-in-Some-clause-refused t c =
+    passed_on _ _ c.from_residual-in_err-other-in-Some.ensures.1 (λ room s r ends spelled.
+    let parts = if_opened s _ r spelled in
+    let body = c.in_ok-guard.ensures.whole parts.guard (MarkToken LeftBrace ∷ block_then parts.body parts.after) (omega arith) parts.spelled in
+    let after = c.in_ok-body.ensures.whole parts.body parts.after body in
+    let other = if_otherwise parts _ ends (sym c.in-Some.ensures.found ∙ after) in
+    c.in_err-other-in-Some.ensures.refused room other.0 r other.1)
+
+pub conditional-returns-in_ok-other-in-Some-clause-whole : goal.conditional-returns-in_ok-other-in-Some-clause-whole
+conditional-returns-in_ok-other-in-Some-clause-whole t c = λ s r ends spelled.
+    let parts = if_opened s _ r spelled in
+    let body = c.in_ok-guard.ensures.whole parts.guard (MarkToken LeftBrace ∷ block_then parts.body parts.after) (omega arith) parts.spelled in
+    let after = c.in_ok-body.ensures.whole parts.body parts.after body in
+    let other = if_otherwise parts _ ends (sym c.in-Some.ensures.found ∙ after) in
+    c.in_ok-other-in-Some.ensures.whole other.0 r other.1
+
+pub repeated-returns-in_err-guard-clause-refused : goal.repeated-returns-in_err-guard-clause-refused
+repeated-returns-in_err-guard-clause-refused t c =
+    passed_on _ _ c.from_residual.ensures.1 (λ room s r ends spelled.
+    let parts = while_opened s _ r spelled in
+    c.in_err-guard.ensures.refused room parts.0 (MarkToken LeftBrace ∷ block_then parts.1 r) (omega arith) parts.2)
+
+pub repeated-returns-in_err-body-clause-refused : goal.repeated-returns-in_err-body-clause-refused
+repeated-returns-in_err-body-clause-refused t c =
+    passed_on _ _ c.from_residual-in_err-body.ensures.1 (λ room s r ends spelled.
+    let parts = while_opened s _ r spelled in
+    let body = c.in_ok-guard.ensures.whole parts.0 (MarkToken LeftBrace ∷ block_then parts.1 r) (omega arith) parts.2 in
+    c.in_err-body.ensures.refused room parts.1 r body)
+
+pub repeated-returns-clause-whole : goal.repeated-returns-clause-whole
+repeated-returns-clause-whole t c = λ s r ends spelled.
+    let parts = while_opened s _ r spelled in
+    let body = c.in_ok-guard.ensures.whole parts.0 (MarkToken LeftBrace ∷ block_then parts.1 r) (omega arith) parts.2 in
+    c.in_ok-body.ensures.whole parts.1 r body
+
+pub split-returns-in_err-section-clause-refused : goal.split-returns-in_err-section-clause-refused
+split-returns-in_err-section-clause-refused t c =
+    passed_on _ _ c.from_residual.ensures.1 (λ room s r ends spelled.
+    let parts = split_opened s _ r spelled in
+    c.in_err-section.ensures.refused room _ _ parts.spelled)
+
+pub split-returns-in_err-rest-clause-refused : goal.split-returns-in_err-rest-clause-refused
+split-returns-in_err-rest-clause-refused t c =
+    passed_on _ _ c.from_residual-in_err-rest.ensures.1 (λ room s r ends spelled.
+    let parts = split_opened s _ r spelled in
+    let at_word = next (sym c.in_ok-section.ensures.found ∙ parts.spelled) in
+    c.in_err-rest.ensures.refused _ at_word)
+
+pub split-returns-in_err-at-clause-refused : goal.split-returns-in_err-at-clause-refused
+split-returns-in_err-at-clause-refused t c =
+    passed_on _ _ c.from_residual-in_err-at.ensures.1 (λ room s r ends spelled.
+    let parts = split_opened s _ r spelled in
+    let at_word = next (sym c.in_ok-section.ensures.found ∙ parts.spelled) in
+    let place = next (sym c.in_ok-rest.ensures.found ∙ at_word) in
+    c.in_err-at.ensures.refused room parts.at parts.sides parts.ends place)
+
+pub split-returns-in_err-rest-2-clause-refused : goal.split-returns-in_err-rest-2-clause-refused
+split-returns-in_err-rest-2-clause-refused t c =
+    passed_on _ _ c.from_residual-in_err-rest-2.ensures.1 (λ room s r ends spelled.
+    let parts = split_opened s _ r spelled in
+    let at_word = next (sym c.in_ok-section.ensures.found ∙ parts.spelled) in
+    let place = next (sym c.in_ok-rest.ensures.found ∙ at_word) in
+    let as_word = c.in_ok-at.ensures.whole parts.at parts.sides parts.ends place ∙ parts.sided in
+    c.in_err-rest-2.ensures.refused _ as_word)
+
+pub split-returns-in_err-left-clause-refused : goal.split-returns-in_err-left-clause-refused
+split-returns-in_err-left-clause-refused t c =
+    passed_on _ _ c.from_residual-in_err-left.ensures.1 (λ room s r ends spelled.
+    let parts = split_opened s _ r spelled in
+    let at_word = next (sym c.in_ok-section.ensures.found ∙ parts.spelled) in
+    let place = next (sym c.in_ok-rest.ensures.found ∙ at_word) in
+    let as_word = c.in_ok-at.ensures.whole parts.at parts.sides parts.ends place ∙ parts.sided in
+    let left = next (sym c.in_ok-rest-2.ensures.found ∙ as_word) in
+    c.in_err-left.ensures.refused room _ _ left)
+
+pub split-returns-in_err-rest-3-clause-refused : goal.split-returns-in_err-rest-3-clause-refused
+split-returns-in_err-rest-3-clause-refused t c =
+    passed_on _ _ c.from_residual-in_err-rest-3.ensures.1 (λ room s r ends spelled.
+    let parts = split_opened s _ r spelled in
+    let at_word = next (sym c.in_ok-section.ensures.found ∙ parts.spelled) in
+    let place = next (sym c.in_ok-rest.ensures.found ∙ at_word) in
+    let as_word = c.in_ok-at.ensures.whole parts.at parts.sides parts.ends place ∙ parts.sided in
+    let left = next (sym c.in_ok-rest-2.ensures.found ∙ as_word) in
+    let comma = next (sym c.in_ok-left.ensures.found ∙ left) in
+    c.in_err-rest-3.ensures.refused _ comma)
+
+pub split-returns-in_err-right-clause-refused : goal.split-returns-in_err-right-clause-refused
+split-returns-in_err-right-clause-refused t c =
+    passed_on _ _ c.from_residual-in_err-right.ensures.1 (λ room s r ends spelled.
+    let parts = split_opened s _ r spelled in
+    let at_word = next (sym c.in_ok-section.ensures.found ∙ parts.spelled) in
+    let place = next (sym c.in_ok-rest.ensures.found ∙ at_word) in
+    let as_word = c.in_ok-at.ensures.whole parts.at parts.sides parts.ends place ∙ parts.sided in
+    let left = next (sym c.in_ok-rest-2.ensures.found ∙ as_word) in
+    let comma = next (sym c.in_ok-left.ensures.found ∙ left) in
+    let right = next (sym c.in_ok-rest-3.ensures.found ∙ comma) in
+    c.in_err-right.ensures.refused room _ _ right)
+
+pub split-returns-in_err-body-clause-refused : goal.split-returns-in_err-body-clause-refused
+split-returns-in_err-body-clause-refused t c =
+    passed_on _ _ c.from_residual-in_err-body.ensures.1 (λ room s r ends spelled.
+    let parts = split_opened s _ r spelled in
+    let at_word = next (sym c.in_ok-section.ensures.found ∙ parts.spelled) in
+    let place = next (sym c.in_ok-rest.ensures.found ∙ at_word) in
+    let as_word = c.in_ok-at.ensures.whole parts.at parts.sides parts.ends place ∙ parts.sided in
+    let left = next (sym c.in_ok-rest-2.ensures.found ∙ as_word) in
+    let comma = next (sym c.in_ok-left.ensures.found ∙ left) in
+    let right = next (sym c.in_ok-rest-3.ensures.found ∙ comma) in
+    let body = next (sym c.in_ok-right.ensures.found ∙ right) in
+    c.in_err-body.ensures.refused room parts.body r body)
+
+pub split-returns-clause-whole : goal.split-returns-clause-whole
+split-returns-clause-whole t c = λ s r ends spelled.
+    let parts = split_opened s _ r spelled in
+    let at_word = next (sym c.in_ok-section.ensures.found ∙ parts.spelled) in
+    let place = next (sym c.in_ok-rest.ensures.found ∙ at_word) in
+    let as_word = c.in_ok-at.ensures.whole parts.at parts.sides parts.ends place ∙ parts.sided in
+    let left = next (sym c.in_ok-rest-2.ensures.found ∙ as_word) in
+    let comma = next (sym c.in_ok-left.ensures.found ∙ left) in
+    let right = next (sym c.in_ok-rest-3.ensures.found ∙ comma) in
+    let body = next (sym c.in_ok-right.ensures.found ∙ right) in
+    c.in_ok-body.ensures.whole parts.body r body
+
+pub statement-returns-in_err-body-in-Async-clause-refused : goal.statement-returns-in_err-body-in-Async-clause-refused
+statement-returns-in_err-body-in-Async-clause-refused t c =
+    passed_on _ _ c.from_residual.ensures.1 (λ room s r ends spelled.
+    let first = c.in-Some.ensures.found ∙ ap (λ w. WordToken w ∷ plain c.in-Some.rest.now) c.in-Async.is in
+    let body = async_opened s _ r (sym first ∙ spelled) in
+    c.in_err-body-in-Async.ensures.refused room body.0 r body.1)
+
+pub statement-returns-in_ok-body-in-Async-clause-whole : goal.statement-returns-in_ok-body-in-Async-clause-whole
+statement-returns-in_ok-body-in-Async-clause-whole t c = λ s r ends spelled.
+    let first = c.in-Some.ensures.found ∙ ap (λ w. WordToken w ∷ plain c.in-Some.rest.now) c.in-Async.is in
+    let body = async_opened s _ r (sym first ∙ spelled) in
+    c.in_ok-body-in-Async.ensures.whole body.0 r body.1
+
+pub statement-returns-in_err-body-in-Finish-clause-refused : goal.statement-returns-in_err-body-in-Finish-clause-refused
+statement-returns-in_err-body-in-Finish-clause-refused t c =
+    passed_on _ _ c.from_residual-in_err-body-in-Finish.ensures.1 (λ room s r ends spelled.
+    let first = c.in-Some.ensures.found ∙ ap (λ w. WordToken w ∷ plain c.in-Some.rest.now) c.in-Finish.is in
+    let body = finish_opened s _ r (sym first ∙ spelled) in
+    c.in_err-body-in-Finish.ensures.refused room body.0 r body.1)
+
+pub statement-returns-in_ok-body-in-Finish-clause-whole : goal.statement-returns-in_ok-body-in-Finish-clause-whole
+statement-returns-in_ok-body-in-Finish-clause-whole t c = λ s r ends spelled.
+    let first = c.in-Some.ensures.found ∙ ap (λ w. WordToken w ∷ plain c.in-Some.rest.now) c.in-Finish.is in
+    let body = finish_opened s _ r (sym first ∙ spelled) in
+    c.in_ok-body-in-Finish.ensures.whole body.0 r body.1

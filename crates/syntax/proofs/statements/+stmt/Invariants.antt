@@ -1,5 +1,7 @@
-use Rattle.std.proofs.Common.{◌≡◌, ◌≤◌, length, ◌+◌, ◌*◌}
-use Rattle.syntax.specs.Token.{plain}
+use Rattle.std.proofs.Common.{◌≡◌, ◌≤◌, List, length, ◌+◌, ◌*◌}
+use Rattle.syntax.specs.Spelling.{block_then}
+use Rattle.syntax.specs.Token.{Token, plain}
+use Rattle.syntax.specs.Tree.{Block}
 use Rattle.syntax.proofs.BlockLemmas.{stmts_then}
 use Rattle.syntax.proofs.statements.+stmt.Given as goal
 
@@ -25,6 +27,7 @@ abbrev pub invariant-statements-loop-rest : goal.invariant-statements-loop-rest
 invariant-statements-loop-rest l = record {
   shorter : length l.left ≤ length l.fn.tokens;
   spelled : plain l.fn.tokens ≡ stmts_then l.body.items (plain l.left);
+  whole : (body : Block) (rest : List Token) → plain l.fn.tokens ≡ block_then body rest → (end : Block) × (plain l.left ≡ block_then end rest);
 }
 
 abbrev pub decreases-statements-loop-rest : goal.decreases-statements-loop-rest

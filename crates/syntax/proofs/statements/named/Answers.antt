@@ -1,7 +1,11 @@
-use Rattle.std.proofs.Common.{◌∙◌, ap}
+use Rattle.std.proofs.Common.{◌∷◌, sym, ◌∙◌, ap, arith}
 use Rattle.syntax.specs.Spelling.{expr_then, exprs_then, stmt_then}
 use Rattle.syntax.specs.Tree.{expr, exprs, stmt}
 use Rattle.syntax.proofs.ChainLemmas.{behind}
+use Rattle.syntax.specs.declared.token.Mark.TheVariants.{RightBracket, Semicolon, Becomes}
+use Rattle.syntax.specs.Token.{MarkToken}
+use Rattle.syntax.proofs.RefusalLemmas.{passed_on, next}
+use Rattle.syntax.proofs.StmtRefusals.{no_statement, store_opened, call_opened, assign_opened}
 use Rattle.syntax.proofs.statements.named.Goals as goal
 
 pub returns-in-Some-clause-spelled : goal.returns-in-Some-clause-spelled
@@ -24,3 +28,84 @@ returns-in-Some-after_mark-clause-spelled c =
 pub returns-clause-spelled : goal.returns-clause-spelled
 unfolding stmt_then stmt
 returns-clause-spelled c = c.in_ok-name.ensures.found ∙ behind (c.in_ok-rest-4.ensures.found ∙ behind c.in_ok-value-2.ensures.spelled)
+
+pub returns-in_err-name-clause-refused : goal.returns-in_err-name-clause-refused
+returns-in_err-name-clause-refused c =
+    passed_on _ _ c.from_residual.ensures.1 (λ room no_word s r ends.
+    no_statement _ no_word (c.in_err-name.ensures.refused room) s r)
+
+pub returns-in_err-index-clause-refused : goal.returns-in_err-index-clause-refused
+returns-in_err-index-clause-refused c =
+    passed_on _ _ c.from_residual-in_err-index.ensures.1 (λ room no_word s r ends spelled.
+    let parts = store_opened s _ _ r (sym (c.in_ok-name.ensures.found ∙ behind c.in-Some.ensures.found) ∙ spelled) in
+    c.in_err-index.ensures.refused room parts.0 (MarkToken RightBracket ∷ MarkToken Becomes ∷ expr_then parts.1 (MarkToken Semicolon ∷ r)) (omega arith) parts.2)
+
+pub returns-in_err-rest-clause-refused : goal.returns-in_err-rest-clause-refused
+returns-in_err-rest-clause-refused c =
+    passed_on _ _ c.from_residual-in_err-rest.ensures.1 (λ room no_word s r ends spelled.
+    let parts = store_opened s _ _ r (sym (c.in_ok-name.ensures.found ∙ behind c.in-Some.ensures.found) ∙ spelled) in
+    let bracket = c.in_ok-index.ensures.whole parts.0 (MarkToken RightBracket ∷ MarkToken Becomes ∷ expr_then parts.1 (MarkToken Semicolon ∷ r)) (omega arith) parts.2 in
+    c.in_err-rest.ensures.refused _ bracket)
+
+pub returns-in_err-rest-2-clause-refused : goal.returns-in_err-rest-2-clause-refused
+returns-in_err-rest-2-clause-refused c =
+    passed_on _ _ c.from_residual-in_err-rest-2.ensures.1 (λ room no_word s r ends spelled.
+    let parts = store_opened s _ _ r (sym (c.in_ok-name.ensures.found ∙ behind c.in-Some.ensures.found) ∙ spelled) in
+    let bracket = c.in_ok-index.ensures.whole parts.0 (MarkToken RightBracket ∷ MarkToken Becomes ∷ expr_then parts.1 (MarkToken Semicolon ∷ r)) (omega arith) parts.2 in
+    let mark = next (sym c.in_ok-rest.ensures.found ∙ bracket) in
+    c.in_err-rest-2.ensures.refused _ mark)
+
+pub returns-in_err-value-clause-refused : goal.returns-in_err-value-clause-refused
+returns-in_err-value-clause-refused c =
+    passed_on _ _ c.from_residual-in_err-value.ensures.1 (λ room no_word s r ends spelled.
+    let parts = store_opened s _ _ r (sym (c.in_ok-name.ensures.found ∙ behind c.in-Some.ensures.found) ∙ spelled) in
+    let bracket = c.in_ok-index.ensures.whole parts.0 (MarkToken RightBracket ∷ MarkToken Becomes ∷ expr_then parts.1 (MarkToken Semicolon ∷ r)) (omega arith) parts.2 in
+    let mark = next (sym c.in_ok-rest.ensures.found ∙ bracket) in
+    let value = next (sym c.in_ok-rest-2.ensures.found ∙ mark) in
+    c.in_err-value.ensures.refused room parts.1 r value)
+
+pub returns-in-Some-clause-whole : goal.returns-in-Some-clause-whole
+returns-in-Some-clause-whole c = λ s r ends spelled.
+    let parts = store_opened s _ _ r (sym (c.in_ok-name.ensures.found ∙ behind c.in-Some.ensures.found) ∙ spelled) in
+    let bracket = c.in_ok-index.ensures.whole parts.0 (MarkToken RightBracket ∷ MarkToken Becomes ∷ expr_then parts.1 (MarkToken Semicolon ∷ r)) (omega arith) parts.2 in
+    let mark = next (sym c.in_ok-rest.ensures.found ∙ bracket) in
+    let value = next (sym c.in_ok-rest-2.ensures.found ∙ mark) in
+    c.in_ok-value.ensures.whole parts.1 r value
+
+pub returns-in_err-arguments-clause-refused : goal.returns-in_err-arguments-clause-refused
+returns-in_err-arguments-clause-refused c =
+    passed_on _ _ c.from_residual-in_err-arguments.ensures.1 (λ room no_word s r ends spelled.
+    let parts = call_opened s _ _ r (sym (c.in_ok-name.ensures.found ∙ behind c.in-Some-after_mark.ensures.found) ∙ spelled) in
+    c.in_err-arguments.ensures.refused room parts.0 (MarkToken Semicolon ∷ r) parts.1)
+
+pub returns-in_err-rest-3-clause-refused : goal.returns-in_err-rest-3-clause-refused
+returns-in_err-rest-3-clause-refused c =
+    passed_on _ _ c.from_residual-in_err-rest-3.ensures.1 (λ room no_word s r ends spelled.
+    let parts = call_opened s _ _ r (sym (c.in_ok-name.ensures.found ∙ behind c.in-Some-after_mark.ensures.found) ∙ spelled) in
+    let mark = c.in_ok-arguments.ensures.whole parts.0 (MarkToken Semicolon ∷ r) parts.1 in
+    c.in_err-rest-3.ensures.refused _ mark)
+
+pub returns-in-Some-after_mark-clause-whole : goal.returns-in-Some-after_mark-clause-whole
+returns-in-Some-after_mark-clause-whole c = λ s r ends spelled.
+    let parts = call_opened s _ _ r (sym (c.in_ok-name.ensures.found ∙ behind c.in-Some-after_mark.ensures.found) ∙ spelled) in
+    let mark = c.in_ok-arguments.ensures.whole parts.0 (MarkToken Semicolon ∷ r) parts.1 in
+    next (sym c.in_ok-rest-3.ensures.found ∙ mark)
+
+pub returns-in_err-rest-4-clause-refused : goal.returns-in_err-rest-4-clause-refused
+returns-in_err-rest-4-clause-refused c =
+    passed_on _ _ c.from_residual-in_err-rest-4.ensures.1 (λ room no_word s r ends spelled.
+    let parts = assign_opened s _ _ r c.in_default.ensures.absent c.in_default-after_mark.ensures.absent (sym c.in_ok-name.ensures.found ∙ spelled) in
+    c.in_err-rest-4.ensures.refused _ parts.1)
+
+pub returns-in_err-value-2-clause-refused : goal.returns-in_err-value-2-clause-refused
+returns-in_err-value-2-clause-refused c =
+    passed_on _ _ c.from_residual-in_err-value-2.ensures.1 (λ room no_word s r ends spelled.
+    let parts = assign_opened s _ _ r c.in_default.ensures.absent c.in_default-after_mark.ensures.absent (sym c.in_ok-name.ensures.found ∙ spelled) in
+    let value = next (sym c.in_ok-rest-4.ensures.found ∙ parts.1) in
+    c.in_err-value-2.ensures.refused room parts.0 r value)
+
+pub returns-clause-whole : goal.returns-clause-whole
+returns-clause-whole c = λ s r ends spelled.
+    let parts = assign_opened s _ _ r c.in_default.ensures.absent c.in_default-after_mark.ensures.absent (sym c.in_ok-name.ensures.found ∙ spelled) in
+    let value = next (sym c.in_ok-rest-4.ensures.found ∙ parts.1) in
+    c.in_ok-value-2.ensures.whole parts.0 r value

@@ -1,7 +1,12 @@
-use Rattle.std.proofs.Common.{◌∙◌, ap}
+use Rattle.std.proofs.Common.{◌∷◌, sym, ◌∙◌, ap, arith}
 use Rattle.syntax.specs.Spelling.{expr_then, more_then, stmt_then}
 use Rattle.syntax.specs.Tree.{expr, exprs, stmt}
 use Rattle.syntax.proofs.ChainLemmas.{behind, adds_to_none}
+use Rattle.syntax.specs.declared.token.Mark.TheVariants.{Semicolon}
+use Rattle.syntax.specs.Token.{MarkToken}
+use Rattle.syntax.proofs.RefusalLemmas.{passed_on, next}
+use Rattle.syntax.proofs.StmtRefusals.{print_opened}
+use Rattle.syntax.proofs.StmtSpellings.{more_bind}
 use Rattle.syntax.proofs.statements.printed.Goals as goal
 
 pub returns-clause-spelled : goal.returns-clause-spelled
@@ -9,3 +14,31 @@ unfolding stmt_then stmt
 returns-clause-spelled c =
     let others = adds_to_none _ _ _ _ c.new.ensures.items c.in_ok-others.ensures.spelled in
     behind (c.in_ok-first.ensures.spelled ∙ ap (expr_then (expr c.in_ok-first.first)) (others ∙ ap (more_then (exprs c.in_ok-others.others.items)) c.in_ok-rest.ensures.found))
+
+pub returns-in_err-first-clause-refused : goal.returns-in_err-first-clause-refused
+returns-in_err-first-clause-refused c =
+    passed_on _ _ c.from_residual.ensures.1 (λ room s r ends spelled.
+    let parts = print_opened s _ r spelled in
+    c.in_err-first.ensures.refused room parts.0 (more_then parts.1 (MarkToken Semicolon ∷ r)) (more_bind parts.1 (MarkToken Semicolon ∷ r) (omega arith)) parts.2)
+
+pub returns-in_err-others-clause-refused : goal.returns-in_err-others-clause-refused
+returns-in_err-others-clause-refused c =
+    passed_on _ _ c.from_residual-in_err-others.ensures.1 (λ room s r ends spelled.
+    let parts = print_opened s _ r spelled in
+    let others = c.in_ok-first.ensures.whole parts.0 (more_then parts.1 (MarkToken Semicolon ∷ r)) (more_bind parts.1 (MarkToken Semicolon ∷ r) (omega arith)) parts.2 in
+    c.in_err-others.ensures.refused room parts.1 (MarkToken Semicolon ∷ r) (omega arith) others)
+
+pub returns-in_err-rest-clause-refused : goal.returns-in_err-rest-clause-refused
+returns-in_err-rest-clause-refused c =
+    passed_on _ _ c.from_residual-in_err-rest.ensures.1 (λ room s r ends spelled.
+    let parts = print_opened s _ r spelled in
+    let others = c.in_ok-first.ensures.whole parts.0 (more_then parts.1 (MarkToken Semicolon ∷ r)) (more_bind parts.1 (MarkToken Semicolon ∷ r) (omega arith)) parts.2 in
+    let mark = c.in_ok-others.ensures.whole parts.1 (MarkToken Semicolon ∷ r) (omega arith) others in
+    c.in_err-rest.ensures.refused _ mark)
+
+pub returns-clause-whole : goal.returns-clause-whole
+returns-clause-whole c = λ s r ends spelled.
+    let parts = print_opened s _ r spelled in
+    let others = c.in_ok-first.ensures.whole parts.0 (more_then parts.1 (MarkToken Semicolon ∷ r)) (more_bind parts.1 (MarkToken Semicolon ∷ r) (omega arith)) parts.2 in
+    let mark = c.in_ok-others.ensures.whole parts.1 (MarkToken Semicolon ∷ r) (omega arith) others in
+    next (sym c.in_ok-rest.ensures.found ∙ mark)

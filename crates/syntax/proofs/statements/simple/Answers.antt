@@ -1,7 +1,9 @@
-use Rattle.std.proofs.Common.{◌∙◌}
+use Rattle.std.proofs.Common.{sym, ◌∙◌}
 use Rattle.syntax.specs.Spelling.{stmt_then}
 use Rattle.syntax.specs.Tree.{stmt}
 use Rattle.syntax.proofs.ChainLemmas.{behind}
+use Rattle.syntax.proofs.RefusalLemmas.{passed_on, next}
+use Rattle.syntax.proofs.StmtRefusals.{BeginsNoBlock, no_simple, skip_opened, fault_opened}
 use Rattle.syntax.proofs.statements.simple.Goals as goal
 
 pub returns-in-Some-clause-spelled : goal.returns-in-Some-clause-spelled
@@ -11,3 +13,31 @@ returns-in-Some-clause-spelled c = c.in-Some.ensures.found ∙ behind c.in_ok-re
 pub returns-clause-spelled : goal.returns-clause-spelled
 unfolding stmt_then stmt
 returns-clause-spelled c = c.in_ok-rest-2.ensures.found ∙ behind c.in_ok-value.ensures.spelled
+
+pub returns-in_err-rest-clause-refused : goal.returns-in_err-rest-clause-refused
+returns-in_err-rest-clause-refused c =
+    passed_on _ _ c.from_residual.ensures.1 (λ room word rest is is_if is_while is_split is_async is_finish s r ends spelled.
+    let mark = skip_opened s _ r (sym c.in-Some.ensures.found ∙ spelled) in
+    c.in_err-rest.ensures.refused _ mark)
+
+pub returns-in-Some-clause-whole : goal.returns-in-Some-clause-whole
+returns-in-Some-clause-whole c = λ s r ends spelled.
+    let mark = skip_opened s _ r (sym c.in-Some.ensures.found ∙ spelled) in
+    next (sym c.in_ok-rest.ensures.found ∙ mark)
+
+pub returns-in_err-rest-2-clause-refused : goal.returns-in_err-rest-2-clause-refused
+returns-in_err-rest-2-clause-refused c =
+    passed_on _ _ c.from_residual-in_err-rest-2.ensures.1 (λ room word rest is is_if is_while is_split is_async is_finish s r ends.
+    let block : BeginsNoBlock word = record { is_if = is_if; is_while = is_while; is_split = is_split; is_async = is_async; is_finish = is_finish } in
+    no_simple _ word rest is block c.in_default.ensures.absent c.in_default-after_word.ensures.absent c.in_default-after_word-2.ensures.absent c.in_err-rest-2.ensures.refused s r)
+
+pub returns-in_err-value-clause-refused : goal.returns-in_err-value-clause-refused
+returns-in_err-value-clause-refused c =
+    passed_on _ _ c.from_residual-in_err-value.ensures.1 (λ room word rest is is_if is_while is_split is_async is_finish s r ends spelled.
+    let value = fault_opened s _ r (sym c.in_ok-rest-2.ensures.found ∙ spelled) in
+    c.in_err-value.ensures.refused room value.0 r value.1)
+
+pub returns-clause-whole : goal.returns-clause-whole
+returns-clause-whole c = λ s r ends spelled.
+    let value = fault_opened s _ r (sym c.in_ok-rest-2.ensures.found ∙ spelled) in
+    c.in_ok-value.ensures.whole value.0 r value.1

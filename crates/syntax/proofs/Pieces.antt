@@ -1,0 +1,484 @@
+-- A text begins with one piece at most, so it is cut into pieces in one way.
+use Rattle.std.proofs.Common.{◌≡◌, ℕ, ◌+◌, ◌*◌, ◌<◌, ◌≤◌, ⊎_elim, Bool, true, false, cond, ◌&&◌, ◌||◌, ◌==◌, List, [], ◌∷◌, ◌++◌, length, take, drop, fold, refl, ap, sym, ◌∙◌, subst, arith}
+use Rattle.std.specs.List.{prefix_len, list_all, flat_map}
+use Rattle.std.specs.Char.{is_ascii_alphabetic, is_ascii_digit}
+use Rattle.std.specs.Int.{is_in_range}
+use Rattle.std.proofs.lemmas.List.{append_cancel_left, length-drop}
+use Rattle.std.proofs.lemmas.List.Sums.{take_while-cons}
+use Rattle.std.proofs.lemmas.Bool.{and_parts, or_cases, or_from, ne_eqb, eqb-true, leb-true, lt-leb, and_left, and_right, false≢true, false_from_ne_true}
+use Rattle.syntax.specs.declared.token.Word.{Word}
+use Rattle.syntax.specs.declared.token.Word.TheVariants.{And, Array, As, Async, At, By, Byte, Else, False, Fault, Finish, If, Int, Len, Main, Mut, Not, Or, Parts, Print, Proc, Read, Rescue, Skip, Split, True, Var, While}
+use Rattle.syntax.specs.declared.token.Mark.{Mark}
+use Rattle.syntax.specs.declared.token.Mark.TheVariants.{LeftParen, RightParen, LeftBrace, RightBrace, LeftBracket, RightBracket, Comma, Semicolon, Colon, Becomes, Plus, Minus, Star, Slash, Percent, Less, AtMost, Greater, AtLeast, Equal, Differs}
+use Rattle.syntax.specs.Token.{Token}
+use Rattle.syntax.specs.Lexical.{word_text, mark_text, is_blank, begins_name, is_in_name, is_in_line, starts, begins_comment, number_of, Piece, BlankPiece, CommentPiece, NamePiece, NumberPiece, WordPiece, MarkPiece, letters, token_of, IsMark, MayStand, Begins, AreCut, AreTokensOf, BeginsNoPiece, BeginsLargeNumber, StopsAt}
+
+-- Words and marks are told apart by their characters.
+
+code : List ℕ → ℕ
+code = fold (λ n c. n * 128 + c) 0
+
+abbrev word_with : ℕ → List Word → Word
+word_with n [] = And
+word_with n (w ∷ ws) = cond (code (word_text w) == n) w (word_with n ws)
+
+abbrev more_words : List Word
+more_words = Parts ∷ Print ∷ Proc ∷ Read ∷ Rescue ∷ Skip ∷ Split ∷ True ∷ Var ∷ While ∷ []
+
+abbrev word_of : List ℕ → Word
+word_of cs =
+    word_with
+    (code cs)
+    (Array ∷ As ∷ Async ∷ At ∷ By ∷ Byte ∷ Else ∷ False ∷ Fault ∷ Finish ∷ If ∷ Int ∷ Len ∷ Main ∷ Mut ∷ Not ∷ Or ∷ more_words)
+
+word_of-word_text : (w : Word) → word_of (word_text w) ≡ w
+unfolding code
+word_of-word_text And = refl
+word_of-word_text Array = refl
+word_of-word_text As = refl
+word_of-word_text Async = refl
+word_of-word_text At = refl
+word_of-word_text By = refl
+word_of-word_text Byte = refl
+word_of-word_text Else = refl
+word_of-word_text False = refl
+word_of-word_text Fault = refl
+word_of-word_text Finish = refl
+word_of-word_text If = refl
+word_of-word_text Int = refl
+word_of-word_text Len = refl
+word_of-word_text Main = refl
+word_of-word_text Mut = refl
+word_of-word_text Not = refl
+word_of-word_text Or = refl
+word_of-word_text Parts = refl
+word_of-word_text Print = refl
+word_of-word_text Proc = refl
+word_of-word_text Read = refl
+word_of-word_text Rescue = refl
+word_of-word_text Skip = refl
+word_of-word_text Split = refl
+word_of-word_text True = refl
+word_of-word_text Var = refl
+word_of-word_text While = refl
+
+word_text-injective : (v w : Word) → word_text v ≡ word_text w → v ≡ w
+word_text-injective v w same = sym (word_of-word_text v) ∙ ap word_of same ∙ word_of-word_text w
+
+abbrev mark_with : ℕ → List Mark → Mark
+mark_with n [] = LeftParen
+mark_with n (m ∷ ms) = cond (code (mark_text m) == n) m (mark_with n ms)
+
+abbrev more_marks : List Mark
+more_marks = Plus ∷ Minus ∷ Star ∷ Slash ∷ Percent ∷ Less ∷ AtMost ∷ Greater ∷ AtLeast ∷ Equal ∷ Differs ∷ []
+
+abbrev mark_of : List ℕ → Mark
+mark_of cs =
+    mark_with
+    (code cs)
+    (RightParen ∷ LeftBrace ∷ RightBrace ∷ LeftBracket ∷ RightBracket ∷ Comma ∷ Semicolon ∷ Colon ∷ Becomes ∷ more_marks)
+
+mark_of-mark_text : (m : Mark) → mark_of (mark_text m) ≡ m
+unfolding code
+mark_of-mark_text LeftParen = refl
+mark_of-mark_text RightParen = refl
+mark_of-mark_text LeftBrace = refl
+mark_of-mark_text RightBrace = refl
+mark_of-mark_text LeftBracket = refl
+mark_of-mark_text RightBracket = refl
+mark_of-mark_text Comma = refl
+mark_of-mark_text Semicolon = refl
+mark_of-mark_text Colon = refl
+mark_of-mark_text Becomes = refl
+mark_of-mark_text Plus = refl
+mark_of-mark_text Minus = refl
+mark_of-mark_text Star = refl
+mark_of-mark_text Slash = refl
+mark_of-mark_text Percent = refl
+mark_of-mark_text Less = refl
+mark_of-mark_text AtMost = refl
+mark_of-mark_text Greater = refl
+mark_of-mark_text AtLeast = refl
+mark_of-mark_text Equal = refl
+mark_of-mark_text Differs = refl
+
+mark_text-injective : (m n : Mark) → mark_text m ≡ mark_text n → m ≡ n
+mark_text-injective m n same = sym (mark_of-mark_text m) ∙ ap mark_of same ∙ mark_of-mark_text n
+
+-- a reserved word has the letters of a name
+word_begins : (w : Word) → starts begins_name (word_text w) ≡ true
+word_begins And = refl
+word_begins Array = refl
+word_begins As = refl
+word_begins Async = refl
+word_begins At = refl
+word_begins By = refl
+word_begins Byte = refl
+word_begins Else = refl
+word_begins False = refl
+word_begins Fault = refl
+word_begins Finish = refl
+word_begins If = refl
+word_begins Int = refl
+word_begins Len = refl
+word_begins Main = refl
+word_begins Mut = refl
+word_begins Not = refl
+word_begins Or = refl
+word_begins Parts = refl
+word_begins Print = refl
+word_begins Proc = refl
+word_begins Read = refl
+word_begins Rescue = refl
+word_begins Skip = refl
+word_begins Split = refl
+word_begins True = refl
+word_begins Var = refl
+word_begins While = refl
+
+word_in_name : (w : Word) → list_all is_in_name (word_text w) ≡ true
+word_in_name And = refl
+word_in_name Array = refl
+word_in_name As = refl
+word_in_name Async = refl
+word_in_name At = refl
+word_in_name By = refl
+word_in_name Byte = refl
+word_in_name Else = refl
+word_in_name False = refl
+word_in_name Fault = refl
+word_in_name Finish = refl
+word_in_name If = refl
+word_in_name Int = refl
+word_in_name Len = refl
+word_in_name Main = refl
+word_in_name Mut = refl
+word_in_name Not = refl
+word_in_name Or = refl
+word_in_name Parts = refl
+word_in_name Print = refl
+word_in_name Proc = refl
+word_in_name Read = refl
+word_in_name Rescue = refl
+word_in_name Skip = refl
+word_in_name Split = refl
+word_in_name True = refl
+word_in_name Var = refl
+word_in_name While = refl
+
+-- What stands first, and its characters, as the text alone tells.
+
+data Kind : Type 0 where
+  IsBlank : Kind
+  IsComment : Kind
+  IsWord : Kind
+  IsNumber : Kind
+  IsOther : Kind
+
+abbrev kind : Piece → Kind
+kind (BlankPiece c) = IsBlank
+kind (CommentPiece cs) = IsComment
+kind (NamePiece cs) = IsWord
+kind (NumberPiece cs) = IsNumber
+kind (WordPiece w) = IsWord
+kind (MarkPiece m) = IsOther
+
+record Look : Type 0 where
+  kind : Kind
+  front : List ℕ
+
+abbrev looked : Kind → List ℕ → Look
+looked k cs = record { kind = k; front = cs }
+
+-- which of five, by what a text begins with
+module _ {A : Type 0} (blank comment word number other : A) where
+  abbrev by_first : Bool → Bool → Bool → Bool → A
+  by_first true c n d = blank
+  by_first false true n d = comment
+  by_first false false true d = word
+  by_first false false false true = number
+  by_first false false false false = other
+
+  by_first-blank : (b c n d : Bool) → b ≡ true → by_first b c n d ≡ blank
+  by_first-blank b c n d e = ap (λ b. by_first b c n d) e
+
+  by_first-comment : (b c n d : Bool) → b ≡ false → c ≡ true → by_first b c n d ≡ comment
+  by_first-comment b c n d e f = ap (λ b. by_first b c n d) e ∙ ap (λ c. by_first false c n d) f
+
+  by_first-word : (b c n d : Bool) → b ≡ false → c ≡ false → n ≡ true → by_first b c n d ≡ word
+  by_first-word b c n d e f g = ap (λ b. by_first b c n d) e ∙ ap (λ c. by_first false c n d) f ∙ ap (λ n. by_first false false n d) g
+
+  by_first-number : (b c n d : Bool) → b ≡ false → c ≡ false → n ≡ false → d ≡ true → by_first b c n d ≡ number
+  by_first-number b c n d e f g h =
+      ap (λ b. by_first b c n d) e ∙ ap (λ c. by_first false c n d) f ∙ ap (λ n. by_first false false n d) g ∙ ap (λ d. by_first false false false d) h
+
+  by_first-other : (b c n d : Bool) → b ≡ false → c ≡ false → n ≡ false → d ≡ false → by_first b c n d ≡ other
+  by_first-other b c n d e f g h =
+      ap (λ b. by_first b c n d) e ∙ ap (λ c. by_first false c n d) f ∙ ap (λ n. by_first false false n d) g ∙ ap (λ d. by_first false false false d) h
+
+abbrev front_of : (ℕ → Bool) → List ℕ → List ℕ
+front_of p xs = take (prefix_len p xs) xs
+
+abbrev one_first : List ℕ → List ℕ
+one_first [] = []
+one_first (c ∷ cs) = c ∷ []
+
+abbrev behind_two : List ℕ → List ℕ
+behind_two [] = []
+behind_two (c ∷ []) = []
+behind_two (c ∷ d ∷ cs) = cs
+
+-- a mark that `=` makes longer
+abbrev may_grow : ℕ → Bool
+may_grow c = c == 60 || (c == 62 || (c == 61 || c == 33))
+
+abbrev mark_first : List ℕ → List ℕ
+mark_first [] = []
+mark_first (c ∷ []) = c ∷ []
+mark_first (c ∷ d ∷ cs) = cond (may_grow c && d == 61) (c ∷ d ∷ []) (c ∷ [])
+
+look : List ℕ → Look
+look text =
+    by_first
+    (looked IsBlank (one_first text))
+    (looked IsComment (47 ∷ 47 ∷ front_of is_in_line (behind_two text)))
+    (looked IsWord (front_of is_in_name text))
+    (looked IsNumber (front_of is_ascii_digit text))
+    (looked IsOther (mark_first text))
+    (starts is_blank text)
+    (begins_comment text)
+    (starts begins_name text)
+    (starts is_ascii_digit text)
+
+-- what passes, and behind it nothing that does, is the longest front that passes
+front_is : (p : ℕ → Bool) (cs rest : List ℕ) → list_all p cs ≡ true → starts p rest ≡ false → front_of p (cs ++ rest) ≡ cs
+front_is p [] [] all ends = refl
+front_is p [] (c ∷ rest) all ends = take_while-cons p c rest ∙ ap (λ b. cond b (c ∷ front_of p rest) []) ends
+front_is p (c ∷ cs) rest all ends =
+    let parts = and_parts (p c) (list_all p cs) all in
+    take_while-cons p c (cs ++ rest) ∙ ap (λ b. cond b (c ∷ front_of p (cs ++ rest)) []) parts.0 ∙ ap (λ l. c ∷ l) (front_is p cs rest parts.1 ends)
+
+pub starts-append : (q : ℕ → Bool) (cs rest : List ℕ) → starts q cs ≡ true → starts q (cs ++ rest) ≡ true
+starts-append q [] rest begins = absurd (false≢true begins)
+starts-append q (c ∷ cs) rest begins = begins
+
+-- where one test passes of what stands first, another doesn't
+starts-not : (q r : ℕ → Bool) (cs rest : List ℕ) → ((c : ℕ) → q c ≡ true → r c ≡ false) → starts q cs ≡ true → starts r (cs ++ rest) ≡ false
+starts-not q r [] rest apart begins = absurd (false≢true begins)
+starts-not q r (c ∷ cs) rest apart begins = apart c begins
+
+no_comment : (c : ℕ) (cs : List ℕ) → (c == 47) ≡ false → begins_comment (c ∷ cs) ≡ false
+no_comment c [] e = refl
+no_comment c (d ∷ cs) e = ap (λ b. b && d == 47) e
+
+begins_no_comment : (q : ℕ → Bool) (cs rest : List ℕ) → ((c : ℕ) → q c ≡ true → (c == 47) ≡ false) → starts q cs ≡ true → begins_comment (cs ++ rest) ≡ false
+begins_no_comment q [] rest apart begins = absurd (false≢true begins)
+begins_no_comment q (c ∷ cs) rest apart begins = no_comment c (cs ++ rest) (apart c begins)
+
+in_range : (low high c : ℕ) → is_in_range low high c ≡ true → (low ≤ c) × (c ≤ high)
+in_range low high c e =
+    let parts = and_parts _ _ e in
+    (leb-true low c parts.0, leb-true c high parts.1)
+
+past_range : (low high c : ℕ) → high < c → is_in_range low high c ≡ false
+past_range low high c more = and_right _ _ (lt-leb c high more)
+
+before_range : (low high c : ℕ) → c < low → is_in_range low high c ≡ false
+before_range low high c less = and_left _ _ (lt-leb low c less)
+
+above_is_no_blank : (c : ℕ) → 47 < c → is_blank c ≡ false
+above_is_no_blank c more =
+    or_from _ _ (ne_eqb c 32 (λ e. omega arith)) (or_from _ _ (ne_eqb c 9 (λ e. omega arith)) (or_from _ _ (ne_eqb c 13 (λ e. omega arith)) (ne_eqb c 10 (λ e. omega arith))))
+
+letter_is_above : (c : ℕ) → begins_name c ≡ true → 64 < c
+letter_is_above c e =
+    ⊎_elim
+    (λ letter. ⊎_elim (λ upper. omega (arith, in_range 65 90 c upper)) (λ lower. omega (arith, in_range 97 122 c lower)) (or_cases (is_in_range 65 90 c) (is_in_range 97 122 c) letter))
+    (λ underscore. omega (arith, eqb-true c 95 underscore))
+    (or_cases (is_ascii_alphabetic c) (c == 95) e)
+
+digit_is_above : (c : ℕ) → is_ascii_digit c ≡ true → 47 < c
+digit_is_above c e = omega (arith, in_range 48 57 c e)
+
+digit_begins_no_name : (c : ℕ) → is_ascii_digit c ≡ true → begins_name c ≡ false
+digit_begins_no_name c e =
+    let bounds = in_range 48 57 c e in
+    or_from _ _ (or_from _ _ (before_range 65 90 c (omega arith)) (before_range 97 122 c (omega arith))) (ne_eqb c 95 (λ e. omega arith))
+
+-- a word or a name that stands first is what the text tells
+look-word : (cs rest : List ℕ) → starts begins_name cs ≡ true → list_all is_in_name cs ≡ true → starts is_in_name rest ≡ false → look (cs ++ rest) ≡ looked IsWord cs
+unfolding look
+look-word cs rest begins all ends =
+    let no_blank = starts-not begins_name is_blank cs rest (λ c e. above_is_no_blank c (omega (arith, letter_is_above c e))) begins in
+    let no_line = begins_no_comment begins_name cs rest (λ c e. ne_eqb c 47 (λ f. omega (arith, letter_is_above c e))) begins in
+    by_first-word _ _ _ _ _ _ _ _ _ no_blank no_line (starts-append begins_name cs rest begins) ∙
+    ap (looked IsWord) (front_is is_in_name cs rest all ends)
+
+-- and so are digits
+look-digits : (cs rest : List ℕ) → starts is_ascii_digit cs ≡ true → list_all is_ascii_digit cs ≡ true → starts is_ascii_digit rest ≡ false → look (cs ++ rest) ≡ looked IsNumber cs
+unfolding look
+look-digits cs rest begins all ends =
+    let no_blank = starts-not is_ascii_digit is_blank cs rest (λ c e. above_is_no_blank c (digit_is_above c e)) begins in
+    let no_line = begins_no_comment is_ascii_digit cs rest (λ c e. ne_eqb c 47 (λ f. omega (arith, digit_is_above c e))) begins in
+    let no_name = starts-not is_ascii_digit begins_name cs rest digit_begins_no_name begins in
+    by_first-number _ _ _ _ _ _ _ _ _ no_blank no_line no_name (starts-append is_ascii_digit cs rest begins) ∙
+    ap (looked IsNumber) (front_is is_ascii_digit cs rest all ends)
+
+record IsOtherFirst (text : List ℕ) : Type 0 where
+  some : starts (λ c. true) text ≡ true
+  blank : starts is_blank text ≡ false
+  name : starts begins_name text ≡ false
+  digit : starts is_ascii_digit text ≡ false
+
+mark_is_other : (m : Mark) (rest : List ℕ) → IsOtherFirst (mark_text m ++ rest)
+mark_is_other LeftParen rest = record { some = refl; blank = refl; name = refl; digit = refl }
+mark_is_other RightParen rest = record { some = refl; blank = refl; name = refl; digit = refl }
+mark_is_other LeftBrace rest = record { some = refl; blank = refl; name = refl; digit = refl }
+mark_is_other RightBrace rest = record { some = refl; blank = refl; name = refl; digit = refl }
+mark_is_other LeftBracket rest = record { some = refl; blank = refl; name = refl; digit = refl }
+mark_is_other RightBracket rest = record { some = refl; blank = refl; name = refl; digit = refl }
+mark_is_other Comma rest = record { some = refl; blank = refl; name = refl; digit = refl }
+mark_is_other Semicolon rest = record { some = refl; blank = refl; name = refl; digit = refl }
+mark_is_other Colon rest = record { some = refl; blank = refl; name = refl; digit = refl }
+mark_is_other Becomes rest = record { some = refl; blank = refl; name = refl; digit = refl }
+mark_is_other Plus rest = record { some = refl; blank = refl; name = refl; digit = refl }
+mark_is_other Minus rest = record { some = refl; blank = refl; name = refl; digit = refl }
+mark_is_other Star rest = record { some = refl; blank = refl; name = refl; digit = refl }
+mark_is_other Slash rest = record { some = refl; blank = refl; name = refl; digit = refl }
+mark_is_other Percent rest = record { some = refl; blank = refl; name = refl; digit = refl }
+mark_is_other Less rest = record { some = refl; blank = refl; name = refl; digit = refl }
+mark_is_other AtMost rest = record { some = refl; blank = refl; name = refl; digit = refl }
+mark_is_other Greater rest = record { some = refl; blank = refl; name = refl; digit = refl }
+mark_is_other AtLeast rest = record { some = refl; blank = refl; name = refl; digit = refl }
+mark_is_other Equal rest = record { some = refl; blank = refl; name = refl; digit = refl }
+mark_is_other Differs rest = record { some = refl; blank = refl; name = refl; digit = refl }
+
+lone_mark : (c : ℕ) (rest : List ℕ) → may_grow c ≡ false → mark_first (c ∷ rest) ≡ c ∷ []
+lone_mark c [] e = refl
+lone_mark c (d ∷ rest) e = ap (λ b. cond (b && d == 61) (c ∷ d ∷ []) (c ∷ [])) e
+
+short_mark : (c : ℕ) (rest : List ℕ) → starts (λ d. d == 61) rest ≡ false → mark_first (c ∷ rest) ≡ c ∷ []
+short_mark c [] e = refl
+short_mark c (d ∷ rest) e = ap (λ b. cond b (c ∷ d ∷ []) (c ∷ [])) (and_right (may_grow c) (d == 61) e)
+
+mark_is_first : (m : Mark) (rest : List ℕ) → IsMark m rest → mark_first (mark_text m ++ rest) ≡ mark_text m
+mark_is_first LeftParen rest fits = lone_mark 40 rest refl
+mark_is_first RightParen rest fits = lone_mark 41 rest refl
+mark_is_first LeftBrace rest fits = lone_mark 123 rest refl
+mark_is_first RightBrace rest fits = lone_mark 125 rest refl
+mark_is_first LeftBracket rest fits = lone_mark 91 rest refl
+mark_is_first RightBracket rest fits = lone_mark 93 rest refl
+mark_is_first Comma rest fits = lone_mark 44 rest refl
+mark_is_first Semicolon rest fits = lone_mark 59 rest refl
+mark_is_first Colon rest fits = lone_mark 58 rest refl
+mark_is_first Becomes rest fits = short_mark 61 rest (false_from_ne_true _ (λ e. fits.longest e Equal refl))
+mark_is_first Plus rest fits = lone_mark 43 rest refl
+mark_is_first Minus rest fits = lone_mark 45 rest refl
+mark_is_first Star rest fits = lone_mark 42 rest refl
+mark_is_first Slash rest fits = lone_mark 47 rest refl
+mark_is_first Percent rest fits = lone_mark 37 rest refl
+mark_is_first Less rest fits = short_mark 60 rest (false_from_ne_true _ (λ e. fits.longest e AtMost refl))
+mark_is_first AtMost rest fits = refl
+mark_is_first Greater rest fits = short_mark 62 rest (false_from_ne_true _ (λ e. fits.longest e AtLeast refl))
+mark_is_first AtLeast rest fits = refl
+mark_is_first Equal rest fits = refl
+mark_is_first Differs rest fits = refl
+
+look-mark : (m : Mark) (rest : List ℕ) → IsMark m rest → look (mark_text m ++ rest) ≡ looked IsOther (mark_text m)
+unfolding look
+look-mark m rest fits =
+    let other = mark_is_other m rest in
+    by_first-other _ _ _ _ _ _ _ _ _ other.blank fits.no_comment other.name other.digit ∙ ap (looked IsOther) (mark_is_first m rest fits)
+
+-- a piece that stands first is what the text tells
+look-piece : (p : Piece) (rest : List ℕ) → MayStand p rest → look (letters p ++ rest) ≡ looked (kind p) (letters p)
+unfolding look
+look-piece (BlankPiece c) rest fits = by_first-blank _ _ _ _ _ _ _ _ _ fits
+look-piece (CommentPiece cs) rest fits = ap (λ l. looked IsComment (47 ∷ 47 ∷ l)) (front_is is_in_line cs rest fits.0 fits.1)
+look-piece (NamePiece cs) rest fits = look-word cs rest fits.begins fits.in_name fits.ends
+look-piece (NumberPiece cs) rest fits = look-digits cs rest fits.begins fits.digits fits.ends
+look-piece (WordPiece w) rest fits = look-word (word_text w) rest (word_begins w) (word_in_name w) fits
+look-piece (MarkPiece m) rest fits = look-mark m rest fits
+
+look-begins : (text : List ℕ) (p : Piece) (rest : List ℕ) → Begins text p rest → look text ≡ looked (kind p) (letters p)
+look-begins text p rest begins = ap look begins.spelled ∙ look-piece p rest begins.fits
+
+-- two pieces of one kind with the same characters are one
+same_piece : (p q : Piece) (r s : List ℕ) → MayStand p r → MayStand q s → kind p ≡ kind q → letters p ≡ letters q → p ≡ q
+same_piece (BlankPiece c) (BlankPiece d) r s f g k l = cc
+same_piece (CommentPiece cs) (CommentPiece ds) r s f g k l = cc
+same_piece (NamePiece cs) (NamePiece ds) r s f g k l = ap NamePiece l
+same_piece (NamePiece cs) (WordPiece w) r s f g k l = absurd (f.no_word w (sym l))
+same_piece (WordPiece w) (NamePiece cs) r s f g k l = absurd (g.no_word w l)
+same_piece (WordPiece v) (WordPiece w) r s f g k l = ap WordPiece (word_text-injective v w l)
+same_piece (NumberPiece cs) (NumberPiece ds) r s f g k l = ap NumberPiece l
+same_piece (MarkPiece m) (MarkPiece n) r s f g k l = ap MarkPiece (mark_text-injective m n l)
+same_piece p q r s f g k l = cc
+
+-- a text begins with one piece at most
+pub one_piece : (text : List ℕ) (p q : Piece) (r s : List ℕ) → Begins text p r → Begins text q s → (p ≡ q) × (r ≡ s)
+one_piece text p q r s b c =
+    let looks = sym (look-begins text p r b) ∙ look-begins text q s c in
+    let front : letters p ≡ letters q = ap (λ l. l.front) looks in
+    let rest = sym b.spelled ∙ c.spelled ∙ ap (λ l. l ++ s) (sym front) in
+    (same_piece p q r s b.fits c.fits (ap (λ l. l.kind) looks) front, append_cancel_left (letters p) r s rest)
+
+some_stand : (q : ℕ → Bool) (cs rest : List ℕ) → starts q cs ≡ true → cs ++ rest ≡ [] → ⊥
+some_stand q [] rest begins e = false≢true begins
+some_stand q (c ∷ cs) rest begins e = cc
+
+pub piece_is_some : (p : Piece) (rest : List ℕ) → MayStand p rest → letters p ++ rest ≡ [] → ⊥
+piece_is_some (BlankPiece c) rest fits e = cc
+piece_is_some (CommentPiece cs) rest fits e = cc
+piece_is_some (NamePiece cs) rest fits e = some_stand begins_name cs rest fits.begins e
+piece_is_some (NumberPiece cs) rest fits e = some_stand is_ascii_digit cs rest fits.begins e
+piece_is_some (WordPiece w) rest fits e = some_stand begins_name (word_text w) rest (word_begins w) e
+piece_is_some (MarkPiece m) rest fits e =
+    false≢true (ap (starts (λ c. true)) (sym e) ∙ (mark_is_other m rest).some)
+
+pub nothing_begins_no_piece : BeginsNoPiece []
+nothing_begins_no_piece p rest begins = piece_is_some p rest begins.fits (sym begins.spelled)
+
+-- a text is cut in one way, as far as it can be
+one_cut : (text : List ℕ) (ps qs : List Piece) (r s : List ℕ) → AreCut text ps r → AreCut text qs s → BeginsNoPiece r → BeginsNoPiece s → (ps ≡ qs) × (r ≡ s)
+one_cut text [] [] r s c d n m = (refl, sym c ∙ d)
+one_cut text [] (q ∷ qs) r s c d n m = absurd (n q d.0 (subst (λ t. Begins t q d.0) c d.1))
+one_cut text (p ∷ ps) [] r s c d n m = absurd (m p c.0 (subst (λ t. Begins t p c.0) d c.1))
+one_cut text (p ∷ ps) (q ∷ qs) r s c d n m =
+    let same = one_piece text p q c.0 d.0 c.1 d.1 in
+    let more = one_cut c.0 ps qs r s c.2 (subst (λ t. AreCut t qs s) (sym same.1) d.2) n m in
+    (ap (λ x. x ∷ ps) same.0 ∙ ap (λ l. q ∷ l) more.0, more.1)
+
+pub one_reading : (text : List ℕ) (ts us : List Token) → AreTokensOf text ts → AreTokensOf text us → ts ≡ us
+one_reading text ts us h k =
+    let cuts = one_cut text h.pieces k.pieces [] [] h.cut k.cut nothing_begins_no_piece nothing_begins_no_piece in
+    sym h.tokens ∙ ap (flat_map token_of) cuts.0 ∙ k.tokens
+
+pub no_reading : (text : List ℕ) (at : ℕ) (ts : List Token) → StopsAt text at → AreTokensOf text ts → ⊥
+no_reading text at ts stops h =
+    let cuts = one_cut text stops.read.pieces h.pieces (drop at text) [] stops.read.cut h.cut stops.stuck nothing_begins_no_piece in
+    let bound = stops.within in
+    let left = ap length cuts.1 in
+    absurd (omega (arith, bound, left, length-drop at text))
+
+pub one_place : (text : List ℕ) (at other : ℕ) → StopsAt text at → StopsAt text other → at ≡ other
+one_place text at other here there =
+    let cuts = one_cut text here.read.pieces there.read.pieces (drop at text) (drop other text) here.read.cut there.read.cut here.stuck there.stuck in
+    let bound = here.within in
+    let bound_there = there.within in
+    let left = ap length cuts.1 in
+    omega (arith, bound, bound_there, left, length-drop at text, length-drop other text)
+
+-- What begins with no piece.
+
+fits_in_number : (p : Piece) (rest digits : List ℕ) → MayStand p rest → kind p ≡ IsNumber → letters p ≡ digits → number_of digits ≤ 9223372036854775807
+fits_in_number (NumberPiece cs) rest digits fits k l = subst (λ ds. number_of ds ≤ 9223372036854775807) l fits.fits
+fits_in_number p rest digits fits k l = cc
+
+pub large_begins_no_piece : (text : List ℕ) → BeginsLargeNumber text → BeginsNoPiece text
+large_begins_no_piece text large p rest begins =
+    let there = ap look large.spelled ∙ look-digits large.digits large.behind large.begins large.all_digits large.ends in
+    let looks = sym (look-begins text p rest begins) ∙ there in
+    let small = fits_in_number p rest large.digits begins.fits (ap (λ l. l.kind) looks) (ap (λ l. l.front) looks) in
+    let over = large.over in
+    absurd (omega (arith, small, over))
