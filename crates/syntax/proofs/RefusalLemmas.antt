@@ -16,6 +16,11 @@ use Rattle.syntax.specs.Spelling.{relation_mark, sign_mark, operator_mark, expr_
 use Rattle.syntax.specs.Reading.{binds, list_level, or_level, and_level, relation_level, sign_level, operator_level, bracket_level}
 use Rattle.syntax.proofs.ExprSpellings.{begins, atom_begins, cmp_begins, relation_binds, sign_binds, operator_binds}
 
+-- whatever chain the tokens spell, with anything behind it that binds less tightly, these spell the chain's end
+abbrev pub LeavesEnd : {First More : Type 0} → (First → List Token → List Token) → (More → List Token → List Token) → ℕ → List Token → List Token → Type 0
+LeavesEnd {First} {More} first others level tokens left =
+    (x : First) (all : More) (rest : List Token) → binds rest < level → tokens ≡ first x (others all rest) → (end : More) × (left ≡ others end rest)
+
 -- what `?` returns is refused where what it was given is
 pub passed_on : {T A : Type 0} (r : Result T Stuck) (e : Stuck) → IsErrAnd r (λ y. y ≡ e) → (e ≢ OutOfMemory → A) → IfErr r (λ stuck. stuck ≢ OutOfMemory → A)
 passed_on r e failed refusal =
@@ -65,16 +70,24 @@ unfolding atom_then
 marked_atom (Parens e) m ts r same = (e, same)
 marked_atom _ m ts r same = cc
 
--- where no token stands that an atom begins with
-pub no_atom : (ts : List Token) → ((n : ℕ) (r : List Token) → ts ≢ NumberToken n ∷ r) → ((r : List Token) → ts ≢ WordToken WordTrue ∷ r) → ((r : List Token) → ts ≢ WordToken WordFalse ∷ r) → ((r : List Token) → ts ≢ WordToken WordLen ∷ r) → ((x : List ℕ) (r : List Token) → ts ≢ NameToken x ∷ r) → ((m : Mark) (r : List Token) → ts ≢ MarkToken m ∷ r) → (a : Atom) (r : List Token) → ts ≢ atom_then a r
+-- no token stands first that an atom begins with
+pub record BeginsNoAtom (ts : List Token) : Type 0 where
+  pub number : (n : ℕ) (rest : List Token) → ts ≢ NumberToken n ∷ rest
+  pub is_true : (rest : List Token) → ts ≢ WordToken WordTrue ∷ rest
+  pub is_false : (rest : List Token) → ts ≢ WordToken WordFalse ∷ rest
+  pub is_length : (rest : List Token) → ts ≢ WordToken WordLen ∷ rest
+  pub name : (x : List ℕ) (rest : List Token) → ts ≢ NameToken x ∷ rest
+  pub mark : (m : Mark) (rest : List Token) → ts ≢ MarkToken m ∷ rest
+
+pub no_atom : (ts : List Token) → BeginsNoAtom ts → (a : Atom) (r : List Token) → ts ≢ atom_then a r
 unfolding atom_then
-no_atom ts number is_true is_false is_length name mark (Number n) r same = number _ _ same
-no_atom ts number is_true is_false is_length name mark True r same = is_true _ same
-no_atom ts number is_true is_false is_length name mark False r same = is_false _ same
-no_atom ts number is_true is_false is_length name mark (Name x) r same = name _ _ same
-no_atom ts number is_true is_false is_length name mark (Element x e) r same = name _ _ same
-no_atom ts number is_true is_false is_length name mark (Length x) r same = is_length _ same
-no_atom ts number is_true is_false is_length name mark (Parens e) r same = mark _ _ same
+no_atom ts none (Number n) r same = none.number _ _ same
+no_atom ts none True r same = none.is_true _ same
+no_atom ts none False r same = none.is_false _ same
+no_atom ts none (Name x) r same = none.name _ _ same
+no_atom ts none (Element x e) r same = none.name _ _ same
+no_atom ts none (Length x) r same = none.is_length _ same
+no_atom ts none (Parens e) r same = none.mark _ _ same
 
 -- What an operand leaves of its chain: another operand behind a word or mark of the chain, or what stands behind the chain.
 

@@ -6,10 +6,22 @@ use Rattle.syntax.specs.declared.token.Mark.TheVariants.{LeftParen, RightParen, 
 use Rattle.syntax.specs.Token.{Token, NameToken, WordToken, MarkToken}
 use Rattle.syntax.specs.Tree.{Expr, Stmt, Skip, Var, Assign, Store, Print, Fault, If, IfElse, While, Split, Call, Async, Finish, Block, End, Then}
 use Rattle.syntax.specs.Spelling.{expr_then, more_then, exprs_then, stmt_then, block_then}
-use Rattle.syntax.specs.Reading.{binds, or_level, else_level}
+use Rattle.syntax.specs.Reading.{binds, list_level, or_level, else_level}
 use Rattle.syntax.proofs.ExprSpellings.{begins, expr_begins}
-use Rattle.syntax.proofs.StmtSpellings.{begun}
+use Rattle.syntax.proofs.StmtSpellings.{begun, more_bind}
 use Rattle.syntax.proofs.RefusalLemmas.{next}
+
+-- an expression, and others behind commas
+pub record Several (ts r : List Token) : Type 0 where
+  pub first : Expr
+  pub after : List Token
+  pub others : List Expr
+  pub spelled : ts ≡ expr_then first after
+  pub ends : binds after < or_level
+  pub more : after ≡ more_then others r
+
+several : (e : Expr) (es : List Expr) {ts : List Token} (r : List Token) → binds r < list_level → ts ≡ expr_then e (more_then es r) → Several ts r
+several e es r ends same = record { first = e; after = more_then es r; others = es; spelled = same; ends = more_bind es r ends; more = refl }
 
 pub block_closed : (b : Block) (ts r : List Token) → MarkToken RightBrace ∷ ts ≡ block_then b r → ts ≡ r
 unfolding block_then
@@ -93,9 +105,9 @@ unfolding stmt_then
 var_opened (Var x e) ts r same = (x, e, next same)
 var_opened _ ts r same = cc
 
-pub print_opened : (s : Stmt) (ts r : List Token) → WordToken WordPrint ∷ ts ≡ stmt_then s r → (e : Expr) × (es : List Expr) × (ts ≡ expr_then e (more_then es (MarkToken Semicolon ∷ r)))
+pub print_opened : (s : Stmt) (ts r : List Token) → WordToken WordPrint ∷ ts ≡ stmt_then s r → Several ts (MarkToken Semicolon ∷ r)
 unfolding stmt_then
-print_opened (Print e es) ts r same = (e, es, next same)
+print_opened (Print e es) ts r same = several e es _ (omega arith) (next same)
 print_opened _ ts r same = cc
 
 pub fault_opened : (s : Stmt) (ts r : List Token) → WordToken WordFault ∷ ts ≡ stmt_then s r → (e : Expr) × (ts ≡ expr_then e (MarkToken Semicolon ∷ r))
@@ -137,35 +149,41 @@ no_statement ts word name (Call f es) r same = name _ _ same
 no_statement ts word name (Async b) r same = word _ _ same
 no_statement ts word name (Finish b) r same = word _ _ same
 
--- a word that begins no statement with a block
-pub record BeginsNoBlock (w : Word) : Type 0 where
-  pub is_if : w ≢ WordIf
-  pub is_while : w ≢ WordWhile
-  pub is_split : w ≢ WordSplit
-  pub is_async : w ≢ WordAsync
-  pub is_finish : w ≢ WordFinish
+-- a word stands first that no statement begins with
+pub record BeginsNoStatement (ts : List Token) : Type 0 where
+  pub word : Word
+  pub rest : List Token
+  pub first : ts ≡ WordToken word ∷ rest
+  pub is_if : word ≢ WordIf
+  pub is_while : word ≢ WordWhile
+  pub is_split : word ≢ WordSplit
+  pub is_async : word ≢ WordAsync
+  pub is_finish : word ≢ WordFinish
+  pub skip : (k : List Token) → ts ≢ WordToken WordSkip ∷ k
+  pub var : (k : List Token) → ts ≢ WordToken WordVar ∷ k
+  pub print : (k : List Token) → ts ≢ WordToken WordPrint ∷ k
+  pub fault : (k : List Token) → ts ≢ WordToken WordFault ∷ k
 
--- where another word stands
-pub no_simple : (ts : List Token) (w : Word) (rest : List Token) → ts ≡ WordToken w ∷ rest → BeginsNoBlock w → ((k : List Token) → ts ≢ WordToken WordSkip ∷ k) → ((k : List Token) → ts ≢ WordToken WordVar ∷ k) → ((k : List Token) → ts ≢ WordToken WordPrint ∷ k) → ((k : List Token) → ts ≢ WordToken WordFault ∷ k) → (s : Stmt) (r : List Token) → ts ≢ stmt_then s r
+pub no_simple : (ts : List Token) → BeginsNoStatement ts → (s : Stmt) (r : List Token) → ts ≢ stmt_then s r
 unfolding stmt_then
-no_simple ts w rest is others skip var print fault Skip r same = skip _ same
-no_simple ts w rest is others skip var print fault (Var x e) r same = var _ same
-no_simple ts w rest is others skip var print fault (Print e es) r same = print _ same
-no_simple ts w rest is others skip var print fault (Fault e) r same = fault _ same
-no_simple ts w rest is others skip var print fault (If e b) r same = others.is_if (cc)
-no_simple ts w rest is others skip var print fault (IfElse e b c) r same = others.is_if (cc)
-no_simple ts w rest is others skip var print fault (While e b) r same = others.is_while (cc)
-no_simple ts w rest is others skip var print fault (Split x e y z b) r same = others.is_split (cc)
-no_simple ts w rest is others skip var print fault (Async b) r same = others.is_async (cc)
-no_simple ts w rest is others skip var print fault (Finish b) r same = others.is_finish (cc)
-no_simple ts w rest is others skip var print fault _ r same = cc
+no_simple ts none Skip r same = none.skip _ same
+no_simple ts none (Var x e) r same = none.var _ same
+no_simple ts none (Print e es) r same = none.print _ same
+no_simple ts none (Fault e) r same = none.fault _ same
+no_simple ts none (If e b) r same = none.is_if (cc (none.first))
+no_simple ts none (IfElse e b c) r same = none.is_if (cc (none.first))
+no_simple ts none (While e b) r same = none.is_while (cc (none.first))
+no_simple ts none (Split x e y z b) r same = none.is_split (cc (none.first))
+no_simple ts none (Async b) r same = none.is_async (cc (none.first))
+no_simple ts none (Finish b) r same = none.is_finish (cc (none.first))
+no_simple ts none _ r same = cc (none.first)
 
 pub exprs_closed : (es : List Expr) (ts r : List Token) → MarkToken RightParen ∷ ts ≡ exprs_then es (MarkToken RightParen ∷ r) → ts ≡ r
 unfolding exprs_then
 exprs_closed [] ts r same = next same
 exprs_closed (e ∷ es) ts r same = absurd (omega (arith, ap begins same, expr_begins e (more_then es (MarkToken RightParen ∷ r))))
 
-pub exprs_opened : (es : List Expr) (ts r : List Token) → ((rest : List Token) → ts ≢ MarkToken RightParen ∷ rest) → ts ≡ exprs_then es (MarkToken RightParen ∷ r) → (e : Expr) × (fs : List Expr) × (ts ≡ expr_then e (more_then fs (MarkToken RightParen ∷ r)))
+pub exprs_opened : (es : List Expr) (ts r : List Token) → ((rest : List Token) → ts ≢ MarkToken RightParen ∷ rest) → ts ≡ exprs_then es (MarkToken RightParen ∷ r) → Several ts (MarkToken RightParen ∷ r)
 unfolding exprs_then
 exprs_opened [] ts r none same = absurd (none _ same)
-exprs_opened (e ∷ fs) ts r none same = (e, fs, same)
+exprs_opened (e ∷ fs) ts r none same = several e fs _ (omega arith) same

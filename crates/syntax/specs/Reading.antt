@@ -95,10 +95,6 @@ Leaves spelled level tokens left = (tree : _) (rest : List Token) → binds rest
 abbrev pub SpellsNoneClosed : {Tree : Type 0} → (Tree → List Token → List Token) → List Token → Type 0
 SpellsNoneClosed spelled tokens = (tree : _) (rest : List Token) → tokens ≢ spelled tree rest
 
+-- and of what stands behind them
 abbrev pub LeavesClosed : {Tree : Type 0} → (Tree → List Token → List Token) → List Token → List Token → Type 0
 LeavesClosed spelled tokens left = (tree : _) (rest : List Token) → tokens ≡ spelled tree rest → left ≡ rest
-
--- whatever chain the tokens spell, with anything behind it that binds less tightly, these spell the chain's end
-abbrev pub LeavesEnd : {First More : Type 0} → (First → List Token → List Token) → (More → List Token → List Token) → ℕ → List Token → List Token → Type 0
-LeavesEnd {First} {More} first others level tokens left =
-    (x : First) (all : More) (rest : List Token) → binds rest < level → tokens ≡ first x (others all rest) → (end : More) × (left ≡ others end rest)

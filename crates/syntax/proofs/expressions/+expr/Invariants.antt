@@ -1,5 +1,6 @@
 use Rattle.std.proofs.Common.{◌≡◌, ◌<◌, length, ◌+◌, ◌*◌}
-use Rattle.syntax.specs.Reading.{LeavesEnd, or_level, and_level, sign_level, operator_level}
+use Rattle.syntax.specs.Reading.{or_level, and_level, sign_level, operator_level}
+use Rattle.syntax.proofs.RefusalLemmas.{LeavesEnd}
 use Rattle.syntax.specs.Spelling.{conj_then, conjs_then, neg_then, negs_then, prod_then, terms_then, unary_then, factors_then}
 use Rattle.syntax.specs.Token.{plain}
 use Rattle.syntax.specs.Tree.{conj, conjs, neg, negs, prod, terms, unary, factors}

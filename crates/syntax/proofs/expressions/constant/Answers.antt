@@ -1,8 +1,9 @@
 use Rattle.std.proofs.Common.{rules, sym, ◌∙◌}
 use Rattle.syntax.specs.Spelling.{atom_then}
+use Rattle.syntax.specs.Token.{plain}
 use Rattle.syntax.specs.Tree.{atom}
 use Rattle.syntax.proofs.ChainLemmas.{behind}
-use Rattle.syntax.proofs.RefusalLemmas.{passed_on, next, true_atom, false_atom, number_atom, length_atom, no_atom}
+use Rattle.syntax.proofs.RefusalLemmas.{passed_on, next, true_atom, false_atom, number_atom, length_atom, BeginsNoAtom, no_atom}
 use Rattle.syntax.proofs.expressions.constant.Goals as goal
 
 pub returns-in-Some-clause-spelled : goal.returns-in-Some-clause-spelled
@@ -56,7 +57,15 @@ returns-in-Some-after_word-2-clause-whole c = λ a r ends spelled.
 pub returns-in_err-value-clause-refused : goal.returns-in_err-value-clause-refused
 returns-in_err-value-clause-refused c =
     passed_on _ _ c.from_residual-in_err-value.ensures.1 (λ room no_name no_mark a r ends.
-    no_atom _ c.in_err-value.ensures.refused c.in_default.ensures.absent c.in_default-after_word.ensures.absent c.in_default-after_word-2.ensures.absent no_name no_mark a r)
+    let none : BeginsNoAtom (plain c.args.tokens.now) = record {
+      number = c.in_err-value.ensures.refused;
+      is_true = c.in_default.ensures.absent;
+      is_false = c.in_default-after_word.ensures.absent;
+      is_length = c.in_default-after_word-2.ensures.absent;
+      name = no_name;
+      mark = no_mark;
+    } in
+    no_atom _ none a r)
 
 pub returns-clause-whole : goal.returns-clause-whole
 returns-clause-whole c = λ a r ends spelled. number_atom a _ _ r (sym c.in_ok-value.ensures.found ∙ spelled)

@@ -1,12 +1,11 @@
 use Rattle.std.proofs.Common.{[], ◌∷◌, ◌++◌, ◌∙◌, ap, sym, arith}
 use Rattle.syntax.specs.declared.token.Mark.TheVariants.{RightParen}
-use Rattle.syntax.specs.Spelling.{more_then, exprs_then}
+use Rattle.syntax.specs.Spelling.{exprs_then}
 use Rattle.syntax.specs.Token.{MarkToken, plain}
 use Rattle.syntax.specs.Tree.{exprs}
 use Rattle.syntax.proofs.ChainLemmas.{adds_to_one}
 use Rattle.syntax.proofs.RefusalLemmas.{passed_on, next}
 use Rattle.syntax.proofs.StmtRefusals.{exprs_closed, exprs_opened}
-use Rattle.syntax.proofs.StmtSpellings.{more_bind}
 use Rattle.syntax.proofs.statements.arguments.Goals as goal
 
 pub returns-in-Some-clause-spelled : goal.returns-in-Some-clause-spelled
@@ -29,26 +28,26 @@ pub returns-in_err-first-clause-refused : goal.returns-in_err-first-clause-refus
 returns-in_err-first-clause-refused c =
     passed_on _ _ c.from_residual.ensures.1 (λ room all r spelled.
     let parts = exprs_opened all _ r c.in_default.ensures.absent spelled in
-    c.in_err-first.ensures.refused room parts.0 (more_then parts.1 (MarkToken RightParen ∷ r)) (more_bind parts.1 (MarkToken RightParen ∷ r) (omega arith)) parts.2)
+    c.in_err-first.ensures.refused room parts.first parts.after parts.ends parts.spelled)
 
 pub returns-in_err-arguments-clause-refused : goal.returns-in_err-arguments-clause-refused
 returns-in_err-arguments-clause-refused c =
     passed_on _ _ c.from_residual-in_err-arguments.ensures.1 (λ room all r spelled.
     let parts = exprs_opened all _ r c.in_default.ensures.absent spelled in
-    let others = c.in_ok-first.ensures.whole parts.0 (more_then parts.1 (MarkToken RightParen ∷ r)) (more_bind parts.1 (MarkToken RightParen ∷ r) (omega arith)) parts.2 in
-    c.in_err-arguments.ensures.refused room parts.1 (MarkToken RightParen ∷ r) (omega arith) others)
+    let others = c.in_ok-first.ensures.whole parts.first parts.after parts.ends parts.spelled ∙ parts.more in
+    c.in_err-arguments.ensures.refused room parts.others (MarkToken RightParen ∷ r) (omega arith) others)
 
 pub returns-in_err-rest-clause-refused : goal.returns-in_err-rest-clause-refused
 returns-in_err-rest-clause-refused c =
     passed_on _ _ c.from_residual-in_err-rest.ensures.1 (λ room all r spelled.
     let parts = exprs_opened all _ r c.in_default.ensures.absent spelled in
-    let others = c.in_ok-first.ensures.whole parts.0 (more_then parts.1 (MarkToken RightParen ∷ r)) (more_bind parts.1 (MarkToken RightParen ∷ r) (omega arith)) parts.2 in
-    let mark = c.in_ok-arguments.ensures.whole parts.1 (MarkToken RightParen ∷ r) (omega arith) others in
+    let others = c.in_ok-first.ensures.whole parts.first parts.after parts.ends parts.spelled ∙ parts.more in
+    let mark = c.in_ok-arguments.ensures.whole parts.others (MarkToken RightParen ∷ r) (omega arith) others in
     c.in_err-rest.ensures.refused _ mark)
 
 pub returns-clause-whole : goal.returns-clause-whole
 returns-clause-whole c = λ all r spelled.
     let parts = exprs_opened all _ r c.in_default.ensures.absent spelled in
-    let others = c.in_ok-first.ensures.whole parts.0 (more_then parts.1 (MarkToken RightParen ∷ r)) (more_bind parts.1 (MarkToken RightParen ∷ r) (omega arith)) parts.2 in
-    let mark = c.in_ok-arguments.ensures.whole parts.1 (MarkToken RightParen ∷ r) (omega arith) others in
+    let others = c.in_ok-first.ensures.whole parts.first parts.after parts.ends parts.spelled ∙ parts.more in
+    let mark = c.in_ok-arguments.ensures.whole parts.others (MarkToken RightParen ∷ r) (omega arith) others in
     next (sym c.in_ok-rest.ensures.found ∙ mark)

@@ -6,7 +6,6 @@ use Rattle.syntax.specs.declared.token.Mark.TheVariants.{Semicolon}
 use Rattle.syntax.specs.Token.{MarkToken}
 use Rattle.syntax.proofs.RefusalLemmas.{passed_on, next}
 use Rattle.syntax.proofs.StmtRefusals.{print_opened}
-use Rattle.syntax.proofs.StmtSpellings.{more_bind}
 use Rattle.syntax.proofs.statements.printed.Goals as goal
 
 pub returns-clause-spelled : goal.returns-clause-spelled
@@ -19,26 +18,26 @@ pub returns-in_err-first-clause-refused : goal.returns-in_err-first-clause-refus
 returns-in_err-first-clause-refused c =
     passed_on _ _ c.from_residual.ensures.1 (λ room s r ends spelled.
     let parts = print_opened s _ r spelled in
-    c.in_err-first.ensures.refused room parts.0 (more_then parts.1 (MarkToken Semicolon ∷ r)) (more_bind parts.1 (MarkToken Semicolon ∷ r) (omega arith)) parts.2)
+    c.in_err-first.ensures.refused room parts.first parts.after parts.ends parts.spelled)
 
 pub returns-in_err-others-clause-refused : goal.returns-in_err-others-clause-refused
 returns-in_err-others-clause-refused c =
     passed_on _ _ c.from_residual-in_err-others.ensures.1 (λ room s r ends spelled.
     let parts = print_opened s _ r spelled in
-    let others = c.in_ok-first.ensures.whole parts.0 (more_then parts.1 (MarkToken Semicolon ∷ r)) (more_bind parts.1 (MarkToken Semicolon ∷ r) (omega arith)) parts.2 in
-    c.in_err-others.ensures.refused room parts.1 (MarkToken Semicolon ∷ r) (omega arith) others)
+    let others = c.in_ok-first.ensures.whole parts.first parts.after parts.ends parts.spelled ∙ parts.more in
+    c.in_err-others.ensures.refused room parts.others (MarkToken Semicolon ∷ r) (omega arith) others)
 
 pub returns-in_err-rest-clause-refused : goal.returns-in_err-rest-clause-refused
 returns-in_err-rest-clause-refused c =
     passed_on _ _ c.from_residual-in_err-rest.ensures.1 (λ room s r ends spelled.
     let parts = print_opened s _ r spelled in
-    let others = c.in_ok-first.ensures.whole parts.0 (more_then parts.1 (MarkToken Semicolon ∷ r)) (more_bind parts.1 (MarkToken Semicolon ∷ r) (omega arith)) parts.2 in
-    let mark = c.in_ok-others.ensures.whole parts.1 (MarkToken Semicolon ∷ r) (omega arith) others in
+    let others = c.in_ok-first.ensures.whole parts.first parts.after parts.ends parts.spelled ∙ parts.more in
+    let mark = c.in_ok-others.ensures.whole parts.others (MarkToken Semicolon ∷ r) (omega arith) others in
     c.in_err-rest.ensures.refused _ mark)
 
 pub returns-clause-whole : goal.returns-clause-whole
 returns-clause-whole c = λ s r ends spelled.
     let parts = print_opened s _ r spelled in
-    let others = c.in_ok-first.ensures.whole parts.0 (more_then parts.1 (MarkToken Semicolon ∷ r)) (more_bind parts.1 (MarkToken Semicolon ∷ r) (omega arith)) parts.2 in
-    let mark = c.in_ok-others.ensures.whole parts.1 (MarkToken Semicolon ∷ r) (omega arith) others in
+    let others = c.in_ok-first.ensures.whole parts.first parts.after parts.ends parts.spelled ∙ parts.more in
+    let mark = c.in_ok-others.ensures.whole parts.others (MarkToken Semicolon ∷ r) (omega arith) others in
     next (sym c.in_ok-rest.ensures.found ∙ mark)

@@ -1,9 +1,10 @@
 use Rattle.std.proofs.Common.{sym, ◌∙◌}
 use Rattle.syntax.specs.Spelling.{stmt_then}
+use Rattle.syntax.specs.Token.{plain}
 use Rattle.syntax.specs.Tree.{stmt}
 use Rattle.syntax.proofs.ChainLemmas.{behind}
 use Rattle.syntax.proofs.RefusalLemmas.{passed_on, next}
-use Rattle.syntax.proofs.StmtRefusals.{BeginsNoBlock, no_simple, skip_opened, fault_opened}
+use Rattle.syntax.proofs.StmtRefusals.{BeginsNoStatement, no_simple, skip_opened, fault_opened}
 use Rattle.syntax.proofs.statements.simple.Goals as goal
 
 pub returns-in-Some-clause-spelled : goal.returns-in-Some-clause-spelled
@@ -28,8 +29,21 @@ returns-in-Some-clause-whole c = λ s r ends spelled.
 pub returns-in_err-rest-2-clause-refused : goal.returns-in_err-rest-2-clause-refused
 returns-in_err-rest-2-clause-refused c =
     passed_on _ _ c.from_residual-in_err-rest-2.ensures.1 (λ room word rest is is_if is_while is_split is_async is_finish s r ends.
-    let block : BeginsNoBlock word = record { is_if = is_if; is_while = is_while; is_split = is_split; is_async = is_async; is_finish = is_finish } in
-    no_simple _ word rest is block c.in_default.ensures.absent c.in_default-after_word.ensures.absent c.in_default-after_word-2.ensures.absent c.in_err-rest-2.ensures.refused s r)
+    let none : BeginsNoStatement (plain c.args.tokens.now) = record {
+      word = word;
+      rest = rest;
+      first = is;
+      is_if = is_if;
+      is_while = is_while;
+      is_split = is_split;
+      is_async = is_async;
+      is_finish = is_finish;
+      skip = c.in_default.ensures.absent;
+      var = c.in_default-after_word.ensures.absent;
+      print = c.in_default-after_word-2.ensures.absent;
+      fault = c.in_err-rest-2.ensures.refused;
+    } in
+    no_simple _ none s r)
 
 pub returns-in_err-value-clause-refused : goal.returns-in_err-value-clause-refused
 returns-in_err-value-clause-refused c =
