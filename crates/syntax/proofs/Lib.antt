@@ -1,6 +1,9 @@
 pub mod Atoms
 pub mod BlockLemmas
+pub mod CanonicalExamples
 pub mod ChainLemmas
+pub mod ExpressionText
+pub mod LaidLemmas
 pub mod LexicalLemmas
 pub mod ProgramLemmas
 pub mod RowLemmas

@@ -1,4 +1,5 @@
 pub mod Brackets
+pub mod Canonical
 pub mod Lexical
 pub mod Reading
 pub mod Spelling
