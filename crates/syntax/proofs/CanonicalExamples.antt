@@ -1,12 +1,10 @@
 -- The canonical text and the listing of programs, computed.
-use Rattle.std.proofs.Common.{◌≡◌, ℕ, List, [], ◌∷◌, ◌++◌, codes, Some, None, refl}
+use Rattle.std.proofs.Common.{◌≡◌, ℕ, List, [], ◌∷◌, codes, Some, refl}
 use Rattle.std.specs.Fmt.{digits}
 use Rattle.syntax.specs.declared.tree.ElementType.TheVariants.{Int as IntElement}
-use Rattle.syntax.specs.declared.tree.Relation.TheVariants.{Less as IsLess}
-use Rattle.syntax.specs.declared.tree.Sign.TheVariants.{Minus as MinusSign}
-use Rattle.syntax.specs.Tree.{Expr, Or, NoConj, And, NoNeg, Plainly, Alone, Compare, Sum, Add, NoTerm, AddTerm, Multiply, NoFactor, Positive, Negative, Unary, Atom, Number, Name, Element, Length, Parens, Assign, Store, Print, If, IfElse, Call, Async, Finish, Block, End, Then, Array, Main, Program}
-use Rattle.syntax.specs.Spelling.{spelling, procedures_then, main_tokens, arrays_then, stmt_then, block_then, expr_then, more_then, exprs_then}
-use Rattle.syntax.specs.Canonical.{laid, canonical, listed}
+use Rattle.syntax.specs.Tree.{Expr, Or, NoConj, And, NoNeg, Plainly, Alone, Sum, Add, NoTerm, Multiply, NoFactor, Positive, Unary, Number, Element, Store, Print, Async, Finish, Block, End, Then, Array, Main, Program}
+use Rattle.syntax.specs.Spelling.{spelling, procedures_then, main_tokens, arrays_then, stmt_then, expr_then, more_then}
+use Rattle.syntax.specs.Canonical.{laid, listed}
 
 abbrev sum_of : Unary → Sum
 sum_of u = Add (Multiply u NoFactor) NoTerm

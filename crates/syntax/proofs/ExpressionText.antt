@@ -11,14 +11,13 @@ use Rattle.syntax.specs.declared.tree.Sum.{Sum as rSum, out-Sum}
 use Rattle.syntax.specs.declared.tree.Term.{Term as rTerm, out-Term, roll-out-Term}
 use Rattle.syntax.specs.declared.tree.Prod.{Prod as rProd, out-Prod}
 use Rattle.syntax.specs.declared.tree.Factor.{Factor as rFactor}
-use Rattle.syntax.specs.declared.tree.Unary.{Unary as rUnary}
 use Rattle.syntax.specs.declared.tree.Atom.TheVariants.{Number as rNumber, True as rTrue, False as rFalse, Name as rName, Element as rElement, Length as rLength, Parens as rParens}
 use Rattle.syntax.specs.declared.token.Mark.TheVariants.{RightParen, RightBracket}
 use Rattle.syntax.specs.Canonical.{Operand, laid, in_line}
 use Rattle.syntax.specs.Lexical.{mark_text}
 use Rattle.syntax.specs.Spelling.{expr_then, conj_then, conjs_then, neg_then, negs_then, cmp_then, sum_then, prod_then, terms_then, unary_then, factors_then, atom_then, more_then, exprs_then, relation_mark, sign_mark, operator_mark}
-use Rattle.syntax.specs.Token.{Token, MarkToken}
-use Rattle.syntax.specs.Tree.{Atom, Cmp, Expr, AddTerm, expr, conj, neg, cmp, sum, prod, term, unary, atom, negated, negative, conjs, negs, terms, factors, exprs}
+use Rattle.syntax.specs.Token.{MarkToken}
+use Rattle.syntax.specs.Tree.{Atom, Cmp, expr, conj, neg, cmp, sum, prod, term, unary, atom, negated, negative, conjs, negs, terms, factors, exprs}
 use Rattle.syntax.proofs.Atoms.{expr_is, conj_is, neg_is, cmp_is_alone, cmp_is_compared, sum_is, prod_is}
 use Rattle.syntax.proofs.LaidLemmas.{at_left, line, end_follows, conjs_follow, negs_follow, terms_follow, factors_follow, more_follow, relation_follows, expr_apart, neg_apart, conj_apart, cmp_apart, sum_apart, prod_apart, unary_apart, relation_laid, sign_laid, operator_laid, expr_laid, conj_laid, neg_laid, sum_laid, prod_laid, unary_laid}
 use Rattle.syntax.proofs.RowLemmas.{term_built}
@@ -39,6 +38,13 @@ all_moved now was none = sym (append-nil now) ∙ ap (λ l. now ++ l) (sym none)
 pub ok_map : {X E P Q : Type 0} (r : Result X E) → (P → Q) → OnOk r P → OnOk r Q
 ok_map (Ok x) f p = f p
 ok_map (Err e) f p = tt
+
+pub ok_map3 : {X E P Q R S : Type 0} (r : Result X E) → OnOk r P → OnOk r Q → OnOk r R → (P → Q → R → S) → OnOk r S
+ok_map3 (Ok x) p q s f = f p q s
+ok_map3 (Err e) p q s f = tt
+
+pub ok_then : {X E P Q : Type 0} (r : Result X E) → OnOk r P → (P → Q) → OnOk r Q
+ok_then r p f = ok_map r f p
 
 -- what a push adds
 pub pushed : {X E : Type 0} (r : Result X E) (now added kept : List ℕ) → now ≡ (if is_ok r then added else kept) → OnOk r (now ≡ added)

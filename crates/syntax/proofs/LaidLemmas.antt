@@ -1,5 +1,5 @@
 -- A layout inside a line goes production by production.
-use Rattle.std.proofs.Common.{◌≡◌, ℕ, List, [], ◌∷◌, ◌++◌, codes, None, refl, ap, sym, ◌∙◌, append_assoc, append-nil}
+use Rattle.std.proofs.Common.{◌≡◌, ℕ, List, [], ◌∷◌, ◌++◌, None, refl, ap, sym, ◌∙◌, append_assoc, append-nil}
 use Rattle.std.specs.Fmt.{decimal}
 use Rattle.syntax.specs.declared.tree.Relation.{Relation}
 use Rattle.syntax.specs.declared.tree.Relation.TheVariants.{Less as IsLess, AtMost as IsAtMost, Greater as IsGreater, AtLeast as IsAtLeast, Equal as IsEqual, Differs as IsOther}
@@ -7,12 +7,11 @@ use Rattle.syntax.specs.declared.tree.Sign.{Sign}
 use Rattle.syntax.specs.declared.tree.Sign.TheVariants.{Plus as PlusSign, Minus as MinusSign}
 use Rattle.syntax.specs.declared.tree.Operator.{Operator}
 use Rattle.syntax.specs.declared.tree.Operator.TheVariants.{Times, Over, Modulo}
-use Rattle.syntax.specs.declared.token.Word.TheVariants.{And as WordAnd, Or as WordOr}
-use Rattle.syntax.specs.declared.token.Mark.TheVariants.{RightParen, RightBracket, Comma}
+use Rattle.syntax.specs.declared.token.Mark.TheVariants.{RightParen, RightBracket}
 use Rattle.syntax.specs.Canonical.{Left, Opening, Called, Operand, Other, Place, laid, in_line}
 use Rattle.syntax.specs.Lexical.{mark_text}
-use Rattle.syntax.specs.Spelling.{expr_then, conj_then, conjs_then, neg_then, negs_then, cmp_then, sum_then, prod_then, terms_then, unary_then, factors_then, atom_then, more_then, exprs_then, relation_mark, sign_mark, operator_mark}
-use Rattle.syntax.specs.Token.{Token, NameToken, NumberToken, WordToken, MarkToken}
+use Rattle.syntax.specs.Spelling.{expr_then, conj_then, conjs_then, neg_then, negs_then, cmp_then, sum_then, prod_then, terms_then, unary_then, factors_then, atom_then, more_then, relation_mark, sign_mark, operator_mark}
+use Rattle.syntax.specs.Token.{Token, MarkToken}
 use Rattle.syntax.specs.Tree.{Expr, Or, Conjs, NoConj, OrConj, Conj, And, Negs, NoNeg, AndNeg, Neg, Plainly, Not, Cmp, Alone, Compare, Sum, Add, Terms, NoTerm, AddTerm, Prod, Multiply, Factors, NoFactor, MultiplyFactor, Unary, Positive, Negative, Atom, Number, True, False, Name, Element, Length, Parens}
 
 -- the same place with something else to the left
@@ -39,6 +38,7 @@ before_nil x z = ap (λ l. l ++ z) (sym (append-nil x))
 
 mutual
   unfolding laid expr_then conj_then conjs_then neg_then negs_then cmp_then sum_then terms_then prod_then factors_then unary_then atom_then
+
   -- behind a word or an operator stands one space
   pub expr_apart : (at : Place) (e : Expr) (r : List Token) → laid (at_left at Other) (expr_then e r) ≡ 32 ∷ laid (at_left at Opening) (expr_then e r)
   expr_apart at (Or c cs) r = conj_apart at c (conjs_then cs r)
@@ -133,6 +133,7 @@ end_follows at = refl
 
 mutual
   unfolding laid expr_then conj_then conjs_then neg_then negs_then cmp_then sum_then terms_then prod_then factors_then unary_then atom_then
+
   pub expr_laid : (at : Place) (e : Expr) (r : List Token) → Follows at r → laid (at_left at Opening) (expr_then e r) ≡ in_line (expr_then e []) ++ laid (at_left at Operand) r
   expr_laid at (Or c cs) r f =
       joined _ _ _ _ _ _ (conj_laid at c (conjs_then cs r) (conjs_follow at cs r f)) (conj_laid line c (conjs_then cs []) (conjs_follow line cs [] (end_follows line))) (conjs_laid at cs r f)

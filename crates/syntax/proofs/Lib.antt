@@ -5,5 +5,7 @@ pub mod ChainLemmas
 pub mod ExpressionText
 pub mod LaidLemmas
 pub mod LexicalLemmas
+pub mod LineText
 pub mod ProgramLemmas
 pub mod RowLemmas
+pub mod StatementKinds

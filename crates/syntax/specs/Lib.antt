@@ -5,3 +5,4 @@ pub mod Reading
 pub mod Spelling
 pub mod Token
 pub mod Tree
+pub mod Writing

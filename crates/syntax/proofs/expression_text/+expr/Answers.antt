@@ -9,7 +9,7 @@ use Rattle.syntax.specs.declared.tree.Prod.{out-Prod}
 use Rattle.syntax.specs.Canonical.{in_line}
 use Rattle.syntax.specs.Spelling.{expr_then, conj_then, neg_then, prod_then, unary_then, atom_then}
 use Rattle.syntax.specs.Tree.{expr, conj, neg, prod, unary, atom}
-use Rattle.syntax.proofs.ExpressionText.{then_adds, moved, all_moved, ok_map, pushed, then_ok, called, conjs_text, conjs_text_more, conjs_text_none, negs_text, negs_text_more, negs_text_none, terms_text, terms_text_more, terms_text_none, factors_text, factors_text_more, factors_text_none, expr_text, conj_text, neg_text, cmp_text_alone, cmp_text_compared, sum_text, prod_text, unary_text, atom_text_Number, atom_text_True, atom_text_False, atom_text_Name, atom_text_Element, atom_text_Length, atom_text_Parens}
+use Rattle.syntax.proofs.ExpressionText.{then_adds, moved, all_moved, pushed, then_ok, called, conjs_text, conjs_text_more, conjs_text_none, negs_text, negs_text_more, negs_text_none, terms_text, terms_text_more, terms_text_none, factors_text, factors_text_more, factors_text_none, expr_text, conj_text, neg_text, cmp_text_alone, cmp_text_compared, sum_text, prod_text, unary_text, atom_text_Number, atom_text_True, atom_text_False, atom_text_Name, atom_text_Element, atom_text_Length, atom_text_Parens}
 use Rattle.syntax.proofs.expression_text.+expr.Goals as goal
 use Rattle.syntax.proofs.expression_text.+expr.Goals.{neg-then-e+in_ok-push_str, neg-else-e, unary-then-e+in_ok-push, unary-else-e}
 
@@ -60,8 +60,8 @@ neg-returns t c =
     let old = string_bytes c.args.out.now in
     let added : string_bytes c.if-e.out ≡ old ++ (if (out-Neg c.args.e.now).negated then codes "not " else []) =
     elim c.if-e.branch [
-      neg-then-e+in_ok-push_str w ↦ ap string_bytes w.out-is ∙ w.in_ok-push_str.ensures.bytes ∙ ap (λ b. old ++ (if b then codes "not " else [])) (sym w.if-e.true)
-    | neg-else-e w ↦ ap string_bytes w.out-is ∙ sym (append-nil old) ∙ ap (λ b. old ++ (if b then codes "not " else [])) (sym w.if-e.false)
+      | neg-then-e+in_ok-push_str w ↦ ap string_bytes w.out-is ∙ w.in_ok-push_str.ensures.bytes ∙ ap (λ b. old ++ (if b then codes "not " else [])) (sym w.if-e.true)
+      | neg-else-e w ↦ ap string_bytes w.out-is ∙ sym (append-nil old) ∙ ap (λ b. old ++ (if b then codes "not " else [])) (sym w.if-e.false)
     ] in
     called _ old _ (then_ok _ old _ _ _ added c.cmp.ensures) (neg_text c.args.e.now)
 
@@ -124,8 +124,8 @@ unary-returns t c =
     let old = string_bytes c.args.out.now in
     let added : string_bytes c.if-e.out ≡ old ++ (if c.args.e.now.negative then codes "-" else []) =
     elim c.if-e.branch [
-      unary-then-e+in_ok-push w ↦ ap string_bytes w.out-is ∙ w.in_ok-push.ensures.bytes ∙ ap (λ b. old ++ (if b then codes "-" else [])) (sym w.if-e.true)
-    | unary-else-e w ↦ ap string_bytes w.out-is ∙ sym (append-nil old) ∙ ap (λ b. old ++ (if b then codes "-" else [])) (sym w.if-e.false)
+      | unary-then-e+in_ok-push w ↦ ap string_bytes w.out-is ∙ w.in_ok-push.ensures.bytes ∙ ap (λ b. old ++ (if b then codes "-" else [])) (sym w.if-e.true)
+      | unary-else-e w ↦ ap string_bytes w.out-is ∙ sym (append-nil old) ∙ ap (λ b. old ++ (if b then codes "-" else [])) (sym w.if-e.false)
     ] in
     called _ old _ (then_ok _ old _ _ _ added c.atom.ensures) (unary_text c.args.e.now.negative (atom c.args.e.now.atom))
 
