@@ -12,7 +12,7 @@ use Rattle.syntax.specs.declared.tree.Prod.{Prod as rProd, out-Prod, roll-out-Pr
 use Rattle.syntax.specs.declared.tree.Factor.{Factor as rFactor}
 use Rattle.syntax.proofs.RowLemmas.{expr_built, conj_built, neg_built, cmp_alone, cmp_compared, sum_built, prod_built}
 
-expr_is : (e : rExpr) → expr e ≡ Or (conj (out-Expr e).first) (conjs (out-Expr e).rest.items)
+pub expr_is : (e : rExpr) → expr e ≡ Or (conj (out-Expr e).first) (conjs (out-Expr e).rest.items)
 expr_is e = ap expr (sym (roll-out-Expr e)) ∙ expr_built (out-Expr e).first (out-Expr e).rest
 
 alone_in_expr : (c : Conj) (rest : List rConj) → length rest ≡ 0 → atom_of_conj c ≡ lone_atom (Or c (conjs rest))
@@ -29,7 +29,7 @@ expr_alone e none = alone_in_expr _ _ none ∙ sym (ap lone_atom (expr_is e))
 pub expr_beside : (e : rExpr) → length (out-Expr e).rest.items ≢ 0 → None ≡ lone_atom (expr e)
 expr_beside e some = beside_in_expr _ _ some ∙ sym (ap lone_atom (expr_is e))
 
-conj_is : (e : rConj) → conj e ≡ And (neg (out-Conj e).first) (negs (out-Conj e).rest.items)
+pub conj_is : (e : rConj) → conj e ≡ And (neg (out-Conj e).first) (negs (out-Conj e).rest.items)
 conj_is e = ap conj (sym (roll-out-Conj e)) ∙ conj_built (out-Conj e).first (out-Conj e).rest
 
 alone_in_conj : (n : Neg) (rest : List rNeg) → length rest ≡ 0 → atom_of_neg n ≡ atom_of_conj (And n (negs rest))
@@ -46,7 +46,7 @@ conj_alone e none = alone_in_conj _ _ none ∙ sym (ap atom_of_conj (conj_is e))
 pub conj_beside : (e : rConj) → length (out-Conj e).rest.items ≢ 0 → None ≡ atom_of_conj (conj e)
 conj_beside e some = beside_in_conj _ _ some ∙ sym (ap atom_of_conj (conj_is e))
 
-sum_is : (e : rSum) → sum e ≡ Add (prod (out-Sum e).first) (terms (out-Sum e).rest.items)
+pub sum_is : (e : rSum) → sum e ≡ Add (prod (out-Sum e).first) (terms (out-Sum e).rest.items)
 sum_is e = ap sum (sym (roll-out-Sum e)) ∙ sum_built (out-Sum e).first (out-Sum e).rest
 
 alone_in_sum : (p : Prod) (rest : List rTerm) → length rest ≡ 0 → atom_of_prod p ≡ atom_of_sum (Add p (terms rest))
@@ -64,7 +64,7 @@ sum_alone e none = alone_in_sum _ _ none ∙ sym (ap atom_of_sum (sum_is e))
 pub sum_beside : (e : rSum) → length (out-Sum e).rest.items ≢ 0 → None ≡ atom_of_sum (sum e)
 sum_beside e some = beside_in_sum _ _ some ∙ sym (ap atom_of_sum (sum_is e))
 
-prod_is : (e : rProd) → prod e ≡ Multiply (unary (out-Prod e).first) (factors (out-Prod e).rest.items)
+pub prod_is : (e : rProd) → prod e ≡ Multiply (unary (out-Prod e).first) (factors (out-Prod e).rest.items)
 prod_is e = ap prod (sym (roll-out-Prod e)) ∙ prod_built (out-Prod e).first (out-Prod e).rest
 
 alone_in_prod : (u : Unary) (rest : List rFactor) → length rest ≡ 0 → atom_of_unary u ≡ atom_of_prod (Multiply u (factors rest))
@@ -81,10 +81,10 @@ prod_alone e none = alone_in_prod _ _ none ∙ sym (ap atom_of_prod (prod_is e))
 pub prod_beside : (e : rProd) → length (out-Prod e).rest.items ≢ 0 → None ≡ atom_of_prod (prod e)
 prod_beside e some = beside_in_prod _ _ some ∙ sym (ap atom_of_prod (prod_is e))
 
-neg_is : (e : rNeg) → neg e ≡ negated (out-Neg e).negated (cmp (out-Neg e).comparison)
+pub neg_is : (e : rNeg) → neg e ≡ negated (out-Neg e).negated (cmp (out-Neg e).comparison)
 neg_is e = ap neg (sym (roll-out-Neg e)) ∙ neg_built (out-Neg e).negated (out-Neg e).comparison
 
-cmp_is_alone : (e : rCmp) → (out-Cmp e).right ≡ None → cmp e ≡ Alone (sum (out-Cmp e).left)
+pub cmp_is_alone : (e : rCmp) → (out-Cmp e).right ≡ None → cmp e ≡ Alone (sum (out-Cmp e).left)
 cmp_is_alone e none =
     ap cmp (sym (roll-out-Cmp e) ∙ ap (λ r. roll-Cmp (record { left = (out-Cmp e).left; right = r })) none) ∙ cmp_alone (out-Cmp e).left
 
@@ -99,7 +99,7 @@ pub neg_alone : (e : rNeg) → (out-Neg e).negated ≡ false → (out-Cmp (out-N
 neg_alone e plain none =
     sym (ap atom_of_neg (neg_is e ∙ ap (λ b. negated b (cmp (out-Neg e).comparison)) plain ∙ ap (negated false) (cmp_is_alone _ none)))
 
-cmp_is_compared : (e : rCmp) (r : rCompared) → (out-Cmp e).right ≡ Some r → cmp e ≡ Compare (sum (out-Cmp e).left) (out-Compared r).relation (sum (out-Compared r).right)
+pub cmp_is_compared : (e : rCmp) (r : rCompared) → (out-Cmp e).right ≡ Some r → cmp e ≡ Compare (sum (out-Cmp e).left) (out-Compared r).relation (sum (out-Compared r).right)
 cmp_is_compared e r some =
     ap cmp (sym (roll-out-Cmp e) ∙ ap (λ r. roll-Cmp (record { left = (out-Cmp e).left; right = r })) (some ∙ ap Some (sym (roll-out-Compared r))))
     ∙ cmp_compared (out-Cmp e).left (out-Compared r).relation (out-Compared r).right

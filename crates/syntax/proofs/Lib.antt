@@ -1,9 +1,13 @@
 pub mod Atoms
 pub mod BlockLemmas
+pub mod CanonicalExamples
 pub mod ChainLemmas
 pub mod Deepest
 pub mod ExprSpellings
+pub mod ExpressionText
+pub mod LaidLemmas
 pub mod LexicalLemmas
+pub mod LineText
 pub mod Numbers
 pub mod Pieces
 pub mod Places
@@ -14,6 +18,7 @@ pub mod Refused
 pub mod RowLemmas
 pub mod Shallow
 pub mod SpellingLemmas
+pub mod StatementKinds
 pub mod StmtRefusals
 pub mod StmtSpellings
 pub mod Stops

@@ -1,4 +1,5 @@
 pub mod Brackets
+pub mod Canonical
 pub mod Lexical
 pub mod Place
 pub mod Reading
@@ -6,3 +7,4 @@ pub mod Refusals
 pub mod Spelling
 pub mod Token
 pub mod Tree
+pub mod Writing

@@ -1,18 +1,34 @@
 //! Programs as canonical text: a line for each declaration and each statement.
 
+ghost use Rattle.std.specs.Prelude.{◌≡◌, ◌+◌, ◌-◌, [], ◌∷◌, ◌++◌, codes, if◌then◌else◌, List, Option, IfOk, OnOk, IsTrue, map};
+ghost use Rattle.std.specs.Option.{option_map};
+ghost use Rattle.std.specs.String.{string_bytes};
+ghost use Rattle.syntax.specs.Canonical.{Margin, Opening, Operand, Ended, Other, canonical, listed, in_line, indent, plain_margin, statement_margin};
+ghost use Rattle.syntax.specs.Lexical.{word_text};
+ghost use Rattle.syntax.specs.Spelling.{expr_then, stmt_then, block_then, parameter_then, parameters_then, arrays_then, procedures_then, main_tokens, spelling, element_word};
+ghost use Rattle.syntax.specs.Token.{Token, NameToken, WordToken, MarkToken};
+ghost use Rattle.syntax.specs.Tree.{Array as ArrayTree, Block as BlockTree, Procedure as ProcedureTree, Main as MainTree, expr as expr_tree, stmt as stmt_tree, block as block_tree, array as array_tree, parameter as parameter_tree, procedure as procedure_tree, program as program_tree};
+ghost use Rattle.syntax.specs.Writing.{with_rest, Adds, IsCounted, is_simple};
+ghost use Rattle.syntax.specs.declared.token.Mark.TheVariants.{Becomes, Comma, LeftBrace, RightBrace, Semicolon};
+ghost use Rattle.syntax.specs.declared.token.Word.TheVariants.{As, At, Split};
+
 use crate::expression_text as expressions;
 use crate::tree::{Array, ElementType, Expr, Parameter, Procedure, Program, Stmt};
 use std::alloc::{AllocError, Global};
 
 /// The canonical text of a program.
-pub fn format(alloc: Global, program: &Program) -> Result<String, AllocError> {
+pub fn format(alloc: Global, program: &Program) -> Result<String, AllocError>
+    ensures { IfOk result (λ text. string_bytes text ≡ canonical (program_tree program.now)) }
+{
     let mut lines = Lines::new(alloc, false);
     lines.program(program)?;
     Ok(lines.text)
 }
 
 /// The canonical lines of a program, each behind the label of the statement that begins on it.
-pub fn listing(alloc: Global, program: &Program) -> Result<String, AllocError> {
+pub fn listing(alloc: Global, program: &Program) -> Result<String, AllocError>
+    ensures { IfOk result (λ text. string_bytes text ≡ listed (program_tree program.now)) }
+{
     let mut lines = Lines::new(alloc, true);
     lines.program(program)?;
     Ok(lines.text)
@@ -29,7 +45,11 @@ struct Lines {
 }
 
 impl Lines {
-    fn new(alloc: Global, labelled: bool) -> Lines {
+    fn new(alloc: Global, labelled: bool) -> Lines
+        ensures text { string_bytes result.text ≡ [] }
+        ensures depth { result.depth ≡ 0 }
+        ensures label { result.label ≡ (if labelled then Some 0 else None) }
+    {
         Lines {
             text: String::new(alloc),
             depth: 0,
@@ -38,7 +58,10 @@ impl Lines {
     }
 
     /// Begins a line on which no statement begins.
-    fn begin(&mut self) -> Result<(), AllocError> {
+    fn begin(&mut self) -> Result<(), AllocError>
+        ensures { OnOk result (Adds self.old self.new
+            (plain_margin self.old.label ++ indent self.old.depth)) }
+    {
         if self.label.is_some() {
             self.text.push_str("      ")?;
         }
@@ -46,41 +69,70 @@ impl Lines {
     }
 
     /// Begins the line of the next statement.
-    fn begin_statement(&mut self) -> Result<(), AllocError> {
+    fn begin_statement(&mut self) -> Result<(), AllocError>
+        requires { IsCounted self.old }
+        ensures counted { OnOk result (IsCounted self.new) }
+        ensures text { OnOk result (string_bytes self.new.text ≡ string_bytes self.old.text
+            ++ (statement_margin self.old.label ++ indent self.old.depth)) }
+        ensures depth { OnOk result (self.new.depth ≡ self.old.depth) }
+        ensures label { OnOk result (self.new.label ≡ option_map (λ n. n + 1) self.old.label) }
+    {
         if let Some(label) = self.label {
-            // A text has fewer statements than bytes, so the label is never at its bound.
-            let label = label.saturating_add(1);
-            self.label = Some(label);
+            let label = label + 1;
             write!(self.text, "{label:>5} ")?;
+            self.label = Some(label);
         }
         self.indent()
     }
 
-    fn indent(&mut self) -> Result<(), AllocError> {
-        for _ in 0..self.depth {
+    fn indent(&mut self) -> Result<(), AllocError>
+        ensures { OnOk result (Adds self.old self.new (indent self.old.depth)) }
+    {
+        for _block in 0..self.depth {
             self.text.push_str("  ")?;
         }
         Ok(())
     }
 
     /// Ends a header's line and opens its block.
-    fn open(&mut self) -> Result<(), AllocError> {
-        self.depth = self.depth.saturating_add(1);
-        self.text.push_str(" {\n")
+    fn open(&mut self) -> Result<(), AllocError>
+        requires { IsCounted self.old }
+        ensures counted { OnOk result (IsCounted self.new) }
+        ensures text { OnOk result
+            (string_bytes self.new.text ≡ string_bytes self.old.text ++ codes " {\n") }
+        ensures depth { OnOk result (self.new.depth ≡ self.old.depth + 1) }
+        ensures label { OnOk result (self.new.label ≡ self.old.label) }
+    {
+        self.text.push_str(" {\n")?;
+        self.depth += 1;
+        Ok(())
     }
 
-    /// Begins the line that closes a block.
-    fn close(&mut self) -> Result<(), AllocError> {
+    /// Writes the line that closes a block, but for its end.
+    fn close(&mut self) -> Result<(), AllocError>
+        requires { IsCounted self.old }
+        ensures counted { OnOk result (IsCounted self.new) }
+        ensures text { OnOk result (string_bytes self.new.text ≡ string_bytes self.old.text
+            ++ ((plain_margin self.old.label ++ indent (self.old.depth - 1)) ++ codes "}")) }
+        ensures depth { OnOk result (self.new.depth ≡ self.old.depth - 1) }
+        ensures label { OnOk result (self.new.label ≡ self.old.label) }
+    {
         self.depth = self.depth.saturating_sub(1);
         self.begin()?;
         self.text.push('}')
     }
 
-    fn end(&mut self) -> Result<(), AllocError> {
+    fn end(&mut self) -> Result<(), AllocError>
+        ensures { OnOk result (Adds self.old self.new (codes "\n")) }
+    {
         self.text.push('\n')
     }
 
-    fn program(&mut self, program: &Program) -> Result<(), AllocError> {
+    fn program(&mut self, program: &Program) -> Result<(), AllocError>
+        requires { IsCounted self.old }
+        ensures { OnOk result (with_rest self.old Margin (spelling (program_tree program.now))
+            ≡ string_bytes self.new.text) }
+    {
         for procedure in &program.procedures {
             self.procedure(procedure)?;
         }
@@ -98,7 +150,13 @@ impl Lines {
         self.end()
     }
 
-    fn array(&mut self, array: &Array) -> Result<(), AllocError> {
+    fn array(&mut self, array: &Array) -> Result<(), AllocError>
+        requires { IsCounted self.old }
+        ensures counted { OnOk result (IsCounted self.new) }
+        ensures written { OnOk result ((rest : List ArrayTree) (b : BlockTree) (r : List Token)
+            → with_rest self.old Margin (arrays_then (array_tree array.now ∷ rest) (block_then b r))
+            ≡ with_rest self.new Margin (arrays_then rest (block_then b r))) }
+    {
         self.begin()?;
         let name = array.name.as_str();
         let element = element_type(array.element);
@@ -107,28 +165,45 @@ impl Lines {
         self.end()
     }
 
-    fn procedure(&mut self, procedure: &Procedure) -> Result<(), AllocError> {
+    fn procedure(&mut self, procedure: &Procedure) -> Result<(), AllocError>
+        requires { IsCounted self.old }
+        ensures counted { OnOk result (IsCounted self.new) }
+        ensures written { OnOk result ((rest : List ProcedureTree) (m : Option MainTree)
+            → with_rest self.old Margin
+            (procedures_then (procedure_tree procedure.now ∷ rest) (main_tokens m))
+            ≡ with_rest self.new Margin (procedures_then rest (main_tokens m))) }
+    {
         self.begin()?;
         self.text.push_str("proc ")?;
         self.text.push_str(procedure.name.as_str())?;
         self.text.push('(')?;
-        let mut first = true;
-        for next in &procedure.parameters {
-            if !first {
-                self.text.push_str(", ")?;
-            }
-            first = false;
-            parameter(next, &mut self.text)?;
-        }
+        parameters(&procedure.parameters, &mut self.text)?;
         self.text.push(')')?;
-        self.open()?;
-        statements(&procedure.body, self)?;
-        self.close()?;
+        block(&procedure.body, self)?;
         self.end()
     }
 }
 
-fn parameter(parameter: &Parameter, out: &mut String) -> Result<(), AllocError> {
+/// Parameters with a comma between each two.
+fn parameters(parameters: &[Parameter], out: &mut String) -> Result<(), AllocError>
+    ensures { OnOk result (string_bytes out.new ≡ string_bytes out.old
+        ++ in_line (parameters_then (map parameter_tree parameters.now) [])) }
+{
+    let mut first = true;
+    for next in parameters {
+        if !first {
+            out.push_str(", ")?;
+        }
+        first = false;
+        parameter(next, out)?;
+    }
+    Ok(())
+}
+
+fn parameter(parameter: &Parameter, out: &mut String) -> Result<(), AllocError>
+    ensures { OnOk result (string_bytes out.new ≡ string_bytes out.old
+        ++ in_line (parameter_then (parameter_tree parameter.now) [])) }
+{
     match parameter {
         Parameter::Written { name, element } => {
             out.push_str("mut ")?;
@@ -149,7 +224,9 @@ fn parameter(parameter: &Parameter, out: &mut String) -> Result<(), AllocError> 
     }
 }
 
-fn element_type(element: ElementType) -> &'static str {
+fn element_type(element: ElementType) -> &'static str
+    ensures { result.now ≡ word_text (element_word element) }
+{
     match element {
         ElementType::Int => "int",
         ElementType::Byte => "byte",
@@ -158,7 +235,13 @@ fn element_type(element: ElementType) -> &'static str {
 
 /// The lines of the statements of a block.
 #[cycle(stmt)]
-fn statements(body: &[Stmt], lines: &mut Lines) -> Result<(), AllocError> {
+fn statements(body: &[Stmt], lines: &mut Lines) -> Result<(), AllocError>
+    requires { IsCounted lines.old }
+    ensures counted { OnOk result (IsCounted lines.new) }
+    ensures written { OnOk result ((r : List Token)
+        → with_rest lines.old Margin (block_then (block_tree body.now) r)
+        ≡ with_rest lines.new Margin (MarkToken RightBrace ∷ r)) }
+{
     for statement in body {
         lines.begin_statement()?;
         line(statement, lines)?;
@@ -169,7 +252,13 @@ fn statements(body: &[Stmt], lines: &mut Lines) -> Result<(), AllocError> {
 
 /// A header's block with its braces.
 #[cycle(stmt)]
-fn block(body: &[Stmt], lines: &mut Lines) -> Result<(), AllocError> {
+fn block(body: &[Stmt], lines: &mut Lines) -> Result<(), AllocError>
+    requires { IsCounted lines.old }
+    ensures counted { OnOk result (IsCounted lines.new) }
+    ensures written { OnOk result ((r : List Token)
+        → with_rest lines.old Other (MarkToken LeftBrace ∷ block_then (block_tree body.now) r)
+        ≡ with_rest lines.new Ended r) }
+{
     lines.open()?;
     statements(body, lines)?;
     lines.close()
@@ -177,7 +266,13 @@ fn block(body: &[Stmt], lines: &mut Lines) -> Result<(), AllocError> {
 
 /// A statement from its first token to its last.
 #[cycle(stmt)]
-fn line(statement: &Stmt, lines: &mut Lines) -> Result<(), AllocError> {
+fn line(statement: &Stmt, lines: &mut Lines) -> Result<(), AllocError>
+    requires { IsCounted lines.old }
+    ensures counted { OnOk result (IsCounted lines.new) }
+    ensures written { OnOk result ((r : List Token)
+        → with_rest lines.old Opening (stmt_then (stmt_tree statement.now) r)
+        ≡ with_rest lines.new Ended r) }
+{
     match statement {
         Stmt::If { guard, body, other } => {
             header("if ", guard, lines)?;
@@ -213,13 +308,16 @@ fn line(statement: &Stmt, lines: &mut Lines) -> Result<(), AllocError> {
             block(body, lines)
         }
         _ => {
-            simple(statement, &mut lines.text)?;
+            simple(statement, lines)?;
             lines.text.push(';')
         }
     }
 }
 
-fn header(word: &str, guard: &Expr, lines: &mut Lines) -> Result<(), AllocError> {
+fn header(word: &str, guard: &Expr, lines: &mut Lines) -> Result<(), AllocError>
+    ensures { OnOk result
+        (Adds lines.old lines.new (word.now ++ in_line (expr_then (expr_tree guard.now) []))) }
+{
     lines.text.push_str(word)?;
     expressions::expr(guard, &mut lines.text)
 }
@@ -230,7 +328,12 @@ fn split(
     left: &String,
     right: &String,
     out: &mut String,
-) -> Result<(), AllocError> {
+) -> Result<(), AllocError>
+    ensures { OnOk result (string_bytes out.new ≡ string_bytes out.old
+        ++ in_line (WordToken Split ∷ NameToken (string_bytes section.now) ∷ WordToken At
+        ∷ expr_then (expr_tree at.now) (WordToken As ∷ NameToken (string_bytes left.now)
+        ∷ MarkToken Comma ∷ NameToken (string_bytes right.now) ∷ []))) }
+{
     out.push_str("split ")?;
     out.push_str(section.as_str())?;
     out.push_str(" at ")?;
@@ -242,7 +345,15 @@ fn split(
 }
 
 /// A statement without a block, up to its semicolon.
-fn simple(statement: &Stmt, out: &mut String) -> Result<(), AllocError> {
+fn simple(statement: &Stmt, lines: &mut Lines) -> Result<(), AllocError>
+    requires simple { IsTrue (is_simple (stmt_tree statement.now)) }
+    requires counted { IsCounted lines.old }
+    ensures counted { OnOk result (IsCounted lines.new) }
+    ensures written { OnOk result ((r : List Token)
+        → with_rest lines.old Opening (stmt_then (stmt_tree statement.now) r)
+        ≡ with_rest lines.new Operand (MarkToken Semicolon ∷ r)) }
+{
+    let out = &mut lines.text;
     match statement {
         Stmt::Var { name, value } => {
             out.push_str("var ")?;
@@ -287,7 +398,11 @@ fn simple(statement: &Stmt, out: &mut String) -> Result<(), AllocError> {
     }
 }
 
-fn assignment(name: &String, value: &Expr, out: &mut String) -> Result<(), AllocError> {
+fn assignment(name: &String, value: &Expr, out: &mut String) -> Result<(), AllocError>
+    ensures { OnOk result (string_bytes out.new ≡ string_bytes out.old
+        ++ in_line (NameToken (string_bytes name.now) ∷ MarkToken Becomes
+        ∷ expr_then (expr_tree value.now) [])) }
+{
     out.push_str(name.as_str())?;
     out.push_str(" = ")?;
     expressions::expr(value, out)

@@ -1,11 +1,21 @@
 //! Expressions as canonical text.
 
+ghost use Rattle.std.specs.Prelude.{◌≡◌, ◌++◌, [], ◌∷◌, codes, OnOk};
+ghost use Rattle.std.specs.String.{string_bytes};
+ghost use Rattle.syntax.specs.Canonical.{in_line, token_text};
+ghost use Rattle.syntax.specs.Spelling.{expr_then, conj_then, neg_then, cmp_then, sum_then, prod_then, unary_then, atom_then, exprs_then, relation_mark, sign_mark, operator_mark};
+ghost use Rattle.syntax.specs.Tree.{expr as expr_tree, conj as conj_tree, neg as neg_tree, cmp as cmp_tree, sum as sum_tree, prod as prod_tree, unary as unary_tree, atom as atom_tree, exprs as expr_trees};
+ghost use Rattle.syntax.specs.Lexical.{mark_text};
+
 use crate::tree::{Atom, Cmp, Conj, Expr, Neg, Operator, Prod, Relation, Sign, Sum, Unary};
 use std::alloc::AllocError;
 
 /// Writes an expression.
 #[cycle(expr)]
-pub fn expr(e: &Expr, out: &mut String) -> Result<(), AllocError> {
+pub fn expr(e: &Expr, out: &mut String) -> Result<(), AllocError>
+    ensures { OnOk result (string_bytes out.new
+        ≡ string_bytes out.old ++ in_line (expr_then (expr_tree e.now) [])) }
+{
     conj(&e.first, out)?;
     for operand in &e.rest {
         out.push_str(" or ")?;
@@ -15,7 +25,10 @@ pub fn expr(e: &Expr, out: &mut String) -> Result<(), AllocError> {
 }
 
 #[cycle(expr)]
-fn conj(e: &Conj, out: &mut String) -> Result<(), AllocError> {
+fn conj(e: &Conj, out: &mut String) -> Result<(), AllocError>
+    ensures { OnOk result (string_bytes out.new
+        ≡ string_bytes out.old ++ in_line (conj_then (conj_tree e.now) [])) }
+{
     neg(&e.first, out)?;
     for operand in &e.rest {
         out.push_str(" and ")?;
@@ -25,7 +38,10 @@ fn conj(e: &Conj, out: &mut String) -> Result<(), AllocError> {
 }
 
 #[cycle(expr)]
-fn neg(e: &Neg, out: &mut String) -> Result<(), AllocError> {
+fn neg(e: &Neg, out: &mut String) -> Result<(), AllocError>
+    ensures { OnOk result (string_bytes out.new
+        ≡ string_bytes out.old ++ in_line (neg_then (neg_tree e.now) [])) }
+{
     if e.negated {
         out.push_str("not ")?;
     }
@@ -33,7 +49,10 @@ fn neg(e: &Neg, out: &mut String) -> Result<(), AllocError> {
 }
 
 #[cycle(expr)]
-fn cmp(e: &Cmp, out: &mut String) -> Result<(), AllocError> {
+fn cmp(e: &Cmp, out: &mut String) -> Result<(), AllocError>
+    ensures { OnOk result (string_bytes out.new
+        ≡ string_bytes out.old ++ in_line (cmp_then (cmp_tree e.now) [])) }
+{
     sum(&e.left, out)?;
     match &e.right {
         None => Ok(()),
@@ -45,7 +64,10 @@ fn cmp(e: &Cmp, out: &mut String) -> Result<(), AllocError> {
 }
 
 #[cycle(expr)]
-fn sum(e: &Sum, out: &mut String) -> Result<(), AllocError> {
+fn sum(e: &Sum, out: &mut String) -> Result<(), AllocError>
+    ensures { OnOk result (string_bytes out.new
+        ≡ string_bytes out.old ++ in_line (sum_then (sum_tree e.now) [])) }
+{
     prod(&e.first, out)?;
     for term in &e.rest {
         out.push_str(sign(term.sign))?;
@@ -55,7 +77,10 @@ fn sum(e: &Sum, out: &mut String) -> Result<(), AllocError> {
 }
 
 #[cycle(expr)]
-fn prod(e: &Prod, out: &mut String) -> Result<(), AllocError> {
+fn prod(e: &Prod, out: &mut String) -> Result<(), AllocError>
+    ensures { OnOk result (string_bytes out.new
+        ≡ string_bytes out.old ++ in_line (prod_then (prod_tree e.now) [])) }
+{
     unary(&e.first, out)?;
     for factor in &e.rest {
         out.push_str(operator(factor.operator))?;
@@ -65,7 +90,10 @@ fn prod(e: &Prod, out: &mut String) -> Result<(), AllocError> {
 }
 
 #[cycle(expr)]
-fn unary(e: &Unary, out: &mut String) -> Result<(), AllocError> {
+fn unary(e: &Unary, out: &mut String) -> Result<(), AllocError>
+    ensures { OnOk result (string_bytes out.new
+        ≡ string_bytes out.old ++ in_line (unary_then (unary_tree e.now) [])) }
+{
     if e.negative {
         out.push('-')?;
     }
@@ -73,7 +101,10 @@ fn unary(e: &Unary, out: &mut String) -> Result<(), AllocError> {
 }
 
 #[cycle(expr)]
-fn atom(e: &Atom, out: &mut String) -> Result<(), AllocError> {
+fn atom(e: &Atom, out: &mut String) -> Result<(), AllocError>
+    ensures { OnOk result (string_bytes out.new
+        ≡ string_bytes out.old ++ in_line (atom_then (atom_tree e.now) [])) }
+{
     match e {
         Atom::Number(value) => write!(out, "{value}"),
         Atom::True => out.push_str("true"),
@@ -99,7 +130,10 @@ fn atom(e: &Atom, out: &mut String) -> Result<(), AllocError> {
 }
 
 /// Expressions with a comma between each two.
-pub fn listed(exprs: &[Expr], out: &mut String) -> Result<(), AllocError> {
+pub fn listed(exprs: &[Expr], out: &mut String) -> Result<(), AllocError>
+    ensures { OnOk result (string_bytes out.new
+        ≡ string_bytes out.old ++ in_line (exprs_then (expr_trees exprs.now) [])) }
+{
     let mut first = true;
     for e in exprs {
         if !first {
@@ -111,7 +145,9 @@ pub fn listed(exprs: &[Expr], out: &mut String) -> Result<(), AllocError> {
     Ok(())
 }
 
-fn relation(relation: Relation) -> &'static str {
+fn relation(relation: Relation) -> &'static str
+    ensures { result.now ≡ 32 ∷ (mark_text (relation_mark relation) ++ 32 ∷ []) }
+{
     match relation {
         Relation::Less => " < ",
         Relation::AtMost => " <= ",
@@ -122,14 +158,18 @@ fn relation(relation: Relation) -> &'static str {
     }
 }
 
-fn sign(sign: Sign) -> &'static str {
+fn sign(sign: Sign) -> &'static str
+    ensures { result.now ≡ 32 ∷ (mark_text (sign_mark sign) ++ 32 ∷ []) }
+{
     match sign {
         Sign::Plus => " + ",
         Sign::Minus => " - ",
     }
 }
 
-fn operator(operator: Operator) -> &'static str {
+fn operator(operator: Operator) -> &'static str
+    ensures { result.now ≡ 32 ∷ (mark_text (operator_mark operator) ++ 32 ∷ []) }
+{
     match operator {
         Operator::Times => " * ",
         Operator::Over => " / ",
