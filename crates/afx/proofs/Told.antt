@@ -8,7 +8,7 @@ use Rattle.types.specs.Outcome.{Budget, Outcome, Ended, Halted}
 use Rattle.types.specs.Run.{Fault}
 use Rattle.afx.specs.Appending.{Writes}
 use Rattle.afx.specs.OutcomeText.{outcome_text, status_by, status_of}
-use Rattle.afx.specs.Telling.{IsCodeOf, Tells, TellsOnOneThread, TellsRun, TellsSome, on_one_thread, usual}
+use Rattle.afx.specs.Telling.{IsCodeOf, ListsProgram, Tells, TellsOnOneThread, TellsRun, TellsSome, on_one_thread, usual}
 
 -- a text and a status that are an outcome's tell it
 pub told : {E : Type 0} (old new : Option (List ℕ)) (r : Result ℕ E) (declared shown : List Array) (o p : Outcome) → Writes old new r (outcome_text shown false o)
@@ -69,3 +69,14 @@ module _ {E : Type 0} (text : List ℕ) (old new : Option (List ℕ)) (r : Resul
   run_known =
       IfOk-weaker r (TellsRun text old new) (λ s. s ≤ 3)
       (λ s t. omega (arith, t.told.status_is, status_of-small t.outcome))
+
+  -- a listing is told by status 0
+  pub listing_some : IfOk r (ListsProgram text old new) → IfOk r (λ s. 1 < s → TellsSome old new s)
+  listing_some =
+      IfOk-weaker r (ListsProgram text old new) (λ s. 1 < s → TellsSome old new s)
+      (λ s l large. absurd (omega (arith, l.status_is, large)))
+
+  pub listing_known : IfOk r (ListsProgram text old new) → IfOk r (λ s. s ≤ 3)
+  listing_known =
+      IfOk-weaker r (ListsProgram text old new) (λ s. s ≤ 3)
+      (λ s l. omega (arith, l.status_is))

@@ -1,6 +1,7 @@
 -- What a command leaves that tells an outcome.
 use Rattle.std.specs.Prelude.{ℕ, ℤ, pos, ◌≡◌, List, Option, Some, IsTrue, false, map, replicate}
 use Rattle.std.specs.Io.KnownBytes.{Appends}
+use Rattle.syntax.specs.Canonical.{listed}
 use Rattle.syntax.specs.Lexical.{AreTokensOf}
 use Rattle.syntax.specs.Spelling.{spelling}
 use Rattle.syntax.specs.Tree as tree
@@ -52,3 +53,10 @@ pub record TellsSome (old new : Option (List ℕ)) (status : ℕ) : Type 0 where
   pub declared : List Array
   pub outcome : Outcome
   pub told : Tells outcome declared old new status
+
+-- the text spells a program, whose listing was appended; the status is 0
+pub record ListsProgram (text : List ℕ) (old new : Option (List ℕ)) (status : ℕ) : Type 0 where
+  pub program : tree.Program
+  pub spelled : AreTokensOf text (spelling program)
+  pub listing : Appends old new (listed program)
+  pub status_is : status ≡ 0

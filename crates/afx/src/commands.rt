@@ -11,7 +11,7 @@ ghost use Rattle.types.specs.Translation.{array, input as lists_of, outcome as o
 ghost use Rattle.types.specs.Typed.{code_of};
 ghost use Rattle.afx.specs.Appending.{Writes};
 ghost use Rattle.afx.specs.OutcomeText.{outcome_text, status_of};
-ghost use Rattle.afx.specs.Telling.{IsCodeOf, TellsRun, TellsOnOneThread, zeros as zeros_of};
+ghost use Rattle.afx.specs.Telling.{IsCodeOf, ListsProgram, TellsRun, TellsOnOneThread, zeros as zeros_of};
 
 use crate::emit::{append, emit};
 use crate::failure::Failure;
@@ -64,7 +64,8 @@ pub fn run_serially<O: Write>(alloc: Global, text: &str, out: &mut O) -> Result<
 
 /// `check --list`: writes the listing of any program.
 pub fn list<O: Write>(alloc: Global, text: &str, out: &mut O) -> Result<u8, Failure>
-    ensures status { IfOk result (λ status. status ≡ 0) }
+    ensures told { IfOk result
+        (ListsProgram (chars text.now) (O.contents out.old) (O.contents out.new)) }
     ensures silent { IfErr result (λ failure. failure ≢ Failure.CannotWriteOutput
         → Keeps (O.contents out.old) (O.contents out.new)) }
 {

@@ -1,4 +1,4 @@
-use Rattle.afx.proofs.Told.{one_thread_known, one_thread_some, run_known, run_some}
+use Rattle.afx.proofs.Told.{listing_known, listing_some, one_thread_known, one_thread_some, run_known, run_some}
 use Rattle.afx.proofs.act.perform.Goals as goal
 
 pub returns-in-Serial-clause-known : goal.returns-in-Serial-clause-known
@@ -12,3 +12,9 @@ returns-in-Run-clause-known g c = run_known _ _ _ c.run_as_tasks.result c.run_as
 
 pub returns-in-Run-clause-told : goal.returns-in-Run-clause-told
 returns-in-Run-clause-told g c = run_some _ _ _ c.run_as_tasks.result c.run_as_tasks.ensures.told
+
+pub returns-in-Check-default-true-clause-known : goal.returns-in-Check-default-true-clause-known
+returns-in-Check-default-true-clause-known g c = listing_known _ _ _ c.list.result c.list.ensures.told
+
+pub returns-in-Check-default-true-clause-told : goal.returns-in-Check-default-true-clause-told
+returns-in-Check-default-true-clause-told g c = listing_some _ _ _ c.list.result c.list.ensures.told
