@@ -17,18 +17,18 @@ Says unknown twice over unserved OverLimit = over
 Says unknown twice over unserved OutOfMemory = Unit {0}
 Says unknown twice over unserved NotYet = unserved
 
--- of a name that has to be a section's, in the statement at the place
+-- what an error says of a name that has to be a section's, in the statement at the place
 abbrev pub TellsName : Scope → List ℕ → TypeError → Type 0
 TellsName here x = Says (λ label. (label ≡ here.label) × IsTrue (is_unknown here x)) ⊥ ⊥ ⊥
 
--- of an atom, or of an expression that has to be one, to be printed by the statement at the place
+-- what it says of an atom to be printed by the statement at the place, and of an expression that has to be one
 abbrev pub TellsAtom : Scope → Option Atom → TypeError → Type 0
 TellsAtom here a = Says (λ label. (label ≡ here.label) × IsTrue (atom_unknown here a)) ⊥ ⊥ (is_printed a ≡ false)
 
 abbrev pub TellsItem : Scope → Expr → TypeError → Type 0
 TellsItem here e = TellsAtom here (lone_atom e)
 
--- of several
+-- what it says of several expressions to be printed
 abbrev pub TellsItems : Scope → List Expr → TypeError → Type 0
 TellsItems here es = Says (λ label. (label ≡ here.label) × IsTrue (list_any (item_unknown here) es)) ⊥ ⊥ (list_all is_item es ≡ false)
 
@@ -44,10 +44,10 @@ pub record UnknownAt (from : Scope) (b : Block) (label : ℕ) : Type 0 where
   pub labelled : here.label ≡ label
   pub unknown : IsTrue (names_unknown here statement)
 
--- of a block that begins at the place
+-- what an error says of a block that begins at the place
 abbrev pub TellsBlock : (from : Scope) → Block → TypeError → Type 0
 TellsBlock from b = Says (UnknownAt from b) ⊥ (MOST_LABELS + 1 < from.label + labels b) (is_served_block b ≡ false)
 
--- of the declared arrays
+-- what an error says of the declared arrays
 abbrev pub TellsArrays : List Array → TypeError → Type 0
 TellsArrays arrays = Says (λ label. ⊥) (HasNameTwice arrays) (TooMany arrays) ⊥
