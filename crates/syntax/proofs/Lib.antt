@@ -4,6 +4,7 @@ pub mod CanonicalExamples
 pub mod ChainLemmas
 pub mod ExpressionText
 pub mod LaidLemmas
+pub mod LayoutLemmas
 pub mod LexicalLemmas
 pub mod LineText
 pub mod ProgramLemmas
