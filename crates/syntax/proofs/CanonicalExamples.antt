@@ -65,7 +65,8 @@ name x = expr_of (Positive (Name x))
 -- a section's length less n, in parentheses, twice
 abbrev twice : Expr
 twice =
-    let inside = expr_by (Add (Multiply (Positive (Length s)) NoFactor) (AddTerm MinusSign (Multiply (Positive (Name n)) NoFactor) NoTerm)) in
+    let inside = expr_by (Add (Multiply (Positive (Length s)) NoFactor) (AddTerm MinusSign (Multiply (Positive
+    (Name n)) NoFactor) NoTerm)) in
     expr_by (Add (Multiply (Positive (Parens inside)) (MultiplyFactor Times (Positive (Number 2)) NoFactor)) NoTerm)
 
 abbrev procedure_of : List ℕ → List Parameter → Block → Procedure

@@ -37,7 +37,8 @@ blanks (suc k) = blanks k
 both_blank : (xs ys : List ℕ) → list_all is_blank xs ≡ true → list_all is_blank ys ≡ true → list_all is_blank (xs ++ ys) ≡ true
 both_blank xs ys e f = list_all-append is_blank xs ys ∙ ap (λ b. b && list_all is_blank ys) e ∙ f
 
-either_blank : (b : Bool) (xs ys : List ℕ) → list_all is_blank xs ≡ true → list_all is_blank ys ≡ true → list_all is_blank (if b then xs else ys) ≡ true
+either_blank : (b : Bool) (xs ys : List ℕ) → list_all is_blank xs ≡ true → list_all is_blank ys ≡ true
+    → list_all is_blank (if b then xs else ys) ≡ true
 either_blank true xs ys e f = e
 either_blank false xs ys e f = f
 
@@ -65,8 +66,10 @@ space_blank Other t = either_blank (is_closing t) [] (codes " ") refl refl
 before_blank : (at : Place) (t : Token) → at.label ≡ None → list_all is_blank (before at t) ≡ true
 before_blank at t none =
     let margin = if begins_statement t then statement_margin at.label else plain_margin at.label in
-    let start = both_blank margin (indentation at.depth t) (margin_blank at.label none (begins_statement t)) (indentation_blank at.depth t) in
-    either_blank (begins_line at.left t) _ _ (both_blank (line_end at.left) (line_start at t) (line_end_blank at.left) start) (space_blank at.left t)
+    let start = both_blank margin (indentation at.depth t) (margin_blank at.label none (begins_statement t))
+    (indentation_blank at.depth t) in
+    either_blank (begins_line at.left t) _ _ (both_blank (line_end at.left) (line_start at t) (line_end_blank at.left) start)
+    (space_blank at.left t)
 
 label_none : (n : Option ℕ) → n ≡ None → (b : Bool) → (if b then option_map (λ k. k + 1) n else n) ≡ None
 label_none n e true = ap (option_map (λ k. k + 1)) e
@@ -89,7 +92,8 @@ word_apart WordTrue = tt
 word_apart WordFalse = tt
 word_apart _ = tt
 
-mark_no_letter : (d : ℕ) (n : Option ℕ) (left : Left) (m : Mark) (ts : List Token) → IsApart left → starts is_in_name (laid (record { depth = d; label = n; left = left }) (MarkToken m ∷ ts)) ≡ false
+mark_no_letter : (d : ℕ) (n : Option ℕ) (left : Left) (m : Mark) (ts : List Token) → IsApart left
+    → starts is_in_name (laid (record { depth = d; label = n; left = left }) (MarkToken m ∷ ts)) ≡ false
 unfolding laid
 mark_no_letter d n Called Comma ts a = refl
 mark_no_letter d n Called _ ts a = refl
@@ -101,7 +105,8 @@ mark_no_letter d n Margin m ts a = absurd a
 mark_no_letter d n Opening m ts a = absurd a
 mark_no_letter d n Ended m ts a = absurd a
 
-no_letter : (d : ℕ) (n : Option ℕ) (left : Left) (ts : List Token) → IsApart left → starts is_in_name (laid (record { depth = d; label = n; left = left }) ts) ≡ false
+no_letter : (d : ℕ) (n : Option ℕ) (left : Left) (ts : List Token) → IsApart left
+    → starts is_in_name (laid (record { depth = d; label = n; left = left }) ts) ≡ false
 unfolding laid
 no_letter d n Called [] a = refl
 no_letter d n Called (NameToken x ∷ ts) a = refl
@@ -133,7 +138,8 @@ IsQuiet _ = ⊥
 abbrev IsNeither : List ℕ → Type 0
 IsNeither cs = (starts (λ c. c == 61) cs ≡ false) × (starts (λ c. c == 47) cs ≡ false)
 
-mark_quiet : (d : ℕ) (n : Option ℕ) (left : Left) (m : Mark) (ts : List Token) → IsQuiet left → IsNeither (laid (record { depth = d; label = n; left = left }) (MarkToken m ∷ ts))
+mark_quiet : (d : ℕ) (n : Option ℕ) (left : Left) (m : Mark) (ts : List Token) → IsQuiet left
+    → IsNeither (laid (record { depth = d; label = n; left = left }) (MarkToken m ∷ ts))
 unfolding laid
 mark_quiet d n Operand Comma ts a = (refl, refl)
 mark_quiet d n Operand _ ts a = (refl, refl)
@@ -144,12 +150,14 @@ mark_quiet d n Margin m ts a = absurd a
 mark_quiet d n Opening m ts a = absurd a
 mark_quiet d n Called m ts a = absurd a
 
-word_quiet : (d : ℕ) (n : Option ℕ) (w : Word) (ts : List Token) → IsNeither (laid (record { depth = d; label = n; left = Ended }) (WordToken w ∷ ts))
+word_quiet : (d : ℕ) (n : Option ℕ) (w : Word) (ts : List Token)
+    → IsNeither (laid (record { depth = d; label = n; left = Ended }) (WordToken w ∷ ts))
 unfolding laid
 word_quiet d n WordElse ts = (refl, refl)
 word_quiet d n _ ts = (refl, refl)
 
-quiet : (d : ℕ) (n : Option ℕ) (left : Left) (ts : List Token) → IsQuiet left → IsNeither (laid (record { depth = d; label = n; left = left }) ts)
+quiet : (d : ℕ) (n : Option ℕ) (left : Left) (ts : List Token) → IsQuiet left
+    → IsNeither (laid (record { depth = d; label = n; left = left }) ts)
 unfolding laid
 quiet d n Operand [] a = (refl, refl)
 quiet d n Operand (NameToken x ∷ ts) a = (refl, refl)
@@ -215,7 +223,8 @@ quiet_mark m rest q = record {
 minus_stands : (d : ℕ) (n : Option ℕ) (ts : List Token) → IsMark Minus (laid (record { depth = d; label = n; left = Opening }) ts)
 minus_stands d n ts = record { longest = λ e. minus_no_longer; no_comment = minus_no_comment _ }
 
-mark_stands : (d : ℕ) (n : Option ℕ) (left : Left) (m : Mark) (ts : List Token) → IsMark m (laid (record { depth = d; label = n; left = left_by_mark left m }) ts)
+mark_stands : (d : ℕ) (n : Option ℕ) (left : Left) (m : Mark) (ts : List Token)
+    → IsMark m (laid (record { depth = d; label = n; left = left_by_mark left m }) ts)
 mark_stands d n left LeftParen ts = record { longest = λ e. paren_no_longer; no_comment = paren_no_comment _ }
 mark_stands d n left LeftBracket ts = record { longest = λ e. bracket_no_longer; no_comment = bracket_no_comment _ }
 mark_stands d n left RightParen ts = quiet_mark RightParen _ (quiet d n Operand ts tt)
@@ -276,7 +285,8 @@ cut_writable [] text rest cut = tt
 cut_writable (BlankPiece c ∷ ps) text rest cut = cut_writable ps cut.0 rest cut.2
 cut_writable (CommentPiece cs ∷ ps) text rest cut = cut_writable ps cut.0 rest cut.2
 cut_writable (NamePiece cs ∷ ps) text rest cut =
-    let fits = cut.1.fits in (record { begins = fits.begins; in_name = fits.in_name; no_word = fits.no_word }, cut_writable ps cut.0 rest cut.2)
+    let fits = cut.1.fits in
+    (record { begins = fits.begins; in_name = fits.in_name; no_word = fits.no_word }, cut_writable ps cut.0 rest cut.2)
 cut_writable (NumberPiece cs ∷ ps) text rest cut = (cut.1.fits.fits, cut_writable ps cut.0 rest cut.2)
 cut_writable (WordPiece w ∷ ps) text rest cut = (tt, cut_writable ps cut.0 rest cut.2)
 cut_writable (MarkPiece m ∷ ps) text rest cut = (tt, cut_writable ps cut.0 rest cut.2)
@@ -298,7 +308,8 @@ with_blanks (b ∷ bs) text ts e has =
       tokens = behind.tokens;
     }
 
-with_piece : (p : Piece) (t : Token) (text : List ℕ) (ts : List Token) → token_of p ≡ t ∷ [] → MayStand p text → AreTokensOf text ts → AreTokensOf (letters p ++ text) (t ∷ ts)
+with_piece : (p : Piece) (t : Token) (text : List ℕ) (ts : List Token) → token_of p ≡ t ∷ [] → MayStand p text → AreTokensOf text ts
+    → AreTokensOf (letters p ++ text) (t ∷ ts)
 with_piece p t text ts e fits has = record {
   pieces = p ∷ has.pieces;
   cut = (text, record { spelled = refl; fits = fits }, has.cut);
@@ -308,10 +319,12 @@ with_piece p t text ts e fits has = record {
 nothing_read : AreTokensOf [] []
 nothing_read = record { pieces = []; cut = refl; tokens = refl }
 
-with_token : (d : ℕ) (n : Option ℕ) (left : Left) (t : Token) (ts : List Token) → IsWritable t → AreTokensOf (laid (record { depth = d; label = n; left = left_by left t }) ts) ts
+with_token : (d : ℕ) (n : Option ℕ) (left : Left) (t : Token) (ts : List Token) → IsWritable t
+    → AreTokensOf (laid (record { depth = d; label = n; left = left_by left t }) ts) ts
     → AreTokensOf (token_text t ++ laid (record { depth = d; label = n; left = left_by left t }) ts) (t ∷ ts)
 with_token d n left (NameToken x) ts name has =
-    with_piece (NamePiece x) (NameToken x) _ ts refl (record { begins = name.begins; in_name = name.in_name; ends = no_letter d n Called ts tt; no_word = name.no_word }) has
+    with_piece (NamePiece x) (NameToken x) _ ts refl
+    (record { begins = name.begins; in_name = name.in_name; ends = no_letter d n Called ts tt; no_word = name.no_word }) has
 with_token d n left (NumberToken k) ts small has =
     let numeral = decimal_is_IsNumeral k (omega (arith, small)) in
     let value : number_of (decimal k) ≡ k = number_is (decimal k) 0 ∙ numeral.1 in
@@ -322,14 +335,16 @@ with_token d n left (NumberToken k) ts small has =
       fits = omega (arith, value, small);
     } in
     with_piece (NumberPiece (decimal k)) (NumberToken k) _ ts (ap (λ v. NumberToken v ∷ []) value) fits has
-with_token d n left (WordToken w) ts fits has = with_piece (WordPiece w) (WordToken w) _ ts refl (no_letter d n (left_by_word w) ts (word_apart w)) has
+with_token d n left (WordToken w) ts fits has = with_piece (WordPiece w) (WordToken w) _ ts refl (no_letter d n (left_by_word w) ts
+    (word_apart w)) has
 with_token d n left (MarkToken m) ts fits has = with_piece (MarkPiece m) (MarkToken m) _ ts refl (mark_stands d n left m ts) has
 
 end_read : (left : Left) → AreTokensOf (line_end left) []
 end_read Ended = with_blanks (10 ∷ []) [] [] refl nothing_read
 end_read _ = nothing_read
 
-pub laid_tokens : (ts : List Token) (d : ℕ) (n : Option ℕ) (left : Left) → n ≡ None → AreWritable ts → AreTokensOf (laid (record { depth = d; label = n; left = left }) ts) ts
+pub laid_tokens : (ts : List Token) (d : ℕ) (n : Option ℕ) (left : Left) → n ≡ None → AreWritable ts
+    → AreTokensOf (laid (record { depth = d; label = n; left = left }) ts) ts
 unfolding laid
 laid_tokens [] d n left none fit = end_read left
 laid_tokens (t ∷ ts) d n left none fit =
