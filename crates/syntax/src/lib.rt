@@ -3,7 +3,6 @@
 #![tactic(auto)]
 
 pub mod canonical;
-pub mod canonical_laws;
 pub mod cursor;
 pub mod error;
 pub mod expression_text;

@@ -82,7 +82,7 @@ pub cmp-returns-in_ok-push_str-in-Some : goal.cmp-returns-in_ok-push_str-in-Some
 cmp-returns-in_ok-push_str-in-Some t c =
     let old = string_bytes c.args.out.now in
     let between = string_bytes c.sum.new.out in
-    let mark = c.in_ok-push_str-in-Some.ensures.bytes ∙ ap (λ l. between ++ l) c.relation.ensures in
+    let mark = ◌∙◌ {b = between ++ c.relation.result.now} c.in_ok-push_str-in-Some.ensures.bytes (ap (λ l. between ++ l) c.relation.ensures) in
     called _ old _ (then_ok _ old _ _ _ c.in_ok-sum.ensures (then_ok _ between _ _ _ mark c.sum-in-Some.ensures)) (cmp_text_compared
     c.args.e.now c.in-Some.compared c.in-Some.is)
 
@@ -100,8 +100,9 @@ sum-loop-term-preserved t c =
     let inside : i < length xs = search rules in
     let parts = at_drop_more terms_text xs i x inside ∙ ap (λ y. terms_text (y ∷ drop (i + 1) xs)) (sym c.term-item.is)
     ∙ terms_text_more x (drop (i + 1) xs) in
-    let added = then_adds (string_bytes c.loop-term.out) _ _ (c.in_ok-push_str.ensures.bytes
-    ∙ ap (λ l. string_bytes c.loop-term.out ++ l) c.sign.ensures) c.in_ok-prod-2.ensures in
+    let old = string_bytes c.loop-term.out in
+    let mark = ◌∙◌ {b = old ++ c.sign.result.now} c.in_ok-push_str.ensures.bytes (ap (λ l. old ++ l) c.sign.ensures) in
+    let added = then_adds old _ _ mark c.in_ok-prod-2.ensures in
     moved (string_bytes c.loop-term.out) _ (terms_text (drop (i + 1) xs)) c.loop-term.invariant added parts
 
 pub sum-returns : goal.sum-returns
@@ -126,8 +127,9 @@ prod-loop-factor-preserved t c =
     let inside : i < length xs = search rules in
     let parts = at_drop_more factors_text xs i x inside ∙ ap (λ y. factors_text (y ∷ drop (i + 1) xs)) (sym c.factor-item.is)
     ∙ factors_text_more x (drop (i + 1) xs) in
-    let added = then_adds (string_bytes c.loop-factor.out) _ _ (c.in_ok-push_str.ensures.bytes
-    ∙ ap (λ l. string_bytes c.loop-factor.out ++ l) c.operator.ensures) c.in_ok-unary-2.ensures in
+    let old = string_bytes c.loop-factor.out in
+    let mark = ◌∙◌ {b = old ++ c.operator.result.now} c.in_ok-push_str.ensures.bytes (ap (λ l. old ++ l) c.operator.ensures) in
+    let added = then_adds old _ _ mark c.in_ok-unary-2.ensures in
     moved (string_bytes c.loop-factor.out) _ (factors_text (drop (i + 1) xs)) c.loop-factor.invariant added parts
 
 pub prod-returns : goal.prod-returns
