@@ -1,10 +1,13 @@
 -- The canonical text and the listing of programs, computed.
-use Rattle.std.proofs.Common.{◌≡◌, ℕ, List, [], ◌∷◌, codes, Some, refl}
+use Rattle.std.proofs.Common.{◌≡◌, ℕ, List, [], ◌∷◌, codes, Some, None, refl}
 use Rattle.std.specs.Fmt.{digits}
 use Rattle.syntax.specs.declared.tree.ElementType.TheVariants.{Int as IntElement}
-use Rattle.syntax.specs.Tree.{Expr, Or, NoConj, And, NoNeg, Plainly, Alone, Sum, Add, NoTerm, Multiply, NoFactor, Positive, Unary, Number, Element, Store, Print, Async, Finish, Block, End, Then, Array, Main, Program}
-use Rattle.syntax.specs.Spelling.{spelling, procedures_then, main_tokens, arrays_then, stmt_then, expr_then, more_then}
-use Rattle.syntax.specs.Canonical.{laid, listed}
+use Rattle.syntax.specs.declared.tree.Relation.TheVariants.{Less as IsLess}
+use Rattle.syntax.specs.declared.tree.Sign.TheVariants.{Minus as MinusSign}
+use Rattle.syntax.specs.declared.tree.Operator.TheVariants.{Times}
+use Rattle.syntax.specs.Tree.{Expr, Or, NoConj, And, NoNeg, Plainly, Alone, Compare, Sum, Add, NoTerm, AddTerm, Multiply, NoFactor, MultiplyFactor, Unary, Positive, Negative, Number, Name, Element, Length, Parens, Store, Print, IfElse, Call, Async, Finish, Block, End, Then, Array, Parameter, Written, Scalar, Procedure, Main, Program}
+use Rattle.syntax.specs.Spelling.{spelling, procedures_then, main_tokens, arrays_then, parameters_then, more_parameters_then, parameter_then, stmt_then, expr_then, exprs_then, more_then}
+use Rattle.syntax.specs.Canonical.{laid, canonical, listed}
 
 abbrev sum_of : Unary → Sum
 sum_of u = Add (Multiply u NoFactor) NoTerm
@@ -43,3 +46,44 @@ pub two_arrays_listed : listed two_arrays
     ≡ codes "      main {\n        array a: int[1];\n        array b: int[1];\n    1   finish {\n    2     async {\n    3       a[0] = 7;\n          }\n    4     b[0] = 8;\n        }\n    5   print a[0], b[0];\n      }\n"
 unfolding digits laid spelling procedures_then main_tokens arrays_then stmt_then expr_then more_then
 two_arrays_listed = refl
+
+abbrev s : List ℕ
+s = codes "s"
+
+abbrev n : List ℕ
+n = codes "n"
+
+abbrev f : List ℕ
+f = codes "f"
+
+abbrev expr_by : Sum → Expr
+expr_by u = Or (And (Plainly (Alone u)) NoNeg) NoConj
+
+abbrev name : List ℕ → Expr
+name x = expr_of (Positive (Name x))
+
+-- a section's length less n, in parentheses, twice
+abbrev twice : Expr
+twice =
+    let inside = expr_by (Add (Multiply (Positive (Length s)) NoFactor) (AddTerm MinusSign (Multiply (Positive
+    (Name n)) NoFactor) NoTerm)) in
+    expr_by (Add (Multiply (Positive (Parens inside)) (MultiplyFactor Times (Positive (Number 2)) NoFactor)) NoTerm)
+
+abbrev procedure_of : List ℕ → List Parameter → Block → Procedure
+procedure_of x ps body = record { name = x; parameters = ps; body = body }
+
+abbrev without_main : List Procedure → Program
+without_main ps = record { procedures = ps; main = None }
+
+-- a procedure that writes or calls itself
+abbrev calling : Program
+calling =
+    let guard = Or (And (Plainly (Compare (sum_of (Positive (Name n))) IsLess (sum_of (Negative (Number 1))))) NoNeg) NoConj in
+    let call = Call f (name s ∷ expr_of (Negative (Name n)) ∷ []) in
+    let body = Then (IfElse guard (Then (Store s (name n) twice) End) (Then call End)) End in
+    without_main (procedure_of f (Written s IntElement ∷ Scalar n ∷ []) body ∷ [])
+
+pub calling_canonical : canonical calling
+    ≡ codes "proc f(mut s: int, n: int) {\n  if n < -1 {\n    s[n] = (len(s) - n) * 2;\n  } else {\n    f(s, -n);\n  }\n}\n"
+unfolding digits laid spelling procedures_then parameters_then more_parameters_then parameter_then main_tokens stmt_then expr_then exprs_then more_then
+calling_canonical = refl

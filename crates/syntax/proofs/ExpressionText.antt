@@ -23,11 +23,13 @@ use Rattle.syntax.proofs.LaidLemmas.{at_left, line, end_follows, conjs_follow, n
 use Rattle.syntax.proofs.RowLemmas.{term_built}
 
 -- what is added in two steps
-pub then_adds : (before first second : List ℕ) {between behind : List ℕ} → between ≡ before ++ first → behind ≡ between ++ second → behind ≡ before ++ (first ++ second)
+pub then_adds : (before first second : List ℕ) {between behind : List ℕ} → between ≡ before ++ first → behind ≡ between ++ second
+    → behind ≡ before ++ (first ++ second)
 then_adds before first second e f = f ∙ ap (λ l. l ++ second) e ∙ append_assoc before first second
 
 -- what is added and what is left, where a part of that is added
-pub moved : (before part rest : List ℕ) {behind left all : List ℕ} → before ++ left ≡ all → behind ≡ before ++ part → left ≡ part ++ rest → behind ++ rest ≡ all
+pub moved : (before part rest : List ℕ) {behind left all : List ℕ} → before ++ left ≡ all → behind ≡ before ++ part → left
+    ≡ part ++ rest → behind ++ rest ≡ all
 moved before part rest was added parts =
     ap (λ l. l ++ rest) added ∙ append_assoc before part rest ∙ ap (λ l. before ++ l) (sym parts) ∙ was
 
@@ -52,11 +54,13 @@ pushed (Ok x) now added kept e = e
 pushed (Err e) now added kept f = tt
 
 -- one more text, by the last call
-pub then_ok : {X E : Type 0} (r : Result X E) (before first second behind : List ℕ) {between : List ℕ} → between ≡ before ++ first → OnOk r (behind ≡ between ++ second) → OnOk r (behind ≡ before ++ (first ++ second))
+pub then_ok : {X E : Type 0} (r : Result X E) (before first second behind : List ℕ) {between : List ℕ} → between ≡ before ++ first
+    → OnOk r (behind ≡ between ++ second) → OnOk r (behind ≡ before ++ (first ++ second))
 then_ok r before first second behind e = ok_map r (then_adds before first second e)
 
 -- the text under another name
-pub called : {X E : Type 0} (r : Result X E) (before now : List ℕ) {text whole : List ℕ} → OnOk r (now ≡ before ++ text) → whole ≡ text → OnOk r (now ≡ before ++ whole)
+pub called : {X E : Type 0} (r : Result X E) (before now : List ℕ) {text whole : List ℕ} → OnOk r (now ≡ before ++ text) → whole ≡ text
+    → OnOk r (now ≡ before ++ whole)
 called r before now h e = ok_map r (λ f. f ∙ ap (λ l. before ++ l) (sym e)) h
 
 -- the texts of what stands behind first operands
@@ -78,27 +82,32 @@ abbrev pub exprs_text : Bool → List rExpr → List ℕ
 exprs_text true es = in_line (exprs_then (exprs es) [])
 exprs_text false es = laid (at_left line Operand) (more_then (exprs es) [])
 
-pub expr_text : (e : rExpr) → in_line (expr_then (expr e) []) ≡ in_line (conj_then (conj (out-Expr e).first) []) ++ conjs_text (out-Expr e).rest.items
+pub expr_text : (e : rExpr) → in_line (expr_then (expr e) [])
+    ≡ in_line (conj_then (conj (out-Expr e).first) []) ++ conjs_text (out-Expr e).rest.items
 unfolding expr_then
 expr_text e =
     let rest = conjs (out-Expr e).rest.items in
-    ap (λ x. in_line (expr_then x [])) (expr_is e) ∙ conj_laid line (conj (out-Expr e).first) (conjs_then rest []) (conjs_follow line rest [] (end_follows line))
+    ap (λ x. in_line (expr_then x [])) (expr_is e)
+    ∙ conj_laid line (conj (out-Expr e).first) (conjs_then rest []) (conjs_follow line rest [] (end_follows line))
 
 pub conjs_text_none : conjs_text [] ≡ []
 unfolding laid conjs_then
 conjs_text_none = refl
 
-pub conjs_text_more : (c : rConj) (cs : List rConj) → conjs_text (c ∷ cs) ≡ (codes " or " ++ in_line (conj_then (conj c) [])) ++ conjs_text cs
+pub conjs_text_more : (c : rConj) (cs : List rConj) → conjs_text (c ∷ cs)
+    ≡ (codes " or " ++ in_line (conj_then (conj c) [])) ++ conjs_text cs
 unfolding laid conjs_then
 conjs_text_more c cs =
     ap (λ l. 32 ∷ 111 ∷ 114 ∷ l) (conj_apart line (conj c) (conjs_then (conjs cs) [])
     ∙ ap (λ l. 32 ∷ l) (conj_laid line (conj c) (conjs_then (conjs cs) []) (conjs_follow line (conjs cs) [] (end_follows line))))
 
-pub conj_text : (e : rConj) → in_line (conj_then (conj e) []) ≡ in_line (neg_then (neg (out-Conj e).first) []) ++ negs_text (out-Conj e).rest.items
+pub conj_text : (e : rConj) → in_line (conj_then (conj e) [])
+    ≡ in_line (neg_then (neg (out-Conj e).first) []) ++ negs_text (out-Conj e).rest.items
 unfolding conj_then
 conj_text e =
     let rest = negs (out-Conj e).rest.items in
-    ap (λ x. in_line (conj_then x [])) (conj_is e) ∙ neg_laid line (neg (out-Conj e).first) (negs_then rest []) (negs_follow line rest [] (end_follows line))
+    ap (λ x. in_line (conj_then x [])) (conj_is e)
+    ∙ neg_laid line (neg (out-Conj e).first) (negs_then rest []) (negs_follow line rest [] (end_follows line))
 
 pub negs_text_none : negs_text [] ≡ []
 unfolding laid negs_then
@@ -115,7 +124,8 @@ unfolding laid neg_then
 negated_text true c = ap (λ l. 110 ∷ 111 ∷ 116 ∷ l) (cmp_apart line c [])
 negated_text false c = refl
 
-pub neg_text : (e : rNeg) → in_line (neg_then (neg e) []) ≡ (if (out-Neg e).negated then codes "not " else []) ++ in_line (cmp_then (cmp (out-Neg e).comparison) [])
+pub neg_text : (e : rNeg) → in_line (neg_then (neg e) [])
+    ≡ (if (out-Neg e).negated then codes "not " else []) ++ in_line (cmp_then (cmp (out-Neg e).comparison) [])
 neg_text e = ap (λ x. in_line (neg_then x [])) (neg_is e) ∙ negated_text (out-Neg e).negated (cmp (out-Neg e).comparison)
 
 pub cmp_text_alone : (e : rCmp) → (out-Cmp e).right ≡ None → in_line (cmp_then (cmp e) []) ≡ in_line (sum_then (sum (out-Cmp e).left) [])
@@ -123,7 +133,8 @@ unfolding cmp_then
 cmp_text_alone e none = ap (λ x. in_line (cmp_then x [])) (cmp_is_alone e none)
 
 pub cmp_text_compared : (e : rCmp) (r : rCompared) → (out-Cmp e).right ≡ Some r → in_line (cmp_then (cmp e) [])
-    ≡ in_line (sum_then (sum (out-Cmp e).left) []) ++ ((32 ∷ (mark_text (relation_mark (out-Compared r).relation) ++ 32 ∷ [])) ++ in_line (sum_then (sum (out-Compared r).right) []))
+    ≡ in_line (sum_then (sum (out-Cmp e).left) []) ++ ((32 ∷ (mark_text (relation_mark
+    (out-Compared r).relation) ++ 32 ∷ [])) ++ in_line (sum_then (sum (out-Compared r).right) []))
 unfolding cmp_then
 cmp_text_compared e r some =
     let left = sum (out-Cmp e).left in let o = (out-Compared r).relation in let right = sum_then (sum (out-Compared r).right) [] in
@@ -131,11 +142,13 @@ cmp_text_compared e r some =
     ∙ sum_laid line left (MarkToken (relation_mark o) ∷ right) (relation_follows line o right)
     ∙ ap (λ l. in_line (sum_then left []) ++ l) (relation_laid line o right right (sum_apart line (sum (out-Compared r).right) []))
 
-pub sum_text : (e : rSum) → in_line (sum_then (sum e) []) ≡ in_line (prod_then (prod (out-Sum e).first) []) ++ terms_text (out-Sum e).rest.items
+pub sum_text : (e : rSum) → in_line (sum_then (sum e) [])
+    ≡ in_line (prod_then (prod (out-Sum e).first) []) ++ terms_text (out-Sum e).rest.items
 unfolding sum_then
 sum_text e =
     let rest = terms (out-Sum e).rest.items in
-    ap (λ x. in_line (sum_then x [])) (sum_is e) ∙ prod_laid line (prod (out-Sum e).first) (terms_then rest []) (terms_follow line rest [] (end_follows line))
+    ap (λ x. in_line (sum_then x [])) (sum_is e)
+    ∙ prod_laid line (prod (out-Sum e).first) (terms_then rest []) (terms_follow line rest [] (end_follows line))
 
 pub terms_text_none : terms_text [] ≡ []
 unfolding laid terms_then
@@ -147,16 +160,19 @@ unfolding terms_then
 terms_text_more t ts =
     let o = (out-Term t).sign in let p = prod (out-Term t).operand in let rest = terms_then (terms ts) [] in
     let mark : List ℕ = 32 ∷ (mark_text (sign_mark o) ++ 32 ∷ []) in
-    ap (λ x. laid (at_left line Operand) (terms_then x [])) (ap (λ x. term x (terms ts)) (sym (roll-out-Term t)) ∙ term_built o (out-Term t).operand (terms ts))
+    ap (λ x. laid (at_left line Operand) (terms_then x [])) (ap (λ x. term x (terms ts)) (sym (roll-out-Term t))
+    ∙ term_built o (out-Term t).operand (terms ts))
     ∙ sign_laid line o (prod_then p rest) (prod_then p rest) (prod_apart line p rest)
     ∙ ap (λ l. mark ++ l) (prod_laid line p rest (terms_follow line (terms ts) [] (end_follows line)))
     ∙ sym (append_assoc mark (in_line (prod_then p [])) (terms_text ts))
 
-pub prod_text : (e : rProd) → in_line (prod_then (prod e) []) ≡ in_line (unary_then (unary (out-Prod e).first) []) ++ factors_text (out-Prod e).rest.items
+pub prod_text : (e : rProd) → in_line (prod_then (prod e) [])
+    ≡ in_line (unary_then (unary (out-Prod e).first) []) ++ factors_text (out-Prod e).rest.items
 unfolding prod_then
 prod_text e =
     let rest = factors (out-Prod e).rest.items in
-    ap (λ x. in_line (prod_then x [])) (prod_is e) ∙ unary_laid line (unary (out-Prod e).first) (factors_then rest []) (factors_follow line rest [] (end_follows line))
+    ap (λ x. in_line (prod_then x [])) (prod_is e)
+    ∙ unary_laid line (unary (out-Prod e).first) (factors_then rest []) (factors_follow line rest [] (end_follows line))
 
 pub factors_text_none : factors_text [] ≡ []
 unfolding laid factors_then
@@ -202,7 +218,8 @@ pub atom_text_Length : (s : String Global) → in_line (atom_then (atom (rLength
 unfolding laid atom_then atom
 atom_text_Length s = refl
 
-pub atom_text_Parens : (b : Box rExpr Global) → in_line (atom_then (atom (rParens b)) []) ≡ codes "(" ++ (in_line (expr_then (expr b.value) []) ++ codes ")")
+pub atom_text_Parens : (b : Box rExpr Global) → in_line (atom_then (atom (rParens b)) [])
+    ≡ codes "(" ++ (in_line (expr_then (expr b.value) []) ++ codes ")")
 unfolding laid atom_then atom
 atom_text_Parens b = ap (λ l. 40 ∷ l) (expr_laid line (expr b.value) (MarkToken RightParen ∷ []) refl)
 

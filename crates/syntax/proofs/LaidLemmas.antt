@@ -40,31 +40,39 @@ mutual
   unfolding laid expr_then conj_then conjs_then neg_then negs_then cmp_then sum_then terms_then prod_then factors_then unary_then atom_then
 
   -- behind a word or an operator stands one space
-  pub expr_apart : (at : Place) (e : Expr) (r : List Token) → laid (at_left at Other) (expr_then e r) ≡ 32 ∷ laid (at_left at Opening) (expr_then e r)
+  pub expr_apart : (at : Place) (e : Expr) (r : List Token) → laid (at_left at Other) (expr_then e r)
+      ≡ 32 ∷ laid (at_left at Opening) (expr_then e r)
   expr_apart at (Or c cs) r = conj_apart at c (conjs_then cs r)
 
-  pub conj_apart : (at : Place) (c : Conj) (r : List Token) → laid (at_left at Other) (conj_then c r) ≡ 32 ∷ laid (at_left at Opening) (conj_then c r)
+  pub conj_apart : (at : Place) (c : Conj) (r : List Token) → laid (at_left at Other) (conj_then c r)
+      ≡ 32 ∷ laid (at_left at Opening) (conj_then c r)
   conj_apart at (And n ns) r = neg_apart at n (negs_then ns r)
 
-  pub neg_apart : (at : Place) (n : Neg) (r : List Token) → laid (at_left at Other) (neg_then n r) ≡ 32 ∷ laid (at_left at Opening) (neg_then n r)
+  pub neg_apart : (at : Place) (n : Neg) (r : List Token) → laid (at_left at Other) (neg_then n r)
+      ≡ 32 ∷ laid (at_left at Opening) (neg_then n r)
   neg_apart at (Plainly c) r = cmp_apart at c r
   neg_apart at (Not c) r = refl
 
-  pub cmp_apart : (at : Place) (c : Cmp) (r : List Token) → laid (at_left at Other) (cmp_then c r) ≡ 32 ∷ laid (at_left at Opening) (cmp_then c r)
+  pub cmp_apart : (at : Place) (c : Cmp) (r : List Token) → laid (at_left at Other) (cmp_then c r)
+      ≡ 32 ∷ laid (at_left at Opening) (cmp_then c r)
   cmp_apart at (Alone s) r = sum_apart at s r
   cmp_apart at (Compare s o t) r = sum_apart at s _
 
-  pub sum_apart : (at : Place) (s : Sum) (r : List Token) → laid (at_left at Other) (sum_then s r) ≡ 32 ∷ laid (at_left at Opening) (sum_then s r)
+  pub sum_apart : (at : Place) (s : Sum) (r : List Token) → laid (at_left at Other) (sum_then s r)
+      ≡ 32 ∷ laid (at_left at Opening) (sum_then s r)
   sum_apart at (Add p ts) r = prod_apart at p (terms_then ts r)
 
-  pub prod_apart : (at : Place) (p : Prod) (r : List Token) → laid (at_left at Other) (prod_then p r) ≡ 32 ∷ laid (at_left at Opening) (prod_then p r)
+  pub prod_apart : (at : Place) (p : Prod) (r : List Token) → laid (at_left at Other) (prod_then p r)
+      ≡ 32 ∷ laid (at_left at Opening) (prod_then p r)
   prod_apart at (Multiply u fs) r = unary_apart at u (factors_then fs r)
 
-  pub unary_apart : (at : Place) (u : Unary) (r : List Token) → laid (at_left at Other) (unary_then u r) ≡ 32 ∷ laid (at_left at Opening) (unary_then u r)
+  pub unary_apart : (at : Place) (u : Unary) (r : List Token) → laid (at_left at Other) (unary_then u r)
+      ≡ 32 ∷ laid (at_left at Opening) (unary_then u r)
   unary_apart at (Positive a) r = atom_apart at a r
   unary_apart at (Negative a) r = refl
 
-  pub atom_apart : (at : Place) (a : Atom) (r : List Token) → laid (at_left at Other) (atom_then a r) ≡ 32 ∷ laid (at_left at Opening) (atom_then a r)
+  pub atom_apart : (at : Place) (a : Atom) (r : List Token) → laid (at_left at Other) (atom_then a r)
+      ≡ 32 ∷ laid (at_left at Opening) (atom_then a r)
   atom_apart at (Number n) r = refl
   atom_apart at True r = refl
   atom_apart at False r = refl
@@ -74,7 +82,9 @@ mutual
   atom_apart at (Parens e) r = refl
 
 -- a relation, a sign and an operator stand between two spaces
-pub relation_laid : (at : Place) (o : Relation) (ts us : List Token) → laid (at_left at Other) ts ≡ 32 ∷ laid (at_left at Opening) us → laid (at_left at Operand) (MarkToken (relation_mark o) ∷ ts) ≡ (32 ∷ (mark_text (relation_mark o) ++ 32 ∷ [])) ++ laid (at_left at Opening) us
+pub relation_laid : (at : Place) (o : Relation) (ts us : List Token) → laid (at_left at Other) ts ≡ 32 ∷ laid (at_left at Opening) us
+    → laid (at_left at Operand) (MarkToken (relation_mark o) ∷ ts)
+    ≡ (32 ∷ (mark_text (relation_mark o) ++ 32 ∷ [])) ++ laid (at_left at Opening) us
 unfolding laid
 relation_laid at IsLess ts us e = ap (λ l. 32 ∷ 60 ∷ l) e
 relation_laid at IsAtMost ts us e = ap (λ l. 32 ∷ 60 ∷ 61 ∷ l) e
@@ -83,12 +93,16 @@ relation_laid at IsAtLeast ts us e = ap (λ l. 32 ∷ 62 ∷ 61 ∷ l) e
 relation_laid at IsEqual ts us e = ap (λ l. 32 ∷ 61 ∷ 61 ∷ l) e
 relation_laid at IsOther ts us e = ap (λ l. 32 ∷ 33 ∷ 61 ∷ l) e
 
-pub sign_laid : (at : Place) (o : Sign) (ts us : List Token) → laid (at_left at Other) ts ≡ 32 ∷ laid (at_left at Opening) us → laid (at_left at Operand) (MarkToken (sign_mark o) ∷ ts) ≡ (32 ∷ (mark_text (sign_mark o) ++ 32 ∷ [])) ++ laid (at_left at Opening) us
+pub sign_laid : (at : Place) (o : Sign) (ts us : List Token) → laid (at_left at Other) ts ≡ 32 ∷ laid (at_left at Opening) us
+    → laid (at_left at Operand) (MarkToken (sign_mark o) ∷ ts)
+    ≡ (32 ∷ (mark_text (sign_mark o) ++ 32 ∷ [])) ++ laid (at_left at Opening) us
 unfolding laid
 sign_laid at PlusSign ts us e = ap (λ l. 32 ∷ 43 ∷ l) e
 sign_laid at MinusSign ts us e = ap (λ l. 32 ∷ 45 ∷ l) e
 
-pub operator_laid : (at : Place) (o : Operator) (ts us : List Token) → laid (at_left at Other) ts ≡ 32 ∷ laid (at_left at Opening) us → laid (at_left at Operand) (MarkToken (operator_mark o) ∷ ts) ≡ (32 ∷ (mark_text (operator_mark o) ++ 32 ∷ [])) ++ laid (at_left at Opening) us
+pub operator_laid : (at : Place) (o : Operator) (ts us : List Token) → laid (at_left at Other) ts ≡ 32 ∷ laid (at_left at Opening) us
+    → laid (at_left at Operand) (MarkToken (operator_mark o) ∷ ts)
+    ≡ (32 ∷ (mark_text (operator_mark o) ++ 32 ∷ [])) ++ laid (at_left at Opening) us
 unfolding laid
 operator_laid at Times ts us e = ap (λ l. 32 ∷ 42 ∷ l) e
 operator_laid at Over ts us e = ap (λ l. 32 ∷ 47 ∷ l) e
@@ -134,79 +148,105 @@ end_follows at = refl
 mutual
   unfolding laid expr_then conj_then conjs_then neg_then negs_then cmp_then sum_then terms_then prod_then factors_then unary_then atom_then
 
-  pub expr_laid : (at : Place) (e : Expr) (r : List Token) → Follows at r → laid (at_left at Opening) (expr_then e r) ≡ in_line (expr_then e []) ++ laid (at_left at Operand) r
+  pub expr_laid : (at : Place) (e : Expr) (r : List Token) → Follows at r → laid (at_left at Opening) (expr_then e r)
+      ≡ in_line (expr_then e []) ++ laid (at_left at Operand) r
   expr_laid at (Or c cs) r f =
-      joined _ _ _ _ _ _ (conj_laid at c (conjs_then cs r) (conjs_follow at cs r f)) (conj_laid line c (conjs_then cs []) (conjs_follow line cs [] (end_follows line))) (conjs_laid at cs r f)
+      joined _ _ _ _ _ _ (conj_laid at c (conjs_then cs r) (conjs_follow at cs r f)) (conj_laid line c (conjs_then cs [])
+      (conjs_follow line cs [] (end_follows line))) (conjs_laid at cs r f)
 
-  pub conjs_laid : (at : Place) (cs : Conjs) (r : List Token) → Follows at r → laid (at_left at Operand) (conjs_then cs r) ≡ laid (at_left line Operand) (conjs_then cs []) ++ laid (at_left at Operand) r
+  pub conjs_laid : (at : Place) (cs : Conjs) (r : List Token) → Follows at r → laid (at_left at Operand) (conjs_then cs r)
+      ≡ laid (at_left line Operand) (conjs_then cs []) ++ laid (at_left at Operand) r
   conjs_laid at NoConj r f = refl
   conjs_laid at (OrConj c cs) r f =
       let rest = conjs_then cs r in let none = conjs_then cs [] in
       ap (λ l. 32 ∷ 111 ∷ 114 ∷ l) (conj_apart at c rest ∙ ap (λ l. 32 ∷ l)
-      (joined _ _ _ _ _ _ (conj_laid at c rest (conjs_follow at cs r f)) (conj_laid line c none (conjs_follow line cs [] (end_follows line))) (conjs_laid at cs r f)))
+      (joined _ _ _ _ _ _ (conj_laid at c rest (conjs_follow at cs r f)) (conj_laid line c none (conjs_follow line cs []
+      (end_follows line))) (conjs_laid at cs r f)))
       ∙ ap (λ l. (32 ∷ 111 ∷ 114 ∷ l) ++ laid (at_left at Operand) r) (sym (conj_apart line c none))
 
-  pub conj_laid : (at : Place) (c : Conj) (r : List Token) → Follows at r → laid (at_left at Opening) (conj_then c r) ≡ in_line (conj_then c []) ++ laid (at_left at Operand) r
+  pub conj_laid : (at : Place) (c : Conj) (r : List Token) → Follows at r → laid (at_left at Opening) (conj_then c r)
+      ≡ in_line (conj_then c []) ++ laid (at_left at Operand) r
   conj_laid at (And n ns) r f =
-      joined _ _ _ _ _ _ (neg_laid at n (negs_then ns r) (negs_follow at ns r f)) (neg_laid line n (negs_then ns []) (negs_follow line ns [] (end_follows line))) (negs_laid at ns r f)
+      joined _ _ _ _ _ _ (neg_laid at n (negs_then ns r) (negs_follow at ns r f)) (neg_laid line n (negs_then ns [])
+      (negs_follow line ns [] (end_follows line))) (negs_laid at ns r f)
 
-  pub negs_laid : (at : Place) (ns : Negs) (r : List Token) → Follows at r → laid (at_left at Operand) (negs_then ns r) ≡ laid (at_left line Operand) (negs_then ns []) ++ laid (at_left at Operand) r
+  pub negs_laid : (at : Place) (ns : Negs) (r : List Token) → Follows at r → laid (at_left at Operand) (negs_then ns r)
+      ≡ laid (at_left line Operand) (negs_then ns []) ++ laid (at_left at Operand) r
   negs_laid at NoNeg r f = refl
   negs_laid at (AndNeg n ns) r f =
       let rest = negs_then ns r in let none = negs_then ns [] in
       ap (λ l. 32 ∷ 97 ∷ 110 ∷ 100 ∷ l) (neg_apart at n rest ∙ ap (λ l. 32 ∷ l)
-      (joined _ _ _ _ _ _ (neg_laid at n rest (negs_follow at ns r f)) (neg_laid line n none (negs_follow line ns [] (end_follows line))) (negs_laid at ns r f)))
+      (joined _ _ _ _ _ _ (neg_laid at n rest (negs_follow at ns r f)) (neg_laid line n none (negs_follow line ns []
+      (end_follows line))) (negs_laid at ns r f)))
       ∙ ap (λ l. (32 ∷ 97 ∷ 110 ∷ 100 ∷ l) ++ laid (at_left at Operand) r) (sym (neg_apart line n none))
 
-  pub neg_laid : (at : Place) (n : Neg) (r : List Token) → Follows at r → laid (at_left at Opening) (neg_then n r) ≡ in_line (neg_then n []) ++ laid (at_left at Operand) r
+  pub neg_laid : (at : Place) (n : Neg) (r : List Token) → Follows at r → laid (at_left at Opening) (neg_then n r)
+      ≡ in_line (neg_then n []) ++ laid (at_left at Operand) r
   neg_laid at (Plainly c) r f = cmp_laid at c r f
   neg_laid at (Not c) r f =
       ap (λ l. 110 ∷ 111 ∷ 116 ∷ l) (cmp_apart at c r ∙ ap (λ l. 32 ∷ l) (cmp_laid at c r f))
       ∙ ap (λ l. (110 ∷ 111 ∷ 116 ∷ l) ++ laid (at_left at Operand) r) (sym (cmp_apart line c []))
 
-  pub cmp_laid : (at : Place) (c : Cmp) (r : List Token) → Follows at r → laid (at_left at Opening) (cmp_then c r) ≡ in_line (cmp_then c []) ++ laid (at_left at Operand) r
+  pub cmp_laid : (at : Place) (c : Cmp) (r : List Token) → Follows at r → laid (at_left at Opening) (cmp_then c r)
+      ≡ in_line (cmp_then c []) ++ laid (at_left at Operand) r
   cmp_laid at (Alone s) r f = sum_laid at s r f
   cmp_laid at (Compare s o t) r f =
       let rest = sum_then t r in let none = sum_then t [] in
-      joined _ _ _ _ _ _ (sum_laid at s (MarkToken (relation_mark o) ∷ rest) (relation_follows at o rest)) (sum_laid line s (MarkToken (relation_mark o) ∷ none) (relation_follows line o none))
-      (joined _ _ _ (32 ∷ (mark_text (relation_mark o) ++ 32 ∷ [])) _ _ (relation_laid at o rest rest (sum_apart at t r)) (relation_laid line o none none (sum_apart line t [])) (sum_laid at t r f))
+      joined _ _ _ _ _ _ (sum_laid at s (MarkToken (relation_mark o) ∷ rest) (relation_follows at o rest)) (sum_laid line s (MarkToken
+      (relation_mark o) ∷ none) (relation_follows line o none))
+      (joined _ _ _ (32 ∷ (mark_text (relation_mark o) ++ 32 ∷ [])) _ _ (relation_laid at o rest rest (sum_apart at t r))
+      (relation_laid line o none none (sum_apart line t [])) (sum_laid at t r f))
 
-  pub sum_laid : (at : Place) (s : Sum) (r : List Token) → Follows at r → laid (at_left at Opening) (sum_then s r) ≡ in_line (sum_then s []) ++ laid (at_left at Operand) r
+  pub sum_laid : (at : Place) (s : Sum) (r : List Token) → Follows at r → laid (at_left at Opening) (sum_then s r)
+      ≡ in_line (sum_then s []) ++ laid (at_left at Operand) r
   sum_laid at (Add p ts) r f =
-      joined _ _ _ _ _ _ (prod_laid at p (terms_then ts r) (terms_follow at ts r f)) (prod_laid line p (terms_then ts []) (terms_follow line ts [] (end_follows line))) (terms_laid at ts r f)
+      joined _ _ _ _ _ _ (prod_laid at p (terms_then ts r) (terms_follow at ts r f)) (prod_laid line p (terms_then ts [])
+      (terms_follow line ts [] (end_follows line))) (terms_laid at ts r f)
 
-  pub terms_laid : (at : Place) (ts : Terms) (r : List Token) → Follows at r → laid (at_left at Operand) (terms_then ts r) ≡ laid (at_left line Operand) (terms_then ts []) ++ laid (at_left at Operand) r
+  pub terms_laid : (at : Place) (ts : Terms) (r : List Token) → Follows at r → laid (at_left at Operand) (terms_then ts r)
+      ≡ laid (at_left line Operand) (terms_then ts []) ++ laid (at_left at Operand) r
   terms_laid at NoTerm r f = refl
   terms_laid at (AddTerm o p ts) r f =
       let rest = terms_then ts r in let none = terms_then ts [] in
-      joined _ _ _ (32 ∷ (mark_text (sign_mark o) ++ 32 ∷ [])) _ _ (sign_laid at o _ (prod_then p rest) (prod_apart at p rest)) (sign_laid line o _ (prod_then p none) (prod_apart line p none))
-      (joined _ _ _ _ _ _ (prod_laid at p rest (terms_follow at ts r f)) (prod_laid line p none (terms_follow line ts [] (end_follows line))) (terms_laid at ts r f))
+      joined _ _ _ (32 ∷ (mark_text (sign_mark o) ++ 32 ∷ [])) _ _ (sign_laid at o _ (prod_then p rest) (prod_apart at p rest))
+      (sign_laid line o _ (prod_then p none) (prod_apart line p none))
+      (joined _ _ _ _ _ _ (prod_laid at p rest (terms_follow at ts r f)) (prod_laid line p none (terms_follow line ts []
+      (end_follows line))) (terms_laid at ts r f))
 
-  pub prod_laid : (at : Place) (p : Prod) (r : List Token) → Follows at r → laid (at_left at Opening) (prod_then p r) ≡ in_line (prod_then p []) ++ laid (at_left at Operand) r
+  pub prod_laid : (at : Place) (p : Prod) (r : List Token) → Follows at r → laid (at_left at Opening) (prod_then p r)
+      ≡ in_line (prod_then p []) ++ laid (at_left at Operand) r
   prod_laid at (Multiply u fs) r f =
-      joined _ _ _ _ _ _ (unary_laid at u (factors_then fs r) (factors_follow at fs r f)) (unary_laid line u (factors_then fs []) (factors_follow line fs [] (end_follows line))) (factors_laid at fs r f)
+      joined _ _ _ _ _ _ (unary_laid at u (factors_then fs r) (factors_follow at fs r f)) (unary_laid line u (factors_then fs [])
+      (factors_follow line fs [] (end_follows line))) (factors_laid at fs r f)
 
-  pub factors_laid : (at : Place) (fs : Factors) (r : List Token) → Follows at r → laid (at_left at Operand) (factors_then fs r) ≡ laid (at_left line Operand) (factors_then fs []) ++ laid (at_left at Operand) r
+  pub factors_laid : (at : Place) (fs : Factors) (r : List Token) → Follows at r → laid (at_left at Operand) (factors_then fs r)
+      ≡ laid (at_left line Operand) (factors_then fs []) ++ laid (at_left at Operand) r
   factors_laid at NoFactor r f = refl
   factors_laid at (MultiplyFactor o u fs) r f =
       let rest = factors_then fs r in let none = factors_then fs [] in
-      joined _ _ _ (32 ∷ (mark_text (operator_mark o) ++ 32 ∷ [])) _ _ (operator_laid at o _ (unary_then u rest) (unary_apart at u rest)) (operator_laid line o _ (unary_then u none) (unary_apart line u none))
-      (joined _ _ _ _ _ _ (unary_laid at u rest (factors_follow at fs r f)) (unary_laid line u none (factors_follow line fs [] (end_follows line))) (factors_laid at fs r f))
+      joined _ _ _ (32 ∷ (mark_text (operator_mark o) ++ 32 ∷ [])) _ _ (operator_laid at o _ (unary_then u rest)
+      (unary_apart at u rest)) (operator_laid line o _ (unary_then u none) (unary_apart line u none))
+      (joined _ _ _ _ _ _ (unary_laid at u rest (factors_follow at fs r f)) (unary_laid line u none (factors_follow line fs []
+      (end_follows line))) (factors_laid at fs r f))
 
-  pub unary_laid : (at : Place) (u : Unary) (r : List Token) → Follows at r → laid (at_left at Opening) (unary_then u r) ≡ in_line (unary_then u []) ++ laid (at_left at Operand) r
+  pub unary_laid : (at : Place) (u : Unary) (r : List Token) → Follows at r → laid (at_left at Opening) (unary_then u r)
+      ≡ in_line (unary_then u []) ++ laid (at_left at Operand) r
   unary_laid at (Positive a) r f = atom_laid at a r f
   unary_laid at (Negative a) r f = ap (λ l. 45 ∷ l) (atom_laid at a r f)
 
-  pub atom_laid : (at : Place) (a : Atom) (r : List Token) → Follows at r → laid (at_left at Opening) (atom_then a r) ≡ in_line (atom_then a []) ++ laid (at_left at Operand) r
+  pub atom_laid : (at : Place) (a : Atom) (r : List Token) → Follows at r → laid (at_left at Opening) (atom_then a r)
+      ≡ in_line (atom_then a []) ++ laid (at_left at Operand) r
   atom_laid at (Number n) r f = before_nil (decimal n) _
   atom_laid at True r f = refl
   atom_laid at False r f = refl
   atom_laid at (Name x) r f = ap (λ l. x ++ l) f ∙ before_nil x _
   atom_laid at (Element s e) r f =
-      under s _ _ _ (ap (λ l. 91 ∷ l) (joined _ _ _ _ _ _ (expr_laid at e (MarkToken RightBracket ∷ r) refl) (expr_laid line e (MarkToken RightBracket ∷ []) refl) refl))
+      under s _ _ _ (ap (λ l. 91 ∷ l) (joined _ _ _ _ _ _ (expr_laid at e (MarkToken RightBracket ∷ r) refl) (expr_laid line e
+      (MarkToken RightBracket ∷ []) refl) refl))
   atom_laid at (Length s) r f = ap (λ l. 108 ∷ 101 ∷ 110 ∷ 40 ∷ l) (under s _ _ _ refl)
   atom_laid at (Parens e) r f =
-      ap (λ l. 40 ∷ l) (joined _ _ _ _ _ _ (expr_laid at e (MarkToken RightParen ∷ r) refl) (expr_laid line e (MarkToken RightParen ∷ []) refl) refl)
+      ap (λ l. 40 ∷ l) (joined _ _ _ _ _ _ (expr_laid at e (MarkToken RightParen ∷ r) refl) (expr_laid line e
+      (MarkToken RightParen ∷ []) refl) refl)
 
 -- behind a comma
 pub more_follow : (at : Place) (es : List Expr) (r : List Token) → Follows at r → Follows at (more_then es r)
@@ -214,11 +254,13 @@ unfolding laid more_then
 more_follow at [] r f = f
 more_follow at (e ∷ es) r f = refl
 
-pub more_laid : (at : Place) (es : List Expr) (r : List Token) → Follows at r → laid (at_left at Operand) (more_then es r) ≡ laid (at_left line Operand) (more_then es []) ++ laid (at_left at Operand) r
+pub more_laid : (at : Place) (es : List Expr) (r : List Token) → Follows at r → laid (at_left at Operand) (more_then es r)
+    ≡ laid (at_left line Operand) (more_then es []) ++ laid (at_left at Operand) r
 unfolding laid more_then
 more_laid at [] r f = refl
 more_laid at (e ∷ es) r f =
     let rest = more_then es r in let none = more_then es [] in
     ap (λ l. 44 ∷ l) (expr_apart at e rest ∙ ap (λ l. 32 ∷ l)
-    (joined _ _ _ _ _ _ (expr_laid at e rest (more_follow at es r f)) (expr_laid line e none (more_follow line es [] (end_follows line))) (more_laid at es r f)))
+    (joined _ _ _ _ _ _ (expr_laid at e rest (more_follow at es r f)) (expr_laid line e none (more_follow line es []
+    (end_follows line))) (more_laid at es r f)))
     ∙ ap (λ l. (44 ∷ l) ++ laid (at_left at Operand) r) (sym (expr_apart line e none))

@@ -6,6 +6,7 @@ pub mod Deepest
 pub mod ExprSpellings
 pub mod ExpressionText
 pub mod LaidLemmas
+pub mod LayoutLemmas
 pub mod LexicalLemmas
 pub mod LineText
 pub mod Numbers

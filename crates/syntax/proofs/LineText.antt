@@ -1,5 +1,5 @@
 -- The text of lines.
-use Rattle.std.proofs.Common.{◌≡◌, ℕ, zero, suc, replicate, ◌+◌, ◌-◌, Bool, true, false, if◌then◌else◌, List, [], ◌∷◌, ◌++◌, map, codes, Option, Some, None, length, unwrap_or, length-append, arith, refl, ap, sym, ◌∙◌, append_assoc, append-nil}
+use Rattle.std.proofs.Common.{◌≡◌, ℕ, zero, suc, replicate, ◌+◌, ◌-◌, Bool, true, false, if◌then◌else◌, List, [], ◌∷◌, ◌++◌, map, codes, Option, Some, None, String, Global, length, unwrap_or, length-append, arith, refl, ap, sym, ◌∙◌, append_assoc, append-nil}
 use Rattle.std.specs.Fmt.{char_count, decimal, format_spec, styled_decimal, padded_integral}
 use Rattle.std.specs.List.{repeat}
 use Rattle.std.specs.Option.{option_map}
@@ -15,11 +15,13 @@ use Rattle.syntax.specs.Lexical.{word_text}
 use Rattle.syntax.specs.Spelling.{expr_then, more_then, exprs_then, stmt_then, block_then, arrays_then, parameter_then, parameters_then, more_parameters_then, procedures_then, main_tokens, element_word}
 use Rattle.syntax.specs.Token.{Token, NameToken, NumberToken, WordToken, MarkToken}
 use Rattle.syntax.specs.Tree.{Expr, Stmt, Skip, Var, Assign, Store, Print, Fault, If, IfElse, While, Split, Call, Async, Finish, Block, End, Then, Array, Parameter, Written, Read, Scalar, Procedure, Main, parameter}
-use Rattle.syntax.specs.Writing.{place, with_rest, IsCounted}
+use Rattle.syntax.specs.Writing.{place, with_rest, Adds, IsCounted}
 use Rattle.syntax.proofs.LaidLemmas.{at_left, line, Follows, joined, under, before_nil, end_follows, more_follow, expr_apart, expr_laid, more_laid}
 
 -- text that a layout begins with is written
-pub wrote : (old new : Lines) (from to : Left) (ts us : List Token) (t : List ℕ) (d : ℕ) (n : Option ℕ) → string_bytes new.text ≡ string_bytes old.text ++ t → new.depth ≡ d → new.label ≡ n → laid (place old from) ts ≡ t ++ laid (record { depth = d; label = n; left = to }) us → with_rest old from ts ≡ with_rest new to us
+pub wrote : (old new : Lines) (from to : Left) (ts us : List Token) (t : List ℕ) (d : ℕ) (n : Option ℕ) → string_bytes new.text
+    ≡ string_bytes old.text ++ t → new.depth ≡ d → new.label ≡ n → laid (place old from) ts
+    ≡ t ++ laid (record { depth = d; label = n; left = to }) us → with_rest old from ts ≡ with_rest new to us
 wrote old new from to ts us t d n text depth label e =
     ap (λ l. string_bytes old.text ++ l) e
     ∙ sym (append_assoc (string_bytes old.text) t (laid (record { depth = d; label = n; left = to }) us))
@@ -27,8 +29,18 @@ wrote old new from to ts us t d n text depth label e =
     ∙ ap (λ x. string_bytes new.text ++ laid (record { depth = x; label = n; left = to }) us) (sym depth)
     ∙ ap (λ x. string_bytes new.text ++ laid (record { depth = new.depth; label = x; left = to }) us) (sym label)
 
+pub wrote_adds : (old new : Lines) (from to : Left) (ts us : List Token) (t : List ℕ) → Adds old new t → laid (place old from) ts
+    ≡ t ++ laid (place old to) us → with_rest old from ts ≡ with_rest new to us
+wrote_adds old new from to ts us t adds e = wrote old new from to ts us t old.depth old.label adds.text adds.depth adds.label e
+
+pub wrote_text : (old : Lines) (now : String Global) (from to : Left) (ts us : List Token) (t : List ℕ) → string_bytes now
+    ≡ string_bytes old.text ++ t → laid (place old from) ts ≡ t ++ laid (place old to) us → with_rest old from ts
+    ≡ with_rest (record old { text = now }) to us
+wrote_text old now from to ts us t text e = wrote old (record old { text = now }) from to ts us t old.depth old.label text refl refl e
+
 -- what is counted stays so while text is added
-pub counted_by : (old new : Lines) (t : List ℕ) → string_bytes new.text ≡ string_bytes old.text ++ t → new.depth ≡ old.depth → new.label ≡ old.label → IsCounted old → IsCounted new
+pub counted_by : (old new : Lines) (t : List ℕ) → string_bytes new.text ≡ string_bytes old.text ++ t → new.depth ≡ old.depth → new.label
+    ≡ old.label → IsCounted old → IsCounted new
 counted_by old new t text depth label counted =
     let longer = ap length text ∙ length-append (string_bytes old.text) t in
     record {
@@ -37,8 +49,13 @@ counted_by old new t text depth label counted =
     }
 
 -- a statement without a block, up to its semicolon
-pub wrote_simple : (old new : Lines) (s : Stmt) (t : List ℕ) → ((at : Place) (r : List Token) → laid (at_left at Opening) (stmt_then s r) ≡ t ++ laid (at_left at Operand) (MarkToken Semicolon ∷ r)) → string_bytes new.text ≡ string_bytes old.text ++ t → new.depth ≡ old.depth → new.label ≡ old.label → (r : List Token) → with_rest old Opening (stmt_then s r) ≡ with_rest new Operand (MarkToken Semicolon ∷ r)
-wrote_simple old new s t e text depth label r = wrote old new Opening Operand (stmt_then s r) (MarkToken Semicolon ∷ r) t old.depth old.label text depth label (e (place old Opening) r)
+pub wrote_simple : (old new : Lines) (s : Stmt) (t : List ℕ)
+    → ((at : Place) (r : List Token) → laid (at_left at Opening) (stmt_then s r)
+    ≡ t ++ laid (at_left at Operand) (MarkToken Semicolon ∷ r)) → string_bytes new.text ≡ string_bytes old.text ++ t → new.depth
+    ≡ old.depth → new.label ≡ old.label → (r : List Token) → with_rest old Opening (stmt_then s r)
+    ≡ with_rest new Operand (MarkToken Semicolon ∷ r)
+wrote_simple old new s t e text depth label r = wrote old new Opening Operand (stmt_then s r)
+    (MarkToken Semicolon ∷ r) t old.depth old.label text depth label (e (place old Opening) r)
 
 -- a statement begins its line
 pub stmt_begins : (d : ℕ) (n : Option ℕ) (s : Stmt) (r : List Token) → laid (record { depth = d; label = n; left = Margin }) (stmt_then s r)
@@ -60,7 +77,8 @@ stmt_begins d n (Finish b) r = refl
 
 -- what stands behind an end begins a line
 abbrev pub BeginsLine : List Token → Type 0
-BeginsLine ts = (d : ℕ) (n : Option ℕ) → laid (record { depth = d; label = n; left = Ended }) ts ≡ 10 ∷ laid (record { depth = d; label = n; left = Margin }) ts
+BeginsLine ts = (d : ℕ) (n : Option ℕ) → laid (record { depth = d; label = n; left = Ended }) ts
+    ≡ 10 ∷ laid (record { depth = d; label = n; left = Margin }) ts
 
 stmt_is_line : (s : Stmt) (r : List Token) → BeginsLine (stmt_then s r)
 unfolding laid stmt_then
@@ -96,18 +114,22 @@ procedures_are_lines (p ∷ ps) m d n = refl
 
 -- braces
 
-pub opened : (d : ℕ) (n : Option ℕ) (ts : List Token) → BeginsLine ts → laid (record { depth = d; label = n; left = Other }) (MarkToken LeftBrace ∷ ts) ≡ codes " {\n" ++ laid (record { depth = d + 1; label = n; left = Margin }) ts
+pub opened : (d : ℕ) (n : Option ℕ) (ts : List Token) → BeginsLine ts
+    → laid (record { depth = d; label = n; left = Other }) (MarkToken LeftBrace ∷ ts)
+    ≡ codes " {\n" ++ laid (record { depth = d + 1; label = n; left = Margin }) ts
 unfolding laid
 opened d n ts begins = ap (λ l. 32 ∷ 123 ∷ l) (begins (d + 1) n)
 
 pub closed : (d : ℕ) (n : Option ℕ) (r : List Token) → laid (record { depth = d; label = n; left = Margin }) (MarkToken RightBrace ∷ r)
     ≡ ((plain_margin n ++ indent (d - 1)) ++ codes "}") ++ laid (record { depth = d - 1; label = n; left = Ended }) r
 unfolding laid
-closed d n r = sym (append_assoc (plain_margin n ++ indent (d - 1)) (codes "}") (laid (record { depth = d - 1; label = n; left = Ended }) r))
+closed d n r = sym (append_assoc (plain_margin n ++ indent (d - 1)) (codes "}") (laid
+    (record { depth = d - 1; label = n; left = Ended }) r))
 
 -- headers
 
-pub header_laid : (at : Place) (e : Expr) (ts : List Token) → laid (at_left at Other) (expr_then e (MarkToken LeftBrace ∷ ts)) ≡ 32 ∷ (in_line (expr_then e []) ++ laid (at_left at Other) (MarkToken LeftBrace ∷ ts))
+pub header_laid : (at : Place) (e : Expr) (ts : List Token) → laid (at_left at Other) (expr_then e (MarkToken LeftBrace ∷ ts))
+    ≡ 32 ∷ (in_line (expr_then e []) ++ laid (at_left at Other) (MarkToken LeftBrace ∷ ts))
 unfolding laid
 header_laid at e ts = expr_apart at e (MarkToken LeftBrace ∷ ts) ∙ ap (λ l. 32 ∷ l) (expr_laid at e (MarkToken LeftBrace ∷ ts) refl)
 
@@ -117,11 +139,14 @@ unfolding laid stmt_then
 laid_If at e b r = ap (λ l. 105 ∷ 102 ∷ l) (header_laid at e (block_then b r))
 
 pub laid_IfElse : (at : Place) (e : Expr) (b c : Block) (r : List Token) → laid (at_left at Opening) (stmt_then (IfElse e b c) r)
-    ≡ (codes "if " ++ in_line (expr_then e [])) ++ laid (at_left at Other) (MarkToken LeftBrace ∷ block_then b (WordToken WordElse ∷ MarkToken LeftBrace ∷ block_then c r))
+    ≡ (codes "if " ++ in_line (expr_then e [])) ++ laid (at_left at Other) (MarkToken LeftBrace ∷ block_then b
+    (WordToken WordElse ∷ MarkToken LeftBrace ∷ block_then c r))
 unfolding laid stmt_then
-laid_IfElse at e b c r = ap (λ l. 105 ∷ 102 ∷ l) (header_laid at e (block_then b (WordToken WordElse ∷ MarkToken LeftBrace ∷ block_then c r)))
+laid_IfElse at e b c r = ap (λ l. 105 ∷ 102 ∷ l) (header_laid at e (block_then b
+    (WordToken WordElse ∷ MarkToken LeftBrace ∷ block_then c r)))
 
-pub laid_Else : (at : Place) (ts : List Token) → laid (at_left at Ended) (WordToken WordElse ∷ MarkToken LeftBrace ∷ ts) ≡ codes " else" ++ laid (at_left at Other) (MarkToken LeftBrace ∷ ts)
+pub laid_Else : (at : Place) (ts : List Token) → laid (at_left at Ended) (WordToken WordElse ∷ MarkToken LeftBrace ∷ ts)
+    ≡ codes " else" ++ laid (at_left at Other) (MarkToken LeftBrace ∷ ts)
 unfolding laid
 laid_Else at ts = refl
 
@@ -130,28 +155,35 @@ pub laid_While : (at : Place) (e : Expr) (b : Block) (r : List Token) → laid (
 unfolding laid stmt_then
 laid_While at e b r = ap (λ l. 119 ∷ 104 ∷ 105 ∷ 108 ∷ 101 ∷ l) (header_laid at e (block_then b r))
 
-pub laid_Async : (at : Place) (b : Block) (r : List Token) → laid (at_left at Opening) (stmt_then (Async b) r) ≡ codes "async" ++ laid (at_left at Other) (MarkToken LeftBrace ∷ block_then b r)
+pub laid_Async : (at : Place) (b : Block) (r : List Token) → laid (at_left at Opening) (stmt_then (Async b) r)
+    ≡ codes "async" ++ laid (at_left at Other) (MarkToken LeftBrace ∷ block_then b r)
 unfolding laid stmt_then
 laid_Async at b r = refl
 
-pub laid_Finish : (at : Place) (b : Block) (r : List Token) → laid (at_left at Opening) (stmt_then (Finish b) r) ≡ codes "finish" ++ laid (at_left at Other) (MarkToken LeftBrace ∷ block_then b r)
+pub laid_Finish : (at : Place) (b : Block) (r : List Token) → laid (at_left at Opening) (stmt_then (Finish b) r)
+    ≡ codes "finish" ++ laid (at_left at Other) (MarkToken LeftBrace ∷ block_then b r)
 unfolding laid stmt_then
 laid_Finish at b r = refl
 
 -- an expression and what follows it, behind a word
-pub expr_behind : (at : Place) (e : Expr) (r q : List Token) (z : List ℕ) → Follows at r → Follows line q → laid (at_left at Operand) r ≡ laid (at_left line Operand) q ++ z → laid (at_left at Other) (expr_then e r) ≡ laid (at_left line Other) (expr_then e q) ++ z
+pub expr_behind : (at : Place) (e : Expr) (r q : List Token) (z : List ℕ) → Follows at r → Follows line q → laid (at_left at Operand) r
+    ≡ laid (at_left line Operand) q ++ z → laid (at_left at Other) (expr_then e r) ≡ laid (at_left line Other) (expr_then e q) ++ z
 expr_behind at e r q z f g tail =
-    expr_apart at e r ∙ ap (λ l. 32 ∷ l) (joined _ _ _ _ _ _ (expr_laid at e r f) (expr_laid line e q g) tail) ∙ ap (λ l. l ++ z) (sym (expr_apart line e q))
+    expr_apart at e r ∙ ap (λ l. 32 ∷ l) (joined _ _ _ _ _ _ (expr_laid at e r f) (expr_laid line e q g) tail)
+    ∙ ap (λ l. l ++ z) (sym (expr_apart line e q))
 
 -- `split s at e as x, y`
 abbrev pub split_then : List ℕ → Expr → List ℕ → List ℕ → List Token → List Token
-split_then s e x y r = WordToken WordSplit ∷ NameToken s ∷ WordToken WordAt ∷ expr_then e (WordToken WordAs ∷ NameToken x ∷ MarkToken Comma ∷ NameToken y ∷ r)
+split_then s e x y r = WordToken WordSplit ∷ NameToken s ∷ WordToken WordAt ∷ expr_then e
+    (WordToken WordAs ∷ NameToken x ∷ MarkToken Comma ∷ NameToken y ∷ r)
 
-pub laid_Split : (at : Place) (s : List ℕ) (e : Expr) (x y : List ℕ) (b : Block) (r : List Token) → laid (at_left at Opening) (stmt_then (Split s e x y b) r)
+pub laid_Split : (at : Place) (s : List ℕ) (e : Expr) (x y : List ℕ) (b : Block) (r : List Token)
+    → laid (at_left at Opening) (stmt_then (Split s e x y b) r)
     ≡ in_line (split_then s e x y []) ++ laid (at_left at Other) (MarkToken LeftBrace ∷ block_then b r)
 unfolding laid stmt_then
 laid_Split at s e x y b r =
-    let sides = ap (λ l. 32 ∷ 97 ∷ 115 ∷ 32 ∷ l) (under x _ _ _ (ap (λ l. 44 ∷ 32 ∷ l) (before_nil y (laid (at_left at Other) (MarkToken LeftBrace ∷ block_then b r))))) in
+    let sides = ap (λ l. 32 ∷ 97 ∷ 115 ∷ 32 ∷ l) (under x _ _ _ (ap (λ l. 44 ∷ 32 ∷ l) (before_nil y (laid (at_left at Other)
+    (MarkToken LeftBrace ∷ block_then b r))))) in
     ap (λ l. 115 ∷ 112 ∷ 108 ∷ 105 ∷ 116 ∷ 32 ∷ l) (under s _ _ _ (ap (λ l. 32 ∷ 97 ∷ 116 ∷ l) (expr_behind at e _ _ _ refl refl sides)))
 
 pub split_text : (s : List ℕ) (e : Expr) (x y : List ℕ) → in_line (split_then s e x y [])
@@ -181,11 +213,13 @@ pub laid_Skip : (at : Place) (r : List Token) → laid (at_left at Opening) (stm
 unfolding laid stmt_then
 laid_Skip at r = refl
 
-pub laid_Assign : (at : Place) (x : List ℕ) (e : Expr) (r : List Token) → laid (at_left at Opening) (stmt_then (Assign x e) r) ≡ in_line (assignment_then x e []) ++ up_to_end at r
+pub laid_Assign : (at : Place) (x : List ℕ) (e : Expr) (r : List Token) → laid (at_left at Opening) (stmt_then (Assign x e) r)
+    ≡ in_line (assignment_then x e []) ++ up_to_end at r
 unfolding laid stmt_then
 laid_Assign at x e r = under x _ _ _ (ap (λ l. 32 ∷ 61 ∷ l) (expr_behind at e (MarkToken Semicolon ∷ r) [] (up_to_end at r) refl refl refl))
 
-pub laid_Var : (at : Place) (x : List ℕ) (e : Expr) (r : List Token) → laid (at_left at Opening) (stmt_then (Var x e) r) ≡ (codes "var " ++ in_line (assignment_then x e [])) ++ up_to_end at r
+pub laid_Var : (at : Place) (x : List ℕ) (e : Expr) (r : List Token) → laid (at_left at Opening) (stmt_then (Var x e) r)
+    ≡ (codes "var " ++ in_line (assignment_then x e [])) ++ up_to_end at r
 unfolding laid stmt_then
 laid_Var at x e r = ap (λ l. 118 ∷ 97 ∷ 114 ∷ 32 ∷ l) (laid_Assign at x e r)
 
@@ -194,7 +228,8 @@ pub laid_Store : (at : Place) (s : List ℕ) (i e : Expr) (r : List Token) → l
 unfolding laid stmt_then
 laid_Store at s i e r =
     let value = expr_apart at e (MarkToken Semicolon ∷ r) ∙ ap (λ l. 32 ∷ l) (expr_laid at e (MarkToken Semicolon ∷ r) refl) in
-    under s _ _ _ (ap (λ l. 91 ∷ l) (expr_laid at i (MarkToken RightBracket ∷ MarkToken Becomes ∷ expr_then e (MarkToken Semicolon ∷ r)) refl
+    under s _ _ _ (ap (λ l. 91 ∷ l) (expr_laid at i (MarkToken RightBracket ∷ MarkToken Becomes ∷ expr_then e
+    (MarkToken Semicolon ∷ r)) refl
     ∙ under (in_line (expr_then i [])) _ (codes "] = " ++ in_line (expr_then e [])) _ (ap (λ l. 93 ∷ 32 ∷ 61 ∷ l) value)))
 
 pub laid_Print : (at : Place) (e : Expr) (es : List Expr) (r : List Token) → laid (at_left at Opening) (stmt_then (Print e es) r)
@@ -203,23 +238,29 @@ unfolding laid stmt_then
 laid_Print at e es r =
     let rest = more_then es (MarkToken Semicolon ∷ r) in
     ap (λ l. 112 ∷ 114 ∷ 105 ∷ 110 ∷ 116 ∷ l) (expr_apart at e rest ∙ ap (λ l. 32 ∷ l)
-    (expr_laid at e rest (more_follow at es (MarkToken Semicolon ∷ r) refl) ∙ under (in_line (expr_then e [])) _ _ _ (more_laid at es (MarkToken Semicolon ∷ r) refl)))
+    (expr_laid at e rest (more_follow at es (MarkToken Semicolon ∷ r) refl)
+    ∙ under (in_line (expr_then e [])) _ _ _ (more_laid at es (MarkToken Semicolon ∷ r) refl)))
 
-pub laid_Fault : (at : Place) (e : Expr) (r : List Token) → laid (at_left at Opening) (stmt_then (Fault e) r) ≡ (codes "fault " ++ in_line (expr_then e [])) ++ up_to_end at r
+pub laid_Fault : (at : Place) (e : Expr) (r : List Token) → laid (at_left at Opening) (stmt_then (Fault e) r)
+    ≡ (codes "fault " ++ in_line (expr_then e [])) ++ up_to_end at r
 unfolding laid stmt_then
 laid_Fault at e r =
-    ap (λ l. 102 ∷ 97 ∷ 117 ∷ 108 ∷ 116 ∷ l) (expr_apart at e (MarkToken Semicolon ∷ r) ∙ ap (λ l. 32 ∷ l) (expr_laid at e (MarkToken Semicolon ∷ r) refl))
+    ap (λ l. 102 ∷ 97 ∷ 117 ∷ 108 ∷ 116 ∷ l) (expr_apart at e (MarkToken Semicolon ∷ r)
+    ∙ ap (λ l. 32 ∷ l) (expr_laid at e (MarkToken Semicolon ∷ r) refl))
 
-exprs_laid : (at : Place) (es : List Expr) (r : List Token) → laid (at_left at Opening) (exprs_then es (MarkToken RightParen ∷ r)) ≡ in_line (exprs_then es []) ++ (41 ∷ laid (at_left at Operand) r)
+exprs_laid : (at : Place) (es : List Expr) (r : List Token) → laid (at_left at Opening) (exprs_then es (MarkToken RightParen ∷ r))
+    ≡ in_line (exprs_then es []) ++ (41 ∷ laid (at_left at Operand) r)
 unfolding laid exprs_then
 exprs_laid at [] r = refl
 exprs_laid at (e ∷ es) r =
-    joined _ _ _ _ _ _ (expr_laid at e (more_then es (MarkToken RightParen ∷ r)) (more_follow at es (MarkToken RightParen ∷ r) refl)) (expr_laid line e (more_then es []) (more_follow line es [] (end_follows line))) (more_laid at es (MarkToken RightParen ∷ r) refl)
+    joined _ _ _ _ _ _ (expr_laid at e (more_then es (MarkToken RightParen ∷ r)) (more_follow at es (MarkToken RightParen ∷ r) refl))
+    (expr_laid line e (more_then es []) (more_follow line es [] (end_follows line))) (more_laid at es (MarkToken RightParen ∷ r) refl)
 
 pub laid_Call : (at : Place) (f : List ℕ) (es : List Expr) (r : List Token) → laid (at_left at Opening) (stmt_then (Call f es) r)
     ≡ (f ++ (codes "(" ++ (in_line (exprs_then es []) ++ codes ")"))) ++ up_to_end at r
 unfolding laid stmt_then
-laid_Call at f es r = under f _ _ _ (ap (λ l. 40 ∷ l) (exprs_laid at es (MarkToken Semicolon ∷ r) ∙ under (in_line (exprs_then es [])) _ (codes ")") _ refl))
+laid_Call at f es r = under f _ _ _ (ap (λ l. 40 ∷ l) (exprs_laid at es (MarkToken Semicolon ∷ r)
+    ∙ under (in_line (exprs_then es [])) _ (codes ")") _ refl))
 
 pub laid_end : (at : Place) (r : List Token) → laid (at_left at Operand) (MarkToken Semicolon ∷ r) ≡ codes ";" ++ laid (at_left at Ended) r
 unfolding laid
@@ -227,18 +268,21 @@ laid_end at r = refl
 
 -- parameters
 
-parameter_apart : (at : Place) (p : Parameter) (r : List Token) → laid (at_left at Other) (parameter_then p r) ≡ 32 ∷ laid (at_left at Opening) (parameter_then p r)
+parameter_apart : (at : Place) (p : Parameter) (r : List Token) → laid (at_left at Other) (parameter_then p r)
+    ≡ 32 ∷ laid (at_left at Opening) (parameter_then p r)
 unfolding laid parameter_then
 parameter_apart at (Written x e) r = refl
 parameter_apart at (Read x e) r = refl
 parameter_apart at (Scalar x) r = refl
 
-pub parameter_text_Written : (x : List ℕ) (e : ElementType) → in_line (parameter_then (Written x e) []) ≡ codes "mut " ++ (x ++ (codes ": " ++ word_text (element_word e)))
+pub parameter_text_Written : (x : List ℕ) (e : ElementType) → in_line (parameter_then (Written x e) [])
+    ≡ codes "mut " ++ (x ++ (codes ": " ++ word_text (element_word e)))
 unfolding laid parameter_then
 parameter_text_Written x IntElement = refl
 parameter_text_Written x ByteElement = refl
 
-pub parameter_text_Read : (x : List ℕ) (e : ElementType) → in_line (parameter_then (Read x e) []) ≡ codes "read " ++ (x ++ (codes ": " ++ word_text (element_word e)))
+pub parameter_text_Read : (x : List ℕ) (e : ElementType) → in_line (parameter_then (Read x e) [])
+    ≡ codes "read " ++ (x ++ (codes ": " ++ word_text (element_word e)))
 unfolding laid parameter_then
 parameter_text_Read x IntElement = refl
 parameter_text_Read x ByteElement = refl
@@ -247,12 +291,17 @@ pub parameter_text_Scalar : (x : List ℕ) → in_line (parameter_then (Scalar x
 unfolding laid parameter_then
 parameter_text_Scalar x = refl
 
-parameter_laid : (at : Place) (p : Parameter) (r : List Token) → Follows at r → laid (at_left at Opening) (parameter_then p r) ≡ in_line (parameter_then p []) ++ laid (at_left at Operand) r
+parameter_laid : (at : Place) (p : Parameter) (r : List Token) → Follows at r → laid (at_left at Opening) (parameter_then p r)
+    ≡ in_line (parameter_then p []) ++ laid (at_left at Operand) r
 unfolding laid parameter_then
-parameter_laid at (Written x IntElement) r f = ap (λ l. 109 ∷ 117 ∷ 116 ∷ 32 ∷ l) (under x _ _ _ (ap (λ l. 58 ∷ 32 ∷ 105 ∷ 110 ∷ 116 ∷ l) f))
-parameter_laid at (Written x ByteElement) r f = ap (λ l. 109 ∷ 117 ∷ 116 ∷ 32 ∷ l) (under x _ _ _ (ap (λ l. 58 ∷ 32 ∷ 98 ∷ 121 ∷ 116 ∷ 101 ∷ l) f))
-parameter_laid at (Read x IntElement) r f = ap (λ l. 114 ∷ 101 ∷ 97 ∷ 100 ∷ 32 ∷ l) (under x _ _ _ (ap (λ l. 58 ∷ 32 ∷ 105 ∷ 110 ∷ 116 ∷ l) f))
-parameter_laid at (Read x ByteElement) r f = ap (λ l. 114 ∷ 101 ∷ 97 ∷ 100 ∷ 32 ∷ l) (under x _ _ _ (ap (λ l. 58 ∷ 32 ∷ 98 ∷ 121 ∷ 116 ∷ 101 ∷ l) f))
+parameter_laid at (Written x IntElement) r f = ap (λ l. 109 ∷ 117 ∷ 116 ∷ 32 ∷ l) (under x _ _ _ (ap
+    (λ l. 58 ∷ 32 ∷ 105 ∷ 110 ∷ 116 ∷ l) f))
+parameter_laid at (Written x ByteElement) r f = ap (λ l. 109 ∷ 117 ∷ 116 ∷ 32 ∷ l) (under x _ _ _ (ap
+    (λ l. 58 ∷ 32 ∷ 98 ∷ 121 ∷ 116 ∷ 101 ∷ l) f))
+parameter_laid at (Read x IntElement) r f = ap (λ l. 114 ∷ 101 ∷ 97 ∷ 100 ∷ 32 ∷ l) (under x _ _ _ (ap
+    (λ l. 58 ∷ 32 ∷ 105 ∷ 110 ∷ 116 ∷ l) f))
+parameter_laid at (Read x ByteElement) r f = ap (λ l. 114 ∷ 101 ∷ 97 ∷ 100 ∷ 32 ∷ l) (under x _ _ _ (ap
+    (λ l. 58 ∷ 32 ∷ 98 ∷ 121 ∷ 116 ∷ 101 ∷ l) f))
 parameter_laid at (Scalar x) r f = under x _ _ _ (ap (λ l. 58 ∷ 32 ∷ 105 ∷ 110 ∷ 116 ∷ l) f)
 
 parameters_follow : (at : Place) (ps : List Parameter) (r : List Token) → Follows at r → Follows at (more_parameters_then ps r)
@@ -260,20 +309,27 @@ unfolding laid more_parameters_then
 parameters_follow at [] r f = f
 parameters_follow at (p ∷ ps) r f = refl
 
-more_parameters_laid : (at : Place) (ps : List Parameter) (r : List Token) → Follows at r → laid (at_left at Operand) (more_parameters_then ps r) ≡ laid (at_left line Operand) (more_parameters_then ps []) ++ laid (at_left at Operand) r
+more_parameters_laid : (at : Place) (ps : List Parameter) (r : List Token) → Follows at r
+    → laid (at_left at Operand) (more_parameters_then ps r)
+    ≡ laid (at_left line Operand) (more_parameters_then ps []) ++ laid (at_left at Operand) r
 unfolding laid more_parameters_then
 more_parameters_laid at [] r f = refl
 more_parameters_laid at (p ∷ ps) r f =
     let rest = more_parameters_then ps r in let none = more_parameters_then ps [] in
     ap (λ l. 44 ∷ l) (parameter_apart at p rest ∙ ap (λ l. 32 ∷ l)
-    (joined _ _ _ _ _ _ (parameter_laid at p rest (parameters_follow at ps r f)) (parameter_laid line p none (parameters_follow line ps [] (end_follows line))) (more_parameters_laid at ps r f)))
+    (joined _ _ _ _ _ _ (parameter_laid at p rest (parameters_follow at ps r f)) (parameter_laid line p none
+    (parameters_follow line ps [] (end_follows line))) (more_parameters_laid at ps r f)))
     ∙ ap (λ l. (44 ∷ l) ++ laid (at_left at Operand) r) (sym (parameter_apart line p none))
 
-parameters_laid : (at : Place) (ps : List Parameter) (r : List Token) → laid (at_left at Opening) (parameters_then ps (MarkToken RightParen ∷ r)) ≡ in_line (parameters_then ps []) ++ (41 ∷ laid (at_left at Operand) r)
+parameters_laid : (at : Place) (ps : List Parameter) (r : List Token)
+    → laid (at_left at Opening) (parameters_then ps (MarkToken RightParen ∷ r))
+    ≡ in_line (parameters_then ps []) ++ (41 ∷ laid (at_left at Operand) r)
 unfolding laid parameters_then
 parameters_laid at [] r = refl
 parameters_laid at (p ∷ ps) r =
-    joined _ _ _ _ _ _ (parameter_laid at p (more_parameters_then ps (MarkToken RightParen ∷ r)) (parameters_follow at ps (MarkToken RightParen ∷ r) refl)) (parameter_laid line p (more_parameters_then ps []) (parameters_follow line ps [] (end_follows line))) (more_parameters_laid at ps (MarkToken RightParen ∷ r) refl)
+    joined _ _ _ _ _ _ (parameter_laid at p (more_parameters_then ps (MarkToken RightParen ∷ r)) (parameters_follow at ps
+    (MarkToken RightParen ∷ r) refl)) (parameter_laid line p (more_parameters_then ps []) (parameters_follow line ps []
+    (end_follows line))) (more_parameters_laid at ps (MarkToken RightParen ∷ r) refl)
 
 -- parameters with a comma before each, or before each but the first
 abbrev pub parameters_text : Bool → List rParameter → List ℕ
@@ -288,16 +344,20 @@ parameters_text_none false = refl
 pub parameters_text_more : (first : Bool) (p : rParameter) (ps : List rParameter) → parameters_text first (p ∷ ps)
     ≡ ((if first then [] else codes ", ") ++ in_line (parameter_then (parameter p) [])) ++ parameters_text false ps
 unfolding laid more_parameters_then parameters_then
-parameters_text_more true p ps = parameter_laid line (parameter p) (more_parameters_then (map parameter ps) []) (parameters_follow line (map parameter ps) [] (end_follows line))
+parameters_text_more true p ps = parameter_laid line (parameter p) (more_parameters_then (map parameter ps) []) (parameters_follow line
+    (map parameter ps) [] (end_follows line))
 parameters_text_more false p ps =
     ap (λ l. 44 ∷ l) (parameter_apart line (parameter p) (more_parameters_then (map parameter ps) [])
-    ∙ ap (λ l. 32 ∷ l) (parameter_laid line (parameter p) (more_parameters_then (map parameter ps) []) (parameters_follow line (map parameter ps) [] (end_follows line))))
+    ∙ ap (λ l. 32 ∷ l) (parameter_laid line (parameter p) (more_parameters_then (map parameter ps) []) (parameters_follow line
+    (map parameter ps) [] (end_follows line))))
 
 -- declarations
 
 pub laid_procedure : (d : ℕ) (n : Option ℕ) (f : List ℕ) (ps : List Parameter) (ts : List Token) →
-    laid (record { depth = d; label = n; left = Margin }) (WordToken WordProc ∷ NameToken f ∷ MarkToken LeftParen ∷ parameters_then ps (MarkToken RightParen ∷ MarkToken LeftBrace ∷ ts))
-    ≡ ((plain_margin n ++ indent d) ++ (codes "proc " ++ (f ++ (codes "(" ++ (in_line (parameters_then ps []) ++ codes ")"))))) ++ laid (record { depth = d; label = n; left = Other }) (MarkToken LeftBrace ∷ ts)
+    laid (record { depth = d; label = n; left = Margin }) (WordToken WordProc ∷ NameToken f ∷ MarkToken LeftParen ∷ parameters_then ps
+    (MarkToken RightParen ∷ MarkToken LeftBrace ∷ ts))
+    ≡ ((plain_margin n ++ indent d) ++ (codes "proc " ++ (f ++ (codes "(" ++ (in_line (parameters_then ps []) ++ codes ")"))))) ++ laid
+    (record { depth = d; label = n; left = Other }) (MarkToken LeftBrace ∷ ts)
 unfolding laid
 laid_procedure d n f ps ts =
     let at : Place = record { depth = d; label = n; left = Opening } in
@@ -305,15 +365,20 @@ laid_procedure d n f ps ts =
     (parameters_laid at ps (MarkToken LeftBrace ∷ ts) ∙ under (in_line (parameters_then ps [])) _ (codes ")") _ refl))))
 
 pub laid_array : (d : ℕ) (n : Option ℕ) (x : List ℕ) (e : ElementType) (k : ℕ) (ts : List Token) →
-    laid (record { depth = d; label = n; left = Margin }) (WordToken WordArray ∷ NameToken x ∷ MarkToken Colon ∷ WordToken (element_word e) ∷ MarkToken LeftBracket ∷ NumberToken k ∷ MarkToken RightBracket ∷ MarkToken Semicolon ∷ ts)
-    ≡ ((plain_margin n ++ indent d) ++ (codes "array " ++ (x ++ (codes ": " ++ (word_text (element_word e) ++ (codes "[" ++ (decimal k ++ codes "];"))))))) ++ laid (record { depth = d; label = n; left = Ended }) ts
+    laid (record { depth = d; label = n; left = Margin }) (WordToken WordArray ∷ NameToken x ∷ MarkToken Colon ∷ WordToken
+    (element_word e) ∷ MarkToken LeftBracket ∷ NumberToken k ∷ MarkToken RightBracket ∷ MarkToken Semicolon ∷ ts)
+    ≡ ((plain_margin n ++ indent d) ++ (codes "array " ++ (x ++ (codes ": " ++ (word_text (element_word e) ++ (codes "[" ++
+    (decimal k ++ codes "];"))))))) ++ laid (record { depth = d; label = n; left = Ended }) ts
 unfolding laid
 laid_array d n x IntElement k ts =
-    under (plain_margin n ++ indent d) _ _ _ (ap (λ l. 97 ∷ 114 ∷ 114 ∷ 97 ∷ 121 ∷ 32 ∷ l) (under x _ _ _ (ap (λ l. 58 ∷ 32 ∷ 105 ∷ 110 ∷ 116 ∷ 91 ∷ l) (under (decimal k) _ (codes "];") _ refl))))
+    under (plain_margin n ++ indent d) _ _ _ (ap (λ l. 97 ∷ 114 ∷ 114 ∷ 97 ∷ 121 ∷ 32 ∷ l) (under x _ _ _ (ap
+    (λ l. 58 ∷ 32 ∷ 105 ∷ 110 ∷ 116 ∷ 91 ∷ l) (under (decimal k) _ (codes "];") _ refl))))
 laid_array d n x ByteElement k ts =
-    under (plain_margin n ++ indent d) _ _ _ (ap (λ l. 97 ∷ 114 ∷ 114 ∷ 97 ∷ 121 ∷ 32 ∷ l) (under x _ _ _ (ap (λ l. 58 ∷ 32 ∷ 98 ∷ 121 ∷ 116 ∷ 101 ∷ 91 ∷ l) (under (decimal k) _ (codes "];") _ refl))))
+    under (plain_margin n ++ indent d) _ _ _ (ap (λ l. 97 ∷ 114 ∷ 114 ∷ 97 ∷ 121 ∷ 32 ∷ l) (under x _ _ _ (ap
+    (λ l. 58 ∷ 32 ∷ 98 ∷ 121 ∷ 116 ∷ 101 ∷ 91 ∷ l) (under (decimal k) _ (codes "];") _ refl))))
 
-pub laid_main : (d : ℕ) (n : Option ℕ) (ts : List Token) → laid (record { depth = d; label = n; left = Margin }) (WordToken WordMain ∷ MarkToken LeftBrace ∷ ts)
+pub laid_main : (d : ℕ) (n : Option ℕ) (ts : List Token)
+    → laid (record { depth = d; label = n; left = Margin }) (WordToken WordMain ∷ MarkToken LeftBrace ∷ ts)
     ≡ ((plain_margin n ++ indent d) ++ codes "main") ++ laid (record { depth = d; label = n; left = Other }) (MarkToken LeftBrace ∷ ts)
 unfolding laid
 laid_main d n ts = under (plain_margin n ++ indent d) _ (codes "main") _ refl
@@ -324,7 +389,9 @@ repeat_is : (n : ℕ) → repeat {A = ℕ} n (32 ∷ []) ≡ replicate n 32
 repeat_is zero = refl
 repeat_is (suc n) = ap (λ l. 32 ∷ l) (repeat_is n)
 
-padded_shape : (p k : ℕ) (digits : List ℕ) → p ≡ k → ((((repeat {A = ℕ} p (32 ∷ []) ++ []) ++ []) ++ []) ++ (digits ++ repeat {A = ℕ} (p - p) (32 ∷ []))) ++ (32 ∷ []) ≡ replicate k 32 ++ (digits ++ (32 ∷ []))
+padded_shape : (p k : ℕ) (digits : List ℕ) → p ≡ k
+    → ((((repeat {A = ℕ} p (32 ∷ []) ++ []) ++ []) ++ []) ++ (digits ++ repeat {A = ℕ} (p - p) (32 ∷ []))) ++ (32 ∷ [])
+    ≡ replicate k 32 ++ (digits ++ (32 ∷ []))
 padded_shape p k digits e =
     let space : List ℕ = 32 ∷ [] in
     let fill : List ℕ = repeat p space in
@@ -340,7 +407,8 @@ unfolding padded_integral char_count lib.Utf8.encode
 label_padded n = padded_shape (5 - length (decimal n) - 0 - 0) (5 - length (decimal n)) (decimal n) (omega arith)
 
 -- where nothing is written yet, all is laid out from the start
-pub begins_text : (lines : Lines) (ts : List Token) (n : Option ℕ) {text : List ℕ} → string_bytes lines.text ≡ [] → lines.depth ≡ 0 → lines.label ≡ n → with_rest lines Margin ts ≡ text → text ≡ laid (record { depth = 0; label = n; left = Margin }) ts
+pub begins_text : (lines : Lines) (ts : List Token) (n : Option ℕ) {text : List ℕ} → string_bytes lines.text ≡ [] → lines.depth ≡ 0
+    → lines.label ≡ n → with_rest lines Margin ts ≡ text → text ≡ laid (record { depth = 0; label = n; left = Margin }) ts
 begins_text lines ts n none depth label all =
     sym all
     ∙ ap (λ l. l ++ laid (place lines Margin) ts) none

@@ -35,8 +35,11 @@ pub stmt_Call : (f : String Global) (es : Vec rExpr Global) → stmt (rCall f es
 unfolding stmt
 stmt_Call f es = refl
 
-kind : (l : Stmt-F rStmt) (s : rStmt) → roll-Stmt l ≡ s → ((x : rExpr) (v : Vec rStmt Global) (o : Option (Vec rStmt Global)) → s ≡ rIf x v o → ⊥) → ((x : rExpr) (v : Vec rStmt Global) → s ≡ rWhile x v → ⊥)
-    → ((x : String Global) (e : rExpr) (y z : String Global) (v : Vec rStmt Global) → s ≡ rSplit x e y z v → ⊥) → ((v : Vec rStmt Global) → s ≡ rAsync v → ⊥) → ((v : Vec rStmt Global) → s ≡ rFinish v → ⊥) → is_simple (stmt s) ≡ true
+kind : (l : Stmt-F rStmt) (s : rStmt) → roll-Stmt l ≡ s
+    → ((x : rExpr) (v : Vec rStmt Global) (o : Option (Vec rStmt Global)) → s ≡ rIf x v o → ⊥)
+    → ((x : rExpr) (v : Vec rStmt Global) → s ≡ rWhile x v → ⊥)
+    → ((x : String Global) (e : rExpr) (y z : String Global) (v : Vec rStmt Global) → s ≡ rSplit x e y z v → ⊥)
+    → ((v : Vec rStmt Global) → s ≡ rAsync v → ⊥) → ((v : Vec rStmt Global) → s ≡ rFinish v → ⊥) → is_simple (stmt s) ≡ true
 unfolding stmt
 kind Stmt-F.Skip s q no_if no_while no_split no_async no_finish = ap (λ z. is_simple (stmt z)) (sym q ∙ rolls-Skip)
 kind (Stmt-F.Var x e) s q no_if no_while no_split no_async no_finish = ap (λ z. is_simple (stmt z)) (sym q ∙ (rolls-Var x e))
@@ -52,13 +55,17 @@ kind (Stmt-F.Async v) s q no_if no_while no_split no_async no_finish = absurd (n
 kind (Stmt-F.Finish v) s q no_if no_while no_split no_async no_finish = absurd (no_finish v (sym q ∙ (rolls-Finish v)))
 
 -- a statement of no kind with a block is simple
-pub simple_is_left : (s : rStmt) → ((x : rExpr) (v : Vec rStmt Global) (o : Option (Vec rStmt Global)) → s ≡ rIf x v o → ⊥) → ((x : rExpr) (v : Vec rStmt Global) → s ≡ rWhile x v → ⊥)
-    → ((x : String Global) (e : rExpr) (y z : String Global) (v : Vec rStmt Global) → s ≡ rSplit x e y z v → ⊥) → ((v : Vec rStmt Global) → s ≡ rAsync v → ⊥) → ((v : Vec rStmt Global) → s ≡ rFinish v → ⊥) → is_simple (stmt s) ≡ true
+pub simple_is_left : (s : rStmt) → ((x : rExpr) (v : Vec rStmt Global) (o : Option (Vec rStmt Global)) → s ≡ rIf x v o → ⊥)
+    → ((x : rExpr) (v : Vec rStmt Global) → s ≡ rWhile x v → ⊥)
+    → ((x : String Global) (e : rExpr) (y z : String Global) (v : Vec rStmt Global) → s ≡ rSplit x e y z v → ⊥)
+    → ((v : Vec rStmt Global) → s ≡ rAsync v → ⊥) → ((v : Vec rStmt Global) → s ≡ rFinish v → ⊥) → is_simple (stmt s) ≡ true
 simple_is_left s = kind (out-Stmt s) s (roll-out-Stmt s)
 
 -- a simple statement of no other kind is `skip`
-pub skip_is_left : (s : rStmt) → is_simple (stmt s) ≡ true → ((x : String Global) (e : rExpr) → s ≡ rVar x e → ⊥) → ((x : String Global) (e : rExpr) → s ≡ rAssign x e → ⊥)
-    → ((x : String Global) (i e : rExpr) → s ≡ rStore x i e → ⊥) → ((e : rExpr) (es : Vec rExpr Global) → s ≡ rPrint e es → ⊥) → ((e : rExpr) → s ≡ rFault e → ⊥) → ((f : String Global) (es : Vec rExpr Global) → s ≡ rCall f es → ⊥) → s ≡ rSkip
+pub skip_is_left : (s : rStmt) → is_simple (stmt s) ≡ true → ((x : String Global) (e : rExpr) → s ≡ rVar x e → ⊥)
+    → ((x : String Global) (e : rExpr) → s ≡ rAssign x e → ⊥)
+    → ((x : String Global) (i e : rExpr) → s ≡ rStore x i e → ⊥) → ((e : rExpr) (es : Vec rExpr Global) → s ≡ rPrint e es → ⊥)
+    → ((e : rExpr) → s ≡ rFault e → ⊥) → ((f : String Global) (es : Vec rExpr Global) → s ≡ rCall f es → ⊥) → s ≡ rSkip
 unfolding stmt conditional
 skip_is_left rSkip h no_var no_assign no_store no_print no_fault no_call = refl
 skip_is_left (rVar x e) h no_var no_assign no_store no_print no_fault no_call = absurd (no_var x e refl)

@@ -26,8 +26,8 @@ pub data Left : Type 0 where
   -- any other token
   Other : Left
 
--- where a layout stands: how many blocks are open, the label of the last statement if labels are written, and
--- what stands to the left
+-- where a layout stands: how many blocks are open, the label of the last statement, if labels are written,
+-- and what stands to the left
 pub record Place : Type 0 where
   pub depth : ℕ
   pub label : Option ℕ
@@ -129,7 +129,8 @@ indentation depth _ = indent depth
 
 -- what stands before the line that a token begins
 abbrev pub line_start : Place → Token → List ℕ
-line_start at t = (if begins_statement t then statement_margin at.label else plain_margin at.label) ++ indentation at.depth t
+line_start at t =
+    (if begins_statement t then statement_margin at.label else plain_margin at.label) ++ indentation at.depth t
 
 -- the line feed behind a line
 abbrev pub line_end : Left → List ℕ

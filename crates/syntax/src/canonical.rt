@@ -1,10 +1,10 @@
 //! Programs as canonical text: a line for each declaration and each statement.
 
-ghost use Rattle.std.specs.Prelude.{◌≡◌, ◌+◌, ◌-◌, [], ◌∷◌, ◌++◌, codes, if◌then◌else◌, List, Option, IfOk, OnOk, IsTrue, map};
+ghost use Rattle.std.specs.Prelude.{◌≡◌, ℕ, ◌+◌, ◌-◌, [], ◌∷◌, ◌++◌, codes, if◌then◌else◌, List, Option, IfOk, OnOk, IsTrue, map};
 ghost use Rattle.std.specs.Option.{option_map};
 ghost use Rattle.std.specs.String.{string_bytes};
 ghost use Rattle.syntax.specs.Canonical.{Margin, Opening, Operand, Ended, Other, canonical, listed, in_line, indent, plain_margin, statement_margin};
-ghost use Rattle.syntax.specs.Lexical.{word_text};
+ghost use Rattle.syntax.specs.Lexical.{word_text, AreTokensOf};
 ghost use Rattle.syntax.specs.Spelling.{expr_then, stmt_then, block_then, parameter_then, parameters_then, arrays_then, procedures_then, main_tokens, spelling, element_word};
 ghost use Rattle.syntax.specs.Token.{Token, NameToken, WordToken, MarkToken};
 ghost use Rattle.syntax.specs.Tree.{Array as ArrayTree, Block as BlockTree, Procedure as ProcedureTree, Main as MainTree, expr as expr_tree, stmt as stmt_tree, block as block_tree, array as array_tree, parameter as parameter_tree, procedure as procedure_tree, program as program_tree};
@@ -16,9 +16,12 @@ use crate::expression_text as expressions;
 use crate::tree::{Array, ElementType, Expr, Parameter, Procedure, Program, Stmt};
 use std::alloc::{AllocError, Global};
 
-/// The canonical text of a program.
+/// The canonical text of a program, whose tokens are those of any text that spells the program.
 pub fn format(alloc: Global, program: &Program) -> Result<String, AllocError>
-    ensures { IfOk result (λ text. string_bytes text ≡ canonical (program_tree program.now)) }
+    ensures text { IfOk result (λ text. string_bytes text ≡ canonical (program_tree program.now)) }
+    ensures tokens { IfOk result (λ text. (source : List ℕ)
+        → AreTokensOf source (spelling (program_tree program.now))
+        → AreTokensOf (string_bytes text) (spelling (program_tree program.now))) }
 {
     let mut lines = Lines::new(alloc, false);
     lines.program(program)?;

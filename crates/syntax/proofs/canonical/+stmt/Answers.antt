@@ -11,7 +11,7 @@ use Rattle.syntax.specs.Token.{WordToken, MarkToken}
 use Rattle.syntax.specs.Tree.{If, IfElse, While, Split, Async, Finish, Then, expr, stmt, block}
 use Rattle.syntax.specs.Writing.{place, with_rest}
 use Rattle.syntax.proofs.ExpressionText.{ok_then, ok_map3, pushed}
-use Rattle.syntax.proofs.LineText.{wrote, counted_by, stmt_begins, block_is_line, opened, closed, laid_If, laid_IfElse, laid_Else, laid_While, laid_Split, laid_Async, laid_Finish, laid_end}
+use Rattle.syntax.proofs.LineText.{wrote, wrote_adds, wrote_text, counted_by, stmt_begins, block_is_line, opened, closed, laid_If, laid_IfElse, laid_Else, laid_While, laid_Split, laid_Async, laid_Finish, laid_end}
 use Rattle.syntax.proofs.RowLemmas.{stmt_If, stmt_IfElse, stmt_While, stmt_Split, stmt_Async, stmt_Finish}
 use Rattle.syntax.proofs.StatementKinds.{simple_is_left}
 use Rattle.syntax.proofs.canonical.+stmt.Goals as goal
@@ -23,13 +23,16 @@ block-returns-clause-written t c =
     let behind = c.statements.new.lines in
     let body = block c.args.body.now in
     ok_map3 c.close.result c.close.ensures.text c.close.ensures.depth c.close.ensures.label (λ text depth label r.
-    wrote old inside Other Margin _ _ (codes " {\n") (old.depth + 1) old.label c.in_ok-open.ensures.text c.in_ok-open.ensures.depth c.in_ok-open.ensures.label (opened old.depth old.label (block_then body r) (block_is_line body r))
+    wrote old inside Other Margin _ _ (codes " {\n") (old.depth + 1) old.label
+    c.in_ok-open.ensures.text c.in_ok-open.ensures.depth c.in_ok-open.ensures.label (opened old.depth old.label (block_then body r) (block_is_line body r))
     ∙ c.in_ok-statements.ensures.written r
-    ∙ wrote behind c.close.new.self Margin Ended _ _ _ (behind.depth - 1) behind.label text depth label (closed behind.depth behind.label r))
+    ∙ wrote behind c.close.new.self Margin Ended _ _ _ (behind.depth - 1) behind.label text depth label
+    (closed behind.depth behind.label r))
 
 pub line-simple-requires : goal.line-simple-requires
 line-simple-requires t c = record {
-  simple = simple_is_left c.args.statement.now c.in_default.not-If c.in_default.not-While c.in_default.not-Split c.in_default.not-Async c.in_default.not-Finish;
+  simple = simple_is_left c.args.statement.now c.in_default.not-If c.in_default.not-While c.in_default.not-Split c.in_default.not-Async
+      c.in_default.not-Finish;
   counted = c.requires;
 }
 
@@ -38,9 +41,10 @@ line-returns-in-None-clause-written t c = λ r.
     let old = c.args.lines.now in
     let e = expr c.in-If.guard in
     let body = block c.deref.result.now in
-    let is = ap stmt (c.in-If.is ∙ ap (rIf c.in-If.guard c.in-If.body) c.in-None.is) ∙ stmt_If c.in-If.guard c.in-If.body ∙ ap (λ v. If e (block v)) (sym c.deref.ensures.value) in
+    let is = ap stmt (c.in-If.is ∙ ap (rIf c.in-If.guard c.in-If.body) c.in-None.is) ∙ stmt_If c.in-If.guard c.in-If.body
+    ∙ ap (λ v. If e (block v)) (sym c.deref.ensures.value) in
     ap (λ s. with_rest old Opening (stmt_then s r)) is
-    ∙ wrote old c.header.new.lines Opening Other _ _ _ old.depth old.label c.in_ok-header-in-If.ensures.text c.in_ok-header-in-If.ensures.depth c.in_ok-header-in-If.ensures.label (laid_If (place old Opening) e body r)
+    ∙ wrote_adds old c.header.new.lines Opening Other _ _ _ c.in_ok-header-in-If.ensures (laid_If (place old Opening) e body r)
     ∙ c.in_ok-block-in-If.ensures.written r
 
 pub line-returns-in_ok-push_str-in-Some-clause-written : goal.line-returns-in_ok-push_str-in-Some-clause-written
@@ -50,13 +54,16 @@ line-returns-in_ok-push_str-in-Some-clause-written t c =
     let e = expr c.in-If.guard in
     let body = block c.deref.result.now in
     let other = block c.deref-in-Some.result.now in
-    let is = ap stmt (c.in-If.is ∙ ap (rIf c.in-If.guard c.in-If.body) c.in-Some.is) ∙ stmt_IfElse c.in-If.guard c.in-If.body c.in-Some.other
-    ∙ ap (λ v. IfElse e (block v) (block c.in-Some.other.items)) (sym c.deref.ensures.value) ∙ ap (λ v. IfElse e body (block v)) (sym c.deref-in-Some.ensures.value) in
+    let is = ap stmt (c.in-If.is ∙ ap (rIf c.in-If.guard c.in-If.body) c.in-Some.is)
+    ∙ stmt_IfElse c.in-If.guard c.in-If.body c.in-Some.other
+    ∙ ap (λ v. IfElse e (block v) (block c.in-Some.other.items)) (sym c.deref.ensures.value)
+    ∙ ap (λ v. IfElse e body (block v)) (sym c.deref-in-Some.ensures.value) in
     ok_then c.block-in-Some.result c.block-in-Some.ensures.written (λ written r.
     ap (λ s. with_rest old Opening (stmt_then s r)) is
-    ∙ wrote old c.header.new.lines Opening Other _ _ _ old.depth old.label c.in_ok-header-in-If.ensures.text c.in_ok-header-in-If.ensures.depth c.in_ok-header-in-If.ensures.label (laid_IfElse (place old Opening) e body other r)
+    ∙ wrote_adds old c.header.new.lines Opening Other _ _ _ c.in_ok-header-in-If.ensures (laid_IfElse (place old Opening) e body other r)
     ∙ c.in_ok-block-in-If.ensures.written (WordToken WordElse ∷ MarkToken LeftBrace ∷ block_then other r)
-    ∙ wrote between (record between { text = c.push_str.new.self }) Ended Other _ _ (codes " else") between.depth between.label c.in_ok-push_str-in-Some.ensures.bytes refl refl (laid_Else (place between Ended) (block_then other r))
+    ∙ wrote_text between c.push_str.new.self Ended Other _ _ (codes " else") c.in_ok-push_str-in-Some.ensures.bytes (laid_Else
+    (place between Ended) (block_then other r))
     ∙ written r)
 
 pub line-returns-in_ok-header-in-While-clause-written : goal.line-returns-in_ok-header-in-While-clause-written
@@ -64,10 +71,12 @@ line-returns-in_ok-header-in-While-clause-written t c =
     let old = c.args.lines.now in
     let e = expr c.in-While.guard in
     let body = block c.deref-in-While.result.now in
-    let is = ap stmt c.in-While.is ∙ stmt_While c.in-While.guard c.in-While.body ∙ ap (λ v. While e (block v)) (sym c.deref-in-While.ensures.value) in
+    let is = ap stmt c.in-While.is ∙ stmt_While c.in-While.guard c.in-While.body
+    ∙ ap (λ v. While e (block v)) (sym c.deref-in-While.ensures.value) in
     ok_then c.block-in-While.result c.block-in-While.ensures.written (λ written r.
     ap (λ s. with_rest old Opening (stmt_then s r)) is
-    ∙ wrote old c.header-in-While.new.lines Opening Other _ _ _ old.depth old.label c.in_ok-header-in-While.ensures.text c.in_ok-header-in-While.ensures.depth c.in_ok-header-in-While.ensures.label (laid_While (place old Opening) e body r)
+    ∙ wrote_adds old c.header-in-While.new.lines Opening Other _ _ _ c.in_ok-header-in-While.ensures (laid_While
+    (place old Opening) e body r)
     ∙ written r)
 
 pub line-returns-in_ok-split-in-Split-clause-written : goal.line-returns-in_ok-split-in-Split-clause-written
@@ -78,10 +87,11 @@ line-returns-in_ok-split-in-Split-clause-written t c =
     let x = string_bytes c.in-Split.left in
     let y = string_bytes c.in-Split.right in
     let body = block c.deref-in-Split.result.now in
-    let is = ap stmt c.in-Split.is ∙ stmt_Split c.in-Split.section c.in-Split.at c.in-Split.left c.in-Split.right c.in-Split.body ∙ ap (λ v. Split s e x y (block v)) (sym c.deref-in-Split.ensures.value) in
+    let is = ap stmt c.in-Split.is ∙ stmt_Split c.in-Split.section c.in-Split.at c.in-Split.left c.in-Split.right c.in-Split.body
+    ∙ ap (λ v. Split s e x y (block v)) (sym c.deref-in-Split.ensures.value) in
     ok_then c.block-in-Split.result c.block-in-Split.ensures.written (λ written r.
     ap (λ z. with_rest old Opening (stmt_then z r)) is
-    ∙ wrote old (record old { text = c.split.new.out }) Opening Other _ _ _ old.depth old.label c.in_ok-split-in-Split.ensures refl refl (laid_Split (place old Opening) s e x y body r)
+    ∙ wrote_text old c.split.new.out Opening Other _ _ _ c.in_ok-split-in-Split.ensures (laid_Split (place old Opening) s e x y body r)
     ∙ written r)
 
 pub line-returns-in_ok-push_str-in-Async-clause-written : goal.line-returns-in_ok-push_str-in-Async-clause-written
@@ -91,7 +101,8 @@ line-returns-in_ok-push_str-in-Async-clause-written t c =
     let is = ap stmt c.in-Async.is ∙ stmt_Async c.in-Async.body ∙ ap (λ v. Async (block v)) (sym c.deref-in-Async.ensures.value) in
     ok_then c.block-in-Async.result c.block-in-Async.ensures.written (λ written r.
     ap (λ s. with_rest old Opening (stmt_then s r)) is
-    ∙ wrote old (record old { text = c.push_str-in-Async.new.self }) Opening Other _ _ (codes "async") old.depth old.label c.in_ok-push_str-in-Async.ensures.bytes refl refl (laid_Async (place old Opening) body r)
+    ∙ wrote_text old c.push_str-in-Async.new.self Opening Other _ _ (codes "async") c.in_ok-push_str-in-Async.ensures.bytes (laid_Async
+    (place old Opening) body r)
     ∙ written r)
 
 pub line-returns-in_ok-push_str-in-Finish-clause-written : goal.line-returns-in_ok-push_str-in-Finish-clause-written
@@ -101,7 +112,8 @@ line-returns-in_ok-push_str-in-Finish-clause-written t c =
     let is = ap stmt c.in-Finish.is ∙ stmt_Finish c.in-Finish.body ∙ ap (λ v. Finish (block v)) (sym c.deref-in-Finish.ensures.value) in
     ok_then c.block-in-Finish.result c.block-in-Finish.ensures.written (λ written r.
     ap (λ s. with_rest old Opening (stmt_then s r)) is
-    ∙ wrote old (record old { text = c.push_str-in-Finish.new.self }) Opening Other _ _ (codes "finish") old.depth old.label c.in_ok-push_str-in-Finish.ensures.bytes refl refl (laid_Finish (place old Opening) body r)
+    ∙ wrote_text old c.push_str-in-Finish.new.self Opening Other _ _ (codes "finish") c.in_ok-push_str-in-Finish.ensures.bytes
+    (laid_Finish (place old Opening) body r)
     ∙ written r)
 
 pub line-returns-in_ok-simple-in_default : goal.line-returns-in_ok-simple-in_default
@@ -110,9 +122,10 @@ line-returns-in_ok-simple-in_default t c =
     let old = c.simple.new.lines in
     let added = pushed c.push.result _ _ _ c.push.ensures.bytes in
     record {
-      counted = ok_then c.push.result added (λ text. counted_by old (record old { text = c.push.new.self }) (codes ";") text refl refl c.in_ok-simple-in_default.ensures.counted);
+      counted = ok_then c.push.result added (λ text. counted_by old (record old { text = c.push.new.self }) (codes ";") text refl refl
+          c.in_ok-simple-in_default.ensures.counted);
       written = ok_then c.push.result added (λ text r. c.in_ok-simple-in_default.ensures.written r
-          ∙ wrote old (record old { text = c.push.new.self }) Operand Ended _ _ (codes ";") old.depth old.label text refl refl (laid_end (place old Operand) r));
+          ∙ wrote_text old c.push.new.self Operand Ended _ _ (codes ";") text (laid_end (place old Operand) r));
     }
 
 pub statements-loop-statement-preserved : goal.statements-loop-statement-preserved
@@ -131,9 +144,11 @@ statements-loop-statement-preserved t c =
       counted = counted_by written c.end.new.self _ ends.text ends.depth ends.label c.in_ok-line.ensures.counted;
       written = λ r. c.loop-statement.invariant.written r
           ∙ ap (λ b. with_rest old Margin (block_then b r)) front
-          ∙ wrote old c.begin_statement.new.self Margin Opening _ _ _ old.depth (option_map (λ n. n + 1) old.label) c.in_ok-begin_statement.ensures.text c.in_ok-begin_statement.ensures.depth c.in_ok-begin_statement.ensures.label (stmt_begins old.depth old.label (stmt x) (block_then rest r))
+          ∙ wrote old c.begin_statement.new.self Margin Opening _ _ _ old.depth (option_map (λ n. n + 1) old.label)
+          c.in_ok-begin_statement.ensures.text c.in_ok-begin_statement.ensures.depth c.in_ok-begin_statement.ensures.label
+          (stmt_begins old.depth old.label (stmt x) (block_then rest r))
           ∙ c.in_ok-line.ensures.written (block_then rest r)
-          ∙ wrote written c.end.new.self Ended Margin _ _ (codes "\n") written.depth written.label ends.text ends.depth ends.label (block_is_line rest r written.depth written.label);
+          ∙ wrote_adds written c.end.new.self Ended Margin _ _ (codes "\n") ends (block_is_line rest r written.depth written.label);
     }
 
 pub statements-returns-clause-written : goal.statements-returns-clause-written
@@ -141,4 +156,6 @@ unfolding block_then
 statements-returns-clause-written t c = λ r.
     let xs = c.args.body.now in
     let at_end : length xs ≤ c.loop-statement.statement-index = search rules in
-    c.loop-statement.invariant.written r ∙ ap (λ b. with_rest c.loop-statement.lines Margin (block_then b r)) (at_drop_all block xs c.loop-statement.statement-index at_end)
+    c.loop-statement.invariant.written r
+    ∙ ap (λ b. with_rest c.loop-statement.lines Margin (block_then b r)) (at_drop_all block xs
+    c.loop-statement.statement-index at_end)

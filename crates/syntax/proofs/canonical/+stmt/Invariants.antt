@@ -10,5 +10,6 @@ use Rattle.syntax.proofs.canonical.+stmt.Given as goal
 abbrev pub invariant-statements-loop-statement : goal.invariant-statements-loop-statement
 invariant-statements-loop-statement l = record {
   counted : IsCounted l.lines;
-  written : (r : List Token) → with_rest l.fn.lines Margin (block_then (block l.fn.body) r) ≡ with_rest l.lines Margin (block_then (block (drop l.statement-index l.body)) r);
+  written : (r : List Token) → with_rest l.fn.lines Margin (block_then (block l.fn.body) r)
+      ≡ with_rest l.lines Margin (block_then (block (drop l.statement-index l.body)) r);
 }

@@ -16,13 +16,17 @@ loop-next-preserved c =
     let inside : i < length xs = search rules in
     let comma : string_bytes c.if-not-first.out ≡ old ++ (if first then [] else codes ", ") =
     elim c.if-not-first.branch [
-      | then-not-first+in_ok-push_str w ↦ ap string_bytes w.out-is ∙ w.in_ok-push_str.ensures.bytes ∙ ap (λ b. old ++ (if b then [] else codes ", ")) (sym w.if-not-first.true)
-      | else-not-first w ↦ ap string_bytes w.out-is ∙ sym (append-nil old) ∙ ap (λ b. old ++ (if b then [] else codes ", ")) (sym w.if-not-first.false)
+      | then-not-first+in_ok-push_str w ↦ ap string_bytes w.out-is ∙ w.in_ok-push_str.ensures.bytes
+          ∙ ap (λ b. old ++ (if b then [] else codes ", ")) (sym w.if-not-first.true)
+      | else-not-first w ↦ ap string_bytes w.out-is ∙ sym (append-nil old)
+          ∙ ap (λ b. old ++ (if b then [] else codes ", ")) (sym w.if-not-first.false)
     ] in
-    let parts = at_drop_more (parameters_text first) xs i x inside ∙ ap (λ y. parameters_text first (y ∷ drop (i + 1) xs)) (sym c.next-item.is) ∙ parameters_text_more first x (drop (i + 1) xs) in
+    let parts = at_drop_more (parameters_text first) xs i x inside
+    ∙ ap (λ y. parameters_text first (y ∷ drop (i + 1) xs)) (sym c.next-item.is) ∙ parameters_text_more first x (drop (i + 1) xs) in
     moved old _ (parameters_text false (drop (i + 1) xs)) c.loop-next.invariant (then_adds old _ _ comma c.in_ok-parameter.ensures) parts
 
 pub returns : goal.returns
 returns c =
     let at_end : length c.args.parameters.now ≤ c.loop-next.next-index = search rules in
-    all_moved (string_bytes c.loop-next.out) c.loop-next.invariant (at_drop_all (parameters_text c.loop-next.first) c.args.parameters.now c.loop-next.next-index at_end ∙ parameters_text_none c.loop-next.first)
+    all_moved (string_bytes c.loop-next.out) c.loop-next.invariant (at_drop_all (parameters_text c.loop-next.first)
+    c.args.parameters.now c.loop-next.next-index at_end ∙ parameters_text_none c.loop-next.first)

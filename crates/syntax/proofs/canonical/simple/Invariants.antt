@@ -6,4 +6,5 @@ use Rattle.syntax.proofs.canonical.simple.Given as goal
 -- what is written, and the text of the values that are left
 abbrev pub invariant-loop-value : goal.invariant-loop-value
 invariant-loop-value l =
-    string_bytes l.out ++ exprs_text false (drop l.value-index l.value-items) ≡ string_bytes l.initial.out ++ exprs_text false l.initial.value-items
+    string_bytes l.out ++ exprs_text false (drop l.value-index l.value-items)
+    ≡ string_bytes l.initial.out ++ exprs_text false l.initial.value-items

@@ -15,7 +15,9 @@ use Rattle.syntax.proofs.expression_text.+expr.Goals.{neg-then-e+in_ok-push_str,
 
 pub expr-loop-operand-init : goal.expr-loop-operand-init
 expr-loop-operand-init t c =
-    let parts = expr_text c.args.e.now ∙ ap (λ l. in_line (conj_then (conj (out-Expr c.args.e.now).first) []) ++ conjs_text l) (sym c.deref-operand-items.ensures.value) in
+    let parts = expr_text c.args.e.now
+    ∙ ap (λ l. in_line (conj_then (conj (out-Expr c.args.e.now).first) []) ++ conjs_text l) (sym
+    c.deref-operand-items.ensures.value) in
     moved (string_bytes c.args.out.now) _ (conjs_text c.deref-operand-items.result.now) refl c.in_ok-conj.ensures parts
 
 pub expr-loop-operand-preserved : goal.expr-loop-operand-preserved
@@ -24,7 +26,8 @@ expr-loop-operand-preserved t c =
     let i = c.loop-operand.operand-index in
     let x = c.operand-item.result in
     let inside : i < length xs = search rules in
-    let parts = at_drop_more conjs_text xs i x inside ∙ ap (λ y. conjs_text (y ∷ drop (i + 1) xs)) (sym c.operand-item.is) ∙ conjs_text_more x (drop (i + 1) xs) in
+    let parts = at_drop_more conjs_text xs i x inside ∙ ap (λ y. conjs_text (y ∷ drop (i + 1) xs)) (sym c.operand-item.is)
+    ∙ conjs_text_more x (drop (i + 1) xs) in
     let added = then_adds (string_bytes c.loop-operand.out) _ _ (c.in_ok-push_str.ensures.bytes) c.in_ok-conj-2.ensures in
     moved (string_bytes c.loop-operand.out) _ (conjs_text (drop (i + 1) xs)) c.loop-operand.invariant added parts
 
@@ -32,11 +35,13 @@ pub expr-returns : goal.expr-returns
 expr-returns t c =
     let xs = c.deref-operand-items.result.now in
     let at_end : length xs ≤ c.loop-operand.operand-index = search rules in
-    all_moved (string_bytes c.loop-operand.out) c.loop-operand.invariant (at_drop_all conjs_text xs c.loop-operand.operand-index at_end ∙ conjs_text_none)
+    all_moved (string_bytes c.loop-operand.out) c.loop-operand.invariant (at_drop_all conjs_text xs c.loop-operand.operand-index at_end
+    ∙ conjs_text_none)
 
 pub conj-loop-operand-init : goal.conj-loop-operand-init
 conj-loop-operand-init t c =
-    let parts = conj_text c.args.e.now ∙ ap (λ l. in_line (neg_then (neg (out-Conj c.args.e.now).first) []) ++ negs_text l) (sym c.deref-operand-items.ensures.value) in
+    let parts = conj_text c.args.e.now
+    ∙ ap (λ l. in_line (neg_then (neg (out-Conj c.args.e.now).first) []) ++ negs_text l) (sym c.deref-operand-items.ensures.value) in
     moved (string_bytes c.args.out.now) _ (negs_text c.deref-operand-items.result.now) refl c.in_ok-neg.ensures parts
 
 pub conj-loop-operand-preserved : goal.conj-loop-operand-preserved
@@ -45,7 +50,8 @@ conj-loop-operand-preserved t c =
     let i = c.loop-operand.operand-index in
     let x = c.operand-item.result in
     let inside : i < length xs = search rules in
-    let parts = at_drop_more negs_text xs i x inside ∙ ap (λ y. negs_text (y ∷ drop (i + 1) xs)) (sym c.operand-item.is) ∙ negs_text_more x (drop (i + 1) xs) in
+    let parts = at_drop_more negs_text xs i x inside ∙ ap (λ y. negs_text (y ∷ drop (i + 1) xs)) (sym c.operand-item.is)
+    ∙ negs_text_more x (drop (i + 1) xs) in
     let added = then_adds (string_bytes c.loop-operand.out) _ _ (c.in_ok-push_str.ensures.bytes) c.in_ok-neg-2.ensures in
     moved (string_bytes c.loop-operand.out) _ (negs_text (drop (i + 1) xs)) c.loop-operand.invariant added parts
 
@@ -53,15 +59,18 @@ pub conj-returns : goal.conj-returns
 conj-returns t c =
     let xs = c.deref-operand-items.result.now in
     let at_end : length xs ≤ c.loop-operand.operand-index = search rules in
-    all_moved (string_bytes c.loop-operand.out) c.loop-operand.invariant (at_drop_all negs_text xs c.loop-operand.operand-index at_end ∙ negs_text_none)
+    all_moved (string_bytes c.loop-operand.out) c.loop-operand.invariant (at_drop_all negs_text xs c.loop-operand.operand-index at_end
+    ∙ negs_text_none)
 
 pub neg-returns : goal.neg-returns
 neg-returns t c =
     let old = string_bytes c.args.out.now in
     let added : string_bytes c.if-e.out ≡ old ++ (if (out-Neg c.args.e.now).negated then codes "not " else []) =
     elim c.if-e.branch [
-      | neg-then-e+in_ok-push_str w ↦ ap string_bytes w.out-is ∙ w.in_ok-push_str.ensures.bytes ∙ ap (λ b. old ++ (if b then codes "not " else [])) (sym w.if-e.true)
-      | neg-else-e w ↦ ap string_bytes w.out-is ∙ sym (append-nil old) ∙ ap (λ b. old ++ (if b then codes "not " else [])) (sym w.if-e.false)
+      | neg-then-e+in_ok-push_str w ↦ ap string_bytes w.out-is ∙ w.in_ok-push_str.ensures.bytes
+          ∙ ap (λ b. old ++ (if b then codes "not " else [])) (sym w.if-e.true)
+      | neg-else-e w ↦ ap string_bytes w.out-is ∙ sym (append-nil old)
+          ∙ ap (λ b. old ++ (if b then codes "not " else [])) (sym w.if-e.false)
     ] in
     called _ old _ (then_ok _ old _ _ _ added c.cmp.ensures) (neg_text c.args.e.now)
 
@@ -73,12 +82,14 @@ pub cmp-returns-in_ok-push_str-in-Some : goal.cmp-returns-in_ok-push_str-in-Some
 cmp-returns-in_ok-push_str-in-Some t c =
     let old = string_bytes c.args.out.now in
     let between = string_bytes c.sum.new.out in
-    let mark = c.in_ok-push_str-in-Some.ensures.bytes ∙ ap (λ l. between ++ l) c.relation.ensures in
-    called _ old _ (then_ok _ old _ _ _ c.in_ok-sum.ensures (then_ok _ between _ _ _ mark c.sum-in-Some.ensures)) (cmp_text_compared c.args.e.now c.in-Some.compared c.in-Some.is)
+    let mark = ◌∙◌ {b = between ++ c.relation.result.now} c.in_ok-push_str-in-Some.ensures.bytes (ap (λ l. between ++ l) c.relation.ensures) in
+    called _ old _ (then_ok _ old _ _ _ c.in_ok-sum.ensures (then_ok _ between _ _ _ mark c.sum-in-Some.ensures)) (cmp_text_compared
+    c.args.e.now c.in-Some.compared c.in-Some.is)
 
 pub sum-loop-term-init : goal.sum-loop-term-init
 sum-loop-term-init t c =
-    let parts = sum_text c.args.e.now ∙ ap (λ l. in_line (prod_then (prod (out-Sum c.args.e.now).first) []) ++ terms_text l) (sym c.deref-term-items.ensures.value) in
+    let parts = sum_text c.args.e.now
+    ∙ ap (λ l. in_line (prod_then (prod (out-Sum c.args.e.now).first) []) ++ terms_text l) (sym c.deref-term-items.ensures.value) in
     moved (string_bytes c.args.out.now) _ (terms_text c.deref-term-items.result.now) refl c.in_ok-prod.ensures parts
 
 pub sum-loop-term-preserved : goal.sum-loop-term-preserved
@@ -87,19 +98,25 @@ sum-loop-term-preserved t c =
     let i = c.loop-term.term-index in
     let x = c.term-item.result in
     let inside : i < length xs = search rules in
-    let parts = at_drop_more terms_text xs i x inside ∙ ap (λ y. terms_text (y ∷ drop (i + 1) xs)) (sym c.term-item.is) ∙ terms_text_more x (drop (i + 1) xs) in
-    let added = then_adds (string_bytes c.loop-term.out) _ _ (c.in_ok-push_str.ensures.bytes ∙ ap (λ l. string_bytes c.loop-term.out ++ l) c.sign.ensures) c.in_ok-prod-2.ensures in
+    let parts = at_drop_more terms_text xs i x inside ∙ ap (λ y. terms_text (y ∷ drop (i + 1) xs)) (sym c.term-item.is)
+    ∙ terms_text_more x (drop (i + 1) xs) in
+    let old = string_bytes c.loop-term.out in
+    let mark = ◌∙◌ {b = old ++ c.sign.result.now} c.in_ok-push_str.ensures.bytes (ap (λ l. old ++ l) c.sign.ensures) in
+    let added = then_adds old _ _ mark c.in_ok-prod-2.ensures in
     moved (string_bytes c.loop-term.out) _ (terms_text (drop (i + 1) xs)) c.loop-term.invariant added parts
 
 pub sum-returns : goal.sum-returns
 sum-returns t c =
     let xs = c.deref-term-items.result.now in
     let at_end : length xs ≤ c.loop-term.term-index = search rules in
-    all_moved (string_bytes c.loop-term.out) c.loop-term.invariant (at_drop_all terms_text xs c.loop-term.term-index at_end ∙ terms_text_none)
+    all_moved (string_bytes c.loop-term.out) c.loop-term.invariant (at_drop_all terms_text xs c.loop-term.term-index at_end
+    ∙ terms_text_none)
 
 pub prod-loop-factor-init : goal.prod-loop-factor-init
 prod-loop-factor-init t c =
-    let parts = prod_text c.args.e.now ∙ ap (λ l. in_line (unary_then (unary (out-Prod c.args.e.now).first) []) ++ factors_text l) (sym c.deref-factor-items.ensures.value) in
+    let parts = prod_text c.args.e.now
+    ∙ ap (λ l. in_line (unary_then (unary (out-Prod c.args.e.now).first) []) ++ factors_text l) (sym
+    c.deref-factor-items.ensures.value) in
     moved (string_bytes c.args.out.now) _ (factors_text c.deref-factor-items.result.now) refl c.in_ok-unary.ensures parts
 
 pub prod-loop-factor-preserved : goal.prod-loop-factor-preserved
@@ -108,15 +125,19 @@ prod-loop-factor-preserved t c =
     let i = c.loop-factor.factor-index in
     let x = c.factor-item.result in
     let inside : i < length xs = search rules in
-    let parts = at_drop_more factors_text xs i x inside ∙ ap (λ y. factors_text (y ∷ drop (i + 1) xs)) (sym c.factor-item.is) ∙ factors_text_more x (drop (i + 1) xs) in
-    let added = then_adds (string_bytes c.loop-factor.out) _ _ (c.in_ok-push_str.ensures.bytes ∙ ap (λ l. string_bytes c.loop-factor.out ++ l) c.operator.ensures) c.in_ok-unary-2.ensures in
+    let parts = at_drop_more factors_text xs i x inside ∙ ap (λ y. factors_text (y ∷ drop (i + 1) xs)) (sym c.factor-item.is)
+    ∙ factors_text_more x (drop (i + 1) xs) in
+    let old = string_bytes c.loop-factor.out in
+    let mark = ◌∙◌ {b = old ++ c.operator.result.now} c.in_ok-push_str.ensures.bytes (ap (λ l. old ++ l) c.operator.ensures) in
+    let added = then_adds old _ _ mark c.in_ok-unary-2.ensures in
     moved (string_bytes c.loop-factor.out) _ (factors_text (drop (i + 1) xs)) c.loop-factor.invariant added parts
 
 pub prod-returns : goal.prod-returns
 prod-returns t c =
     let xs = c.deref-factor-items.result.now in
     let at_end : length xs ≤ c.loop-factor.factor-index = search rules in
-    all_moved (string_bytes c.loop-factor.out) c.loop-factor.invariant (at_drop_all factors_text xs c.loop-factor.factor-index at_end ∙ factors_text_none)
+    all_moved (string_bytes c.loop-factor.out) c.loop-factor.invariant (at_drop_all factors_text xs c.loop-factor.factor-index at_end
+    ∙ factors_text_none)
 
 pub unary-returns : goal.unary-returns
 unfolding lib.Utf8.encode
@@ -124,7 +145,8 @@ unary-returns t c =
     let old = string_bytes c.args.out.now in
     let added : string_bytes c.if-e.out ≡ old ++ (if c.args.e.now.negative then codes "-" else []) =
     elim c.if-e.branch [
-      | unary-then-e+in_ok-push w ↦ ap string_bytes w.out-is ∙ w.in_ok-push.ensures.bytes ∙ ap (λ b. old ++ (if b then codes "-" else [])) (sym w.if-e.true)
+      | unary-then-e+in_ok-push w ↦ ap string_bytes w.out-is ∙ w.in_ok-push.ensures.bytes
+          ∙ ap (λ b. old ++ (if b then codes "-" else [])) (sym w.if-e.true)
       | unary-else-e w ↦ ap string_bytes w.out-is ∙ sym (append-nil old) ∙ ap (λ b. old ++ (if b then codes "-" else [])) (sym w.if-e.false)
     ] in
     called _ old _ (then_ok _ old _ _ _ added c.atom.ensures) (unary_text c.args.e.now.negative (atom c.args.e.now.atom))
@@ -158,7 +180,8 @@ atom-returns-in_ok-expr-in-Element t c =
     let inside = string_bytes c.push.new.self in
     let index = c.in_ok-expr-in-Element.ensures ∙ ap (λ e. inside ++ in_line (expr_then (expr e) [])) c.deref.ensures in
     let is = ap (λ a. in_line (atom_then (atom a) [])) c.in-Element.is ∙ atom_text_Element c.in-Element.section c.in-Element.index in
-    called _ old _ (then_ok _ old _ _ _ name (then_ok _ opened _ _ _ c.in_ok-push-in-Element.ensures.bytes (then_ok _ inside _ _ _ index (pushed _ _ _ _ c.push-in-Element.ensures.bytes)))) is
+    called _ old _ (then_ok _ old _ _ _ name (then_ok _ opened _ _ _ c.in_ok-push-in-Element.ensures.bytes (then_ok _ inside _ _ _ index
+    (pushed _ _ _ _ c.push-in-Element.ensures.bytes)))) is
 
 pub atom-returns-in_ok-push_str-in-Length-2 : goal.atom-returns-in_ok-push_str-in-Length-2
 unfolding lib.Utf8.encode
@@ -167,7 +190,8 @@ atom-returns-in_ok-push_str-in-Length-2 t c =
     let between = string_bytes c.push_str-in-Length.new.self in
     let name = c.in_ok-push_str-in-Length-2.ensures.bytes ∙ ap (λ l. between ++ l) c.as_str-in-Length.ensures.value in
     let is = ap (λ a. in_line (atom_then (atom a) [])) c.in-Length.is ∙ atom_text_Length c.in-Length.section in
-    called _ old _ (then_ok _ old _ _ _ c.in_ok-push_str-in-Length.ensures.bytes (then_ok _ between _ _ _ name (pushed _ _ _ _ c.push-in-Length.ensures.bytes))) is
+    called _ old _ (then_ok _ old _ _ _ c.in_ok-push_str-in-Length.ensures.bytes (then_ok _ between _ _ _ name (pushed _ _ _ _
+    c.push-in-Length.ensures.bytes))) is
 
 pub atom-returns-in_ok-expr-in-Parens : goal.atom-returns-in_ok-expr-in-Parens
 unfolding lib.Utf8.encode
@@ -176,4 +200,5 @@ atom-returns-in_ok-expr-in-Parens t c =
     let inside = string_bytes c.push-in-Parens.new.self in
     let index = c.in_ok-expr-in-Parens.ensures ∙ ap (λ e. inside ++ in_line (expr_then (expr e) [])) c.deref-in-Parens.ensures in
     let is = ap (λ a. in_line (atom_then (atom a) [])) c.in-Parens.is ∙ atom_text_Parens c.in-Parens.inner in
-    called _ old _ (then_ok _ old _ _ _ c.in_ok-push-in-Parens.ensures.bytes (then_ok _ inside _ _ _ index (pushed _ _ _ _ c.push-in-Parens-2.ensures.bytes))) is
+    called _ old _ (then_ok _ old _ _ _ c.in_ok-push-in-Parens.ensures.bytes (then_ok _ inside _ _ _ index (pushed _ _ _ _
+    c.push-in-Parens-2.ensures.bytes))) is

@@ -15,13 +15,17 @@ loop-e-preserved c =
     let inside : i < length xs = search rules in
     let comma : string_bytes c.if-not-first.out ≡ old ++ (if first then [] else codes ", ") =
     elim c.if-not-first.branch [
-      | then-not-first+in_ok-push_str w ↦ ap string_bytes w.out-is ∙ w.in_ok-push_str.ensures.bytes ∙ ap (λ b. old ++ (if b then [] else codes ", ")) (sym w.if-not-first.true)
-      | else-not-first w ↦ ap string_bytes w.out-is ∙ sym (append-nil old) ∙ ap (λ b. old ++ (if b then [] else codes ", ")) (sym w.if-not-first.false)
+      | then-not-first+in_ok-push_str w ↦ ap string_bytes w.out-is ∙ w.in_ok-push_str.ensures.bytes
+          ∙ ap (λ b. old ++ (if b then [] else codes ", ")) (sym w.if-not-first.true)
+      | else-not-first w ↦ ap string_bytes w.out-is ∙ sym (append-nil old)
+          ∙ ap (λ b. old ++ (if b then [] else codes ", ")) (sym w.if-not-first.false)
     ] in
-    let parts = at_drop_more (exprs_text first) xs i x inside ∙ ap (λ y. exprs_text first (y ∷ drop (i + 1) xs)) (sym c.e-item.is) ∙ exprs_text_more first x (drop (i + 1) xs) in
+    let parts = at_drop_more (exprs_text first) xs i x inside ∙ ap (λ y. exprs_text first (y ∷ drop (i + 1) xs)) (sym c.e-item.is)
+    ∙ exprs_text_more first x (drop (i + 1) xs) in
     moved old _ (exprs_text false (drop (i + 1) xs)) c.loop-e.invariant (then_adds old _ _ comma c.in_ok-expr.ensures) parts
 
 pub returns : goal.returns
 returns c =
     let at_end : length c.args.exprs.now ≤ c.loop-e.e-index = search rules in
-    all_moved (string_bytes c.loop-e.out) c.loop-e.invariant (at_drop_all (exprs_text c.loop-e.first) c.args.exprs.now c.loop-e.e-index at_end ∙ exprs_text_none c.loop-e.first)
+    all_moved (string_bytes c.loop-e.out) c.loop-e.invariant (at_drop_all (exprs_text c.loop-e.first) c.args.exprs.now
+    c.loop-e.e-index at_end ∙ exprs_text_none c.loop-e.first)

@@ -7,7 +7,7 @@ use Rattle.syntax.specs.Spelling.{block_then, parameters_then, procedures_then, 
 use Rattle.syntax.specs.Tree.{block, parameter}
 use Rattle.syntax.specs.Writing.{with_rest}
 use Rattle.syntax.proofs.ExpressionText.{ok_then, then_adds}
-use Rattle.syntax.proofs.LineText.{wrote, laid_procedure, procedures_are_lines}
+use Rattle.syntax.proofs.LineText.{wrote, wrote_adds, laid_procedure, procedures_are_lines}
 use Rattle.syntax.proofs.canonical.Lines.procedure.Goals as goal
 
 pub returns-clause-written : goal.returns-clause-written
@@ -18,13 +18,19 @@ returns-clause-written c =
     let p = c.args.procedure.now in
     let behind = c.block.new.lines in
     let name = c.in_ok-push_str-2.ensures.bytes ∙ ap (λ l. string_bytes c.push_str.new.self ++ l) c.as_str.ensures.value in
-    let inside = c.in_ok-parameters.ensures ∙ ap (λ ps. string_bytes c.push.new.self ++ in_line (parameters_then (map parameter ps) [])) c.deref.ensures.value in
-    let header = then_adds (string_bytes begun.text) _ _ c.in_ok-push_str.ensures.bytes (then_adds (string_bytes c.push_str.new.self) _ _ name
-    (then_adds (string_bytes c.push_str-2.new.self) _ _ c.in_ok-push.ensures.bytes (then_adds (string_bytes c.push.new.self) _ _ inside c.in_ok-push-2.ensures.bytes))) in
+    let inside = c.in_ok-parameters.ensures
+    ∙ ap (λ ps. string_bytes c.push.new.self ++ in_line (parameters_then (map parameter ps) [])) c.deref.ensures.value in
+    let header = then_adds (string_bytes begun.text) _ _ c.in_ok-push_str.ensures.bytes (then_adds (string_bytes
+    c.push_str.new.self) _ _ name
+    (then_adds (string_bytes c.push_str-2.new.self) _ _ c.in_ok-push.ensures.bytes (then_adds (string_bytes c.push.new.self) _ _ inside
+    c.in_ok-push-2.ensures.bytes))) in
     let text = then_adds (string_bytes old.text) _ _ c.in_ok-begin.ensures.text header in
     ok_then c.end.result c.end.ensures (λ ends rest m.
     let others = procedures_then rest (main_tokens m) in
-    wrote old (record begun { text = c.push-2.new.self }) Margin Other _ _ _ old.depth old.label text c.in_ok-begin.ensures.depth c.in_ok-begin.ensures.label (laid_procedure old.depth old.label (string_bytes p.name) (map parameter p.parameters.items) (block_then (block p.body.items) others))
-    ∙ ap (λ l. with_rest (record begun { text = c.push-2.new.self }) Other (MarkToken LeftBrace ∷ block_then (block l) others)) (sym c.deref-2.ensures.value)
+    wrote old (record begun { text = c.push-2.new.self }) Margin Other _ _ _ old.depth old.label text c.in_ok-begin.ensures.depth
+    c.in_ok-begin.ensures.label (laid_procedure old.depth old.label (string_bytes p.name) (map parameter p.parameters.items)
+    (block_then (block p.body.items) others))
+    ∙ ap (λ l. with_rest (record begun { text = c.push-2.new.self }) Other (MarkToken LeftBrace ∷ block_then (block l) others)) (sym
+    c.deref-2.ensures.value)
     ∙ c.in_ok-block.ensures.written others
-    ∙ wrote behind c.end.new.self Ended Margin _ _ (codes "\n") behind.depth behind.label ends.text ends.depth ends.label (procedures_are_lines rest m behind.depth behind.label))
+    ∙ wrote_adds behind c.end.new.self Ended Margin _ _ (codes "\n") ends (procedures_are_lines rest m behind.depth behind.label))

@@ -16,7 +16,8 @@ pub loop-procedure-init : goal.loop-procedure-init
 unfolding spelling
 loop-procedure-init c = record {
   counted = c.requires;
-  written = ap (λ l. with_rest c.args.self.now Margin (procedures_then (map procedure l) (main_tokens (option_map main c.args.program.now.main)))) (sym c.deref-procedure-items.ensures.value);
+  written = ap (λ l. with_rest c.args.self.now Margin (procedures_then (map procedure l) (main_tokens (option_map main
+      c.args.program.now.main)))) (sym c.deref-procedure-items.ensures.value);
 }
 
 pub returns-in_default : goal.returns-in_default
@@ -26,7 +27,8 @@ returns-in_default c =
     let old = c.loop-procedure.self in
     let at_end : length xs ≤ c.loop-procedure.procedure-index = search rules in
     c.loop-procedure.invariant.written
-    ∙ at_drop_all (λ l. with_rest old Margin (procedures_then (map procedure l) (main_tokens (option_map main c.args.program.now.main)))) xs c.loop-procedure.procedure-index at_end
+    ∙ at_drop_all (λ l. with_rest old Margin (procedures_then (map procedure l) (main_tokens (option_map main
+    c.args.program.now.main)))) xs c.loop-procedure.procedure-index at_end
     ∙ ap (λ m. with_rest old Margin (main_tokens (option_map main m))) c.in_default.is
     ∙ append-nil (string_bytes old.text)
 
@@ -43,11 +45,17 @@ loop-array-init c =
     record {
       counted = c.in_ok-open.ensures.counted;
       written = c.loop-procedure.invariant.written
-          ∙ at_drop_all (λ l. with_rest old Margin (procedures_then (map procedure l) (main_tokens (option_map main c.args.program.now.main)))) xs c.loop-procedure.procedure-index at_end
+          ∙ at_drop_all (λ l. with_rest old Margin (procedures_then (map procedure l) (main_tokens (option_map main
+          c.args.program.now.main)))) xs c.loop-procedure.procedure-index at_end
           ∙ ap (λ m. with_rest old Margin (main_tokens (option_map main m))) c.in-Some.is
-          ∙ wrote old (record begun { text = c.push_str.new.self }) Margin Other _ _ _ old.depth old.label text c.in_ok-begin.ensures.depth c.in_ok-begin.ensures.label (laid_main old.depth old.label (arrays_then arrays (block_then body [])))
-          ∙ wrote (record begun { text = c.push_str.new.self }) c.open.new.self Other Margin _ _ (codes " {\n") (begun.depth + 1) begun.label c.in_ok-open.ensures.text c.in_ok-open.ensures.depth c.in_ok-open.ensures.label (opened begun.depth begun.label (arrays_then arrays (block_then body [])) (arrays_are_lines arrays body []))
-          ∙ ap (λ l. with_rest c.open.new.self Margin (arrays_then (map array l) (block_then body []))) (sym c.deref-array-items.ensures.value);
+          ∙ wrote old (record begun { text = c.push_str.new.self }) Margin Other _ _ _ old.depth old.label text
+          c.in_ok-begin.ensures.depth c.in_ok-begin.ensures.label (laid_main old.depth old.label (arrays_then arrays
+          (block_then body [])))
+          ∙ wrote (record begun { text = c.push_str.new.self }) c.open.new.self Other Margin _ _ (codes " {\n")
+          (begun.depth + 1) begun.label c.in_ok-open.ensures.text c.in_ok-open.ensures.depth c.in_ok-open.ensures.label
+          (opened begun.depth begun.label (arrays_then arrays (block_then body [])) (arrays_are_lines arrays body []))
+          ∙ ap (λ l. with_rest c.open.new.self Margin (arrays_then (map array l) (block_then body []))) (sym
+          c.deref-array-items.ensures.value);
     }
 
 pub returns : goal.returns
@@ -62,5 +70,6 @@ returns c =
     ∙ at_drop_all (λ l. with_rest old Margin (arrays_then (map array l) (block_then (block body) []))) xs c.loop-array.array-index at_end
     ∙ ap (λ b. with_rest old Margin (block_then (block b) [])) (sym c.deref.ensures.value)
     ∙ c.in_ok-statements.ensures.written []
-    ∙ wrote behind c.close.new.self Margin Ended (MarkToken RightBrace ∷ []) [] _ (behind.depth - 1) behind.label c.in_ok-close.ensures.text c.in_ok-close.ensures.depth c.in_ok-close.ensures.label (closed behind.depth behind.label [])
+    ∙ wrote behind c.close.new.self Margin Ended (MarkToken RightBrace ∷ []) [] _ (behind.depth - 1) behind.label
+    c.in_ok-close.ensures.text c.in_ok-close.ensures.depth c.in_ok-close.ensures.label (closed behind.depth behind.label [])
     ∙ sym ends.text)
