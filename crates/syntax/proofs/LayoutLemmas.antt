@@ -20,7 +20,7 @@ use Rattle.syntax.specs.Token.{Token, NameToken, NumberToken, WordToken, MarkTok
 use Rattle.syntax.specs.Spelling.{spelling}
 use Rattle.syntax.specs.Tree.{Program}
 
-both_true : (a b : Bool) → (a && b) ≡ true → (a ≡ true) × (b ≡ true)
+pub both_true : (a b : Bool) → (a && b) ≡ true → (a ≡ true) × (b ≡ true)
 both_true true b e = (refl, e)
 both_true false b e = absurd (false≢true e)
 
@@ -51,7 +51,7 @@ margin_blank None e true = refl
 margin_blank None e false = refl
 margin_blank (Some n) e b = cc
 
-line_end_blank : (left : Left) → list_all is_blank (line_end left) ≡ true
+pub line_end_blank : (left : Left) → list_all is_blank (line_end left) ≡ true
 line_end_blank Ended = refl
 line_end_blank _ = refl
 
@@ -63,7 +63,7 @@ space_blank Operand t = either_blank (is_closing t) [] (codes " ") refl refl
 space_blank Ended t = either_blank (is_closing t) [] (codes " ") refl refl
 space_blank Other t = either_blank (is_closing t) [] (codes " ") refl refl
 
-before_blank : (at : Place) (t : Token) → at.label ≡ None → list_all is_blank (before at t) ≡ true
+pub before_blank : (at : Place) (t : Token) → at.label ≡ None → list_all is_blank (before at t) ≡ true
 before_blank at t none =
     let margin = if begins_statement t then statement_margin at.label else plain_margin at.label in
     let start = both_blank margin (indentation at.depth t) (margin_blank at.label none (begins_statement t))
@@ -71,7 +71,7 @@ before_blank at t none =
     either_blank (begins_line at.left t) _ _ (both_blank (line_end at.left) (line_start at t) (line_end_blank at.left) start)
     (space_blank at.left t)
 
-label_none : (n : Option ℕ) → n ≡ None → (b : Bool) → (if b then option_map (λ k. k + 1) n else n) ≡ None
+pub label_none : (n : Option ℕ) → n ≡ None → (b : Bool) → (if b then option_map (λ k. k + 1) n else n) ≡ None
 label_none n e true = ap (option_map (λ k. k + 1)) e
 label_none n e false = e
 
@@ -292,7 +292,7 @@ cut_writable (WordPiece w ∷ ps) text rest cut = (tt, cut_writable ps cut.0 res
 cut_writable (MarkPiece m ∷ ps) text rest cut = (tt, cut_writable ps cut.0 rest cut.2)
 
 -- the tokens of a text are writable
-tokens_writable : (text : List ℕ) (ts : List Token) → AreTokensOf text ts → AreWritable ts
+pub tokens_writable : (text : List ℕ) (ts : List Token) → AreTokensOf text ts → AreWritable ts
 tokens_writable text ts has = subst AreWritable has.tokens (cut_writable has.pieces text [] has.cut)
 
 -- texts, piece by piece

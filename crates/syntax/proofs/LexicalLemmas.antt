@@ -67,7 +67,7 @@ both false b e = absurd (false≢true e)
 in_range_is_below : (low high c : ℕ) → high < 128 → is_in_range low high c ≡ true → c < 128
 in_range_is_below low high c small e = omega (arith, small, leb-true c high (both _ _ e).1)
 
-either : (a b : Bool) → (a || b) ≡ true → (a ≡ true) ⊎ (b ≡ true)
+pub either : (a b : Bool) → (a || b) ≡ true → (a ≡ true) ⊎ (b ≡ true)
 either true b e = inl refl
 either false b e = inr e
 

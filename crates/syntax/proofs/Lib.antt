@@ -1,3 +1,4 @@
+pub mod AsciiLemmas
 pub mod Atoms
 pub mod BlockLemmas
 pub mod CanonicalExamples

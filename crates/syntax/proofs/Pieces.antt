@@ -136,7 +136,7 @@ word_begins True = refl
 word_begins Var = refl
 word_begins While = refl
 
-word_in_name : (w : Word) → list_all is_in_name (word_text w) ≡ true
+pub word_in_name : (w : Word) → list_all is_in_name (word_text w) ≡ true
 word_in_name And = refl
 word_in_name Array = refl
 word_in_name As = refl

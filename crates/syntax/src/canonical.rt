@@ -2,6 +2,7 @@
 
 ghost use Rattle.std.specs.Prelude.{◌≡◌, ℕ, ◌+◌, ◌-◌, [], ◌∷◌, ◌++◌, codes, if◌then◌else◌, List, Option, IfOk, OnOk, IsTrue, map};
 ghost use Rattle.std.specs.Option.{option_map};
+ghost use Rattle.std.specs.Str.{chars};
 ghost use Rattle.std.specs.String.{string_bytes};
 ghost use Rattle.syntax.specs.Canonical.{Margin, Opening, Operand, Ended, Other, canonical, listed, in_line, indent, plain_margin, statement_margin};
 ghost use Rattle.syntax.specs.Lexical.{word_text, AreTokensOf};
@@ -21,7 +22,7 @@ pub fn format(alloc: Global, program: &Program) -> Result<String, AllocError>
     ensures text { IfOk result (λ text. string_bytes text ≡ canonical (program_tree program.now)) }
     ensures tokens { IfOk result (λ text. (source : List ℕ)
         → AreTokensOf source (spelling (program_tree program.now))
-        → AreTokensOf (string_bytes text) (spelling (program_tree program.now))) }
+        → AreTokensOf (chars (string_bytes text)) (spelling (program_tree program.now))) }
 {
     let mut lines = Lines::new(alloc, false);
     lines.program(program)?;

@@ -1,8 +1,9 @@
 use Rattle.std.proofs.Common.{sym, subst}
+use Rattle.std.specs.Str.{chars}
 use Rattle.syntax.specs.Lexical.{AreTokensOf}
 use Rattle.syntax.specs.Spelling.{spelling}
 use Rattle.syntax.specs.Tree.{program}
-use Rattle.syntax.proofs.LayoutLemmas.{canonical_tokens}
+use Rattle.syntax.proofs.AsciiLemmas.{canonical_is_read}
 use Rattle.syntax.proofs.LineText.{begins_text}
 use Rattle.syntax.proofs.canonical.format.Goals as goal
 
@@ -15,4 +16,4 @@ returns-clause-tokens c = λ source has.
     let p = program c.args.program.now in
     let written = begins_text c.new-lines.result (spelling p) _ c.new-lines.ensures.text c.new-lines.ensures.depth c.new-lines.ensures.label
     c.in_ok-program.ensures in
-    subst (λ t. AreTokensOf t (spelling p)) (sym written) (canonical_tokens source p has)
+    subst (λ t. AreTokensOf (chars t) (spelling p)) (sym written) (canonical_is_read source p has)
