@@ -1,6 +1,5 @@
 -- The canonical text is ASCII: its bytes are its characters.
-use Rattle.std.proofs.Common.{◌≡◌, ◌<◌, ◌&&◌, ◌||◌, ◌==◌, ℕ, zero, suc, ⊎_elim, lit<, true, List, [], ◌∷◌, ◌++◌, Option, None, refl, sym, subst, ◌∙◌, arith}
-use Rattle.std.specs.Fmt.{decimal}
+use Rattle.std.proofs.Common.{◌≡◌, ◌<◌, ◌&&◌, ◌||◌, ◌==◌, ℕ, zero, suc, ⊎_elim, lit<, true, List, [], ◌∷◌, Option, None, refl, sym, subst, arith}
 use Rattle.std.specs.List.{list_all}
 use Rattle.std.specs.Str.{IsAscii, chars}
 use Rattle.std.proofs.lemmas.Bool.{eqb-true}

@@ -5,7 +5,9 @@ ghost use Rattle.syntax.specs.declared.error.SyntaxError.{SyntaxError};
 ghost use Rattle.syntax.specs.declared.error.SyntaxError.TheVariants.{OutOfMemory};
 ghost use Rattle.syntax.specs.Lexical.{AreTokensOf, StopsAt};
 ghost use Rattle.syntax.specs.Refusals.{IsTooDeep, TellsOf, code_of};
+ghost use Rattle.syntax.specs.Spelling.{spelling};
 ghost use Rattle.syntax.specs.Token.{Token};
+ghost use Rattle.syntax.specs.Tree.{Program};
 
 /// A text has one list of tokens at most; one that can't be read to its end has none, and it can't
 /// be read at one place alone.
@@ -25,4 +27,9 @@ pub fn texts_are_refused_for_one_reason()
         → e ≢ OutOfMemory → f ≢ OutOfMemory → code_of e ≡ code_of f }
     ensures place { (text : List ℕ) (at other : ℕ)
         → IsTooDeep text at → IsTooDeep text other → at ≡ other }
+{}
+
+/// No two programs have one spelling.
+pub fn one_spelling()
+    ensures { (p q : Program) → spelling p ≡ spelling q → p ≡ q }
 {}

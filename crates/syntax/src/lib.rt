@@ -12,7 +12,6 @@ pub mod lexer;
 pub mod parser;
 pub mod place;
 pub mod programs;
-pub mod spelling_laws;
 pub mod statements;
 #[cfg(test)]
 mod tests;
