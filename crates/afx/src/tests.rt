@@ -458,11 +458,16 @@ fn repeated(
     Ok(text)
 }
 
+/// What closes 99 parentheses.
+const CLOSED: &str =
+    "1))))))))))))))))))))))))))))))))))))))))))))))))))))))))))))))))))))))))))))))))))))))))))))))))))); }";
+
 #[test]
 fn long_programs(rt: HostRuntime) -> Result<(), Fail> {
     let alloc = rt.alloc();
     let rows = [
         ("main { print ", 100, "(", "", "S4 at 1:113\n", 1),
+        ("main { print ", 99, "(", CLOSED, "Z1\n", 1),
         ("main { ", 10_000, "skip; ", "}", "", 0),
         ("main { ", 10_001, "skip; ", "}", "Z1\n", 1),
     ];
