@@ -29,7 +29,9 @@ pub fn turn<'p>(
         OnOk result (resume p fresh frames.new.items (standing thread.new)
         ≡ resume p fresh frames.old.items (done p fresh frame.entry (standing thread.old))) }
     ensures lengths { OnOk result (lengths_of thread.new.store ≡ lengths_of thread.old.store) }
-    ensures ends { OnOk result (turns_left plan.entry.fresh thread.new frames.new.items < turns_left plan.entry.fresh thread.old frames.old.items + cost plan.entry.fresh frame.entry) }
+    ensures ends { let fresh = plan.entry.fresh in
+        OnOk result (turns_left fresh thread.new frames.new.items
+        < turns_left fresh thread.old frames.old.items + cost fresh frame.entry) }
 {
     match frame {
         Frame::Rest(block) => rest(plan, thread, frames, block),
@@ -97,7 +99,9 @@ fn rest<'p>(
         OnOk result (resume p fresh frames.new.items (standing thread.new)
         ≡ resume p fresh frames.old.items (doing p fresh (Block (codes_of block.entry.now)) (standing thread.old))) }
     ensures lengths { OnOk result (lengths_of thread.new.store ≡ lengths_of thread.old.store) }
-    ensures ends { OnOk result (turns_left plan.entry.fresh thread.new frames.new.items < turns_left plan.entry.fresh thread.old frames.old.items + 1) }
+    ensures ends { let fresh = plan.entry.fresh in
+        OnOk result (turns_left fresh thread.new frames.new.items
+        < turns_left fresh thread.old frames.old.items + 1) }
 {
     match block.split_first() {
         None => Ok(()),
@@ -125,7 +129,9 @@ fn again<'p>(
         OnOk result (resume p fresh frames.new.items (standing thread.new)
         ≡ resume p fresh frames.old.items (doing p fresh (Turn label (truth_of guard.entry.now) (codes_of body.entry.now)) (standing thread.old))) }
     ensures lengths { OnOk result (lengths_of thread.new.store ≡ lengths_of thread.old.store) }
-    ensures ends { OnOk result (turns_left plan.entry.fresh thread.new frames.new.items < turns_left plan.entry.fresh thread.old frames.old.items + 1) }
+    ensures ends { let fresh = plan.entry.fresh in
+        OnOk result (turns_left fresh thread.new frames.new.items
+        < turns_left fresh thread.old frames.old.items + 1) }
 {
     if thread.takes_step() {
         turn_loop(plan, thread, frames, label, guard, body)
@@ -146,7 +152,9 @@ fn statement<'p>(
         OnOk result (resume p fresh frames.new.items (standing thread.new)
         ≡ resume p fresh frames.old.items (acted p fresh stmt.entry.now.label (code_of stmt.entry.now.kind) (standing thread.old))) }
     ensures lengths { OnOk result (lengths_of thread.new.store ≡ lengths_of thread.old.store) }
-    ensures ends { OnOk result (turns_left plan.entry.fresh thread.new frames.new.items < turns_left plan.entry.fresh thread.old frames.old.items + rate plan.entry.fresh thread.old.nest) }
+    ensures ends { let fresh = plan.entry.fresh in
+        OnOk result (turns_left fresh thread.new frames.new.items
+        < turns_left fresh thread.old frames.old.items + rate fresh thread.old.nest) }
 {
     let label = stmt.label;
     match &stmt.kind {
@@ -239,7 +247,9 @@ fn turn_loop<'p>(
         OnOk result (resume p fresh frames.new.items (standing thread.new)
         ≡ resume p fresh frames.old.items (acted p fresh label (While (truth_of guard.entry.now) (codes_of body.entry.now)) (standing thread.old))) }
     ensures lengths { OnOk result (lengths_of thread.new.store ≡ lengths_of thread.old.store) }
-    ensures ends { OnOk result (turns_left plan.entry.fresh thread.new frames.new.items < turns_left plan.entry.fresh thread.old frames.old.items + 3) }
+    ensures ends { let fresh = plan.entry.fresh in
+        OnOk result (turns_left fresh thread.new frames.new.items
+        < turns_left fresh thread.old frames.old.items + 3) }
 {
     match thread.truth(guard) {
         Err(kind) => thread.fault(plan, label, kind),
@@ -276,7 +286,9 @@ fn call<'p>(
         OnOk result (resume p fresh frames.new.items (standing thread.new)
         ≡ resume p fresh frames.old.items (acted p fresh label (Call procedure (map number_of values.now) sections.now) (standing thread.old))) }
     ensures lengths { OnOk result (lengths_of thread.new.store ≡ lengths_of thread.old.store) }
-    ensures ends { OnOk result (turns_left plan.entry.fresh thread.new frames.new.items < turns_left plan.entry.fresh thread.old frames.old.items + 3) }
+    ensures ends { let fresh = plan.entry.fresh in
+        OnOk result (turns_left fresh thread.new frames.new.items
+        < turns_left fresh thread.old frames.old.items + 3) }
 {
     let values = match thread.numbers(plan, values)? {
         Err(kind) => return thread.fault(plan, label, kind),
@@ -305,7 +317,9 @@ fn begin_async<'p>(
         OnOk result (resume p fresh frames.new.items (standing thread.new)
         ≡ resume p fresh frames.old.items (acted p fresh 0 (Async (codes_of body.entry.now)) (standing thread.old))) }
     ensures lengths { OnOk result (lengths_of thread.new.store ≡ lengths_of thread.old.store) }
-    ensures ends { OnOk result (turns_left plan.entry.fresh thread.new frames.new.items < turns_left plan.entry.fresh thread.old frames.old.items + rate plan.entry.fresh thread.old.nest) }
+    ensures ends { let fresh = plan.entry.fresh in
+        OnOk result (turns_left fresh thread.new frames.new.items
+        < turns_left fresh thread.old frames.old.items + rate fresh thread.old.nest) }
 {
     if thread.nest == 0 {
         thread.flow = Flow::Stopped;
