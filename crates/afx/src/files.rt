@@ -1,5 +1,7 @@
 //! Where the program finds what its words name.
 
+ghost use Rattle.std.specs.Prelude.{◌≡◌};
+
 use std::io::{ErrorKind, Read};
 use std::rt::Files;
 use std::{fs, io};
@@ -27,7 +29,9 @@ pub struct MachineFiles<'r, R> {
 
 impl<'r, R> MachineFiles<'r, R> {
     /// The files that a runtime reaches.
-    pub fn new(rt: &'r R) -> MachineFiles<'r, R> {
+    pub fn new(rt: &'r R) -> MachineFiles<'r, R>
+        ensures { result.rt ≡ rt.entry }
+    {
         MachineFiles { rt }
     }
 }
