@@ -6,12 +6,14 @@ use Rattle.types.specs.Meaning.{after_finish}
 use Rattle.types.specs.Run.{On, Faulted}
 use Rattle.types.specs.Translation.{fault}
 
-some_left : (n : ℕ) (xs : List rFault) → n < length xs → (after_finish On (drop n (map fault xs)) ≡ Faulted) × (after_finish Faulted (drop n (map fault xs)) ≡ Faulted)
+some_left : (n : ℕ) (xs : List rFault) → n < length xs
+    → (after_finish On (drop n (map fault xs)) ≡ Faulted) × (after_finish Faulted (drop n (map fault xs)) ≡ Faulted)
 some_left n [] lt = absurd (omega (arith, lt))
 some_left zero (x ∷ xs) lt = (refl, refl)
 some_left (suc n) (x ∷ xs) lt = some_left n xs (omega (arith, lt))
 
-none_left : (n : ℕ) (xs : List rFault) → length xs ≤ n → (after_finish On (drop n (map fault xs)) ≡ On) × (after_finish Faulted (drop n (map fault xs)) ≡ On)
+none_left : (n : ℕ) (xs : List rFault) → length xs ≤ n
+    → (after_finish On (drop n (map fault xs)) ≡ On) × (after_finish Faulted (drop n (map fault xs)) ≡ On)
 none_left zero [] le = (refl, refl)
 none_left (suc n) [] le = (refl, refl)
 none_left zero (x ∷ xs) le = absurd (omega (arith, le))

@@ -1,5 +1,6 @@
 -- What loops over lists keep.
-use Rattle.std.proofs.Common.{◌≡◌, ℕ, zero, suc, ◌+◌, ◌<◌, List, [], ◌∷◌, ◌++◌, length, get_or, take, drop, Ok, Err, refl, sym, ap, ◌∙◌, append_assoc, append-nil, arith}
+use Rattle.std.proofs.Common.{◌≡◌, ℕ, zero, suc, ◌+◌, ◌<◌, List, [], ◌∷◌, ◌++◌, length, get_or, take, drop, Ok, Err}
+use Rattle.std.proofs.Common.{refl, sym, ap, ◌∙◌, append_assoc, append-nil, arith}
 use Rattle.std.proofs.Math.Seq.{drop-cons, take-suc}
 use Rattle.std.proofs.lemmas.List.{map-append}
 use Rattle.std.specs.Prelude.{ℤ, map, slice_get, slice_index_or, Some}
@@ -31,27 +32,34 @@ module _ (env : Environment) (read : Place → ℤ) where
   abbrev pub followed : List rNumber → List ℤ → Valued (List ℤ)
   followed es so_far = then_try (numbers env read (map number_of es)) (λ vs. Ok (so_far ++ vs))
 
-  grown : (r : Valued (List ℤ)) (so_far : List ℤ) (v : ℤ) → then_try (then_try r (λ vs. Ok (v ∷ vs))) (λ vs. Ok (so_far ++ vs)) ≡ then_try r (λ vs. Ok ((so_far ++ v ∷ []) ++ vs))
+  grown : (r : Valued (List ℤ)) (so_far : List ℤ) (v : ℤ)
+      → then_try (then_try r (λ vs. Ok (v ∷ vs)))
+      (λ vs. Ok (so_far ++ vs)) ≡ then_try r (λ vs. Ok ((so_far ++ v ∷ []) ++ vs))
   grown (Ok vs) so_far v = ap Ok (sym (append_assoc so_far (v ∷ []) vs))
   grown (Err f) so_far v = refl
 
-  left_at : (es : List rNumber) (i : ℕ) (e : rNumber) (so_far : List ℤ) → i < length es → e ≡ get_or es i e → followed (drop i es) so_far ≡ followed (e ∷ drop (i + 1) es) so_far
+  left_at : (es : List rNumber) (i : ℕ) (e : rNumber) (so_far : List ℤ) → i < length es → e ≡ get_or es i e
+      → followed (drop i es) so_far ≡ followed (e ∷ drop (i + 1) es) so_far
   left_at es i e so_far lt at =
       let more : suc i ≡ i + 1 = omega arith in
       ap (λ l. followed l so_far) (drop-cons es i e lt ∙ ap (λ x. x ∷ drop (suc i) es) (sym at) ∙ ap (λ j. e ∷ drop j es) more)
 
-  pub followed-Ok : (es : List rNumber) (i : ℕ) (e : rNumber) (so_far : List ℤ) (v : ℤ) → i < length es → e ≡ get_or es i e → Ok v ≡ number env read (number_of e)
+  pub followed-Ok : (es : List rNumber) (i : ℕ) (e : rNumber) (so_far : List ℤ) (v : ℤ) → i < length es
+      → e ≡ get_or es i e → Ok v ≡ number env read (number_of e)
       → followed (drop (i + 1) es) (so_far ++ v ∷ []) ≡ followed (drop i es) so_far
   followed-Ok es i e so_far v lt at is =
       sym (left_at es i e so_far lt at
-      ∙ ap (λ r. then_try (then_try r (λ v. then_try (numbers env read (map number_of (drop (i + 1) es))) (λ vs. Ok (v ∷ vs)))) (λ vs. Ok (so_far ++ vs))) (sym is)
+      ∙ ap (λ r. then_try (then_try r (λ v. then_try (numbers env read (map number_of (drop (i + 1) es)))
+      (λ vs. Ok (v ∷ vs)))) (λ vs. Ok (so_far ++ vs))) (sym is)
       ∙ grown (numbers env read (map number_of (drop (i + 1) es))) so_far v)
 
-  pub followed-Err : (es : List rNumber) (i : ℕ) (e : rNumber) (so_far : List ℤ) (f : FaultKind) → i < length es → e ≡ get_or es i e → Err f ≡ number env read (number_of e)
+  pub followed-Err : (es : List rNumber) (i : ℕ) (e : rNumber) (so_far : List ℤ) (f : FaultKind) → i < length es
+      → e ≡ get_or es i e → Err f ≡ number env read (number_of e)
       → Err f ≡ followed (drop i es) so_far
   followed-Err es i e so_far f lt at is =
       sym (left_at es i e so_far lt at
-      ∙ ap (λ r. then_try (then_try r (λ v. then_try (numbers env read (map number_of (drop (i + 1) es))) (λ vs. Ok (v ∷ vs)))) (λ vs. Ok (so_far ++ vs))) (sym is))
+      ∙ ap (λ r. then_try (then_try r (λ v. then_try (numbers env read (map number_of (drop (i + 1) es)))
+      (λ vs. Ok (v ∷ vs)))) (λ vs. Ok (so_far ++ vs))) (sym is))
 
   pub followed-none : (es : List rNumber) (so_far : List ℤ) → es ≡ [] → Ok so_far ≡ followed es so_far
   followed-none es so_far none = ap Ok (sym (append-nil so_far)) ∙ ap (λ l. followed l so_far) (sym none)
@@ -64,13 +72,16 @@ windows-more arrays i a ws w lt at is =
     let more : suc i ≡ i + 1 = omega arith in
     append_assoc ws (w ∷ []) (whole_arrays (i + 1) (map array (drop (i + 1) arrays)))
     ∙ ap (λ v. ws ++ v ∷ whole_arrays (i + 1) (map array (drop (i + 1) arrays))) is
-    ∙ ap (λ l. ws ++ whole_arrays i (map array l)) (sym (drop-cons arrays i a lt ∙ ap (λ x. x ∷ drop (suc i) arrays) (sym at) ∙ ap (λ j. a ∷ drop j arrays) more))
+    ∙ ap (λ l. ws ++ whole_arrays i (map array l))
+    (sym (drop-cons arrays i a lt ∙ ap (λ x. x ∷ drop (suc i) arrays) (sym at) ∙ ap (λ j. a ∷ drop j arrays) more))
 
 -- the body of the procedure at a number
-pub body_at : (ps : List rProcedure) (f : ℕ) (x : rProcedure) → slice_get ps f ≡ Some x → codes x.body.items ≡ (slice_index_or (map procedure ps) f no_procedure).body
+pub body_at : (ps : List rProcedure) (f : ℕ) (x : rProcedure) → slice_get ps f ≡ Some x
+    → codes x.body.items ≡ (slice_index_or (map procedure ps) f no_procedure).body
 body_at ps f x e = by_lookup ps f e
   where
-    by_lookup : (ps : List rProcedure) (f : ℕ) → slice_get ps f ≡ Some x → codes x.body.items ≡ (slice_index_or (map procedure ps) f no_procedure).body
+    by_lookup : (ps : List rProcedure) (f : ℕ) → slice_get ps f ≡ Some x
+        → codes x.body.items ≡ (slice_index_or (map procedure ps) f no_procedure).body
     by_lookup [] f e = cc
     by_lookup (y ∷ ys) zero e = let same : y ≡ x = cc in ap (λ (z : rProcedure). codes z.body.items) (sym same)
     by_lookup (y ∷ ys) (suc f) e = by_lookup ys f e

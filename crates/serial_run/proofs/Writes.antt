@@ -13,12 +13,14 @@ Row = Vec ℤ Global
 abbrev numbers : Row → List ℤ
 numbers v = v.items
 
-row_at : (rows : List Row) (a : ℕ) (row : Row) → a < length rows → row ≡ get_or rows a row → slice_index_or (map numbers rows) a [] ≡ row.items
+row_at : (rows : List Row) (a : ℕ) (row : Row) → a < length rows → row ≡ get_or rows a row
+    → slice_index_or (map numbers rows) a [] ≡ row.items
 row_at [] a row lt at = absurd (omega (arith, lt))
 row_at (r ∷ rows) zero row lt at = sym (ap numbers at)
 row_at (r ∷ rows) (suc a) row lt at = row_at rows a row (omega (arith, lt)) at
 
-pub held_by-with_item : (rows : List Row) (row : Row) (a i : ℕ) (v z : ℤ) → a < length rows → row ≡ get_or rows a row → i < length row.items → z ≡ v
+pub held_by-with_item : (rows : List Row) (row : Row) (a i : ℕ) (v z : ℤ) → a < length rows → row ≡ get_or rows a row
+    → i < length row.items → z ≡ v
     → held_by (map numbers (slice_set rows a (with_item row i z))) ≡ write (record { array = a; index = i }) v (held_by (map numbers rows))
 held_by-with_item rows row a i v z there at lt e =
     let same = row_at rows a row there at in

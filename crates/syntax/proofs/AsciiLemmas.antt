@@ -1,18 +1,23 @@
 -- The canonical text is ASCII: its bytes are its characters.
-use Rattle.std.proofs.Common.{◌≡◌, ◌<◌, ◌&&◌, ◌||◌, ◌==◌, ℕ, zero, suc, ⊎_elim, lit<, true, List, [], ◌∷◌, Option, None, refl, sym, subst, arith}
+use Rattle.std.proofs.Common.{◌≡◌, ◌<◌, ◌&&◌, ◌||◌, ◌==◌, ℕ, zero, suc, ⊎_elim, lit<, true, List, [], ◌∷◌, Option, None}
+use Rattle.std.proofs.Common.{refl, sym, subst, arith}
 use Rattle.std.specs.List.{list_all}
 use Rattle.std.specs.Str.{IsAscii, chars}
 use Rattle.std.proofs.lemmas.Bool.{eqb-true}
 use Rattle.std.proofs.lemmas.Fmt.{IsAscii-decimal}
 use Rattle.std.proofs.lemmas.Str.{IsAscii-append, chars-IsAscii}
 use Rattle.syntax.specs.declared.token.Mark.{Mark}
-use Rattle.syntax.specs.declared.token.Mark.TheVariants.{LeftParen, RightParen, LeftBrace, RightBrace, LeftBracket, RightBracket, Comma, Semicolon, Colon, Becomes, Plus, Minus, Star, Slash, Percent, Less, AtMost, Greater, AtLeast, Equal, Differs}
+use Rattle.syntax.specs.declared.token.Mark.TheVariants.{LeftParen, RightParen, LeftBrace, RightBrace, LeftBracket}
+use Rattle.syntax.specs.declared.token.Mark.TheVariants.{RightBracket, Comma, Semicolon, Colon, Becomes, Plus, Minus}
+use Rattle.syntax.specs.declared.token.Mark.TheVariants.{Star, Slash, Percent, Less, AtMost, Greater, AtLeast, Equal}
+use Rattle.syntax.specs.declared.token.Mark.TheVariants.{Differs}
 use Rattle.syntax.specs.Canonical.{Left, Margin, Place, canonical, laid, next, before, begins_line, begins_statement, line_end, token_text}
 use Rattle.syntax.specs.Lexical.{AreTokensOf, is_blank, mark_text, word_text}
 use Rattle.syntax.specs.Spelling.{spelling}
 use Rattle.syntax.specs.Token.{Token, NameToken, NumberToken, WordToken, MarkToken}
 use Rattle.syntax.specs.Tree.{Program}
-use Rattle.syntax.proofs.LayoutLemmas.{IsWritable, AreWritable, both_true, before_blank, canonical_tokens, label_none, line_end_blank, tokens_writable}
+use Rattle.syntax.proofs.LayoutLemmas.{IsWritable, AreWritable, both_true, before_blank, canonical_tokens, label_none}
+use Rattle.syntax.proofs.LayoutLemmas.{line_end_blank, tokens_writable}
 use Rattle.syntax.proofs.LexicalLemmas.{either, letters_are_ascii}
 use Rattle.syntax.proofs.Pieces.{word_in_name}
 
@@ -76,7 +81,8 @@ laid_is_ascii [] d n left none fit = blanks_are_ascii (line_end left) (line_end_
 laid_is_ascii (t ∷ ts) d n left none fit =
     let at : Place = record { depth = d; label = n; left = left } in
     let behind : Place = next at t in
-    let rest = laid_is_ascii ts behind.depth behind.label behind.left (label_none n none (begins_line left t && begins_statement t)) fit.1 in
+    let rest = laid_is_ascii ts behind.depth behind.label behind.left
+    (label_none n none (begins_line left t && begins_statement t)) fit.1 in
     IsAscii-append (before at t) _ (blanks_are_ascii (before at t) (before_blank at t none))
     (IsAscii-append (token_text t) _ (token_is_ascii t fit.0) rest)
 

@@ -1,6 +1,8 @@
 -- The lone atom of each level is that of the next, where nothing stands beside it.
 use Rattle.std.proofs.Common.{◌≡◌, ◌≢◌, List, [], ◌∷◌, length, Option, Some, None, Bool, true, false, refl, sym, ap, ◌∙◌, arith}
-use Rattle.syntax.specs.Tree.{Or, Conj, And, Neg, Cmp, Alone, Compare, Add, Prod, Multiply, Unary, expr, conj, neg, cmp, sum, term, prod, unary, conjs, negs, terms, factors, negated, lone_atom, atom_of_conj, atom_of_neg, atom_of_sum, atom_of_prod, atom_of_unary}
+use Rattle.syntax.specs.Tree.{Or, Conj, And, Neg, Cmp, Alone, Compare, Add, Prod, Multiply, Unary, expr, conj, neg, cmp}
+use Rattle.syntax.specs.Tree.{sum, term, prod, unary, conjs, negs, terms, factors, negated, lone_atom, atom_of_conj}
+use Rattle.syntax.specs.Tree.{atom_of_neg, atom_of_sum, atom_of_prod, atom_of_unary}
 use Rattle.syntax.specs.declared.tree.Expr.{Expr as rExpr, out-Expr, roll-out-Expr}
 use Rattle.syntax.specs.declared.tree.Conj.{Conj as rConj, out-Conj, roll-out-Conj}
 use Rattle.syntax.specs.declared.tree.Neg.{Neg as rNeg, out-Neg, roll-out-Neg}
@@ -95,13 +97,16 @@ atom_of_negated false c h = cc
 pub neg_denied : (e : rNeg) → (out-Neg e).negated ≡ true → None ≡ atom_of_neg (neg e)
 neg_denied e h = atom_of_negated _ _ h ∙ sym (ap atom_of_neg (neg_is e))
 
-pub neg_alone : (e : rNeg) → (out-Neg e).negated ≡ false → (out-Cmp (out-Neg e).comparison).right ≡ None → atom_of_sum (sum (out-Cmp (out-Neg e).comparison).left) ≡ atom_of_neg (neg e)
+pub neg_alone : (e : rNeg) → (out-Neg e).negated ≡ false → (out-Cmp (out-Neg e).comparison).right ≡ None
+    → atom_of_sum (sum (out-Cmp (out-Neg e).comparison).left) ≡ atom_of_neg (neg e)
 neg_alone e plain none =
     sym (ap atom_of_neg (neg_is e ∙ ap (λ b. negated b (cmp (out-Neg e).comparison)) plain ∙ ap (negated false) (cmp_is_alone _ none)))
 
-pub cmp_is_compared : (e : rCmp) (r : rCompared) → (out-Cmp e).right ≡ Some r → cmp e ≡ Compare (sum (out-Cmp e).left) (out-Compared r).relation (sum (out-Compared r).right)
+pub cmp_is_compared : (e : rCmp) (r : rCompared) → (out-Cmp e).right ≡ Some r
+    → cmp e ≡ Compare (sum (out-Cmp e).left) (out-Compared r).relation (sum (out-Compared r).right)
 cmp_is_compared e r some =
-    ap cmp (sym (roll-out-Cmp e) ∙ ap (λ r. roll-Cmp (record { left = (out-Cmp e).left; right = r })) (some ∙ ap Some (sym (roll-out-Compared r))))
+    ap cmp (sym (roll-out-Cmp e) ∙ ap (λ r. roll-Cmp (record { left = (out-Cmp e).left; right = r }))
+    (some ∙ ap Some (sym (roll-out-Compared r))))
     ∙ cmp_compared (out-Cmp e).left (out-Compared r).relation (out-Compared r).right
 
 compared_by : (e : rCmp) (o : Option rCompared) → (out-Cmp e).right ≡ o → o ≢ None → None ≡ atom_of_neg (negated false (cmp e))

@@ -4,7 +4,9 @@ use Rattle.std.specs.String.{string_bytes}
 use Rattle.syntax.specs.declared.tree.Expr.{Expr as rExpr}
 use Rattle.syntax.specs.declared.tree.Stmt.{Stmt as rStmt}
 use Rattle.syntax.specs.declared.tree.Stmt.TheVariants.{If as rIf, While as rWhile, Split as rSplit, Async as rAsync, Finish as rFinish}
-use Rattle.syntax.specs.declared.token.Word.TheVariants.{As as WordAs, Async as WordAsync, At as WordAt, Else as WordElse, Finish as WordFinish, If as WordIf, Split as WordSplit, While as WordWhile}
+use Rattle.syntax.specs.declared.token.Word.TheVariants.{As as WordAs, Async as WordAsync, At as WordAt}
+use Rattle.syntax.specs.declared.token.Word.TheVariants.{Else as WordElse, Finish as WordFinish, If as WordIf}
+use Rattle.syntax.specs.declared.token.Word.TheVariants.{Split as WordSplit, While as WordWhile}
 use Rattle.syntax.specs.declared.token.Mark.TheVariants.{LeftBrace, RightBrace, Comma}
 use Rattle.syntax.specs.Token.{Token, NameToken, WordToken, MarkToken}
 use Rattle.syntax.specs.Tree.{expr, stmt, block}
@@ -26,30 +28,43 @@ unfolding block_then stmts_then
 block_then-block [] r = refl
 block_then-block (s ∷ ss) r = ap (stmt_then (stmt s)) (block_then-block ss r)
 
-pub stmts_read : (ts before r : List Token) (ss qs : List rStmt) (s : rStmt) → ts ≡ stmts_then ss before → before ≡ stmt_then (stmt s) r → qs ≡ ss ++ s ∷ [] → ts ≡ stmts_then qs r
+pub stmts_read : (ts before r : List Token) (ss qs : List rStmt) (s : rStmt) → ts ≡ stmts_then ss before
+    → before ≡ stmt_then (stmt s) r → qs ≡ ss ++ s ∷ [] → ts ≡ stmts_then qs r
 stmts_read ts before r ss qs s spelled statement pushed =
     spelled ∙ ap (stmts_then ss) statement ∙ sym (stmts_then-push ss s r) ∙ ap (λ l. stmts_then l r) (sym pushed)
 
-pub stmt_then_If : (e : rExpr) (v : Vec rStmt Global) (r : List Token) → WordToken WordIf ∷ expr_then (expr e) (MarkToken LeftBrace ∷ block_then (block v.items) r) ≡ stmt_then (stmt (rIf e v None)) r
+pub stmt_then_If : (e : rExpr) (v : Vec rStmt Global) (r : List Token)
+    → WordToken WordIf ∷ expr_then (expr e)
+    (MarkToken LeftBrace ∷ block_then (block v.items) r) ≡ stmt_then (stmt (rIf e v None)) r
 unfolding stmt_then
 stmt_then_If e v r = ap (λ s. stmt_then s r) (sym (stmt_If e v))
 
-pub stmt_then_IfElse : (e : rExpr) (v w : Vec rStmt Global) (r : List Token) → WordToken WordIf ∷ expr_then (expr e) (MarkToken LeftBrace ∷ block_then (block v.items) (WordToken WordElse ∷ MarkToken LeftBrace ∷ block_then (block w.items) r)) ≡ stmt_then (stmt (rIf e v (Some w))) r
+pub stmt_then_IfElse : (e : rExpr) (v w : Vec rStmt Global) (r : List Token)
+    → WordToken WordIf ∷ expr_then (expr e)
+    (MarkToken LeftBrace ∷ block_then (block v.items)
+    (WordToken WordElse ∷ MarkToken LeftBrace ∷ block_then (block w.items) r)) ≡ stmt_then (stmt (rIf e v (Some w))) r
 unfolding stmt_then
 stmt_then_IfElse e v w r = ap (λ s. stmt_then s r) (sym (stmt_IfElse e v w))
 
-pub stmt_then_While : (e : rExpr) (v : Vec rStmt Global) (r : List Token) → WordToken WordWhile ∷ expr_then (expr e) (MarkToken LeftBrace ∷ block_then (block v.items) r) ≡ stmt_then (stmt (rWhile e v)) r
+pub stmt_then_While : (e : rExpr) (v : Vec rStmt Global) (r : List Token)
+    → WordToken WordWhile ∷ expr_then (expr e)
+    (MarkToken LeftBrace ∷ block_then (block v.items) r) ≡ stmt_then (stmt (rWhile e v)) r
 unfolding stmt_then
 stmt_then_While e v r = ap (λ s. stmt_then s r) (sym (stmt_While e v))
 
-pub stmt_then_Split : (x : String Global) (e : rExpr) (y z : String Global) (v : Vec rStmt Global) (r : List Token) → WordToken WordSplit ∷ NameToken (string_bytes x) ∷ WordToken WordAt ∷ expr_then (expr e) (WordToken WordAs ∷ NameToken (string_bytes y) ∷ MarkToken Comma ∷ NameToken (string_bytes z) ∷ MarkToken LeftBrace ∷ block_then (block v.items) r) ≡ stmt_then (stmt (rSplit x e y z v)) r
+pub stmt_then_Split : (x : String Global) (e : rExpr) (y z : String Global) (v : Vec rStmt Global) (r : List Token)
+    → WordToken WordSplit ∷ NameToken (string_bytes x) ∷ WordToken WordAt ∷ expr_then (expr e)
+    (WordToken WordAs ∷ NameToken (string_bytes y) ∷ MarkToken Comma ∷ NameToken (string_bytes z) ∷ MarkToken LeftBrace
+    ∷ block_then (block v.items) r) ≡ stmt_then (stmt (rSplit x e y z v)) r
 unfolding stmt_then
 stmt_then_Split x e y z v r = ap (λ s. stmt_then s r) (sym (stmt_Split x e y z v))
 
-pub stmt_then_Async : (v : Vec rStmt Global) (r : List Token) → WordToken WordAsync ∷ MarkToken LeftBrace ∷ block_then (block v.items) r ≡ stmt_then (stmt (rAsync v)) r
+pub stmt_then_Async : (v : Vec rStmt Global) (r : List Token)
+    → WordToken WordAsync ∷ MarkToken LeftBrace ∷ block_then (block v.items) r ≡ stmt_then (stmt (rAsync v)) r
 unfolding stmt_then
 stmt_then_Async v r = ap (λ s. stmt_then s r) (sym (stmt_Async v))
 
-pub stmt_then_Finish : (v : Vec rStmt Global) (r : List Token) → WordToken WordFinish ∷ MarkToken LeftBrace ∷ block_then (block v.items) r ≡ stmt_then (stmt (rFinish v)) r
+pub stmt_then_Finish : (v : Vec rStmt Global) (r : List Token)
+    → WordToken WordFinish ∷ MarkToken LeftBrace ∷ block_then (block v.items) r ≡ stmt_then (stmt (rFinish v)) r
 unfolding stmt_then
 stmt_then_Finish v r = ap (λ s. stmt_then s r) (sym (stmt_Finish v))

@@ -5,8 +5,12 @@ use Rattle.syntax.specs.declared.tree.ElementType.TheVariants.{Int as IntElement
 use Rattle.syntax.specs.declared.tree.Relation.TheVariants.{Less as IsLess}
 use Rattle.syntax.specs.declared.tree.Sign.TheVariants.{Minus as MinusSign}
 use Rattle.syntax.specs.declared.tree.Operator.TheVariants.{Times}
-use Rattle.syntax.specs.Tree.{Expr, Or, NoConj, And, NoNeg, Plainly, Alone, Compare, Sum, Add, NoTerm, AddTerm, Multiply, NoFactor, MultiplyFactor, Unary, Positive, Negative, Number, Name, Element, Length, Parens, Store, Print, IfElse, Call, Async, Finish, Block, End, Then, Array, Parameter, Written, Scalar, Procedure, Main, Program}
-use Rattle.syntax.specs.Spelling.{spelling, procedures_then, main_tokens, arrays_then, parameters_then, more_parameters_then, parameter_then, stmt_then, expr_then, exprs_then, more_then}
+use Rattle.syntax.specs.Tree.{Expr, Or, NoConj, And, NoNeg, Plainly, Alone, Compare, Sum, Add, NoTerm, AddTerm}
+use Rattle.syntax.specs.Tree.{Multiply, NoFactor, MultiplyFactor, Unary, Positive, Negative, Number, Name, Element}
+use Rattle.syntax.specs.Tree.{Length, Parens, Store, Print, IfElse, Call, Async, Finish, Block, End, Then, Array}
+use Rattle.syntax.specs.Tree.{Parameter, Written, Scalar, Procedure, Main, Program}
+use Rattle.syntax.specs.Spelling.{spelling, procedures_then, main_tokens, arrays_then, parameters_then}
+use Rattle.syntax.specs.Spelling.{more_parameters_then, parameter_then, stmt_then, expr_then, exprs_then, more_then}
 use Rattle.syntax.specs.Canonical.{laid, canonical, listed}
 
 abbrev sum_of : Unary → Sum
@@ -85,5 +89,6 @@ calling =
 
 pub calling_canonical : canonical calling
     ≡ codes "proc f(mut s: int, n: int) {\n  if n < -1 {\n    s[n] = (len(s) - n) * 2;\n  } else {\n    f(s, -n);\n  }\n}\n"
-unfolding digits laid spelling procedures_then parameters_then more_parameters_then parameter_then main_tokens stmt_then expr_then exprs_then more_then
+unfolding digits laid spelling procedures_then parameters_then more_parameters_then parameter_then main_tokens
+    stmt_then expr_then exprs_then more_then
 calling_canonical = refl

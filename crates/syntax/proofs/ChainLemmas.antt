@@ -17,58 +17,76 @@ use Rattle.syntax.specs.declared.token.Mark.TheVariants.{Comma}
 use Rattle.syntax.specs.Token.{Token, WordToken, MarkToken}
 use Rattle.syntax.specs.Tree.{Terms, NoTerm, expr, conj, neg, cmp, sum, prod, unary, term, conjs, negs, terms, factors, exprs}
 use Rattle.syntax.specs.Reading.{AddsExprs}
-use Rattle.syntax.specs.Spelling.{expr_then, conj_then, conjs_then, neg_then, negs_then, cmp_then, sum_then, relation_mark, prod_then, terms_then, unary_then, factors_then, more_then, exprs_then, sign_mark, operator_mark}
+use Rattle.syntax.specs.Spelling.{expr_then, conj_then, conjs_then, neg_then, negs_then, cmp_then, sum_then}
+use Rattle.syntax.specs.Spelling.{relation_mark, prod_then, terms_then, unary_then, factors_then, more_then, exprs_then}
+use Rattle.syntax.specs.Spelling.{sign_mark, operator_mark}
 use Rattle.syntax.proofs.RowLemmas.{expr_built, conj_built, neg_built, cmp_alone, cmp_compared, sum_built, term_built, prod_built}
 
 -- tokens that are equal are equal behind one token
 pub behind : {t : Token} {ts us : List Token} → ts ≡ us → t ∷ ts ≡ t ∷ us
 behind {t} e = ap (λ l. t ∷ l) e
 
-pub conjs_then-push : (cs : List rConj) (c : rConj) (r : List Token) → conjs_then (conjs (cs ++ c ∷ [])) r ≡ conjs_then (conjs cs) (WordToken WordOr ∷ conj_then (conj c) r)
+pub conjs_then-push : (cs : List rConj) (c : rConj) (r : List Token)
+    → conjs_then (conjs (cs ++ c ∷ [])) r ≡ conjs_then (conjs cs) (WordToken WordOr ∷ conj_then (conj c) r)
 unfolding conjs_then
 conjs_then-push [] c r = refl
 conjs_then-push (d ∷ cs) c r = ap (λ l. WordToken WordOr ∷ conj_then (conj d) l) (conjs_then-push cs c r)
 
-pub negs_then-push : (ns : List rNeg) (n : rNeg) (r : List Token) → negs_then (negs (ns ++ n ∷ [])) r ≡ negs_then (negs ns) (WordToken WordAnd ∷ neg_then (neg n) r)
+pub negs_then-push : (ns : List rNeg) (n : rNeg) (r : List Token)
+    → negs_then (negs (ns ++ n ∷ [])) r ≡ negs_then (negs ns) (WordToken WordAnd ∷ neg_then (neg n) r)
 unfolding negs_then
 negs_then-push [] n r = refl
 negs_then-push (m ∷ ns) n r = ap (λ l. WordToken WordAnd ∷ neg_then (neg m) l) (negs_then-push ns n r)
 
-pub factors_then-push : (fs : List rFactor) (f : rFactor) (r : List Token) → factors_then (factors (fs ++ f ∷ [])) r ≡ factors_then (factors fs) (MarkToken (operator_mark f.operator) ∷ unary_then (unary f.operand) r)
+pub factors_then-push : (fs : List rFactor) (f : rFactor) (r : List Token)
+    → factors_then (factors (fs ++ f ∷ [])) r ≡ factors_then (factors fs)
+    (MarkToken (operator_mark f.operator) ∷ unary_then (unary f.operand) r)
 unfolding factors_then
 factors_then-push [] f r = refl
 factors_then-push (g ∷ fs) f r = ap (λ l. MarkToken (operator_mark g.operator) ∷ unary_then (unary g.operand) l) (factors_then-push fs f r)
 
-pub more_then-push : (es : List rExpr) (e : rExpr) (r : List Token) → more_then (exprs (es ++ e ∷ [])) r ≡ more_then (exprs es) (MarkToken Comma ∷ expr_then (expr e) r)
+pub more_then-push : (es : List rExpr) (e : rExpr) (r : List Token)
+    → more_then (exprs (es ++ e ∷ [])) r ≡ more_then (exprs es) (MarkToken Comma ∷ expr_then (expr e) r)
 unfolding more_then
 more_then-push [] e r = refl
 more_then-push (d ∷ es) e r = ap (λ l. MarkToken Comma ∷ expr_then (expr d) l) (more_then-push es e r)
 
 -- a term, and a chain behind it
-term_then : (t : rTerm) (ts us : List Token) (rest more : Terms) → terms_then rest ts ≡ terms_then more us → terms_then (term t rest) ts ≡ terms_then (term t more) us
+term_then : (t : rTerm) (ts us : List Token) (rest more : Terms) → terms_then rest ts ≡ terms_then more us
+    → terms_then (term t rest) ts ≡ terms_then (term t more) us
 unfolding terms_then term
 term_then (rSigned sign p) ts us rest more e = ap (λ l. MarkToken (sign_mark sign) ∷ prod_then (prod p) l) e
 
-pub terms_then-push : (ts : List rTerm) (sign : Sign) (p : rProd) (r : List Token) → terms_then (terms (ts ++ roll-Term (record { sign = sign; operand = p }) ∷ [])) r ≡ terms_then (terms ts) (MarkToken (sign_mark sign) ∷ prod_then (prod p) r)
+pub terms_then-push : (ts : List rTerm) (sign : Sign) (p : rProd) (r : List Token)
+    → terms_then (terms (ts ++ roll-Term (record { sign = sign; operand = p }) ∷ [])) r ≡ terms_then (terms ts)
+    (MarkToken (sign_mark sign) ∷ prod_then (prod p) r)
 unfolding terms_then
 terms_then-push [] sign p r = ap (λ t. terms_then t r) (term_built sign p NoTerm)
 terms_then-push (t ∷ ts) sign p r = term_then t _ _ _ _ (terms_then-push ts sign p r)
 
 -- What spells a value is what spells its parts.
 
-pub expr_then_built : (c : rConj) (v : Vec rConj Global) (r : List Token) → conj_then (conj c) (conjs_then (conjs v.items) r) ≡ expr_then (expr (roll-Expr (record { first = c; rest = v }))) r
+pub expr_then_built : (c : rConj) (v : Vec rConj Global) (r : List Token)
+    → conj_then (conj c) (conjs_then (conjs v.items) r) ≡ expr_then (expr (roll-Expr (record {
+      first = c;
+      rest =
+          v;
+    }))) r
 unfolding expr_then
 expr_then_built c v r = ap (λ e. expr_then e r) (sym (expr_built c v))
 
-pub conj_then_built : (n : rNeg) (v : Vec rNeg Global) (r : List Token) → neg_then (neg n) (negs_then (negs v.items) r) ≡ conj_then (conj (roll-Conj (record { first = n; rest = v }))) r
+pub conj_then_built : (n : rNeg) (v : Vec rNeg Global) (r : List Token)
+    → neg_then (neg n) (negs_then (negs v.items) r) ≡ conj_then (conj (roll-Conj (record { first = n; rest = v }))) r
 unfolding conj_then
 conj_then_built n v r = ap (λ e. conj_then e r) (sym (conj_built n v))
 
-pub neg_then_plain : (c : rCmp) (r : List Token) → cmp_then (cmp c) r ≡ neg_then (neg (roll-Neg (record { negated = false; comparison = c }))) r
+pub neg_then_plain : (c : rCmp) (r : List Token)
+    → cmp_then (cmp c) r ≡ neg_then (neg (roll-Neg (record { negated = false; comparison = c }))) r
 unfolding neg_then
 neg_then_plain c r = ap (λ e. neg_then e r) (sym (neg_built false c))
 
-pub neg_then_not : (c : rCmp) (r : List Token) → WordToken WordNot ∷ cmp_then (cmp c) r ≡ neg_then (neg (roll-Neg (record { negated = true; comparison = c }))) r
+pub neg_then_not : (c : rCmp) (r : List Token)
+    → WordToken WordNot ∷ cmp_then (cmp c) r ≡ neg_then (neg (roll-Neg (record { negated = true; comparison = c }))) r
 unfolding neg_then
 neg_then_not c r = ap (λ e. neg_then e r) (sym (neg_built true c))
 
@@ -76,48 +94,85 @@ pub cmp_then_alone : (s : rSum) (r : List Token) → sum_then (sum s) r ≡ cmp_
 unfolding cmp_then
 cmp_then_alone s r = ap (λ e. cmp_then e r) (sym (cmp_alone s))
 
-pub cmp_then_compared : (s : rSum) (relation : Relation) (t : rSum) (r : List Token) → sum_then (sum s) (MarkToken (relation_mark relation) ∷ sum_then (sum t) r) ≡ cmp_then (cmp (roll-Cmp (record { left = s; right = Some (roll-Compared (record { relation = relation; right = t })) }))) r
+pub cmp_then_compared : (s : rSum) (relation : Relation) (t : rSum) (r : List Token)
+    → sum_then (sum s) (MarkToken (relation_mark relation) ∷ sum_then (sum t) r)
+    ≡ cmp_then (cmp (roll-Cmp (record {
+      left = s;
+      right = Some (roll-Compared (record {
+        relation = relation;
+        right =
+            t;
+      }));
+    }))) r
 unfolding cmp_then
 cmp_then_compared s relation t r = ap (λ e. cmp_then e r) (sym (cmp_compared s relation t))
 
-pub sum_then_built : (p : rProd) (v : Vec rTerm Global) (r : List Token) → prod_then (prod p) (terms_then (terms v.items) r) ≡ sum_then (sum (roll-Sum (record { first = p; rest = v }))) r
+pub sum_then_built : (p : rProd) (v : Vec rTerm Global) (r : List Token)
+    → prod_then (prod p) (terms_then (terms v.items) r) ≡ sum_then (sum (roll-Sum (record { first = p; rest = v }))) r
 unfolding sum_then
 sum_then_built p v r = ap (λ e. sum_then e r) (sym (sum_built p v))
 
-pub prod_then_built : (u : rUnary) (v : Vec rFactor Global) (r : List Token) → unary_then (unary u) (factors_then (factors v.items) r) ≡ prod_then (prod (roll-Prod (record { first = u; rest = v }))) r
+pub prod_then_built : (u : rUnary) (v : Vec rFactor Global) (r : List Token)
+    → unary_then (unary u) (factors_then (factors v.items) r) ≡ prod_then (prod (roll-Prod (record {
+      first = u;
+      rest =
+          v;
+    }))) r
 unfolding prod_then
 prod_then_built u v r = ap (λ e. prod_then e r) (sym (prod_built u v))
 
 -- One more operand was read and put behind the chain.
 module _ (ts before after r : List Token) where
-  pub conjs_read : (first : rConj) (cs ds : List rConj) (c : rConj) → ts ≡ conj_then (conj first) (conjs_then (conjs cs) before) → before ≡ WordToken WordOr ∷ after → after ≡ conj_then (conj c) r → ds ≡ cs ++ c ∷ [] → ts ≡ conj_then (conj first) (conjs_then (conjs ds) r)
+  pub conjs_read : (first : rConj) (cs ds : List rConj) (c : rConj)
+      → ts ≡ conj_then (conj first) (conjs_then (conjs cs) before) → before ≡ WordToken WordOr ∷ after
+      → after ≡ conj_then (conj c) r → ds ≡ cs ++ c ∷ [] → ts ≡ conj_then (conj first) (conjs_then (conjs ds) r)
   conjs_read first cs ds c spelled word operand pushed =
-      spelled ∙ ap (conj_then (conj first)) (ap (conjs_then (conjs cs)) (word ∙ behind operand) ∙ sym (conjs_then-push cs c r) ∙ ap (λ l. conjs_then (conjs l) r) (sym pushed))
+      spelled ∙ ap (conj_then (conj first))
+      (ap (conjs_then (conjs cs)) (word ∙ behind operand) ∙ sym (conjs_then-push cs c r)
+      ∙ ap (λ l. conjs_then (conjs l) r) (sym pushed))
 
-  pub negs_read : (first : rNeg) (ns ms : List rNeg) (n : rNeg) → ts ≡ neg_then (neg first) (negs_then (negs ns) before) → before ≡ WordToken WordAnd ∷ after → after ≡ neg_then (neg n) r → ms ≡ ns ++ n ∷ [] → ts ≡ neg_then (neg first) (negs_then (negs ms) r)
+  pub negs_read : (first : rNeg) (ns ms : List rNeg) (n : rNeg) → ts ≡ neg_then (neg first) (negs_then (negs ns) before)
+      → before ≡ WordToken WordAnd ∷ after → after ≡ neg_then (neg n) r → ms ≡ ns ++ n ∷ []
+      → ts ≡ neg_then (neg first) (negs_then (negs ms) r)
   negs_read first ns ms n spelled word operand pushed =
-      spelled ∙ ap (neg_then (neg first)) (ap (negs_then (negs ns)) (word ∙ behind operand) ∙ sym (negs_then-push ns n r) ∙ ap (λ l. negs_then (negs l) r) (sym pushed))
+      spelled ∙ ap (neg_then (neg first))
+      (ap (negs_then (negs ns)) (word ∙ behind operand) ∙ sym (negs_then-push ns n r)
+      ∙ ap (λ l. negs_then (negs l) r) (sym pushed))
 
-  pub terms_read : (first : rProd) (us vs : List rTerm) (sign : Sign) (p : rProd) → ts ≡ prod_then (prod first) (terms_then (terms us) before) → before ≡ MarkToken (sign_mark sign) ∷ after → after ≡ prod_then (prod p) r → vs ≡ us ++ roll-Term (record { sign = sign; operand = p }) ∷ [] → ts ≡ prod_then (prod first) (terms_then (terms vs) r)
+  pub terms_read : (first : rProd) (us vs : List rTerm) (sign : Sign) (p : rProd)
+      → ts ≡ prod_then (prod first) (terms_then (terms us) before) → before ≡ MarkToken (sign_mark sign) ∷ after
+      → after ≡ prod_then (prod p) r → vs ≡ us ++ roll-Term (record { sign = sign; operand = p }) ∷ []
+      → ts ≡ prod_then (prod first) (terms_then (terms vs) r)
   terms_read first us vs sign p spelled mark operand pushed =
-      spelled ∙ ap (prod_then (prod first)) (ap (terms_then (terms us)) (mark ∙ behind operand) ∙ sym (terms_then-push us sign p r) ∙ ap (λ l. terms_then (terms l) r) (sym pushed))
+      spelled ∙ ap (prod_then (prod first))
+      (ap (terms_then (terms us)) (mark ∙ behind operand) ∙ sym (terms_then-push us sign p r)
+      ∙ ap (λ l. terms_then (terms l) r) (sym pushed))
 
-  pub factors_read : (first : rUnary) (fs gs : List rFactor) (f : rFactor) → ts ≡ unary_then (unary first) (factors_then (factors fs) before) → before ≡ MarkToken (operator_mark f.operator) ∷ after → after ≡ unary_then (unary f.operand) r → gs ≡ fs ++ f ∷ [] → ts ≡ unary_then (unary first) (factors_then (factors gs) r)
+  pub factors_read : (first : rUnary) (fs gs : List rFactor) (f : rFactor)
+      → ts ≡ unary_then (unary first) (factors_then (factors fs) before)
+      → before ≡ MarkToken (operator_mark f.operator) ∷ after → after ≡ unary_then (unary f.operand) r
+      → gs ≡ fs ++ f ∷ [] → ts ≡ unary_then (unary first) (factors_then (factors gs) r)
   factors_read first fs gs f spelled mark operand pushed =
-      spelled ∙ ap (unary_then (unary first)) (ap (factors_then (factors fs)) (mark ∙ behind operand) ∙ sym (factors_then-push fs f r) ∙ ap (λ l. factors_then (factors l) r) (sym pushed))
+      spelled ∙ ap (unary_then (unary first))
+      (ap (factors_then (factors fs)) (mark ∙ behind operand) ∙ sym (factors_then-push fs f r)
+      ∙ ap (λ l. factors_then (factors l) r) (sym pushed))
 
-  pub more_read : (earlier es fs : List rExpr) (e : rExpr) → AddsExprs earlier es ts before → before ≡ MarkToken Comma ∷ after → after ≡ expr_then (expr e) r → fs ≡ es ++ e ∷ [] → AddsExprs earlier fs ts r
+  pub more_read : (earlier es fs : List rExpr) (e : rExpr) → AddsExprs earlier es ts before
+      → before ≡ MarkToken Comma ∷ after → after ≡ expr_then (expr e) r → fs ≡ es ++ e ∷ [] → AddsExprs earlier fs ts r
   more_read earlier es fs e read comma operand pushed = record {
     others = read.others ++ e ∷ [];
     added = pushed ∙ ap (λ l. l ++ e ∷ []) read.added ∙ append_assoc earlier read.others (e ∷ []);
     spelled = read.spelled ∙ ap (more_then (exprs read.others)) (comma ∙ behind operand) ∙ sym (more_then-push read.others e r);
   }
 
-pub adds_to_none : (earlier all : List rExpr) (before rest : List Token) → earlier ≡ [] → AddsExprs earlier all before rest → before ≡ more_then (exprs all) rest
+pub adds_to_none : (earlier all : List rExpr) (before rest : List Token) → earlier ≡ []
+    → AddsExprs earlier all before rest → before ≡ more_then (exprs all) rest
 adds_to_none earlier all before rest none read =
     read.spelled ∙ ap (λ l. more_then (exprs l) rest) (sym (read.added ∙ ap (λ l. l ++ read.others) none))
 
-pub adds_to_one : (earlier all : List rExpr) (first : rExpr) (ts before rest : List Token) → ts ≡ expr_then (expr first) before → earlier ≡ first ∷ [] → AddsExprs earlier all before rest → ts ≡ exprs_then (exprs all) rest
+pub adds_to_one : (earlier all : List rExpr) (first : rExpr) (ts before rest : List Token)
+    → ts ≡ expr_then (expr first) before → earlier ≡ first ∷ [] → AddsExprs earlier all before rest
+    → ts ≡ exprs_then (exprs all) rest
 unfolding exprs_then
 adds_to_one earlier all first ts before rest spelled one read =
     spelled

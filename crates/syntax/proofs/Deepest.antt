@@ -27,7 +27,8 @@ one_further rest p q ps qs same on = record {
 }
 
 -- of two cuts of a text one goes on behind the other, or both end at one place
-cuts_compare : (text : List ℕ) (ps qs : List Piece) (r s : List ℕ) → AreCut text ps r → AreCut text qs s → GoesOn r ps qs ⊎ (GoesOn s qs ps ⊎ (r ≡ s))
+cuts_compare : (text : List ℕ) (ps qs : List Piece) (r s : List ℕ) → AreCut text ps r → AreCut text qs s
+    → GoesOn r ps qs ⊎ (GoesOn s qs ps ⊎ (r ≡ s))
 cuts_compare text [] [] r s c d = inr (inr (sym c ∙ d))
 cuts_compare text [] (q ∷ qs) r s c d =
     inl (record { next = q; more = qs; behind = d.0; begins = subst (λ t. Begins t q d.0) c d.1; whole = refl })
@@ -71,4 +72,5 @@ one_deepest text at other here there =
     (⊎_elim
     (λ on. absurd (no_deeper text other at there here on))
     (λ e. omega (arith, deep_within text at here, deep_within text other there, ap length e, length-drop at text, length-drop other text)))
-    (cuts_compare text here.stands.read.pieces there.stands.read.pieces (drop at text) (drop other text) here.stands.read.cut there.stands.read.cut)
+    (cuts_compare text here.stands.read.pieces there.stands.read.pieces (drop at text)
+    (drop other text) here.stands.read.cut there.stands.read.cut)

@@ -1,7 +1,8 @@
 -- No two expressions are spelled alike, where what stands behind them does not go on with them.
 use Rattle.std.proofs.Common.{◌≡◌, ◌<◌, ◌≤◌, ℕ, List, ◌∷◌, refl, ap, arith}
 use Rattle.syntax.specs.declared.tree.Relation.{Relation}
-use Rattle.syntax.specs.declared.tree.Relation.TheVariants.{Less as IsLess, AtMost as IsAtMost, Greater as IsGreater, AtLeast as IsAtLeast, Equal as IsEqual, Differs as IsOther}
+use Rattle.syntax.specs.declared.tree.Relation.TheVariants.{Less as IsLess, AtMost as IsAtMost, Greater as IsGreater}
+use Rattle.syntax.specs.declared.tree.Relation.TheVariants.{AtLeast as IsAtLeast, Equal as IsEqual, Differs as IsOther}
 use Rattle.syntax.specs.declared.tree.Sign.{Sign}
 use Rattle.syntax.specs.declared.tree.Sign.TheVariants.{Plus as PlusSign, Minus as MinusSign}
 use Rattle.syntax.specs.declared.tree.Operator.{Operator}
@@ -9,8 +10,13 @@ use Rattle.syntax.specs.declared.tree.Operator.TheVariants.{Times, Over, Modulo}
 use Rattle.syntax.specs.declared.token.Word.TheVariants.{Not as WordNot, True as WordTrue, False as WordFalse, Len as WordLen}
 use Rattle.syntax.specs.declared.token.Mark.TheVariants.{LeftParen, RightParen, LeftBracket, RightBracket, Minus}
 use Rattle.syntax.specs.Token.{Token, NameToken, NumberToken, WordToken, MarkToken}
-use Rattle.syntax.specs.Tree.{Expr, Or, Conjs, NoConj, OrConj, Conj, And, Negs, NoNeg, AndNeg, Neg, Plainly, Not, Cmp, Alone, Compare, Sum, Add, Terms, NoTerm, AddTerm, Prod, Multiply, Factors, NoFactor, MultiplyFactor, Unary, Positive, Negative, Atom, Number, True, False, Name, Element, Length, Parens}
-use Rattle.syntax.specs.Spelling.{relation_mark, sign_mark, operator_mark, expr_then, conjs_then, conj_then, negs_then, neg_then, cmp_then, sum_then, terms_then, prod_then, factors_then, unary_then, atom_then}
+use Rattle.syntax.specs.Tree.{Expr, Or, Conjs, NoConj, OrConj, Conj, And, Negs, NoNeg, AndNeg, Neg, Plainly, Not, Cmp}
+use Rattle.syntax.specs.Tree.{Alone, Compare, Sum, Add, Terms, NoTerm, AddTerm, Prod, Multiply, Factors, NoFactor}
+use Rattle.syntax.specs.Tree.{MultiplyFactor, Unary, Positive, Negative, Atom, Number, True, False, Name, Element}
+use Rattle.syntax.specs.Tree.{Length, Parens}
+use Rattle.syntax.specs.Spelling.{relation_mark, sign_mark, operator_mark, expr_then, conjs_then, conj_then, negs_then}
+use Rattle.syntax.specs.Spelling.{neg_then, cmp_then, sum_then, terms_then, prod_then, factors_then, unary_then}
+use Rattle.syntax.specs.Spelling.{atom_then}
 use Rattle.syntax.specs.Reading.{binds, or_level, and_level, relation_level, sign_level, operator_level, bracket_level}
 
 -- Each operator is known by its mark, and binds as its level does.
@@ -121,13 +127,15 @@ expr_begins (Or (And n ns) cs) r = neg_begins n _
 mutual
   unfolding expr_then
 
-  pub expr_one : (x y : Expr) (r s : List Token) → binds r < or_level → binds s < or_level → expr_then x r ≡ expr_then y s → (x ≡ y) × (r ≡ s)
+  pub expr_one : (x y : Expr) (r s : List Token) → binds r < or_level → binds s < or_level
+      → expr_then x r ≡ expr_then y s → (x ≡ y) × (r ≡ s)
   expr_one (Or c cs) (Or d ds) r s ends other same =
       let first = conj_one c d _ _ (conjs_bind cs r ends) (conjs_bind ds s other) same in
       let more = conjs_one cs ds r s ends other first.1 in
       (cc (first.0, more.0), more.1)
 
-  pub conjs_one : (x y : Conjs) (r s : List Token) → binds r < or_level → binds s < or_level → conjs_then x r ≡ conjs_then y s → (x ≡ y) × (r ≡ s)
+  pub conjs_one : (x y : Conjs) (r s : List Token) → binds r < or_level → binds s < or_level
+      → conjs_then x r ≡ conjs_then y s → (x ≡ y) × (r ≡ s)
   conjs_one NoConj NoConj r s ends other same = (refl, same)
   conjs_one NoConj (OrConj d ds) r s ends other same = absurd (omega (arith, ap binds same))
   conjs_one (OrConj c cs) NoConj r s ends other same = absurd (omega (arith, ap binds same))
@@ -136,13 +144,15 @@ mutual
       let more = conjs_one cs ds r s ends other first.1 in
       (cc (first.0, more.0), more.1)
 
-  pub conj_one : (x y : Conj) (r s : List Token) → binds r < and_level → binds s < and_level → conj_then x r ≡ conj_then y s → (x ≡ y) × (r ≡ s)
+  pub conj_one : (x y : Conj) (r s : List Token) → binds r < and_level → binds s < and_level
+      → conj_then x r ≡ conj_then y s → (x ≡ y) × (r ≡ s)
   conj_one (And n ns) (And m ms) r s ends other same =
       let first = neg_one n m _ _ (negs_bind ns r ends) (negs_bind ms s other) same in
       let more = negs_one ns ms r s ends other first.1 in
       (cc (first.0, more.0), more.1)
 
-  pub negs_one : (x y : Negs) (r s : List Token) → binds r < and_level → binds s < and_level → negs_then x r ≡ negs_then y s → (x ≡ y) × (r ≡ s)
+  pub negs_one : (x y : Negs) (r s : List Token) → binds r < and_level → binds s < and_level
+      → negs_then x r ≡ negs_then y s → (x ≡ y) × (r ≡ s)
   negs_one NoNeg NoNeg r s ends other same = (refl, same)
   negs_one NoNeg (AndNeg m ms) r s ends other same = absurd (omega (arith, ap binds same))
   negs_one (AndNeg n ns) NoNeg r s ends other same = absurd (omega (arith, ap binds same))
@@ -151,7 +161,8 @@ mutual
       let more = negs_one ns ms r s ends other first.1 in
       (cc (first.0, more.0), more.1)
 
-  pub neg_one : (x y : Neg) (r s : List Token) → binds r < relation_level → binds s < relation_level → neg_then x r ≡ neg_then y s → (x ≡ y) × (r ≡ s)
+  pub neg_one : (x y : Neg) (r s : List Token) → binds r < relation_level → binds s < relation_level
+      → neg_then x r ≡ neg_then y s → (x ≡ y) × (r ≡ s)
   neg_one (Plainly c) (Plainly d) r s ends other same =
       let only = cmp_one c d r s ends other same in (ap Plainly only.0, only.1)
   neg_one (Plainly c) (Not d) r s ends other same = absurd (omega (arith, ap begins same, cmp_begins c r))
@@ -159,52 +170,65 @@ mutual
   neg_one (Not c) (Not d) r s ends other same =
       let only = cmp_one c d r s ends other (cc) in (ap Not only.0, only.1)
 
-  pub cmp_one : (x y : Cmp) (r s : List Token) → binds r < relation_level → binds s < relation_level → cmp_then x r ≡ cmp_then y s → (x ≡ y) × (r ≡ s)
+  pub cmp_one : (x y : Cmp) (r s : List Token) → binds r < relation_level → binds s < relation_level
+      → cmp_then x r ≡ cmp_then y s → (x ≡ y) × (r ≡ s)
   cmp_one (Alone a) (Alone b) r s ends other same =
       let only = sum_one a b r s (omega arith) (omega arith) same in (ap Alone only.0, only.1)
   cmp_one (Alone a) (Compare b o c) r s ends other same =
-      let only = sum_one a b r (MarkToken (relation_mark o) ∷ sum_then c s) (omega arith) (omega (arith, relation_binds o (sum_then c s))) same in
+      let only = sum_one a b r (MarkToken (relation_mark o) ∷ sum_then c s) (omega arith)
+      (omega (arith, relation_binds o (sum_then c s))) same in
       absurd (omega (arith, ap binds only.1, relation_binds o (sum_then c s)))
   cmp_one (Compare a o b) (Alone c) r s ends other same =
-      let only = sum_one a c (MarkToken (relation_mark o) ∷ sum_then b r) s (omega (arith, relation_binds o (sum_then b r))) (omega arith) same in
+      let only = sum_one a c (MarkToken (relation_mark o) ∷ sum_then b r) s
+      (omega (arith, relation_binds o (sum_then b r))) (omega arith) same in
       absurd (omega (arith, ap binds only.1, relation_binds o (sum_then b r)))
   cmp_one (Compare a o b) (Compare c p d) r s ends other same =
-      let left = sum_one a c (MarkToken (relation_mark o) ∷ sum_then b r) (MarkToken (relation_mark p) ∷ sum_then d s) (omega (arith, relation_binds o (sum_then b r))) (omega (arith, relation_binds p (sum_then d s))) same in
+      let left = sum_one a c (MarkToken (relation_mark o) ∷ sum_then b r) (MarkToken (relation_mark p) ∷ sum_then d s)
+      (omega (arith, relation_binds o (sum_then b r))) (omega (arith, relation_binds p (sum_then d s))) same in
       let marks = left.1 in
       let right = sum_one b d r s (omega arith) (omega arith) (cc) in
       (cc (left.0, right.0, relation_one o p (cc)), right.1)
 
-  pub sum_one : (x y : Sum) (r s : List Token) → binds r < sign_level → binds s < sign_level → sum_then x r ≡ sum_then y s → (x ≡ y) × (r ≡ s)
+  pub sum_one : (x y : Sum) (r s : List Token) → binds r < sign_level → binds s < sign_level
+      → sum_then x r ≡ sum_then y s → (x ≡ y) × (r ≡ s)
   sum_one (Add p ts) (Add q us) r s ends other same =
       let first = prod_one p q _ _ (terms_bind ts r ends) (terms_bind us s other) same in
       let more = terms_one ts us r s ends other first.1 in
       (cc (first.0, more.0), more.1)
 
-  pub terms_one : (x y : Terms) (r s : List Token) → binds r < sign_level → binds s < sign_level → terms_then x r ≡ terms_then y s → (x ≡ y) × (r ≡ s)
+  pub terms_one : (x y : Terms) (r s : List Token) → binds r < sign_level → binds s < sign_level
+      → terms_then x r ≡ terms_then y s → (x ≡ y) × (r ≡ s)
   terms_one NoTerm NoTerm r s ends other same = (refl, same)
-  terms_one NoTerm (AddTerm o q us) r s ends other same = absurd (omega (arith, ap binds same, sign_binds o (prod_then q (terms_then us s))))
-  terms_one (AddTerm o p ts) NoTerm r s ends other same = absurd (omega (arith, ap binds same, sign_binds o (prod_then p (terms_then ts r))))
+  terms_one NoTerm (AddTerm o q us) r s ends other same =
+      absurd (omega (arith, ap binds same, sign_binds o (prod_then q (terms_then us s))))
+  terms_one (AddTerm o p ts) NoTerm r s ends other same =
+      absurd (omega (arith, ap binds same, sign_binds o (prod_then p (terms_then ts r))))
   terms_one (AddTerm o p ts) (AddTerm t q us) r s ends other same =
       let first = prod_one p q (terms_then ts r) (terms_then us s) (terms_bind ts r ends) (terms_bind us s other) (cc) in
       let more = terms_one ts us r s ends other first.1 in
       (cc (first.0, more.0, sign_one o t (cc)), more.1)
 
-  pub prod_one : (x y : Prod) (r s : List Token) → binds r < operator_level → binds s < operator_level → prod_then x r ≡ prod_then y s → (x ≡ y) × (r ≡ s)
+  pub prod_one : (x y : Prod) (r s : List Token) → binds r < operator_level → binds s < operator_level
+      → prod_then x r ≡ prod_then y s → (x ≡ y) × (r ≡ s)
   prod_one (Multiply u fs) (Multiply v gs) r s ends other same =
       let first = unary_one u v _ _ (factors_bind fs r ends) (factors_bind gs s other) same in
       let more = factors_one fs gs r s ends other first.1 in
       (cc (first.0, more.0), more.1)
 
-  pub factors_one : (x y : Factors) (r s : List Token) → binds r < operator_level → binds s < operator_level → factors_then x r ≡ factors_then y s → (x ≡ y) × (r ≡ s)
+  pub factors_one : (x y : Factors) (r s : List Token) → binds r < operator_level → binds s < operator_level
+      → factors_then x r ≡ factors_then y s → (x ≡ y) × (r ≡ s)
   factors_one NoFactor NoFactor r s ends other same = (refl, same)
-  factors_one NoFactor (MultiplyFactor o v gs) r s ends other same = absurd (omega (arith, ap binds same, operator_binds o (unary_then v (factors_then gs s))))
-  factors_one (MultiplyFactor o u fs) NoFactor r s ends other same = absurd (omega (arith, ap binds same, operator_binds o (unary_then u (factors_then fs r))))
+  factors_one NoFactor (MultiplyFactor o v gs) r s ends other same =
+      absurd (omega (arith, ap binds same, operator_binds o (unary_then v (factors_then gs s))))
+  factors_one (MultiplyFactor o u fs) NoFactor r s ends other same =
+      absurd (omega (arith, ap binds same, operator_binds o (unary_then u (factors_then fs r))))
   factors_one (MultiplyFactor o u fs) (MultiplyFactor t v gs) r s ends other same =
       let first = unary_one u v (factors_then fs r) (factors_then gs s) (factors_bind fs r ends) (factors_bind gs s other) (cc) in
       let more = factors_one fs gs r s ends other first.1 in
       (cc (first.0, more.0, operator_one o t (cc)), more.1)
 
-  pub unary_one : (x y : Unary) (r s : List Token) → binds r < bracket_level → binds s < bracket_level → unary_then x r ≡ unary_then y s → (x ≡ y) × (r ≡ s)
+  pub unary_one : (x y : Unary) (r s : List Token) → binds r < bracket_level → binds s < bracket_level
+      → unary_then x r ≡ unary_then y s → (x ≡ y) × (r ≡ s)
   unary_one (Positive a) (Positive b) r s ends other same =
       let only = atom_one a b r s ends other same in (ap Positive only.0, only.1)
   unary_one (Positive a) (Negative b) r s ends other same = absurd (omega (arith, ap begins same, atom_begins a r))
@@ -212,7 +236,8 @@ mutual
   unary_one (Negative a) (Negative b) r s ends other same =
       let only = atom_one a b r s ends other (cc) in (ap Negative only.0, only.1)
 
-  pub atom_one : (x y : Atom) (r s : List Token) → binds r < bracket_level → binds s < bracket_level → atom_then x r ≡ atom_then y s → (x ≡ y) × (r ≡ s)
+  pub atom_one : (x y : Atom) (r s : List Token) → binds r < bracket_level → binds s < bracket_level
+      → atom_then x r ≡ atom_then y s → (x ≡ y) × (r ≡ s)
   atom_one (Number n) (Number m) r s ends other same = (cc, cc)
   atom_one True True r s ends other same = (refl, cc)
   atom_one False False r s ends other same = (refl, cc)

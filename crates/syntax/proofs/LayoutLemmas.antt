@@ -1,5 +1,7 @@
 -- The tokens of tokens laid out are the same again.
-use Rattle.std.proofs.Common.{◌≡◌, ◌≢◌, ◌≤◌, ◌<◌, ◌+◌, ◌-◌, ◌*◌, ℕ, zero, suc, Bool, true, false, if◌then◌else◌, ◌&&◌, ◌||◌, ◌==◌, List, [], ◌∷◌, ◌++◌, codes, replicate, length, fold, Option, Some, None, refl, ap, sym, subst, ◌∙◌, arith}
+use Rattle.std.proofs.Common.{◌≡◌, ◌≢◌, ◌≤◌, ◌<◌, ◌+◌, ◌-◌, ◌*◌, ℕ, zero, suc, Bool, true, false, if◌then◌else◌, ◌&&◌}
+use Rattle.std.proofs.Common.{◌||◌, ◌==◌, List, [], ◌∷◌, ◌++◌, codes, replicate, length, fold, Option, Some, None, refl}
+use Rattle.std.proofs.Common.{ap, sym, subst, ◌∙◌, arith}
 use Rattle.std.specs.Char.{is_ascii_digit, digit_value}
 use Rattle.std.specs.Fmt.{decimal}
 use Rattle.std.specs.List.{list_all, flat_map}
@@ -11,11 +13,18 @@ use Rattle.std.proofs.lemmas.List.Folds.{list_all-append}
 use Rattle.std.proofs.lemmas.Fmt.{decimal_is_IsNumeral}
 use Rattle.std.proofs.lemmas.Str.Parse.{digit_from_value}
 use Rattle.syntax.specs.declared.token.Word.{Word}
-use Rattle.syntax.specs.declared.token.Word.TheVariants.{Byte as WordByte, Else as WordElse, False as WordFalse, Int as WordInt, Len as WordLen, True as WordTrue}
+use Rattle.syntax.specs.declared.token.Word.TheVariants.{Byte as WordByte, Else as WordElse, False as WordFalse}
+use Rattle.syntax.specs.declared.token.Word.TheVariants.{Int as WordInt, Len as WordLen, True as WordTrue}
 use Rattle.syntax.specs.declared.token.Mark.{Mark}
-use Rattle.syntax.specs.declared.token.Mark.TheVariants.{LeftParen, RightParen, LeftBrace, RightBrace, LeftBracket, RightBracket, Comma, Semicolon, Minus, Slash}
-use Rattle.syntax.specs.Canonical.{Left, Margin, Opening, Called, Operand, Ended, Other, Place, laid, next, before, space, left_by, left_by_word, left_by_mark, token_text, begins_line, begins_statement, indentation, is_closing, is_opening, line_end, line_start, canonical, statement_margin, plain_margin}
-use Rattle.syntax.specs.Lexical.{mark_text, word_text, is_blank, begins_name, is_in_name, starts, begins_comment, number_of, Piece, BlankPiece, CommentPiece, NamePiece, NumberPiece, WordPiece, MarkPiece, letters, token_of, IsNumber, IsMark, MayStand, AreCut, AreTokensOf}
+use Rattle.syntax.specs.declared.token.Mark.TheVariants.{LeftParen, RightParen, LeftBrace, RightBrace, LeftBracket}
+use Rattle.syntax.specs.declared.token.Mark.TheVariants.{RightBracket, Comma, Semicolon, Minus, Slash}
+use Rattle.syntax.specs.Canonical.{Left, Margin, Opening, Called, Operand, Ended, Other, Place, laid, next, before}
+use Rattle.syntax.specs.Canonical.{space, left_by, left_by_word, left_by_mark, token_text, begins_line}
+use Rattle.syntax.specs.Canonical.{begins_statement, indentation, is_closing, is_opening, line_end, line_start}
+use Rattle.syntax.specs.Canonical.{canonical, statement_margin, plain_margin}
+use Rattle.syntax.specs.Lexical.{mark_text, word_text, is_blank, begins_name, is_in_name, starts, begins_comment}
+use Rattle.syntax.specs.Lexical.{number_of, Piece, BlankPiece, CommentPiece, NamePiece, NumberPiece, WordPiece}
+use Rattle.syntax.specs.Lexical.{MarkPiece, letters, token_of, IsNumber, IsMark, MayStand, AreCut, AreTokensOf}
 use Rattle.syntax.specs.Token.{Token, NameToken, NumberToken, WordToken, MarkToken}
 use Rattle.syntax.specs.Spelling.{spelling}
 use Rattle.syntax.specs.Tree.{Program}

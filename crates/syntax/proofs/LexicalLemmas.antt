@@ -1,5 +1,7 @@
 -- What stands first in a text, and what pieces leave.
-use Rattle.std.proofs.Common.{◌≡◌, ℕ, zero, suc, ◌+◌, ◌<◌, ◌⊎◌, inl, inr, ⊎_elim, lit<, Bool, true, false, cond, ◌&&◌, ◌||◌, ◌==◌, List, [], ◌∷◌, ◌++◌, take, drop, refl, ap, sym, ◌∙◌, subst, take-append-drop, append-nil, append_assoc, arith}
+use Rattle.std.proofs.Common.{◌≡◌, ℕ, zero, suc, ◌+◌, ◌<◌, ◌⊎◌, inl, inr, ⊎_elim, lit<, Bool, true, false, cond, ◌&&◌}
+use Rattle.std.proofs.Common.{◌||◌, ◌==◌, List, [], ◌∷◌, ◌++◌, take, drop, refl, ap, sym, ◌∙◌, subst, take-append-drop}
+use Rattle.std.proofs.Common.{append-nil, append_assoc, arith}
 use Rattle.std.specs.List.{prefix_len, list_all, flat_map}
 use Rattle.std.proofs.lemmas.List.Sums.{take_while-cons}
 use Rattle.syntax.specs.Token.{Token}
@@ -19,7 +21,8 @@ module _ (p : ℕ → Bool) where
   front_passes [] = refl
   front_passes (x ∷ xs) = ap (list_all p) (take_while-cons p x xs) ∙ passes_more x (take (prefix_len p xs) xs) (p x) refl (front_passes xs)
 
-  stops_more : (x : ℕ) (xs : List ℕ) (b : Bool) → p x ≡ b → starts p (drop (prefix_len p xs) xs) ≡ false → starts p (drop (cond b (1 + prefix_len p xs) 0) (x ∷ xs)) ≡ false
+  stops_more : (x : ℕ) (xs : List ℕ) (b : Bool) → p x ≡ b → starts p (drop (prefix_len p xs) xs) ≡ false
+      → starts p (drop (cond b (1 + prefix_len p xs) 0) (x ∷ xs)) ≡ false
   stops_more x xs true e stops =
       let next : 1 + prefix_len p xs ≡ suc (prefix_len p xs) = omega arith in
       ap (λ n. starts p (drop n (x ∷ xs))) next ∙ stops
@@ -36,15 +39,18 @@ module _ (p : ℕ → Bool) where
   pub stops_at : (n : ℕ) (xs rest : List ℕ) → n ≡ prefix_len p xs → rest ≡ drop n xs → starts p rest ≡ false
   stops_at n xs rest length_is rest_is = ap (starts p) (rest_is ∙ ap (λ m. drop m xs) length_is) ∙ rest_stops xs
 
-  pub begins_at : (q : ℕ → Bool) (n x : ℕ) (xs after front : List ℕ) → xs ≡ x ∷ after → n ≡ prefix_len p xs → front ≡ take n xs → p x ≡ true → q x ≡ true → starts q front ≡ true
+  pub begins_at : (q : ℕ → Bool) (n x : ℕ) (xs after front : List ℕ) → xs ≡ x ∷ after → n ≡ prefix_len p xs
+      → front ≡ take n xs → p x ≡ true → q x ≡ true → starts q front ≡ true
   begins_at q n x xs after front xs_is length_is front_is passes begins =
       let whole = front_is ∙ ap (λ m. take m xs) length_is ∙ ap (λ l. take (prefix_len p l) l) xs_is in
       ap (starts q) (whole ∙ take_while-cons p x after ∙ ap (λ b. cond b (x ∷ take (prefix_len p after) after) []) passes) ∙ begins
 
 pub cut_at : (n : ℕ) (xs front rest : List ℕ) → front ≡ take n xs → rest ≡ drop n xs → xs ≡ front ++ rest
-cut_at n xs front rest front_is rest_is = sym (take-append-drop n xs) ∙ ap (λ l. l ++ drop n xs) (sym front_is) ∙ ap (λ l. front ++ l) (sym rest_is)
+cut_at n xs front rest front_is rest_is =
+    sym (take-append-drop n xs) ∙ ap (λ l. l ++ drop n xs) (sym front_is) ∙ ap (λ l. front ++ l) (sym rest_is)
 
-pub cut-push : (text rest after : List ℕ) (ps : List Piece) (p : Piece) → AreCut text ps rest → Begins rest p after → AreCut text (ps ++ p ∷ []) after
+pub cut-push : (text rest after : List ℕ) (ps : List Piece) (p : Piece) → AreCut text ps rest → Begins rest p after
+    → AreCut text (ps ++ p ∷ []) after
 cut-push text rest after [] p cut begins = (after, subst (λ t. Begins t p after) (sym cut) begins, refl)
 cut-push text rest after (q ∷ ps) p cut begins = (cut.0, cut.1, cut-push cut.0 rest after ps p cut.2 begins)
 
@@ -53,7 +59,8 @@ tokens-push [] p = append-nil (token_of p)
 tokens-push (q ∷ ps) p = ap (λ l. token_of q ++ l) (tokens-push ps p) ∙ sym (append_assoc (token_of q) (flat_map token_of ps) (token_of p))
 
 -- one more piece was read
-pub piece_read : (text rest after : List ℕ) (ts us : List Token) → HasTokens text ts rest → Reads rest us after → HasTokens text (ts ++ us) after
+pub piece_read : (text rest after : List ℕ) (ts us : List Token) → HasTokens text ts rest → Reads rest us after
+    → HasTokens text (ts ++ us) after
 piece_read text rest after ts us has reads = record {
   pieces = has.pieces ++ reads.piece ∷ [];
   cut = cut-push text rest after has.pieces reads.piece has.cut reads.begins;
@@ -75,7 +82,8 @@ in_name_is_ascii : (c : ℕ) → is_in_name c ≡ true → c < 128
 in_name_is_ascii c e =
     ⊎_elim
     (λ begins. ⊎_elim
-    (λ letter. ⊎_elim (in_range_is_below 65 90 c (lit< tt)) (in_range_is_below 97 122 c (lit< tt)) (either (is_in_range 65 90 c) (is_in_range 97 122 c) letter))
+    (λ letter. ⊎_elim (in_range_is_below 65 90 c (lit< tt)) (in_range_is_below 97 122 c (lit< tt))
+    (either (is_in_range 65 90 c) (is_in_range 97 122 c) letter))
     (λ underscore. subst (λ n. n < 128) (sym (eqb-true c 95 underscore)) (lit< tt))
     (either (is_ascii_alphabetic c) (c == 95) begins))
     (in_range_is_below 48 57 c (lit< tt))

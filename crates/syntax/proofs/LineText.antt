@@ -1,5 +1,7 @@
 -- The text of lines.
-use Rattle.std.proofs.Common.{◌≡◌, ℕ, zero, suc, replicate, ◌+◌, ◌-◌, Bool, true, false, if◌then◌else◌, List, [], ◌∷◌, ◌++◌, map, codes, Option, Some, None, String, Global, length, unwrap_or, length-append, arith, refl, ap, sym, ◌∙◌, append_assoc, append-nil}
+use Rattle.std.proofs.Common.{◌≡◌, ℕ, zero, suc, replicate, ◌+◌, ◌-◌, Bool, true, false, if◌then◌else◌, List, [], ◌∷◌}
+use Rattle.std.proofs.Common.{◌++◌, map, codes, Option, Some, None, String, Global, length, unwrap_or, length-append}
+use Rattle.std.proofs.Common.{arith, refl, ap, sym, ◌∙◌, append_assoc, append-nil}
 use Rattle.std.specs.Fmt.{char_count, decimal, format_spec, styled_decimal, padded_integral}
 use Rattle.std.specs.List.{repeat}
 use Rattle.std.specs.Option.{option_map}
@@ -8,15 +10,23 @@ use Rattle.syntax.specs.declared.canonical.Lines.{Lines}
 use Rattle.syntax.specs.declared.tree.ElementType.{ElementType}
 use Rattle.syntax.specs.declared.tree.ElementType.TheVariants.{Int as IntElement, Byte as ByteElement}
 use Rattle.syntax.specs.declared.tree.Parameter.{Parameter as rParameter}
-use Rattle.syntax.specs.declared.token.Word.TheVariants.{Array as WordArray, As as WordAs, At as WordAt, Else as WordElse, Main as WordMain, Proc as WordProc, Split as WordSplit}
-use Rattle.syntax.specs.declared.token.Mark.TheVariants.{LeftParen, RightParen, LeftBrace, RightBrace, LeftBracket, RightBracket, Comma, Semicolon, Colon, Becomes}
-use Rattle.syntax.specs.Canonical.{Left, Margin, Opening, Operand, Ended, Other, Place, laid, in_line, indent, plain_margin, statement_margin, label_text}
+use Rattle.syntax.specs.declared.token.Word.TheVariants.{Array as WordArray, As as WordAs, At as WordAt}
+use Rattle.syntax.specs.declared.token.Word.TheVariants.{Else as WordElse, Main as WordMain, Print as WordPrint, Proc as WordProc}
+use Rattle.syntax.specs.declared.token.Word.TheVariants.{Split as WordSplit}
+use Rattle.syntax.specs.declared.token.Mark.TheVariants.{LeftParen, RightParen, LeftBrace, RightBrace, LeftBracket}
+use Rattle.syntax.specs.declared.token.Mark.TheVariants.{RightBracket, Comma, Semicolon, Colon, Becomes}
+use Rattle.syntax.specs.Canonical.{Left, Margin, Opening, Operand, Ended, Other, Place, laid, in_line, indent}
+use Rattle.syntax.specs.Canonical.{plain_margin, statement_margin, label_text}
 use Rattle.syntax.specs.Lexical.{word_text}
-use Rattle.syntax.specs.Spelling.{expr_then, more_then, exprs_then, stmt_then, block_then, arrays_then, parameter_then, parameters_then, more_parameters_then, procedures_then, main_tokens, element_word}
+use Rattle.syntax.specs.Spelling.{expr_then, more_then, exprs_then, stmt_then, block_then, arrays_then, parameter_then}
+use Rattle.syntax.specs.Spelling.{parameters_then, more_parameters_then, procedures_then, main_tokens, element_word}
 use Rattle.syntax.specs.Token.{Token, NameToken, NumberToken, WordToken, MarkToken}
-use Rattle.syntax.specs.Tree.{Expr, Stmt, Skip, Var, Assign, Store, Print, Fault, If, IfElse, While, Split, Call, Async, Finish, Block, End, Then, Array, Parameter, Written, Read, Scalar, Procedure, Main, parameter}
+use Rattle.syntax.specs.Tree.{Expr, Stmt, Skip, Var, Assign, Store, Print, Fault, If, IfElse, While, Split, Call, Async}
+use Rattle.syntax.specs.Tree.{Finish, Block, End, Then, Array, Parameter, Written, Read, Scalar, Procedure, Main}
+use Rattle.syntax.specs.Tree.{parameter}
 use Rattle.syntax.specs.Writing.{place, with_rest, Adds, IsCounted}
-use Rattle.syntax.proofs.LaidLemmas.{at_left, line, Follows, joined, under, before_nil, end_follows, more_follow, expr_apart, expr_laid, more_laid}
+use Rattle.syntax.proofs.LaidLemmas.{at_left, line, Follows, joined, under, before_nil, end_follows, more_follow}
+use Rattle.syntax.proofs.LaidLemmas.{expr_apart, expr_laid, more_laid}
 
 -- text that a layout begins with is written
 pub wrote : (old new : Lines) (from to : Left) (ts us : List Token) (t : List ℕ) (d : ℕ) (n : Option ℕ) → string_bytes new.text
@@ -223,23 +233,44 @@ pub laid_Var : (at : Place) (x : List ℕ) (e : Expr) (r : List Token) → laid 
 unfolding laid stmt_then
 laid_Var at x e r = ap (λ l. 118 ∷ 97 ∷ 114 ∷ 32 ∷ l) (laid_Assign at x e r)
 
+-- `s[i] = e`
+abbrev pub store_then : List ℕ → Expr → Expr → List Token → List Token
+store_then s i e r = NameToken s ∷ MarkToken LeftBracket ∷ expr_then i (MarkToken RightBracket ∷ MarkToken Becomes ∷ expr_then e r)
+
+pub store_text : (s : List ℕ) (i e : Expr) → in_line (store_then s i e [])
+    ≡ s ++ (codes "[" ++ (in_line (expr_then i []) ++ (codes "] = " ++ in_line (expr_then e []))))
+unfolding laid
+store_text s i e =
+    ap (λ l. s ++ (91 ∷ l)) (expr_laid line i (MarkToken RightBracket ∷ MarkToken Becomes ∷ expr_then e []) refl
+    ∙ ap (λ l. in_line (expr_then i []) ++ (93 ∷ 32 ∷ 61 ∷ l)) (expr_apart line e []))
+
 pub laid_Store : (at : Place) (s : List ℕ) (i e : Expr) (r : List Token) → laid (at_left at Opening) (stmt_then (Store s i e) r)
-    ≡ (s ++ (codes "[" ++ (in_line (expr_then i []) ++ (codes "] = " ++ in_line (expr_then e []))))) ++ up_to_end at r
+    ≡ in_line (store_then s i e []) ++ up_to_end at r
 unfolding laid stmt_then
 laid_Store at s i e r =
-    let value = expr_apart at e (MarkToken Semicolon ∷ r) ∙ ap (λ l. 32 ∷ l) (expr_laid at e (MarkToken Semicolon ∷ r) refl) in
-    under s _ _ _ (ap (λ l. 91 ∷ l) (expr_laid at i (MarkToken RightBracket ∷ MarkToken Becomes ∷ expr_then e
-    (MarkToken Semicolon ∷ r)) refl
-    ∙ under (in_line (expr_then i [])) _ (codes "] = " ++ in_line (expr_then e [])) _ (ap (λ l. 93 ∷ 32 ∷ 61 ∷ l) value)))
+    let value = expr_behind at e (MarkToken Semicolon ∷ r) [] (up_to_end at r) refl refl refl in
+    under s _ _ _ (ap (λ l. 91 ∷ l) (joined _ _ _ _ _ _ (expr_laid at i (MarkToken RightBracket ∷ MarkToken Becomes ∷ expr_then e
+    (MarkToken Semicolon ∷ r)) refl) (expr_laid line i (MarkToken RightBracket ∷ MarkToken Becomes ∷ expr_then e []) refl)
+    (ap (λ l. 93 ∷ 32 ∷ 61 ∷ l) value)))
+
+-- `print e, ..`
+abbrev pub print_then : Expr → List Expr → List Token → List Token
+print_then e es r = WordToken WordPrint ∷ expr_then e (more_then es r)
+
+pub print_text : (e : Expr) (es : List Expr) → in_line (print_then e es [])
+    ≡ codes "print " ++ (in_line (expr_then e []) ++ laid (at_left line Operand) (more_then es []))
+unfolding laid
+print_text e es =
+    ap (λ l. 112 ∷ 114 ∷ 105 ∷ 110 ∷ 116 ∷ l) (expr_apart line e (more_then es [])
+    ∙ ap (λ l. 32 ∷ l) (expr_laid line e (more_then es []) (more_follow line es [] (end_follows line))))
 
 pub laid_Print : (at : Place) (e : Expr) (es : List Expr) (r : List Token) → laid (at_left at Opening) (stmt_then (Print e es) r)
-    ≡ (codes "print " ++ (in_line (expr_then e []) ++ laid (at_left line Operand) (more_then es []))) ++ up_to_end at r
+    ≡ in_line (print_then e es []) ++ up_to_end at r
 unfolding laid stmt_then
 laid_Print at e es r =
-    let rest = more_then es (MarkToken Semicolon ∷ r) in
-    ap (λ l. 112 ∷ 114 ∷ 105 ∷ 110 ∷ 116 ∷ l) (expr_apart at e rest ∙ ap (λ l. 32 ∷ l)
-    (expr_laid at e rest (more_follow at es (MarkToken Semicolon ∷ r) refl)
-    ∙ under (in_line (expr_then e [])) _ _ _ (more_laid at es (MarkToken Semicolon ∷ r) refl)))
+    ap (λ l. 112 ∷ 114 ∷ 105 ∷ 110 ∷ 116 ∷ l) (expr_behind at e (more_then es (MarkToken Semicolon ∷ r)) (more_then es [])
+    (up_to_end at r) (more_follow at es (MarkToken Semicolon ∷ r) refl) (more_follow line es [] (end_follows line)) (more_laid at es
+    (MarkToken Semicolon ∷ r) refl))
 
 pub laid_Fault : (at : Place) (e : Expr) (r : List Token) → laid (at_left at Opening) (stmt_then (Fault e) r)
     ≡ (codes "fault " ++ in_line (expr_then e [])) ++ up_to_end at r

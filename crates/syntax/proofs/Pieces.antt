@@ -1,17 +1,27 @@
 -- A text begins with one piece at most, so it is cut into pieces in one way.
-use Rattle.std.proofs.Common.{◌≡◌, ℕ, ◌+◌, ◌*◌, ◌<◌, ◌≤◌, ⊎_elim, Bool, true, false, cond, ◌&&◌, ◌||◌, ◌==◌, List, [], ◌∷◌, ◌++◌, length, take, drop, fold, refl, ap, sym, ◌∙◌, subst, arith}
+use Rattle.std.proofs.Common.{◌≡◌, ℕ, ◌+◌, ◌*◌, ◌<◌, ◌≤◌, ⊎_elim, Bool, true, false, cond, ◌&&◌, ◌||◌, ◌==◌, List, []}
+use Rattle.std.proofs.Common.{◌∷◌, ◌++◌, length, take, drop, fold, refl, ap, sym, ◌∙◌, subst, arith}
 use Rattle.std.specs.List.{prefix_len, list_all, flat_map}
 use Rattle.std.specs.Char.{is_ascii_alphabetic, is_ascii_digit}
 use Rattle.std.specs.Int.{is_in_range}
 use Rattle.std.proofs.lemmas.List.{append_cancel_left, length-drop}
 use Rattle.std.proofs.lemmas.List.Sums.{take_while-cons}
-use Rattle.std.proofs.lemmas.Bool.{and_parts, or_cases, or_from, ne_eqb, eqb-true, leb-true, lt-leb, and_left, and_right, false≢true, false_from_ne_true}
+use Rattle.std.proofs.lemmas.Bool.{and_parts, or_cases, or_from, ne_eqb, eqb-true, leb-true, lt-leb, and_left}
+use Rattle.std.proofs.lemmas.Bool.{and_right, false≢true, false_from_ne_true}
 use Rattle.syntax.specs.declared.token.Word.{Word}
-use Rattle.syntax.specs.declared.token.Word.TheVariants.{And, Array, As, Async, At, By, Byte, Else, False, Fault, Finish, If, Int, Len, Main, Mut, Not, Or, Parts, Print, Proc, Read, Rescue, Skip, Split, True, Var, While}
+use Rattle.syntax.specs.declared.token.Word.TheVariants.{And, Array, As, Async, At, By, Byte, Else, False, Fault}
+use Rattle.syntax.specs.declared.token.Word.TheVariants.{Finish, If, Int, Len, Main, Mut, Not, Or, Parts, Print, Proc}
+use Rattle.syntax.specs.declared.token.Word.TheVariants.{Read, Rescue, Skip, Split, True, Var, While}
 use Rattle.syntax.specs.declared.token.Mark.{Mark}
-use Rattle.syntax.specs.declared.token.Mark.TheVariants.{LeftParen, RightParen, LeftBrace, RightBrace, LeftBracket, RightBracket, Comma, Semicolon, Colon, Becomes, Plus, Minus, Star, Slash, Percent, Less, AtMost, Greater, AtLeast, Equal, Differs}
+use Rattle.syntax.specs.declared.token.Mark.TheVariants.{LeftParen, RightParen, LeftBrace, RightBrace, LeftBracket}
+use Rattle.syntax.specs.declared.token.Mark.TheVariants.{RightBracket, Comma, Semicolon, Colon, Becomes, Plus, Minus}
+use Rattle.syntax.specs.declared.token.Mark.TheVariants.{Star, Slash, Percent, Less, AtMost, Greater, AtLeast, Equal}
+use Rattle.syntax.specs.declared.token.Mark.TheVariants.{Differs}
 use Rattle.syntax.specs.Token.{Token}
-use Rattle.syntax.specs.Lexical.{word_text, mark_text, is_blank, begins_name, is_in_name, is_in_line, starts, begins_comment, number_of, Piece, BlankPiece, CommentPiece, NamePiece, NumberPiece, WordPiece, MarkPiece, letters, token_of, IsMark, MayStand, Begins, AreCut, AreTokensOf, BeginsNoPiece, BeginsLargeNumber, StopsAt}
+use Rattle.syntax.specs.Lexical.{word_text, mark_text, is_blank, begins_name, is_in_name, is_in_line, starts}
+use Rattle.syntax.specs.Lexical.{begins_comment, number_of, Piece, BlankPiece, CommentPiece, NamePiece, NumberPiece}
+use Rattle.syntax.specs.Lexical.{WordPiece, MarkPiece, letters, token_of, IsMark, MayStand, Begins, AreCut, AreTokensOf}
+use Rattle.syntax.specs.Lexical.{BeginsNoPiece, BeginsLargeNumber, StopsAt}
 
 -- Words and marks are told apart by their characters.
 
@@ -210,11 +220,13 @@ module _ {A : Type 0} (blank comment word number other : A) where
 
   by_first-number : (b c n d : Bool) → b ≡ false → c ≡ false → n ≡ false → d ≡ true → by_first b c n d ≡ number
   by_first-number b c n d e f g h =
-      ap (λ b. by_first b c n d) e ∙ ap (λ c. by_first false c n d) f ∙ ap (λ n. by_first false false n d) g ∙ ap (λ d. by_first false false false d) h
+      ap (λ b. by_first b c n d) e ∙ ap (λ c. by_first false c n d) f ∙ ap (λ n. by_first false false n d) g
+      ∙ ap (λ d. by_first false false false d) h
 
   by_first-other : (b c n d : Bool) → b ≡ false → c ≡ false → n ≡ false → d ≡ false → by_first b c n d ≡ other
   by_first-other b c n d e f g h =
-      ap (λ b. by_first b c n d) e ∙ ap (λ c. by_first false c n d) f ∙ ap (λ n. by_first false false n d) g ∙ ap (λ d. by_first false false false d) h
+      ap (λ b. by_first b c n d) e ∙ ap (λ c. by_first false c n d) f ∙ ap (λ n. by_first false false n d) g
+      ∙ ap (λ d. by_first false false false d) h
 
 abbrev front_of : (ℕ → Bool) → List ℕ → List ℕ
 front_of p xs = take (prefix_len p xs) xs
@@ -256,7 +268,8 @@ front_is p [] [] all ends = refl
 front_is p [] (c ∷ rest) all ends = take_while-cons p c rest ∙ ap (λ b. cond b (c ∷ front_of p rest) []) ends
 front_is p (c ∷ cs) rest all ends =
     let parts = and_parts (p c) (list_all p cs) all in
-    take_while-cons p c (cs ++ rest) ∙ ap (λ b. cond b (c ∷ front_of p (cs ++ rest)) []) parts.0 ∙ ap (λ l. c ∷ l) (front_is p cs rest parts.1 ends)
+    take_while-cons p c (cs ++ rest) ∙ ap (λ b. cond b (c ∷ front_of p (cs ++ rest)) []) parts.0
+    ∙ ap (λ l. c ∷ l) (front_is p cs rest parts.1 ends)
 
 pub starts-append : (q : ℕ → Bool) (cs rest : List ℕ) → starts q cs ≡ true → starts q (cs ++ rest) ≡ true
 starts-append q [] rest begins = absurd (false≢true begins)
@@ -271,7 +284,8 @@ no_comment : (c : ℕ) (cs : List ℕ) → (c == 47) ≡ false → begins_commen
 no_comment c [] e = refl
 no_comment c (d ∷ cs) e = ap (λ b. b && d == 47) e
 
-begins_no_comment : (q : ℕ → Bool) (cs rest : List ℕ) → ((c : ℕ) → q c ≡ true → (c == 47) ≡ false) → starts q cs ≡ true → begins_comment (cs ++ rest) ≡ false
+begins_no_comment : (q : ℕ → Bool) (cs rest : List ℕ) → ((c : ℕ) → q c ≡ true → (c == 47) ≡ false) → starts q cs ≡ true
+    → begins_comment (cs ++ rest) ≡ false
 begins_no_comment q [] rest apart begins = absurd (false≢true begins)
 begins_no_comment q (c ∷ cs) rest apart begins = no_comment c (cs ++ rest) (apart c begins)
 
@@ -288,12 +302,15 @@ before_range low high c less = and_left _ _ (lt-leb low c less)
 
 above_is_no_blank : (c : ℕ) → 47 < c → is_blank c ≡ false
 above_is_no_blank c more =
-    or_from _ _ (ne_eqb c 32 (λ e. omega arith)) (or_from _ _ (ne_eqb c 9 (λ e. omega arith)) (or_from _ _ (ne_eqb c 13 (λ e. omega arith)) (ne_eqb c 10 (λ e. omega arith))))
+    or_from _ _ (ne_eqb c 32 (λ e. omega arith))
+    (or_from _ _ (ne_eqb c 9 (λ e. omega arith))
+    (or_from _ _ (ne_eqb c 13 (λ e. omega arith)) (ne_eqb c 10 (λ e. omega arith))))
 
 letter_is_above : (c : ℕ) → begins_name c ≡ true → 64 < c
 letter_is_above c e =
     ⊎_elim
-    (λ letter. ⊎_elim (λ upper. omega (arith, in_range 65 90 c upper)) (λ lower. omega (arith, in_range 97 122 c lower)) (or_cases (is_in_range 65 90 c) (is_in_range 97 122 c) letter))
+    (λ letter. ⊎_elim (λ upper. omega (arith, in_range 65 90 c upper)) (λ lower. omega (arith, in_range 97 122 c lower))
+    (or_cases (is_in_range 65 90 c) (is_in_range 97 122 c) letter))
     (λ underscore. omega (arith, eqb-true c 95 underscore))
     (or_cases (is_ascii_alphabetic c) (c == 95) e)
 
@@ -306,7 +323,8 @@ digit_begins_no_name c e =
     or_from _ _ (or_from _ _ (before_range 65 90 c (omega arith)) (before_range 97 122 c (omega arith))) (ne_eqb c 95 (λ e. omega arith))
 
 -- a word or a name that stands first is what the text tells
-look-word : (cs rest : List ℕ) → starts begins_name cs ≡ true → list_all is_in_name cs ≡ true → starts is_in_name rest ≡ false → look (cs ++ rest) ≡ looked IsWord cs
+look-word : (cs rest : List ℕ) → starts begins_name cs ≡ true → list_all is_in_name cs ≡ true
+    → starts is_in_name rest ≡ false → look (cs ++ rest) ≡ looked IsWord cs
 unfolding look
 look-word cs rest begins all ends =
     let no_blank = starts-not begins_name is_blank cs rest (λ c e. above_is_no_blank c (omega (arith, letter_is_above c e))) begins in
@@ -315,7 +333,8 @@ look-word cs rest begins all ends =
     ap (looked IsWord) (front_is is_in_name cs rest all ends)
 
 -- and so are digits
-look-digits : (cs rest : List ℕ) → starts is_ascii_digit cs ≡ true → list_all is_ascii_digit cs ≡ true → starts is_ascii_digit rest ≡ false → look (cs ++ rest) ≡ looked IsNumber cs
+look-digits : (cs rest : List ℕ) → starts is_ascii_digit cs ≡ true → list_all is_ascii_digit cs ≡ true
+    → starts is_ascii_digit rest ≡ false → look (cs ++ rest) ≡ looked IsNumber cs
 unfolding look
 look-digits cs rest begins all ends =
     let no_blank = starts-not is_ascii_digit is_blank cs rest (λ c e. above_is_no_blank c (digit_is_above c e)) begins in
@@ -440,7 +459,8 @@ pub nothing_begins_no_piece : BeginsNoPiece []
 nothing_begins_no_piece p rest begins = piece_is_some p rest begins.fits (sym begins.spelled)
 
 -- a text is cut in one way, as far as it can be
-one_cut : (text : List ℕ) (ps qs : List Piece) (r s : List ℕ) → AreCut text ps r → AreCut text qs s → BeginsNoPiece r → BeginsNoPiece s → (ps ≡ qs) × (r ≡ s)
+one_cut : (text : List ℕ) (ps qs : List Piece) (r s : List ℕ) → AreCut text ps r → AreCut text qs s → BeginsNoPiece r
+    → BeginsNoPiece s → (ps ≡ qs) × (r ≡ s)
 one_cut text [] [] r s c d n m = (refl, sym c ∙ d)
 one_cut text [] (q ∷ qs) r s c d n m = absurd (n q d.0 (subst (λ t. Begins t q d.0) c d.1))
 one_cut text (p ∷ ps) [] r s c d n m = absurd (m p c.0 (subst (λ t. Begins t p c.0) d c.1))
@@ -463,7 +483,8 @@ no_reading text at ts stops h =
 
 pub one_place : (text : List ℕ) (at other : ℕ) → StopsAt text at → StopsAt text other → at ≡ other
 one_place text at other here there =
-    let cuts = one_cut text here.read.pieces there.read.pieces (drop at text) (drop other text) here.read.cut there.read.cut here.stuck there.stuck in
+    let cuts = one_cut text here.read.pieces there.read.pieces (drop at text)
+    (drop other text) here.read.cut there.read.cut here.stuck there.stuck in
     let bound = here.within in
     let bound_there = there.within in
     let left = ap length cuts.1 in
@@ -471,7 +492,8 @@ one_place text at other here there =
 
 -- What begins with no piece.
 
-fits_in_number : (p : Piece) (rest digits : List ℕ) → MayStand p rest → kind p ≡ IsNumber → letters p ≡ digits → number_of digits ≤ 9223372036854775807
+fits_in_number : (p : Piece) (rest digits : List ℕ) → MayStand p rest → kind p ≡ IsNumber → letters p ≡ digits
+    → number_of digits ≤ 9223372036854775807
 fits_in_number (NumberPiece cs) rest digits fits k l = subst (λ ds. number_of ds ≤ 9223372036854775807) l fits.fits
 fits_in_number p rest digits fits k l = cc
 

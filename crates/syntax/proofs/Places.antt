@@ -1,5 +1,6 @@
 -- The line and the column behind one more character.
-use Rattle.std.proofs.Common.{◌≡◌, ℕ, ◌+◌, ◌<◌, Bool, true, false, cond, ◌==◌, List, [], ◌∷◌, ◌++◌, take, length, get_or, reverse, ap, sym, ◌∙◌, arith}
+use Rattle.std.proofs.Common.{◌≡◌, ℕ, ◌+◌, ◌<◌, Bool, true, false, cond, ◌==◌, List, [], ◌∷◌, ◌++◌, take, length}
+use Rattle.std.proofs.Common.{get_or, reverse, ap, sym, ◌∙◌, arith}
 use Rattle.std.specs.List.{prefix_len}
 use Rattle.std.proofs.lemmas.List.{reverse-append, take_more}
 use Rattle.std.proofs.lemmas.List.Sums.{count_by_more_yes, count_by_more_no}
@@ -8,11 +9,14 @@ use Rattle.syntax.specs.declared.place.Place.{Place}
 use Rattle.syntax.specs.Lexical.{is_in_line}
 use Rattle.syntax.specs.Place.{line_behind, column_behind, place_at}
 
-column_push : (before : List ℕ) (c : ℕ) (b : Bool) → is_in_line c ≡ b → column_behind (before ++ c ∷ []) ≡ cond b (column_behind before + 1) 1
+column_push : (before : List ℕ) (c : ℕ) (b : Bool) → is_in_line c ≡ b
+    → column_behind (before ++ c ∷ []) ≡ cond b (column_behind before + 1) 1
 column_push before c true e =
-    ap (λ l. prefix_len is_in_line l + 1) (reverse-append before (c ∷ [])) ∙ ap (λ b. cond b (1 + prefix_len is_in_line (reverse before)) 0 + 1) e ∙ omega arith
+    ap (λ l. prefix_len is_in_line l + 1) (reverse-append before (c ∷ []))
+    ∙ ap (λ b. cond b (1 + prefix_len is_in_line (reverse before)) 0 + 1) e ∙ omega arith
 column_push before c false e =
-    ap (λ l. prefix_len is_in_line l + 1) (reverse-append before (c ∷ [])) ∙ ap (λ b. cond b (1 + prefix_len is_in_line (reverse before)) 0 + 1) e ∙ omega arith
+    ap (λ l. prefix_len is_in_line l + 1) (reverse-append before (c ∷ []))
+    ∙ ap (λ b. cond b (1 + prefix_len is_in_line (reverse before)) 0 + 1) e ∙ omega arith
 
 module _ (text : List ℕ) (i c : ℕ) (within : i < length text) (there : get_or text i 0 ≡ c) where
   column_step : (b : Bool) → is_in_line c ≡ b → column_behind (take (i + 1) text) ≡ cond b (column_behind (take i text) + 1) 1
@@ -34,6 +38,7 @@ abbrev place : ℕ → ℕ → Place
 place line column = record { line = line; column = column }
 
 -- the place behind the characters of one front is that behind the same of another
-pub is_place : (text : List ℕ) (i at line column : ℕ) → line ≡ line_behind (take i text) → column ≡ column_behind (take i text) → take i text ≡ take at text → place line column ≡ place_at text at
+pub is_place : (text : List ℕ) (i at line column : ℕ) → line ≡ line_behind (take i text)
+    → column ≡ column_behind (take i text) → take i text ≡ take at text → place line column ≡ place_at text at
 is_place text i at line column line_is column_is same =
     ap (λ n. place n column) (line_is ∙ ap line_behind same) ∙ ap (place (line_behind (take at text))) (column_is ∙ ap column_behind same)

@@ -15,22 +15,29 @@ pub plain_none : (ts : List Spanned) → length ts ≡ 0 → plain ts ≡ []
 plain_none [] e = refl
 plain_none (t ∷ ts) e = absurd (omega (arith, e))
 
-arrays_then-push : (xs : List rArray) (x : rArray) (r : List Token) → arrays_then (map array (xs ++ x ∷ [])) r ≡ arrays_then (map array xs) (arrays_then (array x ∷ []) r)
+arrays_then-push : (xs : List rArray) (x : rArray) (r : List Token)
+    → arrays_then (map array (xs ++ x ∷ [])) r ≡ arrays_then (map array xs) (arrays_then (array x ∷ []) r)
 unfolding arrays_then
 arrays_then-push [] x r = refl
 arrays_then-push (y ∷ xs) x r = ap (arrays_then (array y ∷ [])) (arrays_then-push xs x r)
 
-procedures_then-push : (xs : List rProcedure) (x : rProcedure) (r : List Token) → procedures_then (map procedure (xs ++ x ∷ [])) r ≡ procedures_then (map procedure xs) (procedures_then (procedure x ∷ []) r)
+procedures_then-push : (xs : List rProcedure) (x : rProcedure) (r : List Token)
+    → procedures_then (map procedure (xs ++ x ∷ [])) r ≡ procedures_then (map procedure xs)
+    (procedures_then (procedure x ∷ []) r)
 unfolding procedures_then
 procedures_then-push [] x r = refl
 procedures_then-push (y ∷ xs) x r = ap (procedures_then (procedure y ∷ [])) (procedures_then-push xs x r)
 
-more_parameters_then-push : (xs : List rParameter) (x : rParameter) (r : List Token) → more_parameters_then (map parameter (xs ++ x ∷ [])) r ≡ more_parameters_then (map parameter xs) (MarkToken Comma ∷ parameter_then (parameter x) r)
+more_parameters_then-push : (xs : List rParameter) (x : rParameter) (r : List Token)
+    → more_parameters_then (map parameter (xs ++ x ∷ [])) r ≡ more_parameters_then (map parameter xs)
+    (MarkToken Comma ∷ parameter_then (parameter x) r)
 unfolding more_parameters_then
 more_parameters_then-push [] x r = refl
 more_parameters_then-push (y ∷ xs) x r = ap (λ l. MarkToken Comma ∷ parameter_then (parameter y) l) (more_parameters_then-push xs x r)
 
-parameters_then-push : (xs : List rParameter) (x : rParameter) (r : List Token) → 0 < length xs → parameters_then (map parameter (xs ++ x ∷ [])) r ≡ parameters_then (map parameter xs) (MarkToken Comma ∷ parameter_then (parameter x) r)
+parameters_then-push : (xs : List rParameter) (x : rParameter) (r : List Token) → 0 < length xs
+    → parameters_then (map parameter (xs ++ x ∷ [])) r ≡ parameters_then (map parameter xs)
+    (MarkToken Comma ∷ parameter_then (parameter x) r)
 unfolding parameters_then
 parameters_then-push [] x r some = absurd (omega (arith, some))
 parameters_then-push (y ∷ xs) x r some = ap (parameter_then (parameter y)) (more_parameters_then-push xs x r)
@@ -41,14 +48,23 @@ parameters_then-one x r = refl
 
 -- One more was read and put behind the others.
 module _ (ts before after r : List Token) where
-  pub arrays_read : (xs ys : List rArray) (x : rArray) → ts ≡ arrays_then (map array xs) before → before ≡ WordToken WordArray ∷ after → WordToken WordArray ∷ after ≡ arrays_then (array x ∷ []) r → ys ≡ xs ++ x ∷ [] → ts ≡ arrays_then (map array ys) r
+  pub arrays_read : (xs ys : List rArray) (x : rArray) → ts ≡ arrays_then (map array xs) before
+      → before ≡ WordToken WordArray ∷ after → WordToken WordArray ∷ after ≡ arrays_then (array x ∷ []) r
+      → ys ≡ xs ++ x ∷ [] → ts ≡ arrays_then (map array ys) r
   arrays_read xs ys x spelled word one pushed =
-      spelled ∙ ap (arrays_then (map array xs)) (word ∙ one) ∙ sym (arrays_then-push xs x r) ∙ ap (λ l. arrays_then (map array l) r) (sym pushed)
+      spelled ∙ ap (arrays_then (map array xs)) (word ∙ one) ∙ sym (arrays_then-push xs x r)
+      ∙ ap (λ l. arrays_then (map array l) r) (sym pushed)
 
-  pub procedures_read : (xs ys : List rProcedure) (x : rProcedure) → ts ≡ procedures_then (map procedure xs) before → before ≡ WordToken WordProc ∷ after → WordToken WordProc ∷ after ≡ procedures_then (procedure x ∷ []) r → ys ≡ xs ++ x ∷ [] → ts ≡ procedures_then (map procedure ys) r
+  pub procedures_read : (xs ys : List rProcedure) (x : rProcedure) → ts ≡ procedures_then (map procedure xs) before
+      → before ≡ WordToken WordProc ∷ after → WordToken WordProc ∷ after ≡ procedures_then (procedure x ∷ []) r
+      → ys ≡ xs ++ x ∷ [] → ts ≡ procedures_then (map procedure ys) r
   procedures_read xs ys x spelled word one pushed =
-      spelled ∙ ap (procedures_then (map procedure xs)) (word ∙ one) ∙ sym (procedures_then-push xs x r) ∙ ap (λ l. procedures_then (map procedure l) r) (sym pushed)
+      spelled ∙ ap (procedures_then (map procedure xs)) (word ∙ one) ∙ sym (procedures_then-push xs x r)
+      ∙ ap (λ l. procedures_then (map procedure l) r) (sym pushed)
 
-  pub parameters_read : (xs ys : List rParameter) (x : rParameter) → 0 < length xs → ts ≡ parameters_then (map parameter xs) before → before ≡ MarkToken Comma ∷ after → after ≡ parameter_then (parameter x) r → ys ≡ xs ++ x ∷ [] → ts ≡ parameters_then (map parameter ys) r
+  pub parameters_read : (xs ys : List rParameter) (x : rParameter) → 0 < length xs
+      → ts ≡ parameters_then (map parameter xs) before → before ≡ MarkToken Comma ∷ after
+      → after ≡ parameter_then (parameter x) r → ys ≡ xs ++ x ∷ [] → ts ≡ parameters_then (map parameter ys) r
   parameters_read xs ys x some spelled comma one pushed =
-      spelled ∙ ap (parameters_then (map parameter xs)) (comma ∙ behind one) ∙ sym (parameters_then-push xs x r some) ∙ ap (λ l. parameters_then (map parameter l) r) (sym pushed)
+      spelled ∙ ap (parameters_then (map parameter xs)) (comma ∙ behind one) ∙ sym (parameters_then-push xs x r some)
+      ∙ ap (λ l. parameters_then (map parameter l) r) (sym pushed)

@@ -4,25 +4,34 @@ use Rattle.std.specs.Result.{IsErrAnd, IfErr}
 use Rattle.std.proofs.lemmas.Result.{err_from_is_err_and}
 use Rattle.syntax.specs.declared.cursor.Stuck.{Stuck}
 use Rattle.syntax.specs.declared.cursor.Stuck.TheVariants.{OutOfMemory}
-use Rattle.syntax.specs.declared.token.Word.TheVariants.{And as WordAnd, False as WordFalse, Len as WordLen, Not as WordNot, Or as WordOr, True as WordTrue}
+use Rattle.syntax.specs.declared.token.Word.TheVariants.{And as WordAnd, False as WordFalse, Len as WordLen}
+use Rattle.syntax.specs.declared.token.Word.TheVariants.{Not as WordNot, Or as WordOr, True as WordTrue}
 use Rattle.syntax.specs.declared.token.Mark.{Mark}
 use Rattle.syntax.specs.declared.token.Mark.TheVariants.{LeftParen, RightParen, LeftBracket, RightBracket, Comma, Minus}
 use Rattle.syntax.specs.declared.tree.Relation.{Relation}
 use Rattle.syntax.specs.declared.tree.Sign.{Sign}
 use Rattle.syntax.specs.declared.tree.Operator.{Operator}
 use Rattle.syntax.specs.Token.{Token, NameToken, NumberToken, WordToken, MarkToken}
-use Rattle.syntax.specs.Tree.{Expr, Or, Conjs, NoConj, OrConj, Conj, And, Negs, NoNeg, AndNeg, Neg, Plainly, Not, Cmp, Alone, Compare, Sum, Add, Terms, NoTerm, AddTerm, Prod, Multiply, Factors, NoFactor, MultiplyFactor, Unary, Positive, Negative, Atom, Number, True, False, Name, Element, Length, Parens}
-use Rattle.syntax.specs.Spelling.{relation_mark, sign_mark, operator_mark, expr_then, conjs_then, conj_then, negs_then, neg_then, cmp_then, sum_then, terms_then, prod_then, factors_then, unary_then, atom_then, more_then}
+use Rattle.syntax.specs.Tree.{Expr, Or, Conjs, NoConj, OrConj, Conj, And, Negs, NoNeg, AndNeg, Neg, Plainly, Not, Cmp}
+use Rattle.syntax.specs.Tree.{Alone, Compare, Sum, Add, Terms, NoTerm, AddTerm, Prod, Multiply, Factors, NoFactor}
+use Rattle.syntax.specs.Tree.{MultiplyFactor, Unary, Positive, Negative, Atom, Number, True, False, Name, Element}
+use Rattle.syntax.specs.Tree.{Length, Parens}
+use Rattle.syntax.specs.Spelling.{relation_mark, sign_mark, operator_mark, expr_then, conjs_then, conj_then, negs_then}
+use Rattle.syntax.specs.Spelling.{neg_then, cmp_then, sum_then, terms_then, prod_then, factors_then, unary_then}
+use Rattle.syntax.specs.Spelling.{atom_then, more_then}
 use Rattle.syntax.specs.Reading.{binds, list_level, or_level, and_level, relation_level, sign_level, operator_level, bracket_level}
 use Rattle.syntax.proofs.ExprSpellings.{begins, atom_begins, cmp_begins, relation_binds, sign_binds, operator_binds}
 
 -- whatever chain the tokens spell, with anything behind it that binds less tightly, these spell the chain's end
-abbrev pub LeavesEnd : {First More : Type 0} → (First → List Token → List Token) → (More → List Token → List Token) → ℕ → List Token → List Token → Type 0
+abbrev pub LeavesEnd : {First More : Type 0} → (First → List Token → List Token) → (More → List Token → List Token) → ℕ
+    → List Token → List Token → Type 0
 LeavesEnd {First} {More} first others level tokens left =
-    (x : First) (all : More) (rest : List Token) → binds rest < level → tokens ≡ first x (others all rest) → (end : More) × (left ≡ others end rest)
+    (x : First) (all : More) (rest : List Token) → binds rest < level → tokens ≡ first x (others all rest)
+    → (end : More) × (left ≡ others end rest)
 
 -- what `?` returns is refused where what it was given is
-pub passed_on : {T A : Type 0} (r : Result T Stuck) (e : Stuck) → IsErrAnd r (λ y. y ≡ e) → (e ≢ OutOfMemory → A) → IfErr r (λ stuck. stuck ≢ OutOfMemory → A)
+pub passed_on : {T A : Type 0} (r : Result T Stuck) (e : Stuck) → IsErrAnd r (λ y. y ≡ e) → (e ≢ OutOfMemory → A)
+    → IfErr r (λ stuck. stuck ≢ OutOfMemory → A)
 passed_on r e failed refusal =
     let exit = err_from_is_err_and r failed in
     rw exit.1 (λ room. refusal (λ is. room (exit.2 ∙ is)))
@@ -48,24 +57,29 @@ unfolding atom_then
 number_atom (Number m) n ts r same = cc
 number_atom _ n ts r same = cc
 
-pub length_atom : (a : Atom) (ts r : List Token) → WordToken WordLen ∷ ts ≡ atom_then a r → (x : List ℕ) × (ts ≡ MarkToken LeftParen ∷ NameToken x ∷ MarkToken RightParen ∷ r)
+pub length_atom : (a : Atom) (ts r : List Token) → WordToken WordLen ∷ ts ≡ atom_then a r
+    → (x : List ℕ) × (ts ≡ MarkToken LeftParen ∷ NameToken x ∷ MarkToken RightParen ∷ r)
 unfolding atom_then
 length_atom (Length x) ts r same = (x, cc)
 length_atom _ ts r same = cc
 
-pub name_alone : (a : Atom) (x : List ℕ) (ts r : List Token) → ((rest : List Token) → ts ≢ MarkToken LeftBracket ∷ rest) → NameToken x ∷ ts ≡ atom_then a r → ts ≡ r
+pub name_alone : (a : Atom) (x : List ℕ) (ts r : List Token) → ((rest : List Token) → ts ≢ MarkToken LeftBracket ∷ rest)
+    → NameToken x ∷ ts ≡ atom_then a r → ts ≡ r
 unfolding atom_then
 name_alone (Name y) x ts r none same = cc
 name_alone (Element y e) x ts r none same = absurd (none _ (next same))
 name_alone _ x ts r none same = cc
 
-pub name_indexed : (a : Atom) (x : List ℕ) (ts r : List Token) → binds r < bracket_level → NameToken x ∷ MarkToken LeftBracket ∷ ts ≡ atom_then a r → (e : Expr) × (ts ≡ expr_then e (MarkToken RightBracket ∷ r))
+pub name_indexed : (a : Atom) (x : List ℕ) (ts r : List Token) → binds r < bracket_level
+    → NameToken x ∷ MarkToken LeftBracket ∷ ts ≡ atom_then a r
+    → (e : Expr) × (ts ≡ expr_then e (MarkToken RightBracket ∷ r))
 unfolding atom_then
 name_indexed (Name y) x ts r ends same = absurd (omega (arith, ap binds (next same)))
 name_indexed (Element y e) x ts r ends same = (e, next (next same))
 name_indexed _ x ts r ends same = cc
 
-pub marked_atom : (a : Atom) (m : Mark) (ts r : List Token) → MarkToken m ∷ ts ≡ atom_then a r → (e : Expr) × (MarkToken m ∷ ts ≡ MarkToken LeftParen ∷ expr_then e (MarkToken RightParen ∷ r))
+pub marked_atom : (a : Atom) (m : Mark) (ts r : List Token) → MarkToken m ∷ ts ≡ atom_then a r
+    → (e : Expr) × (MarkToken m ∷ ts ≡ MarkToken LeftParen ∷ expr_then e (MarkToken RightParen ∷ r))
 unfolding atom_then
 marked_atom (Parens e) m ts r same = (e, same)
 marked_atom _ m ts r same = cc
@@ -95,7 +109,8 @@ pub expr_opened : (e : Expr) (ts r : List Token) → ts ≡ expr_then e r → (d
 unfolding expr_then
 expr_opened (Or d ds) ts r same = (d, ds, same)
 
-pub conjs_opened : (cs : Conjs) (ts r : List Token) → binds r < or_level → WordToken WordOr ∷ ts ≡ conjs_then cs r → (d : Conj) × (ds : Conjs) × (ts ≡ conj_then d (conjs_then ds r))
+pub conjs_opened : (cs : Conjs) (ts r : List Token) → binds r < or_level → WordToken WordOr ∷ ts ≡ conjs_then cs r
+    → (d : Conj) × (ds : Conjs) × (ts ≡ conj_then d (conjs_then ds r))
 unfolding conjs_then
 conjs_opened NoConj ts r ends same = absurd (omega (arith, ap binds same))
 conjs_opened (OrConj d ds) ts r ends same = (d, ds, next same)
@@ -109,7 +124,8 @@ pub conj_opened : (c : Conj) (ts r : List Token) → ts ≡ conj_then c r → (n
 unfolding conj_then
 conj_opened (And n ns) ts r same = (n, ns, same)
 
-pub negs_opened : (ns : Negs) (ts r : List Token) → binds r < and_level → WordToken WordAnd ∷ ts ≡ negs_then ns r → (m : Neg) × (ms : Negs) × (ts ≡ neg_then m (negs_then ms r))
+pub negs_opened : (ns : Negs) (ts r : List Token) → binds r < and_level → WordToken WordAnd ∷ ts ≡ negs_then ns r
+    → (m : Neg) × (ms : Negs) × (ts ≡ neg_then m (negs_then ms r))
 unfolding negs_then
 negs_opened NoNeg ts r ends same = absurd (omega (arith, ap binds same))
 negs_opened (AndNeg m ms) ts r ends same = (m, ms, next same)
@@ -119,7 +135,8 @@ unfolding negs_then
 negs_closed NoNeg ts r none same = same
 negs_closed (AndNeg m ms) ts r none same = absurd (none _ same)
 
-pub neg_plain : (n : Neg) (ts r : List Token) → ((rest : List Token) → ts ≢ WordToken WordNot ∷ rest) → ts ≡ neg_then n r → (c : Cmp) × (ts ≡ cmp_then c r)
+pub neg_plain : (n : Neg) (ts r : List Token) → ((rest : List Token) → ts ≢ WordToken WordNot ∷ rest)
+    → ts ≡ neg_then n r → (c : Cmp) × (ts ≡ cmp_then c r)
 unfolding neg_then
 neg_plain (Plainly c) ts r none same = (c, same)
 neg_plain (Not c) ts r none same = absurd (none _ same)
@@ -148,10 +165,12 @@ cmp_opened (Compare s o t) ts r ends same = record {
   right = inr (o, t, refl);
 }
 
-pub cmp_alone : {ts r : List Token} (c : Compared ts r) (left : List Token) → ((o : Relation) (rest : List Token) → left ≢ MarkToken (relation_mark o) ∷ rest) → left ≡ c.after → left ≡ r
+pub cmp_alone : {ts r : List Token} (c : Compared ts r) (left : List Token)
+    → ((o : Relation) (rest : List Token) → left ≢ MarkToken (relation_mark o) ∷ rest) → left ≡ c.after → left ≡ r
 cmp_alone c left none same = elim c.right [ inl e ↦ same ∙ e | inr w ↦ absurd (none w.0 _ (same ∙ w.2)) ]
 
-pub cmp_compared_to : {ts r : List Token} (c : Compared ts r) (o : Relation) (left : List Token) → binds r < relation_level → MarkToken (relation_mark o) ∷ left ≡ c.after → (t : Sum) × (left ≡ sum_then t r)
+pub cmp_compared_to : {ts r : List Token} (c : Compared ts r) (o : Relation) (left : List Token)
+    → binds r < relation_level → MarkToken (relation_mark o) ∷ left ≡ c.after → (t : Sum) × (left ≡ sum_then t r)
 cmp_compared_to c o left ends same =
     elim c.right [ inl e ↦ absurd (omega (arith, relation_binds o left, ap binds (same ∙ e))) | inr w ↦ (w.1, next (same ∙ w.2)) ]
 
@@ -159,31 +178,38 @@ pub sum_opened : (s : Sum) (ts r : List Token) → ts ≡ sum_then s r → (p : 
 unfolding sum_then
 sum_opened (Add p us) ts r same = (p, us, same)
 
-pub terms_opened : (us : Terms) (o : Sign) (ts r : List Token) → binds r < sign_level → MarkToken (sign_mark o) ∷ ts ≡ terms_then us r → (p : Prod) × (vs : Terms) × (ts ≡ prod_then p (terms_then vs r))
+pub terms_opened : (us : Terms) (o : Sign) (ts r : List Token) → binds r < sign_level
+    → MarkToken (sign_mark o) ∷ ts ≡ terms_then us r → (p : Prod) × (vs : Terms) × (ts ≡ prod_then p (terms_then vs r))
 unfolding terms_then
 terms_opened NoTerm o ts r ends same = absurd (omega (arith, ap binds same, sign_binds o ts))
 terms_opened (AddTerm t p vs) o ts r ends same = (p, vs, next same)
 
-pub terms_closed : (us : Terms) (ts r : List Token) → ((o : Sign) (rest : List Token) → ts ≢ MarkToken (sign_mark o) ∷ rest) → ts ≡ terms_then us r → ts ≡ r
+pub terms_closed : (us : Terms) (ts r : List Token)
+    → ((o : Sign) (rest : List Token) → ts ≢ MarkToken (sign_mark o) ∷ rest) → ts ≡ terms_then us r → ts ≡ r
 unfolding terms_then
 terms_closed NoTerm ts r none same = same
 terms_closed (AddTerm o p vs) ts r none same = absurd (none o _ same)
 
-pub prod_opened : (p : Prod) (ts r : List Token) → ts ≡ prod_then p r → (u : Unary) × (fs : Factors) × (ts ≡ unary_then u (factors_then fs r))
+pub prod_opened : (p : Prod) (ts r : List Token) → ts ≡ prod_then p r
+    → (u : Unary) × (fs : Factors) × (ts ≡ unary_then u (factors_then fs r))
 unfolding prod_then
 prod_opened (Multiply u fs) ts r same = (u, fs, same)
 
-pub factors_opened : (fs : Factors) (o : Operator) (ts r : List Token) → binds r < operator_level → MarkToken (operator_mark o) ∷ ts ≡ factors_then fs r → (u : Unary) × (gs : Factors) × (ts ≡ unary_then u (factors_then gs r))
+pub factors_opened : (fs : Factors) (o : Operator) (ts r : List Token) → binds r < operator_level
+    → MarkToken (operator_mark o) ∷ ts ≡ factors_then fs r
+    → (u : Unary) × (gs : Factors) × (ts ≡ unary_then u (factors_then gs r))
 unfolding factors_then
 factors_opened NoFactor o ts r ends same = absurd (omega (arith, ap binds same, operator_binds o ts))
 factors_opened (MultiplyFactor t u gs) o ts r ends same = (u, gs, next same)
 
-pub factors_closed : (fs : Factors) (ts r : List Token) → ((o : Operator) (rest : List Token) → ts ≢ MarkToken (operator_mark o) ∷ rest) → ts ≡ factors_then fs r → ts ≡ r
+pub factors_closed : (fs : Factors) (ts r : List Token)
+    → ((o : Operator) (rest : List Token) → ts ≢ MarkToken (operator_mark o) ∷ rest) → ts ≡ factors_then fs r → ts ≡ r
 unfolding factors_then
 factors_closed NoFactor ts r none same = same
 factors_closed (MultiplyFactor o u gs) ts r none same = absurd (none o _ same)
 
-pub unary_plain : (u : Unary) (ts r : List Token) → ((rest : List Token) → ts ≢ MarkToken Minus ∷ rest) → ts ≡ unary_then u r → (a : Atom) × (ts ≡ atom_then a r)
+pub unary_plain : (u : Unary) (ts r : List Token) → ((rest : List Token) → ts ≢ MarkToken Minus ∷ rest)
+    → ts ≡ unary_then u r → (a : Atom) × (ts ≡ atom_then a r)
 unfolding unary_then
 unary_plain (Positive a) ts r none same = (a, same)
 unary_plain (Negative a) ts r none same = absurd (none _ same)
@@ -193,7 +219,8 @@ unfolding unary_then
 unary_signed (Positive a) ts r same = absurd (omega (arith, ap begins same, atom_begins a r))
 unary_signed (Negative a) ts r same = (a, next same)
 
-pub more_opened : (es : List Expr) (ts r : List Token) → binds r < list_level → MarkToken Comma ∷ ts ≡ more_then es r → (e : Expr) × (fs : List Expr) × (ts ≡ expr_then e (more_then fs r))
+pub more_opened : (es : List Expr) (ts r : List Token) → binds r < list_level → MarkToken Comma ∷ ts ≡ more_then es r
+    → (e : Expr) × (fs : List Expr) × (ts ≡ expr_then e (more_then fs r))
 unfolding more_then
 more_opened [] ts r ends same = absurd (omega (arith, ap binds same))
 more_opened (e ∷ fs) ts r ends same = (e, fs, next same)

@@ -3,7 +3,8 @@ use Rattle.std.proofs.Common.{◌≡◌, ◌≢◌, ℕ, Result, Ok, Err, IfOk, 
 use Rattle.std.specs.Char.{is_ascii_digit}
 use Rattle.std.proofs.lemmas.Bool.{both_ways}
 use Rattle.syntax.specs.declared.error.SyntaxError.{SyntaxError}
-use Rattle.syntax.specs.declared.error.SyntaxError.TheVariants.{NotACharacter, UnexpectedToken, NumberTooLarge, TooDeep, TooLong, OutOfMemory}
+use Rattle.syntax.specs.declared.error.SyntaxError.TheVariants.{NotACharacter, UnexpectedToken, NumberTooLarge, TooDeep}
+use Rattle.syntax.specs.declared.error.SyntaxError.TheVariants.{TooLong, OutOfMemory}
 use Rattle.syntax.specs.Brackets.{AreShallow}
 use Rattle.syntax.specs.Lexical.{starts, AreTokensOf}
 use Rattle.syntax.specs.declared.tree.Program.{Program as rProgram}
@@ -24,19 +25,24 @@ deep_or_shallow : (text : List ℕ) (at other : ℕ) → SpellsNoProgram text at
 deep_or_shallow text at other shallow deep =
     deep.all_deep (subst (AreShallow 0) (one_reading text shallow.tokens deep.tokens shallow.read deep.read) shallow.shallow)
 
-pub one_error : (text : List ℕ) (e f : SyntaxError) → TellsOf text e → TellsOf text f → e ≢ OutOfMemory → f ≢ OutOfMemory → code_of e ≡ code_of f
+pub one_error : (text : List ℕ) (e f : SyntaxError) → TellsOf text e → TellsOf text f → e ≢ OutOfMemory
+    → f ≢ OutOfMemory → code_of e ≡ code_of f
 one_error text (NotACharacter _) (NotACharacter _) told too m n = refl
 one_error text (UnexpectedToken _) (UnexpectedToken _) told too m n = refl
 one_error text (NumberTooLarge _) (NumberTooLarge _) told too m n = refl
 one_error text (TooDeep _) (TooDeep _) told too m n = refl
 one_error text (NotACharacter _) (NumberTooLarge _) told too m n = absurd (digit_or_none text told.at too.at told.fact too.fact)
 one_error text (NumberTooLarge _) (NotACharacter _) told too m n = absurd (digit_or_none text too.at told.at too.fact told.fact)
-one_error text (NotACharacter _) (UnexpectedToken _) told too m n = absurd (no_reading text told.at too.fact.tokens told.fact.stops too.fact.read)
-one_error text (UnexpectedToken _) (NotACharacter _) told too m n = absurd (no_reading text too.at told.fact.tokens too.fact.stops told.fact.read)
+one_error text (NotACharacter _) (UnexpectedToken _) told too m n =
+    absurd (no_reading text told.at too.fact.tokens told.fact.stops too.fact.read)
+one_error text (UnexpectedToken _) (NotACharacter _) told too m n =
+    absurd (no_reading text too.at told.fact.tokens too.fact.stops told.fact.read)
 one_error text (NotACharacter _) (TooDeep _) told too m n = absurd (no_reading text told.at too.fact.tokens told.fact.stops too.fact.read)
 one_error text (TooDeep _) (NotACharacter _) told too m n = absurd (no_reading text too.at told.fact.tokens too.fact.stops told.fact.read)
-one_error text (NumberTooLarge _) (UnexpectedToken _) told too m n = absurd (no_reading text told.at too.fact.tokens told.fact.stops too.fact.read)
-one_error text (UnexpectedToken _) (NumberTooLarge _) told too m n = absurd (no_reading text too.at told.fact.tokens too.fact.stops told.fact.read)
+one_error text (NumberTooLarge _) (UnexpectedToken _) told too m n =
+    absurd (no_reading text told.at too.fact.tokens told.fact.stops too.fact.read)
+one_error text (UnexpectedToken _) (NumberTooLarge _) told too m n =
+    absurd (no_reading text too.at told.fact.tokens too.fact.stops told.fact.read)
 one_error text (NumberTooLarge _) (TooDeep _) told too m n = absurd (no_reading text told.at too.fact.tokens told.fact.stops too.fact.read)
 one_error text (TooDeep _) (NumberTooLarge _) told too m n = absurd (no_reading text too.at told.fact.tokens too.fact.stops told.fact.read)
 one_error text (UnexpectedToken _) (TooDeep _) told too m n = absurd (deep_or_shallow text told.at too.at told.fact too.fact)
@@ -57,6 +63,7 @@ module _ (text : List ℕ) (p : Program) (has : AreTokensOf text (spelling p)) (
   only_memory TooLong told = absurd told
   only_memory OutOfMemory told = refl
 
-  pub it_is_read : (r : Result rProgram SyntaxError) → IfOk r (λ q. AreTokensOf text (spelling (program q))) → IfErr r (TellsOf text) → MatchResult r (λ q. program q ≡ p) (λ e. e ≡ OutOfMemory)
+  pub it_is_read : (r : Result rProgram SyntaxError) → IfOk r (λ q. AreTokensOf text (spelling (program q)))
+      → IfErr r (TellsOf text) → MatchResult r (λ q. program q ≡ p) (λ e. e ≡ OutOfMemory)
   it_is_read (Ok q) read told = one_spelling (program q) p (one_reading text (spelling (program q)) (spelling p) read has)
   it_is_read (Err e) read told = only_memory e told

@@ -2,20 +2,30 @@
 use Rattle.std.proofs.Common.{◌≡◌, Some, None, Bool, Vec, String, Global, refl, ap, ◌∙◌}
 use Rattle.std.specs.String.{string_bytes}
 use mathlib.Core.Former.{Count}
-use Rattle.syntax.specs.Tree.{Or, And, Add, Terms, Multiply, OrConj, AndNeg, AddTerm, MultiplyFactor, Alone, Compare, Then, If, IfElse, While, Split, Async, Finish, expr, conj, neg, cmp, compared, compared_to, sum, term, prod, unary, atom, negated, negative, conjs, row_conjs, negs, row_negs, terms, row_terms, factors, row_factors, stmt, conditional, block, row_block}
+use Rattle.syntax.specs.Tree.{Or, And, Add, Terms, Multiply, OrConj, AndNeg, AddTerm, MultiplyFactor, Alone, Compare}
+use Rattle.syntax.specs.Tree.{Then, If, IfElse, While, Split, Async, Finish, expr, conj, neg, cmp, compared}
+use Rattle.syntax.specs.Tree.{compared_to, sum, term, prod, unary, atom, negated, negative, conjs, row_conjs, negs}
+use Rattle.syntax.specs.Tree.{row_negs, terms, row_terms, factors, row_factors, stmt, conditional, block, row_block}
 use Rattle.syntax.specs.declared.tree.Relation.{Relation}
 use Rattle.syntax.specs.declared.tree.Sign.{Sign}
-use Rattle.syntax.specs.declared.tree.Expr.{Expr as rExpr, Expr' as rOr, roll-Expr, Row_of-Conj, end_of-Conj, more_of-Conj, items-the_row-Conj, items_hidden-the_row-Conj-1}
-use Rattle.syntax.specs.declared.tree.Conj.{Conj as rConj, Conj' as rAnd, roll-Conj, Row_of-Neg, end_of-Neg, more_of-Neg, items-the_row-Neg, items_hidden-the_row-Neg-0}
+use Rattle.syntax.specs.declared.tree.Expr.{Expr as rExpr, Expr' as rOr, roll-Expr, Row_of-Conj, end_of-Conj}
+use Rattle.syntax.specs.declared.tree.Expr.{more_of-Conj, items-the_row-Conj, items_hidden-the_row-Conj-1}
+use Rattle.syntax.specs.declared.tree.Conj.{Conj as rConj, Conj' as rAnd, roll-Conj, Row_of-Neg, end_of-Neg}
+use Rattle.syntax.specs.declared.tree.Conj.{more_of-Neg, items-the_row-Neg, items_hidden-the_row-Neg-0}
 use Rattle.syntax.specs.declared.tree.Neg.{Neg as rNeg, roll-Neg}
 use Rattle.syntax.specs.declared.tree.Cmp.{Cmp as rCmp, roll-Cmp}
 use Rattle.syntax.specs.declared.tree.Compared.{roll-Compared}
-use Rattle.syntax.specs.declared.tree.Sum.{Sum as rSum, Sum' as rAdd, roll-Sum, Row_of-Term, end_of-Term, more_of-Term, items-the_row-Term, items_hidden-the_row-Term-3}
+use Rattle.syntax.specs.declared.tree.Sum.{Sum as rSum, Sum' as rAdd, roll-Sum, Row_of-Term, end_of-Term, more_of-Term}
+use Rattle.syntax.specs.declared.tree.Sum.{items-the_row-Term, items_hidden-the_row-Term-3}
 use Rattle.syntax.specs.declared.tree.Term.{Term as rTerm, roll-Term}
-use Rattle.syntax.specs.declared.tree.Prod.{Prod as rProd, Prod' as rMultiply, roll-Prod, Row_of-Factor, end_of-Factor, more_of-Factor, items-the_row-Factor, items_hidden-the_row-Factor-2}
+use Rattle.syntax.specs.declared.tree.Prod.{Prod as rProd, Prod' as rMultiply, roll-Prod, Row_of-Factor, end_of-Factor}
+use Rattle.syntax.specs.declared.tree.Prod.{more_of-Factor, items-the_row-Factor, items_hidden-the_row-Factor-2}
 use Rattle.syntax.specs.declared.tree.Factor.{Factor as rFactor}
 use Rattle.syntax.specs.declared.tree.Unary.{Unary as rUnary}
-use Rattle.syntax.specs.declared.tree.Stmt.{Stmt as rStmt, Row_of-Stmt, end_of-Stmt, more_of-Stmt, items-the_row-Stmt, items_hidden-the_row-Stmt-0, Some' as some_else, If' as rIf', While' as rWhile', Split' as rSplit', Async' as rAsync', Finish' as rFinish'}
+use Rattle.syntax.specs.declared.tree.Stmt.{Stmt as rStmt, Row_of-Stmt, end_of-Stmt, more_of-Stmt, items-the_row-Stmt}
+use Rattle.syntax.specs.declared.tree.Stmt.{items_hidden-the_row-Stmt-0, Some' as some_else, If' as rIf'}
+use Rattle.syntax.specs.declared.tree.Stmt.{While' as rWhile', Split' as rSplit', Async' as rAsync'}
+use Rattle.syntax.specs.declared.tree.Stmt.{Finish' as rFinish'}
 use Rattle.syntax.specs.declared.tree.Stmt.TheVariants.{If as rIf, While as rWhile, Split as rSplit, Async as rAsync, Finish as rFinish}
 
 conjs_are : (n : Count) (row : Row_of-Conj n) → row_conjs row ≡ conjs (items-the_row-Conj n row)
@@ -57,19 +67,28 @@ factors_in (rMultiply _ _ _ b) = (_, b)
 
 pub expr_built : (c : rConj) (v : Vec rConj Global) → expr (roll-Expr (record { first = c; rest = v })) ≡ Or (conj c) (conjs v.items)
 unfolding expr Rattle.syntax.specs.declared.tree.Atom.TheBlock.hidden-the_row-Conj-1 roll-Expr denote.Hole.Carrier.roll
-expr_built c v = let r = conjs_in (roll-Expr (record { first = c; rest = v })) in ap (Or (conj c)) (conjs_are r.0 r.1 ∙ ap conjs (items_hidden-the_row-Conj-1 v))
+expr_built c v =
+    let r = conjs_in (roll-Expr (record { first = c; rest = v })) in
+    ap (Or (conj c)) (conjs_are r.0 r.1 ∙ ap conjs (items_hidden-the_row-Conj-1 v))
 
 pub conj_built : (n : rNeg) (v : Vec rNeg Global) → conj (roll-Conj (record { first = n; rest = v })) ≡ And (neg n) (negs v.items)
 unfolding conj Rattle.syntax.specs.declared.tree.Atom.TheBlock.hidden-the_row-Neg-0 roll-Conj denote.Hole.Carrier.roll
-conj_built n v = let r = negs_in (roll-Conj (record { first = n; rest = v })) in ap (And (neg n)) (negs_are r.0 r.1 ∙ ap negs (items_hidden-the_row-Neg-0 v))
+conj_built n v =
+    let r = negs_in (roll-Conj (record { first = n; rest = v })) in
+    ap (And (neg n)) (negs_are r.0 r.1 ∙ ap negs (items_hidden-the_row-Neg-0 v))
 
 pub sum_built : (p : rProd) (v : Vec rTerm Global) → sum (roll-Sum (record { first = p; rest = v })) ≡ Add (prod p) (terms v.items)
 unfolding sum Rattle.syntax.specs.declared.tree.Atom.TheBlock.hidden-the_row-Term-3 roll-Sum denote.Hole.Carrier.roll
-sum_built p v = let r = terms_in (roll-Sum (record { first = p; rest = v })) in ap (Add (prod p)) (terms_are r.0 r.1 ∙ ap terms (items_hidden-the_row-Term-3 v))
+sum_built p v =
+    let r = terms_in (roll-Sum (record { first = p; rest = v })) in
+    ap (Add (prod p)) (terms_are r.0 r.1 ∙ ap terms (items_hidden-the_row-Term-3 v))
 
-pub prod_built : (u : rUnary) (v : Vec rFactor Global) → prod (roll-Prod (record { first = u; rest = v })) ≡ Multiply (unary u) (factors v.items)
+pub prod_built : (u : rUnary) (v : Vec rFactor Global)
+    → prod (roll-Prod (record { first = u; rest = v })) ≡ Multiply (unary u) (factors v.items)
 unfolding prod Rattle.syntax.specs.declared.tree.Atom.TheBlock.hidden-the_row-Factor-2 roll-Prod denote.Hole.Carrier.roll
-prod_built u v = let r = factors_in (roll-Prod (record { first = u; rest = v })) in ap (Multiply (unary u)) (factors_are r.0 r.1 ∙ ap factors (items_hidden-the_row-Factor-2 v))
+prod_built u v =
+    let r = factors_in (roll-Prod (record { first = u; rest = v })) in
+    ap (Multiply (unary u)) (factors_are r.0 r.1 ∙ ap factors (items_hidden-the_row-Factor-2 v))
 
 pub neg_built : (b : Bool) (c : rCmp) → neg (roll-Neg (record { negated = b; comparison = c })) ≡ negated b (cmp c)
 unfolding neg roll-Neg denote.Hole.Carrier.roll
@@ -79,11 +98,14 @@ pub cmp_alone : (s : rSum) → cmp (roll-Cmp (record { left = s; right = None })
 unfolding cmp compared roll-Cmp denote.Hole.Carrier.roll
 cmp_alone s = refl
 
-pub cmp_compared : (s : rSum) (relation : Relation) (t : rSum) → cmp (roll-Cmp (record { left = s; right = Some (roll-Compared (record { relation = relation; right = t })) })) ≡ Compare (sum s) relation (sum t)
+pub cmp_compared : (s : rSum) (relation : Relation) (t : rSum)
+    → cmp (roll-Cmp (record { left = s; right = Some (roll-Compared (record { relation = relation; right = t })) }))
+    ≡ Compare (sum s) relation (sum t)
 unfolding cmp compared compared_to roll-Cmp denote.Hole.Carrier.roll roll-Compared
 cmp_compared s relation t = refl
 
-pub term_built : (sign : Sign) (p : rProd) (rest : Terms) → term (roll-Term (record { sign = sign; operand = p })) rest ≡ AddTerm sign (prod p) rest
+pub term_built : (sign : Sign) (p : rProd) (rest : Terms)
+    → term (roll-Term (record { sign = sign; operand = p })) rest ≡ AddTerm sign (prod p) rest
 unfolding term roll-Term denote.Hole.Carrier.roll
 term_built sign p rest = refl
 
@@ -111,9 +133,13 @@ pub stmt_Finish : (v : Vec rStmt Global) → stmt (rFinish v) ≡ Finish (block 
 unfolding stmt
 stmt_Finish v = let r = block_in (rFinish v) in ap Finish (block_is r.0 r.1 ∙ ap block (items_hidden-the_row-Stmt-0 v))
 
-pub stmt_Split : (s : String Global) (e : rExpr) (x y : String Global) (v : Vec rStmt Global) → stmt (rSplit s e x y v) ≡ Split (string_bytes s) (expr e) (string_bytes x) (string_bytes y) (block v.items)
+pub stmt_Split : (s : String Global) (e : rExpr) (x y : String Global) (v : Vec rStmt Global)
+    → stmt (rSplit s e x y v) ≡ Split (string_bytes s) (expr e) (string_bytes x) (string_bytes y) (block v.items)
 unfolding stmt
-stmt_Split s e x y v = let r = block_in (rSplit s e x y v) in ap (Split (string_bytes s) (expr e) (string_bytes x) (string_bytes y)) (block_is r.0 r.1 ∙ ap block (items_hidden-the_row-Stmt-0 v))
+stmt_Split s e x y v =
+    let r = block_in (rSplit s e x y v) in
+    ap (Split (string_bytes s) (expr e) (string_bytes x) (string_bytes y))
+    (block_is r.0 r.1 ∙ ap block (items_hidden-the_row-Stmt-0 v))
 
 pub stmt_If : (e : rExpr) (v : Vec rStmt Global) → stmt (rIf e v None) ≡ If (expr e) (block v.items)
 unfolding stmt conditional

@@ -2,8 +2,15 @@
 use Rattle.std.proofs.Common.{◌≡◌, true, Option, Vec, String, Global, refl, sym, ap, ◌∙◌}
 use Rattle.std.specs.String.{string_bytes}
 use Rattle.syntax.specs.declared.tree.Expr.{Expr as rExpr}
-use Rattle.syntax.specs.declared.tree.Stmt.{Stmt as rStmt, Stmt-F, out-Stmt, roll-Stmt, roll-out-Stmt, Skip as rSkip, Var as rVar, Assign as rAssign, Store as rStore, Print as rPrint, Fault as rFault, Call as rCall, Some' as some_else, None' as no_else, If' as rIf', While' as rWhile', Split' as rSplit', Async' as rAsync', Finish' as rFinish'}
-use Rattle.syntax.specs.declared.tree.Stmt.TheVariants.{If as rIf, While as rWhile, Split as rSplit, Async as rAsync, Finish as rFinish, rolls-Skip, rolls-Var, rolls-Assign, rolls-Store, rolls-Print, rolls-Fault, rolls-Call, rolls-If, rolls-While, rolls-Split, rolls-Async, rolls-Finish}
+use Rattle.syntax.specs.declared.tree.Stmt.{Stmt as rStmt, Stmt-F, out-Stmt, roll-Stmt, roll-out-Stmt, Skip as rSkip}
+use Rattle.syntax.specs.declared.tree.Stmt.{Var as rVar, Assign as rAssign, Store as rStore, Print as rPrint}
+use Rattle.syntax.specs.declared.tree.Stmt.{Fault as rFault, Call as rCall, Some' as some_else, None' as no_else}
+use Rattle.syntax.specs.declared.tree.Stmt.{If' as rIf', While' as rWhile', Split' as rSplit', Async' as rAsync'}
+use Rattle.syntax.specs.declared.tree.Stmt.{Finish' as rFinish'}
+use Rattle.syntax.specs.declared.tree.Stmt.TheVariants.{If as rIf, While as rWhile, Split as rSplit, Async as rAsync}
+use Rattle.syntax.specs.declared.tree.Stmt.TheVariants.{Finish as rFinish, rolls-Skip, rolls-Var, rolls-Assign}
+use Rattle.syntax.specs.declared.tree.Stmt.TheVariants.{rolls-Store, rolls-Print, rolls-Fault, rolls-Call, rolls-If}
+use Rattle.syntax.specs.declared.tree.Stmt.TheVariants.{rolls-While, rolls-Split, rolls-Async, rolls-Finish}
 use Rattle.syntax.specs.Tree.{Skip, Var, Assign, Store, Print, Fault, Call, expr, exprs, stmt, conditional}
 use Rattle.syntax.specs.Writing.{is_simple}
 

@@ -1,10 +1,15 @@
 -- What the first tokens of a statement, a block or a list of arguments say of the tree that the tokens spell.
 use Rattle.std.proofs.Common.{◌≡◌, ◌≢◌, ◌<◌, ◌⊎◌, inl, inr, ℕ, List, [], ◌∷◌, refl, ap, ◌∙◌, arith}
 use Rattle.syntax.specs.declared.token.Word.{Word}
-use Rattle.syntax.specs.declared.token.Word.TheVariants.{As as WordAs, Async as WordAsync, At as WordAt, Else as WordElse, Fault as WordFault, Finish as WordFinish, If as WordIf, Print as WordPrint, Skip as WordSkip, Split as WordSplit, Var as WordVar, While as WordWhile}
-use Rattle.syntax.specs.declared.token.Mark.TheVariants.{LeftParen, RightParen, LeftBrace, RightBrace, LeftBracket, RightBracket, Comma, Semicolon, Becomes}
+use Rattle.syntax.specs.declared.token.Word.TheVariants.{As as WordAs, Async as WordAsync, At as WordAt}
+use Rattle.syntax.specs.declared.token.Word.TheVariants.{Else as WordElse, Fault as WordFault, Finish as WordFinish}
+use Rattle.syntax.specs.declared.token.Word.TheVariants.{If as WordIf, Print as WordPrint, Skip as WordSkip}
+use Rattle.syntax.specs.declared.token.Word.TheVariants.{Split as WordSplit, Var as WordVar, While as WordWhile}
+use Rattle.syntax.specs.declared.token.Mark.TheVariants.{LeftParen, RightParen, LeftBrace, RightBrace, LeftBracket}
+use Rattle.syntax.specs.declared.token.Mark.TheVariants.{RightBracket, Comma, Semicolon, Becomes}
 use Rattle.syntax.specs.Token.{Token, NameToken, WordToken, MarkToken}
-use Rattle.syntax.specs.Tree.{Expr, Stmt, Skip, Var, Assign, Store, Print, Fault, If, IfElse, While, Split, Call, Async, Finish, Block, End, Then}
+use Rattle.syntax.specs.Tree.{Expr, Stmt, Skip, Var, Assign, Store, Print, Fault, If, IfElse, While, Split, Call, Async}
+use Rattle.syntax.specs.Tree.{Finish, Block, End, Then}
 use Rattle.syntax.specs.Spelling.{expr_then, more_then, exprs_then, stmt_then, block_then}
 use Rattle.syntax.specs.Reading.{binds, list_level, or_level, else_level}
 use Rattle.syntax.proofs.ExprSpellings.{begins, expr_begins}
@@ -20,15 +25,18 @@ pub record Several (ts r : List Token) : Type 0 where
   pub ends : binds after < or_level
   pub more : after ≡ more_then others r
 
-several : (e : Expr) (es : List Expr) {ts : List Token} (r : List Token) → binds r < list_level → ts ≡ expr_then e (more_then es r) → Several ts r
-several e es r ends same = record { first = e; after = more_then es r; others = es; spelled = same; ends = more_bind es r ends; more = refl }
+several : (e : Expr) (es : List Expr) {ts : List Token} (r : List Token) → binds r < list_level
+    → ts ≡ expr_then e (more_then es r) → Several ts r
+several e es r ends same =
+    record { first = e; after = more_then es r; others = es; spelled = same; ends = more_bind es r ends; more = refl }
 
 pub block_closed : (b : Block) (ts r : List Token) → MarkToken RightBrace ∷ ts ≡ block_then b r → ts ≡ r
 unfolding block_then
 block_closed End ts r same = next same
 block_closed (Then s b) ts r same = absurd (begun s _ same)
 
-pub block_opened : (b : Block) (ts r : List Token) → ((rest : List Token) → ts ≢ MarkToken RightBrace ∷ rest) → ts ≡ block_then b r → (s : Stmt) × (c : Block) × (ts ≡ stmt_then s (block_then c r))
+pub block_opened : (b : Block) (ts r : List Token) → ((rest : List Token) → ts ≢ MarkToken RightBrace ∷ rest)
+    → ts ≡ block_then b r → (s : Stmt) × (c : Block) × (ts ≡ stmt_then s (block_then c r))
 unfolding block_then
 block_opened End ts r none same = absurd (none _ same)
 block_opened (Then s c) ts r none same = (s, c, same)
@@ -47,13 +55,17 @@ if_opened (If e b) ts r same = record { guard = e; body = b; after = r; spelled 
 if_opened (IfElse e b c) ts r same = record { guard = e; body = b; after = _; spelled = next same; other = inr (c, refl) }
 if_opened _ ts r same = cc
 
-pub if_alone : {ts r : List Token} (c : Conditional ts r) (left : List Token) → ((rest : List Token) → left ≢ WordToken WordElse ∷ rest) → left ≡ c.after → left ≡ r
+pub if_alone : {ts r : List Token} (c : Conditional ts r) (left : List Token)
+    → ((rest : List Token) → left ≢ WordToken WordElse ∷ rest) → left ≡ c.after → left ≡ r
 if_alone c left none same = elim c.other [ inl e ↦ same ∙ e | inr w ↦ absurd (none _ (same ∙ w.1)) ]
 
-pub if_otherwise : {ts r : List Token} (c : Conditional ts r) (left : List Token) → binds r < else_level → WordToken WordElse ∷ left ≡ c.after → (d : Block) × (left ≡ MarkToken LeftBrace ∷ block_then d r)
-if_otherwise c left ends same = elim c.other [ inl e ↦ absurd (omega (arith, ends, ap binds (same ∙ e))) | inr w ↦ (w.0, next (same ∙ w.1)) ]
+pub if_otherwise : {ts r : List Token} (c : Conditional ts r) (left : List Token) → binds r < else_level
+    → WordToken WordElse ∷ left ≡ c.after → (d : Block) × (left ≡ MarkToken LeftBrace ∷ block_then d r)
+if_otherwise c left ends same =
+    elim c.other [ inl e ↦ absurd (omega (arith, ends, ap binds (same ∙ e))) | inr w ↦ (w.0, next (same ∙ w.1)) ]
 
-pub while_opened : (s : Stmt) (ts r : List Token) → WordToken WordWhile ∷ ts ≡ stmt_then s r → (e : Expr) × (b : Block) × (ts ≡ expr_then e (MarkToken LeftBrace ∷ block_then b r))
+pub while_opened : (s : Stmt) (ts r : List Token) → WordToken WordWhile ∷ ts ≡ stmt_then s r
+    → (e : Expr) × (b : Block) × (ts ≡ expr_then e (MarkToken LeftBrace ∷ block_then b r))
 unfolding stmt_then
 while_opened (While e b) ts r same = (e, b, next same)
 while_opened _ ts r same = cc
@@ -85,12 +97,14 @@ split_opened (Split x e y z b) ts r same = record {
 }
 split_opened _ ts r same = cc
 
-pub async_opened : (s : Stmt) (ts r : List Token) → WordToken WordAsync ∷ ts ≡ stmt_then s r → (b : Block) × (ts ≡ MarkToken LeftBrace ∷ block_then b r)
+pub async_opened : (s : Stmt) (ts r : List Token) → WordToken WordAsync ∷ ts ≡ stmt_then s r
+    → (b : Block) × (ts ≡ MarkToken LeftBrace ∷ block_then b r)
 unfolding stmt_then
 async_opened (Async b) ts r same = (b, next same)
 async_opened _ ts r same = cc
 
-pub finish_opened : (s : Stmt) (ts r : List Token) → WordToken WordFinish ∷ ts ≡ stmt_then s r → (b : Block) × (ts ≡ MarkToken LeftBrace ∷ block_then b r)
+pub finish_opened : (s : Stmt) (ts r : List Token) → WordToken WordFinish ∷ ts ≡ stmt_then s r
+    → (b : Block) × (ts ≡ MarkToken LeftBrace ∷ block_then b r)
 unfolding stmt_then
 finish_opened (Finish b) ts r same = (b, next same)
 finish_opened _ ts r same = cc
@@ -100,7 +114,8 @@ unfolding stmt_then
 skip_opened Skip ts r same = next same
 skip_opened _ ts r same = cc
 
-pub var_opened : (s : Stmt) (ts r : List Token) → WordToken WordVar ∷ ts ≡ stmt_then s r → (x : List ℕ) × (e : Expr) × (ts ≡ NameToken x ∷ MarkToken Becomes ∷ expr_then e (MarkToken Semicolon ∷ r))
+pub var_opened : (s : Stmt) (ts r : List Token) → WordToken WordVar ∷ ts ≡ stmt_then s r
+    → (x : List ℕ) × (e : Expr) × (ts ≡ NameToken x ∷ MarkToken Becomes ∷ expr_then e (MarkToken Semicolon ∷ r))
 unfolding stmt_then
 var_opened (Var x e) ts r same = (x, e, next same)
 var_opened _ ts r same = cc
@@ -110,22 +125,30 @@ unfolding stmt_then
 print_opened (Print e es) ts r same = several e es _ (omega arith) (next same)
 print_opened _ ts r same = cc
 
-pub fault_opened : (s : Stmt) (ts r : List Token) → WordToken WordFault ∷ ts ≡ stmt_then s r → (e : Expr) × (ts ≡ expr_then e (MarkToken Semicolon ∷ r))
+pub fault_opened : (s : Stmt) (ts r : List Token) → WordToken WordFault ∷ ts ≡ stmt_then s r
+    → (e : Expr) × (ts ≡ expr_then e (MarkToken Semicolon ∷ r))
 unfolding stmt_then
 fault_opened (Fault e) ts r same = (e, next same)
 fault_opened _ ts r same = cc
 
-pub store_opened : (s : Stmt) (x : List ℕ) (ts r : List Token) → NameToken x ∷ MarkToken LeftBracket ∷ ts ≡ stmt_then s r → (i : Expr) × (e : Expr) × (ts ≡ expr_then i (MarkToken RightBracket ∷ MarkToken Becomes ∷ expr_then e (MarkToken Semicolon ∷ r)))
+pub store_opened : (s : Stmt) (x : List ℕ) (ts r : List Token)
+    → NameToken x ∷ MarkToken LeftBracket ∷ ts ≡ stmt_then s r
+    → (i : Expr) × (e : Expr) × (ts ≡ expr_then i (MarkToken RightBracket ∷ MarkToken Becomes
+    ∷ expr_then e (MarkToken Semicolon ∷ r)))
 unfolding stmt_then
 store_opened (Store y i e) x ts r same = (i, e, next (next same))
 store_opened _ x ts r same = cc
 
-pub call_opened : (s : Stmt) (x : List ℕ) (ts r : List Token) → NameToken x ∷ MarkToken LeftParen ∷ ts ≡ stmt_then s r → (es : List Expr) × (ts ≡ exprs_then es (MarkToken RightParen ∷ MarkToken Semicolon ∷ r))
+pub call_opened : (s : Stmt) (x : List ℕ) (ts r : List Token) → NameToken x ∷ MarkToken LeftParen ∷ ts ≡ stmt_then s r
+    → (es : List Expr) × (ts ≡ exprs_then es (MarkToken RightParen ∷ MarkToken Semicolon ∷ r))
 unfolding stmt_then
 call_opened (Call f es) x ts r same = (es, next (next same))
 call_opened _ x ts r same = cc
 
-pub assign_opened : (s : Stmt) (x : List ℕ) (ts r : List Token) → ((rest : List Token) → ts ≢ MarkToken LeftBracket ∷ rest) → ((rest : List Token) → ts ≢ MarkToken LeftParen ∷ rest) → NameToken x ∷ ts ≡ stmt_then s r → (e : Expr) × (ts ≡ MarkToken Becomes ∷ expr_then e (MarkToken Semicolon ∷ r))
+pub assign_opened : (s : Stmt) (x : List ℕ) (ts r : List Token)
+    → ((rest : List Token) → ts ≢ MarkToken LeftBracket ∷ rest)
+    → ((rest : List Token) → ts ≢ MarkToken LeftParen ∷ rest) → NameToken x ∷ ts ≡ stmt_then s r
+    → (e : Expr) × (ts ≡ MarkToken Becomes ∷ expr_then e (MarkToken Semicolon ∷ r))
 unfolding stmt_then
 assign_opened (Assign y e) x ts r bracket paren same = (e, next same)
 assign_opened (Store y i e) x ts r bracket paren same = absurd (bracket _ (next same))
@@ -133,7 +156,8 @@ assign_opened (Call f es) x ts r bracket paren same = absurd (paren _ (next same
 assign_opened _ x ts r bracket paren same = cc
 
 -- where neither a word nor a name stands
-pub no_statement : (ts : List Token) → ((w : Word) (rest : List Token) → ts ≢ WordToken w ∷ rest) → ((x : List ℕ) (rest : List Token) → ts ≢ NameToken x ∷ rest) → (s : Stmt) (r : List Token) → ts ≢ stmt_then s r
+pub no_statement : (ts : List Token) → ((w : Word) (rest : List Token) → ts ≢ WordToken w ∷ rest)
+    → ((x : List ℕ) (rest : List Token) → ts ≢ NameToken x ∷ rest) → (s : Stmt) (r : List Token) → ts ≢ stmt_then s r
 unfolding stmt_then
 no_statement ts word name Skip r same = word _ _ same
 no_statement ts word name (Var x e) r same = word _ _ same
@@ -183,7 +207,8 @@ unfolding exprs_then
 exprs_closed [] ts r same = next same
 exprs_closed (e ∷ es) ts r same = absurd (omega (arith, ap begins same, expr_begins e (more_then es (MarkToken RightParen ∷ r))))
 
-pub exprs_opened : (es : List Expr) (ts r : List Token) → ((rest : List Token) → ts ≢ MarkToken RightParen ∷ rest) → ts ≡ exprs_then es (MarkToken RightParen ∷ r) → Several ts (MarkToken RightParen ∷ r)
+pub exprs_opened : (es : List Expr) (ts r : List Token) → ((rest : List Token) → ts ≢ MarkToken RightParen ∷ rest)
+    → ts ≡ exprs_then es (MarkToken RightParen ∷ r) → Several ts (MarkToken RightParen ∷ r)
 unfolding exprs_then
 exprs_opened [] ts r none same = absurd (none _ same)
 exprs_opened (e ∷ fs) ts r none same = several e fs _ (omega arith) same

@@ -3,7 +3,8 @@ use Rattle.std.proofs.Common.{◌≡◌, ◌≢◌, ◌<◌, List, [], ◌∷◌
 use Rattle.syntax.specs.declared.token.Word.TheVariants.{As as WordAs, Else as WordElse}
 use Rattle.syntax.specs.declared.token.Mark.TheVariants.{RightParen, LeftBrace, RightBrace, RightBracket, Comma, Semicolon, Becomes}
 use Rattle.syntax.specs.Token.{Token, NameToken, WordToken, MarkToken}
-use Rattle.syntax.specs.Tree.{Expr, Stmt, Skip, Var, Assign, Store, Print, Fault, If, IfElse, While, Split, Call, Async, Finish, Block, End, Then}
+use Rattle.syntax.specs.Tree.{Expr, Stmt, Skip, Var, Assign, Store, Print, Fault, If, IfElse, While, Split, Call, Async}
+use Rattle.syntax.specs.Tree.{Finish, Block, End, Then}
 use Rattle.syntax.specs.Spelling.{expr_then, more_then, exprs_then, stmt_then, block_then}
 use Rattle.syntax.specs.Reading.{binds, list_level, or_level, else_level}
 use Rattle.syntax.proofs.ExprSpellings.{begins, expr_begins, expr_one}
@@ -13,7 +14,8 @@ unfolding more_then
 more_bind [] r ends = omega arith
 more_bind (e ∷ es) r ends = omega arith
 
-pub more_one : (x y : List Expr) (r s : List Token) → binds r < list_level → binds s < list_level → more_then x r ≡ more_then y s → (x ≡ y) × (r ≡ s)
+pub more_one : (x y : List Expr) (r s : List Token) → binds r < list_level → binds s < list_level
+    → more_then x r ≡ more_then y s → (x ≡ y) × (r ≡ s)
 unfolding more_then
 more_one [] [] r s ends other same = (refl, same)
 more_one [] (f ∷ fs) r s ends other same = absurd (omega (arith, ap binds same))
@@ -23,7 +25,8 @@ more_one (e ∷ es) (f ∷ fs) r s ends other same =
     let more = more_one es fs r s ends other first.1 in
     (cc (first.0, more.0), more.1)
 
-pub exprs_one : (x y : List Expr) (r s : List Token) → binds r < list_level → binds s < list_level → begins r < 1 → begins s < 1 → exprs_then x r ≡ exprs_then y s → (x ≡ y) × (r ≡ s)
+pub exprs_one : (x y : List Expr) (r s : List Token) → binds r < list_level → binds s < list_level → begins r < 1
+    → begins s < 1 → exprs_then x r ≡ exprs_then y s → (x ≡ y) × (r ≡ s)
 unfolding exprs_then
 exprs_one [] [] r s ends other closed closes same = (refl, same)
 exprs_one [] (f ∷ fs) r s ends other closed closes same = absurd (omega (arith, ap begins same, expr_begins f (more_then fs s)))
@@ -74,7 +77,8 @@ block_binds (Then s b) r = stmt_binds s (block_then b r)
 mutual
   unfolding stmt_then
 
-  pub stmt_one : (x y : Stmt) (r s : List Token) → binds r < else_level → binds s < else_level → stmt_then x r ≡ stmt_then y s → (x ≡ y) × (r ≡ s)
+  pub stmt_one : (x y : Stmt) (r s : List Token) → binds r < else_level → binds s < else_level
+      → stmt_then x r ≡ stmt_then y s → (x ≡ y) × (r ≡ s)
   stmt_one Skip Skip r s ends other same = (refl, cc)
   stmt_one (Var x e) (Var y f) r s ends other same =
       let value = expr_one e f (MarkToken Semicolon ∷ r) (MarkToken Semicolon ∷ s) (omega arith) (omega arith) (cc) in
@@ -85,13 +89,16 @@ mutual
       let last = value.1 in
       (cc (value.0), cc)
   stmt_one (Store x i e) (Store y j f) r s ends other same =
-      let index = expr_one i j (MarkToken RightBracket ∷ MarkToken Becomes ∷ expr_then e (MarkToken Semicolon ∷ r)) (MarkToken RightBracket ∷ MarkToken Becomes ∷ expr_then f (MarkToken Semicolon ∷ s)) (omega arith) (omega arith) (cc) in
+      let index = expr_one i j (MarkToken RightBracket ∷ MarkToken Becomes ∷ expr_then e (MarkToken Semicolon ∷ r))
+      (MarkToken RightBracket ∷ MarkToken Becomes ∷ expr_then f (MarkToken Semicolon ∷ s)) (omega arith)
+      (omega arith) (cc) in
       let bracket = index.1 in
       let value = expr_one e f (MarkToken Semicolon ∷ r) (MarkToken Semicolon ∷ s) (omega arith) (omega arith) (cc) in
       let last = value.1 in
       (cc (index.0, value.0), cc)
   stmt_one (Print e es) (Print f fs) r s ends other same =
-      let first = expr_one e f (more_then es (MarkToken Semicolon ∷ r)) (more_then fs (MarkToken Semicolon ∷ s)) (more_bind es _ (omega arith)) (more_bind fs _ (omega arith)) (cc) in
+      let first = expr_one e f (more_then es (MarkToken Semicolon ∷ r)) (more_then fs (MarkToken Semicolon ∷ s))
+      (more_bind es _ (omega arith)) (more_bind fs _ (omega arith)) (cc) in
       let others = more_one es fs (MarkToken Semicolon ∷ r) (MarkToken Semicolon ∷ s) (omega arith) (omega arith) first.1 in
       let last = others.1 in
       (cc (first.0, others.0), cc)
@@ -100,39 +107,51 @@ mutual
       let last = value.1 in
       (cc (value.0), cc)
   stmt_one (If e b) (If f c) r s ends other same =
-      let guard = expr_one e f (MarkToken LeftBrace ∷ block_then b r) (MarkToken LeftBrace ∷ block_then c s) (omega arith) (omega arith) (cc) in
+      let guard = expr_one e f (MarkToken LeftBrace ∷ block_then b r) (MarkToken LeftBrace ∷ block_then c s)
+      (omega arith) (omega arith) (cc) in
       let brace = guard.1 in
       let body = block_one b c r s (cc) in
       (cc (guard.0, body.0), body.1)
   stmt_one (If e b) (IfElse f c d) r s ends other same =
-      let guard = expr_one e f (MarkToken LeftBrace ∷ block_then b r) (MarkToken LeftBrace ∷ block_then c (WordToken WordElse ∷ MarkToken LeftBrace ∷ block_then d s)) (omega arith) (omega arith) (cc) in
+      let guard = expr_one e f (MarkToken LeftBrace ∷ block_then b r)
+      (MarkToken LeftBrace ∷ block_then c (WordToken WordElse ∷ MarkToken LeftBrace ∷ block_then d s)) (omega arith)
+      (omega arith) (cc) in
       let brace = guard.1 in
       let body = block_one b c r (WordToken WordElse ∷ MarkToken LeftBrace ∷ block_then d s) (cc) in
       absurd (omega (arith, ap binds body.1))
   stmt_one (IfElse e b d) (If f c) r s ends other same =
-      let guard = expr_one e f (MarkToken LeftBrace ∷ block_then b (WordToken WordElse ∷ MarkToken LeftBrace ∷ block_then d r)) (MarkToken LeftBrace ∷ block_then c s) (omega arith) (omega arith) (cc) in
+      let guard = expr_one e f (MarkToken LeftBrace ∷ block_then b (WordToken WordElse ∷ MarkToken LeftBrace
+      ∷ block_then d r)) (MarkToken LeftBrace ∷ block_then c s) (omega arith) (omega arith) (cc) in
       let brace = guard.1 in
       let body = block_one b c (WordToken WordElse ∷ MarkToken LeftBrace ∷ block_then d r) s (cc) in
       absurd (omega (arith, ap binds body.1))
   stmt_one (IfElse e b d) (IfElse f c g) r s ends other same =
-      let guard = expr_one e f (MarkToken LeftBrace ∷ block_then b (WordToken WordElse ∷ MarkToken LeftBrace ∷ block_then d r)) (MarkToken LeftBrace ∷ block_then c (WordToken WordElse ∷ MarkToken LeftBrace ∷ block_then g s)) (omega arith) (omega arith) (cc) in
+      let guard = expr_one e f (MarkToken LeftBrace ∷ block_then b (WordToken WordElse ∷ MarkToken LeftBrace
+      ∷ block_then d r)) (MarkToken LeftBrace ∷ block_then c (WordToken WordElse ∷ MarkToken LeftBrace
+      ∷ block_then g s)) (omega arith) (omega arith) (cc) in
       let brace = guard.1 in
-      let body = block_one b c (WordToken WordElse ∷ MarkToken LeftBrace ∷ block_then d r) (WordToken WordElse ∷ MarkToken LeftBrace ∷ block_then g s) (cc) in
+      let body = block_one b c (WordToken WordElse ∷ MarkToken LeftBrace ∷ block_then d r)
+      (WordToken WordElse ∷ MarkToken LeftBrace ∷ block_then g s) (cc) in
       let word = body.1 in
       let otherwise = block_one d g r s (cc) in
       (cc (guard.0, body.0, otherwise.0), otherwise.1)
   stmt_one (While e b) (While f c) r s ends other same =
-      let guard = expr_one e f (MarkToken LeftBrace ∷ block_then b r) (MarkToken LeftBrace ∷ block_then c s) (omega arith) (omega arith) (cc) in
+      let guard = expr_one e f (MarkToken LeftBrace ∷ block_then b r) (MarkToken LeftBrace ∷ block_then c s)
+      (omega arith) (omega arith) (cc) in
       let brace = guard.1 in
       let body = block_one b c r s (cc) in
       (cc (guard.0, body.0), body.1)
   stmt_one (Split x e y z b) (Split u f v w c) r s ends other same =
-      let at = expr_one e f (WordToken WordAs ∷ NameToken y ∷ MarkToken Comma ∷ NameToken z ∷ MarkToken LeftBrace ∷ block_then b r) (WordToken WordAs ∷ NameToken v ∷ MarkToken Comma ∷ NameToken w ∷ MarkToken LeftBrace ∷ block_then c s) (omega arith) (omega arith) (cc) in
+      let at = expr_one e f (WordToken WordAs ∷ NameToken y ∷ MarkToken Comma ∷ NameToken z ∷ MarkToken LeftBrace
+      ∷ block_then b r) (WordToken WordAs ∷ NameToken v ∷ MarkToken Comma ∷ NameToken w ∷ MarkToken LeftBrace
+      ∷ block_then c s) (omega arith) (omega arith) (cc) in
       let sides = at.1 in
       let body = block_one b c r s (cc) in
       (cc (at.0, body.0), body.1)
   stmt_one (Call x es) (Call y fs) r s ends other same =
-      let arguments = exprs_one es fs (MarkToken RightParen ∷ MarkToken Semicolon ∷ r) (MarkToken RightParen ∷ MarkToken Semicolon ∷ s) (omega arith) (omega arith) (omega arith) (omega arith) (cc) in
+      let arguments = exprs_one es fs (MarkToken RightParen ∷ MarkToken Semicolon ∷ r)
+      (MarkToken RightParen ∷ MarkToken Semicolon ∷ s) (omega arith) (omega arith) (omega arith) (omega arith)
+      (cc) in
       let last = arguments.1 in
       (cc (arguments.0), cc)
   stmt_one (Async b) (Async c) r s ends other same =

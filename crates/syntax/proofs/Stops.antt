@@ -1,5 +1,6 @@
 -- Where a text stops being read, and where its tokens stand.
-use Rattle.std.proofs.Common.{◌≡◌, ℕ, ◌+◌, ◌-◌, ◌<◌, ◌⊎◌, inl, inr, ⊎_elim, List, [], ◌∷◌, ◌++◌, length, drop, refl, ap, sym, ◌∙◌, subst, append_assoc, arith}
+use Rattle.std.proofs.Common.{◌≡◌, ℕ, ◌+◌, ◌-◌, ◌<◌, ◌⊎◌, inl, inr, ⊎_elim, List, [], ◌∷◌, ◌++◌, length, drop, refl, ap}
+use Rattle.std.proofs.Common.{sym, ◌∙◌, subst, append_assoc, arith}
 use Rattle.std.specs.Char.{is_ascii_digit}
 use Rattle.std.proofs.lemmas.List.{length-append}
 use Rattle.std.proofs.Math.Seq.{drop-append_seam}
@@ -85,7 +86,8 @@ none_are_placed text (b ∷ before) s after e = cc
 
 -- one more token stands where it says
 pub one_more_placed : (text rest after : List ℕ) (found : List Spanned) (s : Spanned)
-    → HasTokens text (plain found) rest → Reads rest (token s.token ∷ []) after → s.at ≡ length text - length rest → ArePlaced text found → ArePlaced text (found ++ s ∷ [])
+    → HasTokens text (plain found) rest → Reads rest (token s.token ∷ []) after → s.at ≡ length text - length rest
+    → ArePlaced text found → ArePlaced text (found ++ s ∷ [])
 one_more_placed text rest after found s has reads number placed before t later e =
     ⊎_elim
     (λ last.

@@ -1,9 +1,11 @@
 -- What a loop over a list of the grammar adds, which tokens go on with what stands before them, and what spells nothing.
 use Rattle.std.specs.Prelude.{◌≡◌, ◌≢◌, ◌<◌, ℕ, List, [], ◌∷◌, ◌++◌}
 use Rattle.syntax.specs.declared.token.Word.{Word}
-use Rattle.syntax.specs.declared.token.Word.TheVariants.{And as WordAnd, Array as WordArray, Else as WordElse, Or as WordOr, Proc as WordProc}
+use Rattle.syntax.specs.declared.token.Word.TheVariants.{And as WordAnd, Array as WordArray, Else as WordElse}
+use Rattle.syntax.specs.declared.token.Word.TheVariants.{Or as WordOr, Proc as WordProc}
 use Rattle.syntax.specs.declared.token.Mark.{Mark}
-use Rattle.syntax.specs.declared.token.Mark.TheVariants.{LeftBracket, Comma, Plus, Minus, Star, Slash, Percent, Less, AtMost, Greater, AtLeast, Equal, Differs}
+use Rattle.syntax.specs.declared.token.Mark.TheVariants.{LeftBracket, Comma, Plus, Minus, Star, Slash, Percent, Less}
+use Rattle.syntax.specs.declared.token.Mark.TheVariants.{AtMost, Greater, AtLeast, Equal, Differs}
 use Rattle.syntax.specs.declared.tree.Expr.{Expr}
 use Rattle.syntax.specs.Spelling.{more_then}
 use Rattle.syntax.specs.Token.{Token, NameToken, NumberToken, WordToken, MarkToken}

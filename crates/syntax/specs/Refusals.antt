@@ -3,9 +3,11 @@ use Rattle.std.specs.Prelude.{◌≡◌, ◌≢◌, ◌-◌, ◌<◌, ℕ, false
 use Rattle.std.specs.Char.{is_ascii_digit}
 use Rattle.std.specs.Str.{chars}
 use Rattle.syntax.specs.declared.error.SyntaxError.{SyntaxError}
-use Rattle.syntax.specs.declared.error.SyntaxError.TheVariants.{NotACharacter, UnexpectedToken, NumberTooLarge, TooDeep, TooLong, OutOfMemory}
+use Rattle.syntax.specs.declared.error.SyntaxError.TheVariants.{NotACharacter, UnexpectedToken, NumberTooLarge, TooDeep}
+use Rattle.syntax.specs.declared.error.SyntaxError.TheVariants.{TooLong, OutOfMemory}
 use Rattle.syntax.specs.declared.lexer.Unread.{Unread}
-use Rattle.syntax.specs.declared.lexer.Unread.TheVariants.{NotACharacter as Unreadable, NumberTooLarge as OverLimit, OutOfMemory as NoMemory}
+use Rattle.syntax.specs.declared.lexer.Unread.TheVariants.{NotACharacter as Unreadable, NumberTooLarge as OverLimit}
+use Rattle.syntax.specs.declared.lexer.Unread.TheVariants.{OutOfMemory as NoMemory}
 use Rattle.syntax.specs.declared.parser.TheConstants.{MOST_BYTES}
 use Rattle.syntax.specs.declared.place.Place.{Place}
 use Rattle.syntax.specs.declared.token.Spanned.{Spanned}
@@ -58,7 +60,8 @@ pub data BeginsToken (text : List ℕ) (at : ℕ) : Type 0 where
 -- each token stands in the text where it says, behind those before it
 abbrev pub ArePlaced : List ℕ → List Spanned → Type 0
 ArePlaced text found =
-    (before : List Spanned) (s : Spanned) (after : List Spanned) → found ≡ before ++ s ∷ after → StandsAt text (plain before) (token s.token) s.at
+    (before : List Spanned) (s : Spanned) (after : List Spanned) → found ≡ before ++ s ∷ after
+    → StandsAt text (plain before) (token s.token) s.at
 
 -- by the token that begins with this character, and by none before it, more than 100 brackets are open
 pub record OpensTooMany (found : List Spanned) (at : ℕ) : Type 0 where

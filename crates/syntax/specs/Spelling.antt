@@ -3,17 +3,34 @@ use Rattle.std.specs.Prelude.{List, [], ◌∷◌, Option, None, Some}
 use Rattle.syntax.specs.declared.tree.ElementType.{ElementType}
 use Rattle.syntax.specs.declared.tree.ElementType.TheVariants.{Int as IntElement, Byte as ByteElement}
 use Rattle.syntax.specs.declared.tree.Relation.{Relation}
-use Rattle.syntax.specs.declared.tree.Relation.TheVariants.{Less as IsLess, AtMost as IsAtMost, Greater as IsGreater, AtLeast as IsAtLeast, Equal as IsEqual, Differs as IsOther}
+use Rattle.syntax.specs.declared.tree.Relation.TheVariants.{Less as IsLess, AtMost as IsAtMost, Greater as IsGreater}
+use Rattle.syntax.specs.declared.tree.Relation.TheVariants.{AtLeast as IsAtLeast, Equal as IsEqual, Differs as IsOther}
 use Rattle.syntax.specs.declared.tree.Sign.{Sign}
 use Rattle.syntax.specs.declared.tree.Sign.TheVariants.{Plus as PlusSign, Minus as MinusSign}
 use Rattle.syntax.specs.declared.tree.Operator.{Operator}
 use Rattle.syntax.specs.declared.tree.Operator.TheVariants.{Times, Over, Modulo}
 use Rattle.syntax.specs.declared.token.Word.{Word}
-use Rattle.syntax.specs.declared.token.Word.TheVariants.{And as WordAnd, Array as WordArray, As as WordAs, Async as WordAsync, At as WordAt, Byte as WordByte, Else as WordElse, False as WordFalse, Fault as WordFault, Finish as WordFinish, If as WordIf, Int as WordInt, Len as WordLen, Main as WordMain, Mut as WordMut, Not as WordNot, Or as WordOr, Print as WordPrint, Proc as WordProc, Read as WordRead, Skip as WordSkip, Split as WordSplit, True as WordTrue, Var as WordVar, While as WordWhile}
+use Rattle.syntax.specs.declared.token.Word.TheVariants.{And as WordAnd, Array as WordArray, As as WordAs}
+use Rattle.syntax.specs.declared.token.Word.TheVariants.{Async as WordAsync, At as WordAt, Byte as WordByte}
+use Rattle.syntax.specs.declared.token.Word.TheVariants.{Else as WordElse, False as WordFalse, Fault as WordFault}
+use Rattle.syntax.specs.declared.token.Word.TheVariants.{Finish as WordFinish, If as WordIf, Int as WordInt}
+use Rattle.syntax.specs.declared.token.Word.TheVariants.{Len as WordLen, Main as WordMain, Mut as WordMut}
+use Rattle.syntax.specs.declared.token.Word.TheVariants.{Not as WordNot, Or as WordOr, Print as WordPrint}
+use Rattle.syntax.specs.declared.token.Word.TheVariants.{Proc as WordProc, Read as WordRead, Skip as WordSkip}
+use Rattle.syntax.specs.declared.token.Word.TheVariants.{Split as WordSplit, True as WordTrue, Var as WordVar}
+use Rattle.syntax.specs.declared.token.Word.TheVariants.{While as WordWhile}
 use Rattle.syntax.specs.declared.token.Mark.{Mark}
-use Rattle.syntax.specs.declared.token.Mark.TheVariants.{LeftParen, RightParen, LeftBrace, RightBrace, LeftBracket, RightBracket, Comma, Semicolon, Colon, Becomes, Plus, Minus, Star, Slash, Percent, Less, AtMost, Greater, AtLeast, Equal, Differs}
+use Rattle.syntax.specs.declared.token.Mark.TheVariants.{LeftParen, RightParen, LeftBrace, RightBrace, LeftBracket}
+use Rattle.syntax.specs.declared.token.Mark.TheVariants.{RightBracket, Comma, Semicolon, Colon, Becomes, Plus, Minus}
+use Rattle.syntax.specs.declared.token.Mark.TheVariants.{Star, Slash, Percent, Less, AtMost, Greater, AtLeast, Equal}
+use Rattle.syntax.specs.declared.token.Mark.TheVariants.{Differs}
 use Rattle.syntax.specs.Token.{Token, NameToken, NumberToken, WordToken, MarkToken}
-use Rattle.syntax.specs.Tree.{Expr, Or, Conjs, NoConj, OrConj, Conj, And, Negs, NoNeg, AndNeg, Neg, Plainly, Not, Cmp, Alone, Compare, Sum, Add, Terms, NoTerm, AddTerm, Prod, Multiply, Factors, NoFactor, MultiplyFactor, Unary, Positive, Negative, Atom, Number, True, False, Name, Element, Length, Parens, Stmt, Skip, Var, Assign, Store, Print, Fault, If, IfElse, While, Split, Call, Async, Finish, Block, End, Then, Array, Parameter, Written, Read, Scalar, Procedure, Main, Program}
+use Rattle.syntax.specs.Tree.{Expr, Or, Conjs, NoConj, OrConj, Conj, And, Negs, NoNeg, AndNeg, Neg, Plainly, Not, Cmp}
+use Rattle.syntax.specs.Tree.{Alone, Compare, Sum, Add, Terms, NoTerm, AddTerm, Prod, Multiply, Factors, NoFactor}
+use Rattle.syntax.specs.Tree.{MultiplyFactor, Unary, Positive, Negative, Atom, Number, True, False, Name, Element}
+use Rattle.syntax.specs.Tree.{Length, Parens, Stmt, Skip, Var, Assign, Store, Print, Fault, If, IfElse, While, Split}
+use Rattle.syntax.specs.Tree.{Call, Async, Finish, Block, End, Then, Array, Parameter, Written, Read, Scalar, Procedure}
+use Rattle.syntax.specs.Tree.{Main, Program}
 
 abbrev pub relation_mark : Relation → Mark
 relation_mark IsLess = Less
@@ -127,7 +144,9 @@ unfoldable mutual
   stmt_then (While e b) r = WordToken WordWhile ∷ expr_then e (MarkToken LeftBrace ∷ block_then b r)
   -- | "split" name "at" expr "as" name "," name block
   stmt_then (Split s e x y b) r =
-      WordToken WordSplit ∷ NameToken s ∷ WordToken WordAt ∷ expr_then e (WordToken WordAs ∷ NameToken x ∷ MarkToken Comma ∷ NameToken y ∷ MarkToken LeftBrace ∷ block_then b r)
+      WordToken WordSplit ∷ NameToken s ∷ WordToken WordAt
+      ∷ expr_then e (WordToken WordAs ∷ NameToken x ∷ MarkToken Comma ∷ NameToken y ∷ MarkToken LeftBrace
+      ∷ block_then b r)
   -- | name "(" [ expr { "," expr } ] ")" ";"
   stmt_then (Call f es) r = NameToken f ∷ MarkToken LeftParen ∷ exprs_then es (MarkToken RightParen ∷ MarkToken Semicolon ∷ r)
   -- | "async" block
@@ -144,7 +163,9 @@ unfoldable mutual
 unfoldable pub arrays_then : List Array → List Token → List Token
 arrays_then [] r = r
 arrays_then (a ∷ rest) r =
-    WordToken WordArray ∷ NameToken a.name ∷ MarkToken Colon ∷ WordToken (element_word a.element) ∷ MarkToken LeftBracket ∷ NumberToken a.length ∷ MarkToken RightBracket ∷ MarkToken Semicolon ∷ arrays_then rest r
+    WordToken WordArray ∷ NameToken a.name ∷ MarkToken Colon ∷ WordToken (element_word a.element)
+    ∷ MarkToken LeftBracket ∷ NumberToken a.length ∷ MarkToken RightBracket ∷ MarkToken Semicolon
+    ∷ arrays_then rest r
 
 -- param = ( "mut" | "read" ) name ":" elem | name ":" "int"
 unfoldable pub parameter_then : Parameter → List Token → List Token
@@ -166,7 +187,9 @@ parameters_then (p ∷ ps) r = parameter_then p (more_parameters_then ps r)
 unfoldable pub procedures_then : List Procedure → List Token → List Token
 procedures_then [] r = r
 procedures_then (p ∷ ps) r =
-    WordToken WordProc ∷ NameToken p.name ∷ MarkToken LeftParen ∷ parameters_then p.parameters (MarkToken RightParen ∷ MarkToken LeftBrace ∷ block_then p.body (procedures_then ps r))
+    WordToken WordProc ∷ NameToken p.name ∷ MarkToken LeftParen
+    ∷ parameters_then p.parameters
+    (MarkToken RightParen ∷ MarkToken LeftBrace ∷ block_then p.body (procedures_then ps r))
 
 -- [ "main" "{" { array } { stmt } "}" ]
 unfoldable pub main_tokens : Option Main → List Token

@@ -16,8 +16,13 @@ use Rattle.syntax.specs.declared.tree.Term.{Term as rTerm, Term' as rSigned}
 use Rattle.syntax.specs.declared.tree.Prod.{Prod as rProd, Prod' as rMultiply, Row_of-Factor, end_of-Factor, more_of-Factor}
 use Rattle.syntax.specs.declared.tree.Factor.{Factor as rFactor}
 use Rattle.syntax.specs.declared.tree.Unary.{Unary as rUnary}
-use Rattle.syntax.specs.declared.tree.Atom.{Atom as rAtom, Number as rNumber, True as rTrue, False as rFalse, Name as rName, Element' as rElement, Length as rLength, Parens' as rParens}
-use Rattle.syntax.specs.declared.tree.Stmt.{Stmt as rStmt, Row_of-Stmt, end_of-Stmt, more_of-Stmt, Held-Stmt-If-2, None' as no_else, Some' as some_else, Skip as rSkip, Var as rVar, Assign as rAssign, Store as rStore, Print as rPrint, Fault as rFault, If' as rIf, While' as rWhile, Split' as rSplit, Call as rCall, Async' as rAsync, Finish' as rFinish}
+use Rattle.syntax.specs.declared.tree.Atom.{Atom as rAtom, Number as rNumber, True as rTrue, False as rFalse}
+use Rattle.syntax.specs.declared.tree.Atom.{Name as rName, Element' as rElement, Length as rLength, Parens' as rParens}
+use Rattle.syntax.specs.declared.tree.Stmt.{Stmt as rStmt, Row_of-Stmt, end_of-Stmt, more_of-Stmt, Held-Stmt-If-2}
+use Rattle.syntax.specs.declared.tree.Stmt.{None' as no_else, Some' as some_else, Skip as rSkip, Var as rVar}
+use Rattle.syntax.specs.declared.tree.Stmt.{Assign as rAssign, Store as rStore, Print as rPrint, Fault as rFault}
+use Rattle.syntax.specs.declared.tree.Stmt.{If' as rIf, While' as rWhile, Split' as rSplit, Call as rCall}
+use Rattle.syntax.specs.declared.tree.Stmt.{Async' as rAsync, Finish' as rFinish}
 use Rattle.syntax.specs.declared.tree.Array.{Array as rArray}
 use Rattle.syntax.specs.declared.tree.Parameter.{Parameter as rParameter}
 use Rattle.syntax.specs.declared.tree.Parameter.TheVariants.{Written as rWritten, Read as rRead, Scalar as rScalar}

@@ -6,12 +6,12 @@ ghost use Rattle.std.specs.Str.{chars};
 ghost use Rattle.std.specs.String.{string_bytes};
 ghost use Rattle.syntax.specs.Canonical.{Margin, Opening, Operand, Ended, Other, canonical, listed, in_line, indent, plain_margin, statement_margin};
 ghost use Rattle.syntax.specs.Lexical.{word_text, AreTokensOf};
-ghost use Rattle.syntax.specs.Spelling.{expr_then, stmt_then, block_then, parameter_then, parameters_then, arrays_then, procedures_then, main_tokens, spelling, element_word};
+ghost use Rattle.syntax.specs.Spelling.{expr_then, more_then, stmt_then, block_then, parameter_then, parameters_then, arrays_then, procedures_then, main_tokens, spelling, element_word};
 ghost use Rattle.syntax.specs.Token.{Token, NameToken, WordToken, MarkToken};
 ghost use Rattle.syntax.specs.Tree.{Array as ArrayTree, Block as BlockTree, Procedure as ProcedureTree, Main as MainTree, expr as expr_tree, stmt as stmt_tree, block as block_tree, array as array_tree, parameter as parameter_tree, procedure as procedure_tree, program as program_tree};
 ghost use Rattle.syntax.specs.Writing.{with_rest, Adds, IsCounted, is_simple};
-ghost use Rattle.syntax.specs.declared.token.Mark.TheVariants.{Becomes, Comma, LeftBrace, RightBrace, Semicolon};
-ghost use Rattle.syntax.specs.declared.token.Word.TheVariants.{As, At, Split};
+ghost use Rattle.syntax.specs.declared.token.Mark.TheVariants.{Becomes, Comma, LeftBrace, LeftBracket, RightBrace, RightBracket, Semicolon};
+ghost use Rattle.syntax.specs.declared.token.Word.TheVariants.{As, At, Print, Split};
 
 use crate::expression_text as expressions;
 use crate::tree::{Array, ElementType, Expr, Parameter, Procedure, Program, Stmt};
@@ -278,17 +278,7 @@ fn line(statement: &Stmt, lines: &mut Lines) -> Result<(), AllocError>
         ≡ with_rest lines.new Ended r) }
 {
     match statement {
-        Stmt::If { guard, body, other } => {
-            header("if ", guard, lines)?;
-            block(body, lines)?;
-            match other {
-                None => Ok(()),
-                Some(other) => {
-                    lines.text.push_str(" else")?;
-                    block(other, lines)
-                }
-            }
-        }
+        Stmt::If { guard, body, other } => conditional(guard, body, other, lines),
         Stmt::While { guard, body } => {
             header("while ", guard, lines)?;
             block(body, lines)
@@ -314,6 +304,32 @@ fn line(statement: &Stmt, lines: &mut Lines) -> Result<(), AllocError>
         _ => {
             simple(statement, lines)?;
             lines.text.push(';')
+        }
+    }
+}
+
+/// A conditional with the block of its `else`, if it has one.
+#[cycle(stmt)]
+fn conditional(
+    guard: &Expr,
+    body: &Vec<Stmt>,
+    other: &Option<Vec<Stmt>>,
+    lines: &mut Lines,
+) -> Result<(), AllocError>
+    requires { IsCounted lines.old }
+    ensures counted { OnOk result (IsCounted lines.new) }
+    ensures written { OnOk result ((r : List Token)
+        → with_rest lines.old Opening
+        (stmt_then (stmt_tree (Stmt.If guard.now body.now other.now)) r)
+        ≡ with_rest lines.new Ended r) }
+{
+    header("if ", guard, lines)?;
+    block(body, lines)?;
+    match other {
+        None => Ok(()),
+        Some(other) => {
+            lines.text.push_str(" else")?;
+            block(other, lines)
         }
     }
 }
@@ -368,22 +384,8 @@ fn simple(statement: &Stmt, lines: &mut Lines) -> Result<(), AllocError>
             section,
             index,
             value,
-        } => {
-            out.push_str(section.as_str())?;
-            out.push('[')?;
-            expressions::expr(index, out)?;
-            out.push_str("] = ")?;
-            expressions::expr(value, out)
-        }
-        Stmt::Print { first, rest } => {
-            out.push_str("print ")?;
-            expressions::expr(first, out)?;
-            for value in rest {
-                out.push_str(", ")?;
-                expressions::expr(value, out)?;
-            }
-            Ok(())
-        }
+        } => store(section, index, value, out),
+        Stmt::Print { first, rest } => print(first, rest, out),
         Stmt::Fault { value } => {
             out.push_str("fault ")?;
             expressions::expr(value, out)
@@ -410,4 +412,31 @@ fn assignment(name: &String, value: &Expr, out: &mut String) -> Result<(), Alloc
     out.push_str(name.as_str())?;
     out.push_str(" = ")?;
     expressions::expr(value, out)
+}
+
+fn store(section: &String, index: &Expr, value: &Expr, out: &mut String) -> Result<(), AllocError>
+    ensures { OnOk result (string_bytes out.new ≡ string_bytes out.old
+        ++ in_line (NameToken (string_bytes section.now) ∷ MarkToken LeftBracket
+        ∷ expr_then (expr_tree index.now) (MarkToken RightBracket ∷ MarkToken Becomes
+        ∷ expr_then (expr_tree value.now) []))) }
+{
+    out.push_str(section.as_str())?;
+    out.push('[')?;
+    expressions::expr(index, out)?;
+    out.push_str("] = ")?;
+    expressions::expr(value, out)
+}
+
+fn print(first: &Expr, rest: &[Expr], out: &mut String) -> Result<(), AllocError>
+    ensures { OnOk result (string_bytes out.new ≡ string_bytes out.old
+        ++ in_line (WordToken Print
+        ∷ expr_then (expr_tree first.now) (more_then (map expr_tree rest.now) []))) }
+{
+    out.push_str("print ")?;
+    expressions::expr(first, out)?;
+    for value in rest {
+        out.push_str(", ")?;
+        expressions::expr(value, out)?;
+    }
+    Ok(())
 }

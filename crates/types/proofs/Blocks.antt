@@ -6,8 +6,11 @@ use Rattle.types.specs.Translation.{number, truth, code, row_codes, codes}
 use Rattle.types.specs.declared.code.Number.{Number}
 use Rattle.types.specs.declared.code.Truth.{Truth}
 use Rattle.types.specs.declared.code.Stmt.{Stmt}
-use Rattle.types.specs.declared.code.StmtKind.{StmtKind, Row_of-Stmt, end_of-Stmt, more_of-Stmt, items-the_row-Stmt, items_hidden-the_row-Stmt-0}
-use Rattle.types.specs.declared.code.StmtKind.TheVariants.{If as rIf, If' as rIf', While as rWhile, While' as rWhile', Split as rSplit, Split' as rSplit', Async as rAsync, Async' as rAsync', Finish as rFinish, Finish' as rFinish'}
+use Rattle.types.specs.declared.code.StmtKind.{StmtKind, Row_of-Stmt, end_of-Stmt, more_of-Stmt, items-the_row-Stmt}
+use Rattle.types.specs.declared.code.StmtKind.{items_hidden-the_row-Stmt-0}
+use Rattle.types.specs.declared.code.StmtKind.TheVariants.{If as rIf, If' as rIf', While as rWhile, While' as rWhile'}
+use Rattle.types.specs.declared.code.StmtKind.TheVariants.{Split as rSplit, Split' as rSplit', Async as rAsync}
+use Rattle.types.specs.declared.code.StmtKind.TheVariants.{Async' as rAsync', Finish as rFinish, Finish' as rFinish'}
 
 row_codes_are : (n : Count) (row : Row_of-Stmt n) → row_codes row ≡ codes (items-the_row-Stmt n row)
 row_codes_are n end_of-Stmt = refl

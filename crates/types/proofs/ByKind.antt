@@ -1,13 +1,20 @@
 -- What is said of a statement by its kind.
-use Rattle.std.proofs.Common.{◌≡◌, ℕ, ◌&&◌, List, ◌∷◌, Bool, true, false, IsTrue, Result, Ok, Err, IfErr, IsErrAnd, String, Global, Vec, refl, sym, ap, ◌∙◌, subst, arith}
+use Rattle.std.proofs.Common.{◌≡◌, ℕ, ◌&&◌, List, ◌∷◌, Bool, true, false, IsTrue, Result, Ok, Err, IfErr, IsErrAnd}
+use Rattle.std.proofs.Common.{String, Global, Vec, refl, sym, ap, ◌∙◌, subst, arith}
 use Rattle.std.specs.List.{list_any, list_all}
 use Rattle.syntax.specs.Tree.{Expr, Stmt, Skip, Store, Print, Async, Finish, Block, conditional}
 use Rattle.syntax.specs.Tree as tree
 use Rattle.syntax.specs.declared.tree.Expr.{Expr as rExpr}
-use Rattle.syntax.specs.declared.tree.Stmt.{Stmt as rStmt, roll-Stmt, roll-out-Stmt, Held-Stmt-If-2, None' as no_else, Some' as some_else, Skip as rSkip, Var as rVar, Assign as rAssign, Store as rStore, Print as rPrint, Fault as rFault, If' as rIf', While' as rWhile', Split' as rSplit', Call as rCall, Async' as rAsync', Finish' as rFinish'}
-use Rattle.syntax.specs.declared.tree.Stmt.TheVariants.{Async as rAsync, Finish as rFinish, outs-Async', rolls-Async, outs-Finish', rolls-Finish}
+use Rattle.syntax.specs.declared.tree.Stmt.{Stmt as rStmt, roll-Stmt, roll-out-Stmt, Held-Stmt-If-2, None' as no_else}
+use Rattle.syntax.specs.declared.tree.Stmt.{Some' as some_else, Skip as rSkip, Var as rVar, Assign as rAssign}
+use Rattle.syntax.specs.declared.tree.Stmt.{Store as rStore, Print as rPrint, Fault as rFault, If' as rIf'}
+use Rattle.syntax.specs.declared.tree.Stmt.{While' as rWhile', Split' as rSplit', Call as rCall, Async' as rAsync'}
+use Rattle.syntax.specs.declared.tree.Stmt.{Finish' as rFinish'}
+use Rattle.syntax.specs.declared.tree.Stmt.TheVariants.{Async as rAsync, Finish as rFinish, outs-Async', rolls-Async}
+use Rattle.syntax.specs.declared.tree.Stmt.TheVariants.{outs-Finish', rolls-Finish}
 use Rattle.types.specs.Resolution.{Scope, inside}
-use Rattle.types.specs.Rules.{first, later, in_async, in_finish, names_unknown, is_unknown, item_unknown, is_literal, is_item, is_served_statement, is_served_block}
+use Rattle.types.specs.Rules.{first, later, in_async, in_finish, names_unknown, is_unknown, item_unknown, is_literal}
+use Rattle.types.specs.Rules.{is_item, is_served_statement, is_served_block}
 use Rattle.types.specs.ArrayScope.{lone}
 use Rattle.types.specs.Told.{KnowsNames, UnknownAt, TellsName, TellsItems, TellsBlock}
 use Rattle.types.specs.declared.error.TypeError.{TypeError}
@@ -73,7 +80,8 @@ tells_value from x i v e h =
 pub tells_Print : (from : Scope) (i : Expr) (is : List Expr) (e : TypeError) → TellsItems from (i ∷ is) e
     → TellsBlock from (lone (Print i is)) e
 tells_Print from i is =
-    says-weaker (λ label h. unknown_here from (Print i is) label h.0 h.1) (λ h. h) absurd (λ h. false_and (list_all is_item (i ∷ is)) true h)
+    says-weaker (λ label h. unknown_here from (Print i is) label h.0 h.1)
+    (λ h. h) absurd (λ h. false_and (list_all is_item (i ∷ is)) true h)
 
 unknown_in_async : (from : Scope) (b : Block) (label : ℕ) → UnknownAt (inside from) b label → UnknownAt from (lone (Async b)) label
 unknown_in_async from b label u = record {

@@ -3,10 +3,12 @@ use Rattle.std.proofs.Common.{◌≡◌, ℕ, suc, ◌<◌, List, length, drop, 
 use Rattle.std.proofs.Math.Seq.{drop-cons}
 use Rattle.std.specs.Prelude.{ℤ, true, false}
 use mathlib.Core.Former.{Count}
-use Rattle.types.specs.declared.code.Number.{Number as rNumber, Row_of-Link, end_of-Link, more_of-Link, items-the_row-Link, items_hidden-the_row-Link-0}
+use Rattle.types.specs.declared.code.Number.{Number as rNumber, Row_of-Link, end_of-Link, more_of-Link}
+use Rattle.types.specs.declared.code.Number.{items-the_row-Link, items_hidden-the_row-Link-0}
 use Rattle.types.specs.declared.code.Number.TheVariants.{Chain as rChain, Chain' as rChain'}
 use Rattle.types.specs.declared.code.Link.{Link as rLink}
-use Rattle.types.specs.declared.code.Truth.{Truth as rTruth, Row_of-Truth, end_of-Truth, more_of-Truth, items-the_row-Truth, items_hidden-the_row-Truth-0}
+use Rattle.types.specs.declared.code.Truth.{Truth as rTruth, Row_of-Truth, end_of-Truth, more_of-Truth}
+use Rattle.types.specs.declared.code.Truth.{items-the_row-Truth, items_hidden-the_row-Truth-0}
 use Rattle.types.specs.declared.code.Truth.TheVariants.{Both as rBoth, Both' as rBoth', Either as rEither, Either' as rEither'}
 use Rattle.types.specs.Code.{Chain, Link, Both, Either, Truths, NoMore, Also}
 use Rattle.types.specs.Place.{Place}
@@ -25,7 +27,8 @@ links_in _ = (_, end_of-Link)
 pub number-Chain : (first : Box rNumber Global) (rest : Vec rLink Global)
     → number (rChain first rest) ≡ Chain (number first.value) (links rest.items)
 number-Chain first rest =
-    let row = links_in (rChain first rest) in ap (Chain (number first.value)) (links_are row.0 row.1 ∙ ap links (items_hidden-the_row-Link-0 rest))
+    let row = links_in (rChain first rest) in
+    ap (Chain (number first.value)) (links_are row.0 row.1 ∙ ap links (items_hidden-the_row-Link-0 rest))
 
 truths_are : (n : Count) (row : Row_of-Truth n) → row_truths row ≡ truths (items-the_row-Truth n row)
 truths_are n end_of-Truth = refl

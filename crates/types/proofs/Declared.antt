@@ -1,5 +1,7 @@
 -- Arrays that are declared: their names, each once, and how many elements they have together.
-use Rattle.std.proofs.Common.{◌≡◌, ℕ, suc, List, [], ◌∷◌, ◌++◌, map, length, Bool, true, false, ◌||◌, Some, slice_get, slice_index_or, string_bytes, string_eq, String, Global, AllPairs, ◌≢◌, refl, sym, ap, ◌∙◌, subst, arith}
+use Rattle.std.proofs.Common.{◌≡◌, ℕ, suc, List, [], ◌∷◌, ◌++◌, map, length, Bool, true, false, ◌||◌, Some, slice_get}
+use Rattle.std.proofs.Common.{slice_index_or, string_bytes, string_eq, String, Global, AllPairs, ◌≢◌, refl, sym, ap}
+use Rattle.std.proofs.Common.{◌∙◌, subst, arith}
 use Rattle.std.specs.List.{list_any, IsDistinct, AllByRecursion}
 use Rattle.std.specs.Str.{bytes_eq}
 use Rattle.std.specs.Option.{option_map}

@@ -7,7 +7,10 @@ use Rattle.types.specs.Code.{Chain, Link, Done, Negative}
 use Rattle.types.specs.FirstPart.{is_first_part}
 use Rattle.types.specs.Run.{Fault}
 use Rattle.types.specs.Outcome.{Budget, Outcome, Ended, Halted, outcome}
-use Rattle.types.proofs.Programs.{lit, two_arrays, doubling, splits, split_below, two_readers, three_faults, child_faults, fault_after_async, nested_tasks, nested_faults, byte_store, past_the_end, endless, signs, least_by, least, by_zero, count_to, scalars, deep_call, one_async, late_async}
+use Rattle.types.proofs.Programs.{lit, two_arrays, doubling, splits, split_below, two_readers, three_faults}
+use Rattle.types.proofs.Programs.{child_faults, fault_after_async, nested_tasks, nested_faults, byte_store}
+use Rattle.types.proofs.Programs.{past_the_end, endless, signs, least_by, least, by_zero, count_to, scalars, deep_call}
+use Rattle.types.proofs.Programs.{one_async, late_async}
 
 abbrev budget : (steps nest : ℕ) → Budget
 budget steps nest = record { steps = steps; nest = nest }
@@ -55,7 +58,8 @@ doubling_16 : outcome (doubling 16) (upto 1 16 ∷ []) usual ≡ Ended (record {
 doubling_16 = refl
 
 -- 16 places are four halvings deep
-doubling_16_nest_4 : outcome (doubling 16) (upto 1 16 ∷ []) (budget 1000 4) ≡ Ended (record { arrays = doubles 1 16 ∷ []; lines = []; faults = [] })
+doubling_16_nest_4 : outcome (doubling 16) (upto 1 16 ∷ [])
+    (budget 1000 4) ≡ Ended (record { arrays = doubles 1 16 ∷ []; lines = []; faults = [] })
 doubling_16_nest_4 = refl
 
 doubling_16_nest_3 : outcome (doubling 16) (upto 1 16 ∷ []) (budget 1000 3) ≡ Halted
@@ -63,7 +67,12 @@ doubling_16_nest_3 = refl
 
 -- at 0, at the length, and beyond it
 splits_end : outcome splits (zeros 3 ∷ []) usual ≡ Ended
-    (record { arrays = (z 0 ∷ z 0 ∷ z 5 ∷ []) ∷ []; lines = (z 0 ∷ z 5 ∷ []) ∷ []; faults = record { path = []; label = 6; kind = SplitPoint } ∷ [] })
+    (record {
+      arrays = (z 0 ∷ z 0 ∷ z 5 ∷ []) ∷ [];
+      lines = (z 0 ∷ z 5 ∷ []) ∷ [];
+      faults =
+          record { path = []; label = 6; kind = SplitPoint } ∷ [];
+    })
 splits_end = refl
 
 split_below_faults : outcome split_below (zeros 3 ∷ []) usual
@@ -76,14 +85,16 @@ readers_end = refl
 
 -- faults come in depth-first order, and what follows the finish doesn't run
 three_faults_end : outcome three_faults [] usual ≡ fails []
-    (record { path = 1 ∷ []; label = 3; kind = Raised (z 1) } ∷ record { path = 2 ∷ []; label = 5; kind = Raised (z 2) } ∷ record { path = []; label = 6; kind = Raised (z 3) } ∷ [])
+    (record { path = 1 ∷ []; label = 3; kind = Raised (z 1) } ∷ record { path = 2 ∷ []; label = 5; kind = Raised (z 2) }
+    ∷ record { path = []; label = 6; kind = Raised (z 3) } ∷ [])
 three_faults_end = refl
 
 -- a child's fault leaves its parent alone up to the finish
 child_faults_end : outcome child_faults [] usual ≡ fails ((z 8 ∷ []) ∷ []) (record { path = 1 ∷ []; label = 3; kind = Raised (z 1) } ∷ [])
 child_faults_end = refl
 
-fault_after_async_end : outcome fault_after_async [] usual ≡ fails ((z 5 ∷ []) ∷ []) (record { path = []; label = 4; kind = Raised (z 4) } ∷ [])
+fault_after_async_end : outcome fault_after_async [] usual ≡ fails ((z 5 ∷ []) ∷ [])
+    (record { path = []; label = 4; kind = Raised (z 4) } ∷ [])
 fault_after_async_end = refl
 
 nested_tasks_end : outcome nested_tasks [] usual ≡ prints ((z 1 ∷ []) ∷ (z 2 ∷ []) ∷ (z 3 ∷ []) ∷ [])
@@ -91,7 +102,8 @@ nested_tasks_end = refl
 
 -- a child's child has its path behind the child's
 nested_faults_end : outcome nested_faults [] usual
-    ≡ fails [] (record { path = 1 ∷ 1 ∷ []; label = 4; kind = Raised (z 1) } ∷ record { path = 1 ∷ []; label = 5; kind = Raised (z 2) } ∷ [])
+    ≡ fails [] (record { path = 1 ∷ 1 ∷ []; label = 4; kind = Raised (z 1) }
+    ∷ record { path = 1 ∷ []; label = 5; kind = Raised (z 2) } ∷ [])
 nested_faults_end = refl
 
 byte_store_end : outcome byte_store (zeros 1 ∷ []) usual
@@ -133,7 +145,8 @@ counts_short = refl
 scalars_end : outcome scalars [] usual ≡ prints ((z 3 ∷ []) ∷ (z 3 ∷ []) ∷ [])
 scalars_end = refl
 
-deep_call_end : outcome (deep_call 20) (zeros 1 ∷ []) usual ≡ Ended (record { arrays = (z 210 ∷ []) ∷ []; lines = (z 210 ∷ []) ∷ []; faults = [] })
+deep_call_end : outcome (deep_call 20)
+    (zeros 1 ∷ []) usual ≡ Ended (record { arrays = (z 210 ∷ []) ∷ []; lines = (z 210 ∷ []) ∷ []; faults = [] })
 deep_call_end = refl
 
 no_nest_stops : outcome one_async [] (budget 100 0) ≡ Halted

@@ -1,5 +1,6 @@
 -- Contents and environments as lists show them.
-use Rattle.std.proofs.Common.{◌≡◌, ℕ, zero, suc, ◌+◌, ◌<◌, List, [], ◌∷◌, ◌++◌, length, Option, Some, None, refl, sym, ap, ◌∙◌, subst, arith}
+use Rattle.std.proofs.Common.{◌≡◌, ℕ, zero, suc, ◌+◌, ◌<◌, List, [], ◌∷◌, ◌++◌, length, Option, Some, None, refl, sym}
+use Rattle.std.proofs.Common.{ap, ◌∙◌, subst, arith}
 use Rattle.std.proofs.lemmas.Bool.{eqb-true, eqb-false}
 use Rattle.std.proofs.lemmas.Option.{unwrap_or-slice_get}
 use Rattle.std.proofs.lemmas.List.{get_or-set_same, get_or-set_other}
@@ -30,7 +31,8 @@ rows_are c a (x ∷ xs) (l ∷ ls) (also e fits) h =
     let here : a + 0 ≡ a = omega arith in
     let first : row c a 0 x.length ≡ l =
     ap (row c a 0) (sym e)
-    ∙ row_is c a 0 l (λ k. let z : 0 + k ≡ k = omega arith in ap (λ k. read c (record { array = a; index = k })) z ∙ ap (λ b. read c (record { array = b; index = k })) (sym here) ∙ h 0 k) in
+    ∙ row_is c a 0 l (λ k. let z : 0 + k ≡ k = omega arith in ap (λ k. read c (record { array = a; index = k })) z
+    ∙ ap (λ b. read c (record { array = b; index = k })) (sym here) ∙ h 0 k) in
     let rest = rows_are c (a + 1) xs ls fits
     (λ j k. let e : a + 1 + j ≡ a + suc j = omega arith in ap (λ b. read c (record { array = b; index = k })) e ∙ h (suc j) k) in
     ap (λ y. y ∷ rows c (a + 1) xs) first ∙ ap (λ ys. l ∷ ys) rest

@@ -7,7 +7,8 @@ use Rattle.syntax.specs.Tree as tree
 use Rattle.syntax.specs.declared.tree.Main.{Main as rMain}
 use Rattle.syntax.specs.declared.tree.Program.{Program as rProgram}
 use Rattle.types.specs.Resolution.{Scope, in_main, labels}
-use Rattle.types.specs.Rules.{Stands, StandsIn, in_a_procedure, in_the_main, names_unknown, NamesUnknown, HasNameTwice, TooMany, IsOverLimit, over_by_arrays, over_by_statements, BreaksNoRule, Tells}
+use Rattle.types.specs.Rules.{Stands, StandsIn, in_a_procedure, in_the_main, names_unknown, NamesUnknown, HasNameTwice}
+use Rattle.types.specs.Rules.{TooMany, IsOverLimit, over_by_arrays, over_by_statements, BreaksNoRule, Tells}
 use Rattle.types.specs.ArrayScope.{place, only_main}
 use Rattle.types.specs.Told.{KnowsNames, UnknownAt, TellsBlock}
 use Rattle.types.specs.declared.check.TheConstants.{MOST_LABELS}

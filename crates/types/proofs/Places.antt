@@ -2,7 +2,8 @@
 use Rattle.std.proofs.Common.{◌≡◌, ℕ, ◌+◌, ◌&&◌, ◌⊎◌, List, Bool, true, false, refl, sym, ap, ◌∙◌, subst, inl, inr, arith}
 use Rattle.syntax.specs.Tree.{Stmt, Block, End, Then}
 use Rattle.types.specs.Resolution.{Scope, behind, labels}
-use Rattle.types.specs.Rules.{Stands, first, later, in_if, in_then, in_else, in_while, in_split, in_async, in_finish, names_unknown, is_served_statement, is_served_block}
+use Rattle.types.specs.Rules.{Stands, first, later, in_if, in_then, in_else, in_while, in_split, in_async, in_finish}
+use Rattle.types.specs.Rules.{names_unknown, is_served_statement, is_served_block}
 use Rattle.types.specs.ArrayScope.{place, lone}
 use Rattle.types.specs.Told.{Says, KnowsNames, UnknownAt, TellsBlock}
 use Rattle.types.specs.declared.error.TypeError.{TypeError}
@@ -68,7 +69,8 @@ tells_first from s rest =
     says-weaker (unknown_in_front from s rest) (λ h. h) (λ h. omega (arith, h)) (false_and (is_served_statement s) (is_served_block rest))
 
 -- ---- of those behind it
-module _ (names : List (List ℕ)) (s : Stmt) (rest : Block) (n after : ℕ) (served : is_served_block (lone s) ≡ true) (counted : after ≡ n + labels (lone s)) where
+module _ (names : List (List ℕ)) (s : Stmt) (rest : Block) (n after : ℕ) (served : is_served_block (lone s) ≡ true)
+    (counted : after ≡ n + labels (lone s)) where
   behind_it : behind s (place names (n + 1)) ≡ place names (after + 1)
   behind_it = behind_served names s (n + 1) (after + 1) (both_true (is_served_statement s) true served).0 (omega (arith, counted))
 

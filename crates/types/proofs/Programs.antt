@@ -3,7 +3,9 @@ use Rattle.std.specs.Prelude.{ℕ, List, [], ◌∷◌, pos, true}
 use Rattle.syntax.specs.declared.tree.ElementType.TheVariants.{Int, Byte}
 use Rattle.syntax.specs.declared.tree.Relation.TheVariants.{Less, AtMost, Equal}
 use Rattle.types.specs.declared.code.Operator.TheVariants.{Plus, Minus, Times, Over, Modulo}
-use Rattle.types.specs.Code.{Number, Literal, Scalar, Element, Length, Negative, Chain, Done, Link, Constant, Compare, Skip, Assign, Store, Print, Raise, Code, Do, If, While, Split, Call, Async, Finish, Codes, End, Then, Origin, Root, Left, Right, Array, Procedure, Program}
+use Rattle.types.specs.Code.{Number, Literal, Scalar, Element, Length, Negative, Chain, Done, Link, Constant, Compare}
+use Rattle.types.specs.Code.{Skip, Assign, Store, Print, Raise, Code, Do, If, While, Split, Call, Async, Finish, Codes}
+use Rattle.types.specs.Code.{End, Then, Origin, Root, Left, Right, Array, Procedure, Program}
 
 -- a labelled statement before others
 infixr 4 ◌⨾◌
@@ -30,7 +32,8 @@ two_arrays = main_of (ints 97 1 ∷ ints 98 1 ∷ []) 0 (Root ∷ Root ∷ []) (
     (1, Finish ((2, Async ((3, Do (Store 0 (lit 0) (lit 7))) ⨾ End)) ⨾ (4, Do (Store 1 (lit 0) (lit 8))) ⨾ End)) ⨾
     (5, Do (Print (Element 0 (lit 0) ∷ Element 1 (lit 0) ∷ []))) ⨾ End)
 
--- proc twice(mut s: int) { if len(s) <= 1 { if len(s) == 1 { s[0] = s[0] * 2; } } else { split s at len(s) / 2 as l, r { async { twice(l); } twice(r); } } }
+-- proc twice(mut s: int) { if len(s) <= 1 { if len(s) == 1 { s[0] = s[0] * 2; } } else { split s at len(s) / 2 as l, r
+-- { async { twice(l); } twice(r); } } }
 abbrev pub twice : Procedure
 twice = record {
   parameters = record { may_write = true; element = Int } ∷ [];
@@ -40,7 +43,11 @@ twice = record {
   body = (
     1,
     If (Compare AtMost (Length 0) (lit 1))
-        ((2, If (Compare Equal (Length 0) (lit 1)) ((3, Do (Store 0 (lit 0) (Chain (Element 0 (lit 0)) (Link Times (lit 2) Done)))) ⨾ End) End) ⨾ End)
+        ((
+          2,
+          If (Compare Equal (Length 0) (lit 1))
+              ((3, Do (Store 0 (lit 0) (Chain (Element 0 (lit 0)) (Link Times (lit 2) Done)))) ⨾ End) End,
+        ) ⨾ End)
         ((
           4,
           Split 0 (Chain (Length 0) (Link Over (lit 2) Done)) 1 2 (
@@ -177,7 +184,14 @@ deep_call n = record {
   arrays = ints 97 1 ∷ [];
   procedures = down ∷ [];
   main =
-      record { parameters = []; scalars = 0; slots = 0; sections = Root ∷ []; body = (4, Call 0 (lit n ∷ []) (0 ∷ [])) ⨾ (5, Do (Print (Element 0 (lit 0) ∷ []))) ⨾ End };
+      record {
+        parameters = [];
+        scalars = 0;
+        slots = 0;
+        sections = Root ∷ [];
+        body =
+            (4, Call 0 (lit n ∷ []) (0 ∷ [])) ⨾ (5, Do (Print (Element 0 (lit 0) ∷ []))) ⨾ End;
+      };
 }
 
 -- async { print 1; } print 2;

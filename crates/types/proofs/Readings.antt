@@ -4,7 +4,8 @@ use Rattle.std.proofs.lemmas.Bool.{ltb-true}
 use Rattle.std.proofs.lemmas.List.Elements.{Contains-append_left, Contains-append_right}
 use Rattle.std.specs.Prelude.{ℤ, pos, negsuc, neg_ℤ, nat_lt, Bool, true, false, not, ok_or, if◌then◌else◌}
 use Rattle.types.specs.declared.fault.FaultKind.TheVariants.{Index}
-use Rattle.types.specs.Code.{Number, Literal, Scalar, Element, Length, Negative, Chain, Links, Done, Link, Truth, Constant, Compare, Not, Both, Either, Truths, NoMore, Also}
+use Rattle.types.specs.Code.{Number, Literal, Scalar, Element, Length, Negative, Chain, Links, Done, Link, Truth}
+use Rattle.types.specs.Code.{Constant, Compare, Not, Both, Either, Truths, NoMore, Also}
 use Rattle.types.specs.Place.{Window, Place, In}
 use Rattle.types.specs.Value.{Environment, Valued, then_try, element_of, within_64_bits, operate, holds, number, links, truth, all, any}
 use Rattle.types.specs.Indexed.{indexed, indexed_links, indexed_truth, indexed_truths}
@@ -34,7 +35,8 @@ module _ (env : Environment) (read other : Place → ℤ) where
       → then_try (element_of w v) (λ q. Ok (read q)) ≡ then_try (element_of w v) (λ q. Ok (other q))
   element_same w (negsuc n) h = refl
   element_same w (pos n) h =
-      inside (nat_lt n w.length) (λ e. let lt = ltb-true n w.length e in record { array = refl; low = omega arith; high = omega (arith, lt) })
+      inside (nat_lt n w.length) (λ e. let lt = ltb-true n w.length e in
+      record { array = refl; low = omega arith; high = omega (arith, lt) })
     where
       q : Place
       q = record { array = w.array; index = w.at + n }
@@ -62,7 +64,8 @@ module _ (env : Environment) (read other : Place → ℤ) where
     links_same Done h x = refl
     links_same (Link o e rest) h x =
         tried (number env read e) (number env other e) _ _ (number_same e (same_left (indexed e) (indexed_links rest) h))
-        (λ y. tried (operate o x y) (operate o x y) (links env read rest) (links env other rest) refl (links_same rest (same_right (indexed e) (indexed_links rest) h)))
+        (λ y. tried (operate o x y) (operate o x y) (links env read rest)
+        (links env other rest) refl (links_same rest (same_right (indexed e) (indexed_links rest) h)))
 
   mutual
     pub truth_same : (t : Truth) → Same (indexed_truth t) → truth env read t ≡ truth env other t
@@ -79,11 +82,13 @@ module _ (env : Environment) (read other : Place → ℤ) where
     all_same (Also t rest) h false = refl
     all_same (Also t rest) h true =
         tried (truth env read t) (truth env other t) (all env read rest) (all env other rest)
-        (truth_same t (same_left (indexed_truth t) (indexed_truths rest) h)) (all_same rest (same_right (indexed_truth t) (indexed_truths rest) h))
+        (truth_same t (same_left (indexed_truth t) (indexed_truths rest) h))
+        (all_same rest (same_right (indexed_truth t) (indexed_truths rest) h))
 
     any_same : (ts : Truths) → Same (indexed_truths ts) → (b : Bool) → any env read ts b ≡ any env other ts b
     any_same NoMore h b = refl
     any_same (Also t rest) h true = refl
     any_same (Also t rest) h false =
         tried (truth env read t) (truth env other t) (any env read rest) (any env other rest)
-        (truth_same t (same_left (indexed_truth t) (indexed_truths rest) h)) (any_same rest (same_right (indexed_truth t) (indexed_truths rest) h))
+        (truth_same t (same_left (indexed_truth t) (indexed_truths rest) h))
+        (any_same rest (same_right (indexed_truth t) (indexed_truths rest) h))

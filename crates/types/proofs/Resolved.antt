@@ -6,7 +6,9 @@ use Rattle.syntax.specs.declared.tree.Relation.TheVariants.{AtMost, Equal}
 use Rattle.syntax.specs.declared.tree.Sign.TheVariants.{Plus}
 use Rattle.syntax.specs.declared.tree.Operator.{Operator}
 use Rattle.syntax.specs.declared.tree.Operator.TheVariants.{Times, Over}
-use Rattle.syntax.specs.Tree.{Expr, Or, NoConj, And, NoNeg, Plainly, Alone, Compare, Add, NoTerm, AddTerm, Multiply, NoFactor, MultiplyFactor, Positive, Atom, Number, Name, Element, Length, Var, Assign, Store, Print, If, IfElse, Split, Call, Async, Finish, End, Then, Array, Written, Program}
+use Rattle.syntax.specs.Tree.{Expr, Or, NoConj, And, NoNeg, Plainly, Alone, Compare, Add, NoTerm, AddTerm, Multiply}
+use Rattle.syntax.specs.Tree.{NoFactor, MultiplyFactor, Positive, Atom, Number, Name, Element, Length, Var, Assign}
+use Rattle.syntax.specs.Tree.{Store, Print, If, IfElse, Split, Call, Async, Finish, End, Then, Array, Written, Program}
 use Rattle.types.specs.Resolution.{resolution}
 use Rattle.types.proofs.Programs.{two_arrays, doubling, scalars}
 
@@ -26,7 +28,9 @@ total a b =
 
 abbrev compare : Atom → Relation → ℕ → Expr
 compare a r n =
-    Or (And (Plainly (Compare (Add (Multiply (Positive a) NoFactor) NoTerm) r (Add (Multiply (Positive (Number n)) NoFactor) NoTerm))) NoNeg) NoConj
+    Or (And (Plainly
+    (Compare (Add (Multiply (Positive a) NoFactor) NoTerm) r
+    (Add (Multiply (Positive (Number n)) NoFactor) NoTerm))) NoNeg) NoConj
 
 abbrev num : ℕ → Expr
 num n = atom (Number n)
@@ -49,7 +53,8 @@ two_arrays_text = record {
 two_arrays_resolved : resolution two_arrays_text ≡ Some two_arrays
 two_arrays_resolved = refl
 
--- proc t(mut s: int) { if len(s) <= 1 { if len(s) == 1 { s[0] = s[0] * 2; } } else { split s at len(s) / 2 as l, r { async { t(l); } t(r); } } }
+-- proc t(mut s: int) { if len(s) <= 1 { if len(s) == 1 { s[0] = s[0] * 2; } } else { split s at len(s) / 2 as l, r {
+-- async { t(l); } t(r); } } }
 -- main { array a: int[8]; finish { t(a); } }
 abbrev doubling_text : Program
 doubling_text = record {
@@ -57,7 +62,8 @@ doubling_text = record {
     name = name 116;
     parameters = Written (name 115) Int ∷ [];
     body = Then (IfElse (compare (Length (name 115)) AtMost 1)
-        (Then (If (compare (Length (name 115)) Equal 1) (Then (Store (name 115) (num 0) (product (Element (name 115) (num 0)) Times 2)) End)) End)
+        (Then (If (compare (Length (name 115)) Equal 1)
+        (Then (Store (name 115) (num 0) (product (Element (name 115) (num 0)) Times 2)) End)) End)
         (Then (Split (name 115) (product (Length (name 115)) Over 2) (name 108) (name 114) (
         Then (Async (Then (Call (name 116) (atom (Name (name 108)) ∷ [])) End))
         (Then (Call (name 116) (atom (Name (name 114)) ∷ [])) End))) End)) End;

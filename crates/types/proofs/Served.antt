@@ -1,10 +1,16 @@
 -- What is found out of the statements of a block, one after another.
-use Rattle.std.proofs.Common.{◌≡◌, ℕ, ◌+◌, List, [], ◌∷◌, ◌++◌, map, length, Bool, true, false, ◌&&◌, Option, Some, None, position, is_none, ok_or, OnOk, IfOk, IfErr, if◌then◌else◌, suc, replicate, append-nil, Global, String, Vec, Box, refl, sym, ap, ◌∙◌, arith}
+use Rattle.std.proofs.Common.{◌≡◌, ℕ, ◌+◌, List, [], ◌∷◌, ◌++◌, map, length, Bool, true, false, ◌&&◌, Option, Some}
+use Rattle.std.proofs.Common.{None, position, is_none, ok_or, OnOk, IfOk, IfErr, if◌then◌else◌, suc, replicate}
+use Rattle.std.proofs.Common.{append-nil, Global, String, Vec, Box, refl, sym, ap, ◌∙◌, arith}
 use Rattle.std.specs.List.{position_from}
 use Rattle.std.specs.Option.{option_map}
 use Rattle.std.specs.String.{string_bytes, string_eq}
 use Rattle.std.proofs.lemmas.Iterator.Adapters.{position_from-zero}
-use Rattle.syntax.specs.Tree.{Expr, Or, NoConj, OrConj, Conj, And, NoNeg, AndNeg, Neg, Plainly, Not, Cmp, Alone, Compare, Sum, Add, NoTerm, AddTerm, Prod, Multiply, NoFactor, MultiplyFactor, Unary, Positive, Negative, Atom, Element, lone_atom, atom_of_conj, atom_of_neg, atom_of_sum, atom_of_prod, atom_of_unary, Stmt, Skip, Var, Assign, Store, Print, Fault, If, IfElse, While, Split, Call, Async, Finish, Block, End, Then}
+use Rattle.syntax.specs.Tree.{Expr, Or, NoConj, OrConj, Conj, And, NoNeg, AndNeg, Neg, Plainly, Not, Cmp, Alone}
+use Rattle.syntax.specs.Tree.{Compare, Sum, Add, NoTerm, AddTerm, Prod, Multiply, NoFactor, MultiplyFactor, Unary}
+use Rattle.syntax.specs.Tree.{Positive, Negative, Atom, Element, lone_atom, atom_of_conj, atom_of_neg, atom_of_sum}
+use Rattle.syntax.specs.Tree.{atom_of_prod, atom_of_unary, Stmt, Skip, Var, Assign, Store, Print, Fault, If, IfElse}
+use Rattle.syntax.specs.Tree.{While, Split, Call, Async, Finish, Block, End, Then}
 use Rattle.syntax.specs.Tree as tree
 use Rattle.syntax.specs.declared.tree.Array.{Array as Declared}
 use Rattle.syntax.specs.declared.tree.Expr.{Expr as rExpr}
@@ -16,7 +22,9 @@ use Rattle.types.specs.Translation.{codes}
 use Rattle.types.specs.Translation as plain
 use Rattle.types.specs.declared.code.Stmt.{Stmt as Resolved}
 use Rattle.types.specs.declared.error.TypeError.TheVariants.{NotInScope}
-use Rattle.types.specs.Resolution.{Scope, Meant, ASection, meant, section_or_0, section_of, number, number_conj, number_neg, number_cmp, number_sum, number_prod, number_unary, number_atom, labels, labels_in, slots, slots_in, sides, sides_in, inside, behind}
+use Rattle.types.specs.Resolution.{Scope, Meant, ASection, meant, section_or_0, section_of, number, number_conj}
+use Rattle.types.specs.Resolution.{number_neg, number_cmp, number_sum, number_prod, number_unary, number_atom, labels}
+use Rattle.types.specs.Resolution.{labels_in, slots, slots_in, sides, sides_in, inside, behind}
 use Rattle.types.specs.Resolution as resolution
 use Rattle.types.specs.Rules.{is_unknown, is_served_statement, is_served_block}
 use Rattle.types.specs.ArrayScope.{numbered, place, place_among, lone}

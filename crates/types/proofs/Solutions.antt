@@ -2,10 +2,14 @@
 use Rattle.std.proofs.Common.{◌≡◌, ℕ, zero, suc, ◌+◌, ◌<◌, ◌≤◌, Ok, Err, refl, sym, ap, ◌∙◌, arith, le_refl}
 use Rattle.std.specs.Prelude.{ℤ, Bool, true, false, map, ok_or}
 use Rattle.types.specs.declared.fault.FaultKind.TheVariants.{SplitPoint}
-use Rattle.types.specs.Code.{Primitive, Skip, Assign, Store, Print, Raise, Code, Do, If, While, Split, Call, Async, Finish, Codes, End, Then, Program}
+use Rattle.types.specs.Code.{Primitive, Skip, Assign, Store, Print, Raise, Code, Do, If, While, Split, Call, Async}
+use Rattle.types.specs.Code.{Finish, Codes, End, Then, Program}
 use Rattle.types.specs.Place.{Place, sides_of}
 use Rattle.types.specs.Value.{Valued, element_of, holds_number}
-use Rattle.types.specs.Run.{Flow, On, Faulted, Stopped, State, Work, Block, Turn, at_flow, go_on, spend, with_step, with_value, number_at, numbers_at, truth_at, window_at, assign, print, put, choose, entry, with_sides, array_of, procedure_of, Rules, primitive, counted, act, block, work, within, run}
+use Rattle.types.specs.Run.{Flow, On, Faulted, Stopped, State, Work, Block, Turn, at_flow, go_on, spend, with_step}
+use Rattle.types.specs.Run.{with_value, number_at, numbers_at, truth_at, window_at, assign, print, put, choose, entry}
+use Rattle.types.specs.Run.{with_sides, array_of, procedure_of, Rules, primitive, counted, act, block, work, within}
+use Rattle.types.specs.Run.{run}
 use Rattle.types.specs.Laws.{IsThrifty, Solves, IsOnly}
 
 module _ {X : Type 0} where
@@ -150,13 +154,16 @@ module _ (p : Program) {X : Type 0} (r : Rules X) (thrifty : IsThrifty r) where
       act_agree (Do s) l st lt = refl
       act_agree (If t b c) l st lt =
           value_agree l (truth_at st t) _ _ st
-          (λ v. choose_agree v (block p r d b) (block p r e b) (block p r d c) st (block p r e c) (block_agree b st (omega (arith, lt))) (block_agree c st (omega (arith, lt))))
+          (λ v. choose_agree v (block p r d b) (block p r e b) (block p r d c) st (block p r e c)
+          (block_agree b st (omega (arith, lt))) (block_agree c st (omega (arith, lt))))
       act_agree (While t b) l st lt =
           let out = block p r d b st in
           let i = block_less d less b st in
           value_agree l (truth_at st t) _ _ st (λ v.
-          choose_agree v (λ s. go_on (d (Turn l t b)) (block p r d b s)) (λ s. go_on (e (Turn l t b)) (block p r e b s)) (λ s. s) st (λ s. s)
-          (then_agree out (block p r e b st) (d (Turn l t b)) (e (Turn l t b)) (block_agree b st (omega (arith, lt))) (agree (Turn l t b) out (omega (arith, i, lt)))) refl)
+          choose_agree v (λ s. go_on (d (Turn l t b)) (block p r d b s)) (λ s. go_on (e (Turn l t b)) (block p r e b s))
+          (λ s. s) st (λ s. s)
+          (then_agree out (block p r e b st) (d (Turn l t b)) (e (Turn l t b)) (block_agree b st (omega (arith, lt)))
+          (agree (Turn l t b) out (omega (arith, i, lt)))) refl)
       act_agree (Split s x left right b) l st lt =
           value_agree l (number_at st x) _ _ st (λ v. value_agree l (ok_or (sides_of (window_at st s) v) SplitPoint) _ _ st (λ ws.
           block_agree b (record st { environment = with_sides left right ws st.environment }) (omega (arith, lt))))

@@ -3,11 +3,15 @@ use Rattle.std.proofs.Common.{◌≡◌, ℕ, List, Ok, Err, refl, ap, ◌∙◌
 use Rattle.std.specs.Prelude.{ℤ, ◌⊎◌, Bool, true, false, map, ok_or}
 use Rattle.types.specs.declared.fault.FaultKind.{FaultKind}
 use Rattle.types.specs.declared.fault.FaultKind.TheVariants.{SplitPoint, Raised}
-use Rattle.types.specs.Code.{Primitive, Skip, Assign, Store, Print, Raise, Code, Do, If, While, Split, Call, Async, Finish, Codes, End, Then, Program}
+use Rattle.types.specs.Code.{Primitive, Skip, Assign, Store, Print, Raise, Code, Do, If, While, Split, Call, Async}
+use Rattle.types.specs.Code.{Finish, Codes, End, Then, Program}
 use Rattle.types.specs.Place.{Place, sides_of}
 use Rattle.types.specs.Contents.{Contents, read, write}
 use Rattle.types.specs.Value.{Environment, Valued, element_of, holds_number, number, numbers, truth}
-use Rattle.types.specs.Run.{Flow, On, Faulted, Stopped, State, Work, Block, Turn, at_flow, go_on, with_step, fault, with_value, number_at, numbers_at, truth_at, window_at, assign, print, put, choose, in_environment, entry, with_sides, bind, array_of, procedure_of, Rules, primitive, counted, act, block, work}
+use Rattle.types.specs.Run.{Flow, On, Faulted, Stopped, State, Work, Block, Turn, at_flow, go_on, with_step, fault}
+use Rattle.types.specs.Run.{with_value, number_at, numbers_at, truth_at, window_at, assign, print, put, choose}
+use Rattle.types.specs.Run.{in_environment, entry, with_sides, bind, array_of, procedure_of, Rules, primitive, counted}
+use Rattle.types.specs.Run.{act, block, work}
 
 -- one of two, where the equation may begin elsewhere
 pub begin_at : {L A : Type 0} {a b c : A} → a ≡ b → L ⊎ (b ≡ c) → L ⊎ (a ≡ c)
@@ -42,7 +46,8 @@ module _ {I X Y : Type 0} (v : I → State X → State Y) (Lost : State X → Ty
     pub lost : (st : State X) (go : State X → State X) → Lost st → Lost (go_on go st)
     pub lost_moved : (st : State X) (env : Environment) → Lost st → Lost (record st { environment = env })
 
-module _ (p : Program) {I X Y : Type 0} (r : Rules X) (s : Rules Y) (v : I → State X → State Y) (Lost : State X → Type 0) (view : IsView v Lost r s) where
+module _ (p : Program) {I X Y : Type 0} (r : Rules X) (s : Rules Y) (v : I → State X → State Y)
+    (Lost : State X → Type 0) (view : IsView v Lost r s) where
   -- what is evaluated is the same
   same_reading : {A : Type 0} (i : I) (f : Environment → Contents → A) (st : State X)
       → f (v i st).environment (v i st).store ≡ f st.environment st.store
@@ -80,7 +85,8 @@ module _ (p : Program) {I X Y : Type 0} (r : Rules X) (s : Rules Y) (v : I → S
 
   assign_follows : (x : ℕ) (n : ℤ) → Follows v Lost (assign x n) (assign x n)
   assign_follows x n i st =
-      inr (ap (λ env. record (v i st) { environment = record env { scalars = bind x n env.scalars } }) (view.environment i st) ∙ view.moved i st _)
+      inr (ap (λ env. record (v i st) { environment = record env { scalars = bind x n env.scalars } })
+      (view.environment i st) ∙ view.moved i st _)
 
   choose_follows : (i : I) (b : Bool) (f g : State X → State X) (h k : State Y → State Y) (st : State X)
       → FollowsAt v Lost i st f h → FollowsAt v Lost i st g k → FollowsAt v Lost i st (choose f g b) (choose h k b)
@@ -140,12 +146,14 @@ module _ (p : Program) {I X Y : Type 0} (r : Rules X) (s : Rules Y) (v : I → S
       act_follows (Do c) l i st = primitive_follows l c i st
       act_follows (If t b c) l i st =
           value_follows i l (truth_at st t) (truth_at (v i st) t) (same_reading i (λ env c. truth env (read c) t) st) _ _ st (λ x.
-          choose_follows i x (block p r d b) (block p r d c) (block p s e b) (block p s e c) st (block_follows b i st) (block_follows c i st))
+          choose_follows i x (block p r d b) (block p r d c) (block p s e b) (block p s e c) st (block_follows b i st)
+          (block_follows c i st))
       act_follows (While t b) l i st =
           value_follows i l (truth_at st t) (truth_at (v i st) t) (same_reading i (λ env c. truth env (read c) t) st) _ _ st (λ x.
           choose_follows i x (λ st. go_on (d (Turn l t b)) (block p r d b st)) (λ st. st)
           (λ st. go_on (e (Turn l t b)) (block p s e b st)) (λ st. st) st
-          (after_follows i (block p r d b) (d (Turn l t b)) (block p s e b) (e (Turn l t b)) st (block_follows b i st) (deeper (Turn l t b)))
+          (after_follows i (block p r d b) (d (Turn l t b)) (block p s e b) (e (Turn l t b)) st (block_follows b i st)
+          (deeper (Turn l t b)))
           (inr refl))
       act_follows (Split sec n x y b) l i st =
           value_follows i l (number_at st n) (number_at (v i st) n) (same_reading i (λ env c. number env (read c) n) st) _ _ st (λ k.
@@ -156,8 +164,10 @@ module _ (p : Program) {I X Y : Type 0} (r : Rules X) (s : Rules Y) (v : I → S
           (block_follows b i (record st { environment = with_sides x y ws st.environment }))))
       act_follows (Call f es ss) l i st =
           value_follows i l (numbers_at st es) (numbers_at (v i st) es) (same_reading i (λ env c. numbers env (read c) es) st) _ _ st (λ vs.
-          begin_at (ap (λ env. in_environment (entry vs (map env.windows ss)) (e (Block (procedure_of p f).body)) (v i st)) (view.environment i st))
-          (environment_follows (entry vs (map (window_at st) ss)) (d (Block (procedure_of p f).body)) (e (Block (procedure_of p f).body)) (deeper (Block (procedure_of p f).body)) i st))
+          begin_at (ap (λ env. in_environment (entry vs (map env.windows ss)) (e (Block (procedure_of p f).body))
+          (v i st)) (view.environment i st))
+          (environment_follows (entry vs (map (window_at st) ss)) (d (Block (procedure_of p f).body))
+          (e (Block (procedure_of p f).body)) (deeper (Block (procedure_of p f).body)) i st))
       act_follows (Async b) l i st = view.begin b i st
       act_follows (Finish b) l i st = view.finish (block p r d b) (block p s e b) (block_follows b) i st
 

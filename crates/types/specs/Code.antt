@@ -1,4 +1,5 @@
--- A program with its names resolved: scalars are slots of their procedure's frame, sections are numbers of their procedure, arrays and procedures are numbers of the program.
+-- A program with its names resolved: scalars are slots of their procedure's frame, sections are numbers of their
+-- procedure, arrays and procedures are numbers of the program.
 use Rattle.std.specs.Prelude.{ℕ, ℤ, Bool, List}
 use Rattle.syntax.specs.declared.tree.ElementType.{ElementType}
 use Rattle.syntax.specs.declared.tree.Relation.{Relation}

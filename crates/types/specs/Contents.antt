@@ -1,5 +1,6 @@
 -- The number at each place, and the lists of numbers that show it.
-use Rattle.std.specs.Prelude.{ℕ, zero, suc, ◌+◌, ◌≡◌, List, [], ◌∷◌, length, ℤ, pos, Option, Some, unwrap_or, slice_get, slice_index_or, if◌then◌else◌}
+use Rattle.std.specs.Prelude.{ℕ, zero, suc, ◌+◌, ◌≡◌, List, [], ◌∷◌, length, ℤ, pos, Option, Some, unwrap_or, slice_get}
+use Rattle.std.specs.Prelude.{slice_index_or, if◌then◌else◌}
 use Rattle.types.specs.Code.{Array}
 use Rattle.types.specs.Place.{Place, same_place}
 
@@ -36,4 +37,5 @@ shown arrays c = rows c 0 arrays
 -- one list for each array, with a number for each element
 pub data FitsArrays : List Array → List (List ℤ) → Type 0 where
   no_more : FitsArrays [] []
-  also : {x : Array} {xs : List Array} {row : List ℤ} {rows : List (List ℤ)} → length row ≡ x.length → FitsArrays xs rows → FitsArrays (x ∷ xs) (row ∷ rows)
+  also : {x : Array} {xs : List Array} {row : List ℤ} {rows : List (List ℤ)} → length row ≡ x.length
+      → FitsArrays xs rows → FitsArrays (x ∷ xs) (row ∷ rows)

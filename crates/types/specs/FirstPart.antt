@@ -1,7 +1,8 @@
 -- The first part of the language: whole arrays, literals, asyncs and finishes.
 use Rattle.std.specs.Prelude.{ℕ, ◌+◌, Bool, true, false, ◌&&◌, ℤ, pos, negsuc, nat_lt, nat_le}
 use Rattle.std.specs.List.{list_all}
-use Rattle.types.specs.Code.{Number, Literal, Element, Primitive, Skip, Store, Print, Code, Do, If, While, Split, Call, Async, Finish, Codes, End, Then, Program}
+use Rattle.types.specs.Code.{Number, Literal, Element, Primitive, Skip, Store, Print, Code, Do, If, While, Split, Call}
+use Rattle.types.specs.Code.{Async, Finish, Codes, End, Then, Program}
 use Rattle.types.specs.Run.{array_of}
 use Rattle.types.specs.Value.{holds_number}
 

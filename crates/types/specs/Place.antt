@@ -1,5 +1,6 @@
 -- Places of arrays, and windows, which are rows of places.
-use Rattle.std.specs.Prelude.{ℕ, ◌+◌, ◌-◌, ◌<◌, ◌≤◌, ◌≡◌, ℤ, pos, negsuc, Bool, ◌&&◌, nat_eq, nat_lt, nat_le, Option, Some, None, if◌then◌else◌}
+use Rattle.std.specs.Prelude.{ℕ, ◌+◌, ◌-◌, ◌<◌, ◌≤◌, ◌≡◌, ℤ, pos, negsuc, Bool, ◌&&◌, nat_eq, nat_lt, nat_le, Option}
+use Rattle.std.specs.Prelude.{Some, None, if◌then◌else◌}
 
 -- the element at an index of an array
 pub record Place : Type 0 where

@@ -1,14 +1,27 @@
 -- The code of a program: what its names mean, and which label each statement has.
-use Rattle.std.specs.Prelude.{ℕ, ◌+◌, List, [], ◌∷◌, ◌++◌, map, length, replicate, true, false, pos, Option, Some, None, option_map, nat_eq, if◌then◌else◌}
+use Rattle.std.specs.Prelude.{ℕ, ◌+◌, List, [], ◌∷◌, ◌++◌, map, length, replicate, true, false, pos, Option, Some, None}
+use Rattle.std.specs.Prelude.{option_map, nat_eq, if◌then◌else◌}
 use Rattle.std.specs.Cmp.Lexicographic.{pointwise}
 use Rattle.syntax.specs.declared.tree.Sign.{Sign}
 use Rattle.syntax.specs.declared.tree.Sign.TheVariants.{Plus as SignPlus, Minus as SignMinus}
 use Rattle.syntax.specs.declared.tree.Operator.{Operator as Factored}
 use Rattle.syntax.specs.declared.tree.Operator.TheVariants.{Times as ByTimes, Over as ByOver, Modulo as ByModulo}
-use Rattle.syntax.specs.Tree.{Expr, Or, Conjs, NoConj, OrConj, Conj, And, Negs, NoNeg, AndNeg, Neg, Plainly, Not as Denied, Cmp, Alone, Compare as Compared, Sum, Add, Terms, NoTerm, AddTerm, Prod, Multiply, Factors, NoFactor, MultiplyFactor, Unary, Positive, Negative as Minus_of, Atom, Number as Numeral, True, False, Name, Element as Element_of, Length as Length_of, Parens, Stmt, Skip as Skips, Var, Assign as Assigns, Store as Stores, Print as Prints, Fault as Faults, If as Ifs, IfElse, While as Whiles, Split as Splits, Call as Calls, Async as Asyncs, Finish as Finishes, Block, End as Ends, Then as Thens, Array as DeclaredArray, Parameter as DeclaredParameter, Written, Read, Scalar as ScalarParameter, Procedure as DeclaredProcedure, Main, Program as Text, lone_atom}
+use Rattle.syntax.specs.Tree.{Expr, Or, Conjs, NoConj, OrConj, Conj, And, Negs, NoNeg, AndNeg, Neg, Plainly}
+use Rattle.syntax.specs.Tree.{Not as Denied, Cmp, Alone, Compare as Compared, Sum, Add, Terms, NoTerm, AddTerm, Prod}
+use Rattle.syntax.specs.Tree.{Multiply, Factors, NoFactor, MultiplyFactor, Unary, Positive, Negative as Minus_of, Atom}
+use Rattle.syntax.specs.Tree.{Number as Numeral, True, False, Name, Element as Element_of, Length as Length_of, Parens}
+use Rattle.syntax.specs.Tree.{Stmt, Skip as Skips, Var, Assign as Assigns, Store as Stores, Print as Prints}
+use Rattle.syntax.specs.Tree.{Fault as Faults, If as Ifs, IfElse, While as Whiles, Split as Splits, Call as Calls}
+use Rattle.syntax.specs.Tree.{Async as Asyncs, Finish as Finishes, Block, End as Ends, Then as Thens}
+use Rattle.syntax.specs.Tree.{Array as DeclaredArray, Parameter as DeclaredParameter, Written, Read}
+use Rattle.syntax.specs.Tree.{Scalar as ScalarParameter, Procedure as DeclaredProcedure, Main, Program as Text}
+use Rattle.syntax.specs.Tree.{lone_atom}
 use Rattle.types.specs.declared.code.Operator.{Operator}
 use Rattle.types.specs.declared.code.Operator.TheVariants.{Plus, Minus, Times, Over, Modulo}
-use Rattle.types.specs.Code.{Number, Literal, Scalar, Element, Length, Negative, Chain, Links, Done, Link, Truth, Constant, Compare, Not, Both, Either, Truths, NoMore, Also, Skip, Assign, Store, Print, Raise, Code, Do, If, While, Split, Call, Async, Finish, Codes, End, Then, Origin, Root, Left, Right, Array, Parameter, Procedure, Program}
+use Rattle.types.specs.Code.{Number, Literal, Scalar, Element, Length, Negative, Chain, Links, Done, Link, Truth}
+use Rattle.types.specs.Code.{Constant, Compare, Not, Both, Either, Truths, NoMore, Also, Skip, Assign, Store, Print}
+use Rattle.types.specs.Code.{Raise, Code, Do, If, While, Split, Call, Async, Finish, Codes, End, Then, Origin, Root}
+use Rattle.types.specs.Code.{Left, Right, Array, Parameter, Procedure, Program}
 
 -- what a name means
 pub data Meant : Type 0 where

@@ -1,7 +1,9 @@
 -- Which rules a program breaks, and which programs are served so far.
-use Rattle.std.specs.Prelude.{ℕ, ◌+◌, ◌<◌, ◌≡◌, ◌^◌, List, [], ◌∷◌, Bool, true, false, ◌&&◌, ◌||◌, Option, Some, None, is_none, length, slice_get, sum_by, nat_eq, nat_lt, IsTrue}
+use Rattle.std.specs.Prelude.{ℕ, ◌+◌, ◌<◌, ◌≡◌, ◌^◌, List, [], ◌∷◌, Bool, true, false, ◌&&◌, ◌||◌, Option, Some, None}
+use Rattle.std.specs.Prelude.{is_none, length, slice_get, sum_by, nat_eq, nat_lt, IsTrue}
 use Rattle.std.specs.List.{list_all, list_any}
-use Rattle.syntax.specs.Tree.{Expr, Atom, Number, Element, Stmt, Skip, Store, Print, If, IfElse, While, Split, Async, Finish, Block, End, Then, Array, Procedure, Main, Program, lone_atom}
+use Rattle.syntax.specs.Tree.{Expr, Atom, Number, Element, Stmt, Skip, Store, Print, If, IfElse, While, Split, Async}
+use Rattle.syntax.specs.Tree.{Finish, Block, End, Then, Array, Procedure, Main, Program, lone_atom}
 use Rattle.types.specs.Resolution.{Scope, meant, labels, labels_before, inside, past, between, behind, in_procedure, in_main}
 use Rattle.types.specs.declared.check.TheConstants.{MOST_ARRAYS, MOST_LABELS}
 use Rattle.types.specs.declared.window.TheConstants.{MOST_ELEMENTS}

@@ -3,7 +3,8 @@ use Rattle.std.specs.Prelude.{ℕ, ◌+◌, ◌<◌, ◌≡◌, List, Option, fa
 use Rattle.std.specs.List.{list_all, list_any}
 use Rattle.syntax.specs.Tree.{Expr, Atom, Stmt, Block, Array, lone_atom}
 use Rattle.types.specs.Resolution.{Scope, labels}
-use Rattle.types.specs.Rules.{Stands, HasNameTwice, TooMany, is_unknown, atom_unknown, item_unknown, names_unknown, is_printed, is_item, is_served_block}
+use Rattle.types.specs.Rules.{Stands, HasNameTwice, TooMany, is_unknown, atom_unknown, item_unknown, names_unknown}
+use Rattle.types.specs.Rules.{is_printed, is_item, is_served_block}
 use Rattle.types.specs.declared.check.TheConstants.{MOST_LABELS}
 use Rattle.types.specs.declared.error.TypeError.{TypeError}
 use Rattle.types.specs.declared.error.TypeError.TheVariants.{NotInScope, DeclaredTwice, NoMain, OverLimit, OutOfMemory, NotYet}

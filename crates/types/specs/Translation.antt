@@ -1,20 +1,27 @@
 -- The Rust types as plain trees, without what says where they lie in memory.
 use Rattle.std.specs.Prelude.{ℤ, List, [], ◌∷◌, map, pos}
 use Rattle.std.specs.String.{string_bytes}
-use Rattle.types.specs.Code.{Number, Literal, Scalar, Element, Length, Negative, Chain, Links, Done, Link, Truth, Constant, Compare, Not, Both, Either, Truths, NoMore, Also, Primitive, Skip, Assign, Store, Print, Raise, Code, Do, If, While, Split, Call, Async, Finish, Codes, End, Then, Origin, Root, Left, Right, Array, Parameter, Procedure, Program}
+use Rattle.types.specs.Code.{Number, Literal, Scalar, Element, Length, Negative, Chain, Links, Done, Link, Truth}
+use Rattle.types.specs.Code.{Constant, Compare, Not, Both, Either, Truths, NoMore, Also, Primitive, Skip, Assign, Store}
+use Rattle.types.specs.Code.{Print, Raise, Code, Do, If, While, Split, Call, Async, Finish, Codes, End, Then, Origin}
+use Rattle.types.specs.Code.{Root, Left, Right, Array, Parameter, Procedure, Program}
 use Rattle.types.specs.Place.{Window, nowhere}
 use Rattle.types.specs.Value.{Environment}
 use Rattle.types.specs.Run.{Fault, by_number}
 use Rattle.types.specs.Outcome.{Budget, Outcome, Ended, Halted}
 use Rattle.types.specs.declared.code.Number.{Number as rNumber, Row_of-Link, end_of-Link, more_of-Link}
-use Rattle.types.specs.declared.code.Number.TheVariants.{Literal as rLiteral, Scalar as rScalar, Element' as rElement, Length as rLength, Negative' as rNegative, Chain' as rChain}
+use Rattle.types.specs.declared.code.Number.TheVariants.{Literal as rLiteral, Scalar as rScalar, Element' as rElement}
+use Rattle.types.specs.declared.code.Number.TheVariants.{Length as rLength, Negative' as rNegative, Chain' as rChain}
 use Rattle.types.specs.declared.code.Truth.{Truth as rTruth, Row_of-Truth, end_of-Truth, more_of-Truth}
-use Rattle.types.specs.declared.code.Truth.TheVariants.{Constant as rConstant, Compare as rCompare, Not' as rNot, Both' as rBoth, Either' as rEither}
+use Rattle.types.specs.declared.code.Truth.TheVariants.{Constant as rConstant, Compare as rCompare, Not' as rNot}
+use Rattle.types.specs.declared.code.Truth.TheVariants.{Both' as rBoth, Either' as rEither}
 use Rattle.types.specs.declared.code.Primitive.{Primitive as rPrimitive}
-use Rattle.types.specs.declared.code.Primitive.TheVariants.{Skip as rSkip, Assign as rAssign, Store as rStore, Print as rPrint, Fault as rRaise}
+use Rattle.types.specs.declared.code.Primitive.TheVariants.{Skip as rSkip, Assign as rAssign, Store as rStore}
+use Rattle.types.specs.declared.code.Primitive.TheVariants.{Print as rPrint, Fault as rRaise}
 use Rattle.types.specs.declared.code.Stmt.{Stmt}
 use Rattle.types.specs.declared.code.StmtKind.{StmtKind, Row_of-Stmt, end_of-Stmt, more_of-Stmt}
-use Rattle.types.specs.declared.code.StmtKind.TheVariants.{Do as rDo, If' as rIf, While' as rWhile, Split' as rSplit, Call as rCall, Async' as rAsync, Finish' as rFinish}
+use Rattle.types.specs.declared.code.StmtKind.TheVariants.{Do as rDo, If' as rIf, While' as rWhile, Split' as rSplit}
+use Rattle.types.specs.declared.code.StmtKind.TheVariants.{Call as rCall, Async' as rAsync, Finish' as rFinish}
 use Rattle.types.specs.declared.code.Origin.{Origin as rOrigin}
 use Rattle.types.specs.declared.code.Origin.TheVariants.{Root as rRoot, Left as rLeft, Right as rRight}
 use Rattle.types.specs.declared.code.Array.{Array as rArray}

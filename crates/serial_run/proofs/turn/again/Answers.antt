@@ -31,7 +31,8 @@ returns-then-takes_step-clause-meaning c =
     on_ok_weaker c.turn_loop.result
     (λ e. e
     ∙ ap (λ (t : Thread). resume p fresh c.args.frames.now.items (acted p fresh c.args.label (While guard body) (standing t))) step.same
-    ∙ again_on_top p fresh c.args.frames.now.items c.args.label guard body c.takes_step.new.self.steps (standing c.args.thread.now) (ap flow step.on) step.less)
+    ∙ again_on_top p fresh c.args.frames.now.items c.args.label guard body c.takes_step.new.self.steps
+    (standing c.args.thread.now) (ap flow step.on) step.less)
     c.turn_loop.ensures.meaning
 
 pub returns-then-takes_step-clause-lengths : goal.returns-then-takes_step-clause-lengths

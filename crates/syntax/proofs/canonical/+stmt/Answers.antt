@@ -11,7 +11,9 @@ use Rattle.syntax.specs.Token.{WordToken, MarkToken}
 use Rattle.syntax.specs.Tree.{If, IfElse, While, Split, Async, Finish, Then, expr, stmt, block}
 use Rattle.syntax.specs.Writing.{place, with_rest}
 use Rattle.syntax.proofs.ExpressionText.{ok_then, ok_map3, pushed}
-use Rattle.syntax.proofs.LineText.{wrote, wrote_adds, wrote_text, counted_by, stmt_begins, block_is_line, opened, closed, laid_If, laid_IfElse, laid_Else, laid_While, laid_Split, laid_Async, laid_Finish, laid_end}
+use Rattle.syntax.proofs.LineText.{wrote, wrote_adds, wrote_text, counted_by, stmt_begins, block_is_line, opened}
+use Rattle.syntax.proofs.LineText.{closed, laid_If, laid_IfElse, laid_Else, laid_While, laid_Split, laid_Async}
+use Rattle.syntax.proofs.LineText.{laid_Finish, laid_end}
 use Rattle.syntax.proofs.RowLemmas.{stmt_If, stmt_IfElse, stmt_While, stmt_Split, stmt_Async, stmt_Finish}
 use Rattle.syntax.proofs.StatementKinds.{simple_is_left}
 use Rattle.syntax.proofs.canonical.+stmt.Goals as goal
@@ -24,7 +26,8 @@ block-returns-clause-written t c =
     let body = block c.args.body.now in
     ok_map3 c.close.result c.close.ensures.text c.close.ensures.depth c.close.ensures.label (λ text depth label r.
     wrote old inside Other Margin _ _ (codes " {\n") (old.depth + 1) old.label
-    c.in_ok-open.ensures.text c.in_ok-open.ensures.depth c.in_ok-open.ensures.label (opened old.depth old.label (block_then body r) (block_is_line body r))
+    c.in_ok-open.ensures.text c.in_ok-open.ensures.depth c.in_ok-open.ensures.label
+    (opened old.depth old.label (block_then body r) (block_is_line body r))
     ∙ c.in_ok-statements.ensures.written r
     ∙ wrote behind c.close.new.self Margin Ended _ _ _ (behind.depth - 1) behind.label text depth label
     (closed behind.depth behind.label r))
@@ -36,46 +39,22 @@ line-simple-requires t c = record {
   counted = c.requires;
 }
 
-pub line-returns-in-None-clause-written : goal.line-returns-in-None-clause-written
-line-returns-in-None-clause-written t c = λ r.
+pub line-returns-in-If-clause-written : goal.line-returns-in-If-clause-written
+line-returns-in-If-clause-written t c =
     let old = c.args.lines.now in
-    let e = expr c.in-If.guard in
-    let body = block c.deref.result.now in
-    let is = ap stmt (c.in-If.is ∙ ap (rIf c.in-If.guard c.in-If.body) c.in-None.is) ∙ stmt_If c.in-If.guard c.in-If.body
-    ∙ ap (λ v. If e (block v)) (sym c.deref.ensures.value) in
-    ap (λ s. with_rest old Opening (stmt_then s r)) is
-    ∙ wrote_adds old c.header.new.lines Opening Other _ _ _ c.in_ok-header-in-If.ensures (laid_If (place old Opening) e body r)
-    ∙ c.in_ok-block-in-If.ensures.written r
-
-pub line-returns-in_ok-push_str-in-Some-clause-written : goal.line-returns-in_ok-push_str-in-Some-clause-written
-line-returns-in_ok-push_str-in-Some-clause-written t c =
-    let old = c.args.lines.now in
-    let between = c.block.new.lines in
-    let e = expr c.in-If.guard in
-    let body = block c.deref.result.now in
-    let other = block c.deref-in-Some.result.now in
-    let is = ap stmt (c.in-If.is ∙ ap (rIf c.in-If.guard c.in-If.body) c.in-Some.is)
-    ∙ stmt_IfElse c.in-If.guard c.in-If.body c.in-Some.other
-    ∙ ap (λ v. IfElse e (block v) (block c.in-Some.other.items)) (sym c.deref.ensures.value)
-    ∙ ap (λ v. IfElse e body (block v)) (sym c.deref-in-Some.ensures.value) in
-    ok_then c.block-in-Some.result c.block-in-Some.ensures.written (λ written r.
-    ap (λ s. with_rest old Opening (stmt_then s r)) is
-    ∙ wrote_adds old c.header.new.lines Opening Other _ _ _ c.in_ok-header-in-If.ensures (laid_IfElse (place old Opening) e body other r)
-    ∙ c.in_ok-block-in-If.ensures.written (WordToken WordElse ∷ MarkToken LeftBrace ∷ block_then other r)
-    ∙ wrote_text between c.push_str.new.self Ended Other _ _ (codes " else") c.in_ok-push_str-in-Some.ensures.bytes (laid_Else
-    (place between Ended) (block_then other r))
-    ∙ written r)
+    ok_then c.conditional.result c.conditional.ensures.written (λ written r.
+    ap (λ s. with_rest old Opening (stmt_then (stmt s) r)) c.in-If.is ∙ written r)
 
 pub line-returns-in_ok-header-in-While-clause-written : goal.line-returns-in_ok-header-in-While-clause-written
 line-returns-in_ok-header-in-While-clause-written t c =
     let old = c.args.lines.now in
     let e = expr c.in-While.guard in
-    let body = block c.deref-in-While.result.now in
+    let body = block c.deref.result.now in
     let is = ap stmt c.in-While.is ∙ stmt_While c.in-While.guard c.in-While.body
-    ∙ ap (λ v. While e (block v)) (sym c.deref-in-While.ensures.value) in
-    ok_then c.block-in-While.result c.block-in-While.ensures.written (λ written r.
+    ∙ ap (λ v. While e (block v)) (sym c.deref.ensures.value) in
+    ok_then c.block.result c.block.ensures.written (λ written r.
     ap (λ s. with_rest old Opening (stmt_then s r)) is
-    ∙ wrote_adds old c.header-in-While.new.lines Opening Other _ _ _ c.in_ok-header-in-While.ensures (laid_While
+    ∙ wrote_adds old c.header.new.lines Opening Other _ _ _ c.in_ok-header-in-While.ensures (laid_While
     (place old Opening) e body r)
     ∙ written r)
 
@@ -101,7 +80,7 @@ line-returns-in_ok-push_str-in-Async-clause-written t c =
     let is = ap stmt c.in-Async.is ∙ stmt_Async c.in-Async.body ∙ ap (λ v. Async (block v)) (sym c.deref-in-Async.ensures.value) in
     ok_then c.block-in-Async.result c.block-in-Async.ensures.written (λ written r.
     ap (λ s. with_rest old Opening (stmt_then s r)) is
-    ∙ wrote_text old c.push_str-in-Async.new.self Opening Other _ _ (codes "async") c.in_ok-push_str-in-Async.ensures.bytes (laid_Async
+    ∙ wrote_text old c.push_str.new.self Opening Other _ _ (codes "async") c.in_ok-push_str-in-Async.ensures.bytes (laid_Async
     (place old Opening) body r)
     ∙ written r)
 
@@ -127,6 +106,36 @@ line-returns-in_ok-simple-in_default t c =
       written = ok_then c.push.result added (λ text r. c.in_ok-simple-in_default.ensures.written r
           ∙ wrote_text old c.push.new.self Operand Ended _ _ (codes ";") text (laid_end (place old Operand) r));
     }
+
+pub conditional-returns-in-None-clause-written : goal.conditional-returns-in-None-clause-written
+conditional-returns-in-None-clause-written t c = λ r.
+    let old = c.args.lines.now in
+    let guard = c.args.guard.now in
+    let body = block c.deref.result.now in
+    let is = ap (λ o. stmt (rIf guard c.args.body.now o)) c.in-None.is ∙ stmt_If guard c.args.body.now
+    ∙ ap (λ v. If (expr guard) (block v)) (sym c.deref.ensures.value) in
+    ap (λ s. with_rest old Opening (stmt_then s r)) is
+    ∙ wrote_adds old c.header.new.lines Opening Other _ _ _ c.in_ok-header.ensures (laid_If (place old Opening) (expr guard) body r)
+    ∙ c.in_ok-block.ensures.written r
+
+pub conditional-returns-in_ok-push_str-in-Some-clause-written : goal.conditional-returns-in_ok-push_str-in-Some-clause-written
+conditional-returns-in_ok-push_str-in-Some-clause-written t c =
+    let old = c.args.lines.now in
+    let between = c.block.new.lines in
+    let guard = c.args.guard.now in
+    let e = expr guard in
+    let body = block c.deref.result.now in
+    let other = block c.deref-in-Some.result.now in
+    let is = ap (λ o. stmt (rIf guard c.args.body.now o)) c.in-Some.is ∙ stmt_IfElse guard c.args.body.now c.in-Some.other
+    ∙ ap (λ v. IfElse e (block v) (block c.in-Some.other.items)) (sym c.deref.ensures.value)
+    ∙ ap (λ v. IfElse e body (block v)) (sym c.deref-in-Some.ensures.value) in
+    ok_then c.block-in-Some.result c.block-in-Some.ensures.written (λ written r.
+    ap (λ s. with_rest old Opening (stmt_then s r)) is
+    ∙ wrote_adds old c.header.new.lines Opening Other _ _ _ c.in_ok-header.ensures (laid_IfElse (place old Opening) e body other r)
+    ∙ c.in_ok-block.ensures.written (WordToken WordElse ∷ MarkToken LeftBrace ∷ block_then other r)
+    ∙ wrote_text between c.push_str.new.self Ended Other _ _ (codes " else") c.in_ok-push_str-in-Some.ensures.bytes (laid_Else
+    (place between Ended) (block_then other r))
+    ∙ written r)
 
 pub statements-loop-statement-preserved : goal.statements-loop-statement-preserved
 unfolding block_then

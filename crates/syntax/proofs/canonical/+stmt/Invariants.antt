@@ -1,4 +1,6 @@
-use Rattle.std.proofs.Common.{◌≡◌, List, drop}
+use Rattle.std.proofs.Common.{◌≡◌, ◌+◌, ◌*◌, List, drop}
+use Rattle.syntax.proofs.tree.Stmt.TheLaws.{the_size}
+use Rattle.syntax.specs.declared.tree.Stmt.TheVariants.{If as rIf}
 use Rattle.syntax.specs.Canonical.{Margin}
 use Rattle.syntax.specs.Spelling.{block_then}
 use Rattle.syntax.specs.Token.{Token}
@@ -13,3 +15,17 @@ invariant-statements-loop-statement l = record {
   written : (r : List Token) → with_rest l.fn.lines Margin (block_then (block l.fn.body) r)
       ≡ with_rest l.lines Margin (block_then (block (drop l.statement-index l.body)) r);
 }
+
+-- By the depth of what is written; at one depth a block calls for its statements, those for a line each,
+-- and a line for a conditional.
+abbrev pub decreases-block : goal.decreases-block
+decreases-block l = 4 * goal.size-block l + 3
+
+abbrev pub decreases-statements : goal.decreases-statements
+decreases-statements l = 4 * goal.size-statements l + 2
+
+abbrev pub decreases-line : goal.decreases-line
+decreases-line l = 4 * goal.size-line l + 1
+
+abbrev pub decreases-conditional : goal.decreases-conditional
+decreases-conditional l = 4 * the_size (rIf l.guard.now l.body.now l.other.now)

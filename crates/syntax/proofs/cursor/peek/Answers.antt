@@ -4,7 +4,8 @@ use Rattle.syntax.specs.declared.token.Spanned.{Spanned}
 use Rattle.syntax.specs.Token.{Token, token, plain}
 use Rattle.syntax.proofs.cursor.peek.Goals as goal
 
-plain-first : (ts : List Spanned) (first : Spanned) → Some first ≡ slice_get ts 0 → (rest : List Token) × (plain ts ≡ token first.token ∷ rest)
+plain-first : (ts : List Spanned) (first : Spanned) → Some first ≡ slice_get ts 0
+    → (rest : List Token) × (plain ts ≡ token first.token ∷ rest)
 plain-first [] first is = cc
 plain-first (t ∷ ts) first is =
     let same : t ≡ first = cc in (plain ts, ap (λ s. token s.token ∷ plain ts) same)

@@ -9,7 +9,13 @@ use Rattle.syntax.specs.declared.tree.Prod.{out-Prod}
 use Rattle.syntax.specs.Canonical.{in_line}
 use Rattle.syntax.specs.Spelling.{expr_then, conj_then, neg_then, prod_then, unary_then, atom_then}
 use Rattle.syntax.specs.Tree.{expr, conj, neg, prod, unary, atom}
-use Rattle.syntax.proofs.ExpressionText.{then_adds, moved, all_moved, pushed, then_ok, called, conjs_text, conjs_text_more, conjs_text_none, negs_text, negs_text_more, negs_text_none, terms_text, terms_text_more, terms_text_none, factors_text, factors_text_more, factors_text_none, expr_text, conj_text, neg_text, cmp_text_alone, cmp_text_compared, sum_text, prod_text, unary_text, atom_text_Number, atom_text_True, atom_text_False, atom_text_Name, atom_text_Element, atom_text_Length, atom_text_Parens}
+use Rattle.syntax.proofs.ExpressionText.{then_adds, moved, all_moved, pushed, then_ok, called, conjs_text}
+use Rattle.syntax.proofs.ExpressionText.{conjs_text_more, conjs_text_none, negs_text, negs_text_more, negs_text_none}
+use Rattle.syntax.proofs.ExpressionText.{terms_text, terms_text_more, terms_text_none, factors_text, factors_text_more}
+use Rattle.syntax.proofs.ExpressionText.{factors_text_none, expr_text, conj_text, neg_text, cmp_text_alone}
+use Rattle.syntax.proofs.ExpressionText.{cmp_text_compared, sum_text, prod_text, unary_text, atom_text_Number}
+use Rattle.syntax.proofs.ExpressionText.{atom_text_True, atom_text_False, atom_text_Name, atom_text_Element}
+use Rattle.syntax.proofs.ExpressionText.{atom_text_Length, atom_text_Parens}
 use Rattle.syntax.proofs.expression_text.+expr.Goals as goal
 use Rattle.syntax.proofs.expression_text.+expr.Goals.{neg-then-e+in_ok-push_str, neg-else-e, unary-then-e+in_ok-push, unary-else-e}
 
@@ -82,7 +88,8 @@ pub cmp-returns-in_ok-push_str-in-Some : goal.cmp-returns-in_ok-push_str-in-Some
 cmp-returns-in_ok-push_str-in-Some t c =
     let old = string_bytes c.args.out.now in
     let between = string_bytes c.sum.new.out in
-    let mark = ◌∙◌ {b = between ++ c.relation.result.now} c.in_ok-push_str-in-Some.ensures.bytes (ap (λ l. between ++ l) c.relation.ensures) in
+    let mark = ◌∙◌ {b = between ++ c.relation.result.now} c.in_ok-push_str-in-Some.ensures.bytes
+    (ap (λ l. between ++ l) c.relation.ensures) in
     called _ old _ (then_ok _ old _ _ _ c.in_ok-sum.ensures (then_ok _ between _ _ _ mark c.sum-in-Some.ensures)) (cmp_text_compared
     c.args.e.now c.in-Some.compared c.in-Some.is)
 

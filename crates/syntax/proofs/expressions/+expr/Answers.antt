@@ -1,15 +1,23 @@
 use Rattle.std.proofs.Common.{◌∷◌, ◌∙◌, ap, sym, arith}
-use Rattle.syntax.specs.Spelling.{atom_then, unary_then, sum_then, conj_then, conjs_then, neg_then, negs_then, prod_then, terms_then, factors_then}
+use Rattle.syntax.specs.Spelling.{atom_then, unary_then, sum_then, conj_then, conjs_then, neg_then, negs_then}
+use Rattle.syntax.specs.Spelling.{prod_then, terms_then, factors_then}
 use Rattle.syntax.specs.Token.{MarkToken, token, plain}
 use Rattle.syntax.specs.Tree.{atom, sum, conj, neg, prod, unary, conjs, negs, terms, factors}
-use Rattle.syntax.proofs.ChainLemmas.{behind, expr_then_built, conj_then_built, neg_then_plain, neg_then_not, cmp_then_alone, cmp_then_compared, sum_then_built, prod_then_built, conjs_read, negs_read, terms_read, factors_read}
+use Rattle.syntax.proofs.ChainLemmas.{behind, expr_then_built, conj_then_built, neg_then_plain, neg_then_not}
+use Rattle.syntax.proofs.ChainLemmas.{cmp_then_alone, cmp_then_compared, sum_then_built, prod_then_built, conjs_read}
+use Rattle.syntax.proofs.ChainLemmas.{negs_read, terms_read, factors_read}
 use Rattle.syntax.proofs.ExprSpellings.{conjs_bind, negs_bind, terms_bind, factors_bind}
-use Rattle.syntax.proofs.RefusalLemmas.{passed_on, next, name_alone, name_indexed, marked_atom, expr_opened, conjs_opened, conjs_closed, conj_opened, negs_opened, negs_closed, neg_plain, neg_denied, cmp_opened, cmp_alone, cmp_compared_to, sum_opened, terms_opened, terms_closed, prod_opened, factors_opened, factors_closed, unary_plain, unary_signed}
+use Rattle.syntax.proofs.RefusalLemmas.{passed_on, next, name_alone, name_indexed, marked_atom, expr_opened}
+use Rattle.syntax.proofs.RefusalLemmas.{conjs_opened, conjs_closed, conj_opened, negs_opened, negs_closed, neg_plain}
+use Rattle.syntax.proofs.RefusalLemmas.{neg_denied, cmp_opened, cmp_alone, cmp_compared_to, sum_opened, terms_opened}
+use Rattle.syntax.proofs.RefusalLemmas.{terms_closed, prod_opened, factors_opened, factors_closed, unary_plain}
+use Rattle.syntax.proofs.RefusalLemmas.{unary_signed}
 use Rattle.syntax.proofs.expressions.+expr.Goals as goal
 
 pub atom-returns-in_ok-inner-in-Some-Mark-clause-spelled : goal.atom-returns-in_ok-inner-in-Some-Mark-clause-spelled
 unfolding atom_then atom
-atom-returns-in_ok-inner-in-Some-Mark-clause-spelled t c = c.in_ok-after-in-Some-Mark.ensures.found ∙ behind c.in_ok-inner-in-Some-Mark.ensures.spelled
+atom-returns-in_ok-inner-in-Some-Mark-clause-spelled t c =
+    c.in_ok-after-in-Some-Mark.ensures.found ∙ behind c.in_ok-inner-in-Some-Mark.ensures.spelled
 
 pub named-returns-in-None-clause-spelled : goal.named-returns-in-None-clause-spelled
 unfolding atom_then atom
@@ -60,14 +68,17 @@ pub expr-loop-after-init : goal.expr-loop-after-init
 unfolding conjs_then
 expr-loop-after-init t c = record {
   shorter = c.in_ok-first.ensures.shorter;
-  spelled = c.in_ok-first.ensures.spelled ∙ ap (λ l. conj_then (conj c.in_ok-first.first) (conjs_then (conjs l) (plain c.in_ok-first.left.now))) (sym c.new-rest.ensures.items);
+  spelled = c.in_ok-first.ensures.spelled
+      ∙ ap (λ l. conj_then (conj c.in_ok-first.first) (conjs_then (conjs l) (plain c.in_ok-first.left.now)))
+      (sym c.new-rest.ensures.items);
   whole = λ x all r ends spelled. (all, c.in_ok-first.ensures.whole x _ (conjs_bind all r ends) spelled);
 }
 
 pub expr-loop-after-preserved : goal.expr-loop-after-preserved
 expr-loop-after-preserved t c = record {
   shorter = omega (arith, c.loop-after.invariant.shorter, c.in-Some.ensures.shorter, c.in_ok-operand.ensures.shorter);
-  spelled = conjs_read _ _ _ _ _ _ _ _ c.loop-after.invariant.spelled c.in-Some.ensures.found c.in_ok-operand.ensures.spelled c.in_ok-push.ensures.items;
+  spelled = conjs_read _ _ _ _ _ _ _ _ c.loop-after.invariant.spelled c.in-Some.ensures.found
+      c.in_ok-operand.ensures.spelled c.in_ok-push.ensures.items;
   whole = λ x all r ends spelled.
       let end = c.loop-after.invariant.whole x all r ends spelled in
       let operand = conjs_opened end.0 _ r ends (sym c.in-Some.ensures.found ∙ end.1) in
@@ -78,14 +89,17 @@ pub conj-loop-after-init : goal.conj-loop-after-init
 unfolding negs_then
 conj-loop-after-init t c = record {
   shorter = c.in_ok-first.ensures.shorter;
-  spelled = c.in_ok-first.ensures.spelled ∙ ap (λ l. neg_then (neg c.in_ok-first.first) (negs_then (negs l) (plain c.in_ok-first.left.now))) (sym c.new-rest.ensures.items);
+  spelled = c.in_ok-first.ensures.spelled
+      ∙ ap (λ l. neg_then (neg c.in_ok-first.first) (negs_then (negs l) (plain c.in_ok-first.left.now)))
+      (sym c.new-rest.ensures.items);
   whole = λ x all r ends spelled. (all, c.in_ok-first.ensures.whole x _ (negs_bind all r ends) spelled);
 }
 
 pub conj-loop-after-preserved : goal.conj-loop-after-preserved
 conj-loop-after-preserved t c = record {
   shorter = omega (arith, c.loop-after.invariant.shorter, c.in-Some.ensures.shorter, c.in_ok-operand.ensures.shorter);
-  spelled = negs_read _ _ _ _ _ _ _ _ c.loop-after.invariant.spelled c.in-Some.ensures.found c.in_ok-operand.ensures.spelled c.in_ok-push.ensures.items;
+  spelled = negs_read _ _ _ _ _ _ _ _ c.loop-after.invariant.spelled c.in-Some.ensures.found
+      c.in_ok-operand.ensures.spelled c.in_ok-push.ensures.items;
   whole = λ x all r ends spelled.
       let end = c.loop-after.invariant.whole x all r ends spelled in
       let operand = negs_opened end.0 _ r ends (sym c.in-Some.ensures.found ∙ end.1) in
@@ -96,14 +110,17 @@ pub sum-loop-sign-init : goal.sum-loop-sign-init
 unfolding terms_then
 sum-loop-sign-init t c = record {
   shorter = c.in_ok-first.ensures.shorter;
-  spelled = c.in_ok-first.ensures.spelled ∙ ap (λ l. prod_then (prod c.in_ok-first.first) (terms_then (terms l) (plain c.in_ok-first.left.now))) (sym c.new-rest.ensures.items);
+  spelled = c.in_ok-first.ensures.spelled
+      ∙ ap (λ l. prod_then (prod c.in_ok-first.first) (terms_then (terms l) (plain c.in_ok-first.left.now)))
+      (sym c.new-rest.ensures.items);
   whole = λ x all r ends spelled. (all, c.in_ok-first.ensures.whole x _ (terms_bind all r ends) spelled);
 }
 
 pub sum-loop-sign-preserved : goal.sum-loop-sign-preserved
 sum-loop-sign-preserved t c = record {
   shorter = omega (arith, c.loop-sign.invariant.shorter, c.in-Some.ensures.shorter, c.in_ok-operand.ensures.shorter);
-  spelled = terms_read _ _ _ _ _ _ _ _ _ c.loop-sign.invariant.spelled c.in-Some.ensures.found c.in_ok-operand.ensures.spelled c.in_ok-push.ensures.items;
+  spelled = terms_read _ _ _ _ _ _ _ _ _ c.loop-sign.invariant.spelled c.in-Some.ensures.found
+      c.in_ok-operand.ensures.spelled c.in_ok-push.ensures.items;
   whole = λ x all r ends spelled.
       let end = c.loop-sign.invariant.whole x all r ends spelled in
       let operand = terms_opened end.0 _ _ r ends (sym c.in-Some.ensures.found ∙ end.1) in
@@ -114,14 +131,17 @@ pub prod-loop-operator-init : goal.prod-loop-operator-init
 unfolding factors_then
 prod-loop-operator-init t c = record {
   shorter = c.in_ok-first.ensures.shorter;
-  spelled = c.in_ok-first.ensures.spelled ∙ ap (λ l. unary_then (unary c.in_ok-first.first) (factors_then (factors l) (plain c.in_ok-first.left.now))) (sym c.new-rest.ensures.items);
+  spelled = c.in_ok-first.ensures.spelled
+      ∙ ap (λ l. unary_then (unary c.in_ok-first.first) (factors_then (factors l) (plain c.in_ok-first.left.now)))
+      (sym c.new-rest.ensures.items);
   whole = λ x all r ends spelled. (all, c.in_ok-first.ensures.whole x _ (factors_bind all r ends) spelled);
 }
 
 pub prod-loop-operator-preserved : goal.prod-loop-operator-preserved
 prod-loop-operator-preserved t c = record {
   shorter = omega (arith, c.loop-operator.invariant.shorter, c.in-Some.ensures.shorter, c.in_ok-operand.ensures.shorter);
-  spelled = factors_read _ _ _ _ _ _ _ _ c.loop-operator.invariant.spelled c.in-Some.ensures.found c.in_ok-operand.ensures.spelled c.in_ok-push.ensures.items;
+  spelled = factors_read _ _ _ _ _ _ _ _ c.loop-operator.invariant.spelled c.in-Some.ensures.found
+      c.in_ok-operand.ensures.spelled c.in_ok-push.ensures.items;
   whole = λ x all r ends spelled.
       let end = c.loop-operator.invariant.whole x all r ends spelled in
       let operand = factors_opened end.0 _ _ r ends (sym c.in-Some.ensures.found ∙ end.1) in

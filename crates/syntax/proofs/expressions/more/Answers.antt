@@ -10,7 +10,8 @@ loop-after-init c = record { shorter = omega arith; spelled = none_added _ _; wh
 pub loop-after-preserved : goal.loop-after-preserved
 loop-after-preserved c = record {
   shorter = omega (arith, c.loop-after.invariant.shorter, c.in-Some.ensures.shorter, c.in_ok-next.ensures.shorter);
-  spelled = more_read _ _ _ _ _ _ _ _ c.loop-after.invariant.spelled c.in-Some.ensures.found c.in_ok-next.ensures.spelled c.in_ok-push.ensures.items;
+  spelled = more_read _ _ _ _ _ _ _ _ c.loop-after.invariant.spelled c.in-Some.ensures.found
+      c.in_ok-next.ensures.spelled c.in_ok-push.ensures.items;
   whole = λ all r ends spelled.
       let end = c.loop-after.invariant.whole all r ends spelled in
       let one = more_opened end.0 _ r ends (sym c.in-Some.ensures.found ∙ end.1) in

@@ -9,7 +9,8 @@ abbrev pub invariant-loop-after : goal.invariant-loop-after
 invariant-loop-after l = record {
   shorter : length l.left ≤ length l.fn.tokens;
   spelled : AddsExprs l.fn.earlier.items l.exprs.items (plain l.fn.tokens) (plain l.left);
-  whole : (all : List Expr) (rest : List Token) → binds rest < list_level → plain l.fn.tokens ≡ more_then all rest → (end : List Expr) × (plain l.left ≡ more_then end rest);
+  whole : (all : List Expr) (rest : List Token) → binds rest < list_level → plain l.fn.tokens ≡ more_then all rest
+      → (end : List Expr) × (plain l.left ≡ more_then end rest);
 }
 
 abbrev pub decreases-loop-after : goal.decreases-loop-after

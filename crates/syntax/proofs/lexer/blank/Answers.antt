@@ -24,7 +24,10 @@ returns-then-second-eq47-clause-found c =
       piece = CommentPiece c.split_at.result.0.now;
       begins = record {
         spelled = c.in_ok-first.ensures.cases.0 ∙ ap (λ x. x ∷ c.in_ok-first.after.now) c.if-first-eq47.true ∙ ap (λ l. 47 ∷ l) second;
-        fits = (passes_at is_in_line _ behind _ c.line_length.ensures split.front, stops_at is_in_line _ behind _ c.line_length.ensures split.back);
+        fits = (
+          passes_at is_in_line _ behind _ c.line_length.ensures split.front,
+          stops_at is_in_line _ behind _ c.line_length.ensures split.back,
+        );
       };
       tokens = refl;
     }

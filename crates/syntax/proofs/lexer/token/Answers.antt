@@ -16,7 +16,8 @@ pub word_or_name-requires-clause-begins : goal.word_or_name-requires-clause-begi
 word_or_name-requires-clause-begins c =
     let begins = sym c.begins_name.ensures ∙ c.if-begins_name.true in
     let in_name = ap (λ b. b || is_ascii_digit c.in-Some.first.now) begins in
-    begins_at is_in_name begins_name _ _ c.args.chars.now _ _ c.in-Some.ensures.cases.0 c.name_length.ensures c.split_at.ensures.front in_name begins
+    begins_at is_in_name begins_name _ _ c.args.chars.now _ _ c.in-Some.ensures.cases.0 c.name_length.ensures
+    c.split_at.ensures.front in_name begins
 
 pub word_or_name-requires-clause-in_name : goal.word_or_name-requires-clause-in_name
 word_or_name-requires-clause-in_name c = passes_at is_in_name _ c.args.chars.now _ c.name_length.ensures c.split_at.ensures.front
@@ -44,7 +45,8 @@ returns-then-is_ascii_digit-clause-found c =
       begins = record {
         spelled = cut_at _ c.args.chars.now _ _ split.front split.back;
         fits = record {
-          begins = begins_at is_ascii_digit is_ascii_digit _ _ c.args.chars.now _ _ c.in-Some.ensures.cases.0 c.digits_length.ensures split.front digit digit;
+          begins = begins_at is_ascii_digit is_ascii_digit _ _ c.args.chars.now _ _ c.in-Some.ensures.cases.0
+              c.digits_length.ensures split.front digit digit;
           digits = passes_at is_ascii_digit _ c.args.chars.now _ c.digits_length.ensures split.front;
           ends = stops_at is_ascii_digit _ c.args.chars.now _ c.digits_length.ensures split.back;
           fits = omega (arith, c.in-Some-value_of.ensures.found, c.in-Some-value_of.ensures.small);
@@ -63,7 +65,8 @@ returns-in_default-value_of-clause-absent c =
         digits = c.split_at-then-is_ascii_digit.result.0.now;
         behind = c.split_at-then-is_ascii_digit.result.1.now;
         spelled = cut_at _ c.args.chars.now _ _ split.front split.back;
-        begins = begins_at is_ascii_digit is_ascii_digit _ _ c.args.chars.now _ _ c.in-Some.ensures.cases.0 c.digits_length.ensures split.front digit digit;
+        begins = begins_at is_ascii_digit is_ascii_digit _ _ c.args.chars.now _ _ c.in-Some.ensures.cases.0
+            c.digits_length.ensures split.front digit digit;
         all_digits = all;
         ends = stops_at is_ascii_digit _ c.args.chars.now _ c.digits_length.ensures split.back;
         over = c.in_default-value_of.ensures.large all;

@@ -18,7 +18,8 @@ loop-rest-init c = record {
 pub loop-rest-preserved-in-Some : goal.loop-rest-preserved-in-Some
 loop-rest-preserved-in-Some c = record {
   shorter = omega (arith, c.loop-rest.invariant.shorter, c.in-Some.ensures.shorter);
-  read = subst (λ ts. HasTokens c.args.text.now ts c.in-Some.behind.now) (append-nil (plain c.loop-rest.tokens.items)) (piece_read _ _ _ _ _ c.loop-rest.invariant.read c.in-Some.ensures.found);
+  read = subst (λ ts. HasTokens c.args.text.now ts c.in-Some.behind.now) (append-nil (plain c.loop-rest.tokens.items))
+      (piece_read _ _ _ _ _ c.loop-rest.invariant.read c.in-Some.ensures.found);
   placed = c.loop-rest.invariant.placed;
 }
 
@@ -31,7 +32,8 @@ loop-rest-preserved c =
     record {
       shorter = omega (arith, c.loop-rest.invariant.shorter, c.in_ok-token.ensures.shorter);
       read = subst (λ ts. HasTokens c.args.text.now ts c.in_ok-token.behind.now) (sym pushed) (piece_read _ _ _ _ _ read found);
-      placed = subst (ArePlaced c.args.text.now) (sym items) (one_more_placed _ _ _ c.loop-rest.tokens.items _ read found refl c.loop-rest.invariant.placed);
+      placed = subst (ArePlaced c.args.text.now) (sym items)
+          (one_more_placed _ _ _ c.loop-rest.tokens.items _ read found refl c.loop-rest.invariant.placed);
     }
 
 pub returns-in_err-token-clause-unread : goal.returns-in_err-token-clause-unread

@@ -36,7 +36,9 @@ loop-spanned-preserved c =
     record {
       few = few;
       opened = opened ∙ sym (ap (open_after 0) more ∙ open_after-push 0 (plain (take i tokens)) (token here.token));
-      shallow = subst (AreShallow 0) (sym more) (shallow_more 0 (plain (take i tokens)) (token here.token) c.loop-spanned.invariant.shallow (omega (arith, opened, few)));
+      shallow = subst (AreShallow 0) (sym more)
+          (shallow_more 0 (plain (take i tokens))
+          (token here.token) c.loop-spanned.invariant.shallow (omega (arith, opened, few)));
     }
 
 pub returns-clause-none : goal.returns-clause-none

@@ -7,7 +7,9 @@ use Rattle.syntax.proofs.programs.array.Goals as goal
 pub returns-clause-spelled : goal.returns-clause-spelled
 unfolding arrays_then
 returns-clause-spelled c =
-    let length = c.in_ok-rest-2.ensures.found ∙ behind (c.in_ok-length.ensures.found ∙ behind (c.in_ok-rest-3.ensures.found ∙ behind c.in_ok-rest-4.ensures.found)) in
+    let length = c.in_ok-rest-2.ensures.found
+    ∙ behind (c.in_ok-length.ensures.found
+    ∙ behind (c.in_ok-rest-3.ensures.found ∙ behind c.in_ok-rest-4.ensures.found)) in
     behind (c.in_ok-name.ensures.found ∙ behind (c.in_ok-rest.ensures.found ∙ behind (c.in_ok-element.ensures.spelled ∙ behind length)))
 
 pub returns-in_err-name-clause-refused : goal.returns-in_err-name-clause-refused

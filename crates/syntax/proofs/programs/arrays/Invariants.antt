@@ -9,7 +9,8 @@ abbrev pub invariant-loop-after : goal.invariant-loop-after
 invariant-loop-after l = record {
   shorter : length l.left ≤ length l.fn.tokens;
   spelled : plain l.fn.tokens ≡ arrays_then (map array l.arrays.items) (plain l.left);
-  whole : (all : List Array) (rest : List Token) → binds rest < list_level → plain l.fn.tokens ≡ arrays_then all rest → (end : List Array) × (plain l.left ≡ arrays_then end rest);
+  whole : (all : List Array) (rest : List Token) → binds rest < list_level → plain l.fn.tokens ≡ arrays_then all rest
+      → (end : List Array) × (plain l.left ≡ arrays_then end rest);
 }
 
 abbrev pub decreases-loop-after : goal.decreases-loop-after

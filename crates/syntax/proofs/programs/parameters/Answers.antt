@@ -20,7 +20,8 @@ loop-after-init c =
     record {
       shorter = c.in_ok-first.ensures.shorter;
       some = omega (arith, ap length one);
-      spelled = c.in_ok-first.ensures.spelled ∙ parameters_then-one c.in_ok-first.first _ ∙ ap (λ l. parameters_then (map parameter l) (plain c.in_ok-first.left.now)) (sym one);
+      spelled = c.in_ok-first.ensures.spelled ∙ parameters_then-one c.in_ok-first.first _
+          ∙ ap (λ l. parameters_then (map parameter l) (plain c.in_ok-first.left.now)) (sym one);
       whole = λ all r spelled.
           let parts = parameters_opened all _ r c.in_default.ensures.absent spelled in
           (parts.1, c.in_ok-first.ensures.whole parts.0 (more_parameters_then parts.1 (MarkToken RightParen ∷ r)) parts.2);
@@ -30,7 +31,8 @@ pub loop-after-preserved : goal.loop-after-preserved
 loop-after-preserved c = record {
   shorter = omega (arith, c.loop-after.invariant.shorter, c.in-Some-after_mark.ensures.shorter, c.in_ok-next.ensures.shorter);
   some = omega (arith, ap length c.in_ok-push-2.ensures.items, length-append c.loop-after.parameters.items (c.in_ok-next.next ∷ []));
-  spelled = parameters_read _ _ _ _ _ _ _ c.loop-after.invariant.some c.loop-after.invariant.spelled c.in-Some-after_mark.ensures.found c.in_ok-next.ensures.spelled c.in_ok-push-2.ensures.items;
+  spelled = parameters_read _ _ _ _ _ _ _ c.loop-after.invariant.some c.loop-after.invariant.spelled
+      c.in-Some-after_mark.ensures.found c.in_ok-next.ensures.spelled c.in_ok-push-2.ensures.items;
   whole = λ all r spelled.
       let end = c.loop-after.invariant.whole all r spelled in
       let one = more_parameters_opened end.0 _ r (sym c.in-Some-after_mark.ensures.found ∙ end.1) in
@@ -38,7 +40,9 @@ loop-after-preserved c = record {
 }
 
 pub returns-clause-spelled : goal.returns-clause-spelled
-returns-clause-spelled c = c.loop-after.invariant.spelled ∙ ap (parameters_then (map parameter c.loop-after.parameters.items)) c.in_ok-rest.ensures.found
+returns-clause-spelled c =
+    c.loop-after.invariant.spelled
+    ∙ ap (parameters_then (map parameter c.loop-after.parameters.items)) c.in_ok-rest.ensures.found
 
 pub returns-in-Some-clause-whole : goal.returns-in-Some-clause-whole
 returns-in-Some-clause-whole c = λ all r spelled.

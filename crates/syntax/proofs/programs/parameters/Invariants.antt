@@ -10,7 +10,9 @@ invariant-loop-after l = record {
   shorter : length l.left < length l.fn.tokens;
   some : 0 < length l.parameters.items;
   spelled : plain l.fn.tokens ≡ parameters_then (map parameter l.parameters.items) (plain l.left);
-  whole : (all : List Parameter) (rest : List Token) → plain l.fn.tokens ≡ parameters_then all (MarkToken RightParen ∷ rest) → (end : List Parameter) × (plain l.left ≡ more_parameters_then end (MarkToken RightParen ∷ rest));
+  whole : (all : List Parameter) (rest : List Token)
+      → plain l.fn.tokens ≡ parameters_then all (MarkToken RightParen ∷ rest)
+      → (end : List Parameter) × (plain l.left ≡ more_parameters_then end (MarkToken RightParen ∷ rest));
 }
 
 abbrev pub decreases-loop-after : goal.decreases-loop-after

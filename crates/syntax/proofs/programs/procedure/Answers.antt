@@ -10,7 +10,9 @@ use Rattle.syntax.proofs.programs.procedure.Goals as goal
 pub returns-clause-spelled : goal.returns-clause-spelled
 unfolding procedures_then
 returns-clause-spelled c =
-    let parameters = c.in_ok-parameters.ensures.spelled ∙ ap (parameters_then (map parameter c.in_ok-parameters.parameters.items)) (behind c.in_ok-body.ensures.spelled) in
+    let parameters = c.in_ok-parameters.ensures.spelled
+    ∙ ap (parameters_then (map parameter c.in_ok-parameters.parameters.items))
+    (behind c.in_ok-body.ensures.spelled) in
     behind (c.in_ok-name.ensures.found ∙ behind (c.in_ok-rest.ensures.found ∙ behind parameters))
 
 pub returns-in_err-name-clause-refused : goal.returns-in_err-name-clause-refused

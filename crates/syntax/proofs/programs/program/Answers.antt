@@ -21,7 +21,8 @@ loop-after-init c = record {
 pub loop-after-preserved : goal.loop-after-preserved
 loop-after-preserved c = record {
   shorter = omega (arith, c.loop-after.invariant.shorter, c.in-Some.ensures.shorter, c.in_ok-next.ensures.shorter);
-  spelled = procedures_read _ _ _ _ _ _ _ c.loop-after.invariant.spelled c.in-Some.ensures.found c.in_ok-next.ensures.spelled c.in_ok-push.ensures.items;
+  spelled = procedures_read _ _ _ _ _ _ _ c.loop-after.invariant.spelled c.in-Some.ensures.found
+      c.in_ok-next.ensures.spelled c.in_ok-push.ensures.items;
   whole = λ all m spelled.
       let end = c.loop-after.invariant.whole all m spelled in
       let one = procedures_opened end.0 _ (main_tokens m) (omega (arith, main_binds m)) (sym c.in-Some.ensures.found ∙ end.1) in
@@ -38,8 +39,10 @@ pub returns-clause-spelled : goal.returns-clause-spelled
 unfolding spelling main_tokens
 returns-clause-spelled c =
     let none = plain_none _ (true-eqb _ 0 c.if-not-is_empty.ensures) in
-    let body = ap (λ l. WordToken Main ∷ MarkToken LeftBrace ∷ arrays_then (map array c.in_ok-body.body.arrays.items) (block_then (block c.in_ok-body.body.body.items) l)) none in
-    c.loop-after.invariant.spelled ∙ ap (procedures_then (map procedure c.loop-after.procedures.items)) (c.in_ok-body.ensures.spelled ∙ body)
+    let body = ap (λ l. WordToken Main ∷ MarkToken LeftBrace ∷ arrays_then (map array c.in_ok-body.body.arrays.items)
+    (block_then (block c.in_ok-body.body.body.items) l)) none in
+    c.loop-after.invariant.spelled
+    ∙ ap (procedures_then (map procedure c.loop-after.procedures.items)) (c.in_ok-body.ensures.spelled ∙ body)
 
 pub returns-in_err-next-clause-refused : goal.returns-in_err-next-clause-refused
 unfolding spelling

@@ -8,7 +8,8 @@ abbrev pub invariant-loop-after : goal.invariant-loop-after
 invariant-loop-after l = record {
   shorter : length l.left ≤ length l.fn.tokens;
   spelled : plain l.fn.tokens ≡ procedures_then (map procedure l.procedures.items) (plain l.left);
-  whole : (all : List Procedure) (main : Option Main) → plain l.fn.tokens ≡ procedures_then all (main_tokens main) → (end : List Procedure) × (plain l.left ≡ procedures_then end (main_tokens main));
+  whole : (all : List Procedure) (main : Option Main) → plain l.fn.tokens ≡ procedures_then all (main_tokens main)
+      → (end : List Procedure) × (plain l.left ≡ procedures_then end (main_tokens main));
 }
 
 abbrev pub decreases-loop-after : goal.decreases-loop-after

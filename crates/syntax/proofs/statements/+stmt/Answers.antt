@@ -4,9 +4,11 @@ use Rattle.syntax.specs.declared.token.Mark.TheVariants.{LeftBrace}
 use Rattle.syntax.specs.Token.{WordToken, MarkToken, plain}
 use Rattle.syntax.specs.Tree.{expr, block}
 use Rattle.syntax.proofs.ChainLemmas.{behind}
-use Rattle.syntax.proofs.BlockLemmas.{stmts_then, stmts_read, block_then-block, stmt_then_If, stmt_then_IfElse, stmt_then_While, stmt_then_Split, stmt_then_Async, stmt_then_Finish}
+use Rattle.syntax.proofs.BlockLemmas.{stmts_then, stmts_read, block_then-block, stmt_then_If, stmt_then_IfElse}
+use Rattle.syntax.proofs.BlockLemmas.{stmt_then_While, stmt_then_Split, stmt_then_Async, stmt_then_Finish}
 use Rattle.syntax.proofs.RefusalLemmas.{passed_on, next}
-use Rattle.syntax.proofs.StmtRefusals.{block_closed, block_opened, if_opened, if_alone, if_otherwise, while_opened, split_opened, async_opened, finish_opened}
+use Rattle.syntax.proofs.StmtRefusals.{block_closed, block_opened, if_opened, if_alone, if_otherwise, while_opened}
+use Rattle.syntax.proofs.StmtRefusals.{split_opened, async_opened, finish_opened}
 use Rattle.syntax.proofs.StmtSpellings.{block_binds}
 use Rattle.syntax.proofs.statements.+stmt.Goals as goal
 
@@ -94,13 +96,15 @@ pub conditional-returns-in_err-body-clause-refused : goal.conditional-returns-in
 conditional-returns-in_err-body-clause-refused t c =
     passed_on _ _ c.from_residual-in_err-body.ensures.1 (λ room s r ends spelled.
     let parts = if_opened s _ r spelled in
-    let body = c.in_ok-guard.ensures.whole parts.guard (MarkToken LeftBrace ∷ block_then parts.body parts.after) (omega arith) parts.spelled in
+    let body = c.in_ok-guard.ensures.whole parts.guard (MarkToken LeftBrace ∷ block_then parts.body parts.after)
+    (omega arith) parts.spelled in
     c.in_err-body.ensures.refused room parts.body parts.after body)
 
 pub conditional-returns-in-None-clause-whole : goal.conditional-returns-in-None-clause-whole
 conditional-returns-in-None-clause-whole t c = λ s r ends spelled.
     let parts = if_opened s _ r spelled in
-    let body = c.in_ok-guard.ensures.whole parts.guard (MarkToken LeftBrace ∷ block_then parts.body parts.after) (omega arith) parts.spelled in
+    let body = c.in_ok-guard.ensures.whole parts.guard (MarkToken LeftBrace ∷ block_then parts.body parts.after)
+    (omega arith) parts.spelled in
     let after = c.in_ok-body.ensures.whole parts.body parts.after body in
     if_alone parts _ c.in-None.ensures.absent after
 
@@ -108,7 +112,8 @@ pub conditional-returns-in_err-other-in-Some-clause-refused : goal.conditional-r
 conditional-returns-in_err-other-in-Some-clause-refused t c =
     passed_on _ _ c.from_residual-in_err-other-in-Some.ensures.1 (λ room s r ends spelled.
     let parts = if_opened s _ r spelled in
-    let body = c.in_ok-guard.ensures.whole parts.guard (MarkToken LeftBrace ∷ block_then parts.body parts.after) (omega arith) parts.spelled in
+    let body = c.in_ok-guard.ensures.whole parts.guard (MarkToken LeftBrace ∷ block_then parts.body parts.after)
+    (omega arith) parts.spelled in
     let after = c.in_ok-body.ensures.whole parts.body parts.after body in
     let other = if_otherwise parts _ ends (sym c.in-Some.ensures.found ∙ after) in
     c.in_err-other-in-Some.ensures.refused room other.0 r other.1)
@@ -116,7 +121,8 @@ conditional-returns-in_err-other-in-Some-clause-refused t c =
 pub conditional-returns-in_ok-other-in-Some-clause-whole : goal.conditional-returns-in_ok-other-in-Some-clause-whole
 conditional-returns-in_ok-other-in-Some-clause-whole t c = λ s r ends spelled.
     let parts = if_opened s _ r spelled in
-    let body = c.in_ok-guard.ensures.whole parts.guard (MarkToken LeftBrace ∷ block_then parts.body parts.after) (omega arith) parts.spelled in
+    let body = c.in_ok-guard.ensures.whole parts.guard (MarkToken LeftBrace ∷ block_then parts.body parts.after)
+    (omega arith) parts.spelled in
     let after = c.in_ok-body.ensures.whole parts.body parts.after body in
     let other = if_otherwise parts _ ends (sym c.in-Some.ensures.found ∙ after) in
     c.in_ok-other-in-Some.ensures.whole other.0 r other.1

@@ -27,7 +27,8 @@ abbrev pub invariant-statements-loop-rest : goal.invariant-statements-loop-rest
 invariant-statements-loop-rest l = record {
   shorter : length l.left ≤ length l.fn.tokens;
   spelled : plain l.fn.tokens ≡ stmts_then l.body.items (plain l.left);
-  whole : (body : Block) (rest : List Token) → plain l.fn.tokens ≡ block_then body rest → (end : Block) × (plain l.left ≡ block_then end rest);
+  whole : (body : Block) (rest : List Token) → plain l.fn.tokens ≡ block_then body rest
+      → (end : Block) × (plain l.left ≡ block_then end rest);
 }
 
 abbrev pub decreases-statements-loop-rest : goal.decreases-statements-loop-rest

@@ -38,20 +38,24 @@ pub returns-in_err-index-clause-refused : goal.returns-in_err-index-clause-refus
 returns-in_err-index-clause-refused c =
     passed_on _ _ c.from_residual-in_err-index.ensures.1 (λ room no_word s r ends spelled.
     let parts = store_opened s _ _ r (sym (c.in_ok-name.ensures.found ∙ behind c.in-Some.ensures.found) ∙ spelled) in
-    c.in_err-index.ensures.refused room parts.0 (MarkToken RightBracket ∷ MarkToken Becomes ∷ expr_then parts.1 (MarkToken Semicolon ∷ r)) (omega arith) parts.2)
+    c.in_err-index.ensures.refused room parts.0
+    (MarkToken RightBracket ∷ MarkToken Becomes ∷ expr_then parts.1 (MarkToken Semicolon ∷ r))
+    (omega arith) parts.2)
 
 pub returns-in_err-rest-clause-refused : goal.returns-in_err-rest-clause-refused
 returns-in_err-rest-clause-refused c =
     passed_on _ _ c.from_residual-in_err-rest.ensures.1 (λ room no_word s r ends spelled.
     let parts = store_opened s _ _ r (sym (c.in_ok-name.ensures.found ∙ behind c.in-Some.ensures.found) ∙ spelled) in
-    let bracket = c.in_ok-index.ensures.whole parts.0 (MarkToken RightBracket ∷ MarkToken Becomes ∷ expr_then parts.1 (MarkToken Semicolon ∷ r)) (omega arith) parts.2 in
+    let bracket = c.in_ok-index.ensures.whole parts.0 (MarkToken RightBracket ∷ MarkToken Becomes
+    ∷ expr_then parts.1 (MarkToken Semicolon ∷ r)) (omega arith) parts.2 in
     c.in_err-rest.ensures.refused _ bracket)
 
 pub returns-in_err-rest-2-clause-refused : goal.returns-in_err-rest-2-clause-refused
 returns-in_err-rest-2-clause-refused c =
     passed_on _ _ c.from_residual-in_err-rest-2.ensures.1 (λ room no_word s r ends spelled.
     let parts = store_opened s _ _ r (sym (c.in_ok-name.ensures.found ∙ behind c.in-Some.ensures.found) ∙ spelled) in
-    let bracket = c.in_ok-index.ensures.whole parts.0 (MarkToken RightBracket ∷ MarkToken Becomes ∷ expr_then parts.1 (MarkToken Semicolon ∷ r)) (omega arith) parts.2 in
+    let bracket = c.in_ok-index.ensures.whole parts.0 (MarkToken RightBracket ∷ MarkToken Becomes
+    ∷ expr_then parts.1 (MarkToken Semicolon ∷ r)) (omega arith) parts.2 in
     let mark = next (sym c.in_ok-rest.ensures.found ∙ bracket) in
     c.in_err-rest-2.ensures.refused _ mark)
 
@@ -59,7 +63,8 @@ pub returns-in_err-value-clause-refused : goal.returns-in_err-value-clause-refus
 returns-in_err-value-clause-refused c =
     passed_on _ _ c.from_residual-in_err-value.ensures.1 (λ room no_word s r ends spelled.
     let parts = store_opened s _ _ r (sym (c.in_ok-name.ensures.found ∙ behind c.in-Some.ensures.found) ∙ spelled) in
-    let bracket = c.in_ok-index.ensures.whole parts.0 (MarkToken RightBracket ∷ MarkToken Becomes ∷ expr_then parts.1 (MarkToken Semicolon ∷ r)) (omega arith) parts.2 in
+    let bracket = c.in_ok-index.ensures.whole parts.0 (MarkToken RightBracket ∷ MarkToken Becomes
+    ∷ expr_then parts.1 (MarkToken Semicolon ∷ r)) (omega arith) parts.2 in
     let mark = next (sym c.in_ok-rest.ensures.found ∙ bracket) in
     let value = next (sym c.in_ok-rest-2.ensures.found ∙ mark) in
     c.in_err-value.ensures.refused room parts.1 r value)
@@ -67,7 +72,8 @@ returns-in_err-value-clause-refused c =
 pub returns-in-Some-clause-whole : goal.returns-in-Some-clause-whole
 returns-in-Some-clause-whole c = λ s r ends spelled.
     let parts = store_opened s _ _ r (sym (c.in_ok-name.ensures.found ∙ behind c.in-Some.ensures.found) ∙ spelled) in
-    let bracket = c.in_ok-index.ensures.whole parts.0 (MarkToken RightBracket ∷ MarkToken Becomes ∷ expr_then parts.1 (MarkToken Semicolon ∷ r)) (omega arith) parts.2 in
+    let bracket = c.in_ok-index.ensures.whole parts.0 (MarkToken RightBracket ∷ MarkToken Becomes
+    ∷ expr_then parts.1 (MarkToken Semicolon ∷ r)) (omega arith) parts.2 in
     let mark = next (sym c.in_ok-rest.ensures.found ∙ bracket) in
     let value = next (sym c.in_ok-rest-2.ensures.found ∙ mark) in
     c.in_ok-value.ensures.whole parts.1 r value
@@ -94,18 +100,21 @@ returns-in-Some-after_mark-clause-whole c = λ s r ends spelled.
 pub returns-in_err-rest-4-clause-refused : goal.returns-in_err-rest-4-clause-refused
 returns-in_err-rest-4-clause-refused c =
     passed_on _ _ c.from_residual-in_err-rest-4.ensures.1 (λ room no_word s r ends spelled.
-    let parts = assign_opened s _ _ r c.in_default.ensures.absent c.in_default-after_mark.ensures.absent (sym c.in_ok-name.ensures.found ∙ spelled) in
+    let parts = assign_opened s _ _ r c.in_default.ensures.absent c.in_default-after_mark.ensures.absent
+    (sym c.in_ok-name.ensures.found ∙ spelled) in
     c.in_err-rest-4.ensures.refused _ parts.1)
 
 pub returns-in_err-value-2-clause-refused : goal.returns-in_err-value-2-clause-refused
 returns-in_err-value-2-clause-refused c =
     passed_on _ _ c.from_residual-in_err-value-2.ensures.1 (λ room no_word s r ends spelled.
-    let parts = assign_opened s _ _ r c.in_default.ensures.absent c.in_default-after_mark.ensures.absent (sym c.in_ok-name.ensures.found ∙ spelled) in
+    let parts = assign_opened s _ _ r c.in_default.ensures.absent c.in_default-after_mark.ensures.absent
+    (sym c.in_ok-name.ensures.found ∙ spelled) in
     let value = next (sym c.in_ok-rest-4.ensures.found ∙ parts.1) in
     c.in_err-value-2.ensures.refused room parts.0 r value)
 
 pub returns-clause-whole : goal.returns-clause-whole
 returns-clause-whole c = λ s r ends spelled.
-    let parts = assign_opened s _ _ r c.in_default.ensures.absent c.in_default-after_mark.ensures.absent (sym c.in_ok-name.ensures.found ∙ spelled) in
+    let parts = assign_opened s _ _ r c.in_default.ensures.absent c.in_default-after_mark.ensures.absent
+    (sym c.in_ok-name.ensures.found ∙ spelled) in
     let value = next (sym c.in_ok-rest-4.ensures.found ∙ parts.1) in
     c.in_ok-value-2.ensures.whole parts.0 r value

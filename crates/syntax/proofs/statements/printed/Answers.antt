@@ -12,7 +12,9 @@ pub returns-clause-spelled : goal.returns-clause-spelled
 unfolding stmt_then stmt
 returns-clause-spelled c =
     let others = adds_to_none _ _ _ _ c.new.ensures.items c.in_ok-others.ensures.spelled in
-    behind (c.in_ok-first.ensures.spelled ∙ ap (expr_then (expr c.in_ok-first.first)) (others ∙ ap (more_then (exprs c.in_ok-others.others.items)) c.in_ok-rest.ensures.found))
+    behind (c.in_ok-first.ensures.spelled
+    ∙ ap (expr_then (expr c.in_ok-first.first))
+    (others ∙ ap (more_then (exprs c.in_ok-others.others.items)) c.in_ok-rest.ensures.found))
 
 pub returns-in_err-first-clause-refused : goal.returns-in_err-first-clause-refused
 returns-in_err-first-clause-refused c =

@@ -1,4 +1,5 @@
-use Rattle.std.proofs.Common.{◌≡◌, ◌<◌, ◌≤◌, ◌+◌, ◌++◌, ◌∷◌, Bool, true, false, not, length, map, drop, append-nil, rules, refl, sym, ap, ◌∙◌}
+use Rattle.std.proofs.Common.{◌≡◌, ◌<◌, ◌≤◌, ◌+◌, ◌++◌, ◌∷◌, Bool, true, false, not, length, map, drop, append-nil}
+use Rattle.std.proofs.Common.{rules, refl, sym, ap, ◌∙◌}
 use Rattle.std.proofs.lemmas.List.{at_drop_more, at_drop_all}
 use Rattle.std.specs.String.{string_bytes}
 use Rattle.syntax.specs.Tree as tree
@@ -31,5 +32,6 @@ returns-clause-apart c =
     let keys = c.loop-array.names.keys in
     let at_end : length xs ≤ c.loop-array.array-index = search rules in
     let none_left = at_drop_all (map (λ a. string_bytes a.name)) xs c.loop-array.array-index at_end in
-    let named = sym (append-nil (map string_bytes keys)) ∙ ap (λ ns. map string_bytes keys ++ ns) (sym none_left) ∙ c.loop-array.invariant.named in
+    let named = sym (append-nil (map string_bytes keys)) ∙ ap (λ ns. map string_bytes keys ++ ns) (sym none_left)
+    ∙ c.loop-array.invariant.named in
     no_name_twice keys (map tree.array xs) (named ∙ names_are xs) c.loop-array.invariant.distinct

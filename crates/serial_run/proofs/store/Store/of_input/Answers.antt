@@ -9,4 +9,5 @@ loop-contents-preserved c =
     let so_far = map numbers c.loop-contents.arrays.items in
     map-pushed numbers c.loop-contents.arrays.items c.push.new.self.items c.in_ok-from_slice.field-0 c.in_ok-push.ensures.items
     ∙ ap (λ l. so_far ++ l ∷ []) (c.in_ok-from_slice.ensures.items ∙ c.deref.ensures.value)
-    ∙ map-taken numbers c.deref-contents-items.result.now so_far c.loop-contents.contents-index c.contents-item.result c.loop-contents-test.true c.contents-item.is c.loop-contents.invariant
+    ∙ map-taken numbers c.deref-contents-items.result.now so_far c.loop-contents.contents-index c.contents-item.result
+    c.loop-contents-test.true c.contents-item.is c.loop-contents.invariant

@@ -10,6 +10,11 @@ returns-clause-state c =
     let st = state_of c.args.self.now in
     let same : c.in_ok-turns.turns.items ≡ c.args.self.now.path.turns.items = c.in_ok-turns.ensures.items ∙ c.deref.ensures.value in
     let with_faults : List Fault → State (Unit {0}) = λ fs. record st { flow = Faulted; faults = fs } in
-    let with_path : List ℕ → State (Unit {0}) = λ path. with_faults (st.faults ++ record { path = path; label = c.args.label; kind = c.args.kind } ∷ []) in
+    let with_path : List ℕ → State (Unit {0}) = λ path. with_faults (st.faults ++ record {
+      path = path;
+      label =
+          c.args.label;
+      kind = c.args.kind;
+    } ∷ []) in
     ap with_faults (map-pushed fault_of c.args.self.now.faults.items c.push.new.self.items _ c.in_ok-push.ensures.items)
     ∙ ap with_path same

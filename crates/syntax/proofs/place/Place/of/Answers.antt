@@ -12,7 +12,8 @@ returns-after-loop-i c =
 
 pub returns-then-i-at : goal.returns-then-i-at
 returns-then-i-at c =
-    is_place c.args.text.now c.loop-i.i c.args.at _ _ c.loop-i.invariant.line_is c.loop-i.invariant.column_is (ap (λ n. take n c.args.text.now) c.if-i-at.true)
+    is_place c.args.text.now c.loop-i.i c.args.at _ _ c.loop-i.invariant.line_is c.loop-i.invariant.column_is
+    (ap (λ n. take n c.args.text.now) c.if-i-at.true)
 
 pub loop-i-preserved : goal.loop-i-preserved
 loop-i-preserved c =
@@ -23,7 +24,8 @@ loop-i-preserved c =
     elim c.if-character-eq10.branch [
       | then-character-eq10 w ↦ record {
         before = omega arith;
-        line_is = w.line-is ∙ ap (λ n. n + 1) before.line_is ∙ sym (line_at_feed text i _ c.loop-i-test.true there w.if-character-eq10.true);
+        line_is = w.line-is ∙ ap (λ n. n + 1) before.line_is
+            ∙ sym (line_at_feed text i _ c.loop-i-test.true there w.if-character-eq10.true);
         column_is = w.column-is ∙ sym (column_at_feed text i _ c.loop-i-test.true there w.if-character-eq10.true);
         line = omega arith;
         column = omega arith;
@@ -31,7 +33,8 @@ loop-i-preserved c =
       | else-character-eq10 w ↦ record {
         before = omega arith;
         line_is = w.line-is ∙ before.line_is ∙ sym (line_at_other text i _ c.loop-i-test.true there w.if-character-eq10.false);
-        column_is = w.column-is ∙ ap (λ n. n + 1) before.column_is ∙ sym (column_at_other text i _ c.loop-i-test.true there w.if-character-eq10.false);
+        column_is = w.column-is ∙ ap (λ n. n + 1) before.column_is
+            ∙ sym (column_at_other text i _ c.loop-i-test.true there w.if-character-eq10.false);
         line = omega arith;
         column = omega arith;
       }

@@ -7,7 +7,9 @@ use Rattle.syntax.proofs.RowLemmas.{stmt_Async, stmt_Finish}
 use Rattle.types.specs.ArrayScope.{place, place_among, lone}
 use Rattle.types.specs.Told.{KnowsNames, TellsItems, TellsBlock}
 use Rattle.types.proofs.Places.{knows_later, tells_later, tells_first, knows_End}
-use Rattle.types.proofs.ByKind.{at_exit, statement_exit, knows_Skip, knows_Store, knows_Print, knows_Async, knows_Finish, tells_Store, tells_index, tells_value, tells_Print, tells_Async, tells_Finish, other_kind_unserved}
+use Rattle.types.proofs.ByKind.{at_exit, statement_exit, knows_Skip, knows_Store, knows_Print, knows_Async}
+use Rattle.types.proofs.ByKind.{knows_Finish, tells_Store, tells_index, tells_value, tells_Print, tells_Async}
+use Rattle.types.proofs.ByKind.{tells_Finish, other_kind_unserved}
 use Rattle.types.specs.Code.{Do, Store, Print, Async, Finish}
 use Rattle.types.specs.Resolution as resolution
 use Rattle.types.specs.Rules.{is_item, item_unknown, is_served_statement, is_served_block}
@@ -87,7 +89,8 @@ kind-returns-in_err-section-in-Store-clause-error t c =
     let is = ap stmt c.in-Store.is ∙ stmt_Store c.in-Store.section c.in-Store.index c.in-Store.value in
     let e = c.in_err-section-in-Store.field-0.0 in
     statement_exit here c.from_residual.result e is c.from_residual.ensures.1
-    (tells_Store here (string_bytes c.in-Store.section) (expr c.in-Store.index) (expr c.in-Store.value) e c.in_err-section-in-Store.ensures.error)
+    (tells_Store here (string_bytes c.in-Store.section) (expr c.in-Store.index)
+    (expr c.in-Store.value) e c.in_err-section-in-Store.ensures.error)
 
 pub kind-returns-in_err-index-in-Store-clause-error : goal.kind-returns-in_err-index-in-Store-clause-error
 kind-returns-in_err-index-in-Store-clause-error t c =
@@ -95,7 +98,8 @@ kind-returns-in_err-index-in-Store-clause-error t c =
     let is = ap stmt c.in-Store.is ∙ stmt_Store c.in-Store.section c.in-Store.index c.in-Store.value in
     let e = c.in_err-index-in-Store.field-0.0 in
     statement_exit here c.from_residual-in_err-index-in-Store.result e is c.from_residual-in_err-index-in-Store.ensures.1
-    (tells_index here (string_bytes c.in-Store.section) (expr c.in-Store.index) (expr c.in-Store.value) e c.in_err-index-in-Store.ensures.error)
+    (tells_index here (string_bytes c.in-Store.section) (expr c.in-Store.index)
+    (expr c.in-Store.value) e c.in_err-index-in-Store.ensures.error)
 
 pub kind-returns-in_err-value-in-Store-clause-error : goal.kind-returns-in_err-value-in-Store-clause-error
 kind-returns-in_err-value-in-Store-clause-error t c =
@@ -103,7 +107,8 @@ kind-returns-in_err-value-in-Store-clause-error t c =
     let is = ap stmt c.in-Store.is ∙ stmt_Store c.in-Store.section c.in-Store.index c.in-Store.value in
     let e = c.in_err-value-in-Store.field-0.0 in
     statement_exit here c.from_residual-in_err-value-in-Store.result e is c.from_residual-in_err-value-in-Store.ensures.1
-    (tells_value here (string_bytes c.in-Store.section) (expr c.in-Store.index) (expr c.in-Store.value) e c.in_err-value-in-Store.ensures.error)
+    (tells_value here (string_bytes c.in-Store.section) (expr c.in-Store.index)
+    (expr c.in-Store.value) e c.in_err-value-in-Store.ensures.error)
 
 pub kind-returns-in_err-values-in-Print-clause-error : goal.kind-returns-in_err-values-in-Print-clause-error
 kind-returns-in_err-values-in-Print-clause-error t c =
@@ -160,7 +165,8 @@ kind-returns-in_ok-value-in-Store-clause-names t c =
     let here = place_among c.args.self.now.sections.now.keys c.args.labels.now in
     let is = ap stmt c.in-Store.is ∙ stmt_Store c.in-Store.section c.in-Store.index c.in-Store.value in
     subst (λ s. KnowsNames here (lone s)) (sym is)
-    (knows_Store here (string_bytes c.in-Store.section) (expr c.in-Store.index) (expr c.in-Store.value) c.in_ok-section-in-Store.ensures.names)
+    (knows_Store here (string_bytes c.in-Store.section) (expr c.in-Store.index)
+    (expr c.in-Store.value) c.in_ok-section-in-Store.ensures.names)
 
 pub kind-returns-in_ok-values-in-Print-clause-names : goal.kind-returns-in_ok-values-in-Print-clause-names
 kind-returns-in_ok-values-in-Print-clause-names t c =
@@ -174,14 +180,16 @@ pub kind-returns-in_ok-body-in-Async-clause-names : goal.kind-returns-in_ok-body
 kind-returns-in_ok-body-in-Async-clause-names t c =
     let here = place_among c.args.self.now.sections.now.keys c.args.labels.now in
     let is = ap stmt c.in-Async.is ∙ stmt_Async c.in-Async.body in
-    let known = subst (λ b. KnowsNames (resolution.inside here) (block b)) c.deref-in-Async.ensures.value c.in_ok-body-in-Async.ensures.names in
+    let known = subst (λ b. KnowsNames (resolution.inside here) (block b)) c.deref-in-Async.ensures.value
+    c.in_ok-body-in-Async.ensures.names in
     subst (λ s. KnowsNames here (lone s)) (sym is) (knows_Async here (block c.in-Async.body.items) known)
 
 pub kind-returns-in_ok-body-in-Finish-clause-names : goal.kind-returns-in_ok-body-in-Finish-clause-names
 kind-returns-in_ok-body-in-Finish-clause-names t c =
     let here = place_among c.args.self.now.sections.now.keys c.args.labels.now in
     let is = ap stmt c.in-Finish.is ∙ stmt_Finish c.in-Finish.body in
-    let known = subst (λ b. KnowsNames (resolution.inside here) (block b)) c.deref-in-Finish.ensures.value c.in_ok-body-in-Finish.ensures.names in
+    let known = subst (λ b. KnowsNames (resolution.inside here) (block b)) c.deref-in-Finish.ensures.value
+    c.in_ok-body-in-Finish.ensures.names in
     subst (λ s. KnowsNames here (lone s)) (sym is) (knows_Finish here (block c.in-Finish.body.items) known)
 
 pub kind-returns-in-Skip-clause-labels : goal.kind-returns-in-Skip-clause-labels

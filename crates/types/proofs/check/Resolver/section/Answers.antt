@@ -7,8 +7,12 @@ returns-clause-names c =
 
 pub returns-clause-code : goal.returns-clause-code
 returns-clause-code c =
-    rw c.ok_or.ensures.value (found_is_numbered c.args.name.now c.args.self.now.sections.now.keys c.args.label _ c.get_index_of.ensures.index)
+    rw c.ok_or.ensures.value
+    (found_is_numbered c.args.name.now c.args.self.now.sections.now.keys c.args.label _
+    c.get_index_of.ensures.index)
 
 pub returns-clause-error : goal.returns-clause-error
 returns-clause-error c =
-    rw c.ok_or.ensures.value (not_found_is_unknown c.args.name.now c.args.self.now.sections.now.keys c.args.label _ c.get_index_of.ensures.index)
+    rw c.ok_or.ensures.value
+    (not_found_is_unknown c.args.name.now c.args.self.now.sections.now.keys c.args.label _
+    c.get_index_of.ensures.index)
