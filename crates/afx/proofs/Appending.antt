@@ -1,5 +1,6 @@
 -- One write of a text after another.
-use Rattle.std.proofs.Common.{◌≡◌, ℕ, ◌+◌, ◌<◌, ◌≤◌, List, [], ◌++◌, length, take, drop, get_or, sym, ap, ◌∙◌, subst, append_assoc, take-append-drop, take_all}
+use Rattle.std.proofs.Common.{◌≡◌, ℕ, ◌+◌, ◌<◌, ◌≤◌, List, [], ◌++◌, length, take, drop, get_or, sym, ap, ◌∙◌, subst}
+use Rattle.std.proofs.Common.{append_assoc, take-append-drop, take_all}
 use Rattle.std.specs.Prelude.{Option, Result, Ok, Err}
 use Rattle.std.specs.Result.{IsErr}
 use Rattle.std.specs.List.{flat_map}
@@ -29,7 +30,8 @@ then_begins a b c s t first p = record {
 }
 
 -- a text, and then a call that writes the next
-pub then_writes : {T E : Type 0} (a b c : Option (List ℕ)) (r : Result T E) (s t : List ℕ) → Appends a b s → Writes b c r t → Writes a c r (s ++ t)
+pub then_writes : {T E : Type 0} (a b c : Option (List ℕ)) (r : Result T E) (s t : List ℕ) → Appends a b s
+    → Writes b c r t → Writes a c r (s ++ t)
 then_writes a b c (Ok x) s t first p = Appends-trans a b c s t first p
 then_writes a b c (Err e) s t first p = then_begins a b c s t first p
 
@@ -48,17 +50,21 @@ module _ {A : Type 0} (text : A → List ℕ) (xs : List A) where
   first_none a = record { so_far = Appends-nil a }
 
   -- the text of one more element
-  flat_map_one_more : (n : ℕ) (x d : A) → n < length xs → x ≡ get_or xs n d → flat_map text (take (n + 1) xs) ≡ flat_map text (take n xs) ++ text x
+  flat_map_one_more : (n : ℕ) (x d : A) → n < length xs → x ≡ get_or xs n d
+      → flat_map text (take (n + 1) xs) ≡ flat_map text (take n xs) ++ text x
   flat_map_one_more n x d inside is =
-      ap (flat_map text) (take_more xs n d inside) ∙ sym (flat_map_more text [] (take n xs) (get_or xs n d)) ∙ ap (λ y. flat_map text (take n xs) ++ text y) (sym is)
+      ap (flat_map text) (take_more xs n d inside) ∙ sym (flat_map_more text [] (take n xs) (get_or xs n d))
+      ∙ ap (λ y. flat_map text (take n xs) ++ text y) (sym is)
 
-  pub first_more : (n : ℕ) (x d : A) (a b c : Option (List ℕ)) → n < length xs → x ≡ get_or xs n d → AppendsFirst text xs n a b → Appends b c (text x) → AppendsFirst text xs (n + 1) a c
+  pub first_more : (n : ℕ) (x d : A) (a b c : Option (List ℕ)) → n < length xs → x ≡ get_or xs n d
+      → AppendsFirst text xs n a b → Appends b c (text x) → AppendsFirst text xs (n + 1) a c
   first_more n x d a b c inside is p next = record {
     so_far = subst (Appends a c) (sym (flat_map_one_more n x d inside is)) (Appends-trans a b c _ _ p.so_far next);
   }
 
   -- the text of the next element was begun
-  pub first_begins : (n : ℕ) (x d : A) (a b c : Option (List ℕ)) → n < length xs → x ≡ get_or xs n d → AppendsFirst text xs n a b → AppendsBeginning b c (text x) → AppendsBeginning a c (flat_map text xs)
+  pub first_begins : (n : ℕ) (x d : A) (a b c : Option (List ℕ)) → n < length xs → x ≡ get_or xs n d
+      → AppendsFirst text xs n a b → AppendsBeginning b c (text x) → AppendsBeginning a c (flat_map text xs)
   first_begins n x d a b c inside is p next =
       let whole : flat_map text xs ≡ (flat_map text (take n xs) ++ text x) ++ flat_map text (drop (n + 1) xs) =
       ap (flat_map text) (sym (take-append-drop (n + 1) xs)) ∙ flat_map-append text (take (n + 1) xs) (drop (n + 1) xs)

@@ -6,12 +6,16 @@ use Rattle.std.specs.Prelude.{IfOk, false}
 use Rattle.types.specs.Code.{Array, Program}
 use Rattle.types.specs.Outcome.{Budget, Outcome, Ended, Halted}
 use Rattle.types.specs.Run.{Fault}
+use Rattle.workers.specs.Accesses.{pairs_in}
+use Rattle.workers.specs.Races.{IsRaceFree}
+use Rattle.workers.specs.Worlds.{IsReached}
 use Rattle.afx.specs.Appending.{Writes}
 use Rattle.afx.specs.OutcomeText.{outcome_text, status_by, status_of}
-use Rattle.afx.specs.Telling.{IsCodeOf, ListsProgram, Tells, TellsOnOneThread, TellsRun, TellsSome, on_one_thread, usual}
+use Rattle.afx.specs.Telling.{IsCodeOf, ListsProgram, Tells, TellsOnOneThread, TellsRun, TellsSome, on_one_thread, usual, zeros}
 
 -- a text and a status that are an outcome's tell it
-pub told : {E : Type 0} (old new : Option (List ℕ)) (r : Result ℕ E) (declared shown : List Array) (o p : Outcome) → Writes old new r (outcome_text shown false o)
+pub told : {E : Type 0} (old new : Option (List ℕ)) (r : Result ℕ E) (declared shown : List Array) (o p : Outcome)
+    → Writes old new r (outcome_text shown false o)
     → IfOk r (λ s. s ≡ status_of o) → o ≡ p → shown ≡ declared → IfOk r (λ s. Tells p declared old new s)
 told old new (Ok s) declared shown o p text status is_outcome is_declared = record {
   text = subst (Appends old new) (ap (λ o. outcome_text shown false o) is_outcome ∙ ap (λ d. outcome_text d false p) is_declared) text;
@@ -34,19 +38,20 @@ status_of-small Halted = omega arith
 
 module _ {E : Type 0} (text : List ℕ) (old new : Option (List ℕ)) (r : Result ℕ E) where
   -- what was shown is the one-thread outcome of the text's program
-  pub told_on_one_thread : (code : Program) (shown : List Array) (o : Outcome) → IsCodeOf text code → Writes old new r (outcome_text shown false o)
+  pub told_on_one_thread : (code : Program) (shown : List Array) (o : Outcome) → IsCodeOf text code
+      → Writes old new r (outcome_text shown false o)
       → IfOk r (λ s. s ≡ status_of o) → o ≡ on_one_thread code → shown ≡ code.arrays → IfOk r (TellsOnOneThread text old new)
   told_on_one_thread code shown o is_code written status is_outcome is_declared =
       IfOk-weaker r (λ s. Tells (on_one_thread code) code.arrays old new s) (TellsOnOneThread text old new)
       (λ s tells. record { code = code; is_code = is_code; told = tells })
       (told old new r code.arrays shown o (on_one_thread code) written status is_outcome is_declared)
 
-  -- what was shown is an outcome of the text's program
-  pub told_of_run : (code : Program) (shown : List Array) (o : Outcome) → IsCodeOf text code → Writes old new r (outcome_text shown false o)
+  -- what was shown is an outcome that the tasks of the text's program come to
+  pub told_of_run : (code : Program) (shown : List Array) (o : Outcome) → IsCodeOf text code → IsRaceFree (pairs_in [] code.main.body) → IsReached code (zeros code) usual o → Writes old new r (outcome_text shown false o)
       → IfOk r (λ s. s ≡ status_of o) → shown ≡ code.arrays → IfOk r (TellsRun text old new)
-  told_of_run code shown o is_code written status is_declared =
+  told_of_run code shown o is_code race_free reached written status is_declared =
       IfOk-weaker r (λ s. Tells o code.arrays old new s) (TellsRun text old new)
-      (λ s tells. record { code = code; is_code = is_code; outcome = o; told = tells })
+      (λ s tells. record { code = code; is_code = is_code; race_free = race_free; outcome = o; reached = reached; told = tells })
       (told old new r code.arrays shown o o written status refl is_declared)
 
   -- either way some outcome was told, by a status of three

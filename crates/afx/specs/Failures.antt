@@ -37,6 +37,7 @@ access_text arrays a =
 -- a race is told by both its accesses, if there is memory for it
 abbrev pub TellsRefusal : Refused → Failure → Type 0
 TellsRefusal (RaceFound race typed) (Race first second) =
-    (string_bytes first ≡ access_text typed.code.arrays.items race.first) × (string_bytes second ≡ access_text typed.code.arrays.items race.second)
+    (string_bytes first ≡ access_text typed.code.arrays.items race.first)
+    × (string_bytes second ≡ access_text typed.code.arrays.items race.second)
 TellsRefusal refused NoMemoryInCheck = Unit {0}
 TellsRefusal refused _ = ⊥

@@ -1,5 +1,5 @@
 -- What a command leaves that tells an outcome.
-use Rattle.std.specs.Prelude.{ℕ, ℤ, pos, ◌≡◌, List, Option, Some, IsTrue, false, map, replicate}
+use Rattle.std.specs.Prelude.{ℕ, ℤ, pos, ◌≡◌, List, [], Option, Some, IsTrue, false, map, replicate}
 use Rattle.std.specs.Io.KnownBytes.{Appends}
 use Rattle.syntax.specs.Canonical.{listed}
 use Rattle.syntax.specs.Lexical.{AreTokensOf}
@@ -9,6 +9,9 @@ use Rattle.types.specs.Code.{Array, Program}
 use Rattle.types.specs.FirstPart.{is_first_part}
 use Rattle.types.specs.Outcome.{Budget, Outcome, outcome}
 use Rattle.types.specs.Resolution.{resolution}
+use Rattle.workers.specs.Accesses.{pairs_in}
+use Rattle.workers.specs.Races.{IsRaceFree}
+use Rattle.workers.specs.Worlds.{IsReached}
 use Rattle.afx.specs.OutcomeText.{outcome_text, status_of}
 
 -- the outcome's text was appended, without the arrays, and its status was given
@@ -41,11 +44,13 @@ pub record TellsOnOneThread (text : List ℕ) (old new : Option (List ℕ)) (sta
   pub is_code : IsCodeOf text code
   pub told : Tells (on_one_thread code) code.arrays old new status
 
--- the text is that of a program of which some outcome was told
+-- the text is that of a program without a race, of which an outcome was told that its tasks come to on zeros
 pub record TellsRun (text : List ℕ) (old new : Option (List ℕ)) (status : ℕ) : Type 0 where
   pub code : Program
   pub is_code : IsCodeOf text code
+  pub race_free : IsRaceFree (pairs_in [] code.main.body)
   pub outcome : Outcome
+  pub reached : IsReached code (zeros code) usual outcome
   pub told : Tells outcome code.arrays old new status
 
 -- some outcome was told

@@ -1,5 +1,7 @@
 -- What the search folds together is the least clash.
-use Rattle.std.proofs.Common.{◌≡◌, ℕ, zero, suc, Bool, true, false, List, [], ◌∷◌, ◌++◌, if◌then◌else◌, Option, None, Some, Contains, Result, Ok, Err, IfOk, fold, refl, sym, ap, ◌∙◌, subst, append_assoc, inl, inr, ◌⊎◌, arith, true≢false}
+use Rattle.std.proofs.Common.{◌≡◌, ℕ, zero, suc, Bool, true, false, List, [], ◌∷◌, ◌++◌, if◌then◌else◌, Option, None}
+use Rattle.std.proofs.Common.{Some, Contains, Result, Ok, Err, IfOk, fold, refl, sym, ap, ◌∙◌, subst, append_assoc, inl}
+use Rattle.std.proofs.Common.{inr, ◌⊎◌, arith, true≢false}
 use Rattle.std.proofs.lemmas.List.{append-nil}
 use Rattle.std.proofs.lemmas.List.Elements.{Contains-append_left, Contains-append_right, Contains-append_cases}
 use Rattle.workers.specs.declared.race.Access.{Access}
@@ -27,10 +29,21 @@ module _ (seen : List Pair) (p : Pair) where
   m = meeting_of p
 
   clash_before : (n : Meeting) → IsClash seen n → IsClash (seen ++ p ∷ []) n
-  clash_before n c = record { pair = c.pair; stands = Contains-append_left seen (p ∷ []) c.pair c.stands; meets = c.meets; clashes = c.clashes }
+  clash_before n c = record {
+    pair = c.pair;
+    stands = Contains-append_left seen (p ∷ []) c.pair c.stands;
+    meets =
+        c.meets;
+    clashes = c.clashes;
+  }
 
   clash_here : is_clash m ≡ true → IsClash (seen ++ p ∷ []) m
-  clash_here e = record { pair = p; stands = Contains-append_right seen (p ∷ []) p (0, omega arith, refl); meets = refl; clashes = e }
+  clash_here e = record {
+    pair = p;
+    stands = Contains-append_right seen (p ∷ []) p (0, omega arith, refl);
+    meets = refl;
+    clashes = e;
+  }
 
   clash_cases : (n : Meeting) → IsClash (seen ++ p ∷ []) n → IsClash seen n ⊎ (m ≡ n)
   clash_cases n c = by (Contains-append_cases seen (p ∷ []) c.pair c.stands)
@@ -46,11 +59,13 @@ module _ (seen : List Pair) (p : Pair) where
       no_clash : is_clash m ≡ false → (n : Meeting) → IsClash (seen ++ p ∷ []) n → m ≡ n → ⊥
       no_clash e n c same = true≢false (sym c.clashes ∙ ap is_clash (sym same) ∙ e)
 
-      known : (x : Meeting) → IsLeastClash seen x → (c : Bool) → is_less (meeting_key m) (meeting_key x) ≡ c → is_clash m ≡ true → IsLeast (seen ++ p ∷ []) (if c then Some m else Some x)
+      known : (x : Meeting) → IsLeastClash seen x → (c : Bool) → is_less (meeting_key m) (meeting_key x) ≡ c
+          → is_clash m ≡ true → IsLeast (seen ++ p ∷ []) (if c then Some m else Some x)
       known x h true e clash = record {
         clash = clash_here clash;
         least = λ n c. elim (clash_cases n c) [
-          | inl before ↦ not_less_trans (meeting_key m) (meeting_key x) (meeting_key n) (not_both_less (meeting_key m) (meeting_key x) e) (h.least n before)
+          | inl before ↦ not_less_trans (meeting_key m) (meeting_key x) (meeting_key n)
+              (not_both_less (meeting_key m) (meeting_key x) e) (h.least n before)
           | inr same ↦ ap (λ k. is_less (meeting_key k) (meeting_key m)) (sym same) ∙ not_less_itself (meeting_key m)
         ];
       }
@@ -62,7 +77,8 @@ module _ (seen : List Pair) (p : Pair) where
         ];
       }
 
-      by : (found : Option Meeting) → IsLeast seen found → (b : Bool) → is_clash m ≡ b → IsLeast (seen ++ p ∷ []) (if b then lesser found m else found)
+      by : (found : Option Meeting) → IsLeast seen found → (b : Bool) → is_clash m ≡ b
+          → IsLeast (seen ++ p ∷ []) (if b then lesser found m else found)
       by None h true e = record {
         clash = clash_here e;
         least = λ n c. elim (clash_cases n c) [
@@ -79,7 +95,9 @@ module _ (seen : List Pair) (p : Pair) where
 
 from : (seen rest : List Pair) (found : Option Meeting) → IsLeast seen found → IsLeast (seen ++ rest) (fold tell found rest)
 from seen [] found h = subst (λ (ps : List Pair). IsLeast ps found) (sym (append-nil seen)) h
-from seen (p ∷ rest) found h = subst (λ (ps : List Pair). IsLeast ps (fold tell (tell found p) rest)) (append_assoc seen (p ∷ []) rest) (from (seen ++ p ∷ []) rest (tell found p) (step seen p found h))
+from seen (p ∷ rest) found h =
+    subst (λ (ps : List Pair). IsLeast ps (fold tell (tell found p) rest)) (append_assoc seen (p ∷ []) rest)
+    (from (seen ++ p ∷ []) rest (tell found p) (step seen p found h))
 
 none_yet : (n : Meeting) → IsClash [] n → ⊥
 none_yet n c = omega (arith, c.stands.1)
@@ -88,9 +106,12 @@ none_yet n c = omega (arith, c.stands.1)
 pub least_of_all : (ps : List Pair) (found : Option Meeting) → found ≡ fold tell None ps → IsLeast ps found
 least_of_all ps found e = subst (λ (r : Option Meeting). IsLeast ps r) (sym e) (from [] ps None none_yet)
 
-pub least_where_found : {E : Type 0} (ps : List Pair) (r : Result (Option Meeting) E) → IfOk r (λ found. found ≡ fold tell None ps) → IfOk r (IsLeast ps)
+pub least_where_found : {E : Type 0} (ps : List Pair) (r : Result (Option Meeting) E)
+    → IfOk r (λ found. found ≡ fold tell None ps) → IfOk r (IsLeast ps)
 least_where_found ps (Ok found) h = least_of_all ps found h
 least_where_found ps (Err e) h = tt
 
-pub least_of_same : (ps qs : List Pair) (found same : Option Meeting) → ps ≡ qs → found ≡ same → IsLeast ps found → IsLeast qs same
-least_of_same ps qs found same e f h = subst (λ (r : Option Meeting). IsLeast qs r) f (subst (λ (l : List Pair). IsLeast l found) e h)
+pub least_of_same : (ps qs : List Pair) (found same : Option Meeting) → ps ≡ qs → found ≡ same → IsLeast ps found
+    → IsLeast qs same
+least_of_same ps qs found same e f h =
+    subst (λ (r : Option Meeting). IsLeast qs r) f (subst (λ (l : List Pair). IsLeast l found) e h)

@@ -1,15 +1,6 @@
 -- What is left goes down.
-use Rattle.std.proofs.Common.{◌≡◌, ◌≢◌, ℕ, zero, suc, ◌+◌, ◌-◌, ◌*◌, ◌<◌, List, slice_get, Some, swap_remove, sum_by, refl, sym, ◌∙◌, ap, arith}
-use Rattle.std.proofs.lemmas.List.Sums.{sum_by-swap_remove}
-use Rattle.std.proofs.lemmas.Option.{get_or_from_slice_get, slice_get_within}
+use Rattle.std.proofs.Common.{◌≡◌, ◌≢◌, ℕ, zero, suc, ◌+◌, ◌-◌, ◌*◌, ◌<◌, refl, ◌∙◌, ap, arith}
 use Rattle.workers.specs.Left.{rate}
-
--- one item less, and its share of the sum
-pub taken : {X : Type 0} (f : X → ℕ) (es new : List X) (i : ℕ) (p : X) → slice_get es i ≡ Some p → new ≡ swap_remove es i p → sum_by f new + f p ≡ sum_by f es
-taken f es new i p at is =
-    ap (λ l. sum_by f l + f p) is
-    ∙ ap (λ q. sum_by f (swap_remove es i p) + f q) (sym (get_or_from_slice_get es i p p at))
-    ∙ sum_by-swap_remove f es i p (slice_get_within es i p at)
 
 -- a step of so many is worth its rate
 pub step_less : (r s : ℕ) → s ≢ 0 → (s - 1) * r + r ≡ s * r
@@ -29,18 +20,23 @@ rate_child fresh zero ne = absurd (ne refl)
 rate_child fresh (suc n) ne = let e : n ≡ suc n - 1 = omega arith in ap (λ m. 5 + fresh * rate fresh m) e
 
 -- a statement that begins no child adds two frames at most
-pub kept : (fresh nest steps frames nest_now steps_now frames_now : ℕ) → steps_now ≡ steps → nest_now ≡ nest → frames_now < frames + 3 → steps_now * rate fresh nest_now + frames_now + 1 < steps * rate fresh nest + frames + 1 + rate fresh nest
+pub kept : (fresh nest steps frames nest_now steps_now frames_now : ℕ) → steps_now ≡ steps → nest_now ≡ nest
+    → frames_now < frames + 3
+    → steps_now * rate fresh nest_now + frames_now + 1 < steps * rate fresh nest + frames + 1 + rate fresh nest
 kept fresh nest steps frames nest_now steps_now frames_now s n f =
     let same : steps_now * rate fresh nest_now ≡ steps * rate fresh nest = λ j. s j * rate fresh (n j) in
     omega (arith, same, rate_least fresh nest)
 
 -- a task that begins a child, beside the child
-pub spawned : (fresh nest steps frames nest_now steps_now frames_now child : ℕ) → nest ≢ 0 → steps_now ≡ steps → nest_now ≡ nest → frames_now ≡ frames → child ≡ fresh * rate fresh (nest_now - 1) + 2 → steps_now * rate fresh nest_now + frames_now + 1 + child < steps * rate fresh nest + frames + 1 + rate fresh nest
+pub spawned : (fresh nest steps frames nest_now steps_now frames_now child : ℕ) → nest ≢ 0 → steps_now ≡ steps
+    → nest_now ≡ nest → frames_now ≡ frames → child ≡ fresh * rate fresh (nest_now - 1) + 2
+    → steps_now * rate fresh nest_now + frames_now + 1 + child < steps * rate fresh nest + frames + 1 + rate fresh nest
 spawned fresh nest steps frames nest_now steps_now frames_now child ne s n f c =
     let same : steps_now * rate fresh nest_now ≡ steps * rate fresh nest = λ j. s j * rate fresh (n j) in
     let begun : child ≡ fresh * rate fresh (nest - 1) + 2 = c ∙ (λ j. fresh * rate fresh (n j - 1) + 2) in
     omega (arith, same, begun, rate_child fresh nest ne)
 
 -- the step that a statement takes pays for it
-pub paid : (fresh nest steps frames frames_now : ℕ) → steps ≢ 0 → frames_now ≡ frames → (steps - 1) * rate fresh nest + frames_now + 1 + rate fresh nest ≡ steps * rate fresh nest + frames + 1
+pub paid : (fresh nest steps frames frames_now : ℕ) → steps ≢ 0 → frames_now ≡ frames
+    → (steps - 1) * rate fresh nest + frames_now + 1 + rate fresh nest ≡ steps * rate fresh nest + frames + 1
 paid fresh nest steps frames frames_now ne f = let e = step_less (rate fresh nest) steps ne in omega arith

@@ -1,13 +1,17 @@
 -- The order of meetings, and the least of a list of clashes.
-use Rattle.std.proofs.Common.{◌≡◌, ℕ, Bool, true, false, List, [], ◌∷◌, if◌then◌else◌, nat_eq, nat_lt, refl, sym, arith, true≢false}
+use Rattle.std.proofs.Common.{◌≡◌, ℕ, Bool, true, false, List, [], ◌∷◌, if◌then◌else◌, nat_eq, nat_lt, refl, sym, arith}
+use Rattle.std.proofs.Common.{true≢false}
 use Rattle.std.proofs.lemmas.Bool.Decides.{nat_tests}
 use Rattle.workers.specs.Races.{is_less}
 
 -- the first places, where the rest is in order
-heads_trans : (x y z : ℕ) (a b c : Bool) → (a ≡ false → b ≡ false → c ≡ false) → (if nat_eq y x then a else nat_lt y x) ≡ false → (if nat_eq z y then b else nat_lt z y) ≡ false → (if nat_eq z x then c else nat_lt z x) ≡ false
+heads_trans : (x y z : ℕ) (a b c : Bool) → (a ≡ false → b ≡ false → c ≡ false)
+    → (if nat_eq y x then a else nat_lt y x) ≡ false → (if nat_eq z y then b else nat_lt z y) ≡ false
+    → (if nat_eq z x then c else nat_lt z x) ≡ false
 heads_trans x y z a b c rest p q = grind (arith, nat_tests)
 
-heads_one : (x y : ℕ) (a b : Bool) → (a ≡ true → b ≡ false) → (if nat_eq x y then a else nat_lt x y) ≡ true → (if nat_eq y x then b else nat_lt y x) ≡ false
+heads_one : (x y : ℕ) (a b : Bool) → (a ≡ true → b ≡ false) → (if nat_eq x y then a else nat_lt x y) ≡ true
+    → (if nat_eq y x then b else nat_lt y x) ≡ false
 heads_one x y a b rest p = grind (arith, nat_tests)
 
 -- what doesn't come before the second, which doesn't come before the first

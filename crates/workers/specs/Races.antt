@@ -1,5 +1,6 @@
 -- Which pairs of accesses clash, and which clash is the least.
-use Rattle.std.specs.Prelude.{◌≡◌, ℕ, Bool, true, false, ◌&&◌, ◌||◌, List, [], ◌∷◌, Option, None, Some, MatchOption, Contains, nat_eq, nat_lt, if◌then◌else◌}
+use Rattle.std.specs.Prelude.{◌≡◌, ℕ, Bool, true, false, ◌&&◌, ◌||◌, List, [], ◌∷◌, Option, None, Some, MatchOption}
+use Rattle.std.specs.Prelude.{Contains, nat_eq, nat_lt, if◌then◌else◌}
 use Rattle.workers.specs.declared.race.Access.{Access}
 use Rattle.workers.specs.declared.race.Meeting.{Meeting}
 
@@ -19,11 +20,17 @@ access_key x = x.label ∷ x.section ∷ kind_number x.write ∷ []
 
 -- meetings are ordered by both labels, then by what each access is
 abbrev pub meeting_key : Meeting → List ℕ
-meeting_key m = m.first.label ∷ m.second.label ∷ m.first.section ∷ kind_number m.first.write ∷ m.second.section ∷ kind_number m.second.write ∷ []
+meeting_key m =
+    m.first.label ∷ m.second.label ∷ m.first.section ∷ kind_number m.first.write ∷ m.second.section
+    ∷ kind_number m.second.write ∷ []
 
 -- a pair has no order: the lesser access is the meeting's first
 abbrev pub meeting_of : Access × Access → Meeting
-meeting_of p = if is_less (access_key p.1) (access_key p.0) then record { first = p.1; second = p.0 } else record { first = p.0; second = p.1 }
+meeting_of p =
+    if is_less (access_key p.1) (access_key p.0) then record { first = p.1; second = p.0 } else record {
+      first = p.0;
+      second = p.1;
+    }
 
 -- both are of one array, and at least one writes
 abbrev pub is_clash : Meeting → Bool

@@ -1,7 +1,10 @@
 //! The accesses of statements.
 
 ghost use Rattle.std.specs.Prelude.{◌≡◌, IfOk};
-ghost use Rattle.workers.specs.Deeds.{own_of, reads_of, read_of, deed, deeds, all, all_in};
+ghost use Rattle.std.specs.Prelude.{filter_map, map};
+ghost use Rattle.types.specs.Translation.{code as code_of, codes as codes_of, number as number_of};
+ghost use Rattle.types.specs.Translation.{primitive as primitive_of};
+ghost use Rattle.workers.specs.Accesses.{accesses as accesses_by, accesses_in as all_in, own_of, read_of};
 
 use crate::race::Access;
 use std::alloc::{AllocError, Global};
@@ -10,7 +13,7 @@ use types::code::{Label, Number, Primitive, Stmt, StmtKind};
 /// Every access in a list of statements.
 #[cycle(accesses)]
 pub fn accesses_in(alloc: Global, body: &[Stmt]) -> Result<Vec<Access>, AllocError>
-    ensures { IfOk result (λ found. found.items ≡ all_in (deeds body.now)) }
+    ensures { IfOk result (λ found. found.items ≡ all_in (codes_of body.now)) }
 {
     let mut found = Vec::new(alloc);
     for statement in body {
@@ -23,7 +26,8 @@ pub fn accesses_in(alloc: Global, body: &[Stmt]) -> Result<Vec<Access>, AllocErr
 /// Every access in a statement.
 #[cycle(accesses)]
 pub fn accesses_of(alloc: Global, statement: &Stmt) -> Result<Vec<Access>, AllocError>
-    ensures { IfOk result (λ found. found.items ≡ all (deed statement.now.label statement.now.kind)) }
+    ensures { IfOk result (λ found. found.items
+        ≡ accesses_by statement.now.label (code_of statement.now.kind)) }
 {
     match &statement.kind {
         StmtKind::Do(primitive) => own(alloc, statement.label, primitive),
@@ -36,7 +40,7 @@ pub fn accesses_of(alloc: Global, statement: &Stmt) -> Result<Vec<Access>, Alloc
 
 /// What a primitive statement does: a store writes its array, a print reads each array that it indexes.
 fn own(alloc: Global, label: Label, primitive: &Primitive) -> Result<Vec<Access>, AllocError>
-    ensures { IfOk result (λ found. found.items ≡ own_of label primitive.now) }
+    ensures { IfOk result (λ found. found.items ≡ own_of label (primitive_of primitive.now)) }
 {
     match primitive {
         Primitive::Store { section, .. } => {
@@ -55,7 +59,8 @@ fn own(alloc: Global, label: Label, primitive: &Primitive) -> Result<Vec<Access>
 
 /// A read of each array that is indexed.
 fn reads(alloc: Global, label: Label, values: &[Number]) -> Result<Vec<Access>, AllocError>
-    ensures { IfOk result (λ found. found.items ≡ reads_of label values.now) }
+    ensures { IfOk result (λ found. found.items
+        ≡ filter_map (read_of label) (map number_of values.now)) }
 {
     values
         .iter()
@@ -65,7 +70,7 @@ fn reads(alloc: Global, label: Label, values: &[Number]) -> Result<Vec<Access>, 
 
 /// What an expression reads: an element at a literal index reads its array.
 fn read(label: Label, value: &Number) -> Option<Access>
-    ensures { result ≡ read_of label value.now }
+    ensures { result ≡ read_of label (number_of value.now) }
 {
     match value {
         Number::Element { section, .. } => Some(Access {

@@ -1,11 +1,13 @@
 //! The arrays that a task has.
 
-ghost use Rattle.std.specs.Prelude.{ℕ, ◌≡◌, ◌≢◌, ◌<◌, IfOk, OnOk, OnErr, Ok, Some, map, pos};
-ghost use Rattle.std.specs.Prelude.{replicate, length, slice_get, vec_len};
+ghost use Rattle.std.specs.Prelude.{◌≡◌, IfOk, OnOk, Some, map, replicate, slice_get, is_some, true};
+ghost use Rattle.std.specs.Result.{result_unwrap_or};
 ghost use Rattle.types.specs.Value.{holds_number};
 ghost use Rattle.types.specs.Translation.{input as lists_of};
 ghost use Rattle.workers.specs.Holdings.{CopyOf, Without, Own, holding, holdings, given, kept};
-ghost use Rattle.workers.specs.Holdings.{element_at, length_of, read_from};
+ghost use Rattle.workers.specs.Holdings.{element_at, read_from, place_of, stored, stored_in, trouble_of};
+ghost use Rattle.workers.specs.Holdings.{with_stored, all_given, all_kept, all_back, given_of, with_kept};
+ghost use Rattle.workers.specs.Holdings.{back_in, back_at, is_own};
 
 use crate::needs::Need;
 use std::alloc::{AllocError, Global};
@@ -82,9 +84,11 @@ impl Contents {
         index: i64,
         value: i64,
     ) -> Result<(), Trouble>
-        ensures lengths { map (λ h. length_of (holding h)) self.new.arrays.items
-            ≡ map (λ h. length_of (holding h)) self.old.arrays.items }
-        ensures within { OnOk result (section < vec_len self.old.arrays) }
+        ensures answer { let there = slice_get (holdings self.old) section in
+            result ≡ trouble_of (stored_in there kind index value) }
+        ensures stored { let there = slice_get (holdings self.old) section in
+            holdings self.new
+            ≡ with_stored (holdings self.old) section (stored_in there kind index value) }
     {
         if section >= self.arrays.len() {
             return Err(Trouble::Absent);
@@ -97,35 +101,54 @@ impl Contents {
 
     /// What a child needs: arrays that it writes leave these contents, the others are copied.
     pub fn carve(&mut self, alloc: Global, needs: &[Need]) -> Result<Contents, AllocError>
-        ensures child { IfOk result (λ child. vec_len child.arrays ≡ length needs.now) }
-        ensures parent { vec_len self.new.arrays ≡ vec_len self.old.arrays }
+        ensures child { IfOk result (λ child.
+            holdings child ≡ all_given needs.now (holdings self.old)) }
+        ensures parent { OnOk result (holdings self.new ≡ all_kept needs.now (holdings self.old)) }
     {
         let mut arrays = Vec::new(alloc);
         for (section, need) in needs.iter().enumerate() {
-            let held = match self.arrays.get_mut(section) {
-                None => Held::Absent,
-                Some(held) => held.part(alloc, *need)?,
-            };
-            arrays.push(held)?;
+            arrays.push(self.part(alloc, section, *need)?)?;
         }
         Ok(Contents { arrays })
     }
 
+    /// What a child gets of an array: nothing of one that isn't known here.
+    fn part(&mut self, alloc: Global, section: usize, need: Need) -> Result<Held, AllocError>
+        ensures child { IfOk result (λ part.
+            holding part ≡ given_of need (slice_get (holdings self.old) section)) }
+        ensures parent { holdings self.new ≡ with_kept need (holdings self.old) section }
+    {
+        if section >= self.arrays.len() {
+            return Ok(Held::Absent);
+        }
+        self.arrays[section].part(alloc, need)
+    }
+
     /// Takes in the arrays that a child owned. False where one is owned here already.
     pub fn paste(&mut self, child: Contents) -> bool
-        ensures { vec_len self.new.arrays ≡ vec_len self.old.arrays }
+        ensures fits { result ≡ is_some (all_back (holdings child) (holdings self.old)) }
+        ensures back { result ≡ true
+            → all_back (holdings child) (holdings self.old) ≡ Some (holdings self.new) }
     {
-        let mut fits = true;
-        for (section, held) in child.arrays.into_iter().enumerate() {
-            if let Held::Owned(numbers) = held {
-                match self.arrays.get_mut(section) {
-                    Some(Held::Owned(_)) => fits = false,
-                    Some(place) => *place = Held::Owned(numbers),
-                    None => fits = false,
-                }
+        let mut arrays = child.arrays;
+        while let Some(held) = arrays.pop() {
+            if !self.take_back(arrays.len(), held) {
+                return false;
             }
         }
-        fits
+        true
+    }
+
+    /// Takes in what a child had of an array, if it owned it. False where that is owned here, or isn't known.
+    fn take_back(&mut self, section: usize, held: Held) -> bool
+        ensures fits { result ≡ is_some (back_at (holding held) section (holdings self.old)) }
+        ensures back { result ≡ true
+            → back_at (holding held) section (holdings self.old) ≡ Some (holdings self.new) }
+    {
+        if section >= self.arrays.len() {
+            return !held.is_owned();
+        }
+        self.arrays[section].take_back(held)
     }
 }
 
@@ -145,6 +168,33 @@ impl Held {
             },
         }
     }
+
+    /// Whether it is the array itself.
+    fn is_owned(&self) -> bool
+        ensures { result ≡ is_own (holding self.now) }
+    {
+        match self {
+            Held::Owned(_) => true,
+            Held::Copied(_) => false,
+            Held::Absent => false,
+        }
+    }
+
+    /// Takes in what a child had, if it owned it. False where it is owned here.
+    fn take_back(&mut self, child: Held) -> bool
+        ensures fits { result ≡ is_some (back_in (holding child) (holding self.old)) }
+        ensures back { result ≡ true
+            → back_in (holding child) (holding self.old) ≡ Some (holding self.new) }
+    {
+        let Held::Owned(numbers) = child else {
+            return true;
+        };
+        if self.is_owned() {
+            return false;
+        }
+        *self = Held::Owned(numbers);
+        true
+    }
 }
 
 /// A copy, to be read.
@@ -156,8 +206,7 @@ fn copied(alloc: Global, numbers: &[i64]) -> Result<Held, AllocError>
 
 /// The place of an index in an array of this length.
 fn place(length: usize, index: i64) -> Result<usize, Trouble>
-    ensures within { IfOk result (λ place. place < length) }
-    ensures same { IfOk result (λ place. pos place ≡ index) }
+    ensures { result ≡ place_of length index }
 {
     match usize::try_from(index) {
         Ok(place) if place < length => Ok(place),
@@ -180,9 +229,9 @@ fn element(numbers: &[i64], index: i64) -> Result<i64, Trouble>
 
 /// Stores a number at an index.
 fn store(numbers: &mut Vec<i64>, kind: ElementType, index: i64, value: i64) -> Result<(), Trouble>
-    ensures stored { OnOk result (element_at numbers.new.items index ≡ Ok value) }
-    ensures refused { OnErr result (numbers.new.items ≡ numbers.old.items) }
-    ensures length { length numbers.new.items ≡ length numbers.old.items }
+    ensures answer { result ≡ trouble_of (stored kind index value numbers.old.items) }
+    ensures stored { let old = numbers.old.items in
+        numbers.new.items ≡ result_unwrap_or (stored kind index value old) old }
 {
     let place = place(numbers.len(), index)?;
     if !fits(kind, value) {

@@ -6,6 +6,7 @@ pub mod access;
 pub mod check;
 pub mod contents;
 pub mod gather;
+pub mod laws;
 pub mod needs;
 pub mod race;
 pub mod run;

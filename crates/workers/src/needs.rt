@@ -1,7 +1,9 @@
 //! What the body of an async needs of the arrays.
 
-ghost use Rattle.std.specs.Prelude.{◌≡◌, IfOk, vec_len};
-ghost use Rattle.workers.specs.Holdings.{more};
+ghost use Rattle.std.specs.Prelude.{◌≡◌, IfOk};
+ghost use Rattle.types.specs.Translation.{codes as codes_of};
+ghost use Rattle.workers.specs.Accesses.{accesses_in as all_in};
+ghost use Rattle.workers.specs.Holdings.{more, needs_in};
 
 use crate::access::accesses_in;
 use std::alloc::{AllocError, Global};
@@ -20,7 +22,7 @@ pub enum Need {
 
 /// What a body needs of each of the arrays, in their order, also for the tasks that it begins.
 pub fn needs_of(alloc: Global, arrays: usize, body: &[Stmt]) -> Result<Vec<Need>, AllocError>
-    ensures { IfOk result (λ needs. vec_len needs ≡ arrays) }
+    ensures { IfOk result (λ needs. needs.items ≡ needs_in (all_in (codes_of body.now)) arrays) }
 {
     let accesses = accesses_in(alloc, body)?;
     let mut needs = vec![in alloc; Need::Nothing; arrays]?;

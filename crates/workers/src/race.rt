@@ -1,4 +1,4 @@
-//! What statements do to arrays, and which two of these deeds clash.
+//! What statements do to arrays, and which two accesses clash.
 
 ghost use Rattle.std.specs.Prelude.{◌≡◌};
 ghost use Rattle.workers.specs.Races.{access_key, meeting_key, is_less, meeting_of, is_clash as clashes};

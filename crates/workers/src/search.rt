@@ -1,7 +1,8 @@
 //! The search for the least race.
 
-ghost use Rattle.std.specs.Prelude.{◌≡◌, IfOk, fold, map};
-ghost use Rattle.workers.specs.Deeds.{deed, deeds, pairs, pairs_in, each_with};
+ghost use Rattle.std.specs.Prelude.{◌≡◌, [], IfOk, filter, fold, map};
+ghost use Rattle.types.specs.Translation.{code as code_of, codes as codes_of};
+ghost use Rattle.workers.specs.Accesses.{pairs, pairs_in, each_with};
 ghost use Rattle.workers.specs.Races.{tell, IsLeast};
 
 use crate::access::accesses_of;
@@ -9,9 +10,9 @@ use crate::race::{Access, Meeting};
 use std::alloc::{AllocError, Global};
 use types::code::{Stmt, StmtKind};
 
-/// The least clash in a list of statements. The time grows with the square of the number of accesses.
+/// The least clash in a list of statements. The time grows with the number of accesses times that of writes.
 pub fn race_in(alloc: Global, body: &[Stmt]) -> Result<Option<Meeting>, AllocError>
-    ensures { IfOk result (IsLeast (pairs_in (deeds body.now))) }
+    ensures { IfOk result (IsLeast (pairs_in [] (codes_of body.now))) }
 {
     least_race(alloc, None, body)
 }
@@ -23,14 +24,14 @@ fn least_race(
     before: Option<Meeting>,
     body: &[Stmt],
 ) -> Result<Option<Meeting>, AllocError>
-    ensures { IfOk result (λ least. least ≡ fold tell before (pairs_in (deeds body.now))) }
+    ensures { IfOk result (λ least. least ≡ fold tell before (pairs_in [] (codes_of body.now))) }
 {
     let mut race = before;
     let mut pending = Vec::new(alloc);
     for statement in body {
         race = least_race_inside(alloc, race, statement)?;
         let later = accesses_of(alloc, statement)?;
-        race = least_clash(race, &pending, &later);
+        race = least_clash(alloc, race, &pending, &later)?;
         if let StmtKind::Async { .. } = &statement.kind {
             pending.extend_from_slice(&later)?;
         }
@@ -45,7 +46,7 @@ fn least_race_inside(
     before: Option<Meeting>,
     statement: &Stmt,
 ) -> Result<Option<Meeting>, AllocError>
-    ensures { IfOk result (λ least. least ≡ fold tell before (pairs (deed statement.now.label statement.now.kind))) }
+    ensures { IfOk result (λ least. least ≡ fold tell before (pairs (code_of statement.now.kind))) }
 {
     match &statement.kind {
         StmtKind::Async { body } => least_race(alloc, before, body),
@@ -55,14 +56,51 @@ fn least_race_inside(
 }
 
 /// The least of a race found before and the clashes of each pending access with each later one.
-fn least_clash(before: Option<Meeting>, pending: &[Access], later: &[Access]) -> Option<Meeting>
-    ensures { result ≡ fold tell before (each_with pending.now later.now) }
+fn least_clash(
+    alloc: Global,
+    before: Option<Meeting>,
+    pending: &[Access],
+    later: &[Access],
+) -> Result<Option<Meeting>, AllocError>
+    ensures { IfOk result (λ least. least ≡ fold tell before (each_with pending.now later.now)) }
 {
+    let writes = writes_among(alloc, later)?;
     let mut race = before;
     for access in pending {
-        race = least_clash_of(race, *access, later);
+        race = least_clash_behind(race, *access, later, &writes);
     }
-    race
+    Ok(race)
+}
+
+/// The least of a race found before and the clashes of a pending access with each later one. A read clashes with
+/// no other read, so it is compared with the later writes alone.
+fn least_clash_behind(
+    before: Option<Meeting>,
+    access: Access,
+    later: &[Access],
+    writes: &[Access],
+) -> Option<Meeting>
+    requires { writes.now ≡ filter (λ a. a.write) later.now }
+    ensures { result ≡ fold tell before (map (λ y. (access, y)) later.now) }
+{
+    if access.write {
+        least_clash_of(before, access, later)
+    } else {
+        least_clash_of(before, access, writes)
+    }
+}
+
+/// Those of some accesses that write.
+fn writes_among(alloc: Global, accesses: &[Access]) -> Result<Vec<Access>, AllocError>
+    ensures { IfOk result (λ writes. writes.items ≡ filter (λ a. a.write) accesses.now) }
+{
+    let mut writes = Vec::new(alloc);
+    for access in accesses {
+        if access.write {
+            writes.push(*access)?;
+        }
+    }
+    Ok(writes)
 }
 
 /// The least of a race found before and the clashes of one access with each later one.

@@ -1,16 +1,30 @@
 //! A task: what it has left to do, what it has, and what it told.
 
-ghost use Rattle.std.specs.Prelude.{◌≡◌, ◌+◌, ◌*◌, ◌<◌, [], IfOk, OnOk};
+ghost use Rattle.std.specs.Prelude.{◌≡◌, ◌+◌, ◌*◌, ◌<◌, IfOk, OnOk, Some, map, if◌then◌else◌};
+ghost use Rattle.types.specs.Translation.{code as code_of, codes as codes_of};
+ghost use Rattle.types.specs.Translation.{number as number_of, primitive as primitive_of};
+ghost use Rattle.types.specs.Translation.{program as program_of};
+ghost use Rattle.workers.specs.Finishes.{Resumes};
+ghost use Rattle.workers.specs.Holdings.{holdings, trouble_of, with_stored};
 ghost use Rattle.workers.specs.Left.{rate, left_of, LeavesLess, KeepsLeft};
+ghost use Rattle.workers.specs.Turns.{act as act_by, add as add_by, begun as begun_by};
+ghost use Rattle.workers.specs.Turns.{is_stopped, left_behind};
+ghost use Rattle.workers.specs.Turns.{primitive as primitive_by, spawn as spawn_by, store as store_by};
+ghost use Rattle.workers.specs.Turns.{tell as tell_by, troubled, turn as turn_by};
+ghost use Rattle.workers.specs.Turns.{value as value_by, values as values_by};
+ghost use Rattle.workers.specs.Views.{listed, piece as piece_of, task as task_of};
+ghost use Rattle.workers.specs.Views.{task_result as result_of, told as told_of, turn as turn_of};
+ghost use Rattle.workers.specs.Worlds.{inside};
 
 use crate::contents::{Contents, Trouble};
 use crate::gather::{GatherError, settle};
 use crate::needs::needs_of;
 use crate::run::RunError;
 use std::alloc::{AllocError, Global};
+use std::mem;
 use types::budget::Budget;
 use types::code::{Label, Number, Primitive, Program, Stmt, StmtKind};
-use types::fault::{Fault, FaultKind};
+use types::fault::Fault;
 use types::path::Path;
 
 /// What all tasks of a run share.
@@ -80,10 +94,10 @@ pub struct Task<'p> {
     pub nest: u32,
     // What it has and told.
     pub contents: Contents,
-    /// The part outside of its own finishes.
-    pub outside: Part,
-    /// Its open finishes, the innermost last.
-    pub open: Vec<Part>,
+    /// The part that it tells in: that of its innermost open finish, or the one outside of all of these.
+    pub part: Part,
+    /// The parts around that one, the innermost last.
+    pub outer: Vec<Part>,
     /// How many children it began.
     pub children: u32,
 }
@@ -112,6 +126,18 @@ pub enum Turn<'p> {
     Ended(TaskResult),
 }
 
+impl Flow {
+    /// The flow behind a finish whose tasks came to `finish`; what was stopped stays so.
+    fn behind(self, finish: Flow) -> Flow
+        ensures { result ≡ (if is_stopped self then Flow.Stopped else finish) }
+    {
+        match self {
+            Flow::Stopped => Flow::Stopped,
+            _ => finish,
+        }
+    }
+}
+
 impl<'p> Task<'p> {
     /// A task that is about to begin a body.
     pub fn begun(
@@ -122,7 +148,11 @@ impl<'p> Task<'p> {
         scope: ScopeNumber,
         body: &'p [Stmt],
     ) -> Result<Task<'p>, AllocError>
-        ensures { let fresh = plan.now.budget.steps in IfOk result (λ t. left_of fresh t ≡ fresh * rate fresh nest + 2) }
+        ensures begins { let fresh = plan.now.budget.steps in
+            IfOk result (λ t. task_of t ≡ begun_by fresh path.turns.items nest
+            (holdings contents) scope (codes_of body.entry.now)) }
+        ensures left { let fresh = plan.now.budget.steps in
+            IfOk result (λ t. left_of fresh t ≡ fresh * rate fresh nest + 2) }
     {
         let mut frames = Vec::new(plan.alloc);
         frames.push(Frame::Rest(body))?;
@@ -133,18 +163,21 @@ impl<'p> Task<'p> {
             steps: plan.budget.steps,
             nest,
             contents,
-            outside: Part {
+            part: Part {
                 scope,
                 pieces: Vec::new(plan.alloc),
             },
-            open: Vec::new(plan.alloc),
+            outer: Vec::new(plan.alloc),
             children: 0,
         })
     }
 
     /// Goes on by one statement, or by the end of a block.
     pub fn advance(self, plan: &Plan<'p>) -> Result<Turn<'p>, RunError>
-        ensures { let fresh = plan.now.budget.steps in IfOk result (LeavesLess fresh (left_of fresh self.entry)) }
+        ensures turns { let p = program_of plan.now.program.now in let fresh = plan.now.budget.steps in
+            IfOk result (λ r. turn_by p fresh (task_of self.entry) ≡ Some (turn_of r)) }
+        ensures ends { let fresh = plan.now.budget.steps in
+            IfOk result (LeavesLess fresh (left_of fresh self.entry)) }
     {
         let mut task = self;
         match task.frames.pop() {
@@ -170,7 +203,11 @@ impl<'p> Task<'p> {
 
     /// A statement, whose step was taken.
     fn act(self, plan: &Plan<'p>, statement: &'p Stmt) -> Result<Turn<'p>, RunError>
-        ensures { let fresh = plan.now.budget.steps in IfOk result (LeavesLess fresh (left_of fresh self.entry + rate fresh self.entry.nest)) }
+        ensures turns { let p = program_of plan.now.program.now in let fresh = plan.now.budget.steps in
+            let label = statement.entry.now.label in let code = code_of statement.entry.now.kind in
+            IfOk result (λ r. act_by p fresh label code (task_of self.entry) ≡ Some (turn_of r)) }
+        ensures ends { let fresh = plan.now.budget.steps in
+            IfOk result (LeavesLess fresh (left_of fresh self.entry + rate fresh self.entry.nest)) }
     {
         let mut task = self;
         match &statement.kind {
@@ -191,7 +228,11 @@ impl<'p> Task<'p> {
 
     /// Begins a child, with fresh steps, one less nest and what its body needs of the arrays.
     fn spawn(self, plan: &Plan<'p>, body: &'p [Stmt]) -> Result<Turn<'p>, RunError>
-        ensures { let fresh = plan.now.budget.steps in IfOk result (LeavesLess fresh (left_of fresh self.entry + rate fresh self.entry.nest)) }
+        ensures spawns { let p = program_of plan.now.program.now in let fresh = plan.now.budget.steps in
+            IfOk result (λ r. turn_of r
+            ≡ spawn_by p fresh self.entry.nest (codes_of body.entry.now) (task_of self.entry)) }
+        ensures ends { let fresh = plan.now.budget.steps in
+            IfOk result (LeavesLess fresh (left_of fresh self.entry + rate fresh self.entry.nest)) }
     {
         let mut task = self;
         if task.nest == 0 {
@@ -203,10 +244,10 @@ impl<'p> Task<'p> {
         };
         task.children = number;
         let path = task.path.child(number)?;
-        task.tell(Piece::Child(path.clone()?))?;
+        task.add(Piece::Child(path.clone()?))?;
         let needs = needs_of(plan.alloc, plan.program.arrays.len(), body)?;
         let contents = task.contents.carve(plan.alloc, &needs)?;
-        let child = Task::begun(plan, path, task.nest - 1, contents, task.scope(), body)?;
+        let child = Task::begun(plan, path, task.nest - 1, contents, task.part.scope, body)?;
         Ok(Turn::Spawns(task, child))
     }
 
@@ -217,44 +258,41 @@ impl<'p> Task<'p> {
         label: Label,
         primitive: &Primitive,
     ) -> Result<(), RunError>
-        ensures { KeepsLeft self.old self.new }
-    {
-        match self.result_of(plan, primitive)? {
-            Ok(None) => Ok(()),
-            Ok(Some(line)) => {
-                self.tell(Piece::Told(Told::Line(line)))?;
-                Ok(())
-            }
-            Err(Trouble::Fault(kind)) => {
-                let path = self.path.clone()?;
-                self.flow = Flow::Faulted;
-                self.tell(Piece::Told(Told::Fault(Fault { path, label, kind })))?;
-                Ok(())
-            }
-            Err(Trouble::Absent) => {
-                let path = self.path.clone()?;
-                Err(RunError::Gather(GatherError::Lost(path)))
-            }
-        }
-    }
-
-    /// The line of a primitive statement that prints one; others change the contents.
-    fn result_of(
-        &mut self,
-        plan: &Plan<'p>,
-        primitive: &Primitive,
-    ) -> Result<Result<Option<Vec<i64>>, Trouble>, AllocError>
-        ensures { KeepsLeft self.old self.new }
+        ensures runs { let p = program_of plan.now.program.now in let what = primitive_of primitive.now in
+            OnOk result (primitive_by p label what (task_of self.old) ≡ Some (task_of self.new)) }
+        ensures left { OnOk result (KeepsLeft self.old self.new) }
     {
         match primitive {
             Primitive::Store {
                 section,
                 index,
                 value,
-            } => Ok(self.store(plan.program, *section, index, value)),
-            Primitive::Print { values } => self.line(plan.alloc, values),
+            } => match self.store(plan.program, *section, index, value) {
+                Ok(()) => Ok(()),
+                Err(trouble) => self.trouble(label, trouble),
+            },
+            Primitive::Print { values } => match self.line(plan.alloc, values)? {
+                Ok(line) => self.add(Piece::Told(Told::Line(line))),
+                Err(trouble) => self.trouble(label, trouble),
+            },
             // `skip;`, and what the first part of the language doesn't have.
-            _ => Ok(Ok(None)),
+            _ => Ok(()),
+        }
+    }
+
+    /// The fault of a statement; without an array that it needs, the task can't go on.
+    fn trouble(&mut self, label: Label, trouble: Trouble) -> Result<(), RunError>
+        ensures runs { OnOk result
+            (troubled label trouble (task_of self.old) ≡ Some (task_of self.new)) }
+        ensures left { OnOk result (KeepsLeft self.old self.new) }
+    {
+        let path = self.path.clone()?;
+        match trouble {
+            Trouble::Fault(kind) => {
+                self.flow = Flow::Faulted;
+                self.add(Piece::Told(Told::Fault(Fault { path, label, kind })))
+            }
+            Trouble::Absent => Err(RunError::Gather(GatherError::Lost(path))),
         }
     }
 
@@ -265,16 +303,20 @@ impl<'p> Task<'p> {
         section: usize,
         index: &Number,
         value: &Number,
-    ) -> Result<Option<Vec<i64>>, Trouble>
-        ensures { KeepsLeft self.old self.new }
+    ) -> Result<(), Trouble>
+        ensures answer { let p = program_of program.now in let hs = holdings self.old.contents in
+            result ≡ trouble_of (store_by p section (number_of index.now) (number_of value.now) hs) }
+        ensures stored { let p = program_of program.now in let hs = holdings self.old.contents in
+            let made = store_by p section (number_of index.now) (number_of value.now) hs in
+            task_of self.new ≡ record (task_of self.old) { holdings = with_stored hs section made } }
+        ensures left { KeepsLeft self.old self.new }
     {
-        let Some(array) = program.arrays.get(section) else {
-            return Err(Trouble::Absent);
-        };
         let index = self.value(index)?;
         let value = self.value(value)?;
-        self.contents.write(section, array.element, index, value)?;
-        Ok(None)
+        match program.arrays.get(section) {
+            None => Err(Trouble::Absent),
+            Some(array) => self.contents.write(section, array.element, index, value),
+        }
     }
 
     /// The line of a print.
@@ -282,7 +324,10 @@ impl<'p> Task<'p> {
         &self,
         alloc: Global,
         values: &[Number],
-    ) -> Result<Result<Option<Vec<i64>>, Trouble>, AllocError> {
+    ) -> Result<Result<Vec<i64>, Trouble>, AllocError>
+        ensures { let hs = holdings self.now.contents in
+            IfOk result (λ line. listed line ≡ values_by hs (map number_of values.now)) }
+    {
         let mut line = Vec::new(alloc);
         for value in values {
             match self.value(value) {
@@ -290,11 +335,13 @@ impl<'p> Task<'p> {
                 Ok(number) => line.push(number)?,
             }
         }
-        Ok(Ok(Some(line)))
+        Ok(Ok(line))
     }
 
     /// The value of an expression.
-    fn value(&self, number: &Number) -> Result<i64, Trouble> {
+    fn value(&self, number: &Number) -> Result<i64, Trouble>
+        ensures { result ≡ value_by (holdings self.now.contents) (number_of number.now) }
+    {
         match number {
             Number::Literal(value) => Ok(*value),
             Number::Element { section, index } => {
@@ -306,70 +353,67 @@ impl<'p> Task<'p> {
         }
     }
 
+    /// Adds a piece to the part that it tells in.
+    fn add(&mut self, piece: Piece) -> Result<(), RunError>
+        ensures added { OnOk result (task_of self.new ≡ add_by (piece_of piece) (task_of self.old)) }
+        ensures left { OnOk result (KeepsLeft self.old self.new) }
+    {
+        self.part.pieces.push(piece)?;
+        Ok(())
+    }
+
     /// Begins the finish whose scope was opened.
     pub fn enter(&mut self, alloc: Global, scope: ScopeNumber) -> Result<(), AllocError>
-        ensures { KeepsLeft self.old self.new }
+        ensures inside { OnOk result (task_of self.new ≡ inside scope (task_of self.old)) }
+        ensures left { KeepsLeft self.old self.new }
     {
-        self.open.push(Part {
+        let inside = Part {
             scope,
             pieces: Vec::new(alloc),
-        })?;
+        };
+        let outside = mem::replace(&mut self.part, inside);
+        self.outer.push(outside)?;
         Ok(())
     }
 
     /// Leaves its innermost open finish with the results of the tasks that were begun inside.
     pub fn resume(&mut self, alloc: Global, results: Vec<TaskResult>) -> Result<(), RunError>
-        ensures { OnOk result (KeepsLeft self.old self.new) }
+        ensures resumes { OnOk result
+            (Resumes (map result_of results.items) (task_of self.old) (task_of self.new)) }
+        ensures left { OnOk result (KeepsLeft self.old self.new) }
     {
-        let Some(part) = self.open.pop() else {
-            return Ok(());
+        let Some(outside) = self.outer.pop() else {
+            let path = self.path.clone()?;
+            return Err(RunError::Gather(GatherError::Stranger(path)));
         };
-        let settled = settle(alloc, part.pieces, results, &mut self.contents)?;
-        if !matches!(self.flow, Flow::Stopped) {
-            self.flow = settled.flow();
-        }
+        let inside = mem::replace(&mut self.part, outside);
+        let settled = settle(alloc, inside.pieces, results, &mut self.contents)?;
+        self.flow = self.flow.behind(settled.flow());
         self.tell_all(settled.told)
     }
 
-    /// Adds pieces in turn.
+    /// Adds what was told, in turn.
     fn tell_all(&mut self, all: Vec<Told>) -> Result<(), RunError>
-        ensures { OnOk result (KeepsLeft self.old self.new) }
+        ensures told { OnOk result
+            (task_of self.new ≡ tell_by (map told_of all.items) (task_of self.old)) }
+        ensures left { OnOk result (KeepsLeft self.old self.new) }
     {
         for told in all {
-            self.tell(Piece::Told(told))?;
+            self.add(Piece::Told(told))?;
         }
         Ok(())
-    }
-
-    /// Adds a piece to the innermost part.
-    fn tell(&mut self, piece: Piece) -> Result<(), AllocError>
-        ensures { KeepsLeft self.old self.new }
-    {
-        match self.open.last_mut() {
-            Some(part) => part.pieces.push(piece)?,
-            None => self.outside.pieces.push(piece)?,
-        }
-        Ok(())
-    }
-
-    /// The innermost scope that the task stands in.
-    pub fn scope(&self) -> ScopeNumber
-        ensures { self.now.«open».items ≡ [] → result ≡ self.now.outside.scope }
-    {
-        match self.open.last() {
-            Some(part) => part.scope,
-            None => self.outside.scope,
-        }
     }
 
     /// What is left of it at its end.
-    fn ended(self) -> TaskResult {
+    fn ended(self) -> TaskResult
+        ensures { result_of result ≡ left_behind (task_of self.entry) }
+    {
         let stopped = matches!(self.flow, Flow::Stopped);
         TaskResult {
             path: self.path,
             stopped,
             contents: self.contents,
-            part: self.outside,
+            part: self.part,
         }
     }
 }

@@ -16,5 +16,6 @@ returns-in-Ok-clause-told g c =
     ∙ ap (λ (lists : List (List ℤ)). outcome p lists (budget c.usual.result)) c.in_ok-input.ensures.zeros
     ∙ ap (λ (b : Budget). outcome p (zeros p) b) (usual_is (budget c.usual.result) c.usual.ensures.steps c.usual.ensures.nest) in
     told_on_one_thread (chars c.args.text.now) (g.O.Write.contents c.args.out.now) (g.O.Write.contents c.show.new.out) c.show.result p
-    (map array c.deref.result.now) (outcome_of c.in-Ok.outcome) c.in_ok-typed.ensures.code c.show.ensures.text c.show.ensures.status is_outcome
+    (map array c.deref.result.now)
+    (outcome_of c.in-Ok.outcome) c.in_ok-typed.ensures.code c.show.ensures.text c.show.ensures.status is_outcome
     (ap (map array) c.deref.ensures.value ∙ ap (λ (q : _). map array q.arrays.items) c.code.ensures.field)

@@ -7,4 +7,5 @@ use Rattle.afx.proofs.emit.emit_arrays.Given as goal
 
 abbrev pub invariant-loop-array : goal.invariant-loop-array
 invariant-loop-array g l =
-    AppendsFirst (λ (a, elements). array_text (array a, elements.items)) (zip l.fn.declared l.fn.contents) (length l.yielded) (g.W.Write.contents l.fn.out) (g.W.Write.contents l.out)
+    AppendsFirst (λ (a, elements). array_text (array a, elements.items)) (zip l.fn.declared l.fn.contents)
+    (length l.yielded) (g.W.Write.contents l.fn.out) (g.W.Write.contents l.out)

@@ -3,4 +3,6 @@ use Rattle.afx.proofs.Appending.{AppendsFirst}
 use Rattle.afx.proofs.emit.emit_lines.Given as goal
 
 abbrev pub invariant-loop-line : goal.invariant-loop-line
-invariant-loop-line g l = AppendsFirst (λ line. line_text line.items) l.lines l.line-index (g.W.Write.contents l.fn.out) (g.W.Write.contents l.out)
+invariant-loop-line g l =
+    AppendsFirst (λ line. line_text line.items) l.lines l.line-index (g.W.Write.contents l.fn.out)
+    (g.W.Write.contents l.out)

@@ -1,6 +1,9 @@
-use Rattle.std.proofs.Common.{◌≡◌, take}
-use Rattle.workers.specs.Deeds.{deeds, all_in}
+use Rattle.std.proofs.Common.{◌≡◌, ◌++◌, drop}
+use Rattle.types.specs.Translation.{codes}
+use Rattle.workers.specs.Accesses.{accesses_in}
 use Rattle.workers.proofs.access.+accesses.Given as goal
 
+-- with those of the statements that are left, all are found
 abbrev pub invariant-accesses_in-loop-statement : goal.invariant-accesses_in-loop-statement
-invariant-accesses_in-loop-statement l = l.found.items ≡ all_in (deeds (take l.statement-index l.body))
+invariant-accesses_in-loop-statement l =
+    l.found.items ++ accesses_in (codes (drop l.statement-index l.body)) ≡ accesses_in (codes l.body)

@@ -1,5 +1,5 @@
 use Rattle.std.proofs.Common.{◌≡◌, take, fold}
-use Rattle.workers.specs.Deeds.{each_with}
+use Rattle.workers.specs.Accesses.{each_with}
 use Rattle.workers.specs.Races.{tell}
 use Rattle.workers.proofs.search.least_clash.Given as goal
 

@@ -1,9 +1,10 @@
-use Rattle.std.proofs.Common.{◌≡◌, vec_len}
+use Rattle.std.proofs.Common.{◌≡◌, map, take}
+use Rattle.workers.specs.Holdings.{holding, holdings, all_given, all_kept}
 use Rattle.workers.proofs.contents.Contents.carve.Given as goal
 
--- one for each need so far
+-- the needs so far are served
 abbrev pub invariant-loop-section : goal.invariant-loop-section
 invariant-loop-section l = record {
-  child : vec_len l.arrays ≡ l.section;
-  parent : vec_len l.self.arrays ≡ vec_len l.fn.self.arrays;
+  child : map holding l.arrays.items ≡ all_given (take l.section l.needs) (holdings l.fn.self);
+  parent : holdings l.self ≡ all_kept (take l.section l.needs) (holdings l.fn.self);
 }

@@ -1,0 +1,18 @@
+use Rattle.std.proofs.Common.{◌<◌, length, rules}
+use Rattle.workers.specs.Holdings.{holdings}
+use Rattle.workers.proofs.HoldingsLemmas.{all_given-step, all_kept-step}
+use Rattle.workers.proofs.contents.Contents.carve.Goals as goal
+
+pub loop-section-preserved : goal.loop-section-preserved
+loop-section-preserved c =
+    let needs = c.args.needs.now in
+    let hs = holdings c.args.self.now in
+    let now = holdings c.loop-section.self in
+    let i = c.loop-section.section in
+    let within : i < length needs = search rules in
+    record {
+      child = all_given-step needs hs now i c.loop-section.arrays.items c.push.new.self.items c.in_ok-part.field-0 within
+          c.loop-section.invariant.parent c.loop-section.invariant.child c.in_ok-push.ensures.items c.in_ok-part.ensures.child;
+      parent = all_kept-step needs hs now (holdings c.part.new.self) i within c.loop-section.invariant.parent
+          c.part.ensures.parent;
+    }
