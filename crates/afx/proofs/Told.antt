@@ -47,7 +47,9 @@ module _ {E : Type 0} (text : List ℕ) (old new : Option (List ℕ)) (r : Resul
       (told old new r code.arrays shown o (on_one_thread code) written status is_outcome is_declared)
 
   -- what was shown is an outcome that the tasks of the text's program come to
-  pub told_of_run : (code : Program) (shown : List Array) (o : Outcome) → IsCodeOf text code → IsRaceFree (pairs_in [] code.main.body) → IsReached code (zeros code) usual o → Writes old new r (outcome_text shown false o)
+  pub told_of_run : (code : Program) (shown : List Array) (o : Outcome) → IsCodeOf text code
+      → IsRaceFree (pairs_in [] code.main.body) → IsReached code (zeros code) usual o
+      → Writes old new r (outcome_text shown false o)
       → IfOk r (λ s. s ≡ status_of o) → shown ≡ code.arrays → IfOk r (TellsRun text old new)
   told_of_run code shown o is_code race_free reached written status is_declared =
       IfOk-weaker r (λ s. Tells o code.arrays old new s) (TellsRun text old new)

@@ -5,7 +5,8 @@ ghost use Rattle.std.specs.Fmt.{decimal, signed_decimal};
 ghost use Rattle.std.specs.List.{flat_map, zip};
 ghost use Rattle.types.specs.Translation.{array, fault as fault_of, outcome as outcome_of};
 ghost use Rattle.afx.specs.Appending.{Writes};
-ghost use Rattle.afx.specs.OutcomeText.{outcome_text, line_text, joined_text, spaced_text, fault_text, path_text, kind_text, array_text};
+ghost use Rattle.afx.specs.OutcomeText.{outcome_text, line_text, joined_text, spaced_text, fault_text};
+ghost use Rattle.afx.specs.OutcomeText.{path_text, kind_text, array_text};
 
 #[cfg(test)]
 pub mod tests;

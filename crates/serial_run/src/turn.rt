@@ -4,7 +4,8 @@ ghost use Rattle.std.specs.Prelude.{ℕ, ◌≡◌, ◌<◌, ◌+◌, ◌++◌, 
 ghost use Rattle.types.specs.Meaning.{after_finish as flow_behind};
 ghost use Rattle.types.specs.Code.{Async, Call, Finish, If, Program, While};
 ghost use Rattle.types.specs.Run.{Block, Turn};
-ghost use Rattle.types.specs.Translation.{program as program_of, truth as truth_of, number as number_of, code as code_of, codes as codes_of, fault as fault_of};
+ghost use Rattle.types.specs.Translation.{program as program_of, truth as truth_of, number as number_of};
+ghost use Rattle.types.specs.Translation.{code as code_of, codes as codes_of, fault as fault_of};
 ghost use Rattle.serial_run.specs.Frames.{rate, cost, turns_left};
 ghost use Rattle.serial_run.specs.Lists.{lengths_of};
 ghost use Rattle.serial_run.specs.Primitive.{cut, halves};

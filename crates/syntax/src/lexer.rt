@@ -4,7 +4,9 @@ ghost use Rattle.std.specs.Prelude.{◌≡◌, ◌<◌, ◌≤◌, true, false, 
 ghost use Rattle.std.specs.Char.{is_ascii_digit};
 ghost use Rattle.std.specs.List.{list_all, prefix_len};
 ghost use Rattle.std.specs.String.{string_bytes};
-ghost use Rattle.syntax.specs.Lexical.{begins_name, is_blank, is_in_name, is_in_line, begins_comment, number_of, starts, MarkPiece, Begins, BeginsNoMark, Reads, SpellsWord, AreTokensOf};
+ghost use Rattle.syntax.specs.Lexical.{begins_name, is_blank, is_in_name, is_in_line, begins_comment};
+ghost use Rattle.syntax.specs.Lexical.{number_of, starts, MarkPiece, Begins, BeginsNoMark, Reads, SpellsWord};
+ghost use Rattle.syntax.specs.Lexical.{AreTokensOf};
 ghost use Rattle.syntax.specs.Refusals.{ArePlaced, BeginsNoToken, TellsUnread};
 ghost use Rattle.syntax.specs.Token.{token as token_tree, plain};
 

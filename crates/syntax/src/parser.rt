@@ -1,6 +1,7 @@
 //! Texts as programs.
 
-ghost use Rattle.std.specs.Prelude.{◌≡◌, ◌≢◌, ◌↔◌, ◌<◌, ◌≤◌, ◌^◌, length, vec_len, IfOk, IfErr, IfNone, IfSome, MatchResult};
+ghost use Rattle.std.specs.Prelude.{◌≡◌, ◌≢◌, ◌↔◌, ◌<◌, ◌≤◌, ◌^◌, length, vec_len, IfOk, IfErr, IfNone};
+ghost use Rattle.std.specs.Prelude.{IfSome, MatchResult};
 ghost use Rattle.std.specs.Str.{chars};
 ghost use Rattle.syntax.specs.Brackets.{AreShallow, open_behind};
 ghost use Rattle.syntax.specs.Lexical.{AreTokensOf};

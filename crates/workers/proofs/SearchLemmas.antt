@@ -1,5 +1,6 @@
 -- Which accesses the search for the least race may pass over.
-use Rattle.std.proofs.Common.{◌≡◌, Bool, true, false, ◌&&◌, ◌||◌, nat_eq, List, [], ◌∷◌, Option, if◌then◌else◌, cond, filter, fold, map, refl, sym, ap, ◌∙◌, true≢false}
+use Rattle.std.proofs.Common.{◌≡◌, Bool, true, false, ◌&&◌, ◌||◌, nat_eq, List, [], ◌∷◌, Option, if◌then◌else◌, cond}
+use Rattle.std.proofs.Common.{filter, fold, map, refl, sym, ap, ◌∙◌, true≢false}
 use Rattle.workers.specs.declared.race.Access.{Access}
 use Rattle.workers.specs.declared.race.Meeting.{Meeting}
 use Rattle.workers.specs.Races.{access_key, is_less, is_clash, lesser, meeting_of, tell}

@@ -58,8 +58,7 @@ pub data Moves (p : Program) (fresh : ℕ) (w : World) : World → Type 0 where
       → slice_get w.scopes child.part.scope ≡ Some s
       → Moves p fresh w (record {
         tasks = before ++ new ∷ (after ++ child ∷ []);
-        scopes =
-            set w.scopes child.part.scope (with_begun s);
+        scopes = set w.scopes child.part.scope (with_begun s);
       })
   enters : (before after : List Task) (t new : Task)
       → w.tasks ≡ before ++ t ∷ after
