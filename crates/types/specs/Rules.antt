@@ -1,155 +1,111 @@
--- Which rules a program breaks, and which programs are served so far.
-use Rattle.std.specs.Prelude.{ℕ, ◌+◌, ◌<◌, ◌≡◌, ◌^◌, List, [], ◌∷◌, Bool, true, false, ◌&&◌, ◌||◌, Option, Some, None}
-use Rattle.std.specs.Prelude.{is_none, length, slice_get, sum_by, nat_eq, nat_lt, IsTrue}
-use Rattle.std.specs.List.{list_all, list_any}
-use Rattle.syntax.specs.Tree.{Expr, Atom, Number, Element, Stmt, Skip, Store, Print, If, IfElse, While, Split, Async}
-use Rattle.syntax.specs.Tree.{Finish, Block, End, Then, Array, Procedure, Main, Program, lone_atom}
-use Rattle.types.specs.Resolution.{Scope, meant, labels, labels_before, inside, past, between, behind, in_procedure, in_main}
-use Rattle.types.specs.declared.check.TheConstants.{MOST_ARRAYS, MOST_LABELS}
-use Rattle.types.specs.declared.window.TheConstants.{MOST_ELEMENTS}
+-- Which rules of the language a program breaks: its errors, each with its kind and, where it lies in a statement, the label.
+use Rattle.std.specs.Prelude.{ℕ, ◌+◌, ◌≡◌, List, [], ◌∷◌, ◌++◌, Option, Some, None, length, sum_by, nat_eq, nat_lt, if◌then◌else◌}
+use Rattle.std.specs.List.{list_any}
+use Rattle.std.specs.Cmp.Lexicographic.{pointwise}
+use Rattle.syntax.specs.Tree.{Stmt, Skip, Var, Assign, Store, Print, Fault, If, IfElse, While, Split, Call, Async}
+use Rattle.syntax.specs.Tree.{Finish, Block, End, Then, Array, Parameter, Written, Read, Scalar, Procedure, Main, Program}
 use Rattle.types.specs.declared.error.TypeError.{TypeError}
-use Rattle.types.specs.declared.error.TypeError.TheVariants.{NotInScope, DeclaredTwice, NoMain, OverLimit, OutOfMemory, NotYet}
+use Rattle.types.specs.declared.error.TypeError.TheVariants.{DeclaredTwice, NoMain, OverLimit}
+use Rattle.types.specs.CallErrors.{calling}
+use Rattle.types.specs.ExpressionErrors.{number, numbers, truth}
+use Rattle.types.specs.NameErrors.{declaring, naming_section, naming_written, naming_assigned}
+use Rattle.types.specs.Resolution.{procedure_of, label_behind, label_behind_all}
+use Rattle.types.specs.Scope.{ASection, meant, section_of, Scope, empty_scope, next, in_async, with_sides, out_of, behind}
+use Rattle.types.specs.Scope.{after, with_parameter, with_array, in_procedure, in_main}
 
--- the statement s stands at the place `here` in a block that begins at the place `from`
-pub data Stands : (from : Scope) → Block → (here : Scope) → Stmt → Type 0 where
-  first : {from : Scope} {s : Stmt} {rest : Block} → Stands from (Then s rest) from s
-  later : {from here : Scope} {s t : Stmt} {rest : Block} → Stands (behind t from) rest here s → Stands from (Then t rest) here s
-  in_if : {from here : Scope} {s : Stmt} {e : Expr} {b rest : Block}
-      → Stands (inside from) b here s → Stands from (Then (If e b) rest) here s
-  in_then : {from here : Scope} {s : Stmt} {e : Expr} {b c rest : Block}
-      → Stands (inside from) b here s → Stands from (Then (IfElse e b c) rest) here s
-  in_else : {from here : Scope} {s : Stmt} {e : Expr} {b c rest : Block}
-      → Stands (past b (inside from)) c here s → Stands from (Then (IfElse e b c) rest) here s
-  in_while : {from here : Scope} {s : Stmt} {e : Expr} {b rest : Block}
-      → Stands (inside from) b here s → Stands from (Then (While e b) rest) here s
-  in_split : {from here : Scope} {s : Stmt} {x l r : List ℕ} {e : Expr} {b rest : Block}
-      → Stands (between l r from) b here s → Stands from (Then (Split x e l r b) rest) here s
-  in_async : {from here : Scope} {s : Stmt} {b rest : Block}
-      → Stands (inside from) b here s → Stands from (Then (Async b) rest) here s
-  in_finish : {from here : Scope} {s : Stmt} {b rest : Block}
-      → Stands (inside from) b here s → Stands from (Then (Finish b) rest) here s
+-- Y9: there are more than so many
+abbrev pub limit : (most count : ℕ) → List TypeError
+limit most n = if nat_lt most n then OverLimit ∷ [] else []
 
--- the statement s stands at the place `here` in one of these procedures, the first of which begins with the label
-pub data StandsInProcedures : (label : ℕ) → List Procedure → (here : Scope) → Stmt → Type 0 where
-  in_first : {label : ℕ} {f : Procedure} {fs : List Procedure} {here : Scope} {s : Stmt}
-      → Stands (in_procedure label f.parameters) f.body here s → StandsInProcedures label (f ∷ fs) here s
-  in_later : {label : ℕ} {f : Procedure} {fs : List Procedure} {here : Scope} {s : Stmt}
-      → StandsInProcedures (label + labels f.body) fs here s → StandsInProcedures label (f ∷ fs) here s
+module _ (procedures : List Procedure) where
+  -- the errors of a statement itself, without those of the statements inside it
+  abbrev pub own_errors : Scope → Stmt → List TypeError
+  own_errors here Skip = []
+  own_errors here (Var x e) = number here.label here.names e ++ declaring (Some here.label) (meant x here.names)
+  own_errors here (Assign x e) = naming_assigned here.label here (meant x here.names) ++ number here.label here.names e
+  own_errors here (Store s i e) =
+      naming_written here.label here (meant s here.names) ++ (number here.label here.names i ++ number here.label here.names e)
+  own_errors here (Print e es) = numbers here.label here.names (e ∷ es)
+  own_errors here (Fault e) = number here.label here.names e
+  own_errors here (If e b) = truth here.label here.names e
+  own_errors here (IfElse e b c) = truth here.label here.names e
+  own_errors here (While e b) = truth here.label here.names e
+  own_errors here (Split s e l r b) =
+      naming_section here.label (meant s here.names) ++ (number here.label here.names e
+      ++ (declaring (Some here.label) (meant r here.names)
+      ++ declaring (Some here.label) (meant l ((r, ASection (length here.sections + 1)) ∷ here.names))))
+  own_errors here (Call f es) = calling here.label here (procedure_of 0 f procedures) es
+  own_errors here (Async b) = []
+  own_errors here (Finish b) = []
 
--- the statement s stands at the place `here` in the program
-pub data StandsIn (p : Program) (here : Scope) (s : Stmt) : Type 0 where
-  in_a_procedure : StandsInProcedures 1 p.procedures here s → StandsIn p here s
-  in_the_main : (m : Main) → p.main ≡ Some m → Stands (in_main (1 + labels_before p.procedures) m.arrays) m.body here s → StandsIn p here s
+  abbrev mutual
+    -- the errors of the statements inside a statement
+    pub inner_errors : Scope → Stmt → List TypeError
+    inner_errors here Skip = []
+    inner_errors here (Var x e) = []
+    inner_errors here (Assign x e) = []
+    inner_errors here (Store s i e) = []
+    inner_errors here (Print e es) = []
+    inner_errors here (Fault e) = []
+    inner_errors here (If e b) = errors (next here) b
+    inner_errors here (IfElse e b c) = errors (next here) b ++ errors (out_of here (after b (next here))) c
+    inner_errors here (While e b) = errors (next here) b
+    inner_errors here (Split s e l r b) = errors (with_sides (section_of here.names s) l r (next here)) b
+    inner_errors here (Call f es) = []
+    inner_errors here (Async b) = errors (in_async (next here)) b
+    inner_errors here (Finish b) = errors (next here) b
 
--- whether the name isn't in scope
-abbrev pub is_unknown : Scope → List ℕ → Bool
-is_unknown here x = is_none (meant x here.names)
+    -- the errors of a block; Y9: there are 65,535 labels
+    pub errors : Scope → Block → List TypeError
+    errors here End = []
+    errors here (Then s rest) =
+        (limit 65535 here.label ++ (own_errors here s ++ inner_errors here s)) ++ errors (behind s here) rest
 
--- whether an element alone is one of a section that isn't in scope
-abbrev pub atom_unknown : Scope → Option Atom → Bool
-atom_unknown here (Some (Element x i)) = is_unknown here x
-atom_unknown here a = false
+-- Y2: parameters, and arrays
+abbrev pub name_of : Parameter → List ℕ
+name_of (Written x e) = x
+name_of (Read x e) = x
+name_of (Scalar x) = x
 
-abbrev pub item_unknown : Scope → Expr → Bool
-item_unknown here e = atom_unknown here (lone_atom e)
+abbrev pub parameter_errors : Scope → List Parameter → List TypeError
+parameter_errors here [] = []
+parameter_errors here (p ∷ ps) = declaring None (meant (name_of p) here.names) ++ parameter_errors (with_parameter p here) ps
 
--- whether a statement stores to, or prints from, a section that isn't in scope
-abbrev pub names_unknown : Scope → Stmt → Bool
-names_unknown here (Store x i e) = is_unknown here x
-names_unknown here (Print e es) = item_unknown here e || list_any (item_unknown here) es
-names_unknown here s = false
+abbrev pub array_errors : Scope → List Array → List TypeError
+array_errors here [] = []
+array_errors here (a ∷ arrays) = declaring None (meant a.name here.names) ++ array_errors (with_array a here) arrays
 
--- the arrays and the statements of `main`
-abbrev pub arrays_in : Option Main → List Array
-arrays_in None = []
-arrays_in (Some m) = m.arrays
+-- Y2: a procedure has the name of one before it
+abbrev pub name_errors : (before : List (List ℕ)) → List Procedure → List TypeError
+name_errors before [] = []
+name_errors before (f ∷ fs) =
+    (if list_any (pointwise nat_eq f.name) before then DeclaredTwice None ∷ [] else []) ++ name_errors (f.name ∷ before) fs
 
-abbrev pub body_in : Option Main → Block
-body_in None = End
-body_in (Some m) = m.body
+module _ (all : List Procedure) where
+  -- a procedure whose first statement has the label; Y9: 16 parameters
+  abbrev pub procedure_errors : (label : ℕ) → Procedure → List TypeError
+  procedure_errors label f =
+      limit 16 (length f.parameters) ++ (parameter_errors (empty_scope label) f.parameters
+      ++ errors all (in_procedure label f.parameters) f.body)
 
--- Y1: the statement with the label stores to, or prints from, a section that isn't in scope
-pub record NamesUnknown (p : Program) (label : ℕ) : Type 0 where
-  pub statement : Stmt
-  pub here : Scope
-  pub stands : StandsIn p here statement
-  pub labelled : here.label ≡ label
-  pub unknown : IsTrue (names_unknown here statement)
+  abbrev pub procedures_errors : (label : ℕ) → List Procedure → List TypeError
+  procedures_errors label [] = []
+  procedures_errors label (f ∷ fs) = procedure_errors label f ++ procedures_errors (label_behind label f) fs
 
--- two of these arrays have one name
-pub record HasNameTwice (arrays : List Array) : Type 0 where
-  pub early : ℕ
-  pub late : ℕ
-  pub apart : early < late
-  pub one : Array
-  pub other : Array
-  pub one_there : slice_get arrays early ≡ Some one
-  pub other_there : slice_get arrays late ≡ Some other
-  pub same : one.name ≡ other.name
+  -- `main`, whose first statement has the label; Y8: there is none; Y9: 32 arrays, and 4,194,304 elements of all together
+  abbrev pub main_errors : (label : ℕ) → Option Main → List TypeError
+  main_errors label None = NoMain ∷ []
+  main_errors label (Some m) =
+      limit 32 (length m.arrays) ++ (limit 4194304 (sum_by (λ a. a.length) m.arrays)
+      ++ (array_errors (empty_scope label) m.arrays ++ errors all (in_main label m.arrays) m.body))
 
--- Y2: two arrays have one name
-abbrev pub DeclaresTwice : Program → Type 0
-DeclaresTwice p = HasNameTwice (arrays_in p.main)
+-- all errors of a program; Y9: 256 procedures beside `main`
+abbrev pub errors_of : Program → List TypeError
+errors_of p =
+    limit 256 (length p.procedures) ++ (name_errors [] p.procedures
+    ++ (procedures_errors p.procedures 1 p.procedures
+    ++ main_errors p.procedures (label_behind_all 1 p.procedures) p.main))
 
--- Y8
-abbrev pub HasNoMain : Program → Type 0
-HasNoMain p = p.main ≡ None
-
--- there are too many arrays, or too many elements together
-pub data TooMany (arrays : List Array) : Type 0 where
-  too_many_arrays : MOST_ARRAYS < length arrays → TooMany arrays
-  too_many_elements : MOST_ELEMENTS < sum_by (λ a. a.length) arrays → TooMany arrays
-
--- Y9: the same, or there are too many statements
-pub data IsOverLimit (p : Program) : Type 0 where
-  over_by_arrays : TooMany (arrays_in p.main) → IsOverLimit p
-  over_by_statements : MOST_LABELS < labels_before p.procedures + labels (body_in p.main) → IsOverLimit p
-
-pub record BreaksNoRule (p : Program) : Type 0 where
-  pub names : (label : ℕ) → ¬ NamesUnknown p label
-  pub arrays : ¬ DeclaresTwice p
-  pub main : ¬ HasNoMain p
-  pub limits : ¬ IsOverLimit p
-
--- a number that 64 bits with sign hold
-abbrev pub is_number : Option Atom → Bool
-is_number (Some (Number n)) = nat_lt n (2 ^ 63)
-is_number a = false
-
-abbrev pub is_literal : Expr → Bool
-is_literal e = is_number (lone_atom e)
-
--- a number, or an element at a literal index
-abbrev pub is_printed : Option Atom → Bool
-is_printed (Some (Element x i)) = is_literal i
-is_printed a = is_number a
-
-abbrev pub is_item : Expr → Bool
-is_item e = is_printed (lone_atom e)
-
-abbrev mutual
-  -- the statements that are served so far
-  pub is_served_statement : Stmt → Bool
-  is_served_statement Skip = true
-  is_served_statement (Store x i e) = is_literal i && is_literal e
-  is_served_statement (Print e es) = is_item e && list_all is_item es
-  is_served_statement (Async b) = is_served_block b
-  is_served_statement (Finish b) = is_served_block b
-  is_served_statement s = false
-
-  pub is_served_block : Block → Bool
-  is_served_block End = true
-  is_served_block (Then s rest) = is_served_statement s && is_served_block rest
-
--- the programs that are served so far: those without procedures, of these statements
-abbrev pub is_served : Program → Bool
-is_served p = nat_eq (length p.procedures) 0 && is_served_block (body_in p.main)
-
--- what an error says of a program
-abbrev pub Tells : Program → TypeError → Type 0
-Tells p (NotInScope label) = NamesUnknown p label
-Tells p DeclaredTwice = DeclaresTwice p
-Tells p NoMain = HasNoMain p
-Tells p OverLimit = IsOverLimit p
-Tells p OutOfMemory = Unit {0}
-Tells p NotYet = is_served p ≡ false
+-- it has none
+abbrev pub BreaksNoRule : Program → Type 0
+BreaksNoRule p = errors_of p ≡ []
