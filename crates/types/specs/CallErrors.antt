@@ -7,10 +7,11 @@ use Rattle.syntax.specs.Tree.{Expr, Atom, Number, True, False, Name, Element, Le
 use Rattle.syntax.specs.Tree.{Parameter as Declared, Written, Read, Scalar}
 use Rattle.types.specs.declared.error.TypeError.{TypeError}
 use Rattle.types.specs.declared.error.TypeError.TheVariants.{NotInScope, WrongArguments, Overlapping}
-use Rattle.types.specs.Code.{Origin, Parameter}
+use Rattle.sections.specs.Origins.{Origin}
+use Rattle.types.specs.Code.{Parameter}
 use Rattle.types.specs.ExpressionErrors.{number}
 use Rattle.types.specs.NameErrors.{writing}
-use Rattle.types.specs.Overlap.{overlap}
+use Rattle.sections.specs.Overlap.{overlap}
 use Rattle.types.specs.Scope.{Names, Meant, ASection, AScalar, meant, Scope, kind_of}
 
 -- whether two sections hold the same type

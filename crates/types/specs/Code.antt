@@ -1,6 +1,7 @@
 -- A program with its names resolved: scalars are slots of their procedure's frame, sections are numbers of their
 -- procedure, arrays and procedures are numbers of the program.
 use Rattle.std.specs.Prelude.{ℕ, ℤ, Bool, List}
+use Rattle.sections.specs.Origins.{Origin}
 use Rattle.syntax.specs.declared.tree.ElementType.{ElementType}
 use Rattle.syntax.specs.declared.tree.Relation.{Relation}
 use Rattle.types.specs.declared.code.Operator.{Operator}
@@ -55,12 +56,6 @@ mutual
     End : Codes
     Then : (label : ℕ) → Code → (rest : Codes) → Codes
 
--- where a section of a procedure comes from: it is an array or a parameter, or a side of a split
-pub data Origin : Type 0 where
-  Root : Origin
-  Left : (parent : ℕ) → Origin
-  Right : (parent : ℕ) → Origin
-
 -- a declared array; its name is bytes
 pub record Array : Type 0 where
   pub name : List ℕ
@@ -74,13 +69,15 @@ pub record Parameter : Type 0 where
 
 -- a procedure, or `main`; its section parameters are its first sections, its scalar parameters its first slots
 pub record Procedure : Type 0 where
+  pub name : List ℕ
   pub parameters : List Parameter
   pub scalars : ℕ
   pub slots : ℕ
   pub sections : List Origin
+  pub section_names : List (List ℕ)
   pub body : Codes
 
--- the first sections of `main` are the arrays
+-- the parameters of `main` are the arrays, which may be written
 pub record Program : Type 0 where
   pub arrays : List Array
   pub procedures : List Procedure

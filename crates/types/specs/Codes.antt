@@ -1,5 +1,6 @@
 -- What the program prints of a broken rule.
 use Rattle.std.specs.Prelude.{ℕ, List, ◌++◌, Option, None, Some, codes}
+use Rattle.std.specs.Fmt.{decimal}
 use Rattle.types.specs.declared.error.TypeError.{TypeError}
 use Rattle.types.specs.declared.error.TypeError.TheVariants.{NotInScope, DeclaredTwice, WrongKind, WrongArguments}
 use Rattle.types.specs.declared.error.TypeError.TheVariants.{AssignedOutsideAsync, ReadOnly, Overlapping, NoMain}
@@ -30,3 +31,11 @@ label_of (Overlapping label) = Some label
 label_of NoMain = None
 label_of OverLimit = None
 label_of OutOfMemory = None
+
+-- the text: `Y5 at label 3`, or `Y8` where no label is told
+abbrev pub labelled : List ℕ → Option ℕ → List ℕ
+labelled code None = code
+labelled code (Some label) = code ++ (codes " at label " ++ decimal label)
+
+abbrev pub error_text : TypeError → List ℕ
+error_text e = labelled (code_of e) (label_of e)

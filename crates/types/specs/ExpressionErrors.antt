@@ -10,14 +10,14 @@ use Rattle.types.specs.declared.error.TypeError.TheVariants.{WrongKind, OverLimi
 use Rattle.types.specs.NameErrors.{naming_section, naming_scalar}
 use Rattle.types.specs.Scope.{Names, meant}
 
+-- Y9: a number that 64 bits with sign don't hold; no text spells one
+abbrev pub literal : ℕ → List TypeError
+literal n = if nat_lt n (2 ^ 63) then [] else OverLimit ∷ []
+
 module _ (label : ℕ) (names : Names) where
   -- Y3
   abbrev pub wrong_kind : List TypeError
   wrong_kind = WrongKind label ∷ []
-
-  -- Y9: a number that 64 bits with sign don't hold; no text spells one
-  abbrev pub literal : ℕ → List TypeError
-  literal n = if nat_lt n (2 ^ 63) then [] else OverLimit ∷ []
 
   abbrev mutual
     -- where a number is wanted

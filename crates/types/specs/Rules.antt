@@ -61,6 +61,10 @@ module _ (procedures : List Procedure) where
     errors here (Then s rest) =
         (limit 65535 here.label ++ (own_errors here s ++ inner_errors here s)) ++ errors (behind s here) rest
 
+  -- all errors of a statement, without that of its label
+  abbrev pub errors_in : Scope → Stmt → List TypeError
+  errors_in here s = own_errors here s ++ inner_errors here s
+
 -- Y2: parameters, and arrays
 abbrev pub name_of : Parameter → List ℕ
 name_of (Written x e) = x

@@ -6,7 +6,8 @@ use Rattle.syntax.specs.declared.tree.ElementType.{ElementType}
 use Rattle.syntax.specs.declared.tree.ElementType.TheVariants.{Int}
 use Rattle.syntax.specs.Tree.{Stmt, Skip, Var, Assign, Store, Print, Fault, If, IfElse, While, Split, Call, Async}
 use Rattle.syntax.specs.Tree.{Finish, Block, End, Then, Array, Parameter as Declared, Written, Read, Scalar}
-use Rattle.types.specs.Code.{Origin, Root, Left, Right, Parameter}
+use Rattle.sections.specs.Origins.{Origin, Root, Left, Right}
+use Rattle.types.specs.Code.{Parameter}
 
 -- what a name means
 pub data Meant : Type 0 where

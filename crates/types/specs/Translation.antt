@@ -3,8 +3,9 @@ use Rattle.std.specs.Prelude.{ℤ, List, [], ◌∷◌, map, pos}
 use Rattle.std.specs.String.{string_bytes}
 use Rattle.types.specs.Code.{Number, Literal, Scalar, Element, Length, Negative, Chain, Links, Done, Link, Truth}
 use Rattle.types.specs.Code.{Constant, Compare, Not, Both, Either, Truths, NoMore, Also, Primitive, Skip, Assign, Store}
-use Rattle.types.specs.Code.{Print, Raise, Code, Do, If, While, Split, Call, Async, Finish, Codes, End, Then, Origin}
-use Rattle.types.specs.Code.{Root, Left, Right, Array, Parameter, Procedure, Program}
+use Rattle.types.specs.Code.{Print, Raise, Code, Do, If, While, Split, Call, Async, Finish, Codes, End, Then, Array}
+use Rattle.types.specs.Code.{Parameter, Procedure, Program}
+use Rattle.sections.specs.Tree.{origins_of}
 use Rattle.types.specs.Place.{Window, nowhere}
 use Rattle.types.specs.Value.{Environment}
 use Rattle.types.specs.Run.{Fault, by_number}
@@ -22,8 +23,6 @@ use Rattle.types.specs.declared.code.Stmt.{Stmt}
 use Rattle.types.specs.declared.code.StmtKind.{StmtKind, Row_of-Stmt, end_of-Stmt, more_of-Stmt}
 use Rattle.types.specs.declared.code.StmtKind.TheVariants.{Do as rDo, If' as rIf, While' as rWhile, Split' as rSplit}
 use Rattle.types.specs.declared.code.StmtKind.TheVariants.{Call as rCall, Async' as rAsync, Finish' as rFinish}
-use Rattle.types.specs.declared.code.Origin.{Origin as rOrigin}
-use Rattle.types.specs.declared.code.Origin.TheVariants.{Root as rRoot, Left as rLeft, Right as rRight}
 use Rattle.types.specs.declared.code.Array.{Array as rArray}
 use Rattle.types.specs.declared.code.SectionParameter.{SectionParameter}
 use Rattle.types.specs.declared.code.Procedure.{Procedure as rProcedure}
@@ -91,12 +90,6 @@ abbrev pub codes : List Stmt → Codes
 codes [] = End
 codes (s ∷ rest) = Then s.label (code s.kind) (codes rest)
 
--- where a section comes from
-abbrev pub origin : rOrigin → Origin
-origin rRoot = Root
-origin (rLeft s) = Left s
-origin (rRight s) = Right s
-
 -- a declared array
 abbrev pub array : rArray → Array
 array a = record { name = string_bytes a.name; element = a.element; length = a.length }
@@ -108,10 +101,12 @@ parameter x = record { may_write = x.may_write; element = x.element }
 -- a procedure, or `main`
 abbrev pub procedure : rProcedure → Procedure
 procedure f = record {
+  name = string_bytes f.name;
   parameters = map parameter f.parameters.items;
   scalars = f.scalars;
   slots = f.slots;
-  sections = map (λ s. origin s.origin) f.sections.items;
+  sections = origins_of f.sections;
+  section_names = map string_bytes f.section_names.items;
   body = codes f.body.items;
 }
 

@@ -3,12 +3,13 @@
 
 ghost use Rattle.std.specs.Prelude.{◌≤◌};
 
+use sections::tree::SectionTree;
 use syntax::tree::{ElementType, Relation};
 
 /// A statement's number in the order of the text, from 1.
 pub type Label = u32;
 
-/// A resolved program. The first sections of `main` are the arrays.
+/// A resolved program. The section parameters of `main` are the arrays.
 #[derive(Drop)]
 pub struct Program {
     pub arrays: Vec<Array>,
@@ -37,7 +38,9 @@ pub struct Procedure {
     /// How many slots a frame of it has, scalar parameters among them.
     pub slots: usize,
     /// Where each section comes from.
-    pub sections: Vec<Section>,
+    pub sections: SectionTree,
+    /// The name of each section.
+    pub section_names: Vec<String>,
     pub body: Vec<Stmt>,
 }
 
@@ -47,24 +50,6 @@ pub struct SectionParameter {
     /// `mut`
     pub may_write: bool,
     pub element: ElementType,
-}
-
-/// A section of a procedure: its name and where it comes from.
-#[derive(Drop)]
-pub struct Section {
-    pub name: String,
-    pub origin: Origin,
-}
-
-/// Where a section comes from. The two sides of a split are numbered in turn.
-#[derive(Clone, Copy, PartialEq, Eq, Debug)]
-pub enum Origin {
-    /// An array, or a section parameter.
-    Root,
-    /// The left side of a split of `parent`.
-    Left { parent: usize },
-    /// The right side of a split of `parent`.
-    Right { parent: usize },
 }
 
 /// A statement with its label.

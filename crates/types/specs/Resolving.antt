@@ -1,0 +1,67 @@
+-- What the Rust values of the type checker show: the names and the scope at a place, and what a part resolves to.
+use Rattle.std.specs.Prelude.{ℕ, ◌+◌, ◌-◌, ◌≡◌, ◌<◌, ◌≤◌, List, [], ◌∷◌, map, reverse, length, drop, Bool, Option, Some, String}
+use Rattle.std.specs.String.{string_bytes}
+use Rattle.sections.specs.Tree.{origins_of}
+use Rattle.syntax.specs.Tree.{Stmt, Procedure}
+use Rattle.syntax.specs.Tree as tree
+use Rattle.types.specs.declared.check.calls.Passed.{Passed as rPassed}
+use Rattle.types.specs.declared.check.calls.Procedures.{Procedures as rProcedures}
+use Rattle.types.specs.declared.check.scope.Meaning.{Meaning}
+use Rattle.types.specs.declared.check.scope.Meaning.TheVariants.{Section as rSection, Scalar as rScalar}
+use Rattle.types.specs.declared.check.scope.Names.{Names as rNames}
+use Rattle.types.specs.declared.check.scope.Scope.{Scope as rScope}
+use Rattle.types.specs.CallErrors.{Passed}
+use Rattle.types.specs.Scope.{Meant, ASection, AScalar, Names, meant, Scope, behind}
+use Rattle.types.specs.declared.code.StmtKind.{StmtKind}
+use Rattle.types.specs.Resolution.{code as code_at}
+use Rattle.types.specs.Rules.{errors_in}
+use Rattle.types.specs.Translation.{parameter, code}
+
+-- what a name means
+abbrev pub meant_by : Meaning → Meant
+meant_by (rSection s) = ASection s.number
+meant_by (rScalar k) = AScalar k
+
+-- the names in scope
+abbrev pub entry : {Z : Type 0} → String Z × Meaning → List ℕ × Meant
+entry e = (string_bytes e.0, meant_by e.1)
+
+abbrev pub names_of : rNames → Names
+names_of n = reverse (map entry n.meanings.entries)
+
+-- the place that has been reached
+abbrev pub scope_of : rScope → Scope
+scope_of s = record {
+  names = names_of s.names;
+  label = s.label;
+  slot = s.slots;
+  outside = s.outside;
+  sections = origins_of s.sections;
+  section_names = map string_bytes s.section_names.items;
+  kinds = map parameter s.kinds.items;
+}
+
+-- a place after which only names, and the scalars that may be assigned, are those of an earlier one
+abbrev pub left : (names outside : ℕ) → Scope → Scope
+left n k there = record there { names = drop (length there.names - n) there.names; outside = k }
+
+-- a section argument
+abbrev pub passed_by : rPassed → Passed
+passed_by p = (p.section.number, p.may_write)
+
+-- the sections in scope have numbers of sections, each of which has its kind; and slots are as few as labels
+pub record IsWellScoped (here : Scope) : Type 0 where
+  pub known : (x : List ℕ) (s : ℕ) → meant x here.names ≡ Some (ASection s) → s < length here.sections
+  pub kinds : length here.kinds ≡ length here.sections
+  pub slots : here.slot ≤ 16 + here.label
+
+-- the procedures that may be called
+abbrev pub procedures_of : rProcedures → List Procedure
+procedures_of p = map tree.procedure p.declared.now
+
+module _ (procedures : List Procedure) (here : Scope) (s : Stmt) where
+  -- a statement breaks no rule, and what it resolves to, with the place behind it
+  pub record Resolves (k : StmtKind) (there : rScope) : Type 0 where
+    pub right : errors_in procedures here s ≡ []
+    pub kind : code_at procedures here s ≡ code k
+    pub place : scope_of there ≡ behind s here

@@ -1,0 +1,344 @@
+//! Calls: the procedure of a name, and its arguments.
+
+ghost use Rattle.std.specs.Prelude.{◌≡◌, [], ◌∷◌, ◌++◌, map, OnOk, IfOk, IfErr, Some, ◌<◌, length, slice_index};
+ghost use Rattle.std.specs.Option.{option_map};
+ghost use Rattle.std.specs.String.{string_bytes};
+ghost use Rattle.sections.specs.Tree.{origins_of};
+ghost use Rattle.syntax.specs.Tree.{expr as expr_of, parameter as parameter_of, procedure as procedure_as};
+ghost use Rattle.syntax.specs.Tree.{atom as atom_of, lone_atom};
+ghost use Rattle.types.specs.CallErrors as errors;
+ghost use Rattle.types.specs.Resolution as resolution;
+ghost use Rattle.types.specs.Resolving.{names_of, scope_of, passed_by, IsWellScoped};
+ghost use Rattle.types.specs.Scope.{ASection, meant};
+ghost use Rattle.types.specs.Told.{Told};
+ghost use Rattle.types.specs.Rules.{name_errors};
+ghost use Rattle.types.specs.Translation.{number, code, parameter as parameter_in};
+
+use crate::check::expressions::Expressions;
+use crate::check::scope::{Meaning, Scope};
+use crate::code::{Number, SectionParameter, StmtKind};
+use crate::error::TypeError;
+use indexmap::IndexSet;
+use sections::id::SectionId;
+use sections::tree::SectionTree;
+use std::alloc::Global;
+use syntax::tree;
+use syntax::tree::{Atom, Expr};
+
+/// The procedures of a program, each by its name.
+#[derive(Drop)]
+pub struct Procedures<'p> {
+    names: IndexSet<String>,
+    declared: &'p [tree::Procedure],
+}
+
+impl Procedures<'_> {
+    ghost use Rattle.types.specs.Resolving.{procedures_of};
+
+    /// Gathers procedures, no two of one name.
+    pub fn new(alloc: Global, declared: &[tree::Procedure]) -> Result<Procedures<'_>, TypeError>
+        ensures procedures { IfOk result
+            (λ p. procedures_of p ≡ map procedure_as declared.now) }
+        ensures right { OnOk result (name_errors [] (map procedure_as declared.now) ≡ []) }
+        ensures error { IfErr result (Told (name_errors [] (map procedure_as declared.now))) }
+    {
+        let mut names = IndexSet::new(alloc);
+        for procedure in declared {
+            let name = procedure.name.clone()?;
+            let added = names.insert(name)?;
+            if !added {
+                return Err(TypeError::DeclaredTwice { label: None });
+            }
+        }
+        Ok(Procedures { names, declared })
+    }
+
+    /// The number and the parameters of the procedure of a name.
+    fn find(&self, name: &String) -> Option<(usize, &[tree::Parameter])>
+        ensures { option_map (λ f. (f.0, map parameter_of f.1.now)) result
+            ≡ resolution.procedure_of 0 (string_bytes name.now) (procedures_of self.now) }
+    {
+        let number = self.names.get_index_of(name)?;
+        let procedure = self.declared.get(number)?;
+        Some((number, procedure.parameters.as_slice()))
+    }
+
+    /// A call in the statement that begins at this place.
+    pub fn call(
+        &self,
+        alloc: Global,
+        scope: &Scope,
+        name: &String,
+        arguments: &[Expr],
+    ) -> Result<StmtKind, TypeError>
+        requires { IsWellScoped (scope_of scope.now) }
+        ensures right { OnOk result (errors.calling scope.now.label (scope_of scope.now)
+            (resolution.procedure_of 0 (string_bytes name.now) (procedures_of self.now))
+            (map expr_of arguments.now) ≡ []) }
+        ensures code { IfOk result (λ k. resolution.call (procedures_of self.now)
+            (names_of scope.now.names)
+            (resolution.procedure_of 0 (string_bytes name.now) (procedures_of self.now))
+            (map expr_of arguments.now) ≡ code k) }
+        ensures error { IfErr result (Told (errors.calling scope.now.label (scope_of scope.now)
+            (resolution.procedure_of 0 (string_bytes name.now) (procedures_of self.now))
+            (map expr_of arguments.now))) }
+    {
+        let label = scope.label;
+        let (procedure, parameters) = match self.find(name) {
+            Some(found) => found,
+            None => return Err(TypeError::NotInScope { label }),
+        };
+        let given = given(alloc, scope, parameters, arguments)?;
+        if overlapping(&scope.sections, given.passed.as_slice()) {
+            return Err(TypeError::Overlapping { label });
+        }
+        Ok(StmtKind::Call {
+            procedure,
+            values: given.values,
+            sections: given.sections,
+        })
+    }
+}
+
+/// A section argument.
+#[derive(Clone, Copy)]
+pub struct Passed {
+    pub section: SectionId,
+    pub may_write: bool,
+}
+
+/// The arguments of a call.
+#[derive(Drop)]
+struct Given {
+    values: Vec<Number>,
+    sections: Vec<usize>,
+    passed: Vec<Passed>,
+}
+
+/// The arguments for these parameters, as many as there are parameters.
+fn given(
+    alloc: Global,
+    scope: &Scope,
+    parameters: &[tree::Parameter],
+    arguments: &[Expr],
+) -> Result<Given, TypeError>
+    ensures right { OnOk result (errors.arguments scope.now.label (scope_of scope.now)
+        (map parameter_of parameters.now) (map expr_of arguments.now) ≡ []) }
+    ensures values { IfOk result (λ g. resolution.values_for (names_of scope.now.names)
+        (map parameter_of parameters.now) (map expr_of arguments.now) ≡ map number g.values.items) }
+    ensures sections { IfOk result (λ g. resolution.sections_for (names_of scope.now.names)
+        (map parameter_of parameters.now) (map expr_of arguments.now) ≡ g.sections.items) }
+    ensures passed { IfOk result (λ g. errors.passed (names_of scope.now.names)
+        (map parameter_of parameters.now) (map expr_of arguments.now)
+        ≡ map passed_by g.passed.items) }
+    ensures error { IfErr result (Told (errors.arguments scope.now.label (scope_of scope.now)
+        (map parameter_of parameters.now) (map expr_of arguments.now))) }
+{
+    let label = scope.label;
+    let mut given = Given {
+        values: Vec::new(alloc),
+        sections: Vec::new(alloc),
+        passed: Vec::new(alloc),
+    };
+    let mut rest = arguments;
+    for parameter in parameters {
+        match rest.split_first() {
+            None => return Err(TypeError::WrongArguments { label }),
+            Some((argument, others)) => {
+                given.take(alloc, scope, parameter, argument)?;
+                rest = others;
+            }
+        }
+    }
+    if !rest.is_empty() {
+        return Err(TypeError::WrongArguments { label });
+    }
+    Ok(given)
+}
+
+impl Given {
+    /// Takes one argument more.
+    fn take(
+        &mut self,
+        alloc: Global,
+        scope: &Scope,
+        parameter: &tree::Parameter,
+        argument: &Expr,
+    ) -> Result<(), TypeError>
+        ensures right { OnOk result (errors.argument scope.now.label (scope_of scope.now)
+            (parameter_of parameter.now) (expr_of argument.now) ≡ []) }
+        ensures values { OnOk result (map number self.new.values.items
+            ≡ map number self.old.values.items ++ resolution.values_for (names_of scope.now.names)
+            (parameter_of parameter.now ∷ []) (expr_of argument.now ∷ [])) }
+        ensures sections { OnOk result (self.new.sections.items
+            ≡ self.old.sections.items ++ resolution.sections_for (names_of scope.now.names)
+            (parameter_of parameter.now ∷ []) (expr_of argument.now ∷ [])) }
+        ensures passed { OnOk result (map passed_by self.new.passed.items
+            ≡ map passed_by self.old.passed.items ++ errors.passed (names_of scope.now.names)
+            (parameter_of parameter.now ∷ []) (expr_of argument.now ∷ [])) }
+        ensures error { IfErr result (Told (errors.argument scope.now.label (scope_of scope.now)
+            (parameter_of parameter.now) (expr_of argument.now))) }
+    {
+        match parameter {
+            tree::Parameter::Written { element, .. } => {
+                let kind = SectionParameter {
+                    may_write: true,
+                    element: *element,
+                };
+                self.pass(scope, kind, argument)
+            }
+            tree::Parameter::Read { element, .. } => {
+                let kind = SectionParameter {
+                    may_write: false,
+                    element: *element,
+                };
+                self.pass(scope, kind, argument)
+            }
+            tree::Parameter::Scalar { .. } => {
+                let expressions = Expressions {
+                    alloc,
+                    label: scope.label,
+                    names: &scope.names,
+                };
+                let value = expressions.number(argument)?;
+                self.values.push(value)?;
+                Ok(())
+            }
+        }
+    }
+
+    /// Takes one section argument more.
+    fn pass(
+        &mut self,
+        scope: &Scope,
+        kind: SectionParameter,
+        argument: &Expr,
+    ) -> Result<(), TypeError>
+        ensures right { OnOk result (errors.passing_atom scope.now.label (scope_of scope.now)
+            (parameter_in kind) (lone_atom (expr_of argument.now)) ≡ []) }
+        ensures values { self.new.values ≡ self.old.values }
+        ensures sections { OnOk result (self.new.sections.items ≡ self.old.sections.items
+            ++ resolution.named_by (names_of scope.now.names)
+            (lone_atom (expr_of argument.now)) ∷ []) }
+        ensures passed { OnOk result (map passed_by self.new.passed.items
+            ≡ map passed_by self.old.passed.items ++ errors.and_named (names_of scope.now.names)
+            (lone_atom (expr_of argument.now)) kind.may_write []) }
+        ensures error { IfErr result (Told (errors.passing_atom scope.now.label
+            (scope_of scope.now) (parameter_in kind) (lone_atom (expr_of argument.now)))) }
+    {
+        let section = argument_section(scope, kind, argument)?;
+        self.sections.push(section.number)?;
+        self.passed.push(Passed {
+            section,
+            may_write: kind.may_write,
+        })?;
+        Ok(())
+    }
+}
+
+/// The section that is passed for a parameter of this kind.
+fn argument_section(
+    scope: &Scope,
+    kind: SectionParameter,
+    argument: &Expr,
+) -> Result<SectionId, TypeError>
+    ensures right { OnOk result (errors.passing_atom scope.now.label (scope_of scope.now)
+        (parameter_in kind) (lone_atom (expr_of argument.now)) ≡ []) }
+    ensures named { IfOk result (λ s. errors.and_named (names_of scope.now.names)
+        (lone_atom (expr_of argument.now)) kind.may_write []
+        ≡ (s.number, kind.may_write) ∷ []) }
+    ensures section { IfOk result (λ s. resolution.named_by (names_of scope.now.names)
+        (lone_atom (expr_of argument.now)) ≡ s.number) }
+    ensures error { IfErr result (Told (errors.passing_atom scope.now.label (scope_of scope.now)
+        (parameter_in kind) (lone_atom (expr_of argument.now)))) }
+{
+    match argument.as_atom() {
+        Some(atom) => atom_section(scope, kind, atom),
+        None => Err(TypeError::WrongArguments { label: scope.label }),
+    }
+}
+
+fn atom_section(
+    scope: &Scope,
+    kind: SectionParameter,
+    atom: &Atom,
+) -> Result<SectionId, TypeError>
+    ensures right { OnOk result (errors.passing_atom scope.now.label (scope_of scope.now)
+        (parameter_in kind) (Some (atom_of atom.now)) ≡ []) }
+    ensures named { IfOk result (λ s. errors.and_named (names_of scope.now.names)
+        (Some (atom_of atom.now)) kind.may_write [] ≡ (s.number, kind.may_write) ∷ []) }
+    ensures section { IfOk result (λ s. resolution.named_by (names_of scope.now.names)
+        (Some (atom_of atom.now)) ≡ s.number) }
+    ensures error { IfErr result (Told (errors.passing_atom scope.now.label (scope_of scope.now)
+        (parameter_in kind) (Some (atom_of atom.now)))) }
+{
+    let label = scope.label;
+    match atom {
+        Atom::Name(name) => named_section(scope, kind, name),
+        Atom::Number(_) => Err(TypeError::WrongArguments { label }),
+        Atom::True => Err(TypeError::WrongArguments { label }),
+        Atom::False => Err(TypeError::WrongArguments { label }),
+        Atom::Element { .. } => Err(TypeError::WrongArguments { label }),
+        Atom::Length(_) => Err(TypeError::WrongArguments { label }),
+        Atom::Parens(_) => Err(TypeError::WrongArguments { label }),
+    }
+}
+
+fn named_section(
+    scope: &Scope,
+    kind: SectionParameter,
+    name: &String,
+) -> Result<SectionId, TypeError>
+    ensures right { OnOk result (errors.passing_named scope.now.label (scope_of scope.now)
+        (parameter_in kind) (meant (string_bytes name.now) (names_of scope.now.names)) ≡ []) }
+    ensures meaning { IfOk result (λ s. meant (string_bytes name.now) (names_of scope.now.names)
+        ≡ Some (ASection s.number)) }
+    ensures error { IfErr result (Told (errors.passing_named scope.now.label
+        (scope_of scope.now) (parameter_in kind)
+        (meant (string_bytes name.now) (names_of scope.now.names)))) }
+{
+    let label = scope.label;
+    match scope.names.meaning(name) {
+        None => Err(TypeError::NotInScope { label }),
+        Some(Meaning::Scalar(_)) => Err(TypeError::WrongArguments { label }),
+        Some(Meaning::Section(section)) => {
+            let there = scope.kind(section);
+            if kind.element != there.element {
+                return Err(TypeError::WrongArguments { label });
+            }
+            if kind.may_write && !there.may_write {
+                return Err(TypeError::ReadOnly { label });
+            }
+            Ok(section)
+        }
+    }
+}
+
+/// Whether two arguments overlap, one of which may be written.
+fn overlapping(sections: &SectionTree, passed: &[Passed]) -> bool
+    requires { (k : ℕ) → k < length passed.now
+        → (slice_index passed.now k).section.number < length (origins_of sections.now) }
+    ensures { result ≡ errors.overlapping (origins_of sections.now) (map passed_by passed.now) }
+{
+    let mut rest = passed;
+    for one in passed {
+        rest = match rest.split_first() {
+            Some((_, others)) => others,
+            None => return false,
+        };
+        for other in rest {
+            if clash(sections, *one, *other) {
+                return true;
+            }
+        }
+    }
+    false
+}
+
+fn clash(sections: &SectionTree, one: Passed, other: Passed) -> bool
+    requires one { one.section.number < length (origins_of sections.now) }
+    requires other { other.section.number < length (origins_of sections.now) }
+    ensures { result ≡ errors.clash (origins_of sections.now) (passed_by one) (passed_by other) }
+{
+    (one.may_write || other.may_write) && sections.overlap(one.section, other.section)
+}

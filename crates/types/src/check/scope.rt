@@ -1,0 +1,240 @@
+//! What is in scope, as the resolver goes through a text.
+
+ghost use Rattle.std.specs.Prelude.{◌≡◌, ◌∷◌, [], ◌-◌, ◌+◌, ◌≤◌, ◌<◌, length, drop, OnOk, IfOk, IfErr, Some};
+ghost use Rattle.std.specs.Option.{option_map};
+ghost use Rattle.std.specs.String.{string_bytes};
+ghost use Rattle.types.specs.NameErrors.{declaring};
+ghost use Rattle.types.specs.Resolving.{meant_by, names_of, scope_of, left as left_by, IsWellScoped};
+ghost use Rattle.types.specs.Scope.{ASection, meant, empty_scope, with_scalar, with_root, with_sides};
+ghost use Rattle.types.specs.Scope.{next as next_place, in_async as in_async_body, kind_of};
+ghost use Rattle.types.specs.Told.{Told};
+ghost use Rattle.types.specs.Translation.{parameter};
+
+use crate::code::{Label, SectionParameter};
+use crate::error::TypeError;
+use indexmap::IndexMap;
+use sections::id::SectionId;
+use sections::tree::SectionTree;
+use std::alloc::Global;
+use syntax::tree::ElementType;
+
+/// What a name means.
+#[derive(Clone, Copy)]
+pub enum Meaning {
+    Section(SectionId),
+    Scalar(usize),
+}
+
+/// The names in scope, each with its meaning. No two are the same.
+#[derive(Drop)]
+pub struct Names {
+    meanings: IndexMap<String, Meaning>,
+}
+
+impl Names {
+    /// No names.
+    pub fn new(alloc: Global) -> Names
+        ensures { names_of result ≡ [] }
+    {
+        Names {
+            meanings: IndexMap::new(alloc),
+        }
+    }
+
+    /// How many there are.
+    pub fn len(&self) -> usize
+        ensures { result ≡ length (names_of self.now) }
+    {
+        self.meanings.len()
+    }
+
+    /// What a name means, if it is in scope.
+    pub fn meaning(&self, name: &String) -> Option<Meaning>
+        ensures { option_map meant_by result ≡ meant (string_bytes name.now) (names_of self.now) }
+    {
+        self.meanings.get(name).copied()
+    }
+
+    /// Puts a name into scope, by a declaration with the label.
+    pub fn declare(
+        &mut self,
+        label: Option<Label>,
+        name: &String,
+        meaning: Meaning,
+    ) -> Result<(), TypeError>
+        ensures right { OnOk result
+            (declaring label (meant (string_bytes name.now) (names_of self.old)) ≡ []) }
+        ensures names { OnOk result (names_of self.new
+            ≡ (string_bytes name.now, meant_by meaning) ∷ names_of self.old) }
+        ensures error { IfErr result
+            (Told (declaring label (meant (string_bytes name.now) (names_of self.old)))) }
+    {
+        if self.meanings.contains_key(name) {
+            return Err(TypeError::DeclaredTwice { label });
+        }
+        let name = name.clone()?;
+        self.meanings.insert(name, meaning)?;
+        Ok(())
+    }
+
+    /// Takes the latest names out of scope, until so many are left.
+    pub fn forget(&mut self, count: usize)
+        ensures { names_of self.new
+            ≡ drop (length (names_of self.old) - count) (names_of self.old) }
+    {
+        self.meanings.truncate(count);
+    }
+}
+
+/// A place of a text, and the sections of its procedure so far.
+#[derive(Drop)]
+pub struct Scope {
+    pub names: Names,
+    /// The label of the next statement.
+    pub label: Label,
+    /// The slot of the next scalar.
+    pub slots: usize,
+    /// The slot that was next where the innermost async body began.
+    pub outside: usize,
+    pub sections: SectionTree,
+    pub section_names: Vec<String>,
+    /// Whether each section may be written, and what it holds.
+    pub kinds: Vec<SectionParameter>,
+}
+
+/// What comes back at the end of a block.
+#[derive(Clone, Copy)]
+pub struct Mark {
+    pub names: usize,
+    pub outside: usize,
+}
+
+impl Scope {
+    /// Where a procedure begins whose first statement has the label.
+    pub fn new(alloc: Global, label: Label) -> Scope
+        ensures { scope_of result ≡ empty_scope label }
+    {
+        Scope {
+            names: Names::new(alloc),
+            label,
+            slots: 0,
+            outside: 0,
+            sections: SectionTree::new(alloc),
+            section_names: Vec::new(alloc),
+            kinds: Vec::new(alloc),
+        }
+    }
+
+    /// Declares a scalar.
+    pub fn scalar(&mut self, label: Option<Label>, name: &String) -> Result<(), TypeError>
+        requires { self.old.slots ≤ 16 + self.old.label }
+        ensures place { OnOk result
+            (scope_of self.new ≡ with_scalar (string_bytes name.now) (scope_of self.old)) }
+        ensures right { OnOk result (declaring label
+            (meant (string_bytes name.now) (scope_of self.old).names) ≡ []) }
+        ensures error { IfErr result (Told (declaring label
+            (meant (string_bytes name.now) (scope_of self.old).names))) }
+    {
+        self.names.declare(label, name, Meaning::Scalar(self.slots))?;
+        self.slots += 1;
+        Ok(())
+    }
+
+    /// Declares an array, or a section parameter.
+    pub fn root(&mut self, name: &String, kind: SectionParameter) -> Result<(), TypeError>
+        ensures place { OnOk result (scope_of self.new
+            ≡ with_root (string_bytes name.now) (parameter kind) (scope_of self.old)) }
+        ensures right { OnOk result (declaring None
+            (meant (string_bytes name.now) (scope_of self.old).names) ≡ []) }
+        ensures error { IfErr result (Told (declaring None
+            (meant (string_bytes name.now) (scope_of self.old).names))) }
+    {
+        let section = self.sections.root()?;
+        self.names.declare(None, name, Meaning::Section(section))?;
+        self.section_names.push(name.clone()?)?;
+        self.kinds.push(kind)?;
+        Ok(())
+    }
+
+    /// Declares the sides of a split, in the statement with the label.
+    pub fn sides(
+        &mut self,
+        label: Label,
+        section: SectionId,
+        left: &String,
+        right: &String,
+    ) -> Result<(SectionId, SectionId), TypeError>
+        requires { section.number < length (scope_of self.old).sections }
+        ensures place { OnOk result (scope_of self.new ≡ with_sides section.number
+            (string_bytes left.now) (string_bytes right.now) (scope_of self.old)) }
+        ensures numbers { IfOk result (λ r. (r.0.number ≡ length (scope_of self.old).sections)
+            × (r.1.number ≡ length (scope_of self.old).sections + 1)) }
+        ensures right { OnOk result (declaring (Some label)
+            (meant (string_bytes right.now) (scope_of self.old).names)
+            ++ declaring (Some label) (meant (string_bytes left.now)
+            ((string_bytes right.now, ASection (length (scope_of self.old).sections + 1))
+            ∷ (scope_of self.old).names)) ≡ []) }
+        ensures error { IfErr result (Told (declaring (Some label)
+            (meant (string_bytes right.now) (scope_of self.old).names)
+            ++ declaring (Some label) (meant (string_bytes left.now)
+            ((string_bytes right.now, ASection (length (scope_of self.old).sections + 1))
+            ∷ (scope_of self.old).names)))) }
+    {
+        let kind = self.kind(section);
+        let sides = self.sections.split(section)?;
+        self.names.declare(Some(label), right, Meaning::Section(sides.1))?;
+        self.names.declare(Some(label), left, Meaning::Section(sides.0))?;
+        self.section_names.push(left.clone()?)?;
+        self.section_names.push(right.clone()?)?;
+        self.kinds.push(kind)?;
+        self.kinds.push(kind)?;
+        Ok(sides)
+    }
+
+    /// Whether a section may be written, and what it holds.
+    pub fn kind(&self, section: SectionId) -> SectionParameter
+        ensures { parameter result ≡ kind_of (scope_of self.now) section.number }
+    {
+        match self.kinds.get(section.number) {
+            Some(kind) => *kind,
+            None => SectionParameter {
+                may_write: false,
+                element: ElementType::Int,
+            },
+        }
+    }
+
+    /// Goes on behind the label of a statement.
+    pub fn step(&mut self)
+        requires { self.old.label ≤ 65535 }
+        ensures { scope_of self.new ≡ next_place (scope_of self.old) }
+    {
+        self.label += 1;
+    }
+
+    /// Goes into an async body.
+    pub fn enter_async(&mut self)
+        ensures { scope_of self.new ≡ in_async_body (scope_of self.old) }
+    {
+        self.outside = self.slots;
+    }
+
+    /// What is to come back behind a block that is about to begin.
+    pub fn mark(&self) -> Mark
+        ensures names { result.names ≡ length (scope_of self.now).names }
+        ensures outside { result.outside ≡ (scope_of self.now).outside }
+    {
+        Mark {
+            names: self.names.len(),
+            outside: self.outside,
+        }
+    }
+
+    /// Goes out of a block.
+    pub fn leave(&mut self, mark: Mark)
+        ensures { scope_of self.new ≡ left_by mark.names mark.outside (scope_of self.old) }
+    {
+        self.names.forget(mark.names);
+        self.outside = mark.outside;
+    }
+}

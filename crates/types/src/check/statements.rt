@@ -1,0 +1,467 @@
+//! Statements and blocks.
+
+ghost use Rattle.std.specs.Prelude.{◌≡◌, [], ◌∷◌, ◌++◌, ◌≤◌, map, OnOk, IfOk, IfErr, Some};
+ghost use Rattle.std.specs.String.{string_bytes};
+ghost use Rattle.syntax.specs.Tree.{block as block_of, stmt as stmt_of, expr as expr_of};
+ghost use Rattle.syntax.specs.Tree.{Var, Assign, Store, Print, Fault, If, IfElse, While, Split, Call, Async, Finish};
+ghost use Rattle.types.specs.Resolution.{code as code_at, codes as codes_at};
+ghost use Rattle.types.specs.NameErrors.{naming_written, naming_assigned};
+ghost use Rattle.types.specs.Resolving.{scope_of, names_of, procedures_of, left as left_by, IsWellScoped, Resolves};
+ghost use Rattle.types.specs.Rules.{errors, errors_in, limit as over};
+ghost use Rattle.types.specs.Scope.{ASection, AScalar, meant, behind, after};
+ghost use Rattle.types.specs.Told.{Told};
+ghost use Rattle.types.specs.Translation.{code, codes};
+
+use crate::check::calls::Procedures;
+use crate::check::expressions::Expressions;
+use crate::check::limits::MOST_LABELS;
+use crate::check::scope::{Mark, Meaning, Scope};
+use crate::code::{Primitive, Stmt, StmtKind};
+use crate::error::TypeError;
+use sections::id::SectionId;
+use std::alloc::Global;
+use syntax::tree;
+use syntax::tree::Expr;
+
+/// Statements, which may call these procedures.
+#[derive(Drop)]
+pub struct Statements<'p> {
+    pub alloc: Global,
+    pub procedures: Procedures<'p>,
+}
+
+impl Statements<'_> {
+    /// The statements of a block. What they declare stays in scope.
+    #[cycle(statement)]
+    pub fn block(&self, scope: &mut Scope, block: &[tree::Stmt]) -> Result<Vec<Stmt>, TypeError>
+        requires { IsWellScoped (scope_of scope.old) }
+        ensures place { OnOk result
+            (scope_of scope.new ≡ after (block_of block.now) (scope_of scope.old)) }
+        ensures right { OnOk result (errors (procedures_of self.now.procedures)
+            (scope_of scope.old) (block_of block.now) ≡ []) }
+        ensures code { IfOk result (λ v. codes_at (procedures_of self.now.procedures)
+            (scope_of scope.old) (block_of block.now) ≡ codes v.items) }
+        ensures error { IfErr result (Told (errors (procedures_of self.now.procedures)
+            (scope_of scope.old) (block_of block.now))) }
+    {
+        let mut resolved = Vec::new(self.alloc);
+        for stmt in block {
+            let stmt = self.statement(scope, stmt)?;
+            resolved.push(stmt)?;
+        }
+        Ok(resolved)
+    }
+
+    /// The statements of a block, behind which the mark comes back.
+    #[cycle(statement)]
+    fn inside(
+        &self,
+        scope: &mut Scope,
+        mark: Mark,
+        block: &[tree::Stmt],
+    ) -> Result<Vec<Stmt>, TypeError>
+        requires { IsWellScoped (scope_of scope.old) }
+        ensures place { OnOk result (scope_of scope.new
+            ≡ left_by mark.names mark.outside (after (block_of block.now) (scope_of scope.old))) }
+        ensures right { OnOk result (errors (procedures_of self.now.procedures)
+            (scope_of scope.old) (block_of block.now) ≡ []) }
+        ensures code { IfOk result (λ v. codes_at (procedures_of self.now.procedures)
+            (scope_of scope.old) (block_of block.now) ≡ codes v.items) }
+        ensures error { IfErr result (Told (errors (procedures_of self.now.procedures)
+            (scope_of scope.old) (block_of block.now))) }
+    {
+        let resolved = self.block(scope, block)?;
+        scope.leave(mark);
+        Ok(resolved)
+    }
+
+    /// A statement with the next label.
+    #[cycle(statement)]
+    fn statement(&self, scope: &mut Scope, stmt: &tree::Stmt) -> Result<Stmt, TypeError>
+        requires { IsWellScoped (scope_of scope.old) }
+        ensures place { OnOk result
+            (scope_of scope.new ≡ behind (stmt_of stmt.now) (scope_of scope.old)) }
+        ensures right { OnOk result (over 65535 scope.old.label
+            ++ errors_in (procedures_of self.now.procedures) (scope_of scope.old)
+            (stmt_of stmt.now) ≡ []) }
+        ensures label { IfOk result (λ s. s.label ≡ scope.old.label) }
+        ensures code { IfOk result (λ s. code_at (procedures_of self.now.procedures)
+            (scope_of scope.old) (stmt_of stmt.now) ≡ code s.kind) }
+        ensures error { IfErr result (Told (over 65535 scope.old.label
+            ++ errors_in (procedures_of self.now.procedures) (scope_of scope.old)
+            (stmt_of stmt.now))) }
+    {
+        let label = scope.label;
+        if label > MOST_LABELS {
+            return Err(TypeError::OverLimit);
+        }
+        let kind = self.kind(scope, stmt)?;
+        Ok(Stmt { label, kind })
+    }
+
+    /// What a statement does.
+    #[cycle(statement)]
+    fn kind(&self, scope: &mut Scope, stmt: &tree::Stmt) -> Result<StmtKind, TypeError>
+        requires scoped { IsWellScoped (scope_of scope.old) }
+        requires label { scope.old.label ≤ 65535 }
+        ensures ok { IfOk result (λ k. Resolves (procedures_of self.now.procedures)
+            (scope_of scope.old) (stmt_of stmt.now) k (scope_of scope.new)) }
+        ensures error { IfErr result (Told (errors_in (procedures_of self.now.procedures)
+            (scope_of scope.old) (stmt_of stmt.now))) }
+    {
+        match stmt {
+            tree::Stmt::Skip => {
+                scope.step();
+                Ok(StmtKind::Do(Primitive::Skip))
+            }
+            tree::Stmt::Var { name, value } => self.var(scope, name, value),
+            tree::Stmt::Assign { name, value } => self.assign(scope, name, value),
+            tree::Stmt::Store {
+                section,
+                index,
+                value,
+            } => self.store(scope, section, index, value),
+            tree::Stmt::Print { first, rest } => self.print(scope, first, rest),
+            tree::Stmt::Fault { value } => self.fault(scope, value),
+            tree::Stmt::If { guard, body, other } => match other {
+                None => self.if_alone(scope, guard, body),
+                Some(other) => self.if_else(scope, guard, body, other),
+            },
+            tree::Stmt::While { guard, body } => self.while_loop(scope, guard, body),
+            tree::Stmt::Split {
+                section,
+                at,
+                left,
+                right,
+                body,
+            } => self.split(scope, section, at, left, right, body),
+            tree::Stmt::Call {
+                procedure,
+                arguments,
+            } => self.call(scope, procedure, arguments),
+            tree::Stmt::Async { body } => self.async_body(scope, body),
+            tree::Stmt::Finish { body } => self.finish(scope, body),
+        }
+    }
+
+    /// `if x < 2 { .. }`
+    #[cycle(statement)]
+    fn if_alone(
+        &self,
+        scope: &mut Scope,
+        guard: &Expr,
+        body: &[tree::Stmt],
+    ) -> Result<StmtKind, TypeError>
+        requires scoped { IsWellScoped (scope_of scope.old) }
+        requires label { scope.old.label ≤ 65535 }
+        ensures ok { IfOk result (λ k. Resolves (procedures_of self.now.procedures)
+            (scope_of scope.old) (If (expr_of guard.now) (block_of body.now)) k
+            (scope_of scope.new)) }
+        ensures error { IfErr result (Told (errors_in (procedures_of self.now.procedures)
+            (scope_of scope.old) (If (expr_of guard.now) (block_of body.now)))) }
+    {
+        let mark = scope.mark();
+        let guard = self.expressions(scope).truth(guard)?;
+        scope.step();
+        let body = self.inside(scope, mark, body)?;
+        let other = Vec::new(self.alloc);
+        Ok(StmtKind::If { guard, body, other })
+    }
+
+    /// `if x < 2 { .. } else { .. }`
+    #[cycle(statement)]
+    fn if_else(
+        &self,
+        scope: &mut Scope,
+        guard: &Expr,
+        body: &[tree::Stmt],
+        other: &[tree::Stmt],
+    ) -> Result<StmtKind, TypeError>
+        requires scoped { IsWellScoped (scope_of scope.old) }
+        requires label { scope.old.label ≤ 65535 }
+        ensures ok { IfOk result (λ k. Resolves (procedures_of self.now.procedures)
+            (scope_of scope.old)
+            (IfElse (expr_of guard.now) (block_of body.now) (block_of other.now)) k
+            (scope_of scope.new)) }
+        ensures error { IfErr result (Told (errors_in (procedures_of self.now.procedures)
+            (scope_of scope.old)
+            (IfElse (expr_of guard.now) (block_of body.now) (block_of other.now)))) }
+    {
+        let mark = scope.mark();
+        let guard = self.expressions(scope).truth(guard)?;
+        scope.step();
+        let body = self.inside(scope, mark, body)?;
+        let other = self.inside(scope, mark, other)?;
+        Ok(StmtKind::If { guard, body, other })
+    }
+
+    /// `while x < 2 { .. }`
+    #[cycle(statement)]
+    fn while_loop(
+        &self,
+        scope: &mut Scope,
+        guard: &Expr,
+        body: &[tree::Stmt],
+    ) -> Result<StmtKind, TypeError>
+        requires scoped { IsWellScoped (scope_of scope.old) }
+        requires label { scope.old.label ≤ 65535 }
+        ensures ok { IfOk result (λ k. Resolves (procedures_of self.now.procedures)
+            (scope_of scope.old) (While (expr_of guard.now) (block_of body.now)) k
+            (scope_of scope.new)) }
+        ensures error { IfErr result (Told (errors_in (procedures_of self.now.procedures)
+            (scope_of scope.old) (While (expr_of guard.now) (block_of body.now)))) }
+    {
+        let mark = scope.mark();
+        let guard = self.expressions(scope).truth(guard)?;
+        scope.step();
+        let body = self.inside(scope, mark, body)?;
+        Ok(StmtKind::While { guard, body })
+    }
+
+    /// `split s at 2 as l, r { .. }`
+    #[cycle(statement)]
+    fn split(
+        &self,
+        scope: &mut Scope,
+        section: &String,
+        at: &Expr,
+        left: &String,
+        right: &String,
+        body: &[tree::Stmt],
+    ) -> Result<StmtKind, TypeError>
+        requires scoped { IsWellScoped (scope_of scope.old) }
+        requires label { scope.old.label ≤ 65535 }
+        ensures ok { IfOk result (λ k. Resolves (procedures_of self.now.procedures)
+            (scope_of scope.old) (Split (string_bytes section.now) (expr_of at.now)
+            (string_bytes left.now) (string_bytes right.now) (block_of body.now)) k
+            (scope_of scope.new)) }
+        ensures error { IfErr result (Told (errors_in (procedures_of self.now.procedures)
+            (scope_of scope.old) (Split (string_bytes section.now) (expr_of at.now)
+            (string_bytes left.now) (string_bytes right.now) (block_of body.now)))) }
+    {
+        let label = scope.label;
+        let mark = scope.mark();
+        let expressions = self.expressions(scope);
+        let section = expressions.section(section)?;
+        let at = expressions.number(at)?;
+        scope.step();
+        let (left, right) = scope.sides(label, section, left, right)?;
+        let body = self.inside(scope, mark, body)?;
+        Ok(StmtKind::Split {
+            section: section.number,
+            at,
+            left: left.number,
+            right: right.number,
+            body,
+        })
+    }
+
+    /// `async { .. }`
+    #[cycle(statement)]
+    fn async_body(&self, scope: &mut Scope, body: &[tree::Stmt]) -> Result<StmtKind, TypeError>
+        requires scoped { IsWellScoped (scope_of scope.old) }
+        requires label { scope.old.label ≤ 65535 }
+        ensures ok { IfOk result (λ k. Resolves (procedures_of self.now.procedures)
+            (scope_of scope.old) (Async (block_of body.now)) k (scope_of scope.new)) }
+        ensures error { IfErr result (Told (errors_in (procedures_of self.now.procedures)
+            (scope_of scope.old) (Async (block_of body.now)))) }
+    {
+        let mark = scope.mark();
+        scope.step();
+        scope.enter_async();
+        let body = self.inside(scope, mark, body)?;
+        Ok(StmtKind::Async { body })
+    }
+
+    /// `finish { .. }`
+    #[cycle(statement)]
+    fn finish(&self, scope: &mut Scope, body: &[tree::Stmt]) -> Result<StmtKind, TypeError>
+        requires scoped { IsWellScoped (scope_of scope.old) }
+        requires label { scope.old.label ≤ 65535 }
+        ensures ok { IfOk result (λ k. Resolves (procedures_of self.now.procedures)
+            (scope_of scope.old) (Finish (block_of body.now)) k (scope_of scope.new)) }
+        ensures error { IfErr result (Told (errors_in (procedures_of self.now.procedures)
+            (scope_of scope.old) (Finish (block_of body.now)))) }
+    {
+        let mark = scope.mark();
+        scope.step();
+        let body = self.inside(scope, mark, body)?;
+        Ok(StmtKind::Finish { body })
+    }
+
+    /// `var x = 1;`: the name is in scope behind the statement alone.
+    fn var(&self, scope: &mut Scope, name: &String, value: &Expr) -> Result<StmtKind, TypeError>
+        requires scoped { IsWellScoped (scope_of scope.old) }
+        requires label { scope.old.label ≤ 65535 }
+        ensures ok { IfOk result (λ k. Resolves (procedures_of self.now.procedures)
+            (scope_of scope.old) (Var (string_bytes name.now) (expr_of value.now)) k
+            (scope_of scope.new)) }
+        ensures error { IfErr result (Told (errors_in (procedures_of self.now.procedures)
+            (scope_of scope.old) (Var (string_bytes name.now) (expr_of value.now)))) }
+    {
+        let label = scope.label;
+        let value = self.expressions(scope).number(value)?;
+        let slot = scope.slots;
+        scope.step();
+        scope.scalar(Some(label), name)?;
+        Ok(StmtKind::Do(Primitive::Assign { slot, value }))
+    }
+
+    /// `x = 1;`
+    fn assign(
+        &self,
+        scope: &mut Scope,
+        name: &String,
+        value: &Expr,
+    ) -> Result<StmtKind, TypeError>
+        requires { scope.old.label ≤ 65535 }
+        ensures ok { IfOk result (λ k. Resolves (procedures_of self.now.procedures)
+            (scope_of scope.old) (Assign (string_bytes name.now) (expr_of value.now)) k
+            (scope_of scope.new)) }
+        ensures error { IfErr result (Told (errors_in (procedures_of self.now.procedures)
+            (scope_of scope.old) (Assign (string_bytes name.now) (expr_of value.now)))) }
+    {
+        let slot = assigned(scope, name)?;
+        let value = self.expressions(scope).number(value)?;
+        scope.step();
+        Ok(StmtKind::Do(Primitive::Assign { slot, value }))
+    }
+
+    /// `a[0] = 7;`
+    fn store(
+        &self,
+        scope: &mut Scope,
+        section: &String,
+        index: &Expr,
+        value: &Expr,
+    ) -> Result<StmtKind, TypeError>
+        requires { scope.old.label ≤ 65535 }
+        ensures ok { IfOk result (λ k. Resolves (procedures_of self.now.procedures)
+            (scope_of scope.old)
+            (Store (string_bytes section.now) (expr_of index.now) (expr_of value.now)) k
+            (scope_of scope.new)) }
+        ensures error { IfErr result (Told (errors_in (procedures_of self.now.procedures)
+            (scope_of scope.old)
+            (Store (string_bytes section.now) (expr_of index.now) (expr_of value.now)))) }
+    {
+        let section = written(scope, section)?.number;
+        let expressions = self.expressions(scope);
+        let index = expressions.number(index)?;
+        let value = expressions.number(value)?;
+        scope.step();
+        Ok(StmtKind::Do(Primitive::Store {
+            section,
+            index,
+            value,
+        }))
+    }
+
+    /// `print a[0], 2;`
+    fn print(
+        &self,
+        scope: &mut Scope,
+        first: &Expr,
+        rest: &[Expr],
+    ) -> Result<StmtKind, TypeError>
+        requires { scope.old.label ≤ 65535 }
+        ensures ok { IfOk result (λ k. Resolves (procedures_of self.now.procedures)
+            (scope_of scope.old) (Print (expr_of first.now) (map expr_of rest.now)) k
+            (scope_of scope.new)) }
+        ensures error { IfErr result (Told (errors_in (procedures_of self.now.procedures)
+            (scope_of scope.old) (Print (expr_of first.now) (map expr_of rest.now)))) }
+    {
+        let values = self.expressions(scope).numbers(first, rest)?;
+        scope.step();
+        Ok(StmtKind::Do(Primitive::Print { values }))
+    }
+
+    /// `fault 3;`
+    fn fault(&self, scope: &mut Scope, value: &Expr) -> Result<StmtKind, TypeError>
+        requires { scope.old.label ≤ 65535 }
+        ensures ok { IfOk result (λ k. Resolves (procedures_of self.now.procedures)
+            (scope_of scope.old) (Fault (expr_of value.now)) k (scope_of scope.new)) }
+        ensures error { IfErr result (Told (errors_in (procedures_of self.now.procedures)
+            (scope_of scope.old) (Fault (expr_of value.now)))) }
+    {
+        let value = self.expressions(scope).number(value)?;
+        scope.step();
+        Ok(StmtKind::Do(Primitive::Fault { value }))
+    }
+
+    /// `f(a, 1);`
+    fn call(
+        &self,
+        scope: &mut Scope,
+        procedure: &String,
+        arguments: &[Expr],
+    ) -> Result<StmtKind, TypeError>
+        requires scoped { IsWellScoped (scope_of scope.old) }
+        requires label { scope.old.label ≤ 65535 }
+        ensures ok { IfOk result (λ k. Resolves (procedures_of self.now.procedures)
+            (scope_of scope.old) (Call (string_bytes procedure.now) (map expr_of arguments.now)) k
+            (scope_of scope.new)) }
+        ensures error { IfErr result (Told (errors_in (procedures_of self.now.procedures)
+            (scope_of scope.old)
+            (Call (string_bytes procedure.now) (map expr_of arguments.now)))) }
+    {
+        let call = self.procedures.call(self.alloc, scope, procedure, arguments)?;
+        scope.step();
+        Ok(call)
+    }
+
+    /// The expressions of the statement that begins at this place.
+    fn expressions<'s>(&self, scope: &'s Scope) -> Expressions<'s>
+        ensures label { result.label ≡ scope.now.label }
+        ensures names { result.names.now ≡ scope.now.names }
+    {
+        Expressions {
+            alloc: self.alloc,
+            label: scope.label,
+            names: &scope.names,
+        }
+    }
+}
+
+/// The slot of a scalar that is assigned: one that was declared inside of the innermost async body.
+fn assigned(scope: &Scope, name: &String) -> Result<usize, TypeError>
+    ensures right { OnOk result (naming_assigned scope.now.label (scope_of scope.now)
+        (meant (string_bytes name.now) (names_of scope.now.names)) ≡ []) }
+    ensures meaning { IfOk result (λ k.
+        meant (string_bytes name.now) (names_of scope.now.names) ≡ Some (AScalar k)) }
+    ensures error { IfErr result (Told (naming_assigned scope.now.label (scope_of scope.now)
+        (meant (string_bytes name.now) (names_of scope.now.names)))) }
+{
+    let label = scope.label;
+    match scope.names.meaning(name) {
+        None => Err(TypeError::NotInScope { label }),
+        Some(Meaning::Section(_)) => Err(TypeError::WrongKind { label }),
+        Some(Meaning::Scalar(slot)) => {
+            if slot < scope.outside {
+                return Err(TypeError::AssignedOutsideAsync { label });
+            }
+            Ok(slot)
+        }
+    }
+}
+
+/// A section that is written: one that may be.
+fn written(scope: &Scope, name: &String) -> Result<SectionId, TypeError>
+    ensures right { OnOk result (naming_written scope.now.label (scope_of scope.now)
+        (meant (string_bytes name.now) (names_of scope.now.names)) ≡ []) }
+    ensures meaning { IfOk result (λ s.
+        meant (string_bytes name.now) (names_of scope.now.names) ≡ Some (ASection s.number)) }
+    ensures error { IfErr result (Told (naming_written scope.now.label (scope_of scope.now)
+        (meant (string_bytes name.now) (names_of scope.now.names)))) }
+{
+    let label = scope.label;
+    match scope.names.meaning(name) {
+        None => Err(TypeError::NotInScope { label }),
+        Some(Meaning::Scalar(_)) => Err(TypeError::WrongKind { label }),
+        Some(Meaning::Section(section)) => {
+            if !scope.kind(section).may_write {
+                return Err(TypeError::ReadOnly { label });
+            }
+            Ok(section)
+        }
+    }
+}
