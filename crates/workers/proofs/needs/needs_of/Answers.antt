@@ -11,7 +11,7 @@ pub loop-access-preserved : goal.loop-access-preserved
 loop-access-preserved c =
     let turn = c.loop-access in
     let xs = c.deref-access-items.result.now in
-    let d : Access = record { label = 0; section = 0; write = false } in
+    let d : Access = record { label = 0; array = record { number = 0 }; write = false } in
     elim c.if-access-len.branch [
       | then-access-len w ↦
           ap (λ v. v.items) w.needs-is ∙ ap (λ n. set turn.needs.items _ n) w.with.ensures
