@@ -9,9 +9,6 @@ pub mod Lists
 pub mod Slots
 pub mod Chains
 pub mod Blocks
-pub mod Served
 pub mod Resolved
-pub mod Declared
-pub mod Places
-pub mod ByKind
-pub mod Mains
+pub mod Telling
+pub mod Scopes

@@ -10,7 +10,6 @@ pub mod Meaning
 pub mod NameErrors
 pub mod Outcome
 pub mod Place
-pub mod Reading
 pub mod Resolution
 pub mod Resolving
 pub mod Rows

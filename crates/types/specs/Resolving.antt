@@ -20,7 +20,7 @@ use Rattle.types.specs.Translation.{parameter, code}
 -- what a name means
 abbrev pub meant_by : Meaning → Meant
 meant_by (rSection s) = ASection s.number
-meant_by (rScalar k) = AScalar k
+meant_by (rScalar k) = AScalar k.number
 
 -- the names in scope
 abbrev pub entry : {Z : Type 0} → String Z × Meaning → List ℕ × Meant

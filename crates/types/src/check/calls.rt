@@ -1,8 +1,10 @@
 //! Calls: the procedure of a name, and its arguments.
 
-ghost use Rattle.std.specs.Prelude.{◌≡◌, [], ◌∷◌, ◌++◌, map, OnOk, IfOk, IfErr, Some, ◌<◌, length, slice_index};
+ghost use Rattle.std.specs.Prelude.{◌≡◌, [], ◌∷◌, ◌++◌, map, OnOk, IfOk, IfErr, Some, ◌<◌, length, slice_index, IfSome};
+ghost use Rattle.sections.specs.Overlap.{overlap as overlap_of};
 ghost use Rattle.std.specs.Option.{option_map};
 ghost use Rattle.std.specs.String.{string_bytes};
+ghost use Rattle.sections.specs.Translation.{section as section_as};
 ghost use Rattle.sections.specs.Tree.{origins_of};
 ghost use Rattle.syntax.specs.Tree.{expr as expr_of, parameter as parameter_of, procedure as procedure_as};
 ghost use Rattle.syntax.specs.Tree.{atom as atom_of, lone_atom};
@@ -18,8 +20,9 @@ use crate::check::expressions::Expressions;
 use crate::check::scope::{Meaning, Scope};
 use crate::code::{Number, SectionParameter, StmtKind};
 use crate::error::TypeError;
+use crate::ids::{ProcedureId, SectionId};
 use indexmap::IndexSet;
-use sections::id::SectionId;
+use sections::origin::Origin;
 use sections::tree::SectionTree;
 use std::alloc::Global;
 use syntax::tree;
@@ -54,13 +57,13 @@ impl Procedures<'_> {
     }
 
     /// The number and the parameters of the procedure of a name.
-    fn find(&self, name: &String) -> Option<(usize, &[tree::Parameter])>
-        ensures { option_map (λ f. (f.0, map parameter_of f.1.now)) result
+    fn find(&self, name: &String) -> Option<(ProcedureId, &[tree::Parameter])>
+        ensures { option_map (λ f. (f.0.number, map parameter_of f.1.now)) result
             ≡ resolution.procedure_of 0 (string_bytes name.now) (procedures_of self.now) }
     {
         let number = self.names.get_index_of(name)?;
         let procedure = self.declared.get(number)?;
-        Some((number, procedure.parameters.as_slice()))
+        Some((ProcedureId { number }, procedure.parameters.as_slice()))
     }
 
     /// A call in the statement that begins at this place.
@@ -84,11 +87,10 @@ impl Procedures<'_> {
             (map expr_of arguments.now))) }
     {
         let label = scope.label;
-        let (procedure, parameters) = match self.find(name) {
-            Some(found) => found,
-            None => return Err(TypeError::NotInScope { label }),
+        let Some((procedure, parameters)) = self.find(name) else {
+            return Err(TypeError::NotInScope { label });
         };
-        let given = given(alloc, scope, parameters, arguments)?;
+        let given = gathered(alloc, scope, parameters, arguments)?;
         if overlapping(&scope.sections, given.passed.as_slice()) {
             return Err(TypeError::Overlapping { label });
         }
@@ -111,12 +113,12 @@ pub struct Passed {
 #[derive(Drop)]
 struct Given {
     values: Vec<Number>,
-    sections: Vec<usize>,
+    sections: Vec<SectionId>,
     passed: Vec<Passed>,
 }
 
 /// The arguments for these parameters, as many as there are parameters.
-fn given(
+fn gathered(
     alloc: Global,
     scope: &Scope,
     parameters: &[tree::Parameter],
@@ -127,7 +129,7 @@ fn given(
     ensures values { IfOk result (λ g. resolution.values_for (names_of scope.now.names)
         (map parameter_of parameters.now) (map expr_of arguments.now) ≡ map number g.values.items) }
     ensures sections { IfOk result (λ g. resolution.sections_for (names_of scope.now.names)
-        (map parameter_of parameters.now) (map expr_of arguments.now) ≡ g.sections.items) }
+        (map parameter_of parameters.now) (map expr_of arguments.now) ≡ map section_as g.sections.items) }
     ensures passed { IfOk result (λ g. errors.passed (names_of scope.now.names)
         (map parameter_of parameters.now) (map expr_of arguments.now)
         ≡ map passed_by g.passed.items) }
@@ -170,8 +172,8 @@ impl Given {
         ensures values { OnOk result (map number self.new.values.items
             ≡ map number self.old.values.items ++ resolution.values_for (names_of scope.now.names)
             (parameter_of parameter.now ∷ []) (expr_of argument.now ∷ [])) }
-        ensures sections { OnOk result (self.new.sections.items
-            ≡ self.old.sections.items ++ resolution.sections_for (names_of scope.now.names)
+        ensures sections { OnOk result (map section_as self.new.sections.items
+            ≡ map section_as self.old.sections.items ++ resolution.sections_for (names_of scope.now.names)
             (parameter_of parameter.now ∷ []) (expr_of argument.now ∷ [])) }
         ensures passed { OnOk result (map passed_by self.new.passed.items
             ≡ map passed_by self.old.passed.items ++ errors.passed (names_of scope.now.names)
@@ -217,8 +219,8 @@ impl Given {
         ensures right { OnOk result (errors.passing_atom scope.now.label (scope_of scope.now)
             (parameter_in kind) (lone_atom (expr_of argument.now)) ≡ []) }
         ensures values { self.new.values ≡ self.old.values }
-        ensures sections { OnOk result (self.new.sections.items ≡ self.old.sections.items
-            ++ resolution.named_by (names_of scope.now.names)
+        ensures sections { OnOk result (map section_as self.new.sections.items
+            ≡ map section_as self.old.sections.items ++ resolution.named_by (names_of scope.now.names)
             (lone_atom (expr_of argument.now)) ∷ []) }
         ensures passed { OnOk result (map passed_by self.new.passed.items
             ≡ map passed_by self.old.passed.items ++ errors.and_named (names_of scope.now.names)
@@ -227,7 +229,7 @@ impl Given {
             (scope_of scope.now) (parameter_in kind) (lone_atom (expr_of argument.now)))) }
     {
         let section = argument_section(scope, kind, argument)?;
-        self.sections.push(section.number)?;
+        self.sections.push(section)?;
         self.passed.push(Passed {
             section,
             may_write: kind.may_write,
@@ -258,11 +260,7 @@ fn argument_section(
     }
 }
 
-fn atom_section(
-    scope: &Scope,
-    kind: SectionParameter,
-    atom: &Atom,
-) -> Result<SectionId, TypeError>
+fn atom_section(scope: &Scope, kind: SectionParameter, atom: &Atom) -> Result<SectionId, TypeError>
     ensures right { OnOk result (errors.passing_atom scope.now.label (scope_of scope.now)
         (parameter_in kind) (Some (atom_of atom.now)) ≡ []) }
     ensures named { IfOk result (λ s. errors.and_named (names_of scope.now.names)
@@ -340,5 +338,44 @@ fn clash(sections: &SectionTree, one: Passed, other: Passed) -> bool
     requires other { other.section.number < length (origins_of sections.now) }
     ensures { result ≡ errors.clash (origins_of sections.now) (passed_by one) (passed_by other) }
 {
-    (one.may_write || other.may_write) && sections.overlap(one.section, other.section)
+    (one.may_write || other.may_write) && overlap(sections, one.section, other.section)
+}
+
+/// Stands in for `SectionTree::overlap` until that lands.
+fn overlap(sections: &SectionTree, a: SectionId, b: SectionId) -> bool
+    requires first { a.number < length (origins_of sections.now) }
+    requires second { b.number < length (origins_of sections.now) }
+    ensures { result ≡ overlap_of (origins_of sections.now) a.number b.number }
+{
+    let mut low = a.number.min(b.number);
+    let mut high = a.number.max(b.number);
+    'walk: while low < high {
+        let Some(parent) = above(sections, low, high) else {
+            return false;
+        };
+        if parent < low {
+            high = low;
+            low = parent;
+        } else {
+            high = parent;
+        }
+    }
+    true
+}
+
+fn above(sections: &SectionTree, low: usize, high: usize) -> Option<usize>
+    requires { high < length (origins_of sections.now) }
+    ensures { IfSome result (λ p. p < high) }
+{
+    match sections.origin(SectionId { number: high }) {
+        Origin::Root => None,
+        Origin::Left { parent } => Some(parent.number),
+        Origin::Right { parent } => {
+            if low + 1 == high {
+                None
+            } else {
+                Some(parent.number)
+            }
+        }
+    }
 }

@@ -16,7 +16,7 @@ ghost use Rattle.types.specs.Translation.{number, truth};
 use crate::check::scope::{Meaning, Names};
 use crate::code::{Label, Link, Number, Operator, Truth};
 use crate::error::TypeError;
-use sections::id::SectionId;
+use crate::ids::{SectionId, Slot};
 use std::alloc::Global;
 use syntax::tree;
 use syntax::tree::{Atom, Cmp, Conj, Expr, Neg, Prod, Sign, Sum, Unary};
@@ -194,13 +194,13 @@ impl Expressions<'_> {
                 Ok(Number::Scalar { slot })
             }
             Atom::Element { section, index } => {
-                let section = self.section(section)?.number;
+                let section = self.section(section)?;
                 let index = self.number(index)?;
                 let index = Box::new(self.alloc, index)?;
                 Ok(Number::Element { section, index })
             }
             Atom::Length(section) => {
-                let section = self.section(section)?.number;
+                let section = self.section(section)?;
                 Ok(Number::Length { section })
             }
             Atom::Parens(inner) => self.number(inner),
@@ -377,11 +377,11 @@ impl Expressions<'_> {
     }
 
     /// The slot of a scalar's name.
-    pub fn scalar(&self, name: &String) -> Result<usize, TypeError>
+    pub fn scalar(&self, name: &String) -> Result<Slot, TypeError>
         ensures right { OnOk result (naming_scalar self.now.label
             (meant (string_bytes name.now) (names_of self.now.names.now)) ≡ []) }
         ensures meaning { IfOk result (λ k.
-            meant (string_bytes name.now) (names_of self.now.names.now) ≡ Some (AScalar k)) }
+            meant (string_bytes name.now) (names_of self.now.names.now) ≡ Some (AScalar k.number)) }
         ensures error { IfErr result (Told (naming_scalar self.now.label
             (meant (string_bytes name.now) (names_of self.now.names.now)))) }
     {

@@ -12,8 +12,8 @@ ghost use Rattle.types.specs.Translation.{parameter};
 
 use crate::code::{Label, SectionParameter};
 use crate::error::TypeError;
+use crate::ids::{SectionId, Slot};
 use indexmap::IndexMap;
-use sections::id::SectionId;
 use sections::tree::SectionTree;
 use std::alloc::Global;
 use syntax::tree::ElementType;
@@ -22,7 +22,7 @@ use syntax::tree::ElementType;
 #[derive(Clone, Copy)]
 pub enum Meaning {
     Section(SectionId),
-    Scalar(usize),
+    Scalar(Slot),
 }
 
 /// The names in scope, each with its meaning. No two are the same.
@@ -135,7 +135,8 @@ impl Scope {
         ensures error { IfErr result (Told (declaring label
             (meant (string_bytes name.now) (scope_of self.old).names))) }
     {
-        self.names.declare(label, name, Meaning::Scalar(self.slots))?;
+        self.names
+            .declare(label, name, Meaning::Scalar(Slot { number: self.slots }))?;
         self.slots += 1;
         Ok(())
     }
@@ -182,8 +183,10 @@ impl Scope {
     {
         let kind = self.kind(section);
         let sides = self.sections.split(section)?;
-        self.names.declare(Some(label), right, Meaning::Section(sides.1))?;
-        self.names.declare(Some(label), left, Meaning::Section(sides.0))?;
+        self.names
+            .declare(Some(label), right, Meaning::Section(sides.1))?;
+        self.names
+            .declare(Some(label), left, Meaning::Section(sides.0))?;
         self.section_names.push(left.clone()?)?;
         self.section_names.push(right.clone()?)?;
         self.kinds.push(kind)?;

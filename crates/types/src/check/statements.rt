@@ -18,7 +18,7 @@ use crate::check::limits::MOST_LABELS;
 use crate::check::scope::{Mark, Meaning, Scope};
 use crate::code::{Primitive, Stmt, StmtKind};
 use crate::error::TypeError;
-use sections::id::SectionId;
+use crate::ids::{SectionId, Slot};
 use std::alloc::Global;
 use syntax::tree;
 use syntax::tree::Expr;
@@ -248,10 +248,10 @@ impl Statements<'_> {
         let (left, right) = scope.sides(label, section, left, right)?;
         let body = self.inside(scope, mark, body)?;
         Ok(StmtKind::Split {
-            section: section.number,
+            section,
             at,
-            left: left.number,
-            right: right.number,
+            left,
+            right,
             body,
         })
     }
@@ -301,19 +301,16 @@ impl Statements<'_> {
     {
         let label = scope.label;
         let value = self.expressions(scope).number(value)?;
-        let slot = scope.slots;
+        let slot = Slot {
+            number: scope.slots,
+        };
         scope.step();
         scope.scalar(Some(label), name)?;
         Ok(StmtKind::Do(Primitive::Assign { slot, value }))
     }
 
     /// `x = 1;`
-    fn assign(
-        &self,
-        scope: &mut Scope,
-        name: &String,
-        value: &Expr,
-    ) -> Result<StmtKind, TypeError>
+    fn assign(&self, scope: &mut Scope, name: &String, value: &Expr) -> Result<StmtKind, TypeError>
         requires { scope.old.label ≤ 65535 }
         ensures ok { IfOk result (λ k. Resolves (procedures_of self.now.procedures)
             (scope_of scope.old) (Assign (string_bytes name.now) (expr_of value.now)) k
@@ -344,7 +341,7 @@ impl Statements<'_> {
             (scope_of scope.old)
             (Store (string_bytes section.now) (expr_of index.now) (expr_of value.now)))) }
     {
-        let section = written(scope, section)?.number;
+        let section = written(scope, section)?;
         let expressions = self.expressions(scope);
         let index = expressions.number(index)?;
         let value = expressions.number(value)?;
@@ -357,12 +354,7 @@ impl Statements<'_> {
     }
 
     /// `print a[0], 2;`
-    fn print(
-        &self,
-        scope: &mut Scope,
-        first: &Expr,
-        rest: &[Expr],
-    ) -> Result<StmtKind, TypeError>
+    fn print(&self, scope: &mut Scope, first: &Expr, rest: &[Expr]) -> Result<StmtKind, TypeError>
         requires { scope.old.label ≤ 65535 }
         ensures ok { IfOk result (λ k. Resolves (procedures_of self.now.procedures)
             (scope_of scope.old) (Print (expr_of first.now) (map expr_of rest.now)) k
@@ -404,7 +396,9 @@ impl Statements<'_> {
             (scope_of scope.old)
             (Call (string_bytes procedure.now) (map expr_of arguments.now)))) }
     {
-        let call = self.procedures.call(self.alloc, scope, procedure, arguments)?;
+        let call = self
+            .procedures
+            .call(self.alloc, scope, procedure, arguments)?;
         scope.step();
         Ok(call)
     }
@@ -423,11 +417,11 @@ impl Statements<'_> {
 }
 
 /// The slot of a scalar that is assigned: one that was declared inside of the innermost async body.
-fn assigned(scope: &Scope, name: &String) -> Result<usize, TypeError>
+fn assigned(scope: &Scope, name: &String) -> Result<Slot, TypeError>
     ensures right { OnOk result (naming_assigned scope.now.label (scope_of scope.now)
         (meant (string_bytes name.now) (names_of scope.now.names)) ≡ []) }
     ensures meaning { IfOk result (λ k.
-        meant (string_bytes name.now) (names_of scope.now.names) ≡ Some (AScalar k)) }
+        meant (string_bytes name.now) (names_of scope.now.names) ≡ Some (AScalar k.number)) }
     ensures error { IfErr result (Told (naming_assigned scope.now.label (scope_of scope.now)
         (meant (string_bytes name.now) (names_of scope.now.names)))) }
 {
@@ -436,7 +430,7 @@ fn assigned(scope: &Scope, name: &String) -> Result<usize, TypeError>
         None => Err(TypeError::NotInScope { label }),
         Some(Meaning::Section(_)) => Err(TypeError::WrongKind { label }),
         Some(Meaning::Scalar(slot)) => {
-            if slot < scope.outside {
+            if slot.number < scope.outside {
                 return Err(TypeError::AssignedOutsideAsync { label });
             }
             Ok(slot)
