@@ -12,3 +12,5 @@ pub mod Blocks
 pub mod Resolved
 pub mod Telling
 pub mod Scopes
+pub mod NamesInScope
+pub mod Expressions

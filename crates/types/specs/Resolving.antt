@@ -61,7 +61,7 @@ procedures_of p = map tree.procedure p.declared.now
 
 module _ (procedures : List Procedure) (here : Scope) (s : Stmt) where
   -- a statement breaks no rule, and what it resolves to, with the place behind it
-  pub record Resolves (k : StmtKind) (there : rScope) : Type 0 where
+  pub record Resolves (k : StmtKind) (there : Scope) : Type 0 where
     pub right : errors_in procedures here s ≡ []
     pub kind : code_at procedures here s ≡ code k
-    pub place : scope_of there ≡ behind s here
+    pub place : there ≡ behind s here

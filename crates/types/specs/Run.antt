@@ -59,7 +59,7 @@ abbrev pub no_array : Array
 no_array = record { name = []; element = Int; length = 0 }
 
 abbrev pub no_procedure : Procedure
-no_procedure = record { parameters = []; scalars = 0; slots = 0; sections = []; body = End }
+no_procedure = record { name = []; section_names = []; parameters = []; scalars = 0; slots = 0; sections = []; body = End }
 
 -- the array, and the procedure, of a number
 abbrev pub array_of : Program → ℕ → Array

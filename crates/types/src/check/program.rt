@@ -1,5 +1,7 @@
 //! Procedures and `main`.
 
+#![tactic(auto, using(crate::proofs::Telling::told_left, crate::proofs::Telling::told_right, crate::proofs::Telling::told_memory, crate::proofs::Telling::told_alone, crate::proofs::Telling::none_both))]
+
 ghost use Rattle.std.specs.Prelude.{◌≡◌, [], ◌∷◌, ◌++◌, ◌≤◌, ◌+◌, map, OnOk, IfOk, IfErr, length, sum_by, Some, None, codes};
 ghost use Rattle.std.specs.String.{string_bytes};
 ghost use Rattle.syntax.specs.Tree.{block as block_of, procedure as procedure_as, parameter as parameter_of};

@@ -1,8 +1,11 @@
 //! What is in scope, as the resolver goes through a text.
 
-ghost use Rattle.std.specs.Prelude.{◌≡◌, ◌∷◌, [], ◌-◌, ◌+◌, ◌≤◌, ◌<◌, length, drop, OnOk, IfOk, IfErr, Some};
+#![tactic(auto, using(crate::proofs::Telling::told_left, crate::proofs::Telling::told_right, crate::proofs::Telling::told_memory, crate::proofs::Telling::told_alone, crate::proofs::Telling::none_both))]
+
+ghost use Rattle.std.specs.Prelude.{◌≡◌, ◌∷◌, ◌++◌, [], ◌-◌, ◌+◌, ◌≤◌, ◌<◌, length, drop, OnOk, IfOk, IfErr, Some};
 ghost use Rattle.std.specs.Option.{option_map};
-ghost use Rattle.std.specs.String.{string_bytes};
+ghost use Rattle.std.specs.String.{string_bytes, string_eq};
+ghost use Rattle.indexmap.specs.IndexMap.{IsUnique};
 ghost use Rattle.types.specs.NameErrors.{declaring};
 ghost use Rattle.types.specs.Resolving.{meant_by, names_of, scope_of, left as left_by, IsWellScoped};
 ghost use Rattle.types.specs.Scope.{ASection, meant, empty_scope, with_scalar, with_root, with_sides};
@@ -29,6 +32,7 @@ pub enum Meaning {
 #[derive(Drop)]
 pub struct Names {
     meanings: IndexMap<String, Meaning>,
+    ghost apart: { IsUnique string_eq meanings },
 }
 
 impl Names {
