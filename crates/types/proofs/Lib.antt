@@ -14,3 +14,4 @@ pub mod Telling
 pub mod Scopes
 pub mod NamesInScope
 pub mod Expressions
+pub mod Statements

@@ -1,6 +1,6 @@
 -- The names in scope as a map's entries, the latest first: each name stands there once.
 use Rattle.std.proofs.Common.{◌≡◌, ℕ, ◌+◌, ◌-◌, ◌≤◌, Bool, true, false, cond, List, [], ◌∷◌, ◌++◌, length, map, drop, take, reverse}
-use Rattle.std.proofs.Common.{Option, Some, None, String, refl, sym, ap, ◌∙◌, subst, arith, if◌then◌else◌}
+use Rattle.std.proofs.Common.{Option, Some, None, is_some, inl, String, refl, sym, ap, ◌∙◌, subst, arith, if◌then◌else◌}
 use Rattle.std.specs.Prelude.{nat_eq}
 use Rattle.std.specs.Cmp.Lexicographic.{pointwise}
 use Rattle.std.specs.List.{AllByRecursion, IsDistinct}
@@ -9,9 +9,12 @@ use Rattle.std.specs.Option.{option_map}
 use Rattle.std.specs.String.{string_bytes, string_eq}
 use Rattle.std.proofs.lemmas.List.{reverse-append, map-append, length-append, length-reverse, take-append-drop, length-map, length-drop}
 use Rattle.std.proofs.lemmas.Slice.Eq.{bytes_eq-Decides}
+use Rattle.types.specs.NameErrors.{declaring}
+use Rattle.types.specs.Told.{Told}
+use Rattle.types.specs.declared.error.TypeError.TheVariants.{DeclaredTwice}
 use Rattle.types.specs.Scope.{Meant, Names, meant}
 use Rattle.types.specs.Resolving.{meant_by, entry}
-use Rattle.types.specs.declared.check.scope.Meaning.{Meaning}
+use Rattle.types.specs.declared.check.names.Meaning.{Meaning}
 
 -- what a name means among some names, or else among others
 abbrev or_else : Option Meant → Option Meant → Option Meant
@@ -81,3 +84,20 @@ module _ {Z : Type 0} where
       let part : length later ≡ length es - n = length-reverse (map entry (drop n es)) ∙ length-map (drop n es) entry ∙ length-drop n es in
       let count : length later ≡ length (names_in es) - n = omega (arith, whole, part) in
       sym (ap (λ k. drop k (names_in es)) (sym count) ∙ ap (drop (length later)) all ∙ drop_front later (names_in (take n es)))
+
+-- ---- a declaration, by whether the name is there
+is_some_found : (o : Option Meaning) (m : Option Meant) → m ≡ option_map meant_by o → is_some m ≡ is_some o
+is_some_found None m e = ap is_some e
+is_some_found (Some x) m e = ap is_some e
+
+pub declared_twice : (label : Option ℕ) (m : Option Meant) → is_some m ≡ true → Told (declaring label m) (DeclaredTwice label)
+declared_twice label None h = cc
+declared_twice label (Some m) h = inl refl
+
+pub declared_once : (label : Option ℕ) (m : Option Meant) → is_some m ≡ false → declaring label m ≡ []
+declared_once label None h = refl
+declared_once label (Some m) h = cc
+
+module _ {Z : Type 0} (x : String Z) (es : List (String Z × Meaning)) (apart : IsDistinct string_eq (keys_of es)) where
+  pub found_there : (b : Bool) → is_some (lookup (string_eq x) es) ≡ b → is_some (meant (string_bytes x) (names_in es)) ≡ b
+  found_there b h = is_some_found (lookup (string_eq x) es) (meant (string_bytes x) (names_in es)) (meant_is_lookup x es apart) ∙ h

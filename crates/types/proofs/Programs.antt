@@ -1,11 +1,12 @@
 -- Worked programs, resolved.
-use Rattle.std.specs.Prelude.{ℕ, List, [], ◌∷◌, pos, true}
+use Rattle.std.specs.Prelude.{ℕ, List, [], ◌∷◌, map, codes, pos, true}
+use Rattle.sections.specs.Origins.{Origin, Root, Left, Right}
 use Rattle.syntax.specs.declared.tree.ElementType.TheVariants.{Int, Byte}
 use Rattle.syntax.specs.declared.tree.Relation.TheVariants.{Less, AtMost, Equal}
 use Rattle.types.specs.declared.code.Operator.TheVariants.{Plus, Minus, Times, Over, Modulo}
 use Rattle.types.specs.Code.{Number, Literal, Scalar, Element, Length, Negative, Chain, Done, Link, Constant, Compare}
 use Rattle.types.specs.Code.{Skip, Assign, Store, Print, Raise, Code, Do, If, While, Split, Call, Async, Finish, Codes}
-use Rattle.types.specs.Code.{End, Then, Origin, Root, Left, Right, Array, Procedure, Program}
+use Rattle.types.specs.Code.{End, Then, Array, Parameter, Procedure, Program}
 
 -- a labelled statement before others
 infixr 4 ◌⨾◌
@@ -19,11 +20,24 @@ lit n = Literal (pos n)
 abbrev pub ints : (letter n : ℕ) → Array
 ints letter n = record { name = letter ∷ []; element = Int; length = n }
 
+-- an array as a parameter of `main`
+abbrev pub as_parameter : Array → Parameter
+as_parameter a = record { may_write = true; element = a.element }
+
+-- `main` with these arrays; sides of splits have no names here
 abbrev pub main_of : List Array → (slots : ℕ) → List Origin → Codes → Program
 main_of arrays slots sections body = record {
   arrays = arrays;
   procedures = [];
-  main = record { parameters = []; scalars = 0; slots = slots; sections = sections; body = body };
+  main = record {
+    name = codes "main";
+    parameters = map as_parameter arrays;
+    scalars = 0;
+    slots = slots;
+    sections = sections;
+    section_names = map (λ a. a.name) arrays;
+    body = body;
+  };
 }
 
 -- finish { async { a[0] = 7; } b[0] = 8; } print a[0], b[0];
@@ -36,10 +50,12 @@ two_arrays = main_of (ints 97 1 ∷ ints 98 1 ∷ []) 0 (Root ∷ Root ∷ []) (
 -- { async { twice(l); } twice(r); } } }
 abbrev pub twice : Procedure
 twice = record {
+  name = 116 ∷ [];
   parameters = record { may_write = true; element = Int } ∷ [];
   scalars = 0;
   slots = 0;
   sections = Root ∷ Left 0 ∷ Right 0 ∷ [];
+  section_names = (115 ∷ []) ∷ (108 ∷ []) ∷ (114 ∷ []) ∷ [];
   body = (
     1,
     If (Compare AtMost (Length 0) (lit 1))
@@ -61,7 +77,7 @@ abbrev pub doubling : ℕ → Program
 doubling n = record {
   arrays = ints 97 n ∷ [];
   procedures = twice ∷ [];
-  main = record { parameters = []; scalars = 0; slots = 0; sections = Root ∷ []; body = (8, Finish ((9, Call 0 [] (0 ∷ [])) ⨾ End)) ⨾ End };
+  main = (main_of (ints 97 n ∷ []) 0 (Root ∷ []) ((8, Finish ((9, Call 0 [] (0 ∷ [])) ⨾ End)) ⨾ End)).main;
 }
 
 -- split a at 0 as l, r { r[2] = 5; } split a at 3 as m, n { m[0] = len(n); } print a[0], a[2]; split a at 4 as u, v { u[0] = 9; }
@@ -166,10 +182,12 @@ scalars = main_of [] 2 [] (
 -- proc down(mut s: int, n: int) { if n > 0 { down(s, n - 1); s[0] = s[0] + n; } }
 abbrev pub down : Procedure
 down = record {
+  name = 100 ∷ [];
   parameters = record { may_write = true; element = Int } ∷ [];
   scalars = 1;
   slots = 1;
   sections = Root ∷ [];
+  section_names = (115 ∷ []) ∷ [];
   body = (
     1,
     If (Compare Less (lit 0) (Scalar 0))
@@ -183,15 +201,8 @@ abbrev pub deep_call : ℕ → Program
 deep_call n = record {
   arrays = ints 97 1 ∷ [];
   procedures = down ∷ [];
-  main =
-      record {
-        parameters = [];
-        scalars = 0;
-        slots = 0;
-        sections = Root ∷ [];
-        body =
-            (4, Call 0 (lit n ∷ []) (0 ∷ [])) ⨾ (5, Do (Print (Element 0 (lit 0) ∷ []))) ⨾ End;
-      };
+  main = (main_of (ints 97 1 ∷ []) 0 (Root ∷ []) (
+      (4, Call 0 (lit n ∷ []) (0 ∷ [])) ⨾ (5, Do (Print (Element 0 (lit 0) ∷ []))) ⨾ End)).main;
 }
 
 -- async { print 1; } print 2;

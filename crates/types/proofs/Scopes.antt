@@ -9,7 +9,7 @@ use Rattle.syntax.specs.Tree.{Stmt, Skip, Var, Assign, Store, Print, Fault, If, 
 use Rattle.syntax.specs.Tree.{Block, End, Then, Parameter as Declared, Written, Read, Scalar, Array}
 use Rattle.types.specs.Code.{Parameter}
 use Rattle.types.specs.Scope.{Meant, ASection, AScalar, Names, meant, section_of, Scope, kind_of, with_scalar, with_root}
-use Rattle.types.specs.Scope.{with_sides, next, in_async, out_of, behind, after, with_parameter, with_parameters, with_array}
+use Rattle.types.specs.Scope.{with_sides, next, inside_async, out_of, behind, after, with_parameter, with_parameters, with_array}
 use Rattle.types.specs.Scope.{with_arrays, empty_scope}
 use Rattle.types.specs.Resolving.{left, IsWellScoped}
 
@@ -82,8 +82,8 @@ pub left_else : (here : Scope) (b c : Block) → let there = out_of here (after 
 left_else here b c = left_is_out here (out_of here (after b (next here))) c (grown_none here.names)
 
 pub left_async : (here : Scope) (b : Block)
-    → left (length here.names) here.outside (after b (in_async (next here))) ≡ out_of here (after b (in_async (next here)))
-left_async here b = left_is_out here (in_async (next here)) b (grown_none here.names)
+    → left (length here.names) here.outside (after b (inside_async (next here))) ≡ out_of here (after b (inside_async (next here)))
+left_async here b = left_is_out here (inside_async (next here)) b (grown_none here.names)
 
 pub left_sides : (here : Scope) (s : ℕ) (l r : List ℕ) (b : Block)
     → left (length here.names) here.outside (after b (with_sides s l r (next here))) ≡ out_of here (after b (with_sides s l r (next here)))
@@ -110,8 +110,8 @@ known_one x m ns n new known y s h = known_by (pointwise nat_eq y x) m (meant y 
 pub scoped_next : (here : Scope) → IsWellScoped here → IsWellScoped (next here)
 scoped_next here w = record { known = w.known; kinds = w.kinds; slots = let h : here.slot ≤ 16 + here.label = w.slots in omega arith }
 
-pub scoped_in_async : (here : Scope) → IsWellScoped here → IsWellScoped (in_async here)
-scoped_in_async here w = record { known = w.known; kinds = w.kinds; slots = w.slots }
+pub scoped_async : (here : Scope) → IsWellScoped here → IsWellScoped (inside_async here)
+scoped_async here w = record { known = w.known; kinds = w.kinds; slots = w.slots }
 
 scoped_var : (x : List ℕ) (here : Scope) → IsWellScoped here → IsWellScoped (with_scalar x (next here))
 scoped_var x here w = record {
@@ -154,7 +154,7 @@ mutual
       let inner = more_after b (with_sides n l r (next here)) in
       omega (arith, length-append here.sections (Left n ∷ Right n ∷ []))
   more_behind (Call f es) here = omega arith
-  more_behind (Async b) here = more_after b (in_async (next here))
+  more_behind (Async b) here = more_after b (inside_async (next here))
   more_behind (Finish b) here = more_after b (next here)
 
   more_after : (b : Block) (here : Scope) → length here.sections ≤ length (after b here).sections
@@ -197,8 +197,8 @@ mutual
       (omega (arith, length-append here.sections (Left n ∷ Right n ∷ [])))
   scoped_behind (Call f es) here w = scoped_next here w
   scoped_behind (Async b) here w =
-      let inside = in_async (next here) in
-      scoped_out here (after b inside) w (scoped_after b inside (scoped_in_async (next here) (scoped_next here w))) (more_after b inside)
+      let inside = inside_async (next here) in
+      scoped_out here (after b inside) w (scoped_after b inside (scoped_async (next here) (scoped_next here w))) (more_after b inside)
   scoped_behind (Finish b) here w = scoped_body here b w
 
   scoped_body : (here : Scope) (b : Block) → IsWellScoped here → IsWellScoped (out_of here (after b (next here)))

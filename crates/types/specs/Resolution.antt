@@ -22,7 +22,7 @@ use Rattle.types.specs.Code.{Number, Literal, Scalar, Element, Length, Negative,
 use Rattle.types.specs.Code.{Constant, Compare, Not, Both, Either, Truths, NoMore, Also, Skip, Assign, Store, Print}
 use Rattle.types.specs.Code.{Raise, Code, Do, If, While, Split, Call, Async, Finish, Codes, End, Then, Array}
 use Rattle.types.specs.Code.{Procedure, Program}
-use Rattle.types.specs.Scope.{Names, Scope, section_of, slot_of, with_sides, next, in_async, out_of, behind, after}
+use Rattle.types.specs.Scope.{Names, Scope, section_of, slot_of, with_sides, next, inside_async, out_of, behind, after}
 use Rattle.types.specs.Scope.{in_procedure, in_main}
 
 abbrev pub sign : Sign → Operator
@@ -183,7 +183,7 @@ module _ (procedures : List DeclaredProcedure) where
     code here (Splits s e l r b) = Split (section_of here.names s) (number here.names e) (length here.sections) (length here.sections + 1)
         (codes (with_sides (section_of here.names s) l r (next here)) b)
     code here (Calls f es) = call here.names (procedure_of 0 f procedures) es
-    code here (Asyncs b) = Async (codes (in_async (next here)) b)
+    code here (Asyncs b) = Async (codes (inside_async (next here)) b)
     code here (Finishes b) = Finish (codes (next here) b)
 
     pub codes : Scope → Block → Codes

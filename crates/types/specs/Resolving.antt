@@ -6,9 +6,9 @@ use Rattle.syntax.specs.Tree.{Stmt, Procedure}
 use Rattle.syntax.specs.Tree as tree
 use Rattle.types.specs.declared.check.calls.Passed.{Passed as rPassed}
 use Rattle.types.specs.declared.check.calls.Procedures.{Procedures as rProcedures}
-use Rattle.types.specs.declared.check.scope.Meaning.{Meaning}
-use Rattle.types.specs.declared.check.scope.Meaning.TheVariants.{Section as rSection, Scalar as rScalar}
-use Rattle.types.specs.declared.check.scope.Names.{Names as rNames}
+use Rattle.types.specs.declared.check.names.Meaning.{Meaning}
+use Rattle.types.specs.declared.check.names.Meaning.TheVariants.{Section as rSection, Scalar as rScalar}
+use Rattle.types.specs.declared.check.names.Names.{Names as rNames}
 use Rattle.types.specs.declared.check.scope.Scope.{Scope as rScope}
 use Rattle.types.specs.CallErrors.{Passed}
 use Rattle.types.specs.Scope.{Meant, ASection, AScalar, Names, meant, Scope, behind}

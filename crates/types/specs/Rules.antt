@@ -10,7 +10,7 @@ use Rattle.types.specs.CallErrors.{calling}
 use Rattle.types.specs.ExpressionErrors.{number, numbers, truth}
 use Rattle.types.specs.NameErrors.{declaring, naming_section, naming_written, naming_assigned}
 use Rattle.types.specs.Resolution.{procedure_of, label_behind, label_behind_all}
-use Rattle.types.specs.Scope.{ASection, meant, section_of, Scope, empty_scope, next, in_async, with_sides, out_of, behind}
+use Rattle.types.specs.Scope.{ASection, meant, section_of, Scope, empty_scope, next, inside_async, with_sides, out_of, behind}
 use Rattle.types.specs.Scope.{after, with_parameter, with_array, in_procedure, in_main}
 
 -- Y9: there are more than so many
@@ -52,7 +52,7 @@ module _ (procedures : List Procedure) where
     inner_errors here (While e b) = errors (next here) b
     inner_errors here (Split s e l r b) = errors (with_sides (section_of here.names s) l r (next here)) b
     inner_errors here (Call f es) = []
-    inner_errors here (Async b) = errors (in_async (next here)) b
+    inner_errors here (Async b) = errors (inside_async (next here)) b
     inner_errors here (Finish b) = errors (next here) b
 
     -- the errors of a block; Y9: there are 65,535 labels

@@ -99,8 +99,8 @@ abbrev pub next : Scope → Scope
 next here = record here { label = here.label + 1 }
 
 -- at the beginning of an async body
-abbrev pub in_async : Scope → Scope
-in_async here = record here { outside = here.slot }
+abbrev pub inside_async : Scope → Scope
+inside_async here = record here { outside = here.slot }
 
 -- out of a block again: the names are those of before; labels, slots and sections go on
 abbrev pub out_of : (before : Scope) → Scope → Scope
@@ -120,7 +120,7 @@ abbrev mutual
   behind (While e b) here = out_of here (after b (next here))
   behind (Split s e l r b) here = out_of here (after b (with_sides (section_of here.names s) l r (next here)))
   behind (Call f es) here = next here
-  behind (Async b) here = out_of here (after b (in_async (next here)))
+  behind (Async b) here = out_of here (after b (inside_async (next here)))
   behind (Finish b) here = out_of here (after b (next here))
 
   -- behind the statements of a block

@@ -2,7 +2,7 @@
 use Rattle.std.specs.Prelude.{ℕ, ◌≡◌, List, ◌∷◌, Some}
 use Rattle.syntax.specs.Tree.{Expr, Stmt, If, IfElse, While, Split, Async, Finish, Block, Then, Procedure, Main, Program}
 use Rattle.types.specs.Resolution.{label_behind, label_behind_all}
-use Rattle.types.specs.Scope.{Scope, section_of, next, in_async, with_sides, out_of, behind, after, in_procedure, in_main}
+use Rattle.types.specs.Scope.{Scope, section_of, next, inside_async, with_sides, out_of, behind, after, in_procedure, in_main}
 
 -- the statement s stands at the place `here` in a block that begins at the place `from`
 pub data Stands : (from : Scope) → Block → (here : Scope) → Stmt → Type 0 where
@@ -19,7 +19,7 @@ pub data Stands : (from : Scope) → Block → (here : Scope) → Stmt → Type 
   in_split : {from here : Scope} {s : Stmt} {x l r : List ℕ} {e : Expr} {b rest : Block}
       → Stands (with_sides (section_of from.names x) l r (next from)) b here s → Stands from (Then (Split x e l r b) rest) here s
   in_async : {from here : Scope} {s : Stmt} {b rest : Block}
-      → Stands (in_async (next from)) b here s → Stands from (Then (Async b) rest) here s
+      → Stands (inside_async (next from)) b here s → Stands from (Then (Async b) rest) here s
   in_finish : {from here : Scope} {s : Stmt} {b rest : Block}
       → Stands (next from) b here s → Stands from (Then (Finish b) rest) here s
 

@@ -11,6 +11,7 @@ ghost use Rattle.types.specs.Typed.{code_of, program_of};
 mod calls;
 mod expressions;
 mod limits;
+mod names;
 mod program;
 mod scope;
 mod statements;

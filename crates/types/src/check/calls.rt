@@ -19,7 +19,8 @@ ghost use Rattle.types.specs.Rules.{name_errors};
 ghost use Rattle.types.specs.Translation.{number, code, parameter as parameter_in};
 
 use crate::check::expressions::Expressions;
-use crate::check::scope::{Meaning, Scope};
+use crate::check::names::Meaning;
+use crate::check::scope::Scope;
 use crate::code::{Number, SectionParameter, StmtKind};
 use crate::error::TypeError;
 use crate::ids::{ProcedureId, SectionId};

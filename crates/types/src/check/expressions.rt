@@ -15,7 +15,7 @@ ghost use Rattle.types.specs.Scope.{ASection, AScalar, meant};
 ghost use Rattle.types.specs.Told.{Told};
 ghost use Rattle.types.specs.Translation.{number, truth};
 
-use crate::check::scope::{Meaning, Names};
+use crate::check::names::{Meaning, Names};
 use crate::code::{Label, Link, Number, Operator, Truth};
 use crate::error::TypeError;
 use crate::ids::{SectionId, Slot};

@@ -6,19 +6,21 @@ ghost use Rattle.std.specs.Prelude.{◌≡◌, [], ◌∷◌, ◌++◌, ◌≤�
 ghost use Rattle.std.specs.String.{string_bytes};
 ghost use Rattle.syntax.specs.Tree.{block as block_of, stmt as stmt_of, expr as expr_of};
 ghost use Rattle.syntax.specs.Tree.{Var, Assign, Store, Print, Fault, If, IfElse, While, Split, Call, Async, Finish};
-ghost use Rattle.types.specs.Resolution.{code as code_at, codes as codes_at};
-ghost use Rattle.types.specs.NameErrors.{naming_written, naming_assigned};
+ghost use Rattle.types.specs.Resolution.{code as code_at, codes as codes_at, number as number_at, truth as truth_at};
+ghost use Rattle.types.specs.ExpressionErrors.{number as number_errors, numbers as numbers_errors, truth as truth_errors};
+ghost use Rattle.types.specs.NameErrors.{naming_section, naming_written, naming_assigned};
 ghost use Rattle.types.specs.Resolving.{scope_of, names_of, procedures_of, left as left_by, IsWellScoped, Resolves};
 ghost use Rattle.types.specs.Rules.{errors, errors_in, limit as over};
 ghost use Rattle.types.specs.Scope.{ASection, AScalar, meant, behind, after};
 ghost use Rattle.types.specs.Told.{Told};
-ghost use Rattle.types.specs.Translation.{code, codes};
+ghost use Rattle.types.specs.Translation.{number, truth, code, codes};
 
 use crate::check::calls::Procedures;
 use crate::check::expressions::Expressions;
 use crate::check::limits::MOST_LABELS;
-use crate::check::scope::{Mark, Meaning, Scope};
-use crate::code::{Primitive, Stmt, StmtKind};
+use crate::check::names::Meaning;
+use crate::check::scope::{Mark, Scope};
+use crate::code::{Number, Primitive, Stmt, StmtKind, Truth};
 use crate::error::TypeError;
 use crate::ids::{SectionId, Slot};
 use std::alloc::Global;
@@ -163,7 +165,7 @@ impl Statements<'_> {
             (scope_of scope.old) (If (expr_of guard.now) (block_of body.now)))) }
     {
         let mark = scope.mark();
-        let guard = self.expressions(scope).truth(guard)?;
+        let guard = self.truth(scope, guard)?;
         scope.step();
         let body = self.inside(scope, mark, body)?;
         let other = Vec::new(self.alloc);
@@ -190,7 +192,7 @@ impl Statements<'_> {
             (IfElse (expr_of guard.now) (block_of body.now) (block_of other.now)))) }
     {
         let mark = scope.mark();
-        let guard = self.expressions(scope).truth(guard)?;
+        let guard = self.truth(scope, guard)?;
         scope.step();
         let body = self.inside(scope, mark, body)?;
         let other = self.inside(scope, mark, other)?;
@@ -214,7 +216,7 @@ impl Statements<'_> {
             (scope_of scope.old) (While (expr_of guard.now) (block_of body.now)))) }
     {
         let mark = scope.mark();
-        let guard = self.expressions(scope).truth(guard)?;
+        let guard = self.truth(scope, guard)?;
         scope.step();
         let body = self.inside(scope, mark, body)?;
         Ok(StmtKind::While { guard, body })
@@ -243,9 +245,8 @@ impl Statements<'_> {
     {
         let label = scope.label;
         let mark = scope.mark();
-        let expressions = self.expressions(scope);
-        let section = expressions.section(section)?;
-        let at = expressions.number(at)?;
+        let section = self.section(scope, section)?;
+        let at = self.number(scope, at)?;
         scope.step();
         let (left, right) = scope.sides(label, section, left, right)?;
         let body = self.inside(scope, mark, body)?;
@@ -302,7 +303,7 @@ impl Statements<'_> {
             (scope_of scope.old) (Var (string_bytes name.now) (expr_of value.now)))) }
     {
         let label = scope.label;
-        let value = self.expressions(scope).number(value)?;
+        let value = self.number(scope, value)?;
         let slot = Slot {
             number: scope.slots,
         };
@@ -321,7 +322,7 @@ impl Statements<'_> {
             (scope_of scope.old) (Assign (string_bytes name.now) (expr_of value.now)))) }
     {
         let slot = assigned(scope, name)?;
-        let value = self.expressions(scope).number(value)?;
+        let value = self.number(scope, value)?;
         scope.step();
         Ok(StmtKind::Do(Primitive::Assign { slot, value }))
     }
@@ -344,9 +345,8 @@ impl Statements<'_> {
             (Store (string_bytes section.now) (expr_of index.now) (expr_of value.now)))) }
     {
         let section = written(scope, section)?;
-        let expressions = self.expressions(scope);
-        let index = expressions.number(index)?;
-        let value = expressions.number(value)?;
+        let index = self.number(scope, index)?;
+        let value = self.number(scope, value)?;
         scope.step();
         Ok(StmtKind::Do(Primitive::Store {
             section,
@@ -364,7 +364,7 @@ impl Statements<'_> {
         ensures error { IfErr result (Told (errors_in (procedures_of self.now.procedures)
             (scope_of scope.old) (Print (expr_of first.now) (map expr_of rest.now)))) }
     {
-        let values = self.expressions(scope).numbers(first, rest)?;
+        let values = self.numbers(scope, first, rest)?;
         scope.step();
         Ok(StmtKind::Do(Primitive::Print { values }))
     }
@@ -377,7 +377,7 @@ impl Statements<'_> {
         ensures error { IfErr result (Told (errors_in (procedures_of self.now.procedures)
             (scope_of scope.old) (Fault (expr_of value.now)))) }
     {
-        let value = self.expressions(scope).number(value)?;
+        let value = self.number(scope, value)?;
         scope.step();
         Ok(StmtKind::Do(Primitive::Fault { value }))
     }
@@ -405,16 +405,60 @@ impl Statements<'_> {
         Ok(call)
     }
 
-    /// The expressions of the statement that begins at this place.
-    fn expressions<'s>(&self, scope: &'s Scope) -> Expressions<'s>
-        ensures label { result.label ≡ scope.now.label }
-        ensures names { result.names.now ≡ scope.now.names }
+    /// A number in the statement that begins at this place.
+    fn number(&self, scope: &Scope, e: &Expr) -> Result<Number, TypeError>
+        ensures right { OnOk result (number_errors scope.now.label (names_of scope.now.names) (expr_of e.now) ≡ []) }
+        ensures code { IfOk result (λ r. number_at (names_of scope.now.names) (expr_of e.now) ≡ number r) }
+        ensures error { IfErr result (Told (number_errors scope.now.label (names_of scope.now.names) (expr_of e.now))) }
     {
-        Expressions {
+        let expressions = Expressions {
             alloc: self.alloc,
             label: scope.label,
             names: &scope.names,
-        }
+        };
+        expressions.number(e)
+    }
+
+    /// Numbers there.
+    fn numbers(&self, scope: &Scope, first: &Expr, rest: &[Expr]) -> Result<Vec<Number>, TypeError>
+        ensures right { OnOk result (numbers_errors scope.now.label (names_of scope.now.names) (expr_of first.now ∷ map expr_of rest.now) ≡ []) }
+        ensures code { IfOk result (λ r. map (number_at (names_of scope.now.names)) (expr_of first.now ∷ map expr_of rest.now) ≡ map number r.items) }
+        ensures error { IfErr result (Told (numbers_errors scope.now.label (names_of scope.now.names) (expr_of first.now ∷ map expr_of rest.now))) }
+    {
+        let expressions = Expressions {
+            alloc: self.alloc,
+            label: scope.label,
+            names: &scope.names,
+        };
+        expressions.numbers(first, rest)
+    }
+
+    /// A truth value there.
+    fn truth(&self, scope: &Scope, e: &Expr) -> Result<Truth, TypeError>
+        ensures right { OnOk result (truth_errors scope.now.label (names_of scope.now.names) (expr_of e.now) ≡ []) }
+        ensures code { IfOk result (λ r. truth_at (names_of scope.now.names) (expr_of e.now) ≡ truth r) }
+        ensures error { IfErr result (Told (truth_errors scope.now.label (names_of scope.now.names) (expr_of e.now))) }
+    {
+        let expressions = Expressions {
+            alloc: self.alloc,
+            label: scope.label,
+            names: &scope.names,
+        };
+        expressions.truth(e)
+    }
+
+    /// A section that is named there.
+    fn section(&self, scope: &Scope, name: &String) -> Result<SectionId, TypeError>
+        ensures right { OnOk result (naming_section scope.now.label (meant (string_bytes name.now) (names_of scope.now.names)) ≡ []) }
+        ensures meaning { IfOk result (λ r. meant (string_bytes name.now) (names_of scope.now.names) ≡ Some (ASection r.number)) }
+        ensures error { IfErr result (Told (naming_section scope.now.label (meant (string_bytes name.now) (names_of scope.now.names)))) }
+    {
+        let expressions = Expressions {
+            alloc: self.alloc,
+            label: scope.label,
+            names: &scope.names,
+        };
+        expressions.section(name)
     }
 }
 

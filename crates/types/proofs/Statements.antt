@@ -1,0 +1,129 @@
+-- What a statement resolves to, from what its parts do; and what is told of a part is told of the statement.
+use Rattle.std.proofs.Common.{◌≡◌, ℕ, ◌+◌, List, [], ◌∷◌, ◌++◌, map, length, Vec, Global, Some, refl, sym, ap, ◌∙◌, subst}
+use Rattle.syntax.specs.Tree.{Stmt, Skip, Var, Assign, Store, Print, Fault, If, IfElse, While, Split, Call, Async, Finish}
+use Rattle.syntax.specs.Tree.{Expr, Block, Procedure}
+use Rattle.sections.specs.declared.id.SectionId.{SectionId}
+use Rattle.types.specs.Code as code
+use Rattle.types.specs.declared.code.Number.{Number}
+use Rattle.types.specs.declared.code.Primitive.TheVariants.{Skip as rSkip, Assign as rAssign, Store as rStore, Print as rPrint, Fault as rRaise}
+use Rattle.types.specs.declared.code.Stmt.{Stmt as rStmt}
+use Rattle.types.specs.declared.code.StmtKind.{StmtKind}
+use Rattle.types.specs.declared.code.StmtKind.TheVariants.{Do as rDo, If as rIf, While as rWhile, Split as rSplit, Async as rAsync, Finish as rFinish}
+use Rattle.types.specs.declared.code.Truth.{Truth}
+use Rattle.types.specs.declared.error.TypeError.{TypeError}
+use Rattle.types.specs.declared.ids.Slot.{Slot}
+use Rattle.types.specs.NameErrors.{declaring, naming_section, naming_written, naming_assigned}
+use Rattle.types.specs.ExpressionErrors.{number as number_errors, numbers as numbers_errors, truth as truth_errors}
+use Rattle.types.specs.Resolution as resolution
+use Rattle.types.specs.Resolving.{left, Resolves}
+use Rattle.types.specs.Rules.{errors, errors_in, own_errors, inner_errors}
+use Rattle.types.specs.Scope.{Scope, ASection, AScalar, meant, section_of, section_or_0, slot_or_0, next, inside_async, with_sides, with_scalar}
+use Rattle.types.specs.Scope.{out_of, behind, after}
+use Rattle.types.specs.Told.{Told}
+use Rattle.types.specs.Translation.{number, truth, codes}
+use Rattle.types.proofs.Blocks.{code_If, code_While, code_Split, code_Async, code_Finish}
+use Rattle.types.proofs.Scopes.{left_next, left_else, left_async, left_sides}
+use Rattle.types.proofs.Telling.{none_both, told_left, told_right}
+
+module _ (fs : List Procedure) (here there : Scope) where
+  -- ---- blocks
+  -- a block that begins at a place, up to where another begins
+  pub record Inside (from : Scope) (b : Block) (v : Vec rStmt Global) (n k : ℕ) (to : Scope) : Type 0 where
+    pub right : errors fs from b ≡ []
+    pub code : resolution.codes fs from b ≡ codes v.items
+    pub place : to ≡ left n k (after b from)
+
+  moved_inside : (from other : Scope) (b : Block) (v : Vec rStmt Global) (n k : ℕ) (to : Scope) → from ≡ other
+      → Inside from b v n k to → Inside other b v n k to
+  moved_inside from other b v n k to e i = subst (λ s. Inside s b v n k to) e i
+
+  -- the mark of the place where the statement begins
+  pub record Marks (n k : ℕ) : Type 0 where
+    pub names : n ≡ length here.names
+    pub outside : k ≡ here.outside
+
+  out_by : (from to : Scope) (b : Block) (n k : ℕ) → Marks n k → left (length here.names) here.outside (after b from) ≡ out_of here (after b from)
+      → to ≡ left n k (after b from) → to ≡ out_of here (after b from)
+  out_by from to b n k m out is =
+      is ∙ ap (λ n. left n k (after b from)) m.names ∙ ap (λ k. left (length here.names) k (after b from)) m.outside ∙ out
+
+  pub resolves_While : (e : Expr) (b : Block) (t : Truth) (v : Vec rStmt Global) (mid : Scope) (n k : ℕ) → Marks n k → mid ≡ next here
+      → truth_errors here.label here.names e ≡ [] → resolution.truth here.names e ≡ truth t → Inside mid b v n k there
+      → Resolves fs here (While e b) (rWhile t v) there
+  resolves_While e b t v mid n k m at right same inside =
+      let i = moved_inside mid (next here) b v n k there at inside in
+      record {
+        right = none_both _ _ right i.right;
+        kind = ap (λ u. code.While u (resolution.codes fs (next here) b)) same ∙ ap (code.While (truth t)) i.code ∙ sym (code_While t v);
+        place = out_by (next here) there b n k m (left_next here b) i.place;
+      }
+
+  pub resolves_If : (e : Expr) (b : Block) (t : Truth) (v w : Vec rStmt Global) (mid : Scope) (n k : ℕ) → Marks n k → mid ≡ next here
+      → truth_errors here.label here.names e ≡ [] → resolution.truth here.names e ≡ truth t → Inside mid b v n k there
+      → w.items ≡ [] → Resolves fs here (If e b) (rIf t v w) there
+  resolves_If e b t v w mid n k m at right same inside empty =
+      let i = moved_inside mid (next here) b v n k there at inside in
+      record {
+        right = none_both _ _ right i.right;
+        kind = ap (λ u. code.If u (resolution.codes fs (next here) b) code.End) same ∙ ap (λ c. code.If (truth t) c code.End) i.code
+            ∙ ap (λ l. code.If (truth t) (codes v.items) (codes l)) (sym empty) ∙ sym (code_If t v w);
+        place = out_by (next here) there b n k m (left_next here b) i.place;
+      }
+
+  pub resolves_IfElse : (e : Expr) (b c : Block) (t : Truth) (v w : Vec rStmt Global) (mid between : Scope) (n k : ℕ) → Marks n k
+      → mid ≡ next here → truth_errors here.label here.names e ≡ [] → resolution.truth here.names e ≡ truth t
+      → Inside mid b v n k between → Inside between c w n k there → Resolves fs here (IfElse e b c) (rIf t v w) there
+  resolves_IfElse e b c t v w mid between n k m at right same first second =
+      let i = moved_inside mid (next here) b v n k between at first in
+      let other = out_of here (after b (next here)) in
+      let j = moved_inside between other c w n k there (out_by (next here) between b n k m (left_next here b) i.place) second in
+      record {
+        right = none_both _ _ right (none_both _ _ i.right j.right);
+        kind = ap (λ u. code.If u (resolution.codes fs (next here) b) (resolution.codes fs other c)) same
+            ∙ ap (λ x. code.If (truth t) x (resolution.codes fs other c)) i.code
+            ∙ ap (code.If (truth t) (codes v.items)) j.code ∙ sym (code_If t v w);
+        place = out_by other there c n k m (left_else here b c) j.place;
+      }
+
+  pub resolves_Finish : (b : Block) (v : Vec rStmt Global) (mid : Scope) (n k : ℕ) → Marks n k → mid ≡ next here → Inside mid b v n k there
+      → Resolves fs here (Finish b) (rFinish v) there
+  resolves_Finish b v mid n k m at inside =
+      let i = moved_inside mid (next here) b v n k there at inside in
+      record {
+        right = i.right;
+        kind = ap code.Finish i.code ∙ sym (code_Finish v);
+        place = out_by (next here) there b n k m (left_next here b) i.place;
+      }
+
+  pub resolves_Async : (b : Block) (v : Vec rStmt Global) (mid : Scope) (n k : ℕ) → Marks n k → mid ≡ inside_async (next here)
+      → Inside mid b v n k there → Resolves fs here (Async b) (rAsync v) there
+  resolves_Async b v mid n k m at inside =
+      let i = moved_inside mid (inside_async (next here)) b v n k there at inside in
+      record {
+        right = i.right;
+        kind = ap code.Async i.code ∙ sym (code_Async v);
+        place = out_by (inside_async (next here)) there b n k m (left_async here b) i.place;
+      }
+
+  pub resolves_Split : (x : List ℕ) (e : Expr) (l r : List ℕ) (b : Block) (s : SectionId) (at : Number) (left right : SectionId) (v : Vec rStmt Global)
+      (mid : Scope) (n k : ℕ) → Marks n k → mid ≡ with_sides s.number l r (next here)
+      → naming_section here.label (meant x here.names) ≡ [] → meant x here.names ≡ Some (ASection s.number)
+      → number_errors here.label here.names e ≡ [] → resolution.number here.names e ≡ number at
+      → declaring (Some here.label) (meant r here.names)
+      ++ declaring (Some here.label) (meant l ((r, ASection (length here.sections + 1)) ∷ here.names)) ≡ []
+      → left.number ≡ length here.sections → right.number ≡ length here.sections + 1
+      → Inside mid b v n k there → Resolves fs here (Split x e l r b) (rSplit s at left right v) there
+  resolves_Split x e l r b s at left right v mid n k m is named known right_at same declared l_is r_is inside =
+      let section : section_of here.names x ≡ s.number = ap section_or_0 known in
+      let from = with_sides (section_of here.names x) l r (next here) in
+      let i = moved_inside mid from b v n k there (is ∙ ap (λ z. with_sides z l r (next here)) (sym section)) inside in
+      record {
+        right = none_both _ _ (none_both _ _ named (none_both _ _ right_at declared)) i.right;
+        kind = ap (λ z. code.Split z (resolution.number here.names e) (length here.sections) (length here.sections + 1) (resolution.codes fs from b)) section
+            ∙ ap (λ z. code.Split s.number z (length here.sections) (length here.sections + 1) (resolution.codes fs from b)) same
+            ∙ ap (λ z. code.Split s.number (number at) z (length here.sections + 1) (resolution.codes fs from b)) (sym l_is)
+            ∙ ap (λ z. code.Split s.number (number at) left.number z (resolution.codes fs from b)) (sym r_is)
+            ∙ ap (code.Split s.number (number at) left.number right.number) i.code
+            ∙ sym (code_Split s at left right v);
+        place = out_by from there b n k m (left_sides here (section_of here.names x) l r b) i.place;
+      }
