@@ -1,15 +1,27 @@
 -- Expressions as chains of their operands: what is found so far, and what is left.
-use Rattle.std.proofs.Common.{◌≡◌, ◌≢◌, ℕ, suc, ◌<◌, List, [], ◌∷◌, ◌++◌, length, map, refl, sym, ap, ◌∙◌, arith, append-nil}
-use Rattle.syntax.specs.Tree.{Or, And, Add, Multiply, Alone, Compare, Positive, Negative as Minus_of, Conj, Conjs, NoConj, OrConj}
+use Rattle.std.proofs.Common.{◌≡◌, ◌≢◌, ◌⊎◌, inl, inr, ℕ, Bool, List, [], ◌∷◌, ◌++◌, length, map, refl, sym, ap, ◌∙◌, arith, true, false, Some, None, String, Box, Global}
+use Rattle.std.specs.String.{string_bytes}
+use Rattle.syntax.specs.Tree.{Or, And, Add, Multiply, Alone, Compare, Positive, Negative as Minus_of, Cmp, Conj, Conjs, NoConj, OrConj}
 use Rattle.syntax.specs.Tree.{Neg, Negs, NoNeg, AndNeg, Prod, Terms, NoTerm, AddTerm, Unary, Factors, NoFactor, MultiplyFactor}
-use Rattle.syntax.specs.Tree.{expr, conj, neg, sum, prod, unary, atom, conjs, negs, terms, factors, term, negated}
-use Rattle.syntax.specs.declared.tree.Conj.{Conj as rConj}
-use Rattle.syntax.specs.declared.tree.Neg.{Neg as rNeg}
+use Rattle.syntax.specs.Tree.{expr, conj, neg, cmp, sum, prod, unary, atom, conjs, negs, terms, factors, term, negated}
+use Rattle.syntax.specs.Tree.{Number as Number_of, True, False, Name, Element, Length, Parens}
+use Rattle.syntax.specs.declared.tree.Atom.TheVariants.{Number as rNumber, True as rTrue, False as rFalse, Name as rName}
+use Rattle.syntax.specs.declared.tree.Atom.TheVariants.{Element as rElement, Length as rLength, Parens as rParens}
+use Rattle.syntax.specs.declared.tree.Atom.{Atom as rAtom}
+use Rattle.syntax.specs.declared.tree.Expr.{Expr as rExpr, out-Expr}
+use Rattle.syntax.specs.declared.tree.Cmp.{Cmp as rCmp, out-Cmp}
+use Rattle.syntax.specs.declared.tree.Compared.{Compared as rCompared}
+use Rattle.syntax.specs.declared.tree.Sum.{Sum as rSum, out-Sum}
+use Rattle.syntax.specs.declared.tree.Prod.{Prod as rProd, out-Prod}
+use Rattle.syntax.proofs.Atoms.{expr_is, conj_is, neg_is, cmp_is_alone, cmp_is_compared, sum_is, prod_is}
+use Rattle.syntax.specs.declared.tree.Conj.{Conj as rConj, out-Conj}
+use Rattle.syntax.specs.declared.tree.Neg.{Neg as rNeg, out-Neg}
 use Rattle.syntax.specs.declared.tree.Term.{Term as rTerm, out-Term, roll-out-Term}
 use Rattle.syntax.specs.declared.tree.Factor.{Factor as rFactor}
 use Rattle.syntax.proofs.RowLemmas.{term_built}
 use Rattle.types.specs.Code.{Number, Chain, Links, Done, Link, Truth, Both, Either, Truths, NoMore, Also}
 use Rattle.types.specs.declared.code.Link.{Link as rLink}
+use Rattle.types.specs.declared.code.Number.{Number as CodeNumber}
 use Rattle.types.specs.declared.code.Truth.{Truth as rTruth}
 use Rattle.types.specs.ExpressionErrors as errors
 use Rattle.types.specs.Resolution as resolution
@@ -165,3 +177,112 @@ module _ (label : ℕ) (names : Names) where
   pub errors-terms_more : (t : rTerm) (ts : List rTerm) → errors.terms label names (terms (t ∷ ts))
       ≡ errors.number_prod label names (prod (out-Term t).operand) ++ errors.terms label names (terms ts)
   errors-terms_more t ts = ap (errors.terms label names) (term_is t (terms ts))
+
+  -- ---- what the errors of a Rust expression are, level by level
+  pub errors-of_expr_alone : (e : rExpr) → length (out-Expr e).rest.items ≡ 0
+      → errors.number label names (expr e) ≡ errors.number_conj label names (conj (out-Expr e).first)
+  errors-of_expr_alone e none = ap (errors.number label names) (expr_is e) ∙ errors-number_alone (conj (out-Expr e).first) (out-Expr e).rest.items none
+
+  pub errors-of_expr_chain : (e : rExpr) → length (out-Expr e).rest.items ≢ 0
+      → errors.number label names (expr e) ≡ errors.wrong_kind label names
+  errors-of_expr_chain e some = ap (errors.number label names) (expr_is e) ∙ errors-number_chain (conj (out-Expr e).first) (out-Expr e).rest.items some
+
+  pub errors-of_conj_alone : (e : rConj) → length (out-Conj e).rest.items ≡ 0
+      → errors.number_conj label names (conj e) ≡ errors.number_neg label names (neg (out-Conj e).first)
+  errors-of_conj_alone e none = ap (errors.number_conj label names) (conj_is e) ∙ errors-conj_alone (neg (out-Conj e).first) (out-Conj e).rest.items none
+
+  pub errors-of_conj_chain : (e : rConj) → length (out-Conj e).rest.items ≢ 0
+      → errors.number_conj label names (conj e) ≡ errors.wrong_kind label names
+  errors-of_conj_chain e some = ap (errors.number_conj label names) (conj_is e) ∙ errors-conj_chain (neg (out-Conj e).first) (out-Conj e).rest.items some
+
+  pub errors-of_neg_plain : (e : rNeg) → (out-Neg e).negated ≡ false
+      → errors.number_neg label names (neg e) ≡ errors.number_cmp label names (cmp (out-Neg e).comparison)
+  errors-of_neg_plain e plain =
+      ap (errors.number_neg label names) (neg_is e)
+      ∙ ap (λ b. errors.number_neg label names (negated b (cmp (out-Neg e).comparison))) plain
+
+  pub errors-of_neg_denied : (e : rNeg) → (out-Neg e).negated ≡ true
+      → errors.number_neg label names (neg e) ≡ errors.wrong_kind label names
+  errors-of_neg_denied e denied =
+      ap (errors.number_neg label names) (neg_is e)
+      ∙ ap (λ b. errors.number_neg label names (negated b (cmp (out-Neg e).comparison))) denied
+
+  pub errors-of_cmp_alone : (e : rCmp) → (out-Cmp e).right ≡ None
+      → errors.number_cmp label names (cmp e) ≡ errors.number_sum label names (sum (out-Cmp e).left)
+  errors-of_cmp_alone e none = ap (errors.number_cmp label names) (cmp_is_alone e none)
+
+  pub errors-of_cmp_compared : (e : rCmp) (r : rCompared) → (out-Cmp e).right ≡ Some r
+      → errors.number_cmp label names (cmp e) ≡ errors.wrong_kind label names
+  errors-of_cmp_compared e r some = ap (errors.number_cmp label names) (cmp_is_compared e r some)
+
+  pub errors-of_sum : (e : rSum) → errors.number_sum label names (sum e)
+      ≡ errors.number_prod label names (prod (out-Sum e).first) ++ errors.terms label names (terms (out-Sum e).rest.items)
+  errors-of_sum e = ap (errors.number_sum label names) (sum_is e)
+
+  pub errors-of_prod : (e : rProd) → errors.number_prod label names (prod e)
+      ≡ errors.number_unary label names (unary (out-Prod e).first) ++ errors.factors label names (factors (out-Prod e).rest.items)
+  errors-of_prod e = ap (errors.number_prod label names) (prod_is e)
+
+-- ---- no operand behind the first
+pub no_conjs : (cs : List rConj) → length cs ≡ 0 → conjs cs ≡ NoConj
+no_conjs [] none = refl
+no_conjs (c ∷ cs) none = absurd (omega (arith, none))
+
+pub no_negs : (ns : List rNeg) → length ns ≡ 0 → negs ns ≡ NoNeg
+no_negs [] none = refl
+no_negs (n ∷ ns) none = absurd (omega (arith, none))
+
+pub no_terms : (ts : List rTerm) → length ts ≡ 0 → terms ts ≡ NoTerm
+no_terms [] none = refl
+no_terms (t ∷ ts) none = absurd (omega (arith, none))
+
+pub no_factors : (fs : List rFactor) → length fs ≡ 0 → factors fs ≡ NoFactor
+no_factors [] none = refl
+no_factors (f ∷ fs) none = absurd (omega (arith, none))
+
+-- ---- the tree of an atom
+pub atom_Number : (n : ℕ) → atom (rNumber n) ≡ Number_of n
+unfolding atom
+atom_Number n = refl
+
+pub atom_True : atom rTrue ≡ True
+unfolding atom
+atom_True = refl
+
+pub atom_False : atom rFalse ≡ False
+unfolding atom
+atom_False = refl
+
+pub atom_Name : (s : String Global) → atom (rName s) ≡ Name (string_bytes s)
+unfolding atom
+atom_Name s = refl
+
+pub atom_Element : (s : String Global) (b : Box rExpr Global) → atom (rElement s b) ≡ Element (string_bytes s) (expr b.value)
+unfolding atom
+atom_Element s b = refl
+
+pub atom_Length : (s : String Global) → atom (rLength s) ≡ Length (string_bytes s)
+unfolding atom
+atom_Length s = refl
+
+pub atom_Parens : (b : Box rExpr Global) → atom (rParens b) ≡ Parens (expr b.value)
+unfolding atom
+atom_Parens b = refl
+
+-- ---- truth values where a number is wanted
+pub errors-of_truth_value : (label : ℕ) (names : Names) (a : rAtom) → (a ≡ rTrue) ⊎ (a ≡ rFalse)
+    → errors.number_atom label names (atom a) ≡ errors.wrong_kind label names
+errors-of_truth_value label names a (inl is) = ap (errors.number_atom label names) (ap atom is ∙ atom_True)
+errors-of_truth_value label names a (inr is) = ap (errors.number_atom label names) (ap atom is ∙ atom_False)
+
+-- ---- `not` has the errors of its operand
+pub errors-negated : (label : ℕ) (names : Names) (b : Bool) (c : Cmp)
+    → errors.truth_neg label names (negated b c) ≡ errors.truth_cmp label names c
+errors-negated label names true c = refl
+errors-negated label names false c = refl
+
+-- ---- one number more
+pub one_more_number : (ns : List CodeNumber) (n : CodeNumber) (more : List Number)
+    → map number (ns ++ n ∷ []) ++ more ≡ map number ns ++ (number n ∷ more)
+one_more_number [] n more = refl
+one_more_number (m ∷ ns) n more = ap (λ l. number m ∷ l) (one_more_number ns n more)

@@ -1,8 +1,11 @@
 -- What is told of a part is told of the whole, and a whole whose parts have no errors has none.
-use Rattle.std.proofs.Common.{◌≡◌, ◌⊎◌, List, [], ◌∷◌, ◌++◌, map, Result, Ok, Err, OnOk, IfOk, IfErr, refl, sym, ap, ◌∙◌, subst, inl, inr}
+use Rattle.std.proofs.Common.{◌≡◌, ℕ, ◌⊎◌, List, [], ◌∷◌, ◌++◌, map, Result, Ok, Err, OnOk, IfOk, IfErr, refl, sym, ap, ◌∙◌, subst, inl, inr}
+use Rattle.std.specs.Result.{IsErrAnd}
 use Rattle.types.specs.Told.{Told}
 use Rattle.types.specs.declared.error.TypeError.{TypeError}
-use Rattle.types.specs.declared.error.TypeError.TheVariants.{OutOfMemory}
+use Rattle.types.specs.declared.error.TypeError.TheVariants.{OutOfMemory, WrongKind}
+use Rattle.types.specs.ExpressionErrors.{wrong_kind}
+use Rattle.types.specs.Scope.{Names}
 
 pub none_both : (xs ys : List TypeError) → xs ≡ [] → ys ≡ [] → xs ++ ys ≡ []
 none_both xs ys e f = ap (λ l. l ++ ys) e ∙ f
@@ -29,5 +32,20 @@ pub told_alone : (x : TypeError) → Told (x ∷ []) x
 told_alone x = inl refl
 
 -- at an exit by `?`, whose error is that of the part
-pub at_exit : {X : Type 0} (P : TypeError → Type 0) (r : Result X TypeError) (e : TypeError) → r ≡ Err e → P e → IfErr r P
-at_exit P r e is p = subst (λ s. IfErr s P) (sym is) p
+pub at_exit : {X : Type 0} (P : TypeError → Type 0) (r : Result X TypeError) (e : TypeError) → IsErrAnd r (λ y. y ≡ e) → P e → IfErr r P
+at_exit P (Ok x) e passed h = tt
+at_exit P (Err y) e passed h = subst P (sym passed) h
+
+-- the errors of a part are those of what it stands for
+pub same_right : {X : Type 0} (r : Result X TypeError) {xs ys : List TypeError} → xs ≡ ys → OnOk r (ys ≡ []) → OnOk r (xs ≡ [])
+same_right r e = subst (λ l. OnOk r (l ≡ [])) (sym e)
+
+pub same_code : {X N : Type 0} (f : X → N) (r : Result X TypeError) {m n : N} → m ≡ n → IfOk r (λ x. n ≡ f x) → IfOk r (λ x. m ≡ f x)
+same_code f r e = subst (λ k. IfOk r (λ x. k ≡ f x)) (sym e)
+
+pub same_error : {X : Type 0} (r : Result X TypeError) {xs ys : List TypeError} → xs ≡ ys → IfErr r (Told ys) → IfErr r (Told xs)
+same_error r e = subst (λ l. IfErr r (Told l)) (sym e)
+
+-- a part of the wrong kind
+pub wrong : (label : ℕ) (names : Names) (xs : List TypeError) → xs ≡ wrong_kind label names → Told xs (WrongKind label)
+wrong label names xs e = subst (λ l. Told l (WrongKind label)) (sym e) (told_alone (WrongKind label))

@@ -356,9 +356,10 @@ impl Expressions<'_> {
             Atom::True => Ok(Truth::Constant(true)),
             Atom::False => Ok(Truth::Constant(false)),
             Atom::Parens(inner) => self.truth(inner),
-            Atom::Number(_) | Atom::Name(_) | Atom::Element { .. } | Atom::Length(_) => {
-                Err(TypeError::WrongKind { label: self.label })
-            }
+            Atom::Number(_) => Err(TypeError::WrongKind { label: self.label }),
+            Atom::Name(_) => Err(TypeError::WrongKind { label: self.label }),
+            Atom::Element { .. } => Err(TypeError::WrongKind { label: self.label }),
+            Atom::Length(_) => Err(TypeError::WrongKind { label: self.label }),
         }
     }
 
