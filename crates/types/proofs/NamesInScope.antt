@@ -32,6 +32,16 @@ meant-append x (n ∷ ns) ms =
     ap (λ o. if pointwise nat_eq x n.0 then Some n.1 else o) (meant-append x ns ms)
     ∙ meant_by_test (pointwise nat_eq x n.0) n.1 (meant x ns) (meant x ms)
 
+found_by : (b : Bool) (m : Meaning) (o : Option Meaning) → (b ≡ true → o ≡ None)
+    → or_else (option_map meant_by o) (if b then Some (meant_by m) else None) ≡ option_map meant_by (cond b (Some m) o)
+found_by true m o none = ap (λ o. or_else (option_map meant_by o) (Some (meant_by m))) (none refl)
+found_by false m None none = refl
+found_by false m (Some n) none = refl
+
+drop_front : {A : Type 0} (xs ys : List A) → drop (length xs) (xs ++ ys) ≡ ys
+drop_front [] ys = refl
+drop_front (x ∷ xs) ys = drop_front xs ys
+
 module _ {Z : Type 0} where
   abbrev pub names_in : List (String Z × Meaning) → Names
   names_in es = reverse (map entry es)
@@ -51,12 +61,6 @@ module _ {Z : Type 0} where
       let other : string_eq x e.0 ≡ false = ap (λ b. pointwise nat_eq b (string_bytes e.0)) same ∙ apart.0 in
       ap (λ b. cond b (Some e.1) (lookup (string_eq x) es)) other ∙ absent x k es same apart.1
 
-  found_by : (b : Bool) (m : Meaning) (o : Option Meaning) → (b ≡ true → o ≡ None)
-      → or_else (option_map meant_by o) (if b then Some (meant_by m) else None) ≡ option_map meant_by (cond b (Some m) o)
-  found_by true m o none = ap (λ o. or_else (option_map meant_by o) (Some (meant_by m))) (none refl)
-  found_by false m None none = refl
-  found_by false m (Some n) none = refl
-
   -- what the map finds is what the name means
   pub meant_is_lookup : (x : String Z) (es : List (String Z × Meaning)) → IsDistinct string_eq (keys_of es)
       → meant (string_bytes x) (names_in es) ≡ option_map meant_by (lookup (string_eq x) es)
@@ -67,10 +71,6 @@ module _ {Z : Type 0} where
       ∙ meant-append (string_bytes x) (names_in es) (entry e ∷ [])
       ∙ ap (λ o. or_else o (if string_eq x e.0 then Some (meant_by e.1) else None)) (meant_is_lookup x es apart.1)
       ∙ found_by (string_eq x e.0) e.1 (lookup (string_eq x) es) (λ h. absent x e.0 es ((bytes_eq-Decides (string_bytes x) (string_bytes e.0)).0 h) apart.0)
-
-  drop_front : {A : Type 0} (xs ys : List A) → drop (length xs) (xs ++ ys) ≡ ys
-  drop_front [] ys = refl
-  drop_front (x ∷ xs) ys = drop_front xs ys
 
   -- the first so many entries are the earliest names
   pub names_in-take : (n : ℕ) (es : List (String Z × Meaning))
@@ -101,3 +101,11 @@ declared_once label (Some m) h = cc
 module _ {Z : Type 0} (x : String Z) (es : List (String Z × Meaning)) (apart : IsDistinct string_eq (keys_of es)) where
   pub found_there : (b : Bool) → is_some (lookup (string_eq x) es) ≡ b → is_some (meant (string_bytes x) (names_in es)) ≡ b
   found_there b h = is_some_found (lookup (string_eq x) es) (meant (string_bytes x) (names_in es)) (meant_is_lookup x es apart) ∙ h
+
+  pub absent_key : (k : String Z) → string_bytes k ≡ string_bytes x → is_some (lookup (string_eq x) es) ≡ false → lookup (string_eq k) es ≡ None
+  absent_key k same none =
+      ap (λ b. lookup (λ y. pointwise nat_eq b (string_bytes y)) es) same ∙ no_some (lookup (string_eq x) es) none
+    where
+      no_some : {A : Type 0} (o : Option A) → is_some o ≡ false → o ≡ None
+      no_some None h = refl
+      no_some (Some a) h = cc
