@@ -5,12 +5,12 @@ ghost use Rattle.std.specs.String.{string_bytes};
 ghost use Rattle.afx.specs.FailureStatus.{failure_status};
 ghost use Rattle.afx.specs.Failures.{TellsUnread, TellsNotUtf8, TellsRefusal, access_text, kind_of, name_of};
 
+use sections::id::ArrayId;
 use std::alloc::{AllocError, Global};
 use syntax::error::SyntaxError;
 use thiserror::Error;
 use types::code::Array;
 use types::error::TypeError;
-use types::ids::ArrayId;
 use workers::check::Refused;
 use workers::race::Access;
 use workers::run::RunError;

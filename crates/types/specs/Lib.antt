@@ -7,7 +7,6 @@ pub mod Indexed
 pub mod Laws
 pub mod Meaning
 pub mod Outcome
-pub mod Place
 pub mod Resolution
 pub mod Rows
 pub mod Rules
