@@ -131,6 +131,7 @@ fn element_type(tokens: &[Spanned]) -> Result<(ElementType, &[Spanned]), Stuck>
     ensures refused { IfErr result (λ stuck. stuck ≢ Stuck.OutOfMemory
         → SpellsNoneClosed (λ element rest. WordToken (element_word element) ∷ rest)
         (plain tokens.now)) }
+    ensures place { IfErr result (λ stuck. stuck ≡ Stuck.Unexpected (length tokens.now)) }
 {
     // elem = "int" | "byte"
     if let Some(rest) = cursor::after_word(tokens, Word::Int) {
