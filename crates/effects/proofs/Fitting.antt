@@ -1,5 +1,6 @@
 -- Environments that fit stay so: at the start, in the block of a split and behind it, and in a call.
-use Rattle.std.proofs.Common.{◌≡◌, ◌≢◌, inl, ℕ, zero, suc, ◌+◌, ◌<◌, ◌≤◌, List, [], ◌∷◌, length, map, Option, Some, ℤ, refl, sym, ap, ◌∙◌, subst, arith}
+use Rattle.std.proofs.Common.{◌≡◌, ◌≢◌, inl, ℕ, zero, suc, ◌+◌, ◌<◌, ◌≤◌, List, [], ◌∷◌, length, map, Option, Some, ℤ, refl, sym, ap, ◌∙◌}
+use Rattle.std.proofs.Common.{subst, arith}
 use Rattle.std.proofs.lemmas.Bool.{eq-eqb, ne_eqb}
 use Rattle.std.specs.Prelude.{true, slice_get, slice_index_or, if◌then◌else◌}
 use Rattle.types.specs.Code.{Origin, Root, Left, Right, Array, Procedure, Program}
@@ -155,14 +156,16 @@ module _ (p : Program) (g : Procedure) (scope : List ℕ) (env : Environment)
       apart = λ x y ne m n e f w.
           let i = old_root x m e in
           let j = old_root y n f in
-          subst (λ v. Apart (new.windows x) v) (at_other y j) (subst (λ v. Apart v (env.windows y)) (at_other x i) (fits.apart x y ne i j e f w));
+          subst (λ v. Apart (new.windows x) v) (at_other y j)
+          (subst (λ v. Apart v (env.windows y)) (at_other x i) (fits.apart x y ne i j e f w));
       left = left_inside;
       right = right_inside;
     }
 
 -- In a call
 
-pub by_number-map : {A B : Type 0} (f : A → B) (d : B) (c : A) (xs : List A) (k : ℕ) → k < length xs → by_number d (map f xs) k ≡ f (slice_index_or xs k c)
+pub by_number-map : {A B : Type 0} (f : A → B) (d : B) (c : A) (xs : List A) (k : ℕ) → k < length xs
+    → by_number d (map f xs) k ≡ f (slice_index_or xs k c)
 by_number-map f d c [] k h = absurd (omega arith)
 by_number-map f d c (x ∷ xs) zero h = refl
 by_number-map f d c (x ∷ xs) (suc k) h = by_number-map f d c xs k (omega arith)
@@ -201,7 +204,8 @@ module _ (p : Program) (g : Procedure) (scope : List ℕ) (env : Environment) (n
 
 -- At the start
 
-array_at : (arrays : List Array) (k : ℕ) → k < length (map as_parameter arrays) → slice_get arrays k ≡ Some (slice_index_or arrays k no_array)
+array_at : (arrays : List Array) (k : ℕ) → k < length (map as_parameter arrays)
+    → slice_get arrays k ≡ Some (slice_index_or arrays k no_array)
 array_at [] k h = absurd (omega arith)
 array_at (x ∷ xs) zero h = refl
 array_at (x ∷ xs) (suc k) h = array_at xs k (omega arith)

@@ -2,10 +2,13 @@
 use Rattle.std.proofs.Common.{◌≡◌, ℕ, zero, suc, ◌+◌, List, ◌∷◌, Ok, Err, ℤ, refl, sym, ap, ◌∙◌, map}
 use Rattle.std.specs.Prelude.{Bool, true, false, ok_or}
 use Rattle.types.specs.declared.fault.FaultKind.TheVariants.{SplitPoint}
-use Rattle.types.specs.Code.{Truth, Primitive, Skip, Assign, Store, Print, Raise, Code, Do, If, While, Split, Call, Async, Finish, Codes, End, Then, Procedure, Program}
+use Rattle.types.specs.Code.{Truth, Primitive, Skip, Assign, Store, Print, Raise, Code, Do, If, While, Split, Call, Async, Finish, Codes}
+use Rattle.types.specs.Code.{End, Then, Procedure, Program}
 use Rattle.types.specs.Place.{Place, sides_of}
 use Rattle.types.specs.Value.{Valued, element_of, holds_number}
-use Rattle.types.specs.Run.{Flow, On, Faulted, Stopped, State, Rules, Work, Block, Turn, at_flow, go_on, spend, with_step, with_value, number_at, numbers_at, truth_at, window_at, assign, print, put, fault, choose, in_environment, primitive, counted, act, block, work, within, run, with_sides, array_of, entry, procedure_of}
+use Rattle.types.specs.Run.{Flow, On, Faulted, Stopped, State, Rules, Work, Block, Turn, at_flow, go_on, spend, with_step, with_value}
+use Rattle.types.specs.Run.{number_at, numbers_at, truth_at, window_at, assign, print, put, fault, choose, in_environment, primitive}
+use Rattle.types.specs.Run.{counted, act, block, work, within, run, with_sides, array_of, entry, procedure_of}
 use Rattle.types.specs.Meaning.{begin_one, one_rules}
 use Rattle.effects.specs.Member.{next}
 use Rattle.effects.specs.Sound.{Follows, FollowsOf}
@@ -38,7 +41,8 @@ module _ {X : Type 0} where
   value_keeps scope l (Ok v) go st k = k v
   value_keeps scope l (Err f) go st k = λ s m. refl
 
-  choose_keeps : (scope : List ℕ) (body other : State X → State X) (b : Bool) (st : State X) → Keeps scope body → Keeps scope other → Keep scope st (choose body other b st)
+  choose_keeps : (scope : List ℕ) (body other : State X → State X) (b : Bool) (st : State X) → Keeps scope body → Keeps scope other
+      → Keep scope st (choose body other b st)
   choose_keeps scope body other true st f g = f st
   choose_keeps scope body other false st f g = g st
 
@@ -52,7 +56,8 @@ module _ (p : Program) {X : Type 0} where
   primitive_keeps scope l (Assign x e) st = value_keeps scope l (number_at st e) (assign x) st (λ v s m. refl)
   primitive_keeps scope l (Store s i e) st =
       value_keeps scope l (number_at st i)
-      (λ at. with_value l (number_at st e) (λ v. with_value l (element_of (window_at st s) at) (λ q. put l (holds_number (array_of p q.array).element v) q v))) st (λ at.
+      (λ at. with_value l (number_at st e)
+      (λ v. with_value l (element_of (window_at st s) at) (λ q. put l (holds_number (array_of p q.array).element v) q v))) st (λ at.
       value_keeps scope l (number_at st e)
       (λ v. with_value l (element_of (window_at st s) at) (λ q. put l (holds_number (array_of p q.array).element v) q v)) st (λ v.
       value_keeps scope l (element_of (window_at st s) at) (λ q. put l (holds_number (array_of p q.array).element v) q v) st (λ q.
@@ -81,28 +86,36 @@ module _ (p : Program) {X : Type 0} where
         act_keeps (While t b) l scope k st =
             value_keeps scope l (truth_at st t) (choose (λ s. go_on (deeper (Turn l t b)) (block p r deeper b s)) (λ s. s)) st (λ v.
             choose_keeps scope (λ s. go_on (deeper (Turn l t b)) (block p r deeper b s)) (λ s. s) v st
-            (λ st. then_keep scope st (block p r deeper b st) (go_on (deeper (Turn l t b)) (block p r deeper b st)) (block_keeps b scope k st)
+            (λ st. then_keep scope st (block p r deeper b st) (go_on (deeper (Turn l t b)) (block p r deeper b st))
+            (block_keeps b scope k st)
             (at_flow_keeps scope (block p r deeper b st).flow (block p r deeper b st) (deeper (Turn l t b)) (deeper_keeps scope l t b k)))
             (λ st s m. refl))
         act_keeps (Split s e x y b) l scope k st =
             value_keeps scope l (number_at st e)
-            (λ v. with_value l (ok_or (sides_of (window_at st s) v) SplitPoint) (λ ws st. block p r deeper b (record st { environment = with_sides x y ws st.environment }))) st (λ v.
-            value_keeps scope l (ok_or (sides_of (window_at st s) v) SplitPoint) (λ ws st. block p r deeper b (record st { environment = with_sides x y ws st.environment })) st (λ ws.
+            (λ v. with_value l (ok_or (sides_of (window_at st s) v) SplitPoint)
+            (λ ws st. block p r deeper b (record st { environment = with_sides x y ws st.environment }))) st (λ v.
+            value_keeps scope l (ok_or (sides_of (window_at st s) v) SplitPoint)
+            (λ ws st. block p r deeper b (record st { environment = with_sides x y ws st.environment })) st (λ ws.
             λ z m. at_other p g scope st.environment s x y k.0 ws z m
             ∙ block_keeps b (x ∷ y ∷ scope) k.1 (record st { environment = with_sides x y ws st.environment }) z (next (next m))))
         act_keeps (Call f es ss) l scope k st =
-            value_keeps scope l (numbers_at st es) (λ vs. in_environment (entry vs (map (window_at st) ss)) (deeper (Block (procedure_of p f).body))) st (λ vs s m. refl)
+            value_keeps scope l (numbers_at st es)
+            (λ vs. in_environment (entry vs (map (window_at st) ss)) (deeper (Block (procedure_of p f).body))) st (λ vs s m. refl)
         act_keeps (Async b) l scope k st = λ s m. ap (λ w. w s) (sym (keeps.begin b st))
         act_keeps (Finish b) l scope k st = λ s m.
-            ap (λ w. w s) (sym (keeps.enter st)) ∙ block_keeps b scope k (r.enter st) s m ∙ ap (λ w. w s) (sym (keeps.leave st (block p r deeper b (r.enter st))))
+            ap (λ w. w s) (sym (keeps.enter st)) ∙ block_keeps b scope k (r.enter st) s m
+            ∙ ap (λ w. w s) (sym (keeps.leave st (block p r deeper b (r.enter st))))
 
         pub block_keeps : (b : Codes) (scope : List ℕ) → Follows p g scope b → Keeps scope (block p r deeper b)
         block_keeps End scope k st = λ s m. refl
         block_keeps (Then l s rest) scope k st =
-            then_keep scope st (with_step (λ st. act p r deeper l s (counted r s st)) st) (go_on (block p r deeper rest) (with_step (λ st. act p r deeper l s (counted r s st)) st))
+            then_keep scope st (with_step (λ st. act p r deeper l s (counted r s st)) st)
+            (go_on (block p r deeper rest) (with_step (λ st. act p r deeper l s (counted r s st)) st))
             (spend_keeps scope st.steps st (λ st. act p r deeper l s (counted r s st))
-            (λ st. then_keep scope st (counted r s st) (act p r deeper l s (counted r s st)) (counted_keeps scope s st) (act_keeps s l scope k.1 (counted r s st))))
-            (at_flow_keeps scope (with_step (λ st. act p r deeper l s (counted r s st)) st).flow (with_step (λ st. act p r deeper l s (counted r s st)) st) (block p r deeper rest) (block_keeps rest scope k.2))
+            (λ st. then_keep scope st (counted r s st) (act p r deeper l s (counted r s st)) (counted_keeps scope s st)
+            (act_keeps s l scope k.1 (counted r s st))))
+            (at_flow_keeps scope (with_step (λ st. act p r deeper l s (counted r s st)) st).flow
+            (with_step (λ st. act p r deeper l s (counted r s st)) st) (block p r deeper rest) (block_keeps rest scope k.2))
 
       work_keeps : (w : Work) (scope : List ℕ) → WorkFollows p g scope w → Keeps scope (work p r deeper w)
       work_keeps (Block b) scope k st = block_keeps b scope k st
@@ -113,17 +126,20 @@ module _ (p : Program) {X : Type 0} where
     within_keeps zero w scope k st = λ s m. refl
     within_keeps (suc n) w scope k st = work_keeps (within p r n) (λ scope l t b f. within_keeps n (Turn l t b) scope f) w scope k st
 
-    pub run_keeps : (w : Work) (scope : List ℕ) → WorkFollows p g scope w → (st : State X) → SameWindows scope st.environment (run p r w st).environment
+    pub run_keeps : (w : Work) (scope : List ℕ) → WorkFollows p g scope w → (st : State X)
+        → SameWindows scope st.environment (run p r w st).environment
     run_keeps w scope k st = within_keeps (st.steps + 1) w scope k st
 
 -- so an environment that fits goes on to fit
-pub run_fits : (p : Program) {X : Type 0} (r : Rules X) → KeepsWindows r → (g : Procedure) (w : Work) (scope : List ℕ) → WorkFollows p g scope w
+pub run_fits : (p : Program) {X : Type 0} (r : Rules X) → KeepsWindows r → (g : Procedure) (w : Work) (scope : List ℕ)
+    → WorkFollows p g scope w
     → (st : State X) → Fits p g scope st.environment → Fits p g scope (run p r w st).environment
 run_fits p r keeps g w scope follows st fits =
     fits_same p g scope st.environment (run p r w st).environment fits (run_keeps p r keeps g w scope follows st)
 
 -- the one-thread rules do
-begin_one_keeps : (p : Program) (fresh nest : ℕ) (b : Codes) (st : State (Unit {0})) → (begin_one p fresh nest b st).environment.windows ≡ st.environment.windows
+begin_one_keeps : (p : Program) (fresh nest : ℕ) (b : Codes) (st : State (Unit {0}))
+    → (begin_one p fresh nest b st).environment.windows ≡ st.environment.windows
 begin_one_keeps p fresh zero b st = refl
 begin_one_keeps p fresh (suc n) b st = refl
 

@@ -61,7 +61,8 @@ module _ (origins : List Origin) where
   pub sides-overlap : (l r : ℕ) → are_sides origins l r ≡ true → overlap origins l r ≡ false
   sides-overlap l r h = disjoint-overlap l r (right_true (not (nat_eq (root_of origins l) (root_of origins r))) (under_opposite origins l r)
       (member_any (λ x. list_any (are_opposite origins x) (line origins r)) (line origins l) (in_own_line l l)
-      (member_any (are_opposite origins l) (line origins r) (in_own_line r r) (left_true (are_sides origins l r) (are_sides origins r l) h))))
+      (member_any (are_opposite origins l) (line origins r) (in_own_line r r)
+      (left_true (are_sides origins l r) (are_sides origins r l) h))))
 
   more_beyond : (n m x : ℕ) → ((s : ℕ) → Member x (line_within origins n s) → Member x (line_within origins m s))
       → (o : Origin) → Member x (beyond [] (line_within origins n) o) → Member x (beyond [] (line_within origins m) o)
@@ -119,10 +120,13 @@ module _ (origins : List Origin) where
 
     -- what is disjoint from the parent is disjoint from its sides
     pub overlap-side : (a s b : ℕ) → IsSideOf origins s a → overlap origins s b ≡ false → overlap origins a b ≡ false
-    overlap-side a s b side h = disjoint-overlap a b (elim (either_true (not (nat_eq (root_of origins s) (root_of origins b))) (under_opposite origins s b) (overlap-disjoint s b h)) [
-      | inl k ↦ left_true (not (nat_eq (root_of origins a) (root_of origins b))) (under_opposite origins a b)
-          (subst (λ r. not (nat_eq r (root_of origins b)) ≡ true) (up_root a s side) k)
-      | inr k ↦ right_true (not (nat_eq (root_of origins a) (root_of origins b))) (under_opposite origins a b)
-          (let x = any_member (λ x. list_any (are_opposite origins x) (line origins b)) (line origins s) k in
-          member_any (λ x. list_any (are_opposite origins x) (line origins b)) (line origins a) (up_line a s x.0 side x.1) x.2)
-    ])
+    overlap-side a s b side h =
+        disjoint-overlap a b
+        (elim (either_true (not (nat_eq (root_of origins s) (root_of origins b))) (under_opposite origins s b)
+        (overlap-disjoint s b h)) [
+          | inl k ↦ left_true (not (nat_eq (root_of origins a) (root_of origins b))) (under_opposite origins a b)
+              (subst (λ r. not (nat_eq r (root_of origins b)) ≡ true) (up_root a s side) k)
+          | inr k ↦ right_true (not (nat_eq (root_of origins a) (root_of origins b))) (under_opposite origins a b)
+              (let x = any_member (λ x. list_any (are_opposite origins x) (line origins b)) (line origins s) k in
+              member_any (λ x. list_any (are_opposite origins x) (line origins b)) (line origins a) (up_line a s x.0 side x.1) x.2)
+        ])

@@ -56,7 +56,8 @@ record Writes (xs : List Access) (s : ℕ) : Type 0 where
   writes : access.write ≡ true
 
 written : (xs : List Access) (x : Access) → Member x xs → x.write ≡ true → Member x.section (written_by xs)
-written (y ∷ xs) x first e = subst (λ w. Member x.section (if w then also x.section (written_by xs) else written_by xs)) (sym e) (has_also x.section (written_by xs))
+written (y ∷ xs) x first e =
+    subst (λ w. Member x.section (if w then also x.section (written_by xs) else written_by xs)) (sym e) (has_also x.section (written_by xs))
 written (y ∷ xs) x (next m) e = by_test y.write (written xs x m e)
   where
     by_test : (w : Bool) → Member x.section (written_by xs) → Member x.section (if w then also y.section (written_by xs) else written_by xs)
@@ -91,7 +92,8 @@ read ws (y ∷ xs) x first = by_test (among ws x.section) refl
     by_test false e = inr (has_also x.section (others_by ws xs))
 read ws (y ∷ xs) x (next m) = elim (read ws xs x m) [ inl k ↦ inl k | inr k ↦ inr (by_test (among ws y.section) k) ]
   where
-    by_test : (b : Bool) → Member x.section (others_by ws xs) → Member x.section (if b then others_by ws xs else also y.section (others_by ws xs))
+    by_test : (b : Bool) → Member x.section (others_by ws xs)
+        → Member x.section (if b then others_by ws xs else also y.section (others_by ws xs))
     by_test true k = k
     by_test false k = keeps_also y.section x.section (others_by ws xs) k
 read ws [] x m = elim m [ ]

@@ -1,5 +1,6 @@
 -- A statement of one step reads and writes places of its own accesses alone.
-use Rattle.std.proofs.Common.{◌≡◌, ℕ, zero, suc, ◌+◌, ◌<◌, List, [], ◌∷◌, length, Some, None, Ok, Err, ℤ, pos, negsuc, refl, sym, ap, ◌∙◌, subst, arith}
+use Rattle.std.proofs.Common.{◌≡◌, ℕ, zero, suc, ◌+◌, ◌<◌, List, [], ◌∷◌, length, Some, None, Ok, Err, ℤ, pos, negsuc, refl, sym, ap, ◌∙◌}
+use Rattle.std.proofs.Common.{subst, arith}
 use Rattle.std.specs.Prelude.{Bool, true, false, Contains, slice_index_or, nat_lt, nat_eq, if◌then◌else◌, ok_or}
 use Rattle.std.proofs.lemmas.Bool.{ltb-true, eqb-true}
 use Rattle.types.specs.declared.fault.FaultKind.TheVariants.{Index}
@@ -76,7 +77,8 @@ module _ (p : Program) {X : Type 0} (l : ℕ) (q : Place) where
   abbrev Stays : State X → State X → Type 0
   Stays st out = out.store q ≡ st.store q
 
-  value_stays : {A : Type 0} (v : Valued A) (go : A → State X → State X) (st : State X) → ((a : A) → v ≡ Ok a → Stays st (go a st)) → Stays st (with_value l v go st)
+  value_stays : {A : Type 0} (v : Valued A) (go : A → State X → State X) (st : State X) → ((a : A) → v ≡ Ok a → Stays st (go a st))
+      → Stays st (with_value l v go st)
   value_stays (Ok a) go st h = h a refl
   value_stays (Err f) go st h = refl
 
@@ -85,19 +87,22 @@ module _ (p : Program) {X : Type 0} (l : ℕ) (q : Place) where
   put_stays false r v st h = refl
 
   -- a statement of one step writes no place but those of its own writes
-  pub primitive_stays : (s : Primitive) (st : State X) → (Overwrites st.environment (λ x. Member x (own_accesses l (Do s))) q → ⊥) → Stays st (primitive p l s st)
+  pub primitive_stays : (s : Primitive) (st : State X) → (Overwrites st.environment (λ x. Member x (own_accesses l (Do s))) q → ⊥)
+      → Stays st (primitive p l s st)
   primitive_stays Skip st h = refl
   primitive_stays (Assign x e) st h = value_stays (number_at st e) (assign x) st (λ a k. refl)
   primitive_stays (Store s i e) st h =
       value_stays (number_at st i)
-      (λ at. with_value l (number_at st e) (λ v. with_value l (element_of (window_at st s) at) (λ q. put l (holds_number (array_of p q.array).element v) q v))) st (λ at j.
+      (λ at. with_value l (number_at st e)
+      (λ v. with_value l (element_of (window_at st s) at) (λ q. put l (holds_number (array_of p q.array).element v) q v))) st (λ at j.
       value_stays (number_at st e)
       (λ v. with_value l (element_of (window_at st s) at) (λ q. put l (holds_number (array_of p q.array).element v) q v)) st (λ v k.
       value_stays (element_of (window_at st s) at) (λ q. put l (holds_number (array_of p q.array).element v) q v) st (λ r m.
       put_stays (holds_number (array_of p r.array).element v) r v st (λ n. h (record {
         access = record { label = l; section = s; write = true };
         among = first;
-        place = subst (λ q. In (window_at st s) q) (same_place-equal r q n) (subst (IsIn (window_at st s)) m (element_of-in (window_at st s) at));
+        place = subst (λ q. In (window_at st s) q) (same_place-equal r q n)
+            (subst (IsIn (window_at st s)) m (element_of-in (window_at st s) at));
         writes = refl;
       })))))
   primitive_stays (Print es) st h = value_stays (numbers_at st es) print st (λ a k. refl)

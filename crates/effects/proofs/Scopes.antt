@@ -73,7 +73,8 @@ module _ (p : Program) where
       go y e (next first) = moved g scope x (past_split s l r) s (ap (past_split s l r) e ∙ past_split-right s l r) k.in_scope
           (λ h. side_writable g s r numbered (right k.right) (subst (λ y. is_writable g y ≡ true) e (w h)))
       go y e (next (next m)) = moved g scope x (past_split s l r) y
-          (ap (past_split s l r) e ∙ past_split-other s l r y (let h : y < l = k.later y m in omega arith) (let h : y < l = k.later y m in let n : r ≡ l + 1 = k.next in omega arith))
+          (ap (past_split s l r) e ∙ past_split-other s l r y (let h : y < l = k.later y m in omega arith)
+          (let h : y < l = k.later y m in let n : r ≡ l + 1 = k.next in omega arith))
           m (λ h. subst (λ y. is_writable g y ≡ true) e (w h))
 
   past_call_allowed : (g : Procedure) (scope : List ℕ) (f : ℕ) (ss : List ℕ)
@@ -81,11 +82,13 @@ module _ (p : Program) where
       → (x : Access) → Allowed (procedure_of p f) (parameters_of (procedure_of p f)) x
       → Allowed g scope (renamed (past_call ss) x)
   past_call_allowed g scope f ss sound k x a =
-      let n : x.section < length (procedure_of p f).parameters = numbers_from-below (length (procedure_of p f).parameters) x.section a.in_scope in
+      let n : x.section < length (procedure_of p f).parameters =
+      numbers_from-below (length (procedure_of p f).parameters) x.section a.in_scope in
       record {
         in_scope = k.in_scope x.section (let e : length ss ≡ length (procedure_of p f).parameters = k.number in omega arith);
         writable = λ h. k.writable x.section (subst (λ r. may_write (procedure_of p f).parameters r ≡ true)
-            (root_of-root (procedure_of p f).sections x.section (origin_from_get (procedure_of p f).sections x.section (sound.first x.section n))) (a.writable h));
+            (root_of-root (procedure_of p f).sections x.section
+            (origin_from_get (procedure_of p f).sections x.section (sound.first x.section n))) (a.writable h));
       }
 
   module _ (sound : IsSound p) where

@@ -38,7 +38,8 @@ and_true true b e f = f
 and_true false b e f = false_true e
 
 same_access-refl : (x : Access) → same_access x x ≡ true
-same_access-refl x = and_true (nat_eq x.label x.label) (nat_eq x.section x.section && same_kind x.write x.write) (eq-eqb x.label x.label refl)
+same_access-refl x =
+    and_true (nat_eq x.label x.label) (nat_eq x.section x.section && same_kind x.write x.write) (eq-eqb x.label x.label refl)
     (and_true (nat_eq x.section x.section) (same_kind x.write x.write) (eq-eqb x.section x.section refl) (same_kind-refl x.write))
 
 is_listed : (xs : List Access) (x : Access) → lists xs x ≡ true → Member x xs
@@ -81,7 +82,8 @@ missing_most has (x ∷ xs) = by_test (has x) (missing_most has xs)
 abbrev pub LiesIn : Table accesses → Table accesses → Type 0
 LiesIn table more = (f : ℕ) (x : Access) → Member x (table f) → Member x (more f)
 
-module _ (round : Table accesses → Table accesses) (count : ℕ) (grows : (table more : Table accesses) → LiesIn table more → LiesIn (round table) (round more))
+module _ (round : Table accesses → Table accesses) (count : ℕ)
+    (grows : (table more : Table accesses) → LiesIn table more → LiesIn (round table) (round more))
     (ends : (table : Table accesses) (f : ℕ) (x : Access) → count ≤ f → Member x (round table f) → ⊥)
     (possible : ℕ → List Access) (is_possible : (k f : ℕ) (x : Access) → Member x (after round count k f) → Member x (possible f)) where
   abbrev rounds : ℕ → Table accesses
@@ -179,7 +181,8 @@ module _ (round : Table accesses → Table accesses) (count : ℕ) (grows : (tab
       by_test false e = let lt = not_stable_falls k e in absurd (omega (arith, lt, h))
   comes_stable (suc n) k h = by_test (is_stable round count (rounds k)) refl (comes_stable n (suc k))
     where
-      by_test : (t : Bool) → is_stable round count (rounds k) ≡ t → (lacking (suc k) count ≤ n → LiesIn (round (first_stable round count n (suc k))) (first_stable round count n (suc k)))
+      by_test : (t : Bool) → is_stable round count (rounds k) ≡ t
+          → (lacking (suc k) count ≤ n → LiesIn (round (first_stable round count n (suc k))) (first_stable round count n (suc k)))
           → (let table = if◌then◌else◌ {A = Table accesses} t (rounds k) (first_stable round count n (suc k)) in LiesIn (round table) table)
       by_test true e go = tested (rounds k) e
       by_test false e go = go (let lt = not_stable_falls k e in omega (arith, lt, h))
@@ -198,7 +201,8 @@ module _ (round : Table accesses → Table accesses) (count : ℕ) (grows : (tab
   becomes_stable most e h = comes_stable (most count) 0 (lacking_most most e h 0 count)
 
 -- it keeps what each round keeps
-pub first_keeps : (round : Table accesses → Table accesses) (count : ℕ) (P : Table accesses → Type 0) → P none → ((table : Table accesses) → P table → P (round table))
+pub first_keeps : (round : Table accesses → Table accesses) (count : ℕ) (P : Table accesses → Type 0) → P none
+    → ((table : Table accesses) → P table → P (round table))
     → (n k : ℕ) → P (first_stable round count n k)
 first_keeps round count P nil one = first
   where
@@ -206,7 +210,8 @@ first_keeps round count P nil one = first
     each zero = nil
     each (suc k) = one (after round count k) (each k)
 
-    by_test : (n k : ℕ) (t : Bool) → P (first_stable round count n (suc k)) → P (if◌then◌else◌ {A = Table accesses} t (after round count k) (first_stable round count n (suc k)))
+    by_test : (n k : ℕ) (t : Bool) → P (first_stable round count n (suc k))
+        → P (if◌then◌else◌ {A = Table accesses} t (after round count k) (first_stable round count n (suc k)))
     by_test n k true go = each k
     by_test n k false go = go
 

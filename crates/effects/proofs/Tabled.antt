@@ -12,7 +12,8 @@ module _ (p : Program) (subject : Subject) where
   as_kept xs x h = subst xs (sym (subject.kept x)) h
 
   -- an item of a block, in the names around the statement
-  all_inner : {s : Code} {b : Codes} {out : ℕ → ℕ} → Inner p s b out → (x : subject.Item) → All p subject b x → AllInside p subject s (subject.renamed out x)
+  all_inner : {s : Code} {b : Codes} {out : ℕ → ℕ} → Inner p s b out → (x : subject.Item) → All p subject b x
+      → AllInside p subject s (subject.renamed out x)
   all_inner (Inner.if_body {b = b} {c = c}) x h = inl (as_kept (All p subject b) x h)
   all_inner (Inner.if_other {b = b} {c = c}) x h = inr (as_kept (All p subject c) x h)
   all_inner (Inner.while {b = b}) x h = as_kept (All p subject b) x h
@@ -38,7 +39,8 @@ module _ (p : Program) (subject : Subject) where
   pub all_rows : (l : ℕ) (s : Code) (x : subject.Item) → AllOf p subject l s x ↔ (Member x (subject.own l s) ⊎ AllInside p subject s x)
   all_rows l s x = (from_all_of, λ h. elim h [ inl k ↦ AllOf.own_access k | inr k ↦ to_all_of l s x k ])
 
-  pending_inner : {s : Code} {b : Codes} {out : ℕ → ℕ} → Inner p s b out → (x : subject.Item) → Pending p subject b x → LeftBy p subject s (subject.renamed out x)
+  pending_inner : {s : Code} {b : Codes} {out : ℕ → ℕ} → Inner p s b out → (x : subject.Item) → Pending p subject b x
+      → LeftBy p subject s (subject.renamed out x)
   pending_inner (Inner.if_body {b = b} {c = c}) x h = inl (as_kept (Pending p subject b) x h)
   pending_inner (Inner.if_other {b = b} {c = c}) x h = inr (as_kept (Pending p subject c) x h)
   pending_inner (Inner.while {b = b}) x h = as_kept (Pending p subject b) x h
@@ -62,18 +64,22 @@ module _ (p : Program) (subject : Subject) where
   pub pending_rows : (s : Code) (x : subject.Item) → PendingOf p subject s x ↔ LeftBy p subject s x
   pending_rows s x = (from_pending_of, to_pending_of s x)
 
-  from_all : {l : ℕ} {s : Code} {rest : Codes} {x : subject.Item} → All p subject (Then l s rest) x → AllOf p subject l s x ⊎ All p subject rest x
+  from_all : {l : ℕ} {s : Code} {rest : Codes} {x : subject.Item} → All p subject (Then l s rest) x
+      → AllOf p subject l s x ⊎ All p subject rest x
   from_all (All.here h) = inl h
   from_all (All.later h) = inr h
 
-  pub all_lists : (l : ℕ) (s : Code) (rest : Codes) (x : subject.Item) → All p subject (Then l s rest) x ↔ (AllOf p subject l s x ⊎ All p subject rest x)
+  pub all_lists : (l : ℕ) (s : Code) (rest : Codes) (x : subject.Item)
+      → All p subject (Then l s rest) x ↔ (AllOf p subject l s x ⊎ All p subject rest x)
   all_lists l s rest x = (from_all, λ h. elim h [ inl k ↦ All.here k | inr k ↦ All.later k ])
 
-  from_pending : {l : ℕ} {s : Code} {rest : Codes} {x : subject.Item} → Pending p subject (Then l s rest) x → PendingOf p subject s x ⊎ Pending p subject rest x
+  from_pending : {l : ℕ} {s : Code} {rest : Codes} {x : subject.Item} → Pending p subject (Then l s rest) x
+      → PendingOf p subject s x ⊎ Pending p subject rest x
   from_pending (Pending.here h) = inl h
   from_pending (Pending.later h) = inr h
 
-  pub pending_lists : (l : ℕ) (s : Code) (rest : Codes) (x : subject.Item) → Pending p subject (Then l s rest) x ↔ (PendingOf p subject s x ⊎ Pending p subject rest x)
+  pub pending_lists : (l : ℕ) (s : Code) (rest : Codes) (x : subject.Item)
+      → Pending p subject (Then l s rest) x ↔ (PendingOf p subject s x ⊎ Pending p subject rest x)
   pending_lists l s rest x = (from_pending, λ h. elim h [ inl k ↦ Pending.here k | inr k ↦ Pending.later k ])
 
   pub all_none : (x : subject.Item) → All p subject End x → ⊥

@@ -1,5 +1,6 @@
 -- Windows of disjoint sections share no place, in an environment that fits.
-use Rattle.std.proofs.Common.{◌≡◌, ◌≢◌, ◌⊎◌, inl, inr, ℕ, zero, suc, ◌+◌, ◌-◌, ◌<◌, ◌≤◌, List, [], Option, Some, None, ℤ, pos, negsuc, refl, sym, ap, subst, arith, le_refl}
+use Rattle.std.proofs.Common.{◌≡◌, ◌≢◌, ◌⊎◌, inl, inr, ℕ, zero, suc, ◌+◌, ◌-◌, ◌<◌, ◌≤◌, List, [], Option, Some, None, ℤ, pos, negsuc, refl}
+use Rattle.std.proofs.Common.{sym, ap, subst, arith, le_refl}
 use Rattle.std.proofs.lemmas.Bool.{eqb-true, leb-true}
 use Rattle.std.specs.Prelude.{Bool, true, false, not, nat_eq, nat_le, if◌then◌else◌}
 use Rattle.std.specs.List.{list_any}
@@ -41,7 +42,8 @@ sides_of-cut w a b (negsuc n) h = none_some h
 sides_of-cut w a b (pos n) h = go (nat_le n w.length) refl h
   where
     go : (t : Bool) → nat_le n w.length ≡ t
-        → if◌then◌else◌ {A = Option (Window × Window)} t (Some (record w { length = n }, record w { at = w.at + n; length = w.length - n })) None ≡ Some (a, b) → IsCut w a b
+        → if◌then◌else◌ {A = Option (Window × Window)} t
+        (Some (record w { length = n }, record w { at = w.at + n; length = w.length - n })) None ≡ Some (a, b) → IsCut w a b
     go true e h = record {
       at = n;
       fits = leb-true n w.length e;
@@ -55,7 +57,13 @@ pub left_inside : {w a b : Window} → IsCut w a b → (q : Place) → In a q �
 left_inside {w} {a} {b} c q h = inside (subst (λ a. In a q) c.left h)
   where
     inside : In (record w { length = c.at }) q → In w q
-    inside h = record { array = h.array; low = h.low; high = let f : c.at ≤ w.length = c.fits in let k : q.index < w.at + c.at = h.high in omega arith }
+    inside h =
+        record {
+          array = h.array;
+          low = h.low;
+          high = let f : c.at ≤ w.length = c.fits in let k : q.index < w.at + c.at =
+              h.high in omega arith;
+        }
 
 pub right_inside : {w a b : Window} → IsCut w a b → (q : Place) → In b q → In w q
 right_inside {w} {a} {b} c q h = inside (subst (λ b. In b q) c.right h)
@@ -94,7 +102,11 @@ module _ (g : Procedure) (scope : List ℕ) (env : Environment) (numbered : IsNu
   left_under s l x m e deeper =
       let sides = fits.left s l m e in
       let up = deeper sides.parent in
-      record { in_scope = up.in_scope; places = λ q h. up.places q (left_inside (sides_of-cut (env.windows s) (env.windows l) (env.windows (l + 1)) sides.at sides.cut) q h) }
+      record {
+        in_scope = up.in_scope;
+        places =
+            λ q h. up.places q (left_inside (sides_of-cut (env.windows s) (env.windows l) (env.windows (l + 1)) sides.at sides.cut) q h);
+      }
 
   right_under : (s r x : ℕ) → Member r scope → origin_of g.sections r ≡ Right s → (Member s scope → Above s x) → Above r x
   right_under s r x m e deeper =
@@ -103,7 +115,8 @@ module _ (g : Procedure) (scope : List ℕ) (env : Environment) (numbered : IsNu
       let up = deeper sides.parent in
       record {
         in_scope = up.in_scope;
-        places = λ q h. up.places q (right_inside (sides_of-cut (env.windows s) (env.windows l.left) (env.windows (l.left + 1)) sides.at sides.cut) q
+        places = λ q h. up.places q
+            (right_inside (sides_of-cut (env.windows s) (env.windows l.left) (env.windows (l.left + 1)) sides.at sides.cut) q
             (subst (λ r. In (env.windows r) q) l.next h));
       }
 
@@ -121,7 +134,8 @@ module _ (g : Procedure) (scope : List ℕ) (env : Environment) (numbered : IsNu
   above (suc n) x a (next h) m = above_beyond n a x m (above n x) (origin_of g.sections a) refl h
 
   -- what a line of sections in scope ends in is a root
-  root_beyond_is_root : (n a : ℕ) → Member a scope → ((s : ℕ) → s < a → Member s scope → origin_of g.sections (root_within g.sections n s) ≡ Root)
+  root_beyond_is_root : (n a : ℕ) → Member a scope
+      → ((s : ℕ) → s < a → Member s scope → origin_of g.sections (root_within g.sections n s) ≡ Root)
       → (o : Origin) → origin_of g.sections a ≡ o → origin_of g.sections (beyond a (root_within g.sections n) o) ≡ Root
   root_beyond_is_root n a m deeper Root e = e
   root_beyond_is_root n a m deeper (Left s) e = let sides = fits.left s a m e in deeper s (numbered.left a s e) sides.parent
@@ -173,7 +187,8 @@ module _ (g : Procedure) (scope : List ℕ) (env : Environment) (numbered : IsNu
   abbrev IsRoot : ℕ → Type 0
   IsRoot r = Member r scope × (origin_of g.sections r ≡ Root)
 
-  roots_apart : (r s : ℕ) → r ≢ s → IsRoot r → IsRoot s → (may_write g.parameters r ≡ true) ⊎ (may_write g.parameters s ≡ true) → Apart (env.windows r) (env.windows s)
+  roots_apart : (r s : ℕ) → r ≢ s → IsRoot r → IsRoot s → (may_write g.parameters r ≡ true) ⊎ (may_write g.parameters s ≡ true)
+      → Apart (env.windows r) (env.windows s)
   roots_apart r s ne h k (inl w) = fits.apart r s ne h.0 k.0 h.1 k.1 w
   roots_apart r s ne h k (inr w) = swapped (fits.apart s r (λ e. ne (sym e)) k.0 h.0 k.1 h.1 w)
 
@@ -183,13 +198,16 @@ module _ (g : Procedure) (scope : List ℕ) (env : Environment) (numbered : IsNu
   -- disjoint names, one of which may be written, share no place
   pub names_apart : (a b : ℕ) → Member a scope → Member b scope → overlap g.sections a b ≡ false
       → (is_writable g a ≡ true) ⊎ (is_writable g b ≡ true) → Apart (env.windows a) (env.windows b)
-  names_apart a b m n h w = elim (either_true (not (nat_eq (root_of g.sections a) (root_of g.sections b))) (under_opposite g.sections a b) (overlap-disjoint g.sections a b h)) [
-    | inl k ↦ narrowed a (root_of g.sections a) b (root_of g.sections b) (root_above a m) (root_above b n)
-        (roots_apart (root_of g.sections a) (root_of g.sections b) (differs (root_of g.sections a) (root_of g.sections b) k) (root_of_is_root a m) (root_of_is_root b n) w)
-    | inr k ↦
-        (let x = any_member (λ x. list_any (are_opposite g.sections x) (line g.sections b)) (line g.sections a) k in
-        let y = any_member (are_opposite g.sections x.0) (line g.sections b) x.2 in
-        let f = above a x.0 a x.1 m in
-        let g = above b y.0 b y.1 n in
-        narrowed a x.0 b y.0 f g (opposite_apart x.0 y.0 f.in_scope g.in_scope y.2))
-  ]
+  names_apart a b m n h w =
+      elim (either_true (not (nat_eq (root_of g.sections a) (root_of g.sections b))) (under_opposite g.sections a b)
+      (overlap-disjoint g.sections a b h)) [
+        | inl k ↦ narrowed a (root_of g.sections a) b (root_of g.sections b) (root_above a m) (root_above b n)
+            (roots_apart (root_of g.sections a) (root_of g.sections b) (differs (root_of g.sections a) (root_of g.sections b) k)
+            (root_of_is_root a m) (root_of_is_root b n) w)
+        | inr k ↦
+            (let x = any_member (λ x. list_any (are_opposite g.sections x) (line g.sections b)) (line g.sections a) k in
+            let y = any_member (are_opposite g.sections x.0) (line g.sections b) x.2 in
+            let f = above a x.0 a x.1 m in
+            let g = above b y.0 b y.1 n in
+            narrowed a x.0 b y.0 f g (opposite_apart x.0 y.0 f.in_scope g.in_scope y.2))
+      ]

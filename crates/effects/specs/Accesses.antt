@@ -1,6 +1,7 @@
 -- What a statement does to sections by its own expressions.
 use Rattle.std.specs.Prelude.{ℕ, List, [], ◌∷◌, ◌++◌, map, flat_map, Bool, true, false}
-use Rattle.types.specs.Code.{Primitive, Skip, Assign, Store, Print, Raise, Code, Do, If, While, Split, Call, Async, Finish}
+use Rattle.types.specs.Code.{Primitive, Skip, Assign, Store, Print, Raise, Code, Do, If, While}
+use Rattle.types.specs.Code.{Split, Call, Async, Finish}
 use Rattle.types.specs.Indexed.{indexed, indexed_truth}
 
 -- the statement with this label may read elements of a section, or write them
@@ -13,7 +14,7 @@ pub record Access : Type 0 where
 abbrev pub reads : (label : ℕ) → List ℕ → List Access
 reads l ss = map (λ s. record { label = l; section = s; write = false }) ss
 
--- the accesses of a statement of one step: a store writes its section, and all read what their expressions index
+-- those of a statement of one step: reads of what its expressions index, and a store's write
 abbrev pub own_primitive : (label : ℕ) → Primitive → List Access
 own_primitive l Skip = []
 own_primitive l (Assign x e) = reads l (indexed e)

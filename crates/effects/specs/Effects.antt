@@ -1,8 +1,8 @@
--- What a statement may do, and what it leaves pending: least sets of accesses, or of labels, by one constructor for
--- each row of the table.
+-- What a statement may do, and what it leaves pending: least sets of accesses, or of labels.
 use Rattle.std.specs.Prelude.{ℕ, ◌≡◌, List, [], ◌∷◌, slice_index_or, nat_eq, ◌||◌, if◌then◌else◌}
 use Rattle.std.proofs.Common.{refl}
-use Rattle.types.specs.Code.{Number, Truth, Code, If, While, Split, Call, Async, Finish, Codes, Then, Program}
+use Rattle.types.specs.Code.{Number, Truth, Code, If, While, Split, Call, Async, Finish, Codes}
+use Rattle.types.specs.Code.{Then, Program}
 use Rattle.types.specs.Run.{procedure_of}
 use Rattle.effects.specs.Member.{Member}
 use Rattle.effects.specs.Accesses.{Access, own_accesses}
@@ -19,7 +19,7 @@ past_call ss k = slice_index_or ss k 0
 abbrev pub renamed : (ℕ → ℕ) → Access → Access
 renamed out x = record x { section = out x.section }
 
--- what is collected of a program: what a statement has by itself, and what becomes of it in other names
+-- what is collected: what a statement has by itself, and what becomes of it in other names
 pub record Subject : Type 1 where
   pub Item : Type 0
   pub own : (label : ℕ) → Code → List Item
@@ -35,12 +35,13 @@ abbrev pub labels : Subject
 labels = record { Item = ℕ; own = λ l s. l ∷ []; renamed = λ out l. l; kept = λ x. refl }
 
 module _ (p : Program) where
-  -- a statement other than `async` and `finish` runs a block, whose section x is `out x` in the names around it
+  -- a statement runs a block in its own task, whose section x is `out x` in the names around it
   pub data Inner : Code → Codes → (out : ℕ → ℕ) → Type 0 where
     if_body : {t : Truth} {b c : Codes} → Inner (If t b c) b (λ x. x)
     if_other : {t : Truth} {b c : Codes} → Inner (If t b c) c (λ x. x)
     while : {t : Truth} {b : Codes} → Inner (While t b) b (λ x. x)
-    split : {s : ℕ} {e : Number} {l r : ℕ} {b : Codes} → Inner (Split s e l r b) b (past_split s l r)
+    split : {s : ℕ} {e : Number} {l r : ℕ} {b : Codes}
+        → Inner (Split s e l r b) b (past_split s l r)
     call : {f : ℕ} {es : List Number} {ss : List ℕ}
         → Inner (Call f es ss) (procedure_of p f).body (past_call ss)
 
@@ -56,11 +57,13 @@ module _ (p : Program) (subject : Subject) where
 
     -- all that a list of statements may do
     pub data All : Codes → subject.Item → Type 0 where
-      here : {l : ℕ} {s : Code} {rest : Codes} {x : subject.Item} → AllOf l s x → All (Then l s rest) x
-      later : {l : ℕ} {s : Code} {rest : Codes} {x : subject.Item} → All rest x → All (Then l s rest) x
+      here : {l : ℕ} {s : Code} {rest : Codes} {x : subject.Item} → AllOf l s x
+          → All (Then l s rest) x
+      later : {l : ℕ} {s : Code} {rest : Codes} {x : subject.Item} → All rest x
+          → All (Then l s rest) x
 
   mutual
-    -- what may still be done once a statement has ended: by tasks that it spawned outside of a finish
+    -- what may still be done once a statement has ended: by tasks for which no finish waits
     pub data PendingOf : Code → subject.Item → Type 0 where
       inner : {s : Code} {b : Codes} {out : ℕ → ℕ} {x y : subject.Item}
           → Inner p s b out → Pending b x → y ≡ subject.renamed out x → PendingOf s y
@@ -68,5 +71,7 @@ module _ (p : Program) (subject : Subject) where
 
     -- what may still be done once a list of statements has ended
     pub data Pending : Codes → subject.Item → Type 0 where
-      here : {l : ℕ} {s : Code} {rest : Codes} {x : subject.Item} → PendingOf s x → Pending (Then l s rest) x
-      later : {l : ℕ} {s : Code} {rest : Codes} {x : subject.Item} → Pending rest x → Pending (Then l s rest) x
+      here : {l : ℕ} {s : Code} {rest : Codes} {x : subject.Item} → PendingOf s x
+          → Pending (Then l s rest) x
+      later : {l : ℕ} {s : Code} {rest : Codes} {x : subject.Item} → Pending rest x
+          → Pending (Then l s rest) x

@@ -1,4 +1,4 @@
--- The footprint of statements: the places that they may touch in an environment, and those that they may write.
+-- The footprint of statements: the places that they may touch, and those that they may write.
 use Rattle.std.specs.Prelude.{ℕ, ◌≡◌, true}
 use Rattle.types.specs.Code.{Code, Codes, Program}
 use Rattle.types.specs.Place.{Place, In}
@@ -21,29 +21,29 @@ pub record Overwrites (env : Environment) (those : Access → Type 0) (q : Place
 
 module _ (p : Program) (env : Environment) where
   -- the places that a list of statements may touch, and those that it may write
-  abbrev pub Reads : Codes → Place → Type 0
-  Reads b = Touches env (All p accesses b)
+  abbrev pub MayTouch : Codes → Place → Type 0
+  MayTouch b = Touches env (All p accesses b)
 
-  abbrev pub Writes : Codes → Place → Type 0
-  Writes b = Overwrites env (All p accesses b)
+  abbrev pub MayWrite : Codes → Place → Type 0
+  MayWrite b = Overwrites env (All p accesses b)
 
   -- the same of one statement
-  abbrev pub ReadsOf : (label : ℕ) → Code → Place → Type 0
-  ReadsOf l s = Touches env (AllOf p accesses l s)
+  abbrev pub MayTouchOf : (label : ℕ) → Code → Place → Type 0
+  MayTouchOf l s = Touches env (AllOf p accesses l s)
 
-  abbrev pub WritesOf : (label : ℕ) → Code → Place → Type 0
-  WritesOf l s = Overwrites env (AllOf p accesses l s)
+  abbrev pub MayWriteOf : (label : ℕ) → Code → Place → Type 0
+  MayWriteOf l s = Overwrites env (AllOf p accesses l s)
 
   -- the places that may still be touched, and those that may still be written, once it has ended
-  abbrev pub PendingReads : Codes → Place → Type 0
-  PendingReads b = Touches env (Pending p accesses b)
+  abbrev pub MayStillTouch : Codes → Place → Type 0
+  MayStillTouch b = Touches env (Pending p accesses b)
 
-  abbrev pub PendingWrites : Codes → Place → Type 0
-  PendingWrites b = Overwrites env (Pending p accesses b)
+  abbrev pub MayStillWrite : Codes → Place → Type 0
+  MayStillWrite b = Overwrites env (Pending p accesses b)
 
   -- the same of one statement
-  abbrev pub PendingReadsOf : Code → Place → Type 0
-  PendingReadsOf s = Touches env (PendingOf p accesses s)
+  abbrev pub MayStillTouchOf : Code → Place → Type 0
+  MayStillTouchOf s = Touches env (PendingOf p accesses s)
 
-  abbrev pub PendingWritesOf : Code → Place → Type 0
-  PendingWritesOf s = Overwrites env (PendingOf p accesses s)
+  abbrev pub MayStillWriteOf : Code → Place → Type 0
+  MayStillWriteOf s = Overwrites env (PendingOf p accesses s)

@@ -1,8 +1,10 @@
 -- What the type rules give of a program with its names resolved; each line names its rule.
-use Rattle.std.specs.Prelude.{ℕ, zero, suc, ◌+◌, ◌<◌, ◌≡◌, ◌≢◌, List, [], ◌∷◌, length, map, Bool, true, false, slice_get}
+use Rattle.std.specs.Prelude.{ℕ, zero, suc, ◌+◌, ◌<◌, ◌≡◌, ◌≢◌, List, [], ◌∷◌, length, map, Bool}
+use Rattle.std.specs.Prelude.{true, false, slice_get}
 use Rattle.std.specs.Prelude.{slice_index_or, Some}
 use Rattle.syntax.specs.declared.tree.ElementType.TheVariants.{Int}
-use Rattle.types.specs.Code.{Code, Do, If, While, Split, Call, Async, Finish, Codes, End, Then, Root, Left, Right}
+use Rattle.types.specs.Code.{Code, Do, If, While, Split, Call, Async, Finish, Codes, End, Then}
+use Rattle.types.specs.Code.{Root, Left, Right}
 use Rattle.types.specs.Code.{Array, Parameter, Procedure, Program}
 use Rattle.types.specs.Run.{procedure_of}
 use Rattle.effects.specs.Accesses.{Access, own_accesses}
@@ -85,7 +87,8 @@ module _ (p : Program) (g : Procedure) where
     pub Follows : (scope : List ℕ) → Codes → Type 0
     Follows scope End = Unit {0}
     Follows scope (Then l s rest) =
-        ((x : Access) → Member x (own_accesses l s) → Allowed g scope x) × FollowsOf scope s × Follows scope rest
+        ((x : Access) → Member x (own_accesses l s) → Allowed g scope x) × FollowsOf scope s
+        × Follows scope rest
 
 -- a procedure follows the rules
 pub record IsSoundIn (p : Program) (g : Procedure) : Type 0 where

@@ -1,6 +1,7 @@
 -- All and Pending as lists, over tables of what each procedure's body has.
 use Rattle.std.specs.Prelude.{ℕ, zero, suc, List, [], ◌++◌, map}
-use Rattle.types.specs.Code.{Code, Do, If, While, Split, Call, Async, Finish, Codes, End, Then, Program}
+use Rattle.types.specs.Code.{Code, Do, If, While, Split, Call, Async, Finish, Codes, End, Then}
+use Rattle.types.specs.Code.{Program}
 use Rattle.types.specs.Run.{procedure_of}
 use Rattle.effects.specs.Member.{Member}
 use Rattle.effects.specs.Effects.{past_split, past_call, Subject, All, Pending}
@@ -55,18 +56,23 @@ module _ (p : Program) (subject : Subject) where
 
   abbrev pub pendings_after : Table subject → ℕ → Table subject
   pendings_after alls zero f = []
-  pendings_after alls (suc k) f = left_in subject alls (pendings_after alls k) (procedure_of p f).body
+  pendings_after alls (suc k) f =
+      left_in subject alls (pendings_after alls k) (procedure_of p f).body
 
   -- what the table lists is derived
   abbrev pub IsDerived : Table subject → Type 0
-  IsDerived table = (f : ℕ) (x : subject.Item) → Member x (table f) → All p subject (procedure_of p f).body x
+  IsDerived table = (f : ℕ) (x : subject.Item) → Member x (table f)
+      → All p subject (procedure_of p f).body x
 
   abbrev pub IsDerivedPending : Table subject → Type 0
-  IsDerivedPending table = (f : ℕ) (x : subject.Item) → Member x (table f) → Pending p subject (procedure_of p f).body x
+  IsDerivedPending table = (f : ℕ) (x : subject.Item) → Member x (table f)
+      → Pending p subject (procedure_of p f).body x
 
   -- one more round adds nothing
   abbrev pub IsStable : Table subject → Type 0
-  IsStable table = (f : ℕ) (x : subject.Item) → Member x (all_in subject table (procedure_of p f).body) → Member x (table f)
+  IsStable table = (f : ℕ) (x : subject.Item)
+      → Member x (all_in subject table (procedure_of p f).body) → Member x (table f)
 
   abbrev pub IsStablePending : (alls pendings : Table subject) → Type 0
-  IsStablePending alls pendings = (f : ℕ) (x : subject.Item) → Member x (left_in subject alls pendings (procedure_of p f).body) → Member x (pendings f)
+  IsStablePending alls pendings = (f : ℕ) (x : subject.Item)
+      → Member x (left_in subject alls pendings (procedure_of p f).body) → Member x (pendings f)

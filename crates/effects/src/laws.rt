@@ -14,9 +14,9 @@ ghost use Rattle.effects.specs.Member.{Member};
 ghost use Rattle.effects.specs.Accesses.{Access, own_accesses, reads};
 ghost use Rattle.effects.specs.Effects.{accesses, labels, AllOf, All, PendingOf, Pending};
 ghost use Rattle.effects.specs.Rows.{AllInside, LeftBy, SolvesAll, SolvesPending};
-ghost use Rattle.effects.specs.Footprint.{Touches, Overwrites, Reads, Writes, ReadsOf, WritesOf};
-ghost use Rattle.effects.specs.Footprint.{PendingReads, PendingWrites, PendingReadsOf};
-ghost use Rattle.effects.specs.Footprint.{PendingWritesOf};
+ghost use Rattle.effects.specs.Footprint.{Touches, Overwrites, MayTouch, MayWrite, MayTouchOf, MayWriteOf};
+ghost use Rattle.effects.specs.Footprint.{MayStillTouch, MayStillWrite, MayStillTouchOf};
+ghost use Rattle.effects.specs.Footprint.{MayStillWriteOf};
 ghost use Rattle.effects.specs.Tables.{Table, all_in, left_in, alls_after, pendings_after};
 ghost use Rattle.effects.specs.Tables.{IsDerived, IsDerivedPending, IsStable, IsStablePending};
 ghost use Rattle.effects.specs.Rounds.{possible, summaries, pending_summaries, needs_of};
@@ -184,40 +184,40 @@ pub fn calls_keep_footprints()
     ensures reads { (p : Program) → IsSound p
         → (env : Environment) (l f : ℕ) (es : List Number) (ss : List ℕ) (values : List ℤ)
         → length ss ≡ length (procedure_of p f).parameters → (q : Place)
-        → ReadsOf p env l (Call f es ss) q
+        → MayTouchOf p env l (Call f es ss) q
         ↔ (Touches env (λ x. Member x (own_accesses l (Call f es ss))) q
-        ⊎ Reads p (entry values (map env.windows ss)) (procedure_of p f).body q) }
+        ⊎ MayTouch p (entry values (map env.windows ss)) (procedure_of p f).body q) }
     ensures writes { (p : Program) → IsSound p
         → (env : Environment) (l f : ℕ) (es : List Number) (ss : List ℕ) (values : List ℤ)
         → length ss ≡ length (procedure_of p f).parameters → (q : Place)
-        → WritesOf p env l (Call f es ss) q
-        ↔ Writes p (entry values (map env.windows ss)) (procedure_of p f).body q }
+        → MayWriteOf p env l (Call f es ss) q
+        ↔ MayWrite p (entry values (map env.windows ss)) (procedure_of p f).body q }
     ensures pending_reads { (p : Program) → IsSound p
         → (env : Environment) (f : ℕ) (es : List Number) (ss : List ℕ) (values : List ℤ)
         → length ss ≡ length (procedure_of p f).parameters → (q : Place)
-        → PendingReadsOf p env (Call f es ss) q
-        ↔ PendingReads p (entry values (map env.windows ss)) (procedure_of p f).body q }
+        → MayStillTouchOf p env (Call f es ss) q
+        ↔ MayStillTouch p (entry values (map env.windows ss)) (procedure_of p f).body q }
     ensures pending_writes { (p : Program) → IsSound p
         → (env : Environment) (f : ℕ) (es : List Number) (ss : List ℕ) (values : List ℤ)
         → length ss ≡ length (procedure_of p f).parameters → (q : Place)
-        → PendingWritesOf p env (Call f es ss) q
-        ↔ PendingWrites p (entry values (map env.windows ss)) (procedure_of p f).body q }
+        → MayStillWriteOf p env (Call f es ss) q
+        ↔ MayStillWrite p (entry values (map env.windows ss)) (procedure_of p f).body q }
 {}
 
 /// What the block of a split may do in its environment, the split may do in the one around it.
 pub fn splits_keep_footprints()
     ensures reads { (p : Program) (env : Environment) (label s l r : ℕ) (e : Number) (b : Codes)
         → (v : ℤ) (ws : Window × Window) → sides_of (env.windows s) v ≡ Some ws → (q : Place)
-        → Reads p (with_sides l r ws env) b q → ReadsOf p env label (Split s e l r b) q }
+        → MayTouch p (with_sides l r ws env) b q → MayTouchOf p env label (Split s e l r b) q }
     ensures writes { (p : Program) (env : Environment) (label s l r : ℕ) (e : Number) (b : Codes)
         → (v : ℤ) (ws : Window × Window) → sides_of (env.windows s) v ≡ Some ws → (q : Place)
-        → Writes p (with_sides l r ws env) b q → WritesOf p env label (Split s e l r b) q }
+        → MayWrite p (with_sides l r ws env) b q → MayWriteOf p env label (Split s e l r b) q }
     ensures pending_reads { (p : Program) (env : Environment) (s l r : ℕ) (e : Number) (b : Codes)
         → (v : ℤ) (ws : Window × Window) → sides_of (env.windows s) v ≡ Some ws → (q : Place)
-        → PendingReads p (with_sides l r ws env) b q
-        → PendingReadsOf p env (Split s e l r b) q }
+        → MayStillTouch p (with_sides l r ws env) b q
+        → MayStillTouchOf p env (Split s e l r b) q }
     ensures pending_writes { (p : Program) (env : Environment) (s l r : ℕ) (e : Number) (b : Codes)
         → (v : ℤ) (ws : Window × Window) → sides_of (env.windows s) v ≡ Some ws → (q : Place)
-        → PendingWrites p (with_sides l r ws env) b q
-        → PendingWritesOf p env (Split s e l r b) q }
+        → MayStillWrite p (with_sides l r ws env) b q
+        → MayStillWriteOf p env (Split s e l r b) q }
 {}

@@ -45,7 +45,8 @@ module _ (begin : Codes → A → A) (marks : (b : Codes) → Marks (begin b)) w
     lost_moved = λ st env never. never;
   }
     where
-      spends_marked : (b : Bool) (st : A) (go to : A → A) → Follows marked Never go to → FollowsAt marked Never b st (with_step go) (with_step to)
+      spends_marked : (b : Bool) (st : A) (go to : A → A) → Follows marked Never go to
+          → FollowsAt marked Never b st (with_step go) (with_step to)
       spends_marked b st go to h = by_steps st.steps
         where
           by_steps : (n : ℕ) → Never (spend n st go) ⊎ (spend n (marked b st) to ≡ marked b (spend n st go))

@@ -25,7 +25,8 @@ module _ (p : Program) (needs : Codes → Needs) (nest : ℕ) (close : State Own
   acts st = st.extra.actions
 
   -- what changes no actions
-  silent : IsKept {X = Own} (record { stepped = λ x. x; begin = λ b st. st; enter = λ st. st; leave = λ st out. out }) (λ st to. acts to ≡ acts st)
+  silent : IsKept {X = Own} (record { stepped = λ x. x; begin = λ b st. st; enter = λ st. st; leave = λ st out. out })
+      (λ st to. acts to ≡ acts st)
   silent = record {
     idle = λ st to a b c _. ap (λ (x : Own). x.actions) c;
     further = λ a b c h k. k ∙ h;
@@ -43,19 +44,26 @@ module _ (p : Program) (needs : Codes → Needs) (nest : ℕ) (close : State Own
   chosen_does true fs gs st = refl
   chosen_does false fs gs st = refl
 
-  begin_does : (m n k : ℕ) (b : Codes) (st : State Own) → acts (begin_own needs m b (record st { steps = n })) ≡ acts st ++ done_by needs m (suc k) (Async b) st
+  begin_does : (m n k : ℕ) (b : Codes) (st : State Own)
+      → acts (begin_own needs m b (record st { steps = n })) ≡ acts st ++ done_by needs m (suc k) (Async b) st
   begin_does zero n k b st = sym (append-nil st.extra.actions)
   begin_does (suc m) n k b st = refl
 
-  paid_does : (n l : ℕ) (s : Code) (fs : List (Frame Own)) (st : State Own) → acts (paid p r n l s fs st).state ≡ acts st ++ done_by needs nest n s st
+  paid_does : (n l : ℕ) (s : Code) (fs : List (Frame Own)) (st : State Own)
+      → acts (paid p r n l s fs st).state ≡ acts st ++ done_by needs nest n s st
   paid_does zero l s fs st = sym (append-nil st.extra.actions)
-  paid_does (suc n) l (Do s) fs st = primitive_keeps p _ (λ st to. acts to ≡ acts st) silent l s (record st { steps = n; extra = notes Step st.extra })
-  paid_does (suc n) l (If t b c) fs st = value_does l (truth_at st t) _ fs (record st { steps = n; extra = notes Step st.extra }) (λ v. chosen_does v _ _ _)
-  paid_does (suc n) l (While t b) fs st = value_does l (truth_at st t) _ fs (record st { steps = n; extra = notes Step st.extra }) (λ v. chosen_does v _ _ _)
+  paid_does (suc n) l (Do s) fs st =
+      primitive_keeps p _ (λ st to. acts to ≡ acts st) silent l s (record st { steps = n; extra = notes Step st.extra })
+  paid_does (suc n) l (If t b c) fs st =
+      value_does l (truth_at st t) _ fs (record st { steps = n; extra = notes Step st.extra }) (λ v. chosen_does v _ _ _)
+  paid_does (suc n) l (While t b) fs st =
+      value_does l (truth_at st t) _ fs (record st { steps = n; extra = notes Step st.extra }) (λ v. chosen_does v _ _ _)
   paid_does (suc n) l (Split s e x y b) fs st =
       value_does l (number_at st e) _ fs (record st { steps = n; extra = notes Step st.extra }) (λ v.
-      value_does l (ok_or (sides_of (window_at st s) v) SplitPoint) _ fs (record st { steps = n; extra = notes Step st.extra }) (λ ws. refl))
-  paid_does (suc n) l (Call f es ss) fs st = value_does l (numbers_at st es) _ fs (record st { steps = n; extra = notes Step st.extra }) (λ vs. refl)
+      value_does l (ok_or (sides_of (window_at st s) v) SplitPoint) _ fs (record st { steps = n; extra = notes Step st.extra })
+      (λ ws. refl))
+  paid_does (suc n) l (Call f es ss) fs st =
+      value_does l (numbers_at st es) _ fs (record st { steps = n; extra = notes Step st.extra }) (λ vs. refl)
   paid_does (suc n) l (Async b) fs st = begin_does nest n n b st
   paid_does (suc n) l (Finish b) fs st = each nest
     where
@@ -63,13 +71,15 @@ module _ (p : Program) (needs : Codes → Needs) (nest : ℕ) (close : State Own
       each zero = refl
       each (suc m) = refl
 
-  flow_does : (f : Flow) (l : ℕ) (s : Code) (fs below : List (Frame Own)) (st : State Own) → acts (by_flow p r f l s fs below st).state ≡ acts st ++ done_at needs nest f s st
+  flow_does : (f : Flow) (l : ℕ) (s : Code) (fs below : List (Frame Own)) (st : State Own)
+      → acts (by_flow p r f l s fs below st).state ≡ acts st ++ done_at needs nest f s st
   flow_does On l s fs below st = paid_does st.steps l s fs st
   flow_does Faulted l s fs below st = sym (append-nil st.extra.actions)
   flow_does Stopped l s fs below st = sym (append-nil st.extra.actions)
 
   -- a turn adds what it does to the actions
-  pub turn_does : (f : Frame Own) (fs : List (Frame Own)) (st : State Own) → acts (turn p r f fs st).state ≡ acts st ++ done_in needs nest f st
+  pub turn_does : (f : Frame Own) (fs : List (Frame Own)) (st : State Own)
+      → acts (turn p r f fs st).state ≡ acts st ++ done_in needs nest f st
   turn_does (Rest End) fs st = sym (append-nil st.extra.actions)
   turn_does (Rest (Then l s rest)) fs st = flow_does st.flow l s (Rest rest ∷ fs) fs st
   turn_does (Again l t b) fs st = flow_does st.flow l (While t b) fs fs st
@@ -81,7 +91,8 @@ module _ (p : Program) (needs : Codes → Needs) (nest : ℕ) (close : State Own
     waits : is_waiting to ≡ true
     actions : acts to ≡ acts st
 
-  flow_waits : (g : Flow) (st : State Own) (go : State Own → State Own) → st.flow ≡ g → is_waiting st ≡ true → StillWaits st (at_flow g st go)
+  flow_waits : (g : Flow) (st : State Own) (go : State Own → State Own) → st.flow ≡ g → is_waiting st ≡ true
+      → StillWaits st (at_flow g st go)
   flow_waits On st go e w = absurd (false_true (sym (ap is_stopped e) ∙ (both_true (is_stopped st.flow) st.extra.waits w).0))
   flow_waits Faulted st go e w = record { waits = w; actions = refl }
   flow_waits Stopped st go e w = record { waits = w; actions = refl }
@@ -110,7 +121,8 @@ module _ (p : Program) (needs : Codes → Needs) (nest : ℕ) (close : State Own
   end_waits before fs st w e =
       let noted = record st { extra = notes EndFinish st.extra } in
       let left : leave_own close before st ≡ leave_with before noted None =
-      ap (λ b. if b then st else leave_with before noted (close st)) (asleep (is_stopped st.flow) st.extra.waits w) ∙ ap (leave_with before noted) e in
+      ap (λ b. if b then st else leave_with before noted (close st)) (asleep (is_stopped st.flow) st.extra.waits w)
+      ∙ ap (leave_with before noted) e in
       let h = resume_waits fs (leave_with before noted None) refl in
       (ap (λ st. is_waiting (resume p r fs st)) left ∙ h.waits, ap (λ st. acts (resume p r fs st)) left ∙ h.actions)
     where
@@ -119,9 +131,11 @@ module _ (p : Program) (needs : Codes → Needs) (nest : ℕ) (close : State Own
       asleep false w e = refl
 
 -- a task at the end of a finish, by its receipts so far, waits there
-pub follower_waits : (p : Program) (needs : Codes → Needs) (fresh : ℕ) (root s : Start) (taken : List (List TaskResult)) (before : State Own) (fs : List (Frame Own)) (st : State Own)
+pub follower_waits : (p : Program) (needs : Codes → Needs) (fresh : ℕ) (root s : Start) (taken : List (List TaskResult))
+    (before : State Own) (fs : List (Frame Own)) (st : State Own)
     → st.extra.waits ≡ false → Follows p needs fresh root s taken (record { frames = AtEnd before ∷ fs; state = st })
-    → (is_waiting (run_by p needs fresh taken s) ≡ true) × ((run_by p needs fresh taken s).extra.actions ≡ st.extra.actions ++ EndFinish ∷ [])
+    → (is_waiting (run_by p needs fresh taken s) ≡ true)
+    × ((run_by p needs fresh taken s).extra.actions ≡ st.extra.actions ++ EndFinish ∷ [])
 follower_waits p needs fresh root s taken before fs st w h =
     let same : run_by p needs fresh taken s ≡ resume p (own_rules needs s.nest (from_receipts taken)) (AtEnd before ∷ fs) st =
     ap (λ l. run_by p needs fresh l s) (sym (append-nil taken)) ∙ h.follows []

@@ -2,10 +2,12 @@
 use Rattle.std.proofs.Common.{◌≡◌, ℕ, zero, suc, ◌+◌, ◌<◌, ◌≤◌, List, [], ◌∷◌, ◌++◌, Some, Ok, Err, refl, subst, arith, le_refl}
 use Rattle.std.specs.Prelude.{ℤ, Bool, true, false, flat_map, ok_or}
 use Rattle.types.specs.declared.fault.FaultKind.TheVariants.{SplitPoint}
-use Rattle.types.specs.Code.{Primitive, Skip, Assign, Store, Print, Raise, Code, Do, If, While, Split, Call, Async, Finish, Codes, End, Then, Program}
+use Rattle.types.specs.Code.{Primitive, Skip, Assign, Store, Print, Raise, Code, Do, If, While, Split, Call, Async, Finish, Codes, End}
+use Rattle.types.specs.Code.{Then, Program}
 use Rattle.types.specs.Place.{Place, sides_of}
 use Rattle.types.specs.Value.{Valued, element_of, holds_number}
-use Rattle.types.specs.Run.{Flow, On, Faulted, Stopped, State, Rules, with_value, assign, put, number_at, numbers_at, truth_at, window_at, array_of, primitive, counted}
+use Rattle.types.specs.Run.{Flow, On, Faulted, Stopped, State, Rules, with_value, assign, put, number_at, numbers_at, truth_at, window_at}
+use Rattle.types.specs.Run.{array_of, primitive, counted}
 use Rattle.effects.specs.Needs.{Needs, Provides}
 use Rattle.race_checker.specs.Scope.{IsScoped}
 use Rattle.race_checker.specs.Calm.{IsCalm}
@@ -40,7 +42,8 @@ pub data Falls (st : State Own) (w : ℕ) (t : Standing Own) : Type 0 where
   spends : t.state.steps < st.steps → Falls st w t
   sheds : t.state.steps ≤ st.steps → weight t.frames < w → Falls st w t
 
-value_less : {A : Type 0} (l : ℕ) (v : Valued A) (go : A → State Own → State Own) (st : State Own) → ((x : A) → (go x st).steps ≤ st.steps) → (with_value l v go st).steps ≤ st.steps
+value_less : {A : Type 0} (l : ℕ) (v : Valued A) (go : A → State Own → State Own) (st : State Own) → ((x : A) → (go x st).steps ≤ st.steps)
+    → (with_value l v go st).steps ≤ st.steps
 value_less l (Ok x) go st h = h x
 value_less l (Err f) go st h = le_refl st.steps
 
@@ -83,7 +86,8 @@ each_append : {A : Type 0} (P : A → Type 0) (xs ys : List A) → Each P xs →
 each_append P [] ys h k = k
 each_append P (x ∷ xs) ys h k = (h.0, each_append P xs ys h.1 k)
 
-module _ (p : Program) (needs : Codes → Needs) (scoped : IsScoped p) (calm : IsCalm p) (provided : Provides p needs) (fresh : ℕ) (root : Start) where
+module _ (p : Program) (needs : Codes → Needs) (scoped : IsScoped p) (calm : IsCalm p) (provided : Provides p needs) (fresh : ℕ)
+    (root : Start) where
   module _ (s : Start) where
     abbrev r : Rules Own
     r = own_rules needs s.nest (in_truth p needs fresh)
@@ -93,18 +97,21 @@ module _ (p : Program) (needs : Codes → Needs) (scoped : IsScoped p) (calm : I
     acted_less (If t b c) l fs st = stand_less l (truth_at st t) _ fs st (λ v. chosen_less v (Rest b ∷ fs) (Rest c ∷ fs) st)
     acted_less (While t b) l fs st = stand_less l (truth_at st t) _ fs st (λ v. chosen_less v (Rest b ∷ Again l t b ∷ fs) fs st)
     acted_less (Split z e x y b) l fs st =
-        stand_less l (number_at st e) _ fs st (λ v. stand_less l (ok_or (sides_of (window_at st z) v) SplitPoint) _ fs st (λ ws. le_refl st.steps))
+        stand_less l (number_at st e) _ fs st
+        (λ v. stand_less l (ok_or (sides_of (window_at st z) v) SplitPoint) _ fs st (λ ws. le_refl st.steps))
     acted_less (Call f es ss) l fs st = stand_less l (numbers_at st es) _ fs st (λ vs. le_refl st.steps)
     acted_less (Async b) l fs st = begin_less needs s.nest b st
     acted_less (Finish b) l fs st = le_refl st.steps
 
-    paid_falls : (n l : ℕ) (c : Code) (fs : List (Frame Own)) (st : State Own) (w : ℕ) → n ≡ st.steps → weight fs < w → Falls st w (paid p r n l c fs st)
+    paid_falls : (n l : ℕ) (c : Code) (fs : List (Frame Own)) (st : State Own) (w : ℕ) → n ≡ st.steps → weight fs < w
+        → Falls st w (paid p r n l c fs st)
     paid_falls zero l c fs st w e lt = sheds (le_refl st.steps) lt
     paid_falls (suc n) l c fs st w e lt =
         let mid = counted r c (record st { steps = n }) in
         spends (let i = acted_less c l fs mid in let j = counted_same r c (record st { steps = n }) in omega (arith, e, i, j))
 
-    pub flow_falls : (g : Flow) (l : ℕ) (c : Code) (fs below : List (Frame Own)) (st : State Own) (w : ℕ) → weight fs < w → weight below < w → Falls st w (by_flow p r g l c fs below st)
+    pub flow_falls : (g : Flow) (l : ℕ) (c : Code) (fs below : List (Frame Own)) (st : State Own) (w : ℕ) → weight fs < w → weight below < w
+        → Falls st w (by_flow p r g l c fs below st)
     flow_falls On l c fs below st w lt k = paid_falls st.steps l c fs st w refl lt
     flow_falls Faulted l c fs below st w lt k = sheds (le_refl st.steps) k
     flow_falls Stopped l c fs below st w lt k = sheds (le_refl st.steps) k
@@ -118,7 +125,8 @@ module _ (p : Program) (needs : Codes → Needs) (scoped : IsScoped p) (calm : I
         → Holds p needs (record { frames = fs; state = st }) → Ended
 
     abbrev EndsWithin : (n w : ℕ) → Type 0
-    EndsWithin n w = (fs : List (Frame Own)) (st : State Own) → st.steps ≤ n → weight fs < w → IsTask p needs fresh root s (record { frames = fs; state = st })
+    EndsWithin n w = (fs : List (Frame Own)) (st : State Own) → st.steps ≤ n → weight fs < w
+        → IsTask p needs fresh root s (record { frames = fs; state = st })
         → Holds p needs (record { frames = fs; state = st }) → Ended
 
     after_turn : (n w : ℕ) → EndsBelow n → EndsWithin n w → (f : Frame Own) (fs : List (Frame Own)) (st : State Own) → st.steps ≤ n
@@ -159,12 +167,14 @@ module _ (p : Program) (needs : Codes → Needs) (scoped : IsScoped p) (calm : I
         ends (suc fresh) _ _ (omega arith) (begins_task p needs fresh root s is) (begin_holds p needs scoped calm provided fresh s may)
 
   -- ---- the results of all tasks below one
-  pub each_below : (P : TaskResult → Type 0) (results : Child → List TaskResult) (cs : List Child) → Each (IsTrue p needs fresh root) cs → Each (Carries p needs) cs
+  pub each_below : (P : TaskResult → Type 0) (results : Child → List TaskResult) (cs : List Child) → Each (IsTrue p needs fresh root) cs
+      → Each (Carries p needs) cs
       → ((c : Child) → IsTrue p needs fresh root c → Carries p needs c → Each P (results c)) → Each P (flat_map results cs)
   each_below P results [] h k f = tt
   each_below P results (c ∷ cs) h k f = each_append P (results c) (flat_map results cs) (f c h.0 k.0) (each_below P results cs h.1 k.1 f)
 
-  pub below_parted : (n : ℕ) (s : Start) → given p needs fresh root s.path ≡ Some s → MayBegin p needs s → Each IsParted (below p needs fresh n s)
+  pub below_parted : (n : ℕ) (s : Start) → given p needs fresh root s.path ≡ Some s → MayBegin p needs s
+      → Each IsParted (below p needs fresh n s)
   below_parted zero s is may = tt
   below_parted (suc n) s is may =
       each_below IsParted (λ c. result_of (own p needs fresh c.start) ∷ below p needs fresh n c.start) (own p needs fresh s).extra.pending

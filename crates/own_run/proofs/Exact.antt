@@ -1,5 +1,6 @@
 -- What is settled used up the results of all tasks below, and no others.
-use Rattle.std.proofs.Common.{◌≡◌, ℕ, zero, suc, ◌+◌, List, [], ◌∷◌, ◌++◌, length, Option, Some, None, refl, sym, ap, ◌∙◌, subst, append_assoc}
+use Rattle.std.proofs.Common.{◌≡◌, ℕ, zero, suc, ◌+◌, List, [], ◌∷◌, ◌++◌, length, Option, Some, None, refl, sym, ap, ◌∙◌, subst}
+use Rattle.std.proofs.Common.{append_assoc}
 use Rattle.std.proofs.lemmas.List.{append-nil}
 use Rattle.std.specs.Prelude.{Bool, true, false, ◌||◌, map, flat_map, if◌then◌else◌}
 use Rattle.types.specs.Code.{Codes, Program}
@@ -12,7 +13,8 @@ use Rattle.own_run.proofs.Sound.{none_some, some_same, unless_none, gives, taken
 use Rattle.own_run.proofs.Complete.{Stands, stands, lists_none}
 
 -- what was taken stood there
-took : (path : List ℕ) (rs : List TaskResult) (found : TaskResult × List TaskResult) → take path rs ≡ Some found → Inserted found.0 found.1 rs
+took : (path : List ℕ) (rs : List TaskResult) (found : TaskResult × List TaskResult) → take path rs ≡ Some found
+    → Inserted found.0 found.1 rs
 took path [] found e = absurd (none_some e)
 took path (r ∷ rs) found e = by_path (λ f. took path rs f) (same_path r.path path) e
   where
@@ -25,7 +27,8 @@ took path (r ∷ rs) found e = by_path (λ f. took path rs f) (same_path r.path 
 
     by_path : ((f : TaskResult × List TaskResult) → take path rs ≡ Some f → Inserted f.0 f.1 rs)
         → (b : Bool) → (if b then Some (r, rs) else behind r (take path rs)) ≡ Some found → Inserted found.0 found.1 (r ∷ rs)
-    by_path rec true q = let i : (r, rs) ≡ found = some_same q in subst (λ (f : TaskResult × List TaskResult). Inserted f.0 f.1 (r ∷ rs)) i here
+    by_path rec true q = let i : (r, rs) ≡ found =
+        some_same q in subst (λ (f : TaskResult × List TaskResult). Inserted f.0 f.1 (r ∷ rs)) i here
     by_path rec false q = later_one rec (take path rs) refl q
 
 module _ (p : Program) (needs : Codes → Needs) (fresh : ℕ) (root : Start) where
@@ -38,10 +41,13 @@ module _ (p : Program) (needs : Codes → Needs) (fresh : ℕ) (root : Start) wh
 
   abbrev Deep : ℕ → ℕ → Type 0
   Deep k n = (s : Start) → s.nest ≡ n → IsGiven p needs fresh root s → (rs : List TaskResult) → Each (IsOwn p needs fresh root) rs
-      → (x : Settled × List TaskResult) → settle_within k (result_of (own p needs fresh s)) rs ≡ Some x → Used (below p needs fresh n s) rs x.1
+      → (x : Settled × List TaskResult) → settle_within k (result_of (own p needs fresh s)) rs ≡ Some x
+      → Used (below p needs fresh n s) rs x.1
 
-  fill_used : (k n : ℕ) → Deep k n → (owned : Places) (cs : List Child) (so_far : Settled) (rs : List TaskResult) → Each (Stands p needs fresh root n) cs
-      → Each (IsOwn p needs fresh root) rs → (x : Settled × List TaskResult) → fill_all (settle_within k) owned (map (λ c. c.listed) cs) so_far rs ≡ Some x
+  fill_used : (k n : ℕ) → Deep k n → (owned : Places) (cs : List Child) (so_far : Settled) (rs : List TaskResult)
+      → Each (Stands p needs fresh root n) cs
+      → Each (IsOwn p needs fresh root) rs → (x : Settled × List TaskResult)
+      → fill_all (settle_within k) owned (map (λ c. c.listed) cs) so_far rs ≡ Some x
       → Used (flat_map (results n) cs) rs x.1
   fill_used k n deep owned [] so_far rs h all x e ts sh =
       let i : (so_far, rs) ≡ x = some_same e in subst (Shuffled ts) (sym (ap (λ (x : Settled × List TaskResult). x.1) i)) sh
@@ -54,8 +60,12 @@ module _ (p : Program) (needs : Codes → Needs) (fresh : ℕ) (root : Start) wh
       let deeper = ap (λ r. settle_within k r g.one.1) (sym is_own) ∙ f.first in
       let child = deep c.start h.0.nest h.0.is.is g.one.1 t.others f.one deeper in
       let others = (settle_sound p needs fresh root k c.start h.0.is.is g.one.1 t.others f.one deeper).others in
-      let tail = fill_used k n deep (λ q. owned q || within c.listed.windows q) cs (fill c.listed f.one.0 so_far) f.one.1 h.1 others x f.next ts sh in
-      let whole = one (subst (λ r. Inserted r g.one.1 rs) is_own (took c.listed.path rs g.one g.first)) (child (flat_map (results n) cs ++ ts) tail) in
+      let tail =
+      fill_used k n deep (λ q. owned q || within c.listed.windows q) cs
+      (fill c.listed f.one.0 so_far) f.one.1 h.1 others x f.next ts sh in
+      let whole =
+      one (subst (λ r. Inserted r g.one.1 rs) is_own (took c.listed.path rs g.one g.first))
+      (child (flat_map (results n) cs ++ ts) tail) in
       subst (λ l. Shuffled (r ∷ l) rs) (sym (append_assoc (below p needs fresh n c.start) (flat_map (results n) cs) ts)) whole
 
   settle_used : (k n : ℕ) → Deep k n
@@ -64,13 +74,17 @@ module _ (p : Program) (needs : Codes → Needs) (fresh : ℕ) (root : Start) wh
       let end = own p needs fresh s in
       let g = gives (fill_all (settle_within k) end.extra.owned (map (λ c. c.listed) end.extra.pending) none_yet rs) _ x q in
       let nothing : Some (none_yet, rs) ≡ Some g.one =
-      ap (λ (cs : List Child). fill_all (settle_within k) end.extra.owned (map (λ c. c.listed) cs) none_yet rs) (sym (lists_none p needs fresh root s e)) ∙ g.first in
-      let same : rs ≡ x.1 = ap (λ (y : Settled × List TaskResult). y.1) (some_same nothing) ∙ ap (λ (y : Settled × List TaskResult). y.1) (some_same g.next) in
+      ap (λ (cs : List Child). fill_all (settle_within k) end.extra.owned (map (λ c. c.listed) cs) none_yet rs)
+      (sym (lists_none p needs fresh root s e)) ∙ g.first in
+      let same : rs ≡ x.1 =
+      ap (λ (y : Settled × List TaskResult). y.1) (some_same nothing)
+      ∙ ap (λ (y : Settled × List TaskResult). y.1) (some_same g.next) in
       λ ts sh. subst (Shuffled ts) (sym same) sh
   settle_used (suc k) (suc n) s e is rs all x q =
       let end = own p needs fresh s in
       let g = gives (fill_all (settle_within k) end.extra.owned (map (λ c. c.listed) end.extra.pending) none_yet rs) _ x q in
-      let u = fill_used k n (settle_used k n) end.extra.owned end.extra.pending none_yet rs (stands p needs fresh root n s e is) all g.one g.first in
+      let u = fill_used k n (settle_used k n) end.extra.owned end.extra.pending none_yet rs
+      (stands p needs fresh root n s e is) all g.one g.first in
       λ ts sh. u ts (subst (Shuffled ts) (sym (ap (λ (y : Settled × List TaskResult). y.1) (some_same g.next))) sh)
 
   all_used : (x : Settled × List TaskResult) (y : Settled) → none_left x ≡ Some y → x.1 ≡ []
@@ -83,4 +97,5 @@ module _ (p : Program) (needs : Codes → Needs) (fresh : ℕ) (root : Start) wh
   own_exact s is rs all x e =
       let g = gives (settle_within (length rs + 1) (result_of (own p needs fresh s)) rs) none_left x e in
       let u = settle_used (length rs + 1) s.nest s refl is rs all g.one g.first in
-      subst (λ l. Shuffled l rs) (append-nil (below p needs fresh s.nest s)) (u [] (subst (Shuffled []) (sym (all_used g.one x g.next)) none))
+      subst (λ l. Shuffled l rs) (append-nil (below p needs fresh s.nest s))
+      (u [] (subst (Shuffled []) (sym (all_used g.one x g.next)) none))

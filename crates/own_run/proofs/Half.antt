@@ -4,12 +4,14 @@ use Rattle.std.proofs.lemmas.Bool.{or_left, or_right, or_from}
 use Rattle.std.proofs.lemmas.List.Elements.{Contains-append_left, Contains-append_right}
 use Rattle.std.specs.Prelude.{ℤ, ◌⊎◌, Bool, true, false, Contains, flat_map, map, ok_or, if◌then◌else◌}
 use Rattle.types.specs.declared.fault.FaultKind.TheVariants.{SplitPoint, Raised}
-use Rattle.types.specs.Code.{Number, Truth, Primitive, Skip, Assign, Store, Print, Raise, Code, Do, If, While, Split, Call, Async, Finish, Codes, End, Then, Program}
+use Rattle.types.specs.Code.{Number, Truth, Primitive, Skip, Assign, Store, Print, Raise, Code, Do, If, While, Split, Call, Async, Finish}
+use Rattle.types.specs.Code.{Codes, End, Then, Program}
 use Rattle.types.specs.Place.{Window, Place, In, sides_of}
 use Rattle.types.specs.Contents.{Contents}
 use Rattle.types.specs.Value.{element_of, holds_number}
 use Rattle.types.specs.Indexed.{indexed, indexed_truth}
-use Rattle.types.specs.Run.{Flow, On, Faulted, Stopped, Work, Block, Turn, Rules, window_at, entry, with_sides, array_of, procedure_of, counted, act, block, work, within}
+use Rattle.types.specs.Run.{Flow, On, Faulted, Stopped, Work, Block, Turn, Rules, window_at, entry, with_sides, array_of, procedure_of}
+use Rattle.types.specs.Run.{counted, act, block, work, within}
 use Rattle.types.specs.Meaning.{hushed, joined, child, after_async, after_body, after_finish, one_rules_by, begin_one}
 use Rattle.effects.specs.Accesses.{Access, own_accesses}
 use Rattle.effects.specs.Member.{Member, first, next}
@@ -92,7 +94,8 @@ module _ (p : Program) (needs : Codes → Needs) where
     }
 
     -- a block of a statement, in the same scope
-    pub part_ready : (b : Codes) → ((y : Access) → All p accesses b y → AllOf p accesses l s y) → ((y : Access) → Pending p accesses b y → PendingOf p accesses s y)
+    pub part_ready : (b : Codes) → ((y : Access) → All p accesses b y → AllOf p accesses l s y)
+        → ((y : Access) → Pending p accesses b y → PendingOf p accesses s y)
         → Scoped p x.scope b → Calm p x.scope b → ProvidesIn p needs b → ReadyOf p needs x locked final l s → Ready p needs x locked final b
     part_ready b all pending scoped calm provided r = record {
       fits = r.fits;
@@ -107,13 +110,15 @@ module _ (p : Program) (needs : Codes → Needs) where
     }
 
     -- the sections that a statement's own expressions index
-    readable : (ss : List ℕ) → ReadyOf p needs x locked final l s → ((t : ℕ) → Contains ss t → Member (record { label = l; section = t; write = false }) (own_accesses l s))
+    readable : (ss : List ℕ) → ReadyOf p needs x locked final l s
+        → ((t : ℕ) → Contains ss t → Member (record { label = l; section = t; write = false }) (own_accesses l s))
         → Readable x locked ss
     readable ss r h t c =
         let m = h t c in (
           r.names _ m,
           λ q i.
-              let at : Touches x.env (AllOf p accesses l s) q = record { access = record { label = l; section = t; write = false }; among = AllOf.own_access m; place = i } in
+              let at : Touches x.env (AllOf p accesses l s) q =
+              record { access = record { label = l; section = t; write = false }; among = AllOf.own_access m; place = i } in
               (r.held q at, r.free q at),
         )
 
@@ -136,7 +141,8 @@ module _ (p : Program) (needs : Codes → Needs) where
   }
 
   -- ---- a split
-  module _ (x : Around) (locked final : Set) (l : ℕ) (s : ℕ) (e : Number) (u v : ℕ) (b : Codes) (r : ReadyOf p needs x locked final l (Split s e u v b))
+  module _ (x : Around) (locked final : Set) (l : ℕ) (s : ℕ) (e : Number) (u v : ℕ) (b : Codes)
+      (r : ReadyOf p needs x locked final l (Split s e u v b))
       (at : ℤ) (ws : Window × Window) (cut : sides_of (x.env.windows s) at ≡ Some ws) where
     abbrev pub within_split : Around
     within_split = record x { scope = Inside s u v x.scope; env = with_sides u v ws x.env }
@@ -145,7 +151,13 @@ module _ (p : Program) (needs : Codes → Needs) where
     outward q z i = let k = sides_in (x.env.windows s) at ws.0 ws.1 cut q in split_in s u v ws.0 ws.1 x.env.windows q k.0 k.1 z i
 
     touches_outward : (q : Place) → Touches within_split.env (All p accesses b) q → Touches x.env (AllOf p accesses l (Split s e u v b)) q
-    touches_outward q t = record { access = renamed (past_split s u v) t.access; among = AllOf.inner split t.among refl; place = outward q t.access.section t.place }
+    touches_outward q t =
+        record {
+          access = renamed (past_split s u v) t.access;
+          among = AllOf.inner split t.among refl;
+          place =
+              outward q t.access.section t.place;
+        }
 
     pub split_ready : Ready p needs within_split locked final b
     split_ready = record {
@@ -155,13 +167,28 @@ module _ (p : Program) (needs : Codes → Needs) where
       provided = r.provided;
       free = λ q t. r.free q (touches_outward q t);
       held = λ q t. r.held q (touches_outward q t);
-      wrote = λ q t. r.wrote q (record { access = renamed (past_split s u v) t.access; among = AllOf.inner split t.among refl; place = outward q t.access.section t.place; writes = t.writes });
+      wrote = λ q t. r.wrote q
+          (record {
+            access = renamed (past_split s u v) t.access;
+            among = AllOf.inner split t.among refl;
+            place =
+                outward q t.access.section t.place;
+            writes = t.writes;
+          });
       kept = r.kept;
-      added = λ q t. r.added q (record { access = renamed (past_split s u v) t.access; among = PendingOf.inner split t.among refl; place = outward q t.access.section t.place; writes = t.writes });
+      added = λ q t. r.added q
+          (record {
+            access = renamed (past_split s u v) t.access;
+            among = PendingOf.inner split t.among refl;
+            place =
+                outward q t.access.section t.place;
+            writes = t.writes;
+          });
     }
 
     enter_split : (o : S) (a : A) → Same x locked o a
-        → Same within_split locked (record o { environment = with_sides u v ws o.environment }) (record a { environment = with_sides u v ws a.environment })
+        → Same within_split locked (record o { environment = with_sides u v ws o.environment })
+        (record a { environment = with_sides u v ws a.environment })
     enter_split o a k = record {
       flow = k.flow;
       environment = ap (with_sides u v ws) k.environment;
@@ -203,11 +230,13 @@ module _ (p : Program) (needs : Codes → Needs) where
     leave_split_agree o a (both_stop e y) = both_stop e y
 
   -- ---- a call
-  module _ (x : Around) (locked final : Set) (l f : ℕ) (es : List Number) (ss : List ℕ) (r : ReadyOf p needs x locked final l (Call f es ss)) where
+  module _ (x : Around) (locked final : Set) (l f : ℕ) (es : List Number) (ss : List ℕ)
+      (r : ReadyOf p needs x locked final l (Call f es ss)) where
     abbrev pub within_call : Around
     within_call = record x { scope = Top (may_writes (procedure_of p f)); env = entry [] (map x.env.windows ss) }
 
-    pub call_ready : Scoped p (Top (may_writes (procedure_of p f))) (procedure_of p f).body → Calm p (Top (may_writes (procedure_of p f))) (procedure_of p f).body
+    pub call_ready : Scoped p (Top (may_writes (procedure_of p f))) (procedure_of p f).body
+        → Calm p (Top (may_writes (procedure_of p f))) (procedure_of p f).body
         → ProvidesIn p needs (procedure_of p f).body → Ready p needs within_call locked final (procedure_of p f).body
     call_ready scoped calm provided = record {
       fits = r.calm x.env r.fits;
@@ -216,16 +245,38 @@ module _ (p : Program) (needs : Codes → Needs) where
       provided = provided;
       free = λ q t. r.free q (around q t);
       held = λ q t. r.held q (around q t);
-      wrote = λ q t. r.wrote q (record { access = renamed (past_call ss) t.access; among = AllOf.inner call t.among refl; place = call_in x.env.windows q ss t.access.section t.place; writes = t.writes });
+      wrote = λ q t. r.wrote q
+          (record {
+            access = renamed (past_call ss) t.access;
+            among = AllOf.inner call t.among refl;
+            place =
+                call_in x.env.windows q ss t.access.section t.place;
+            writes = t.writes;
+          });
       kept = r.kept;
-      added = λ q t. r.added q (record { access = renamed (past_call ss) t.access; among = PendingOf.inner call t.among refl; place = call_in x.env.windows q ss t.access.section t.place; writes = t.writes });
+      added = λ q t. r.added q
+          (record {
+            access = renamed (past_call ss) t.access;
+            among = PendingOf.inner call t.among refl;
+            place =
+                call_in x.env.windows q ss t.access.section t.place;
+            writes = t.writes;
+          });
     }
       where
-        around : (q : Place) → Touches within_call.env (All p accesses (procedure_of p f).body) q → Touches x.env (AllOf p accesses l (Call f es ss)) q
-        around q t = record { access = renamed (past_call ss) t.access; among = AllOf.inner call t.among refl; place = call_in x.env.windows q ss t.access.section t.place }
+        around : (q : Place) → Touches within_call.env (All p accesses (procedure_of p f).body) q
+            → Touches x.env (AllOf p accesses l (Call f es ss)) q
+        around q t =
+            record {
+              access = renamed (past_call ss) t.access;
+              among = AllOf.inner call t.among refl;
+              place =
+                  call_in x.env.windows q ss t.access.section t.place;
+            }
 
     enter_call : (vs : List ℤ) (o : S) (a : A) → Same x locked o a
-        → Same within_call locked (record o { environment = entry vs (map (window_at o) ss) }) (record a { environment = entry vs (map (window_at a) ss) })
+        → Same within_call locked (record o { environment = entry vs (map (window_at o) ss) })
+        (record a { environment = entry vs (map (window_at a) ss) })
     enter_call vs o a k = record {
       flow = k.flow;
       environment = ap (λ env. entry vs (map env.windows ss)) k.environment;
@@ -265,7 +316,8 @@ module _ (p : Program) (needs : Codes → Needs) where
   alone x base held b = record x { base = base; wrote = Overwrites x.env (All p accesses b); held = held }
 
   pub lone_ready : (x : Around) (base : Contents) (held : Set) (b : Codes) → FitsScope x.scope x.env → Scoped p x.scope b → Calm p x.scope b
-      → ProvidesIn p needs b → ((q : Place) → Touches x.env (All p accesses b) q → held q) → Ready p needs (alone x base held b) nowhere (Overwrites x.env (Pending p accesses b)) b
+      → ProvidesIn p needs b → ((q : Place) → Touches x.env (All p accesses b) q → held q)
+      → Ready p needs (alone x base held b) nowhere (Overwrites x.env (Pending p accesses b)) b
   lone_ready x base held b fits scoped calm provided h = record {
     fits = fits;
     scoped = scoped;
@@ -306,7 +358,8 @@ module _ (p : Program) (needs : Codes → Needs) where
         }
 
     window_of : (y : Access) → All p accesses b y → x.env.windows y.section ≡ a.environment.windows y.section
-    window_of y m = sym (k.windows y.section (named_all p procedures x.scope b y r.scoped m)) ∙ ap (λ env. env.windows y.section) k.environment
+    window_of y m =
+        sym (k.windows y.section (named_all p procedures x.scope b y r.scoped m)) ∙ ap (λ env. env.windows y.section) k.environment
 
     overwrites_written : (q : Place) → Overwrites x.env (All p accesses b) q → written a.environment n q ≡ true
     overwrites_written q t =
@@ -348,7 +401,8 @@ module _ (p : Program) (needs : Codes → Needs) where
     async_ready = lone_ready x o.store (Touches x.env (All p accesses b)) b r.fits r.scoped r.calm r.provided.1 (λ q t. t)
 
     -- what the body wrote is set aside, and what it didn't stays
-    aside_at : (w : Bool) (new old c mine : Option ℤ) → (w ≡ true → new ≡ c) → (w ≡ true → old ≡ None) → (w ≡ false → new ≡ or_else old mine)
+    aside_at : (w : Bool) (new old c mine : Option ℤ) → (w ≡ true → new ≡ c) → (w ≡ true → old ≡ None)
+        → (w ≡ false → new ≡ or_else old mine)
         → new ≡ or_else (or_else (if w then c else None) old) (if w then None else mine)
     aside_at true new old c mine f g h =
         f refl ∙ sym (else_none c) ∙ ap (λ v. or_else v None) (sym (else_none c) ∙ ap (or_else c) (sym (g refl)))
@@ -385,7 +439,8 @@ module _ (p : Program) (needs : Codes → Needs) where
             (k.out q (λ j. m (r.kept q j)));
       }
 
-      async_same : (f : Flow) → oo.flow ≡ f → Same within_async (Overwrites x.env (Pending p accesses b)) oo aa → Agree x final (after_body o oo) (set_aside n a aa)
+      async_same : (f : Flow) → oo.flow ≡ f → Same within_async (Overwrites x.env (Pending p accesses b)) oo aa
+          → Agree x final (after_body o oo) (set_aside n a aa)
       async_same On e h = same (async_ends h (not_stopped oo.flow aa.flow h.flow (ap is_stopped e)) (ap after_async e))
       async_same Faulted e h = same (async_ends h (not_stopped oo.flow aa.flow h.flow (ap is_stopped e)) (ap after_async e))
       async_same Stopped e h =
@@ -397,7 +452,8 @@ module _ (p : Program) (needs : Codes → Needs) where
       async_agrees (both_stop e y) = both_stop (ap after_async e) (or_right a.extra.halted (halts aa) y)
 
   -- ---- a finish
-  module _ (x : Around) (locked final : Set) (l : ℕ) (b : Codes) (r : ReadyOf p needs x locked final l (Finish b)) (o : S) (a : A) (k : Same x locked o a) where
+  module _ (x : Around) (locked final : Set) (l : ℕ) (b : Codes) (r : ReadyOf p needs x locked final l (Finish b)) (o : S) (a : A)
+      (k : Same x locked o a) where
     -- what no task pending before it has made
     abbrev vacant : Set
     vacant q = (a.extra.contents q ≡ None) × x.held q
@@ -409,7 +465,9 @@ module _ (p : Program) (needs : Codes → Needs) where
     of_finish q t = touches_more x.env _ _ q (λ y h. AllOf.finish h) t
 
     pub finish_ready : Ready p needs within_finish nowhere (Overwrites x.env (Pending p accesses b)) b
-    finish_ready = lone_ready x o.store vacant b r.fits r.scoped r.calm r.provided (λ q t. (k.out q (r.free q (of_finish q t)), r.held q (of_finish q t)))
+    finish_ready =
+        lone_ready x o.store vacant b r.fits r.scoped r.calm r.provided
+        (λ q t. (k.out q (r.free q (of_finish q t)), r.held q (of_finish q t)))
 
     pub enter_same : Same within_finish nowhere (hushed o) (record (hushed a) { extra = nothing })
     enter_same = record {
@@ -431,10 +489,12 @@ module _ (p : Program) (needs : Codes → Needs) where
       abbrev left : S
       left = joined o (record oo { flow = after_finish oo.flow oo.faults })
 
-      stays_here : (q : Place) → (Overwrites x.env (All p accesses b) q → ⊥) → Same within_finish (Overwrites x.env (Pending p accesses b)) oo aa → oo.store q ≡ o.store q
+      stays_here : (q : Place) → (Overwrites x.env (All p accesses b) q → ⊥)
+          → Same within_finish (Overwrites x.env (Pending p accesses b)) oo aa → oo.store q ≡ o.store q
       stays_here q m h = h.stays q m
 
-      leave_store : Same within_finish (Overwrites x.env (Pending p accesses b)) oo aa → (q : Place) → x.held q → oo.store q ≡ or_else (a.extra.contents q) (merged aa q)
+      leave_store : Same within_finish (Overwrites x.env (Pending p accesses b)) oo aa → (q : Place) → x.held q
+          → oo.store q ≡ or_else (a.extra.contents q) (merged aa q)
       leave_store h q t = by_aside (a.extra.contents q) refl
         where
           by_aside : (v : Option ℤ) → a.extra.contents q ≡ v → oo.store q ≡ or_else v (merged aa q)
@@ -454,7 +514,8 @@ module _ (p : Program) (needs : Codes → Needs) where
       flow_alive true f g q e = absurd (false_true (sym q))
       flow_alive false f g q e = e
 
-      finish_ends : Same within_finish (Overwrites x.env (Pending p accesses b)) oo aa → is_stopped aa.flow ≡ false → Same x final left (gather a aa)
+      finish_ends : Same within_finish (Overwrites x.env (Pending p accesses b)) oo aa → is_stopped aa.flow ≡ false
+          → Same x final left (gather a aa)
       finish_ends h q = record {
         flow = flow_alive (halts aa) (after_finish oo.flow oo.faults) (after_finish aa.flow aa.faults)
             (or_from (is_stopped aa.flow) aa.extra.halted q h.alive)
@@ -481,7 +542,8 @@ module _ (p : Program) (needs : Codes → Needs) where
           both_stop (ap (λ f. after_finish f oo.faults) e)
           (or_left (is_stopped (gather a aa).flow) a.extra.halted (stopped_flow (halts aa) (after_finish aa.flow aa.faults) y))
 
-      finish_same : (f : Flow) → oo.flow ≡ f → Same within_finish (Overwrites x.env (Pending p accesses b)) oo aa → Agree x final left (gather a aa)
+      finish_same : (f : Flow) → oo.flow ≡ f → Same within_finish (Overwrites x.env (Pending p accesses b)) oo aa
+          → Agree x final left (gather a aa)
       finish_same On e h = same (finish_ends h (not_stopped oo.flow aa.flow h.flow (ap is_stopped e)))
       finish_same Faulted e h = same (finish_ends h (not_stopped oo.flow aa.flow h.flow (ap is_stopped e)))
       finish_same Stopped e h = finish_stops e (or_left (is_stopped aa.flow) aa.extra.halted (ap is_stopped (sym h.flow ∙ e)))
@@ -495,7 +557,8 @@ module _ (p : Program) (needs : Codes → Needs) where
   code_of (Block b) = b
   code_of (Turn l t b) = Then l (While t b) End
 
-  pub relock : (x : Around) (locked final : Set) (l : ℕ) (s : Code) → ReadyOf p needs x locked final l s → ReadyOf p needs x locked (behind x locked s) l s
+  pub relock : (x : Around) (locked final : Set) (l : ℕ) (s : Code) → ReadyOf p needs x locked final l s
+      → ReadyOf p needs x locked (behind x locked s) l s
   relock x locked final l s r = record {
     fits = r.fits;
     names = r.names;
@@ -509,8 +572,10 @@ module _ (p : Program) (needs : Codes → Needs) where
     added = λ q. inr;
   }
 
-  module _ (is_scoped : IsScoped p) (is_calm : IsCalm p) (provides : Provides p needs) (begin : Codes → S → S) (start : Codes → A → A) (marks : (b : Codes) → Marks (start b))
-      (begin_sim : (b : Codes) (l : ℕ) (x : Around) (locked final : Set) → ReadyOf p needs x locked final l (Async b) → (o : S) (a : A) → Same x locked o a
+  module _ (is_scoped : IsScoped p) (is_calm : IsCalm p) (provides : Provides p needs) (begin : Codes → S → S) (start : Codes → A → A)
+      (marks : (b : Codes) → Marks (start b))
+      (begin_sim : (b : Codes) (l : ℕ) (x : Around) (locked final : Set) → ReadyOf p needs x locked final l (Async b) → (o : S) (a : A)
+      → Same x locked o a
       → Agree x final (begin b o) (start b a)) where
     abbrev r1 : Rules (Unit {0})
     r1 = one_rules_by begin
@@ -530,62 +595,83 @@ module _ (p : Program) (needs : Codes → Needs) where
       store_sim : (l s : ℕ) (i v : Number) → ActSim l (Do (Store s i v))
       store_sim l s i v x locked final r o a k =
           let wide = widen x locked final o a r.kept k in
-          let reads_i = readable x locked final l (Do (Store s i v)) (indexed i) r (λ t c. next (read_listed l t _ (Contains-append_left (indexed i) (indexed v) t c))) in
-          let reads_v = readable x locked final l (Do (Store s i v)) (indexed v) r (λ t c. next (read_listed l t _ (Contains-append_right (indexed i) (indexed v) t c))) in
+          let reads_i =
+          readable x locked final l (Do (Store s i v)) (indexed i) r
+          (λ t c. next (read_listed l t _ (Contains-append_left (indexed i) (indexed v) t c))) in
+          let reads_v =
+          readable x locked final l (Do (Store s i v)) (indexed v) r
+          (λ t c. next (read_listed l t _ (Contains-append_right (indexed i) (indexed v) t c))) in
           let y : Access = record { label = l; section = s; write = true } in
           let here : Member y (own_accesses l (Do (Store s i v))) = first in
           value_same x final o a l _ _ _ _ (number_alike x locked o a k i reads_i) wide (λ at _.
           value_same x final o a l _ _ _ _ (number_alike x locked o a k v reads_v) wide (λ n _.
           value_same x final o a l _ _ _ _ (ap (λ env. element_of (env.windows s) at) k.environment) wide (λ q is.
           let place : In (x.env.windows s) q = subst (λ w. In w q) (k.windows s (r.names y here)) (element_in (window_at o s) at q is) in
-          let touch : Touches x.env (AllOf p accesses l (Do (Store s i v))) q = record { access = y; among = AllOf.own_access here; place = place } in
-          let over : Overwrites x.env (AllOf p accesses l (Do (Store s i v))) q = record { access = y; among = AllOf.own_access here; place = place; writes = refl } in
+          let touch : Touches x.env (AllOf p accesses l (Do (Store s i v))) q =
+          record { access = y; among = AllOf.own_access here; place = place } in
+          let over : Overwrites x.env (AllOf p accesses l (Do (Store s i v))) q =
+          record { access = y; among = AllOf.own_access here; place = place; writes = refl } in
           same (widen x locked final _ _ r.kept
           (put_same x locked o a k l (holds_number (array_of p q.array).element n) q n (r.free q touch) (r.wrote q over))))))
 
       primitive_sim : (l : ℕ) (s : Primitive) → ActSim l (Do s)
       primitive_sim l Skip x locked final r o a k = same (widen x locked final o a r.kept k)
       primitive_sim l (Assign n v) x locked final r o a k =
-          value_same x final o a l _ _ _ _ (number_alike x locked o a k v (readable x locked final l _ (indexed v) r (λ t c. read_listed l t _ c)))
+          value_same x final o a l _ _ _ _
+          (number_alike x locked o a k v (readable x locked final l _ (indexed v) r (λ t c. read_listed l t _ c)))
           (widen x locked final o a r.kept k) (λ y _. same (widen x locked final _ _ r.kept (assign_same x locked o a k n y)))
       primitive_sim l (Store s i v) x locked final r o a k = store_sim l s i v x locked final r o a k
       primitive_sim l (Print es) x locked final r o a k =
-          value_same x final o a l _ _ _ _ (numbers_alike x locked o a k es (readable x locked final l _ (flat_map indexed es) r (λ t c. read_listed l t _ c)))
+          value_same x final o a l _ _ _ _
+          (numbers_alike x locked o a k es (readable x locked final l _ (flat_map indexed es) r (λ t c. read_listed l t _ c)))
           (widen x locked final o a r.kept k) (λ vs _. same (widen x locked final _ _ r.kept (print_same x locked o a k vs)))
       primitive_sim l (Raise v) x locked final r o a k =
-          value_same x final o a l _ _ _ _ (number_alike x locked o a k v (readable x locked final l _ (indexed v) r (λ t c. read_listed l t _ c)))
+          value_same x final o a l _ _ _ _
+          (number_alike x locked o a k v (readable x locked final l _ (indexed v) r (λ t c. read_listed l t _ c)))
           (widen x locked final o a r.kept k) (λ y _. same (widen x locked final _ _ r.kept (fault_same x locked o a l (Raised y) k)))
 
       mutual
         act_sim : (s : Code) (l : ℕ) → ActSim l s
         act_sim (Do s) l x locked final r o a k = primitive_sim l s x locked final r o a k
         act_sim (If t b c) l x locked final r o a k =
-            value_same x final o a l _ _ _ _ (truth_alike x locked o a k t (readable x locked final l _ (indexed_truth t) r (λ u m. read_listed l u _ m)))
+            value_same x final o a l _ _ _ _
+            (truth_alike x locked o a k t (readable x locked final l _ (indexed_truth t) r (λ u m. read_listed l u _ m)))
             (widen x locked final o a r.kept k) (λ v _.
             choose_same x final o a v _ _ _ _
-            (block_sim b x locked final (part_ready x locked final l _ b (λ y h. AllOf.inner if_body h refl) (λ y h. PendingOf.inner if_body h refl) r.scoped.0 r.calm.0 r.provided.0 r) o a k)
-            (block_sim c x locked final (part_ready x locked final l _ c (λ y h. AllOf.inner if_other h refl) (λ y h. PendingOf.inner if_other h refl) r.scoped.1 r.calm.1 r.provided.1 r) o a k))
+            (block_sim b x locked final
+            (part_ready x locked final l _ b (λ y h. AllOf.inner if_body h refl)
+            (λ y h. PendingOf.inner if_body h refl) r.scoped.0 r.calm.0 r.provided.0 r) o a k)
+            (block_sim c x locked final
+            (part_ready x locked final l _ c (λ y h. AllOf.inner if_other h refl)
+            (λ y h. PendingOf.inner if_other h refl) r.scoped.1 r.calm.1 r.provided.1 r) o a k))
         act_sim (While t b) l x locked final r o a k =
             let mid = behind x locked (While t b) in
-            value_same x final o a l _ _ _ _ (truth_alike x locked o a k t (readable x locked final l _ (indexed_truth t) r (λ u m. read_listed l u _ m)))
+            value_same x final o a l _ _ _ _
+            (truth_alike x locked o a k t (readable x locked final l _ (indexed_truth t) r (λ u m. read_listed l u _ m)))
             (widen x locked final o a r.kept k) (λ v _.
             choose_same x final o a v _ _ _ _
-            (then_same x mid final (block p r1 d b o) (block p r2 e b a) (d (Turn l t b)) (e (Turn l t b)) (dies (e (Turn l t b)) (e_marks (Turn l t b)))
+            (then_same x mid final (block p r1 d b o) (block p r2 e b a) (d (Turn l t b)) (e (Turn l t b))
+            (dies (e (Turn l t b)) (e_marks (Turn l t b)))
             (λ q m. elim m as (λ _. final q) [ inl h ↦ r.kept q h | inr h ↦ r.added q h ])
-            (block_sim b x locked mid (part_ready x locked mid l _ b (λ y h. AllOf.inner while h refl) (λ y h. PendingOf.inner while h refl) r.scoped r.calm.0 r.provided (relock x locked final l _ r)) o a k)
+            (block_sim b x locked mid
+            (part_ready x locked mid l _ b (λ y h. AllOf.inner while h refl)
+            (λ y h. PendingOf.inner while h refl) r.scoped r.calm.0 r.provided (relock x locked final l _ r)) o a k)
             (λ h. sim (Turn l t b) x mid final (again_ready x locked final l t b r) (block p r1 d b o) (block p r2 e b a) h))
             (same (widen x locked final o a r.kept k)))
         act_sim (Split s n u v b) l x locked final r o a k =
-            value_same x final o a l _ _ _ _ (number_alike x locked o a k n (readable x locked final l _ (indexed n) r (λ t c. read_listed l t _ c)))
+            value_same x final o a l _ _ _ _
+            (number_alike x locked o a k n (readable x locked final l _ (indexed n) r (λ t c. read_listed l t _ c)))
             (widen x locked final o a r.kept k) (λ at _.
             value_same x final o a l _ _ _ _ (ap (λ env. ok_or (sides_of (env.windows s) at) SplitPoint) k.environment)
             (widen x locked final o a r.kept k) (λ ws is.
             let cut = ap (λ w. sides_of w at) (sym (k.windows s r.scoped.0)) ∙ sides_some (sides_of (window_at o s) at) ws is in
             leave_split_agree x locked final l s n u v b r at ws cut _ _
-            (block_sim b (within_split x locked final l s n u v b r at ws cut) locked final (split_ready x locked final l s n u v b r at ws cut) _ _
+            (block_sim b (within_split x locked final l s n u v b r at ws cut) locked final
+            (split_ready x locked final l s n u v b r at ws cut) _ _
             (enter_split x locked final l s n u v b r at ws cut o a k))))
         act_sim (Call f es ss) l x locked final r o a k =
-            value_same x final o a l _ _ _ _ (numbers_alike x locked o a k es (readable x locked final l _ (flat_map indexed es) r (λ t c. read_listed l t _ c)))
+            value_same x final o a l _ _ _ _
+            (numbers_alike x locked o a k es (readable x locked final l _ (flat_map indexed es) r (λ t c. read_listed l t _ c)))
             (widen x locked final o a r.kept k) (λ vs _.
             leave_call x locked final l f es ss r o _ a _ k
             (sim (Block (procedure_of p f).body) (within_call x locked final l f es ss r) locked final
@@ -594,7 +680,8 @@ module _ (p : Program) (needs : Codes → Needs) where
         act_sim (Async b) l x locked final r o a k = begin_sim b l x locked final r o a k
         act_sim (Finish b) l x locked final r o a k =
             finish_agrees x locked final l b r o a k _ _
-            (block_sim b (within_finish x locked final l b r o a k) nowhere (Overwrites x.env (Pending p accesses b)) (finish_ready x locked final l b r o a k) _ _
+            (block_sim b (within_finish x locked final l b r o a k) nowhere (Overwrites x.env (Pending p accesses b))
+            (finish_ready x locked final l b r o a k) _ _
             (enter_same x locked final l b r o a k))
 
         block_sim : (b : Codes) (x : Around) (locked final : Set) → Ready p needs x locked final b → (o : S) (a : A) → Same x locked o a
@@ -610,7 +697,8 @@ module _ (p : Program) (needs : Codes → Needs) where
       work_sim : Sim (work p r1 d) (work p r2 e)
       work_sim (Block b) x locked final r o a k = block_sim b x locked final r o a k
       work_sim (Turn l t b) x locked final r o a k =
-          step_same x locked final o a _ _ k (λ u v h. act_sim (While t b) l x locked final (alone_ready x locked final l (While t b) r) u v h)
+          step_same x locked final o a _ _ k
+          (λ u v h. act_sim (While t b) l x locked final (alone_ready x locked final l (While t b) r) u v h)
 
     pub within_sim : (k : ℕ) → Sim (within p r1 k) (within p r2 k)
     within_sim zero w x locked final r o a k = both_stop refl refl
@@ -618,12 +706,14 @@ module _ (p : Program) (needs : Codes → Needs) where
         work_sim (within p r1 n) (within p r2 n) (within_marks start marks p n) (within_sim n) w x locked final r o a k
 
   module _ (is_scoped : IsScoped p) (is_calm : IsCalm p) (provides : Provides p needs) (fresh : ℕ) where
-    pub begins : (nest : ℕ) (b : Codes) (l : ℕ) (x : Around) (locked final : Set) → ReadyOf p needs x locked final l (Async b) → (o : S) (a : A) → Same x locked o a
+    pub begins : (nest : ℕ) (b : Codes) (l : ℕ) (x : Around) (locked final : Set) → ReadyOf p needs x locked final l (Async b)
+        → (o : S) (a : A) → Same x locked o a
         → Agree x final (begin_one p fresh nest b o) (begin_apart p needs fresh nest b a)
     begins zero b l x locked final r o a k = both_stop refl refl
     begins (suc n) b l x locked final r o a k =
         async_agrees is_scoped.procedures fresh x locked final l b r o a k _ _
-        (within_sim is_scoped is_calm provides (begin_one p fresh n) (begin_apart p needs fresh n) (begin_marks p needs fresh n) (begins n) (fresh + 1) (Block b)
+        (within_sim is_scoped is_calm provides (begin_one p fresh n) (begin_apart p needs fresh n) (begin_marks p needs fresh n) (begins n)
+        (fresh + 1) (Block b)
         (within_async is_scoped.procedures fresh x locked final l b r o a k) nowhere (Overwrites x.env (Pending p accesses b))
         (async_ready is_scoped.procedures fresh x locked final l b r o a k) _ _
         (child_same is_scoped.procedures fresh x locked final l b r o a k))

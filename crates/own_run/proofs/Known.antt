@@ -1,5 +1,6 @@
 -- What a task lists, it has begun, each under a path of its own; and where all is handed over it never waits.
-use Rattle.std.proofs.Common.{◌≡◌, ℕ, zero, suc, ◌+◌, List, [], ◌∷◌, ◌++◌, length, Option, Some, None, refl, sym, ap, ◌∙◌, subst, arith, append_assoc}
+use Rattle.std.proofs.Common.{◌≡◌, ℕ, zero, suc, ◌+◌, List, [], ◌∷◌, ◌++◌, length, Option, Some, None, refl, sym, ap, ◌∙◌, subst, arith}
+use Rattle.std.proofs.Common.{append_assoc}
 use Rattle.std.proofs.lemmas.List.{append-nil}
 use Rattle.std.specs.Prelude.{Bool, true, false, slice_get, if◌then◌else◌}
 use Rattle.types.specs.Code.{Codes, Program}
@@ -78,7 +79,9 @@ module _ (nest : ℕ) where
   quiet st to a none path spawned more pending h = record {
     counted =
         ap (λ acts. length (begun_by acts)) more
-        ∙ ap length (begun_by-append st.extra.actions (a ∷ []) ∙ ap (λ ss. begun_by st.extra.actions ++ ss) none ∙ append-nil (begun_by st.extra.actions))
+        ∙ ap length
+        (begun_by-append st.extra.actions (a ∷ []) ∙ ap (λ ss. begun_by st.extra.actions ++ ss) none
+        ∙ append-nil (begun_by st.extra.actions))
         ∙ h.counted ∙ sym spawned;
     begun = subst (λ cs. Each (IsBegun nest to) cs) (sym pending)
         (each_more (IsBegun nest st) (IsBegun nest to) st.extra.pending (λ c. still_begun st to c path (a ∷ []) more) h.begun);
@@ -149,7 +152,12 @@ module _ (nest : ℕ) where
       done = EnterFinish ∷ [];
       more = refl;
       fine = λ h. record {
-        counted = (quiet st (record (r.enter st) { extra = record (r.enter st).extra { pending = st.extra.pending } }) EnterFinish refl refl refl refl refl h).counted;
+        counted =
+            (quiet st
+            (record (r.enter st) {
+              extra =
+                  record (r.enter st).extra { pending = st.extra.pending };
+            }) EnterFinish refl refl refl refl refl h).counted;
         begun = tt;
       };
     }
@@ -166,7 +174,13 @@ module _ (nest : ℕ) where
         ends : (s : Option Settled) → Tells nest st (leave_with st noted s)
         ends None =
             further_tells st out (leave_with st noted None) inner
-            (record { path = refl; done = EndFinish ∷ []; more = refl; fine = quiet out (leave_with st noted None) EndFinish refl refl refl refl refl })
+            (record {
+              path = refl;
+              done = EndFinish ∷ [];
+              more = refl;
+              fine =
+                  quiet out (leave_with st noted None) EndFinish refl refl refl refl refl;
+            })
         ends (Some s) =
             let to = go_on_with st noted s in
             let more = ap (λ acts. acts ++ EndFinish ∷ []) inner.more ∙ append_assoc st.extra.actions inner.done (EndFinish ∷ []) in
@@ -189,7 +203,14 @@ module _ (nest : ℕ) where
     tells = record {
       idle = λ st to path spawned extra _. idle_tells st to path spawned extra;
       further = further_tells;
-      stepped = λ st. record { path = refl; done = Step ∷ []; more = refl; fine = quiet st (record st { extra = r.stepped st.extra }) Step refl refl refl refl refl };
+      stepped =
+          λ st. record {
+            path = refl;
+            done = Step ∷ [];
+            more = refl;
+            fine =
+                quiet st (record st { extra = r.stepped st.extra }) Step refl refl refl refl refl;
+          };
       begin = λ b st. begin_tells nest refl b st;
       finish = finish_tells;
     }

@@ -21,10 +21,12 @@ asleep false w e = refl
 
 module _ (p : Program) (needs : Codes → Needs) (fresh : ℕ) (root : Start) where
   -- where it is awake, a finish ends with what is handed over
-  leaves : (nest : ℕ) (close : State Own → Option Settled) (before st : State Own) (x : Settled) → st.extra.waits ≡ false → close st ≡ Some x
+  leaves : (nest : ℕ) (close : State Own → Option Settled) (before st : State Own) (x : Settled) → st.extra.waits ≡ false
+      → close st ≡ Some x
       → (own_rules needs nest close).leave before st ≡ handed before x st
   leaves nest close before st x w e =
-      ap (λ b. if b then st else leave_with before noted (close st)) (asleep (is_stopped st.flow) st.extra.waits w) ∙ ap (leave_with before noted) e
+      ap (λ b. if b then st else leave_with before noted (close st)) (asleep (is_stopped st.flow) st.extra.waits w)
+      ∙ ap (leave_with before noted) e
     where
       noted : State Own
       noted = record st { extra = notes EndFinish st.extra }
@@ -34,11 +36,22 @@ module _ (p : Program) (needs : Codes → Needs) (fresh : ℕ) (root : Start) wh
     r = own_rules needs s.nest (in_truth p needs fresh)
 
     -- a task at its beginning
-    pub begins_task : given p needs fresh root s.path ≡ Some s → IsTask p needs fresh root s (record { frames = Rest s.body ∷ []; state = beginning (at_first s.owned) fresh s })
-    begins_task e = record { comes = e; runs = refl; path = refl; awake = refl; fine = at_first_fine s.nest needs (in_truth p needs fresh) fresh s; below = tt }
+    pub begins_task : given p needs fresh root s.path ≡ Some s
+        → IsTask p needs fresh root s (record { frames = Rest s.body ∷ []; state = beginning (at_first s.owned) fresh s })
+    begins_task e =
+        record {
+          comes = e;
+          runs = refl;
+          path = refl;
+          awake = refl;
+          fine =
+              at_first_fine s.nest needs (in_truth p needs fresh) fresh s;
+          below = tt;
+        }
 
     -- a turn
-    pub turns_task : (f : Frame Own) (fs : List (Frame Own)) (st : State Own) → IsTask p needs fresh root s (record { frames = f ∷ fs; state = st })
+    pub turns_task : (f : Frame Own) (fs : List (Frame Own)) (st : State Own)
+        → IsTask p needs fresh root s (record { frames = f ∷ fs; state = st })
         → IsTask p needs fresh root s (turn p r f fs st)
     turns_task f fs st h =
         let k = turn_kept p needs s.nest (in_truth p needs fresh) f fs st h.fine h.below in
@@ -70,15 +83,19 @@ module _ (p : Program) (needs : Codes → Needs) (fresh : ℕ) (root : Start) wh
         h.fine.begun
 
     -- the end of a finish, with what really came of it
-    pub handed_task : (before : State Own) (fs : List (Frame Own)) (st : State Own) → IsTask p needs fresh root s (record { frames = AtEnd before ∷ fs; state = st }) → (x : Settled)
-        → x ≡ complete (result_of st) (filled p needs fresh st.extra.pending none_yet) → IsTask p needs fresh root s (record { frames = fs; state = handed before x st })
+    pub handed_task : (before : State Own) (fs : List (Frame Own)) (st : State Own)
+        → IsTask p needs fresh root s (record { frames = AtEnd before ∷ fs; state = st }) → (x : Settled)
+        → x ≡ complete (result_of st) (filled p needs fresh st.extra.pending none_yet)
+        → IsTask p needs fresh root s (record { frames = fs; state = handed before x st })
     handed_task before fs st h x right =
         let to = handed before x st in
         record {
           comes = h.comes;
           runs =
               ap (λ x. resume p r fs (handed before x st)) right
-              ∙ ap (resume p r fs) (sym (leaves s.nest (in_truth p needs fresh) before st (complete (result_of st) (filled p needs fresh st.extra.pending none_yet)) h.awake refl))
+              ∙ ap (resume p r fs)
+              (sym (leaves s.nest (in_truth p needs fresh) before st
+              (complete (result_of st) (filled p needs fresh st.extra.pending none_yet)) h.awake refl))
               ∙ h.runs;
           path = h.path;
           awake = h.awake;
@@ -102,16 +119,21 @@ module _ (p : Program) (needs : Codes → Needs) (fresh : ℕ) (root : Start) wh
         below_still (Back env ∷ fs) k = below_still fs k
 
     -- with results of own runs
-    pub leaves_task : (rs : List TaskResult) → Each (IsOwn p needs fresh root) rs → (before : State Own) (fs : List (Frame Own)) (st : State Own)
-        → IsTask p needs fresh root s (record { frames = AtEnd before ∷ fs; state = st }) → (x : Settled) → settle (result_of st) rs ≡ Some x
+    pub leaves_task : (rs : List TaskResult) → Each (IsOwn p needs fresh root) rs
+        → (before : State Own) (fs : List (Frame Own)) (st : State Own)
+        → IsTask p needs fresh root s (record { frames = AtEnd before ∷ fs; state = st }) → (x : Settled)
+        → settle (result_of st) rs ≡ Some x
         → IsTask p needs fresh root s (record { frames = fs; state = handed before x st })
     leaves_task rs all before fs st h x e =
-        handed_task before fs st h x (part_sound p needs fresh root st.extra.pending (lists_given (AtEnd before ∷ fs) st h) (result_of st) refl rs all x e)
+        handed_task before fs st h x
+        (part_sound p needs fresh root st.extra.pending (lists_given (AtEnd before ∷ fs) st h) (result_of st) refl rs all x e)
 
     -- its end
-    pub ends_task : (st : State Own) → IsTask p needs fresh root s (record { frames = []; state = st }) → IsOwn p needs fresh root (result_of st)
+    pub ends_task : (st : State Own) → IsTask p needs fresh root s (record { frames = []; state = st })
+        → IsOwn p needs fresh root (result_of st)
     ends_task st h t e =
-        ap result_of h.runs ∙ ap (λ s. result_of (own p needs fresh s)) (some_same (sym h.comes ∙ ap (given p needs fresh root) (sym h.path) ∙ e))
+        ap result_of h.runs ∙ ap (λ s. result_of (own p needs fresh s))
+        (some_same (sym h.comes ∙ ap (given p needs fresh root) (sym h.path) ∙ e))
 
     -- ---- by receipts
     pub begins_follow : Follows p needs fresh root s [] (record { frames = Rest s.body ∷ []; state = beginning (at_first s.owned) fresh s })
@@ -119,7 +141,8 @@ module _ (p : Program) (needs : Codes → Needs) (fresh : ℕ) (root : Start) wh
 
     -- a turn is the same whatever finishes come to
     module _ (c d : State Own → Option Settled) where
-      paid_alike : (n l : ℕ) (t : Code) (fs : List (Frame Own)) (st : State Own) → paid p (own_rules needs s.nest c) n l t fs st ≡ paid p (own_rules needs s.nest d) n l t fs st
+      paid_alike : (n l : ℕ) (t : Code) (fs : List (Frame Own)) (st : State Own)
+          → paid p (own_rules needs s.nest c) n l t fs st ≡ paid p (own_rules needs s.nest d) n l t fs st
       paid_alike zero l t fs st = refl
       paid_alike (suc n) l (Do t) fs st = refl
       paid_alike (suc n) l (If t b e) fs st = refl
@@ -135,15 +158,18 @@ module _ (p : Program) (needs : Codes → Needs) (fresh : ℕ) (root : Start) wh
       flow_alike Faulted l t fs below st = refl
       flow_alike Stopped l t fs below st = refl
 
-      pub turn_alike : (f : Frame Own) (fs : List (Frame Own)) (st : State Own) → turn p (own_rules needs s.nest c) f fs st ≡ turn p (own_rules needs s.nest d) f fs st
+      pub turn_alike : (f : Frame Own) (fs : List (Frame Own)) (st : State Own)
+          → turn p (own_rules needs s.nest c) f fs st ≡ turn p (own_rules needs s.nest d) f fs st
       turn_alike (Rest End) fs st = refl
       turn_alike (Rest (Then l t rest)) fs st = flow_alike st.flow l t (Rest rest ∷ fs) fs st
       turn_alike (Again l t b) fs st = flow_alike st.flow l (While t b) fs fs st
       turn_alike (AtEnd before) fs st = refl
       turn_alike (Back env) fs st = refl
 
-    pub turns_follow : (taken : List (List TaskResult)) (f : Frame Own) (fs : List (Frame Own)) (st : State Own) → Fine s.nest st → FineBelow s.nest st (f ∷ fs)
-        → Follows p needs fresh root s taken (record { frames = f ∷ fs; state = st }) → Follows p needs fresh root s taken (turn p r f fs st)
+    pub turns_follow : (taken : List (List TaskResult)) (f : Frame Own) (fs : List (Frame Own)) (st : State Own) → Fine s.nest st
+        → FineBelow s.nest st (f ∷ fs)
+        → Follows p needs fresh root s taken (record { frames = f ∷ fs; state = st })
+        → Follows p needs fresh root s taken (turn p r f fs st)
     turns_follow taken f fs st fine below h = record {
       count = (turn_kept p needs s.nest (in_truth p needs fresh) f fs st fine below).ended ∙ h.count;
       follows = λ later.
@@ -164,8 +190,10 @@ module _ (p : Program) (needs : Codes → Needs) (fresh : ℕ) (root : Start) wh
     length_last (z ∷ xs) x = omega (arith, length_last xs x)
 
     -- the end of a finish takes a receipt
-    pub leaves_follow : (taken : List (List TaskResult)) (receipt : List TaskResult) (before : State Own) (fs : List (Frame Own)) (st : State Own) (x : Settled)
-        → st.extra.waits ≡ false → settle (result_of st) receipt ≡ Some x → Follows p needs fresh root s taken (record { frames = AtEnd before ∷ fs; state = st })
+    pub leaves_follow : (taken : List (List TaskResult)) (receipt : List TaskResult) (before : State Own) (fs : List (Frame Own))
+        (st : State Own) (x : Settled)
+        → st.extra.waits ≡ false → settle (result_of st) receipt ≡ Some x
+        → Follows p needs fresh root s taken (record { frames = AtEnd before ∷ fs; state = st })
         → Follows p needs fresh root s (taken ++ receipt ∷ []) (record { frames = fs; state = handed before x st })
     leaves_follow taken receipt before fs st x w e h = record {
       count = ap (λ n. n + 1) h.count ∙ length_last taken receipt;

@@ -41,11 +41,14 @@ module _ (p : Program) where
       named_of : (sc : Scope) (l : ℕ) (s : Code) (y : Access) → ((y : Access) → Member y (own_accesses l s) → InScope sc y.section)
           → ScopedOf p sc s → AllOf p accesses l s y → InScope sc y.section
       named_of sc l s y names scoped (AllOf.own_access m) = names y m
-      named_of sc l s y names scoped (AllOf.inner {x = x} if_body h e) = subst (λ z. InScope sc z.section) (sym e) (named_all sc _ x scoped.0 h)
-      named_of sc l s y names scoped (AllOf.inner {x = x} if_other h e) = subst (λ z. InScope sc z.section) (sym e) (named_all sc _ x scoped.1 h)
+      named_of sc l s y names scoped (AllOf.inner {x = x} if_body h e) =
+          subst (λ z. InScope sc z.section) (sym e) (named_all sc _ x scoped.0 h)
+      named_of sc l s y names scoped (AllOf.inner {x = x} if_other h e) =
+          subst (λ z. InScope sc z.section) (sym e) (named_all sc _ x scoped.1 h)
       named_of sc l s y names scoped (AllOf.inner {x = x} while h e) = subst (λ z. InScope sc z.section) (sym e) (named_all sc _ x scoped h)
       named_of sc l s y names scoped (AllOf.inner {x = x} (split {s = t} {l = left} {r = right}) h e) =
-          subst (λ z. InScope sc z.section) (sym e) (out_of_split sc t left right x.section scoped.0 (named_all (Inside t left right sc) _ x scoped.4 h))
+          subst (λ z. InScope sc z.section) (sym e)
+          (out_of_split sc t left right x.section scoped.0 (named_all (Inside t left right sc) _ x scoped.4 h))
       named_of sc l s y names scoped (AllOf.inner {x = x} (call {f = f}) h e) =
           subst (λ z. InScope sc z.section) (sym e)
           (scoped x.section (subst (λ n. x.section < n) (length_may_writes (procedure_of p f))
@@ -59,10 +62,12 @@ module _ (p : Program) where
       named_all sc b y scoped (All.later {rest = rest} h) = named_all sc rest y scoped.2 h
 
 -- ---- the places of accesses
-pub touches_more : (env : Environment) (part all : Access → Type 0) (q : Place) → ((y : Access) → part y → all y) → Touches env part q → Touches env all q
+pub touches_more : (env : Environment) (part all : Access → Type 0) (q : Place) → ((y : Access) → part y → all y) → Touches env part q
+    → Touches env all q
 touches_more env part all q f t = record { access = t.access; among = f t.access t.among; place = t.place }
 
-pub overwrites_more : (env : Environment) (part all : Access → Type 0) (q : Place) → ((y : Access) → part y → all y) → Overwrites env part q → Overwrites env all q
+pub overwrites_more : (env : Environment) (part all : Access → Type 0) (q : Place) → ((y : Access) → part y → all y) → Overwrites env part q
+    → Overwrites env all q
 overwrites_more env part all q f t = record { access = t.access; among = f t.access t.among; place = t.place; writes = t.writes }
 
 pub overwrites_touch : (env : Environment) (all : Access → Type 0) (q : Place) → Overwrites env all q → Touches env all q
@@ -71,5 +76,6 @@ overwrites_touch env all q t = record { access = t.access; among = t.among; plac
 -- ---- the reads of an expression
 pub read_listed : (l s : ℕ) (ss : List ℕ) → Contains ss s → Member (record { label = l; section = s; write = false }) (reads l ss)
 read_listed l s [] (k, lt, e) = absurd (omega (arith, lt))
-read_listed l s (t ∷ ss) (zero, lt, e) = subst (λ t. Member (record { label = l; section = s; write = false }) (reads l (t ∷ ss))) (sym e) first
+read_listed l s (t ∷ ss) (zero, lt, e) =
+    subst (λ t. Member (record { label = l; section = s; write = false }) (reads l (t ∷ ss))) (sym e) first
 read_listed l s (t ∷ ss) (suc k, lt, e) = next (read_listed l s ss (k, omega (arith, lt), e))

@@ -62,7 +62,8 @@ module _ (p : Program) (needs : Codes → Needs) (fresh : ℕ) (root s : Start) 
       → next_action p needs fresh taken (length st.extra.actions) s ≡ Some (last_action st.path)
   next_is_last st w h =
       ap (λ (out : State Own). slice_get (actions_of out) (length st.extra.actions)) (by_now (record { frames = []; state = st }) h)
-      ∙ ap (λ b. slice_get (if b then st.extra.actions else st.extra.actions ++ last_action st.path ∷ []) (length st.extra.actions)) (asleep (is_stopped st.flow) st.extra.waits w)
+      ∙ ap (λ b. slice_get (if b then st.extra.actions else st.extra.actions ++ last_action st.path ∷ []) (length st.extra.actions))
+      (asleep (is_stopped st.flow) st.extra.waits w)
       ∙ at_length st.extra.actions (last_action st.path) []
     where
       asleep : (f w : Bool) → w ≡ false → (f && w) ≡ false

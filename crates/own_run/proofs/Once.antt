@@ -1,5 +1,6 @@
 -- No two tasks below one have the same path.
-use Rattle.std.proofs.Common.{◌≡◌, ℕ, zero, suc, ◌+◌, ◌<◌, List, [], ◌∷◌, ◌++◌, length, Option, Some, None, refl, sym, ap, ◌∙◌, subst, arith, append_assoc}
+use Rattle.std.proofs.Common.{◌≡◌, ℕ, zero, suc, ◌+◌, ◌<◌, List, [], ◌∷◌, ◌++◌, length, Option, Some, None, refl, sym, ap, ◌∙◌, subst}
+use Rattle.std.proofs.Common.{arith, append_assoc}
 use Rattle.std.specs.Prelude.{◌≢◌, Bool, true, false, flat_map, slice_get, if◌then◌else◌}
 use Rattle.types.specs.Code.{Codes, Program}
 use Rattle.types.specs.Run.{State, Rules, Work, Block, run}
@@ -49,7 +50,8 @@ once_last : (cs : List Child) (c : Child) → Each (λ d. c.start.path ≢ d.sta
 once_last [] c h k = (tt, tt)
 once_last (d ∷ cs) c h k = (each_last cs h.0 k.0, once_last cs c h.1 k.1)
   where
-    each_last : (cs : List Child) → c.start.path ≢ d.start.path → Each (λ x. x.start.path ≢ d.start.path) cs → Each (λ x. x.start.path ≢ d.start.path) (cs ++ c ∷ [])
+    each_last : (cs : List Child) → c.start.path ≢ d.start.path → Each (λ x. x.start.path ≢ d.start.path) cs
+        → Each (λ x. x.start.path ≢ d.start.path) (cs ++ c ∷ [])
     each_last [] m n = (m, tt)
     each_last (x ∷ cs) m n = (n.0, each_last cs m n.1)
 
@@ -61,7 +63,8 @@ module _ (nest : ℕ) (needs : Codes → Needs) (close : State Own → Option Se
     pub tells : Tells nest st to
     pub once : Fine nest st → Once st.extra.pending → Once to.extra.pending
 
-  new_path : (n : Needs) (m : ℕ) (b : Codes) (st : State Own) → Fine nest st → Each (λ d. (child_of n m b st).start.path ≢ d.start.path) st.extra.pending
+  new_path : (n : Needs) (m : ℕ) (b : Codes) (st : State Own) → Fine nest st
+      → Each (λ d. (child_of n m b st).start.path ≢ d.start.path) st.extra.pending
   new_path n m b st f = each_more (IsBegun nest st) _ st.extra.pending
       (λ d h e.
       let k = get_less (begun_by st.extra.actions) h.number d.start h.here in
@@ -91,7 +94,8 @@ module _ (nest : ℕ) (needs : Codes → Needs) (close : State Own → Option Se
       ends f o None = inner f
       ends f o (Some x) = o
 
-      by_waiting : Fine nest st → Once st.extra.pending → (b : Bool) → Once (if b then out else leave_with st noted (close out)).extra.pending
+      by_waiting : Fine nest st → Once st.extra.pending → (b : Bool)
+          → Once (if b then out else leave_with st noted (close out)).extra.pending
       by_waiting f o true = inner f
       by_waiting f o false = ends f o (close out)
 
@@ -101,7 +105,9 @@ module _ (nest : ℕ) (needs : Codes → Needs) (close : State Own → Option Se
       tells = (tells nest needs close).idle st to path spawned extra x;
       once = λ f o. subst (λ (y : Own). Once y.pending) (sym extra) o;
     };
-    further = λ a b c h k. record { tells = (tells nest needs close).further a b c h.tells k.tells; once = λ f o. k.once (h.tells.fine f) (h.once f o) };
+    further =
+        λ a b c h k.
+        record { tells = (tells nest needs close).further a b c h.tells k.tells; once = λ f o. k.once (h.tells.fine f) (h.once f o) };
     stepped = λ st. record { tells = (tells nest needs close).stepped st; once = λ f o. o };
     begin = λ b st. begin_names nest refl b st;
     finish = finish_names;
@@ -177,13 +183,19 @@ module _ (p : Program) (needs : Codes → Needs) (fresh : ℕ) where
   append_nil [] = refl
   append_nil (x ∷ xs) = ap (λ l. x ∷ l) (append_nil xs)
 
-  all_under : (n : ℕ) (base : List ℕ) (cs : List Child) → Each (From base) cs → ((s : Start) → Each (Under s.path) (below p needs fresh n s)) → Each (Under base) (flat_map (results n) cs)
+  all_under : (n : ℕ) (base : List ℕ) (cs : List Child) → Each (From base) cs
+      → ((s : Start) → Each (Under s.path) (below p needs fresh n s)) → Each (Under base) (flat_map (results n) cs)
   all_under n base [] f h = tt
   all_under n base (c ∷ cs) f h = (
     record { number = f.0.number; rest = []; path = own_path c.start ∙ f.0.path },
     each_append (Under base) (below p needs fresh n c.start) (flat_map (results n) cs)
         (each_more (Under c.start.path) (Under base) (below p needs fresh n c.start)
-        (λ x u. record { number = f.0.number; rest = suc u.number ∷ u.rest; path = u.path ∙ ap (λ q. q ++ suc u.number ∷ u.rest) f.0.path ∙ append_assoc base (suc f.0.number ∷ []) (suc u.number ∷ u.rest) })
+        (λ x u. record {
+          number = f.0.number;
+          rest = suc u.number ∷ u.rest;
+          path =
+              u.path ∙ ap (λ q. q ++ suc u.number ∷ u.rest) f.0.path ∙ append_assoc base (suc f.0.number ∷ []) (suc u.number ∷ u.rest);
+        })
         (h c.start))
         (all_under n base cs f.1 h),
   )
@@ -195,17 +207,21 @@ module _ (p : Program) (needs : Codes → Needs) (fresh : ℕ) where
   child_extends : (n : ℕ) (c : Child) → Each (Extends c.start.path) (results n c)
   child_extends n c = (
     record { rest = []; path = own_path c.start ∙ sym (append_nil c.start.path) },
-    each_more (Under c.start.path) (Extends c.start.path) (below p needs fresh n c.start) (λ x u. record { rest = suc u.number ∷ u.rest; path = u.path }) (below_under n c.start),
+    each_more (Under c.start.path) (Extends c.start.path) (below p needs fresh n c.start)
+        (λ x u. record { rest = suc u.number ∷ u.rest; path = u.path }) (below_under n c.start),
   )
 
   -- results of different children
-  crossed : (base : List ℕ) (c d : Child) → From base c → From base d → d.start.path ≢ c.start.path → (x y : TaskResult) → Extends c.start.path x → Extends d.start.path y → Apart x y
+  crossed : (base : List ℕ) (c d : Child) → From base c → From base d → d.start.path ≢ c.start.path → (x y : TaskResult)
+      → Extends c.start.path x → Extends d.start.path y → Apart x y
   crossed base c d f g ne x y h k e =
       let same = same_number base g.number f.number k.rest h.rest
-      (sym (append_assoc base (suc g.number ∷ []) k.rest) ∙ ap (λ q. q ++ k.rest) (sym g.path) ∙ sym k.path ∙ e ∙ h.path ∙ ap (λ q. q ++ h.rest) f.path ∙ append_assoc base (suc f.number ∷ []) h.rest) in
+      (sym (append_assoc base (suc g.number ∷ []) k.rest) ∙ ap (λ q. q ++ k.rest) (sym g.path) ∙ sym k.path ∙ e ∙ h.path
+      ∙ ap (λ q. q ++ h.rest) f.path ∙ append_assoc base (suc f.number ∷ []) h.rest) in
       ne (g.path ∙ ap (λ j. base ++ suc j ∷ []) same ∙ sym f.path)
 
-  cross_one : (n : ℕ) (base : List ℕ) (c : Child) (x : TaskResult) → From base c → Extends c.start.path x → (cs : List Child) → Each (From base) cs
+  cross_one : (n : ℕ) (base : List ℕ) (c : Child) (x : TaskResult) → From base c → Extends c.start.path x → (cs : List Child)
+      → Each (From base) cs
       → Each (λ d. d.start.path ≢ c.start.path) cs → Each (Apart x) (flat_map (results n) cs)
   cross_one n base c x f h [] g o = tt
   cross_one n base c x f h (d ∷ cs) g o =
@@ -213,7 +229,8 @@ module _ (p : Program) (needs : Codes → Needs) (fresh : ℕ) where
       (each_more (Extends d.start.path) (Apart x) (results n d) (λ y k. crossed base c d f g.0 o.0 x y h k) (child_extends n d))
       (cross_one n base c x f h cs g.1 o.1)
 
-  pub all_once : (n : ℕ) (base : List ℕ) (cs : List Child) → Each (From base) cs → Once cs → ((s : Start) → NoTwice (below p needs fresh n s)) → NoTwice (flat_map (results n) cs)
+  pub all_once : (n : ℕ) (base : List ℕ) (cs : List Child) → Each (From base) cs → Once cs
+      → ((s : Start) → NoTwice (below p needs fresh n s)) → NoTwice (flat_map (results n) cs)
   all_once n base [] f o h = tt
   all_once n base (c ∷ cs) f o h =
       no_twice-append (results n c) (flat_map (results n) cs) (
@@ -222,7 +239,8 @@ module _ (p : Program) (needs : Codes → Needs) (fresh : ℕ) where
         h c.start,
       )
       (all_once n base cs f.1 o.1 h)
-      (each_more (Extends c.start.path) (λ x. Each (Apart x) (flat_map (results n) cs)) (results n c) (λ x k. cross_one n base c x f.0 k cs f.1 o.0) (child_extends n c))
+      (each_more (Extends c.start.path) (λ x. Each (Apart x) (flat_map (results n) cs)) (results n c)
+      (λ x k. cross_one n base c x f.0 k cs f.1 o.0) (child_extends n c))
 
   -- no path has two results below a task
   pub below_once : (n : ℕ) (s : Start) → NoTwice (below p needs fresh n s)

@@ -68,27 +68,34 @@ module _ (p : Program) (needs : Codes → Needs) (fresh : ℕ) where
       let c = child_apart fresh (needs b) st in
       let out = run p (apart_rules_by (begin_apart p needs fresh n)) (Block b) c in
       aside_there (written st.environment (needs b) q) (merged out q) (st.extra.contents q) (st.store q)
-      (λ w i. run_keeps p (apart_rules_by (begin_apart p needs fresh n)) R (present (begin_apart p needs fresh n) (begins_present n)) (Block b) c q
+      (λ w i. run_keeps p (apart_rules_by (begin_apart p needs fresh n)) R (present (begin_apart p needs fresh n) (begins_present n))
+      (Block b) c q
       (only_there (touched st.environment (needs b) q) (st.store q) (written_touched st.environment (needs b) q w) i))
       h
 
   pub comes_present : (s : Start) → Extends s.contents (comes_to p needs fresh s).contents
   comes_present s q h =
-      run_keeps p (apart_rules_by (begin_apart p needs fresh s.nest)) R (present (begin_apart p needs fresh s.nest) (begins_present s.nest)) (Block s.body)
+      run_keeps p (apart_rules_by (begin_apart p needs fresh s.nest)) R (present (begin_apart p needs fresh s.nest) (begins_present s.nest))
+      (Block s.body)
       (beginning nothing fresh s) q h
 
   -- what is gathered stays, and what comes back is there
-  pub filled_there : (cs : List Child) (so_far : Settled) (q : Place) → IsThere (so_far.contents q) → IsThere ((filled p needs fresh cs so_far).contents q)
+  pub filled_there : (cs : List Child) (so_far : Settled) (q : Place) → IsThere (so_far.contents q)
+      → IsThere ((filled p needs fresh cs so_far).contents q)
   filled_there [] so_far q h = h
   filled_there (c ∷ cs) so_far q h =
-      filled_there cs (fill c.listed (comes_to p needs fresh c.start) so_far) q (there_right (only (within c.listed.windows) (comes_to p needs fresh c.start).contents q) (so_far.contents q) h)
+      filled_there cs (fill c.listed (comes_to p needs fresh c.start) so_far) q
+      (there_right (only (within c.listed.windows) (comes_to p needs fresh c.start).contents q) (so_far.contents q) h)
 
-  pub back_there : (cs : List Child) (so_far : Settled) (q : Place) → Each (λ c. (q : Place) → within c.listed.windows q ≡ true → IsThere (c.start.contents q)) cs
+  pub back_there : (cs : List Child) (so_far : Settled) (q : Place)
+      → Each (λ c. (q : Place) → within c.listed.windows q ≡ true → IsThere (c.start.contents q)) cs
       → back_from cs q ≡ true → IsThere ((filled p needs fresh cs so_far).contents q)
   back_there [] so_far q h e = absurd (false_true e)
-  back_there (c ∷ cs) so_far q h e = elim (either_true (within c.listed.windows q) (back_from cs q) e) as (λ _. IsThere ((filled p needs fresh (c ∷ cs) so_far).contents q)) [
-    | inl w ↦ filled_there cs (fill c.listed (comes_to p needs fresh c.start) so_far) q
-        (there_left (only (within c.listed.windows) (comes_to p needs fresh c.start).contents q) (so_far.contents q)
-        (only_there (within c.listed.windows q) ((comes_to p needs fresh c.start).contents q) w (comes_present c.start q (h.0 q w))))
-    | inr w ↦ back_there cs (fill c.listed (comes_to p needs fresh c.start) so_far) q h.1 w
-  ]
+  back_there (c ∷ cs) so_far q h e =
+      elim (either_true (within c.listed.windows q) (back_from cs q) e) as
+      (λ _. IsThere ((filled p needs fresh (c ∷ cs) so_far).contents q)) [
+        | inl w ↦ filled_there cs (fill c.listed (comes_to p needs fresh c.start) so_far) q
+            (there_left (only (within c.listed.windows) (comes_to p needs fresh c.start).contents q) (so_far.contents q)
+            (only_there (within c.listed.windows q) ((comes_to p needs fresh c.start).contents q) w (comes_present c.start q (h.0 q w))))
+        | inr w ↦ back_there cs (fill c.listed (comes_to p needs fresh c.start) so_far) q h.1 w
+      ]

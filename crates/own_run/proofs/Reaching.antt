@@ -30,12 +30,22 @@ module _ (p : Program) (needs : Codes → Needs) (scoped : IsScoped p) (calm : I
     root_given = ap (given p needs fresh root) named
 
     pub goes : {s : Start} {t : Standing Own} → Reached p needs fresh root s t → Goes s t
-    goes root_begins = record { task = begins_task p needs fresh root root root_given; holds = begin_holds p needs scoped calm provided fresh root may_begin }
+    goes root_begins =
+        record {
+          task = begins_task p needs fresh root root root_given;
+          holds =
+              begin_holds p needs scoped calm provided fresh root may_begin;
+        }
     goes (child_begins {s = s} {t = t} {c = c} r m) =
         let k = goes r in
-        let is = each_member (IsTrue p needs fresh root) c t.state.extra.pending (lists_given p needs fresh root s t.frames t.state k.task) m in
+        let is = each_member (IsTrue p needs fresh root) c t.state.extra.pending
+        (lists_given p needs fresh root s t.frames t.state k.task) m in
         let begins = each_member (Carries p needs) c t.state.extra.pending k.holds.carried m in
-        record { task = begins_task p needs fresh root c.start is.is; holds = begin_holds p needs scoped calm provided fresh c.start begins.begins }
+        record {
+          task = begins_task p needs fresh root c.start is.is;
+          holds =
+              begin_holds p needs scoped calm provided fresh c.start begins.begins;
+        }
     goes (turns {s = s} {f = f} {fs = fs} {st = st} r) =
         let k = goes r in
         record {
@@ -59,7 +69,8 @@ module _ (p : Program) (needs : Codes → Needs) (scoped : IsScoped p) (calm : I
     needs_of_next s (Async b) l rest fs st h = async_has p needs scoped calm provided s.nest (in_truth p needs fresh) l b rest fs st h
     needs_of_next s (Finish b) l rest fs st h = tt
 
-    next_has : (s : Start) (fs : List (Frame Own)) (st : State Own) → Holds p needs (record { frames = fs; state = st }) → HasNext needs st fs
+    next_has : (s : Start) (fs : List (Frame Own)) (st : State Own) → Holds p needs (record { frames = fs; state = st })
+        → HasNext needs st fs
     next_has s [] st h = tt
     next_has s (Rest End ∷ fs) st h = tt
     next_has s (Rest (Then l c rest) ∷ fs) st h =
@@ -78,7 +89,8 @@ module _ (p : Program) (needs : Codes → Needs) (scoped : IsScoped p) (calm : I
     ends_own r k = subst (IsOwn p needs fresh root) (sym k.is) (ends_task p needs fresh root k.start k.state (goes k.ended).task)
 
     -- what the root has at its end is what its own run has
-    pub root_ends : (st : State Own) → Reached p needs fresh root root (record { frames = []; state = st }) → result_of st ≡ result_of (own p needs fresh root)
+    pub root_ends : (st : State Own) → Reached p needs fresh root root (record { frames = []; state = st })
+        → result_of st ≡ result_of (own p needs fresh root)
     root_ends st r =
         let task = (goes r).task in
         ends_task p needs fresh root root st task root (ap (given p needs fresh root) task.path ∙ root_given)

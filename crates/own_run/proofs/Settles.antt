@@ -43,7 +43,8 @@ or_false : (b : Bool) → (b || false) ≡ true → b ≡ true
 or_false true e = refl
 or_false false e = absurd (false_true e)
 
-same_outcome : (p : Program) (x : Around) (final : Place → Type 0) (o : S) (a : A) → ((q : Place) → x.held q) → a.extra ≡ nothing → Agree x final o a
+same_outcome : (p : Program) (x : Around) (final : Place → Type 0) (o : S) (a : A) → ((q : Place) → x.held q) → a.extra ≡ nothing
+    → Agree x final o a
     → outcome_of p o ≡ outcome_of p a
 same_outcome p x final o a all e (same h) =
     let contents : o.store ≡ a.store = λ t q. (h.store q (all q) ∙ ap (λ (y : Aside). over_nothing y.contents (a.store) q) e) t in
@@ -64,7 +65,8 @@ module _ (p : Program) (needs : Codes → Needs) (is_scoped : IsScoped p) (is_ca
   settles input b =
       same_outcome p around none left right (λ q. tt) refl
       (finish_agrees p needs around none none 0 p.main.body ready o a both one_end apart_end
-      (within_sim p needs is_scoped is_calm provides (begin_one p b.steps b.nest) (begin_apart p needs b.steps b.nest) (begin_marks p needs b.steps b.nest)
+      (within_sim p needs is_scoped is_calm provides (begin_one p b.steps b.nest) (begin_apart p needs b.steps b.nest)
+      (begin_marks p needs b.steps b.nest)
       (begins p needs is_scoped is_calm provides b.steps b.nest) (b.steps + 1) (Block p.main.body) _ none
       (Overwrites around.env (Pending p accesses p.main.body)) (finish_ready p needs around none none 0 p.main.body ready o a both) o a
       (enter_same p needs around none none 0 p.main.body ready o a both)))

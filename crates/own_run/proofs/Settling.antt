@@ -38,14 +38,17 @@ module _ (p : Program) (needs : Codes → Needs) (fresh : ℕ) where
   abbrev IsLost : State Own → Type 0
   IsLost st = is_waiting st ≡ true
 
-  told : (a : A) (l m : List (List ℤ)) (f g : List Fault) → l ≡ m → f ≡ g → record a { lines = l; faults = f } ≡ record a { lines = m; faults = g }
+  told : (a : A) (l m : List (List ℤ)) (f g : List Fault) → l ≡ m → f ≡ g
+      → record a { lines = l; faults = f } ≡ record a { lines = m; faults = g }
   told a l m f g e h = ap {B = A} (λ x. record a { lines = x; faults = f }) e ∙ ap {B = A} (λ x. record a { lines = m; faults = x }) h
 
-  filled_last : (cs : List Child) (c : Child) (g : Settled) → filled p needs fresh (cs ++ c ∷ []) g ≡ fill c.listed (comes_to p needs fresh c.start) (filled p needs fresh cs g)
+  filled_last : (cs : List Child) (c : Child) (g : Settled)
+      → filled p needs fresh (cs ++ c ∷ []) g ≡ fill c.listed (comes_to p needs fresh c.start) (filled p needs fresh cs g)
   filled_last [] c g = refl
   filled_last (d ∷ cs) c g = filled_last cs c (fill d.listed (comes_to p needs fresh d.start) g)
 
-  pub flow_is : (f : Flow) (h : Bool) (fs : List Fault) → (if is_stopped f || h then Stopped else after_finish f fs) ≡ (if is_stopped f || h then Stopped else after_finish On fs)
+  pub flow_is : (f : Flow) (h : Bool) (fs : List Fault)
+      → (if is_stopped f || h then Stopped else after_finish f fs) ≡ (if is_stopped f || h then Stopped else after_finish On fs)
   flow_is On h fs = refl
   flow_is Faulted h [] = refl
   flow_is Faulted h (f ∷ fs) = refl
@@ -67,7 +70,9 @@ module _ (p : Program) (needs : Codes → Needs) (fresh : ℕ) where
     s = apart_rules p needs fresh nest
 
     leave_settled : (st out : State Own) → gather (settled tt st) (settled tt out)
-        ≡ settled tt (go_on_with st (record out { extra = notes EndFinish out.extra }) (complete (result_of out) (filled p needs fresh out.extra.pending none_yet)))
+        ≡ settled tt
+        (go_on_with st (record out { extra = notes EndFinish out.extra })
+        (complete (result_of out) (filled p needs fresh out.extra.pending none_yet)))
     leave_settled st out =
         let g = filled p needs fresh st.extra.pending none_yet in
         let v = settled tt out in
@@ -75,7 +80,8 @@ module _ (p : Program) (needs : Codes → Needs) (fresh : ℕ) where
         ∙ told (record (gather (settled tt st) v) { flow = if halts v then Stopped else after_finish On v.faults }) _ _ _ _
         (append_assoc g.lines st.lines v.lines) (append_assoc g.faults st.faults v.faults)
 
-    begin_settled : (n : ℕ) (b : Codes) (st : State Own) → begin_apart p needs fresh n b (settled tt st) ≡ settled tt (begin_own needs n b st)
+    begin_settled : (n : ℕ) (b : Codes) (st : State Own)
+        → begin_apart p needs fresh n b (settled tt st) ≡ settled tt (begin_own needs n b st)
     begin_settled zero b st = refl
     begin_settled (suc n) b st =
         let c = child_of (needs b) n b st in
@@ -94,8 +100,12 @@ module _ (p : Program) (needs : Codes → Needs) (fresh : ℕ) where
       store = λ u st. refl;
       moved = λ u st env. refl;
       written = λ u st c. refl;
-      printed = λ u st vs. told (settled tt st) _ _ _ _ (append_assoc (filled p needs fresh st.extra.pending none_yet).lines st.lines (vs ∷ [])) refl;
-      faulted = λ u st l k. told (record (settled tt st) { flow = Faulted }) _ _ _ _ refl (append_assoc (filled p needs fresh st.extra.pending none_yet).faults st.faults _);
+      printed =
+          λ u st vs. told (settled tt st) _ _ _ _
+          (append_assoc (filled p needs fresh st.extra.pending none_yet).lines st.lines (vs ∷ [])) refl;
+      faulted =
+          λ u st l k. told (record (settled tt st) { flow = Faulted }) _ _ _ _ refl
+          (append_assoc (filled p needs fresh st.extra.pending none_yet).faults st.faults _);
       stepped = λ u st. refl;
       spends = spends_settled;
       begin = λ b u st. inr (begin_settled nest b st);
@@ -123,7 +133,8 @@ module _ (p : Program) (needs : Codes → Needs) (fresh : ℕ) where
             left = leave_with st (record out { extra = notes EndFinish out.extra }) (in_truth p needs fresh out)
 
             by_waiting : (b : Bool) → is_waiting out ≡ b → to (s.enter (settled u st)) ≡ settled u out
-                → IsLost (if b then out else left) ⊎ (s.leave (settled u st) (to (s.enter (settled u st))) ≡ settled u (if b then out else left))
+                → IsLost (if b then out else left)
+                ⊎ (s.leave (settled u st) (to (s.enter (settled u st))) ≡ settled u (if b then out else left))
             by_waiting true w e = inl w
             by_waiting false w e = inr (ap (gather (settled u st)) e ∙ leave_settled st out)
 
@@ -141,24 +152,28 @@ module _ (p : Program) (needs : Codes → Needs) (fresh : ℕ) where
     within_settled (suc k) w u st = work_follows p r s settled IsLost view (within p r k) (within p s k) (within_settled k) w u st
 
     -- an own run from where nothing waits
-    pub run_settles : (w : Work) (st : State Own) → st.extra.waits ≡ false → apart p needs fresh nest w (settled tt st) ≡ settled tt (run p r w st)
+    pub run_settles : (w : Work) (st : State Own) → st.extra.waits ≡ false
+        → apart p needs fresh nest w (settled tt st) ≡ settled tt (run p r w st)
     run_settles w st e = surely (within_settled (st.steps + 1) w tt st)
       where
         out : State Own
         out = run p r w st
 
         awake : out.extra.waits ≡ false
-        awake = never_waits nest needs (in_truth p needs fresh) (λ st. complete (result_of st) (filled p needs fresh st.extra.pending none_yet)) (λ st. refl) p w st e
+        awake = never_waits nest needs (in_truth p needs fresh)
+            (λ st. complete (result_of st) (filled p needs fresh st.extra.pending none_yet)) (λ st. refl) p w st e
 
         asleep : (f : Bool) (w : Bool) → (f && w) ≡ true → w ≡ false → ⊥
         asleep f w y n = false_true (sym n ∙ (both_true f w y).1)
 
-        surely : IsLost out ⊎ (apart p needs fresh nest w (settled tt st) ≡ settled tt out) → apart p needs fresh nest w (settled tt st) ≡ settled tt out
+        surely : IsLost out ⊎ (apart p needs fresh nest w (settled tt st) ≡ settled tt out)
+            → apart p needs fresh nest w (settled tt st) ≡ settled tt out
         surely (inl l) = absurd (asleep (is_stopped out.flow) out.extra.waits l awake)
         surely (inr e) = e
 
   -- a task's own run, with what comes of those that it lists, is what comes of its start
-  pub own_settles : (s : Start) → complete (result_of (own p needs fresh s)) (filled p needs fresh (own p needs fresh s).extra.pending none_yet) ≡ comes_to p needs fresh s
+  pub own_settles : (s : Start) → complete (result_of (own p needs fresh s))
+      (filled p needs fresh (own p needs fresh s).extra.pending none_yet) ≡ comes_to p needs fresh s
   own_settles s =
       ap (λ (a : A). let t : Settled = record { halted = halts a; contents = merged a; lines = a.lines; faults = a.faults } in t)
       (sym (run_settles s.nest (Block s.body) (beginning (at_first s.owned) fresh s) refl))

@@ -1,5 +1,6 @@
 -- What holds between a run on one thread and a run of tasks apart, and what single operations keep of it.
-use Rattle.std.proofs.Common.{◌≡◌, ℕ, zero, suc, List, [], ◌∷◌, ◌++◌, Option, Some, None, Ok, Err, refl, sym, ap, ◌∙◌, subst, arith, unwrap_or}
+use Rattle.std.proofs.Common.{◌≡◌, ℕ, zero, suc, List, [], ◌∷◌, ◌++◌, Option, Some, None, Ok, Err, refl, sym, ap, ◌∙◌, subst, arith}
+use Rattle.std.proofs.Common.{unwrap_or}
 use Rattle.std.proofs.lemmas.Bool.{or_right}
 use Rattle.std.proofs.lemmas.List.Elements.{Contains-append_left, Contains-append_right}
 use Rattle.std.specs.Prelude.{ℤ, pos, Bool, true, false, ◌||◌, Contains, flat_map, if◌then◌else◌}
@@ -10,7 +11,8 @@ use Rattle.types.specs.Contents.{read, write}
 use Rattle.types.specs.Value.{Environment, Valued, then_try, number, truth}
 use Rattle.types.specs.Indexed.{indexed, indexed_truth}
 use Rattle.types.specs.Laws.{SameOn}
-use Rattle.types.specs.Run.{Flow, On, Faulted, Stopped, State, fault, at_flow, go_on, spend, with_step, with_value, assign, bind, print, put, choose, number_at, numbers_at, truth_at}
+use Rattle.types.specs.Run.{Flow, On, Faulted, Stopped, State, fault, at_flow, go_on, spend, with_step, with_value, assign, bind, print}
+use Rattle.types.specs.Run.{put, choose, number_at, numbers_at, truth_at}
 use Rattle.types.proofs.Readings.{number_same, truth_same}
 use Rattle.race_checker.specs.Scope.{InScope}
 use Rattle.own_run.specs.Places.{or_else}
@@ -74,7 +76,8 @@ module _ (x : Around) where
 
   -- ---- going on
   stops_on : (f : Flow) (a : A) (to : A → A) → f ≡ a.flow → Dies to → halts a ≡ true → halts (at_flow f a to) ≡ true
-  stops_on On a to e d y = or_right (is_stopped (to a).flow) (to a).extra.halted (d a (subst (λ f. (is_stopped f || a.extra.halted) ≡ true) (sym e) y))
+  stops_on On a to e d y =
+      or_right (is_stopped (to a).flow) (to a).extra.halted (d a (subst (λ f. (is_stopped f || a.extra.halted) ≡ true) (sym e) y))
   stops_on Faulted a to e d y = y
   stops_on Stopped a to e d y = y
 
@@ -136,7 +139,8 @@ module _ (x : Around) where
   }
 
   pub value_same : {B : Type 0} (final : Set) (o : S) (a : A) (l : ℕ) (u v : Valued B) (go : B → S → S) (to : B → A → A) → u ≡ v
-      → Same x final o a → ((y : B) → u ≡ Ok y → Agree x final (go y o) (to y a)) → Agree x final (with_value l u go o) (with_value l v to a)
+      → Same x final o a → ((y : B) → u ≡ Ok y → Agree x final (go y o) (to y a))
+      → Agree x final (with_value l u go o) (with_value l v to a)
   value_same {B} final o a l u v go to e s h = subst (λ v. Agree x final (with_value l u go o) (with_value l v to a)) e (by_value u refl)
     where
       by_value : (w : Valued B) → u ≡ w → Agree x final (with_value l w go o) (with_value l w to a)
@@ -182,8 +186,10 @@ module _ (x : Around) where
     pub numbers_alike : (es : List Number) → Readable locked (flat_map indexed es) → numbers_at o es ≡ numbers_at a es
     numbers_alike [] h = refl
     numbers_alike (e ∷ es) h =
-        ap (λ u. then_try u (λ v. then_try (numbers_at o es) (λ vs. Ok (v ∷ vs)))) (number_alike e (left_readable locked (indexed e) (flat_map indexed es) h))
-        ∙ ap (λ u. then_try (number_at a e) (λ v. then_try u (λ vs. Ok (v ∷ vs)))) (numbers_alike es (right_readable locked (indexed e) (flat_map indexed es) h))
+        ap (λ u. then_try u (λ v. then_try (numbers_at o es) (λ vs. Ok (v ∷ vs))))
+        (number_alike e (left_readable locked (indexed e) (flat_map indexed es) h))
+        ∙ ap (λ u. then_try (number_at a e) (λ v. then_try u (λ vs. Ok (v ∷ vs))))
+        (numbers_alike es (right_readable locked (indexed e) (flat_map indexed es) h))
 
     -- ---- what a step changes
     pub assign_same : (n : ℕ) (v : ℤ) → Same x locked (assign n v o) (assign n v a)
@@ -218,7 +224,8 @@ module _ (x : Around) where
       out = s.out;
     }
 
-    write_at : (b : Bool) (n u v w : Option ℤ) → (b ≡ true → u ≡ None) → v ≡ or_else u w → (if b then n else v) ≡ or_else u (if b then n else w)
+    write_at : (b : Bool) (n u v w : Option ℤ) → (b ≡ true → u ≡ None) → v ≡ or_else u w
+        → (if b then n else v) ≡ or_else u (if b then n else w)
     write_at true n u v w f e = ap (λ y. or_else y n) (sym (f refl))
     write_at false n u v w f e = e
 
@@ -226,7 +233,8 @@ module _ (x : Around) where
     stays_at true n v w f e = absurd (f refl)
     stays_at false n v w f e = e
 
-    write_same : (q : Place) (v : ℤ) → (locked q → ⊥) → x.wrote q → Same x locked (record o { store = write q v o.store }) (record a { store = write q v a.store })
+    write_same : (q : Place) (v : ℤ) → (locked q → ⊥) → x.wrote q
+        → Same x locked (record o { store = write q v o.store }) (record a { store = write q v a.store })
     write_same q v n w = record {
       flow = s.flow;
       environment = s.environment;
@@ -243,6 +251,7 @@ module _ (x : Around) where
       out = s.out;
     }
 
-    pub put_same : (l : ℕ) (fits : Bool) (q : Place) (v : ℤ) → (locked q → ⊥) → x.wrote q → Same x locked (put l fits q v o) (put l fits q v a)
+    pub put_same : (l : ℕ) (fits : Bool) (q : Place) (v : ℤ) → (locked q → ⊥) → x.wrote q
+        → Same x locked (put l fits q v o) (put l fits q v a)
     put_same l true q v n w = write_same q v n w
     put_same l false q v n w = fault_same locked o a l _ s

@@ -107,7 +107,8 @@ module _ (p : Program) (needs : Codes → Needs) (fresh : ℕ) where
     IsGiven s = given p needs fresh root s.path ≡ Some s
 
     pub begun_is_true : (s : Start) → IsGiven s → (st : State Own) (c : Child) → st.path ≡ s.path
-        → ((k : ℕ) (t : Start) → slice_get (begun_by st.extra.actions) k ≡ Some t → slice_get (begun_by (own p needs fresh s).extra.actions) k ≡ Some t)
+        → ((k : ℕ) (t : Start) → slice_get (begun_by st.extra.actions) k ≡ Some t
+        → slice_get (begun_by (own p needs fresh s).extra.actions) k ≡ Some t)
         → IsBegun s.nest st c → IsTrue p needs fresh root c
     begun_is_true s is st c path more h = record {
       listed = h.listed;
@@ -129,7 +130,8 @@ module _ (p : Program) (needs : Codes → Needs) (fresh : ℕ) where
     pub fill_sound : (deeper : TaskResult → List TaskResult → Option (Settled × List TaskResult))
         → ((s : Start) → IsGiven s → (rs : List TaskResult) → Each (IsOwn p needs fresh root) rs → (x : Settled × List TaskResult)
         → deeper (result_of (own p needs fresh s)) rs ≡ Some x → Right x.1 x.0 (comes_to p needs fresh s))
-        → (owned : Places) (cs : List Child) (so_far : Settled) (rs : List TaskResult) → Each (IsTrue p needs fresh root) cs → Each (IsOwn p needs fresh root) rs → (x : Settled × List TaskResult)
+        → (owned : Places) (cs : List Child) (so_far : Settled) (rs : List TaskResult) → Each (IsTrue p needs fresh root) cs
+        → Each (IsOwn p needs fresh root) rs → (x : Settled × List TaskResult)
         → fill_all deeper owned (map (λ c. c.listed) cs) so_far rs ≡ Some x → Right x.1 x.0 (filled p needs fresh cs so_far)
     fill_sound deeper h owned [] so_far rs k all x e =
         let i : (so_far, rs) ≡ x = some_same e in
@@ -141,16 +143,20 @@ module _ (p : Program) (needs : Codes → Needs) (fresh : ℕ) where
         let own_result : g.one.0 ≡ result_of (own p needs fresh c.start) =
         t.this c.start (ap (given p needs fresh root) (t.at ∙ k.0.listed) ∙ k.0.is) in
         let child = h c.start k.0.is g.one.1 t.others f.one (ap (λ r. deeper r g.one.1) (sym own_result) ∙ f.first) in
-        let others = fill_sound deeper h (λ q. owned q || within c.listed.windows q) cs (fill c.listed f.one.0 so_far) f.one.1 k.1 child.others x f.next in
+        let others =
+        fill_sound deeper h (λ q. owned q || within c.listed.windows q) cs
+        (fill c.listed f.one.0 so_far) f.one.1 k.1 child.others x f.next in
         record { same = others.same ∙ ap (λ y. filled p needs fresh cs (fill c.listed y so_far)) child.same; others = others.others }
 
-    pub settle_sound : (k : ℕ) (s : Start) → IsGiven s → (rs : List TaskResult) → Each (IsOwn p needs fresh root) rs → (x : Settled × List TaskResult)
+    pub settle_sound : (k : ℕ) (s : Start) → IsGiven s → (rs : List TaskResult) → Each (IsOwn p needs fresh root) rs
+        → (x : Settled × List TaskResult)
         → settle_within k (result_of (own p needs fresh s)) rs ≡ Some x → Right x.1 x.0 (comes_to p needs fresh s)
     settle_sound zero s is rs all x e = absurd (none_some e)
     settle_sound (suc k) s is rs all x e =
         let end = own p needs fresh s in
         let g = gives (fill_all (settle_within k) end.extra.owned (map (λ c. c.listed) end.extra.pending) none_yet rs) _ x e in
-        let f = fill_sound (settle_within k) (settle_sound k) end.extra.owned end.extra.pending none_yet rs (lists_true s is) all g.one g.first in
+        let f = fill_sound (settle_within k) (settle_sound k) end.extra.owned end.extra.pending none_yet rs
+        (lists_true s is) all g.one g.first in
         let i : (complete (result_of end) g.one.0, g.one.1) ≡ x = some_same g.next in
         record {
           same = ap (λ (x : Settled × List TaskResult). x.0) (sym i) ∙ ap (complete (result_of end)) f.same ∙ own_settles p needs fresh s;
@@ -162,7 +168,8 @@ module _ (p : Program) (needs : Codes → Needs) (fresh : ℕ) where
     none_left_is (s, r ∷ rs) y e = absurd (none_some e)
 
     -- what is pending of a task that was given its start, with results that are own runs
-    pub part_sound : (cs : List Child) → Each (IsTrue p needs fresh root) cs → (r : TaskResult) → r.children ≡ map (λ c. c.listed) cs → (rs : List TaskResult)
+    pub part_sound : (cs : List Child) → Each (IsTrue p needs fresh root) cs → (r : TaskResult) → r.children ≡ map (λ c. c.listed) cs
+        → (rs : List TaskResult)
         → Each (IsOwn p needs fresh root) rs → (x : Settled) → settle r rs ≡ Some x → x ≡ complete r (filled p needs fresh cs none_yet)
     part_sound cs k r e rs all x h = by_depth (length rs + 1) h
       where
@@ -190,11 +197,14 @@ module _ (p : Program) (needs : Codes → Needs) (fresh : ℕ) where
   told_apart input b e =
       ap (λ n. told_of p (comes_to p needs n (root_of p input b.nest))) e
       ∙ (let out = apart p needs b.steps b.nest (Block p.main.body) (start nothing p b.steps (held_by input)) in
-      sym (ap (λ f. outcome_by f (record { arrays = shown p.arrays (merged out); lines = out.lines; faults = out.faults })) (flow_is p needs b.steps out.flow out.extra.halted out.faults)))
+      sym (ap (λ f. outcome_by f (record { arrays = shown p.arrays (merged out); lines = out.lines; faults = out.faults }))
+      (flow_is p needs b.steps out.flow out.extra.halted out.faults)))
 
 -- results of own runs, settled in any order, come to the one-thread outcome
-pub settled_outcome : (p : Program) (needs : Codes → Needs) → IsScoped p → IsCalm p → Provides p needs → (input : List (List ℤ)) (b : Budget) (rs : List TaskResult) (x : Settled)
-    → Each (IsOwn p needs b.steps (root_of p input b.nest)) rs → settle (result_of (own p needs b.steps (root_of p input b.nest))) rs ≡ Some x
+pub settled_outcome : (p : Program) (needs : Codes → Needs) → IsScoped p → IsCalm p → Provides p needs
+    → (input : List (List ℤ)) (b : Budget) (rs : List TaskResult) (x : Settled)
+    → Each (IsOwn p needs b.steps (root_of p input b.nest)) rs
+    → settle (result_of (own p needs b.steps (root_of p input b.nest))) rs ≡ Some x
     → told_of p x ≡ outcome p input b
 settled_outcome p needs scoped calm provides input b rs x all e =
     ap (told_of p) (own_sound p needs b.steps (root_of p input b.nest) (root_of p input b.nest) refl rs all x e)

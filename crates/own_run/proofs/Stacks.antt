@@ -22,7 +22,8 @@ anywhere s = Unit {0}
 module _ (p : Program) (needs : Codes → Needs) where
   -- other windows, which are the same within the limit
   pub restack : (f g : ℕ → Window) (limit wide : ℕ → Type 0) (c : Contents) (o : Places) (locked : Place → Type 0) (fs : List (Frame Own))
-      → ((s : ℕ) → limit s → wide s) → ((s : ℕ) → limit s → g s ≡ f s) → Stack p needs f limit c o locked fs → Stack p needs g wide c o locked fs
+      → ((s : ℕ) → limit s → wide s) → ((s : ℕ) → limit s → g s ≡ f s) → Stack p needs f limit c o locked fs
+      → Stack p needs g wide c o locked fs
   restack f g limit wide c o locked [] h e k = tt
   restack f g limit wide c o locked (Rest b ∷ fs) h e (sc, env, left, below) = (
     sc,
@@ -34,7 +35,8 @@ module _ (p : Program) (needs : Codes → Needs) where
     sc,
     env,
     record { inside = λ s i. h s (left.inside s i); known = λ s i. e s (left.inside s i) ∙ left.known s i; ready = left.ready },
-    restack f g (InScope sc) (InScope sc) c o (locked_after p needs env locked (Then l (While t b) End)) fs (λ s i. i) (λ s i. e s (left.inside s i)) below,
+    restack f g (InScope sc) (InScope sc) c o (locked_after p needs env locked (Then l (While t b) End)) fs (λ s i. i)
+        (λ s i. e s (left.inside s i)) below,
   )
   restack f g limit wide c o locked (AtEnd before ∷ fs) h e k = restack f g limit wide before.store before.extra.owned (λ q. ⊥) fs h e k
   restack f g limit wide c o locked (Back env ∷ fs) h e k = k
@@ -73,14 +75,27 @@ module _ (p : Program) (needs : Codes → Needs) where
     anchor f limit locked fewer (Rest b ∷ fs) k (sc, env, left, below) = (
       sc,
       env,
-      record { inside = left.inside; known = left.known; ready = anchor_ready sc env locked fewer (locked_after p needs env locked b) b k left.ready },
-      anchor f (InScope sc) (locked_after p needs env locked b) (locked_after p needs env fewer b) fs (keeps_on locked fewer (Overwrites env (Pending p accesses b)) k) below,
+      record {
+        inside = left.inside;
+        known = left.known;
+        ready =
+            anchor_ready sc env locked fewer (locked_after p needs env locked b) b k left.ready;
+      },
+      anchor f (InScope sc) (locked_after p needs env locked b) (locked_after p needs env fewer b) fs
+          (keeps_on locked fewer (Overwrites env (Pending p accesses b)) k) below,
     )
     anchor f limit locked fewer (Again l t b ∷ fs) k (sc, env, left, below) = (
       sc,
       env,
-      record { inside = left.inside; known = left.known; ready = anchor_ready sc env locked fewer (locked_after p needs env locked (Then l (While t b) End)) (Then l (While t b) End) k left.ready },
-      anchor f (InScope sc) (locked_after p needs env locked (Then l (While t b) End)) (locked_after p needs env fewer (Then l (While t b) End)) fs
+      record {
+        inside = left.inside;
+        known = left.known;
+        ready =
+            anchor_ready sc env locked fewer (locked_after p needs env locked (Then l (While t b) End))
+            (Then l (While t b) End) k left.ready;
+      },
+      anchor f (InScope sc) (locked_after p needs env locked (Then l (While t b) End))
+          (locked_after p needs env fewer (Then l (While t b) End)) fs
           (keeps_on locked fewer (Overwrites env (Pending p accesses (Then l (While t b) End))) k) below,
     )
     anchor f limit locked fewer (AtEnd before ∷ fs) k h = h
@@ -89,4 +104,5 @@ module _ (p : Program) (needs : Codes → Needs) where
   -- the same contents, with fewer locks
   pub unlock : (f : ℕ → Window) (limit : ℕ → Type 0) (c : Contents) (o : Places) (locked fewer : Place → Type 0) (fs : List (Frame Own))
       → ((q : Place) → fewer q → locked q) → Stack p needs f limit c o locked fs → Stack p needs f limit c o fewer fs
-  unlock f limit c o locked fewer fs h k = anchor c c o o f limit locked fewer fs (record { there = λ q m i. i; owned = λ q m i. i; fewer_locks = h }) k
+  unlock f limit c o locked fewer fs h k =
+      anchor c c o o f limit locked fewer fs (record { there = λ q m i. i; owned = λ q m i. i; fewer_locks = h }) k

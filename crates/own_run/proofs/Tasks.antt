@@ -1,12 +1,14 @@
 -- A task's turns keep what is true of it, whatever else happens between them.
-use Rattle.std.proofs.Common.{◌≡◌, ℕ, zero, suc, ◌≤◌, List, [], ◌∷◌, ◌++◌, Option, Some, None, Ok, Err, refl, sym, ap, ◌∙◌, le_refl, append_assoc}
+use Rattle.std.proofs.Common.{◌≡◌, ℕ, zero, suc, ◌≤◌, List, [], ◌∷◌, ◌++◌, Option, Some, None, Ok, Err, refl, sym, ap, ◌∙◌, le_refl}
+use Rattle.std.proofs.Common.{append_assoc}
 use Rattle.std.proofs.lemmas.List.{append-nil}
 use Rattle.std.specs.Prelude.{Bool, true, false, map, ok_or, if◌then◌else◌}
 use Rattle.types.specs.declared.fault.FaultKind.TheVariants.{SplitPoint}
 use Rattle.types.specs.Code.{Code, Do, If, While, Split, Call, Async, Finish, Codes, End, Then, Program}
 use Rattle.types.specs.Place.{sides_of}
 use Rattle.types.specs.Value.{Valued}
-use Rattle.types.specs.Run.{Flow, On, Faulted, Stopped, State, Rules, Work, Block, Turn, stopped, at_flow, fault, number_at, numbers_at, truth_at, window_at, entry, with_sides, procedure_of, primitive, counted, run}
+use Rattle.types.specs.Run.{Flow, On, Faulted, Stopped, State, Rules, Work, Block, Turn, stopped, at_flow, fault, number_at, numbers_at}
+use Rattle.types.specs.Run.{truth_at, window_at, entry, with_sides, procedure_of, primitive, counted, run}
 use Rattle.types.specs.Laws.{IsThrifty}
 use Rattle.effects.specs.Needs.{Needs}
 use Rattle.own_run.specs.Results.{Settled}
@@ -33,7 +35,8 @@ module _ (p : Program) (needs : Codes → Needs) (nest : ℕ) (close : State Own
       ends None = le_refl out.steps
       ends (Some s) = le_refl out.steps
 
-      by_waiting : (b : Bool) → (if b then out else leave_with before (record out { extra = notes EndFinish out.extra }) (close out)).steps ≤ out.steps
+      by_waiting : (b : Bool) →
+          (if b then out else leave_with before (record out { extra = notes EndFinish out.extra }) (close out)).steps ≤ out.steps
       by_waiting true = le_refl out.steps
       by_waiting false = ends (close out)
 
@@ -80,7 +83,8 @@ module _ (p : Program) (needs : Codes → Needs) (nest : ℕ) (close : State Own
 
   pub resume_grows : (fs : List (Frame Own)) (st : State Own) → Grows st (resume p r fs st)
   resume_grows [] st = still st
-  resume_grows (f ∷ fs) st = further st (frame p r f st) (resume p r fs (frame p r f st)) (frame_grows f st) (resume_grows fs (frame p r f st))
+  resume_grows (f ∷ fs) st =
+      further st (frame p r f st) (resume p r fs (frame p r f st)) (frame_grows f st) (resume_grows fs (frame p r f st))
 
   -- ---- what a turn keeps
   abbrev pub T : State Own → State Own → Type 0
@@ -109,8 +113,10 @@ module _ (p : Program) (needs : Codes → Needs) (nest : ℕ) (close : State Own
     waits : to.extra.waits ≡ st.extra.waits
     ended : to.extra.ended ≡ st.extra.ended
 
-  kept_by : (st : State Own) (to : State Own) (fs : List (Frame Own)) → Quiet st to → FineBelow nest st fs → Kept st (record { frames = fs; state = to })
-  kept_by st to fs q h = record { tells = q.tells; below = below_still st to q.tells.path q.tells.done q.tells.more fs h; waits = q.waits; ended = q.ended }
+  kept_by : (st : State Own) (to : State Own) (fs : List (Frame Own)) → Quiet st to → FineBelow nest st fs
+      → Kept st (record { frames = fs; state = to })
+  kept_by st to fs q h =
+      record { tells = q.tells; below = below_still st to q.tells.path q.tells.done q.tells.more fs h; waits = q.waits; ended = q.ended }
 
   idle : (st to : State Own) → to.path ≡ st.path → to.spawned ≡ st.spawned → to.extra ≡ st.extra → Quiet st to
   idle st to path spawned extra = record {
@@ -137,7 +143,8 @@ module _ (p : Program) (needs : Codes → Needs) (nest : ℕ) (close : State Own
   value_kept l (Ok x) go fs st b h = h x
   value_kept l (Err f) go fs st b h = kept_by st (fault l f st) fs (idle st (fault l f st) refl refl refl) b
 
-  chosen_kept : (v : Bool) (fs gs : List (Frame Own)) (st : State Own) → FineBelow nest st fs → FineBelow nest st gs → Kept st (chosen v fs gs st)
+  chosen_kept : (v : Bool) (fs gs : List (Frame Own)) (st : State Own) → FineBelow nest st fs → FineBelow nest st gs
+      → Kept st (chosen v fs gs st)
   chosen_kept true fs gs st h k = kept_by st st fs (idle st st refl refl refl) h
   chosen_kept false fs gs st h k = kept_by st st gs (idle st st refl refl refl) k
 
@@ -149,7 +156,8 @@ module _ (p : Program) (needs : Codes → Needs) (nest : ℕ) (close : State Own
   begin_ended zero b st = refl
   begin_ended (suc n) b st = refl
 
-  acted_kept : (s : Code) (l : ℕ) (fs : List (Frame Own)) (st : State Own) → Fine nest st → FineBelow nest st fs → Kept st (acted p r l s fs st)
+  acted_kept : (s : Code) (l : ℕ) (fs : List (Frame Own)) (st : State Own) → Fine nest st → FineBelow nest st fs
+      → Kept st (acted p r l s fs st)
   acted_kept (Do s) l fs st f b =
       let h = primitive_keeps p _ Hidden hidden l s st in kept_by st (primitive p l s st) fs (idle st (primitive p l s st) h.0 h.1 h.2) b
   acted_kept (If t c d) l fs st f b = value_kept l (truth_at st t) _ fs st b (λ v. chosen_kept v (Rest c ∷ fs) (Rest d ∷ fs) st b b)
@@ -162,9 +170,11 @@ module _ (p : Program) (needs : Codes → Needs) (nest : ℕ) (close : State Own
       let to = record st { environment = entry vs (map (window_at st) ss) } in
       kept_by st to (Rest (procedure_of p g).body ∷ Back st.environment ∷ fs) (idle st to refl refl refl) b)
   acted_kept (Async c) l fs st f b =
-      kept_by st (r.begin c st) fs (record { tells = begin_tells nest needs close nest refl c st; waits = begin_quiet nest c st; ended = begin_ended nest c st }) b
+      kept_by st (r.begin c st) fs
+      (record { tells = begin_tells nest needs close nest refl c st; waits = begin_quiet nest c st; ended = begin_ended nest c st }) b
   acted_kept (Finish c) l fs st f b =
-      kept_by st (r.enter st) (Rest c ∷ AtEnd st ∷ fs) (record { tells = enter_tells nest needs close st; waits = refl; ended = refl }) (f.begun, b)
+      kept_by st (r.enter st) (Rest c ∷ AtEnd st ∷ fs) (record { tells = enter_tells nest needs close st; waits = refl; ended = refl })
+      (f.begun, b)
 
   counted_quiet : (s : Code) (st : State Own) → Quiet st (counted r s st)
   counted_quiet s st = record {
@@ -199,7 +209,8 @@ module _ (p : Program) (needs : Codes → Needs) (nest : ℕ) (close : State Own
     ended = k.ended ∙ q.ended;
   }
 
-  paid_kept : (n l : ℕ) (s : Code) (fs : List (Frame Own)) (st : State Own) → Fine nest st → FineBelow nest st fs → Kept st (paid p r n l s fs st)
+  paid_kept : (n l : ℕ) (s : Code) (fs : List (Frame Own)) (st : State Own) → Fine nest st → FineBelow nest st fs
+      → Kept st (paid p r n l s fs st)
   paid_kept zero l s fs st f b = kept_by st (stopped st) fs (idle st (stopped st) refl refl refl) b
   paid_kept (suc n) l s fs st f b =
       let one = record st { steps = n } in
@@ -211,15 +222,18 @@ module _ (p : Program) (needs : Codes → Needs) (nest : ℕ) (close : State Own
       (below_still one two second.tells.path second.tells.done second.tells.more fs
       (below_still st one first.tells.path first.tells.done first.tells.more fs b))))
 
-  flow_kept : (g : Flow) (l : ℕ) (s : Code) (fs below : List (Frame Own)) (st : State Own) → Fine nest st → FineBelow nest st fs → FineBelow nest st below
+  flow_kept : (g : Flow) (l : ℕ) (s : Code) (fs below : List (Frame Own)) (st : State Own) → Fine nest st → FineBelow nest st fs
+      → FineBelow nest st below
       → Kept st (by_flow p r g l s fs below st)
   flow_kept On l s fs below st f b c = paid_kept st.steps l s fs st f b
   flow_kept Faulted l s fs below st f b c = kept_by st st below (idle st st refl refl refl) c
   flow_kept Stopped l s fs below st f b c = kept_by st st below (idle st st refl refl refl) c
 
-  pub turn_kept : (g : Frame Own) (fs : List (Frame Own)) (st : State Own) → Fine nest st → FineBelow nest st (g ∷ fs) → Kept st (turn p r g fs st)
+  pub turn_kept : (g : Frame Own) (fs : List (Frame Own)) (st : State Own) → Fine nest st → FineBelow nest st (g ∷ fs)
+      → Kept st (turn p r g fs st)
   turn_kept (Rest End) fs st f b = kept_by st st fs (idle st st refl refl refl) b
   turn_kept (Rest (Then l s rest)) fs st f b = flow_kept st.flow l s (Rest rest ∷ fs) fs st f b b
   turn_kept (Again l t c) fs st f b = flow_kept st.flow l (While t c) fs fs st f b b
   turn_kept (AtEnd before) fs st f b = kept_by st st (AtEnd before ∷ fs) (idle st st refl refl refl) b
-  turn_kept (Back env) fs st f b = kept_by st (record st { environment = env }) fs (idle st (record st { environment = env }) refl refl refl) b
+  turn_kept (Back env) fs st f b =
+      kept_by st (record st { environment = env }) fs (idle st (record st { environment = env }) refl refl refl) b

@@ -1,5 +1,6 @@
 -- From its beginning to its end a task has what it touches.
-use Rattle.std.proofs.Common.{◌≡◌, ℕ, zero, suc, ◌+◌, ◌<◌, List, [], ◌∷◌, ◌++◌, length, Option, Some, refl, sym, ap, ◌∙◌, subst, inl, inr, arith}
+use Rattle.std.proofs.Common.{◌≡◌, ℕ, zero, suc, ◌+◌, ◌<◌, List, [], ◌∷◌, ◌++◌, length, Option, Some, refl, sym, ap, ◌∙◌, subst, inl, inr}
+use Rattle.std.proofs.Common.{arith}
 use Rattle.std.proofs.lemmas.Bool.{or_left, or_right, false_from_ne_true}
 use Rattle.std.specs.Prelude.{ℤ, ◌⊎◌, true, ◌||◌, slice_get, slice_index_or}
 use Rattle.types.specs.Code.{Truth, Code, Do, If, While, Split, Call, Async, Finish, Codes, End, Then, Array, Program}
@@ -52,7 +53,8 @@ module _ (p : Program) (needs : Codes → Needs) (is_scoped : IsScoped p) (is_ca
       returns = returns_move p needs st _ (record { there = λ q. inl; owned = λ q. inl; back = λ q. inr; no_more = λ q i. i }) gs h.returns;
     }
 
-    with_step_less : (sc : Scope) (env : Environment) (l : ℕ) (s : Code) (gs : List (Frame Own)) (st : State Own) (k : ℕ) → B sc env l s gs st
+    with_step_less : (sc : Scope) (env : Environment) (l : ℕ) (s : Code) (gs : List (Frame Own)) (st : State Own) (k : ℕ)
+        → B sc env l s gs st
         → B sc env l s gs (record st { steps = k })
     with_step_less sc env l s gs st k h = record {
       known = h.known;
@@ -63,7 +65,8 @@ module _ (p : Program) (needs : Codes → Needs) (is_scoped : IsScoped p) (is_ca
       returns = returns_move p needs st _ (record { there = λ q. inl; owned = λ q. inl; back = λ q. inr; no_more = λ q i. i }) gs h.returns;
     }
 
-    counted_before : (s : Code) (sc : Scope) (env : Environment) (l : ℕ) (gs : List (Frame Own)) (st : State Own) (k : ℕ) → B sc env l s gs st
+    counted_before : (s : Code) (sc : Scope) (env : Environment) (l : ℕ) (gs : List (Frame Own)) (st : State Own) (k : ℕ)
+        → B sc env l s gs st
         → B sc env l s gs (counted r s (record st { steps = k }))
     counted_before (Do s) sc env l gs st k h = with_note sc env l (Do s) gs st k h
     counted_before (If t b c) sc env l gs st k h = with_note sc env l (If t b c) gs st k h
@@ -76,13 +79,16 @@ module _ (p : Program) (needs : Codes → Needs) (is_scoped : IsScoped p) (is_ca
     paid_holds : (k : ℕ) (s : Code) (sc : Scope) (env : Environment) (l : ℕ) (gs : List (Frame Own)) (st : State Own) → B sc env l s gs st
         → Holds p needs (paid p r k l s gs st)
     paid_holds zero s sc env l gs st h =
-        plain p needs is_scoped is_calm provides nest close sc env l s gs st h (stopped st) (record { windows = λ s. refl; stores = λ q i. i; owned = refl; pending = refl })
+        plain p needs is_scoped is_calm provides nest close sc env l s gs st h (stopped st)
+        (record { windows = λ s. refl; stores = λ q i. i; owned = refl; pending = refl })
     paid_holds (suc k) s sc env l gs st h =
-        acted_holds p needs is_scoped is_calm provides nest close s sc env l gs (counted r s (record st { steps = k })) (counted_before s sc env l gs st k h)
+        acted_holds p needs is_scoped is_calm provides nest close s sc env l gs (counted r s (record st { steps = k }))
+        (counted_before s sc env l gs st k h)
 
     -- the frames below
     below_holds : (f : ℕ → Window) (sc : Scope) (locked : Place → Type 0) (fs : List (Frame Own)) (st : State Own)
-        → Stack p needs st.environment.windows (InScope sc) st.store st.extra.owned locked fs → Each (Carries p needs) st.extra.pending → Parted st.extra.owned (lists st.extra.pending) → Returns p needs st fs
+        → Stack p needs st.environment.windows (InScope sc) st.store st.extra.owned locked fs → Each (Carries p needs) st.extra.pending
+        → Parted st.extra.owned (lists st.extra.pending) → Returns p needs st fs
         → Holds p needs (record { frames = fs; state = st })
     below_holds f sc locked fs st k c d h = record {
       stack = relimit p needs is_scoped is_calm provides nest close st.environment.windows (InScope sc) st.store st.extra.owned none fs
@@ -93,7 +99,8 @@ module _ (p : Program) (needs : Codes → Needs) (is_scoped : IsScoped p) (is_ca
     }
 
     -- the first statement of a block is about to run
-    before_first : (l : ℕ) (s : Code) (rest : Codes) (fs : List (Frame Own)) (st : State Own) (h : Holds p needs (record { frames = Rest (Then l s rest) ∷ fs; state = st }))
+    before_first : (l : ℕ) (s : Code) (rest : Codes) (fs : List (Frame Own)) (st : State Own)
+        (h : Holds p needs (record { frames = Rest (Then l s rest) ∷ fs; state = st }))
         → B h.stack.0 h.stack.1 l s (Rest rest ∷ fs) st
     before_first l s rest fs st h =
         let sc = h.stack.0 in
@@ -111,12 +118,14 @@ module _ (p : Program) (needs : Codes → Needs) (is_scoped : IsScoped p) (is_ca
             record {
               inside = λ z i. i;
               known = left.known;
-              ready = anchor_ready p needs st.store st.store st.extra.owned st.extra.owned sc env mid mid final rest (record { there = λ q n j. j; owned = λ q n j. j; fewer_locks = λ q j. j })
+              ready = anchor_ready p needs st.store st.store st.extra.owned st.extra.owned sc env mid mid final rest
+                  (record { there = λ q n j. j; owned = λ q n j. j; fewer_locks = λ q j. j })
                   (rest_ready p needs x none final l s rest left.ready);
             },
             unlock p needs st.environment.windows (InScope sc) st.store st.extra.owned final (locked_after p needs env mid rest) fs
                 (λ q m. elim m as (λ _. final q) [
-                  | inl j ↦ elim j as (λ _. final q) [ inl n ↦ absurd n | inr i ↦ inr (overwrites_more env _ _ q (λ y k. Pending.here k) i) ]
+                  | inl j ↦ elim j as
+                      (λ _. final q) [ inl n ↦ absurd n | inr i ↦ inr (overwrites_more env _ _ q (λ y k. Pending.here k) i) ]
                   | inr i ↦ inr (overwrites_more env _ _ q (λ y k. Pending.later k) i)
                 ])
                 h.stack.3,
@@ -127,7 +136,8 @@ module _ (p : Program) (needs : Codes → Needs) (is_scoped : IsScoped p) (is_ca
         }
 
     -- a guard is about to be evaluated again
-    before_again : (l : ℕ) (t : Truth) (b : Codes) (fs : List (Frame Own)) (st : State Own) (h : Holds p needs (record { frames = Again l t b ∷ fs; state = st }))
+    before_again : (l : ℕ) (t : Truth) (b : Codes) (fs : List (Frame Own)) (st : State Own)
+        (h : Holds p needs (record { frames = Again l t b ∷ fs; state = st }))
         → B h.stack.0 h.stack.1 l (While t b) fs st
     before_again l t b fs st h =
         let sc = h.stack.0 in
@@ -139,20 +149,23 @@ module _ (p : Program) (needs : Codes → Needs) (is_scoped : IsScoped p) (is_ca
           known = left.known;
           ready = first_ready p needs x none final l (While t b) End left.ready;
           lower = unlock p needs st.environment.windows (InScope sc) st.store st.extra.owned final (behind p needs x none (While t b)) fs
-              (λ q j. elim j as (λ _. final q) [ inl n ↦ absurd n | inr i ↦ inr (overwrites_more env _ _ q (λ y k. Pending.here k) i) ]) h.stack.3;
+              (λ q j. elim j as
+              (λ _. final q) [ inl n ↦ absurd n | inr i ↦ inr (overwrites_more env _ _ q (λ y k. Pending.here k) i) ]) h.stack.3;
           carried = h.carried;
           parted = h.parted;
           returns = h.returns;
         }
 
-    flow_holds : (g : Flow) (s : Code) (sc : Scope) (env : Environment) (l : ℕ) (gs fs : List (Frame Own)) (st : State Own) → B sc env l s gs st
+    flow_holds : (g : Flow) (s : Code) (sc : Scope) (env : Environment) (l : ℕ) (gs fs : List (Frame Own)) (st : State Own)
+        → B sc env l s gs st
         → Holds p needs (record { frames = fs; state = st }) → Holds p needs (by_flow p r g l s gs fs st)
     flow_holds On s sc env l gs fs st h k = paid_holds st.steps s sc env l gs st h
     flow_holds Faulted s sc env l gs fs st h k = k
     flow_holds Stopped s sc env l gs fs st h k = k
 
     -- a turn leaves a task what it touches
-    pub turn_holds : (f : Frame Own) (fs : List (Frame Own)) (st : State Own) → Holds p needs (record { frames = f ∷ fs; state = st }) → Holds p needs (turn p r f fs st)
+    pub turn_holds : (f : Frame Own) (fs : List (Frame Own)) (st : State Own) → Holds p needs (record { frames = f ∷ fs; state = st })
+        → Holds p needs (turn p r f fs st)
     turn_holds (Rest End) fs st h = below_holds st.environment.windows h.stack.0 _ fs st h.stack.3 h.carried h.parted h.returns
     turn_holds (Rest (Then l s rest)) fs st h =
         flow_holds st.flow s h.stack.0 h.stack.1 l (Rest rest ∷ fs) fs st (before_first l s rest fs st h)
@@ -169,20 +182,24 @@ module _ (p : Program) (needs : Codes → Needs) (is_scoped : IsScoped p) (is_ca
     }
 
     -- ---- what a statement about to run has
-    has_own : (sc : Scope) (env : Environment) (l : ℕ) (s : Code) (gs : List (Frame Own)) (st : State Own) → B sc env l s gs st → HasOwn st l s
+    has_own : (sc : Scope) (env : Environment) (l : ℕ) (s : Code) (gs : List (Frame Own)) (st : State Own) → B sc env l s gs st
+        → HasOwn st l s
     has_own sc env l s gs st h y m q i =
         let place : In (env.windows y.section) q = subst (λ w. In w q) (h.known y.section (h.ready.names y m)) i in (
           h.ready.held q (record { access = y; among = AllOf.own_access m; place = place }),
           λ w. h.ready.wrote q (record { access = y; among = AllOf.own_access m; place = place; writes = w }),
         )
 
-    pub first_has : (l : ℕ) (s : Code) (rest : Codes) (fs : List (Frame Own)) (st : State Own) → Holds p needs (record { frames = Rest (Then l s rest) ∷ fs; state = st }) → HasOwn st l s
+    pub first_has : (l : ℕ) (s : Code) (rest : Codes) (fs : List (Frame Own)) (st : State Own)
+        → Holds p needs (record { frames = Rest (Then l s rest) ∷ fs; state = st }) → HasOwn st l s
     first_has l s rest fs st h = has_own h.stack.0 h.stack.1 l s (Rest rest ∷ fs) st (before_first l s rest fs st h)
 
-    pub again_has : (l : ℕ) (t : Truth) (b : Codes) (fs : List (Frame Own)) (st : State Own) → Holds p needs (record { frames = Again l t b ∷ fs; state = st }) → HasOwn st l (While t b)
+    pub again_has : (l : ℕ) (t : Truth) (b : Codes) (fs : List (Frame Own)) (st : State Own)
+        → Holds p needs (record { frames = Again l t b ∷ fs; state = st }) → HasOwn st l (While t b)
     again_has l t b fs st h = has_own h.stack.0 h.stack.1 l (While t b) fs st (before_again l t b fs st h)
 
-    needs_held : (sc : Scope) (env : Environment) (l : ℕ) (b : Codes) (gs : List (Frame Own)) (st : State Own) → B sc env l (Async b) gs st → HasNeeds st (needs b)
+    needs_held : (sc : Scope) (env : Environment) (l : ℕ) (b : Codes) (gs : List (Frame Own)) (st : State Own) → B sc env l (Async b) gs st
+        → HasNeeds st (needs b)
     needs_held sc env l b gs st h =
         let a = h.ready.provided.0 in
         record {
@@ -192,24 +209,31 @@ module _ (p : Program) (needs : Codes → Needs) (is_scoped : IsScoped p) (is_ca
                 | inl c ↦ let m = a.are_written i.section c in by_access m.access m.among i.section m.names q i.place
                 | inr c ↦ let m = a.are_read i.section c in by_access m.access m.among i.section m.names q i.place
               ];
-          owned = λ q w. h.ready.wrote q (overwrites_more env _ _ q (λ y i. AllOf.async i) (written_overwrites p needs is_scoped is_calm provides nest close sc env l (Async b) gs st h b a h.ready.scoped q w));
+          owned = λ q w. h.ready.wrote q
+              (overwrites_more env _ _ q (λ y i. AllOf.async i)
+              (written_overwrites p needs is_scoped is_calm provides nest close sc env l (Async b) gs st h b a h.ready.scoped q w));
         }
       where
-        by_access : (y : Access) → All p accesses b y → (s : ℕ) → y.section ≡ s → (q : Place) → In (st.environment.windows s) q → IsThere (st.store q)
+        by_access : (y : Access) → All p accesses b y → (s : ℕ) → y.section ≡ s → (q : Place) → In (st.environment.windows s) q
+            → IsThere (st.store q)
         by_access y m s e q i =
             h.ready.held q (record {
               access = y;
               among = AllOf.async m;
-              place = subst (λ w. In w q) (ap st.environment.windows (sym e) ∙ h.known y.section (named_all p is_scoped.procedures sc b y h.ready.scoped m)) i;
+              place = subst (λ w. In w q)
+                  (ap st.environment.windows (sym e) ∙ h.known y.section (named_all p is_scoped.procedures sc b y h.ready.scoped m)) i;
             })
 
-    pub async_has : (l : ℕ) (b rest : Codes) (fs : List (Frame Own)) (st : State Own) → Holds p needs (record { frames = Rest (Then l (Async b) rest) ∷ fs; state = st }) → HasNeeds st (needs b)
+    pub async_has : (l : ℕ) (b rest : Codes) (fs : List (Frame Own)) (st : State Own)
+        → Holds p needs (record { frames = Rest (Then l (Async b) rest) ∷ fs; state = st }) → HasNeeds st (needs b)
     async_has l b rest fs st h = needs_held h.stack.0 h.stack.1 l b (Rest rest ∷ fs) st (before_first l (Async b) rest fs st h)
 
   -- ---- the end of a finish
   module _ (fresh : ℕ) where
-    pub handed_true : (before : State Own) (fs : List (Frame Own)) (st : State Own) → Holds p needs (record { frames = AtEnd before ∷ fs; state = st }) → (x : Settled)
-        → x ≡ complete (result_of st) (filled p needs fresh st.extra.pending none_yet) → Holds p needs (record { frames = fs; state = handed before x st })
+    pub handed_true : (before : State Own) (fs : List (Frame Own)) (st : State Own)
+        → Holds p needs (record { frames = AtEnd before ∷ fs; state = st }) → (x : Settled)
+        → x ≡ complete (result_of st) (filled p needs fresh st.extra.pending none_yet)
+        → Holds p needs (record { frames = fs; state = handed before x st })
     handed_true before fs st h x e = record {
       stack = anchor p needs before.store x.contents before.extra.owned to.extra.owned st.environment.windows anywhere none none fs
           (record { there = λ q n. there q; owned = λ q n. owned q; fewer_locks = λ q n. n }) h.stack;
@@ -220,7 +244,9 @@ module _ (p : Program) (needs : Codes → Needs) (is_scoped : IsScoped p) (is_ca
         there = λ q i. inl (there q i);
         owned = λ q i. inl (owned q i);
         back = λ q. inr;
-        no_more = λ q i. elim i as (λ _. (before.extra.owned q ≡ true) ⊎ (back_from before.extra.pending q ≡ true)) [ inl k ↦ inl (mine q k) | inr k ↦ inr k ];
+        no_more =
+            λ q i. elim i as
+            (λ _. (before.extra.owned q ≡ true) ⊎ (back_from before.extra.pending q ≡ true)) [ inl k ↦ inl (mine q k) | inr k ↦ inr k ];
       }) fs h.returns.3;
     }
       where
@@ -231,11 +257,15 @@ module _ (p : Program) (needs : Codes → Needs) (is_scoped : IsScoped p) (is_ca
         mine q k = h.returns.0.no_more q (either_true (st.extra.owned q) (back_from st.extra.pending q) k)
 
         there : (q : Place) → IsThere (before.store q) → IsThere (x.contents q)
-        there q i = subst (λ (x : Settled). IsThere (x.contents q)) (sym e) (elim (h.returns.0.there q i) as (λ _. IsThere ((complete (result_of st) (filled p needs fresh st.extra.pending none_yet)).contents q)) [
-          | inl k ↦ there_right ((filled p needs fresh st.extra.pending none_yet).contents q) (st.store q) k
-          | inr k ↦ there_left ((filled p needs fresh st.extra.pending none_yet).contents q) (st.store q)
-              (back_there p needs fresh st.extra.pending none_yet q (each_more (Carries p needs) _ st.extra.pending (λ c h. h.there) h.carried) k)
-        ])
+        there q i =
+            subst (λ (x : Settled). IsThere (x.contents q)) (sym e)
+            (elim (h.returns.0.there q i) as
+            (λ _. IsThere ((complete (result_of st) (filled p needs fresh st.extra.pending none_yet)).contents q)) [
+              | inl k ↦ there_right ((filled p needs fresh st.extra.pending none_yet).contents q) (st.store q) k
+              | inr k ↦ there_left ((filled p needs fresh st.extra.pending none_yet).contents q) (st.store q)
+                  (back_there p needs fresh st.extra.pending none_yet q
+                  (each_more (Carries p needs) _ st.extra.pending (λ c h. h.there) h.carried) k)
+            ])
 
         owned : (q : Place) → before.extra.owned q ≡ true → (st.extra.owned q || back_from st.extra.pending q) ≡ true
         owned q i = elim (h.returns.0.owned q i) as (λ _. (st.extra.owned q || back_from st.extra.pending q) ≡ true) [
@@ -244,14 +274,19 @@ module _ (p : Program) (needs : Codes → Needs) (is_scoped : IsScoped p) (is_ca
         ]
 
     -- with results of own runs
-    pub handed_holds : (root s : Start) (rs : List TaskResult) → Each (IsOwn p needs fresh root) rs → (before : State Own) (fs : List (Frame Own)) (st : State Own)
-        → IsTask p needs fresh root s (record { frames = AtEnd before ∷ fs; state = st }) → Holds p needs (record { frames = AtEnd before ∷ fs; state = st })
+    pub handed_holds : (root s : Start) (rs : List TaskResult) → Each (IsOwn p needs fresh root) rs
+        → (before : State Own) (fs : List (Frame Own)) (st : State Own)
+        → IsTask p needs fresh root s (record { frames = AtEnd before ∷ fs; state = st })
+        → Holds p needs (record { frames = AtEnd before ∷ fs; state = st })
         → (x : Settled) → settle (result_of st) rs ≡ Some x → Holds p needs (record { frames = fs; state = handed before x st })
     handed_holds root s rs all before fs st task h x e =
-        handed_true before fs st h x (part_sound p needs fresh root st.extra.pending (lists_given p needs fresh root s (AtEnd before ∷ fs) st task) (result_of st) refl rs all x e)
+        handed_true before fs st h x
+        (part_sound p needs fresh root st.extra.pending (lists_given p needs fresh root s (AtEnd before ∷ fs) st task)
+        (result_of st) refl rs all x e)
 
     -- ---- beginnings
-    pub begin_holds : (s : Start) → MayBegin p needs s → Holds p needs (record { frames = Rest s.body ∷ []; state = beginning (at_first s.owned) fresh s })
+    pub begin_holds : (s : Start) → MayBegin p needs s
+        → Holds p needs (record { frames = Rest s.body ∷ []; state = beginning (at_first s.owned) fresh s })
     begin_holds s h = record { stack = h; carried = tt; parted = tt; returns = tt }
 
   get_there : (xs : List ℤ) (i : ℕ) → i < length xs → IsThere (slice_get xs i)
@@ -259,7 +294,8 @@ module _ (p : Program) (needs : Codes → Needs) (is_scoped : IsScoped p) (is_ca
   get_there (x ∷ xs) zero lt = tt
   get_there (x ∷ xs) (suc i) lt = get_there xs i (omega (arith, lt))
 
-  array_there : (xs : List Array) (lists : List (List ℤ)) → FitsArrays xs lists → (k a : ℕ) (q : Place) → In (slice_index_or (whole_arrays a xs) k nowhere) q
+  array_there : (xs : List Array) (lists : List (List ℤ)) → FitsArrays xs lists → (k a : ℕ) (q : Place)
+      → In (slice_index_or (whole_arrays a xs) k nowhere) q
       → IsThere (slice_get (slice_index_or lists k []) q.index)
   array_there [] lists f k a q i = absurd (not_nowhere q i)
   array_there (x ∷ xs) [] f k a q i = elim f [ ]
@@ -288,7 +324,8 @@ module _ (p : Program) (needs : Codes → Needs) (is_scoped : IsScoped p) (is_ca
             free = λ q t n. n;
             held = λ q t.
                 let at = array_here p.arrays t.access.section 0 q t.place in
-                subst (λ k. IsThere (slice_get (slice_index_or input k []) q.index)) (let e : 0 + t.access.section ≡ t.access.section = omega arith in sym (at ∙ e))
+                subst (λ k. IsThere (slice_get (slice_index_or input k []) q.index))
+                (let e : 0 + t.access.section ≡ t.access.section = omega arith in sym (at ∙ e))
                 (array_there p.arrays input f t.access.section 0 q t.place);
             wrote = λ q t. window_within (whole_arrays 0 p.arrays) t.access.section q t.place;
             kept = λ q. inl;

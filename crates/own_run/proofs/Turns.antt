@@ -5,7 +5,8 @@ use Rattle.types.specs.declared.fault.FaultKind.TheVariants.{SplitPoint}
 use Rattle.types.specs.Code.{Truth, Code, Do, If, While, Split, Call, Async, Finish, Codes, End, Then, Program}
 use Rattle.types.specs.Place.{sides_of}
 use Rattle.types.specs.Value.{Valued}
-use Rattle.types.specs.Run.{Flow, On, Faulted, Stopped, State, Rules, Work, Block, Turn, at_flow, go_on, spend, with_step, with_value, choose, number_at, numbers_at, truth_at, window_at, entry, with_sides, procedure_of, counted, act, block, run}
+use Rattle.types.specs.Run.{Flow, On, Faulted, Stopped, State, Rules, Work, Block, Turn, at_flow, go_on, spend, with_step, with_value}
+use Rattle.types.specs.Run.{choose, number_at, numbers_at, truth_at, window_at, entry, with_sides, procedure_of, counted, act, block, run}
 use Rattle.types.specs.Laws.{IsThrifty}
 use Rattle.types.proofs.Solutions.{solves}
 use Rattle.own_run.specs.Frames.{Frame, Rest, Again, AtEnd, Back, Standing, resume, by_value, chosen, acted, paid}
@@ -48,7 +49,8 @@ module _ (p : Program) {X : Type 0} (r : Rules X) (thrifty : IsThrifty r) (enter
   if_keeps true b c fs st on = on_block b fs st on
   if_keeps false b c fs st on = on_block c fs st on
 
-  acted_keeps : (s : Code) (l : ℕ) (fs : List (Frame X)) (st : State X) → st.flow ≡ On → of (acted p r l s fs st) ≡ over fs (act p r m l s st)
+  acted_keeps : (s : Code) (l : ℕ) (fs : List (Frame X)) (st : State X) → st.flow ≡ On
+      → of (acted p r l s fs st) ≡ over fs (act p r m l s st)
   acted_keeps (Do s) l fs st on = refl
   acted_keeps (If t b c) l fs st on = value_keeps l (truth_at st t) _ _ fs st (λ v. if_keeps v b c fs st on)
   acted_keeps (While t b) l fs st on = value_keeps l (truth_at st t) _ _ fs st (λ v. loop_keeps v l t b fs st on)
@@ -75,7 +77,8 @@ module _ (p : Program) {X : Type 0} (r : Rules X) (thrifty : IsThrifty r) (enter
   paid_keeps : (k l : ℕ) (s : Code) (fs : List (Frame X)) (st : State X) → st.flow ≡ On
       → of (paid p r k l s fs st) ≡ over fs (spend k st (λ st. act p r m l s (counted r s st)))
   paid_keeps zero l s fs st on = refl
-  paid_keeps (suc k) l s fs st on = acted_keeps s l fs (counted r s (record st { steps = k })) (counted_flow s (record st { steps = k }) ∙ on)
+  paid_keeps (suc k) l s fs st on =
+      acted_keeps s l fs (counted r s (record st { steps = k })) (counted_flow s (record st { steps = k }) ∙ on)
 
   flow_keeps : (f : Flow) (l : ℕ) (s : Code) (fs below : List (Frame X)) (st : State X) (go : State X → State X) → st.flow ≡ f
       → over fs (with_step (λ st. act p r m l s (counted r s st)) st) ≡ over below (go st)
@@ -94,7 +97,8 @@ module _ (p : Program) {X : Type 0} (r : Rules X) (thrifty : IsThrifty r) (enter
       ended Stopped = refl
   turn_keeps (Rest (Then l s rest)) fs st =
       flow_keeps st.flow l s (Rest rest ∷ fs) fs st (m (Block (Then l s rest))) refl
-      (ap (over fs) (after_block rest (with_step (λ st. act p r m l s (counted r s st)) st) ∙ sym (solves p r thrifty (Block (Then l s rest)) st)))
+      (ap (over fs)
+      (after_block rest (with_step (λ st. act p r m l s (counted r s st)) st) ∙ sym (solves p r thrifty (Block (Then l s rest)) st)))
   turn_keeps (Again l t b) fs st =
       flow_keeps st.flow l (While t b) fs fs st (m (Turn l t b)) refl (ap (over fs) (sym (solves p r thrifty (Turn l t b) st)))
   turn_keeps (AtEnd before) fs st = refl

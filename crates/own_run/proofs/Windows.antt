@@ -1,7 +1,9 @@
 -- Windows as sets of places: of elements, of sides, of sections.
-use Rattle.std.proofs.Common.{◌≡◌, ℕ, zero, suc, ◌+◌, ◌-◌, ◌<◌, List, [], ◌∷◌, length, Option, Some, None, Ok, Err, refl, sym, ap, ◌∙◌, subst, inl, inr, arith}
+use Rattle.std.proofs.Common.{◌≡◌, ℕ, zero, suc, ◌+◌, ◌-◌, ◌<◌, List, [], ◌∷◌, length, Option, Some, None, Ok, Err, refl, sym, ap, ◌∙◌}
+use Rattle.std.proofs.Common.{subst, inl, inr, arith}
 use Rattle.std.proofs.lemmas.Bool.{ltb-true, leb-true, eqb-true, eqb-false, lt-ltb, le-leb, eq-eqb, and_from, or_left, or_right}
-use Rattle.std.specs.Prelude.{ℤ, pos, negsuc, ◌⊎◌, ◌≢◌, Bool, true, false, ◌&&◌, ◌||◌, nat_eq, nat_lt, nat_le, ok_or, map, slice_index_or, if◌then◌else◌}
+use Rattle.std.specs.Prelude.{ℤ, pos, negsuc, ◌⊎◌, ◌≢◌, Bool, true, false, ◌&&◌, ◌||◌, nat_eq, nat_lt, nat_le, ok_or, map, slice_index_or}
+use Rattle.std.specs.Prelude.{if◌then◌else◌}
 use Rattle.types.specs.declared.fault.FaultKind.{FaultKind}
 use Rattle.types.specs.declared.fault.FaultKind.TheVariants.{Index, SplitPoint}
 use Rattle.types.specs.Place.{Place, Window, In, nowhere, sides_of, same_place}
@@ -82,7 +84,8 @@ element_in w (pos n) q e = by_test (nat_lt n w.length) refl e
     here = record { array = w.array; index = w.at + n }
 
     by_test : (b : Bool) → nat_lt n w.length ≡ b → ok_or (if b then Some here else None) Index ≡ Ok q → In w q
-    by_test true t e = subst (In w) (ok_same e) (let lt = ltb-true n w.length t in record { array = refl; low = omega arith; high = omega (arith, lt) })
+    by_test true t e =
+        subst (In w) (ok_same e) (let lt = ltb-true n w.length t in record { array = refl; low = omega arith; high = omega (arith, lt) })
     by_test false t e = absurd (not_ok e)
 
 pub sides_some : (o : Option (Window × Window)) (ws : Window × Window) → ok_or o SplitPoint ≡ Ok ws → o ≡ Some ws
@@ -115,8 +118,10 @@ sides_in w (pos n) l r e q = by_test (nat_le n w.length) refl e
     by_test true t e =
         let k : both ≡ (l, r) = some_is e in
         let le = leb-true n w.length t in (
-          (λ i. let j : In both.0 q = subst (λ ws. In ws.0 q) (sym k) i in let h = j.high in record { array = j.array; low = j.low; high = omega (arith, h, le) }),
-          (λ i. let j : In both.1 q = subst (λ ws. In ws.1 q) (sym k) i in let h = j.high in let g = j.low in record { array = j.array; low = omega (arith, g); high = omega (arith, h, le) }),
+          (λ i. let j : In both.0 q = subst (λ ws. In ws.0 q) (sym k) i in let h =
+              j.high in record { array = j.array; low = j.low; high = omega (arith, h, le) }),
+          (λ i. let j : In both.1 q = subst (λ ws. In ws.1 q) (sym k) i in let h = j.high in let g =
+              j.low in record { array = j.array; low = omega (arith, g); high = omega (arith, h, le) }),
         )
     by_test false t e = absurd (none_not e)
 
@@ -163,7 +168,8 @@ bind_other {A} x v f z n = by_test (nat_eq x z) refl
 pub bind_here : {A : Type 0} (x : ℕ) (v : A) (f : ℕ → A) → bind x v f x ≡ v
 bind_here {A} x v f = ap (λ b. if b then v else f x) (eq-eqb x x refl)
 
-pub fits_top : (ms : List Bool) (env new : Environment) → ((s : ℕ) → s < length ms → new.windows s ≡ env.windows s) → FitsTop ms env → FitsTop ms new
+pub fits_top : (ms : List Bool) (env new : Environment) → ((s : ℕ) → s < length ms → new.windows s ≡ env.windows s) → FitsTop ms env
+    → FitsTop ms new
 fits_top ms env new e h j k may lt ne q a b =
     h j k may lt ne q (subst (λ w. In w q) (e j (below j ms may)) a) (subst (λ w. In w q) (e k lt) b)
   where
@@ -173,7 +179,8 @@ fits_top ms env new e h j k may lt ne q a b =
     below (suc j) (m ∷ ms) h = let k = below j ms h in omega (arith, k)
 
 -- what fits does so by the windows in scope alone
-pub fits_same : (sc : Scope) (env new : Environment) → ((s : ℕ) → InScope sc s → new.windows s ≡ env.windows s) → FitsScope sc env → FitsScope sc new
+pub fits_same : (sc : Scope) (env new : Environment) → ((s : ℕ) → InScope sc s → new.windows s ≡ env.windows s) → FitsScope sc env
+    → FitsScope sc new
 fits_same (Top ms) env new e h = fits_top ms env new e h
 fits_same (Inside s x y around) env new e h = (
   fits_same around env new (λ z i. e z (inr (inr i))) h.0,
@@ -196,7 +203,8 @@ around_split sc x y ws env nx ny z i =
 
 -- what fits does so within a split
 pub fits_split : (sc : Scope) (s x y : ℕ) (v : ℤ) (ws : Window × Window) (env : Environment) → InScope sc s → (InScope sc x → ⊥)
-    → (InScope sc y → ⊥) → x ≢ y → sides_of (env.windows s) v ≡ Some ws → FitsScope sc env → FitsScope (Inside s x y sc) (with_sides x y ws env)
+    → (InScope sc y → ⊥) → x ≢ y → sides_of (env.windows s) v ≡ Some ws → FitsScope sc env
+    → FitsScope (Inside s x y sc) (with_sides x y ws env)
 fits_split sc s x y v ws env is nx ny ne e h =
     let new = with_sides x y ws env in (
       fits_same sc env new (around_split sc x y ws env nx ny) h,
@@ -216,7 +224,8 @@ pub split_agree : (x y : ℕ) (ws : Window × Window) (f g : ℕ → Window) (z 
     → bind x ws.0 (bind y ws.1 f) z ≡ bind x ws.0 (bind y ws.1 g) z
 split_agree x y ws f g z h = by_tests (nat_eq x z) (nat_eq y z) refl refl
   where
-    by_tests : (a b : Bool) → nat_eq x z ≡ a → nat_eq y z ≡ b → (if a then ws.0 else (if b then ws.1 else f z)) ≡ (if a then ws.0 else (if b then ws.1 else g z))
+    by_tests : (a b : Bool) → nat_eq x z ≡ a → nat_eq y z ≡ b
+        → (if a then ws.0 else (if b then ws.1 else f z)) ≡ (if a then ws.0 else (if b then ws.1 else g z))
     by_tests true b e k = refl
     by_tests false true e k = refl
     by_tests false false e k = elim h as (λ _. f z ≡ g z) [

@@ -1,5 +1,4 @@
--- The settled meaning: an async's body runs by itself on what it needs, and what it made is set aside until the
--- end of the finish.
+-- Tasks apart: an async's body runs on what it needs; what it made is set aside up to the finish's end.
 use Rattle.std.specs.Prelude.{ℕ, zero, suc, ◌+◌, List, ℤ, Bool, true, false, ◌||◌, if◌then◌else◌}
 use Rattle.types.specs.Code.{Codes, Program}
 use Rattle.types.specs.Contents.{Contents, held_by}
@@ -33,7 +32,8 @@ merged st = over st.extra.contents st.store
 
 -- the next child, with what it needs
 abbrev pub child_apart : (fresh : ℕ) → Needs → State Aside → State Aside
-child_apart fresh n st = record (child fresh st) { store = only (touched st.environment n) st.store; extra = nothing }
+child_apart fresh n st =
+    record (child fresh st) { store = only (touched st.environment n) st.store; extra = nothing }
 
 -- the parent goes on without what the child may write; what the child made is set aside
 abbrev pub set_aside : Needs → (before out : State Aside) → State Aside
@@ -74,7 +74,8 @@ module _ (p : Program) (needs : Codes → Needs) where
   abbrev pub begin_apart : (fresh nest : ℕ) → Codes → State Aside → State Aside
   begin_apart fresh zero b st = stopped st
   begin_apart fresh (suc n) b st =
-      set_aside (needs b) st (run p (apart_rules_by (begin_apart fresh n)) (Block b) (child_apart fresh (needs b) st))
+      set_aside (needs b) st
+      (run p (apart_rules_by (begin_apart fresh n)) (Block b) (child_apart fresh (needs b) st))
 
   -- the rules of tasks apart
   abbrev pub apart_rules : (fresh nest : ℕ) → Rules Aside

@@ -1,14 +1,20 @@
--- A task in the making: frames, the top one first, and where it stands. One turn takes the top frame a step further.
-use Rattle.std.specs.Prelude.{ℕ, zero, suc, ◌≡◌, List, [], ◌∷◌, ◌++◌, length, map, Bool, true, false, Some, Ok, Err, ok_or, slice_get}
+-- A task in the making: its frames, the top one first, and where it stands; a turn of the top frame.
+use Rattle.std.specs.Prelude.{ℕ, zero, suc, ◌≡◌, List, [], ◌∷◌, ◌++◌, length, map, Bool, true}
+use Rattle.std.specs.Prelude.{false, Some, Ok, Err, ok_or, slice_get}
 use Rattle.types.specs.declared.fault.FaultKind.TheVariants.{SplitPoint}
-use Rattle.types.specs.Code.{Truth, Code, Do, If, While, Split, Call, Async, Finish, Codes, End, Then, Program}
+use Rattle.types.specs.Code.{Truth, Code, Do, If, While, Split, Call, Async, Finish, Codes, End}
+use Rattle.types.specs.Code.{Then, Program}
 use Rattle.types.specs.Place.{sides_of}
 use Rattle.types.specs.Value.{Environment, Valued}
-use Rattle.types.specs.Run.{Flow, On, Faulted, Stopped, State, Rules, Block, Turn, stopped, go_on, fault, number_at, numbers_at, truth_at, window_at, entry, with_sides, procedure_of, primitive, counted, run}
+use Rattle.types.specs.Run.{Flow, On, Faulted, Stopped, State, Rules, Block, Turn, stopped, go_on}
+use Rattle.types.specs.Run.{fault, number_at, numbers_at, truth_at, window_at, entry, with_sides}
+use Rattle.types.specs.Run.{procedure_of, primitive, counted, run}
 use Rattle.effects.specs.Needs.{Needs}
 use Rattle.own_run.specs.Results.{TaskResult, Settled, Each}
-use Rattle.own_run.specs.OwnRun.{Start, Child, Action, Step, Spawn, EnterFinish, EndFinish, Own, notes, child_of}
-use Rattle.own_run.specs.OwnRun.{begun_by, go_on_with, own_rules, from_receipts, run_by, in_truth, own, given}
+use Rattle.own_run.specs.OwnRun.{Start, Child, Action, Step, Spawn, EnterFinish, EndFinish, Own}
+use Rattle.own_run.specs.OwnRun.{notes, child_of}
+use Rattle.own_run.specs.OwnRun.{begun_by, go_on_with, own_rules, from_receipts, run_by, in_truth}
+use Rattle.own_run.specs.OwnRun.{own, given}
 
 pub data Frame (X : Type 0) : Type 0 where
   -- the statements that are left of a block
@@ -26,7 +32,8 @@ pub record Standing (X : Type 0) : Type 0 where
 
 module _ {X : Type 0} where
   -- goes on with a value, or faults
-  abbrev pub by_value : {A : Type 0} → (label : ℕ) → Valued A → (A → Standing X) → List (Frame X) → State X → Standing X
+  abbrev pub by_value : {A : Type 0} → (label : ℕ) → Valued A → (A → Standing X) → List (Frame X)
+      → State X → Standing X
   by_value l (Ok x) go fs st = go x
   by_value l (Err f) go fs st = record { frames = fs; state = fault l f st }
 
@@ -51,15 +58,23 @@ module _ (p : Program) {X : Type 0} (r : Rules X) where
   -- a statement whose step was taken, above frames
   abbrev pub acted : (label : ℕ) → Code → List (Frame X) → State X → Standing X
   acted l (Do s) fs st = record { frames = fs; state = primitive p l s st }
-  acted l (If t b c) fs st = by_value l (truth_at st t) (λ v. chosen v (Rest b ∷ fs) (Rest c ∷ fs) st) fs st
-  acted l (While t b) fs st = by_value l (truth_at st t) (λ v. chosen v (Rest b ∷ Again l t b ∷ fs) fs st) fs st
+  acted l (If t b c) fs st =
+      by_value l (truth_at st t) (λ v. chosen v (Rest b ∷ fs) (Rest c ∷ fs) st) fs st
+  acted l (While t b) fs st =
+      by_value l (truth_at st t) (λ v. chosen v (Rest b ∷ Again l t b ∷ fs) fs st) fs st
   acted l (Split s e x y b) fs st =
       by_value l (number_at st e) (λ v.
       by_value l (ok_or (sides_of (window_at st s) v) SplitPoint) (λ ws.
-      record { frames = Rest b ∷ fs; state = record st { environment = with_sides x y ws st.environment } }) fs st) fs st
+      record {
+        frames = Rest b ∷ fs;
+        state = record st { environment = with_sides x y ws st.environment };
+      }) fs st) fs st
   acted l (Call f es ss) fs st =
       by_value l (numbers_at st es) (λ vs.
-      record { frames = Rest (procedure_of p f).body ∷ Back st.environment ∷ fs; state = record st { environment = entry vs (map (window_at st) ss) } }) fs st
+      record {
+        frames = Rest (procedure_of p f).body ∷ Back st.environment ∷ fs;
+        state = record st { environment = entry vs (map (window_at st) ss) };
+      }) fs st
   acted l (Async b) fs st = record { frames = fs; state = r.begin b st }
   acted l (Finish b) fs st = record { frames = Rest b ∷ AtEnd st ∷ fs; state = r.enter st }
 
@@ -69,7 +84,8 @@ module _ (p : Program) {X : Type 0} (r : Rules X) where
   paid (suc n) l s fs st = acted l s fs (counted r s (record st { steps = n }))
 
   -- a statement above frames, where the flow is on; else those below
-  abbrev pub by_flow : Flow → (label : ℕ) → Code → (fs below : List (Frame X)) → State X → Standing X
+  abbrev pub by_flow : Flow → (label : ℕ) → Code → (fs below : List (Frame X)) → State X
+      → Standing X
   by_flow On l s fs below st = paid st.steps l s fs st
   by_flow Faulted l s fs below st = record { frames = below; state = st }
   by_flow Stopped l s fs below st = record { frames = below; state = st }
@@ -104,7 +120,8 @@ abbrev pub FineBelow : (nest : ℕ) → State Own → List (Frame Own) → Type 
 FineBelow nest st [] = Unit {0}
 FineBelow nest st (Rest b ∷ fs) = FineBelow nest st fs
 FineBelow nest st (Again l t b ∷ fs) = FineBelow nest st fs
-FineBelow nest st (AtEnd before ∷ fs) = Each (IsBegun nest st) before.extra.pending × FineBelow nest st fs
+FineBelow nest st (AtEnd before ∷ fs) =
+    Each (IsBegun nest st) before.extra.pending × FineBelow nest st fs
 FineBelow nest st (Back env ∷ fs) = FineBelow nest st fs
 
 module _ (p : Program) (needs : Codes → Needs) (fresh : ℕ) (root : Start) where
@@ -116,13 +133,14 @@ module _ (p : Program) (needs : Codes → Needs) (fresh : ℕ) (root : Start) wh
   -- a task that started so: what it has, followed by what is left, is its own run
   pub record IsTask (s : Start) (t : Standing Own) : Type 0 where
     pub comes : given p needs fresh root s.path ≡ Some s
-    pub runs : resume p (own_rules needs s.nest (in_truth p needs fresh)) t.frames t.state ≡ own p needs fresh s
+    pub runs : resume p (own_rules needs s.nest (in_truth p needs fresh)) t.frames t.state
+        ≡ own p needs fresh s
     pub path : t.state.path ≡ s.path
     pub awake : t.state.extra.waits ≡ false
     pub fine : Fine s.nest t.state
     pub below : FineBelow s.nest t.state t.frames
 
-  -- for all later receipts, the own run of its start is what it has so far, followed by that of what remains
+  -- for all later receipts, its own run is what it has so far, followed by that of what remains
   pub record Follows (s : Start) (taken : List (List TaskResult)) (t : Standing Own) : Type 0 where
     pub count : t.state.extra.ended ≡ length taken
     pub follows : (later : List (List TaskResult)) → run_by p needs fresh (taken ++ later) s

@@ -1,6 +1,6 @@
--- A task's own run: its asyncs are listed with what each is given, and what they come to is put in at the end of
--- the finish.
-use Rattle.std.specs.Prelude.{ℕ, zero, suc, ◌+◌, ◌≡◌, List, [], ◌∷◌, ◌++◌, map, flat_map, ℤ, Bool, true, false, not, ◌&&◌, ◌||◌, Option, Some, None, slice_get}
+-- A task's own run: its asyncs are listed with what each is given, and their results are put in later.
+use Rattle.std.specs.Prelude.{ℕ, zero, suc, ◌+◌, ◌≡◌, List, [], ◌∷◌, ◌++◌, map, flat_map, ℤ, Bool}
+use Rattle.std.specs.Prelude.{true, false, not, ◌&&◌, ◌||◌, Option, Some, None, slice_get}
 use Rattle.std.specs.Prelude.{if◌then◌else◌}
 use Rattle.types.specs.Code.{Codes, Program}
 use Rattle.types.specs.Contents.{Contents, held_by, shown}
@@ -11,7 +11,8 @@ use Rattle.types.specs.Outcome.{Outcome, outcome_by, whole_arrays}
 use Rattle.effects.specs.Needs.{Needs}
 use Rattle.own_run.specs.Places.{written, touched, Places, within, only, without}
 use Rattle.own_run.specs.Apart.{nothing, is_stopped, halts, merged, apart}
-use Rattle.own_run.specs.Results.{Listed, TaskResult, Settled, none_yet, fill, complete, and_then, settle}
+use Rattle.own_run.specs.Results.{Listed, TaskResult, Settled, none_yet, fill, complete, and_then}
+use Rattle.own_run.specs.Results.{settle}
 
 -- what a task starts with, but for its steps
 pub record Start : Type 0 where
@@ -83,7 +84,12 @@ child_of n nest b st =
         nest = nest;
         path = path;
       };
-      listed = record { path = path; windows = map st.environment.windows n.writes; lines = st.lines; faults = st.faults };
+      listed = record {
+        path = path;
+        windows = map st.environment.windows n.writes;
+        lines = st.lines;
+        faults = st.faults;
+      };
     }
 
 -- the parent goes on without what the child may write, and behind a hole
@@ -128,15 +134,18 @@ go_on_with before out s = record out {
 
 -- it waits where nothing is there to go on with
 abbrev pub leave_with : (before out : State Own) → Option Settled → State Own
-leave_with before out None = record out { flow = Stopped; extra = record out.extra { waits = true } }
+leave_with before out None =
+    record out { flow = Stopped; extra = record out.extra { waits = true } }
 leave_with before out (Some s) = go_on_with before out s
 
 abbrev pub leave_own : (State Own → Option Settled) → (before out : State Own) → State Own
 leave_own close before out =
-    if is_waiting out then out else leave_with before (record out { extra = notes EndFinish out.extra }) (close out)
+    if is_waiting out then out
+    else leave_with before (record out { extra = notes EndFinish out.extra }) (close out)
 
 -- the rules of a task by itself, where `close` says what came of a finish at whose end it stands
-abbrev pub own_rules : (Codes → Needs) → (nest : ℕ) → (close : State Own → Option Settled) → Rules Own
+abbrev pub own_rules : (Codes → Needs) → (nest : ℕ) → (close : State Own → Option Settled)
+    → Rules Own
 own_rules needs nest close = record {
   stepped = notes Step;
   begin = begin_own needs nest;
@@ -165,7 +174,8 @@ last_action (k ∷ path) = EndTask
 
 -- what a task does, one after the other, as far as its run goes
 abbrev pub actions_of : State Own → List Action
-actions_of st = if is_waiting st then st.extra.actions else st.extra.actions ++ last_action st.path ∷ []
+actions_of st =
+    if is_waiting st then st.extra.actions else st.extra.actions ++ last_action st.path ∷ []
 
 -- those that it began
 abbrev pub begun_by : List Action → List Start
@@ -181,14 +191,15 @@ abbrev pub kth : ℕ → List Start → Option Start
 kth zero ss = None
 kth (suc k) ss = slice_get ss k
 
--- the results handed over at the end of a finish; none where they are not there, or not those of its tasks
+-- what the receipt of a finish settles to; none where it isn't there, or not of this finish
 abbrev pub from_receipts : List (List TaskResult) → State Own → Option Settled
 from_receipts receipts st = and_then (slice_get receipts st.extra.ended) (settle (result_of st))
 
 module _ (p : Program) (needs : Codes → Needs) (fresh : ℕ) where
   -- the own run of a task, by what is handed over at the end of each finish
   abbrev pub own_run : (State Own → Option Settled) → Start → State Own
-  own_run close s = run p (own_rules needs s.nest close) (Block s.body) (beginning (at_first s.owned) fresh s)
+  own_run close s =
+      run p (own_rules needs s.nest close) (Block s.body) (beginning (at_first s.owned) fresh s)
 
   -- the same by receipts, as far as they go
   abbrev pub run_by : List (List TaskResult) → Start → State Own
@@ -243,4 +254,6 @@ root_of p input nest = record {
 
 -- what is told of a run, once all has come
 abbrev pub told_of : Program → Settled → Outcome
-told_of p s = outcome_by (flow_after s) (record { arrays = shown p.arrays s.contents; lines = s.lines; faults = s.faults })
+told_of p s =
+    outcome_by (flow_after s)
+    (record { arrays = shown p.arrays s.contents; lines = s.lines; faults = s.faults })

@@ -1,11 +1,12 @@
--- The tasks of a run, as far as they come: turn by turn, in any order, each with results of own runs.
+-- How far the tasks of a run come: turn by turn, in any order, with results of own runs.
 use Rattle.std.specs.Prelude.{◌≡◌, ℕ, List, [], ◌∷◌, Some}
 use Rattle.types.specs.Code.{Code, While, Async, Codes, Then, Program}
 use Rattle.types.specs.Run.{State}
 use Rattle.effects.specs.Member.{Member}
 use Rattle.effects.specs.Needs.{Needs}
 use Rattle.own_run.specs.Results.{TaskResult, Settled, settle, Each}
-use Rattle.own_run.specs.OwnRun.{Start, Child, Own, at_first, beginning, result_of, own_rules, in_truth, IsOwn}
+use Rattle.own_run.specs.OwnRun.{Start, Child, Own, at_first, beginning, result_of, own_rules}
+use Rattle.own_run.specs.OwnRun.{in_truth, IsOwn}
 use Rattle.own_run.specs.Frames.{Frame, Rest, Again, AtEnd, Standing, turn, handed}
 use Rattle.own_run.specs.Holds.{HasOwn, HasNeeds}
 
@@ -18,13 +19,15 @@ module _ (p : Program) (needs : Codes → Needs) (fresh : ℕ) (root : Start) wh
   pub data Reached : Start → Standing Own → Type 0 where
     root_begins : Reached root (begun fresh root)
     -- a child of a task that is there
-    child_begins : {s : Start} {t : Standing Own} {c : Child} → Reached s t → Member c t.state.extra.pending
+    child_begins : {s : Start} {t : Standing Own} {c : Child} → Reached s t
+        → Member c t.state.extra.pending
         → Reached c.start (begun fresh c.start)
     turns : {s : Start} {f : Frame Own} {fs : List (Frame Own)} {st : State Own}
         → Reached s (record { frames = f ∷ fs; state = st })
         → Reached s (turn p (own_rules needs s.nest (in_truth p needs fresh)) f fs st)
     -- the end of a finish, where results of own runs settle, in whatever order they came
-    leaves : {s : Start} {before : State Own} {fs : List (Frame Own)} {st : State Own} {x : Settled} (rs : List TaskResult)
+    leaves : {s : Start} {before : State Own} {fs : List (Frame Own)} {st : State Own} {x : Settled}
+        (rs : List TaskResult)
         → Reached s (record { frames = AtEnd before ∷ fs; state = st })
         → Each (IsOwn p needs fresh root) rs → settle (result_of st) rs ≡ Some x
         → Reached s (record { frames = fs; state = handed before x st })

@@ -24,7 +24,7 @@ pub record Around : Type 1 where
   pub held : Place → Type 0
 
 module _ (p : Program) (needs : Codes → Needs) where
-  -- what may run next: it stays within what is around, and touches nothing locked; `final` has what is locked afterwards
+  -- it may run next: within what is around, off what is locked; `final` is locked afterwards
   pub record ReadyOf (x : Around) (locked final : Place → Type 0) (l : ℕ) (s : Code) : Type 0 where
     pub fits : FitsScope x.scope x.env
     pub names : (y : Access) → Member y (own_accesses l s) → InScope x.scope y.section

@@ -20,7 +20,7 @@ abbrev pub is_none : ℕ → Bool
 is_none zero = true
 is_none (suc n) = false
 
--- whether a statement is over the budget: no step is left for it, or it is an async and no nest is left
+-- whether a statement is over the budget: no step is left, or it is an async and no nest is left
 abbrev pub is_over : (nest steps : ℕ) → Code → Bool
 is_over nest steps s = is_none steps || (is_async s && is_none nest)
 

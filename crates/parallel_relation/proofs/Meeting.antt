@@ -34,10 +34,12 @@ module _ (p : Program) (subject : Subject) (alls pendings : Table subject) where
     statement : (s : Code) (l : ℕ) (x : subject.Item) → Member x (all_of subject alls l s) → AllOf p subject l s x
     statement s l x h = parts (subject.own l s) (λ k. AllOf.own_access k) (λ k. listed_of p subject alls alls_derived s l x k) h
 
-    turns : (s : Code) (l : ℕ) (rest : Codes) (m : subject.Item × subject.Item) → Member m (turned subject alls pendings l s) → Together p subject (Then l s rest) m.0 m.1
+    turns : (s : Code) (l : ℕ) (rest : Codes) (m : subject.Item × subject.Item) → Member m (turned subject alls pendings l s)
+        → Together p subject (Then l s rest) m.0 m.1
     turns (While t b) l rest m h =
         let r = from_crossed m (left_by subject alls pendings (While t b)) (all_of subject alls l (While t b)) h in
-        Together.turns (left_of p subject alls pendings alls_derived pendings_derived (While t b) m.0 r.one) (statement (While t b) l m.1 r.other)
+        Together.turns (left_of p subject alls pendings alls_derived pendings_derived (While t b) m.0 r.one)
+        (statement (While t b) l m.1 r.other)
     turns (Do s) l rest m h = elim h [ ]
     turns (If t b c) l rest m h = elim h [ ]
     turns (Split s e x y b) l rest m h = elim h [ ]
@@ -46,7 +48,8 @@ module _ (p : Program) (subject : Subject) (alls pendings : Table subject) where
     turns (Finish b) l rest m h = elim h [ ]
 
     mutual
-      met_inside_together : (s : Code) (l : ℕ) (rest : Codes) (m : subject.Item × subject.Item) → Member m (met_inside subject alls pendings s) → Together p subject (Then l s rest) m.0 m.1
+      met_inside_together : (s : Code) (l : ℕ) (rest : Codes) (m : subject.Item × subject.Item)
+          → Member m (met_inside subject alls pendings s) → Together p subject (Then l s rest) m.0 m.1
       met_inside_together (Do s) l rest m h = elim h [ ]
       met_inside_together (If t b c) l rest m h = parts (met_in subject alls pendings b)
           (λ k. Together.inside Block.if_body (met_together b m k)) (λ k. Together.inside Block.if_other (met_together c m k)) h
@@ -57,17 +60,22 @@ module _ (p : Program) (subject : Subject) (alls pendings : Table subject) where
       met_inside_together (Finish b) l rest m h = Together.inside Block.finish (met_together b m h)
 
       -- what is listed may run together
-      met_together : (b : Codes) (m : subject.Item × subject.Item) → Member m (met_in subject alls pendings b) → Together p subject b m.0 m.1
+      met_together : (b : Codes) (m : subject.Item × subject.Item) → Member m (met_in subject alls pendings b)
+          → Together p subject b m.0 m.1
       met_together End m h = elim h [ ]
       met_together (Then l s rest) m h =
           parts (crossed (left_by subject alls pendings s) (all_in subject alls rest))
           (λ k. let r = from_crossed m (left_by subject alls pendings s) (all_in subject alls rest) k in
-          Together.follows (left_of p subject alls pendings alls_derived pendings_derived s m.0 r.one) (listed p subject alls alls_derived rest m.1 r.other))
+          Together.follows (left_of p subject alls pendings alls_derived pendings_derived s m.0 r.one)
+          (listed p subject alls alls_derived rest m.1 r.other))
           (parts (turned subject alls pendings l s) (λ k. turns s l rest m k)
-          (parts (met_inside subject alls pendings s) (λ k. met_inside_together s l rest m k) (λ k. Together.later (met_together rest m k)))) h
+          (parts (met_inside subject alls pendings s) (λ k. met_inside_together s l rest m k)
+          (λ k. Together.later (met_together rest m k)))) h
 
-  module _ (alls_derived : IsDerived p subject alls) (alls_stable : IsStable p subject alls) (pendings_stable : IsStablePending p subject alls pendings) where
-    block_met : {s : Code} {b : Codes} → Block s b → (m : subject.Item × subject.Item) → Member m (met_in subject alls pendings b) → Member m (met_inside subject alls pendings s)
+  module _ (alls_derived : IsDerived p subject alls) (alls_stable : IsStable p subject alls)
+      (pendings_stable : IsStablePending p subject alls pendings) where
+    block_met : {s : Code} {b : Codes} → Block s b → (m : subject.Item × subject.Item) → Member m (met_in subject alls pendings b)
+        → Member m (met_inside subject alls pendings s)
     block_met (Block.if_body {c = c}) m h = in_left (met_in subject alls pendings c) h
     block_met (Block.if_other {b = b}) m h = in_right (met_in subject alls pendings b) h
     block_met Block.while m h = h
@@ -83,7 +91,8 @@ module _ (p : Program) (subject : Subject) (alls pendings : Table subject) where
     together_met (Together.turns {l = l} {t = t} {b = b} {rest = rest} f h) =
         in_right (crossed (left_by subject alls pendings (While t b)) (all_in subject alls rest))
         (in_left (met_inside subject alls pendings (While t b) ++ met_in subject alls pendings rest)
-        (in_crossed (pending_of p subject alls pendings alls_derived alls_stable pendings_stable f) (derived_of p subject alls alls_stable h)))
+        (in_crossed (pending_of p subject alls pendings alls_derived alls_stable pendings_stable f)
+        (derived_of p subject alls alls_stable h)))
     together_met (Together.inside {l = l} {s = s} {rest = rest} {x = x} {y = y} i h) =
         in_right (crossed (left_by subject alls pendings s) (all_in subject alls rest)) (in_right (turned subject alls pendings l s)
         (in_left (met_in subject alls pendings rest) (block_met i (x, y) (together_met h))))

@@ -12,7 +12,8 @@ crossed (x ∷ xs) ys = map (λ y. (x, y)) ys ++ crossed xs ys
 module _ (subject : Subject) (alls pendings : Table subject) where
   -- a loop follows itself
   abbrev pub turned : (label : ℕ) → Code → List (subject.Item × subject.Item)
-  turned l (While t b) = crossed (left_by subject alls pendings (While t b)) (all_of subject alls l (While t b))
+  turned l (While t b) =
+      crossed (left_by subject alls pendings (While t b)) (all_of subject alls l (While t b))
   turned l _ = []
 
   abbrev mutual
@@ -30,4 +31,5 @@ module _ (subject : Subject) (alls pendings : Table subject) where
     pub met_in : Codes → List (subject.Item × subject.Item)
     met_in End = []
     met_in (Then l s rest) =
-        crossed (left_by subject alls pendings s) (all_in subject alls rest) ++ (turned l s ++ (met_inside s ++ met_in rest))
+        crossed (left_by subject alls pendings s) (all_in subject alls rest) ++
+        (turned l s ++ (met_inside s ++ met_in rest))

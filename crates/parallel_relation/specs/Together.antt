@@ -1,6 +1,7 @@
 -- Which accesses, and which labels, may run together.
 use Rattle.std.specs.Prelude.{ℕ, ◌⊎◌}
-use Rattle.types.specs.Code.{Number, Truth, Code, If, While, Split, Async, Finish, Codes, Then, Program}
+use Rattle.types.specs.Code.{Number, Truth, Code, If, While, Split, Async, Finish, Codes, Then}
+use Rattle.types.specs.Code.{Program}
 use Rattle.types.specs.Run.{procedure_of}
 use Rattle.effects.specs.Effects.{Subject, labels, AllOf, All, PendingOf}
 

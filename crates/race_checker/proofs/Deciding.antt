@@ -57,7 +57,8 @@ module _ (p : Program) (sound : IsSound p) where
 
   below_free : ((f : ℕ) → HasNoClash p (procedure_of p f)) → (n : ℕ) → accepts_below p n ≡ true
   below_free h zero = refl
-  below_free h (suc n) = and_true (accepts p (procedure_of p n)) (accepts_below p n) (no_clash-accepts (procedure_of p n) (h n)) (below_free h n)
+  below_free h (suc n) =
+      and_true (accepts p (procedure_of p n)) (accepts_below p n) (no_clash-accepts (procedure_of p n) (h n)) (below_free h n)
 
   tested : is_accepted p ≡ true → IsAccepted p
   tested h =
@@ -68,5 +69,6 @@ module _ (p : Program) (sound : IsSound p) where
   pub accepted_exact : (is_accepted p ≡ true) ↔ IsAccepted p
   accepted_exact = (
     tested,
-    λ a. and_true (accepts p p.main) (accepts_below p (length p.procedures)) (no_clash-accepts p.main a.main) (below_free a.procedures (length p.procedures)),
+    λ a. and_true (accepts p p.main) (accepts_below p (length p.procedures)) (no_clash-accepts p.main a.main)
+        (below_free a.procedures (length p.procedures)),
   )

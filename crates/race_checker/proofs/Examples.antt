@@ -184,13 +184,15 @@ one_root (suc n) = refl
 pub none : (g : Procedure) (scope : List ℕ) (x : Access) → Member x [] → Allowed g scope x
 none g scope x h = elim h [ ]
 
-pub besides : (g : Procedure) (scope : List ℕ) {y : Access} {ys : List Access} → Allowed g scope y → ((x : Access) → Member x ys → Allowed g scope x)
+pub besides : (g : Procedure) (scope : List ℕ) {y : Access} {ys : List Access} → Allowed g scope y
+    → ((x : Access) → Member x ys → Allowed g scope x)
     → (x : Access) → Member x (y ∷ ys) → Allowed g scope x
 besides g scope f h x first = f
 besides g scope f h x (next k) = h x k
 
 -- one argument for one parameter that may be written
-one_argument : (g : Procedure) (scope : List ℕ) (a : ℕ) → Member a scope → is_writable g a ≡ true → PassesWell g scope twice.parameters (a ∷ [])
+one_argument : (g : Procedure) (scope : List ℕ) (a : ℕ) → Member a scope → is_writable g a ≡ true
+    → PassesWell g scope twice.parameters (a ∷ [])
 one_argument g scope a m w = record { number = refl; in_scope = in_scope; writable = writable; alone = alone }
   where
     in_scope : (k : ℕ) → k < 1 → Member (past_call (a ∷ []) k) scope
@@ -201,7 +203,8 @@ one_argument g scope a m w = record { number = refl; in_scope = in_scope; writab
     writable zero h = w
     writable (suc k) h = absurd (true≢false (sym h))
 
-    alone : (k j : ℕ) → k ≢ j → j < 1 → may_write twice.parameters k ≡ true → overlap g.sections (past_call (a ∷ []) k) (past_call (a ∷ []) j) ≡ false
+    alone : (k j : ℕ) → k ≢ j → j < 1 → may_write twice.parameters k ≡ true
+        → overlap g.sections (past_call (a ∷ []) k) (past_call (a ∷ []) j) ≡ false
     alone zero zero ne h w = absurd (ne refl)
     alone zero (suc j) ne h w = absurd (omega arith)
     alone (suc k) j ne h w = absurd (true≢false (sym w))
@@ -216,8 +219,17 @@ splits_0 = record { in_scope = first; left = refl; right = refl; next = refl; la
 allowed_0 : (l : ℕ) (w : Bool) → Allowed twice (0 ∷ []) (record { label = l; section = 0; write = w })
 allowed_0 l w = record { in_scope = first; writable = λ h. refl }
 
-doubles : (n : ℕ) → Follows (doubling n) twice (0 ∷ []) ((2, If (Compare Equal (Length 0) (lit 1)) ((3, Do (Store 0 (lit 0) (Chain (Element 0 (lit 0)) (Link Times (lit 2) Done)))) ⨾ End) End) ⨾ End)
-doubles n = (none twice (0 ∷ []), ((besides twice (0 ∷ []) (allowed_0 3 true) (besides twice (0 ∷ []) (allowed_0 3 false) (none twice (0 ∷ []))), tt, tt), tt), tt)
+doubles : (n : ℕ) → Follows (doubling n) twice (0 ∷ [])
+    ((
+      2,
+      If (Compare Equal (Length 0) (lit 1))
+          ((3, Do (Store 0 (lit 0) (Chain (Element 0 (lit 0)) (Link Times (lit 2) Done)))) ⨾ End) End,
+    ) ⨾ End)
+doubles n = (
+  none twice (0 ∷ []),
+  ((besides twice (0 ∷ []) (allowed_0 3 true) (besides twice (0 ∷ []) (allowed_0 3 false) (none twice (0 ∷ []))), tt, tt), tt),
+  tt,
+)
 
 halves : (n : ℕ) → Follows (doubling n) twice (1 ∷ 2 ∷ 0 ∷ []) ((5, Async ((6, Call 0 [] (1 ∷ [])) ⨾ End)) ⨾ (7, Call 0 [] (2 ∷ [])) ⨾ End)
 halves n =
@@ -312,7 +324,8 @@ first_child = Then 3 (Do (Store 0 (lit 0) (lit 7))) End
 
 -- finish { async { a[0] = 7; } print a[0]; } is sound, but not accepted
 abbrev pub racy : Program
-racy = program_of (ints 97 1 ∷ []) 0 (Root ∷ []) (Then 1 (Finish (Then 2 (Async first_child) (Then 4 (Do (Print (Element 0 (lit 0) ∷ []))) End))) End)
+racy = program_of (ints 97 1 ∷ []) 0 (Root ∷ [])
+    (Then 1 (Finish (Then 2 (Async first_child) (Then 4 (Do (Print (Element 0 (lit 0) ∷ []))) End))) End)
 
 racy_sound : IsSound racy
 racy_sound = record {

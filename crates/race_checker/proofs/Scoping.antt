@@ -1,7 +1,8 @@
 -- A sound program names what is in scope, and environments that fit its scopes stand as the origins say.
 use Rattle.std.proofs.Common.{◌≡◌, ◌≢◌, ℕ, zero, suc, ◌+◌, ◌<◌, List, [], ◌∷◌, length, refl, sym, ap, ◌∙◌, subst, inl, inr, arith}
 use Rattle.std.specs.Prelude.{Bool, true, false, map, slice_index_or, slice_get, Some}
-use Rattle.types.specs.Code.{Code, Do, If, While, Split, Call, Async, Finish, Codes, End, Then, Root, Left, Right, Array, Parameter, Procedure, Program}
+use Rattle.types.specs.Code.{Code, Do, If, While, Split, Call, Async, Finish, Codes, End, Then, Root, Left, Right, Array, Parameter}
+use Rattle.types.specs.Code.{Procedure, Program}
 use Rattle.types.specs.Place.{nowhere, sides_of}
 use Rattle.types.specs.Value.{Environment}
 use Rattle.types.specs.Run.{entry, procedure_of}
@@ -46,7 +47,8 @@ module _ (p : Program) (g : Procedure) where
   in_scope (inside k deeper) s (next (next m)) = inr (inr (in_scope deeper s m))
 
   -- ---- what may be written
-  pub bits : (xs : List Parameter) (k : ℕ) → slice_index_or (map (λ (x : Parameter). x.may_write) xs) k false ≡ (slice_index_or xs k no_parameter).may_write
+  pub bits : (xs : List Parameter) (k : ℕ)
+      → slice_index_or (map (λ (x : Parameter). x.may_write) xs) k false ≡ (slice_index_or xs k no_parameter).may_write
   bits [] k = refl
   bits (x ∷ xs) zero = refl
   bits (x ∷ xs) (suc k) = bits xs k
@@ -61,7 +63,8 @@ module _ (p : Program) (g : Procedure) where
     is_root k m = origin_from_get g.sections k (firsts k (numbers_from-below (length g.parameters) k m))
 
     -- a split around
-    placed_inside : (sc : Scope) {scope : List ℕ} (t a b : ℕ) → SplitsWell g scope t a b → (env : Environment) → FitsScope (Inside t a b sc) env
+    placed_inside : (sc : Scope) {scope : List ℕ} (t a b : ℕ) → SplitsWell g scope t a b → (env : Environment)
+        → FitsScope (Inside t a b sc) env
         → Placed g scope env → Placed g (a ∷ b ∷ scope) env
     placed_inside sc {scope = scope} t a b k env fits outer = record { apart = apart; left = left; right = right }
       where
@@ -109,7 +112,8 @@ module _ (p : Program) (g : Procedure) where
       left = λ s l m e. root_left (is_root l m) e;
       right = λ s r m e. root_right (is_root r m) e;
     }
-    fits_placed (inside {sc = sc} {s = t} {l = a} {r = b} k deeper) env fits = placed_inside sc t a b k env fits (fits_placed deeper env fits.0)
+    fits_placed (inside {sc = sc} {s = t} {l = a} {r = b} k deeper) env fits =
+        placed_inside sc t a b k env fits (fits_placed deeper env fits.0)
 
     -- ---- names in scope
     mutual
@@ -125,7 +129,8 @@ module _ (p : Program) (g : Procedure) where
         scoped (inside k.0 ls) b k.1,
       )
       scoped_of ls (Call f es ss) k =
-          λ j lt. in_scope ls (past_call ss j) (k.in_scope j (let n : length ss ≡ length (procedure_of p f).parameters = k.number in omega (arith, lt, n)))
+          λ j lt. in_scope ls (past_call ss j)
+          (k.in_scope j (let n : length ss ≡ length (procedure_of p f).parameters = k.number in omega (arith, lt, n)))
       scoped_of ls (Async b) k = scoped ls b k
       scoped_of ls (Finish b) k = scoped ls b k
 
@@ -143,6 +148,7 @@ arrays_written p = each p.arrays
 
 pub is_scoped : (p : Program) → IsSound p → IsScoped p
 is_scoped p sound = record {
-  main = subst (λ ms. Scoped p (Top ms) p.main.body) (arrays_written p) (scoped p (main_of p) sound.main.first top p.main.body sound.main.body);
+  main = subst (λ ms. Scoped p (Top ms) p.main.body) (arrays_written p)
+      (scoped p (main_of p) sound.main.first top p.main.body sound.main.body);
   procedures = λ f. let g = sound.procedures f in scoped p (procedure_of p f) g.first top (procedure_of p f).body g.body;
 }

@@ -1,6 +1,7 @@
 -- From names to places: what is pending keeps apart from what is done later, place for place.
 use Rattle.std.specs.Prelude.{ℕ, [], map}
-use Rattle.types.specs.Code.{Code, Do, If, While, Split, Call, Async, Finish, Codes, End, Then, Program}
+use Rattle.types.specs.Code.{Code, Do, If, While, Split, Call, Async, Finish, Codes, End, Then}
+use Rattle.types.specs.Code.{Program}
 use Rattle.types.specs.Place.{Place}
 use Rattle.types.specs.Value.{Environment}
 use Rattle.types.specs.Run.{entry, procedure_of}
@@ -20,12 +21,13 @@ AlwaysApart sc xs ys = (env : Environment) → FitsScope sc env → KeepApart en
 
 module _ (p : Program) where
   abbrev mutual
-    -- inside a statement; a loop's pending keeps apart from its next turn, and a call passes windows that fit
+    -- what a loop leaves pending keeps apart from its next turn; a call passes windows that fit
     pub CalmOf : Scope → (label : ℕ) → Code → Type 0
     CalmOf sc l (Do s) = Unit {0}
     CalmOf sc l (If t b c) = Calm sc b × Calm sc c
     CalmOf sc l (While t b) =
-        Calm sc b × AlwaysApart sc (PendingOf p accesses (While t b)) (AllOf p accesses l (While t b))
+        Calm sc b × AlwaysApart sc (PendingOf p accesses (While t b))
+        (AllOf p accesses l (While t b))
     CalmOf sc l (Split s e x y b) = Calm (Inside s x y sc) b
     CalmOf sc l (Call f es ss) =
         (env : Environment) → FitsScope sc env

@@ -1,6 +1,8 @@
 -- Sections in scope, the environments that fit them, and programs that name only what is in scope.
-use Rattle.std.specs.Prelude.{ℕ, ◌≡◌, ◌≢◌, ◌<◌, ◌⊎◌, ℤ, List, ◌∷◌, map, length, slice_index_or, Some, Bool, true, false}
-use Rattle.types.specs.Code.{Code, Do, If, While, Split, Call, Async, Finish, Codes, End, Then, Procedure, Program}
+use Rattle.std.specs.Prelude.{ℕ, ◌≡◌, ◌≢◌, ◌<◌, ◌⊎◌, ℤ, List, ◌∷◌, map, length, slice_index_or}
+use Rattle.std.specs.Prelude.{Some, Bool, true, false}
+use Rattle.types.specs.Code.{Code, Do, If, While, Split, Call, Async, Finish, Codes, End, Then}
+use Rattle.types.specs.Code.{Procedure, Program}
 use Rattle.types.specs.Place.{sides_of}
 use Rattle.types.specs.Value.{Environment}
 use Rattle.types.specs.Run.{procedure_of}
@@ -10,8 +12,7 @@ use Rattle.effects.specs.Effects.{past_call}
 use Rattle.effects.specs.Sound.{SplitsWell, parameters_of}
 use Rattle.effects.specs.Fits.{Apart}
 
--- the sections in scope: the first ones of a procedure, each of which may be written or not, and the sides of
--- the splits around
+-- the sections in scope: those of the procedure's beginning, written or not, and sides of splits
 pub data Scope : Type 0 where
   Top : (may_write : List Bool) → Scope
   Inside : (section left right : ℕ) → (around : Scope) → Scope
@@ -49,13 +50,14 @@ pub data Lists (g : Procedure) : Scope → List ℕ → Type 0 where
 
 module _ (p : Program) where
   abbrev mutual
-    -- a split inside a statement is of a section in scope, into new ones, and a call passes sections in scope
+    -- a split is of a section in scope, into new ones; a call passes sections in scope
     pub ScopedOf : Scope → Code → Type 0
     ScopedOf sc (Do s) = Unit {0}
     ScopedOf sc (If t b c) = Scoped sc b × Scoped sc c
     ScopedOf sc (While t b) = Scoped sc b
     ScopedOf sc (Split s e x y b) =
-        InScope sc s × (InScope sc x → ⊥) × (InScope sc y → ⊥) × (x ≢ y) × Scoped (Inside s x y sc) b
+        InScope sc s × (InScope sc x → ⊥) × (InScope sc y → ⊥) × (x ≢ y)
+        × Scoped (Inside s x y sc) b
     ScopedOf sc (Call f es ss) =
         (k : ℕ) → k < length (procedure_of p f).parameters → InScope sc (past_call ss k)
     ScopedOf sc (Async b) = Scoped sc b
