@@ -14,8 +14,9 @@ ghost use Rattle.types.specs.Translation.{parameter};
 use crate::check::names::{Meaning, Names};
 use crate::code::{Label, SectionParameter};
 use crate::error::TypeError;
-use crate::ids::{SectionId, Slot};
+use crate::ids::Slot;
 use sections::tree::SectionTree;
+use sections::id::SectionId;
 use std::alloc::Global;
 use syntax::tree::ElementType;
 
