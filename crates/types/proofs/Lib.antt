@@ -16,3 +16,4 @@ pub mod Scopes
 pub mod NamesInScope
 pub mod Expressions
 pub mod Statements
+pub mod LabelLimit

@@ -2,8 +2,7 @@
 
 #![tactic(auto, using(crate::proofs::Telling::told_left, crate::proofs::Telling::told_right, crate::proofs::Telling::told_memory, crate::proofs::Telling::told_alone, crate::proofs::Telling::none_both))]
 
-ghost use Rattle.std.specs.Prelude.{ℕ, ◌≡◌, [], ◌∷◌, ◌++◌, map, OnOk, IfOk, IfErr, Some, ◌<◌, length, slice_index, IfSome};
-ghost use Rattle.sections.specs.Overlap.{overlap as overlap_of};
+ghost use Rattle.std.specs.Prelude.{◌≡◌, [], ◌∷◌, ◌++◌, map, OnOk, IfOk, IfErr, Some, ◌<◌, length, All};
 ghost use Rattle.std.specs.Option.{option_map};
 ghost use Rattle.std.specs.String.{string_bytes};
 ghost use Rattle.sections.specs.Translation.{section as section_as};
@@ -25,9 +24,8 @@ use crate::code::{Number, SectionParameter, StmtKind};
 use crate::error::TypeError;
 use crate::ids::ProcedureId;
 use indexmap::IndexSet;
-use sections::origin::Origin;
-use sections::tree::SectionTree;
 use sections::id::SectionId;
+use sections::tree::SectionTree;
 use std::alloc::Global;
 use syntax::tree;
 use syntax::tree::{Atom, Expr};
@@ -318,8 +316,7 @@ fn named_section(
 
 /// Whether two arguments overlap, one of which may be written.
 fn overlapping(sections: &SectionTree, passed: &[Passed]) -> bool
-    requires { (k : ℕ) → k < length passed.now
-        → (slice_index passed.now k).section.number < length (origins_of sections.now) }
+    requires { All (λ p. p.0 < length (origins_of sections.now)) (map passed_by passed.now) }
     ensures { result ≡ errors.overlapping (origins_of sections.now) (map passed_by passed.now) }
 {
     let mut rest = passed;
@@ -342,44 +339,5 @@ fn clash(sections: &SectionTree, one: Passed, other: Passed) -> bool
     requires other { other.section.number < length (origins_of sections.now) }
     ensures { result ≡ errors.clash (origins_of sections.now) (passed_by one) (passed_by other) }
 {
-    (one.may_write || other.may_write) && overlap(sections, one.section, other.section)
-}
-
-/// Stands in for `SectionTree::overlap` until that lands.
-fn overlap(sections: &SectionTree, a: SectionId, b: SectionId) -> bool
-    requires first { a.number < length (origins_of sections.now) }
-    requires second { b.number < length (origins_of sections.now) }
-    ensures { result ≡ overlap_of (origins_of sections.now) a.number b.number }
-{
-    let mut low = a.number.min(b.number);
-    let mut high = a.number.max(b.number);
-    'walk: while low < high {
-        let Some(parent) = above(sections, low, high) else {
-            return false;
-        };
-        if parent < low {
-            high = low;
-            low = parent;
-        } else {
-            high = parent;
-        }
-    }
-    true
-}
-
-fn above(sections: &SectionTree, low: usize, high: usize) -> Option<usize>
-    requires { high < length (origins_of sections.now) }
-    ensures { IfSome result (λ p. p < high) }
-{
-    match sections.origin(SectionId { number: high }) {
-        Origin::Root => None,
-        Origin::Left { parent } => Some(parent.number),
-        Origin::Right { parent } => {
-            if low + 1 == high {
-                None
-            } else {
-                Some(parent.number)
-            }
-        }
-    }
+    (one.may_write || other.may_write) && sections.overlap(one.section, other.section)
 }

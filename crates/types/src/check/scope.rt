@@ -15,8 +15,8 @@ use crate::check::names::{Meaning, Names};
 use crate::code::{Label, SectionParameter};
 use crate::error::TypeError;
 use crate::ids::Slot;
-use sections::tree::SectionTree;
 use sections::id::SectionId;
+use sections::tree::SectionTree;
 use std::alloc::Global;
 use syntax::tree::ElementType;
 
