@@ -17,3 +17,4 @@ pub mod NamesInScope
 pub mod Expressions
 pub mod Statements
 pub mod LabelLimit
+pub mod Sizes

@@ -1,5 +1,6 @@
 -- What is told of a part is told of the whole, and a whole whose parts have no errors has none.
 use Rattle.std.proofs.Common.{◌≡◌, ◌⊎◌, List, [], ◌∷◌, ◌++◌, map, Result, Ok, Err, OnOk, IfOk, IfErr, refl, sym, ap, ◌∙◌, subst, inl, inr}
+use Rattle.std.specs.Result.{IsErrAnd}
 use Rattle.types.specs.Told.{Told}
 use Rattle.types.specs.declared.error.TypeError.{TypeError}
 use Rattle.types.specs.declared.error.TypeError.TheVariants.{OutOfMemory}
@@ -29,5 +30,6 @@ pub told_alone : (x : TypeError) → Told (x ∷ []) x
 told_alone x = inl refl
 
 -- at an exit by `?`, whose error is that of the part
-pub at_exit : {X : Type 0} (P : TypeError → Type 0) (r : Result X TypeError) (e : TypeError) → r ≡ Err e → P e → IfErr r P
-at_exit P r e is p = subst (λ s. IfErr s P) (sym is) p
+pub at_exit : {A : Type 0} (P : TypeError → Type 0) (r : Result A TypeError) (e : TypeError) → IsErrAnd r (λ y. y ≡ e) → P e → IfErr r P
+at_exit P (Ok x) e passed h = tt
+at_exit P (Err y) e passed h = subst P (sym passed) h

@@ -403,9 +403,7 @@ impl Statements<'_> {
             (scope_of scope.old)
             (Call (string_bytes procedure.now) (map expr_of arguments.now)))) }
     {
-        let call = self
-            .procedures
-            .call(self.alloc, scope, procedure, arguments)?;
+        let call = calls::call(self.alloc, &self.procedures, scope, procedure, arguments)?;
         scope.step();
         Ok(call)
     }
