@@ -1,5 +1,7 @@
 -- What a loop over a list of the grammar adds, which tokens go on with what stands before them, and what spells nothing.
 use Rattle.std.specs.Prelude.{◌≡◌, ◌≢◌, ◌<◌, ℕ, List, [], ◌∷◌, ◌++◌}
+use Rattle.syntax.specs.declared.cursor.Stuck.{Stuck}
+use Rattle.syntax.specs.declared.cursor.Stuck.TheVariants.{OutOfMemory}
 use Rattle.syntax.specs.declared.token.Word.{Word}
 use Rattle.syntax.specs.declared.token.Word.TheVariants.{And as WordAnd, Array as WordArray, Else as WordElse}
 use Rattle.syntax.specs.declared.token.Word.TheVariants.{Or as WordOr, Proc as WordProc}
@@ -100,3 +102,24 @@ SpellsNoneClosed spelled tokens = (tree : _) (rest : List Token) → tokens ≢ 
 -- and of what stands behind them
 abbrev pub LeavesClosed : {Tree : Type 0} → (Tree → List Token → List Token) → List Token → List Token → Type 0
 LeavesClosed spelled tokens left = (tree : _) (rest : List Token) → tokens ≡ spelled tree rest → left ≡ rest
+
+-- these tokens were read as this tree, which they spell, up to those that are left; and whatever tree they spell, the
+-- same are left
+pub record IsRead {Tree : Type 0} (spell : Tree → List Token → List Token) (level : ℕ) (tokens : List Token) (tree : Tree)
+    (left : List Token) : Type 0 where
+  pub spelled : tokens ≡ spell tree left
+  pub whole : Leaves spell level tokens left
+
+-- the same of trees that end by a token of their own
+pub record IsReadClosed {Tree : Type 0} (spell : Tree → List Token → List Token) (tokens : List Token) (tree : Tree)
+    (left : List Token) : Type 0 where
+  pub spelled : tokens ≡ spell tree left
+  pub whole : LeavesClosed spell tokens left
+
+-- tokens that spell no tree are refused, and no others, memory aside
+abbrev pub Refuses : {Tree : Type 0} → (Tree → List Token → List Token) → ℕ → List Token → Stuck → Type 0
+Refuses spell level tokens stuck = stuck ≢ OutOfMemory → SpellsNone spell level tokens
+
+-- the same of trees that end by a token of their own
+abbrev pub RefusesClosed : {Tree : Type 0} → (Tree → List Token → List Token) → List Token → Stuck → Type 0
+RefusesClosed spell tokens stuck = stuck ≢ OutOfMemory → SpellsNoneClosed spell tokens

@@ -8,12 +8,11 @@ use Rattle.syntax.specs.declared.error.SyntaxError.TheVariants.{TooLong, OutOfMe
 use Rattle.syntax.specs.declared.lexer.Unread.{Unread}
 use Rattle.syntax.specs.declared.lexer.Unread.TheVariants.{NotACharacter as Unreadable, NumberTooLarge as OverLimit}
 use Rattle.syntax.specs.declared.lexer.Unread.TheVariants.{OutOfMemory as NoMemory}
-use Rattle.syntax.specs.declared.parser.TheConstants.{MOST_BYTES}
 use Rattle.syntax.specs.declared.place.Place.{Place}
 use Rattle.syntax.specs.declared.token.Spanned.{Spanned}
 use Rattle.syntax.specs.Brackets.{AreShallow}
 use Rattle.syntax.specs.Lexical.{starts, HasTokens, AreTokensOf, Reads, BeginsNoPiece, BeginsLargeNumber, StopsAt}
-use Rattle.syntax.specs.Place.{place_at}
+use Rattle.syntax.specs.Place.{place_at, place_text}
 use Rattle.syntax.specs.Spelling.{spelling}
 use Rattle.syntax.specs.Token.{Token, token, plain}
 use Rattle.syntax.specs.Tree.{Program}
@@ -113,7 +112,7 @@ Tells text (NotACharacter place) = TellsOf (chars text) (NotACharacter place)
 Tells text (UnexpectedToken place) = TellsOf (chars text) (UnexpectedToken place)
 Tells text (NumberTooLarge place) = TellsOf (chars text) (NumberTooLarge place)
 Tells text (TooDeep place) = TellsOf (chars text) (TooDeep place)
-Tells text TooLong = MOST_BYTES < length text
+Tells text TooLong = 1048576 < length text
 Tells text OutOfMemory = Unit {0}
 
 -- the code of an error
@@ -133,3 +132,12 @@ place_of (NumberTooLarge place) = Some place
 place_of (TooDeep place) = Some place
 place_of TooLong = None
 place_of OutOfMemory = None
+
+-- `at` and the place, if there is one
+abbrev pub at_text : Option Place → List ℕ
+at_text None = []
+at_text (Some place) = codes " at " ++ place_text place
+
+-- the text of an error: its code, and `at` its place where it names one
+abbrev pub error_text : SyntaxError → List ℕ
+error_text e = code_of e ++ at_text (place_of e)

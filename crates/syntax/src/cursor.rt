@@ -134,6 +134,8 @@ pub fn name(tokens: &[Spanned]) -> Result<(String, &[Spanned]), Stuck>
         → (name : List ℕ) (rest : List PlainToken) → plain tokens.now ≢ NameToken name ∷ rest) }
     ensures place { IfErr result (λ stuck. stuck ≢ Stuck.OutOfMemory
         → stuck ≡ Stuck.Unexpected (length tokens.now)) }
+    ensures memory { IfErr result (λ stuck. stuck ≡ Stuck.OutOfMemory
+        → (name : List ℕ) × (rest : List PlainToken) × (plain tokens.now ≡ NameToken name ∷ rest)) }
 {
     let Some((first, rest)) = tokens.split_first() else {
         return Err(unexpected(tokens));

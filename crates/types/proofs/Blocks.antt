@@ -1,7 +1,7 @@
 -- The code of a statement is that of its blocks.
-use Rattle.std.proofs.Common.{◌≡◌, ℕ, Vec, Global, refl, ap, ◌∙◌}
+use Rattle.std.proofs.Common.{◌≡◌, ℕ, List, [], ◌∷◌, ◌++◌, Vec, Global, refl, ap, ◌∙◌}
 use mathlib.Core.Former.{Count}
-use Rattle.types.specs.Code.{If, While, Split, Async, Finish, Then}
+use Rattle.types.specs.Code.{If, While, Split, Async, Finish, Codes, End, Then}
 use Rattle.types.specs.Translation.{number, truth, code, row_codes, codes}
 use Rattle.types.specs.declared.code.Number.{Number}
 use Rattle.sections.specs.declared.id.SectionId.{SectionId}
@@ -49,3 +49,16 @@ code_If t v w =
     let o = other_in (rIf t v w) in
     ap (λ x. If (truth t) x (row_codes o.1)) (row_codes_are b.0 b.1 ∙ ap codes (items_hidden-the_row-Stmt-0 v))
     ∙ ap (If (truth t) (codes v.items)) (row_codes_are o.0 o.1 ∙ ap codes (items_hidden-the_row-Stmt-0 w))
+
+-- code in front of code
+abbrev pub joined : List Stmt → Codes → Codes
+joined [] cs = cs
+joined (s ∷ rest) cs = Then s.label (code s.kind) (joined rest cs)
+
+pub joined_push : (rs : List Stmt) (s : Stmt) (cs : Codes) → joined rs (Then s.label (code s.kind) cs) ≡ joined (rs ++ s ∷ []) cs
+joined_push [] s cs = refl
+joined_push (r ∷ rs) s cs = ap (Then r.label (code r.kind)) (joined_push rs s cs)
+
+pub joined_all : (rs : List Stmt) → joined rs End ≡ codes rs
+joined_all [] = refl
+joined_all (r ∷ rs) = ap (Then r.label (code r.kind)) (joined_all rs)

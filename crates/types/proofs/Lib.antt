@@ -2,6 +2,7 @@ pub mod Programs
 pub mod Examples
 pub mod Solutions
 pub mod Views
+pub mod Keeps
 pub mod Adds
 pub mod Larger
 pub mod Readings
@@ -15,3 +16,5 @@ pub mod Scopes
 pub mod NamesInScope
 pub mod Expressions
 pub mod Statements
+pub mod LabelLimit
+pub mod Sizes

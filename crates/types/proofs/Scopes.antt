@@ -181,14 +181,16 @@ mutual
   scoped_behind (Store s i e) here w = scoped_next here w
   scoped_behind (Print e es) here w = scoped_next here w
   scoped_behind (Fault e) here w = scoped_next here w
-  scoped_behind (If e b) here w = scoped_body here b w
+  scoped_behind (If e b) here w =
+      scoped_out here (after b (next here)) w (scoped_after b (next here) (scoped_next here w)) (more_after b (next here))
   scoped_behind (IfElse e b c) here w =
       let there = out_of here (after b (next here)) in
-      let v = scoped_body here b w in
+      let v = scoped_out here (after b (next here)) w (scoped_after b (next here) (scoped_next here w)) (more_after b (next here)) in
       let first = more_after b (next here) in
       let other = more_after c there in
       scoped_out here (after c there) w (scoped_after c there v) (omega arith)
-  scoped_behind (While e b) here w = scoped_body here b w
+  scoped_behind (While e b) here w =
+      scoped_out here (after b (next here)) w (scoped_after b (next here) (scoped_next here w)) (more_after b (next here))
   scoped_behind (Split s e l r b) here w =
       let n = section_of here.names s in
       let inside = with_sides n l r (next here) in
@@ -199,10 +201,7 @@ mutual
   scoped_behind (Async b) here w =
       let inside = inside_async (next here) in
       scoped_out here (after b inside) w (scoped_after b inside (scoped_async (next here) (scoped_next here w))) (more_after b inside)
-  scoped_behind (Finish b) here w = scoped_body here b w
-
-  scoped_body : (here : Scope) (b : Block) → IsWellScoped here → IsWellScoped (out_of here (after b (next here)))
-  scoped_body here b w =
+  scoped_behind (Finish b) here w =
       scoped_out here (after b (next here)) w (scoped_after b (next here) (scoped_next here w)) (more_after b (next here))
 
   pub scoped_after : (b : Block) (here : Scope) → IsWellScoped here → IsWellScoped (after b here)
@@ -245,3 +244,7 @@ scoped_parameters (Written x e ∷ ps) here few w = scoped_parameters ps (with_p
 scoped_parameters (Read x e ∷ ps) here few w = scoped_parameters ps (with_parameter (Read x e) here) (omega arith) (scoped_root x _ here w)
 scoped_parameters (Scalar x ∷ ps) here few w =
     scoped_parameters ps (with_parameter (Scalar x) here) (omega arith) (scoped_scalar x here (omega arith) w)
+
+pub scoped_body : (here : Scope) (b : Block) → IsWellScoped here → IsWellScoped (out_of here (after b (next here)))
+scoped_body here b w =
+    scoped_out here (after b (next here)) w (scoped_after b (next here) (scoped_next here w)) (more_after b (next here))

@@ -5,11 +5,11 @@ pub mod Contents
 pub mod ExpressionErrors
 pub mod FirstPart
 pub mod Indexed
+pub mod Labels
 pub mod Laws
 pub mod Meaning
 pub mod NameErrors
 pub mod Outcome
-pub mod Place
 pub mod Resolution
 pub mod Resolving
 pub mod Rows

@@ -5,7 +5,7 @@ use Rattle.sections.specs.Tree.{origins_of}
 use Rattle.syntax.specs.Tree.{Stmt, Procedure}
 use Rattle.syntax.specs.Tree as tree
 use Rattle.types.specs.declared.check.calls.Passed.{Passed as rPassed}
-use Rattle.types.specs.declared.check.calls.Procedures.{Procedures as rProcedures}
+use Rattle.types.specs.declared.check.procedures.Procedures.{Procedures as rProcedures}
 use Rattle.types.specs.declared.check.names.Meaning.{Meaning}
 use Rattle.types.specs.declared.check.names.Meaning.TheVariants.{Section as rSection, Scalar as rScalar}
 use Rattle.types.specs.declared.check.names.Names.{Names as rNames}

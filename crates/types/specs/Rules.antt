@@ -83,7 +83,7 @@ array_errors here (a ∷ arrays) = declaring None (meant a.name here.names) ++ a
 abbrev pub name_errors : (before : List (List ℕ)) → List Procedure → List TypeError
 name_errors before [] = []
 name_errors before (f ∷ fs) =
-    (if list_any (pointwise nat_eq f.name) before then DeclaredTwice None ∷ [] else []) ++ name_errors (f.name ∷ before) fs
+    (if list_any (pointwise nat_eq f.name) before then DeclaredTwice None ∷ [] else []) ++ name_errors (before ++ f.name ∷ []) fs
 
 module _ (all : List Procedure) where
   -- a procedure whose first statement has the label; Y9: 16 parameters

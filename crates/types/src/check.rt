@@ -12,12 +12,13 @@ mod calls;
 mod expressions;
 mod limits;
 mod names;
+mod procedures;
 mod program;
 mod scope;
 mod statements;
 
-use crate::check::calls::Procedures;
 use crate::check::limits::{MOST_PROCEDURES, limit};
+use crate::check::procedures::Procedures;
 use crate::check::program::{resolve_main, resolve_procedures};
 use crate::check::statements::Statements;
 use crate::code::Program;

@@ -3,7 +3,8 @@
 
 ghost use Rattle.std.specs.Prelude.{◌≤◌};
 
-use crate::ids::{ProcedureId, SectionId, Slot};
+use crate::ids::{ProcedureId, Slot};
+use sections::id::SectionId;
 use sections::tree::SectionTree;
 use syntax::tree::{ElementType, Relation};
 

@@ -2,7 +2,7 @@
 
 ghost use Rattle.std.specs.Prelude.{◌≡◌};
 
-pub use sections::id::{ArrayId, SectionId};
+use sections::id::{ArrayId, SectionId};
 
 /// A scalar of a procedure: the number of its slot in a frame. The parameters come first.
 #[derive(Clone, Copy, PartialEq, Eq, Debug)]

@@ -15,4 +15,3 @@ pub mod outcome;
 pub mod path;
 pub mod typed;
 pub mod value;
-pub mod window;

@@ -2,107 +2,64 @@
 
 #![tactic(auto, using(crate::proofs::Telling::told_left, crate::proofs::Telling::told_right, crate::proofs::Telling::told_memory, crate::proofs::Telling::told_alone, crate::proofs::Telling::none_both))]
 
-ghost use Rattle.std.specs.Prelude.{ℕ, ◌≡◌, [], ◌∷◌, ◌++◌, map, OnOk, IfOk, IfErr, Some, ◌<◌, length, slice_index, IfSome};
-ghost use Rattle.sections.specs.Overlap.{overlap as overlap_of};
-ghost use Rattle.std.specs.Option.{option_map};
+ghost use Rattle.std.specs.Prelude.{◌≡◌, [], ◌∷◌, ◌++◌, map, OnOk, IfOk, IfErr, Some, ◌<◌, length, All};
 ghost use Rattle.std.specs.String.{string_bytes};
 ghost use Rattle.sections.specs.Translation.{section as section_as};
 ghost use Rattle.sections.specs.Tree.{origins_of};
-ghost use Rattle.syntax.specs.Tree.{expr as expr_of, parameter as parameter_of, procedure as procedure_as};
+ghost use Rattle.syntax.specs.Tree.{expr as expr_of, parameter as parameter_of};
 ghost use Rattle.syntax.specs.Tree.{atom as atom_of, lone_atom};
 ghost use Rattle.types.specs.CallErrors as errors;
 ghost use Rattle.types.specs.Resolution as resolution;
-ghost use Rattle.types.specs.Resolving.{names_of, scope_of, passed_by, IsWellScoped};
+ghost use Rattle.types.specs.Resolving.{names_of, scope_of, passed_by, procedures_of, IsWellScoped};
 ghost use Rattle.types.specs.Scope.{ASection, meant};
 ghost use Rattle.types.specs.Told.{Told};
-ghost use Rattle.types.specs.Rules.{name_errors};
 ghost use Rattle.types.specs.Translation.{number, code, parameter as parameter_in};
 
 use crate::check::expressions::Expressions;
 use crate::check::names::Meaning;
+use crate::check::procedures::Procedures;
 use crate::check::scope::Scope;
 use crate::code::{Number, SectionParameter, StmtKind};
 use crate::error::TypeError;
-use crate::ids::{ProcedureId, SectionId};
-use indexmap::IndexSet;
-use sections::origin::Origin;
+use sections::id::SectionId;
 use sections::tree::SectionTree;
 use std::alloc::Global;
 use syntax::tree;
 use syntax::tree::{Atom, Expr};
 
-/// The procedures of a program, each by its name.
-#[derive(Drop)]
-pub struct Procedures<'p> {
-    names: IndexSet<String>,
-    declared: &'p [tree::Procedure],
-}
-
-impl Procedures<'_> {
-    ghost use Rattle.types.specs.Resolving.{procedures_of};
-
-    /// Gathers procedures, no two of one name.
-    pub fn new(alloc: Global, declared: &[tree::Procedure]) -> Result<Procedures<'_>, TypeError>
-        ensures procedures { IfOk result
-            (λ p. procedures_of p ≡ map procedure_as declared.now) }
-        ensures right { OnOk result (name_errors [] (map procedure_as declared.now) ≡ []) }
-        ensures error { IfErr result (Told (name_errors [] (map procedure_as declared.now))) }
-    {
-        let mut names = IndexSet::new(alloc);
-        for procedure in declared {
-            let name = procedure.name.clone()?;
-            let added = names.insert(name)?;
-            if !added {
-                return Err(TypeError::DeclaredTwice { label: None });
-            }
-        }
-        Ok(Procedures { names, declared })
+/// A call in the statement that begins at this place.
+pub fn call(
+    alloc: Global,
+    procedures: &Procedures<'_>,
+    scope: &Scope,
+    name: &String,
+    arguments: &[Expr],
+) -> Result<StmtKind, TypeError>
+    requires { IsWellScoped (scope_of scope.now) }
+    ensures right { OnOk result (errors.calling scope.now.label (scope_of scope.now)
+        (resolution.procedure_of 0 (string_bytes name.now) (procedures_of procedures.now))
+        (map expr_of arguments.now) ≡ []) }
+    ensures code { IfOk result (λ k. resolution.call (procedures_of procedures.now)
+        (names_of scope.now.names)
+        (resolution.procedure_of 0 (string_bytes name.now) (procedures_of procedures.now))
+        (map expr_of arguments.now) ≡ code k) }
+    ensures error { IfErr result (Told (errors.calling scope.now.label (scope_of scope.now)
+        (resolution.procedure_of 0 (string_bytes name.now) (procedures_of procedures.now))
+        (map expr_of arguments.now))) }
+{
+    let label = scope.label;
+    let Some((procedure, parameters)) = procedures.find(name) else {
+        return Err(TypeError::NotInScope { label });
+    };
+    let given = gathered(alloc, scope, parameters, arguments)?;
+    if overlapping(&scope.sections, given.passed.as_slice()) {
+        return Err(TypeError::Overlapping { label });
     }
-
-    /// The number and the parameters of the procedure of a name.
-    fn find(&self, name: &String) -> Option<(ProcedureId, &[tree::Parameter])>
-        ensures { option_map (λ f. (f.0.number, map parameter_of f.1.now)) result
-            ≡ resolution.procedure_of 0 (string_bytes name.now) (procedures_of self.now) }
-    {
-        let number = self.names.get_index_of(name)?;
-        let procedure = self.declared.get(number)?;
-        Some((ProcedureId { number }, procedure.parameters.as_slice()))
-    }
-
-    /// A call in the statement that begins at this place.
-    pub fn call(
-        &self,
-        alloc: Global,
-        scope: &Scope,
-        name: &String,
-        arguments: &[Expr],
-    ) -> Result<StmtKind, TypeError>
-        requires { IsWellScoped (scope_of scope.now) }
-        ensures right { OnOk result (errors.calling scope.now.label (scope_of scope.now)
-            (resolution.procedure_of 0 (string_bytes name.now) (procedures_of self.now))
-            (map expr_of arguments.now) ≡ []) }
-        ensures code { IfOk result (λ k. resolution.call (procedures_of self.now)
-            (names_of scope.now.names)
-            (resolution.procedure_of 0 (string_bytes name.now) (procedures_of self.now))
-            (map expr_of arguments.now) ≡ code k) }
-        ensures error { IfErr result (Told (errors.calling scope.now.label (scope_of scope.now)
-            (resolution.procedure_of 0 (string_bytes name.now) (procedures_of self.now))
-            (map expr_of arguments.now))) }
-    {
-        let label = scope.label;
-        let Some((procedure, parameters)) = self.find(name) else {
-            return Err(TypeError::NotInScope { label });
-        };
-        let given = gathered(alloc, scope, parameters, arguments)?;
-        if overlapping(&scope.sections, given.passed.as_slice()) {
-            return Err(TypeError::Overlapping { label });
-        }
-        Ok(StmtKind::Call {
-            procedure,
-            values: given.values,
-            sections: given.sections,
-        })
-    }
+    Ok(StmtKind::Call {
+        procedure,
+        values: given.values,
+        sections: given.sections,
+    })
 }
 
 /// A section argument.
@@ -263,6 +220,7 @@ fn argument_section(
     }
 }
 
+#[tactic(auto, using(crate::proofs::Telling::told_alone), unfolding(syntax::specs::Tree::atom))]
 fn atom_section(scope: &Scope, kind: SectionParameter, atom: &Atom) -> Result<SectionId, TypeError>
     ensures right { OnOk result (errors.passing_atom scope.now.label (scope_of scope.now)
         (parameter_in kind) (Some (atom_of atom.now)) ≡ []) }
@@ -317,8 +275,7 @@ fn named_section(
 
 /// Whether two arguments overlap, one of which may be written.
 fn overlapping(sections: &SectionTree, passed: &[Passed]) -> bool
-    requires { (k : ℕ) → k < length passed.now
-        → (slice_index passed.now k).section.number < length (origins_of sections.now) }
+    requires { All (λ p. p.0 < length (origins_of sections.now)) (map passed_by passed.now) }
     ensures { result ≡ errors.overlapping (origins_of sections.now) (map passed_by passed.now) }
 {
     let mut rest = passed;
@@ -341,44 +298,5 @@ fn clash(sections: &SectionTree, one: Passed, other: Passed) -> bool
     requires other { other.section.number < length (origins_of sections.now) }
     ensures { result ≡ errors.clash (origins_of sections.now) (passed_by one) (passed_by other) }
 {
-    (one.may_write || other.may_write) && overlap(sections, one.section, other.section)
-}
-
-/// Stands in for `SectionTree::overlap` until that lands.
-fn overlap(sections: &SectionTree, a: SectionId, b: SectionId) -> bool
-    requires first { a.number < length (origins_of sections.now) }
-    requires second { b.number < length (origins_of sections.now) }
-    ensures { result ≡ overlap_of (origins_of sections.now) a.number b.number }
-{
-    let mut low = a.number.min(b.number);
-    let mut high = a.number.max(b.number);
-    'walk: while low < high {
-        let Some(parent) = above(sections, low, high) else {
-            return false;
-        };
-        if parent < low {
-            high = low;
-            low = parent;
-        } else {
-            high = parent;
-        }
-    }
-    true
-}
-
-fn above(sections: &SectionTree, low: usize, high: usize) -> Option<usize>
-    requires { high < length (origins_of sections.now) }
-    ensures { IfSome result (λ p. p < high) }
-{
-    match sections.origin(SectionId { number: high }) {
-        Origin::Root => None,
-        Origin::Left { parent } => Some(parent.number),
-        Origin::Right { parent } => {
-            if low + 1 == high {
-                None
-            } else {
-                Some(parent.number)
-            }
-        }
-    }
+    (one.may_write || other.may_write) && sections.overlap(one.section, other.section)
 }

@@ -8,8 +8,9 @@ ghost use Rattle.std.specs.String.{string_eq};
 
 use crate::code::Label;
 use crate::error::TypeError;
-use crate::ids::{SectionId, Slot};
+use crate::ids::Slot;
 use indexmap::IndexMap;
+use sections::id::SectionId;
 use std::alloc::Global;
 
 /// What a name means.

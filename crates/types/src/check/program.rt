@@ -21,7 +21,7 @@ use crate::check::scope::Scope;
 use crate::check::statements::Statements;
 use crate::code::{Array, Label, Procedure, SectionParameter};
 use crate::error::TypeError;
-use crate::window::MOST_ELEMENTS;
+use sections::window::MOST_ELEMENTS;
 use std::alloc::Global;
 use syntax::tree;
 

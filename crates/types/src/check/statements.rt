@@ -15,14 +15,16 @@ ghost use Rattle.types.specs.Scope.{ASection, AScalar, meant, behind, after};
 ghost use Rattle.types.specs.Told.{Told};
 ghost use Rattle.types.specs.Translation.{number, truth, code, codes};
 
-use crate::check::calls::Procedures;
+use crate::check::calls;
 use crate::check::expressions::Expressions;
 use crate::check::limits::MOST_LABELS;
 use crate::check::names::Meaning;
+use crate::check::procedures::Procedures;
 use crate::check::scope::{Mark, Scope};
 use crate::code::{Number, Primitive, Stmt, StmtKind, Truth};
 use crate::error::TypeError;
-use crate::ids::{SectionId, Slot};
+use crate::ids::Slot;
+use sections::id::SectionId;
 use std::alloc::Global;
 use syntax::tree;
 use syntax::tree::Expr;
@@ -303,13 +305,16 @@ impl Statements<'_> {
             (scope_of scope.old) (Var (string_bytes name.now) (expr_of value.now)))) }
     {
         let label = scope.label;
-        let value = self.number(scope, value)?;
+        let initial = self.number(scope, value)?;
         let slot = Slot {
             number: scope.slots,
         };
         scope.step();
         scope.scalar(Some(label), name)?;
-        Ok(StmtKind::Do(Primitive::Assign { slot, value }))
+        Ok(StmtKind::Do(Primitive::Assign {
+            slot,
+            value: initial,
+        }))
     }
 
     /// `x = 1;`
@@ -398,9 +403,7 @@ impl Statements<'_> {
             (scope_of scope.old)
             (Call (string_bytes procedure.now) (map expr_of arguments.now)))) }
     {
-        let call = self
-            .procedures
-            .call(self.alloc, scope, procedure, arguments)?;
+        let call = calls::call(self.alloc, &self.procedures, scope, procedure, arguments)?;
         scope.step();
         Ok(call)
     }

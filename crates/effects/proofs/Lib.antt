@@ -1,0 +1,14 @@
+pub mod Fitting
+pub mod Footprints
+pub mod Growing
+pub mod Keeping
+pub mod Lines
+pub mod Members
+pub mod Needing
+pub mod OwnAccesses
+pub mod Rounding
+pub mod Scopes
+pub mod Solved
+pub mod Stability
+pub mod Tabled
+pub mod Windows

@@ -1,0 +1,12 @@
+pub mod Accesses
+pub mod Effects
+pub mod Fits
+pub mod Footprint
+pub mod Kept
+pub mod Member
+pub mod Needs
+pub mod Overlap
+pub mod Rounds
+pub mod Rows
+pub mod Sound
+pub mod Tables

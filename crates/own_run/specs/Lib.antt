@@ -1,0 +1,10 @@
+pub mod Apart
+pub mod Frames
+pub mod Holds
+pub mod OwnRun
+pub mod Places
+pub mod Reached
+pub mod Ready
+pub mod Results
+pub mod Runs
+pub mod Stops

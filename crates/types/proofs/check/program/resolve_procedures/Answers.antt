@@ -1,0 +1,57 @@
+use Rattle.std.proofs.Common.{◌≡◌, ◌<◌, ◌≤◌, ◌+◌, ◌++◌, ◌∷◌, [], length, map, drop, ap, sym, ◌∙◌, subst, rules, append_assoc, append-nil}
+use Rattle.std.proofs.lemmas.List.{at_drop_more, at_drop_all, map-append}
+use Rattle.syntax.specs.Tree as tree
+use Rattle.types.specs.Resolution as resolution
+use Rattle.types.specs.Resolving.{procedures_of}
+use Rattle.types.specs.Rules.{procedure_errors, procedures_errors}
+use Rattle.types.specs.Scope.{in_procedure}
+use Rattle.types.specs.Told.{Told}
+use Rattle.types.specs.Translation as plain
+use Rattle.types.proofs.Telling.{at_exit, told_left}
+use Rattle.types.proofs.check.program.resolve_procedures.Goals as goal
+
+pub loop-procedure-preserved : goal.loop-procedure-preserved
+loop-procedure-preserved c =
+    let fs = procedures_of c.args.statements.now.procedures in
+    let xs = c.args.declared.now in
+    let i = c.loop-procedure.procedure-index in
+    let x = tree.procedure c.procedure-item.result in
+    let rest = map tree.procedure (drop (i + 1) xs) in
+    let now = c.loop-procedure.label in
+    let next = c.resolve_procedure.new.label in
+    let made = c.in_ok-procedure.ensures in
+    let within : i < length xs = search rules in
+    let front : map tree.procedure (drop i xs) ≡ x ∷ rest =
+    at_drop_more (map tree.procedure) xs i c.procedure-item.result within ∙ ap (λ y. tree.procedure y ∷ rest) (sym c.procedure-item.is) in
+    let here = resolution.resolved fs x.name (in_procedure now x.parameters) x.body in
+    record {
+      within = c.resolve_procedure.ensures.within;
+      label = ap (λ l. resolution.label_behind_all l rest) made.label
+          ∙ ap (resolution.label_behind_all now) (sym front) ∙ c.loop-procedure.invariant.label;
+      right = ap (λ l. procedures_errors fs l rest) made.label
+          ∙ ap (λ l. l ++ procedures_errors fs (resolution.label_behind now x) rest) (sym made.right)
+          ∙ ap (procedures_errors fs now) (sym front) ∙ c.loop-procedure.invariant.right;
+      code = ap (λ ps. map plain.procedure ps ++ resolution.procedures fs next rest) c.in_ok-push.ensures.items
+          ∙ ap (λ ps. ps ++ resolution.procedures fs next rest) (map-append plain.procedure c.loop-procedure.procedures.items (c.in_ok-procedure.procedure ∷ []))
+          ∙ append_assoc (map plain.procedure c.loop-procedure.procedures.items) (plain.procedure c.in_ok-procedure.procedure ∷ []) (resolution.procedures fs next rest)
+          ∙ ap (λ p. map plain.procedure c.loop-procedure.procedures.items ++ (p ∷ resolution.procedures fs next rest)) (sym made.code)
+          ∙ ap (λ l. map plain.procedure c.loop-procedure.procedures.items ++ (here ∷ resolution.procedures fs l rest)) made.label
+          ∙ ap (λ l. map plain.procedure c.loop-procedure.procedures.items ++ resolution.procedures fs now l) (sym front)
+          ∙ c.loop-procedure.invariant.code;
+    }
+
+pub returns-in_err-procedure-clause-error : goal.returns-in_err-procedure-clause-error
+returns-in_err-procedure-clause-error c =
+    let fs = procedures_of c.args.statements.now.procedures in
+    let xs = c.args.declared.now in
+    let i = c.loop-procedure.procedure-index in
+    let x = tree.procedure c.procedure-item.result in
+    let rest = map tree.procedure (drop (i + 1) xs) in
+    let now = c.loop-procedure.label in
+    let e = c.in_err-procedure.field-0.0 in
+    let within : i < length xs = search rules in
+    let front : map tree.procedure (drop i xs) ≡ x ∷ rest =
+    at_drop_more (map tree.procedure) xs i c.procedure-item.result within ∙ ap (λ y. tree.procedure y ∷ rest) (sym c.procedure-item.is) in
+    at_exit (Told (procedures_errors fs c.args.label.now (map tree.procedure xs))) c.from_residual.result e c.from_residual.ensures.1
+    (subst (λ l. Told l e) (ap (procedures_errors fs now) (sym front) ∙ c.loop-procedure.invariant.right)
+    (told_left (procedure_errors fs now x) (procedures_errors fs (resolution.label_behind now x) rest) e c.in_err-procedure.ensures.error))
