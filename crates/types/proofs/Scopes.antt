@@ -248,3 +248,14 @@ scoped_parameters (Scalar x ∷ ps) here few w =
 pub scoped_body : (here : Scope) (b : Block) → IsWellScoped here → IsWellScoped (out_of here (after b (next here)))
 scoped_body here b w =
     scoped_out here (after b (next here)) w (scoped_after b (next here) (scoped_next here w)) (more_after b (next here))
+
+-- declarations have no label
+pub label_with_parameters : (ps : List Declared) (here : Scope) → (with_parameters ps here).label ≡ here.label
+label_with_parameters [] here = refl
+label_with_parameters (Written x e ∷ ps) here = label_with_parameters ps (with_parameter (Written x e) here)
+label_with_parameters (Read x e ∷ ps) here = label_with_parameters ps (with_parameter (Read x e) here)
+label_with_parameters (Scalar x ∷ ps) here = label_with_parameters ps (with_parameter (Scalar x) here)
+
+pub label_with_arrays : (arrays : List Array) (here : Scope) → (with_arrays arrays here).label ≡ here.label
+label_with_arrays [] here = refl
+label_with_arrays (a ∷ arrays) here = label_with_arrays arrays (with_array a here)
