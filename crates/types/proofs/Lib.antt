@@ -16,3 +16,5 @@ pub mod Declared
 pub mod Places
 pub mod ByKind
 pub mod Mains
+pub mod Labels
+pub mod FirstParts

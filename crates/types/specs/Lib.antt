@@ -2,8 +2,10 @@ pub mod ArrayScope
 pub mod Code
 pub mod Codes
 pub mod Contents
+pub mod Depth
 pub mod FirstPart
 pub mod Indexed
+pub mod Labels
 pub mod Laws
 pub mod Meaning
 pub mod Outcome
