@@ -15,3 +15,4 @@ pub mod Declared
 pub mod Places
 pub mod ByKind
 pub mod Mains
+pub mod InputLemmas
