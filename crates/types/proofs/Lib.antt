@@ -16,3 +16,4 @@ pub mod Declared
 pub mod Places
 pub mod ByKind
 pub mod Mains
+pub mod InputLemmas

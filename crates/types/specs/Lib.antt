@@ -4,8 +4,12 @@ pub mod Codes
 pub mod Contents
 pub mod FirstPart
 pub mod Indexed
+pub mod InputErrors
+pub mod InputNames
+pub mod Inputs
 pub mod Laws
 pub mod Meaning
+pub mod Names
 pub mod Outcome
 pub mod Resolution
 pub mod Rows
