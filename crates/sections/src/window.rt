@@ -25,7 +25,8 @@ pub struct Place {
 }
 
 impl Window {
-    ghost use Rattle.sections.specs.Place.{place_in, nowhere};
+    ghost use Rattle.sections.specs.Joining.{end_of, meets as meets_as, joined as joined_as};
+    ghost use Rattle.sections.specs.Place.{place_in};
     ghost use Rattle.sections.specs.Translation.{place as place_of, window as window_of};
 
     /// The window of no place.
@@ -84,6 +85,32 @@ impl Window {
                 index: self.at + index,
             }),
             _ => None,
+        }
+    }
+
+    /// The place behind the last one.
+    fn end(self) -> usize
+        ensures { result ≡ end_of (window_of self) }
+    {
+        self.at + self.len
+    }
+
+    /// Whether a window that begins no earlier begins within this one or right behind it.
+    pub(crate) fn meets(self, later: Window) -> bool
+        ensures { result ≡ meets_as (window_of self) (window_of later) }
+    {
+        self.array == later.array && later.at <= self.end()
+    }
+
+    /// This window and one that meets it, as one.
+    pub(crate) fn joined(self, later: Window) -> Window
+        ensures { window_of result ≡ joined_as (window_of self) (window_of later) }
+    {
+        let end = self.end().max(later.end());
+        Window {
+            array: self.array,
+            at: self.at,
+            len: end - self.at,
         }
     }
 }

@@ -18,3 +18,4 @@ pub mod ByKind
 pub mod Mains
 pub mod Labels
 pub mod FirstParts
+pub mod InputLemmas

@@ -5,9 +5,13 @@ pub mod Contents
 pub mod Depth
 pub mod FirstPart
 pub mod Indexed
+pub mod InputErrors
+pub mod InputNames
+pub mod Inputs
 pub mod Labels
 pub mod Laws
 pub mod Meaning
+pub mod Names
 pub mod Outcome
 pub mod Resolution
 pub mod Rows
