@@ -13,9 +13,9 @@ use Rattle.effects.specs.Member.{Member, first, next}
 use Rattle.effects.specs.Effects.{past_call}
 use Rattle.effects.specs.Overlap.{beyond, origin_of, IsNumbered}
 use Rattle.effects.specs.Sound.{may_write, SplitsWell, PassesWell, IsSoundIn, parameters_of, as_parameter, main_of}
-use Rattle.effects.specs.Fits.{Apart, LiesInArray, AreSidesOf, HasLeft, Fits}
+use Rattle.effects.specs.Fits.{Apart, LiesInArray, AreSidesOf, HasLeft, Placed, Fits}
 use Rattle.effects.proofs.Members.{numbers_from-below}
-use Rattle.effects.proofs.Windows.{IsCut, sides_of-cut, placed, names_apart}
+use Rattle.effects.proofs.Windows.{IsCut, sides_of-cut, names_apart}
 use Rattle.effects.proofs.Scopes.{origin_from_get}
 
 -- Origins are told apart
@@ -51,20 +51,26 @@ same_cut {w} {v} {a} {b} {c} {d} n e f g h =
 
 -- Only the windows in scope matter
 
-pub fits_same : (p : Program) (g : Procedure) (scope : List ℕ) (env other : Environment)
-    → Fits p g scope env → ((s : ℕ) → Member s scope → env.windows s ≡ other.windows s) → Fits p g scope other
-fits_same p g scope env other fits same = record {
-  lies = λ s m. subst (LiesInArray p) (same s m) (fits.lies s m);
+pub placed_same : (g : Procedure) (scope : List ℕ) (env other : Environment)
+    → Placed g scope env → ((s : ℕ) → Member s scope → env.windows s ≡ other.windows s) → Placed g scope other
+placed_same g scope env other placed same = record {
   apart = λ r s ne m n e f w. subst (λ v. Apart (other.windows r) v) (same s n)
-      (subst (λ v. Apart v (env.windows s)) (same r m) (fits.apart r s ne m n e f w));
-  left = λ s l m e. (let k = fits.left s l m e in record {
+      (subst (λ v. Apart v (env.windows s)) (same r m) (placed.apart r s ne m n e f w));
+  left = λ s l m e. (let k = placed.left s l m e in record {
     parent = k.parent;
     right = k.right;
     right_origin = k.right_origin;
     at = k.at;
     cut = same_cut k.at (same s k.parent) (same l m) (same (l + 1) k.right) k.cut;
   });
-  right = fits.right;
+  right = placed.right;
+}
+
+pub fits_same : (p : Program) (g : Procedure) (scope : List ℕ) (env other : Environment)
+    → Fits p g scope env → ((s : ℕ) → Member s scope → env.windows s ≡ other.windows s) → Fits p g scope other
+fits_same p g scope env other fits same = record {
+  lies = λ s m. subst (LiesInArray p) (same s m) (fits.lies s m);
+  placed = placed_same g scope env other fits.placed same;
 }
 
 -- In the block of a split
@@ -74,6 +80,49 @@ bind-same x v f = ap (λ b. if b then v else f x) (eq-eqb x x refl)
 
 bind-other : {A : Type 0} (x y : ℕ) (v : A) (f : ℕ → A) → x ≢ y → bind x v f y ≡ f y
 bind-other x y v f ne = ap (λ b. if b then v else f y) (ne_eqb x y ne)
+
+module _ (g : Procedure) (scope : List ℕ) (env : Environment) (t a b : ℕ) (splits : SplitsWell g scope t a b)
+    (at : ℤ) (cut : sides_of (env.windows t) at ≡ Some (env.windows a, env.windows b)) (outer : Placed g scope env) where
+  old_root : (x : ℕ) → Member x (a ∷ b ∷ scope) → origin_of g.sections x ≡ Root → Member x scope
+  old_root x first e = root_left e splits.left
+  old_root x (next first) e = root_right e splits.right
+  old_root x (next (next m)) e = m
+
+  sides_inside : AreSidesOf g (a ∷ b ∷ scope) env t a
+  sides_inside = record {
+    parent = next (next splits.in_scope);
+    right = subst (λ x. Member x (a ∷ b ∷ scope)) splits.next (next first);
+    right_origin = subst (λ x. origin_of g.sections x ≡ Right t) splits.next splits.right;
+    at = at;
+    cut = subst (λ x. sides_of (env.windows t) at ≡ Some (env.windows a, env.windows x)) splits.next cut;
+  }
+
+  left_inside : (s l : ℕ) → Member l (a ∷ b ∷ scope) → origin_of g.sections l ≡ Left s → AreSidesOf g (a ∷ b ∷ scope) env s l
+  left_inside s l first e = subst (λ t. AreSidesOf g (a ∷ b ∷ scope) env t a) (one_left splits.left e) sides_inside
+  left_inside s l (next first) e = left_right e splits.right
+  left_inside s l (next (next m)) e =
+      let k = outer.left s l m e in
+      record { parent = next (next k.parent); right = next (next k.right); right_origin = k.right_origin; at = k.at; cut = k.cut }
+
+  right_inside : (s r : ℕ) → Member r (a ∷ b ∷ scope) → origin_of g.sections r ≡ Right s → HasLeft g (a ∷ b ∷ scope) s r
+  right_inside s r first e = left_right splits.left e
+  right_inside s r (next first) e = record {
+    left = a;
+    next = splits.next;
+    in_scope = first;
+    origin = subst (λ t. origin_of g.sections a ≡ Left t) (one_right splits.right e) splits.left;
+  }
+  right_inside s r (next (next m)) e =
+      let k = outer.right s r m e in
+      record { left = k.left; next = k.next; in_scope = next (next k.in_scope); origin = k.origin }
+
+  -- inside a split the windows stand as the origins say, where the sides are those of its section
+  pub placed_inside : Placed g (a ∷ b ∷ scope) env
+  placed_inside = record {
+    apart = λ r s ne m n e f w. outer.apart r s ne (old_root r m e) (old_root s n f) e f w;
+    left = left_inside;
+    right = right_inside;
+  }
 
 module _ (p : Program) (g : Procedure) (scope : List ℕ) (env : Environment)
     (s l r : ℕ) (splits : SplitsWell g scope s l r) (ws : Window × Window) where
@@ -111,55 +160,11 @@ module _ (p : Program) (g : Procedure) (scope : List ℕ) (env : Environment)
     lies_inside x (next first) = subst (LiesInArray p) (sym at_right) sides_lie.1
     lies_inside x (next (next m)) = subst (LiesInArray p) (at_other x m) (fits.lies x m)
 
-    old_root : (x : ℕ) → Member x (l ∷ r ∷ scope) → origin_of g.sections x ≡ Root → Member x scope
-    old_root x first e = root_left e splits.left
-    old_root x (next first) e = root_right e splits.right
-    old_root x (next (next m)) e = m
-
-    sides_inside : AreSidesOf g (l ∷ r ∷ scope) new s l
-    sides_inside = record {
-      parent = next (next splits.in_scope);
-      right = subst (λ x. Member x (l ∷ r ∷ scope)) splits.next (next first);
-      right_origin = subst (λ x. origin_of g.sections x ≡ Right s) splits.next splits.right;
-      at = v;
-      cut = same_cut v (at_other s splits.in_scope) (sym at_left) (sym at_right ∙ ap new.windows splits.next) cut;
-    }
-
-    left_inside : (t a : ℕ) → Member a (l ∷ r ∷ scope) → origin_of g.sections a ≡ Left t → AreSidesOf g (l ∷ r ∷ scope) new t a
-    left_inside t a first e = subst (λ t. AreSidesOf g (l ∷ r ∷ scope) new t l) (one_left splits.left e) sides_inside
-    left_inside t a (next first) e = left_right e splits.right
-    left_inside t a (next (next m)) e =
-        let k = fits.left t a m e in
-        record {
-          parent = next (next k.parent);
-          right = next (next k.right);
-          right_origin = k.right_origin;
-          at = k.at;
-          cut = same_cut k.at (at_other t k.parent) (at_other a m) (at_other (a + 1) k.right) k.cut;
-        }
-
-    right_inside : (t a : ℕ) → Member a (l ∷ r ∷ scope) → origin_of g.sections a ≡ Right t → HasLeft g (l ∷ r ∷ scope) t a
-    right_inside t a first e = left_right splits.left e
-    right_inside t a (next first) e = record {
-      left = l;
-      next = splits.next;
-      in_scope = first;
-      origin = subst (λ t. origin_of g.sections l ≡ Left t) (one_right splits.right e) splits.left;
-    }
-    right_inside t a (next (next m)) e =
-        let k = fits.right t a m e in
-        record { left = k.left; next = k.next; in_scope = next (next k.in_scope); origin = k.origin }
-
     pub fits_inside_split : Fits p g (l ∷ r ∷ scope) new
     fits_inside_split = record {
       lies = lies_inside;
-      apart = λ x y ne m n e f w.
-          let i = old_root x m e in
-          let j = old_root y n f in
-          subst (λ v. Apart (new.windows x) v) (at_other y j)
-          (subst (λ v. Apart v (env.windows y)) (at_other x i) (fits.apart x y ne i j e f w));
-      left = left_inside;
-      right = right_inside;
+      placed = placed_inside g scope new s l r splits v (same_cut v (at_other s splits.in_scope) (sym at_left) (sym at_right) cut)
+          (placed_same g scope env new fits.placed at_other);
     }
 
 -- In a call
@@ -190,16 +195,18 @@ module _ (p : Program) (g : Procedure) (scope : List ℕ) (env : Environment) (n
 
   arguments_apart : (j k : ℕ) → j ≢ k → Member j (parameters_of f) → Member k (parameters_of f)
       → may_write f.parameters j ≡ true → Apart (env.windows (past_call ss j)) (env.windows (past_call ss k))
-  arguments_apart j k ne m n w = names_apart g scope env numbered (placed p g scope env fits) (past_call ss j) (past_call ss k)
+  arguments_apart j k ne m n w = names_apart g scope env numbered fits.placed (past_call ss j) (past_call ss k)
       (passes.in_scope j (passed j m)) (passes.in_scope k (passed k n)) (passes.alone j k ne (passed k n) w) (inl (passes.writable j w))
 
   pub fits_in_call : Fits p f (parameters_of f) inner
   fits_in_call = record {
     lies = λ k m. subst (LiesInArray p) (at_argument k m) (fits.lies (past_call ss k) (passes.in_scope k (passed k m)));
-    apart = λ j k ne m n e h w. subst (λ v. Apart (inner.windows j) v) (at_argument k n)
-        (subst (λ v. Apart v (env.windows (past_call ss k))) (at_argument j m) (arguments_apart j k ne m n w));
-    left = λ s l m e. root_left (first_root p f sound l m) e;
-    right = λ s r m e. root_right (first_root p f sound r m) e;
+    placed = record {
+      apart = λ j k ne m n e h w. subst (λ v. Apart (inner.windows j) v) (at_argument k n)
+          (subst (λ v. Apart v (env.windows (past_call ss k))) (at_argument j m) (arguments_apart j k ne m n w));
+      left = λ s l m e. root_left (first_root p f sound l m) e;
+      right = λ s r m e. root_right (first_root p f sound r m) e;
+    };
   }
 
 -- At the start
@@ -218,9 +225,11 @@ module _ (p : Program) (sound : IsSoundIn p (main_of p)) where
   pub fits_at_start : Fits p (main_of p) (parameters_of (main_of p)) (entry [] (whole_arrays 0 p.arrays))
   fits_at_start = record {
     lies = λ k m. subst (LiesInArray p) (sym (whole k m)) (omega arith);
-    apart = λ j k ne m n e f w. subst (λ v. Apart (by_number nowhere (whole_arrays 0 p.arrays) j) v) (sym (whole k n))
-        (subst (λ v. Apart v (record { array = k; at = 0; length = (array_of p k).length })) (sym (whole j m))
-        (λ q x y. ne (sym x.array ∙ y.array)));
-    left = λ s l m e. root_left (first_root p (main_of p) sound l m) e;
-    right = λ s r m e. root_right (first_root p (main_of p) sound r m) e;
+    placed = record {
+      apart = λ j k ne m n e f w. subst (λ v. Apart (by_number nowhere (whole_arrays 0 p.arrays) j) v) (sym (whole k n))
+          (subst (λ v. Apart v (record { array = k; at = 0; length = (array_of p k).length })) (sym (whole j m))
+          (λ q x y. ne (sym x.array ∙ y.array)));
+      left = λ s l m e. root_left (first_root p (main_of p) sound l m) e;
+      right = λ s r m e. root_right (first_root p (main_of p) sound r m) e;
+    };
   }

@@ -11,7 +11,7 @@ use Rattle.effects.specs.Member.{Member, first, next}
 use Rattle.effects.specs.Overlap.{beyond, one_parent, origin_of, line_within, line, root_within, root_of, are_sides}
 use Rattle.effects.specs.Overlap.{are_opposite, under_opposite, overlap, IsNumbered}
 use Rattle.effects.specs.Sound.{may_write, is_writable}
-use Rattle.effects.specs.Fits.{Apart, Fits, Placed}
+use Rattle.effects.specs.Fits.{Apart, Placed}
 use Rattle.effects.proofs.Members.{false_true, either_true, both_true, differs, any_member}
 use Rattle.effects.proofs.Lines.{root_in_line, overlap-disjoint}
 
@@ -84,10 +84,6 @@ sides_apart {w} {a} {b} c q h k = go (subst (λ a. In a q) c.left h) (subst (λ 
 
 pub swapped : {v w : Window} → Apart v w → Apart w v
 swapped h q x y = h q y x
-
--- an environment that fits has its windows so
-pub placed : (p : Program) (g : Procedure) (scope : List ℕ) (env : Environment) → Fits p g scope env → Placed g scope env
-placed p g scope env fits = record { apart = fits.apart; left = fits.left; right = fits.right }
 
 module _ (g : Procedure) (scope : List ℕ) (env : Environment) (numbered : IsNumbered g.sections) (fits : Placed g scope env) where
   -- a section in scope, and its places

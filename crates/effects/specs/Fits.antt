@@ -42,14 +42,7 @@ pub record Placed (g : Procedure) (scope : List ℕ) (env : Environment) : Type 
       → AreSidesOf g scope env s l
   pub right : (s r : ℕ) → Member r scope → origin_of g.sections r ≡ Right s → HasLeft g scope s r
 
--- the environment fits the procedure, where the sections of the scope may be named
+-- an environment fits a procedure, where the sections of the scope may be named
 pub record Fits (p : Program) (g : Procedure) (scope : List ℕ) (env : Environment) : Type 0 where
   pub lies : (s : ℕ) → Member s scope → LiesInArray p (env.windows s)
-  -- a parameter that may be written shares no place with another
-  pub apart : (r s : ℕ) → r ≢ s → Member r scope → Member s scope → origin_of g.sections r ≡ Root
-      → origin_of g.sections s ≡ Root
-      → may_write g.parameters r ≡ true → Apart (env.windows r) (env.windows s)
-  -- the sides of a split are those of their parent's window
-  pub left : (s l : ℕ) → Member l scope → origin_of g.sections l ≡ Left s
-      → AreSidesOf g scope env s l
-  pub right : (s r : ℕ) → Member r scope → origin_of g.sections r ≡ Right s → HasLeft g scope s r
+  pub placed : Placed g scope env

@@ -7,6 +7,7 @@ use Rattle.std.specs.Prelude.{◌≢◌, Bool, true, false, ◌||◌, nat_eq, ma
 use Rattle.types.specs.Code.{Codes, Program}
 use Rattle.types.specs.Run.{Block}
 use Rattle.types.specs.Place.{Place, Window}
+use Rattle.own_run.proofs.Lists.{each_more}
 use Rattle.own_run.specs.Places.{Places, covered, within, has_one, meets}
 use Rattle.effects.specs.Needs.{Needs}
 use Rattle.own_run.specs.Results.{TaskResult, Settled, none_yet, fill, complete, and_then, same_path, behind, take}
@@ -16,7 +17,7 @@ use Rattle.own_run.specs.OwnRun.{Start, Child, at_first, result_of, beginning, f
 use Rattle.own_run.specs.OwnRun.{below}
 use Rattle.own_run.specs.Frames.{IsBegun, IsTrue}
 use Rattle.own_run.proofs.Windows.{in_covered}
-use Rattle.own_run.proofs.Known.{each_more, run_tells, at_first_fine}
+use Rattle.own_run.proofs.Known.{run_tells, at_first_fine}
 use Rattle.own_run.proofs.Sound.{paths_same, IsGiven, begun_is_true}
 use Rattle.own_run.proofs.Settling.{own_settles}
 

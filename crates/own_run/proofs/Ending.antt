@@ -11,6 +11,7 @@ use Rattle.types.specs.Run.{array_of, primitive, counted}
 use Rattle.effects.specs.Needs.{Needs, Provides}
 use Rattle.race_checker.specs.Scope.{IsScoped}
 use Rattle.race_checker.specs.Calm.{IsCalm}
+use Rattle.own_run.proofs.Lists.{each_append}
 use Rattle.own_run.specs.Results.{TaskResult, none_yet, complete, settle, Each, Shuffled, IsParted}
 use Rattle.own_run.specs.OwnRun.{Start, Child, Own, result_of, begin_own, own_rules, comes_to, filled, in_truth, own}
 use Rattle.own_run.specs.OwnRun.{given, below}
@@ -81,10 +82,6 @@ counted_same r (Split s e x y b) st = refl
 counted_same r (Call f es ss) st = refl
 counted_same r (Async b) st = refl
 counted_same r (Finish b) st = refl
-
-each_append : {A : Type 0} (P : A → Type 0) (xs ys : List A) → Each P xs → Each P ys → Each P (xs ++ ys)
-each_append P [] ys h k = k
-each_append P (x ∷ xs) ys h k = (h.0, each_append P xs ys h.1 k)
 
 module _ (p : Program) (needs : Codes → Needs) (scoped : IsScoped p) (calm : IsCalm p) (provided : Provides p needs) (fresh : ℕ)
     (root : Start) where

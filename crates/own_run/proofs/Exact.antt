@@ -1,4 +1,5 @@
 -- What is settled used up the results of all tasks below, and no others.
+use Rattle.std.proofs.lemmas.Option.{none-some, same_Some}
 use Rattle.std.proofs.Common.{◌≡◌, ℕ, zero, suc, ◌+◌, List, [], ◌∷◌, ◌++◌, length, Option, Some, None, refl, sym, ap, ◌∙◌, subst}
 use Rattle.std.proofs.Common.{append_assoc}
 use Rattle.std.proofs.lemmas.List.{append-nil}
@@ -9,26 +10,26 @@ use Rattle.own_run.specs.Places.{Places, within, meets}
 use Rattle.own_run.specs.Results.{TaskResult, Settled, none_yet, fill, same_path, behind, take, fill_all}
 use Rattle.own_run.specs.Results.{settle_within, none_left, settle, Each, Inserted, here, later, Shuffled, none, one}
 use Rattle.own_run.specs.OwnRun.{Start, Child, result_of, own, given, IsOwn, below}
-use Rattle.own_run.proofs.Sound.{none_some, some_same, unless_none, gives, taken, IsGiven, settle_sound}
+use Rattle.own_run.proofs.Sound.{unless_none, gives, taken, IsGiven, settle_sound}
 use Rattle.own_run.proofs.Complete.{Stands, stands, lists_none}
 
 -- what was taken stood there
 took : (path : List ℕ) (rs : List TaskResult) (found : TaskResult × List TaskResult) → take path rs ≡ Some found
     → Inserted found.0 found.1 rs
-took path [] found e = absurd (none_some e)
+took path [] found e = absurd (none-some _ e)
 took path (r ∷ rs) found e = by_path (λ f. took path rs f) (same_path r.path path) e
   where
     later_one : ((f : TaskResult × List TaskResult) → take path rs ≡ Some f → Inserted f.0 f.1 rs)
         → (o : Option (TaskResult × List TaskResult)) → take path rs ≡ o → behind r o ≡ Some found → Inserted found.0 found.1 (r ∷ rs)
-    later_one rec None w q = absurd (none_some q)
+    later_one rec None w q = absurd (none-some _ q)
     later_one rec (Some f) w q =
-        let i : (f.0, r ∷ f.1) ≡ found = some_same q in
+        let i : (f.0, r ∷ f.1) ≡ found = same_Some _ _ q in
         subst (λ (f : TaskResult × List TaskResult). Inserted f.0 f.1 (r ∷ rs)) i (later (rec f w))
 
     by_path : ((f : TaskResult × List TaskResult) → take path rs ≡ Some f → Inserted f.0 f.1 rs)
         → (b : Bool) → (if b then Some (r, rs) else behind r (take path rs)) ≡ Some found → Inserted found.0 found.1 (r ∷ rs)
     by_path rec true q = let i : (r, rs) ≡ found =
-        some_same q in subst (λ (f : TaskResult × List TaskResult). Inserted f.0 f.1 (r ∷ rs)) i here
+        same_Some _ _ q in subst (λ (f : TaskResult × List TaskResult). Inserted f.0 f.1 (r ∷ rs)) i here
     by_path rec false q = later_one rec (take path rs) refl q
 
 module _ (p : Program) (needs : Codes → Needs) (fresh : ℕ) (root : Start) where
@@ -50,7 +51,7 @@ module _ (p : Program) (needs : Codes → Needs) (fresh : ℕ) (root : Start) wh
       → fill_all (settle_within k) owned (map (λ c. c.listed) cs) so_far rs ≡ Some x
       → Used (flat_map (results n) cs) rs x.1
   fill_used k n deep owned [] so_far rs h all x e ts sh =
-      let i : (so_far, rs) ≡ x = some_same e in subst (Shuffled ts) (sym (ap (λ (x : Settled × List TaskResult). x.1) i)) sh
+      let i : (so_far, rs) ≡ x = same_Some _ _ e in subst (Shuffled ts) (sym (ap (λ (x : Settled × List TaskResult). x.1) i)) sh
   fill_used k n deep owned (c ∷ cs) so_far rs h all x e ts sh =
       let g = gives (take c.listed.path rs) _ x (unless_none (meets owned c.listed.windows) _ e) in
       let t = taken (IsOwn p needs fresh root) c.listed.path rs g.one all g.first in
@@ -69,7 +70,7 @@ module _ (p : Program) (needs : Codes → Needs) (fresh : ℕ) (root : Start) wh
       subst (λ l. Shuffled (r ∷ l) rs) (sym (append_assoc (below p needs fresh n c.start) (flat_map (results n) cs) ts)) whole
 
   settle_used : (k n : ℕ) → Deep k n
-  settle_used zero n s e is rs all x q = absurd (none_some q)
+  settle_used zero n s e is rs all x q = absurd (none-some _ q)
   settle_used (suc k) zero s e is rs all x q =
       let end = own p needs fresh s in
       let g = gives (fill_all (settle_within k) end.extra.owned (map (λ c. c.listed) end.extra.pending) none_yet rs) _ x q in
@@ -77,19 +78,19 @@ module _ (p : Program) (needs : Codes → Needs) (fresh : ℕ) (root : Start) wh
       ap (λ (cs : List Child). fill_all (settle_within k) end.extra.owned (map (λ c. c.listed) cs) none_yet rs)
       (sym (lists_none p needs fresh root s e)) ∙ g.first in
       let same : rs ≡ x.1 =
-      ap (λ (y : Settled × List TaskResult). y.1) (some_same nothing)
-      ∙ ap (λ (y : Settled × List TaskResult). y.1) (some_same g.next) in
+      ap (λ (y : Settled × List TaskResult). y.1) (same_Some _ _ nothing)
+      ∙ ap (λ (y : Settled × List TaskResult). y.1) (same_Some _ _ g.next) in
       λ ts sh. subst (Shuffled ts) (sym same) sh
   settle_used (suc k) (suc n) s e is rs all x q =
       let end = own p needs fresh s in
       let g = gives (fill_all (settle_within k) end.extra.owned (map (λ c. c.listed) end.extra.pending) none_yet rs) _ x q in
       let u = fill_used k n (settle_used k n) end.extra.owned end.extra.pending none_yet rs
       (stands p needs fresh root n s e is) all g.one g.first in
-      λ ts sh. u ts (subst (Shuffled ts) (sym (ap (λ (y : Settled × List TaskResult). y.1) (some_same g.next))) sh)
+      λ ts sh. u ts (subst (Shuffled ts) (sym (ap (λ (y : Settled × List TaskResult). y.1) (same_Some _ _ g.next))) sh)
 
   all_used : (x : Settled × List TaskResult) (y : Settled) → none_left x ≡ Some y → x.1 ≡ []
   all_used (s, []) y e = refl
-  all_used (s, r ∷ rs) y e = absurd (none_some e)
+  all_used (s, r ∷ rs) y e = absurd (none-some _ e)
 
   -- where it is settled, the results were those of all tasks below it, in some order
   pub own_exact : (s : Start) → IsGiven p needs fresh root s → (rs : List TaskResult) → Each (IsOwn p needs fresh root) rs → (x : Settled)

@@ -1,4 +1,5 @@
 -- Run apart and gathered, a calm program does what it does on one thread.
+use Rattle.std.proofs.lemmas.Option.{none-some}
 use Rattle.std.proofs.Common.{◌≡◌, ℕ, zero, suc, ◌+◌, ◌<◌, List, [], ◌∷◌, ◌++◌, Option, Some, None, refl, sym, ap, ◌∙◌, subst, inl, inr}
 use Rattle.std.proofs.lemmas.Bool.{or_left, or_right, or_from}
 use Rattle.std.proofs.lemmas.List.Elements.{Contains-append_left, Contains-append_right}
@@ -500,15 +501,8 @@ module _ (p : Program) (needs : Codes → Needs) where
           by_aside : (v : Option ℤ) → a.extra.contents q ≡ v → oo.store q ≡ or_else v (merged aa q)
           by_aside None e = h.store q (e, t)
           by_aside (Some v) e =
-              h.stays q (λ w. none_some (sym (k.out q (r.free q (of_finish q (overwrites_touch x.env _ q w)))) ∙ e))
+              h.stays q (λ w. none-some _ (sym (k.out q (r.free q (of_finish q (overwrites_touch x.env _ q w)))) ∙ e))
               ∙ k.store q t ∙ ap (λ u. or_else u (a.store q)) e
-            where
-              none_some : {v : ℤ} → None ≡ Some v → ⊥
-              none_some e = subst IsNothing e tt
-                where
-                  IsNothing : Option ℤ → Type 0
-                  IsNothing None = Unit {0}
-                  IsNothing (Some y) = ⊥
 
       flow_alive : (b : Bool) (f g : Flow) → b ≡ false → f ≡ g → f ≡ (if b then Stopped else g)
       flow_alive true f g q e = absurd (false_true (sym q))

@@ -15,6 +15,7 @@ use Rattle.effects.specs.Accesses.{Access}
 use Rattle.effects.specs.Effects.{past_call, if_body, if_other, while, AllOf, All, PendingOf, Pending, accesses}
 use Rattle.effects.specs.Footprint.{Touches, Overwrites}
 use Rattle.effects.proofs.Members.{both_true, false_true, either_true}
+use Rattle.own_run.proofs.Lists.{each_last}
 use Rattle.own_run.specs.Places.{Places, within, IsThere, Extends, written, touched}
 use Rattle.effects.specs.Needs.{Needs, AreNeeds, Provides}
 use Rattle.race_checker.proofs.Scoping.{length_may_writes}
@@ -28,7 +29,6 @@ use Rattle.own_run.specs.Holds.{having, locked_after, Left, Stack, Carries, Come
 use Rattle.own_run.proofs.Windows.{named_some, some_named, passed_same, sides_some}
 use Rattle.own_run.proofs.Windows.{around_split, split_agree}
 use Rattle.own_run.proofs.Names.{named_all, touches_more, overwrites_more}
-use Rattle.own_run.proofs.Known.{each_last}
 use Rattle.own_run.proofs.Keeps.{still_there}
 use Rattle.own_run.proofs.Half.{behind, part_ready, again_ready, split_ready, call_ready}
 use Rattle.own_run.proofs.Stacks.{anywhere, restack, anchor, anchor_ready, unlock}

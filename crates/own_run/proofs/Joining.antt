@@ -8,12 +8,12 @@ use Rattle.types.specs.Run.{State}
 use Rattle.effects.specs.Sound.{IsSound}
 use Rattle.race_checker.specs.Clash.{IsAccepted}
 use Rattle.effects.specs.Needs.{Provides}
+use Rattle.own_run.proofs.Lists.{each_more}
 use Rattle.own_run.specs.Apart.{apart_outcome}
 use Rattle.own_run.specs.Results.{TaskResult, Settled, settle, Each, Shuffled, IsParted}
 use Rattle.own_run.specs.OwnRun.{Start, Own, result_of, own, comes_to, below, IsOwn, root_of, told_of}
 use Rattle.own_run.specs.Frames.{Standing}
 use Rattle.own_run.specs.Holds.{MayBegin}
-use Rattle.own_run.proofs.Known.{each_more}
 use Rattle.own_run.proofs.Settles.{settles}
 use Rattle.own_run.proofs.Sound.{told_apart, settled_outcome}
 use Rattle.own_run.proofs.Turning.{root_begins}

@@ -1,4 +1,5 @@
 -- What a task lists, it has begun, each under a path of its own; and where all is handed over it never waits.
+use Rattle.std.proofs.lemmas.Option.{none-some}
 use Rattle.std.proofs.Common.{◌≡◌, ℕ, zero, suc, ◌+◌, List, [], ◌∷◌, ◌++◌, length, Option, Some, None, refl, sym, ap, ◌∙◌, subst, arith}
 use Rattle.std.proofs.Common.{append_assoc}
 use Rattle.std.proofs.lemmas.List.{append-nil}
@@ -6,6 +7,7 @@ use Rattle.std.specs.Prelude.{Bool, true, false, slice_get, if◌then◌else◌}
 use Rattle.types.specs.Code.{Codes, Program}
 use Rattle.types.specs.Run.{State, Rules, Work, run}
 use Rattle.effects.specs.Needs.{Needs}
+use Rattle.own_run.proofs.Lists.{each_more, each_last}
 use Rattle.own_run.specs.Results.{Settled, Each}
 use Rattle.own_run.specs.OwnRun.{Start, Child, Action, Step, Spawn, EnterFinish, EndFinish, EndTask, Own, at_first}
 use Rattle.own_run.specs.OwnRun.{is_waiting, child_of, list_child, begin_own, go_on_with, leave_with, own_rules}
@@ -22,15 +24,8 @@ begun_by-append (EnterFinish ∷ acts) bs = begun_by-append acts bs
 begun_by-append (EndFinish ∷ acts) bs = begun_by-append acts bs
 begun_by-append (EndTask ∷ acts) bs = begun_by-append acts bs
 
-none_not : {A : Type 0} {x : A} → None ≡ Some x → ⊥
-none_not {A} e = subst IsNothing e tt
-  where
-    IsNothing : Option A → Type 0
-    IsNothing None = Unit {0}
-    IsNothing (Some y) = ⊥
-
 pub get-append_left : {A : Type 0} (xs ys : List A) (k : ℕ) (x : A) → slice_get xs k ≡ Some x → slice_get (xs ++ ys) k ≡ Some x
-get-append_left [] ys k x e = absurd (none_not e)
+get-append_left [] ys k x e = absurd (none-some _ e)
 get-append_left (y ∷ xs) ys zero x e = e
 get-append_left (y ∷ xs) ys (suc k) x e = get-append_left xs ys k x e
 
@@ -43,14 +38,6 @@ get_last (y ∷ xs) x (suc k) e = get_last xs x k (omega (arith, e))
 length_last : {A : Type 0} (xs : List A) (x : A) → length (xs ++ x ∷ []) ≡ length xs + 1
 length_last [] x = refl
 length_last (y ∷ xs) x = omega (arith, length_last xs x)
-
-pub each_more : {A : Type 0} (P Q : A → Type 0) (xs : List A) → ((x : A) → P x → Q x) → Each P xs → Each Q xs
-each_more P Q [] f h = tt
-each_more P Q (x ∷ xs) f h = (f x h.0, each_more P Q xs f h.1)
-
-pub each_last : {A : Type 0} (P : A → Type 0) (xs : List A) (x : A) → Each P xs → P x → Each P (xs ++ x ∷ [])
-each_last P [] x h k = (k, tt)
-each_last P (y ∷ xs) x h k = (h.0, each_last P xs x h.1 k)
 
 -- ---- what is known
 -- a state follows another: its name stays, its actions grow at their end

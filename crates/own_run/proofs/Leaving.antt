@@ -1,4 +1,5 @@
 -- No finish is stuck: wherever a task that may come about stands at the end of a finish, results of own runs settle.
+use Rattle.std.proofs.lemmas.Option.{same_Some}
 use Rattle.std.proofs.Common.{◌≡◌, ℕ, zero, suc, ◌+◌, ◌<◌, ◌≤◌, List, [], ◌∷◌, ◌++◌, length, Some, Ok, Err, refl, sym, ap, ◌∙◌, subst}
 use Rattle.std.proofs.Common.{arith, le_refl}
 use Rattle.std.proofs.lemmas.List.{append-nil}
@@ -11,6 +12,7 @@ use Rattle.types.specs.Run.{Flow, On, Faulted, Stopped, State, Rules, number_at,
 use Rattle.effects.specs.Needs.{Needs, Provides}
 use Rattle.race_checker.specs.Scope.{IsScoped}
 use Rattle.race_checker.specs.Calm.{IsCalm}
+use Rattle.own_run.proofs.Lists.{each_more, each_append}
 use Rattle.own_run.specs.Results.{TaskResult, Settled, none_yet, complete, and_then, fill_all, settle_within}
 use Rattle.own_run.specs.Results.{none_left, settle, Each, Shuffled, none, one, here, IsParted}
 use Rattle.own_run.specs.OwnRun.{Start, Child, Own, result_of, own_rules, filled, in_truth, own, given, below, IsOwn}
@@ -19,10 +21,9 @@ use Rattle.own_run.specs.Frames.{turn, handed, IsBegun, Fine, IsTask, IsTrue}
 use Rattle.own_run.specs.Holds.{MayBegin, Holds}
 use Rattle.own_run.proofs.Complete.{Stands, fill_complete, settle_complete, none_in}
 use Rattle.own_run.proofs.Keeps.{primitive_keeps, counted_keeps}
-use Rattle.own_run.proofs.Known.{each_more}
 use Rattle.own_run.proofs.Making.{lists_given}
 use Rattle.own_run.proofs.Once.{Once, Names, names, From, own_path, all_once, below_once}
-use Rattle.own_run.proofs.Sound.{lists_true, some_same}
+use Rattle.own_run.proofs.Sound.{lists_true}
 use Rattle.own_run.specs.Reached.{Reached, root_begins, child_begins, turns, leaves, CanSettle, CanEnd}
 use Rattle.own_run.proofs.Ending.{own_ends, each_below, below_parted, weight, Falls, spends, sheds, flow_falls}
 use Rattle.own_run.proofs.Reaching.{goes}
@@ -56,10 +57,6 @@ chosen_distinct false fs gs st o b c = both o c
 shuffled_same : {A : Type 0} (xs : List A) → Shuffled xs xs
 shuffled_same [] = none
 shuffled_same (x ∷ xs) = one here (shuffled_same xs)
-
-each_append : {A : Type 0} (P : A → Type 0) (xs ys : List A) → Each P xs → Each P ys → Each P (xs ++ ys)
-each_append P [] ys h k = k
-each_append P (x ∷ xs) ys h k = (h.0, each_append P xs ys h.1 k)
 
 module _ (p : Program) (needs : Codes → Needs) (fresh : ℕ) where
   module _ (nest : ℕ) where
@@ -111,7 +108,7 @@ module _ (p : Program) (needs : Codes → Needs) (fresh : ℕ) where
   module _ (root : Start) where
     own_is_own : (s : Start) → given p needs fresh root s.path ≡ Some s → IsOwn p needs fresh root (result_of (own p needs fresh s))
     own_is_own s is t e =
-        ap (λ s. result_of (own p needs fresh s)) (some_same (sym is ∙ ap (given p needs fresh root) (sym (own_path p needs fresh s)) ∙ e))
+        ap (λ s. result_of (own p needs fresh s)) (same_Some _ _ (sym is ∙ ap (given p needs fresh root) (sym (own_path p needs fresh s)) ∙ e))
 
     each_own : (results : Child → List TaskResult) (cs : List Child) → Each (IsTrue p needs fresh root) cs
         → ((c : Child) → IsTrue p needs fresh root c → Each (IsOwn p needs fresh root) (results c))

@@ -26,3 +26,4 @@ pub mod Turning
 pub mod Turns
 pub mod Windows
 pub mod Stopping
+pub mod Lists

@@ -1,17 +1,19 @@
 -- From its beginning to its end a task is its own run; so are its result and the starts of its children.
+use Rattle.std.proofs.lemmas.Option.{same_Some}
 use Rattle.std.proofs.Common.{◌≡◌, ℕ, zero, suc, ◌+◌, List, [], ◌∷◌, ◌++◌, length, Option, Some, refl, sym, ap, ◌∙◌, arith, append_assoc}
 use Rattle.std.specs.Prelude.{Bool, true, false, ◌&&◌, slice_get, if◌then◌else◌}
 use Rattle.types.specs.Code.{Code, Do, If, While, Split, Call, Async, Finish, Codes, End, Then, Program}
 use Rattle.types.specs.Run.{Flow, On, Faulted, Stopped, State, Rules}
 use Rattle.effects.specs.Needs.{Needs}
+use Rattle.own_run.proofs.Lists.{each_more}
 use Rattle.own_run.specs.Apart.{is_stopped}
 use Rattle.own_run.specs.Results.{TaskResult, Settled, none_yet, complete, and_then, settle, Each}
 use Rattle.own_run.specs.OwnRun.{Start, Action, Own, EndFinish, at_first, notes, result_of, leave_with, own_rules}
 use Rattle.own_run.specs.OwnRun.{begun_by, beginning, filled, in_truth, own, from_receipts, run_by, given, IsOwn}
 use Rattle.own_run.specs.Frames.{Frame, Rest, Again, AtEnd, Back, Standing, resume, paid, by_flow, turn, handed}
 use Rattle.own_run.specs.Frames.{IsBegun, Fine, FineBelow, IsTrue, IsTask, Follows}
-use Rattle.own_run.proofs.Known.{at_first_fine, quiet, begun_by-append, get-append_left, each_more, still_begun}
-use Rattle.own_run.proofs.Sound.{begun_is_true, part_sound, some_same}
+use Rattle.own_run.proofs.Known.{at_first_fine, quiet, begun_by-append, get-append_left, still_begun}
+use Rattle.own_run.proofs.Sound.{begun_is_true, part_sound}
 use Rattle.own_run.proofs.Turns.{turn_keeps}
 use Rattle.own_run.proofs.Tasks.{own_thrifty, resume_grows, turn_kept}
 
@@ -133,7 +135,7 @@ module _ (p : Program) (needs : Codes → Needs) (fresh : ℕ) (root : Start) wh
         → IsOwn p needs fresh root (result_of st)
     ends_task st h t e =
         ap result_of h.runs ∙ ap (λ s. result_of (own p needs fresh s))
-        (some_same (sym h.comes ∙ ap (given p needs fresh root) (sym h.path) ∙ e))
+        (same_Some _ _ (sym h.comes ∙ ap (given p needs fresh root) (sym h.path) ∙ e))
 
     -- ---- by receipts
     pub begins_follow : Follows p needs fresh root s [] (record { frames = Rest s.body ∷ []; state = beginning (at_first s.owned) fresh s })

@@ -1,17 +1,18 @@
 -- No two tasks below one have the same path.
+use Rattle.std.proofs.lemmas.Option.{none-some}
 use Rattle.std.proofs.Common.{◌≡◌, ℕ, zero, suc, ◌+◌, ◌<◌, List, [], ◌∷◌, ◌++◌, length, Option, Some, None, refl, sym, ap, ◌∙◌, subst}
 use Rattle.std.proofs.Common.{arith, append_assoc}
 use Rattle.std.specs.Prelude.{◌≢◌, Bool, true, false, flat_map, slice_get, if◌then◌else◌}
 use Rattle.types.specs.Code.{Codes, Program}
 use Rattle.types.specs.Run.{State, Rules, Work, Block, run}
 use Rattle.effects.specs.Needs.{Needs}
+use Rattle.own_run.proofs.Lists.{each_more, each_append}
 use Rattle.own_run.specs.Results.{TaskResult, Settled, Each, NoTwice, Inserted, here, later, Shuffled, none, one}
 use Rattle.own_run.specs.OwnRun.{Start, Child, Own, EndFinish, at_first, is_waiting, result_of, child_of, begin_own}
 use Rattle.own_run.specs.OwnRun.{leave_with, own_rules, begun_by, beginning, in_truth, own, below}
 use Rattle.own_run.specs.Frames.{IsBegun, Fine}
 use Rattle.own_run.proofs.Keeps.{IsKept, run_keeps}
-use Rattle.own_run.proofs.Known.{Tells, tells, begin_tells, enter_tells, each_more, run_tells, at_first_fine}
-use Rattle.own_run.proofs.Sound.{none_some}
+use Rattle.own_run.proofs.Known.{Tells, tells, begin_tells, enter_tells, run_tells, at_first_fine}
 
 -- ---- paths
 abbrev head_or : ℕ → List ℕ → ℕ
@@ -37,7 +38,7 @@ longer [] x t e = absurd (empty_not e)
 longer (y ∷ base) x t e = longer base x t (ap tail_of e)
 
 get_less : {A : Type 0} (xs : List A) (k : ℕ) (x : A) → slice_get xs k ≡ Some x → k < length xs
-get_less [] k x e = absurd (none_some e)
+get_less [] k x e = absurd (none-some _ e)
 get_less (y ∷ xs) zero x e = omega arith
 get_less (y ∷ xs) (suc k) x e = let h = get_less xs k x e in omega (arith, h)
 
@@ -117,9 +118,6 @@ module _ (nest : ℕ) (needs : Codes → Needs) (close : State Own → Option Se
   run_once p w st f o = (run_keeps p r Names names w st).once f o
 
 -- ---- results
-each_append : {A : Type 0} (P : A → Type 0) (xs ys : List A) → Each P xs → Each P ys → Each P (xs ++ ys)
-each_append P [] ys h k = k
-each_append P (x ∷ xs) ys h k = (h.0, each_append P xs ys h.1 k)
 
 abbrev Apart : TaskResult → TaskResult → Type 0
 Apart x y = y.path ≢ x.path

@@ -1,4 +1,5 @@
 -- Whatever is settled from results that are own runs is what comes of its start, in whatever order they stand.
+use Rattle.std.proofs.lemmas.Option.{none-some, same_Some}
 use Rattle.std.proofs.Common.{◌≡◌, ℕ, zero, suc, ◌+◌, List, [], ◌∷◌, ◌++◌, length, Option, Some, None, refl, sym, ap, ◌∙◌, subst}
 use Rattle.std.proofs.lemmas.Bool.{eqb-true}
 use Rattle.std.specs.Prelude.{ℤ, Bool, true, false, ◌||◌, nat_eq, map, slice_get, if◌then◌else◌}
@@ -7,6 +8,7 @@ use Rattle.types.specs.Contents.{held_by, shown}
 use Rattle.types.specs.Run.{State, Block}
 use Rattle.types.specs.Outcome.{Budget, start, outcome_by, outcome}
 use Rattle.effects.proofs.Members.{both_true, false_true}
+use Rattle.own_run.proofs.Lists.{each_more}
 use Rattle.own_run.specs.Places.{Places, within, meets}
 use Rattle.effects.specs.Needs.{Needs, Provides}
 use Rattle.race_checker.specs.Scope.{IsScoped}
@@ -17,27 +19,13 @@ use Rattle.own_run.specs.Results.{fill_all, settle_within, none_left, settle, Ea
 use Rattle.own_run.specs.OwnRun.{Start, Child, Own, at_first, result_of, begun_by, kth, beginning, filled, in_truth}
 use Rattle.own_run.specs.OwnRun.{comes_to, own, given, IsOwn, root_of, told_of}
 use Rattle.own_run.specs.Frames.{IsBegun, IsTrue}
-use Rattle.own_run.proofs.Known.{each_more, run_tells, at_first_fine}
+use Rattle.own_run.proofs.Known.{run_tells, at_first_fine}
 use Rattle.own_run.proofs.Settling.{own_settles, flow_is}
 use Rattle.own_run.proofs.Settles.{settles}
 
 -- ---- options
-pub none_some : {A : Type 0} {x : A} → None ≡ Some x → ⊥
-none_some {A} e = subst IsNothing e tt
-  where
-    IsNothing : Option A → Type 0
-    IsNothing None = Unit {0}
-    IsNothing (Some y) = ⊥
-
-pub some_same : {A : Type 0} {x y : A} → Some x ≡ Some y → x ≡ y
-some_same {A} {x} e = ap or_x e
-  where
-    or_x : Option A → A
-    or_x None = x
-    or_x (Some y) = y
-
 pub unless_none : {A : Type 0} {x : A} (b : Bool) (o : Option A) → (if b then None else o) ≡ Some x → o ≡ Some x
-unless_none true o e = absurd (none_some e)
+unless_none true o e = absurd (none-some _ e)
 unless_none false o e = e
 
 pub record Gives {A B : Type 0} (o : Option A) (go : A → Option B) (y : B) : Type 0 where
@@ -46,7 +34,7 @@ pub record Gives {A B : Type 0} (o : Option A) (go : A → Option B) (y : B) : T
   pub next : go one ≡ Some y
 
 pub gives : {A B : Type 0} (o : Option A) (go : A → Option B) (y : B) → and_then o go ≡ Some y → Gives o go y
-gives None go y e = absurd (none_some e)
+gives None go y e = absurd (none-some _ e)
 gives (Some x) go y e = record { one = x; first = refl; next = e }
 
 -- ---- a result by its path
@@ -65,21 +53,21 @@ pub record Taken (P : TaskResult → Type 0) (path : List ℕ) (found : TaskResu
 
 module _ (P : TaskResult → Type 0) (path : List ℕ) where
   pub taken : (rs : List TaskResult) (found : TaskResult × List TaskResult) → Each P rs → take path rs ≡ Some found → Taken P path found
-  taken [] found h e = absurd (none_some e)
+  taken [] found h e = absurd (none-some _ e)
   taken (r ∷ rs) found h e = by_path (λ f. taken rs f h.1) (same_path r.path path) refl e
     where
       later : ((f : TaskResult × List TaskResult) → take path rs ≡ Some f → Taken P path f)
           → (o : Option (TaskResult × List TaskResult)) → take path rs ≡ o → behind r o ≡ Some found → Taken P path found
-      later rec None w q = absurd (none_some q)
+      later rec None w q = absurd (none-some _ q)
       later rec (Some f) w q =
           let t = rec f w in
-          let i : (f.0, r ∷ f.1) ≡ found = some_same q in
+          let i : (f.0, r ∷ f.1) ≡ found = same_Some _ _ q in
           subst (Taken P path) i (record { at = t.at; this = t.this; others = (h.0, t.others) })
 
       by_path : ((f : TaskResult × List TaskResult) → take path rs ≡ Some f → Taken P path f)
           → (b : Bool) → same_path r.path path ≡ b → (if b then Some (r, rs) else behind r (take path rs)) ≡ Some found → Taken P path found
       by_path rec true w q =
-          let i : (r, rs) ≡ found = some_same q in
+          let i : (r, rs) ≡ found = same_Some _ _ q in
           subst (Taken P path) i (record { at = paths_same r.path path w; this = h.0; others = h.1 })
       by_path rec false w q = later rec (take path rs) refl q
 
@@ -91,14 +79,14 @@ module _ (p : Program) (needs : Codes → Needs) (fresh : ℕ) where
   -- the k-th child of a task
   pub given_last : (path : List ℕ) (root s : Start) (k : ℕ) → given p needs fresh root path ≡ Some s
       → given p needs fresh root (path ++ k ∷ []) ≡ kth k (begun_by (own p needs fresh s).extra.actions)
-  given_last [] root s k e = some_of _ ∙ ap (λ (s : Start). kth k (begun_by (own p needs fresh s).extra.actions)) (some_same e)
+  given_last [] root s k e = some_of _ ∙ ap (λ (s : Start). kth k (begun_by (own p needs fresh s).extra.actions)) (same_Some _ _ e)
   given_last (j ∷ path) root s k e = by_child (λ c. given_last path c s k) (kth j (begun_by (own p needs fresh root).extra.actions)) e
     where
       by_child : ((c : Start) → given p needs fresh c path ≡ Some s
           → given p needs fresh c (path ++ k ∷ []) ≡ kth k (begun_by (own p needs fresh s).extra.actions))
           → (o : Option Start) → and_then o (λ c. given p needs fresh c path) ≡ Some s
           → and_then o (λ c. given p needs fresh c (path ++ k ∷ [])) ≡ kth k (begun_by (own p needs fresh s).extra.actions)
-      by_child rec None q = absurd (none_some q)
+      by_child rec None q = absurd (none-some _ q)
       by_child rec (Some c) q = rec c q
 
   module _ (root : Start) where
@@ -134,7 +122,7 @@ module _ (p : Program) (needs : Codes → Needs) (fresh : ℕ) where
         → Each (IsOwn p needs fresh root) rs → (x : Settled × List TaskResult)
         → fill_all deeper owned (map (λ c. c.listed) cs) so_far rs ≡ Some x → Right x.1 x.0 (filled p needs fresh cs so_far)
     fill_sound deeper h owned [] so_far rs k all x e =
-        let i : (so_far, rs) ≡ x = some_same e in
+        let i : (so_far, rs) ≡ x = same_Some _ _ e in
         subst (λ (x : Settled × List TaskResult). Right x.1 x.0 so_far) i (record { same = refl; others = all })
     fill_sound deeper h owned (c ∷ cs) so_far rs k all x e =
         let g = gives (take c.listed.path rs) _ x (unless_none (meets owned c.listed.windows) _ e) in
@@ -151,21 +139,21 @@ module _ (p : Program) (needs : Codes → Needs) (fresh : ℕ) where
     pub settle_sound : (k : ℕ) (s : Start) → IsGiven s → (rs : List TaskResult) → Each (IsOwn p needs fresh root) rs
         → (x : Settled × List TaskResult)
         → settle_within k (result_of (own p needs fresh s)) rs ≡ Some x → Right x.1 x.0 (comes_to p needs fresh s)
-    settle_sound zero s is rs all x e = absurd (none_some e)
+    settle_sound zero s is rs all x e = absurd (none-some _ e)
     settle_sound (suc k) s is rs all x e =
         let end = own p needs fresh s in
         let g = gives (fill_all (settle_within k) end.extra.owned (map (λ c. c.listed) end.extra.pending) none_yet rs) _ x e in
         let f = fill_sound (settle_within k) (settle_sound k) end.extra.owned end.extra.pending none_yet rs
         (lists_true s is) all g.one g.first in
-        let i : (complete (result_of end) g.one.0, g.one.1) ≡ x = some_same g.next in
+        let i : (complete (result_of end) g.one.0, g.one.1) ≡ x = same_Some _ _ g.next in
         record {
           same = ap (λ (x : Settled × List TaskResult). x.0) (sym i) ∙ ap (complete (result_of end)) f.same ∙ own_settles p needs fresh s;
           others = subst (λ (x : Settled × List TaskResult). Each (IsOwn p needs fresh root) x.1) i f.others;
         }
 
     none_left_is : (x : Settled × List TaskResult) (y : Settled) → none_left x ≡ Some y → x.0 ≡ y
-    none_left_is (s, []) y e = some_same e
-    none_left_is (s, r ∷ rs) y e = absurd (none_some e)
+    none_left_is (s, []) y e = same_Some _ _ e
+    none_left_is (s, r ∷ rs) y e = absurd (none-some _ e)
 
     -- what is pending of a task that was given its start, with results that are own runs
     pub part_sound : (cs : List Child) → Each (IsTrue p needs fresh root) cs → (r : TaskResult) → r.children ≡ map (λ c. c.listed) cs
@@ -174,14 +162,14 @@ module _ (p : Program) (needs : Codes → Needs) (fresh : ℕ) where
     part_sound cs k r e rs all x h = by_depth (length rs + 1) h
       where
         by_depth : (n : ℕ) → and_then (settle_within n r rs) none_left ≡ Some x → x ≡ complete r (filled p needs fresh cs none_yet)
-        by_depth zero q = absurd (none_some q)
+        by_depth zero q = absurd (none-some _ q)
         by_depth (suc n) q =
             let g = gives (settle_within (suc n) r rs) none_left x q in
             let m = gives (fill_all (settle_within n) r.owned r.children none_yet rs) _ g.one g.first in
             let f = fill_sound (settle_within n) (settle_sound n) r.owned cs none_yet rs k all m.one
             (ap (λ ls. fill_all (settle_within n) r.owned ls none_yet rs) (sym e) ∙ m.first) in
             sym (none_left_is g.one x g.next)
-            ∙ ap (λ (y : Settled × List TaskResult). y.0) (sym (some_same m.next))
+            ∙ ap (λ (y : Settled × List TaskResult). y.0) (sym (same_Some _ _ m.next))
             ∙ ap (complete r) f.same
 
     -- of a task's own run

@@ -11,13 +11,14 @@ use Rattle.types.specs.Run.{Flow, On, Faulted, Stopped, State, Rules, Work, Bloc
 use Rattle.types.specs.Run.{truth_at, window_at, entry, with_sides, procedure_of, primitive, counted, run}
 use Rattle.types.specs.Laws.{IsThrifty}
 use Rattle.effects.specs.Needs.{Needs}
+use Rattle.own_run.proofs.Lists.{each_more}
 use Rattle.own_run.specs.Results.{Settled}
 use Rattle.own_run.specs.OwnRun.{Action, Own, EndFinish, notes, is_waiting, begin_own, leave_with, leave_own}
 use Rattle.own_run.specs.OwnRun.{own_rules}
 use Rattle.own_run.specs.Frames.{Frame, Rest, Again, AtEnd, Back, Standing, frame, resume, by_value, chosen, acted}
 use Rattle.own_run.specs.Frames.{paid, by_flow, turn, IsBegun, Fine, FineBelow}
 use Rattle.own_run.proofs.Keeps.{IsKept, primitive_keeps, counted_keeps}
-use Rattle.own_run.proofs.Known.{Tells, tells, idle_tells, still_begun, run_tells, each_more, enter_tells}
+use Rattle.own_run.proofs.Known.{Tells, tells, idle_tells, still_begun, run_tells, enter_tells}
 use Rattle.own_run.proofs.Known.{begin_tells}
 
 module _ (p : Program) (needs : Codes → Needs) (nest : ℕ) (close : State Own → Option Settled) where

@@ -12,6 +12,7 @@ use Rattle.types.specs.Outcome.{whole_arrays}
 use Rattle.effects.specs.Accesses.{Access}
 use Rattle.effects.specs.Effects.{AllOf, All, Pending, accesses}
 use Rattle.effects.proofs.Members.{either_true, false_true, in_parts}
+use Rattle.own_run.proofs.Lists.{each_more}
 use Rattle.own_run.specs.Places.{covered, within, IsThere}
 use Rattle.effects.specs.Needs.{Needs, Provides}
 use Rattle.race_checker.specs.Scope.{Scope, Top, InScope, arrays_of, IsScoped}
@@ -23,7 +24,6 @@ use Rattle.own_run.specs.Frames.{Frame, Rest, Again, AtEnd, Back, paid, by_flow,
 use Rattle.own_run.specs.Holds.{having, locked_after, Stack, MayBegin, Carries, Returns, Holds, HasOwn, HasNeeds}
 use Rattle.own_run.proofs.Windows.{named_some, in_covered, not_nowhere}
 use Rattle.own_run.proofs.Names.{named_all, overwrites_more}
-use Rattle.own_run.proofs.Known.{each_more}
 use Rattle.own_run.proofs.Settles.{arrays_fit, array_here}
 use Rattle.own_run.proofs.Half.{behind, first_ready, rest_ready}
 use Rattle.own_run.proofs.Stacks.{anywhere, anchor, anchor_ready, unlock}

@@ -1,4 +1,5 @@
 -- Over tables that are the least solution, the test for clashes is exact.
+use Rattle.std.proofs.lemmas.Bool.{and_from}
 use Rattle.std.proofs.Common.{◌≡◌, refl, sym, ap, ◌∙◌, true≢false}
 use Rattle.std.specs.Prelude.{Bool, true, false, ◌&&◌, ◌||◌, ◌↔◌}
 use Rattle.types.specs.Code.{Procedure, Program}
@@ -19,10 +20,7 @@ module _ (p : Program) (alls pendings : Table accesses)
   clash_found g e x y h c =
       true≢false (sym (member_any (is_clash g.sections) (met_in accesses alls pendings g.body)
       ((meetings_exact p accesses alls pendings alls_derived alls_stable pendings_derived pendings_stable g.body x y).1 h)
-      (both c.writes c.overlap)) ∙ e)
-    where
-      both : {a b : Bool} → a ≡ true → b ≡ true → (a && b) ≡ true
-      both {b = b} f g = ap (λ a. a && b) f ∙ g
+      (and_from (x.write || y.write) (overlap g.sections x.section y.section) c.writes c.overlap)) ∙ e)
 
   clash_stands : (g : Procedure) → HasNoClash p g → (b : Bool) → has_clash alls pendings g ≡ b → b ≡ false
   clash_stands g free true e =

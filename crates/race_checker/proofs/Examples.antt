@@ -17,6 +17,8 @@ use Rattle.effects.specs.Sound.{may_write, is_writable, Allowed, SplitsWell, Pas
 use Rattle.effects.specs.Sound.{main_of}
 use Rattle.effects.proofs.Fitting.{root_left, root_right, left_right, one_left, one_right}
 use Rattle.parallel_relation.specs.Meetings.{met_in}
+use Rattle.parallel_relation.proofs.Programs.{unfinished, two_splits, split_in_loop, spawner, call_then_store}
+use Rattle.parallel_relation.proofs.Programs.{readers_and_writer, copying}
 use Rattle.race_checker.specs.Clash.{IsAccepted}
 use Rattle.race_checker.specs.Acceptance.{is_clash, is_accepted}
 use Rattle.race_checker.proofs.Deciding.{accepted_exact}
@@ -38,44 +40,11 @@ clashes p g =
 two_arrays_accepted : clashes two_arrays two_arrays.main ≡ []
 two_arrays_accepted = refl
 
--- async { a[0] = 7; } b[0] = 8; print a[0];
-abbrev unfinished : Program
-unfinished = program_of (ints 97 1 ∷ ints 98 1 ∷ []) 0 (Root ∷ Root ∷ []) (
-    (1, Async ((2, Do (Store 0 (lit 0) (lit 7))) ⨾ End)) ⨾ (3, Do (Store 1 (lit 0) (lit 8))) ⨾
-    (4, Do (Print (Element 0 (lit 0) ∷ []))) ⨾ End)
-
 unfinished_races : clashes unfinished unfinished.main ≡ (writes 2 0, reads 4 0) ∷ []
 unfinished_races = refl
 
--- sides of two splits of one section overlap
-abbrev two_splits : Program
-two_splits = program_of (ints 115 8 ∷ []) 0 (Root ∷ Left 0 ∷ Right 0 ∷ Left 0 ∷ Right 0 ∷ []) ((
-  1,
-  Finish ((
-    2,
-    Split 0 (lit 2) 1 2 ((
-      3,
-      Split 0 (lit 5) 3 4 (
-          (4, Async ((5, Do (Store 1 (lit 0) (lit 1))) ⨾ End)) ⨾ (6, Do (Store 3 (lit 0) (lit 2))) ⨾ End),
-    ) ⨾ End),
-  ) ⨾ End),
-) ⨾ End)
-
 two_splits_race : clashes two_splits two_splits.main ≡ (writes 5 1, writes 6 3) ∷ []
 two_splits_race = refl
-
--- while k < 2 { split s at k as l, r { async { l[0] = 1; } } k = k + 1; }
-abbrev split_in_loop : Program
-split_in_loop = program_of (ints 115 8 ∷ []) 1 (Root ∷ Left 0 ∷ Right 0 ∷ []) (
-    (1, Do (Assign 0 (lit 0))) ⨾ (
-      2,
-      Finish ((
-        3,
-        While (Compare Less (Scalar 0) (lit 2)) (
-            (4, Split 0 (Scalar 0) 1 2 ((5, Async ((6, Do (Store 1 (lit 0) (lit 1))) ⨾ End)) ⨾ End)) ⨾
-            (7, Do (Assign 0 (Chain (Scalar 0) (Link Plus (lit 1) Done)))) ⨾ End),
-      ) ⨾ End),
-    ) ⨾ End)
 
 split_in_loop_races : clashes split_in_loop split_in_loop.main ≡ (writes 6 0, writes 6 0) ∷ []
 split_in_loop_races = refl
@@ -83,67 +52,14 @@ split_in_loop_races = refl
 two_readers_accepted : clashes two_readers two_readers.main ≡ []
 two_readers_accepted = refl
 
--- proc g(mut s: int) { async { s[0] = 1; } } main { finish { g(a); a[0] = 2; } }
-abbrev spawner : Procedure
-spawner = record {
-  parameters = record { may_write = true; element = Int } ∷ [];
-  scalars = 0;
-  slots = 0;
-  sections = Root ∷ [];
-  body = (1, Async ((2, Do (Store 0 (lit 0) (lit 1))) ⨾ End)) ⨾ End;
-}
-
-abbrev call_then_store : Program
-call_then_store = record {
-  arrays = ints 97 1 ∷ [];
-  procedures = spawner ∷ [];
-  main = record {
-    parameters = [];
-    scalars = 0;
-    slots = 0;
-    sections = Root ∷ [];
-    body = (3, Finish ((4, Call 0 [] (0 ∷ [])) ⨾ (5, Do (Store 0 (lit 0) (lit 2))) ⨾ End)) ⨾ End;
-  };
-}
-
 call_then_store_races : clashes call_then_store call_then_store.main ≡ (writes 2 0, writes 5 0) ∷ []
 call_then_store_races = refl
 
 spawner_accepted : clashes call_then_store spawner ≡ []
 spawner_accepted = refl
 
--- two_readers with `a[0] = 1;` in place of `print a[0];`
-abbrev readers_and_writer : Program
-readers_and_writer = program_of (ints 97 1 ∷ ints 98 1 ∷ ints 99 1 ∷ []) 0 (Root ∷ Root ∷ Root ∷ []) ((
-  1,
-  Finish (
-      (2, Async ((3, Do (Store 1 (lit 0) (Element 0 (lit 0)))) ⨾ End)) ⨾
-      (4, Async ((5, Do (Store 2 (lit 0) (Element 0 (lit 0)))) ⨾ End)) ⨾
-      (6, Do (Store 0 (lit 0) (lit 1))) ⨾ End),
-) ⨾ End)
-
 readers_and_writer_race : clashes readers_and_writer readers_and_writer.main ≡ (reads 3 0, writes 6 0) ∷ (reads 5 0, writes 6 0) ∷ []
 readers_and_writer_race = refl
-
--- proc f(mut s: int, read t: int) { s[0] = t[0]; } main { split a at 1 as l, r { f(l, r); } }, and f(a, a) overlaps
-abbrev copying : Program
-copying = record {
-  arrays = ints 97 2 ∷ [];
-  procedures = record {
-    parameters = record { may_write = true; element = Int } ∷ record { may_write = false; element = Int } ∷ [];
-    scalars = 0;
-    slots = 0;
-    sections = Root ∷ Root ∷ [];
-    body = (1, Do (Store 0 (lit 0) (Element 1 (lit 0)))) ⨾ End;
-  } ∷ [];
-  main = record {
-    parameters = [];
-    scalars = 0;
-    slots = 0;
-    sections = Root ∷ Left 0 ∷ Right 0 ∷ [];
-    body = (2, Split 0 (lit 1) 1 2 ((3, Call 0 [] (1 ∷ 2 ∷ [])) ⨾ End)) ⨾ End;
-  };
-}
 
 copying_accepted : clashes copying copying.main ≡ []
 copying_accepted = refl

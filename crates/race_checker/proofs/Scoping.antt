@@ -12,11 +12,11 @@ use Rattle.effects.specs.Effects.{past_call, AllOf, All, PendingOf, accesses}
 use Rattle.effects.specs.Overlap.{origin_of, IsNumbered}
 use Rattle.effects.specs.Sound.{may_write, no_parameter, as_parameter, main_of, numbers_from}
 use Rattle.effects.specs.Sound.{parameters_of, SplitsWell, PassesWell, FollowsOf, Follows, IsSound}
-use Rattle.effects.specs.Fits.{Apart, AreSidesOf, HasLeft, Placed}
+use Rattle.effects.specs.Fits.{Apart, Placed}
 use Rattle.effects.proofs.Members.{numbers_from-below, false_true}
 use Rattle.effects.proofs.Scopes.{origin_from_get}
 use Rattle.effects.proofs.Windows.{names_apart}
-use Rattle.effects.proofs.Fitting.{root_left, root_right, left_right, one_left, one_right, by_number-map}
+use Rattle.effects.proofs.Fitting.{root_left, root_right, placed_inside}
 use Rattle.race_checker.specs.Scope.{Scope, Top, Inside, InScope, FitsScope, FitsTop, may_writes, arrays_of, Scoped}
 use Rattle.race_checker.specs.Scope.{ScopedOf, IsScoped, Lists, top, inside}
 
@@ -62,49 +62,6 @@ module _ (p : Program) (g : Procedure) where
     is_root : (k : ℕ) → Member k (parameters_of g) → origin_of g.sections k ≡ Root
     is_root k m = origin_from_get g.sections k (firsts k (numbers_from-below (length g.parameters) k m))
 
-    -- a split around
-    placed_inside : (sc : Scope) {scope : List ℕ} (t a b : ℕ) → SplitsWell g scope t a b → (env : Environment)
-        → FitsScope (Inside t a b sc) env
-        → Placed g scope env → Placed g (a ∷ b ∷ scope) env
-    placed_inside sc {scope = scope} t a b k env fits outer = record { apart = apart; left = left; right = right }
-      where
-        old_root : (x : ℕ) → Member x (a ∷ b ∷ scope) → origin_of g.sections x ≡ Root → Member x scope
-        old_root x first e = root_left e k.left
-        old_root x (next first) e = root_right e k.right
-        old_root x (next (next m)) e = m
-
-        apart : (r s : ℕ) → r ≢ s → Member r (a ∷ b ∷ scope) → Member s (a ∷ b ∷ scope) → origin_of g.sections r ≡ Root
-            → origin_of g.sections s ≡ Root → may_write g.parameters r ≡ true → Apart (env.windows r) (env.windows s)
-        apart r s ne m n e f w = outer.apart r s ne (old_root r m e) (old_root s n f) e f w
-
-        sides : AreSidesOf g (a ∷ b ∷ scope) env t a
-        sides = record {
-          parent = next (next k.in_scope);
-          right = subst (λ x. Member x (a ∷ b ∷ scope)) k.next (next first);
-          right_origin = subst (λ x. origin_of g.sections x ≡ Right t) k.next k.right;
-          at = fits.2.0;
-          cut = subst (λ x. sides_of (env.windows t) fits.2.0 ≡ Some (env.windows a, env.windows x)) k.next fits.2.1;
-        }
-
-        left : (s l : ℕ) → Member l (a ∷ b ∷ scope) → origin_of g.sections l ≡ Left s → AreSidesOf g (a ∷ b ∷ scope) env s l
-        left s l first e = subst (λ t. AreSidesOf g (a ∷ b ∷ scope) env t a) (one_left k.left e) sides
-        left s l (next first) e = left_right e k.right
-        left s l (next (next m)) e =
-            let o = outer.left s l m e in
-            record { parent = next (next o.parent); right = next (next o.right); right_origin = o.right_origin; at = o.at; cut = o.cut }
-
-        right : (s r : ℕ) → Member r (a ∷ b ∷ scope) → origin_of g.sections r ≡ Right s → HasLeft g (a ∷ b ∷ scope) s r
-        right s r first e = left_right k.left e
-        right s r (next first) e = record {
-          left = a;
-          next = k.next;
-          in_scope = first;
-          origin = subst (λ t. origin_of g.sections a ≡ Left t) (one_right k.right e) k.left;
-        }
-        right s r (next (next m)) e =
-            let o = outer.right s r m e in
-            record { left = o.left; next = o.next; in_scope = next (next o.in_scope); origin = o.origin }
-
     -- windows that fit a scope stand as the origins say
     pub fits_placed : {sc : Scope} {scope : List ℕ} → Lists g sc scope → (env : Environment) → FitsScope sc env → Placed g scope env
     fits_placed top env fits = record {
@@ -112,8 +69,8 @@ module _ (p : Program) (g : Procedure) where
       left = λ s l m e. root_left (is_root l m) e;
       right = λ s r m e. root_right (is_root r m) e;
     }
-    fits_placed (inside {sc = sc} {s = t} {l = a} {r = b} k deeper) env fits =
-        placed_inside sc t a b k env fits (fits_placed deeper env fits.0)
+    fits_placed (inside {s = t} {l = a} {r = b} k deeper) env fits =
+        placed_inside g _ env t a b k fits.2.0 fits.2.1 (fits_placed deeper env fits.0)
 
     -- ---- names in scope
     mutual
