@@ -4,7 +4,7 @@ use Rattle.std.proofs.Common.{sym, ap, subst, arith, le_refl}
 use Rattle.std.proofs.lemmas.Bool.{eqb-true, leb-true}
 use Rattle.std.specs.Prelude.{Bool, true, false, not, nat_eq, nat_le, if◌then◌else◌}
 use Rattle.std.specs.List.{list_any}
-use Rattle.types.specs.Code.{Origin, Root, Left, Right, Procedure, Program}
+use Rattle.types.specs.Code.{Origin, Root, Left, Right, Procedure}
 use Rattle.types.specs.Place.{Place, Window, In, sides_of}
 use Rattle.types.specs.Value.{Environment}
 use Rattle.effects.specs.Member.{Member, first, next}

@@ -1,6 +1,6 @@
 -- All with nothing but sound and accepted as premises.
 use Rattle.std.proofs.Common.{◌≡◌, List, [], Some, refl, sym, ap, ◌∙◌}
-use Rattle.std.specs.Prelude.{ℤ, true}
+use Rattle.std.specs.Prelude.{ℤ}
 use Rattle.types.specs.Code.{Program}
 use Rattle.types.specs.Contents.{FitsArrays}
 use Rattle.types.specs.Outcome.{Budget, outcome}

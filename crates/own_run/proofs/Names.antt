@@ -1,8 +1,8 @@
 -- Accesses: those of a statement alone, those by names in scope, and those of an expression.
-use Rattle.std.proofs.Common.{◌≡◌, ℕ, zero, suc, ◌<◌, List, [], ◌∷◌, length, refl, sym, ap, subst, inl, inr, arith}
+use Rattle.std.proofs.Common.{◌≡◌, ℕ, zero, suc, ◌<◌, List, [], ◌∷◌, refl, sym, subst, inl, inr, arith}
 use Rattle.std.proofs.lemmas.Bool.{eqb-false}
-use Rattle.std.specs.Prelude.{Bool, true, false, ◌||◌, nat_eq, map, Contains, if◌then◌else◌}
-use Rattle.types.specs.Code.{Code, Codes, End, Then, Parameter, Procedure, Program}
+use Rattle.std.specs.Prelude.{Bool, true, false, ◌||◌, nat_eq, Contains, if◌then◌else◌}
+use Rattle.types.specs.Code.{Code, Codes, End, Then, Program}
 use Rattle.types.specs.Place.{Place}
 use Rattle.types.specs.Value.{Environment}
 use Rattle.types.specs.Run.{procedure_of}

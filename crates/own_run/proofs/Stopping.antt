@@ -2,12 +2,12 @@
 use Rattle.std.proofs.lemmas.Option.{none-some, same_Some}
 use Rattle.std.proofs.Common.{◌≡◌, ℕ, zero, suc, ◌+◌, List, [], ◌∷◌, length, Option, Some, None, Ok, Err, refl, sym, ap, ◌∙◌, subst}
 use Rattle.std.specs.Prelude.{Bool, true, false, ◌||◌, ok_or, if◌then◌else◌}
-use Rattle.types.specs.declared.fault.FaultKind.TheVariants.{SplitPoint, Raised}
+use Rattle.types.specs.declared.fault.FaultKind.TheVariants.{SplitPoint}
 use Rattle.types.specs.Code.{Primitive, Skip, Assign, Store, Print, Raise, Code, Do, If, While, Split, Call, Async, Finish}
 use Rattle.types.specs.Code.{Codes, End, Then, Program}
 use Rattle.types.specs.Place.{Place, sides_of}
 use Rattle.types.specs.Value.{Valued, element_of, holds_number}
-use Rattle.types.specs.Run.{Flow, On, Faulted, Stopped, Fault, State, Rules, with_value, put, print, assign, fault, primitive}
+use Rattle.types.specs.Run.{Flow, On, Faulted, Stopped, Fault, State, Rules, with_value, put, print, assign, primitive}
 use Rattle.types.specs.Run.{number_at, numbers_at, truth_at, window_at, array_of}
 use Rattle.types.specs.Meaning.{after_finish}
 use Rattle.effects.specs.Needs.{Needs}

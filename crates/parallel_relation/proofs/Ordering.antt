@@ -1,5 +1,5 @@
 -- Pairs that may run together have no order.
-use Rattle.std.proofs.Common.{◌⊎◌, inl, inr, ℕ}
+use Rattle.std.proofs.Common.{inl, inr, ℕ}
 use Rattle.types.specs.Code.{Codes, Program}
 use Rattle.types.specs.Run.{procedure_of}
 use Rattle.effects.specs.Effects.{Subject, labels}

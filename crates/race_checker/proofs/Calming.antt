@@ -1,5 +1,5 @@
 -- From names to places: in a sound and accepted program, what is pending keeps apart from what is done later.
-use Rattle.std.proofs.Common.{◌≡◌, ◌⊎◌, inl, inr, ℕ, ◌<◌, List, [], ◌∷◌, length, refl, sym, ◌∙◌, subst, arith}
+use Rattle.std.proofs.Common.{◌≡◌, ◌⊎◌, inl, inr, ℕ, ◌<◌, List, [], length, refl, sym, ◌∙◌, subst, arith}
 use Rattle.std.specs.Prelude.{Bool, true, false, ◌||◌, map, slice_get, Some}
 use Rattle.types.specs.Code.{Code, Do, If, While, Split, Call, Async, Finish, Codes, End, Then, Root, Procedure, Program}
 use Rattle.types.specs.Place.{Place, In, nowhere}
@@ -18,7 +18,7 @@ use Rattle.effects.proofs.Fitting.{by_number-map}
 use Rattle.parallel_relation.specs.Together.{Block, Together}
 use Rattle.race_checker.specs.Clash.{Clash, IsAccepted}
 use Rattle.race_checker.specs.Scope.{Scope, Top, FitsScope, FitsTop, may_writes, Lists, top, inside}
-use Rattle.race_checker.specs.Calm.{KeepApart, AlwaysApart, Calm, CalmOf, IsCalm}
+use Rattle.race_checker.specs.Calm.{AlwaysApart, Calm, CalmOf, IsCalm}
 use Rattle.race_checker.proofs.Scoping.{length_may_writes, bits, bit_inside, fits_placed, arrays_written}
 
 module _ (p : Program) (sound : IsSound p) (g : Procedure) (numbered : IsNumbered g.sections)

@@ -1,7 +1,7 @@
 -- Over tables that are the least solution, the test for clashes is exact.
 use Rattle.std.proofs.lemmas.Bool.{and_from}
-use Rattle.std.proofs.Common.{◌≡◌, refl, sym, ap, ◌∙◌, true≢false}
-use Rattle.std.specs.Prelude.{Bool, true, false, ◌&&◌, ◌||◌, ◌↔◌}
+use Rattle.std.proofs.Common.{◌≡◌, refl, sym, ◌∙◌, true≢false}
+use Rattle.std.specs.Prelude.{Bool, true, false, ◌||◌, ◌↔◌}
 use Rattle.types.specs.Code.{Procedure, Program}
 use Rattle.effects.specs.Effects.{accesses}
 use Rattle.effects.specs.Overlap.{overlap}

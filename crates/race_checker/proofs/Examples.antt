@@ -1,10 +1,9 @@
 -- Worked programs: their clashes, and three that are sound, of which two are accepted.
 use Rattle.std.proofs.Common.{◌≡◌, ◌≢◌, ℕ, zero, suc, ◌<◌, List, [], ◌∷◌, refl, sym, ◌∙◌, arith, true≢false}
 use Rattle.std.specs.Prelude.{Bool, true, false, filter, slice_get, Some}
-use Rattle.syntax.specs.declared.tree.ElementType.TheVariants.{Int}
-use Rattle.syntax.specs.declared.tree.Relation.TheVariants.{Less, Equal}
-use Rattle.types.specs.declared.code.Operator.TheVariants.{Plus, Times}
-use Rattle.types.specs.Code.{Scalar, Element, Length, Chain, Link, Done, Compare, Assign, Store, Print, Do, If, While, Split}
+use Rattle.syntax.specs.declared.tree.Relation.TheVariants.{Equal}
+use Rattle.types.specs.declared.code.Operator.TheVariants.{Times}
+use Rattle.types.specs.Code.{Element, Length, Chain, Link, Done, Compare, Store, Print, Do, If}
 use Rattle.types.specs.Code.{Call, Async, Finish, Codes, End, Then, Origin, Root, Left, Right, Procedure, Program}
 use Rattle.types.specs.Run.{procedure_of, no_procedure}
 use Rattle.types.proofs.Programs.{◌⨾◌, lit, ints, main_of as program_of, two_arrays, twice, doubling, two_readers}

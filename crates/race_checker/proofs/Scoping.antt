@@ -1,23 +1,20 @@
 -- A sound program names what is in scope, and environments that fit its scopes stand as the origins say.
-use Rattle.std.proofs.Common.{◌≡◌, ◌≢◌, ℕ, zero, suc, ◌+◌, ◌<◌, List, [], ◌∷◌, length, refl, sym, ap, ◌∙◌, subst, inl, inr, arith}
+use Rattle.std.proofs.Common.{◌≡◌, ℕ, zero, suc, ◌+◌, ◌<◌, List, [], ◌∷◌, length, refl, sym, ap, ◌∙◌, subst, inl, inr, arith}
 use Rattle.std.specs.Prelude.{Bool, true, false, map, slice_index_or, slice_get, Some}
-use Rattle.types.specs.Code.{Code, Do, If, While, Split, Call, Async, Finish, Codes, End, Then, Root, Left, Right, Array, Parameter}
+use Rattle.types.specs.Code.{Code, Do, If, While, Split, Call, Async, Finish, Codes, End, Then, Root, Array, Parameter}
 use Rattle.types.specs.Code.{Procedure, Program}
-use Rattle.types.specs.Place.{nowhere, sides_of}
 use Rattle.types.specs.Value.{Environment}
-use Rattle.types.specs.Run.{entry, procedure_of}
-use Rattle.effects.specs.Accesses.{Access}
+use Rattle.types.specs.Run.{procedure_of}
 use Rattle.effects.specs.Member.{Member, first, next}
-use Rattle.effects.specs.Effects.{past_call, AllOf, All, PendingOf, accesses}
-use Rattle.effects.specs.Overlap.{origin_of, IsNumbered}
-use Rattle.effects.specs.Sound.{may_write, no_parameter, as_parameter, main_of, numbers_from}
-use Rattle.effects.specs.Sound.{parameters_of, SplitsWell, PassesWell, FollowsOf, Follows, IsSound}
-use Rattle.effects.specs.Fits.{Apart, Placed}
+use Rattle.effects.specs.Effects.{past_call}
+use Rattle.effects.specs.Overlap.{origin_of}
+use Rattle.effects.specs.Sound.{no_parameter, as_parameter, main_of, numbers_from}
+use Rattle.effects.specs.Sound.{parameters_of, FollowsOf, Follows, IsSound}
+use Rattle.effects.specs.Fits.{Placed}
 use Rattle.effects.proofs.Members.{numbers_from-below, false_true}
 use Rattle.effects.proofs.Scopes.{origin_from_get}
-use Rattle.effects.proofs.Windows.{names_apart}
 use Rattle.effects.proofs.Fitting.{root_left, root_right, placed_inside}
-use Rattle.race_checker.specs.Scope.{Scope, Top, Inside, InScope, FitsScope, FitsTop, may_writes, arrays_of, Scoped}
+use Rattle.race_checker.specs.Scope.{Scope, Top, InScope, FitsScope, may_writes, arrays_of, Scoped}
 use Rattle.race_checker.specs.Scope.{ScopedOf, IsScoped, Lists, top, inside}
 
 numbers_from-has : (a n k s : ℕ) → k < n → s ≡ a + k → Member s (numbers_from a n)
