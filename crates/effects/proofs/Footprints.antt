@@ -14,8 +14,8 @@ use Rattle.effects.specs.Footprint.{MayStillWrite, MayStillTouchOf, MayStillWrit
 use Rattle.effects.specs.Sound.{IsSound, parameters_of}
 use Rattle.effects.proofs.Members.{from_map, numbers_from-below}
 use Rattle.effects.proofs.Windows.{sides_of-cut, left_inside, right_inside}
-use Rattle.effects.proofs.Scopes.{allowed, pending_all}
-use Rattle.effects.proofs.Fitting.{by_number-map}
+use Rattle.effects.proofs.AccessesInScope.{allowed, pending_all}
+use Rattle.effects.proofs.EnvironmentsFit.{by_number-map}
 
 -- Renaming, and places
 

@@ -5,7 +5,7 @@ use Rattle.std.specs.Prelude.{Bool, true, false, ◌&&◌, nat_eq, nat_lt, if◌
 use Rattle.effects.specs.Accesses.{Access}
 use Rattle.effects.specs.Member.{Member, first, next}
 use Rattle.effects.specs.Tables.{Table}
-use Rattle.effects.proofs.Growing.{missing, missing-less, missing-falls}
+use Rattle.effects.proofs.Missing.{missing, missing-less, missing-falls}
 use Rattle.effects.proofs.Members.{false_true, both_true, any_member, member_any}
 use Rattle.effects.specs.Rounds.{same_kind, same_access, lists, has_all, none, after, is_stable_below, is_stable}
 use Rattle.effects.specs.Rounds.{first_stable}

@@ -24,6 +24,7 @@ may_write parameters k = (slice_index_or parameters k no_parameter).may_write
 abbrev pub as_parameter : Array → Parameter
 as_parameter a = record { may_write = true; element = a.element }
 
+-- `main` with the arrays as its parameters
 abbrev pub main_of : Program → Procedure
 main_of p = record p.main { parameters = map as_parameter p.arrays }
 

@@ -13,13 +13,13 @@ use Rattle.types.specs.Meaning.{after_finish}
 use Rattle.effects.specs.Needs.{Needs}
 use Rattle.own_run.specs.Places.{Places, within, meets}
 use Rattle.own_run.specs.Apart.{is_stopped}
-use Rattle.own_run.specs.Results.{Listed, TaskResult, Settled, none_yet, fill, complete, same_path, behind, take}
-use Rattle.own_run.specs.Results.{fill_all, settle_within, none_left, settle}
+use Rattle.own_run.specs.Results.{Listed, TaskResult, Settled, none_yet, fill, complete}
 use Rattle.own_run.specs.OwnRun.{Own, own_rules, begin_own, result_of}
 use Rattle.own_run.specs.Frames.{Frame, Rest, Again, AtEnd, Back, Standing, by_value, chosen, paid, by_flow, turn, handed}
 use Rattle.own_run.specs.Stops.{is_none, is_over, is_next_over, stops, some_halted}
 use Rattle.std.proofs.Math.Bool.{or-false}
-use Rattle.own_run.proofs.Sound.{unless_none, gives}
+use Rattle.own_run.proofs.SettledResults.{unless_none, gives}
+use Rattle.own_run.specs.Settling.{same_path, behind, take, fill_all, settle_within, none_left, settle}
 
 or_assoc : (a b c : Bool) → ((a || b) || c) ≡ (a || (b || c))
 or_assoc true b c = refl

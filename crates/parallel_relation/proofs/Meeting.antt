@@ -9,7 +9,7 @@ use Rattle.effects.specs.Tables.{Table, all_of, all_in, left_by, IsDerived, IsDe
 use Rattle.effects.specs.Tables.{IsStablePending}
 use Rattle.parallel_relation.specs.Meetings.{crossed, turned, met_inside, met_in}
 use Rattle.effects.proofs.Members.{in_left, in_right, in_map, from_map}
-use Rattle.effects.proofs.Solved.{parts, listed_of, listed, derived_of, derived, left_of, pending_of}
+use Rattle.effects.proofs.StableTables.{parts, listed_of, listed, derived_of, derived, left_of, pending_of}
 
 in_crossed : {A : Type 0} {x y : A} {xs ys : List A} → Member x xs → Member y ys → Member (x, y) (crossed xs ys)
 in_crossed {x = x} {ys = ys} (first {xs = xs}) k = in_left (crossed xs ys) (in_map (λ y. (x, y)) k)

@@ -13,8 +13,8 @@ use Rattle.effects.specs.Sound.{may_write, is_writable, Allowed, PassesWell, Fol
 use Rattle.effects.specs.Fits.{Apart, Placed}
 use Rattle.effects.proofs.Members.{left_true, right_true}
 use Rattle.effects.proofs.Windows.{names_apart}
-use Rattle.effects.proofs.Scopes.{allowed, allowed_of, pending_of_all}
-use Rattle.effects.proofs.Fitting.{by_number-map}
+use Rattle.effects.proofs.AccessesInScope.{allowed, allowed_of, pending_of_all}
+use Rattle.effects.proofs.EnvironmentsFit.{by_number-map}
 use Rattle.parallel_relation.specs.Together.{Block, Together}
 use Rattle.race_checker.specs.Clash.{Clash, IsAccepted}
 use Rattle.race_checker.specs.Scope.{Scope, Top, FitsScope, FitsTop, may_writes, Lists, top, inside}

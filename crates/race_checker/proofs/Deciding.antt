@@ -10,8 +10,8 @@ use Rattle.race_checker.specs.Clash.{HasNoClash, IsAccepted}
 use Rattle.effects.proofs.Members.{both_true, not_true}
 use Rattle.race_checker.proofs.Clashing.{has_clash-exact}
 use Rattle.effects.specs.Rounds.{summaries, pending_summaries}
-use Rattle.effects.proofs.Rounding.{past_end, summaries_derived, pending_summaries_derived, summaries_stable}
-use Rattle.effects.proofs.Rounding.{pending_summaries_stable}
+use Rattle.effects.proofs.Summaries.{past_end, summaries_derived, pending_summaries_derived, summaries_stable}
+use Rattle.effects.proofs.Summaries.{pending_summaries_stable}
 
 module _ (p : Program) (sound : IsSound p) where
   exact : (g : Procedure) → (has_clash (summaries p) (pending_summaries p) g ≡ false) ↔ HasNoClash p g

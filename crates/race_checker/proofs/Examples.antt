@@ -14,7 +14,7 @@ use Rattle.effects.specs.Overlap.{origin_of, overlap, IsNumbered}
 use Rattle.effects.specs.Rounds.{summaries, pending_summaries}
 use Rattle.effects.specs.Sound.{may_write, is_writable, Allowed, SplitsWell, PassesWell, Follows, IsSoundIn, IsSound}
 use Rattle.effects.specs.Sound.{main_of}
-use Rattle.effects.proofs.Fitting.{root_left, root_right, left_right, one_left, one_right}
+use Rattle.effects.proofs.EnvironmentsFit.{root_left, root_right, left_right, one_left, one_right}
 use Rattle.parallel_relation.specs.Meetings.{met_in}
 use Rattle.parallel_relation.proofs.Programs.{unfinished, two_splits, split_in_loop, spawner, call_then_store}
 use Rattle.parallel_relation.proofs.Programs.{readers_and_writer, copying}

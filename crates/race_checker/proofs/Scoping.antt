@@ -12,8 +12,8 @@ use Rattle.effects.specs.Sound.{no_parameter, as_parameter, main_of, numbers_fro
 use Rattle.effects.specs.Sound.{parameters_of, FollowsOf, Follows, IsSound}
 use Rattle.effects.specs.Fits.{Placed}
 use Rattle.effects.proofs.Members.{numbers_from-below, false_true}
-use Rattle.effects.proofs.Scopes.{origin_from_get}
-use Rattle.effects.proofs.Fitting.{root_left, root_right, placed_inside}
+use Rattle.effects.proofs.AccessesInScope.{origin_from_get}
+use Rattle.effects.proofs.EnvironmentsFit.{root_left, root_right, placed_inside}
 use Rattle.race_checker.specs.Scope.{Scope, Top, InScope, FitsScope, may_writes, arrays_of, Scoped}
 use Rattle.race_checker.specs.Scope.{ScopedOf, IsScoped, Lists, top, inside}
 

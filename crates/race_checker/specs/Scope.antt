@@ -35,10 +35,11 @@ FitsScope (Inside s l r around) env =
     FitsScope around env × InScope around s
     × ((at : ℤ) × (sides_of (env.windows s) at ≡ Some (env.windows l, env.windows r)))
 
--- which of a procedure's section parameters may be written, and of `main`'s arrays
+-- which of a procedure's section parameters may be written
 abbrev pub may_writes : Procedure → List Bool
 may_writes g = map (λ x. x.may_write) g.parameters
 
+-- all of `main`'s arrays may be written
 abbrev pub arrays_of : Program → List Bool
 arrays_of p = map (λ x. true) p.arrays
 

@@ -21,24 +21,38 @@ use Rattle.effects.specs.Effects.{PendingOf, Pending, accesses}
 use Rattle.effects.specs.Footprint.{Touches, Overwrites}
 use Rattle.effects.proofs.Members.{false_true}
 use Rattle.own_run.specs.Places.{or_else, written, touched}
-use Rattle.effects.specs.Needs.{Needs, ProvidesIn, Provides}
+use Rattle.effects.specs.Needs.{Needs, ProvidesIn, ProvidesOf, Provides}
 use Rattle.race_checker.proofs.Scoping.{length_may_writes}
-use Rattle.race_checker.specs.Scope.{Top, Inside, InScope, FitsScope, may_writes, Scoped, IsScoped}
-use Rattle.race_checker.specs.Calm.{Calm, IsCalm}
+use Rattle.race_checker.specs.Scope.{Top, Inside, InScope, FitsScope, may_writes, Scoped, ScopedOf, IsScoped}
+use Rattle.race_checker.specs.Calm.{Calm, CalmOf, IsCalm}
 use Rattle.own_run.specs.Apart.{Aside, nothing, is_stopped, halts, merged, child_apart, set_aside, gather}
 use Rattle.own_run.specs.Apart.{apart_rules_by, begin_apart}
-use Rattle.own_run.specs.Ready.{Around, ReadyOf, Ready}
+use Rattle.own_run.specs.Ready.{Around, Ready}
 use Rattle.own_run.proofs.Windows.{named_some, some_named, element_in, sides_some, sides_in, split_in}
 use Rattle.own_run.proofs.Windows.{call_in, passed_same, fits_split, around_split, split_agree}
-use Rattle.own_run.proofs.Names.{all_alone, pending_alone, named_all, touches_more}
-use Rattle.own_run.proofs.Names.{overwrites_more, overwrites_touch, read_listed}
-use Rattle.own_run.proofs.Side.{S, A, Set, Same, Agree, same, both_stop, widen, then_same, step_same, fault_same}
-use Rattle.own_run.proofs.Side.{value_same, choose_same, reads_same, Readable, number_alike, truth_alike}
-use Rattle.own_run.proofs.Side.{numbers_alike, assign_same, print_same, put_same}
-use Rattle.own_run.proofs.Dies.{Marks, dies, within_marks, block_marks, begin_marks}
+use Rattle.own_run.proofs.AccessNames.{all_alone, pending_alone, named_all, touches_more}
+use Rattle.own_run.proofs.AccessNames.{overwrites_more, overwrites_touch, read_listed}
+use Rattle.own_run.proofs.SideBySide.{S, A, Set, Same, Agree, same, both_stop, widen, then_same, step_same, fault_same}
+use Rattle.own_run.proofs.SideBySide.{value_same, choose_same, reads_same, Readable, number_alike, truth_alike}
+use Rattle.own_run.proofs.SideBySide.{numbers_alike, assign_same, print_same, put_same}
+use Rattle.own_run.proofs.StaysStopped.{Marks, dies, within_marks, block_marks, begin_marks}
 
 abbrev pub nowhere : Set
 nowhere q = ⊥
+
+module _ (p : Program) (needs : Codes → Needs) where
+  -- it may run next: within what is around, off what is locked; `final` is locked afterwards
+  pub record ReadyOf (x : Around) (locked final : Place → Type 0) (l : ℕ) (s : Code) : Type 0 where
+    pub fits : FitsScope x.scope x.env
+    pub names : (y : Access) → Member y (own_accesses l s) → InScope x.scope y.section
+    pub scoped : ScopedOf p x.scope s
+    pub calm : CalmOf p x.scope l s
+    pub provided : ProvidesOf p needs s
+    pub free : (q : Place) → Touches x.env (AllOf p accesses l s) q → locked q → ⊥
+    pub held : (q : Place) → Touches x.env (AllOf p accesses l s) q → x.held q
+    pub wrote : (q : Place) → Overwrites x.env (AllOf p accesses l s) q → x.wrote q
+    pub kept : (q : Place) → locked q → final q
+    pub added : (q : Place) → Overwrites x.env (PendingOf p accesses s) q → final q
 
 module _ (p : Program) (needs : Codes → Needs) where
   -- what a statement leaves locked

@@ -6,7 +6,7 @@ use Rattle.types.specs.Run.{Work, Block, spend, with_step, block, within}
 use Rattle.types.proofs.Views.{Follows, FollowsAt, IsView, work_follows}
 use Rattle.effects.specs.Needs.{Needs}
 use Rattle.own_run.specs.Apart.{gather, apart_rules_by, begin_apart}
-use Rattle.own_run.proofs.Side.{A, Dies}
+use Rattle.own_run.proofs.SideBySide.{A, Dies}
 
 -- the same, or the same with a task stopped
 abbrev marked : Bool → A → A

@@ -16,7 +16,7 @@ use Rattle.effects.specs.Sound.{may_write, SplitsWell, PassesWell, IsSoundIn, pa
 use Rattle.effects.specs.Fits.{Apart, LiesInArray, AreSidesOf, HasLeft, Placed, Fits}
 use Rattle.effects.proofs.Members.{numbers_from-below}
 use Rattle.effects.proofs.Windows.{IsCut, sides_of-cut, names_apart}
-use Rattle.effects.proofs.Scopes.{origin_from_get}
+use Rattle.effects.proofs.AccessesInScope.{origin_from_get}
 
 -- Origins are told apart
 

@@ -12,8 +12,8 @@ use Rattle.effects.specs.Sound.{parameters_of, IsSound}
 use Rattle.effects.specs.Tables.{Table, all_inside, all_in, left_by, left_in, IsDerived, IsDerivedPending, IsStable}
 use Rattle.effects.specs.Tables.{IsStablePending}
 use Rattle.effects.proofs.Members.{in_left, in_right, in_map, from_map}
-use Rattle.effects.proofs.Scopes.{allowed, pending_all}
-use Rattle.effects.proofs.Solved.{parts, listed, left}
+use Rattle.effects.proofs.AccessesInScope.{allowed, pending_all}
+use Rattle.effects.proofs.StableTables.{parts, listed, left}
 use Rattle.effects.specs.Rounds.{none, after, all_round, pending_round, standing, possible, possible_below}
 use Rattle.effects.specs.Rounds.{summaries, pending_summaries}
 use Rattle.effects.proofs.Stability.{becomes_stable, first_keeps}

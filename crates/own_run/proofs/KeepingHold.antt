@@ -16,23 +16,27 @@ use Rattle.effects.specs.Effects.{past_call, if_body, if_other, while, AllOf, Al
 use Rattle.effects.specs.Footprint.{Touches, Overwrites}
 use Rattle.effects.proofs.Members.{both_true, false_true, either_true}
 use Rattle.own_run.proofs.Lists.{each_last}
-use Rattle.own_run.specs.Places.{Places, within, IsThere, Extends, written, touched}
+use Rattle.own_run.specs.Places.{Places, within, IsThere, written, touched}
 use Rattle.effects.specs.Needs.{Needs, AreNeeds, Provides}
 use Rattle.race_checker.proofs.Scoping.{length_may_writes}
 use Rattle.race_checker.specs.Scope.{Scope, Top, Inside, InScope, may_writes, Scoped, IsScoped}
 use Rattle.race_checker.specs.Calm.{IsCalm}
-use Rattle.own_run.specs.Ready.{Around, ReadyOf, Ready}
-use Rattle.own_run.specs.Results.{Listed, Settled, Each, Parted}
+use Rattle.own_run.specs.Ready.{Around, Ready}
+use Rattle.own_run.specs.Results.{Listed, Settled}
 use Rattle.own_run.specs.OwnRun.{Child, Own, child_of, list_child, begin_own, back_from, own_rules}
 use Rattle.own_run.specs.Frames.{Frame, Rest, Again, AtEnd, Back, Standing, by_value, chosen, acted}
 use Rattle.own_run.specs.Holds.{having, locked_after, Left, Stack, Carries, Comes, Returns, Holds}
 use Rattle.own_run.proofs.Windows.{named_some, some_named, passed_same, sides_some}
 use Rattle.own_run.proofs.Windows.{around_split, split_agree}
-use Rattle.own_run.proofs.Names.{named_all, touches_more, overwrites_more}
-use Rattle.own_run.proofs.Keeps.{still_there}
-use Rattle.own_run.proofs.Half.{behind, part_ready, again_ready, split_ready, call_ready}
+use Rattle.own_run.proofs.AccessNames.{named_all, touches_more, overwrites_more}
+use Rattle.own_run.proofs.RunKeeps.{still_there}
+use Rattle.own_run.proofs.Simulation.{behind, part_ready, again_ready, split_ready, call_ready}
 use Rattle.own_run.proofs.Stacks.{anywhere, restack, anchor, anchor_ready, unlock}
-use Rattle.own_run.proofs.Present.{written_touched}
+use Rattle.own_run.proofs.ComesBack.{written_touched}
+use Rattle.own_run.proofs.RunKeeps.{Extends}
+use Rattle.own_run.proofs.Simulation.{ReadyOf}
+use Rattle.own_run.specs.Lists.{Each}
+use Rattle.own_run.specs.Settling.{Parted}
 
 abbrev pub none : Place → Type 0
 none q = ⊥

@@ -7,11 +7,12 @@ use Rattle.std.specs.Prelude.{Bool, true, false, ◌||◌, map, flat_map, if◌t
 use Rattle.types.specs.Code.{Codes, Program}
 use Rattle.effects.specs.Needs.{Needs}
 use Rattle.own_run.specs.Places.{Places, within, meets}
-use Rattle.own_run.specs.Results.{TaskResult, Settled, none_yet, fill, same_path, behind, take, fill_all}
-use Rattle.own_run.specs.Results.{settle_within, none_left, settle, Each, Inserted, here, later, Shuffled, none, one}
+use Rattle.own_run.specs.Results.{TaskResult, Settled, none_yet, fill}
 use Rattle.own_run.specs.OwnRun.{Start, Child, result_of, own, given, IsOwn, below}
-use Rattle.own_run.proofs.Sound.{unless_none, gives, taken, IsGiven, settle_sound}
-use Rattle.own_run.proofs.Complete.{Stands, stands, lists_none}
+use Rattle.own_run.proofs.SettledResults.{unless_none, gives, taken, IsGiven, settle_sound}
+use Rattle.own_run.proofs.CompleteResults.{Stands, stands, lists_none}
+use Rattle.own_run.specs.Settling.{same_path, behind, take, fill_all, settle_within, none_left, settle}
+use Rattle.own_run.specs.Lists.{Each, Inserted, here, later, Shuffled, none, one}
 
 -- what was taken stood there
 took : (path : List ℕ) (rs : List TaskResult) (found : TaskResult × List TaskResult) → take path rs ≡ Some found

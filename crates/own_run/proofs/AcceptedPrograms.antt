@@ -10,22 +10,24 @@ use Rattle.race_checker.specs.Clash.{IsAccepted}
 use Rattle.effects.specs.Needs.{Provides}
 use Rattle.own_run.proofs.Lists.{each_more}
 use Rattle.own_run.specs.Apart.{apart_outcome}
-use Rattle.own_run.specs.Results.{TaskResult, Settled, settle, Each, Shuffled, IsParted}
+use Rattle.own_run.specs.Results.{TaskResult, Settled}
 use Rattle.own_run.specs.OwnRun.{Start, Own, result_of, own, comes_to, below, IsOwn, root_of, told_of}
 use Rattle.own_run.specs.Frames.{Standing}
 use Rattle.own_run.specs.Holds.{MayBegin}
-use Rattle.own_run.proofs.Settles.{settles}
-use Rattle.own_run.proofs.Sound.{told_apart, settled_outcome}
-use Rattle.own_run.proofs.Turning.{root_begins}
+use Rattle.own_run.proofs.ApartOutcome.{settles}
+use Rattle.own_run.proofs.SettledResults.{told_apart, settled_outcome}
+use Rattle.own_run.proofs.HoldingTurns.{root_begins}
 use Rattle.effects.specs.Rounds.{summaries, needs_of}
 use Rattle.own_run.specs.Reached.{Reached, IsResult, HasNext, CanSettle, CanEnd}
-use Rattle.own_run.proofs.Ending.{all_settle}
-use Rattle.own_run.proofs.Leaving.{can_leave, can_end}
-use Rattle.effects.proofs.Needing.{provides}
-use Rattle.own_run.proofs.Reaching.{has_next, is_parted, ends_own, root_ends}
-use Rattle.effects.proofs.Rounding.{summaries_derived, summaries_stable}
+use Rattle.own_run.proofs.TasksEnd.{all_settle}
+use Rattle.own_run.proofs.NeverStuck.{can_leave, can_end}
+use Rattle.effects.proofs.NeedsOfAsyncs.{provides}
+use Rattle.own_run.proofs.ReachedTasks.{has_next, is_parted, ends_own, root_ends}
+use Rattle.effects.proofs.Summaries.{summaries_derived, summaries_stable}
 use Rattle.race_checker.proofs.Scoping.{is_scoped}
 use Rattle.race_checker.proofs.Calming.{is_calm}
+use Rattle.own_run.specs.Settling.{settle, IsParted}
+use Rattle.own_run.specs.Lists.{Each, Shuffled}
 
 pub provides_needs : (p : Program) → IsSound p → Provides p (needs_of p)
 provides_needs p sound = provides p (summaries p) (summaries_derived p) (summaries_stable p sound)

@@ -8,12 +8,13 @@ use Rattle.types.specs.Code.{Codes, Program}
 use Rattle.types.specs.Run.{State, Rules, Work, run}
 use Rattle.effects.specs.Needs.{Needs}
 use Rattle.own_run.proofs.Lists.{each_more, each_last}
-use Rattle.own_run.specs.Results.{Settled, Each}
+use Rattle.own_run.specs.Results.{Settled}
 use Rattle.own_run.specs.OwnRun.{Start, Child, Action, Step, Spawn, EnterFinish, EndFinish, EndTask, Own, at_first}
 use Rattle.own_run.specs.OwnRun.{is_waiting, child_of, list_child, begin_own, go_on_with, leave_with, own_rules}
 use Rattle.own_run.specs.OwnRun.{begun_by, beginning}
 use Rattle.own_run.specs.Frames.{IsBegun, Fine}
-use Rattle.own_run.proofs.Keeps.{IsKept, run_keeps}
+use Rattle.own_run.proofs.RunKeeps.{IsKept, run_keeps}
+use Rattle.own_run.specs.Lists.{Each}
 
 -- ---- lists
 pub begun_by-append : (acts bs : List Action) → begun_by (acts ++ bs) ≡ begun_by acts ++ begun_by bs

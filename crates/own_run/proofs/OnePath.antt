@@ -7,12 +7,14 @@ use Rattle.types.specs.Code.{Codes, Program}
 use Rattle.types.specs.Run.{State, Rules, Work, Block, run}
 use Rattle.effects.specs.Needs.{Needs}
 use Rattle.own_run.proofs.Lists.{each_more, each_append}
-use Rattle.own_run.specs.Results.{TaskResult, Settled, Each, NoTwice, Inserted, here, later, Shuffled, none, one}
+use Rattle.own_run.specs.Results.{TaskResult, Settled}
 use Rattle.own_run.specs.OwnRun.{Start, Child, Own, EndFinish, at_first, is_waiting, result_of, child_of, begin_own}
 use Rattle.own_run.specs.OwnRun.{leave_with, own_rules, begun_by, beginning, in_truth, own, below}
 use Rattle.own_run.specs.Frames.{IsBegun, Fine}
-use Rattle.own_run.proofs.Keeps.{IsKept, run_keeps}
-use Rattle.own_run.proofs.Known.{Tells, tells, begin_tells, enter_tells, run_tells, at_first_fine}
+use Rattle.own_run.proofs.RunKeeps.{IsKept, run_keeps}
+use Rattle.own_run.proofs.Begun.{Tells, tells, begin_tells, enter_tells, run_tells, at_first_fine}
+use Rattle.own_run.specs.Lists.{Each, Inserted, here, later, Shuffled, none, one}
+use Rattle.own_run.proofs.Lists.{NoTwice}
 
 -- ---- paths
 abbrev head_or : ℕ → List ℕ → ℕ

@@ -14,14 +14,15 @@ use Rattle.effects.specs.Needs.{Needs, Provides}
 use Rattle.race_checker.specs.Scope.{IsScoped}
 use Rattle.race_checker.specs.Calm.{IsCalm}
 use Rattle.own_run.specs.Apart.{nothing, merged, apart, apart_outcome}
-use Rattle.own_run.specs.Results.{TaskResult, Settled, none_yet, fill, complete, and_then, same_path, behind, take}
-use Rattle.own_run.specs.Results.{fill_all, settle_within, none_left, settle, Each}
+use Rattle.own_run.specs.Results.{TaskResult, Settled, none_yet, fill, complete, and_then}
 use Rattle.own_run.specs.OwnRun.{Start, Child, Own, at_first, result_of, begun_by, kth, beginning, filled, in_truth}
 use Rattle.own_run.specs.OwnRun.{comes_to, own, given, IsOwn, root_of, told_of}
 use Rattle.own_run.specs.Frames.{IsBegun, IsTrue}
-use Rattle.own_run.proofs.Known.{run_tells, at_first_fine}
-use Rattle.own_run.proofs.Settling.{own_settles, flow_is}
-use Rattle.own_run.proofs.Settles.{settles}
+use Rattle.own_run.proofs.Begun.{run_tells, at_first_fine}
+use Rattle.own_run.proofs.OwnRunSettles.{own_settles, flow_is}
+use Rattle.own_run.proofs.ApartOutcome.{settles}
+use Rattle.own_run.specs.Settling.{same_path, behind, take, fill_all, settle_within, none_left, settle}
+use Rattle.own_run.specs.Lists.{Each}
 
 -- ---- options
 pub unless_none : {A : Type 0} {x : A} (b : Bool) (o : Option A) → (if b then None else o) ≡ Some x → o ≡ Some x

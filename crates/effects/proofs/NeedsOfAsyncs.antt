@@ -8,7 +8,7 @@ use Rattle.effects.specs.Accesses.{Access}
 use Rattle.effects.specs.Member.{Member, first, next}
 use Rattle.effects.specs.Tables.{Table, all_in, IsDerived, IsStable}
 use Rattle.effects.proofs.Members.{any_member, in_left, in_right}
-use Rattle.effects.proofs.Solved.{listed, derived}
+use Rattle.effects.proofs.StableTables.{listed, derived}
 use Rattle.effects.specs.Needs.{Accessed, Stored, AreNeeds, ProvidesOf, ProvidesIn, Provides, among, also}
 use Rattle.effects.specs.Needs.{written_by, others_by, needs_in}
 use Rattle.effects.specs.Effects.{accesses}

@@ -13,20 +13,21 @@ use Rattle.effects.specs.Needs.{Needs, Provides}
 use Rattle.race_checker.specs.Scope.{IsScoped}
 use Rattle.race_checker.specs.Calm.{IsCalm}
 use Rattle.own_run.proofs.Lists.{each_more, each_append}
-use Rattle.own_run.specs.Results.{TaskResult, Settled, none_yet, complete, and_then, fill_all, settle_within}
-use Rattle.own_run.specs.Results.{none_left, settle, Each, Shuffled, none, one, here, IsParted}
+use Rattle.own_run.specs.Results.{TaskResult, Settled, none_yet, complete, and_then}
 use Rattle.own_run.specs.OwnRun.{Start, Child, Own, result_of, own_rules, filled, in_truth, own, given, below, IsOwn}
 use Rattle.own_run.specs.Frames.{Frame, Rest, Again, AtEnd, Back, Standing, by_value, chosen, acted, paid, by_flow}
 use Rattle.own_run.specs.Frames.{turn, handed, IsBegun, Fine, IsTask, IsTrue}
 use Rattle.own_run.specs.Holds.{MayBegin, Holds}
-use Rattle.own_run.proofs.Complete.{Stands, fill_complete, settle_complete, none_in}
-use Rattle.own_run.proofs.Keeps.{primitive_keeps, counted_keeps}
-use Rattle.own_run.proofs.Making.{lists_given}
-use Rattle.own_run.proofs.Once.{Once, Names, names, From, own_path, all_once, below_once}
-use Rattle.own_run.proofs.Sound.{lists_true}
+use Rattle.own_run.proofs.CompleteResults.{Stands, fill_complete, settle_complete, none_in}
+use Rattle.own_run.proofs.RunKeeps.{primitive_keeps, counted_keeps}
+use Rattle.own_run.proofs.TaskRuns.{lists_given}
+use Rattle.own_run.proofs.OnePath.{Once, Names, names, From, own_path, all_once, below_once}
+use Rattle.own_run.proofs.SettledResults.{lists_true}
 use Rattle.own_run.specs.Reached.{Reached, root_begins, child_begins, turns, leaves, CanSettle, CanEnd}
-use Rattle.own_run.proofs.Ending.{own_ends, each_below, below_parted, weight, Falls, spends, sheds, flow_falls}
-use Rattle.own_run.proofs.Reaching.{goes}
+use Rattle.own_run.proofs.TasksEnd.{own_ends, each_below, below_parted, weight, Falls, spends, sheds, flow_falls}
+use Rattle.own_run.proofs.ReachedTasks.{goes}
+use Rattle.own_run.specs.Settling.{fill_all, settle_within, none_left, settle, IsParted}
+use Rattle.own_run.specs.Lists.{Each, Shuffled, none, one, here}
 
 -- ---- children have different paths, here and at each finish around
 abbrev OnceBelow : List (Frame Own) → Type 0

@@ -13,7 +13,7 @@ use Rattle.own_run.specs.Results.{Settled, none_yet, fill, complete}
 use Rattle.own_run.specs.OwnRun.{Start, Child, Own, EndFinish, at_first, notes, is_waiting, result_of, child_of}
 use Rattle.own_run.specs.OwnRun.{list_child, begin_own, go_on_with, leave_with, own_rules, beginning, filled}
 use Rattle.own_run.specs.OwnRun.{in_truth, comes_to, own}
-use Rattle.own_run.proofs.Known.{never_waits}
+use Rattle.own_run.proofs.Begun.{never_waits}
 
 abbrev A : Type 0
 A = State Aside

@@ -6,13 +6,15 @@ use Rattle.types.specs.Place.{Place}
 use Rattle.types.specs.Value.{Environment}
 use Rattle.types.specs.Run.{State, Block, run}
 use Rattle.effects.proofs.Members.{either_true, false_true, in_left}
-use Rattle.own_run.specs.Places.{or_else, within, only, IsThere, Extends, written, touched}
+use Rattle.own_run.specs.Places.{or_else, within, only, IsThere, written, touched}
 use Rattle.effects.specs.Needs.{Needs}
 use Rattle.own_run.specs.Apart.{Aside, nothing, merged, child_apart, apart_rules_by, begin_apart}
-use Rattle.own_run.specs.Results.{Settled, fill, Each}
+use Rattle.own_run.specs.Results.{Settled, fill}
 use Rattle.own_run.specs.OwnRun.{Start, Child, back_from, filled, comes_to, beginning}
 use Rattle.own_run.proofs.Windows.{named_some, some_named}
-use Rattle.own_run.proofs.Keeps.{IsKept, run_keeps}
+use Rattle.own_run.proofs.RunKeeps.{IsKept, run_keeps}
+use Rattle.own_run.proofs.RunKeeps.{Extends}
+use Rattle.own_run.specs.Lists.{Each}
 
 abbrev A : Type 0
 A = State Aside

@@ -17,9 +17,9 @@ use Rattle.own_run.specs.OwnRun.{Action, Own, EndFinish, notes, is_waiting, begi
 use Rattle.own_run.specs.OwnRun.{own_rules}
 use Rattle.own_run.specs.Frames.{Frame, Rest, Again, AtEnd, Back, Standing, frame, resume, by_value, chosen, acted}
 use Rattle.own_run.specs.Frames.{paid, by_flow, turn, IsBegun, Fine, FineBelow}
-use Rattle.own_run.proofs.Keeps.{IsKept, primitive_keeps, counted_keeps}
-use Rattle.own_run.proofs.Known.{Tells, tells, idle_tells, still_begun, run_tells, enter_tells}
-use Rattle.own_run.proofs.Known.{begin_tells}
+use Rattle.own_run.proofs.RunKeeps.{IsKept, primitive_keeps, counted_keeps}
+use Rattle.own_run.proofs.Begun.{Tells, tells, idle_tells, still_begun, run_tells, enter_tells}
+use Rattle.own_run.proofs.Begun.{begin_tells}
 
 module _ (p : Program) (needs : Codes → Needs) (nest : ℕ) (close : State Own → Option Settled) where
   abbrev r : Rules Own

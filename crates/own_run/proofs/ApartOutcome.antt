@@ -15,11 +15,12 @@ use Rattle.race_checker.specs.Scope.{Top, FitsTop, arrays_of, IsScoped}
 use Rattle.race_checker.specs.Calm.{IsCalm}
 use Rattle.effects.proofs.Members.{false_true}
 use Rattle.own_run.specs.Apart.{Aside, nothing, is_stopped, merged, gather, apart, apart_outcome, begin_apart}
-use Rattle.own_run.specs.Ready.{Around, ReadyOf}
+use Rattle.own_run.specs.Ready.{Around}
 use Rattle.own_run.proofs.Windows.{not_nowhere}
-use Rattle.own_run.proofs.Side.{S, A, Same, Agree, same, both_stop}
-use Rattle.own_run.proofs.Dies.{begin_marks}
-use Rattle.own_run.proofs.Half.{within_sim, finish_agrees, finish_ready, enter_same, begins}
+use Rattle.own_run.proofs.SideBySide.{S, A, Same, Agree, same, both_stop}
+use Rattle.own_run.proofs.StaysStopped.{begin_marks}
+use Rattle.own_run.proofs.Simulation.{within_sim, finish_agrees, finish_ready, enter_same, begins}
+use Rattle.own_run.proofs.Simulation.{ReadyOf}
 
 -- ---- the arrays share no place
 pub array_here : (xs : List Array) (k a : ℕ) (q : Place) → In (slice_index_or (whole_arrays a xs) k nowhere) q → q.array ≡ a + k

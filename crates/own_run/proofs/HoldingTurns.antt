@@ -17,21 +17,23 @@ use Rattle.own_run.specs.Places.{covered, within, IsThere}
 use Rattle.effects.specs.Needs.{Needs, Provides}
 use Rattle.race_checker.specs.Scope.{Scope, Top, InScope, arrays_of, IsScoped}
 use Rattle.race_checker.specs.Calm.{IsCalm}
-use Rattle.own_run.specs.Results.{TaskResult, Settled, none_yet, complete, settle, Each, Parted}
+use Rattle.own_run.specs.Results.{TaskResult, Settled, none_yet, complete}
 use Rattle.own_run.specs.OwnRun.{Start, Own, Step, at_first, notes, result_of, back_from, own_rules, filled}
 use Rattle.own_run.specs.OwnRun.{beginning, root_of, IsOwn}
 use Rattle.own_run.specs.Frames.{Frame, Rest, Again, AtEnd, Back, paid, by_flow, turn, handed, IsTask}
 use Rattle.own_run.specs.Holds.{having, locked_after, Stack, MayBegin, Carries, Returns, Holds, HasOwn, HasNeeds}
 use Rattle.own_run.proofs.Windows.{named_some, in_covered, not_nowhere}
-use Rattle.own_run.proofs.Names.{named_all, overwrites_more}
-use Rattle.own_run.proofs.Settles.{arrays_fit, array_here}
-use Rattle.own_run.proofs.Half.{behind, first_ready, rest_ready}
+use Rattle.own_run.proofs.AccessNames.{named_all, overwrites_more}
+use Rattle.own_run.proofs.ApartOutcome.{arrays_fit, array_here}
+use Rattle.own_run.proofs.Simulation.{behind, first_ready, rest_ready}
 use Rattle.own_run.proofs.Stacks.{anywhere, anchor, anchor_ready, unlock}
-use Rattle.own_run.proofs.Present.{back_there, there_left, there_right}
-use Rattle.own_run.proofs.Holding.{none, lists, parted_less, returns_move, Before, plain, relimit, acted_holds}
-use Rattle.own_run.proofs.Holding.{written_overwrites}
-use Rattle.own_run.proofs.Sound.{part_sound}
-use Rattle.own_run.proofs.Making.{lists_given}
+use Rattle.own_run.proofs.ComesBack.{back_there, there_left, there_right}
+use Rattle.own_run.proofs.KeepingHold.{none, lists, parted_less, returns_move, Before, plain, relimit, acted_holds}
+use Rattle.own_run.proofs.KeepingHold.{written_overwrites}
+use Rattle.own_run.proofs.SettledResults.{part_sound}
+use Rattle.own_run.proofs.TaskRuns.{lists_given}
+use Rattle.own_run.specs.Settling.{settle, Parted}
+use Rattle.own_run.specs.Lists.{Each}
 
 module _ (p : Program) (needs : Codes → Needs) (is_scoped : IsScoped p) (is_calm : IsCalm p) (provides : Provides p needs) where
   module _ (nest : ℕ) (close : State Own → Option Settled) where

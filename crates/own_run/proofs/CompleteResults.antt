@@ -10,16 +10,17 @@ use Rattle.types.specs.Place.{Place, Window}
 use Rattle.own_run.proofs.Lists.{each_more}
 use Rattle.own_run.specs.Places.{Places, covered, within, has_one, meets}
 use Rattle.effects.specs.Needs.{Needs}
-use Rattle.own_run.specs.Results.{TaskResult, Settled, none_yet, fill, complete, and_then, same_path, behind, take}
-use Rattle.own_run.specs.Results.{fill_all, settle_within, none_left, settle, Each, Inserted, here, later, Shuffled}
-use Rattle.own_run.specs.Results.{none, one, NoTwice, Parted, IsParted}
+use Rattle.own_run.specs.Results.{TaskResult, Settled, none_yet, fill, complete, and_then}
 use Rattle.own_run.specs.OwnRun.{Start, Child, at_first, result_of, beginning, filled, in_truth, comes_to, own}
 use Rattle.own_run.specs.OwnRun.{below}
 use Rattle.own_run.specs.Frames.{IsBegun, IsTrue}
 use Rattle.own_run.proofs.Windows.{in_covered}
-use Rattle.own_run.proofs.Known.{run_tells, at_first_fine}
-use Rattle.own_run.proofs.Sound.{paths_same, IsGiven, begun_is_true}
-use Rattle.own_run.proofs.Settling.{own_settles}
+use Rattle.own_run.proofs.Begun.{run_tells, at_first_fine}
+use Rattle.own_run.proofs.SettledResults.{paths_same, IsGiven, begun_is_true}
+use Rattle.own_run.proofs.OwnRunSettles.{own_settles}
+use Rattle.own_run.specs.Settling.{same_path, behind, take, fill_all, settle_within, none_left, settle, Parted, IsParted}
+use Rattle.own_run.specs.Lists.{Each, Inserted, here, later, Shuffled, none, one}
+use Rattle.own_run.proofs.Lists.{NoTwice}
 
 -- ---- shuffles
 record Picked {A : Type 0} (x : A) (xs zs : List A) : Type 0 where

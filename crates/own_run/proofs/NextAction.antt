@@ -10,9 +10,9 @@ use Rattle.own_run.specs.Results.{TaskResult}
 use Rattle.own_run.specs.OwnRun.{Start, Action, Own, EndFinish, is_waiting, own_rules, in_truth, from_receipts}
 use Rattle.own_run.specs.OwnRun.{run_by, actions_of, last_action, next_action}
 use Rattle.own_run.specs.Frames.{Frame, AtEnd, Standing, resume, turn, done_in, Fine, FineBelow, Follows}
-use Rattle.own_run.proofs.Tasks.{resume_grows}
-use Rattle.own_run.proofs.Making.{turns_follow}
-use Rattle.own_run.proofs.Doing.{turn_does, follower_waits}
+use Rattle.own_run.proofs.TaskTurns.{resume_grows}
+use Rattle.own_run.proofs.TaskRuns.{turns_follow}
+use Rattle.own_run.proofs.TurnActions.{turn_does, follower_waits}
 
 at_length : {A : Type 0} (xs : List A) (x : A) (ys : List A) → slice_get (xs ++ x ∷ ys) (length xs) ≡ Some x
 at_length [] x ys = refl

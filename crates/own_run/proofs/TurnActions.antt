@@ -10,12 +10,13 @@ use Rattle.types.specs.Run.{Flow, On, Faulted, Stopped, State, Rules, Block, Tur
 use Rattle.effects.specs.Needs.{Needs}
 use Rattle.effects.proofs.Members.{both_true, false_true}
 use Rattle.own_run.specs.Apart.{is_stopped}
-use Rattle.own_run.specs.Results.{TaskResult, Settled, and_then, settle}
+use Rattle.own_run.specs.Results.{TaskResult, Settled, and_then}
 use Rattle.own_run.specs.OwnRun.{Start, Action, Step, EnterFinish, Own, EndFinish, notes, is_waiting, result_of}
 use Rattle.own_run.specs.OwnRun.{leave_with, leave_own, own_rules, begin_own, from_receipts, run_by}
 use Rattle.own_run.specs.Frames.{Frame, Rest, Again, AtEnd, Back, Standing, frame, resume, by_value, chosen, paid}
 use Rattle.own_run.specs.Frames.{by_flow, turn, done_by, done_at, done_in, Follows}
-use Rattle.own_run.proofs.Keeps.{IsKept, primitive_keeps}
+use Rattle.own_run.proofs.RunKeeps.{IsKept, primitive_keeps}
+use Rattle.own_run.specs.Settling.{settle}
 
 module _ (p : Program) (needs : Codes → Needs) (nest : ℕ) (close : State Own → Option Settled) where
   abbrev r : Rules Own

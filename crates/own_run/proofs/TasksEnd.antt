@@ -12,17 +12,19 @@ use Rattle.effects.specs.Needs.{Needs, Provides}
 use Rattle.race_checker.specs.Scope.{IsScoped}
 use Rattle.race_checker.specs.Calm.{IsCalm}
 use Rattle.own_run.proofs.Lists.{each_append}
-use Rattle.own_run.specs.Results.{TaskResult, none_yet, complete, settle, Each, Shuffled, IsParted}
+use Rattle.own_run.specs.Results.{TaskResult, none_yet, complete}
 use Rattle.own_run.specs.OwnRun.{Start, Child, Own, result_of, begin_own, own_rules, comes_to, filled, in_truth, own}
 use Rattle.own_run.specs.OwnRun.{given, below}
 use Rattle.own_run.specs.Frames.{Frame, Rest, Again, AtEnd, Back, Standing, by_value, chosen, acted, paid, by_flow}
 use Rattle.own_run.specs.Frames.{turn, handed, IsTask, IsTrue}
 use Rattle.own_run.specs.Holds.{MayBegin, Carries, Holds}
-use Rattle.own_run.proofs.Complete.{own_complete}
-use Rattle.own_run.proofs.Making.{begins_task, turns_task, handed_task}
-use Rattle.own_run.proofs.Once.{shuffled_each, shuffled_once, below_once}
-use Rattle.own_run.proofs.Sound.{lists_true}
-use Rattle.own_run.proofs.Turning.{turn_holds, handed_true, begin_holds}
+use Rattle.own_run.proofs.CompleteResults.{own_complete}
+use Rattle.own_run.proofs.TaskRuns.{begins_task, turns_task, handed_task}
+use Rattle.own_run.proofs.OnePath.{shuffled_each, shuffled_once, below_once}
+use Rattle.own_run.proofs.SettledResults.{lists_true}
+use Rattle.own_run.proofs.HoldingTurns.{turn_holds, handed_true, begin_holds}
+use Rattle.own_run.specs.Settling.{settle, IsParted}
+use Rattle.own_run.specs.Lists.{Each, Shuffled}
 
 -- ---- a turn spends a step, or leaves less on the frames
 abbrev pub size : Codes → ℕ

@@ -6,13 +6,15 @@ use Rattle.effects.specs.Member.{Member, first, next}
 use Rattle.effects.specs.Needs.{Needs, Provides}
 use Rattle.race_checker.specs.Scope.{IsScoped}
 use Rattle.race_checker.specs.Calm.{IsCalm}
-use Rattle.own_run.specs.Results.{TaskResult, Each, IsParted}
+use Rattle.own_run.specs.Results.{TaskResult}
 use Rattle.own_run.specs.OwnRun.{Start, Own, result_of, own, given, in_truth, IsOwn}
 use Rattle.own_run.specs.Frames.{Frame, Rest, Again, AtEnd, Back, Standing, IsTask, IsTrue}
 use Rattle.own_run.specs.Holds.{MayBegin, Carries, Holds}
-use Rattle.own_run.proofs.Making.{begins_task, turns_task, lists_given, leaves_task, ends_task}
-use Rattle.own_run.proofs.Turning.{turn_holds, handed_holds, first_has, again_has, async_has, begin_holds}
+use Rattle.own_run.proofs.TaskRuns.{begins_task, turns_task, lists_given, leaves_task, ends_task}
+use Rattle.own_run.proofs.HoldingTurns.{turn_holds, handed_holds, first_has, again_has, async_has, begin_holds}
 use Rattle.own_run.specs.Reached.{Reached, root_begins, child_begins, turns, leaves, IsResult, HasNeedsOf, HasNext}
+use Rattle.own_run.specs.Lists.{Each}
+use Rattle.own_run.specs.Settling.{IsParted}
 
 each_member : {A : Type 0} (P : A → Type 0) (x : A) (xs : List A) → Each P xs → Member x xs → P x
 each_member P x (y ∷ xs) all first = all.0

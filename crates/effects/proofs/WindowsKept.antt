@@ -14,7 +14,7 @@ use Rattle.effects.specs.Member.{next}
 use Rattle.effects.specs.Sound.{Follows, FollowsOf}
 use Rattle.effects.specs.Fits.{Fits}
 use Rattle.effects.specs.Kept.{SameWindows, KeepsWindows, WorkFollows}
-use Rattle.effects.proofs.Fitting.{at_other, fits_same}
+use Rattle.effects.proofs.EnvironmentsFit.{at_other, fits_same}
 
 module _ {X : Type 0} where
   abbrev Keep : List ℕ → (st out : State X) → Type 0
