@@ -2,21 +2,18 @@
 use Rattle.std.proofs.Common.{◌≡◌, ◌≢◌, ℕ, zero, suc, ◌+◌, ◌<◌, List, [], ◌∷◌, length, refl, sym, ap, ◌∙◌, subst, arith}
 use Rattle.std.proofs.lemmas.Bool.{eq-eqb, ne_eqb}
 use Rattle.std.specs.Prelude.{Bool, true, false, ◌||◌, nat_eq, if◌then◌else◌, Some, slice_get, unwrap_or}
-use Rattle.types.specs.Code.{Code, Codes, Origin, Root, Procedure, Program}
+use Rattle.sections.specs.Origins.{Origin, Root}
+use Rattle.types.specs.Code.{Code, Codes, Procedure, Program}
 use Rattle.types.specs.Run.{procedure_of}
 use Rattle.effects.specs.Accesses.{Access, own_accesses}
-use Rattle.effects.specs.Member.{Member, first, next}
+use Rattle.sections.specs.Member.{Member, first, next}
 use Rattle.effects.specs.Effects.{past_split, past_call, renamed, Inner, AllOf, All, PendingOf, Pending, accesses}
-use Rattle.effects.specs.Overlap.{beyond, origin_of, root_within, root_of, IsNumbered, IsSideOf, left, right}
+use Rattle.sections.specs.Origins.{origin_of, IsNumbered, IsSideOf, left, right}
+use Rattle.sections.specs.Overlap.{beyond, root_within, root_of}
 use Rattle.effects.specs.Sound.{may_write, is_writable, Allowed, SplitsWell, PassesWell, Follows, FollowsOf}
 use Rattle.effects.specs.Sound.{IsSoundIn, IsSound, parameters_of}
 use Rattle.effects.proofs.Members.{false_true, numbers_from-below}
-use Rattle.effects.proofs.Lines.{up_root}
-
--- a root is its own root
-pub root_of-root : (origins : List Origin) (a : ℕ) → origin_of origins a ≡ Root → root_of origins a ≡ a
-root_of-root origins zero e = refl
-root_of-root origins (suc a) e = ap (λ o. beyond (suc a) (root_within origins a) o) e
+use Rattle.sections.proofs.Lines.{root_of-root, root_of-side}
 
 pub origin_from_get : (origins : List Origin) (k : ℕ) → slice_get origins k ≡ Some Root → origin_of origins k ≡ Root
 origin_from_get [] k e = refl
@@ -59,7 +56,7 @@ module _ (p : Program) where
   -- a side's root is its parent's
   side_writable : (g : Procedure) (s a : ℕ) → IsNumbered g.sections → IsSideOf g.sections s a
       → is_writable g a ≡ true → is_writable g s ≡ true
-  side_writable g s a numbered side w = subst (λ r. may_write g.parameters r ≡ true) (sym (up_root g.sections numbered a s side)) w
+  side_writable g s a numbered side w = subst (λ r. may_write g.parameters r ≡ true) (root_of-side g.sections numbered a s side) w
 
   past_split_allowed : (g : Procedure) (scope : List ℕ) → IsNumbered g.sections
       → (s l r : ℕ) → SplitsWell g scope s l r → (x : Access)

@@ -3,19 +3,22 @@ use Rattle.std.proofs.Common.{◌≡◌, ◌≢◌, inl, ℕ, zero, suc, ◌+◌
 use Rattle.std.proofs.Common.{subst, arith}
 use Rattle.std.proofs.lemmas.Bool.{eq-eqb, ne_eqb}
 use Rattle.std.specs.Prelude.{true, slice_get, slice_index_or, if◌then◌else◌}
-use Rattle.types.specs.Code.{Origin, Root, Left, Right, Array, Procedure, Program}
-use Rattle.types.specs.Place.{Window, sides_of, nowhere}
+use Rattle.sections.specs.Origins.{Origin, Root, Left, Right}
+use Rattle.types.specs.Code.{Array, Procedure, Program}
+use Rattle.sections.specs.Place.{Window, sides_of, nowhere}
 use Rattle.types.specs.Value.{Environment}
 use Rattle.types.specs.Run.{array_of, no_array, bind, by_number, entry, with_sides}
 use Rattle.types.specs.Outcome.{whole_arrays}
 use Rattle.types.proofs.Lists.{whole_array-by_number}
-use Rattle.effects.specs.Member.{Member, first, next}
+use Rattle.sections.specs.Member.{Member, first, next}
 use Rattle.effects.specs.Effects.{past_call}
-use Rattle.effects.specs.Overlap.{beyond, origin_of, IsNumbered}
+use Rattle.sections.specs.Origins.{origin_of, IsNumbered}
+use Rattle.sections.specs.Overlap.{beyond}
 use Rattle.effects.specs.Sound.{may_write, SplitsWell, PassesWell, IsSoundIn, parameters_of, as_parameter, main_of}
-use Rattle.effects.specs.Fits.{Apart, LiesInArray, AreSidesOf, HasLeft, Placed, Fits}
+use Rattle.sections.specs.Placed.{Apart, AreSidesOf, HasLeft, Placed}
+use Rattle.effects.specs.Fits.{LiesInArray, Fits, names_in}
 use Rattle.effects.proofs.Members.{numbers_from-below}
-use Rattle.effects.proofs.Windows.{IsCut, sides_of-cut, names_apart}
+use Rattle.sections.proofs.Windows.{IsCut, sides_of-cut, disjoint-apart}
 use Rattle.effects.proofs.AccessesInScope.{origin_from_get}
 
 -- Origins are told apart
@@ -52,7 +55,7 @@ same_cut {w} {v} {a} {b} {c} {d} n e f g h =
 -- Only the windows in scope matter
 
 pub placed_same : (g : Procedure) (scope : List ℕ) (env other : Environment)
-    → Placed g scope env → ((s : ℕ) → Member s scope → env.windows s ≡ other.windows s) → Placed g scope other
+    → Placed (names_in g scope) env.windows → ((s : ℕ) → Member s scope → env.windows s ≡ other.windows s) → Placed (names_in g scope) other.windows
 placed_same g scope env other placed same = record {
   apart = λ r s ne m n e f w. subst (λ v. Apart (other.windows r) v) (same s n)
       (subst (λ v. Apart v (env.windows s)) (same r m) (placed.apart r s ne m n e f w));
@@ -82,13 +85,13 @@ bind-other : {A : Type 0} (x y : ℕ) (v : A) (f : ℕ → A) → x ≢ y → bi
 bind-other x y v f ne = ap (λ b. if b then v else f y) (ne_eqb x y ne)
 
 module _ (g : Procedure) (scope : List ℕ) (env : Environment) (t a b : ℕ) (splits : SplitsWell g scope t a b)
-    (at : ℤ) (cut : sides_of (env.windows t) at ≡ Some (env.windows a, env.windows b)) (outer : Placed g scope env) where
+    (at : ℤ) (cut : sides_of (env.windows t) at ≡ Some (env.windows a, env.windows b)) (outer : Placed (names_in g scope) env.windows) where
   old_root : (x : ℕ) → Member x (a ∷ b ∷ scope) → origin_of g.sections x ≡ Root → Member x scope
   old_root x first e = root_left e splits.left
   old_root x (next first) e = root_right e splits.right
   old_root x (next (next m)) e = m
 
-  sides_inside : AreSidesOf g (a ∷ b ∷ scope) env t a
+  sides_inside : AreSidesOf (names_in g (a ∷ b ∷ scope)) env.windows t a
   sides_inside = record {
     parent = next (next splits.in_scope);
     right = subst (λ x. Member x (a ∷ b ∷ scope)) splits.next (next first);
@@ -97,27 +100,27 @@ module _ (g : Procedure) (scope : List ℕ) (env : Environment) (t a b : ℕ) (s
     cut = subst (λ x. sides_of (env.windows t) at ≡ Some (env.windows a, env.windows x)) splits.next cut;
   }
 
-  left_inside : (s l : ℕ) → Member l (a ∷ b ∷ scope) → origin_of g.sections l ≡ Left s → AreSidesOf g (a ∷ b ∷ scope) env s l
-  left_inside s l first e = subst (λ t. AreSidesOf g (a ∷ b ∷ scope) env t a) (one_left splits.left e) sides_inside
+  left_inside : (s l : ℕ) → Member l (a ∷ b ∷ scope) → origin_of g.sections l ≡ Left s → AreSidesOf (names_in g (a ∷ b ∷ scope)) env.windows s l
+  left_inside s l first e = subst (λ t. AreSidesOf (names_in g (a ∷ b ∷ scope)) env.windows t a) (one_left splits.left e) sides_inside
   left_inside s l (next first) e = left_right e splits.right
   left_inside s l (next (next m)) e =
       let k = outer.left s l m e in
       record { parent = next (next k.parent); right = next (next k.right); right_origin = k.right_origin; at = k.at; cut = k.cut }
 
-  right_inside : (s r : ℕ) → Member r (a ∷ b ∷ scope) → origin_of g.sections r ≡ Right s → HasLeft g (a ∷ b ∷ scope) s r
+  right_inside : (s r : ℕ) → Member r (a ∷ b ∷ scope) → origin_of g.sections r ≡ Right s → HasLeft (names_in g (a ∷ b ∷ scope)) s r
   right_inside s r first e = left_right splits.left e
   right_inside s r (next first) e = record {
     left = a;
-    next = splits.next;
+    turn = splits.next;
     in_scope = first;
     origin = subst (λ t. origin_of g.sections a ≡ Left t) (one_right splits.right e) splits.left;
   }
   right_inside s r (next (next m)) e =
       let k = outer.right s r m e in
-      record { left = k.left; next = k.next; in_scope = next (next k.in_scope); origin = k.origin }
+      record { left = k.left; turn = k.turn; in_scope = next (next k.in_scope); origin = k.origin }
 
   -- inside a split the windows stand as the origins say, where the sides are those of its section
-  pub placed_inside : Placed g (a ∷ b ∷ scope) env
+  pub placed_inside : Placed (names_in g (a ∷ b ∷ scope)) env.windows
   placed_inside = record {
     apart = λ r s ne m n e f w. outer.apart r s ne (old_root r m e) (old_root s n f) e f w;
     left = left_inside;
@@ -195,7 +198,7 @@ module _ (p : Program) (g : Procedure) (scope : List ℕ) (env : Environment) (n
 
   arguments_apart : (j k : ℕ) → j ≢ k → Member j (parameters_of f) → Member k (parameters_of f)
       → may_write f.parameters j ≡ true → Apart (env.windows (past_call ss j)) (env.windows (past_call ss k))
-  arguments_apart j k ne m n w = names_apart g scope env numbered fits.placed (past_call ss j) (past_call ss k)
+  arguments_apart j k ne m n w = disjoint-apart (names_in g scope) env.windows numbered fits.placed (past_call ss j) (past_call ss k)
       (passes.in_scope j (passed j m)) (passes.in_scope k (passed k n)) (passes.alone j k ne (passed k n) w) (inl (passes.writable j w))
 
   pub fits_in_call : Fits p f (parameters_of f) inner

@@ -2,7 +2,6 @@ pub mod AccessesInScope
 pub mod EnvironmentsFit
 pub mod Footprints
 pub mod LeastRows
-pub mod Lines
 pub mod Members
 pub mod Missing
 pub mod NeedsOfAsyncs
@@ -10,5 +9,4 @@ pub mod OwnAccesses
 pub mod Stability
 pub mod StableTables
 pub mod Summaries
-pub mod Windows
 pub mod WindowsKept

@@ -2,7 +2,7 @@
 use Rattle.std.proofs.Common.{◌≡◌, ℕ, ◌+◌, ◌<◌, ◌≤◌, List, [], ◌∷◌, refl, sym, arith, true≢false}
 use Rattle.std.specs.Prelude.{Bool, true, false, if◌then◌else◌}
 use Rattle.effects.specs.Accesses.{Access}
-use Rattle.effects.specs.Member.{Member, first, next}
+use Rattle.sections.specs.Member.{Member, first, next}
 
 -- how many of these a table doesn't have
 abbrev pub missing : (has : Access → Bool) → (possible : List Access) → ℕ

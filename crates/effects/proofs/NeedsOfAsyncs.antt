@@ -5,9 +5,10 @@ use Rattle.std.specs.Prelude.{Bool, true, false, nat_eq, if◌then◌else◌}
 use Rattle.types.specs.Code.{Code, Do, If, While, Split, Call, Async, Finish, Codes, End, Then, Program}
 use Rattle.types.specs.Run.{procedure_of}
 use Rattle.effects.specs.Accesses.{Access}
-use Rattle.effects.specs.Member.{Member, first, next}
+use Rattle.sections.specs.Member.{Member, first, next}
 use Rattle.effects.specs.Tables.{Table, all_in, IsDerived, IsStable}
-use Rattle.effects.proofs.Members.{any_member, in_left, in_right}
+use Rattle.sections.proofs.Members.{any_member}
+use Rattle.effects.proofs.Members.{in_left, in_right}
 use Rattle.effects.proofs.StableTables.{listed, derived}
 use Rattle.effects.specs.Needs.{Accessed, Stored, AreNeeds, ProvidesOf, ProvidesIn, Provides, among, also}
 use Rattle.effects.specs.Needs.{written_by, others_by, needs_in}
@@ -15,7 +16,7 @@ use Rattle.effects.specs.Effects.{accesses}
 
 -- ---- tests
 is_among : (ss : List ℕ) (s : ℕ) → among ss s ≡ true → Member s ss
-is_among ss s h = let r = any_member (nat_eq s) ss h in subst (λ t. Member t ss) (sym (eqb-true s r.0 r.2)) r.1
+is_among ss s h = let r = any_member (nat_eq s) ss h in subst (λ t. Member t ss) (sym (eqb-true s r.item r.passes)) r.member
 
 pub has_also : (s : ℕ) (ss : List ℕ) → Member s (also s ss)
 has_also s ss = by_test (among ss s) refl

@@ -3,7 +3,7 @@ use Rattle.std.proofs.Common.{inl, inr, ℕ, zero, suc, List, ◌++◌, map, sym
 use Rattle.std.specs.Prelude.{◌↔◌}
 use Rattle.types.specs.Code.{Code, Do, If, While, Split, Call, Async, Finish, Codes, End, Then, Program}
 use Rattle.types.specs.Run.{procedure_of}
-use Rattle.effects.specs.Member.{Member}
+use Rattle.sections.specs.Member.{Member}
 use Rattle.effects.specs.Effects.{past_split, past_call, Inner, Subject, AllOf, All, PendingOf, Pending}
 use Rattle.effects.specs.Tables.{Table, all_inside, all_in, left_by, left_in, alls_after, pendings_after, IsDerived}
 use Rattle.effects.specs.Tables.{IsDerivedPending, IsStable, IsStablePending}

@@ -6,7 +6,7 @@ use Rattle.std.specs.Prelude.{Bool, true, false, nat_lt, flat_map, slice_index_o
 use Rattle.types.specs.Code.{Code, Do, If, While, Split, Call, Async, Finish, Codes, End, Then, Procedure, Program}
 use Rattle.types.specs.Run.{procedure_of, no_procedure}
 use Rattle.effects.specs.Accesses.{Access, own_accesses}
-use Rattle.effects.specs.Member.{Member, first, next}
+use Rattle.sections.specs.Member.{Member, first, next}
 use Rattle.effects.specs.Effects.{past_split, past_call, renamed, Inner, AllOf, All, accesses}
 use Rattle.effects.specs.Sound.{parameters_of, IsSound}
 use Rattle.effects.specs.Tables.{Table, all_inside, all_in, left_by, left_in, IsDerived, IsDerivedPending, IsStable}

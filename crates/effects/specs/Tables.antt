@@ -3,7 +3,7 @@ use Rattle.std.specs.Prelude.{ℕ, zero, suc, List, [], ◌++◌, map}
 use Rattle.types.specs.Code.{Code, Do, If, While, Split, Call, Async, Finish, Codes, End, Then}
 use Rattle.types.specs.Code.{Program}
 use Rattle.types.specs.Run.{procedure_of}
-use Rattle.effects.specs.Member.{Member}
+use Rattle.sections.specs.Member.{Member}
 use Rattle.effects.specs.Effects.{past_split, past_call, Subject, All, Pending}
 
 -- a list of accesses for each procedure

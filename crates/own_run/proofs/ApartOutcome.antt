@@ -2,7 +2,7 @@
 use Rattle.std.proofs.Common.{◌≡◌, ℕ, zero, suc, ◌+◌, List, [], ◌∷◌, Option, refl, sym, ap, ◌∙◌, arith}
 use Rattle.std.specs.Prelude.{ℤ, Bool, true, false, ◌||◌, slice_index_or}
 use Rattle.types.specs.Code.{Array, Codes, Finish, Program}
-use Rattle.types.specs.Place.{Place, In, nowhere}
+use Rattle.sections.specs.Place.{Place, In, nowhere}
 use Rattle.types.specs.Contents.{Contents, held_by, shown}
 use Rattle.types.specs.Run.{Flow, On, Faulted, Stopped, Block, entry}
 use Rattle.types.specs.Meaning.{one_rules, one, begin_one}

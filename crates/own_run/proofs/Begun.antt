@@ -13,7 +13,8 @@ use Rattle.own_run.specs.OwnRun.{Start, Child, Action, Step, Spawn, EnterFinish,
 use Rattle.own_run.specs.OwnRun.{is_waiting, child_of, list_child, begin_own, go_on_with, leave_with, own_rules}
 use Rattle.own_run.specs.OwnRun.{begun_by, beginning}
 use Rattle.own_run.specs.Frames.{IsBegun, Fine}
-use Rattle.own_run.proofs.RunKeeps.{IsKept, run_keeps}
+use Rattle.types.specs.Laws.{IsKept}
+use Rattle.types.proofs.Keeps.{run_keeps}
 use Rattle.own_run.specs.Lists.{Each}
 
 -- ---- lists

@@ -6,7 +6,7 @@ use Rattle.std.proofs.lemmas.List.{append-nil}
 use Rattle.std.specs.Prelude.{◌≢◌, Bool, true, false, ◌||◌, nat_eq, map, flat_map, if◌then◌else◌}
 use Rattle.types.specs.Code.{Codes, Program}
 use Rattle.types.specs.Run.{Block}
-use Rattle.types.specs.Place.{Place, Window}
+use Rattle.sections.specs.Place.{Place, Window}
 use Rattle.own_run.proofs.Lists.{each_more}
 use Rattle.own_run.specs.Places.{Places, covered, within, has_one, meets}
 use Rattle.effects.specs.Needs.{Needs}

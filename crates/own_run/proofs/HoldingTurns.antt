@@ -4,7 +4,7 @@ use Rattle.std.proofs.Common.{arith}
 use Rattle.std.proofs.lemmas.Bool.{or_left, or_right, false_from_ne_true}
 use Rattle.std.specs.Prelude.{ℤ, ◌⊎◌, true, ◌||◌, slice_get, slice_index_or}
 use Rattle.types.specs.Code.{Truth, Code, Do, If, While, Split, Call, Async, Finish, Codes, End, Then, Array, Program}
-use Rattle.types.specs.Place.{Window, Place, In, nowhere}
+use Rattle.sections.specs.Place.{Window, Place, In, nowhere}
 use Rattle.types.specs.Contents.{FitsArrays, also}
 use Rattle.types.specs.Value.{Environment}
 use Rattle.types.specs.Run.{Flow, On, Faulted, Stopped, State, Rules, stopped, counted, entry}
@@ -13,7 +13,8 @@ use Rattle.effects.specs.Accesses.{Access}
 use Rattle.effects.specs.Effects.{AllOf, All, Pending, accesses}
 use Rattle.effects.proofs.Members.{either_true, false_true, in_parts}
 use Rattle.own_run.proofs.Lists.{each_more}
-use Rattle.own_run.specs.Places.{covered, within, IsThere}
+use Rattle.own_run.specs.Places.{covered, within}
+use Rattle.types.specs.Contents.{IsThere}
 use Rattle.effects.specs.Needs.{Needs, Provides}
 use Rattle.race_checker.specs.Scope.{Scope, Top, InScope, arrays_of, IsScoped}
 use Rattle.race_checker.specs.Calm.{IsCalm}

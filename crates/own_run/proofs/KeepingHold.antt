@@ -6,7 +6,7 @@ use Rattle.types.specs.declared.fault.FaultKind.{FaultKind}
 use Rattle.types.specs.declared.fault.FaultKind.TheVariants.{SplitPoint, Raised}
 use Rattle.types.specs.Code.{Number, Truth, Primitive, Skip, Assign, Store, Print, Raise, Code, Do, If, While, Split, Call, Async, Finish}
 use Rattle.types.specs.Code.{Codes, End, Then, Program}
-use Rattle.types.specs.Place.{Window, Place, In, sides_of, same_place}
+use Rattle.sections.specs.Place.{Window, Place, In, sides_of, same_place}
 use Rattle.types.specs.Contents.{Contents}
 use Rattle.types.specs.Value.{Environment, Valued, element_of, holds_number}
 use Rattle.types.specs.Run.{State, Rules, stopped, fault, with_value, assign, print, put, number_at, numbers_at, truth_at, window_at, entry}
@@ -16,7 +16,8 @@ use Rattle.effects.specs.Effects.{past_call, if_body, if_other, while, AllOf, Al
 use Rattle.effects.specs.Footprint.{Touches, Overwrites}
 use Rattle.effects.proofs.Members.{both_true, false_true, either_true}
 use Rattle.own_run.proofs.Lists.{each_last}
-use Rattle.own_run.specs.Places.{Places, within, IsThere, written, touched}
+use Rattle.own_run.specs.Places.{Places, within, written, touched}
+use Rattle.types.specs.Contents.{IsThere}
 use Rattle.effects.specs.Needs.{Needs, AreNeeds, Provides}
 use Rattle.race_checker.proofs.Scoping.{length_may_writes}
 use Rattle.race_checker.specs.Scope.{Scope, Top, Inside, InScope, may_writes, Scoped, IsScoped}
@@ -29,11 +30,11 @@ use Rattle.own_run.specs.Holds.{having, locked_after, Left, Stack, Carries, Come
 use Rattle.own_run.proofs.Windows.{named_some, some_named, passed_same, sides_some}
 use Rattle.own_run.proofs.Windows.{around_split, split_agree}
 use Rattle.own_run.proofs.AccessNames.{named_all, touches_more, overwrites_more}
-use Rattle.own_run.proofs.RunKeeps.{still_there}
+use Rattle.types.proofs.Keeps.{still_there}
 use Rattle.own_run.proofs.Simulation.{behind, part_ready, again_ready, split_ready, call_ready}
 use Rattle.own_run.proofs.Stacks.{anywhere, restack, anchor, anchor_ready, unlock}
 use Rattle.own_run.proofs.ComesBack.{written_touched}
-use Rattle.own_run.proofs.RunKeeps.{Extends}
+use Rattle.types.specs.Contents.{Extends}
 use Rattle.own_run.proofs.Simulation.{ReadyOf}
 use Rattle.own_run.specs.Lists.{Each}
 use Rattle.own_run.specs.Settling.{Parted}

@@ -14,7 +14,6 @@ pub mod NextAction
 pub mod OnePath
 pub mod OwnRunSettles
 pub mod ReachedTasks
-pub mod RunKeeps
 pub mod SettledResults
 pub mod SideBySide
 pub mod Simulation

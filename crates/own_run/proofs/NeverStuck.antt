@@ -6,7 +6,7 @@ use Rattle.std.proofs.lemmas.List.{append-nil}
 use Rattle.std.specs.Prelude.{Bool, true, false, map, flat_map, ok_or}
 use Rattle.types.specs.declared.fault.FaultKind.TheVariants.{SplitPoint}
 use Rattle.types.specs.Code.{Code, Do, If, While, Split, Call, Async, Finish, Codes, End, Then, Program}
-use Rattle.types.specs.Place.{sides_of}
+use Rattle.sections.specs.Place.{sides_of}
 use Rattle.types.specs.Value.{Valued}
 use Rattle.types.specs.Run.{Flow, On, Faulted, Stopped, State, Rules, number_at, numbers_at, truth_at, window_at, counted}
 use Rattle.effects.specs.Needs.{Needs, Provides}
@@ -19,7 +19,7 @@ use Rattle.own_run.specs.Frames.{Frame, Rest, Again, AtEnd, Back, Standing, by_v
 use Rattle.own_run.specs.Frames.{turn, handed, IsBegun, Fine, IsTask, IsTrue}
 use Rattle.own_run.specs.Holds.{MayBegin, Holds}
 use Rattle.own_run.proofs.CompleteResults.{Stands, fill_complete, settle_complete, none_in}
-use Rattle.own_run.proofs.RunKeeps.{primitive_keeps, counted_keeps}
+use Rattle.types.proofs.Keeps.{primitive_keeps, counted_keeps}
 use Rattle.own_run.proofs.TaskRuns.{lists_given}
 use Rattle.own_run.proofs.OnePath.{Once, Names, names, From, own_path, all_once, below_once}
 use Rattle.own_run.proofs.SettledResults.{lists_true}

@@ -11,7 +11,8 @@ use Rattle.own_run.specs.Results.{TaskResult, Settled}
 use Rattle.own_run.specs.OwnRun.{Start, Child, Own, EndFinish, at_first, is_waiting, result_of, child_of, begin_own}
 use Rattle.own_run.specs.OwnRun.{leave_with, own_rules, begun_by, beginning, in_truth, own, below}
 use Rattle.own_run.specs.Frames.{IsBegun, Fine}
-use Rattle.own_run.proofs.RunKeeps.{IsKept, run_keeps}
+use Rattle.types.specs.Laws.{IsKept}
+use Rattle.types.proofs.Keeps.{run_keeps}
 use Rattle.own_run.proofs.Begun.{Tells, tells, begin_tells, enter_tells, run_tells, at_first_fine}
 use Rattle.own_run.specs.Lists.{Each, Inserted, here, later, Shuffled, none, one}
 use Rattle.own_run.proofs.Lists.{NoTwice}

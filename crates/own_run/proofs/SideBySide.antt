@@ -6,7 +6,7 @@ use Rattle.std.proofs.lemmas.List.Elements.{Contains-append_left, Contains-appen
 use Rattle.std.specs.Prelude.{ℤ, pos, Bool, true, false, ◌||◌, Contains, flat_map, if◌then◌else◌}
 use Rattle.types.specs.declared.fault.FaultKind.{FaultKind}
 use Rattle.types.specs.Code.{Number, Truth}
-use Rattle.types.specs.Place.{Place, In, same_place}
+use Rattle.sections.specs.Place.{Place, In, same_place}
 use Rattle.types.specs.Contents.{read, write}
 use Rattle.types.specs.Value.{Environment, Valued, then_try, number, truth}
 use Rattle.types.specs.Indexed.{indexed, indexed_truth}

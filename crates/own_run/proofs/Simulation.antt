@@ -7,7 +7,7 @@ use Rattle.std.specs.Prelude.{ℤ, ◌⊎◌, Bool, true, false, Contains, flat_
 use Rattle.types.specs.declared.fault.FaultKind.TheVariants.{SplitPoint, Raised}
 use Rattle.types.specs.Code.{Number, Truth, Primitive, Skip, Assign, Store, Print, Raise, Code, Do, If, While, Split, Call, Async, Finish}
 use Rattle.types.specs.Code.{Codes, End, Then, Program}
-use Rattle.types.specs.Place.{Window, Place, In, sides_of}
+use Rattle.sections.specs.Place.{Window, Place, In, sides_of}
 use Rattle.types.specs.Contents.{Contents}
 use Rattle.types.specs.Value.{element_of, holds_number}
 use Rattle.types.specs.Indexed.{indexed, indexed_truth}
@@ -15,7 +15,7 @@ use Rattle.types.specs.Run.{Flow, On, Faulted, Stopped, Work, Block, Turn, Rules
 use Rattle.types.specs.Run.{counted, act, block, work, within}
 use Rattle.types.specs.Meaning.{hushed, joined, child, after_async, after_body, after_finish, one_rules_by, begin_one}
 use Rattle.effects.specs.Accesses.{Access, own_accesses}
-use Rattle.effects.specs.Member.{Member, first, next}
+use Rattle.sections.specs.Member.{Member, first, next}
 use Rattle.effects.specs.Effects.{past_split, past_call, renamed, if_body, if_other, while, split, call, AllOf, All}
 use Rattle.effects.specs.Effects.{PendingOf, Pending, accesses}
 use Rattle.effects.specs.Footprint.{Touches, Overwrites}

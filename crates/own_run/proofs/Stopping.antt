@@ -5,7 +5,7 @@ use Rattle.std.specs.Prelude.{Bool, true, false, ◌||◌, ok_or, if◌then◌el
 use Rattle.types.specs.declared.fault.FaultKind.TheVariants.{SplitPoint}
 use Rattle.types.specs.Code.{Primitive, Skip, Assign, Store, Print, Raise, Code, Do, If, While, Split, Call, Async, Finish}
 use Rattle.types.specs.Code.{Codes, End, Then, Program}
-use Rattle.types.specs.Place.{Place, sides_of}
+use Rattle.sections.specs.Place.{Place, sides_of}
 use Rattle.types.specs.Value.{Valued, element_of, holds_number}
 use Rattle.types.specs.Run.{Flow, On, Faulted, Stopped, Fault, State, Rules, with_value, put, print, assign, primitive}
 use Rattle.types.specs.Run.{number_at, numbers_at, truth_at, window_at, array_of}

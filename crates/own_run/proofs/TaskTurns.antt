@@ -5,7 +5,7 @@ use Rattle.std.proofs.lemmas.List.{append-nil}
 use Rattle.std.specs.Prelude.{Bool, true, false, map, ok_or, if◌then◌else◌}
 use Rattle.types.specs.declared.fault.FaultKind.TheVariants.{SplitPoint}
 use Rattle.types.specs.Code.{Code, Do, If, While, Split, Call, Async, Finish, Codes, End, Then, Program}
-use Rattle.types.specs.Place.{sides_of}
+use Rattle.sections.specs.Place.{sides_of}
 use Rattle.types.specs.Value.{Valued}
 use Rattle.types.specs.Run.{Flow, On, Faulted, Stopped, State, Rules, Work, Block, Turn, stopped, at_flow, fault, number_at, numbers_at}
 use Rattle.types.specs.Run.{truth_at, window_at, entry, with_sides, procedure_of, primitive, counted, run}
@@ -17,7 +17,8 @@ use Rattle.own_run.specs.OwnRun.{Action, Own, EndFinish, notes, is_waiting, begi
 use Rattle.own_run.specs.OwnRun.{own_rules}
 use Rattle.own_run.specs.Frames.{Frame, Rest, Again, AtEnd, Back, Standing, frame, resume, by_value, chosen, acted}
 use Rattle.own_run.specs.Frames.{paid, by_flow, turn, IsBegun, Fine, FineBelow}
-use Rattle.own_run.proofs.RunKeeps.{IsKept, primitive_keeps, counted_keeps}
+use Rattle.types.specs.Laws.{IsKept}
+use Rattle.types.proofs.Keeps.{primitive_keeps, counted_keeps}
 use Rattle.own_run.proofs.Begun.{Tells, tells, idle_tells, still_begun, run_tells, enter_tells}
 use Rattle.own_run.proofs.Begun.{begin_tells}
 

@@ -4,7 +4,7 @@ use Rattle.std.specs.Prelude.{ℤ, Bool, true, false, flat_map, ok_or}
 use Rattle.types.specs.declared.fault.FaultKind.TheVariants.{SplitPoint}
 use Rattle.types.specs.Code.{Primitive, Skip, Assign, Store, Print, Raise, Code, Do, If, While, Split, Call, Async, Finish, Codes, End}
 use Rattle.types.specs.Code.{Then, Program}
-use Rattle.types.specs.Place.{Place, sides_of}
+use Rattle.sections.specs.Place.{Place, sides_of}
 use Rattle.types.specs.Value.{Valued, element_of, holds_number}
 use Rattle.types.specs.Run.{Flow, On, Faulted, Stopped, State, Rules, with_value, assign, put, number_at, numbers_at, truth_at, window_at}
 use Rattle.types.specs.Run.{array_of, primitive, counted}

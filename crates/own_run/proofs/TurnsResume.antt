@@ -3,7 +3,7 @@ use Rattle.std.proofs.Common.{◌≡◌, ℕ, zero, suc, List, ◌∷◌, Ok, Er
 use Rattle.std.specs.Prelude.{Bool, true, false, map, ok_or}
 use Rattle.types.specs.declared.fault.FaultKind.TheVariants.{SplitPoint}
 use Rattle.types.specs.Code.{Truth, Code, Do, If, While, Split, Call, Async, Finish, Codes, End, Then, Program}
-use Rattle.types.specs.Place.{sides_of}
+use Rattle.sections.specs.Place.{sides_of}
 use Rattle.types.specs.Value.{Valued}
 use Rattle.types.specs.Run.{Flow, On, Faulted, Stopped, State, Rules, Work, Block, Turn, at_flow, go_on, spend, with_step, with_value}
 use Rattle.types.specs.Run.{choose, number_at, numbers_at, truth_at, window_at, entry, with_sides, procedure_of, counted, act, block, run}

@@ -7,10 +7,10 @@ use Rattle.std.specs.Prelude.{ℤ, pos, negsuc, ◌⊎◌, ◌≢◌, Bool, true
 use Rattle.std.specs.Prelude.{if◌then◌else◌}
 use Rattle.types.specs.declared.fault.FaultKind.{FaultKind}
 use Rattle.types.specs.declared.fault.FaultKind.TheVariants.{Index, SplitPoint}
-use Rattle.types.specs.Place.{Place, Window, In, nowhere, sides_of, same_place}
+use Rattle.sections.specs.Place.{Place, Window, In, nowhere, sides_of, same_place}
 use Rattle.types.specs.Value.{Environment, Valued, element_of}
 use Rattle.types.specs.Run.{bind, with_sides}
-use Rattle.effects.specs.Member.{Member, first, next}
+use Rattle.sections.specs.Member.{Member, first, next}
 use Rattle.effects.proofs.Members.{false_true, both_true, either_true}
 use Rattle.own_run.specs.Places.{covered, named}
 use Rattle.effects.specs.Effects.{past_split, past_call}

@@ -4,7 +4,7 @@ use Rattle.std.specs.Prelude.{false, Some, Ok, Err, ok_or, slice_get}
 use Rattle.types.specs.declared.fault.FaultKind.TheVariants.{SplitPoint}
 use Rattle.types.specs.Code.{Truth, Code, Do, If, While, Split, Call, Async, Finish, Codes, End}
 use Rattle.types.specs.Code.{Then, Program}
-use Rattle.types.specs.Place.{sides_of}
+use Rattle.sections.specs.Place.{sides_of}
 use Rattle.types.specs.Value.{Environment, Valued}
 use Rattle.types.specs.Run.{Flow, On, Faulted, Stopped, State, Rules, Block, Turn, stopped, go_on}
 use Rattle.types.specs.Run.{fault, number_at, numbers_at, truth_at, window_at, entry, with_sides}

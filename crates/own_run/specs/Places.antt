@@ -2,7 +2,7 @@
 use Rattle.std.specs.Prelude.{ℕ, zero, suc, ℤ, ◌+◌, List, [], ◌∷◌, ◌++◌, map, Option, Some, None}
 use Rattle.std.specs.Prelude.{Bool, false, ◌&&◌, ◌||◌, nat_eq, nat_lt, nat_le}
 use Rattle.std.specs.Prelude.{if◌then◌else◌}
-use Rattle.types.specs.Place.{Place, Window}
+use Rattle.sections.specs.Place.{Place, Window}
 use Rattle.types.specs.Contents.{Contents}
 use Rattle.types.specs.Value.{Environment}
 use Rattle.effects.specs.Needs.{Needs}
@@ -52,11 +52,6 @@ or_else (Some v) y = Some v
 -- the contents of the first, and those of the second where the first has none
 abbrev pub over : Contents → Contents → Contents
 over c d q = or_else (c q) (d q)
-
--- a number is there
-abbrev pub IsThere : Option ℤ → Type 0
-IsThere None = ⊥
-IsThere (Some v) = Unit {0}
 
 -- whether a set has one of n places of an array, from the place `at` on
 abbrev pub has_one : Places → (array at n : ℕ) → Bool

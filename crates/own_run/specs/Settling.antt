@@ -1,7 +1,7 @@
 -- Results settled: each hole filled once by the result of its path, wherever that stands.
 use Rattle.std.specs.Prelude.{ℕ, zero, suc, ◌+◌, ◌≡◌, List, [], ◌∷◌, length, Bool, true, false}
 use Rattle.std.specs.Prelude.{◌&&◌, ◌||◌, nat_eq, Option, Some, None, if◌then◌else◌}
-use Rattle.types.specs.Place.{Place}
+use Rattle.sections.specs.Place.{Place}
 use Rattle.own_run.specs.Places.{Places, within, meets}
 use Rattle.own_run.specs.Results.{Listed, TaskResult, Settled, none_yet, fill, complete, and_then}
 

@@ -2,7 +2,7 @@
 use Rattle.std.proofs.Common.{ℕ, List, [], ◌∷◌, ◌++◌, map, sym, subst}
 use Rattle.std.specs.Prelude.{◌↔◌}
 use Rattle.types.specs.Code.{Code, Do, If, While, Split, Call, Async, Finish, Codes, End, Then, Program}
-use Rattle.effects.specs.Member.{Member, first, next}
+use Rattle.sections.specs.Member.{Member, first, next}
 use Rattle.effects.specs.Effects.{Subject, AllOf}
 use Rattle.parallel_relation.specs.Together.{Block, Together}
 use Rattle.effects.specs.Tables.{Table, all_of, all_in, left_by, IsDerived, IsDerivedPending, IsStable}

@@ -2,7 +2,7 @@
 
 ghost use Rattle.std.specs.Prelude.{◌↔◌, ℕ};
 ghost use Rattle.types.specs.Code.{Codes, Program};
-ghost use Rattle.effects.specs.Member.{Member};
+ghost use Rattle.sections.specs.Member.{Member};
 ghost use Rattle.effects.specs.Accesses.{Access};
 ghost use Rattle.effects.specs.Effects.{accesses, labels};
 ghost use Rattle.effects.specs.Tables.{Table, IsDerived, IsDerivedPending, IsStable};

@@ -1,16 +1,18 @@
 -- Worked programs: their clashes, and three that are sound, of which two are accepted.
-use Rattle.std.proofs.Common.{◌≡◌, ◌≢◌, ℕ, zero, suc, ◌<◌, List, [], ◌∷◌, refl, sym, ◌∙◌, arith, true≢false}
+use Rattle.std.proofs.Common.{◌≡◌, ◌≢◌, ℕ, zero, suc, ◌+◌, ◌-◌, ◌<◌, List, [], ◌∷◌, refl, sym, ap, ◌∙◌, arith, true≢false}
 use Rattle.std.specs.Prelude.{Bool, true, false, filter, slice_get, Some}
 use Rattle.syntax.specs.declared.tree.Relation.TheVariants.{Equal}
 use Rattle.types.specs.declared.code.Operator.TheVariants.{Times}
 use Rattle.types.specs.Code.{Element, Length, Chain, Link, Done, Compare, Store, Print, Do, If}
-use Rattle.types.specs.Code.{Call, Async, Finish, Codes, End, Then, Origin, Root, Left, Right, Procedure, Program}
+use Rattle.sections.specs.Origins.{Origin, Root, Left, Right}
+use Rattle.types.specs.Code.{Call, Async, Finish, Codes, End, Then, Procedure, Program}
 use Rattle.types.specs.Run.{procedure_of, no_procedure}
 use Rattle.types.proofs.Programs.{◌⨾◌, lit, ints, main_of as program_of, two_arrays, twice, doubling, two_readers}
-use Rattle.effects.specs.Member.{Member, first, next}
+use Rattle.sections.specs.Member.{Member, first, next}
 use Rattle.effects.specs.Accesses.{Access}
 use Rattle.effects.specs.Effects.{past_call, accesses}
-use Rattle.effects.specs.Overlap.{origin_of, overlap, IsNumbered}
+use Rattle.sections.specs.Origins.{origin_of, IsNumbered}
+use Rattle.sections.specs.Overlap.{overlap}
 use Rattle.effects.specs.Rounds.{summaries, pending_summaries}
 use Rattle.effects.specs.Sound.{may_write, is_writable, Allowed, SplitsWell, PassesWell, Follows, IsSoundIn, IsSound}
 use Rattle.effects.specs.Sound.{main_of}
@@ -75,7 +77,7 @@ doubling_clashes = refl
 -- The doubling program is sound
 
 numbered_sides : IsNumbered twice.sections
-numbered_sides = record { left = left_later; right = right_later }
+numbered_sides = record { left = left_later; right = right_later; right_behind = right_behind; left_before = left_before }
   where
     left_later : (a s : ℕ) → origin_of twice.sections a ≡ Left s → s < a
     left_later zero s e = root_left refl e
@@ -89,8 +91,25 @@ numbered_sides = record { left = left_later; right = right_later }
     right_later (suc (suc zero)) s e = let h : 0 ≡ s = one_right refl e in omega arith
     right_later (suc (suc (suc n))) s e = root_right refl e
 
+    right_behind : (a s : ℕ) → origin_of twice.sections a ≡ Left s → origin_of twice.sections (a + 1) ≡ Right s
+    right_behind zero s e = root_left refl e
+    right_behind (suc zero) s e = ap Right (one_left refl e)
+    right_behind (suc (suc zero)) s e = left_right e refl
+    right_behind (suc (suc (suc n))) s e = root_left refl e
+
+    left_before : (a s : ℕ) → origin_of twice.sections a ≡ Right s → origin_of twice.sections (a - 1) ≡ Left s
+    left_before zero s e = root_right refl e
+    left_before (suc zero) s e = left_right refl e
+    left_before (suc (suc zero)) s e = ap Left (one_right refl e)
+    left_before (suc (suc (suc n))) s e = root_right refl e
+
 pub numbered_roots : (origins : List Origin) → ((a : ℕ) → origin_of origins a ≡ Root) → IsNumbered origins
-numbered_roots origins root = record { left = λ a s e. root_left (root a) e; right = λ a s e. root_right (root a) e }
+numbered_roots origins root = record {
+  left = λ a s e. root_left (root a) e;
+  right = λ a s e. root_right (root a) e;
+  right_behind = λ a s e. root_left (root a) e;
+  left_before = λ a s e. root_right (root a) e;
+}
 
 one_root : (a : ℕ) → origin_of (Root ∷ []) a ≡ Root
 one_root zero = refl
@@ -170,7 +189,7 @@ first_root origins (suc k) h = absurd (omega arith)
 pub missing_sound : (p : Program) → IsSoundIn p (no_procedure)
 missing_sound p = record {
   first = λ k h. absurd (omega arith);
-  numbered = record { left = λ a s e. root_left refl e; right = λ a s e. root_right refl e };
+  numbered = numbered_roots [] (λ a. refl);
   body = tt;
 }
 

@@ -6,7 +6,7 @@ use Rattle.std.proofs.lemmas.Option.{unwrap_or-slice_get}
 use Rattle.std.proofs.lemmas.List.{get_or-set_same, get_or-set_other}
 use Rattle.std.specs.Prelude.{ℤ, pos, Bool, true, false, ◌&&◌, nat_eq, slice_get, slice_index_or, slice_set, replicate, if◌then◌else◌}
 use Rattle.types.specs.Code.{Array}
-use Rattle.types.specs.Place.{Place, nowhere}
+use Rattle.sections.specs.Place.{Place, nowhere}
 use Rattle.types.specs.Contents.{Contents, read, write, held_by, row, rows, shown, FitsArrays, no_more, also}
 use Rattle.types.specs.Run.{bind, by_number}
 use Rattle.types.specs.Outcome.{whole_arrays}

@@ -4,11 +4,13 @@ pub mod Codes
 pub mod Contents
 pub mod FirstPart
 pub mod Indexed
+pub mod InputErrors
+pub mod InputNames
+pub mod Inputs
 pub mod Laws
 pub mod Meaning
+pub mod Names
 pub mod Outcome
-pub mod Place
-pub mod Reading
 pub mod Resolution
 pub mod Rows
 pub mod Rules

@@ -3,20 +3,31 @@
 ghost use Rattle.std.specs.Prelude.{◌≡◌, ◌<◌, ℕ, ℤ, List, [], ◌++◌, length, replicate, slice_get};
 ghost use Rattle.std.specs.Prelude.{slice_index_or, slice_set};
 ghost use Rattle.types.specs.Code.{Number, Truth, Array, Program};
-ghost use Rattle.types.specs.Place.{Place, nowhere};
+ghost use Rattle.sections.specs.Place.{Place, nowhere};
 ghost use Rattle.types.specs.Contents.{held_by, shown, write, FitsArrays};
 ghost use Rattle.types.specs.Value.{Environment, number, truth};
-ghost use Rattle.types.specs.Run.{Rules, Work, run, bind, by_number};
+ghost use Rattle.types.specs.Run.{Rules, State, Work, run, bind, by_number};
 ghost use Rattle.types.specs.Meaning.{one, one_rules};
 ghost use Rattle.types.specs.Outcome.{Budget, IsLarger, Ending, Ended, outcome, Means, whole_arrays};
 ghost use Rattle.types.specs.Indexed.{indexed, indexed_truth};
-ghost use Rattle.types.specs.Laws.{IsThrifty, Solves, IsOnly, OnlyAdds, SameOn};
+ghost use Rattle.types.specs.Laws.{IsThrifty, Solves, IsOnly, IsKept, Keeps, OnlyAdds, SameOn};
 
 /// Where the rules spend steps honestly, a run does what its work says, with runs in place of what
 /// is inside of its calls and further turns; and it alone does. So the bound on depth says nothing.
 pub fn runs_are_determined<X>()
     ensures solves { (p : Program) (r : Rules X) → IsThrifty r → Solves p r (run p r) }
     ensures only { (p : Program) (r : Rules X) → IsThrifty r → IsOnly p r (run p r) }
+{}
+
+/// A way in which a state of a task may follow another.
+pub trait Following<X> {
+    ghost follows: { State X → State X → Type 0 };
+}
+
+/// A run keeps what each of its operations keeps, whatever its rules.
+pub fn runs_keep_what_operations_keep<X, R: Following<X>>()
+    ensures { (p : Program) (r : Rules X) → IsKept r R.follows → (w : Work)
+        → Keeps R.follows (run p r w) }
 {}
 
 /// The one-thread meaning is the one function that does what its work says.

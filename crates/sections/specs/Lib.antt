@@ -1,0 +1,9 @@
+pub mod Covers
+pub mod Joining
+pub mod Member
+pub mod Origins
+pub mod Overlap
+pub mod Place
+pub mod Placed
+pub mod Translation
+pub mod Tree

@@ -1,0 +1,11 @@
+//! Sections of arrays: where they come from, which of them may share places, and the windows that
+//! they stand for.
+
+#![tactic(auto)]
+
+pub mod cover;
+pub mod id;
+pub mod laws;
+pub mod origin;
+pub mod tree;
+pub mod window;
