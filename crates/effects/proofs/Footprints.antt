@@ -7,15 +7,15 @@ use Rattle.sections.specs.Place.{Place, Window, In, sides_of, nowhere}
 use Rattle.types.specs.Value.{Environment}
 use Rattle.types.specs.Run.{procedure_of, entry, with_sides}
 use Rattle.effects.specs.Accesses.{Access, own_accesses, reads}
-use Rattle.effects.specs.Member.{Member}
+use Rattle.sections.specs.Member.{Member}
 use Rattle.effects.specs.Effects.{past_split, past_call, renamed, Inner, AllOf, All, PendingOf, Pending, accesses}
 use Rattle.effects.specs.Footprint.{Touches, Overwrites, MayTouch, MayWrite, MayTouchOf, MayWriteOf, MayStillTouch}
 use Rattle.effects.specs.Footprint.{MayStillWrite, MayStillTouchOf, MayStillWriteOf}
 use Rattle.effects.specs.Sound.{IsSound, parameters_of}
 use Rattle.effects.proofs.Members.{from_map, numbers_from-below}
-use Rattle.effects.proofs.Windows.{sides_of-cut, left_inside, right_inside}
-use Rattle.effects.proofs.Scopes.{allowed, pending_all}
-use Rattle.effects.proofs.Fitting.{by_number-map}
+use Rattle.sections.proofs.Windows.{sides_of-cut, left_inside, right_inside}
+use Rattle.effects.proofs.AccessesInScope.{allowed, pending_all}
+use Rattle.effects.proofs.EnvironmentsFit.{by_number-map}
 
 -- Renaming, and places
 

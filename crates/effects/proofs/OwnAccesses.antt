@@ -12,7 +12,7 @@ use Rattle.types.specs.Value.{Environment, Valued, element_of, holds_number, num
 use Rattle.types.specs.Laws.{SameOn}
 use Rattle.types.specs.Run.{State, with_value, number_at, numbers_at, window_at, put, print, assign, fault, primitive, array_of}
 use Rattle.types.proofs.Readings.{number_same, truth_same}
-use Rattle.effects.specs.Member.{Member, first, next}
+use Rattle.sections.specs.Member.{Member, first, next}
 use Rattle.effects.specs.Accesses.{reads, own_accesses}
 use Rattle.effects.specs.Footprint.{Touches, Overwrites}
 use Rattle.effects.proofs.Members.{in_map, both_true}

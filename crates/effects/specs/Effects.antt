@@ -4,7 +4,7 @@ use Rattle.std.proofs.Common.{refl}
 use Rattle.types.specs.Code.{Number, Truth, Code, If, While, Split, Call, Async, Finish, Codes}
 use Rattle.types.specs.Code.{Then, Program}
 use Rattle.types.specs.Run.{procedure_of}
-use Rattle.effects.specs.Member.{Member}
+use Rattle.sections.specs.Member.{Member}
 use Rattle.effects.specs.Accesses.{Access, own_accesses}
 
 -- around a split of s, both sides are s

@@ -4,7 +4,7 @@ use Rattle.std.specs.List.{list_any}
 use Rattle.types.specs.Code.{Code, Do, If, While, Split, Call, Async, Finish, Codes, End, Then}
 use Rattle.types.specs.Code.{Program}
 use Rattle.types.specs.Run.{procedure_of}
-use Rattle.effects.specs.Member.{Member}
+use Rattle.sections.specs.Member.{Member}
 use Rattle.effects.specs.Accesses.{Access}
 use Rattle.effects.specs.Effects.{accesses, All}
 use Rattle.effects.specs.Tables.{Table, all_in}

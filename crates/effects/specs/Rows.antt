@@ -2,7 +2,7 @@
 use Rattle.std.specs.Prelude.{ℕ, ◌≡◌, ◌⊎◌, Bool, true}
 use Rattle.types.specs.Code.{Code, Do, If, While, Split, Call, Async, Finish, Codes, Then, Program}
 use Rattle.types.specs.Run.{procedure_of}
-use Rattle.effects.specs.Member.{Member}
+use Rattle.sections.specs.Member.{Member}
 use Rattle.effects.specs.Effects.{past_split, past_call, Inner, Subject, All, Pending}
 
 module _ (p : Program) (subject : Subject) where

@@ -14,9 +14,11 @@ pub record Aside : Type 0 where
   -- whether one of them was stopped
   pub halted : Bool
 
+-- nothing is set aside
 abbrev pub nothing : Aside
 nothing = record { contents = empty; halted = false }
 
+-- whether the flow is stopped
 abbrev pub is_stopped : Flow → Bool
 is_stopped Stopped = true
 is_stopped On = false

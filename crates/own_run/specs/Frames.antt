@@ -10,12 +10,14 @@ use Rattle.types.specs.Run.{Flow, On, Faulted, Stopped, State, Rules, Block, Tur
 use Rattle.types.specs.Run.{fault, number_at, numbers_at, truth_at, window_at, entry, with_sides}
 use Rattle.types.specs.Run.{procedure_of, primitive, counted, run}
 use Rattle.effects.specs.Needs.{Needs}
-use Rattle.own_run.specs.Results.{TaskResult, Settled, Each}
+use Rattle.own_run.specs.Results.{TaskResult, Settled}
 use Rattle.own_run.specs.OwnRun.{Start, Child, Action, Step, Spawn, EnterFinish, EndFinish, Own}
 use Rattle.own_run.specs.OwnRun.{notes, child_of}
 use Rattle.own_run.specs.OwnRun.{begun_by, go_on_with, own_rules, from_receipts, run_by, in_truth}
 use Rattle.own_run.specs.OwnRun.{own, given}
+use Rattle.own_run.specs.Lists.{Each}
 
+-- what is left to do, piece by piece
 pub data Frame (X : Type 0) : Type 0 where
   -- the statements that are left of a block
   Rest : Codes → Frame X
@@ -26,6 +28,7 @@ pub data Frame (X : Type 0) : Type 0 where
   -- the end of a call, which comes back to this environment
   Back : Environment → Frame X
 
+-- a task in the making
 pub record Standing (X : Type 0) : Type 0 where
   pub frames : List (Frame X)
   pub state : State X

@@ -12,7 +12,7 @@ use Rattle.effects.specs.Needs.{Needs}
 use Rattle.own_run.specs.Places.{written, touched, Places, within, only, without}
 use Rattle.own_run.specs.Apart.{nothing, is_stopped, halts, merged, apart}
 use Rattle.own_run.specs.Results.{Listed, TaskResult, Settled, none_yet, fill, complete, and_then}
-use Rattle.own_run.specs.Results.{settle}
+use Rattle.own_run.specs.Settling.{settle}
 
 -- what a task starts with, but for its steps
 pub record Start : Type 0 where
@@ -50,12 +50,15 @@ pub record Own : Type 0 where
   -- it stands at the end of a finish, and what came of it isn't there
   pub waits : Bool
 
+-- at the beginning
 abbrev pub at_first : Places → Own
 at_first owned = record { pending = []; ended = 0; actions = []; owned = owned; waits = false }
 
+-- notes an action
 abbrev pub notes : Action → Own → Own
 notes a x = record x { actions = x.actions ++ a ∷ [] }
 
+-- it waits, for good
 abbrev pub is_waiting : State Own → Bool
 is_waiting st = is_stopped st.flow && st.extra.waits
 
@@ -106,6 +109,7 @@ list_child n nest b st =
       });
     }
 
+-- with no nest left, the task is stopped
 abbrev pub begin_own : (Codes → Needs) → (nest : ℕ) → Codes → State Own → State Own
 begin_own needs zero b st = stopped st
 begin_own needs (suc n) b st = list_child (needs b) n b st
@@ -115,10 +119,11 @@ abbrev pub back_from : List Child → Places
 back_from [] q = false
 back_from (c ∷ cs) q = within c.listed.windows q || back_from cs q
 
--- how a task goes on with what came of a finish
+-- whether a task goes on behind a finish
 abbrev pub flow_after : Settled → Flow
 flow_after s = if s.halted then Stopped else after_finish On s.faults
 
+-- it goes on behind the finish with what came of it
 abbrev pub go_on_with : (before out : State Own) → Settled → State Own
 go_on_with before out s = record out {
   flow = flow_after s;
@@ -138,6 +143,7 @@ leave_with before out None =
     record out { flow = Stopped; extra = record out.extra { waits = true } }
 leave_with before out (Some s) = go_on_with before out s
 
+-- the end of a finish is noted, and it goes on or waits
 abbrev pub leave_own : (State Own → Option Settled) → (before out : State Own) → State Own
 leave_own close before out =
     if is_waiting out then out
@@ -220,6 +226,7 @@ module _ (p : Program) (needs : Codes → Needs) (fresh : ℕ) where
   filled [] so_far = so_far
   filled (c ∷ cs) so_far = filled cs (fill c.listed (comes_to c.start) so_far)
 
+  -- what really came of a finish
   abbrev pub in_truth : State Own → Option Settled
   in_truth st = Some (complete (result_of st) (filled st.extra.pending none_yet))
 

@@ -24,10 +24,11 @@ within (w ∷ ws) q = covered w q || within ws q
 abbrev pub named : Environment → List ℕ → Places
 named env ss = within (map env.windows ss)
 
--- the places that a body with these needs may write, and all that it may touch
+-- the places that a body with these needs may write
 abbrev pub written : Environment → Needs → Places
 written env n = named env n.writes
 
+-- and all that it may touch
 abbrev pub touched : Environment → Needs → Places
 touched env n = named env (n.writes ++ n.reads)
 
@@ -51,15 +52,6 @@ or_else (Some v) y = Some v
 -- the contents of the first, and those of the second where the first has none
 abbrev pub over : Contents → Contents → Contents
 over c d q = or_else (c q) (d q)
-
--- a number is there
-abbrev pub IsThere : Option ℤ → Type 0
-IsThere None = ⊥
-IsThere (Some v) = Unit {0}
-
--- the second has a number wherever the first has one
-abbrev pub Extends : (c d : Contents) → Type 0
-Extends c d = (q : Place) → IsThere (c q) → IsThere (d q)
 
 -- whether a set has one of n places of an array, from the place `at` on
 abbrev pub has_one : Places → (array at n : ℕ) → Bool

@@ -5,7 +5,7 @@ use Rattle.sections.specs.Place.{Place}
 use Rattle.types.specs.Contents.{Contents}
 use Rattle.types.specs.Value.{Environment}
 use Rattle.effects.specs.Accesses.{Access, own_accesses}
-use Rattle.effects.specs.Member.{Member}
+use Rattle.sections.specs.Member.{Member}
 use Rattle.effects.specs.Effects.{AllOf, All, PendingOf, Pending, accesses}
 use Rattle.effects.specs.Footprint.{Touches, Overwrites}
 use Rattle.effects.specs.Needs.{Needs, ProvidesOf, ProvidesIn}
@@ -24,19 +24,7 @@ pub record Around : Type 1 where
   pub held : Place → Type 0
 
 module _ (p : Program) (needs : Codes → Needs) where
-  -- it may run next: within what is around, off what is locked; `final` is locked afterwards
-  pub record ReadyOf (x : Around) (locked final : Place → Type 0) (l : ℕ) (s : Code) : Type 0 where
-    pub fits : FitsScope x.scope x.env
-    pub names : (y : Access) → Member y (own_accesses l s) → InScope x.scope y.section
-    pub scoped : ScopedOf p x.scope s
-    pub calm : CalmOf p x.scope l s
-    pub provided : ProvidesOf p needs s
-    pub free : (q : Place) → Touches x.env (AllOf p accesses l s) q → locked q → ⊥
-    pub held : (q : Place) → Touches x.env (AllOf p accesses l s) q → x.held q
-    pub wrote : (q : Place) → Overwrites x.env (AllOf p accesses l s) q → x.wrote q
-    pub kept : (q : Place) → locked q → final q
-    pub added : (q : Place) → Overwrites x.env (PendingOf p accesses s) q → final q
-
+  -- a block may run next: within what is around, off what is locked; `final` is locked afterwards
   pub record Ready (x : Around) (locked final : Place → Type 0) (b : Codes) : Type 0 where
     pub fits : FitsScope x.scope x.env
     pub scoped : Scoped p x.scope b

@@ -13,10 +13,11 @@ module _ (p : Program) (input : List (List ℤ)) (b : Budget) where
   abbrev pub root : Start
   root = root_of p input b.nest
 
-  -- what the root has at the end of its own run, and what comes of it once all is put in
+  -- what the root has at the end of its own run
   abbrev pub root_result : TaskResult
   root_result = result_of (own p (needs_of p) b.steps root)
 
+  -- what comes of the root once all is put in
   abbrev pub root_comes_to : Settled
   root_comes_to = comes_to p (needs_of p) b.steps root
 
