@@ -204,8 +204,8 @@ fn emit_number<W: Write>(out: &mut W, number: &i64) -> Result<(), EmitError>
     append(out, buffer.format(*number).as_bytes())
 }
 
-/// A label, or a part of a path, in decimal.
-fn emit_label<W: Write>(out: &mut W, number: Label) -> Result<(), EmitError>
+/// A label, a part of a path, or a part of a place, in decimal.
+pub fn emit_label<W: Write>(out: &mut W, number: Label) -> Result<(), EmitError>
     ensures { Writes (W.contents out.old) (W.contents out.new) result (decimal number) }
 {
     let mut buffer = Buffer::new();
