@@ -1,11 +1,11 @@
 -- What may run next, by what is around it.
 use Rattle.std.specs.Prelude.{ℕ}
-use Rattle.types.specs.Code.{Code, Codes, Program}
 use Rattle.sections.specs.Place.{Place}
+use Rattle.sections.specs.Member.{Member}
+use Rattle.types.specs.Code.{Code, Codes, Program}
 use Rattle.types.specs.Contents.{Contents}
 use Rattle.types.specs.Value.{Environment}
 use Rattle.effects.specs.Accesses.{Access, own_accesses}
-use Rattle.sections.specs.Member.{Member}
 use Rattle.effects.specs.Effects.{AllOf, All, PendingOf, Pending, accesses}
 use Rattle.effects.specs.Footprint.{Touches, Overwrites}
 use Rattle.effects.specs.Needs.{Needs, ProvidesOf, ProvidesIn}
