@@ -7,7 +7,7 @@ use Rattle.types.specs.Code.{Array, Program}
 use Rattle.types.specs.Outcome.{Budget, Outcome, Ended, Halted}
 use Rattle.types.specs.Run.{Fault}
 use Rattle.workers.specs.Accesses.{pairs_in}
-use Rattle.workers.specs.Races.{IsRaceFree}
+use Rattle.workers.specs.Races.{IsClashFree}
 use Rattle.workers.specs.Worlds.{IsReached}
 use Rattle.driver.specs.Appending.{Writes}
 use Rattle.driver.specs.OutcomeText.{outcome_text, status_by, status_of}
@@ -48,12 +48,12 @@ module _ {E : Type 0} (text : List ℕ) (old new : Option (List ℕ)) (r : Resul
 
   -- what was shown is an outcome that the tasks of the text's program come to
   pub told_of_run : (code : Program) (shown : List Array) (o : Outcome) → IsCodeOf text code
-      → IsRaceFree (pairs_in [] code.main.body) → IsReached code (zeros code) usual o
+      → IsClashFree (pairs_in [] code.main.body) → IsReached code (zeros code) usual o
       → Writes old new r (outcome_text shown false o)
       → IfOk r (λ s. s ≡ status_of o) → shown ≡ code.arrays → IfOk r (TellsRun text old new)
-  told_of_run code shown o is_code race_free reached written status is_declared =
+  told_of_run code shown o is_code clash_free reached written status is_declared =
       IfOk-weaker r (λ s. Tells o code.arrays old new s) (TellsRun text old new)
-      (λ s tells. record { code = code; is_code = is_code; race_free = race_free; outcome = o; reached = reached; told = tells })
+      (λ s tells. record { code = code; is_code = is_code; clash_free = clash_free; outcome = o; reached = reached; told = tells })
       (told old new r code.arrays shown o o written status refl is_declared)
 
   -- either way some outcome was told, by a status of three

@@ -10,7 +10,7 @@ use Rattle.types.specs.FirstPart.{is_first_part}
 use Rattle.types.specs.Outcome.{Budget, Outcome, outcome}
 use Rattle.types.specs.Resolution.{resolution}
 use Rattle.workers.specs.Accesses.{pairs_in}
-use Rattle.workers.specs.Races.{IsRaceFree}
+use Rattle.workers.specs.Races.{IsClashFree}
 use Rattle.workers.specs.Worlds.{IsReached}
 use Rattle.driver.specs.OutcomeText.{outcome_text, status_of}
 
@@ -48,7 +48,7 @@ pub record TellsOnOneThread (text : List ℕ) (old new : Option (List ℕ)) (sta
 pub record TellsRun (text : List ℕ) (old new : Option (List ℕ)) (status : ℕ) : Type 0 where
   pub code : Program
   pub is_code : IsCodeOf text code
-  pub race_free : IsRaceFree (pairs_in [] code.main.body)
+  pub clash_free : IsClashFree (pairs_in [] code.main.body)
   pub outcome : Outcome
   pub reached : IsReached code (zeros code) usual outcome
   pub told : Tells outcome code.arrays old new status

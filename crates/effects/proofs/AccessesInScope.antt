@@ -5,7 +5,6 @@ use Rattle.std.proofs.lemmas.Bool.{eq-eqb, ne_eqb}
 use Rattle.std.specs.Prelude.{Bool, true, false, ◌||◌, nat_eq, if◌then◌else◌, Some, slice_get, unwrap_or}
 use Rattle.sections.specs.Origins.{Origin, Root, origin_of, IsNumbered, IsSideOf, left, right}
 use Rattle.sections.specs.Member.{Member, first, next}
-use Rattle.sections.specs.Overlap.{beyond, root_within, root_of}
 use Rattle.sections.proofs.Lines.{root_of-root, root_of-side}
 use Rattle.types.specs.Code.{Code, Codes, Procedure, Program}
 use Rattle.types.specs.Run.{procedure_of}

@@ -6,7 +6,7 @@ use Rattle.types.specs.Code.{Program}
 use Rattle.types.specs.Run.{procedure_of}
 use Rattle.effects.specs.Effects.{past_split, past_call, Subject, All, Pending}
 
--- a list of accesses for each procedure
+-- what is listed of each procedure
 abbrev pub Table : Subject → Type 0
 Table subject = ℕ → List subject.Item
 

@@ -1,17 +1,16 @@
 -- A task's own run: its asyncs are listed, and what comes of them is put in at a finish's end.
-use Rattle.std.specs.Prelude.{ℕ, zero, suc, ◌+◌, ◌≡◌, List, [], ◌∷◌, ◌++◌, map, flat_map, ℤ, Bool}
+use Rattle.std.specs.Prelude.{ℕ, zero, suc, ◌+◌, List, [], ◌∷◌, ◌++◌, map, Bool}
 use Rattle.std.specs.Prelude.{true, false, not, ◌&&◌, ◌||◌, Option, Some, None, slice_get}
 use Rattle.std.specs.Prelude.{if◌then◌else◌}
 use Rattle.types.specs.Code.{Codes, Program}
-use Rattle.types.specs.Contents.{Contents, held_by, shown}
+use Rattle.types.specs.Contents.{Contents}
 use Rattle.types.specs.Value.{Environment}
-use Rattle.types.specs.Run.{Flow, On, Stopped, State, Rules, Block, stopped, run, entry}
+use Rattle.types.specs.Run.{Flow, On, Stopped, State, Rules, Block, stopped, run}
 use Rattle.types.specs.Meaning.{hushed, after_finish}
-use Rattle.types.specs.Outcome.{Outcome, outcome_by, whole_arrays}
 use Rattle.effects.specs.Needs.{Needs}
 use Rattle.own_run.specs.Places.{written, touched, Places, within, only, without}
-use Rattle.own_run.specs.Apart.{nothing, is_stopped, halts, merged, apart}
-use Rattle.own_run.specs.Results.{Listed, TaskResult, Settled, none_yet, fill, complete, and_then}
+use Rattle.own_run.specs.Apart.{is_stopped}
+use Rattle.own_run.specs.Results.{Listed, TaskResult, Settled, and_then}
 use Rattle.own_run.specs.Settling.{settle}
 
 -- what a task starts with, but for its steps

@@ -1,5 +1,6 @@
 pub mod Climbing
 pub mod Covering
+pub mod Cutting
 pub mod Lines
 pub mod Members
 pub mod Numbered

@@ -1,11 +1,12 @@
 -- The labels of a resolved text are counted from 1 in the order of the text.
 use Rattle.std.proofs.Common.{◌≡◌, ℕ, zero, suc, ◌+◌, List, [], ◌∷◌, ◌++◌, Option, Some, None, length}
 use Rattle.std.proofs.Common.{refl, sym, ap, ◌∙◌, subst, append-nil, arith}
-use Rattle.std.proofs.Math.Option.{some-injective}
+use Rattle.std.proofs.lemmas.Option.{none-some}
 use Rattle.std.proofs.lemmas.List.FromFn.{length-range_with_len}
 use Rattle.std.specs.List.{range_with_len}
 use Rattle.syntax.specs.Tree.{Stmt, Skip, Var, Assign, Store, Print, Fault, If, IfElse, While, Split, Call, Async}
 use Rattle.syntax.specs.Tree.{Finish, Block, End, Then, Procedure, Main, Program}
+use Rattle.types.proofs.Lists.{some_same}
 use Rattle.types.specs.Code as resolved
 use Rattle.types.specs.Labels.{labels_inside, labels_of, labels_of_procedures, labels_of_program}
 use Rattle.types.specs.Resolution.{Scope, labels_in, labels, labels_before, inside, past, between, behind, code, codes}
@@ -13,7 +14,10 @@ use Rattle.types.specs.Resolution.{procedures, with_main, resolution}
 
 -- m numbers and the next n are m + n numbers
 range_with_len-append : (a m n : ℕ) → range_with_len a m ++ range_with_len (a + m) n ≡ range_with_len a (m + n)
-range_with_len-append a zero n = let same : a + zero ≡ a = omega arith in ap (λ a. range_with_len a n) same
+range_with_len-append a zero n =
+    let same : a + zero ≡ a = omega arith in
+    let all : n ≡ zero + n = omega arith in
+    ap (λ a. range_with_len a n) same ∙ ap (range_with_len a) all
 range_with_len-append a (suc m) n =
     let next : a + suc m ≡ a + 1 + m = omega arith in
     let more : suc m + n ≡ suc (m + n) = omega arith in
@@ -83,10 +87,10 @@ by_their_number ls n is = is ∙ ap (range_with_len 1) (sym (ap length is ∙ le
 resolved_are_counted : (fs : List Procedure) (m : Option Main) (p : resolved.Program)
     → resolution (record { procedures = fs; main = m }) ≡ Some p
     → labels_of_program p ≡ range_with_len 1 (length (labels_of_program p))
-resolved_are_counted fs None p is = elim is [ ]
+resolved_are_counted fs None p is = absurd (none-some p is)
 resolved_are_counted fs (Some m) p is =
     subst (λ p. labels_of_program p ≡ range_with_len 1 (length (labels_of_program p)))
-    (some-injective (with_main fs m) p is)
+    (some_same is)
     (by_their_number (labels_of_program (with_main fs m)) _ (labels-with_main fs m))
 
 pub labels_are_counted : (t : Program) (p : resolved.Program) → resolution t ≡ Some p

@@ -16,4 +16,6 @@ pub mod Declared
 pub mod Places
 pub mod ByKind
 pub mod Mains
+pub mod Labels
+pub mod FirstParts
 pub mod InputLemmas

@@ -2,11 +2,13 @@ pub mod ArrayScope
 pub mod Code
 pub mod Codes
 pub mod Contents
+pub mod Depth
 pub mod FirstPart
 pub mod Indexed
 pub mod InputErrors
 pub mod InputNames
 pub mod Inputs
+pub mod Labels
 pub mod Laws
 pub mod Meaning
 pub mod Names

@@ -24,7 +24,7 @@ returns-in-Ok-run-clause-told g c =
     (subst (λ (lists : List (List ℤ)). IsReached p lists spent o) on_zeros
     (subst (λ (t : Typed). IsReached (code_of t) given spent o) c.in-Ok.ensures.accepted c.in-Ok-run.ensures.reached)) in
     told_of_run (chars c.args.text.now) (g.O.Write.contents c.args.out.now) (g.O.Write.contents c.show.new.out) c.show.result
-    p (map array c.deref.result.now) o c.in_ok-typed.ensures.code c.in-Ok.ensures.race_free reached
+    p (map array c.deref.result.now) o c.in_ok-typed.ensures.code c.in-Ok.ensures.clash_free reached
     c.show.ensures.text c.show.ensures.status
     (ap (map array) c.deref.ensures.value
     ∙ ap (λ (q : _). map array q.arrays.items) c.code.ensures.field
