@@ -1,30 +1,33 @@
 //! Laws of the definitions, each the contract of a function that does nothing.
 
-ghost use Rattle.std.specs.Prelude.{◌≡◌, ◌⊎◌, ◌↔◌, ℕ, ℤ, List, [], ◌∷◌, map, length, Bool, true, false};
-ghost use Rattle.std.specs.Prelude.{Some};
-ghost use Rattle.types.specs.Code.{Number, Truth, Primitive, Code, Do, Split, Call, Codes, End, Then};
-ghost use Rattle.types.specs.Code.{Procedure, Program};
-ghost use Rattle.types.specs.Place.{Place, Window, sides_of};
+ghost use Rattle.std.specs.Prelude.{◌≡◌, ◌⊎◌, ◌↔◌, ℕ, ℤ, List, [], ◌∷◌, map, length, Bool, true};
+ghost use Rattle.std.specs.Prelude.{false, Some};
+ghost use Rattle.sections.specs.Place.{Place, Window, sides_of};
+ghost use Rattle.sections.specs.Member.{Member};
+ghost use Rattle.sections.specs.Origins.{IsNumbered};
+ghost use Rattle.sections.specs.Overlap.{overlap};
+ghost use Rattle.sections.specs.Placed.{Apart};
+ghost use Rattle.types.specs.Code.{Number, Truth, Primitive, Code, Do, Split, Call, Codes, End};
+ghost use Rattle.types.specs.Code.{Then, Procedure, Program};
 ghost use Rattle.types.specs.Indexed.{indexed, indexed_truth};
 ghost use Rattle.types.specs.Value.{Environment, number, truth};
-ghost use Rattle.types.specs.Run.{State, Rules, Work, run, primitive, procedure_of, entry, with_sides};
+ghost use Rattle.types.specs.Run.{State, Rules, Work, run, primitive, procedure_of, entry};
+ghost use Rattle.types.specs.Run.{with_sides};
 ghost use Rattle.types.specs.Meaning.{one_rules};
 ghost use Rattle.types.specs.Outcome.{whole_arrays};
-ghost use Rattle.effects.specs.Member.{Member};
 ghost use Rattle.effects.specs.Accesses.{Access, own_accesses, reads};
 ghost use Rattle.effects.specs.Effects.{accesses, labels, AllOf, All, PendingOf, Pending};
 ghost use Rattle.effects.specs.Rows.{AllInside, LeftBy, SolvesAll, SolvesPending};
-ghost use Rattle.effects.specs.Footprint.{Touches, Overwrites, MayTouch, MayWrite, MayTouchOf, MayWriteOf};
-ghost use Rattle.effects.specs.Footprint.{MayStillTouch, MayStillWrite, MayStillTouchOf};
-ghost use Rattle.effects.specs.Footprint.{MayStillWriteOf};
+ghost use Rattle.effects.specs.Footprint.{Touches, Overwrites, MayTouch, MayWrite, MayTouchOf};
+ghost use Rattle.effects.specs.Footprint.{MayWriteOf, MayStillTouch, MayStillWrite};
+ghost use Rattle.effects.specs.Footprint.{MayStillTouchOf, MayStillWriteOf};
 ghost use Rattle.effects.specs.Tables.{Table, all_in, left_in, alls_after, pendings_after};
 ghost use Rattle.effects.specs.Tables.{IsDerived, IsDerivedPending, IsStable, IsStablePending};
 ghost use Rattle.effects.specs.Rounds.{possible, summaries, pending_summaries, needs_of};
 ghost use Rattle.effects.specs.Needs.{Provides, needs_in};
-ghost use Rattle.effects.specs.Overlap.{overlap, IsNumbered};
-ghost use Rattle.effects.specs.Sound.{Allowed, SplitsWell, PassesWell, is_writable, parameters_of};
-ghost use Rattle.effects.specs.Sound.{main_of, IsSoundIn, IsSound};
-ghost use Rattle.effects.specs.Fits.{Fits, Apart};
+ghost use Rattle.effects.specs.Sound.{Allowed, SplitsWell, PassesWell, is_writable};
+ghost use Rattle.effects.specs.Sound.{parameters_of, main_of, IsSoundIn, IsSound};
+ghost use Rattle.effects.specs.Fits.{Fits};
 ghost use Rattle.effects.specs.Kept.{SameWindows, KeepsWindows, WorkFollows};
 
 /// All and Pending are solutions of the table's rows, and the least of them: of accesses, and of
@@ -131,15 +134,6 @@ pub fn steps_keep_to_their_own_accesses<X>()
     ensures written { (p : Program) (l : ℕ) (q : Place) (s : Primitive) (st : State X)
         → (Overwrites st.environment (λ x. Member x (own_accesses l (Do s))) q → ⊥)
         → (primitive p l s st).store q ≡ st.store q }
-{}
-
-/// Where an environment fits, two disjoint names, one of which may be written, share no place.
-pub fn disjoint_names_share_no_place()
-    ensures { (p : Program) (g : Procedure) (scope : List ℕ) (env : Environment)
-        → IsNumbered g.sections → Fits p g scope env
-        → (a b : ℕ) → Member a scope → Member b scope → overlap g.sections a b ≡ false
-        → (is_writable g a ≡ true) ⊎ (is_writable g b ≡ true)
-        → Apart (env.windows a) (env.windows b) }
 {}
 
 /// The environment of `main` fits at its start, and it stays so: in the block of a split, behind

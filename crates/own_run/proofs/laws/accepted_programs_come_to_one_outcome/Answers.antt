@@ -1,5 +1,5 @@
 use Rattle.std.proofs.Common.{sym}
-use Rattle.own_run.proofs.Joining.{settled, apart, complete}
+use Rattle.own_run.proofs.AcceptedPrograms.{settled, apart, complete}
 use Rattle.own_run.proofs.laws.accepted_programs_come_to_one_outcome.Goals as goal
 
 pub returns-clause-apart : goal.returns-clause-apart
