@@ -17,8 +17,8 @@ use std::alloc::{AllocError, Global};
 use types::input::Input;
 use types::typed::Typed;
 
-/// Numbers at places of the arrays. Each is owned, so that it may be written and carved out, or a copy. A
-/// copy of a place that is owned counts for nothing.
+/// Numbers at places of the arrays. Each is owned, so that it may be written and carved out, or a
+/// copy. An owned place hides its copy.
 #[derive(Drop)]
 pub struct Holdings {
     pub(crate) owned: Vec<Fragment>,
@@ -73,7 +73,8 @@ impl Holdings {
             ≡ put (record { array = array.number; index = index }) (Owned value) (held self.old)) }
         ensures owned { OnOk result
             (IsSome (owned (held self.old) (record { array = array.number; index = index }))) }
-        ensures refused { IfErr result (λ e. (e ≡ HoldError.NotHeld) × (held self.new ≡ held self.old)
+        ensures refused { IfErr result (λ e. (e ≡ HoldError.NotHeld)
+            × (held self.new ≡ held self.old)
             × (owned (held self.old) (record { array = array.number; index = index }) ≡ None)) }
     {
         let place = Place { array, index };
