@@ -1,11 +1,13 @@
 -- The Rust types as plain trees, without what says where they lie in memory.
 use Rattle.std.specs.Prelude.{ℤ, List, [], ◌∷◌, map, pos}
 use Rattle.std.specs.String.{string_bytes}
+use Rattle.sections.specs.Place.{nowhere}
+use Rattle.sections.specs.Translation.{section, window}
+use Rattle.sections.specs.Tree.{origins_of}
 use Rattle.types.specs.Code.{Number, Literal, Scalar, Element, Length, Negative, Chain, Links, Done, Link, Truth}
 use Rattle.types.specs.Code.{Constant, Compare, Not, Both, Either, Truths, NoMore, Also, Primitive, Skip, Assign, Store}
-use Rattle.types.specs.Code.{Print, Raise, Code, Do, If, While, Split, Call, Async, Finish, Codes, End, Then, Origin}
-use Rattle.types.specs.Code.{Root, Left, Right, Array, Parameter, Procedure, Program}
-use Rattle.types.specs.Place.{Window, nowhere}
+use Rattle.types.specs.Code.{Print, Raise, Code, Do, If, While, Split, Call, Async, Finish, Codes, End, Then}
+use Rattle.types.specs.Code.{Array, Parameter, Procedure, Program}
 use Rattle.types.specs.Value.{Environment}
 use Rattle.types.specs.Run.{Fault, by_number}
 use Rattle.types.specs.Outcome.{Budget, Outcome, Ended, Halted}
@@ -22,13 +24,10 @@ use Rattle.types.specs.declared.code.Stmt.{Stmt}
 use Rattle.types.specs.declared.code.StmtKind.{StmtKind, Row_of-Stmt, end_of-Stmt, more_of-Stmt}
 use Rattle.types.specs.declared.code.StmtKind.TheVariants.{Do as rDo, If' as rIf, While' as rWhile, Split' as rSplit}
 use Rattle.types.specs.declared.code.StmtKind.TheVariants.{Call as rCall, Async' as rAsync, Finish' as rFinish}
-use Rattle.types.specs.declared.code.Origin.{Origin as rOrigin}
-use Rattle.types.specs.declared.code.Origin.TheVariants.{Root as rRoot, Left as rLeft, Right as rRight}
 use Rattle.types.specs.declared.code.Array.{Array as rArray}
 use Rattle.types.specs.declared.code.SectionParameter.{SectionParameter}
 use Rattle.types.specs.declared.code.Procedure.{Procedure as rProcedure}
 use Rattle.types.specs.declared.code.Program.{Program as rProgram}
-use Rattle.types.specs.declared.window.Window.{Window as rWindow}
 use Rattle.types.specs.declared.value.Environment.{Environment as rEnvironment}
 use Rattle.types.specs.declared.fault.Fault.{Fault as rFault}
 use Rattle.types.specs.declared.budget.Budget.{Budget as rBudget}
@@ -40,9 +39,9 @@ abbrev mutual
   -- an expression for a number
   pub number : rNumber → Number
   number (rLiteral n) = Literal n
-  number (rScalar x) = Scalar x
-  number (rElement s p e) = Element s (number e)
-  number (rLength s) = Length s
+  number (rScalar x) = Scalar x.number
+  number (rElement s p e) = Element s.number (number e)
+  number (rLength s) = Length s.number
   number (rNegative p e) = Negative (number e)
   number (rChain p e q more) = Chain (number e) (links more)
 
@@ -66,8 +65,8 @@ abbrev mutual
 -- a statement that runs in one step
 abbrev pub primitive : rPrimitive → Primitive
 primitive rSkip = Skip
-primitive (rAssign x e) = Assign x (number e)
-primitive (rStore s i e) = Store s (number i) (number e)
+primitive (rAssign x e) = Assign x.number (number e)
+primitive (rStore s i e) = Store s.number (number i) (number e)
 primitive (rPrint es) = Print (map number es.items)
 primitive (rRaise e) = Raise (number e)
 
@@ -77,8 +76,8 @@ abbrev mutual
   code (rDo s) = Do (primitive s)
   code (rIf t p b q c) = If (truth t) (row_codes b) (row_codes c)
   code (rWhile t p b) = While (truth t) (row_codes b)
-  code (rSplit s e l r p b) = Split s (number e) l r (row_codes b)
-  code (rCall f es ss) = Call f (map number es.items) ss.items
+  code (rSplit s e l r p b) = Split s.number (number e) l.number r.number (row_codes b)
+  code (rCall f es ss) = Call f.number (map number es.items) (map section ss.items)
   code (rAsync p b) = Async (row_codes b)
   code (rFinish p b) = Finish (row_codes b)
 
@@ -90,12 +89,6 @@ abbrev mutual
 abbrev pub codes : List Stmt → Codes
 codes [] = End
 codes (s ∷ rest) = Then s.label (code s.kind) (codes rest)
-
--- where a section comes from
-abbrev pub origin : rOrigin → Origin
-origin rRoot = Root
-origin (rLeft s) = Left s
-origin (rRight s) = Right s
 
 -- a declared array
 abbrev pub array : rArray → Array
@@ -111,7 +104,7 @@ procedure f = record {
   parameters = map parameter f.parameters.items;
   scalars = f.scalars;
   slots = f.slots;
-  sections = map (λ s. origin s.origin) f.sections.items;
+  sections = origins_of f.sections;
   body = codes f.body.items;
 }
 
@@ -143,10 +136,6 @@ outcome (rEnded arrays lines faults) = Ended (record {
   faults = map fault faults.items;
 })
 outcome rStopped = Halted
-
--- a window
-abbrev pub window : rWindow → Window
-window w = record { array = w.array; at = w.at; length = w.len }
 
 -- what a frame knows
 abbrev pub environment : rEnvironment → Environment

@@ -3,6 +3,9 @@
 
 ghost use Rattle.std.specs.Prelude.{◌≤◌};
 
+use crate::ids::{ProcedureId, Slot};
+use sections::id::SectionId;
+use sections::tree::SectionTree;
 use syntax::tree::{ElementType, Relation};
 
 /// A statement's number in the order of the text, from 1.
@@ -37,7 +40,9 @@ pub struct Procedure {
     /// How many slots a frame of it has, scalar parameters among them.
     pub slots: usize,
     /// Where each section comes from.
-    pub sections: Vec<Section>,
+    pub sections: SectionTree,
+    /// The name of each section.
+    pub section_names: Vec<String>,
     pub body: Vec<Stmt>,
 }
 
@@ -47,24 +52,6 @@ pub struct SectionParameter {
     /// `mut`
     pub may_write: bool,
     pub element: ElementType,
-}
-
-/// A section of a procedure: its name and where it comes from.
-#[derive(Drop)]
-pub struct Section {
-    pub name: String,
-    pub origin: Origin,
-}
-
-/// Where a section comes from. The two sides of a split are numbered in turn.
-#[derive(Clone, Copy, PartialEq, Eq, Debug)]
-pub enum Origin {
-    /// An array, or a section parameter.
-    Root,
-    /// The left side of a split of `parent`.
-    Left { parent: usize },
-    /// The right side of a split of `parent`.
-    Right { parent: usize },
 }
 
 /// A statement with its label.
@@ -94,17 +81,17 @@ pub enum StmtKind {
     },
     /// `split s at 2 as l, r { .. }`
     Split {
-        section: usize,
+        section: SectionId,
         at: Number,
-        left: usize,
-        right: usize,
+        left: SectionId,
+        right: SectionId,
         body: Vec<Stmt>,
     },
     /// `f(a, 1);`
     Call {
-        procedure: usize,
+        procedure: ProcedureId,
         values: Vec<Number>,
-        sections: Vec<usize>,
+        sections: Vec<SectionId>,
     },
     /// `async { .. }`
     Async {
@@ -123,12 +110,12 @@ pub enum Primitive {
     Skip,
     /// `x = 1;`, and `var x = 1;`
     Assign {
-        slot: usize,
+        slot: Slot,
         value: Number,
     },
     /// `a[0] = 7;`
     Store {
-        section: usize,
+        section: SectionId,
         index: Number,
         value: Number,
     },
@@ -149,15 +136,25 @@ pub enum Number {
     /// `7`, never negative.
     Literal(i64),
     /// `x`
-    Scalar { slot: usize },
+    Scalar {
+        slot: Slot,
+    },
     /// `a[0]`
-    Element { section: usize, index: Box<Number> },
+    Element {
+        section: SectionId,
+        index: Box<Number>,
+    },
     /// `len(a)`
-    Length { section: usize },
+    Length {
+        section: SectionId,
+    },
     /// `-x`
     Negative(Box<Number>),
     /// `x + 1 - y`, or `x * 2 % y`: the first operand and the others in turn.
-    Chain { first: Box<Number>, rest: Vec<Link> },
+    Chain {
+        first: Box<Number>,
+        rest: Vec<Link>,
+    },
 }
 
 /// An operator of a chain and the operand behind it.
