@@ -32,7 +32,7 @@ name_of None = []
 -- an access as a message tells it: `2 write a`
 abbrev pub access_text : List Array → Access → List ℕ
 access_text arrays a =
-    decimal a.label ++ (codes " " ++ (kind_of a.write ++ (codes " " ++ name_of (slice_get arrays a.section))))
+    decimal a.label ++ (codes " " ++ (kind_of a.write ++ (codes " " ++ name_of (slice_get arrays a.array.number))))
 
 -- a race is told by both its accesses, if there is memory for it
 abbrev pub TellsRefusal : Refused → Failure → Type 0

@@ -10,6 +10,7 @@ use syntax::error::SyntaxError;
 use thiserror::Error;
 use types::code::Array;
 use types::error::TypeError;
+use types::ids::ArrayId;
 use workers::check::Refused;
 use workers::race::Access;
 use workers::run::RunError;
@@ -101,7 +102,7 @@ fn told(alloc: Global, arrays: &[Array], access: Access) -> Result<String, Alloc
 {
     let label = access.label;
     let kind = kind(access.write);
-    let name = name(arrays, access.section);
+    let name = name(arrays, access.array);
     format!(in alloc; "{label} {kind} {name}")
 }
 
@@ -113,10 +114,10 @@ fn kind(write: bool) -> &'static str
 }
 
 /// The name of an array.
-fn name(arrays: &[Array], section: usize) -> &str
-    ensures { result.now ≡ name_of (slice_get arrays.now section) }
+fn name(arrays: &[Array], array: ArrayId) -> &str
+    ensures { result.now ≡ name_of (slice_get arrays.now array.number) }
 {
-    match arrays.get(section) {
+    match arrays.get(array.number) {
         Some(array) => array.name.as_str(),
         None => "",
     }

@@ -6,9 +6,8 @@ use Rattle.types.specs.declared.fault.FaultKind.TheVariants.{OutOfElement, Split
 use Rattle.types.specs.declared.window.Place.{Place as rPlace}
 use Rattle.types.specs.declared.window.Window.{Window as rWindow}
 use Rattle.types.specs.Code.{Number, Program}
-use Rattle.types.specs.Reading.{place}
 use Rattle.types.specs.Place.{Place, Window, sides_of}
-use Rattle.types.specs.Translation.{window}
+use Rattle.types.specs.Translation.{place, window}
 use Rattle.types.specs.Run.{State, number_at, window_at, array_of}
 use Rattle.types.specs.Value.{Valued, then_try, element_of, holds_number}
 

@@ -17,12 +17,12 @@ impl Places for Store {
     ghost use Rattle.types.specs.Contents.{read as read_of};
     ghost use Rattle.serial_run.specs.Lists.{contents_of};
 
-    ghost number_at = { λ s array index. read_of (contents_of s) (record { array = array; index = index }) };
+    ghost numbers = { λ s. read_of (contents_of s) };
 
-    fn read(&self, array: usize, index: usize) -> i64 {
-        match self.arrays.get(array) {
+    fn read(&self, place: Place) -> i64 {
+        match self.arrays.get(place.array.number) {
             None => 0,
-            Some(contents) => match contents.get(index) {
+            Some(contents) => match contents.get(place.index) {
                 None => 0,
                 Some(value) => *value,
             },
@@ -34,7 +34,7 @@ impl Store {
     ghost use Rattle.types.specs.Translation.{input as lists_in};
     ghost use Rattle.serial_run.specs.Lists.{lists_of};
     ghost use Rattle.types.specs.Contents.{write as written};
-    ghost use Rattle.types.specs.Reading.{place as place_of};
+    ghost use Rattle.types.specs.Translation.{place as place_of};
     ghost use Rattle.serial_run.specs.Lists.{contents_of, lengths_of};
 
     /// The contents as a run begins.
@@ -54,10 +54,10 @@ impl Store {
         ensures written { OnOk result (contents_of self.new ≡ written (place_of place) value (contents_of self.old)) }
         ensures lengths { lengths_of self.new ≡ lengths_of self.old }
     {
-        if place.array >= self.arrays.len() {
+        if place.array.number >= self.arrays.len() {
             return Err(AllocError);
         }
-        let contents = &mut self.arrays[place.array];
+        let contents = &mut self.arrays[place.array.number];
         if place.index >= contents.len() {
             return Err(AllocError);
         }

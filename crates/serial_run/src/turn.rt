@@ -17,6 +17,7 @@ use crate::thread::{Flow, Plan, Thread};
 use std::alloc::AllocError;
 use types::code::{Label, Number, Stmt, StmtKind, Truth};
 use types::fault::{Fault, FaultKind};
+use types::ids::{ProcedureId, SectionId};
 use types::window::Window;
 
 /// What a frame does, once those above it are done.
@@ -263,8 +264,8 @@ fn turn_loop<'p>(
 }
 
 /// Both sides of a section, or F5 where it has no such place.
-fn sides(thread: &Thread, section: usize, at: &Number) -> Result<(Window, Window), FaultKind>
-    ensures { cut result ≡ halves (state_of thread.now) section (number_of at.now) }
+fn sides(thread: &Thread, section: SectionId, at: &Number) -> Result<(Window, Window), FaultKind>
+    ensures { cut result ≡ halves (state_of thread.now) section.number (number_of at.now) }
 {
     let at = thread.number(at)?;
     let at = u64::try_from(at).map_err(|_| FaultKind::SplitPoint)?;
@@ -278,14 +279,14 @@ fn call<'p>(
     thread: &mut Thread,
     frames: &mut Vec<Frame<'p>>,
     label: Label,
-    procedure: usize,
+    procedure: ProcedureId,
     values: &[Number],
-    sections: &[usize],
+    sections: &[SectionId],
 ) -> Result<(), AllocError>
     requires { thread.old.flow ≡ Flow.On }
     ensures meaning { let p = program_of plan.entry.program.now in let fresh = plan.entry.fresh in
         OnOk result (resume p fresh frames.new.items (standing thread.new)
-        ≡ resume p fresh frames.old.items (acted p fresh label (Call procedure (map number_of values.now) sections.now) (standing thread.old))) }
+        ≡ resume p fresh frames.old.items (acted p fresh label (Call procedure.number (map number_of values.now) (map (λ s. s.number) sections.now)) (standing thread.old))) }
     ensures lengths { OnOk result (lengths_of thread.new.store ≡ lengths_of thread.old.store) }
     ensures ends { let fresh = plan.entry.fresh in
         OnOk result (turns_left fresh thread.new frames.new.items
@@ -295,7 +296,7 @@ fn call<'p>(
         Err(kind) => return thread.fault(plan, label, kind),
         Ok(values) => values,
     };
-    match plan.program.procedures.get(procedure) {
+    match plan.program.procedures.get(procedure.number) {
         None => Ok(()),
         Some(procedure) => {
             let entry = thread.entry(plan, procedure, values, sections)?;

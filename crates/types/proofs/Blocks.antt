@@ -4,6 +4,7 @@ use mathlib.Core.Former.{Count}
 use Rattle.types.specs.Code.{If, While, Split, Async, Finish, Then}
 use Rattle.types.specs.Translation.{number, truth, code, row_codes, codes}
 use Rattle.types.specs.declared.code.Number.{Number}
+use Rattle.types.specs.declared.ids.SectionId.{SectionId}
 use Rattle.types.specs.declared.code.Truth.{Truth}
 use Rattle.types.specs.declared.code.Stmt.{Stmt}
 use Rattle.types.specs.declared.code.StmtKind.{StmtKind, Row_of-Stmt, end_of-Stmt, more_of-Stmt, items-the_row-Stmt}
@@ -37,9 +38,10 @@ code_Async v = let r = block_in (rAsync v) in ap Async (row_codes_are r.0 r.1 �
 pub code_Finish : (v : Vec Stmt Global) → code (rFinish v) ≡ Finish (codes v.items)
 code_Finish v = let r = block_in (rFinish v) in ap Finish (row_codes_are r.0 r.1 ∙ ap codes (items_hidden-the_row-Stmt-0 v))
 
-pub code_Split : (s : ℕ) (e : Number) (l r : ℕ) (v : Vec Stmt Global) → code (rSplit s e l r v) ≡ Split s (number e) l r (codes v.items)
+pub code_Split : (s : SectionId) (e : Number) (l r : SectionId) (v : Vec Stmt Global)
+    → code (rSplit s e l r v) ≡ Split s.number (number e) l.number r.number (codes v.items)
 code_Split s e l r v =
-    let b = block_in (rSplit s e l r v) in ap (Split s (number e) l r) (row_codes_are b.0 b.1 ∙ ap codes (items_hidden-the_row-Stmt-0 v))
+    let b = block_in (rSplit s e l r v) in ap (Split s.number (number e) l.number r.number) (row_codes_are b.0 b.1 ∙ ap codes (items_hidden-the_row-Stmt-0 v))
 
 pub code_If : (t : Truth) (v w : Vec Stmt Global) → code (rIf t v w) ≡ If (truth t) (codes v.items) (codes w.items)
 code_If t v w =

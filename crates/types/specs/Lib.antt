@@ -8,7 +8,6 @@ pub mod Laws
 pub mod Meaning
 pub mod Outcome
 pub mod Place
-pub mod Reading
 pub mod Resolution
 pub mod Rows
 pub mod Rules

@@ -5,7 +5,7 @@ use Rattle.types.specs.Code.{Number, Literal, Scalar, Element, Length, Negative,
 use Rattle.types.specs.Code.{Constant, Compare, Not, Both, Either, Truths, NoMore, Also, Primitive, Skip, Assign, Store}
 use Rattle.types.specs.Code.{Print, Raise, Code, Do, If, While, Split, Call, Async, Finish, Codes, End, Then, Origin}
 use Rattle.types.specs.Code.{Root, Left, Right, Array, Parameter, Procedure, Program}
-use Rattle.types.specs.Place.{Window, nowhere}
+use Rattle.types.specs.Place.{Place, Window, nowhere}
 use Rattle.types.specs.Value.{Environment}
 use Rattle.types.specs.Run.{Fault, by_number}
 use Rattle.types.specs.Outcome.{Budget, Outcome, Ended, Halted}
@@ -28,6 +28,7 @@ use Rattle.types.specs.declared.code.Array.{Array as rArray}
 use Rattle.types.specs.declared.code.SectionParameter.{SectionParameter}
 use Rattle.types.specs.declared.code.Procedure.{Procedure as rProcedure}
 use Rattle.types.specs.declared.code.Program.{Program as rProgram}
+use Rattle.types.specs.declared.window.Place.{Place as rPlace}
 use Rattle.types.specs.declared.window.Window.{Window as rWindow}
 use Rattle.types.specs.declared.value.Environment.{Environment as rEnvironment}
 use Rattle.types.specs.declared.fault.Fault.{Fault as rFault}
@@ -40,9 +41,9 @@ abbrev mutual
   -- an expression for a number
   pub number : rNumber → Number
   number (rLiteral n) = Literal n
-  number (rScalar x) = Scalar x
-  number (rElement s p e) = Element s (number e)
-  number (rLength s) = Length s
+  number (rScalar x) = Scalar x.number
+  number (rElement s p e) = Element s.number (number e)
+  number (rLength s) = Length s.number
   number (rNegative p e) = Negative (number e)
   number (rChain p e q more) = Chain (number e) (links more)
 
@@ -66,8 +67,8 @@ abbrev mutual
 -- a statement that runs in one step
 abbrev pub primitive : rPrimitive → Primitive
 primitive rSkip = Skip
-primitive (rAssign x e) = Assign x (number e)
-primitive (rStore s i e) = Store s (number i) (number e)
+primitive (rAssign x e) = Assign x.number (number e)
+primitive (rStore s i e) = Store s.number (number i) (number e)
 primitive (rPrint es) = Print (map number es.items)
 primitive (rRaise e) = Raise (number e)
 
@@ -77,8 +78,8 @@ abbrev mutual
   code (rDo s) = Do (primitive s)
   code (rIf t p b q c) = If (truth t) (row_codes b) (row_codes c)
   code (rWhile t p b) = While (truth t) (row_codes b)
-  code (rSplit s e l r p b) = Split s (number e) l r (row_codes b)
-  code (rCall f es ss) = Call f (map number es.items) ss.items
+  code (rSplit s e l r p b) = Split s.number (number e) l.number r.number (row_codes b)
+  code (rCall f es ss) = Call f.number (map number es.items) (map (λ s. s.number) ss.items)
   code (rAsync p b) = Async (row_codes b)
   code (rFinish p b) = Finish (row_codes b)
 
@@ -94,8 +95,8 @@ codes (s ∷ rest) = Then s.label (code s.kind) (codes rest)
 -- where a section comes from
 abbrev pub origin : rOrigin → Origin
 origin rRoot = Root
-origin (rLeft s) = Left s
-origin (rRight s) = Right s
+origin (rLeft s) = Left s.number
+origin (rRight s) = Right s.number
 
 -- a declared array
 abbrev pub array : rArray → Array
@@ -144,9 +145,13 @@ outcome (rEnded arrays lines faults) = Ended (record {
 })
 outcome rStopped = Halted
 
+-- a place
+abbrev pub place : rPlace → Place
+place q = record { array = q.array.number; index = q.index }
+
 -- a window
 abbrev pub window : rWindow → Window
-window w = record { array = w.array; at = w.at; length = w.len }
+window w = record { array = w.array.number; at = w.at; length = w.len }
 
 -- what a frame knows
 abbrev pub environment : rEnvironment → Environment

@@ -26,6 +26,7 @@ use crate::code::{
     Array, Label, Number, Origin, Primitive, Procedure, Program, Section, Stmt, StmtKind,
 };
 use crate::error::TypeError;
+use crate::ids::SectionId;
 use crate::typed::Typed;
 use crate::window::MOST_ELEMENTS;
 use indexmap::IndexSet;
@@ -337,18 +338,20 @@ impl Resolver<'_> {
     }
 
     /// The section of a name in scope.
-    fn section(&self, label: Label, name: &String) -> Result<usize, TypeError>
+    fn section(&self, label: Label, name: &String) -> Result<SectionId, TypeError>
         ensures names { OnOk result
             (is_unknown (place_among self.now.sections.now.keys label) (string_bytes name.now)
             ≡ false) }
         ensures code { IfOk result (λ s.
-            section_of (place_among self.now.sections.now.keys label) (string_bytes name.now) ≡ s) }
+            section_of (place_among self.now.sections.now.keys label) (string_bytes name.now)
+            ≡ s.number) }
         ensures error { IfErr result
             (TellsName (place_among self.now.sections.now.keys label) (string_bytes name.now)) }
     {
-        self.sections
-            .get_index_of(name)
-            .ok_or(TypeError::NotInScope { label })
+        match self.sections.get_index_of(name) {
+            None => Err(TypeError::NotInScope { label }),
+            Some(number) => Ok(SectionId { number }),
+        }
     }
 }
 

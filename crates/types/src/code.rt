@@ -3,6 +3,7 @@
 
 ghost use Rattle.std.specs.Prelude.{◌≤◌};
 
+use crate::ids::{ProcedureId, SectionId, Slot};
 use syntax::tree::{ElementType, Relation};
 
 /// A statement's number in the order of the text, from 1.
@@ -62,9 +63,9 @@ pub enum Origin {
     /// An array, or a section parameter.
     Root,
     /// The left side of a split of `parent`.
-    Left { parent: usize },
+    Left { parent: SectionId },
     /// The right side of a split of `parent`.
-    Right { parent: usize },
+    Right { parent: SectionId },
 }
 
 /// A statement with its label.
@@ -94,17 +95,17 @@ pub enum StmtKind {
     },
     /// `split s at 2 as l, r { .. }`
     Split {
-        section: usize,
+        section: SectionId,
         at: Number,
-        left: usize,
-        right: usize,
+        left: SectionId,
+        right: SectionId,
         body: Vec<Stmt>,
     },
     /// `f(a, 1);`
     Call {
-        procedure: usize,
+        procedure: ProcedureId,
         values: Vec<Number>,
-        sections: Vec<usize>,
+        sections: Vec<SectionId>,
     },
     /// `async { .. }`
     Async {
@@ -123,12 +124,12 @@ pub enum Primitive {
     Skip,
     /// `x = 1;`, and `var x = 1;`
     Assign {
-        slot: usize,
+        slot: Slot,
         value: Number,
     },
     /// `a[0] = 7;`
     Store {
-        section: usize,
+        section: SectionId,
         index: Number,
         value: Number,
     },
@@ -149,15 +150,25 @@ pub enum Number {
     /// `7`, never negative.
     Literal(i64),
     /// `x`
-    Scalar { slot: usize },
+    Scalar {
+        slot: Slot,
+    },
     /// `a[0]`
-    Element { section: usize, index: Box<Number> },
+    Element {
+        section: SectionId,
+        index: Box<Number>,
+    },
     /// `len(a)`
-    Length { section: usize },
+    Length {
+        section: SectionId,
+    },
     /// `-x`
     Negative(Box<Number>),
     /// `x + 1 - y`, or `x * 2 % y`: the first operand and the others in turn.
-    Chain { first: Box<Number>, rest: Vec<Link> },
+    Chain {
+        first: Box<Number>,
+        rest: Vec<Link>,
+    },
 }
 
 /// An operator of a chain and the operand behind it.

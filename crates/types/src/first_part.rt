@@ -11,6 +11,7 @@ ghost use Rattle.types.specs.Typed.{code_of};
 ghost use Rattle.types.specs.Value.{holds_number};
 
 use crate::code::{Number, Primitive, Program, Stmt, StmtKind};
+use crate::ids::{ArrayId, SectionId, array_in_main};
 use crate::typed::Typed;
 use syntax::tree::ElementType;
 
@@ -98,9 +99,10 @@ fn primitive_fits(code: &Program, primitive: &Primitive) -> bool
 }
 
 /// A store of a literal at a literal index.
-fn store_fits(code: &Program, array: usize, index: &Number, value: &Number) -> bool
-    ensures { result ≡ store_fits (program code.now) array (number index.now) (number value.now) }
+fn store_fits(code: &Program, section: SectionId, index: &Number, value: &Number) -> bool
+    ensures { result ≡ store_fits (program code.now) section.number (number index.now) (number value.now) }
 {
+    let array = array_in_main(section);
     match (index, value) {
         (Number::Literal(index), Number::Literal(value)) => {
             index_fits(code, array, *index) && value_fits(code, array, *value)
@@ -128,7 +130,7 @@ fn printed_fits(code: &Program, value: &Number) -> bool
     match value {
         Number::Literal(_) => true,
         Number::Element { section, index } => match &**index {
-            Number::Literal(index) => index_fits(code, *section, *index),
+            Number::Literal(index) => index_fits(code, array_in_main(*section), *index),
             _ => false,
         },
         _ => false,
@@ -136,20 +138,20 @@ fn printed_fits(code: &Program, value: &Number) -> bool
 }
 
 /// An index from 0 on, below the length of an array.
-fn index_fits(code: &Program, array: usize, index: i64) -> bool
-    ensures { result ≡ index_fits (program code.now) array index }
+fn index_fits(code: &Program, array: ArrayId, index: i64) -> bool
+    ensures { result ≡ index_fits (program code.now) array.number index }
 {
-    match (code.arrays.get(array), usize::try_from(index)) {
+    match (code.arrays.get(array.number), usize::try_from(index)) {
         (Some(array), Ok(index)) => index < array.length,
         _ => false,
     }
 }
 
 /// A number that the elements of an array hold.
-fn value_fits(code: &Program, array: usize, value: i64) -> bool
-    ensures { result ≡ holds_number (array_of (program code.now) array).element value }
+fn value_fits(code: &Program, array: ArrayId, value: i64) -> bool
+    ensures { result ≡ holds_number (array_of (program code.now) array.number).element value }
 {
-    match code.arrays.get(array) {
+    match code.arrays.get(array.number) {
         Some(array) => match array.element {
             ElementType::Int => true,
             ElementType::Byte => 0 <= value && value < 256,

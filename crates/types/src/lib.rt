@@ -8,6 +8,7 @@ pub mod code;
 pub mod error;
 pub mod fault;
 pub mod first_part;
+pub mod ids;
 pub mod input;
 pub mod laws;
 pub mod outcome;

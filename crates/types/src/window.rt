@@ -3,6 +3,7 @@
 ghost use Rattle.std.specs.Prelude.{◌≡◌, ◌≤◌, ◌<◌, ◌↔◌, ◌+◌, ◌-◌, IsNone, IfSome, IfOk, IfErr};
 
 use crate::fault::FaultKind;
+use crate::ids::ArrayId;
 
 /// How many elements all arrays of a program have together, at most.
 pub const MOST_ELEMENTS: usize = 4_194_304;
@@ -10,7 +11,7 @@ pub const MOST_ELEMENTS: usize = 4_194_304;
 /// `len` places of an array, from the place `at` on.
 #[derive(Clone, Copy, PartialEq, Eq, Debug)]
 pub struct Window {
-    pub array: usize,
+    pub array: ArrayId,
     pub at: usize,
     pub len: usize,
     ghost within: { at + len ≤ 4194304 },
@@ -19,24 +20,23 @@ pub struct Window {
 /// A place of an array.
 #[derive(Clone, Copy, PartialEq, Eq, Debug)]
 pub struct Place {
-    pub array: usize,
+    pub array: ArrayId,
     pub index: usize,
 }
 
 impl Window {
-    ghost use Rattle.types.specs.Reading.{place as place_of};
-    ghost use Rattle.types.specs.Translation.{window as window_of};
+    ghost use Rattle.types.specs.Translation.{place as place_of, window as window_of};
     ghost use Rattle.types.specs.Value.{element_of};
 
     /// The window of no place.
     pub const NOWHERE: Window = Window {
-        array: 0,
+        array: ArrayId { number: 0 },
         at: 0,
         len: 0,
     };
 
     /// A whole array.
-    pub fn of_array(array: usize, length: usize) -> Window
+    pub fn of_array(array: ArrayId, length: usize) -> Window
         requires { length ≤ 4194304 }
         ensures array { result.array ≡ array }
         ensures at { result.at ≡ 0 }

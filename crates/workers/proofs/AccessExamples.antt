@@ -15,10 +15,10 @@ abbrev b : ℕ
 b = 1
 
 abbrev writes : (label section : ℕ) → Access
-writes label section = record { label = label; section = section; write = true }
+writes label section = record { label = label; array = record { number = section }; write = true }
 
 abbrev reads : (label section : ℕ) → Access
-reads label section = record { label = label; section = section; write = false }
+reads label section = record { label = label; array = record { number = section }; write = false }
 
 -- b[0] = 1; async { a[0] = 1; }
 abbrev writer : Codes

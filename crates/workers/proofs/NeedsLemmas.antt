@@ -31,13 +31,13 @@ need_by-or false false false write = refl
 
 -- one access more changes the need of its array
 need_in-push : (xs : List Access) (x : Access) (section : ℕ) → need_in (xs ++ x ∷ []) section
-    ≡ (if nat_eq x.section section then more (need_in xs section) x.write else need_in xs section)
+    ≡ (if nat_eq x.array.number section then more (need_in xs section) x.write else need_in xs section)
 need_in-push xs x section =
-    let writes = λ (y : Access). nat_eq y.section section && y.write in
-    let names = λ (y : Access). nat_eq y.section section in
+    let writes = λ (y : Access). nat_eq y.array.number section && y.write in
+    let names = λ (y : Access). nat_eq y.array.number section in
     ap (λ b. need_by b (list_any names (xs ++ x ∷ []))) (list_any-append writes xs (x ∷ []))
-    ∙ ap (need_by (list_any writes xs || (nat_eq x.section section && x.write || false))) (list_any-append names xs (x ∷ []))
-    ∙ need_by-or (list_any writes xs) (list_any names xs) (nat_eq x.section section) x.write
+    ∙ ap (need_by (list_any writes xs || (nat_eq x.array.number section && x.write || false))) (list_any-append names xs (x ∷ []))
+    ∙ need_by-or (list_any writes xs) (list_any names xs) (nat_eq x.array.number section) x.write
 
 -- who accesses nothing needs nothing
 pub needs_in-nil : (arrays : ℕ) → replicate arrays Nothing ≡ needs_in [] arrays
@@ -47,20 +47,20 @@ needs_in-nil arrays =
 
 -- the needs with that of the array of x after x
 abbrev with_access : List Need → Access → List Need
-with_access needs x = set needs x.section (more (get_or needs x.section Nothing) x.write)
+with_access needs x = set needs x.array.number (more (get_or needs x.array.number Nothing) x.write)
 
 -- the other needs stay
 get_or-with_access : (needs : List Need) (x : Access) (k : ℕ) → k < length needs → get_or (with_access needs x) k Nothing
-    ≡ (if nat_eq x.section k then more (get_or needs k Nothing) x.write else get_or needs k Nothing)
-get_or-with_access needs x k below = elim (cases_eq x.section k) [
-  | inl same ↦ grind (arith, nat_tests, get_or-set_same needs x.section (more (get_or needs x.section Nothing) x.write) Nothing)
+    ≡ (if nat_eq x.array.number k then more (get_or needs k Nothing) x.write else get_or needs k Nothing)
+get_or-with_access needs x k below = elim (cases_eq x.array.number k) [
+  | inl same ↦ grind (arith, nat_tests, get_or-set_same needs x.array.number (more (get_or needs x.array.number Nothing) x.write) Nothing)
   | inr other ↦ grind
-      (arith, nat_tests, get_or-set_other needs x.section k (more (get_or needs x.section Nothing) x.write) Nothing)
+      (arith, nat_tests, get_or-set_other needs x.array.number k (more (get_or needs x.array.number Nothing) x.write) Nothing)
 ]
 
 -- one access more changes the needs so
 needs_in-push : (xs : List Access) (x : Access) (arrays : ℕ) → with_access (needs_in xs arrays) x ≡ needs_in (xs ++ x ∷ []) arrays
-needs_in-push xs x arrays = fill_by_all (need_in (xs ++ x ∷ [])) _ arrays Nothing (length-set needs x.section _ ∙ long) each
+needs_in-push xs x arrays = fill_by_all (need_in (xs ++ x ∷ [])) _ arrays Nothing (length-set needs x.array.number _ ∙ long) each
   where
     needs : List Need
     needs = needs_in xs arrays
@@ -71,7 +71,7 @@ needs_in-push xs x arrays = fill_by_all (need_in (xs ++ x ∷ [])) _ arrays Noth
     each : (k : ℕ) → k < arrays → get_or (with_access needs x) k Nothing ≡ need_in (xs ++ x ∷ []) k
     each k below =
         get_or-with_access needs x k (omega (arith, long))
-        ∙ ap (λ n. if nat_eq x.section k then more n x.write else n)
+        ∙ ap (λ n. if nat_eq x.array.number k then more n x.write else n)
         (get_or-map-range_with_len (need_in xs) 0 arrays k k Nothing below (omega arith))
         ∙ sym (need_in-push xs x k)
 
@@ -90,13 +90,13 @@ module _ (xs : List Access) (i : ℕ) (d : Access) (arrays : ℕ) (needs : List 
       ∙ ap (λ ys. needs_in ys arrays) (sym (take_more xs i d left))
 
   -- it names one of the arrays, whose need was this
-  pub needs_in_changed : (need : Need) → i < length xs → needs ≡ needs_in (take i xs) arrays → here.section < length needs
-      → need ≡ get_or needs here.section need → set needs here.section (more need here.write) ≡ needs_in (take (i + 1) xs) arrays
+  pub needs_in_changed : (need : Need) → i < length xs → needs ≡ needs_in (take i xs) arrays → here.array.number < length needs
+      → need ≡ get_or needs here.array.number need → set needs here.array.number (more need here.write) ≡ needs_in (take (i + 1) xs) arrays
   needs_in_changed need left so_far within is =
-      ap (λ n. set needs here.section (more n here.write)) (get_or_read needs here.section need within is Nothing)
+      ap (λ n. set needs here.array.number (more n here.write)) (get_or_read needs here.array.number need within is Nothing)
       ∙ needs_with_here left so_far
 
   -- it names none of them
-  pub needs_in_same : i < length xs → needs ≡ needs_in (take i xs) arrays → length needs ≤ here.section
+  pub needs_in_same : i < length xs → needs ≡ needs_in (take i xs) arrays → length needs ≤ here.array.number
       → needs ≡ needs_in (take (i + 1) xs) arrays
-  needs_in_same left so_far past = sym (set_past needs here.section _ past) ∙ needs_with_here left so_far
+  needs_in_same left so_far past = sym (set_past needs here.array.number _ past) ∙ needs_with_here left so_far

@@ -17,8 +17,8 @@ reads_are_no_clash x y before reads also =
     neither false false false e f = refl
 
     by : (swapped : Bool) → is_clash (if swapped then record { first = y; second = x } else record { first = x; second = y }) ≡ false
-    by true = neither (nat_eq y.section x.section) y.write x.write also reads
-    by false = neither (nat_eq x.section y.section) x.write y.write reads also
+    by true = neither (nat_eq y.array.number x.array.number) y.write x.write also reads
+    by false = neither (nat_eq x.array.number y.array.number) x.write y.write reads also
 
 -- a read is told with the same as with the writes alone
 pub told_with_writes : (x : Access) (ys : List Access) (before : Option Meeting) → x.write ≡ false

@@ -5,12 +5,12 @@ use Rattle.workers.specs.declared.race.Access.{Access}
 
 -- an element at a literal index reads its array
 abbrev pub read_of : (label : ℕ) → Number → Option Access
-read_of l (Element section index) = Some (record { label = l; section = section; write = false })
+read_of l (Element section index) = Some (record { label = l; array = record { number = section }; write = false })
 read_of l _ = None
 
 -- what a statement of one step does: a store writes its array, a print reads each array that it indexes
 abbrev pub own_of : (label : ℕ) → Primitive → List Access
-own_of l (Store section index value) = record { label = l; section = section; write = true } ∷ []
+own_of l (Store section index value) = record { label = l; array = record { number = section }; write = true } ∷ []
 own_of l (Print values) = filter_map (read_of l) values
 own_of l _ = []
 

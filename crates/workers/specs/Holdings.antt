@@ -75,10 +75,10 @@ trouble_of (Ok numbers) = Ok tt
 trouble_of (Err trouble) = Err trouble
 
 -- what a body that makes these accesses needs of an array: all of it where it writes, and a copy where it only reads
-abbrev pub need_in : List Access → (section : ℕ) → Need
-need_in accesses section =
-    if list_any (λ a. nat_eq a.section section && a.write) accesses then Whole
-    else (if list_any (λ a. nat_eq a.section section) accesses then Copy else Nothing)
+abbrev pub need_in : List Access → (array : ℕ) → Need
+need_in accesses array =
+    if list_any (λ a. nat_eq a.array.number array && a.write) accesses then Whole
+    else (if list_any (λ a. nat_eq a.array.number array) accesses then Copy else Nothing)
 
 -- the need of an array after one more access
 abbrev pub more : Need → (write : Bool) → Need

@@ -14,14 +14,14 @@ is_less xs [] = false
 is_less [] (y ∷ ys) = true
 is_less (x ∷ xs) (y ∷ ys) = if nat_eq x y then is_less xs ys else nat_lt x y
 
--- accesses are ordered by label, then section, then kind
+-- accesses are ordered by label, then array, then kind
 abbrev pub access_key : Access → List ℕ
-access_key x = x.label ∷ x.section ∷ kind_number x.write ∷ []
+access_key x = x.label ∷ x.array.number ∷ kind_number x.write ∷ []
 
 -- meetings are ordered by both labels, then by what each access is
 abbrev pub meeting_key : Meeting → List ℕ
 meeting_key m =
-    m.first.label ∷ m.second.label ∷ m.first.section ∷ kind_number m.first.write ∷ m.second.section
+    m.first.label ∷ m.second.label ∷ m.first.array.number ∷ kind_number m.first.write ∷ m.second.array.number
     ∷ kind_number m.second.write ∷ []
 
 -- a pair has no order: the lesser access is the meeting's first
@@ -34,7 +34,7 @@ meeting_of p =
 
 -- both are of one array, and at least one writes
 abbrev pub is_clash : Meeting → Bool
-is_clash m = nat_eq m.first.section m.second.section && (m.first.write || m.second.write)
+is_clash m = nat_eq m.first.array.number m.second.array.number && (m.first.write || m.second.write)
 
 -- a meeting of two of the accesses that may happen together, which clash
 pub record IsClash (together : List (Access × Access)) (m : Meeting) : Type 0 where

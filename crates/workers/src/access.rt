@@ -9,6 +9,7 @@ ghost use Rattle.workers.specs.Accesses.{accesses as accesses_by, accesses_in as
 use crate::race::Access;
 use std::alloc::{AllocError, Global};
 use types::code::{Label, Number, Primitive, Stmt, StmtKind};
+use types::ids::array_in_main;
 
 /// Every access in a list of statements.
 #[cycle(accesses)]
@@ -47,7 +48,7 @@ fn own(alloc: Global, label: Label, primitive: &Primitive) -> Result<Vec<Access>
             let mut found = Vec::new(alloc);
             found.push(Access {
                 label,
-                section: *section,
+                array: array_in_main(*section),
                 write: true,
             })?;
             Ok(found)
@@ -75,7 +76,7 @@ fn read(label: Label, value: &Number) -> Option<Access>
     match value {
         Number::Element { section, .. } => Some(Access {
             label,
-            section: *section,
+            array: array_in_main(*section),
             write: false,
         }),
         _ => None,

@@ -14,6 +14,7 @@ use std::alloc::{AllocError, Global};
 use std::mem;
 use syntax::tree::ElementType;
 use types::fault::FaultKind;
+use types::ids::ArrayId;
 use types::input::Input;
 
 /// What a task has of an array.
@@ -66,10 +67,10 @@ impl Contents {
     }
 
     /// An element.
-    pub fn read(&self, section: usize, index: i64) -> Result<i64, Trouble>
-        ensures { result ≡ read_from (slice_get (holdings self.now) section) index }
+    pub fn read(&self, array: ArrayId, index: i64) -> Result<i64, Trouble>
+        ensures { result ≡ read_from (slice_get (holdings self.now) array.number) index }
     {
-        match self.arrays.get(section) {
+        match self.arrays.get(array.number) {
             Some(Held::Owned(numbers)) => element(numbers, index),
             Some(Held::Copied(numbers)) => element(numbers, index),
             _ => Err(Trouble::Absent),
@@ -79,21 +80,21 @@ impl Contents {
     /// Stores a number in an element of an array of this type. After an error nothing is changed.
     pub fn write(
         &mut self,
-        section: usize,
+        array: ArrayId,
         kind: ElementType,
         index: i64,
         value: i64,
     ) -> Result<(), Trouble>
-        ensures answer { let there = slice_get (holdings self.old) section in
+        ensures answer { let there = slice_get (holdings self.old) array.number in
             result ≡ trouble_of (stored_in there kind index value) }
-        ensures stored { let there = slice_get (holdings self.old) section in
+        ensures stored { let there = slice_get (holdings self.old) array.number in
             holdings self.new
-            ≡ with_stored (holdings self.old) section (stored_in there kind index value) }
+            ≡ with_stored (holdings self.old) array.number (stored_in there kind index value) }
     {
-        if section >= self.arrays.len() {
+        if array.number >= self.arrays.len() {
             return Err(Trouble::Absent);
         }
-        match &mut self.arrays[section] {
+        match &mut self.arrays[array.number] {
             Held::Owned(numbers) => store(numbers, kind, index, value),
             _ => Err(Trouble::Absent),
         }
@@ -106,22 +107,22 @@ impl Contents {
         ensures parent { OnOk result (holdings self.new ≡ all_kept needs.now (holdings self.old)) }
     {
         let mut arrays = Vec::new(alloc);
-        for (section, need) in needs.iter().enumerate() {
-            arrays.push(self.part(alloc, section, *need)?)?;
+        for (number, need) in needs.iter().enumerate() {
+            arrays.push(self.part(alloc, ArrayId { number }, *need)?)?;
         }
         Ok(Contents { arrays })
     }
 
     /// What a child gets of an array: nothing of one that isn't known here.
-    fn part(&mut self, alloc: Global, section: usize, need: Need) -> Result<Held, AllocError>
+    fn part(&mut self, alloc: Global, array: ArrayId, need: Need) -> Result<Held, AllocError>
         ensures child { IfOk result (λ part.
-            holding part ≡ given_of need (slice_get (holdings self.old) section)) }
-        ensures parent { holdings self.new ≡ with_kept need (holdings self.old) section }
+            holding part ≡ given_of need (slice_get (holdings self.old) array.number)) }
+        ensures parent { holdings self.new ≡ with_kept need (holdings self.old) array.number }
     {
-        if section >= self.arrays.len() {
+        if array.number >= self.arrays.len() {
             return Ok(Held::Absent);
         }
-        self.arrays[section].part(alloc, need)
+        self.arrays[array.number].part(alloc, need)
     }
 
     /// Takes in the arrays that a child owned. False where one is owned here already.
@@ -132,7 +133,10 @@ impl Contents {
     {
         let mut arrays = child.arrays;
         while let Some(held) = arrays.pop() {
-            if !self.take_back(arrays.len(), held) {
+            let array = ArrayId {
+                number: arrays.len(),
+            };
+            if !self.take_back(array, held) {
                 return false;
             }
         }
@@ -140,15 +144,15 @@ impl Contents {
     }
 
     /// Takes in what a child had of an array, if it owned it. False where that is owned here, or isn't known.
-    fn take_back(&mut self, section: usize, held: Held) -> bool
-        ensures fits { result ≡ is_some (back_at (holding held) section (holdings self.old)) }
+    fn take_back(&mut self, array: ArrayId, held: Held) -> bool
+        ensures fits { result ≡ is_some (back_at (holding held) array.number (holdings self.old)) }
         ensures back { result ≡ true
-            → back_at (holding held) section (holdings self.old) ≡ Some (holdings self.new) }
+            → back_at (holding held) array.number (holdings self.old) ≡ Some (holdings self.new) }
     {
-        if section >= self.arrays.len() {
+        if array.number >= self.arrays.len() {
             return !held.is_owned();
         }
-        self.arrays[section].take_back(held)
+        self.arrays[array.number].take_back(held)
     }
 }
 

@@ -27,8 +27,9 @@ pub fn needs_of(alloc: Global, arrays: usize, body: &[Stmt]) -> Result<Vec<Need>
     let accesses = accesses_in(alloc, body)?;
     let mut needs = vec![in alloc; Need::Nothing; arrays]?;
     for access in &accesses {
-        if access.section < needs.len() {
-            needs[access.section] = needs[access.section].with(access.write);
+        let array = access.array.number;
+        if array < needs.len() {
+            needs[array] = needs[array].with(access.write);
         }
     }
     Ok(needs)

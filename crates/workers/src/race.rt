@@ -4,18 +4,18 @@ ghost use Rattle.std.specs.Prelude.{◌≡◌};
 ghost use Rattle.workers.specs.Races.{access_key, meeting_key, is_less, meeting_of, is_clash as clashes};
 
 use types::code::Label;
+use types::ids::ArrayId;
 
 /// A statement reads or writes an array.
 #[derive(Clone, Copy, PartialEq, Eq, Debug)]
 pub struct Access {
     pub label: Label,
-    /// The array's number.
-    pub section: usize,
+    pub array: ArrayId,
     pub write: bool,
 }
 
 /// Two accesses that may happen together. The first has the smaller label; with equal labels it has the
-/// smaller section, and then it is the read.
+/// smaller array, and then it is the read.
 #[derive(Clone, Copy, PartialEq, Eq, Debug)]
 pub struct Meeting {
     pub first: Access,
@@ -29,8 +29,8 @@ impl Access {
     {
         if self.label != other.label {
             self.label < other.label
-        } else if self.section != other.section {
-            self.section < other.section
+        } else if self.array != other.array {
+            self.array.number < other.array.number
         } else {
             !self.write && other.write
         }
@@ -59,7 +59,7 @@ impl Meeting {
     pub fn is_clash(self) -> bool
         ensures { result ≡ clashes self }
     {
-        self.first.section == self.second.section && (self.first.write || self.second.write)
+        self.first.array == self.second.array && (self.first.write || self.second.write)
     }
 
     /// Whether it is told before the other: ordered by both labels, then by what each access is.
@@ -70,12 +70,12 @@ impl Meeting {
             self.first.label < other.first.label
         } else if self.second.label != other.second.label {
             self.second.label < other.second.label
-        } else if self.first.section != other.first.section {
-            self.first.section < other.first.section
+        } else if self.first.array != other.first.array {
+            self.first.array.number < other.first.array.number
         } else if self.first.write != other.first.write {
             other.first.write
-        } else if self.second.section != other.second.section {
-            self.second.section < other.second.section
+        } else if self.second.array != other.second.array {
+            self.second.array.number < other.second.array.number
         } else {
             !self.second.write && other.second.write
         }

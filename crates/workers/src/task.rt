@@ -25,6 +25,7 @@ use std::mem;
 use types::budget::Budget;
 use types::code::{Label, Number, Primitive, Program, Stmt, StmtKind};
 use types::fault::Fault;
+use types::ids::{ArrayId, array_in_main};
 use types::path::Path;
 
 /// What all tasks of a run share.
@@ -267,7 +268,7 @@ impl<'p> Task<'p> {
                 section,
                 index,
                 value,
-            } => match self.store(plan.program, *section, index, value) {
+            } => match self.store(plan.program, array_in_main(*section), index, value) {
                 Ok(()) => Ok(()),
                 Err(trouble) => self.trouble(label, trouble),
             },
@@ -300,22 +301,22 @@ impl<'p> Task<'p> {
     fn store(
         &mut self,
         program: &Program,
-        section: usize,
+        array: ArrayId,
         index: &Number,
         value: &Number,
     ) -> Result<(), Trouble>
         ensures answer { let p = program_of program.now in let hs = holdings self.old.contents in
-            result ≡ trouble_of (store_by p section (number_of index.now) (number_of value.now) hs) }
+            result ≡ trouble_of (store_by p array.number (number_of index.now) (number_of value.now) hs) }
         ensures stored { let p = program_of program.now in let hs = holdings self.old.contents in
-            let made = store_by p section (number_of index.now) (number_of value.now) hs in
-            task_of self.new ≡ record (task_of self.old) { holdings = with_stored hs section made } }
+            let made = store_by p array.number (number_of index.now) (number_of value.now) hs in
+            task_of self.new ≡ record (task_of self.old) { holdings = with_stored hs array.number made } }
         ensures left { KeepsLeft self.old self.new }
     {
         let index = self.value(index)?;
         let value = self.value(value)?;
-        match program.arrays.get(section) {
+        match program.arrays.get(array.number) {
             None => Err(Trouble::Absent),
-            Some(array) => self.contents.write(section, array.element, index, value),
+            Some(declared) => self.contents.write(array, declared.element, index, value),
         }
     }
 
@@ -346,7 +347,7 @@ impl<'p> Task<'p> {
             Number::Literal(value) => Ok(*value),
             Number::Element { section, index } => {
                 let index = self.value(index)?;
-                self.contents.read(*section, index)
+                self.contents.read(array_in_main(*section), index)
             }
             // The expressions that the first part of the language doesn't have.
             _ => Ok(0),

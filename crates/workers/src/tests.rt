@@ -12,6 +12,7 @@ use std::test::Fail;
 use syntax::parse;
 use types::budget::Budget;
 use types::check::type_check;
+use types::ids::ArrayId;
 use types::input::Input;
 use types::outcome::Outcome;
 use types::path::Path;
@@ -62,18 +63,18 @@ fn told(rt: &impl Abort, alloc: Global, text: &str) -> (String, String) {
     }
 }
 
-fn read(label: u32, section: usize) -> Access {
+fn read(label: u32, array: usize) -> Access {
     Access {
         label,
-        section,
+        array: ArrayId { number: array },
         write: false,
     }
 }
 
-fn write(label: u32, section: usize) -> Access {
+fn write(label: u32, array: usize) -> Access {
     Access {
         label,
-        section,
+        array: ArrayId { number: array },
         write: true,
     }
 }

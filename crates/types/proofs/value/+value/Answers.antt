@@ -1,6 +1,5 @@
 use Rattle.std.proofs.Common.{ap, sym, ◌∙◌, rules, w64, FitsSigned}
 use Rattle.std.proofs.lemmas.Int.{to_z-of_z}
-use Rattle.types.specs.Reading.{reading}
 use Rattle.types.specs.Translation.{environment}
 use Rattle.types.specs.Translation.{number as number_of}
 use Rattle.types.specs.Rows.{links as links_of}
@@ -10,7 +9,7 @@ use Rattle.types.proofs.value.+value.Goals as goal
 
 pub number_value-returns-in_ok-value-in-Chain : goal.number_value-returns-in_ok-value-in-Chain
 number_value-returns-in_ok-value-in-Chain g t c =
-    let env = environment c.args.environment.now in let read = reading (g.P.Places.number_at c.args.places.now) in
+    let env = environment c.args.environment.now in let read = g.P.Places.numbers c.args.places.now in
     let first = c.in_ok-value-in-Chain.value in
     let fits : FitsSigned w64 first = search rules in
     c.chain_value.ensures

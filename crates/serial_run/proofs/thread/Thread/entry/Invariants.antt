@@ -7,4 +7,4 @@ use Rattle.serial_run.proofs.thread.Thread.entry.Given as goal
 
 -- the windows so far are those of the first sections
 abbrev pub invariant-loop-section : goal.invariant-loop-section
-invariant-loop-section l = map window l.windows.items ≡ map (window_at (state_of l.self)) (take l.section-index l.sections)
+invariant-loop-section l = map window l.windows.items ≡ map (window_at (state_of l.self)) (map (λ s. s.number) (take l.section-index l.sections))

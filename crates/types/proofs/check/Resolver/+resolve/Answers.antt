@@ -217,7 +217,7 @@ pub kind-returns-in_ok-value-in-Store-clause-code : goal.kind-returns-in_ok-valu
 kind-returns-in_ok-value-in-Store-clause-code t c =
     let here = place_among c.args.self.now.sections.now.keys c.args.labels.now in
     let is = ap stmt c.in-Store.is ∙ stmt_Store c.in-Store.section c.in-Store.index c.in-Store.value in
-    let x = c.in_ok-section-in-Store.section in
+    let x = c.in_ok-section-in-Store.section.number in
     let value = resolution.number here (expr c.in-Store.value) in
     ap (resolution.code [] here) is
     ∙ ap (λ s. Do (Store s (resolution.number here (expr c.in-Store.index)) value)) c.in_ok-section-in-Store.ensures.code

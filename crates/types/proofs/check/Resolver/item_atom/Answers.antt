@@ -10,7 +10,7 @@ use Rattle.types.proofs.check.Resolver.item_atom.Goals as goal
 pub returns-in_ok-index-in-Element-2-clause-code : goal.returns-in_ok-index-in-Element-2-clause-code
 returns-in_ok-index-in-Element-2-clause-code c =
     let here = place_among c.args.self.now.sections.now.keys c.args.label in
-    let x = c.in_ok-section-in-Element.section in
+    let x = c.in_ok-section-in-Element.section.number in
     ap (resolution.number_atom here) (ap atom c.in-Element.is ∙ atom_Element c.in-Element.section c.in-Element.index)
     ∙ ap (λ s. Element s (resolution.number here (expr c.in-Element.index.value))) c.in_ok-section-in-Element.ensures.code
     ∙ ap (λ e. Element x (resolution.number here (expr e))) (sym c.deref.ensures)

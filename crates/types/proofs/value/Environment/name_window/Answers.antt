@@ -10,5 +10,5 @@ returns c =
     on_ok_weaker c.put.result
     (λ bound.
     let in_place : (_ → _) → Environment = λ windows. record { scalars = (environment c.args.self.now).scalars; windows = windows } in
-    ap in_place (by_number-map-bound window _ c.args.self.now.windows.items c.put.new.items.items c.args.section c.args.window bound))
+    ap in_place (by_number-map-bound window _ c.args.self.now.windows.items c.put.new.items.items c.args.section.number c.args.window bound))
     c.put.ensures

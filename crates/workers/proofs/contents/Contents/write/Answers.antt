@@ -7,8 +7,8 @@ use Rattle.workers.proofs.contents.Contents.write.Goals as goal
 
 pub returns-in-Owned-clause-answer : goal.returns-in-Owned-clause-answer
 returns-in-Owned-clause-answer c =
-    let within : c.args.section < length c.args.self.now.arrays.items = search rules in
-    let at = slice_get-holdings c.args.self.now.arrays.items c.args.section c.index_mut.result.now within
+    let within : c.args.array.number < length c.args.self.now.arrays.items = search rules in
+    let at = slice_get-holdings c.args.self.now.arrays.items c.args.array.number c.index_mut.result.now within
     c.index_mut.ensures.value in
     let index = to_z-of_z w64 c.args.index c.ranges.index in
     let value = to_z-of_z w64 c.args.value c.ranges.value in
@@ -19,23 +19,23 @@ returns-in-Owned-clause-answer c =
 
 pub returns-in-Owned-clause-stored : goal.returns-in-Owned-clause-stored
 returns-in-Owned-clause-stored c =
-    let within : c.args.section < length c.args.self.now.arrays.items = search rules in
+    let within : c.args.array.number < length c.args.self.now.arrays.items = search rules in
     let index = to_z-of_z w64 c.args.index c.ranges.index in
     let value = to_z-of_z w64 c.args.value c.ranges.value in
     let old = c.in-Owned.numbers.items in
-    holdings-stored c.args.self.now.arrays.items c.args.section c.args.kind c.args.index c.args.value
+    holdings-stored c.args.self.now.arrays.items c.args.array.number c.args.kind c.args.index c.args.value
     c.index_mut.result.now _ old c.store.new.numbers.items
     within c.index_mut.ensures.value (ap holding c.in-Owned.is) refl
     (c.store.ensures.stored ∙ (λ j. result_unwrap_or (stored c.args.kind (index j) (value j) old) old))
 
 pub returns-in_default : goal.returns-in_default
 returns-in_default c =
-    let within : c.args.section < length c.args.self.now.arrays.items = search rules in
+    let within : c.args.array.number < length c.args.self.now.arrays.items = search rules in
     let arrays = c.args.self.now.arrays.items in
     record {
       answer = ap trouble_of
-          (sym (stored_in-unowned arrays c.args.section c.args.kind c.args.index c.args.value c.index_mut.result.now
+          (sym (stored_in-unowned arrays c.args.array.number c.args.kind c.args.index c.args.value c.index_mut.result.now
           within c.index_mut.ensures.value c.in_default.not-Owned));
-      stored = holdings-unowned arrays c.args.section c.args.kind c.args.index c.args.value c.index_mut.result.now
+      stored = holdings-unowned arrays c.args.array.number c.args.kind c.args.index c.args.value c.index_mut.result.now
           within c.index_mut.ensures.value c.in_default.not-Owned;
     }

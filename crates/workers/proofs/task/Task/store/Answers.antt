@@ -13,8 +13,8 @@ use Rattle.workers.proofs.task.Task.store.Goals as goal
 pub returns-in-Some : goal.returns-in-Some
 returns-in-Some c =
     let p = program c.args.program.now in let t = task_of c.args.self.now in let hs = t.holdings in
-    let section = c.args.section in let h = slice_get hs section in
-    let arrays = c.deref.result.now in let x = c.in-Some.array.now in
+    let section = c.args.array.number in let h = slice_get hs section in
+    let arrays = c.deref.result.now in let x = c.in-Some.declared.now in
     let at = c.in_ok-index.index in let v = c.in_ok-value.value in
     let at_fits : FitsSigned w64 at = search rules in
     let v_fits : FitsSigned w64 v = search rules in

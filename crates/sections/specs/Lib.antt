@@ -1,0 +1,5 @@
+pub mod Origins
+pub mod Overlap
+pub mod Place
+pub mod Translation
+pub mod Tree

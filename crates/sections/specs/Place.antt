@@ -1,0 +1,48 @@
+-- Places of arrays, and windows, which are rows of places.
+use Rattle.std.specs.Prelude.{ℕ, ◌+◌, ◌-◌, ◌<◌, ◌≤◌, ◌≡◌, ℤ, pos, negsuc, Bool, ◌&&◌, nat_eq}
+use Rattle.std.specs.Prelude.{nat_lt, nat_le, Option, Some, None, if◌then◌else◌}
+
+-- the element at an index of an array
+pub record Place : Type 0 where
+  pub array : ℕ
+  pub index : ℕ
+
+-- `length` places of an array, from its place `at` on
+pub record Window : Type 0 where
+  pub array : ℕ
+  pub at : ℕ
+  pub length : ℕ
+
+-- a place of a window
+pub record In (w : Window) (q : Place) : Type 0 where
+  pub array : q.array ≡ w.array
+  pub low : w.at ≤ q.index
+  pub high : q.index < w.at + w.length
+
+-- whether two places are the same
+abbrev pub same_place : Place → Place → Bool
+same_place p q = nat_eq p.array q.array && nat_eq p.index q.index
+
+-- the window without places
+abbrev pub nowhere : Window
+nowhere = record { array = 0; at = 0; length = 0 }
+
+-- the place of the element i of a window, where it has one
+abbrev pub place_in : Window → ℤ → Option Place
+place_in w (negsuc n) = None
+place_in w (pos i) =
+    if nat_lt i w.length then Some (record { array = w.array; index = w.at + i }) else None
+
+-- the first n places of a window
+abbrev pub first_places : ℕ → Window → Window
+first_places n w = record w { length = n }
+
+-- the places behind the first n
+abbrev pub places_behind : ℕ → Window → Window
+places_behind n w = record w { at = w.at + n; length = w.length - n }
+
+-- the first n places of a window and the others, where it has that many
+abbrev pub sides_of : Window → ℤ → Option (Window × Window)
+sides_of w (negsuc n) = None
+sides_of w (pos n) =
+    if nat_le n w.length then Some (first_places n w, places_behind n w) else None

@@ -1,0 +1,8 @@
+-- What a section tree shows: where each section comes from, by number.
+use Rattle.std.specs.Prelude.{List, map}
+use Rattle.sections.specs.Origins.{Origin}
+use Rattle.sections.specs.Translation.{origin}
+use Rattle.sections.specs.declared.tree.SectionTree.{SectionTree}
+
+abbrev pub origins_of : SectionTree → List Origin
+origins_of t = map origin t.origins.items

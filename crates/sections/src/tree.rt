@@ -1,0 +1,74 @@
+//! The sections of a procedure.
+
+ghost use Rattle.std.specs.Prelude.{◌≡◌, map, [], ◌∷◌, ◌++◌, ◌+◌, ◌<◌, length, IfOk, OnOk, OnErr};
+ghost use Rattle.sections.specs.Origins.{Root, Left, Right, origin_of, IsNumbered};
+ghost use Rattle.sections.specs.Overlap.{overlap as overlap_of};
+ghost use Rattle.sections.specs.Translation.{section, origin as origin_as};
+
+use crate::id::SectionId;
+use crate::origin::Origin;
+use std::alloc::{AllocError, Global};
+
+/// Where each section of a procedure comes from. Sections are numbered from 0 as they are made, the
+/// left side of a split just before its right one.
+#[derive(Drop)]
+pub struct SectionTree {
+    origins: Vec<Origin>,
+    pub ghost numbered: { IsNumbered (map origin_as origins.items) },
+}
+
+impl SectionTree {
+    ghost use Rattle.sections.specs.Tree.{origins_of};
+
+    /// No section yet. It takes no memory.
+    pub fn new(alloc: Global) -> SectionTree
+        ensures { origins_of result ≡ [] }
+    {
+        SectionTree {
+            origins: Vec::new(alloc),
+        }
+    }
+
+    /// How many sections there are.
+    pub fn len(&self) -> usize
+        ensures { result ≡ length (origins_of self.now) }
+    {
+        self.origins.len()
+    }
+
+    /// Where a section comes from.
+    pub fn origin(&self, section: SectionId) -> Origin
+        requires { section.number < length (origins_of self.now) }
+        ensures { origin_as result ≡ origin_of (origins_of self.now) section.number }
+    {
+        self.origins[section.number]
+    }
+
+    /// A new array or parameter.
+    pub fn root(&mut self) -> Result<SectionId, AllocError>
+        ensures number { IfOk result (λ s. s.number ≡ length (origins_of self.old)) }
+        ensures ok { OnOk result (origins_of self.new ≡ origins_of self.old ++ Root ∷ []) }
+        ensures err { OnErr result (origins_of self.new ≡ origins_of self.old) }
+    {
+        let number = self.origins.len();
+        self.origins.push(Origin::Root)?;
+        Ok(SectionId { number })
+    }
+
+    /// The two sides of a new split of a section.
+    pub fn split(&mut self, parent: SectionId) -> Result<(SectionId, SectionId), AllocError>
+        requires { parent.number < length (origins_of self.old) }
+        ensures left { IfOk result (λ r. r.0.number ≡ length (origins_of self.old)) }
+        ensures right { IfOk result (λ r. r.1.number ≡ length (origins_of self.old) + 1) }
+        ensures ok { OnOk result (origins_of self.new ≡ origins_of self.old
+            ++ Left parent.number ∷ Right parent.number ∷ []) }
+        ensures err { OnErr result (origins_of self.new ≡ origins_of self.old) }
+    {
+        let number = self.origins.len();
+        let sides = [Origin::Left { parent }, Origin::Right { parent }];
+        self.origins.extend_from_slice(&sides)?;
+        let left = SectionId { number };
+        let right = SectionId { number: number + 1 };
+        Ok((left, right))
+    }
+}
