@@ -43,7 +43,5 @@ pub record TakesStep (old new : Thread) : Type 0 where
 -- nothing is done: the flow wasn't on, or no step was left, by which the task is stopped
 pub record MissesStep (old new : Thread) : Type 0 where
   pub none : old.flow ≡ rOn → old.steps ≡ 0
-  pub state : state_of new ≡ at_flow (state_of old).flow (state_of old) stopped
-  pub nest : new.nest ≡ old.nest
-  pub steps : new.steps ≡ old.steps
-  pub store : new.store ≡ old.store
+  pub flow : state_of new ≡ at_flow (state_of old).flow (state_of old) stopped
+  pub same : new ≡ record old { flow = new.flow }

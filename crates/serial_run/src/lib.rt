@@ -6,9 +6,9 @@
 #![tactic(auto)]
 
 pub mod frame;
+pub mod machine;
 pub mod run;
 pub mod store;
 pub mod thread;
-pub mod turn;
 
 pub use run::serial;
