@@ -2,17 +2,11 @@
 
 #![tactic(auto)]
 
-mod act;
-mod command_line;
-mod commands;
-mod emit;
-mod failure;
-mod files;
 #[cfg(test)]
 mod tests;
 
-use crate::act::act;
-use crate::files::MachineFiles;
+use driver::act::act;
+use driver::files::MachineFiles;
 use std::process::ExitCode;
 use std::{env, io};
 

@@ -1,5 +1,10 @@
+pub mod Covers
+pub mod Cutting
+pub mod Joining
+pub mod Member
 pub mod Origins
 pub mod Overlap
 pub mod Place
+pub mod Placed
 pub mod Translation
 pub mod Tree

@@ -3,7 +3,9 @@
 
 #![tactic(auto)]
 
+pub mod cover;
 pub mod id;
+pub mod laws;
 pub mod origin;
 pub mod tree;
 pub mod window;

@@ -1,6 +1,7 @@
 //! The sections of a procedure.
 
 ghost use Rattle.std.specs.Prelude.{◌≡◌, map, [], ◌∷◌, ◌++◌, ◌+◌, ◌<◌, length, IfOk, OnOk, OnErr};
+ghost use Rattle.std.specs.Prelude.{IsNone, IfSome, false};
 ghost use Rattle.sections.specs.Origins.{Root, Left, Right, origin_of, IsNumbered};
 ghost use Rattle.sections.specs.Overlap.{overlap as overlap_of};
 ghost use Rattle.sections.specs.Translation.{section, origin as origin_as};
@@ -70,5 +71,51 @@ impl SectionTree {
         let left = SectionId { number };
         let right = SectionId { number: number + 1 };
         Ok((left, right))
+    }
+
+    /// Whether two sections may share a place: walks up from the one with the larger number until both
+    /// are one, or are disjoint at sight. It takes no memory.
+    pub fn overlap(&self, a: SectionId, b: SectionId) -> bool
+        requires first { a.number < length (origins_of self.now) }
+        requires second { b.number < length (origins_of self.now) }
+        ensures { result ≡ overlap_of (origins_of self.now) a.number b.number }
+    {
+        let mut low = a.number.min(b.number);
+        let mut high = a.number.max(b.number);
+        'walk: while low < high {
+            let Some(parent) = self.above(low, high) else {
+                return false;
+            };
+            if parent < low {
+                high = low;
+                low = parent;
+            } else {
+                high = parent;
+            }
+        }
+        true
+    }
+
+    /// The parent of the section with the larger number. None where the two are disjoint at sight: that
+    /// one is a root, or the right side next to its left one.
+    fn above(&self, low: usize, high: usize) -> Option<usize>
+        requires order { low < high }
+        requires there { high < length (origins_of self.now) }
+        ensures none { IsNone result → overlap_of (origins_of self.now) low high ≡ false }
+        ensures smaller { IfSome result (λ p. p < high) }
+        ensures same { IfSome result (λ p. overlap_of (origins_of self.now) low high
+            ≡ overlap_of (origins_of self.now) low p) }
+    {
+        match self.origin(SectionId { number: high }) {
+            Origin::Root => None,
+            Origin::Left { parent } => Some(parent.number),
+            Origin::Right { parent } => {
+                if low + 1 == high {
+                    None
+                } else {
+                    Some(parent.number)
+                }
+            }
+        }
     }
 }

@@ -25,7 +25,10 @@ pub struct Place {
 }
 
 impl Window {
-    ghost use Rattle.sections.specs.Place.{place_in, nowhere};
+    ghost use Rattle.sections.specs.Cutting.{ends_no_later as ends_no_later_as, before as before_as};
+    ghost use Rattle.sections.specs.Cutting.{behind as behind_as};
+    ghost use Rattle.sections.specs.Joining.{end_of, meets as meets_as, joined as joined_as};
+    ghost use Rattle.sections.specs.Place.{place_in};
     ghost use Rattle.sections.specs.Translation.{place as place_of, window as window_of};
 
     /// The window of no place.
@@ -84,6 +87,72 @@ impl Window {
                 index: self.at + index,
             }),
             _ => None,
+        }
+    }
+
+    /// The place behind the last one.
+    fn end(self) -> usize
+        ensures { result ≡ end_of (window_of self) }
+    {
+        self.at + self.len
+    }
+
+    /// Whether a window that begins no earlier begins within this one or right behind it.
+    pub(crate) fn meets(self, later: Window) -> bool
+        ensures { result ≡ meets_as (window_of self) (window_of later) }
+    {
+        self.array == later.array && later.at <= self.end()
+    }
+
+    /// This window and one that meets it, as one.
+    pub(crate) fn joined(self, later: Window) -> Window
+        ensures { window_of result ≡ joined_as (window_of self) (window_of later) }
+    {
+        let end = self.end().max(later.end());
+        Window {
+            array: self.array,
+            at: self.at,
+            len: end - self.at,
+        }
+    }
+
+    /// Whether this window ends before another one does, or where it does.
+    pub(crate) fn ends_no_later(self, other: Window) -> bool
+        ensures { result ≡ ends_no_later_as (window_of self) (window_of other) }
+    {
+        self.array < other.array || (self.array == other.array && self.end() <= other.end())
+    }
+
+    /// The places before another window begins.
+    pub(crate) fn before(self, other: Window) -> Window
+        ensures { window_of result ≡ before_as (window_of self) (window_of other) }
+    {
+        let len = if self.array == other.array {
+            self.len.min(other.at.saturating_sub(self.at))
+        } else if self.array < other.array {
+            self.len
+        } else {
+            0
+        };
+        Window {
+            array: self.array,
+            at: self.at,
+            len,
+        }
+    }
+
+    /// The places behind the end of another window, which ends no later.
+    pub(crate) fn behind(self, other: Window) -> Window
+        ensures { window_of result ≡ behind_as (window_of self) (window_of other) }
+    {
+        if self.array != other.array {
+            return self;
+        }
+        let at = self.at.max(other.end());
+        Window {
+            array: self.array,
+            at,
+            len: self.end().saturating_sub(at),
         }
     }
 }

@@ -11,7 +11,7 @@ use Rattle.types.specs.declared.code.Array.{Array as rArray}
 use Rattle.types.specs.declared.code.Procedure.{Procedure as rProcedure}
 use Rattle.types.specs.Outcome.{whole_arrays}
 use Rattle.types.specs.Run.{no_procedure}
-use Rattle.types.specs.Place.{Place, Window}
+use Rattle.sections.specs.Place.{Place, Window}
 use Rattle.types.specs.Translation.{number as number_of, array, codes, procedure}
 use Rattle.types.specs.Value.{Environment, Valued, then_try, number, numbers}
 

@@ -3,11 +3,11 @@ use Rattle.std.specs.Prelude.{ℕ, ℤ, List, Bool, true, false, Result, Ok, Err
 use Rattle.std.specs.Global.{Global}
 use Rattle.types.specs.declared.fault.FaultKind.{FaultKind}
 use Rattle.types.specs.declared.fault.FaultKind.TheVariants.{OutOfElement, SplitPoint}
-use Rattle.types.specs.declared.window.Place.{Place as rPlace}
-use Rattle.types.specs.declared.window.Window.{Window as rWindow}
+use Rattle.sections.specs.declared.window.Place.{Place as rPlace}
+use Rattle.sections.specs.declared.window.Window.{Window as rWindow}
 use Rattle.types.specs.Code.{Number, Program}
-use Rattle.types.specs.Place.{Place, Window, sides_of}
-use Rattle.types.specs.Translation.{place, window}
+use Rattle.sections.specs.Place.{Place, Window, sides_of}
+use Rattle.sections.specs.Translation.{place, window}
 use Rattle.types.specs.Run.{State, number_at, window_at, array_of}
 use Rattle.types.specs.Value.{Valued, then_try, element_of, holds_number}
 

@@ -2,10 +2,10 @@
 
 ghost use Rattle.std.specs.Prelude.{◌≡◌, IfOk};
 
+use sections::window::Place;
 use std::alloc::{AllocError, Global};
 use types::input::Input;
 use types::value::Places;
-use types::window::Place;
 
 /// The numbers of each array, in the order of declaration.
 #[derive(Drop)]
@@ -35,7 +35,7 @@ impl Store {
     ghost use Rattle.serial_run.specs.Lists.{lists_of};
     ghost use Rattle.serial_run.specs.Bounds.{HasPlace};
     ghost use Rattle.types.specs.Contents.{write as written};
-    ghost use Rattle.types.specs.Translation.{place as place_of};
+    ghost use Rattle.sections.specs.Translation.{place as place_of};
     ghost use Rattle.serial_run.specs.Lists.{contents_of, lengths_of};
 
     /// The contents as a run begins.

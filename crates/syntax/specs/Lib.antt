@@ -4,6 +4,7 @@ pub mod Lexical
 pub mod Place
 pub mod Reading
 pub mod Refusals
+pub mod Spelled
 pub mod Spelling
 pub mod Token
 pub mod Tree

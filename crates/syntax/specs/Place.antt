@@ -1,5 +1,6 @@
 -- Places of characters in a text, by lines and columns.
-use Rattle.std.specs.Prelude.{ℕ, ◌+◌, ◌==◌, List, take, reverse, count_by}
+use Rattle.std.specs.Prelude.{ℕ, ◌+◌, ◌==◌, List, ◌++◌, codes, take, reverse, count_by}
+use Rattle.std.specs.Fmt.{decimal}
 use Rattle.std.specs.List.{prefix_len}
 use Rattle.syntax.specs.declared.place.Place.{Place}
 use Rattle.syntax.specs.Lexical.{is_in_line}
@@ -14,4 +15,11 @@ column_behind before = prefix_len is_in_line (reverse before) + 1
 
 -- the place of the character with this number from 0, or the one just behind the text
 abbrev pub place_at : List ℕ → ℕ → Place
-place_at text at = record { line = line_behind (take at text); column = column_behind (take at text) }
+place_at text at = record {
+  line = line_behind (take at text);
+  column = column_behind (take at text);
+}
+
+-- the text of a place: its line, then its column
+abbrev pub place_text : Place → List ℕ
+place_text place = decimal place.line ++ (codes ":" ++ decimal place.column)

@@ -8,22 +8,21 @@ use Rattle.syntax.specs.declared.error.SyntaxError.TheVariants.{TooLong, OutOfMe
 use Rattle.syntax.specs.declared.lexer.Unread.{Unread}
 use Rattle.syntax.specs.declared.lexer.Unread.TheVariants.{NotACharacter as Unreadable, NumberTooLarge as OverLimit}
 use Rattle.syntax.specs.declared.lexer.Unread.TheVariants.{OutOfMemory as NoMemory}
-use Rattle.syntax.specs.declared.parser.TheConstants.{MOST_BYTES}
 use Rattle.syntax.specs.declared.place.Place.{Place}
 use Rattle.syntax.specs.declared.token.Spanned.{Spanned}
 use Rattle.syntax.specs.Brackets.{AreShallow}
 use Rattle.syntax.specs.Lexical.{starts, HasTokens, AreTokensOf, Reads, BeginsNoPiece, BeginsLargeNumber, StopsAt}
-use Rattle.syntax.specs.Place.{place_at}
+use Rattle.syntax.specs.Place.{place_at, place_text}
 use Rattle.syntax.specs.Spelling.{spelling}
 use Rattle.syntax.specs.Token.{Token, token, plain}
 use Rattle.syntax.specs.Tree.{Program}
 
--- S1: a text can be read up to the character with this number, which begins no piece and is no digit
+-- S1: a text can be read up to this character, which begins no piece and is no digit
 pub record IsNoCharacter (text : List ℕ) (at : ℕ) : Type 0 where
   pub stops : StopsAt text at
   pub no_digit : starts is_ascii_digit (drop at text) ≡ false
 
--- S3: a text can be read up to the character with this number, where a number begins that is too large
+-- S3: a text can be read up to this character, where a number begins that is too large
 pub record IsLargeNumber (text : List ℕ) (at : ℕ) : Type 0 where
   pub stops : StopsAt text at
   pub large : BeginsLargeNumber (drop at text)
@@ -63,7 +62,7 @@ ArePlaced text found =
     (before : List Spanned) (s : Spanned) (after : List Spanned) → found ≡ before ++ s ∷ after
     → StandsAt text (plain before) (token s.token) s.at
 
--- by the token that begins with this character, and by none before it, more than 100 brackets are open
+-- by the token that begins with this character, and none before it, more than 100 brackets are open
 pub record OpensTooMany (found : List Spanned) (at : ℕ) : Type 0 where
   pub before : List Spanned
   pub last : Spanned
@@ -73,7 +72,7 @@ pub record OpensTooMany (found : List Spanned) (at : ℕ) : Type 0 where
   pub deep : AreShallow 0 (plain before ++ token last.token ∷ []) → ⊥
   pub there : at ≡ last.at
 
--- S4: a text has tokens, and by the one at this character more than 100 brackets are open for the first time
+-- S4: a text has tokens, and by the one at this character, as the first, more than 100 brackets are open
 pub record IsTooDeep (text : List ℕ) (at : ℕ) : Type 0 where
   pub tokens : List Token
   pub read : AreTokensOf text tokens
@@ -84,7 +83,7 @@ pub record IsTooDeep (text : List ℕ) (at : ℕ) : Type 0 where
   pub deep : AreShallow 0 (before ++ last ∷ []) → ⊥
   pub all_deep : AreShallow 0 tokens → ⊥
 
--- S2: a text has tokens, by which no more than 100 brackets are open, and no program is spelled by them
+-- S2: a text has tokens, by which at most 100 brackets are open, and they spell no program
 pub record SpellsNoProgram (text : List ℕ) (at : ℕ) : Type 0 where
   pub tokens : List Token
   pub read : AreTokensOf text tokens
@@ -113,7 +112,7 @@ Tells text (NotACharacter place) = TellsOf (chars text) (NotACharacter place)
 Tells text (UnexpectedToken place) = TellsOf (chars text) (UnexpectedToken place)
 Tells text (NumberTooLarge place) = TellsOf (chars text) (NumberTooLarge place)
 Tells text (TooDeep place) = TellsOf (chars text) (TooDeep place)
-Tells text TooLong = MOST_BYTES < length text
+Tells text TooLong = 1048576 < length text
 Tells text OutOfMemory = Unit {0}
 
 -- the code of an error
@@ -133,3 +132,12 @@ place_of (NumberTooLarge place) = Some place
 place_of (TooDeep place) = Some place
 place_of TooLong = None
 place_of OutOfMemory = None
+
+-- `at` and the place, if there is one
+abbrev pub at_text : Option Place → List ℕ
+at_text None = []
+at_text (Some place) = codes " at " ++ place_text place
+
+-- the text of an error: its code, and `at` its place where it names one
+abbrev pub error_text : SyntaxError → List ℕ
+error_text e = code_of e ++ at_text (place_of e)

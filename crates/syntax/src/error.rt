@@ -54,16 +54,18 @@ impl SyntaxError {
     }
 }
 
+/// `S2 at 4:13`
 impl fmt::Display for SyntaxError {
+    ghost use Rattle.std.specs.Prelude.{Some};
+    ghost use Rattle.syntax.specs.Refusals.{error_text};
+
+    ghost output = { λ error. Some (error_text error) };
+
     fn fmt<W: fmt::Write>(&self, f: &mut fmt::Formatter<W>) -> fmt::Result {
         let code = self.code();
         match self.place() {
             None => write!(f, "{code}"),
-            Some(place) => {
-                let line = place.line;
-                let column = place.column;
-                write!(f, "{code} at {line}:{column}")
-            }
+            Some(place) => write!(f, "{code} at {place}"),
         }
     }
 }

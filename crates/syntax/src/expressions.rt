@@ -5,7 +5,8 @@ ghost use Rattle.syntax.specs.declared.token.Mark.{Mark as AnyMark};
 ghost use Rattle.syntax.specs.declared.tree.Relation.{Relation as AnyRelation};
 ghost use Rattle.syntax.specs.declared.tree.Sign.{Sign as AnySign};
 ghost use Rattle.syntax.specs.declared.tree.Operator.{Operator as AnyOperator};
-ghost use Rattle.syntax.specs.Reading.{AddsExprs, Leaves, LeavesClosed, SpellsNone, SpellsNoneClosed};
+ghost use Rattle.syntax.specs.Reading.{AddsExprs, IsRead, Refuses, Leaves, LeavesClosed, SpellsNone};
+ghost use Rattle.syntax.specs.Reading.{SpellsNoneClosed};
 ghost use Rattle.syntax.specs.Reading.{mark_binds, list_level, or_level, and_level, relation_level};
 ghost use Rattle.syntax.specs.Reading.{sign_level, operator_level, bracket_level};
 ghost use Rattle.syntax.specs.Spelling.{more_then, expr_then, conj_then, neg_then, cmp_then, sum_then};
@@ -28,12 +29,9 @@ use std::alloc::Global;
 #[cycle(expr)]
 pub fn expr(alloc: Global, tokens: &[Spanned]) -> Result<(Expr, &[Spanned]), Stuck>
     ensures shorter { IfOk result (λ read. length read.1.now < length tokens.now) }
-    ensures spelled { IfOk result (λ read.
-        plain tokens.now ≡ expr_then (expr_tree read.0) (plain read.1.now)) }
-    ensures whole { IfOk result (λ read.
-        Leaves expr_then or_level (plain tokens.now) (plain read.1.now)) }
-    ensures refused { IfErr result (λ stuck. stuck ≢ Stuck.OutOfMemory
-        → SpellsNone expr_then or_level (plain tokens.now)) }
+    ensures read { IfOk result (λ read.
+        IsRead expr_then or_level (plain tokens.now) (expr_tree read.0) (plain read.1.now)) }
+    ensures refused { IfErr result (Refuses expr_then or_level (plain tokens.now)) }
 {
     // expr = conj { "or" conj }
     let (first, mut left) = conj(alloc, tokens)?;
@@ -49,12 +47,9 @@ pub fn expr(alloc: Global, tokens: &[Spanned]) -> Result<(Expr, &[Spanned]), Stu
 #[cycle(expr)]
 fn conj(alloc: Global, tokens: &[Spanned]) -> Result<(Conj, &[Spanned]), Stuck>
     ensures shorter { IfOk result (λ read. length read.1.now < length tokens.now) }
-    ensures spelled { IfOk result (λ read.
-        plain tokens.now ≡ conj_then (conj_tree read.0) (plain read.1.now)) }
-    ensures whole { IfOk result (λ read.
-        Leaves conj_then and_level (plain tokens.now) (plain read.1.now)) }
-    ensures refused { IfErr result (λ stuck. stuck ≢ Stuck.OutOfMemory
-        → SpellsNone conj_then and_level (plain tokens.now)) }
+    ensures read { IfOk result (λ read.
+        IsRead conj_then and_level (plain tokens.now) (conj_tree read.0) (plain read.1.now)) }
+    ensures refused { IfErr result (Refuses conj_then and_level (plain tokens.now)) }
 {
     // conj = neg { "and" neg }
     let (first, mut left) = neg(alloc, tokens)?;
@@ -70,12 +65,9 @@ fn conj(alloc: Global, tokens: &[Spanned]) -> Result<(Conj, &[Spanned]), Stuck>
 #[cycle(expr)]
 fn neg(alloc: Global, tokens: &[Spanned]) -> Result<(Neg, &[Spanned]), Stuck>
     ensures shorter { IfOk result (λ read. length read.1.now < length tokens.now) }
-    ensures spelled { IfOk result (λ read.
-        plain tokens.now ≡ neg_then (neg_tree read.0) (plain read.1.now)) }
-    ensures whole { IfOk result (λ read.
-        Leaves neg_then relation_level (plain tokens.now) (plain read.1.now)) }
-    ensures refused { IfErr result (λ stuck. stuck ≢ Stuck.OutOfMemory
-        → SpellsNone neg_then relation_level (plain tokens.now)) }
+    ensures read { IfOk result (λ read.
+        IsRead neg_then relation_level (plain tokens.now) (neg_tree read.0) (plain read.1.now)) }
+    ensures refused { IfErr result (Refuses neg_then relation_level (plain tokens.now)) }
 {
     // neg = [ "not" ] cmp
     match cursor::after_word(tokens, Word::Not) {
@@ -105,12 +97,9 @@ fn neg(alloc: Global, tokens: &[Spanned]) -> Result<(Neg, &[Spanned]), Stuck>
 #[cycle(expr)]
 fn cmp(alloc: Global, tokens: &[Spanned]) -> Result<(Cmp, &[Spanned]), Stuck>
     ensures shorter { IfOk result (λ read. length read.1.now < length tokens.now) }
-    ensures spelled { IfOk result (λ read.
-        plain tokens.now ≡ cmp_then (cmp_tree read.0) (plain read.1.now)) }
-    ensures whole { IfOk result (λ read.
-        Leaves cmp_then relation_level (plain tokens.now) (plain read.1.now)) }
-    ensures refused { IfErr result (λ stuck. stuck ≢ Stuck.OutOfMemory
-        → SpellsNone cmp_then relation_level (plain tokens.now)) }
+    ensures read { IfOk result (λ read.
+        IsRead cmp_then relation_level (plain tokens.now) (cmp_tree read.0) (plain read.1.now)) }
+    ensures refused { IfErr result (Refuses cmp_then relation_level (plain tokens.now)) }
 {
     // cmp = sum [ ( "<" | "<=" | ">" | ">=" | "==" | "!=" ) sum ]
     let (left, rest) = sum(alloc, tokens)?;
@@ -127,12 +116,9 @@ fn cmp(alloc: Global, tokens: &[Spanned]) -> Result<(Cmp, &[Spanned]), Stuck>
 #[cycle(expr)]
 fn sum(alloc: Global, tokens: &[Spanned]) -> Result<(Sum, &[Spanned]), Stuck>
     ensures shorter { IfOk result (λ read. length read.1.now < length tokens.now) }
-    ensures spelled { IfOk result (λ read.
-        plain tokens.now ≡ sum_then (sum_tree read.0) (plain read.1.now)) }
-    ensures whole { IfOk result (λ read.
-        Leaves sum_then sign_level (plain tokens.now) (plain read.1.now)) }
-    ensures refused { IfErr result (λ stuck. stuck ≢ Stuck.OutOfMemory
-        → SpellsNone sum_then sign_level (plain tokens.now)) }
+    ensures read { IfOk result (λ read.
+        IsRead sum_then sign_level (plain tokens.now) (sum_tree read.0) (plain read.1.now)) }
+    ensures refused { IfErr result (Refuses sum_then sign_level (plain tokens.now)) }
 {
     // sum = prod { ( "+" | "-" ) prod }
     let (first, mut left) = prod(alloc, tokens)?;
@@ -148,12 +134,9 @@ fn sum(alloc: Global, tokens: &[Spanned]) -> Result<(Sum, &[Spanned]), Stuck>
 #[cycle(expr)]
 fn prod(alloc: Global, tokens: &[Spanned]) -> Result<(Prod, &[Spanned]), Stuck>
     ensures shorter { IfOk result (λ read. length read.1.now < length tokens.now) }
-    ensures spelled { IfOk result (λ read.
-        plain tokens.now ≡ prod_then (prod_tree read.0) (plain read.1.now)) }
-    ensures whole { IfOk result (λ read.
-        Leaves prod_then operator_level (plain tokens.now) (plain read.1.now)) }
-    ensures refused { IfErr result (λ stuck. stuck ≢ Stuck.OutOfMemory
-        → SpellsNone prod_then operator_level (plain tokens.now)) }
+    ensures read { IfOk result (λ read.
+        IsRead prod_then operator_level (plain tokens.now) (prod_tree read.0) (plain read.1.now)) }
+    ensures refused { IfErr result (Refuses prod_then operator_level (plain tokens.now)) }
 {
     // prod = unary { ( "*" | "/" | "%" ) unary }
     let (first, mut left) = unary(alloc, tokens)?;
@@ -169,12 +152,9 @@ fn prod(alloc: Global, tokens: &[Spanned]) -> Result<(Prod, &[Spanned]), Stuck>
 #[cycle(expr)]
 fn unary(alloc: Global, tokens: &[Spanned]) -> Result<(Unary, &[Spanned]), Stuck>
     ensures shorter { IfOk result (λ read. length read.1.now < length tokens.now) }
-    ensures spelled { IfOk result (λ read.
-        plain tokens.now ≡ unary_then (unary_tree read.0) (plain read.1.now)) }
-    ensures whole { IfOk result (λ read.
-        Leaves unary_then bracket_level (plain tokens.now) (plain read.1.now)) }
-    ensures refused { IfErr result (λ stuck. stuck ≢ Stuck.OutOfMemory
-        → SpellsNone unary_then bracket_level (plain tokens.now)) }
+    ensures read { IfOk result (λ read.
+        IsRead unary_then bracket_level (plain tokens.now) (unary_tree read.0) (plain read.1.now)) }
+    ensures refused { IfErr result (Refuses unary_then bracket_level (plain tokens.now)) }
 {
     // unary = [ "-" ] atom
     match cursor::after_mark(tokens, Mark::Minus) {
@@ -204,12 +184,9 @@ fn unary(alloc: Global, tokens: &[Spanned]) -> Result<(Unary, &[Spanned]), Stuck
 #[cycle(expr)]
 fn atom(alloc: Global, tokens: &[Spanned]) -> Result<(Atom, &[Spanned]), Stuck>
     ensures shorter { IfOk result (λ read. length read.1.now < length tokens.now) }
-    ensures spelled { IfOk result (λ read.
-        plain tokens.now ≡ atom_then (atom_tree read.0) (plain read.1.now)) }
-    ensures whole { IfOk result (λ read.
-        Leaves atom_then bracket_level (plain tokens.now) (plain read.1.now)) }
-    ensures refused { IfErr result (λ stuck. stuck ≢ Stuck.OutOfMemory
-        → SpellsNone atom_then bracket_level (plain tokens.now)) }
+    ensures read { IfOk result (λ read.
+        IsRead atom_then bracket_level (plain tokens.now) (atom_tree read.0) (plain read.1.now)) }
+    ensures refused { IfErr result (Refuses atom_then bracket_level (plain tokens.now)) }
 {
     // atom = number | "true" | "false" | name | name "[" expr "]"
     //      | "len" "(" name ")" | "(" expr ")"
@@ -220,7 +197,7 @@ fn atom(alloc: Global, tokens: &[Spanned]) -> Result<(Atom, &[Spanned]), Stuck>
             let (inner, left) = enclosed(alloc, after, Mark::RightParen)?;
             Ok((Atom::Parens(inner), left))
         }
-        _ => constant(tokens),
+        Some(Token::Number(_)) | Some(Token::Word(_)) | None => constant(tokens),
     }
 }
 
@@ -228,10 +205,8 @@ fn atom(alloc: Global, tokens: &[Spanned]) -> Result<(Atom, &[Spanned]), Stuck>
 #[cycle(expr)]
 fn named(alloc: Global, tokens: &[Spanned]) -> Result<(Atom, &[Spanned]), Stuck>
     ensures shorter { IfOk result (λ read. length read.1.now < length tokens.now) }
-    ensures spelled { IfOk result (λ read.
-        plain tokens.now ≡ atom_then (atom_tree read.0) (plain read.1.now)) }
-    ensures whole { IfOk result (λ read.
-        Leaves atom_then bracket_level (plain tokens.now) (plain read.1.now)) }
+    ensures read { IfOk result (λ read.
+        IsRead atom_then bracket_level (plain tokens.now) (atom_tree read.0) (plain read.1.now)) }
     ensures refused { IfErr result (λ stuck. stuck ≢ Stuck.OutOfMemory
         → (name : List ℕ) (rest : List PlainToken) → plain tokens.now ≡ NameToken name ∷ rest
         → SpellsNone atom_then bracket_level (plain tokens.now)) }
@@ -267,7 +242,8 @@ fn enclosed(
     ensures whole { IfOk result (λ read. mark_binds closing < or_level
         → LeavesClosed (λ inner rest. expr_then inner (MarkToken closing ∷ rest))
         (plain tokens.now) (plain read.1.now)) }
-    ensures refused { IfErr result (λ stuck. stuck ≢ Stuck.OutOfMemory → mark_binds closing < or_level
+    ensures refused { IfErr result (λ stuck. stuck ≢ Stuck.OutOfMemory
+        → mark_binds closing < or_level
         → SpellsNoneClosed (λ inner rest. expr_then inner (MarkToken closing ∷ rest))
         (plain tokens.now)) }
 {
@@ -280,10 +256,8 @@ fn enclosed(
 /// An atom that holds no expression and begins with no name.
 fn constant(tokens: &[Spanned]) -> Result<(Atom, &[Spanned]), Stuck>
     ensures shorter { IfOk result (λ read. length read.1.now < length tokens.now) }
-    ensures spelled { IfOk result (λ read.
-        plain tokens.now ≡ atom_then (atom_tree read.0) (plain read.1.now)) }
-    ensures whole { IfOk result (λ read.
-        Leaves atom_then bracket_level (plain tokens.now) (plain read.1.now)) }
+    ensures read { IfOk result (λ read.
+        IsRead atom_then bracket_level (plain tokens.now) (atom_tree read.0) (plain read.1.now)) }
     ensures refused { IfErr result (λ stuck. stuck ≢ Stuck.OutOfMemory
         → ((name : List ℕ) (rest : List PlainToken) → plain tokens.now ≢ NameToken name ∷ rest)
         → ((mark : AnyMark) (rest : List PlainToken) → plain tokens.now ≢ MarkToken mark ∷ rest)

@@ -1,13 +1,31 @@
-//! Laws of the definitions, each the contract of a function that does nothing.
+//! Laws of the definitions and of the calls, each the contract of a function that no program needs.
 
-ghost use Rattle.std.specs.Prelude.{◌≡◌, ◌≢◌, ℕ, List};
-ghost use Rattle.syntax.specs.declared.error.SyntaxError.{SyntaxError};
-ghost use Rattle.syntax.specs.declared.error.SyntaxError.TheVariants.{OutOfMemory};
+ghost use Rattle.std.specs.Prelude.{◌≡◌, ◌≢◌, ◌≤◌, ℕ, List, length, MatchResult};
+ghost use Rattle.syntax.specs.Canonical.{canonical};
+ghost use Rattle.syntax.specs.declared.error.SyntaxError.{SyntaxError as AnyError};
 ghost use Rattle.syntax.specs.Lexical.{AreTokensOf, StopsAt};
 ghost use Rattle.syntax.specs.Refusals.{IsTooDeep, TellsOf, code_of};
+ghost use Rattle.syntax.specs.Spelled.{IsSpelled};
 ghost use Rattle.syntax.specs.Spelling.{spelling};
 ghost use Rattle.syntax.specs.Token.{Token};
-ghost use Rattle.syntax.specs.Tree.{Program};
+ghost use Rattle.syntax.specs.Tree.{Program as ProgramTree, program as program_tree};
+
+use crate::error::SyntaxError;
+use crate::tree::Program;
+use crate::{canonical, parser};
+use std::alloc::Global;
+
+/// What is written is read as what it was: this reads the canonical text of a program. A `Program`
+/// that is made by hand may hold a name that is none; no text spells it, and the law is silent.
+pub fn read_again(alloc: Global, program: &Program) -> Result<Program, SyntaxError>
+    ensures { IsSpelled (program_tree program.now)
+        → length (canonical (program_tree program.now)) ≤ 1048576
+        → MatchResult result (λ again. program_tree again ≡ program_tree program.now)
+        (λ e. e ≡ SyntaxError.OutOfMemory) }
+{
+    let text = canonical::format(alloc, program)?;
+    parser::parse(alloc, text.as_str())
+}
 
 /// A text has one list of tokens at most; one that can't be read to its end has none, and it can't
 /// be read at one place alone.
@@ -23,13 +41,13 @@ pub fn texts_are_read_in_one_way()
 /// No two errors tell of one text, memory aside; so it doesn't matter which is looked for first.
 /// And too many brackets are open for the first time at one place alone.
 pub fn texts_are_refused_for_one_reason()
-    ensures one { (text : List ℕ) (e f : SyntaxError) → TellsOf text e → TellsOf text f
-        → e ≢ OutOfMemory → f ≢ OutOfMemory → code_of e ≡ code_of f }
+    ensures one { (text : List ℕ) (e f : AnyError) → TellsOf text e → TellsOf text f
+        → e ≢ SyntaxError.OutOfMemory → f ≢ SyntaxError.OutOfMemory → code_of e ≡ code_of f }
     ensures place { (text : List ℕ) (at other : ℕ)
         → IsTooDeep text at → IsTooDeep text other → at ≡ other }
 {}
 
 /// No two programs have one spelling.
 pub fn one_spelling()
-    ensures { (p q : Program) → spelling p ≡ spelling q → p ≡ q }
+    ensures { (p q : ProgramTree) → spelling p ≡ spelling q → p ≡ q }
 {}

@@ -13,8 +13,8 @@ ghost use Rattle.syntax.specs.Token.{token as token_tree, plain};
 use crate::token::{Mark, Spanned, Token, Word};
 use std::alloc::{AllocError, AllocFailed, Global};
 
-/// The largest number.
-pub const MOST: u64 = 9_223_372_036_854_775_807;
+/// The largest number: 2^63 - 1.
+const MOST: u64 = 9_223_372_036_854_775_807;
 
 /// Why a text has no tokens.
 #[derive(Clone, Copy, Debug)]
@@ -107,6 +107,8 @@ fn token(alloc: Global, chars: &[char]) -> Result<(Token, &[char]), Unread>
     ensures shorter { IfOk result (λ read. length read.1.now < length chars.now) }
     ensures found { IfOk result (λ read. Reads chars.now (token_tree read.0 ∷ []) read.1.now) }
     ensures absent { IfErr result (BeginsNoToken chars.now) }
+    ensures memory { IfErr result (λ unread. unread ≡ Unread.OutOfMemory
+        → starts begins_name chars.now ≡ true) }
 {
     let Some((first, _)) = chars.split_first() else {
         return Err(Unread::NotACharacter { left: 0 });
@@ -180,9 +182,9 @@ fn text_of(alloc: Global, letters: &[char]) -> Result<String, AllocError>
 /// The number that these digits spell, unless it is too large.
 fn value_of(digits: &[char]) -> Option<u64>
     ensures found { IfSome result (λ value. value ≡ number_of digits.now) }
-    ensures small { IfSome result (λ value. value ≤ MOST) }
+    ensures small { IfSome result (λ value. value ≤ 9223372036854775807) }
     ensures large { list_all is_ascii_digit digits.now ≡ true
-        → IfNone result (MOST < number_of digits.now) }
+        → IfNone result (9223372036854775807 < number_of digits.now) }
 {
     let mut value = 0u64;
     for c in digits {

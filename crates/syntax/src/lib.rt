@@ -13,8 +13,6 @@ pub mod parser;
 pub mod place;
 pub mod programs;
 pub mod statements;
-#[cfg(test)]
-mod tests;
 pub mod token;
 pub mod tree;
 

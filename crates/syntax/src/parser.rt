@@ -20,10 +20,10 @@ use crate::{lexer, programs};
 use std::alloc::{AllocError, Global};
 
 /// The most bytes of a text.
-pub const MOST_BYTES: usize = 1_048_576;
+const MOST_BYTES: usize = 1_048_576;
 
 /// The most brackets that may be open at once.
-pub const MOST_OPEN: usize = 100;
+const MOST_OPEN: usize = 100;
 
 /// The program that a text spells.
 pub fn parse(alloc: Global, text: &str) -> Result<Program, SyntaxError>
@@ -32,9 +32,9 @@ pub fn parse(alloc: Global, text: &str) -> Result<Program, SyntaxError>
     ensures shallow { IfOk result (λ read. AreShallow 0 (spelling (program_tree read))) }
     ensures error { IfErr result (Tells text.now) }
     ensures complete { (p : ProgramTree) → AreTokensOf (chars text.now) (spelling p)
-        → AreShallow 0 (spelling p) → length text.now ≤ MOST_BYTES
+        → AreShallow 0 (spelling p) → length text.now ≤ 1048576
         → MatchResult result (λ read. program_tree read ≡ p) (λ e. e ≡ SyntaxError.OutOfMemory) }
-    ensures too_long { (result ≡ Err SyntaxError.TooLong) ↔ (MOST_BYTES < length text.now) }
+    ensures too_long { (result ≡ Err SyntaxError.TooLong) ↔ (1048576 < length text.now) }
 {
     if text.len() > MOST_BYTES {
         return Err(SyntaxError::TooLong);
@@ -77,7 +77,8 @@ fn program(alloc: Global, text: &[char]) -> Result<Program, SyntaxError>
 fn no_tokens(text: &[char], unread: Unread) -> SyntaxError
     requires short { length text.now < 2 ^ 31 }
     requires told { TellsUnread text.now unread }
-    ensures { TellsOf text.now result }
+    ensures told { TellsOf text.now result }
+    ensures memory { result ≡ SyntaxError.OutOfMemory → unread ≡ Unread.OutOfMemory }
 {
     match unread {
         Unread::NotACharacter { left } => SyntaxError::NotACharacter {
@@ -98,7 +99,8 @@ fn no_program(text: &[char], tokens: &[Spanned], stuck: Stuck) -> SyntaxError
     requires placed { ArePlaced text.now tokens.now }
     requires refused { stuck ≢ Stuck.OutOfMemory
         → (p : ProgramTree) → plain tokens.now ≢ spelling p }
-    ensures { TellsOf text.now result }
+    ensures told { TellsOf text.now result }
+    ensures memory { result ≡ SyntaxError.OutOfMemory → stuck ≡ Stuck.OutOfMemory }
 {
     match stuck {
         Stuck::Unexpected { left } => SyntaxError::UnexpectedToken {
@@ -136,7 +138,7 @@ fn too_deep(tokens: &[Spanned]) -> Option<usize>
 
 /// How many brackets are open behind a token.
 fn open_behind(count: usize, token: &Token) -> usize
-    requires { count ≤ MOST_OPEN }
+    requires { count ≤ 100 }
     ensures { result ≡ open_behind count (token_tree token.now) }
 {
     let Token::Mark(mark) = token else {

@@ -3,11 +3,27 @@
 ghost use Rattle.std.specs.Prelude.{◌≡◌, ◌<◌, ◌^◌, length};
 ghost use Rattle.syntax.specs.Place.{place_at};
 
+use std::fmt;
+
 /// A line and a column, both from 1. A line ends at a line feed alone; columns count characters.
 #[derive(Clone, Copy, PartialEq, Eq, Debug)]
 pub struct Place {
     pub line: u32,
     pub column: u32,
+}
+
+/// `4:13`
+impl fmt::Display for Place {
+    ghost use Rattle.std.specs.Prelude.{Some};
+    ghost use Rattle.syntax.specs.Place.{place_text};
+
+    ghost output = { λ place. Some (place_text place) };
+
+    fn fmt<W: fmt::Write>(&self, f: &mut fmt::Formatter<W>) -> fmt::Result {
+        let line = self.line;
+        let column = self.column;
+        write!(f, "{line}:{column}")
+    }
 }
 
 impl Place {

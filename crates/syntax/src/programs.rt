@@ -3,7 +3,7 @@
 ghost use Rattle.std.specs.Prelude.{◌≡◌, ◌≢◌, ◌<◌, ◌≤◌, ℕ, List, ◌∷◌, [], length, map, IfOk, IfErr};
 ghost use Rattle.std.specs.String.{string_bytes};
 ghost use Rattle.syntax.specs.declared.tree.ElementType.{ElementType as AnyElement};
-ghost use Rattle.syntax.specs.Reading.{Leaves, LeavesClosed, SpellsNone, SpellsNoneClosed, list_level};
+ghost use Rattle.syntax.specs.Reading.{IsRead, IsReadClosed, Refuses, RefusesClosed, list_level};
 ghost use Rattle.syntax.specs.Spelling.{arrays_then, block_then, element_word, main_tokens, parameter_then};
 ghost use Rattle.syntax.specs.Spelling.{parameters_then, procedures_then, spelling};
 ghost use Rattle.syntax.specs.Token.{Token as PlainToken, NameToken, WordToken, MarkToken, plain};
@@ -73,12 +73,10 @@ fn main(alloc: Global, tokens: &[Spanned]) -> Result<(Main, &[Spanned]), Stuck>
 
 fn arrays(alloc: Global, tokens: &[Spanned]) -> Result<(Vec<Array>, &[Spanned]), Stuck>
     ensures shorter { IfOk result (λ read. length read.1.now ≤ length tokens.now) }
-    ensures spelled { IfOk result (λ read.
-        plain tokens.now ≡ arrays_then (map array_tree read.0.items) (plain read.1.now)) }
-    ensures whole { IfOk result (λ read.
-        Leaves arrays_then list_level (plain tokens.now) (plain read.1.now)) }
-    ensures refused { IfErr result (λ stuck. stuck ≢ Stuck.OutOfMemory
-        → SpellsNone arrays_then list_level (plain tokens.now)) }
+    ensures read { IfOk result (λ read.
+        IsRead arrays_then list_level (plain tokens.now)
+        (map array_tree read.0.items) (plain read.1.now)) }
+    ensures refused { IfErr result (Refuses arrays_then list_level (plain tokens.now)) }
 {
     // { array }
     let mut arrays = Vec::new(alloc);
@@ -93,14 +91,11 @@ fn arrays(alloc: Global, tokens: &[Spanned]) -> Result<(Vec<Array>, &[Spanned]),
 
 fn array(tokens: &[Spanned]) -> Result<(Array, &[Spanned]), Stuck>
     ensures shorter { IfOk result (λ read. length read.1.now < length tokens.now) }
-    ensures spelled { IfOk result (λ read.
-        WordToken Word.Array ∷ plain tokens.now
-        ≡ arrays_then (array_tree read.0 ∷ []) (plain read.1.now)) }
-    ensures whole { IfOk result (λ read.
-        LeavesClosed (λ array rest. arrays_then (array ∷ []) rest)
-        (WordToken Word.Array ∷ plain tokens.now) (plain read.1.now)) }
-    ensures refused { IfErr result (λ stuck. stuck ≢ Stuck.OutOfMemory
-        → SpellsNoneClosed (λ array rest. arrays_then (array ∷ []) rest)
+    ensures read { IfOk result (λ read.
+        IsReadClosed (λ array rest. arrays_then (array ∷ []) rest)
+        (WordToken Word.Array ∷ plain tokens.now) (array_tree read.0) (plain read.1.now)) }
+    ensures refused { IfErr result (RefusesClosed
+        (λ array rest. arrays_then (array ∷ []) rest)
         (WordToken Word.Array ∷ plain tokens.now)) }
 {
     // array = "array" name ":" elem "[" number "]" ";", its first word read
@@ -123,14 +118,13 @@ fn array(tokens: &[Spanned]) -> Result<(Array, &[Spanned]), Stuck>
 
 fn element_type(tokens: &[Spanned]) -> Result<(ElementType, &[Spanned]), Stuck>
     ensures shorter { IfOk result (λ read. length read.1.now < length tokens.now) }
-    ensures spelled { IfOk result (λ read.
-        plain tokens.now ≡ WordToken (element_word read.0) ∷ plain read.1.now) }
-    ensures whole { IfOk result (λ read.
-        LeavesClosed (λ element rest. WordToken (element_word element) ∷ rest)
-        (plain tokens.now) (plain read.1.now)) }
-    ensures refused { IfErr result (λ stuck. stuck ≢ Stuck.OutOfMemory
-        → SpellsNoneClosed (λ element rest. WordToken (element_word element) ∷ rest)
+    ensures read { IfOk result (λ read.
+        IsReadClosed (λ element rest. WordToken (element_word element) ∷ rest) (plain tokens.now)
+        read.0 (plain read.1.now)) }
+    ensures refused { IfErr result (RefusesClosed
+        (λ element rest. WordToken (element_word element) ∷ rest)
         (plain tokens.now)) }
+    ensures place { IfErr result (λ stuck. stuck ≡ Stuck.Unexpected (length tokens.now)) }
 {
     // elem = "int" | "byte"
     if let Some(rest) = cursor::after_word(tokens, Word::Int) {
@@ -142,14 +136,11 @@ fn element_type(tokens: &[Spanned]) -> Result<(ElementType, &[Spanned]), Stuck>
 
 fn procedure(alloc: Global, tokens: &[Spanned]) -> Result<(Procedure, &[Spanned]), Stuck>
     ensures shorter { IfOk result (λ read. length read.1.now < length tokens.now) }
-    ensures spelled { IfOk result (λ read.
-        WordToken Word.Proc ∷ plain tokens.now
-        ≡ procedures_then (procedure_tree read.0 ∷ []) (plain read.1.now)) }
-    ensures whole { IfOk result (λ read.
-        LeavesClosed (λ procedure rest. procedures_then (procedure ∷ []) rest)
-        (WordToken Word.Proc ∷ plain tokens.now) (plain read.1.now)) }
-    ensures refused { IfErr result (λ stuck. stuck ≢ Stuck.OutOfMemory
-        → SpellsNoneClosed (λ procedure rest. procedures_then (procedure ∷ []) rest)
+    ensures read { IfOk result (λ read.
+        IsReadClosed (λ procedure rest. procedures_then (procedure ∷ []) rest)
+        (WordToken Word.Proc ∷ plain tokens.now) (procedure_tree read.0) (plain read.1.now)) }
+    ensures refused { IfErr result (RefusesClosed
+        (λ procedure rest. procedures_then (procedure ∷ []) rest)
         (WordToken Word.Proc ∷ plain tokens.now)) }
 {
     // proc = "proc" name "(" [ param { "," param } ] ")" block, its first word read
@@ -170,15 +161,11 @@ fn procedure(alloc: Global, tokens: &[Spanned]) -> Result<(Procedure, &[Spanned]
 /// The parameters of a procedure and the parenthesis that closes them.
 fn parameters(alloc: Global, tokens: &[Spanned]) -> Result<(Vec<Parameter>, &[Spanned]), Stuck>
     ensures shorter { IfOk result (λ read. length read.1.now < length tokens.now) }
-    ensures spelled { IfOk result (λ read.
-        plain tokens.now
-        ≡ parameters_then (map parameter_tree read.0.items)
-        (MarkToken Mark.RightParen ∷ plain read.1.now)) }
-    ensures whole { IfOk result (λ read.
-        LeavesClosed (λ all rest. parameters_then all (MarkToken Mark.RightParen ∷ rest))
-        (plain tokens.now) (plain read.1.now)) }
-    ensures refused { IfErr result (λ stuck. stuck ≢ Stuck.OutOfMemory
-        → SpellsNoneClosed (λ all rest. parameters_then all (MarkToken Mark.RightParen ∷ rest))
+    ensures read { IfOk result (λ read.
+        IsReadClosed (λ all rest. parameters_then all (MarkToken Mark.RightParen ∷ rest))
+        (plain tokens.now) (map parameter_tree read.0.items) (plain read.1.now)) }
+    ensures refused { IfErr result (RefusesClosed
+        (λ all rest. parameters_then all (MarkToken Mark.RightParen ∷ rest))
         (plain tokens.now)) }
 {
     // [ param { "," param } ] ")"
@@ -199,12 +186,9 @@ fn parameters(alloc: Global, tokens: &[Spanned]) -> Result<(Vec<Parameter>, &[Sp
 
 fn parameter(tokens: &[Spanned]) -> Result<(Parameter, &[Spanned]), Stuck>
     ensures shorter { IfOk result (λ read. length read.1.now < length tokens.now) }
-    ensures spelled { IfOk result (λ read.
-        plain tokens.now ≡ parameter_then (parameter_tree read.0) (plain read.1.now)) }
-    ensures whole { IfOk result (λ read.
-        LeavesClosed parameter_then (plain tokens.now) (plain read.1.now)) }
-    ensures refused { IfErr result (λ stuck. stuck ≢ Stuck.OutOfMemory
-        → SpellsNoneClosed parameter_then (plain tokens.now)) }
+    ensures read { IfOk result (λ read.
+        IsReadClosed parameter_then (plain tokens.now) (parameter_tree read.0) (plain read.1.now)) }
+    ensures refused { IfErr result (RefusesClosed parameter_then (plain tokens.now)) }
 {
     // param = ( "mut" | "read" ) name ":" elem | name ":" "int"
     if let Some(rest) = cursor::after_word(tokens, Word::Mut) {

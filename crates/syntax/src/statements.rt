@@ -2,7 +2,7 @@
 
 ghost use Rattle.std.specs.Prelude.{◌≡◌, ◌≢◌, ◌<◌, List, ◌∷◌, length, IfOk, IfErr};
 ghost use Rattle.syntax.specs.declared.token.Word.{Word as AnyWord};
-ghost use Rattle.syntax.specs.Reading.{Leaves, LeavesClosed, SpellsNone, SpellsNoneClosed, else_level};
+ghost use Rattle.syntax.specs.Reading.{IsRead, IsReadClosed, Refuses, RefusesClosed, SpellsNone, else_level};
 ghost use Rattle.syntax.specs.Spelling.{expr_then, exprs_then, stmt_then, block_then};
 ghost use Rattle.syntax.specs.Token.{Token as PlainToken, WordToken, MarkToken, plain};
 ghost use Rattle.syntax.specs.Tree.{expr as expr_tree, exprs, stmt, block as block_tree};
@@ -17,12 +17,9 @@ use std::alloc::Global;
 #[cycle(stmt)]
 pub fn statements(alloc: Global, tokens: &[Spanned]) -> Result<(Vec<Stmt>, &[Spanned]), Stuck>
     ensures shorter { IfOk result (λ read. length read.1.now < length tokens.now) }
-    ensures spelled { IfOk result (λ read.
-        plain tokens.now ≡ block_then (block_tree read.0.items) (plain read.1.now)) }
-    ensures whole { IfOk result (λ read.
-        LeavesClosed block_then (plain tokens.now) (plain read.1.now)) }
-    ensures refused { IfErr result (λ stuck. stuck ≢ Stuck.OutOfMemory
-        → SpellsNoneClosed block_then (plain tokens.now)) }
+    ensures read { IfOk result (λ read.
+        IsReadClosed block_then (plain tokens.now) (block_tree read.0.items) (plain read.1.now)) }
+    ensures refused { IfErr result (RefusesClosed block_then (plain tokens.now)) }
 {
     // { stmt } "}"
     let mut body = Vec::new(alloc);
@@ -41,14 +38,11 @@ pub fn statements(alloc: Global, tokens: &[Spanned]) -> Result<(Vec<Stmt>, &[Spa
 #[cycle(stmt)]
 pub fn block(alloc: Global, tokens: &[Spanned]) -> Result<(Vec<Stmt>, &[Spanned]), Stuck>
     ensures shorter { IfOk result (λ read. length read.1.now < length tokens.now) }
-    ensures spelled { IfOk result (λ read.
-        plain tokens.now
-        ≡ MarkToken Mark.LeftBrace ∷ block_then (block_tree read.0.items) (plain read.1.now)) }
-    ensures whole { IfOk result (λ read.
-        LeavesClosed (λ body rest. MarkToken Mark.LeftBrace ∷ block_then body rest)
-        (plain tokens.now) (plain read.1.now)) }
-    ensures refused { IfErr result (λ stuck. stuck ≢ Stuck.OutOfMemory
-        → SpellsNoneClosed (λ body rest. MarkToken Mark.LeftBrace ∷ block_then body rest)
+    ensures read { IfOk result (λ read.
+        IsReadClosed (λ body rest. MarkToken Mark.LeftBrace ∷ block_then body rest)
+        (plain tokens.now) (block_tree read.0.items) (plain read.1.now)) }
+    ensures refused { IfErr result (RefusesClosed
+        (λ body rest. MarkToken Mark.LeftBrace ∷ block_then body rest)
         (plain tokens.now)) }
 {
     // block = "{" { stmt } "}"
@@ -59,12 +53,9 @@ pub fn block(alloc: Global, tokens: &[Spanned]) -> Result<(Vec<Stmt>, &[Spanned]
 #[cycle(stmt)]
 fn statement(alloc: Global, tokens: &[Spanned]) -> Result<(Stmt, &[Spanned]), Stuck>
     ensures shorter { IfOk result (λ read. length read.1.now < length tokens.now) }
-    ensures spelled { IfOk result (λ read.
-        plain tokens.now ≡ stmt_then (stmt read.0) (plain read.1.now)) }
-    ensures whole { IfOk result (λ read.
-        Leaves stmt_then else_level (plain tokens.now) (plain read.1.now)) }
-    ensures refused { IfErr result (λ stuck. stuck ≢ Stuck.OutOfMemory
-        → SpellsNone stmt_then else_level (plain tokens.now)) }
+    ensures read { IfOk result (λ read.
+        IsRead stmt_then else_level (plain tokens.now) (stmt read.0) (plain read.1.now)) }
+    ensures refused { IfErr result (Refuses stmt_then else_level (plain tokens.now)) }
 {
     let Some((word, rest)) = cursor::first_word(tokens) else {
         return named(alloc, tokens);
@@ -90,12 +81,11 @@ fn statement(alloc: Global, tokens: &[Spanned]) -> Result<(Stmt, &[Spanned]), St
 #[cycle(stmt)]
 fn conditional(alloc: Global, tokens: &[Spanned]) -> Result<(Stmt, &[Spanned]), Stuck>
     ensures shorter { IfOk result (λ read. length read.1.now < length tokens.now) }
-    ensures spelled { IfOk result (λ read.
-        WordToken Word.If ∷ plain tokens.now ≡ stmt_then (stmt read.0) (plain read.1.now)) }
-    ensures whole { IfOk result (λ read.
-        Leaves stmt_then else_level (WordToken Word.If ∷ plain tokens.now) (plain read.1.now)) }
-    ensures refused { IfErr result (λ stuck. stuck ≢ Stuck.OutOfMemory
-        → SpellsNone stmt_then else_level (WordToken Word.If ∷ plain tokens.now)) }
+    ensures read { IfOk result (λ read.
+        IsRead stmt_then else_level (WordToken Word.If ∷ plain tokens.now)
+        (stmt read.0) (plain read.1.now)) }
+    ensures refused { IfErr result
+        (Refuses stmt_then else_level (WordToken Word.If ∷ plain tokens.now)) }
 {
     // "if" expr block [ "else" block ], its first word read
     let (guard, rest) = expressions::expr(alloc, tokens)?;
@@ -126,12 +116,11 @@ fn conditional(alloc: Global, tokens: &[Spanned]) -> Result<(Stmt, &[Spanned]), 
 #[cycle(stmt)]
 fn repeated(alloc: Global, tokens: &[Spanned]) -> Result<(Stmt, &[Spanned]), Stuck>
     ensures shorter { IfOk result (λ read. length read.1.now < length tokens.now) }
-    ensures spelled { IfOk result (λ read.
-        WordToken Word.While ∷ plain tokens.now ≡ stmt_then (stmt read.0) (plain read.1.now)) }
-    ensures whole { IfOk result (λ read.
-        Leaves stmt_then else_level (WordToken Word.While ∷ plain tokens.now) (plain read.1.now)) }
-    ensures refused { IfErr result (λ stuck. stuck ≢ Stuck.OutOfMemory
-        → SpellsNone stmt_then else_level (WordToken Word.While ∷ plain tokens.now)) }
+    ensures read { IfOk result (λ read.
+        IsRead stmt_then else_level (WordToken Word.While ∷ plain tokens.now)
+        (stmt read.0) (plain read.1.now)) }
+    ensures refused { IfErr result
+        (Refuses stmt_then else_level (WordToken Word.While ∷ plain tokens.now)) }
 {
     // "while" expr block, its first word read
     let (guard, rest) = expressions::expr(alloc, tokens)?;
@@ -142,12 +131,11 @@ fn repeated(alloc: Global, tokens: &[Spanned]) -> Result<(Stmt, &[Spanned]), Stu
 #[cycle(stmt)]
 fn split(alloc: Global, tokens: &[Spanned]) -> Result<(Stmt, &[Spanned]), Stuck>
     ensures shorter { IfOk result (λ read. length read.1.now < length tokens.now) }
-    ensures spelled { IfOk result (λ read.
-        WordToken Word.Split ∷ plain tokens.now ≡ stmt_then (stmt read.0) (plain read.1.now)) }
-    ensures whole { IfOk result (λ read.
-        Leaves stmt_then else_level (WordToken Word.Split ∷ plain tokens.now) (plain read.1.now)) }
-    ensures refused { IfErr result (λ stuck. stuck ≢ Stuck.OutOfMemory
-        → SpellsNone stmt_then else_level (WordToken Word.Split ∷ plain tokens.now)) }
+    ensures read { IfOk result (λ read.
+        IsRead stmt_then else_level (WordToken Word.Split ∷ plain tokens.now)
+        (stmt read.0) (plain read.1.now)) }
+    ensures refused { IfErr result
+        (Refuses stmt_then else_level (WordToken Word.Split ∷ plain tokens.now)) }
 {
     // "split" name "at" expr "as" name "," name block, its first word read
     let (section, rest) = cursor::name(tokens)?;
@@ -173,10 +161,8 @@ fn split(alloc: Global, tokens: &[Spanned]) -> Result<(Stmt, &[Spanned]), Stuck>
 /// A statement without a block that a word begins.
 fn simple(alloc: Global, tokens: &[Spanned]) -> Result<(Stmt, &[Spanned]), Stuck>
     ensures shorter { IfOk result (λ read. length read.1.now < length tokens.now) }
-    ensures spelled { IfOk result (λ read.
-        plain tokens.now ≡ stmt_then (stmt read.0) (plain read.1.now)) }
-    ensures whole { IfOk result (λ read.
-        Leaves stmt_then else_level (plain tokens.now) (plain read.1.now)) }
+    ensures read { IfOk result (λ read.
+        IsRead stmt_then else_level (plain tokens.now) (stmt read.0) (plain read.1.now)) }
     ensures refused { IfErr result (λ stuck. stuck ≢ Stuck.OutOfMemory
         → (word : AnyWord) (rest : List PlainToken) → plain tokens.now ≡ WordToken word ∷ rest
         → word ≢ Word.If → word ≢ Word.While → word ≢ Word.Split
@@ -203,14 +189,11 @@ fn simple(alloc: Global, tokens: &[Spanned]) -> Result<(Stmt, &[Spanned]), Stuck
 /// An expression and the semicolon that ends its statement.
 fn ended(alloc: Global, tokens: &[Spanned]) -> Result<(Expr, &[Spanned]), Stuck>
     ensures shorter { IfOk result (λ read. length read.1.now < length tokens.now) }
-    ensures spelled { IfOk result (λ read.
-        plain tokens.now
-        ≡ expr_then (expr_tree read.0) (MarkToken Mark.Semicolon ∷ plain read.1.now)) }
-    ensures whole { IfOk result (λ read.
-        LeavesClosed (λ value rest. expr_then value (MarkToken Mark.Semicolon ∷ rest))
-        (plain tokens.now) (plain read.1.now)) }
-    ensures refused { IfErr result (λ stuck. stuck ≢ Stuck.OutOfMemory
-        → SpellsNoneClosed (λ value rest. expr_then value (MarkToken Mark.Semicolon ∷ rest))
+    ensures read { IfOk result (λ read.
+        IsReadClosed (λ value rest. expr_then value (MarkToken Mark.Semicolon ∷ rest))
+        (plain tokens.now) (expr_tree read.0) (plain read.1.now)) }
+    ensures refused { IfErr result (RefusesClosed
+        (λ value rest. expr_then value (MarkToken Mark.Semicolon ∷ rest))
         (plain tokens.now)) }
 {
     // expr ";"
@@ -221,12 +204,11 @@ fn ended(alloc: Global, tokens: &[Spanned]) -> Result<(Expr, &[Spanned]), Stuck>
 
 fn declared(alloc: Global, tokens: &[Spanned]) -> Result<(Stmt, &[Spanned]), Stuck>
     ensures shorter { IfOk result (λ read. length read.1.now < length tokens.now) }
-    ensures spelled { IfOk result (λ read.
-        WordToken Word.Var ∷ plain tokens.now ≡ stmt_then (stmt read.0) (plain read.1.now)) }
-    ensures whole { IfOk result (λ read.
-        Leaves stmt_then else_level (WordToken Word.Var ∷ plain tokens.now) (plain read.1.now)) }
-    ensures refused { IfErr result (λ stuck. stuck ≢ Stuck.OutOfMemory
-        → SpellsNone stmt_then else_level (WordToken Word.Var ∷ plain tokens.now)) }
+    ensures read { IfOk result (λ read.
+        IsRead stmt_then else_level (WordToken Word.Var ∷ plain tokens.now)
+        (stmt read.0) (plain read.1.now)) }
+    ensures refused { IfErr result
+        (Refuses stmt_then else_level (WordToken Word.Var ∷ plain tokens.now)) }
 {
     // "var" name "=" expr ";", its first word read
     let (name, rest) = cursor::name(tokens)?;
@@ -237,12 +219,11 @@ fn declared(alloc: Global, tokens: &[Spanned]) -> Result<(Stmt, &[Spanned]), Stu
 
 fn printed(alloc: Global, tokens: &[Spanned]) -> Result<(Stmt, &[Spanned]), Stuck>
     ensures shorter { IfOk result (λ read. length read.1.now < length tokens.now) }
-    ensures spelled { IfOk result (λ read.
-        WordToken Word.Print ∷ plain tokens.now ≡ stmt_then (stmt read.0) (plain read.1.now)) }
-    ensures whole { IfOk result (λ read.
-        Leaves stmt_then else_level (WordToken Word.Print ∷ plain tokens.now) (plain read.1.now)) }
-    ensures refused { IfErr result (λ stuck. stuck ≢ Stuck.OutOfMemory
-        → SpellsNone stmt_then else_level (WordToken Word.Print ∷ plain tokens.now)) }
+    ensures read { IfOk result (λ read.
+        IsRead stmt_then else_level (WordToken Word.Print ∷ plain tokens.now)
+        (stmt read.0) (plain read.1.now)) }
+    ensures refused { IfErr result
+        (Refuses stmt_then else_level (WordToken Word.Print ∷ plain tokens.now)) }
 {
     // "print" expr { "," expr } ";", its first word read
     let (first, rest) = expressions::expr(alloc, tokens)?;
@@ -260,10 +241,8 @@ fn printed(alloc: Global, tokens: &[Spanned]) -> Result<(Stmt, &[Spanned]), Stuc
 /// A statement that a name begins.
 fn named(alloc: Global, tokens: &[Spanned]) -> Result<(Stmt, &[Spanned]), Stuck>
     ensures shorter { IfOk result (λ read. length read.1.now < length tokens.now) }
-    ensures spelled { IfOk result (λ read.
-        plain tokens.now ≡ stmt_then (stmt read.0) (plain read.1.now)) }
-    ensures whole { IfOk result (λ read.
-        Leaves stmt_then else_level (plain tokens.now) (plain read.1.now)) }
+    ensures read { IfOk result (λ read.
+        IsRead stmt_then else_level (plain tokens.now) (stmt read.0) (plain read.1.now)) }
     ensures refused { IfErr result (λ stuck. stuck ≢ Stuck.OutOfMemory
         → ((word : AnyWord) (rest : List PlainToken) → plain tokens.now ≢ WordToken word ∷ rest)
         → SpellsNone stmt_then else_level (plain tokens.now)) }
@@ -305,14 +284,11 @@ fn named(alloc: Global, tokens: &[Spanned]) -> Result<(Stmt, &[Spanned]), Stuck>
 /// The arguments of a call and the parenthesis that closes them.
 fn arguments(alloc: Global, tokens: &[Spanned]) -> Result<(Vec<Expr>, &[Spanned]), Stuck>
     ensures shorter { IfOk result (λ read. length read.1.now < length tokens.now) }
-    ensures spelled { IfOk result (λ read.
-        plain tokens.now
-        ≡ exprs_then (exprs read.0.items) (MarkToken Mark.RightParen ∷ plain read.1.now)) }
-    ensures whole { IfOk result (λ read.
-        LeavesClosed (λ all rest. exprs_then all (MarkToken Mark.RightParen ∷ rest))
-        (plain tokens.now) (plain read.1.now)) }
-    ensures refused { IfErr result (λ stuck. stuck ≢ Stuck.OutOfMemory
-        → SpellsNoneClosed (λ all rest. exprs_then all (MarkToken Mark.RightParen ∷ rest))
+    ensures read { IfOk result (λ read.
+        IsReadClosed (λ all rest. exprs_then all (MarkToken Mark.RightParen ∷ rest))
+        (plain tokens.now) (exprs read.0.items) (plain read.1.now)) }
+    ensures refused { IfErr result (RefusesClosed
+        (λ all rest. exprs_then all (MarkToken Mark.RightParen ∷ rest))
         (plain tokens.now)) }
 {
     // [ expr { "," expr } ] ")"

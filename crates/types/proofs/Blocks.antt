@@ -4,7 +4,7 @@ use mathlib.Core.Former.{Count}
 use Rattle.types.specs.Code.{If, While, Split, Async, Finish, Then}
 use Rattle.types.specs.Translation.{number, truth, code, row_codes, codes}
 use Rattle.types.specs.declared.code.Number.{Number}
-use Rattle.types.specs.declared.ids.SectionId.{SectionId}
+use Rattle.sections.specs.declared.id.SectionId.{SectionId}
 use Rattle.types.specs.declared.code.Truth.{Truth}
 use Rattle.types.specs.declared.code.Stmt.{Stmt}
 use Rattle.types.specs.declared.code.StmtKind.{StmtKind, Row_of-Stmt, end_of-Stmt, more_of-Stmt, items-the_row-Stmt}

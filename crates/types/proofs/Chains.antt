@@ -11,7 +11,7 @@ use Rattle.types.specs.declared.code.Truth.{Truth as rTruth, Row_of-Truth, end_o
 use Rattle.types.specs.declared.code.Truth.{items-the_row-Truth, items_hidden-the_row-Truth-0}
 use Rattle.types.specs.declared.code.Truth.TheVariants.{Both as rBoth, Both' as rBoth', Either as rEither, Either' as rEither'}
 use Rattle.types.specs.Code.{Chain, Link, Both, Either, Truths, NoMore, Also}
-use Rattle.types.specs.Place.{Place}
+use Rattle.sections.specs.Place.{Place}
 use Rattle.types.specs.Value.{Environment, then_try, all, any, truth as truth_value}
 use Rattle.types.specs.Translation.{number, truth, links as row_links, truths as row_truths}
 use Rattle.types.specs.Rows.{links, truths}

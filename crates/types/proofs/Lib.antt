@@ -2,6 +2,7 @@ pub mod Programs
 pub mod Examples
 pub mod Solutions
 pub mod Views
+pub mod Keeps
 pub mod Adds
 pub mod Larger
 pub mod Readings
@@ -15,3 +16,6 @@ pub mod Declared
 pub mod Places
 pub mod ByKind
 pub mod Mains
+pub mod Labels
+pub mod FirstParts
+pub mod InputLemmas

@@ -5,7 +5,8 @@ use Rattle.syntax.specs.declared.tree.Relation.TheVariants.{Less, AtMost, Equal}
 use Rattle.types.specs.declared.code.Operator.TheVariants.{Plus, Minus, Times, Over, Modulo}
 use Rattle.types.specs.Code.{Number, Literal, Scalar, Element, Length, Negative, Chain, Done, Link, Constant, Compare}
 use Rattle.types.specs.Code.{Skip, Assign, Store, Print, Raise, Code, Do, If, While, Split, Call, Async, Finish, Codes}
-use Rattle.types.specs.Code.{End, Then, Origin, Root, Left, Right, Array, Procedure, Program}
+use Rattle.sections.specs.Origins.{Origin, Root, Left, Right}
+use Rattle.types.specs.Code.{End, Then, Array, Procedure, Program}
 
 -- a labelled statement before others
 infixr 4 ◌⨾◌

@@ -6,7 +6,7 @@ use Rattle.std.specs.Prelude.{ℤ, pos, negsuc, neg_ℤ, nat_lt, Bool, true, fal
 use Rattle.types.specs.declared.fault.FaultKind.TheVariants.{Index}
 use Rattle.types.specs.Code.{Number, Literal, Scalar, Element, Length, Negative, Chain, Links, Done, Link, Truth}
 use Rattle.types.specs.Code.{Constant, Compare, Not, Both, Either, Truths, NoMore, Also}
-use Rattle.types.specs.Place.{Window, Place, In}
+use Rattle.sections.specs.Place.{Window, Place, In}
 use Rattle.types.specs.Value.{Environment, Valued, then_try, element_of, within_64_bits, operate, holds, number, links, truth, all, any}
 use Rattle.types.specs.Indexed.{indexed, indexed_links, indexed_truth, indexed_truths}
 use Rattle.types.specs.Laws.{SameOn}

@@ -6,6 +6,7 @@ use Rattle.std.specs.List.{position_from}
 use Rattle.std.specs.Option.{option_map}
 use Rattle.std.specs.String.{string_bytes, string_eq}
 use Rattle.std.proofs.lemmas.Iterator.Adapters.{position_from-zero}
+use Rattle.sections.specs.Origins.{Origin, Root}
 use Rattle.syntax.specs.Tree.{Expr, Or, NoConj, OrConj, Conj, And, NoNeg, AndNeg, Neg, Plainly, Not, Cmp, Alone}
 use Rattle.syntax.specs.Tree.{Compare, Sum, Add, NoTerm, AddTerm, Prod, Multiply, NoFactor, MultiplyFactor, Unary}
 use Rattle.syntax.specs.Tree.{Positive, Negative, Atom, Element, lone_atom, atom_of_conj, atom_of_neg, atom_of_sum}
@@ -254,23 +255,23 @@ at_main names arrays same =
     ∙ ap (λ ns. record { names = ns; label = 1; slot = 0; section = length (map (λ a. a.name) arrays) }) (numbered_names 0 arrays)
     ∙ ap (λ n. record { names = resolution.array_names 0 arrays; label = 1; slot = 0; section = n }) (as_many_names arrays)
 
-abbrev main_of : List code.Array → List code.Procedure → List code.Parameter → ℕ → List code.Origin → Codes → code.Program
+abbrev main_of : List code.Array → List code.Procedure → List code.Parameter → ℕ → List Origin → Codes → code.Program
 main_of xs ps qs n os cs =
     record { arrays = xs; procedures = ps; main = record { parameters = qs; scalars = 0; slots = n; sections = os; body = cs } }
 
 -- a served `main` is what its parts are
 pub main_is : (arrays : List tree.Array) (b : Block) (names : List (List ℕ)) (xs : List code.Array) (ps : List code.Procedure)
-    (qs : List code.Parameter) (os : List code.Origin) (cs : Codes)
+    (qs : List code.Parameter) (os : List Origin) (cs : Codes)
     → names ≡ map (λ a. a.name) arrays → is_served_block b ≡ true
-    → map resolution.array arrays ≡ xs → [] ≡ ps → [] ≡ qs → replicate (length arrays) code.Root ≡ os
+    → map resolution.array arrays ≡ xs → [] ≡ ps → [] ≡ qs → replicate (length arrays) Root ≡ os
     → resolution.codes [] (place names 1) b ≡ cs
     → resolution.with_main [] (record { arrays = arrays; body = b }) ≡ main_of xs ps qs 0 os cs
 main_is arrays b names xs ps qs os cs named served arrays_are no_procedures no_parameters roots body =
     let here = resolution.in_main 1 arrays in
     let slots_are : 0 + slots b ≡ 0 = omega (arith, no_slots b served) in
-    let all = replicate (length arrays) code.Root ++ resolution.origins here b in
-    let all_are : all ≡ os = ap (λ o. replicate (length arrays) code.Root ++ o) (no_origins b here served)
-    ∙ append-nil (replicate (length arrays) code.Root) ∙ roots in
+    let all = replicate (length arrays) Root ++ resolution.origins here b in
+    let all_are : all ≡ os = ap (λ o. replicate (length arrays) Root ++ o) (no_origins b here served)
+    ∙ append-nil (replicate (length arrays) Root) ∙ roots in
     let body_is : resolution.codes [] here b ≡ cs = ap (λ h. resolution.codes [] h b) (sym (at_main names arrays named)) ∙ body in
     ap (λ x. main_of x [] [] (0 + slots b) all (resolution.codes [] here b)) arrays_are
     ∙ ap (λ x. main_of xs x [] (0 + slots b) all (resolution.codes [] here b)) no_procedures

@@ -4,7 +4,7 @@ use Rattle.std.specs.Prelude.{ℤ, Bool, true, false, map, ok_or}
 use Rattle.types.specs.declared.fault.FaultKind.TheVariants.{SplitPoint}
 use Rattle.types.specs.Code.{Primitive, Skip, Assign, Store, Print, Raise, Code, Do, If, While, Split, Call, Async}
 use Rattle.types.specs.Code.{Finish, Codes, End, Then, Program}
-use Rattle.types.specs.Place.{Place, sides_of}
+use Rattle.sections.specs.Place.{Place, sides_of}
 use Rattle.types.specs.Value.{Valued, element_of, holds_number}
 use Rattle.types.specs.Run.{Flow, On, Faulted, Stopped, State, Work, Block, Turn, at_flow, go_on, spend, with_step}
 use Rattle.types.specs.Run.{with_value, number_at, numbers_at, truth_at, window_at, assign, print, put, choose, entry}

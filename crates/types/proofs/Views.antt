@@ -5,7 +5,7 @@ use Rattle.types.specs.declared.fault.FaultKind.{FaultKind}
 use Rattle.types.specs.declared.fault.FaultKind.TheVariants.{SplitPoint, Raised}
 use Rattle.types.specs.Code.{Primitive, Skip, Assign, Store, Print, Raise, Code, Do, If, While, Split, Call, Async}
 use Rattle.types.specs.Code.{Finish, Codes, End, Then, Program}
-use Rattle.types.specs.Place.{Place, sides_of}
+use Rattle.sections.specs.Place.{Place, sides_of}
 use Rattle.types.specs.Contents.{Contents, read, write}
 use Rattle.types.specs.Value.{Environment, Valued, element_of, holds_number, number, numbers, truth}
 use Rattle.types.specs.Run.{Flow, On, Faulted, Stopped, State, Work, Block, Turn, at_flow, go_on, with_step, fault}

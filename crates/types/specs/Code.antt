@@ -1,6 +1,7 @@
 -- A program with its names resolved: scalars are slots of their procedure's frame, sections are numbers of their
 -- procedure, arrays and procedures are numbers of the program.
 use Rattle.std.specs.Prelude.{ℕ, ℤ, Bool, List}
+use Rattle.sections.specs.Origins.{Origin}
 use Rattle.syntax.specs.declared.tree.ElementType.{ElementType}
 use Rattle.syntax.specs.declared.tree.Relation.{Relation}
 use Rattle.types.specs.declared.code.Operator.{Operator}
@@ -54,12 +55,6 @@ mutual
   pub data Codes : Type 0 where
     End : Codes
     Then : (label : ℕ) → Code → (rest : Codes) → Codes
-
--- where a section of a procedure comes from: it is an array or a parameter, or a side of a split
-pub data Origin : Type 0 where
-  Root : Origin
-  Left : (parent : ℕ) → Origin
-  Right : (parent : ℕ) → Origin
 
 -- a declared array; its name is bytes
 pub record Array : Type 0 where

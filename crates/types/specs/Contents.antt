@@ -1,8 +1,8 @@
 -- The number at each place, and the lists of numbers that show it.
-use Rattle.std.specs.Prelude.{ℕ, zero, suc, ◌+◌, ◌≡◌, List, [], ◌∷◌, length, ℤ, pos, Option, Some, unwrap_or, slice_get}
+use Rattle.std.specs.Prelude.{ℕ, zero, suc, ◌+◌, ◌≡◌, List, [], ◌∷◌, length, ℤ, pos, Option, None, Some, unwrap_or, slice_get}
 use Rattle.std.specs.Prelude.{slice_index_or, if◌then◌else◌}
 use Rattle.types.specs.Code.{Array}
-use Rattle.types.specs.Place.{Place, same_place}
+use Rattle.sections.specs.Place.{Place, same_place}
 
 -- a number for each place that is there
 abbrev pub Contents : Type 0
@@ -15,6 +15,15 @@ read c q = unwrap_or (c q) (pos 0)
 -- the contents with the number v at the place q
 abbrev pub write : Place → ℤ → Contents → Contents
 write q v c other = if same_place q other then Some v else c other
+
+-- a number is there
+abbrev pub IsThere : Option ℤ → Type 0
+IsThere None = ⊥
+IsThere (Some v) = Unit {0}
+
+-- the second has a number wherever the first has one
+abbrev pub Extends : (c d : Contents) → Type 0
+Extends c d = (q : Place) → IsThere (c q) → IsThere (d q)
 
 -- what lists hold, one for each array
 abbrev pub held_by : List (List ℤ) → Contents

@@ -1,10 +1,12 @@
 -- What holds of runs and of values, whatever the program.
-use Rattle.std.specs.Prelude.{ℕ, ℤ, ◌≡◌, ◌≤◌, List, Contains}
+use Rattle.std.specs.Prelude.{ℕ, ℤ, ◌≡◌, ◌≤◌, List, [], Contains}
 use Rattle.types.specs.Code.{Codes, Program}
-use Rattle.types.specs.Place.{Place, In}
+use Rattle.sections.specs.Place.{Place, In}
+use Rattle.types.specs.Contents.{Extends}
 use Rattle.types.specs.Value.{Environment}
 use Rattle.types.specs.Run.{State, Rules, Work, work}
 use Rattle.types.specs.Meaning.{hushed, joined}
+use Rattle.types.specs.Outcome.{Outcome, Ended, Halted}
 
 module _ {X : Type 0} where
   -- the rules spend steps honestly: nothing gives a step back
@@ -24,6 +26,26 @@ module _ {X : Type 0} where
   -- it only adds to the lines and faults that are there, and goes the same way without them
   abbrev pub OnlyAdds : (State X → State X) → Type 0
   OnlyAdds go = (st : State X) → go st ≡ joined st (go (hushed st))
+
+-- it ended, and no task faulted
+abbrev pub EndsWithoutFault : Outcome → Type 0
+EndsWithoutFault (Ended e) = e.faults ≡ []
+EndsWithoutFault Halted = ⊥
+
+module _ {X : Type 0} where
+  -- a way in which a state may follow another, by each operation of the rules, by all that changes neither the names of
+  -- a task and its children nor `extra` and loses no place, and by one such change behind another
+  pub record IsKept (r : Rules X) (R : State X → State X → Type 0) : Type 0 where
+    pub idle : (st to : State X) → to.path ≡ st.path → to.spawned ≡ st.spawned → to.extra ≡ st.extra
+        → Extends st.store to.store → R st to
+    pub further : (a b c : State X) → R a b → R b c → R a c
+    pub stepped : (st : State X) → R st (record st { extra = r.stepped st.extra })
+    pub begin : (b : Codes) (st : State X) → R st (r.begin b st)
+    pub finish : (st out : State X) → R (r.enter st) out → R st (r.leave st out)
+
+  -- where it ends follows where it began
+  abbrev pub Keeps : (State X → State X → Type 0) → (State X → State X) → Type 0
+  Keeps R go = (st : State X) → R st (go st)
 
 -- two readings give the same number at each place of the sections
 abbrev pub SameOn : Environment → List ℕ → (read other : Place → ℤ) → Type 0

@@ -1,7 +1,7 @@
 -- What a program, an input and a budget come to on one thread.
 use Rattle.std.specs.Prelude.{ℕ, ◌+◌, ◌≡◌, ◌≤◌, List, [], ◌∷◌, ℤ}
 use Rattle.types.specs.Code.{Array, Program}
-use Rattle.types.specs.Place.{Window}
+use Rattle.sections.specs.Place.{Window}
 use Rattle.types.specs.Contents.{Contents, held_by, shown}
 use Rattle.types.specs.Run.{Flow, On, Faulted, Stopped, Fault, State, Block, entry}
 use Rattle.types.specs.Meaning.{one_rules, one}

@@ -20,8 +20,10 @@ use Rattle.types.specs.declared.code.Operator.{Operator}
 use Rattle.types.specs.declared.code.Operator.TheVariants.{Plus, Minus, Times, Over, Modulo}
 use Rattle.types.specs.Code.{Number, Literal, Scalar, Element, Length, Negative, Chain, Links, Done, Link, Truth}
 use Rattle.types.specs.Code.{Constant, Compare, Not, Both, Either, Truths, NoMore, Also, Skip, Assign, Store, Print}
-use Rattle.types.specs.Code.{Raise, Code, Do, If, While, Split, Call, Async, Finish, Codes, End, Then, Origin, Root}
-use Rattle.types.specs.Code.{Left, Right, Array, Parameter, Procedure, Program}
+use Rattle.sections.specs.Origins.{Origin, Root}
+use Rattle.types.specs.Code.{Raise, Code, Do, If, While, Split, Call, Async, Finish, Codes, End, Then}
+use Rattle.sections.specs.Origins.{Left, Right}
+use Rattle.types.specs.Code.{Array, Parameter, Procedure, Program}
 
 -- what a name means
 pub data Meant : Type 0 where

@@ -6,7 +6,7 @@ use Rattle.types.specs.declared.fault.FaultKind.{FaultKind}
 use Rattle.types.specs.declared.fault.FaultKind.TheVariants.{OutOfElement, SplitPoint, Raised}
 use Rattle.types.specs.Code.{Number, Truth, Primitive, Skip, Assign, Store, Print, Raise, Code, Do, If, While, Split}
 use Rattle.types.specs.Code.{Call, Async, Finish, Codes, End, Then, Array, Procedure, Program}
-use Rattle.types.specs.Place.{Window, Place, nowhere, sides_of}
+use Rattle.sections.specs.Place.{Window, Place, nowhere, sides_of}
 use Rattle.types.specs.Contents.{Contents, read, write}
 use Rattle.types.specs.Value.{Environment, Valued, element_of, holds_number, number, numbers, truth}
 

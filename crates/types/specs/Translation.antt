@@ -1,11 +1,13 @@
 -- The Rust types as plain trees, without what says where they lie in memory.
 use Rattle.std.specs.Prelude.{ℤ, List, [], ◌∷◌, map, pos}
 use Rattle.std.specs.String.{string_bytes}
+use Rattle.sections.specs.Place.{nowhere}
+use Rattle.sections.specs.Translation.{section, window}
+use Rattle.sections.specs.Tree.{origins_of}
 use Rattle.types.specs.Code.{Number, Literal, Scalar, Element, Length, Negative, Chain, Links, Done, Link, Truth}
 use Rattle.types.specs.Code.{Constant, Compare, Not, Both, Either, Truths, NoMore, Also, Primitive, Skip, Assign, Store}
-use Rattle.types.specs.Code.{Print, Raise, Code, Do, If, While, Split, Call, Async, Finish, Codes, End, Then, Origin}
-use Rattle.types.specs.Code.{Root, Left, Right, Array, Parameter, Procedure, Program}
-use Rattle.types.specs.Place.{Place, Window, nowhere}
+use Rattle.types.specs.Code.{Print, Raise, Code, Do, If, While, Split, Call, Async, Finish, Codes, End, Then}
+use Rattle.types.specs.Code.{Array, Parameter, Procedure, Program}
 use Rattle.types.specs.Value.{Environment}
 use Rattle.types.specs.Run.{Fault, by_number}
 use Rattle.types.specs.Outcome.{Budget, Outcome, Ended, Halted}
@@ -22,14 +24,10 @@ use Rattle.types.specs.declared.code.Stmt.{Stmt}
 use Rattle.types.specs.declared.code.StmtKind.{StmtKind, Row_of-Stmt, end_of-Stmt, more_of-Stmt}
 use Rattle.types.specs.declared.code.StmtKind.TheVariants.{Do as rDo, If' as rIf, While' as rWhile, Split' as rSplit}
 use Rattle.types.specs.declared.code.StmtKind.TheVariants.{Call as rCall, Async' as rAsync, Finish' as rFinish}
-use Rattle.types.specs.declared.code.Origin.{Origin as rOrigin}
-use Rattle.types.specs.declared.code.Origin.TheVariants.{Root as rRoot, Left as rLeft, Right as rRight}
 use Rattle.types.specs.declared.code.Array.{Array as rArray}
 use Rattle.types.specs.declared.code.SectionParameter.{SectionParameter}
 use Rattle.types.specs.declared.code.Procedure.{Procedure as rProcedure}
 use Rattle.types.specs.declared.code.Program.{Program as rProgram}
-use Rattle.types.specs.declared.window.Place.{Place as rPlace}
-use Rattle.types.specs.declared.window.Window.{Window as rWindow}
 use Rattle.types.specs.declared.value.Environment.{Environment as rEnvironment}
 use Rattle.types.specs.declared.fault.Fault.{Fault as rFault}
 use Rattle.types.specs.declared.budget.Budget.{Budget as rBudget}
@@ -79,7 +77,7 @@ abbrev mutual
   code (rIf t p b q c) = If (truth t) (row_codes b) (row_codes c)
   code (rWhile t p b) = While (truth t) (row_codes b)
   code (rSplit s e l r p b) = Split s.number (number e) l.number r.number (row_codes b)
-  code (rCall f es ss) = Call f.number (map number es.items) (map (λ s. s.number) ss.items)
+  code (rCall f es ss) = Call f.number (map number es.items) (map section ss.items)
   code (rAsync p b) = Async (row_codes b)
   code (rFinish p b) = Finish (row_codes b)
 
@@ -91,12 +89,6 @@ abbrev mutual
 abbrev pub codes : List Stmt → Codes
 codes [] = End
 codes (s ∷ rest) = Then s.label (code s.kind) (codes rest)
-
--- where a section comes from
-abbrev pub origin : rOrigin → Origin
-origin rRoot = Root
-origin (rLeft s) = Left s.number
-origin (rRight s) = Right s.number
 
 -- a declared array
 abbrev pub array : rArray → Array
@@ -112,7 +104,7 @@ procedure f = record {
   parameters = map parameter f.parameters.items;
   scalars = f.scalars;
   slots = f.slots;
-  sections = map (λ s. origin s.origin) f.sections.items;
+  sections = origins_of f.sections;
   body = codes f.body.items;
 }
 
@@ -144,14 +136,6 @@ outcome (rEnded arrays lines faults) = Ended (record {
   faults = map fault faults.items;
 })
 outcome rStopped = Halted
-
--- a place
-abbrev pub place : rPlace → Place
-place q = record { array = q.array.number; index = q.index }
-
--- a window
-abbrev pub window : rWindow → Window
-window w = record { array = w.array.number; at = w.at; length = w.len }
 
 -- what a frame knows
 abbrev pub environment : rEnvironment → Environment

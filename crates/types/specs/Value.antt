@@ -12,7 +12,7 @@ use Rattle.types.specs.declared.fault.FaultKind.{FaultKind}
 use Rattle.types.specs.declared.fault.FaultKind.TheVariants.{Index, Overflow, ZeroDivisor}
 use Rattle.types.specs.Code.{Number, Literal, Scalar, Element, Length, Negative, Chain, Links, Done, Link, Truth}
 use Rattle.types.specs.Code.{Constant, Compare, Not, Both, Either, Truths, NoMore, Also}
-use Rattle.types.specs.Place.{Window, Place, place_in}
+use Rattle.sections.specs.Place.{Window, Place, place_in}
 
 -- what a frame knows: the number in each slot and the window of each section
 pub record Environment : Type 0 where

@@ -4,11 +4,12 @@ ghost use Rattle.std.specs.Prelude.{◌≡◌, ◌≤◌, ◌+◌, IsTrue, IfOk,
 ghost use Rattle.std.specs.Prelude.{[], ◌∷◌, map, length, replicate, false};
 ghost use Rattle.std.specs.List.{list_all, list_any};
 ghost use Rattle.std.specs.String.{string_bytes};
+ghost use Rattle.sections.specs.Origins.{Root};
+ghost use Rattle.sections.specs.Tree.{origins_of};
 ghost use Rattle.syntax.specs.Tree.{block as block_of, stmt as stmt_of};
 ghost use Rattle.syntax.specs.Tree.{expr as expr_of, atom as atom_of};
 ghost use Rattle.syntax.specs.Tree.{array as array_of, main as main_of, program as tree_of};
 ghost use Rattle.types.specs.ArrayScope.{place_among, lone, only_main};
-ghost use Rattle.types.specs.Code.{Root};
 ghost use Rattle.types.specs.Resolution.{labels as labels_of, number as number_of, number_atom};
 ghost use Rattle.types.specs.Resolution.{array as array_at};
 ghost use Rattle.types.specs.Resolution.{Scope, section_of, with_main, resolution};
@@ -18,18 +19,17 @@ ghost use Rattle.types.specs.Rules.{is_number, is_literal, is_printed, is_item};
 ghost use Rattle.types.specs.Rules.{is_served_block, is_unknown, atom_unknown, item_unknown};
 ghost use Rattle.types.specs.Told.{KnowsNames};
 ghost use Rattle.types.specs.Told.{TellsArrays, TellsBlock, TellsItems, TellsItem, TellsAtom, TellsName};
-ghost use Rattle.types.specs.Translation.{array, origin, number, primitive, codes, code};
+ghost use Rattle.types.specs.Translation.{array, number, primitive, codes, code};
 ghost use Rattle.types.specs.Translation.{program as plain};
 ghost use Rattle.types.specs.Typed.{code_of, program_of};
 
-use crate::code::{
-    Array, Label, Number, Origin, Primitive, Procedure, Program, Section, Stmt, StmtKind,
-};
+use crate::code::{Array, Label, Number, Primitive, Procedure, Program, Stmt, StmtKind};
 use crate::error::TypeError;
-use crate::ids::SectionId;
 use crate::typed::Typed;
-use crate::window::MOST_ELEMENTS;
 use indexmap::IndexSet;
+use sections::id::SectionId;
+use sections::tree::SectionTree;
+use sections::window::MOST_ELEMENTS;
 use std::alloc::{AllocError, Global};
 use syntax::tree;
 use syntax::tree::{Atom, Expr};
@@ -83,7 +83,8 @@ fn resolve_main(alloc: Global, main: &tree::Main) -> Result<Program, TypeError>
     };
     let mut labels = 0;
     let body = resolver.block(&mut labels, statements)?;
-    let sections = array_sections(alloc, declared)?;
+    let sections = array_sections(alloc, declared.len())?;
+    let section_names = section_names(alloc, declared)?;
     let name = "main".to_string(alloc)?;
     let parameters = Vec::new(alloc);
     let procedures = Vec::new(alloc);
@@ -96,6 +97,7 @@ fn resolve_main(alloc: Global, main: &tree::Main) -> Result<Program, TypeError>
             scalars: 0,
             slots: 0,
             sections,
+            section_names,
             body,
         },
     })
@@ -147,19 +149,27 @@ fn resolve_arrays(alloc: Global, arrays: &[tree::Array]) -> Result<Vec<Array>, T
     Ok(resolved)
 }
 
-/// The arrays as the first sections of `main`.
-fn array_sections(alloc: Global, arrays: &[tree::Array]) -> Result<Vec<Section>, AllocError>
-    ensures { IfOk result
-        (λ v. replicate (length arrays.now) Root ≡ map (λ s. origin s.origin) v.items) }
+/// So many arrays as the first sections of `main`.
+fn array_sections(alloc: Global, count: usize) -> Result<SectionTree, AllocError>
+    ensures { IfOk result (λ t. replicate count Root ≡ origins_of t) }
 {
-    let mut sections = Vec::new(alloc);
-    for array in arrays {
-        sections.push(Section {
-            name: array.name.clone()?,
-            origin: Origin::Root,
-        })?;
+    let mut sections = SectionTree::new(alloc);
+    for _ in 0..count {
+        sections.root()?;
     }
     Ok(sections)
+}
+
+/// The names of these sections.
+fn section_names(alloc: Global, arrays: &[tree::Array]) -> Result<Vec<String>, AllocError>
+    ensures { IfOk result
+        (λ v. map string_bytes v.items ≡ map (λ a. string_bytes a.name) arrays.now) }
+{
+    let mut names = Vec::new(alloc);
+    for array in arrays {
+        names.push(array.name.clone()?)?;
+    }
+    Ok(names)
 }
 
 /// What names mean in a text. Labels are counted beside it.

@@ -3,7 +3,9 @@
 
 ghost use Rattle.std.specs.Prelude.{◌≤◌};
 
-use crate::ids::{ProcedureId, SectionId, Slot};
+use crate::ids::{ProcedureId, Slot};
+use sections::id::SectionId;
+use sections::tree::SectionTree;
 use syntax::tree::{ElementType, Relation};
 
 /// A statement's number in the order of the text, from 1.
@@ -38,7 +40,9 @@ pub struct Procedure {
     /// How many slots a frame of it has, scalar parameters among them.
     pub slots: usize,
     /// Where each section comes from.
-    pub sections: Vec<Section>,
+    pub sections: SectionTree,
+    /// The name of each section.
+    pub section_names: Vec<String>,
     pub body: Vec<Stmt>,
 }
 
@@ -48,24 +52,6 @@ pub struct SectionParameter {
     /// `mut`
     pub may_write: bool,
     pub element: ElementType,
-}
-
-/// A section of a procedure: its name and where it comes from.
-#[derive(Drop)]
-pub struct Section {
-    pub name: String,
-    pub origin: Origin,
-}
-
-/// Where a section comes from. The two sides of a split are numbered in turn.
-#[derive(Clone, Copy, PartialEq, Eq, Debug)]
-pub enum Origin {
-    /// An array, or a section parameter.
-    Root,
-    /// The left side of a split of `parent`.
-    Left { parent: SectionId },
-    /// The right side of a split of `parent`.
-    Right { parent: SectionId },
 }
 
 /// A statement with its label.

@@ -11,8 +11,9 @@ ghost use Rattle.types.specs.Typed.{code_of};
 ghost use Rattle.types.specs.Value.{holds_number};
 
 use crate::code::{Number, Primitive, Program, Stmt, StmtKind};
-use crate::ids::{ArrayId, SectionId, array_in_main};
+use crate::ids::array_in_main;
 use crate::typed::Typed;
+use sections::id::{ArrayId, SectionId};
 use syntax::tree::ElementType;
 
 /// How many statements a program of the first part has, at most.

@@ -2,6 +2,8 @@
 
 ghost use Rattle.std.specs.Prelude.{◌≡◌};
 
+use sections::id::{ArrayId, SectionId};
+
 /// A scalar of a procedure: the number of its slot in a frame. The parameters come first.
 #[derive(Clone, Copy, PartialEq, Eq, Debug)]
 pub struct Slot {
@@ -11,18 +13,6 @@ pub struct Slot {
 /// A procedure of the program, by its number in the order of the text.
 #[derive(Clone, Copy, PartialEq, Eq, Debug)]
 pub struct ProcedureId {
-    pub number: usize,
-}
-
-/// A section of a procedure, by its number. The parameters come first, in `main` the arrays.
-#[derive(Clone, Copy, PartialEq, Eq, Debug)]
-pub struct SectionId {
-    pub number: usize,
-}
-
-/// An array of the program, by its number in the order of declaration.
-#[derive(Clone, Copy, PartialEq, Eq, Debug)]
-pub struct ArrayId {
     pub number: usize,
 }
 

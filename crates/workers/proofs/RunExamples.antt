@@ -1,7 +1,8 @@
 -- What the tasks of worked programs do turn by turn, how a world of them moves, and what it comes to, computed.
 use Rattle.std.proofs.Common.{◌≡◌, ℕ, Some, None, Bool, true, false, List, [], ◌∷◌, ◌++◌, refl}
 use Rattle.std.specs.Prelude.{ℤ, pos, if◌then◌else◌}
-use Rattle.types.specs.Code.{Element, Store, Print, Do, Async, Finish, Codes, End, Root, Program}
+use Rattle.sections.specs.Origins.{Root}
+use Rattle.types.specs.Code.{Element, Store, Print, Do, Async, Finish, Codes, End, Program}
 use Rattle.types.specs.Outcome.{Budget, Outcome, Ended as IsEnded, Halted, outcome}
 use Rattle.types.specs.declared.fault.FaultKind.{FaultKind}
 use Rattle.types.specs.declared.fault.FaultKind.TheVariants.{Index, OutOfElement}

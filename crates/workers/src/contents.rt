@@ -10,11 +10,11 @@ ghost use Rattle.workers.specs.Holdings.{with_stored, all_given, all_kept, all_b
 ghost use Rattle.workers.specs.Holdings.{back_in, back_at, is_own};
 
 use crate::needs::Need;
+use sections::id::ArrayId;
 use std::alloc::{AllocError, Global};
 use std::mem;
 use syntax::tree::ElementType;
 use types::fault::FaultKind;
-use types::ids::ArrayId;
 use types::input::Input;
 
 /// What a task has of an array.

@@ -13,5 +13,3 @@ pub mod run;
 pub mod scope;
 pub mod search;
 pub mod task;
-#[cfg(test)]
-mod tests;

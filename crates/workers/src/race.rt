@@ -3,8 +3,8 @@
 ghost use Rattle.std.specs.Prelude.{◌≡◌};
 ghost use Rattle.workers.specs.Races.{access_key, meeting_key, is_less, meeting_of, is_clash as clashes};
 
+use sections::id::ArrayId;
 use types::code::Label;
-use types::ids::ArrayId;
 
 /// A statement reads or writes an array.
 #[derive(Clone, Copy, PartialEq, Eq, Debug)]

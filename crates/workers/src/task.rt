@@ -20,12 +20,13 @@ use crate::contents::{Contents, Trouble};
 use crate::gather::{GatherError, settle};
 use crate::needs::needs_of;
 use crate::run::RunError;
+use sections::id::ArrayId;
 use std::alloc::{AllocError, Global};
 use std::mem;
 use types::budget::Budget;
 use types::code::{Label, Number, Primitive, Program, Stmt, StmtKind};
 use types::fault::Fault;
-use types::ids::{ArrayId, array_in_main};
+use types::ids::array_in_main;
 use types::path::Path;
 
 /// What all tasks of a run share.

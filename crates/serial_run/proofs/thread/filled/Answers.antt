@@ -1,7 +1,7 @@
 use Rattle.std.proofs.Common.{◌∙◌, map}
 use Rattle.std.specs.Prelude.{pos}
-use Rattle.types.specs.Place.{nowhere}
-use Rattle.types.specs.Translation.{window}
+use Rattle.sections.specs.Place.{nowhere}
+use Rattle.sections.specs.Translation.{window}
 use Rattle.types.proofs.Slots.{by_number-filled}
 use Rattle.serial_run.proofs.Steps.{map-pushed}
 use Rattle.serial_run.proofs.thread.filled.Goals as goal

@@ -1,8 +1,8 @@
 use Rattle.std.proofs.Common.{◌≡◌}
 use Rattle.std.specs.Prelude.{map, pos}
-use Rattle.types.specs.Place.{nowhere}
+use Rattle.sections.specs.Place.{nowhere}
 use Rattle.types.specs.Run.{by_number}
-use Rattle.types.specs.Translation.{window}
+use Rattle.sections.specs.Translation.{window}
 use Rattle.serial_run.proofs.thread.filled.Given as goal
 
 -- only what is given past the end anyway was put in so far

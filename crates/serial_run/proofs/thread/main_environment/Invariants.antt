@@ -1,7 +1,8 @@
 use Rattle.std.proofs.Common.{◌≡◌, drop, ◌++◌}
 use Rattle.std.specs.Prelude.{map}
 use Rattle.types.specs.Outcome.{whole_arrays}
-use Rattle.types.specs.Translation.{window, array}
+use Rattle.sections.specs.Translation.{window}
+use Rattle.types.specs.Translation.{array}
 use Rattle.serial_run.proofs.thread.main_environment.Given as goal
 
 -- the windows so far are those of the first arrays

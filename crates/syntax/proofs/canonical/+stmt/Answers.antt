@@ -15,7 +15,7 @@ use Rattle.syntax.proofs.LineText.{wrote, wrote_adds, wrote_text, counted_by, st
 use Rattle.syntax.proofs.LineText.{closed, laid_If, laid_IfElse, laid_Else, laid_While, laid_Split, laid_Async}
 use Rattle.syntax.proofs.LineText.{laid_Finish, laid_end}
 use Rattle.syntax.proofs.RowLemmas.{stmt_If, stmt_IfElse, stmt_While, stmt_Split, stmt_Async, stmt_Finish}
-use Rattle.syntax.proofs.StatementKinds.{simple_is_left}
+use Rattle.syntax.proofs.StatementKinds.{is_simple-true}
 use Rattle.syntax.proofs.canonical.+stmt.Goals as goal
 
 pub block-returns-clause-written : goal.block-returns-clause-written
@@ -32,12 +32,8 @@ block-returns-clause-written t c =
     ∙ wrote behind c.close.new.self Margin Ended _ _ _ (behind.depth - 1) behind.label text depth label
     (closed behind.depth behind.label r))
 
-pub line-simple-requires : goal.line-simple-requires
-line-simple-requires t c = record {
-  simple = simple_is_left c.args.statement.now c.in_default.not-If c.in_default.not-While c.in_default.not-Split c.in_default.not-Async
-      c.in_default.not-Finish;
-  counted = c.requires;
-}
+pub line-simple-requires-clause-simple : goal.line-simple-requires-clause-simple
+line-simple-requires-clause-simple t c = is_simple-true c.args.statement.now c.in-Skip.is
 
 pub line-returns-in-If-clause-written : goal.line-returns-in-If-clause-written
 line-returns-in-If-clause-written t c =
@@ -95,15 +91,15 @@ line-returns-in_ok-push_str-in-Finish-clause-written t c =
     (laid_Finish (place old Opening) body r)
     ∙ written r)
 
-pub line-returns-in_ok-simple-in_default : goal.line-returns-in_ok-simple-in_default
+pub line-returns-in_ok-simple-in-Skip : goal.line-returns-in_ok-simple-in-Skip
 unfolding lib.Utf8.encode
-line-returns-in_ok-simple-in_default t c =
+line-returns-in_ok-simple-in-Skip t c =
     let old = c.simple.new.lines in
     let added = pushed c.push.result _ _ _ c.push.ensures.bytes in
     record {
       counted = ok_then c.push.result added (λ text. counted_by old (record old { text = c.push.new.self }) (codes ";") text refl refl
-          c.in_ok-simple-in_default.ensures.counted);
-      written = ok_then c.push.result added (λ text r. c.in_ok-simple-in_default.ensures.written r
+          c.in_ok-simple-in-Skip.ensures.counted);
+      written = ok_then c.push.result added (λ text r. c.in_ok-simple-in-Skip.ensures.written r
           ∙ wrote_text old c.push.new.self Operand Ended _ _ (codes ";") text (laid_end (place old Operand) r));
     }
 

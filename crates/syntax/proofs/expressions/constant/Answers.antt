@@ -6,29 +6,37 @@ use Rattle.syntax.proofs.ChainLemmas.{behind}
 use Rattle.syntax.proofs.RefusalLemmas.{passed_on, next, true_atom, false_atom, number_atom, length_atom, BeginsNoAtom, no_atom}
 use Rattle.syntax.proofs.expressions.constant.Goals as goal
 
-pub returns-in-Some-clause-spelled : goal.returns-in-Some-clause-spelled
+pub returns-in-Some-clause-read : goal.returns-in-Some-clause-read
 unfolding atom_then atom
-returns-in-Some-clause-spelled c = search rules
+returns-in-Some-clause-read c = record {
+  spelled = search rules;
+  whole = λ a r ends spelled. true_atom a _ r (sym c.in-Some.ensures.found ∙ spelled);
+}
 
-pub returns-in-Some-after_word-clause-spelled : goal.returns-in-Some-after_word-clause-spelled
+pub returns-in-Some-after_word-clause-read : goal.returns-in-Some-after_word-clause-read
 unfolding atom_then atom
-returns-in-Some-after_word-clause-spelled c = search rules
+returns-in-Some-after_word-clause-read c = record {
+  spelled = search rules;
+  whole = λ a r ends spelled. false_atom a _ r (sym c.in-Some-after_word.ensures.found ∙ spelled);
+}
 
-pub returns-in-Some-after_word-2-clause-spelled : goal.returns-in-Some-after_word-2-clause-spelled
+pub returns-in-Some-after_word-2-clause-read : goal.returns-in-Some-after_word-2-clause-read
 unfolding atom_then atom
-returns-in-Some-after_word-2-clause-spelled c =
-    c.in-Some-after_word-2.ensures.found
-    ∙ behind (c.in_ok-rest.ensures.found ∙ behind (c.in_ok-name.ensures.found ∙ behind c.in_ok-rest-2.ensures.found))
+returns-in-Some-after_word-2-clause-read c = record {
+  spelled = c.in-Some-after_word-2.ensures.found
+      ∙ behind (c.in_ok-rest.ensures.found ∙ behind (c.in_ok-name.ensures.found ∙ behind c.in_ok-rest-2.ensures.found));
+  whole = λ a r ends spelled.
+      let section = length_atom a _ r (sym c.in-Some-after_word-2.ensures.found ∙ spelled) in
+      let paren = next (sym c.in_ok-name.ensures.found ∙ next (sym c.in_ok-rest.ensures.found ∙ section.1)) in
+      next (sym c.in_ok-rest-2.ensures.found ∙ paren);
+}
 
-pub returns-clause-spelled : goal.returns-clause-spelled
+pub returns-clause-read : goal.returns-clause-read
 unfolding atom_then atom
-returns-clause-spelled c = c.in_ok-value.ensures.found
-
-pub returns-in-Some-clause-whole : goal.returns-in-Some-clause-whole
-returns-in-Some-clause-whole c = λ a r ends spelled. true_atom a _ r (sym c.in-Some.ensures.found ∙ spelled)
-
-pub returns-in-Some-after_word-clause-whole : goal.returns-in-Some-after_word-clause-whole
-returns-in-Some-after_word-clause-whole c = λ a r ends spelled. false_atom a _ r (sym c.in-Some-after_word.ensures.found ∙ spelled)
+returns-clause-read c = record {
+  spelled = c.in_ok-value.ensures.found;
+  whole = λ a r ends spelled. number_atom a _ _ r (sym c.in_ok-value.ensures.found ∙ spelled);
+}
 
 pub returns-in_err-rest-clause-refused : goal.returns-in_err-rest-clause-refused
 returns-in_err-rest-clause-refused c =
@@ -48,12 +56,6 @@ returns-in_err-rest-2-clause-refused c =
     let section = length_atom a _ r (sym c.in-Some-after_word-2.ensures.found ∙ spelled) in
     c.in_err-rest-2.ensures.refused _ (next (sym c.in_ok-name.ensures.found ∙ next (sym c.in_ok-rest.ensures.found ∙ section.1))))
 
-pub returns-in-Some-after_word-2-clause-whole : goal.returns-in-Some-after_word-2-clause-whole
-returns-in-Some-after_word-2-clause-whole c = λ a r ends spelled.
-    let section = length_atom a _ r (sym c.in-Some-after_word-2.ensures.found ∙ spelled) in
-    let paren = next (sym c.in_ok-name.ensures.found ∙ next (sym c.in_ok-rest.ensures.found ∙ section.1)) in
-    next (sym c.in_ok-rest-2.ensures.found ∙ paren)
-
 pub returns-in_err-value-clause-refused : goal.returns-in_err-value-clause-refused
 returns-in_err-value-clause-refused c =
     passed_on _ _ c.from_residual-in_err-value.ensures.1 (λ room no_name no_mark a r ends.
@@ -66,6 +68,3 @@ returns-in_err-value-clause-refused c =
       mark = no_mark;
     } in
     no_atom _ none a r)
-
-pub returns-clause-whole : goal.returns-clause-whole
-returns-clause-whole c = λ a r ends spelled. number_atom a _ _ r (sym c.in_ok-value.ensures.found ∙ spelled)

@@ -11,11 +11,11 @@ pub loop-after-preserved : goal.loop-after-preserved
 loop-after-preserved c = record {
   shorter = omega (arith, c.loop-after.invariant.shorter, c.in-Some.ensures.shorter, c.in_ok-next.ensures.shorter);
   spelled = more_read _ _ _ _ _ _ _ _ c.loop-after.invariant.spelled c.in-Some.ensures.found
-      c.in_ok-next.ensures.spelled c.in_ok-push.ensures.items;
+      c.in_ok-next.ensures.read.spelled c.in_ok-push.ensures.items;
   whole = λ all r ends spelled.
       let end = c.loop-after.invariant.whole all r ends spelled in
       let one = more_opened end.0 _ r ends (sym c.in-Some.ensures.found ∙ end.1) in
-      (one.1, c.in_ok-next.ensures.whole one.0 _ (more_bind one.1 r ends) one.2);
+      (one.1, c.in_ok-next.ensures.read.whole one.0 _ (more_bind one.1 r ends) one.2);
 }
 
 pub returns-clause-whole : goal.returns-clause-whole

@@ -1,8 +1,8 @@
 use Rattle.syntax.specs.Token.{plain}
 use Rattle.syntax.proofs.parser.no_program.Goals as goal
 
-pub returns-in-Unexpected : goal.returns-in-Unexpected
-returns-in-Unexpected c = record {
+pub returns-in-Unexpected-clause-told : goal.returns-in-Unexpected-clause-told
+returns-in-Unexpected-clause-told c = record {
   at = c.beginning.result;
   fact = record {
     tokens = plain c.args.tokens.now;

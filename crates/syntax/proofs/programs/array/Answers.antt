@@ -4,13 +4,22 @@ use Rattle.syntax.proofs.ChainLemmas.{behind}
 use Rattle.syntax.proofs.RefusalLemmas.{passed_on, next}
 use Rattle.syntax.proofs.programs.array.Goals as goal
 
-pub returns-clause-spelled : goal.returns-clause-spelled
+pub returns-clause-read : goal.returns-clause-read
 unfolding arrays_then
-returns-clause-spelled c =
-    let length = c.in_ok-rest-2.ensures.found
-    ∙ behind (c.in_ok-length.ensures.found
-    ∙ behind (c.in_ok-rest-3.ensures.found ∙ behind c.in_ok-rest-4.ensures.found)) in
-    behind (c.in_ok-name.ensures.found ∙ behind (c.in_ok-rest.ensures.found ∙ behind (c.in_ok-element.ensures.spelled ∙ behind length)))
+returns-clause-read c = record {
+  spelled = let length = c.in_ok-rest-2.ensures.found
+      ∙ behind (c.in_ok-length.ensures.found
+      ∙ behind (c.in_ok-rest-3.ensures.found ∙ behind c.in_ok-rest-4.ensures.found)) in
+      behind (c.in_ok-name.ensures.found ∙ behind (c.in_ok-rest.ensures.found ∙ behind (c.in_ok-element.ensures.read.spelled ∙ behind length)));
+  whole = λ a r spelled.
+      let colon = next (sym c.in_ok-name.ensures.found ∙ next spelled) in
+      let element = next (sym c.in_ok-rest.ensures.found ∙ colon) in
+      let opening = c.in_ok-element.ensures.read.whole a.element _ element in
+      let number = next (sym c.in_ok-rest-2.ensures.found ∙ opening) in
+      let closing = next (sym c.in_ok-length.ensures.found ∙ number) in
+      let mark = next (sym c.in_ok-rest-3.ensures.found ∙ closing) in
+      next (sym c.in_ok-rest-4.ensures.found ∙ mark);
+}
 
 pub returns-in_err-name-clause-refused : goal.returns-in_err-name-clause-refused
 unfolding arrays_then
@@ -39,7 +48,7 @@ returns-in_err-rest-2-clause-refused c =
     passed_on _ _ c.from_residual-in_err-rest-2.ensures.1 (λ room a r spelled.
     let colon = next (sym c.in_ok-name.ensures.found ∙ next spelled) in
     let element = next (sym c.in_ok-rest.ensures.found ∙ colon) in
-    let opening = c.in_ok-element.ensures.whole a.element _ element in
+    let opening = c.in_ok-element.ensures.read.whole a.element _ element in
     c.in_err-rest-2.ensures.refused _ opening)
 
 pub returns-in_err-length-clause-refused : goal.returns-in_err-length-clause-refused
@@ -48,7 +57,7 @@ returns-in_err-length-clause-refused c =
     passed_on _ _ c.from_residual-in_err-length.ensures.1 (λ room a r spelled.
     let colon = next (sym c.in_ok-name.ensures.found ∙ next spelled) in
     let element = next (sym c.in_ok-rest.ensures.found ∙ colon) in
-    let opening = c.in_ok-element.ensures.whole a.element _ element in
+    let opening = c.in_ok-element.ensures.read.whole a.element _ element in
     let number = next (sym c.in_ok-rest-2.ensures.found ∙ opening) in
     c.in_err-length.ensures.refused _ _ number)
 
@@ -58,7 +67,7 @@ returns-in_err-rest-3-clause-refused c =
     passed_on _ _ c.from_residual-in_err-rest-3.ensures.1 (λ room a r spelled.
     let colon = next (sym c.in_ok-name.ensures.found ∙ next spelled) in
     let element = next (sym c.in_ok-rest.ensures.found ∙ colon) in
-    let opening = c.in_ok-element.ensures.whole a.element _ element in
+    let opening = c.in_ok-element.ensures.read.whole a.element _ element in
     let number = next (sym c.in_ok-rest-2.ensures.found ∙ opening) in
     let closing = next (sym c.in_ok-length.ensures.found ∙ number) in
     c.in_err-rest-3.ensures.refused _ closing)
@@ -69,19 +78,8 @@ returns-in_err-rest-4-clause-refused c =
     passed_on _ _ c.from_residual-in_err-rest-4.ensures.1 (λ room a r spelled.
     let colon = next (sym c.in_ok-name.ensures.found ∙ next spelled) in
     let element = next (sym c.in_ok-rest.ensures.found ∙ colon) in
-    let opening = c.in_ok-element.ensures.whole a.element _ element in
+    let opening = c.in_ok-element.ensures.read.whole a.element _ element in
     let number = next (sym c.in_ok-rest-2.ensures.found ∙ opening) in
     let closing = next (sym c.in_ok-length.ensures.found ∙ number) in
     let mark = next (sym c.in_ok-rest-3.ensures.found ∙ closing) in
     c.in_err-rest-4.ensures.refused _ mark)
-
-pub returns-clause-whole : goal.returns-clause-whole
-unfolding arrays_then
-returns-clause-whole c = λ a r spelled.
-    let colon = next (sym c.in_ok-name.ensures.found ∙ next spelled) in
-    let element = next (sym c.in_ok-rest.ensures.found ∙ colon) in
-    let opening = c.in_ok-element.ensures.whole a.element _ element in
-    let number = next (sym c.in_ok-rest-2.ensures.found ∙ opening) in
-    let closing = next (sym c.in_ok-length.ensures.found ∙ number) in
-    let mark = next (sym c.in_ok-rest-3.ensures.found ∙ closing) in
-    next (sym c.in_ok-rest-4.ensures.found ∙ mark)

@@ -1,4 +1,4 @@
-use Rattle.std.proofs.Common.{ap, sym, ◌∙◌, map, arith}
+use Rattle.std.proofs.Common.{rules, ap, sym, ◌∙◌, map, arith}
 use Rattle.syntax.specs.Spelling.{arrays_then}
 use Rattle.syntax.specs.Token.{plain}
 use Rattle.syntax.specs.Tree.{array}
@@ -19,11 +19,11 @@ pub loop-after-preserved : goal.loop-after-preserved
 loop-after-preserved c = record {
   shorter = omega (arith, c.loop-after.invariant.shorter, c.in-Some.ensures.shorter, c.in_ok-next.ensures.shorter);
   spelled = arrays_read _ _ _ _ _ _ _ c.loop-after.invariant.spelled c.in-Some.ensures.found
-      c.in_ok-next.ensures.spelled c.in_ok-push.ensures.items;
+      c.in_ok-next.ensures.read.spelled c.in_ok-push.ensures.items;
   whole = λ all r ends spelled.
       let end = c.loop-after.invariant.whole all r ends spelled in
       let one = arrays_opened end.0 _ r ends (sym c.in-Some.ensures.found ∙ end.1) in
-      (one.1, c.in_ok-next.ensures.whole one.0 (arrays_then one.1 r) one.2);
+      (one.1, c.in_ok-next.ensures.read.whole one.0 (arrays_then one.1 r) one.2);
 }
 
 pub returns-in_err-next-clause-refused : goal.returns-in_err-next-clause-refused
@@ -33,7 +33,10 @@ returns-in_err-next-clause-refused c =
     let one = arrays_opened end.0 _ r ends (sym c.in-Some.ensures.found ∙ end.1) in
     c.in_err-next.ensures.refused room one.0 (arrays_then one.1 r) one.2)
 
-pub returns-clause-whole : goal.returns-clause-whole
-returns-clause-whole c = λ all r ends spelled.
-    let end = c.loop-after.invariant.whole all r ends spelled in
-    arrays_closed end.0 _ r c.in_default.ensures.absent end.1
+pub returns-clause-read : goal.returns-clause-read
+returns-clause-read c = record {
+  spelled = search rules;
+  whole = λ all r ends spelled.
+      let end = c.loop-after.invariant.whole all r ends spelled in
+      arrays_closed end.0 _ r c.in_default.ensures.absent end.1;
+}

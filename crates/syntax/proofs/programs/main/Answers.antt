@@ -27,12 +27,12 @@ returns-in_err-body-clause-refused c =
     passed_on _ _ c.from_residual-in_err-body.ensures.1 (λ room m r spelled.
     let brace = next (sym c.in_ok-rest.ensures.found ∙ spelled) in
     let arrays = next (sym c.in_ok-rest-2.ensures.found ∙ brace) in
-    let body = c.in_ok-arrays.ensures.whole m.arrays (block_then m.body r) (omega (arith, block_binds m.body r)) arrays in
+    let body = c.in_ok-arrays.ensures.read.whole m.arrays (block_then m.body r) (omega (arith, block_binds m.body r)) arrays in
     c.in_err-body.ensures.refused room m.body r body)
 
 pub returns-clause-whole : goal.returns-clause-whole
 returns-clause-whole c = λ m r spelled.
     let brace = next (sym c.in_ok-rest.ensures.found ∙ spelled) in
     let arrays = next (sym c.in_ok-rest-2.ensures.found ∙ brace) in
-    let body = c.in_ok-arrays.ensures.whole m.arrays (block_then m.body r) (omega (arith, block_binds m.body r)) arrays in
-    c.in_ok-body.ensures.whole m.body r body
+    let body = c.in_ok-arrays.ensures.read.whole m.arrays (block_then m.body r) (omega (arith, block_binds m.body r)) arrays in
+    c.in_ok-body.ensures.read.whole m.body r body

@@ -8,11 +8,14 @@ use Rattle.syntax.proofs.RefusalLemmas.{passed_on, next}
 use Rattle.syntax.proofs.ProgramRefusals.{parameters_opened, parameters_closed, more_parameters_opened, more_parameters_closed}
 use Rattle.syntax.proofs.programs.parameters.Goals as goal
 
-pub returns-in-Some-clause-spelled : goal.returns-in-Some-clause-spelled
+pub returns-in-Some-clause-read : goal.returns-in-Some-clause-read
 unfolding parameters_then
-returns-in-Some-clause-spelled c =
-    c.in-Some.ensures.found
-    ∙ ap (λ l. parameters_then (map parameter l) (MarkToken RightParen ∷ plain c.in-Some.rest.now)) (sym c.new-parameters.ensures.items)
+returns-in-Some-clause-read c = record {
+  spelled = c.in-Some.ensures.found
+      ∙ ap (λ l. parameters_then (map parameter l) (MarkToken RightParen ∷ plain c.in-Some.rest.now)) (sym c.new-parameters.ensures.items);
+  whole = λ all r spelled.
+      parameters_closed all _ r (sym c.in-Some.ensures.found ∙ spelled);
+}
 
 pub loop-after-init : goal.loop-after-init
 loop-after-init c =
@@ -20,11 +23,11 @@ loop-after-init c =
     record {
       shorter = c.in_ok-first.ensures.shorter;
       some = omega (arith, ap length one);
-      spelled = c.in_ok-first.ensures.spelled ∙ parameters_then-one c.in_ok-first.first _
+      spelled = c.in_ok-first.ensures.read.spelled ∙ parameters_then-one c.in_ok-first.first _
           ∙ ap (λ l. parameters_then (map parameter l) (plain c.in_ok-first.left.now)) (sym one);
       whole = λ all r spelled.
           let parts = parameters_opened all _ r c.in_default.ensures.absent spelled in
-          (parts.1, c.in_ok-first.ensures.whole parts.0 (more_parameters_then parts.1 (MarkToken RightParen ∷ r)) parts.2);
+          (parts.1, c.in_ok-first.ensures.read.whole parts.0 (more_parameters_then parts.1 (MarkToken RightParen ∷ r)) parts.2);
     }
 
 pub loop-after-preserved : goal.loop-after-preserved
@@ -32,21 +35,22 @@ loop-after-preserved c = record {
   shorter = omega (arith, c.loop-after.invariant.shorter, c.in-Some-after_mark.ensures.shorter, c.in_ok-next.ensures.shorter);
   some = omega (arith, ap length c.in_ok-push-2.ensures.items, length-append c.loop-after.parameters.items (c.in_ok-next.next ∷ []));
   spelled = parameters_read _ _ _ _ _ _ _ c.loop-after.invariant.some c.loop-after.invariant.spelled
-      c.in-Some-after_mark.ensures.found c.in_ok-next.ensures.spelled c.in_ok-push-2.ensures.items;
+      c.in-Some-after_mark.ensures.found c.in_ok-next.ensures.read.spelled c.in_ok-push-2.ensures.items;
   whole = λ all r spelled.
       let end = c.loop-after.invariant.whole all r spelled in
       let one = more_parameters_opened end.0 _ r (sym c.in-Some-after_mark.ensures.found ∙ end.1) in
-      (one.1, c.in_ok-next.ensures.whole one.0 (more_parameters_then one.1 (MarkToken RightParen ∷ r)) one.2);
+      (one.1, c.in_ok-next.ensures.read.whole one.0 (more_parameters_then one.1 (MarkToken RightParen ∷ r)) one.2);
 }
 
-pub returns-clause-spelled : goal.returns-clause-spelled
-returns-clause-spelled c =
-    c.loop-after.invariant.spelled
-    ∙ ap (parameters_then (map parameter c.loop-after.parameters.items)) c.in_ok-rest.ensures.found
-
-pub returns-in-Some-clause-whole : goal.returns-in-Some-clause-whole
-returns-in-Some-clause-whole c = λ all r spelled.
-    parameters_closed all _ r (sym c.in-Some.ensures.found ∙ spelled)
+pub returns-clause-read : goal.returns-clause-read
+returns-clause-read c = record {
+  spelled = c.loop-after.invariant.spelled
+      ∙ ap (parameters_then (map parameter c.loop-after.parameters.items)) c.in_ok-rest.ensures.found;
+  whole = λ all r spelled.
+      let end = c.loop-after.invariant.whole all r spelled in
+      let paren = more_parameters_closed end.0 _ (MarkToken RightParen ∷ r) c.in_default-after_mark.ensures.absent end.1 in
+      next (sym c.in_ok-rest.ensures.found ∙ paren);
+}
 
 pub returns-in_err-first-clause-refused : goal.returns-in_err-first-clause-refused
 returns-in_err-first-clause-refused c =
@@ -67,9 +71,3 @@ returns-in_err-rest-clause-refused c =
     let end = c.loop-after.invariant.whole all r spelled in
     let paren = more_parameters_closed end.0 _ (MarkToken RightParen ∷ r) c.in_default-after_mark.ensures.absent end.1 in
     c.in_err-rest.ensures.refused _ paren)
-
-pub returns-clause-whole : goal.returns-clause-whole
-returns-clause-whole c = λ all r spelled.
-    let end = c.loop-after.invariant.whole all r spelled in
-    let paren = more_parameters_closed end.0 _ (MarkToken RightParen ∷ r) c.in_default-after_mark.ensures.absent end.1 in
-    next (sym c.in_ok-rest.ensures.found ∙ paren)

@@ -7,13 +7,19 @@ use Rattle.syntax.specs.Token.{MarkToken}
 use Rattle.syntax.proofs.RefusalLemmas.{passed_on, next}
 use Rattle.syntax.proofs.programs.procedure.Goals as goal
 
-pub returns-clause-spelled : goal.returns-clause-spelled
+pub returns-clause-read : goal.returns-clause-read
 unfolding procedures_then
-returns-clause-spelled c =
-    let parameters = c.in_ok-parameters.ensures.spelled
-    ∙ ap (parameters_then (map parameter c.in_ok-parameters.parameters.items))
-    (behind c.in_ok-body.ensures.spelled) in
-    behind (c.in_ok-name.ensures.found ∙ behind (c.in_ok-rest.ensures.found ∙ behind parameters))
+returns-clause-read c = record {
+  spelled = let parameters = c.in_ok-parameters.ensures.read.spelled
+      ∙ ap (parameters_then (map parameter c.in_ok-parameters.parameters.items))
+      (behind c.in_ok-body.ensures.read.spelled) in
+      behind (c.in_ok-name.ensures.found ∙ behind (c.in_ok-rest.ensures.found ∙ behind parameters));
+  whole = λ p r spelled.
+      let opening = next (sym c.in_ok-name.ensures.found ∙ next spelled) in
+      let parameters = next (sym c.in_ok-rest.ensures.found ∙ opening) in
+      let body = c.in_ok-parameters.ensures.read.whole p.parameters (MarkToken LeftBrace ∷ block_then p.body r) parameters in
+      c.in_ok-body.ensures.read.whole p.body r body;
+}
 
 pub returns-in_err-name-clause-refused : goal.returns-in_err-name-clause-refused
 unfolding procedures_then
@@ -42,13 +48,5 @@ returns-in_err-body-clause-refused c =
     passed_on _ _ c.from_residual-in_err-body.ensures.1 (λ room p r spelled.
     let opening = next (sym c.in_ok-name.ensures.found ∙ next spelled) in
     let parameters = next (sym c.in_ok-rest.ensures.found ∙ opening) in
-    let body = c.in_ok-parameters.ensures.whole p.parameters (MarkToken LeftBrace ∷ block_then p.body r) parameters in
+    let body = c.in_ok-parameters.ensures.read.whole p.parameters (MarkToken LeftBrace ∷ block_then p.body r) parameters in
     c.in_err-body.ensures.refused room p.body r body)
-
-pub returns-clause-whole : goal.returns-clause-whole
-unfolding procedures_then
-returns-clause-whole c = λ p r spelled.
-    let opening = next (sym c.in_ok-name.ensures.found ∙ next spelled) in
-    let parameters = next (sym c.in_ok-rest.ensures.found ∙ opening) in
-    let body = c.in_ok-parameters.ensures.whole p.parameters (MarkToken LeftBrace ∷ block_then p.body r) parameters in
-    c.in_ok-body.ensures.whole p.body r body

@@ -22,11 +22,11 @@ pub loop-after-preserved : goal.loop-after-preserved
 loop-after-preserved c = record {
   shorter = omega (arith, c.loop-after.invariant.shorter, c.in-Some.ensures.shorter, c.in_ok-next.ensures.shorter);
   spelled = procedures_read _ _ _ _ _ _ _ c.loop-after.invariant.spelled c.in-Some.ensures.found
-      c.in_ok-next.ensures.spelled c.in_ok-push.ensures.items;
+      c.in_ok-next.ensures.read.spelled c.in_ok-push.ensures.items;
   whole = λ all m spelled.
       let end = c.loop-after.invariant.whole all m spelled in
       let one = procedures_opened end.0 _ (main_tokens m) (omega (arith, main_binds m)) (sym c.in-Some.ensures.found ∙ end.1) in
-      (one.1, c.in_ok-next.ensures.whole one.0 (procedures_then one.1 (main_tokens m)) one.2);
+      (one.1, c.in_ok-next.ensures.read.whole one.0 (procedures_then one.1 (main_tokens m)) one.2);
 }
 
 pub returns-then-is_empty-clause-spelled : goal.returns-then-is_empty-clause-spelled

@@ -24,4 +24,4 @@ pub returns-clause-whole : goal.returns-clause-whole
 returns-clause-whole c = λ x e r spelled.
     let colon = next (sym c.in_ok-name.ensures.found ∙ spelled) in
     let element = next (sym c.in_ok-rest.ensures.found ∙ colon) in
-    c.in_ok-element.ensures.whole e r element
+    c.in_ok-element.ensures.read.whole e r element

@@ -12,44 +12,89 @@ use Rattle.syntax.proofs.StmtRefusals.{split_opened, async_opened, finish_opened
 use Rattle.syntax.proofs.StmtSpellings.{block_binds}
 use Rattle.syntax.proofs.statements.+stmt.Goals as goal
 
-pub conditional-returns-in-None-clause-spelled : goal.conditional-returns-in-None-clause-spelled
-conditional-returns-in-None-clause-spelled t c =
-    behind (c.in_ok-guard.ensures.spelled ∙ ap (expr_then (expr c.in_ok-guard.guard)) c.in_ok-body.ensures.spelled) ∙ stmt_then_If _ _ _
+pub conditional-returns-in-None-clause-read : goal.conditional-returns-in-None-clause-read
+conditional-returns-in-None-clause-read t c = record {
+  spelled = behind (c.in_ok-guard.ensures.read.spelled ∙ ap (expr_then (expr c.in_ok-guard.guard)) c.in_ok-body.ensures.read.spelled) ∙ stmt_then_If _ _ _;
+  whole = λ s r ends spelled.
+      let parts = if_opened s _ r spelled in
+      let body = c.in_ok-guard.ensures.read.whole parts.guard (MarkToken LeftBrace ∷ block_then parts.body parts.after)
+      (omega arith) parts.spelled in
+      let after = c.in_ok-body.ensures.read.whole parts.body parts.after body in
+      if_alone parts _ c.in-None.ensures.absent after;
+}
 
-pub conditional-returns-in_ok-other-in-Some-clause-spelled : goal.conditional-returns-in_ok-other-in-Some-clause-spelled
-conditional-returns-in_ok-other-in-Some-clause-spelled t c =
-    let other = c.in-Some.ensures.found ∙ behind c.in_ok-other-in-Some.ensures.spelled in
-    let body = c.in_ok-body.ensures.spelled ∙ behind (ap (block_then (block c.in_ok-body.body.items)) other) in
-    behind (c.in_ok-guard.ensures.spelled ∙ ap (expr_then (expr c.in_ok-guard.guard)) body) ∙ stmt_then_IfElse _ _ _ _
+pub conditional-returns-in_ok-other-in-Some-clause-read : goal.conditional-returns-in_ok-other-in-Some-clause-read
+conditional-returns-in_ok-other-in-Some-clause-read t c = record {
+  spelled = let other = c.in-Some.ensures.found ∙ behind c.in_ok-other-in-Some.ensures.read.spelled in
+      let body = c.in_ok-body.ensures.read.spelled ∙ behind (ap (block_then (block c.in_ok-body.body.items)) other) in
+      behind (c.in_ok-guard.ensures.read.spelled ∙ ap (expr_then (expr c.in_ok-guard.guard)) body) ∙ stmt_then_IfElse _ _ _ _;
+  whole = λ s r ends spelled.
+      let parts = if_opened s _ r spelled in
+      let body = c.in_ok-guard.ensures.read.whole parts.guard (MarkToken LeftBrace ∷ block_then parts.body parts.after)
+      (omega arith) parts.spelled in
+      let after = c.in_ok-body.ensures.read.whole parts.body parts.after body in
+      let other = if_otherwise parts _ ends (sym c.in-Some.ensures.found ∙ after) in
+      c.in_ok-other-in-Some.ensures.read.whole other.0 r other.1;
+}
 
-pub repeated-returns-clause-spelled : goal.repeated-returns-clause-spelled
-repeated-returns-clause-spelled t c =
-    behind (c.in_ok-guard.ensures.spelled ∙ ap (expr_then (expr c.in_ok-guard.guard)) c.in_ok-body.ensures.spelled) ∙ stmt_then_While _ _ _
+pub repeated-returns-clause-read : goal.repeated-returns-clause-read
+repeated-returns-clause-read t c = record {
+  spelled = behind (c.in_ok-guard.ensures.read.spelled ∙ ap (expr_then (expr c.in_ok-guard.guard)) c.in_ok-body.ensures.read.spelled) ∙ stmt_then_While _ _ _;
+  whole = λ s r ends spelled.
+      let parts = while_opened s _ r spelled in
+      let body = c.in_ok-guard.ensures.read.whole parts.0 (MarkToken LeftBrace ∷ block_then parts.1 r) (omega arith) parts.2 in
+      c.in_ok-body.ensures.read.whole parts.1 r body;
+}
 
-pub split-returns-clause-spelled : goal.split-returns-clause-spelled
-split-returns-clause-spelled t c =
-    let body = c.in_ok-right.ensures.found ∙ behind c.in_ok-body.ensures.spelled in
-    let sides = c.in_ok-rest-2.ensures.found ∙ behind (c.in_ok-left.ensures.found ∙ behind (c.in_ok-rest-3.ensures.found ∙ behind body)) in
-    let at = c.in_ok-at.ensures.spelled ∙ ap (expr_then (expr c.in_ok-at.at)) sides in
-    behind (c.in_ok-section.ensures.found ∙ behind (c.in_ok-rest.ensures.found ∙ behind at)) ∙ stmt_then_Split _ _ _ _ _ _
+pub split-returns-clause-read : goal.split-returns-clause-read
+split-returns-clause-read t c = record {
+  spelled = let body = c.in_ok-right.ensures.found ∙ behind c.in_ok-body.ensures.read.spelled in
+      let sides = c.in_ok-rest-2.ensures.found ∙ behind (c.in_ok-left.ensures.found ∙ behind (c.in_ok-rest-3.ensures.found ∙ behind body)) in
+      let at = c.in_ok-at.ensures.read.spelled ∙ ap (expr_then (expr c.in_ok-at.at)) sides in
+      behind (c.in_ok-section.ensures.found ∙ behind (c.in_ok-rest.ensures.found ∙ behind at)) ∙ stmt_then_Split _ _ _ _ _ _;
+  whole = λ s r ends spelled.
+      let parts = split_opened s _ r spelled in
+      let at_word = next (sym c.in_ok-section.ensures.found ∙ parts.spelled) in
+      let place = next (sym c.in_ok-rest.ensures.found ∙ at_word) in
+      let as_word = c.in_ok-at.ensures.read.whole parts.at parts.sides parts.ends place ∙ parts.sided in
+      let left = next (sym c.in_ok-rest-2.ensures.found ∙ as_word) in
+      let comma = next (sym c.in_ok-left.ensures.found ∙ left) in
+      let right = next (sym c.in_ok-rest-3.ensures.found ∙ comma) in
+      let body = next (sym c.in_ok-right.ensures.found ∙ right) in
+      c.in_ok-body.ensures.read.whole parts.body r body;
+}
 
-pub statement-returns-in_ok-body-in-Async-clause-spelled : goal.statement-returns-in_ok-body-in-Async-clause-spelled
-statement-returns-in_ok-body-in-Async-clause-spelled t c =
-    c.in-Some.ensures.found
-    ∙ ap (λ w. WordToken w ∷ plain c.in-Some.rest.now) c.in-Async.is
-    ∙ behind c.in_ok-body-in-Async.ensures.spelled
-    ∙ stmt_then_Async _ _
+pub statement-returns-in_ok-body-in-Async-clause-read : goal.statement-returns-in_ok-body-in-Async-clause-read
+statement-returns-in_ok-body-in-Async-clause-read t c = record {
+  spelled = c.in-Some.ensures.found
+      ∙ ap (λ w. WordToken w ∷ plain c.in-Some.rest.now) c.in-Async.is
+      ∙ behind c.in_ok-body-in-Async.ensures.read.spelled
+      ∙ stmt_then_Async _ _;
+  whole = λ s r ends spelled.
+      let first = c.in-Some.ensures.found ∙ ap (λ w. WordToken w ∷ plain c.in-Some.rest.now) c.in-Async.is in
+      let body = async_opened s _ r (sym first ∙ spelled) in
+      c.in_ok-body-in-Async.ensures.read.whole body.0 r body.1;
+}
 
-pub statement-returns-in_ok-body-in-Finish-clause-spelled : goal.statement-returns-in_ok-body-in-Finish-clause-spelled
-statement-returns-in_ok-body-in-Finish-clause-spelled t c =
-    c.in-Some.ensures.found
-    ∙ ap (λ w. WordToken w ∷ plain c.in-Some.rest.now) c.in-Finish.is
-    ∙ behind c.in_ok-body-in-Finish.ensures.spelled
-    ∙ stmt_then_Finish _ _
+pub statement-returns-in_ok-body-in-Finish-clause-read : goal.statement-returns-in_ok-body-in-Finish-clause-read
+statement-returns-in_ok-body-in-Finish-clause-read t c = record {
+  spelled = c.in-Some.ensures.found
+      ∙ ap (λ w. WordToken w ∷ plain c.in-Some.rest.now) c.in-Finish.is
+      ∙ behind c.in_ok-body-in-Finish.ensures.read.spelled
+      ∙ stmt_then_Finish _ _;
+  whole = λ s r ends spelled.
+      let first = c.in-Some.ensures.found ∙ ap (λ w. WordToken w ∷ plain c.in-Some.rest.now) c.in-Finish.is in
+      let body = finish_opened s _ r (sym first ∙ spelled) in
+      c.in_ok-body-in-Finish.ensures.read.whole body.0 r body.1;
+}
 
-pub statements-returns-in-Some-clause-spelled : goal.statements-returns-in-Some-clause-spelled
-statements-returns-in-Some-clause-spelled t c =
-    c.loop-rest.invariant.spelled ∙ ap (stmts_then c.loop-rest.body.items) c.in-Some.ensures.found ∙ sym (block_then-block _ _)
+pub statements-returns-in-Some-clause-read : goal.statements-returns-in-Some-clause-read
+statements-returns-in-Some-clause-read t c = record {
+  spelled = c.loop-rest.invariant.spelled ∙ ap (stmts_then c.loop-rest.body.items) c.in-Some.ensures.found ∙ sym (block_then-block _ _);
+  whole = λ b r spelled.
+      let end = c.loop-rest.invariant.whole b r spelled in
+      block_closed end.0 _ r (sym c.in-Some.ensures.found ∙ end.1);
+}
 
 pub statements-loop-rest-init : goal.statements-loop-rest-init
 unfolding stmts_then
@@ -62,17 +107,12 @@ statements-loop-rest-init t c = record {
 pub statements-loop-rest-preserved : goal.statements-loop-rest-preserved
 statements-loop-rest-preserved t c = record {
   shorter = omega (arith, c.loop-rest.invariant.shorter, c.in_ok-statement.ensures.shorter);
-  spelled = stmts_read _ _ _ _ _ _ c.loop-rest.invariant.spelled c.in_ok-statement.ensures.spelled c.in_ok-push.ensures.items;
+  spelled = stmts_read _ _ _ _ _ _ c.loop-rest.invariant.spelled c.in_ok-statement.ensures.read.spelled c.in_ok-push.ensures.items;
   whole = λ b r spelled.
       let end = c.loop-rest.invariant.whole b r spelled in
       let one = block_opened end.0 _ r c.in_default.ensures.absent end.1 in
-      (one.1, c.in_ok-statement.ensures.whole one.0 (block_then one.1 r) (omega (arith, block_binds one.1 r)) one.2);
+      (one.1, c.in_ok-statement.ensures.read.whole one.0 (block_then one.1 r) (omega (arith, block_binds one.1 r)) one.2);
 }
-
-pub statements-returns-in-Some-clause-whole : goal.statements-returns-in-Some-clause-whole
-statements-returns-in-Some-clause-whole t c = λ b r spelled.
-    let end = c.loop-rest.invariant.whole b r spelled in
-    block_closed end.0 _ r (sym c.in-Some.ensures.found ∙ end.1)
 
 pub statements-returns-in_err-statement-clause-refused : goal.statements-returns-in_err-statement-clause-refused
 statements-returns-in_err-statement-clause-refused t c =
@@ -96,36 +136,19 @@ pub conditional-returns-in_err-body-clause-refused : goal.conditional-returns-in
 conditional-returns-in_err-body-clause-refused t c =
     passed_on _ _ c.from_residual-in_err-body.ensures.1 (λ room s r ends spelled.
     let parts = if_opened s _ r spelled in
-    let body = c.in_ok-guard.ensures.whole parts.guard (MarkToken LeftBrace ∷ block_then parts.body parts.after)
+    let body = c.in_ok-guard.ensures.read.whole parts.guard (MarkToken LeftBrace ∷ block_then parts.body parts.after)
     (omega arith) parts.spelled in
     c.in_err-body.ensures.refused room parts.body parts.after body)
-
-pub conditional-returns-in-None-clause-whole : goal.conditional-returns-in-None-clause-whole
-conditional-returns-in-None-clause-whole t c = λ s r ends spelled.
-    let parts = if_opened s _ r spelled in
-    let body = c.in_ok-guard.ensures.whole parts.guard (MarkToken LeftBrace ∷ block_then parts.body parts.after)
-    (omega arith) parts.spelled in
-    let after = c.in_ok-body.ensures.whole parts.body parts.after body in
-    if_alone parts _ c.in-None.ensures.absent after
 
 pub conditional-returns-in_err-other-in-Some-clause-refused : goal.conditional-returns-in_err-other-in-Some-clause-refused
 conditional-returns-in_err-other-in-Some-clause-refused t c =
     passed_on _ _ c.from_residual-in_err-other-in-Some.ensures.1 (λ room s r ends spelled.
     let parts = if_opened s _ r spelled in
-    let body = c.in_ok-guard.ensures.whole parts.guard (MarkToken LeftBrace ∷ block_then parts.body parts.after)
+    let body = c.in_ok-guard.ensures.read.whole parts.guard (MarkToken LeftBrace ∷ block_then parts.body parts.after)
     (omega arith) parts.spelled in
-    let after = c.in_ok-body.ensures.whole parts.body parts.after body in
+    let after = c.in_ok-body.ensures.read.whole parts.body parts.after body in
     let other = if_otherwise parts _ ends (sym c.in-Some.ensures.found ∙ after) in
     c.in_err-other-in-Some.ensures.refused room other.0 r other.1)
-
-pub conditional-returns-in_ok-other-in-Some-clause-whole : goal.conditional-returns-in_ok-other-in-Some-clause-whole
-conditional-returns-in_ok-other-in-Some-clause-whole t c = λ s r ends spelled.
-    let parts = if_opened s _ r spelled in
-    let body = c.in_ok-guard.ensures.whole parts.guard (MarkToken LeftBrace ∷ block_then parts.body parts.after)
-    (omega arith) parts.spelled in
-    let after = c.in_ok-body.ensures.whole parts.body parts.after body in
-    let other = if_otherwise parts _ ends (sym c.in-Some.ensures.found ∙ after) in
-    c.in_ok-other-in-Some.ensures.whole other.0 r other.1
 
 pub repeated-returns-in_err-guard-clause-refused : goal.repeated-returns-in_err-guard-clause-refused
 repeated-returns-in_err-guard-clause-refused t c =
@@ -137,14 +160,8 @@ pub repeated-returns-in_err-body-clause-refused : goal.repeated-returns-in_err-b
 repeated-returns-in_err-body-clause-refused t c =
     passed_on _ _ c.from_residual-in_err-body.ensures.1 (λ room s r ends spelled.
     let parts = while_opened s _ r spelled in
-    let body = c.in_ok-guard.ensures.whole parts.0 (MarkToken LeftBrace ∷ block_then parts.1 r) (omega arith) parts.2 in
+    let body = c.in_ok-guard.ensures.read.whole parts.0 (MarkToken LeftBrace ∷ block_then parts.1 r) (omega arith) parts.2 in
     c.in_err-body.ensures.refused room parts.1 r body)
-
-pub repeated-returns-clause-whole : goal.repeated-returns-clause-whole
-repeated-returns-clause-whole t c = λ s r ends spelled.
-    let parts = while_opened s _ r spelled in
-    let body = c.in_ok-guard.ensures.whole parts.0 (MarkToken LeftBrace ∷ block_then parts.1 r) (omega arith) parts.2 in
-    c.in_ok-body.ensures.whole parts.1 r body
 
 pub split-returns-in_err-section-clause-refused : goal.split-returns-in_err-section-clause-refused
 split-returns-in_err-section-clause-refused t c =
@@ -173,7 +190,7 @@ split-returns-in_err-rest-2-clause-refused t c =
     let parts = split_opened s _ r spelled in
     let at_word = next (sym c.in_ok-section.ensures.found ∙ parts.spelled) in
     let place = next (sym c.in_ok-rest.ensures.found ∙ at_word) in
-    let as_word = c.in_ok-at.ensures.whole parts.at parts.sides parts.ends place ∙ parts.sided in
+    let as_word = c.in_ok-at.ensures.read.whole parts.at parts.sides parts.ends place ∙ parts.sided in
     c.in_err-rest-2.ensures.refused _ as_word)
 
 pub split-returns-in_err-left-clause-refused : goal.split-returns-in_err-left-clause-refused
@@ -182,7 +199,7 @@ split-returns-in_err-left-clause-refused t c =
     let parts = split_opened s _ r spelled in
     let at_word = next (sym c.in_ok-section.ensures.found ∙ parts.spelled) in
     let place = next (sym c.in_ok-rest.ensures.found ∙ at_word) in
-    let as_word = c.in_ok-at.ensures.whole parts.at parts.sides parts.ends place ∙ parts.sided in
+    let as_word = c.in_ok-at.ensures.read.whole parts.at parts.sides parts.ends place ∙ parts.sided in
     let left = next (sym c.in_ok-rest-2.ensures.found ∙ as_word) in
     c.in_err-left.ensures.refused room _ _ left)
 
@@ -192,7 +209,7 @@ split-returns-in_err-rest-3-clause-refused t c =
     let parts = split_opened s _ r spelled in
     let at_word = next (sym c.in_ok-section.ensures.found ∙ parts.spelled) in
     let place = next (sym c.in_ok-rest.ensures.found ∙ at_word) in
-    let as_word = c.in_ok-at.ensures.whole parts.at parts.sides parts.ends place ∙ parts.sided in
+    let as_word = c.in_ok-at.ensures.read.whole parts.at parts.sides parts.ends place ∙ parts.sided in
     let left = next (sym c.in_ok-rest-2.ensures.found ∙ as_word) in
     let comma = next (sym c.in_ok-left.ensures.found ∙ left) in
     c.in_err-rest-3.ensures.refused _ comma)
@@ -203,7 +220,7 @@ split-returns-in_err-right-clause-refused t c =
     let parts = split_opened s _ r spelled in
     let at_word = next (sym c.in_ok-section.ensures.found ∙ parts.spelled) in
     let place = next (sym c.in_ok-rest.ensures.found ∙ at_word) in
-    let as_word = c.in_ok-at.ensures.whole parts.at parts.sides parts.ends place ∙ parts.sided in
+    let as_word = c.in_ok-at.ensures.read.whole parts.at parts.sides parts.ends place ∙ parts.sided in
     let left = next (sym c.in_ok-rest-2.ensures.found ∙ as_word) in
     let comma = next (sym c.in_ok-left.ensures.found ∙ left) in
     let right = next (sym c.in_ok-rest-3.ensures.found ∙ comma) in
@@ -215,24 +232,12 @@ split-returns-in_err-body-clause-refused t c =
     let parts = split_opened s _ r spelled in
     let at_word = next (sym c.in_ok-section.ensures.found ∙ parts.spelled) in
     let place = next (sym c.in_ok-rest.ensures.found ∙ at_word) in
-    let as_word = c.in_ok-at.ensures.whole parts.at parts.sides parts.ends place ∙ parts.sided in
+    let as_word = c.in_ok-at.ensures.read.whole parts.at parts.sides parts.ends place ∙ parts.sided in
     let left = next (sym c.in_ok-rest-2.ensures.found ∙ as_word) in
     let comma = next (sym c.in_ok-left.ensures.found ∙ left) in
     let right = next (sym c.in_ok-rest-3.ensures.found ∙ comma) in
     let body = next (sym c.in_ok-right.ensures.found ∙ right) in
     c.in_err-body.ensures.refused room parts.body r body)
-
-pub split-returns-clause-whole : goal.split-returns-clause-whole
-split-returns-clause-whole t c = λ s r ends spelled.
-    let parts = split_opened s _ r spelled in
-    let at_word = next (sym c.in_ok-section.ensures.found ∙ parts.spelled) in
-    let place = next (sym c.in_ok-rest.ensures.found ∙ at_word) in
-    let as_word = c.in_ok-at.ensures.whole parts.at parts.sides parts.ends place ∙ parts.sided in
-    let left = next (sym c.in_ok-rest-2.ensures.found ∙ as_word) in
-    let comma = next (sym c.in_ok-left.ensures.found ∙ left) in
-    let right = next (sym c.in_ok-rest-3.ensures.found ∙ comma) in
-    let body = next (sym c.in_ok-right.ensures.found ∙ right) in
-    c.in_ok-body.ensures.whole parts.body r body
 
 pub statement-returns-in_err-body-in-Async-clause-refused : goal.statement-returns-in_err-body-in-Async-clause-refused
 statement-returns-in_err-body-in-Async-clause-refused t c =
@@ -241,21 +246,9 @@ statement-returns-in_err-body-in-Async-clause-refused t c =
     let body = async_opened s _ r (sym first ∙ spelled) in
     c.in_err-body-in-Async.ensures.refused room body.0 r body.1)
 
-pub statement-returns-in_ok-body-in-Async-clause-whole : goal.statement-returns-in_ok-body-in-Async-clause-whole
-statement-returns-in_ok-body-in-Async-clause-whole t c = λ s r ends spelled.
-    let first = c.in-Some.ensures.found ∙ ap (λ w. WordToken w ∷ plain c.in-Some.rest.now) c.in-Async.is in
-    let body = async_opened s _ r (sym first ∙ spelled) in
-    c.in_ok-body-in-Async.ensures.whole body.0 r body.1
-
 pub statement-returns-in_err-body-in-Finish-clause-refused : goal.statement-returns-in_err-body-in-Finish-clause-refused
 statement-returns-in_err-body-in-Finish-clause-refused t c =
     passed_on _ _ c.from_residual-in_err-body-in-Finish.ensures.1 (λ room s r ends spelled.
     let first = c.in-Some.ensures.found ∙ ap (λ w. WordToken w ∷ plain c.in-Some.rest.now) c.in-Finish.is in
     let body = finish_opened s _ r (sym first ∙ spelled) in
     c.in_err-body-in-Finish.ensures.refused room body.0 r body.1)
-
-pub statement-returns-in_ok-body-in-Finish-clause-whole : goal.statement-returns-in_ok-body-in-Finish-clause-whole
-statement-returns-in_ok-body-in-Finish-clause-whole t c = λ s r ends spelled.
-    let first = c.in-Some.ensures.found ∙ ap (λ w. WordToken w ∷ plain c.in-Some.rest.now) c.in-Finish.is in
-    let body = finish_opened s _ r (sym first ∙ spelled) in
-    c.in_ok-body-in-Finish.ensures.whole body.0 r body.1

@@ -6,9 +6,16 @@ use Rattle.syntax.proofs.RefusalLemmas.{passed_on, next}
 use Rattle.syntax.proofs.StmtRefusals.{var_opened}
 use Rattle.syntax.proofs.statements.declared.Goals as goal
 
-pub returns-clause-spelled : goal.returns-clause-spelled
+pub returns-clause-read : goal.returns-clause-read
 unfolding stmt_then stmt
-returns-clause-spelled c = behind (c.in_ok-name.ensures.found ∙ behind (c.in_ok-rest.ensures.found ∙ behind c.in_ok-value.ensures.spelled))
+returns-clause-read c = record {
+  spelled = behind (c.in_ok-name.ensures.found ∙ behind (c.in_ok-rest.ensures.found ∙ behind c.in_ok-value.ensures.read.spelled));
+  whole = λ s r ends spelled.
+      let parts = var_opened s _ r spelled in
+      let mark = next (sym c.in_ok-name.ensures.found ∙ parts.2) in
+      let value = next (sym c.in_ok-rest.ensures.found ∙ mark) in
+      c.in_ok-value.ensures.read.whole parts.1 r value;
+}
 
 pub returns-in_err-name-clause-refused : goal.returns-in_err-name-clause-refused
 returns-in_err-name-clause-refused c =
@@ -30,10 +37,3 @@ returns-in_err-value-clause-refused c =
     let mark = next (sym c.in_ok-name.ensures.found ∙ parts.2) in
     let value = next (sym c.in_ok-rest.ensures.found ∙ mark) in
     c.in_err-value.ensures.refused room parts.1 r value)
-
-pub returns-clause-whole : goal.returns-clause-whole
-returns-clause-whole c = λ s r ends spelled.
-    let parts = var_opened s _ r spelled in
-    let mark = next (sym c.in_ok-name.ensures.found ∙ parts.2) in
-    let value = next (sym c.in_ok-rest.ensures.found ∙ mark) in
-    c.in_ok-value.ensures.whole parts.1 r value

@@ -1,4 +1,4 @@
-use Rattle.std.proofs.Common.{◌∷◌, sym, ◌∙◌, arith}
+use Rattle.std.proofs.Common.{rules, ◌∷◌, sym, ◌∙◌, arith}
 use Rattle.syntax.specs.declared.token.Mark.TheVariants.{Semicolon}
 use Rattle.syntax.specs.Token.{MarkToken}
 use Rattle.syntax.proofs.RefusalLemmas.{passed_on, next}
@@ -12,8 +12,11 @@ returns-in_err-value-clause-refused c =
 pub returns-in_err-rest-clause-refused : goal.returns-in_err-rest-clause-refused
 returns-in_err-rest-clause-refused c =
     passed_on _ _ c.from_residual-in_err-rest.ensures.1 (λ room e r spelled.
-    c.in_err-rest.ensures.refused _ (c.in_ok-value.ensures.whole e (MarkToken Semicolon ∷ r) (omega arith) spelled))
+    c.in_err-rest.ensures.refused _ (c.in_ok-value.ensures.read.whole e (MarkToken Semicolon ∷ r) (omega arith) spelled))
 
-pub returns-clause-whole : goal.returns-clause-whole
-returns-clause-whole c = λ e r spelled.
-    next (sym c.in_ok-rest.ensures.found ∙ c.in_ok-value.ensures.whole e (MarkToken Semicolon ∷ r) (omega arith) spelled)
+pub returns-clause-read : goal.returns-clause-read
+returns-clause-read c = record {
+  spelled = search rules;
+  whole = λ e r spelled.
+      next (sym c.in_ok-rest.ensures.found ∙ c.in_ok-value.ensures.read.whole e (MarkToken Semicolon ∷ r) (omega arith) spelled);
+}

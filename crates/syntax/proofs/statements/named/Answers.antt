@@ -8,26 +8,46 @@ use Rattle.syntax.proofs.RefusalLemmas.{passed_on, next}
 use Rattle.syntax.proofs.StmtRefusals.{no_statement, store_opened, call_opened, assign_opened}
 use Rattle.syntax.proofs.statements.named.Goals as goal
 
-pub returns-in-Some-clause-spelled : goal.returns-in-Some-clause-spelled
+pub returns-in-Some-clause-read : goal.returns-in-Some-clause-read
 unfolding stmt_then stmt
-returns-in-Some-clause-spelled c =
-    c.in_ok-name.ensures.found
-    ∙ behind (c.in-Some.ensures.found
-    ∙ behind (c.in_ok-index.ensures.spelled
-    ∙ ap (expr_then (expr c.in_ok-index.index)) (c.in_ok-rest.ensures.found
-    ∙ behind (c.in_ok-rest-2.ensures.found ∙ behind c.in_ok-value.ensures.spelled))))
+returns-in-Some-clause-read c = record {
+  spelled = c.in_ok-name.ensures.found
+      ∙ behind (c.in-Some.ensures.found
+      ∙ behind (c.in_ok-index.ensures.read.spelled
+      ∙ ap (expr_then (expr c.in_ok-index.index)) (c.in_ok-rest.ensures.found
+      ∙ behind (c.in_ok-rest-2.ensures.found ∙ behind c.in_ok-value.ensures.read.spelled))));
+  whole = λ s r ends spelled.
+      let parts = store_opened s _ _ r (sym (c.in_ok-name.ensures.found ∙ behind c.in-Some.ensures.found) ∙ spelled) in
+      let bracket = c.in_ok-index.ensures.read.whole parts.0 (MarkToken RightBracket ∷ MarkToken Becomes
+      ∷ expr_then parts.1 (MarkToken Semicolon ∷ r)) (omega arith) parts.2 in
+      let mark = next (sym c.in_ok-rest.ensures.found ∙ bracket) in
+      let value = next (sym c.in_ok-rest-2.ensures.found ∙ mark) in
+      c.in_ok-value.ensures.read.whole parts.1 r value;
+}
 
-pub returns-in-Some-after_mark-clause-spelled : goal.returns-in-Some-after_mark-clause-spelled
+pub returns-in-Some-after_mark-clause-read : goal.returns-in-Some-after_mark-clause-read
 unfolding stmt_then stmt
-returns-in-Some-after_mark-clause-spelled c =
-    c.in_ok-name.ensures.found
-    ∙ behind (c.in-Some-after_mark.ensures.found
-    ∙ behind (c.in_ok-arguments.ensures.spelled
-    ∙ ap (exprs_then (exprs c.in_ok-arguments.arguments.items)) (behind c.in_ok-rest-3.ensures.found)))
+returns-in-Some-after_mark-clause-read c = record {
+  spelled = c.in_ok-name.ensures.found
+      ∙ behind (c.in-Some-after_mark.ensures.found
+      ∙ behind (c.in_ok-arguments.ensures.read.spelled
+      ∙ ap (exprs_then (exprs c.in_ok-arguments.arguments.items)) (behind c.in_ok-rest-3.ensures.found)));
+  whole = λ s r ends spelled.
+      let parts = call_opened s _ _ r (sym (c.in_ok-name.ensures.found ∙ behind c.in-Some-after_mark.ensures.found) ∙ spelled) in
+      let mark = c.in_ok-arguments.ensures.read.whole parts.0 (MarkToken Semicolon ∷ r) parts.1 in
+      next (sym c.in_ok-rest-3.ensures.found ∙ mark);
+}
 
-pub returns-clause-spelled : goal.returns-clause-spelled
+pub returns-clause-read : goal.returns-clause-read
 unfolding stmt_then stmt
-returns-clause-spelled c = c.in_ok-name.ensures.found ∙ behind (c.in_ok-rest-4.ensures.found ∙ behind c.in_ok-value-2.ensures.spelled)
+returns-clause-read c = record {
+  spelled = c.in_ok-name.ensures.found ∙ behind (c.in_ok-rest-4.ensures.found ∙ behind c.in_ok-value-2.ensures.read.spelled);
+  whole = λ s r ends spelled.
+      let parts = assign_opened s _ _ r c.in_default.ensures.absent c.in_default-after_mark.ensures.absent
+      (sym c.in_ok-name.ensures.found ∙ spelled) in
+      let value = next (sym c.in_ok-rest-4.ensures.found ∙ parts.1) in
+      c.in_ok-value-2.ensures.read.whole parts.0 r value;
+}
 
 pub returns-in_err-name-clause-refused : goal.returns-in_err-name-clause-refused
 returns-in_err-name-clause-refused c =
@@ -46,7 +66,7 @@ pub returns-in_err-rest-clause-refused : goal.returns-in_err-rest-clause-refused
 returns-in_err-rest-clause-refused c =
     passed_on _ _ c.from_residual-in_err-rest.ensures.1 (λ room no_word s r ends spelled.
     let parts = store_opened s _ _ r (sym (c.in_ok-name.ensures.found ∙ behind c.in-Some.ensures.found) ∙ spelled) in
-    let bracket = c.in_ok-index.ensures.whole parts.0 (MarkToken RightBracket ∷ MarkToken Becomes
+    let bracket = c.in_ok-index.ensures.read.whole parts.0 (MarkToken RightBracket ∷ MarkToken Becomes
     ∷ expr_then parts.1 (MarkToken Semicolon ∷ r)) (omega arith) parts.2 in
     c.in_err-rest.ensures.refused _ bracket)
 
@@ -54,7 +74,7 @@ pub returns-in_err-rest-2-clause-refused : goal.returns-in_err-rest-2-clause-ref
 returns-in_err-rest-2-clause-refused c =
     passed_on _ _ c.from_residual-in_err-rest-2.ensures.1 (λ room no_word s r ends spelled.
     let parts = store_opened s _ _ r (sym (c.in_ok-name.ensures.found ∙ behind c.in-Some.ensures.found) ∙ spelled) in
-    let bracket = c.in_ok-index.ensures.whole parts.0 (MarkToken RightBracket ∷ MarkToken Becomes
+    let bracket = c.in_ok-index.ensures.read.whole parts.0 (MarkToken RightBracket ∷ MarkToken Becomes
     ∷ expr_then parts.1 (MarkToken Semicolon ∷ r)) (omega arith) parts.2 in
     let mark = next (sym c.in_ok-rest.ensures.found ∙ bracket) in
     c.in_err-rest-2.ensures.refused _ mark)
@@ -63,20 +83,11 @@ pub returns-in_err-value-clause-refused : goal.returns-in_err-value-clause-refus
 returns-in_err-value-clause-refused c =
     passed_on _ _ c.from_residual-in_err-value.ensures.1 (λ room no_word s r ends spelled.
     let parts = store_opened s _ _ r (sym (c.in_ok-name.ensures.found ∙ behind c.in-Some.ensures.found) ∙ spelled) in
-    let bracket = c.in_ok-index.ensures.whole parts.0 (MarkToken RightBracket ∷ MarkToken Becomes
+    let bracket = c.in_ok-index.ensures.read.whole parts.0 (MarkToken RightBracket ∷ MarkToken Becomes
     ∷ expr_then parts.1 (MarkToken Semicolon ∷ r)) (omega arith) parts.2 in
     let mark = next (sym c.in_ok-rest.ensures.found ∙ bracket) in
     let value = next (sym c.in_ok-rest-2.ensures.found ∙ mark) in
     c.in_err-value.ensures.refused room parts.1 r value)
-
-pub returns-in-Some-clause-whole : goal.returns-in-Some-clause-whole
-returns-in-Some-clause-whole c = λ s r ends spelled.
-    let parts = store_opened s _ _ r (sym (c.in_ok-name.ensures.found ∙ behind c.in-Some.ensures.found) ∙ spelled) in
-    let bracket = c.in_ok-index.ensures.whole parts.0 (MarkToken RightBracket ∷ MarkToken Becomes
-    ∷ expr_then parts.1 (MarkToken Semicolon ∷ r)) (omega arith) parts.2 in
-    let mark = next (sym c.in_ok-rest.ensures.found ∙ bracket) in
-    let value = next (sym c.in_ok-rest-2.ensures.found ∙ mark) in
-    c.in_ok-value.ensures.whole parts.1 r value
 
 pub returns-in_err-arguments-clause-refused : goal.returns-in_err-arguments-clause-refused
 returns-in_err-arguments-clause-refused c =
@@ -88,14 +99,8 @@ pub returns-in_err-rest-3-clause-refused : goal.returns-in_err-rest-3-clause-ref
 returns-in_err-rest-3-clause-refused c =
     passed_on _ _ c.from_residual-in_err-rest-3.ensures.1 (λ room no_word s r ends spelled.
     let parts = call_opened s _ _ r (sym (c.in_ok-name.ensures.found ∙ behind c.in-Some-after_mark.ensures.found) ∙ spelled) in
-    let mark = c.in_ok-arguments.ensures.whole parts.0 (MarkToken Semicolon ∷ r) parts.1 in
+    let mark = c.in_ok-arguments.ensures.read.whole parts.0 (MarkToken Semicolon ∷ r) parts.1 in
     c.in_err-rest-3.ensures.refused _ mark)
-
-pub returns-in-Some-after_mark-clause-whole : goal.returns-in-Some-after_mark-clause-whole
-returns-in-Some-after_mark-clause-whole c = λ s r ends spelled.
-    let parts = call_opened s _ _ r (sym (c.in_ok-name.ensures.found ∙ behind c.in-Some-after_mark.ensures.found) ∙ spelled) in
-    let mark = c.in_ok-arguments.ensures.whole parts.0 (MarkToken Semicolon ∷ r) parts.1 in
-    next (sym c.in_ok-rest-3.ensures.found ∙ mark)
 
 pub returns-in_err-rest-4-clause-refused : goal.returns-in_err-rest-4-clause-refused
 returns-in_err-rest-4-clause-refused c =
@@ -111,10 +116,3 @@ returns-in_err-value-2-clause-refused c =
     (sym c.in_ok-name.ensures.found ∙ spelled) in
     let value = next (sym c.in_ok-rest-4.ensures.found ∙ parts.1) in
     c.in_err-value-2.ensures.refused room parts.0 r value)
-
-pub returns-clause-whole : goal.returns-clause-whole
-returns-clause-whole c = λ s r ends spelled.
-    let parts = assign_opened s _ _ r c.in_default.ensures.absent c.in_default-after_mark.ensures.absent
-    (sym c.in_ok-name.ensures.found ∙ spelled) in
-    let value = next (sym c.in_ok-rest-4.ensures.found ∙ parts.1) in
-    c.in_ok-value-2.ensures.whole parts.0 r value

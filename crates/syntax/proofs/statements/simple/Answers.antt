@@ -7,24 +7,29 @@ use Rattle.syntax.proofs.RefusalLemmas.{passed_on, next}
 use Rattle.syntax.proofs.StmtRefusals.{BeginsNoStatement, no_simple, skip_opened, fault_opened}
 use Rattle.syntax.proofs.statements.simple.Goals as goal
 
-pub returns-in-Some-clause-spelled : goal.returns-in-Some-clause-spelled
+pub returns-in-Some-clause-read : goal.returns-in-Some-clause-read
 unfolding stmt_then stmt
-returns-in-Some-clause-spelled c = c.in-Some.ensures.found ∙ behind c.in_ok-rest.ensures.found
+returns-in-Some-clause-read c = record {
+  spelled = c.in-Some.ensures.found ∙ behind c.in_ok-rest.ensures.found;
+  whole = λ s r ends spelled.
+      let mark = skip_opened s _ r (sym c.in-Some.ensures.found ∙ spelled) in
+      next (sym c.in_ok-rest.ensures.found ∙ mark);
+}
 
-pub returns-clause-spelled : goal.returns-clause-spelled
+pub returns-clause-read : goal.returns-clause-read
 unfolding stmt_then stmt
-returns-clause-spelled c = c.in_ok-rest-2.ensures.found ∙ behind c.in_ok-value.ensures.spelled
+returns-clause-read c = record {
+  spelled = c.in_ok-rest-2.ensures.found ∙ behind c.in_ok-value.ensures.read.spelled;
+  whole = λ s r ends spelled.
+      let value = fault_opened s _ r (sym c.in_ok-rest-2.ensures.found ∙ spelled) in
+      c.in_ok-value.ensures.read.whole value.0 r value.1;
+}
 
 pub returns-in_err-rest-clause-refused : goal.returns-in_err-rest-clause-refused
 returns-in_err-rest-clause-refused c =
     passed_on _ _ c.from_residual.ensures.1 (λ room word rest is is_if is_while is_split is_async is_finish s r ends spelled.
     let mark = skip_opened s _ r (sym c.in-Some.ensures.found ∙ spelled) in
     c.in_err-rest.ensures.refused _ mark)
-
-pub returns-in-Some-clause-whole : goal.returns-in-Some-clause-whole
-returns-in-Some-clause-whole c = λ s r ends spelled.
-    let mark = skip_opened s _ r (sym c.in-Some.ensures.found ∙ spelled) in
-    next (sym c.in_ok-rest.ensures.found ∙ mark)
 
 pub returns-in_err-rest-2-clause-refused : goal.returns-in_err-rest-2-clause-refused
 returns-in_err-rest-2-clause-refused c =
@@ -50,8 +55,3 @@ returns-in_err-value-clause-refused c =
     passed_on _ _ c.from_residual-in_err-value.ensures.1 (λ room word rest is is_if is_while is_split is_async is_finish s r ends spelled.
     let value = fault_opened s _ r (sym c.in_ok-rest-2.ensures.found ∙ spelled) in
     c.in_err-value.ensures.refused room value.0 r value.1)
-
-pub returns-clause-whole : goal.returns-clause-whole
-returns-clause-whole c = λ s r ends spelled.
-    let value = fault_opened s _ r (sym c.in_ok-rest-2.ensures.found ∙ spelled) in
-    c.in_ok-value.ensures.whole value.0 r value.1

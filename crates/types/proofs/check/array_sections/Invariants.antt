@@ -1,10 +1,8 @@
-use Rattle.std.proofs.Common.{◌≡◌, ◌++◌, drop, length, map, replicate}
-use Rattle.types.specs.Code.{Root}
-use Rattle.types.specs.Translation.{origin}
+use Rattle.std.proofs.Common.{◌≡◌, replicate}
+use Rattle.sections.specs.Origins.{Root}
+use Rattle.sections.specs.Tree.{origins_of}
 use Rattle.types.proofs.check.array_sections.Given as goal
 
--- a root for each array so far, and for each other
-abbrev pub invariant-loop-array : goal.invariant-loop-array
-invariant-loop-array l =
-    map (λ s. origin s.origin) l.sections.items ++ replicate (length (drop l.array-index l.arrays)) Root
-    ≡ replicate (length l.arrays) Root
+-- so many are there
+abbrev pub invariant-loop : goal.invariant-loop
+invariant-loop l = origins_of l.sections ≡ replicate l.counter Root

@@ -2,7 +2,7 @@ use Rattle.std.proofs.Common.{[], length, map, replicate, sym, ap, ◌∙◌, su
 use Rattle.std.specs.String.{string_bytes}
 use Rattle.syntax.specs.Tree as tree
 use Rattle.types.specs.ArrayScope.{place, only_main}
-use Rattle.types.specs.Code.{Root}
+use Rattle.sections.specs.Origins.{Root}
 use Rattle.types.specs.Resolution as resolution
 use Rattle.types.specs.Rules.{HasNameTwice, TooMany, Tells, is_served_block}
 use Rattle.types.specs.Told.{KnowsNames, TellsBlock}

@@ -1,10 +1,10 @@
 use Rattle.std.proofs.Common.{◌≡◌, take}
 use Rattle.std.specs.Prelude.{map}
 use Rattle.types.specs.Run.{window_at}
-use Rattle.types.specs.Translation.{window}
+use Rattle.sections.specs.Translation.{section, window}
 use Rattle.serial_run.specs.Standing.{state_of}
 use Rattle.serial_run.proofs.thread.Thread.entry.Given as goal
 
 -- the windows so far are those of the first sections
 abbrev pub invariant-loop-section : goal.invariant-loop-section
-invariant-loop-section l = map window l.windows.items ≡ map (window_at (state_of l.self)) (map (λ s. s.number) (take l.section-index l.sections))
+invariant-loop-section l = map window l.windows.items ≡ map (window_at (state_of l.self)) (map section (take l.section-index l.sections))

@@ -1,6 +1,7 @@
 use Rattle.std.proofs.Common.{ap}
 use Rattle.std.proofs.lemmas.Result.{on_ok_weaker}
-use Rattle.types.specs.Translation.{window, environment}
+use Rattle.sections.specs.Translation.{window}
+use Rattle.types.specs.Translation.{environment}
 use Rattle.types.specs.Value.{Environment}
 use Rattle.types.proofs.Slots.{by_number-map-bound}
 use Rattle.types.proofs.value.Environment.name_window.Goals as goal

@@ -1,4 +1,0 @@
-pub mod Examples
-pub mod Appending
-pub mod OutcomeText
-pub mod Told

@@ -1,0 +1,157 @@
+//! The words of a command line, and the files that they name.
+
+use crate::tests::rows::{RUN, Row, TWO_ARRAYS, answered};
+use std::test::Fail;
+
+const HELP: &str = "Checks and runs programs of tasks
+
+Usage: afx <COMMAND>
+
+Commands:
+  run     Runs a program as tasks
+  serial  Runs a program on one thread
+  check   Tells whether a program would be run
+  help    Print this message or the help of the given subcommand(s)
+
+Options:
+  -h, --help  Print help
+";
+
+const UNKNOWN_COMMAND: &str = "error: unrecognized subcommand 'fly'
+
+Usage: afx <COMMAND>
+
+For more information, try '--help'.
+";
+
+const UNKNOWN_OPTION: &str = "error: unexpected argument '--fast' found
+
+  tip: to pass '--fast' as a value, use '-- --fast'
+
+Usage: afx run <FILE>
+
+For more information, try '--help'.
+";
+
+const NO_FILE: &str = "error: the following required arguments were not provided:
+  <FILE>
+
+Usage: afx serial <FILE>
+
+For more information, try '--help'.
+";
+
+pub const ROWS: &[Row] = &[
+    Row {
+        name: "no word",
+        words: &[],
+        text: TWO_ARRAYS,
+        out: "7 8\n",
+        err: "",
+        status: 0,
+    },
+    Row {
+        name: "standard input",
+        words: &["serial", "-"],
+        text: TWO_ARRAYS,
+        out: "7 8\n",
+        err: "",
+        status: 0,
+    },
+    Row {
+        name: "standard input as tasks",
+        words: &["run", "-"],
+        text: TWO_ARRAYS,
+        out: "7 8\n",
+        err: "",
+        status: 0,
+    },
+    Row {
+        name: "another file",
+        words: &["run", "other.afx"],
+        text: TWO_ARRAYS,
+        out: "1\n",
+        err: "",
+        status: 0,
+    },
+    Row {
+        name: "another file on one thread",
+        words: &["serial", "other.afx"],
+        text: TWO_ARRAYS,
+        out: "1\n",
+        err: "",
+        status: 0,
+    },
+    Row {
+        name: "a file behind two dashes",
+        words: &["run", "--", "program.afx"],
+        text: TWO_ARRAYS,
+        out: "7 8\n",
+        err: "",
+        status: 0,
+    },
+    Row {
+        name: "help",
+        words: &["--help"],
+        text: "",
+        out: HELP,
+        err: "",
+        status: 0,
+    },
+    Row {
+        name: "help by a word",
+        words: &["help"],
+        text: "",
+        out: HELP,
+        err: "",
+        status: 0,
+    },
+    Row {
+        name: "an unknown command",
+        words: &["fly"],
+        text: "",
+        out: "",
+        err: UNKNOWN_COMMAND,
+        status: 1,
+    },
+    Row {
+        name: "an unknown option",
+        words: &["run", "--fast", "program.afx"],
+        text: "",
+        out: "",
+        err: UNKNOWN_OPTION,
+        status: 1,
+    },
+    Row {
+        name: "no file",
+        words: &["serial"],
+        text: "",
+        out: "",
+        err: NO_FILE,
+        status: 1,
+    },
+    Row {
+        name: "a file that can't be read",
+        words: &["run", "absent.afx"],
+        text: "",
+        out: "",
+        err: "cannot read absent.afx\n",
+        status: 1,
+    },
+    Row {
+        name: "a file that can't be read, listed",
+        words: &["check", "--list", "absent.afx"],
+        text: "",
+        out: "",
+        err: "cannot read absent.afx\n",
+        status: 1,
+    },
+];
+
+#[test]
+fn a_file_that_is_not_text_is_told(rt: HostRuntime) -> Result<(), Fail> {
+    let told = answered(rt.alloc(), RUN, b"main { \xff }")?;
+    assert_eq!(rt; told.err.as_slice(), b"not UTF-8 program.afx\n".as_slice());
+    assert_eq!(rt; told.status, 1);
+    Ok(())
+}

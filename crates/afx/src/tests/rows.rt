@@ -1,0 +1,107 @@
+//! A row is a command over a few files, and what it must tell.
+
+use driver::act::act;
+use driver::files::{FileError, FileSource};
+use std::alloc::{AllocError, Global};
+use std::process::Abort;
+
+/// A command, the text of `program.afx`, and what the command must write and answer.
+#[derive(Clone, Copy)]
+pub struct Row {
+    pub name: &'static str,
+    pub words: &'static [&'static str],
+    pub text: &'static str,
+    pub out: &'static str,
+    pub err: &'static str,
+    pub status: u8,
+}
+
+pub const RUN: &[&str] = &["run", "program.afx"];
+
+pub const SERIAL: &[&str] = &["serial", "program.afx"];
+
+pub const CHECK: &[&str] = &["check", "program.afx"];
+
+pub const LIST: &[&str] = &["check", "--list", "program.afx"];
+
+pub const TWO_ARRAYS: &str = "main {
+  array a: int[1];
+  array b: int[1];
+  finish {
+    async { a[0] = 7; }
+    b[0] = 8;
+  }
+  print a[0], b[0];
+}";
+
+/// As the two arrays, but no finish waits for the task.
+pub const RACE: &str = "main {
+  array a: int[1];
+  array b: int[1];
+  async { a[0] = 7; }
+  b[0] = 8;
+  print a[0];
+}";
+
+/// The text of `other.afx`, which is always there.
+const OTHER: &str = "main { print 1; }";
+
+/// A shelf of three files: the program, under the names `program.afx` and `-`, `other.afx`, and `heavy.afx`, for
+/// which there is no memory.
+#[derive(Drop)]
+pub struct Shelf<'t> {
+    pub alloc: Global,
+    pub program: &'t [u8],
+}
+
+impl FileSource for Shelf<'_> {
+    fn read(&mut self, name: &str) -> Result<Vec<u8>, FileError> {
+        let bytes = match name {
+            "program.afx" => self.program,
+            "-" => self.program,
+            "other.afx" => OTHER.as_bytes(),
+            "heavy.afx" => return Err(FileError::NoMemory),
+            _ => return Err(FileError::Failed),
+        };
+        bytes.to_vec(self.alloc).map_err(|_| FileError::NoMemory)
+    }
+}
+
+/// The words as strings.
+pub fn owned(alloc: Global, words: &[&str]) -> Result<Vec<String>, AllocError> {
+    let mut all = Vec::new(alloc);
+    for word in words {
+        all.push(String::from_str(alloc, word)?)?;
+    }
+    Ok(all)
+}
+
+/// What a command told.
+#[derive(Drop)]
+pub struct Answer {
+    pub out: Vec<u8>,
+    pub err: Vec<u8>,
+    pub status: u8,
+}
+
+/// Does what the words ask, where the program has these bytes.
+pub fn answered(alloc: Global, words: &[&str], program: &[u8]) -> Result<Answer, AllocError> {
+    let words = owned(alloc, words)?;
+    let mut files = Shelf { alloc, program };
+    let mut out = Vec::new(alloc);
+    let mut err = Vec::new(alloc);
+    let status = act(alloc, &words, &mut files, &mut out, &mut err);
+    Ok(Answer { out, err, status })
+}
+
+/// Compares what each row's command does with what the row wants.
+pub fn compare(rt: &impl Abort, alloc: Global, rows: &[Row]) -> Result<(), AllocError> {
+    for row in rows {
+        let told = answered(alloc, row.words, row.text.as_bytes())?;
+        let name = row.name;
+        assert_eq!(rt; told.err.as_slice(), row.err.as_bytes(), "err of {name}");
+        assert_eq!(rt; told.out.as_slice(), row.out.as_bytes(), "out of {name}");
+        assert_eq!(rt; told.status, row.status, "status of {name}");
+    }
+    Ok(())
+}

@@ -1,0 +1,34 @@
+//! Each exit status once: 0 and 1 stand in every table; no program of the first part comes to 2, 3 or 5.
+
+use crate::tests::outputs::faulted;
+use crate::tests::rows::answered;
+use driver::commands::show;
+use driver::failure::Failure;
+use std::test::Fail;
+use types::outcome::Outcome;
+use types::path::Path;
+use workers::gather::GatherError;
+use workers::run::RunError;
+
+#[test]
+fn an_outcome_or_a_failure_has_its_status(rt: HostRuntime) -> Result<(), Fail> {
+    let alloc = rt.alloc();
+    let faulted = faulted(alloc)?;
+    for (outcome, status) in [(faulted, 2), (Outcome::Stopped, 3)] {
+        let mut out = Vec::new(alloc);
+        let shown = show(&mut out, &[], &outcome);
+        assert!(rt;
+            matches!(shown, Ok(given) if given == status),
+            "status {status}"
+        );
+    }
+    let told = answered(alloc, &["run", "heavy.afx"], b"")?;
+    assert_eq!(rt; told.err.as_slice(), b"no memory\n".as_slice());
+    assert_eq!(rt; told.status, 4);
+    let lost = Path {
+        turns: Vec::new(alloc),
+    };
+    let failure = Failure::Run(RunError::Gather(GatherError::Lost(lost)));
+    assert_eq!(rt; failure.status(), 5);
+    Ok(())
+}

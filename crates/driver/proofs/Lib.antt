@@ -1,0 +1,6 @@
+pub mod Acting
+pub mod Answering
+pub mod Appending
+pub mod Examples
+pub mod OutcomeText
+pub mod Reading

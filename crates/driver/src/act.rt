@@ -1,0 +1,102 @@
+//! The whole program, over files and writers that it is lent.
+
+ghost use Rattle.std.specs.Prelude.{◌≡◌, ◌≤◌, ◌<◌, ℕ, List, map, MatchResult};
+ghost use Rattle.std.specs.String.{string_bytes};
+ghost use Rattle.driver.specs.Acts.{Acts, IsGiven, ReadsAndPerforms, TellsFileError};
+ghost use Rattle.driver.specs.Requests.{Asked, Asks, asked_of, file_of};
+
+use crate::command_line::{Request, request_of};
+use crate::commands;
+use crate::emit::append;
+use crate::failure::Failure;
+use crate::files::{FileError, FileSource};
+use crate::message::emit_message;
+use clap::Error;
+use std::alloc::{AllocError, Global};
+use std::io::Write;
+
+/// Does what the words behind the program's name ask, and answers the exit status.
+pub fn act<F: FileSource, O: Write, E: Write>(
+    alloc: Global,
+    words: &[String],
+    files: &mut F,
+    out: &mut O,
+    err: &mut E,
+) -> u8
+    ensures asked { (a : Asked) (file : List ℕ) → Asks (map string_bytes words.now) a file
+        → Acts a file (F.held files.old file) (O.contents out.old) (O.contents out.new)
+        (E.contents err.old) (E.contents err.new) result }
+    ensures over_one { 1 < result → (a : Asked) × (file : List ℕ)
+        × Acts a file (F.held files.old file) (O.contents out.old) (O.contents out.new)
+        (E.contents err.old) (E.contents err.new) result }
+{
+    match request_of(alloc, words) {
+        Err(error) => tell_command_line(alloc, &error, out, err),
+        Ok(request) => match perform(alloc, request, files, out) {
+            Ok(status) => status,
+            Err(failure) => {
+                let _ = emit_message(err, &failure);
+                failure.status()
+            }
+        },
+    }
+}
+
+/// Does one command.
+fn perform<F: FileSource, O: Write>(
+    alloc: Global,
+    request: Request<'_>,
+    files: &mut F,
+    out: &mut O,
+) -> Result<u8, Failure>
+    ensures { let file = file_of request.entry in
+        ReadsAndPerforms (asked_of request.entry) file (F.held files.old file)
+        (O.contents out.old) (O.contents out.new) result }
+{
+    let name = request.file();
+    let bytes = read(alloc, files, name)?;
+    match std::str::from_utf8(&bytes) {
+        Ok(text) => commands::perform(alloc, request, text, out),
+        Err(_) => Err(Failure::not_utf8(alloc, name)),
+    }
+}
+
+/// What a file holds.
+fn read<F: FileSource>(alloc: Global, files: &mut F, name: &str) -> Result<Vec<u8>, Failure>
+    ensures { let held = F.held files.old name.now in
+        MatchResult result (λ v. IsGiven held (Ok v.items))
+        (λ f. (e : FileError) × IsGiven held (Err e) × TellsFileError name.now e f) }
+{
+    match files.read(name) {
+        Ok(bytes) => Ok(bytes),
+        Err(FileError::NoMemory) => Err(Failure::NoMemory),
+        Err(FileError::Failed) => Err(Failure::cannot_read(alloc, name)),
+    }
+}
+
+/// Prints what `clap` says of a command line: help on the output with status 0, a mistake on the other with 1.
+fn tell_command_line<O: Write, E: Write>(
+    alloc: Global,
+    error: &Error,
+    out: &mut O,
+    err: &mut E,
+) -> u8
+    ensures { result ≤ 1 }
+{
+    let text = match format!(in alloc; "{error}") {
+        Ok(text) => text,
+        Err(AllocError) => return 1,
+    };
+    if error.use_stderr() {
+        let _ = append(err, text.as_bytes());
+        1
+    } else {
+        match append(out, text.as_bytes()) {
+            Ok(()) => 0,
+            Err(_) => {
+                let _ = append(err, b"cannot write output\n");
+                1
+            }
+        }
+    }
+}

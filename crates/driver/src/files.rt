@@ -1,0 +1,69 @@
+//! Where the program finds what its words name.
+
+ghost use Rattle.std.specs.Prelude.{◌≡◌, ℕ, List, Option, None, MatchResult};
+ghost use Rattle.driver.specs.Acts.{Bytes, IsGiven};
+
+use std::io::{ErrorKind, Read};
+use std::rt::Files;
+use std::{fs, io};
+
+/// Why a file isn't there.
+#[derive(Clone, Copy, PartialEq, Eq, Debug)]
+pub enum FileError {
+    /// It can't be opened or read.
+    Failed,
+    /// Memory ran out.
+    NoMemory,
+}
+
+/// Files by their names.
+pub trait FileSource {
+    /// What a name is known to give: None where nobody can know it, as of the machine's files.
+    ghost held: { Self → List ℕ → Option Bytes } = { λ _ _. None };
+
+    /// What a file holds.
+    fn read(&mut self, name: &str) -> Result<Vec<u8>, FileError>
+        ensures { let held = held self.old name.now in
+            MatchResult result (λ v. IsGiven held (Ok v.items)) (λ e. IsGiven held (Err e)) };
+}
+
+/// The files of the machine; `-` is the standard input.
+#[derive(Drop)]
+pub struct MachineFiles<'r, R> {
+    rt: &'r R,
+}
+
+impl<'r, R> MachineFiles<'r, R> {
+    /// The files that a runtime reaches.
+    pub fn new(rt: &'r R) -> MachineFiles<'r, R>
+        ensures { result.rt ≡ rt.entry }
+    {
+        MachineFiles { rt }
+    }
+}
+
+impl<R: Files + Input + AllocGlobal> FileSource for MachineFiles<'_, R> {
+    fn read(&mut self, name: &str) -> Result<Vec<u8>, FileError> {
+        let bytes = if name == "-" {
+            standard_input(self.rt)
+        } else {
+            fs::read(self.rt, name)
+        };
+        bytes.map_err(|error| file_error(&error))
+    }
+}
+
+/// All that stands on the standard input.
+fn standard_input<R: Input + AllocGlobal>(rt: &R) -> io::Result<Vec<u8>> {
+    let mut bytes = Vec::new(rt.alloc());
+    rt.reader().read_to_end(&mut bytes)?;
+    Ok(bytes)
+}
+
+/// What an error of the machine is to the program.
+fn file_error(error: &io::Error) -> FileError {
+    match error.kind() {
+        ErrorKind::OutOfMemory => FileError::NoMemory,
+        _ => FileError::Failed,
+    }
+}

@@ -1,0 +1,12 @@
+pub mod AccessesInScope
+pub mod EnvironmentsFit
+pub mod Footprints
+pub mod LeastRows
+pub mod Members
+pub mod Missing
+pub mod NeedsOfAsyncs
+pub mod OwnAccesses
+pub mod Stability
+pub mod StableTables
+pub mod Summaries
+pub mod WindowsKept

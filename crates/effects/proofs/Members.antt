@@ -1,0 +1,73 @@
+-- Truth values, and elements of lists.
+use Rattle.std.proofs.Common.{◌≡◌, ◌≢◌, ◌⊎◌, inl, inr, ℕ, zero, suc, ◌+◌, ◌<◌, ◌≤◌, List, [], ◌∷◌, ◌++◌, map, refl, sym, ◌∙◌, arith}
+use Rattle.std.proofs.Common.{true≢false}
+use Rattle.std.proofs.lemmas.Bool.{eq-eqb}
+use Rattle.std.specs.Prelude.{Bool, true, false, ◌&&◌, ◌||◌, not, nat_eq}
+use Rattle.std.specs.List.{list_any}
+use Rattle.sections.specs.Member.{Member, first, next}
+use Rattle.effects.specs.Sound.{numbers_from}
+
+pub false_true : {A : Type 0} → false ≡ true → A
+false_true h = absurd (true≢false (sym h))
+
+pub either_true : (a b : Bool) → (a || b) ≡ true → (a ≡ true) ⊎ (b ≡ true)
+either_true true b h = inl refl
+either_true false b h = inr h
+
+pub left_true : (a b : Bool) → a ≡ true → (a || b) ≡ true
+left_true true b h = refl
+left_true false b h = false_true h
+
+pub right_true : (a b : Bool) → b ≡ true → (a || b) ≡ true
+right_true true b h = refl
+right_true false b h = h
+
+pub both_true : (a b : Bool) → (a && b) ≡ true → (a ≡ true) × (b ≡ true)
+both_true true b h = (refl, h)
+both_true false b h = false_true h
+
+pub not_true : (a : Bool) → not a ≡ true → a ≡ false
+not_true true h = false_true h
+not_true false h = refl
+
+pub not_false : (a : Bool) → not a ≡ false → a ≡ true
+not_false true h = refl
+not_false false h = false_true (sym h)
+
+pub differs : (a b : ℕ) → not (nat_eq a b) ≡ true → a ≢ b
+differs a b h e = true≢false (sym (eq-eqb a b e) ∙ not_true (nat_eq a b) h)
+
+pub in_left : {A : Type 0} {x : A} {xs : List A} (ys : List A) → Member x xs → Member x (xs ++ ys)
+in_left ys first = first
+in_left ys (next h) = next (in_left ys h)
+
+pub in_right : {A : Type 0} {x : A} (xs : List A) {ys : List A} → Member x ys → Member x (xs ++ ys)
+in_right [] h = h
+in_right (x ∷ xs) h = next (in_right xs h)
+
+pub in_map : {A B : Type 0} (f : A → B) {x : A} {xs : List A} → Member x xs → Member (f x) (map f xs)
+in_map f first = first
+in_map f (next h) = next (in_map f h)
+
+pub in_parts : {A : Type 0} {x : A} (xs : List A) {ys : List A} → Member x (xs ++ ys) → Member x xs ⊎ Member x ys
+in_parts [] h = inr h
+in_parts (x ∷ xs) first = inl first
+in_parts (x ∷ xs) (next h) = elim (in_parts xs h) [ inl k ↦ inl (next k) | inr k ↦ inr k ]
+
+-- what a list maps to comes from an element
+pub from_map : {A B : Type 0} (f : A → B) {y : B} (xs : List A) → Member y (map f xs) → (x : A) × Member x xs × (y ≡ f x)
+from_map f [] h = elim h [ ]
+from_map f (x ∷ xs) first = (x, first, refl)
+from_map f (x ∷ xs) (next h) = let r = from_map f xs h in (r.0, next r.1, r.2)
+
+numbers_from-bounds : (a n s : ℕ) → Member s (numbers_from a n) → (a ≤ s) × (s < a + n)
+numbers_from-bounds a zero s h = elim h [ ]
+numbers_from-bounds a (suc n) s first = (omega arith, omega arith)
+numbers_from-bounds a (suc n) s (next h) =
+    let k = numbers_from-bounds (a + 1) n s h in
+    let low : a + 1 ≤ s = k.0 in
+    let high : s < a + 1 + n = k.1 in
+    (omega arith, omega arith)
+
+pub numbers_from-below : (n s : ℕ) → Member s (numbers_from 0 n) → s < n
+numbers_from-below n s h = let k : s < 0 + n = (numbers_from-bounds 0 n s h).1 in omega arith

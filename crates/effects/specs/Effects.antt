@@ -1,0 +1,77 @@
+-- What a statement may do, and what it leaves pending: least sets of accesses, or of labels.
+use Rattle.std.specs.Prelude.{ℕ, ◌≡◌, List, [], ◌∷◌, slice_index_or, nat_eq, ◌||◌, if◌then◌else◌}
+use Rattle.std.proofs.Common.{refl}
+use Rattle.types.specs.Code.{Number, Truth, Code, If, While, Split, Call, Async, Finish, Codes}
+use Rattle.types.specs.Code.{Then, Program}
+use Rattle.types.specs.Run.{procedure_of}
+use Rattle.sections.specs.Member.{Member}
+use Rattle.effects.specs.Accesses.{Access, own_accesses}
+
+-- around a split of s, both sides are s
+abbrev pub past_split : (s left right : ℕ) → ℕ → ℕ
+past_split s l r x = if nat_eq l x || nat_eq r x then s else x
+
+-- around a call with these section arguments, parameter k is the k-th of them
+abbrev pub past_call : (sections : List ℕ) → ℕ → ℕ
+past_call ss k = slice_index_or ss k 0
+
+-- the access in other names
+abbrev pub renamed : (ℕ → ℕ) → Access → Access
+renamed out x = record x { section = out x.section }
+
+-- what is collected: what a statement has by itself, and what becomes of it in other names
+pub record Subject : Type 1 where
+  pub Item : Type 0
+  pub own : (label : ℕ) → Code → List Item
+  pub renamed : (ℕ → ℕ) → Item → Item
+  pub kept : (x : Item) → renamed (λ s. s) x ≡ x
+
+-- the accesses of statements
+abbrev pub accesses : Subject
+accesses = record { Item = Access; own = own_accesses; renamed = renamed; kept = λ x. refl }
+
+-- the labels of statements: each has its own, which no renaming changes
+abbrev pub labels : Subject
+labels = record { Item = ℕ; own = λ l s. l ∷ []; renamed = λ out l. l; kept = λ x. refl }
+
+module _ (p : Program) where
+  -- a statement runs a block in its own task, whose section x is `out x` in the names around it
+  pub data Inner : Code → Codes → (out : ℕ → ℕ) → Type 0 where
+    if_body : {t : Truth} {b c : Codes} → Inner (If t b c) b (λ x. x)
+    if_other : {t : Truth} {b c : Codes} → Inner (If t b c) c (λ x. x)
+    while : {t : Truth} {b : Codes} → Inner (While t b) b (λ x. x)
+    split : {s : ℕ} {e : Number} {l r : ℕ} {b : Codes}
+        → Inner (Split s e l r b) b (past_split s l r)
+    call : {f : ℕ} {es : List Number} {ss : List ℕ}
+        → Inner (Call f es ss) (procedure_of p f).body (past_call ss)
+
+module _ (p : Program) (subject : Subject) where
+  mutual
+    -- all that a statement may do, with its blocks and its call
+    pub data AllOf : (label : ℕ) → Code → subject.Item → Type 0 where
+      own_access : {l : ℕ} {s : Code} {x : subject.Item} → Member x (subject.own l s) → AllOf l s x
+      inner : {l : ℕ} {s : Code} {b : Codes} {out : ℕ → ℕ} {x y : subject.Item}
+          → Inner p s b out → All b x → y ≡ subject.renamed out x → AllOf l s y
+      async : {l : ℕ} {b : Codes} {x : subject.Item} → All b x → AllOf l (Async b) x
+      finish : {l : ℕ} {b : Codes} {x : subject.Item} → All b x → AllOf l (Finish b) x
+
+    -- all that a list of statements may do
+    pub data All : Codes → subject.Item → Type 0 where
+      here : {l : ℕ} {s : Code} {rest : Codes} {x : subject.Item} → AllOf l s x
+          → All (Then l s rest) x
+      later : {l : ℕ} {s : Code} {rest : Codes} {x : subject.Item} → All rest x
+          → All (Then l s rest) x
+
+  mutual
+    -- what may still be done once a statement has ended: by tasks for which no finish waits
+    pub data PendingOf : Code → subject.Item → Type 0 where
+      inner : {s : Code} {b : Codes} {out : ℕ → ℕ} {x y : subject.Item}
+          → Inner p s b out → Pending b x → y ≡ subject.renamed out x → PendingOf s y
+      async : {b : Codes} {x : subject.Item} → All b x → PendingOf (Async b) x
+
+    -- what may still be done once a list of statements has ended
+    pub data Pending : Codes → subject.Item → Type 0 where
+      here : {l : ℕ} {s : Code} {rest : Codes} {x : subject.Item} → PendingOf s x
+          → Pending (Then l s rest) x
+      later : {l : ℕ} {s : Code} {rest : Codes} {x : subject.Item} → Pending rest x
+          → Pending (Then l s rest) x

@@ -1,0 +1,24 @@
+-- Runs leave the windows in scope as they are.
+use Rattle.std.specs.Prelude.{ℕ, ◌≡◌, List}
+use Rattle.types.specs.Code.{Codes, Procedure, Program}
+use Rattle.types.specs.Value.{Environment}
+use Rattle.types.specs.Run.{State, Rules, Work, Block, Turn}
+use Rattle.sections.specs.Member.{Member}
+use Rattle.effects.specs.Sound.{Follows}
+
+-- two environments have the same windows for the sections of the scope
+abbrev pub SameWindows : (scope : List ℕ) → (env other : Environment) → Type 0
+SameWindows scope env other = (s : ℕ) → Member s scope → env.windows s ≡ other.windows s
+
+-- the rules leave all windows as they are
+pub record KeepsWindows {X : Type 0} (r : Rules X) : Type 0 where
+  pub begin : (b : Codes) (st : State X)
+      → (r.begin b st).environment.windows ≡ st.environment.windows
+  pub enter : (st : State X) → (r.enter st).environment.windows ≡ st.environment.windows
+  pub leave : (before out : State X)
+      → (r.leave before out).environment.windows ≡ out.environment.windows
+
+-- the names in some work follow the rules
+abbrev pub WorkFollows : Program → Procedure → (scope : List ℕ) → Work → Type 0
+WorkFollows p g scope (Block b) = Follows p g scope b
+WorkFollows p g scope (Turn l t b) = Follows p g scope b

@@ -1,0 +1,10 @@
+pub mod Accesses
+pub mod Effects
+pub mod Fits
+pub mod Footprint
+pub mod Kept
+pub mod Needs
+pub mod Rounds
+pub mod Rows
+pub mod Sound
+pub mod Tables

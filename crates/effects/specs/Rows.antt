@@ -1,0 +1,55 @@
+-- The rows of the table for All and Pending, as a reader would write them.
+use Rattle.std.specs.Prelude.{ℕ, ◌≡◌, ◌⊎◌, Bool, true}
+use Rattle.types.specs.Code.{Code, Do, If, While, Split, Call, Async, Finish, Codes, Then, Program}
+use Rattle.types.specs.Run.{procedure_of}
+use Rattle.sections.specs.Member.{Member}
+use Rattle.effects.specs.Effects.{past_split, past_call, Inner, Subject, All, Pending}
+
+module _ (p : Program) (subject : Subject) where
+  -- one of these, in other names
+  pub record Renamed (out : ℕ → ℕ) (those : subject.Item → Type 0) (y : subject.Item) : Type 0 where
+    pub item : subject.Item
+    pub among : those item
+    pub same : y ≡ subject.renamed out item
+
+  -- what the blocks of a statement and its call may do, in the names around it
+  abbrev pub AllInside : Code → subject.Item → Type 0
+  AllInside (Do s) x = ⊥
+  AllInside (If t b c) x = All p subject b x ⊎ All p subject c x
+  AllInside (While t b) x = All p subject b x
+  AllInside (Split s e l r b) x = Renamed (past_split s l r) (All p subject b) x
+  AllInside (Call f es ss) x = Renamed (past_call ss) (All p subject (procedure_of p f).body) x
+  AllInside (Async b) x = All p subject b x
+  AllInside (Finish b) x = All p subject b x
+
+  -- what a statement leaves pending
+  abbrev pub LeftBy : Code → subject.Item → Type 0
+  LeftBy (Do s) x = ⊥
+  LeftBy (If t b c) x = Pending p subject b x ⊎ Pending p subject c x
+  LeftBy (While t b) x = Pending p subject b x
+  LeftBy (Split s e l r b) x = Renamed (past_split s l r) (Pending p subject b) x
+  LeftBy (Call f es ss) x = Renamed (past_call ss) (Pending p subject (procedure_of p f).body) x
+  LeftBy (Async b) x = All p subject b x
+  LeftBy (Finish b) x = ⊥
+
+  -- a set for each list of statements that has all that the rows ask of All
+  pub record SolvesAll (has : Codes → subject.Item → Bool) : Type 0 where
+    pub own : (l : ℕ) (s : Code) (rest : Codes) (x : subject.Item)
+        → Member x (subject.own l s) → has (Then l s rest) x ≡ true
+    pub later : (l : ℕ) (s : Code) (rest : Codes) (x : subject.Item)
+        → has rest x ≡ true → has (Then l s rest) x ≡ true
+    pub inner : (l : ℕ) (s : Code) (b rest : Codes) (out : ℕ → ℕ) (x : subject.Item)
+        → Inner p s b out → has b x ≡ true → has (Then l s rest) (subject.renamed out x) ≡ true
+    pub async : (l : ℕ) (b rest : Codes) (x : subject.Item)
+        → has b x ≡ true → has (Then l (Async b) rest) x ≡ true
+    pub finish : (l : ℕ) (b rest : Codes) (x : subject.Item)
+        → has b x ≡ true → has (Then l (Finish b) rest) x ≡ true
+
+  -- and one that has all that they ask of Pending
+  pub record SolvesPending (has : Codes → subject.Item → Bool) : Type 0 where
+    pub later : (l : ℕ) (s : Code) (rest : Codes) (x : subject.Item)
+        → has rest x ≡ true → has (Then l s rest) x ≡ true
+    pub inner : (l : ℕ) (s : Code) (b rest : Codes) (out : ℕ → ℕ) (x : subject.Item)
+        → Inner p s b out → has b x ≡ true → has (Then l s rest) (subject.renamed out x) ≡ true
+    pub async : (l : ℕ) (b rest : Codes) (x : subject.Item)
+        → All p subject b x → has (Then l (Async b) rest) x ≡ true

@@ -1,0 +1,82 @@
+-- All and Pending as lists, over tables of what each procedure's body has.
+use Rattle.std.specs.Prelude.{ℕ, zero, suc, List, [], ◌++◌, map}
+use Rattle.types.specs.Code.{Code, Do, If, While, Split, Call, Async, Finish, Codes, End, Then}
+use Rattle.types.specs.Code.{Program}
+use Rattle.types.specs.Run.{procedure_of}
+use Rattle.sections.specs.Member.{Member}
+use Rattle.effects.specs.Effects.{past_split, past_call, Subject, All, Pending}
+
+-- a list of accesses for each procedure
+abbrev pub Table : Subject → Type 0
+Table subject = ℕ → List subject.Item
+
+module _ (subject : Subject) (table : Table subject) where
+  abbrev mutual
+    -- what the blocks of a statement and its call may do, in the names around it
+    pub all_inside : Code → List subject.Item
+    all_inside (Do s) = []
+    all_inside (If t b c) = all_in b ++ all_in c
+    all_inside (While t b) = all_in b
+    all_inside (Split s e l r b) = map (subject.renamed (past_split s l r)) (all_in b)
+    all_inside (Call f es ss) = map (subject.renamed (past_call ss)) (table f)
+    all_inside (Async b) = all_in b
+    all_inside (Finish b) = all_in b
+
+    -- what a list of statements may do
+    pub all_in : Codes → List subject.Item
+    all_in End = []
+    all_in (Then l s rest) = subject.own l s ++ (all_inside s ++ all_in rest)
+
+  -- what a statement may do
+  abbrev pub all_of : (label : ℕ) → Code → List subject.Item
+  all_of l s = subject.own l s ++ all_inside s
+
+module _ (subject : Subject) (alls pendings : Table subject) where
+  abbrev mutual
+    -- what a statement leaves pending
+    pub left_by : Code → List subject.Item
+    left_by (Do s) = []
+    left_by (If t b c) = left_in b ++ left_in c
+    left_by (While t b) = left_in b
+    left_by (Split s e l r b) = map (subject.renamed (past_split s l r)) (left_in b)
+    left_by (Call f es ss) = map (subject.renamed (past_call ss)) (pendings f)
+    left_by (Async b) = all_in subject alls b
+    left_by (Finish b) = []
+
+    -- what a list of statements leaves pending
+    pub left_in : Codes → List subject.Item
+    left_in End = []
+    left_in (Then l s rest) = left_by s ++ left_in rest
+
+-- the tables from nothing on: each goes one call deeper
+module _ (p : Program) (subject : Subject) where
+  -- after so many rounds, All as far as so many calls within one another go
+  abbrev pub alls_after : ℕ → Table subject
+  alls_after zero f = []
+  alls_after (suc k) f = all_in subject (alls_after k) (procedure_of p f).body
+
+  -- and Pending
+  abbrev pub pendings_after : Table subject → ℕ → Table subject
+  pendings_after alls zero f = []
+  pendings_after alls (suc k) f =
+      left_in subject alls (pendings_after alls k) (procedure_of p f).body
+
+  -- what the table lists is derived
+  abbrev pub IsDerived : Table subject → Type 0
+  IsDerived table = (f : ℕ) (x : subject.Item) → Member x (table f)
+      → All p subject (procedure_of p f).body x
+
+  -- so it is of Pending
+  abbrev pub IsDerivedPending : Table subject → Type 0
+  IsDerivedPending table = (f : ℕ) (x : subject.Item) → Member x (table f)
+      → Pending p subject (procedure_of p f).body x
+
+  -- one more round adds nothing
+  abbrev pub IsStable : Table subject → Type 0
+  IsStable table = (f : ℕ) (x : subject.Item)
+      → Member x (all_in subject table (procedure_of p f).body) → Member x (table f)
+
+  -- so it is of Pending
+  abbrev pub IsStablePending : (alls pendings : Table subject) → Type 0
+  IsStablePending alls pendings = (f : ℕ) (x : subject.Item)
+      → Member x (left_in subject alls pendings (procedure_of p f).body) → Member x (pendings f)

@@ -1,0 +1,216 @@
+//! Laws of the definitions, each the contract of a function that does nothing.
+
+ghost use Rattle.std.specs.Prelude.{◌≡◌, ◌⊎◌, ◌↔◌, ℕ, ℤ, List, [], ◌∷◌, map, length, Bool, true, false};
+ghost use Rattle.std.specs.Prelude.{Some};
+ghost use Rattle.types.specs.Code.{Number, Truth, Primitive, Code, Do, Split, Call, Codes, End, Then};
+ghost use Rattle.types.specs.Code.{Procedure, Program};
+ghost use Rattle.sections.specs.Place.{Place, Window, sides_of};
+ghost use Rattle.types.specs.Indexed.{indexed, indexed_truth};
+ghost use Rattle.types.specs.Value.{Environment, number, truth};
+ghost use Rattle.types.specs.Run.{State, Rules, Work, run, primitive, procedure_of, entry, with_sides};
+ghost use Rattle.types.specs.Meaning.{one_rules};
+ghost use Rattle.types.specs.Outcome.{whole_arrays};
+ghost use Rattle.sections.specs.Member.{Member};
+ghost use Rattle.effects.specs.Accesses.{Access, own_accesses, reads};
+ghost use Rattle.effects.specs.Effects.{accesses, labels, AllOf, All, PendingOf, Pending};
+ghost use Rattle.effects.specs.Rows.{AllInside, LeftBy, SolvesAll, SolvesPending};
+ghost use Rattle.effects.specs.Footprint.{Touches, Overwrites, MayTouch, MayWrite, MayTouchOf, MayWriteOf};
+ghost use Rattle.effects.specs.Footprint.{MayStillTouch, MayStillWrite, MayStillTouchOf};
+ghost use Rattle.effects.specs.Footprint.{MayStillWriteOf};
+ghost use Rattle.effects.specs.Tables.{Table, all_in, left_in, alls_after, pendings_after};
+ghost use Rattle.effects.specs.Tables.{IsDerived, IsDerivedPending, IsStable, IsStablePending};
+ghost use Rattle.effects.specs.Rounds.{possible, summaries, pending_summaries, needs_of};
+ghost use Rattle.effects.specs.Needs.{Provides, needs_in};
+ghost use Rattle.sections.specs.Origins.{IsNumbered};
+ghost use Rattle.sections.specs.Overlap.{overlap};
+ghost use Rattle.effects.specs.Sound.{Allowed, SplitsWell, PassesWell, is_writable, parameters_of};
+ghost use Rattle.effects.specs.Sound.{main_of, IsSoundIn, IsSound};
+ghost use Rattle.sections.specs.Placed.{Apart};
+ghost use Rattle.effects.specs.Fits.{Fits};
+ghost use Rattle.effects.specs.Kept.{SameWindows, KeepsWindows, WorkFollows};
+
+/// All and Pending are solutions of the table's rows, and the least of them: of accesses, and of
+/// labels.
+pub fn effects_are_the_least_solution()
+    ensures all_of_statement { (p : Program) (l : ℕ) (s : Code) (x : Access)
+        → AllOf p accesses l s x ↔ (Member x (own_accesses l s) ⊎ AllInside p accesses s x) }
+    ensures pending_of_statement { (p : Program) (s : Code) (x : Access)
+        → PendingOf p accesses s x ↔ LeftBy p accesses s x }
+    ensures all_of_list { (p : Program) (l : ℕ) (s : Code) (rest : Codes) (x : Access)
+        → All p accesses (Then l s rest) x ↔ (AllOf p accesses l s x ⊎ All p accesses rest x) }
+    ensures pending_of_list { (p : Program) (l : ℕ) (s : Code) (rest : Codes) (x : Access)
+        → Pending p accesses (Then l s rest) x
+        ↔ (PendingOf p accesses s x ⊎ Pending p accesses rest x) }
+    ensures nothing { (p : Program) (x : Access) → All p accesses End x → ⊥ }
+    ensures least { (p : Program) (has : Codes → Access → Bool) → SolvesAll p accesses has
+        → (b : Codes) (x : Access) → All p accesses b x → has b x ≡ true }
+    ensures least_pending { (p : Program) (has : Codes → Access → Bool)
+        → SolvesPending p accesses has
+        → (b : Codes) (x : Access) → Pending p accesses b x → has b x ≡ true }
+    ensures labels_of_statement { (p : Program) (l : ℕ) (s : Code) (x : ℕ)
+        → AllOf p labels l s x ↔ (Member x (l ∷ []) ⊎ AllInside p labels s x) }
+    ensures pending_labels_of_statement { (p : Program) (s : Code) (x : ℕ)
+        → PendingOf p labels s x ↔ LeftBy p labels s x }
+    ensures least_labels { (p : Program) (has : Codes → ℕ → Bool) → SolvesAll p labels has
+        → (b : Codes) (x : ℕ) → All p labels b x → has b x ≡ true }
+    ensures least_pending_labels { (p : Program) (has : Codes → ℕ → Bool)
+        → SolvesPending p labels has
+        → (b : Codes) (x : ℕ) → Pending p labels b x → has b x ≡ true }
+{}
+
+/// What is left pending is among all that is done.
+pub fn pending_is_among_all()
+    ensures statement { (p : Program) (l : ℕ) (s : Code) (x : Access)
+        → PendingOf p accesses s x → AllOf p accesses l s x }
+    ensures block { (p : Program) (b : Codes) (x : Access) → Pending p accesses b x → All p accesses b x }
+{}
+
+/// Tables that list only what is derived, and to which one more round adds nothing, are the least
+/// solution; and rounds from nothing on list only what is derived.
+pub fn stable_tables_are_least()
+    ensures alls { (p : Program) (table : Table accesses)
+        → IsDerived p accesses table → IsStable p accesses table
+        → (b : Codes) (x : Access) → Member x (all_in accesses table b) ↔ All p accesses b x }
+    ensures pendings { (p : Program) (alls pendings : Table accesses)
+        → IsDerived p accesses alls → IsStable p accesses alls
+        → IsDerivedPending p accesses pendings → IsStablePending p accesses alls pendings
+        → (b : Codes) (x : Access)
+        → Member x (left_in accesses alls pendings b) ↔ Pending p accesses b x }
+    ensures rounds { (p : Program) (k : ℕ) → IsDerived p accesses (alls_after p accesses k) }
+    ensures pending_rounds { (p : Program) (alls : Table accesses) → IsDerived p accesses alls
+        → (k : ℕ) → IsDerivedPending p accesses (pendings_after p accesses alls k) }
+    ensures labels { (p : Program) (table : Table labels)
+        → IsDerived p labels table → IsStable p labels table
+        → (b : Codes) (x : ℕ) → Member x (all_in labels table b) ↔ All p labels b x }
+    ensures pending_labels { (p : Program) (alls pendings : Table labels)
+        → IsDerived p labels alls → IsStable p labels alls
+        → IsDerivedPending p labels pendings → IsStablePending p labels alls pendings
+        → (b : Codes) (x : ℕ)
+        → Member x (left_in labels alls pendings b) ↔ Pending p labels b x }
+    ensures label_rounds { (p : Program) (k : ℕ) → IsDerived p labels (alls_after p labels k) }
+    ensures pending_label_rounds { (p : Program) (alls : Table labels) → IsDerived p labels alls
+        → (k : ℕ) → IsDerivedPending p labels (pendings_after p labels alls k) }
+{}
+
+/// The rounds of a sound program come to stable tables, so that what its procedures may do, leave
+/// pending and need is computed.
+pub fn sound_programs_have_summaries()
+    ensures possible { (p : Program) → IsSound p → (f : ℕ) (x : Access)
+        → All p accesses (procedure_of p f).body x → Member x (possible p f) }
+    ensures derived { (p : Program) → IsDerived p accesses (summaries p) }
+    ensures stable { (p : Program) → IsSound p → IsStable p accesses (summaries p) }
+    ensures pending_derived { (p : Program) → IsDerivedPending p accesses (pending_summaries p) }
+    ensures pending_stable { (p : Program) → IsSound p
+        → IsStablePending p accesses (summaries p) (pending_summaries p) }
+    ensures provides { (p : Program) → IsSound p → Provides p (needs_of p) }
+{}
+
+/// What is computed from any derived and stable table is what each async needs.
+pub fn stable_tables_provide_needs()
+    ensures { (p : Program) (table : Table accesses)
+        → IsDerived p accesses table → IsStable p accesses table → Provides p (needs_in table) }
+{}
+
+/// Where the type rules hold, all that a procedure may do is in the scope of its parameters, and
+/// it writes only what it may write.
+pub fn accesses_are_in_scope()
+    ensures procedure { (p : Program) → IsSound p → (f : ℕ) (x : Access)
+        → All p accesses (procedure_of p f).body x
+        → Allowed (procedure_of p f) (parameters_of (procedure_of p f)) x }
+    ensures main { (p : Program) → IsSound p → (x : Access)
+        → All p accesses p.main.body x → Allowed (main_of p) (parameters_of (main_of p)) x }
+{}
+
+/// A value depends only on places that reads of its sections may touch, and a statement of one step
+/// writes no place but those that its own_accesses accesses may write.
+pub fn steps_keep_to_their_own_accesses<X>()
+    ensures number { (env : Environment) (l : ℕ) (read other : Place → ℤ) (e : Number)
+        → ((q : Place) → Touches env (λ x. Member x (reads l (indexed e))) q → read q ≡ other q)
+        → number env read e ≡ number env other e }
+    ensures truth { (env : Environment) (l : ℕ) (read other : Place → ℤ) (t : Truth)
+        → ((q : Place) → Touches env (λ x. Member x (reads l (indexed_truth t))) q → read q ≡ other q)
+        → truth env read t ≡ truth env other t }
+    ensures written { (p : Program) (l : ℕ) (q : Place) (s : Primitive) (st : State X)
+        → (Overwrites st.environment (λ x. Member x (own_accesses l (Do s))) q → ⊥)
+        → (primitive p l s st).store q ≡ st.store q }
+{}
+
+/// The environment of `main` fits at its start, and it stays so: in the block of a split, behind
+/// it, and in the body of a call. Only the windows in scope matter.
+pub fn environments_fit()
+    ensures start { (p : Program) → IsSoundIn p (main_of p)
+        → Fits p (main_of p) (parameters_of (main_of p)) (entry [] (whole_arrays 0 p.arrays)) }
+    ensures inside_split { (p : Program) (g : Procedure) (scope : List ℕ) (env : Environment)
+        → Fits p g scope env → (s l r : ℕ) → SplitsWell g scope s l r
+        → (v : ℤ) (ws : Window × Window) → sides_of (env.windows s) v ≡ Some ws
+        → Fits p g (l ∷ r ∷ scope) (with_sides l r ws env) }
+    ensures behind_split { (p : Program) (g : Procedure) (scope : List ℕ) (env : Environment)
+        → Fits p g scope env → (s l r : ℕ) → SplitsWell g scope s l r
+        → (ws : Window × Window) → Fits p g scope (with_sides l r ws env) }
+    ensures in_call { (p : Program) (g : Procedure) (scope : List ℕ) (env : Environment)
+        → IsNumbered g.sections → Fits p g scope env
+        → (f : Procedure) → IsSoundIn p f
+        → (values : List ℤ) (ss : List ℕ) → PassesWell g scope f.parameters ss
+        → Fits p f (parameters_of f) (entry values (map env.windows ss)) }
+    ensures same { (p : Program) (g : Procedure) (scope : List ℕ) (env other : Environment)
+        → Fits p g scope env
+        → ((s : ℕ) → Member s scope → env.windows s ≡ other.windows s)
+        → Fits p g scope other }
+{}
+
+/// A run of work whose names follow the rules leaves the windows in scope as they are, under any
+/// rules that leave windows alone, such as those of one thread.
+pub fn runs_keep_windows<X>()
+    ensures run { (p : Program) (r : Rules X) → KeepsWindows r
+        → (g : Procedure) (w : Work) (scope : List ℕ) → WorkFollows p g scope w
+        → (st : State X) → SameWindows scope st.environment (run p r w st).environment }
+    ensures fits { (p : Program) (r : Rules X) → KeepsWindows r
+        → (g : Procedure) (w : Work) (scope : List ℕ) → WorkFollows p g scope w
+        → (st : State X) → Fits p g scope st.environment
+        → Fits p g scope (run p r w st).environment }
+    ensures one_thread { (p : Program) (fresh nest : ℕ) → KeepsWindows (one_rules p fresh nest) }
+{}
+
+/// Beside the reads in its own_accesses arguments, a call may touch and write what the body may in the
+/// environment in which it begins, place for place; and what it leaves pending is what that does.
+pub fn calls_keep_footprints()
+    ensures reads { (p : Program) → IsSound p
+        → (env : Environment) (l f : ℕ) (es : List Number) (ss : List ℕ) (values : List ℤ)
+        → length ss ≡ length (procedure_of p f).parameters → (q : Place)
+        → MayTouchOf p env l (Call f es ss) q
+        ↔ (Touches env (λ x. Member x (own_accesses l (Call f es ss))) q
+        ⊎ MayTouch p (entry values (map env.windows ss)) (procedure_of p f).body q) }
+    ensures writes { (p : Program) → IsSound p
+        → (env : Environment) (l f : ℕ) (es : List Number) (ss : List ℕ) (values : List ℤ)
+        → length ss ≡ length (procedure_of p f).parameters → (q : Place)
+        → MayWriteOf p env l (Call f es ss) q
+        ↔ MayWrite p (entry values (map env.windows ss)) (procedure_of p f).body q }
+    ensures pending_reads { (p : Program) → IsSound p
+        → (env : Environment) (f : ℕ) (es : List Number) (ss : List ℕ) (values : List ℤ)
+        → length ss ≡ length (procedure_of p f).parameters → (q : Place)
+        → MayStillTouchOf p env (Call f es ss) q
+        ↔ MayStillTouch p (entry values (map env.windows ss)) (procedure_of p f).body q }
+    ensures pending_writes { (p : Program) → IsSound p
+        → (env : Environment) (f : ℕ) (es : List Number) (ss : List ℕ) (values : List ℤ)
+        → length ss ≡ length (procedure_of p f).parameters → (q : Place)
+        → MayStillWriteOf p env (Call f es ss) q
+        ↔ MayStillWrite p (entry values (map env.windows ss)) (procedure_of p f).body q }
+{}
+
+/// What the block of a split may do in its environment, the split may do in the one around it.
+pub fn splits_keep_footprints()
+    ensures reads { (p : Program) (env : Environment) (label s l r : ℕ) (e : Number) (b : Codes)
+        → (v : ℤ) (ws : Window × Window) → sides_of (env.windows s) v ≡ Some ws → (q : Place)
+        → MayTouch p (with_sides l r ws env) b q → MayTouchOf p env label (Split s e l r b) q }
+    ensures writes { (p : Program) (env : Environment) (label s l r : ℕ) (e : Number) (b : Codes)
+        → (v : ℤ) (ws : Window × Window) → sides_of (env.windows s) v ≡ Some ws → (q : Place)
+        → MayWrite p (with_sides l r ws env) b q → MayWriteOf p env label (Split s e l r b) q }
+    ensures pending_reads { (p : Program) (env : Environment) (s l r : ℕ) (e : Number) (b : Codes)
+        → (v : ℤ) (ws : Window × Window) → sides_of (env.windows s) v ≡ Some ws → (q : Place)
+        → MayStillTouch p (with_sides l r ws env) b q
+        → MayStillTouchOf p env (Split s e l r b) q }
+    ensures pending_writes { (p : Program) (env : Environment) (s l r : ℕ) (e : Number) (b : Codes)
+        → (v : ℤ) (ws : Window × Window) → sides_of (env.windows s) v ≡ Some ws → (q : Place)
+        → MayStillWrite p (with_sides l r ws env) b q
+        → MayStillWriteOf p env (Split s e l r b) q }
+{}

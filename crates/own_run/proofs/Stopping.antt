@@ -1,0 +1,174 @@
+-- A task is stopped by its budget, and by a stopped task that its finish gathers; by nothing else.
+use Rattle.std.proofs.lemmas.Option.{none-some, same_Some}
+use Rattle.std.proofs.Common.{◌≡◌, ℕ, zero, suc, ◌+◌, List, [], ◌∷◌, length, Option, Some, None, Ok, Err, refl, sym, ap, ◌∙◌, subst}
+use Rattle.std.specs.Prelude.{Bool, true, false, ◌||◌, ok_or, if◌then◌else◌}
+use Rattle.types.specs.declared.fault.FaultKind.TheVariants.{SplitPoint}
+use Rattle.types.specs.Code.{Primitive, Skip, Assign, Store, Print, Raise, Code, Do, If, While, Split, Call, Async, Finish}
+use Rattle.types.specs.Code.{Codes, End, Then, Program}
+use Rattle.sections.specs.Place.{Place, sides_of}
+use Rattle.types.specs.Value.{Valued, element_of, holds_number}
+use Rattle.types.specs.Run.{Flow, On, Faulted, Stopped, Fault, State, Rules, with_value, put, print, assign, primitive}
+use Rattle.types.specs.Run.{number_at, numbers_at, truth_at, window_at, array_of}
+use Rattle.types.specs.Meaning.{after_finish}
+use Rattle.effects.specs.Needs.{Needs}
+use Rattle.own_run.specs.Places.{Places, within, meets}
+use Rattle.own_run.specs.Apart.{is_stopped}
+use Rattle.own_run.specs.Results.{Listed, TaskResult, Settled, none_yet, fill, complete}
+use Rattle.own_run.specs.OwnRun.{Own, own_rules, begin_own, result_of}
+use Rattle.own_run.specs.Frames.{Frame, Rest, Again, AtEnd, Back, Standing, by_value, chosen, paid, by_flow, turn, handed}
+use Rattle.own_run.specs.Stops.{is_none, is_over, is_next_over, stops, some_halted}
+use Rattle.std.proofs.Math.Bool.{or-false}
+use Rattle.own_run.proofs.SettledResults.{unless_none, gives}
+use Rattle.own_run.specs.Settling.{same_path, behind, take, fill_all, settle_within, none_left, settle}
+
+or_assoc : (a b c : Bool) → ((a || b) || c) ≡ (a || (b || c))
+or_assoc true b c = refl
+or_assoc false b c = refl
+
+or_turned : (a b c : Bool) → (a || (b || c)) ≡ (b || (a || c))
+or_turned true true c = refl
+or_turned true false c = refl
+or_turned false b c = refl
+
+-- ---- a turn
+module _ (p : Program) (needs : Codes → Needs) (nest : ℕ) (close : State Own → Option Settled) where
+  abbrev r : Rules Own
+  r = own_rules needs nest close
+
+  -- the task isn't stopped
+  abbrev Goes : State Own → Type 0
+  Goes st = is_stopped st.flow ≡ false
+
+  value_goes : {A : Type 0} (l : ℕ) (v : Valued A) (go : A → State Own → State Own) (st : State Own)
+      → ((a : A) → Goes (go a st)) → Goes (with_value l v go st)
+  value_goes l (Ok a) go st h = h a
+  value_goes l (Err f) go st h = refl
+
+  put_goes : (l : ℕ) (fits : Bool) (q : Place) (v : _) (st : State Own) → Goes st → Goes (put l fits q v st)
+  put_goes l true q v st on = on
+  put_goes l false q v st on = refl
+
+  primitive_goes : (l : ℕ) (s : Primitive) (st : State Own) → Goes st → Goes (primitive p l s st)
+  primitive_goes l Skip st on = on
+  primitive_goes l (Assign x e) st on = value_goes l (number_at st e) (assign x) st (λ v. on)
+  primitive_goes l (Store s i e) st on =
+      value_goes l (number_at st i) _ st (λ at. value_goes l (number_at st e) _ st (λ v.
+      value_goes l (element_of (window_at st s) at) _ st (λ q.
+      put_goes l (holds_number (array_of p q.array).element v) q v st on)))
+  primitive_goes l (Print es) st on = value_goes l (numbers_at st es) print st (λ vs. on)
+  primitive_goes l (Raise e) st on = value_goes l (number_at st e) _ st (λ v. refl)
+
+  -- the same of a standing
+  by_value_goes : {A : Type 0} (l : ℕ) (v : Valued A) (go : A → Standing Own) (fs : List (Frame Own)) (st : State Own)
+      → ((a : A) → Goes (go a).state) → Goes (by_value l v go fs st).state
+  by_value_goes l (Ok a) go fs st h = h a
+  by_value_goes l (Err f) go fs st h = refl
+
+  chosen_goes : (v : Bool) (fs gs : List (Frame Own)) (st : State Own) → Goes st → Goes (chosen v fs gs st).state
+  chosen_goes true fs gs st on = on
+  chosen_goes false fs gs st on = on
+
+  begin_stops : (m : ℕ) (b : Codes) (st : State Own) → is_stopped (begin_own needs m b st).flow ≡ is_none m
+  begin_stops zero b st = refl
+  begin_stops (suc m) b st = refl
+
+  paid_stops : (n l : ℕ) (s : Code) (fs : List (Frame Own)) (st : State Own) → Goes st
+      → is_stopped (paid p r n l s fs st).state.flow ≡ is_over nest n s
+  paid_stops zero l s fs st on = refl
+  paid_stops (suc n) l (Do s) fs st on = primitive_goes l s _ on
+  paid_stops (suc n) l (If t b c) fs st on = by_value_goes l (truth_at st t) _ fs _ (λ v. chosen_goes v _ _ _ on)
+  paid_stops (suc n) l (While t b) fs st on = by_value_goes l (truth_at st t) _ fs _ (λ v. chosen_goes v _ _ _ on)
+  paid_stops (suc n) l (Split s e x y b) fs st on =
+      by_value_goes l (number_at st e) _ fs _ (λ v.
+      by_value_goes l (ok_or (sides_of (window_at st s) v) SplitPoint) _ fs _ (λ ws. on))
+  paid_stops (suc n) l (Call f es ss) fs st on = by_value_goes l (numbers_at st es) _ fs _ (λ vs. on)
+  paid_stops (suc n) l (Async b) fs st on = begin_stops nest b (record st { steps = n })
+  paid_stops (suc n) l (Finish b) fs st on = on
+
+  flow_stops : (f : Flow) (l : ℕ) (s : Code) (fs below : List (Frame Own)) (st : State Own) → st.flow ≡ f
+      → is_stopped (by_flow p r f l s fs below st).state.flow ≡ (is_stopped f || is_next_over nest f st.steps s)
+  flow_stops On l s fs below st e = paid_stops st.steps l s fs st (ap is_stopped e)
+  flow_stops Faulted l s fs below st e = ap is_stopped e
+  flow_stops Stopped l s fs below st e = ap is_stopped e
+
+  -- a turn stops a task exactly where what it does next is over the budget
+  pub turn_stops : (f : Frame Own) (fs : List (Frame Own)) (st : State Own)
+      → is_stopped (turn p r f fs st).state.flow ≡ (is_stopped st.flow || stops nest f st)
+  turn_stops (Rest End) fs st = sym (or-false (is_stopped st.flow))
+  turn_stops (Rest (Then l s rest)) fs st = flow_stops st.flow l s (Rest rest ∷ fs) fs st refl
+  turn_stops (Again l t b) fs st = flow_stops st.flow l (While t b) fs fs st refl
+  turn_stops (AtEnd before) fs st = sym (or-false (is_stopped st.flow))
+  turn_stops (Back env) fs st = sym (or-false (is_stopped st.flow))
+
+-- ---- what is gathered
+take_halted : (path : List ℕ) (rs : List TaskResult) (found : TaskResult × List TaskResult) → take path rs ≡ Some found
+    → some_halted rs ≡ (found.0.halted || some_halted found.1)
+take_halted path [] found e = absurd (none-some _ e)
+take_halted path (r ∷ rs) found e = by_path (take_halted path rs) (same_path r.path path) e
+  where
+    later : ((f : TaskResult × List TaskResult) → take path rs ≡ Some f → some_halted rs ≡ (f.0.halted || some_halted f.1))
+        → (o : Option (TaskResult × List TaskResult)) → take path rs ≡ o → behind r o ≡ Some found
+        → (r.halted || some_halted rs) ≡ (found.0.halted || some_halted found.1)
+    later rec None w q = absurd (none-some _ q)
+    later rec (Some f) w q =
+        let i : (f.0, r ∷ f.1) ≡ found = same_Some _ _ q in
+        subst (λ (f : TaskResult × List TaskResult). (r.halted || some_halted rs) ≡ (f.0.halted || some_halted f.1)) i
+        (ap (λ h. r.halted || h) (rec f w) ∙ or_turned r.halted f.0.halted (some_halted f.1))
+
+    by_path : ((f : TaskResult × List TaskResult) → take path rs ≡ Some f → some_halted rs ≡ (f.0.halted || some_halted f.1))
+        → (b : Bool) → (if b then Some (r, rs) else behind r (take path rs)) ≡ Some found
+        → (r.halted || some_halted rs) ≡ (found.0.halted || some_halted found.1)
+    by_path rec true q =
+        let i : (r, rs) ≡ found = same_Some _ _ q in
+        subst (λ (f : TaskResult × List TaskResult). (r.halted || some_halted rs) ≡ (f.0.halted || some_halted f.1)) i refl
+    by_path rec false q = later rec (take path rs) refl q
+
+-- a task was stopped, or one whose result is left
+abbrev either_halted : Settled × List TaskResult → Bool
+either_halted x = x.0.halted || some_halted x.1
+
+fill_halted : (deeper : TaskResult → List TaskResult → Option (Settled × List TaskResult))
+    → ((r : TaskResult) (rs : List TaskResult) (x : Settled × List TaskResult) → deeper r rs ≡ Some x
+    → either_halted x ≡ (r.halted || some_halted rs))
+    → (owned : Places) (cs : List Listed) (so_far : Settled) (rs : List TaskResult) (x : Settled × List TaskResult)
+    → fill_all deeper owned cs so_far rs ≡ Some x → either_halted x ≡ (so_far.halted || some_halted rs)
+fill_halted deeper h owned [] so_far rs x e =
+    let i : (so_far, rs) ≡ x = same_Some _ _ e in
+    subst (λ (x : Settled × List TaskResult). either_halted x ≡ (so_far.halted || some_halted rs)) i refl
+fill_halted deeper h owned (c ∷ cs) so_far rs x e =
+    let g = gives (take c.path rs) _ x (unless_none (meets owned c.windows) _ e) in
+    let f = gives (deeper g.one.0 g.one.1) _ x g.next in
+    fill_halted deeper h (λ q. owned q || within c.windows q) cs (fill c f.one.0 so_far) f.one.1 x f.next
+    ∙ or_assoc so_far.halted f.one.0.halted (some_halted f.one.1)
+    ∙ ap (λ b. so_far.halted || b) (h g.one.0 g.one.1 f.one f.first ∙ sym (take_halted c.path rs g.one g.first))
+
+within_halted : (k : ℕ) (r : TaskResult) (rs : List TaskResult) (x : Settled × List TaskResult)
+    → settle_within k r rs ≡ Some x → either_halted x ≡ (r.halted || some_halted rs)
+within_halted zero r rs x e = absurd (none-some _ e)
+within_halted (suc k) r rs x e =
+    let g = gives (fill_all (settle_within k) r.owned r.children none_yet rs) _ x e in
+    let i : (complete r g.one.0, g.one.1) ≡ x = same_Some _ _ g.next in
+    subst (λ (x : Settled × List TaskResult). either_halted x ≡ (r.halted || some_halted rs)) i
+    (or_assoc r.halted g.one.0.halted (some_halted g.one.1)
+    ∙ ap (λ b. r.halted || b) (fill_halted (settle_within k) (within_halted k) r.owned r.children none_yet rs g.one g.first))
+
+left_halted : (x : Settled × List TaskResult) (y : Settled) → none_left x ≡ Some y → y.halted ≡ either_halted x
+left_halted (s, []) y e = ap (λ (s : Settled). s.halted) (sym (same_Some _ _ e)) ∙ sym (or-false s.halted)
+left_halted (s, r ∷ rs) y e = absurd (none-some _ e)
+
+-- what comes of results was stopped exactly where one of them was
+pub settle_halted : (r : TaskResult) (rs : List TaskResult) (x : Settled) → settle r rs ≡ Some x
+    → x.halted ≡ (r.halted || some_halted rs)
+settle_halted r rs x e =
+    let g = gives (settle_within (length rs + 1) r rs) none_left x e in
+    left_halted g.one x g.next ∙ within_halted (length rs + 1) r rs g.one g.first
+
+flow_halted : (h : Bool) (faults : List Fault) → is_stopped (if h then Stopped else after_finish On faults) ≡ h
+flow_halted true faults = refl
+flow_halted false [] = refl
+flow_halted false (f ∷ faults) = refl
+
+-- a finish stops its owner exactly where it was stopped, or one of the tasks that it gathers
+pub finish_stops : (before st : State Own) (rs : List TaskResult) (x : Settled) → settle (result_of st) rs ≡ Some x
+    → is_stopped (handed before x st).flow ≡ (is_stopped st.flow || some_halted rs)
+finish_stops before st rs x e = flow_halted x.halted x.faults ∙ settle_halted (result_of st) rs x e

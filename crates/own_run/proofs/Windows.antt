@@ -1,0 +1,221 @@
+-- Windows as sets of places: of elements, of sides, of sections.
+use Rattle.std.proofs.lemmas.Option.{none-some, same_Some}
+use Rattle.std.proofs.Common.{◌≡◌, ℕ, zero, suc, ◌+◌, ◌-◌, ◌<◌, List, [], ◌∷◌, length, Option, Some, None, Ok, Err, refl, sym, ap, ◌∙◌}
+use Rattle.std.proofs.Common.{subst, inl, inr, arith}
+use Rattle.std.proofs.lemmas.Bool.{ltb-true, leb-true, eqb-true, eqb-false, lt-ltb, le-leb, eq-eqb, and_from, or_left, or_right}
+use Rattle.std.specs.Prelude.{ℤ, pos, negsuc, ◌⊎◌, ◌≢◌, Bool, true, false, ◌||◌, nat_eq, nat_lt, nat_le, ok_or, map, slice_index_or}
+use Rattle.std.specs.Prelude.{if◌then◌else◌}
+use Rattle.types.specs.declared.fault.FaultKind.{FaultKind}
+use Rattle.types.specs.declared.fault.FaultKind.TheVariants.{Index, SplitPoint}
+use Rattle.sections.specs.Place.{Place, Window, In, nowhere, sides_of, same_place}
+use Rattle.types.specs.Value.{Environment, Valued, element_of}
+use Rattle.types.specs.Run.{bind, with_sides}
+use Rattle.sections.specs.Member.{Member, first, next}
+use Rattle.effects.proofs.Members.{false_true, both_true, either_true}
+use Rattle.own_run.specs.Places.{covered, named}
+use Rattle.effects.specs.Effects.{past_split, past_call}
+use Rattle.race_checker.specs.Scope.{Scope, Top, Inside, InScope, FitsScope, FitsTop}
+
+-- ---- tests
+pub either_way : (b : Bool) → (b ≡ true) ⊎ (b ≡ false)
+either_way true = inl refl
+either_way false = inr refl
+
+-- ---- the test of a window
+pub covered_in : (w : Window) (q : Place) → covered w q ≡ true → In w q
+covered_in w q h =
+    let a = both_true (nat_eq q.array w.array) _ h in
+    let b = both_true (nat_le w.at q.index) _ a.1 in
+    record {
+      array = eqb-true q.array w.array a.0;
+      low = leb-true w.at q.index b.0;
+      high = ltb-true q.index (w.at + w.length) b.1;
+    }
+
+pub in_covered : (w : Window) (q : Place) → In w q → covered w q ≡ true
+in_covered w q h =
+    and_from (nat_eq q.array w.array) _ (eq-eqb q.array w.array h.array)
+    (and_from (nat_le w.at q.index) _ (le-leb w.at q.index h.low) (lt-ltb q.index (w.at + w.length) h.high))
+
+-- a section of a list whose window has the place
+pub record Names (env : Environment) (ss : List ℕ) (q : Place) : Type 0 where
+  pub section : ℕ
+  pub listed : Member section ss
+  pub place : In (env.windows section) q
+
+pub named_some : (env : Environment) (ss : List ℕ) (q : Place) → named env ss q ≡ true → Names env ss q
+named_some env [] q h = absurd (false_true h)
+named_some env (s ∷ ss) q h = elim (either_true (covered (env.windows s) q) _ h) as (λ _. Names env (s ∷ ss) q) [
+  | inl y ↦ record { section = s; listed = first; place = covered_in (env.windows s) q y }
+  | inr n ↦
+      let k = named_some env ss q n in
+      record { section = k.section; listed = next k.listed; place = k.place }
+]
+
+pub some_named : (env : Environment) (ss : List ℕ) (s : ℕ) (q : Place) → Member s ss → In (env.windows s) q
+    → named env ss q ≡ true
+some_named env [] s q m i = elim m [ ]
+some_named env (t ∷ ss) s q first i = or_left (covered (env.windows s) q) _ (in_covered (env.windows s) q i)
+some_named env (t ∷ ss) s q (next m) i = or_right (covered (env.windows t) q) _ (some_named env ss s q m i)
+
+-- ---- elements and sides
+not_ok : {A : Type 0} {f : FaultKind} {x : A} → Err f ≡ Ok x → ⊥
+not_ok {A} e = subst Fails e tt
+  where
+    Fails : Valued A → Type 0
+    Fails (Err f) = Unit {0}
+    Fails (Ok x) = ⊥
+
+abbrev good : {A : Type 0} → A → Valued A
+good x = Ok x
+
+ok_same : {A : Type 0} {x y : A} → good x ≡ good y → x ≡ y
+ok_same {A} {x} e = ap or_x e
+  where
+    or_x : Valued A → A
+    or_x (Ok y) = y
+    or_x (Err f) = x
+
+-- an element's place is in its window
+pub element_in : (w : Window) (v : ℤ) (q : Place) → element_of w v ≡ Ok q → In w q
+element_in w (negsuc n) q e = absurd (not_ok e)
+element_in w (pos n) q e = by_test (nat_lt n w.length) refl e
+  where
+    here : Place
+    here = record { array = w.array; index = w.at + n }
+
+    by_test : (b : Bool) → nat_lt n w.length ≡ b → ok_or (if b then Some here else None) Index ≡ Ok q → In w q
+    by_test true t e =
+        subst (In w) (ok_same e) (let lt = ltb-true n w.length t in record { array = refl; low = omega arith; high = omega (arith, lt) })
+    by_test false t e = absurd (not_ok e)
+
+pub sides_some : (o : Option (Window × Window)) (ws : Window × Window) → ok_or o SplitPoint ≡ Ok ws → o ≡ Some ws
+sides_some None ws e = absurd (not_ok e)
+sides_some (Some v) ws e = ap Some (ok_same e)
+
+-- both sides of a window lie in it
+pub sides_in : (w : Window) (v : ℤ) (l r : Window) → sides_of w v ≡ Some (l, r) → (q : Place) → (In l q → In w q) × (In r q → In w q)
+sides_in w (negsuc n) l r e q = absurd (none-some _ e)
+sides_in w (pos n) l r e q = by_test (nat_le n w.length) refl e
+  where
+    both : Window × Window
+    both = (record w { length = n }, record w { at = w.at + n; length = w.length - n })
+
+    by_test : (b : Bool) → nat_le n w.length ≡ b → (if b then Some both else None) ≡ Some (l, r) → (In l q → In w q) × (In r q → In w q)
+    by_test true t e =
+        let k : both ≡ (l, r) = same_Some _ _ e in
+        let le = leb-true n w.length t in (
+          (λ i. let j : In both.0 q = subst (λ ws. In ws.0 q) (sym k) i in let h =
+              j.high in record { array = j.array; low = j.low; high = omega (arith, h, le) }),
+          (λ i. let j : In both.1 q = subst (λ ws. In ws.1 q) (sym k) i in let h = j.high in let g =
+              j.low in record { array = j.array; low = omega (arith, g); high = omega (arith, h, le) }),
+        )
+    by_test false t e = absurd (none-some _ e)
+
+-- nothing is nowhere
+pub not_nowhere : (q : Place) → In nowhere q → ⊥
+not_nowhere q i = let h = i.high in let l = i.low in omega (arith, h, l)
+
+-- two places that are the same
+pub places_same : (p q : Place) → same_place p q ≡ true → p ≡ q
+places_same p q h =
+    let k = both_true (nat_eq p.array q.array) _ h in
+    ap (λ a. record p { array = a }) (eqb-true p.array q.array k.0) ∙ ap (λ i. record q { index = i }) (eqb-true p.index q.index k.1)
+
+-- ---- the sections of a split, seen from around it
+pub split_in : (s x y : ℕ) (v w : Window) (f : ℕ → Window) (q : Place) → (In v q → In (f s) q) → (In w q → In (f s) q)
+    → (z : ℕ) → In (bind x v (bind y w f) z) q → In (f (past_split s x y z)) q
+split_in s x y v w f q g h z i = by_tests (nat_eq x z) (nat_eq y z) i
+  where
+    by_tests : (a b : Bool) → In (if a then v else (if b then w else f z)) q → In (f (if a || b then s else z)) q
+    by_tests true b i = g i
+    by_tests false true i = h i
+    by_tests false false i = i
+
+-- the sections of a call, seen from around it
+pub call_in : (f : ℕ → Window) (q : Place) (ss : List ℕ) (k : ℕ) → In (slice_index_or (map f ss) k nowhere) q → In (f (past_call ss k)) q
+call_in f q [] k i = absurd (not_nowhere q i)
+call_in f q (s ∷ ss) zero i = i
+call_in f q (s ∷ ss) (suc k) i = call_in f q ss k i
+
+pub passed_same : (f g : ℕ → Window) (ss : List ℕ) (k : ℕ) → f (past_call ss k) ≡ g (past_call ss k)
+    → slice_index_or (map f ss) k nowhere ≡ slice_index_or (map g ss) k nowhere
+passed_same f g [] k e = refl
+passed_same f g (s ∷ ss) zero e = e
+passed_same f g (s ∷ ss) (suc k) e = passed_same f g ss k e
+
+-- ---- windows that agree where it matters
+pub bind_other : {A : Type 0} (x : ℕ) (v : A) (f : ℕ → A) (z : ℕ) → (z ≡ x → ⊥) → bind x v f z ≡ f z
+bind_other {A} x v f z n = by_test (nat_eq x z) refl
+  where
+    by_test : (b : Bool) → nat_eq x z ≡ b → (if b then v else f z) ≡ f z
+    by_test true e = absurd (n (sym (eqb-true x z e)))
+    by_test false e = refl
+
+pub bind_here : {A : Type 0} (x : ℕ) (v : A) (f : ℕ → A) → bind x v f x ≡ v
+bind_here {A} x v f = ap (λ b. if b then v else f x) (eq-eqb x x refl)
+
+pub fits_top : (ms : List Bool) (env new : Environment) → ((s : ℕ) → s < length ms → new.windows s ≡ env.windows s) → FitsTop ms env
+    → FitsTop ms new
+fits_top ms env new e h j k may lt ne q a b =
+    h j k may lt ne q (subst (λ w. In w q) (e j (below j ms may)) a) (subst (λ w. In w q) (e k lt) b)
+  where
+    below : (j : ℕ) (ms : List Bool) → slice_index_or ms j false ≡ true → j < length ms
+    below j [] h = absurd (false_true h)
+    below zero (m ∷ ms) h = omega arith
+    below (suc j) (m ∷ ms) h = let k = below j ms h in omega (arith, k)
+
+-- what fits does so by the windows in scope alone
+pub fits_same : (sc : Scope) (env new : Environment) → ((s : ℕ) → InScope sc s → new.windows s ≡ env.windows s) → FitsScope sc env
+    → FitsScope sc new
+fits_same (Top ms) env new e h = fits_top ms env new e h
+fits_same (Inside s x y around) env new e h = (
+  fits_same around env new (λ z i. e z (inr (inr i))) h.0,
+  h.1,
+  (
+    h.2.0,
+    ap (λ w. sides_of w h.2.0) (e s (inr (inr h.1)))
+        ∙ h.2.1
+        ∙ ap (λ w. Some (w, env.windows y)) (sym (e x (inl refl)))
+        ∙ ap (λ w. Some (new.windows x, w)) (sym (e y (inr (inl refl)))),
+  ),
+)
+
+-- around a split's body its sides are out of scope
+pub around_split : (sc : Scope) (x y : ℕ) (ws : Window × Window) (env : Environment) → (InScope sc x → ⊥) → (InScope sc y → ⊥)
+    → (z : ℕ) → InScope sc z → (with_sides x y ws env).windows z ≡ env.windows z
+around_split sc x y ws env nx ny z i =
+    bind_other x ws.0 (bind y ws.1 env.windows) z (λ e. nx (subst (InScope sc) e i))
+    ∙ bind_other y ws.1 env.windows z (λ e. ny (subst (InScope sc) e i))
+
+-- what fits does so within a split
+pub fits_split : (sc : Scope) (s x y : ℕ) (v : ℤ) (ws : Window × Window) (env : Environment) → InScope sc s → (InScope sc x → ⊥)
+    → (InScope sc y → ⊥) → x ≢ y → sides_of (env.windows s) v ≡ Some ws → FitsScope sc env
+    → FitsScope (Inside s x y sc) (with_sides x y ws env)
+fits_split sc s x y v ws env is nx ny ne e h =
+    let new = with_sides x y ws env in (
+      fits_same sc env new (around_split sc x y ws env nx ny) h,
+      is,
+      (
+        v,
+        ap (λ w. sides_of w v) (around_split sc x y ws env nx ny s is)
+            ∙ e
+            ∙ ap (λ w. Some (w, ws.1)) (sym (bind_here x ws.0 (bind y ws.1 env.windows)))
+            ∙ ap (λ w. Some (new.windows x, w))
+            (sym (bind_other x ws.0 (bind y ws.1 env.windows) y (λ e. ne (sym e)) ∙ bind_here y ws.1 env.windows)),
+      ),
+    )
+
+-- two environments that agree on a section agree on it within a split, and do so on the sides
+pub split_agree : (x y : ℕ) (ws : Window × Window) (f g : ℕ → Window) (z : ℕ) → (z ≡ x) ⊎ (z ≡ y) ⊎ (f z ≡ g z)
+    → bind x ws.0 (bind y ws.1 f) z ≡ bind x ws.0 (bind y ws.1 g) z
+split_agree x y ws f g z h = by_tests (nat_eq x z) (nat_eq y z) refl refl
+  where
+    by_tests : (a b : Bool) → nat_eq x z ≡ a → nat_eq y z ≡ b
+        → (if a then ws.0 else (if b then ws.1 else f z)) ≡ (if a then ws.0 else (if b then ws.1 else g z))
+    by_tests true b e k = refl
+    by_tests false true e k = refl
+    by_tests false false e k = elim h as (λ _. f z ≡ g z) [
+      | inl m ↦ absurd (eqb-false x z e (sym m))
+      | inr n ↦ elim n as (λ _. f z ≡ g z) [ inl m ↦ absurd (eqb-false y z k (sym m)) | inr m ↦ m ]
+    ]

@@ -1,0 +1,266 @@
+-- A task's own run: its asyncs are listed with what each is given, and their results are put in later.
+use Rattle.std.specs.Prelude.{ℕ, zero, suc, ◌+◌, ◌≡◌, List, [], ◌∷◌, ◌++◌, map, flat_map, ℤ, Bool}
+use Rattle.std.specs.Prelude.{true, false, not, ◌&&◌, ◌||◌, Option, Some, None, slice_get}
+use Rattle.std.specs.Prelude.{if◌then◌else◌}
+use Rattle.types.specs.Code.{Codes, Program}
+use Rattle.types.specs.Contents.{Contents, held_by, shown}
+use Rattle.types.specs.Value.{Environment}
+use Rattle.types.specs.Run.{Flow, On, Stopped, State, Rules, Block, stopped, run, entry}
+use Rattle.types.specs.Meaning.{hushed, after_finish}
+use Rattle.types.specs.Outcome.{Outcome, outcome_by, whole_arrays}
+use Rattle.effects.specs.Needs.{Needs}
+use Rattle.own_run.specs.Places.{written, touched, Places, within, only, without}
+use Rattle.own_run.specs.Apart.{nothing, is_stopped, halts, merged, apart}
+use Rattle.own_run.specs.Results.{Listed, TaskResult, Settled, none_yet, fill, complete, and_then}
+use Rattle.own_run.specs.Settling.{settle}
+
+-- what a task starts with, but for its steps
+pub record Start : Type 0 where
+  pub body : Codes
+  pub environment : Environment
+  -- what it may read, and where it may write
+  pub contents : Contents
+  pub owned : Places
+  -- how many asyncs may stand inside one another in it
+  pub nest : ℕ
+  pub path : List ℕ
+
+-- a task that was begun, and what its parent keeps of it
+pub record Child : Type 0 where
+  pub start : Start
+  pub listed : Listed
+
+-- what a task does, as others see it
+pub data Action : Type 0 where
+  Step : Action
+  Spawn : Start → Action
+  EnterFinish : Action
+  EndFinish : Action
+  EndTask : Action
+
+-- what an own run keeps beside
+pub record Own : Type 0 where
+  -- the tasks begun in the innermost open finish
+  pub pending : List Child
+  -- how many finishes have ended
+  pub ended : ℕ
+  pub actions : List Action
+  -- where it may write
+  pub owned : Places
+  -- it stands at the end of a finish, and what came of it isn't there
+  pub waits : Bool
+
+-- at the beginning
+abbrev pub at_first : Places → Own
+at_first owned = record { pending = []; ended = 0; actions = []; owned = owned; waits = false }
+
+-- notes an action
+abbrev pub notes : Action → Own → Own
+notes a x = record x { actions = x.actions ++ a ∷ [] }
+
+-- it waits, for good
+abbrev pub is_waiting : State Own → Bool
+is_waiting st = is_stopped st.flow && st.extra.waits
+
+-- what a task has made since its innermost open finish began, or since its own beginning
+abbrev pub result_of : State Own → TaskResult
+result_of st = record {
+  path = st.path;
+  halted = is_stopped st.flow;
+  contents = st.store;
+  owned = st.extra.owned;
+  lines = st.lines;
+  faults = st.faults;
+  children = map (λ c. c.listed) st.extra.pending;
+}
+
+-- the child of an async, with so much nest
+abbrev pub child_of : Needs → (nest : ℕ) → Codes → State Own → Child
+child_of n nest b st =
+    let path = st.path ++ (st.spawned + 1) ∷ [] in
+    record {
+      start = record {
+        body = b;
+        environment = st.environment;
+        contents = only (touched st.environment n) st.store;
+        owned = written st.environment n;
+        nest = nest;
+        path = path;
+      };
+      listed = record {
+        path = path;
+        windows = map st.environment.windows n.writes;
+        lines = st.lines;
+        faults = st.faults;
+      };
+    }
+
+-- the parent goes on without what the child may write, and behind a hole
+abbrev pub list_child : Needs → (nest : ℕ) → Codes → State Own → State Own
+list_child n nest b st =
+    let c = child_of n nest b st in
+    record (hushed st) {
+      flow = On;
+      store = without (written st.environment n) st.store;
+      spawned = st.spawned + 1;
+      extra = notes (Spawn c.start) (record st.extra {
+        pending = st.extra.pending ++ c ∷ [];
+        owned = λ q. st.extra.owned q && not (within c.listed.windows q);
+      });
+    }
+
+-- with no nest left, the task is stopped
+abbrev pub begin_own : (Codes → Needs) → (nest : ℕ) → Codes → State Own → State Own
+begin_own needs zero b st = stopped st
+begin_own needs (suc n) b st = list_child (needs b) n b st
+
+-- the places that come back from those that it lists
+abbrev pub back_from : List Child → Places
+back_from [] q = false
+back_from (c ∷ cs) q = within c.listed.windows q || back_from cs q
+
+-- whether a task goes on behind a finish
+abbrev pub flow_after : Settled → Flow
+flow_after s = if s.halted then Stopped else after_finish On s.faults
+
+-- it goes on behind the finish with what came of it
+abbrev pub go_on_with : (before out : State Own) → Settled → State Own
+go_on_with before out s = record out {
+  flow = flow_after s;
+  store = s.contents;
+  lines = before.lines ++ s.lines;
+  faults = before.faults ++ s.faults;
+  extra = record out.extra {
+    pending = before.extra.pending;
+    ended = out.extra.ended + 1;
+    owned = λ q. out.extra.owned q || back_from out.extra.pending q;
+  };
+}
+
+-- it waits where nothing is there to go on with
+abbrev pub leave_with : (before out : State Own) → Option Settled → State Own
+leave_with before out None =
+    record out { flow = Stopped; extra = record out.extra { waits = true } }
+leave_with before out (Some s) = go_on_with before out s
+
+-- the end of a finish is noted, and it goes on or waits
+abbrev pub leave_own : (State Own → Option Settled) → (before out : State Own) → State Own
+leave_own close before out =
+    if is_waiting out then out
+    else leave_with before (record out { extra = notes EndFinish out.extra }) (close out)
+
+-- the rules of a task by itself, where `close` says what came of a finish at whose end it stands
+abbrev pub own_rules : (Codes → Needs) → (nest : ℕ) → (close : State Own → Option Settled)
+    → Rules Own
+own_rules needs nest close = record {
+  stepped = notes Step;
+  begin = begin_own needs nest;
+  enter = λ st. record (hushed st) { extra = notes EnterFinish (record st.extra { pending = [] }) };
+  leave = leave_own close;
+}
+
+-- a task at its beginning
+abbrev pub beginning : {X : Type 0} → X → (fresh : ℕ) → Start → State X
+beginning x fresh s = record {
+  flow = On;
+  environment = s.environment;
+  store = s.contents;
+  lines = [];
+  faults = [];
+  steps = fresh;
+  path = s.path;
+  spawned = 0;
+  extra = x;
+}
+
+-- the end of a task is the last action; that of the root is the end of `main`'s finish
+abbrev pub last_action : List ℕ → Action
+last_action [] = EndFinish
+last_action (k ∷ path) = EndTask
+
+-- what a task does, one after the other, as far as its run goes
+abbrev pub actions_of : State Own → List Action
+actions_of st =
+    if is_waiting st then st.extra.actions else st.extra.actions ++ last_action st.path ∷ []
+
+-- those that it began
+abbrev pub begun_by : List Action → List Start
+begun_by [] = []
+begun_by (Spawn s ∷ rest) = s ∷ begun_by rest
+begun_by (Step ∷ rest) = begun_by rest
+begun_by (EnterFinish ∷ rest) = begun_by rest
+begun_by (EndFinish ∷ rest) = begun_by rest
+begun_by (EndTask ∷ rest) = begun_by rest
+
+-- the k-th of them, from 1
+abbrev pub kth : ℕ → List Start → Option Start
+kth zero ss = None
+kth (suc k) ss = slice_get ss k
+
+-- what the receipt of a finish settles to; none where it isn't there, or not of this finish
+abbrev pub from_receipts : List (List TaskResult) → State Own → Option Settled
+from_receipts receipts st = and_then (slice_get receipts st.extra.ended) (settle (result_of st))
+
+module _ (p : Program) (needs : Codes → Needs) (fresh : ℕ) where
+  -- the own run of a task, by what is handed over at the end of each finish
+  abbrev pub own_run : (State Own → Option Settled) → Start → State Own
+  own_run close s =
+      run p (own_rules needs s.nest close) (Block s.body) (beginning (at_first s.owned) fresh s)
+
+  -- the same by receipts, as far as they go
+  abbrev pub run_by : List (List TaskResult) → Start → State Own
+  run_by receipts = own_run (from_receipts receipts)
+
+  -- the next action of a task that has these receipts and has done so many; none where it waits
+  abbrev pub next_action : (receipts : List (List TaskResult)) → (done : ℕ) → Start → Option Action
+  next_action receipts done s = slice_get (actions_of (run_by receipts s)) done
+
+  -- what comes of a start
+  abbrev pub comes_to : Start → Settled
+  comes_to s =
+      let out = apart p needs fresh s.nest (Block s.body) (beginning nothing fresh s) in
+      record { halted = halts out; contents = merged out; lines = out.lines; faults = out.faults }
+
+  -- holes filled with what comes of each
+  abbrev pub filled : List Child → Settled → Settled
+  filled [] so_far = so_far
+  filled (c ∷ cs) so_far = filled cs (fill c.listed (comes_to c.start) so_far)
+
+  -- what really came of a finish
+  abbrev pub in_truth : State Own → Option Settled
+  in_truth st = Some (complete (result_of st) (filled st.extra.pending none_yet))
+
+  -- the own run of a task, where each finish goes on with what really came of it
+  abbrev pub own : Start → State Own
+  own = own_run in_truth
+
+  -- what the task of a path starts with, below one with this start
+  abbrev pub given : Start → List ℕ → Option Start
+  given s [] = Some s
+  given s (k ∷ path) = and_then (kth k (begun_by (own s).extra.actions)) (λ c. given c path)
+
+  -- a result is what its task has at the end of its own run
+  abbrev pub IsOwn : Start → TaskResult → Type 0
+  IsOwn root r = (s : Start) → given root r.path ≡ Some s → r ≡ result_of (own s)
+
+  -- the results of all tasks below one, where no more than so many stand inside one another
+  abbrev pub below : (nest : ℕ) → Start → List TaskResult
+  below zero s = []
+  below (suc n) s = flat_map (λ c. result_of (own c.start) ∷ below n c.start) (own s).extra.pending
+
+-- what the root starts with
+abbrev pub root_of : Program → (input : List (List ℤ)) → (nest : ℕ) → Start
+root_of p input nest = record {
+  body = p.main.body;
+  environment = entry [] (whole_arrays 0 p.arrays);
+  contents = held_by input;
+  owned = within (whole_arrays 0 p.arrays);
+  nest = nest;
+  path = [];
+}
+
+-- what is told of a run, once all has come
+abbrev pub told_of : Program → Settled → Outcome
+told_of p s =
+    outcome_by (flow_after s)
+    (record { arrays = shown p.arrays s.contents; lines = s.lines; faults = s.faults })

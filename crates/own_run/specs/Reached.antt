@@ -1,0 +1,66 @@
+-- How far the tasks of a run come: turn by turn, in any order, with results of own runs.
+use Rattle.std.specs.Prelude.{◌≡◌, ℕ, List, [], ◌∷◌, Some}
+use Rattle.types.specs.Code.{Code, While, Async, Codes, Then, Program}
+use Rattle.types.specs.Run.{State}
+use Rattle.sections.specs.Member.{Member}
+use Rattle.effects.specs.Needs.{Needs}
+use Rattle.own_run.specs.Results.{TaskResult, Settled}
+use Rattle.own_run.specs.OwnRun.{Start, Child, Own, at_first, beginning, result_of, own_rules}
+use Rattle.own_run.specs.OwnRun.{in_truth, IsOwn}
+use Rattle.own_run.specs.Frames.{Frame, Rest, Again, AtEnd, Standing, turn, handed}
+use Rattle.own_run.specs.Holds.{HasOwn, HasNeeds}
+use Rattle.own_run.specs.Settling.{settle}
+use Rattle.own_run.specs.Lists.{Each}
+
+-- a task at its beginning
+abbrev pub begun : (fresh : ℕ) → Start → Standing Own
+begun fresh s = record { frames = Rest s.body ∷ []; state = beginning (at_first s.owned) fresh s }
+
+module _ (p : Program) (needs : Codes → Needs) (fresh : ℕ) (root : Start) where
+  -- a task that started so may come to stand so
+  pub data Reached : Start → Standing Own → Type 0 where
+    root_begins : Reached root (begun fresh root)
+    -- a child of a task that is there
+    child_begins : {s : Start} {t : Standing Own} {c : Child} → Reached s t
+        → Member c t.state.extra.pending
+        → Reached c.start (begun fresh c.start)
+    turns : {s : Start} {f : Frame Own} {fs : List (Frame Own)} {st : State Own}
+        → Reached s (record { frames = f ∷ fs; state = st })
+        → Reached s (turn p (own_rules needs s.nest (in_truth p needs fresh)) f fs st)
+    -- the end of a finish, where results of own runs settle, in whatever order they came
+    leaves : {s : Start} {before : State Own} {fs : List (Frame Own)} {st : State Own} {x : Settled}
+        (rs : List TaskResult)
+        → Reached s (record { frames = AtEnd before ∷ fs; state = st })
+        → Each (IsOwn p needs fresh root) rs → settle (result_of st) rs ≡ Some x
+        → Reached s (record { frames = fs; state = handed before x st })
+
+  -- the result of a task that came to its end
+  pub record IsResult (r : TaskResult) : Type 0 where
+    pub start : Start
+    pub state : State Own
+    pub ended : Reached start (record { frames = []; state = state })
+    pub is : r ≡ result_of state
+
+  -- results of own runs settle what a task has made so far
+  pub record CanSettle (st : State Own) : Type 0 where
+    pub results : List TaskResult
+    pub owns : Each (IsOwn p needs fresh root) results
+    pub comes : Settled
+    pub settles : settle (result_of st) results ≡ Some comes
+
+  -- a task that started so can come to its end
+  pub record CanEnd (s : Start) : Type 0 where
+    pub state : State Own
+    pub ended : Reached s (record { frames = []; state = state })
+
+module _ (needs : Codes → Needs) (st : State Own) where
+  -- an async has what its body needs
+  abbrev pub HasNeedsOf : Code → Type 0
+  HasNeedsOf (Async b) = HasNeeds st (needs b)
+  HasNeedsOf _ = Unit {0}
+
+  -- what may run next has what it touches
+  abbrev pub HasNext : List (Frame Own) → Type 0
+  HasNext (Rest (Then l s rest) ∷ fs) = HasOwn st l s × HasNeedsOf s
+  HasNext (Again l t b ∷ fs) = HasOwn st l (While t b)
+  HasNext _ = Unit {0}

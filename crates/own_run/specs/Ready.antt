@@ -1,0 +1,37 @@
+-- What may run next, by what is around it.
+use Rattle.std.specs.Prelude.{ℕ}
+use Rattle.types.specs.Code.{Code, Codes, Program}
+use Rattle.sections.specs.Place.{Place}
+use Rattle.types.specs.Contents.{Contents}
+use Rattle.types.specs.Value.{Environment}
+use Rattle.effects.specs.Accesses.{Access, own_accesses}
+use Rattle.sections.specs.Member.{Member}
+use Rattle.effects.specs.Effects.{AllOf, All, PendingOf, Pending, accesses}
+use Rattle.effects.specs.Footprint.{Touches, Overwrites}
+use Rattle.effects.specs.Needs.{Needs, ProvidesOf, ProvidesIn}
+use Rattle.race_checker.specs.Scope.{Scope, InScope, FitsScope, ScopedOf, Scoped}
+use Rattle.race_checker.specs.Calm.{CalmOf, Calm}
+
+-- what stays fixed along a block
+pub record Around : Type 1 where
+  pub scope : Scope
+  -- the windows of the sections in scope
+  pub env : Environment
+  -- the contents that one thread began with, and where it may have written since
+  pub base : Contents
+  pub wrote : Place → Type 0
+  -- where both runs have the same
+  pub held : Place → Type 0
+
+module _ (p : Program) (needs : Codes → Needs) where
+  -- a block may run next: within what is around, off what is locked; `final` is locked afterwards
+  pub record Ready (x : Around) (locked final : Place → Type 0) (b : Codes) : Type 0 where
+    pub fits : FitsScope x.scope x.env
+    pub scoped : Scoped p x.scope b
+    pub calm : Calm p x.scope b
+    pub provided : ProvidesIn p needs b
+    pub free : (q : Place) → Touches x.env (All p accesses b) q → locked q → ⊥
+    pub held : (q : Place) → Touches x.env (All p accesses b) q → x.held q
+    pub wrote : (q : Place) → Overwrites x.env (All p accesses b) q → x.wrote q
+    pub kept : (q : Place) → locked q → final q
+    pub added : (q : Place) → Overwrites x.env (Pending p accesses b) q → final q

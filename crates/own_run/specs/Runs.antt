@@ -1,0 +1,46 @@
+-- The tasks of a program's run on an input and under a budget, with the needs that are computed.
+use Rattle.std.specs.Prelude.{ℤ, List}
+use Rattle.types.specs.Code.{Program}
+use Rattle.types.specs.Outcome.{Budget}
+use Rattle.effects.specs.Rounds.{needs_of}
+use Rattle.own_run.specs.Results.{TaskResult, Settled}
+use Rattle.own_run.specs.OwnRun.{Start, Own, result_of, own, comes_to, below, IsOwn, root_of}
+use Rattle.own_run.specs.Frames.{Standing}
+use Rattle.own_run.specs.Reached.{Reached, IsResult, CanSettle, CanEnd}
+
+module _ (p : Program) (input : List (List ℤ)) (b : Budget) where
+  -- what the root starts with
+  abbrev pub root : Start
+  root = root_of p input b.nest
+
+  -- what the root has at the end of its own run
+  abbrev pub root_result : TaskResult
+  root_result = result_of (own p (needs_of p) b.steps root)
+
+  -- what comes of the root once all is put in
+  abbrev pub root_comes_to : Settled
+  root_comes_to = comes_to p (needs_of p) b.steps root
+
+  -- the results of all tasks below the root
+  abbrev pub all_results : List TaskResult
+  all_results = below p (needs_of p) b.steps b.nest root
+
+  -- a result is what the task of its path has at the end of its own run
+  abbrev pub IsOwnResult : TaskResult → Type 0
+  IsOwnResult = IsOwn p (needs_of p) b.steps root
+
+  -- a task that started so may come to stand so
+  abbrev pub MayStand : Start → Standing Own → Type 0
+  MayStand = Reached p (needs_of p) b.steps root
+
+  -- the result of a task that came to its end
+  abbrev pub IsTaskResult : TaskResult → Type 0
+  IsTaskResult = IsResult p (needs_of p) b.steps root
+
+  -- results of own runs settle what a task has made so far
+  abbrev pub MayGoOn : Standing Own → Type 0
+  MayGoOn t = CanSettle p (needs_of p) b.steps root t.state
+
+  -- a task that started so can come to its end
+  abbrev pub MayEnd : Start → Type 0
+  MayEnd = CanEnd p (needs_of p) b.steps root

@@ -1,0 +1,240 @@
+//! Laws of the definitions, each the contract of a function that does nothing.
+
+ghost use Rattle.std.specs.Prelude.{◌≡◌, ◌||◌, ℕ, ℤ, List, [], ◌∷◌, ◌++◌, Option, Some, true, false, length};
+ghost use Rattle.types.specs.Code.{Truth, Code, While, Async, Codes, Then, Program};
+ghost use Rattle.types.specs.Contents.{FitsArrays};
+ghost use Rattle.types.specs.Outcome.{Budget, outcome};
+ghost use Rattle.types.specs.Run.{State};
+ghost use Rattle.effects.specs.Sound.{IsSound};
+ghost use Rattle.effects.specs.Needs.{Needs, Provides};
+ghost use Rattle.effects.specs.Rounds.{needs_of};
+ghost use Rattle.race_checker.specs.Clash.{IsAccepted};
+ghost use Rattle.race_checker.specs.Scope.{IsScoped};
+ghost use Rattle.race_checker.specs.Calm.{IsCalm};
+ghost use Rattle.own_run.specs.Apart.{apart_outcome, is_stopped};
+ghost use Rattle.own_run.specs.Results.{TaskResult, Settled};
+ghost use Rattle.own_run.specs.OwnRun.{Start, Own, at_first, beginning, result_of, own, given};
+ghost use Rattle.own_run.specs.OwnRun.{own_rules, in_truth, comes_to, below, IsOwn, root_of, told_of};
+ghost use Rattle.own_run.specs.OwnRun.{next_action, last_action, Action, EndFinish, is_waiting, run_by};
+ghost use Rattle.own_run.specs.Frames.{Frame, Rest, Again, AtEnd, Standing, turn, handed, Fine, FineBelow};
+ghost use Rattle.own_run.specs.Frames.{IsTrue, IsTask, Follows, done_in};
+ghost use Rattle.own_run.specs.Holds.{MayBegin, Holds, HasOwn, HasNeeds};
+ghost use Rattle.own_run.specs.Stops.{stops, some_halted};
+ghost use Rattle.own_run.specs.Reached.{HasNext};
+ghost use Rattle.own_run.specs.Runs.{root, root_result, root_comes_to, all_results, IsOwnResult};
+ghost use Rattle.own_run.specs.Runs.{MayStand, IsTaskResult, MayGoOn, MayEnd};
+ghost use Rattle.own_run.specs.Settling.{settle, IsParted};
+ghost use Rattle.own_run.specs.Lists.{Each, Shuffled};
+
+/// Of a sound and accepted program: tasks apart come to the one-thread outcome; results of own runs
+/// that settle, in whatever order they stand, are told as it; and the results of all tasks, each
+/// once and in whatever order, do settle where the input fits, to what comes of the root.
+pub fn accepted_programs_come_to_one_outcome()
+    ensures apart { (p : Program) → IsSound p → IsAccepted p
+        → (input : List (List ℤ)) (b : Budget)
+        → apart_outcome p (needs_of p) input b ≡ outcome p input b }
+    ensures told { (p : Program) → IsSound p → IsAccepted p
+        → (input : List (List ℤ)) (b : Budget) (rs : List TaskResult) (s : Settled)
+        → Each (IsOwnResult p input b) rs → settle (root_result p input b) rs ≡ Some s
+        → told_of p s ≡ outcome p input b }
+    ensures settles { (p : Program) → IsSound p → IsAccepted p
+        → (input : List (List ℤ)) (b : Budget) → FitsArrays p.arrays input
+        → (rs : List TaskResult) → Shuffled (all_results p input b) rs
+        → settle (root_result p input b) rs ≡ Some (root_comes_to p input b) }
+{}
+
+/// No task of a sound and accepted program ever misses a place: wherever it may come to stand, what
+/// runs next has what it touches, an async has what its body needs, and no place comes back that is
+/// owned. At its end its result is that of its own run, so that what the results of any tasks
+/// settle to is told as the one-thread outcome.
+pub fn tasks_of_accepted_programs_miss_no_place()
+    ensures next { (p : Program) → IsSound p → IsAccepted p
+        → (input : List (List ℤ)) (b : Budget) → FitsArrays p.arrays input
+        → (s : Start) (t : Standing Own) → MayStand p input b s t
+        → HasNext (needs_of p) t.state t.frames }
+    ensures parted { (p : Program) → IsSound p → IsAccepted p
+        → (input : List (List ℤ)) (b : Budget) → FitsArrays p.arrays input
+        → (s : Start) (t : Standing Own) → MayStand p input b s t
+        → IsParted (result_of t.state) }
+    ensures own { (p : Program) → IsSound p → IsAccepted p
+        → (input : List (List ℤ)) (b : Budget) → FitsArrays p.arrays input
+        → (r : TaskResult) → IsTaskResult p input b r → IsOwnResult p input b r }
+    ensures told { (p : Program) → IsSound p → IsAccepted p
+        → (input : List (List ℤ)) (b : Budget) → FitsArrays p.arrays input
+        → (st : State Own)
+        → MayStand p input b (root p input b) (record { frames = []; state = st })
+        → (rs : List TaskResult) (s : Settled) → Each (IsTaskResult p input b) rs
+        → settle (result_of st) rs ≡ Some s → told_of p s ≡ outcome p input b }
+{}
+
+/// No task of a sound and accepted program is ever stuck: wherever it may come to stand, results of
+/// own runs settle what it has made so far, as at the end of a finish; and it can come to its end.
+pub fn tasks_of_accepted_programs_are_never_stuck()
+    ensures settles { (p : Program) → IsSound p → IsAccepted p
+        → (input : List (List ℤ)) (b : Budget) → FitsArrays p.arrays input
+        → (s : Start) (t : Standing Own) → MayStand p input b s t → MayGoOn p input b t }
+    ensures ends { (p : Program) → IsSound p → IsAccepted p
+        → (input : List (List ℤ)) (b : Budget) → FitsArrays p.arrays input
+        → (s : Start) (t : Standing Own) → MayStand p input b s t → MayEnd p input b s }
+{}
+
+/// A task that may begin has a result that is settled where the results of all tasks below it are
+/// there, each once and in whatever order. Results of own runs settle any given task's result to
+/// nothing else, and only where they are those.
+pub fn results_settle()
+    ensures complete { (p : Program) (needs : Codes → Needs) (fresh : ℕ) (root s : Start)
+        → IsScoped p → IsCalm p → Provides p needs
+        → given p needs fresh root s.path ≡ Some s → MayBegin p needs s
+        → (rs : List TaskResult) → Shuffled (below p needs fresh s.nest s) rs
+        → settle (result_of (own p needs fresh s)) rs ≡ Some (comes_to p needs fresh s) }
+    ensures sound { (p : Program) (needs : Codes → Needs) (fresh : ℕ) (root s : Start)
+        → (rs : List TaskResult) (x : Settled) → given p needs fresh root s.path ≡ Some s
+        → Each (IsOwn p needs fresh root) rs
+        → settle (result_of (own p needs fresh s)) rs ≡ Some x → x ≡ comes_to p needs fresh s }
+    ensures exact { (p : Program) (needs : Codes → Needs) (fresh : ℕ) (root s : Start)
+        → (rs : List TaskResult) (x : Settled) → given p needs fresh root s.path ≡ Some s
+        → Each (IsOwn p needs fresh root) rs
+        → settle (result_of (own p needs fresh s)) rs ≡ Some x
+        → Shuffled (below p needs fresh s.nest s) rs }
+{}
+
+/// From its beginning to its end, turn by turn, a task is its own run: what it lists is given its
+/// start, with results of own runs it goes on, and its result is that of its own run.
+pub fn tasks_are_own_runs()
+    ensures begins { (p : Program) (needs : Codes → Needs) (fresh : ℕ) (root s : Start)
+        → given p needs fresh root s.path ≡ Some s
+        → IsTask p needs fresh root s
+        (record { frames = Rest s.body ∷ []; state = beginning (at_first s.owned) fresh s }) }
+    ensures turns { (p : Program) (needs : Codes → Needs) (fresh : ℕ) (root s : Start)
+        → (f : Frame Own) (fs : List (Frame Own)) (st : State Own)
+        → IsTask p needs fresh root s (record { frames = f ∷ fs; state = st })
+        → IsTask p needs fresh root s (turn p (own_rules needs s.nest (in_truth p needs fresh)) f fs st) }
+    ensures lists { (p : Program) (needs : Codes → Needs) (fresh : ℕ) (root s : Start)
+        → (fs : List (Frame Own)) (st : State Own)
+        → IsTask p needs fresh root s (record { frames = fs; state = st })
+        → Each (IsTrue p needs fresh root) st.extra.pending }
+    ensures leaves { (p : Program) (needs : Codes → Needs) (fresh : ℕ) (root s : Start)
+        → (rs : List TaskResult) → Each (IsOwn p needs fresh root) rs
+        → (before : State Own) (fs : List (Frame Own)) (st : State Own)
+        → IsTask p needs fresh root s (record { frames = AtEnd before ∷ fs; state = st })
+        → (x : Settled) → settle (result_of st) rs ≡ Some x
+        → IsTask p needs fresh root s (record { frames = fs; state = handed before x st }) }
+    ensures ends { (p : Program) (needs : Codes → Needs) (fresh : ℕ) (root s : Start)
+        → (st : State Own) → IsTask p needs fresh root s (record { frames = []; state = st })
+        → IsOwn p needs fresh root (result_of st) }
+{}
+
+/// For all later receipts the own run of a task's start is what it has so far, followed by the own
+/// run of what remains: so at its beginning, after each turn, and after each receipt.
+pub fn tasks_follow_their_receipts()
+    ensures begins { (p : Program) (needs : Codes → Needs) (fresh : ℕ) (root s : Start)
+        → Follows p needs fresh root s []
+        (record { frames = Rest s.body ∷ []; state = beginning (at_first s.owned) fresh s }) }
+    ensures turns { (p : Program) (needs : Codes → Needs) (fresh : ℕ) (root s : Start)
+        → (taken : List (List TaskResult)) (f : Frame Own) (fs : List (Frame Own)) (st : State Own)
+        → Fine s.nest st → FineBelow s.nest st (f ∷ fs)
+        → Follows p needs fresh root s taken (record { frames = f ∷ fs; state = st })
+        → Follows p needs fresh root s taken
+        (turn p (own_rules needs s.nest (in_truth p needs fresh)) f fs st) }
+    ensures leaves { (p : Program) (needs : Codes → Needs) (fresh : ℕ) (root s : Start)
+        → (taken : List (List TaskResult)) (receipt : List TaskResult)
+        → (before : State Own) (fs : List (Frame Own)) (st : State Own) (x : Settled)
+        → st.extra.waits ≡ false → settle (result_of st) receipt ≡ Some x
+        → Follows p needs fresh root s taken (record { frames = AtEnd before ∷ fs; state = st })
+        → Follows p needs fresh root s (taken ++ receipt ∷ [])
+        (record { frames = fs; state = handed before x st }) }
+{}
+
+/// A turn adds what it does to a task's actions, and these are the first of its own run's; at the
+/// end of a finish of which it has no receipt a task waits.
+pub fn turns_are_actions()
+    ensures adds { (p : Program) (needs : Codes → Needs) (fresh : ℕ) (s : Start)
+        → (f : Frame Own) (fs : List (Frame Own)) (st : State Own)
+        → (turn p (own_rules needs s.nest (in_truth p needs fresh)) f fs st).state.extra.actions
+        ≡ st.extra.actions ++ done_in needs s.nest f st }
+    ensures firsts { (p : Program) (needs : Codes → Needs) (fresh : ℕ) (root s : Start)
+        → (fs : List (Frame Own)) (st : State Own)
+        → IsTask p needs fresh root s (record { frames = fs; state = st })
+        → (rest : List Action) × ((own p needs fresh s).extra.actions ≡ st.extra.actions ++ rest) }
+    ensures waits { (p : Program) (needs : Codes → Needs) (fresh : ℕ) (root s : Start)
+        → (taken : List (List TaskResult)) (before : State Own) (fs : List (Frame Own)) (st : State Own)
+        → st.extra.waits ≡ false
+        → Follows p needs fresh root s taken (record { frames = AtEnd before ∷ fs; state = st })
+        → (is_waiting (run_by p needs fresh taken s) ≡ true)
+        × ((run_by p needs fresh taken s).extra.actions ≡ st.extra.actions ++ EndFinish ∷ []) }
+{}
+
+/// The next action of a task, by its receipts and the number of actions done, is what its next turn
+/// does that does something; at the end of a finish, or at its own, it is that end.
+pub fn turns_do_the_next_action()
+    ensures done { (p : Program) (needs : Codes → Needs) (fresh : ℕ) (root s : Start)
+        → (taken : List (List TaskResult)) (f : Frame Own) (fs : List (Frame Own)) (st : State Own)
+        → (a : Action) → Fine s.nest st → FineBelow s.nest st (f ∷ fs)
+        → Follows p needs fresh root s taken (record { frames = f ∷ fs; state = st })
+        → done_in needs s.nest f st ≡ a ∷ []
+        → next_action p needs fresh taken (length st.extra.actions) s ≡ Some a }
+    ensures finish { (p : Program) (needs : Codes → Needs) (fresh : ℕ) (root s : Start)
+        → (taken : List (List TaskResult)) (before : State Own) (fs : List (Frame Own)) (st : State Own)
+        → st.extra.waits ≡ false
+        → Follows p needs fresh root s taken (record { frames = AtEnd before ∷ fs; state = st })
+        → next_action p needs fresh taken (length st.extra.actions) s ≡ Some EndFinish }
+    ensures end { (p : Program) (needs : Codes → Needs) (fresh : ℕ) (root s : Start)
+        → (taken : List (List TaskResult)) (st : State Own) → st.extra.waits ≡ false
+        → Follows p needs fresh root s taken (record { frames = []; state = st })
+        → next_action p needs fresh taken (length st.extra.actions) s ≡ Some (last_action st.path) }
+{}
+
+/// A task always has what it touches: at its beginning, after each turn, and after each finish. So
+/// no place is ever missing, and none is written that it doesn't own.
+pub fn tasks_have_what_they_touch()
+    ensures root { (p : Program) (needs : Codes → Needs) (input : List (List ℤ)) (nest : ℕ)
+        → IsScoped p → IsCalm p → Provides p needs
+        → FitsArrays p.arrays input → MayBegin p needs (root_of p input nest) }
+    ensures begins { (p : Program) (needs : Codes → Needs) (fresh : ℕ) (s : Start)
+        → MayBegin p needs s → Holds p needs
+        (record { frames = Rest s.body ∷ []; state = beginning (at_first s.owned) fresh s }) }
+    ensures turns { (p : Program) (needs : Codes → Needs) (fresh : ℕ) (s : Start)
+        → IsScoped p → IsCalm p → Provides p needs
+        → (f : Frame Own) (fs : List (Frame Own)) (st : State Own)
+        → Holds p needs (record { frames = f ∷ fs; state = st })
+        → Holds p needs (turn p (own_rules needs s.nest (in_truth p needs fresh)) f fs st) }
+    ensures leaves { (p : Program) (needs : Codes → Needs) (fresh : ℕ) (root s : Start)
+        → IsScoped p → IsCalm p → Provides p needs
+        → (rs : List TaskResult) → Each (IsOwn p needs fresh root) rs
+        → (before : State Own) (fs : List (Frame Own)) (st : State Own)
+        → IsTask p needs fresh root s (record { frames = AtEnd before ∷ fs; state = st })
+        → Holds p needs (record { frames = AtEnd before ∷ fs; state = st })
+        → (x : Settled) → settle (result_of st) rs ≡ Some x
+        → Holds p needs (record { frames = fs; state = handed before x st }) }
+    ensures first { (p : Program) (needs : Codes → Needs) (fresh : ℕ) (s : Start)
+        → IsScoped p → IsCalm p → Provides p needs
+        → (l : ℕ) (c : Code) (rest : Codes) (fs : List (Frame Own)) (st : State Own)
+        → Holds p needs (record { frames = Rest (Then l c rest) ∷ fs; state = st })
+        → HasOwn st l c }
+    ensures again { (p : Program) (needs : Codes → Needs) (fresh : ℕ) (s : Start)
+        → IsScoped p → IsCalm p → Provides p needs
+        → (l : ℕ) (t : Truth) (b : Codes) (fs : List (Frame Own)) (st : State Own)
+        → Holds p needs (record { frames = Again l t b ∷ fs; state = st })
+        → HasOwn st l (While t b) }
+    ensures needed { (p : Program) (needs : Codes → Needs) (fresh : ℕ) (s : Start)
+        → IsScoped p → IsCalm p → Provides p needs
+        → (l : ℕ) (b rest : Codes) (fs : List (Frame Own)) (st : State Own)
+        → Holds p needs (record { frames = Rest (Then l (Async b) rest) ∷ fs; state = st })
+        → HasNeeds st (needs b) }
+    ensures parted { (p : Program) (needs : Codes → Needs) (fs : List (Frame Own)) (st : State Own)
+        → Holds p needs (record { frames = fs; state = st }) → IsParted (result_of st) }
+{}
+
+/// A turn stops a task exactly where what it does next is over the budget: it wants a step and none
+/// is left, or is an async with no nest left. A finish stops its owner exactly where that was
+/// stopped, or one of the tasks whose results it gathers. Nothing else stops a task.
+pub fn tasks_stop_over_the_budget()
+    ensures turn { (p : Program) (needs : Codes → Needs) (nest : ℕ)
+        → (close : State Own → Option Settled)
+        → (f : Frame Own) (fs : List (Frame Own)) (st : State Own)
+        → is_stopped (turn p (own_rules needs nest close) f fs st).state.flow
+        ≡ (is_stopped st.flow || stops nest f st) }
+    ensures finish { (before st : State Own) (rs : List TaskResult) (x : Settled)
+        → settle (result_of st) rs ≡ Some x
+        → is_stopped (handed before x st).flow ≡ (is_stopped st.flow || some_halted rs) }
+{}

@@ -1,0 +1,5 @@
+//! Tasks that run apart, and what they come to.
+
+#![tactic(auto)]
+
+pub mod laws;

@@ -1,0 +1,5 @@
+//! Which statements of a program, and which of its accesses, may run together.
+
+#![tactic(auto)]
+
+pub mod laws;

@@ -1,0 +1,140 @@
+-- From names to places: in a sound and accepted program, what is pending keeps apart from what is done later.
+use Rattle.std.proofs.Common.{◌≡◌, ◌⊎◌, inl, inr, ℕ, ◌<◌, List, [], length, refl, sym, ◌∙◌, subst, arith}
+use Rattle.std.specs.Prelude.{Bool, true, false, ◌||◌, map, slice_get, Some}
+use Rattle.sections.specs.Origins.{Root}
+use Rattle.types.specs.Code.{Code, Do, If, While, Split, Call, Async, Finish, Codes, End, Then, Procedure, Program}
+use Rattle.sections.specs.Place.{Place, In, nowhere}
+use Rattle.types.specs.Value.{Environment}
+use Rattle.types.specs.Run.{entry, procedure_of}
+use Rattle.sections.specs.Member.{Member}
+use Rattle.effects.specs.Accesses.{Access, own_accesses}
+use Rattle.effects.specs.Effects.{past_call, accesses, AllOf, All, PendingOf}
+use Rattle.sections.specs.Origins.{IsNumbered}
+use Rattle.sections.specs.Overlap.{overlap}
+use Rattle.effects.specs.Sound.{may_write, is_writable, Allowed, PassesWell, Follows, FollowsOf, IsSound, main_of}
+use Rattle.sections.specs.Placed.{Apart, Placed}
+use Rattle.effects.specs.Fits.{names_in}
+use Rattle.effects.proofs.Members.{left_true, right_true}
+use Rattle.sections.proofs.Windows.{disjoint-apart}
+use Rattle.effects.proofs.AccessesInScope.{allowed, allowed_of, pending_of_all}
+use Rattle.effects.proofs.EnvironmentsFit.{by_number-map}
+use Rattle.parallel_relation.specs.Together.{Block, Together}
+use Rattle.race_checker.specs.Clash.{Clash, IsAccepted}
+use Rattle.race_checker.specs.Scope.{Scope, Top, FitsScope, FitsTop, may_writes, Lists, top, inside}
+use Rattle.race_checker.specs.Calm.{AlwaysApart, Calm, CalmOf, IsCalm}
+use Rattle.race_checker.proofs.Scoping.{length_may_writes, bits, bit_inside, fits_placed, arrays_written}
+
+module _ (p : Program) (sound : IsSound p) (g : Procedure) (numbered : IsNumbered g.sections)
+    (firsts : (k : ℕ) → k < length g.parameters → slice_get g.sections k ≡ Some Root) where
+  -- two accesses that don't clash, one of which writes, share no place
+  accesses_apart : (scope : List ℕ) (env : Environment) → Placed (names_in g scope) env.windows → (x y : Access)
+      → Allowed g scope x → Allowed g scope y → (x.write ≡ true) ⊎ (y.write ≡ true)
+      → (Clash g.sections x y → ⊥) → (q : Place) → In (env.windows x.section) q → In (env.windows y.section) q → ⊥
+  accesses_apart scope env placed x y a b w free q h k = by_test (overlap g.sections x.section y.section) refl
+    where
+      some_writes : (x.write ≡ true) ⊎ (y.write ≡ true) → (x.write || y.write) ≡ true
+      some_writes (inl w) = left_true x.write y.write w
+      some_writes (inr w) = right_true x.write y.write w
+
+      some_writable : (x.write ≡ true) ⊎ (y.write ≡ true)
+          → (is_writable g x.section ≡ true) ⊎ (is_writable g y.section ≡ true)
+      some_writable (inl w) = inl (a.writable w)
+      some_writable (inr w) = inr (b.writable w)
+
+      by_test : (o : Bool) → overlap g.sections x.section y.section ≡ o → ⊥
+      by_test true e = free (record { writes = some_writes w; overlap = e })
+      by_test false e =
+          disjoint-apart (names_in g scope) env.windows numbered placed x.section y.section a.in_scope b.in_scope e (some_writable w) q h k
+
+  -- sets of accesses that don't clash keep apart
+  keep_apart : {sc : Scope} {scope : List ℕ} → Lists g sc scope → (xs ys : Access → Type 0)
+      → ((x : Access) → xs x → Allowed g scope x) → ((y : Access) → ys y → Allowed g scope y)
+      → ((x y : Access) → xs x → ys y → Clash g.sections x y → ⊥) → AlwaysApart sc xs ys
+  keep_apart {scope = scope} ls xs ys f h free env fits = record {
+    writes_first = λ q w t.
+        accesses_apart scope env placed w.access t.access (f w.access w.among) (h t.access t.among) (inl w.writes)
+        (free w.access t.access w.among t.among) q w.place t.place;
+    writes_second = λ q t w.
+        accesses_apart scope env placed t.access w.access (f t.access t.among) (h w.access w.among) (inr w.writes)
+        (free t.access w.access t.among w.among) q t.place w.place;
+  }
+    where
+      placed : Placed (names_in g scope) env.windows
+      placed = fits_placed p g firsts ls env fits
+
+  -- a call passes windows that fit
+  passes : {sc : Scope} {scope : List ℕ} → Lists g sc scope → (f : Procedure) (ss : List ℕ)
+      → PassesWell g scope f.parameters ss → (env : Environment) → FitsScope sc env
+      → FitsTop (may_writes f) (entry [] (map env.windows ss))
+  passes {scope = scope} ls f ss k env fits i j may lt ne =
+      subst (λ v. Apart v (inner.windows j)) (sym (at_argument i inside_i))
+      (subst (λ v. Apart (env.windows (past_call ss i)) v) (sym (at_argument j inside_j))
+      (disjoint-apart (names_in g scope) env.windows numbered (fits_placed p g firsts ls env fits) (past_call ss i) (past_call ss j)
+      (k.in_scope i inside_i) (k.in_scope j inside_j) (k.alone i j ne inside_j w) (inl (k.writable i w))))
+    where
+      inner : Environment
+      inner = entry [] (map env.windows ss)
+
+      w : may_write f.parameters i ≡ true
+      w = sym (bits p g f.parameters i) ∙ may
+
+      is_argument : (n : ℕ) → n < length (may_writes f) → n < length ss
+      is_argument n lt =
+          let e : length ss ≡ length f.parameters = k.number in
+          let m : length (may_writes f) ≡ length f.parameters = length_may_writes f in
+          omega (arith, lt, e, m)
+
+      inside_i : i < length ss
+      inside_i = is_argument i (bit_inside p g (may_writes f) i may)
+
+      inside_j : j < length ss
+      inside_j = is_argument j lt
+
+      at_argument : (n : ℕ) → n < length ss → inner.windows n ≡ env.windows (past_call ss n)
+      at_argument n lt = by_number-map env.windows nowhere 0 ss n lt
+
+  abbrev NoClash : Codes → Type 0
+  NoClash b = (x y : Access) → Together p accesses b x y → Clash g.sections x y → ⊥
+
+  mutual
+    calm_of : {sc : Scope} {scope : List ℕ} → Lists g sc scope → (s : Code) (l : ℕ) (rest : Codes)
+        → ((x : Access) → Member x (own_accesses l s) → Allowed g scope x)
+        → FollowsOf p g scope s → NoClash (Then l s rest) → CalmOf p sc l s
+    calm_of ls (Do s) l rest o k h = tt
+    calm_of ls (If t b c) l rest o k h = (
+      calm ls b k.0 (λ x y r. h x y (Together.inside Block.if_body r)),
+      calm ls c k.1 (λ x y r. h x y (Together.inside Block.if_other r)),
+    )
+    calm_of {scope = scope} ls (While t b) l rest o k h = (
+      calm ls b k (λ x y r. h x y (Together.inside Block.while r)),
+      keep_apart ls (PendingOf p accesses (While t b)) (AllOf p accesses l (While t b))
+          (λ x r. allowed_of p sound (pending_of_all p r) g scope numbered o k)
+          (λ x r. allowed_of p sound r g scope numbered o k)
+          (λ x y r q. h x y (Together.turns r q)),
+    )
+    calm_of ls (Split s e x y b) l rest o k h = calm (inside k.0 ls) b k.1 (λ x y r. h x y (Together.inside Block.split r))
+    calm_of ls (Call f es ss) l rest o k h = passes ls (procedure_of p f) ss k
+    calm_of ls (Async b) l rest o k h = calm ls b k (λ x y r. h x y (Together.inside Block.async r))
+    calm_of ls (Finish b) l rest o k h = calm ls b k (λ x y r. h x y (Together.inside Block.finish r))
+
+    -- a list of statements without a clash is calm
+    pub calm : {sc : Scope} {scope : List ℕ} → Lists g sc scope → (b : Codes)
+        → Follows p g scope b → NoClash b → Calm p sc b
+    calm ls End k h = tt
+    calm {scope = scope} ls (Then l s rest) k h = (
+      calm_of ls s l rest k.0 k.1 h,
+      calm ls rest k.2 (λ x y r. h x y (Together.later r)),
+      keep_apart ls (PendingOf p accesses s) (All p accesses rest)
+          (λ x r. allowed_of p sound {l = l} (pending_of_all p r) g scope numbered k.0 k.1)
+          (λ x r. allowed p sound r g scope numbered k.2)
+          (λ x y r q. h x y (Together.follows r q)),
+    )
+
+-- a sound and accepted program is calm
+pub is_calm : (p : Program) → IsSound p → IsAccepted p → IsCalm p
+is_calm p sound accepted = record {
+  main = subst (λ ms. Calm p (Top ms) p.main.body) (arrays_written p)
+      (calm p sound (main_of p) sound.main.numbered sound.main.first top p.main.body sound.main.body accepted.main);
+  procedures = λ f. let g = sound.procedures f in
+      calm p sound (procedure_of p f) g.numbered g.first top (procedure_of p f).body g.body (accepted.procedures f);
+}

@@ -1,0 +1,291 @@
+-- Worked programs: their clashes, and three that are sound, of which two are accepted.
+use Rattle.std.proofs.Common.{◌≡◌, ◌≢◌, ℕ, zero, suc, ◌+◌, ◌-◌, ◌<◌, List, [], ◌∷◌, refl, sym, ap, ◌∙◌, arith, true≢false}
+use Rattle.std.specs.Prelude.{Bool, true, false, filter, slice_get, Some}
+use Rattle.syntax.specs.declared.tree.Relation.TheVariants.{Equal}
+use Rattle.types.specs.declared.code.Operator.TheVariants.{Times}
+use Rattle.types.specs.Code.{Element, Length, Chain, Link, Done, Compare, Store, Print, Do, If}
+use Rattle.sections.specs.Origins.{Origin, Root, Left, Right}
+use Rattle.types.specs.Code.{Call, Async, Finish, Codes, End, Then, Procedure, Program}
+use Rattle.types.specs.Run.{procedure_of, no_procedure}
+use Rattle.types.proofs.Programs.{◌⨾◌, lit, ints, main_of as program_of, two_arrays, twice, doubling, two_readers}
+use Rattle.sections.specs.Member.{Member, first, next}
+use Rattle.effects.specs.Accesses.{Access}
+use Rattle.effects.specs.Effects.{past_call, accesses}
+use Rattle.sections.specs.Origins.{origin_of, IsNumbered}
+use Rattle.sections.specs.Overlap.{overlap}
+use Rattle.effects.specs.Rounds.{summaries, pending_summaries}
+use Rattle.effects.specs.Sound.{may_write, is_writable, Allowed, SplitsWell, PassesWell, Follows, IsSoundIn, IsSound}
+use Rattle.effects.specs.Sound.{main_of}
+use Rattle.effects.proofs.EnvironmentsFit.{root_left, root_right, left_right, one_left, one_right}
+use Rattle.parallel_relation.specs.Meetings.{met_in}
+use Rattle.parallel_relation.proofs.Programs.{unfinished, two_splits, split_in_loop, spawner, call_then_store}
+use Rattle.parallel_relation.proofs.Programs.{readers_and_writer, copying}
+use Rattle.race_checker.specs.Clash.{IsAccepted}
+use Rattle.race_checker.specs.Acceptance.{is_clash, is_accepted}
+use Rattle.race_checker.proofs.Deciding.{accepted_exact}
+
+-- Clashes, as lists
+
+abbrev reads : ℕ → ℕ → Access
+reads l s = record { label = l; section = s; write = false }
+
+abbrev writes : ℕ → ℕ → Access
+writes l s = record { label = l; section = s; write = true }
+
+-- the clashes of a procedure
+abbrev clashes : Program → Procedure → List (Access × Access)
+clashes p g =
+    filter (is_clash g.sections) (met_in accesses (summaries p) (pending_summaries p) g.body)
+
+-- finish { async { a[0] = 7; } b[0] = 8; } print a[0], b[0];
+two_arrays_accepted : clashes two_arrays two_arrays.main ≡ []
+two_arrays_accepted = refl
+
+unfinished_races : clashes unfinished unfinished.main ≡ (writes 2 0, reads 4 0) ∷ []
+unfinished_races = refl
+
+two_splits_race : clashes two_splits two_splits.main ≡ (writes 5 1, writes 6 3) ∷ []
+two_splits_race = refl
+
+split_in_loop_races : clashes split_in_loop split_in_loop.main ≡ (writes 6 0, writes 6 0) ∷ []
+split_in_loop_races = refl
+
+two_readers_accepted : clashes two_readers two_readers.main ≡ []
+two_readers_accepted = refl
+
+call_then_store_races : clashes call_then_store call_then_store.main ≡ (writes 2 0, writes 5 0) ∷ []
+call_then_store_races = refl
+
+spawner_accepted : clashes call_then_store spawner ≡ []
+spawner_accepted = refl
+
+readers_and_writer_race : clashes readers_and_writer readers_and_writer.main ≡ (reads 3 0, writes 6 0) ∷ (reads 5 0, writes 6 0) ∷ []
+readers_and_writer_race = refl
+
+copying_accepted : clashes copying copying.main ≡ []
+copying_accepted = refl
+
+sides_may_be_passed : overlap copying.main.sections 1 2 ≡ false
+sides_may_be_passed = refl
+
+one_array_twice : overlap copying.main.sections 0 0 ≡ true
+one_array_twice = refl
+
+doubling_clashes : clashes (doubling 16) twice ≡ []
+doubling_clashes = refl
+
+-- The doubling program is sound
+
+numbered_sides : IsNumbered twice.sections
+numbered_sides = record { left = left_later; right = right_later; right_behind = right_behind; left_before = left_before }
+  where
+    left_later : (a s : ℕ) → origin_of twice.sections a ≡ Left s → s < a
+    left_later zero s e = root_left refl e
+    left_later (suc zero) s e = let h : 0 ≡ s = one_left refl e in omega arith
+    left_later (suc (suc zero)) s e = left_right e refl
+    left_later (suc (suc (suc n))) s e = root_left refl e
+
+    right_later : (a s : ℕ) → origin_of twice.sections a ≡ Right s → s < a
+    right_later zero s e = root_right refl e
+    right_later (suc zero) s e = left_right refl e
+    right_later (suc (suc zero)) s e = let h : 0 ≡ s = one_right refl e in omega arith
+    right_later (suc (suc (suc n))) s e = root_right refl e
+
+    right_behind : (a s : ℕ) → origin_of twice.sections a ≡ Left s → origin_of twice.sections (a + 1) ≡ Right s
+    right_behind zero s e = root_left refl e
+    right_behind (suc zero) s e = ap Right (one_left refl e)
+    right_behind (suc (suc zero)) s e = left_right e refl
+    right_behind (suc (suc (suc n))) s e = root_left refl e
+
+    left_before : (a s : ℕ) → origin_of twice.sections a ≡ Right s → origin_of twice.sections (a - 1) ≡ Left s
+    left_before zero s e = root_right refl e
+    left_before (suc zero) s e = left_right refl e
+    left_before (suc (suc zero)) s e = ap Left (one_right refl e)
+    left_before (suc (suc (suc n))) s e = root_right refl e
+
+pub numbered_roots : (origins : List Origin) → ((a : ℕ) → origin_of origins a ≡ Root) → IsNumbered origins
+numbered_roots origins root = record {
+  left = λ a s e. root_left (root a) e;
+  right = λ a s e. root_right (root a) e;
+  right_behind = λ a s e. root_left (root a) e;
+  left_before = λ a s e. root_right (root a) e;
+}
+
+one_root : (a : ℕ) → origin_of (Root ∷ []) a ≡ Root
+one_root zero = refl
+one_root (suc n) = refl
+
+pub none : (g : Procedure) (scope : List ℕ) (x : Access) → Member x [] → Allowed g scope x
+none g scope x h = elim h [ ]
+
+pub besides : (g : Procedure) (scope : List ℕ) {y : Access} {ys : List Access} → Allowed g scope y
+    → ((x : Access) → Member x ys → Allowed g scope x)
+    → (x : Access) → Member x (y ∷ ys) → Allowed g scope x
+besides g scope f h x first = f
+besides g scope f h x (next k) = h x k
+
+-- one argument for one parameter that may be written
+one_argument : (g : Procedure) (scope : List ℕ) (a : ℕ) → Member a scope → is_writable g a ≡ true
+    → PassesWell g scope twice.parameters (a ∷ [])
+one_argument g scope a m w = record { number = refl; in_scope = in_scope; writable = writable; alone = alone }
+  where
+    in_scope : (k : ℕ) → k < 1 → Member (past_call (a ∷ []) k) scope
+    in_scope zero h = m
+    in_scope (suc k) h = absurd (omega arith)
+
+    writable : (k : ℕ) → may_write twice.parameters k ≡ true → is_writable g (past_call (a ∷ []) k) ≡ true
+    writable zero h = w
+    writable (suc k) h = absurd (true≢false (sym h))
+
+    alone : (k j : ℕ) → k ≢ j → j < 1 → may_write twice.parameters k ≡ true
+        → overlap g.sections (past_call (a ∷ []) k) (past_call (a ∷ []) j) ≡ false
+    alone zero zero ne h w = absurd (ne refl)
+    alone zero (suc j) ne h w = absurd (omega arith)
+    alone (suc k) j ne h w = absurd (true≢false (sym w))
+
+splits_0 : SplitsWell twice (0 ∷ []) 0 1 2
+splits_0 = record { in_scope = first; left = refl; right = refl; next = refl; later = later }
+  where
+    later : (x : ℕ) → Member x (0 ∷ []) → x < 1
+    later x first = omega arith
+    later x (next h) = elim h [ ]
+
+allowed_0 : (l : ℕ) (w : Bool) → Allowed twice (0 ∷ []) (record { label = l; section = 0; write = w })
+allowed_0 l w = record { in_scope = first; writable = λ h. refl }
+
+doubles : (n : ℕ) → Follows (doubling n) twice (0 ∷ [])
+    ((
+      2,
+      If (Compare Equal (Length 0) (lit 1))
+          ((3, Do (Store 0 (lit 0) (Chain (Element 0 (lit 0)) (Link Times (lit 2) Done)))) ⨾ End) End,
+    ) ⨾ End)
+doubles n = (
+  none twice (0 ∷ []),
+  ((besides twice (0 ∷ []) (allowed_0 3 true) (besides twice (0 ∷ []) (allowed_0 3 false) (none twice (0 ∷ []))), tt, tt), tt),
+  tt,
+)
+
+halves : (n : ℕ) → Follows (doubling n) twice (1 ∷ 2 ∷ 0 ∷ []) ((5, Async ((6, Call 0 [] (1 ∷ [])) ⨾ End)) ⨾ (7, Call 0 [] (2 ∷ [])) ⨾ End)
+halves n =
+    let scope = 1 ∷ 2 ∷ 0 ∷ [] in (
+      none twice scope,
+      (none twice scope, one_argument twice scope 1 first refl, tt),
+      (none twice scope, one_argument twice scope 2 (next first) refl, tt),
+    )
+
+twice_body : (n : ℕ) → Follows (doubling n) twice (0 ∷ []) twice.body
+twice_body n = (none twice (0 ∷ []), (doubles n, (none twice (0 ∷ []), (splits_0, halves n), tt)), tt)
+
+main_body : (n : ℕ) → Follows (doubling n) (main_of (doubling n)) (0 ∷ []) (doubling n).main.body
+main_body n =
+    let g = main_of (doubling n) in
+    (none g (0 ∷ []), (none g (0 ∷ []), one_argument g (0 ∷ []) 0 first refl, tt), tt)
+
+first_root : (origins : List Origin) (k : ℕ) → k < 1 → slice_get (Root ∷ origins) k ≡ Some Root
+first_root origins zero h = refl
+first_root origins (suc k) h = absurd (omega arith)
+
+-- a procedure that isn't there
+pub missing_sound : (p : Program) → IsSoundIn p (no_procedure)
+missing_sound p = record {
+  first = λ k h. absurd (omega arith);
+  numbered = numbered_roots [] (λ a. refl);
+  body = tt;
+}
+
+doubling_procedures : (n f : ℕ) → IsSoundIn (doubling n) (procedure_of (doubling n) f)
+doubling_procedures n zero = record { first = first_root (Left 0 ∷ Right 0 ∷ []); numbered = numbered_sides; body = twice_body n }
+doubling_procedures n (suc f) = missing_sound (doubling n)
+
+pub doubling_sound : (n : ℕ) → IsSound (doubling n)
+doubling_sound n = record {
+  procedures = doubling_procedures n;
+  main = record { first = first_root []; numbered = numbered_roots (Root ∷ []) one_root; body = main_body n };
+}
+
+-- Two arrays are sound
+
+two_roots : (a : ℕ) → origin_of (Root ∷ Root ∷ []) a ≡ Root
+two_roots zero = refl
+two_roots (suc zero) = refl
+two_roots (suc (suc a)) = refl
+
+two_arrays_body : Follows two_arrays (main_of two_arrays) (0 ∷ 1 ∷ []) two_arrays.main.body
+two_arrays_body =
+    let g = main_of two_arrays in
+    let sc : List ℕ = 0 ∷ 1 ∷ [] in (
+      none g sc,
+      (
+        none g sc,
+        (besides g sc (record { in_scope = first; writable = λ h. refl }) (none g sc), tt, tt),
+        (besides g sc (record { in_scope = next first; writable = λ h. refl }) (none g sc), tt, tt),
+      ),
+      (
+        besides g sc (record { in_scope = first; writable = λ h. refl })
+            (besides g sc (record { in_scope = next first; writable = λ h. refl }) (none g sc)),
+        tt,
+        tt,
+      ),
+    )
+
+pub two_arrays_sound : IsSound two_arrays
+two_arrays_sound = record {
+  procedures = λ f. missing_sound two_arrays;
+  main = record { first = first_two; numbered = numbered_roots (Root ∷ Root ∷ []) two_roots; body = two_arrays_body };
+}
+  where
+    first_two : (k : ℕ) → k < 2 → slice_get (Root ∷ Root ∷ []) k ≡ Some Root
+    first_two zero h = refl
+    first_two (suc zero) h = refl
+    first_two (suc (suc k)) h = absurd (omega (arith, h))
+
+two_arrays_decided : is_accepted two_arrays ≡ true
+two_arrays_decided = refl
+
+pub two_arrays_is_accepted : IsAccepted two_arrays
+two_arrays_is_accepted = (accepted_exact two_arrays two_arrays_sound).0 two_arrays_decided
+
+-- Doubling by halves is accepted, for arrays of any length
+
+doubling_decided : (n : ℕ) → is_accepted (doubling n) ≡ true
+doubling_decided n = refl
+
+pub doubling_accepted : (n : ℕ) → IsAccepted (doubling n)
+doubling_accepted n = (accepted_exact (doubling n) (doubling_sound n)).0 (doubling_decided n)
+
+abbrev pub first_child : Codes
+first_child = Then 3 (Do (Store 0 (lit 0) (lit 7))) End
+
+-- finish { async { a[0] = 7; } print a[0]; } is sound, but not accepted
+abbrev pub racy : Program
+racy = program_of (ints 97 1 ∷ []) 0 (Root ∷ [])
+    (Then 1 (Finish (Then 2 (Async first_child) (Then 4 (Do (Print (Element 0 (lit 0) ∷ []))) End))) End)
+
+racy_sound : IsSound racy
+racy_sound = record {
+  procedures = λ f. missing_sound racy;
+  main = record { first = first_one; numbered = numbered_roots (Root ∷ []) one_root; body = body };
+}
+  where
+    first_one : (k : ℕ) → k < 1 → slice_get (Root ∷ []) k ≡ Some Root
+    first_one zero h = refl
+    first_one (suc k) h = absurd (omega (arith, h))
+
+    body : Follows racy (main_of racy) (0 ∷ []) racy.main.body
+    body =
+        let g = main_of racy in
+        let sc : List ℕ = 0 ∷ [] in (
+          none g sc,
+          (
+            none g sc,
+            (besides g sc (record { in_scope = first; writable = λ h. refl }) (none g sc), tt, tt),
+            (besides g sc (record { in_scope = first; writable = λ h. refl }) (none g sc), tt, tt),
+          ),
+          tt,
+        )
+
+racy_decided : is_accepted racy ≡ false
+racy_decided = refl
+
+racy_not_accepted : IsAccepted racy → ⊥
+racy_not_accepted accepted = true≢false (sym ((accepted_exact racy racy_sound).1 accepted) ∙ racy_decided)

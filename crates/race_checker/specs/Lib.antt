@@ -1,0 +1,4 @@
+pub mod Acceptance
+pub mod Calm
+pub mod Clash
+pub mod Scope

@@ -1,0 +1,5 @@
+//! Which programs have no race.
+
+#![tactic(auto)]
+
+pub mod laws;

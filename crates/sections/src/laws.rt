@@ -1,0 +1,42 @@
+//! Laws of sections, each the contract of a function that does nothing.
+
+ghost use Rattle.std.specs.Prelude.{◌≡◌, ◌⊎◌, ℕ, List, true, false};
+ghost use Rattle.sections.specs.Member.{Member};
+ghost use Rattle.sections.specs.Origins.{Origin, IsNumbered, IsSideOf};
+ghost use Rattle.sections.specs.Overlap.{overlap, root_of, are_sides, are_opposite};
+ghost use Rattle.sections.specs.Place.{Window};
+ghost use Rattle.sections.specs.Placed.{Apart, Names, Placed};
+
+/// Overlap has no order, and a section overlaps itself and its sides.
+pub fn overlap_is_near()
+    ensures symmetric { (origins : List Origin) (a b : ℕ)
+        → overlap origins a b ≡ overlap origins b a }
+    ensures itself { (origins : List Origin) → IsNumbered origins → (a : ℕ)
+        → overlap origins a a ≡ true }
+    ensures parent { (origins : List Origin) → IsNumbered origins → (s a : ℕ)
+        → IsSideOf origins s a → overlap origins s a ≡ true }
+{}
+
+/// The two sides of one split are disjoint, and what is disjoint from a section is disjoint from its
+/// sides. Sides of two different splits of one section overlap.
+pub fn overlap_follows_the_splits()
+    ensures sides { (origins : List Origin) (l r : ℕ)
+        → are_sides origins l r ≡ true → overlap origins l r ≡ false }
+    ensures inherited { (origins : List Origin) → IsNumbered origins → (a s b : ℕ)
+        → IsSideOf origins s a → overlap origins s b ≡ false → overlap origins a b ≡ false }
+    ensures two_splits { (origins : List Origin) → IsNumbered origins → (s a b : ℕ)
+        → IsSideOf origins s a → IsSideOf origins s b → are_opposite origins a b ≡ false
+        → overlap origins a b ≡ true }
+{}
+
+/// Where the windows of sections stand as the origins say, disjoint sections share no place, if one of
+/// them may be written.
+pub fn disjoint_sections_share_no_place()
+    ensures { (names : Names) (windows : ℕ → Window)
+        → IsNumbered names.origins → Placed names windows
+        → (a b : ℕ) → Member a names.scope → Member b names.scope
+        → overlap names.origins a b ≡ false
+        → (names.may_write (root_of names.origins a) ≡ true)
+        ⊎ (names.may_write (root_of names.origins b) ≡ true)
+        → Apart (windows a) (windows b) }
+{}
