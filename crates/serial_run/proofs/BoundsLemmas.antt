@@ -6,7 +6,7 @@ use Rattle.types.specs.declared.fault.FaultKind.TheVariants.{Index, SplitPoint}
 use Rattle.types.specs.Code.{Array, Number, Program}
 use Rattle.types.specs.Contents.{FitsArrays, no_more, also}
 use Rattle.types.specs.Outcome.{whole_arrays}
-use Rattle.types.specs.Place.{Place, Window, nowhere, sides_of}
+use Rattle.sections.specs.Place.{Place, Window, nowhere, sides_of}
 use Rattle.types.specs.Run.{State, array_of, no_array, bind, entry, with_sides, number_at}
 use Rattle.types.specs.Value.{Environment, Valued, then_try, element_of, holds_number}
 use Rattle.serial_run.specs.declared.thread.Thread.{Thread}

@@ -4,7 +4,7 @@ use Rattle.std.specs.Prelude.{ℤ, Bool, true, false}
 use Rattle.types.specs.declared.fault.FaultKind.{FaultKind}
 use Rattle.types.specs.declared.fault.FaultKind.TheVariants.{OutOfElement}
 use Rattle.types.specs.Code.{Number, Program, Store}
-use Rattle.types.specs.Place.{Place}
+use Rattle.sections.specs.Place.{Place}
 use Rattle.types.specs.Run.{State, array_of, fault, number_at, primitive, put, window_at, with_value}
 use Rattle.types.specs.Value.{Valued, element_of, holds_number, then_try}
 use Rattle.serial_run.specs.Primitive.{fitting, target}

@@ -2,7 +2,7 @@
 use Rattle.std.specs.Prelude.{ℕ, ◌+◌, ◌<◌, length, slice_index_or, []}
 use Rattle.types.specs.Code.{Program}
 use Rattle.types.specs.Contents.{FitsArrays}
-use Rattle.types.specs.Place.{Place, Window}
+use Rattle.sections.specs.Place.{Place, Window}
 use Rattle.types.specs.Run.{array_of}
 use Rattle.types.specs.Translation.{environment}
 use Rattle.types.specs.Value.{Environment}

@@ -3,7 +3,8 @@ use Rattle.std.specs.Prelude.{ℕ, ◌+◌, ◌≡◌, map}
 use Rattle.types.specs.Run.{Flow, On, Faulted, Stopped, State, at_flow, stopped}
 use Rattle.types.specs.Translation.{environment, fault}
 use Rattle.serial_run.specs.declared.thread.Flow.{Flow as rFlow}
-use Rattle.serial_run.specs.declared.thread.Flow.TheVariants.{On as rOn, Faulted as rFaulted, Stopped as rStopped}
+use Rattle.serial_run.specs.declared.thread.Flow.TheVariants.{On as rOn, Faulted as rFaulted}
+use Rattle.serial_run.specs.declared.thread.Flow.TheVariants.{Stopped as rStopped}
 use Rattle.serial_run.specs.declared.thread.Thread.{Thread}
 use Rattle.serial_run.specs.Lists.{contents_of}
 

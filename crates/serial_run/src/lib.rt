@@ -1,7 +1,7 @@
 //! The run of a program on one thread.
 //!
-//! An async's body runs where its `async` stands. Nothing here recurses on the host's stack but down an
-//! expression: what is left to do stands in a vector of frames.
+//! An async's body runs where its `async` stands. Nothing here recurses on the host's stack but down
+//! an expression: what is left to do stands in a vector of frames.
 
 #![tactic(auto)]
 

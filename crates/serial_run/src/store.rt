@@ -52,7 +52,8 @@ impl Store {
     /// Writes the number at a place.
     pub fn write(&mut self, place: Place, value: i64)
         requires { HasPlace self.old (place_of place) }
-        ensures written { contents_of self.new ≡ written (place_of place) value (contents_of self.old) }
+        ensures written { contents_of self.new
+            ≡ written (place_of place) value (contents_of self.old) }
         ensures lengths { lengths_of self.new ≡ lengths_of self.old }
     {
         let contents = &mut self.arrays[place.array.number];

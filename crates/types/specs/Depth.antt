@@ -3,8 +3,8 @@ use Rattle.std.specs.Prelude.{ℕ, ◌+◌, max}
 use Rattle.types.specs.Code.{Code, Do, If, While, Split, Call, Async, Finish, Codes, End, Then}
 
 abbrev mutual
-  -- how many asyncs stand inside one another at most, in a statement and in a list of statements; what a call does isn't
-  -- among them
+  -- how many asyncs stand inside one another at most, in a statement and in a list of statements;
+  -- what a call does isn't among them
   pub depth_in : Code → ℕ
   depth_in (Do s) = 0
   depth_in (If t b c) = max (depth_of b) (depth_of c)

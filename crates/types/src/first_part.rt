@@ -11,10 +11,10 @@ ghost use Rattle.types.specs.Typed.{code_of};
 ghost use Rattle.types.specs.Value.{holds_number};
 
 use crate::code::{Number, Primitive, Program, Stmt, StmtKind};
+use crate::element::holds;
 use crate::ids::array_in_main;
 use crate::typed::Typed;
 use sections::id::{ArrayId, SectionId};
-use syntax::tree::ElementType;
 
 /// How many statements a program of the first part has, at most.
 pub const MOST_STATEMENTS: u32 = 10_000;
@@ -101,7 +101,8 @@ fn primitive_fits(code: &Program, primitive: &Primitive) -> bool
 
 /// A store of a literal at a literal index.
 fn store_fits(code: &Program, section: SectionId, index: &Number, value: &Number) -> bool
-    ensures { result ≡ store_fits (program code.now) section.number (number index.now) (number value.now) }
+    ensures { result
+        ≡ store_fits (program code.now) section.number (number index.now) (number value.now) }
 {
     let array = array_in_main(section);
     match (index, value) {
@@ -153,10 +154,7 @@ fn value_fits(code: &Program, array: ArrayId, value: i64) -> bool
     ensures { result ≡ holds_number (array_of (program code.now) array.number).element value }
 {
     match code.arrays.get(array.number) {
-        Some(array) => match array.element {
-            ElementType::Int => true,
-            ElementType::Byte => 0 <= value && value < 256,
-        },
+        Some(array) => holds(array.element, value),
         None => true,
     }
 }

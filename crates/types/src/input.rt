@@ -17,6 +17,7 @@ ghost use Rattle.types.specs.Typed.{code_of};
 ghost use Rattle.types.specs.Value.{holds_number};
 
 use crate::code::Array;
+use crate::element::holds;
 use crate::input_error::InputError;
 use crate::typed::Typed;
 use serde_json::{Map, Value};
@@ -128,16 +129,6 @@ fn all_held(element: ElementType, list: &[i64]) -> bool
     ensures { result ≡ list_all (holds_number element) list.now }
 {
     list.iter().all(|number| holds(element, *number))
-}
-
-/// Whether an element type holds a number.
-fn holds(element: ElementType, number: i64) -> bool
-    ensures { result ≡ holds_number element number }
-{
-    match element {
-        ElementType::Int => true,
-        ElementType::Byte => 0 <= number && number < 256,
-    }
 }
 
 /// The error that tells a fault of the list for an array.

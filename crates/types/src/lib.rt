@@ -5,6 +5,7 @@
 pub mod budget;
 pub mod check;
 pub mod code;
+pub mod element;
 pub mod error;
 pub mod fault;
 pub mod first_part;
