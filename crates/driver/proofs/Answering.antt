@@ -86,14 +86,17 @@ module _ (a : Asked) (text : List ℕ) (b : Option (List ℕ)) where
 module _ (text : List ℕ) (typed back : Typed) (race : Meeting) (is_code : IsCodeOf text (code_of typed))
     (same : back ≡ typed) (least : IsLeastClash (pairs_of typed) race) where
   race_explained : (f : Failure) → TellsRace race back f → Explains run text f
-  race_explained (Race first second) told = (refl, record {
-    typed = back;
-    is_code = subst (λ (t : Typed). IsCodeOf text (code_of t)) (sym same) is_code;
-    race = race;
-    least = subst (λ (t : Typed). IsLeastClash (pairs_of t) race) (sym same) least;
-    first_is = told.0;
-    second_is = told.1;
-  })
+  race_explained (Race first second) told = (
+    refl,
+    record {
+      typed = back;
+      is_code = subst (λ (t : Typed). IsCodeOf text (code_of t)) (sym same) is_code;
+      race = race;
+      least = subst (λ (t : Typed). IsLeastClash (pairs_of t) race) (sym same) least;
+      first_is = told.0;
+      second_is = told.1;
+    },
+  )
   race_explained NoMemoryInCheck told = refl
   race_explained (CannotRead name) told = absurd told
   race_explained (NotUtf8 name) told = absurd told

@@ -18,7 +18,7 @@ use Rattle.types.specs.Typed.{code_of}
 use Rattle.types.specs.declared.error.TypeError.{TypeError}
 use Rattle.types.specs.declared.typed.Typed.{Typed}
 use Rattle.workers.specs.Accesses.{pairs_in}
-use Rattle.workers.specs.Races.{IsLeastClash, IsRaceFree}
+use Rattle.workers.specs.Races.{IsLeastClash, IsClashFree}
 use Rattle.workers.specs.Refusal.{pairs_of}
 use Rattle.workers.specs.Worlds.{IsReached}
 use Rattle.workers.specs.declared.race.Meeting.{Meeting}
@@ -67,7 +67,7 @@ pub record AnswersSerial (text told : List ℕ) (status : ℕ) : Type 0 where
 pub record AnswersRun (text told : List ℕ) (status : ℕ) : Type 0 where
   pub code : Program
   pub is_code : IsCodeOf text code
-  pub race_free : IsRaceFree (pairs_in [] code.main.body)
+  pub clash_free : IsClashFree (pairs_in [] code.main.body)
   pub outcome : Outcome
   pub reached : IsReached code (zeros code) usual outcome
   pub shows : Shows outcome code told status
@@ -125,7 +125,7 @@ pub record HasRace (text first second : List ℕ) : Type 0 where
 pub record IsAccepted (text : List ℕ) : Type 0 where
   pub code : Program
   pub is_code : IsCodeOf text code
-  pub race_free : IsRaceFree (pairs_in [] code.main.body)
+  pub clash_free : IsClashFree (pairs_in [] code.main.body)
 
 -- a failure is one of the text, for what was asked; only want of memory is free
 abbrev pub Explains : Asked → (text : List ℕ) → Failure → Type 0

@@ -2,9 +2,8 @@
 use Rattle.std.specs.Prelude.{ℕ, List, [], ◌∷◌, ◌++◌, map, codes, Bool, if◌then◌else◌, ℤ}
 use Rattle.std.specs.Fmt.{decimal, signed_decimal}
 use Rattle.std.specs.List.{concat, flat_map, join_with_byte, zip}
-use Rattle.types.specs.declared.fault.FaultKind.{FaultKind}
-use Rattle.types.specs.declared.fault.FaultKind.TheVariants.{Index, Overflow, ZeroDivisor, OutOfElement, SplitPoint, Raised}
 use Rattle.types.specs.Code.{Array}
+use Rattle.types.specs.Names.{path_text, kind_text}
 use Rattle.types.specs.Run.{Fault}
 use Rattle.types.specs.Outcome.{Outcome, Ended, Halted, Ending}
 
@@ -23,19 +22,6 @@ spaced_text values = flat_map (λ n. codes " " ++ signed_decimal n) values
 -- a printed line
 abbrev pub line_text : List ℤ → List ℕ
 line_text values = joined_text values ++ codes "\n"
-
--- a task: `0`, then a dot and each child number on the way to it
-abbrev pub path_text : List ℕ → List ℕ
-path_text turns = codes "0" ++ flat_map (λ n. codes "." ++ decimal n) turns
-
--- the code of a fault, with the number of a raised one
-abbrev pub kind_text : FaultKind → List ℕ
-kind_text Index = codes "F1"
-kind_text Overflow = codes "F2"
-kind_text ZeroDivisor = codes "F3"
-kind_text OutOfElement = codes "F4"
-kind_text SplitPoint = codes "F5"
-kind_text (Raised n) = codes "F6 " ++ signed_decimal n
 
 -- `fault PATH at LABEL: CODE`
 abbrev pub fault_text : Fault → List ℕ

@@ -1,19 +1,18 @@
 -- What a sound program does is in scope, and is written only where that is allowed.
-use Rattle.std.proofs.Common.{◌≡◌, ◌≢◌, ℕ, zero, suc, ◌+◌, ◌<◌, List, [], ◌∷◌, length, refl, sym, ap, ◌∙◌, subst, arith}
+use Rattle.std.proofs.Common.{◌≡◌, ◌≢◌, ℕ, zero, suc, ◌+◌, ◌<◌, List, [], ◌∷◌, length, refl, sym, ap, ◌∙◌, subst}
+use Rattle.std.proofs.Common.{arith}
 use Rattle.std.proofs.lemmas.Bool.{eq-eqb, ne_eqb}
 use Rattle.std.specs.Prelude.{Bool, true, false, ◌||◌, nat_eq, if◌then◌else◌, Some, slice_get, unwrap_or}
-use Rattle.sections.specs.Origins.{Origin, Root}
+use Rattle.sections.specs.Origins.{Origin, Root, origin_of, IsNumbered, IsSideOf, left, right}
+use Rattle.sections.specs.Member.{Member, first, next}
+use Rattle.sections.proofs.Lines.{root_of-root, root_of-side}
 use Rattle.types.specs.Code.{Code, Codes, Procedure, Program}
 use Rattle.types.specs.Run.{procedure_of}
 use Rattle.effects.specs.Accesses.{Access, own_accesses}
-use Rattle.sections.specs.Member.{Member, first, next}
 use Rattle.effects.specs.Effects.{past_split, past_call, renamed, Inner, AllOf, All, PendingOf, Pending, accesses}
-use Rattle.sections.specs.Origins.{origin_of, IsNumbered, IsSideOf, left, right}
-use Rattle.sections.specs.Overlap.{beyond, root_within, root_of}
 use Rattle.effects.specs.Sound.{may_write, is_writable, Allowed, SplitsWell, PassesWell, Follows, FollowsOf}
 use Rattle.effects.specs.Sound.{IsSoundIn, IsSound, parameters_of}
 use Rattle.effects.proofs.Members.{false_true, numbers_from-below}
-use Rattle.sections.proofs.Lines.{root_of-root, root_of-side}
 
 pub origin_from_get : (origins : List Origin) (k : ℕ) → slice_get origins k ≡ Some Root → origin_of origins k ≡ Root
 origin_from_get [] k e = refl

@@ -1,24 +1,23 @@
 -- Environments that fit stay so: at the start, in the block of a split and behind it, and in a call.
-use Rattle.std.proofs.Common.{◌≡◌, ◌≢◌, inl, ℕ, zero, suc, ◌+◌, ◌<◌, ◌≤◌, List, [], ◌∷◌, length, map, Option, Some, ℤ, refl, sym, ap, ◌∙◌}
-use Rattle.std.proofs.Common.{subst, arith}
+use Rattle.std.proofs.Common.{◌≡◌, ◌≢◌, inl, ℕ, zero, suc, ◌+◌, ◌<◌, ◌≤◌, List, [], ◌∷◌, length, map, Option, Some, ℤ}
+use Rattle.std.proofs.Common.{refl, sym, ap, ◌∙◌, subst, arith}
 use Rattle.std.proofs.lemmas.Bool.{eq-eqb, ne_eqb}
 use Rattle.std.specs.Prelude.{true, slice_get, slice_index_or, if◌then◌else◌}
-use Rattle.sections.specs.Origins.{Origin, Root, Left, Right}
-use Rattle.types.specs.Code.{Array, Procedure, Program}
+use Rattle.sections.specs.Origins.{Origin, Root, Left, Right, origin_of, IsNumbered}
 use Rattle.sections.specs.Place.{Window, sides_of, nowhere}
+use Rattle.sections.specs.Member.{Member, first, next}
+use Rattle.sections.specs.Overlap.{beyond}
+use Rattle.sections.specs.Placed.{Apart, AreSidesOf, HasLeft, Placed}
+use Rattle.sections.proofs.Windows.{IsCut, sides_of-cut, disjoint-apart}
+use Rattle.types.specs.Code.{Array, Procedure, Program}
 use Rattle.types.specs.Value.{Environment}
 use Rattle.types.specs.Run.{array_of, no_array, bind, by_number, entry, with_sides}
 use Rattle.types.specs.Outcome.{whole_arrays}
 use Rattle.types.proofs.Lists.{whole_array-by_number}
-use Rattle.sections.specs.Member.{Member, first, next}
 use Rattle.effects.specs.Effects.{past_call}
-use Rattle.sections.specs.Origins.{origin_of, IsNumbered}
-use Rattle.sections.specs.Overlap.{beyond}
 use Rattle.effects.specs.Sound.{may_write, SplitsWell, PassesWell, IsSoundIn, parameters_of, as_parameter, main_of}
-use Rattle.sections.specs.Placed.{Apart, AreSidesOf, HasLeft, Placed}
 use Rattle.effects.specs.Fits.{LiesInArray, Fits, names_in}
 use Rattle.effects.proofs.Members.{numbers_from-below}
-use Rattle.sections.proofs.Windows.{IsCut, sides_of-cut, disjoint-apart}
 use Rattle.effects.proofs.AccessesInScope.{origin_from_get}
 
 -- Origins are told apart
@@ -55,7 +54,8 @@ same_cut {w} {v} {a} {b} {c} {d} n e f g h =
 -- Only the windows in scope matter
 
 pub placed_same : (g : Procedure) (scope : List ℕ) (env other : Environment)
-    → Placed (names_in g scope) env.windows → ((s : ℕ) → Member s scope → env.windows s ≡ other.windows s) → Placed (names_in g scope) other.windows
+    → Placed (names_in g scope) env.windows → ((s : ℕ) → Member s scope → env.windows s ≡ other.windows s)
+    → Placed (names_in g scope) other.windows
 placed_same g scope env other placed same = record {
   apart = λ r s ne m n e f w. subst (λ v. Apart (other.windows r) v) (same s n)
       (subst (λ v. Apart v (env.windows s)) (same r m) (placed.apart r s ne m n e f w));
@@ -100,7 +100,8 @@ module _ (g : Procedure) (scope : List ℕ) (env : Environment) (t a b : ℕ) (s
     cut = subst (λ x. sides_of (env.windows t) at ≡ Some (env.windows a, env.windows x)) splits.next cut;
   }
 
-  left_inside : (s l : ℕ) → Member l (a ∷ b ∷ scope) → origin_of g.sections l ≡ Left s → AreSidesOf (names_in g (a ∷ b ∷ scope)) env.windows s l
+  left_inside : (s l : ℕ) → Member l (a ∷ b ∷ scope) → origin_of g.sections l ≡ Left s
+      → AreSidesOf (names_in g (a ∷ b ∷ scope)) env.windows s l
   left_inside s l first e = subst (λ t. AreSidesOf (names_in g (a ∷ b ∷ scope)) env.windows t a) (one_left splits.left e) sides_inside
   left_inside s l (next first) e = left_right e splits.right
   left_inside s l (next (next m)) e =

@@ -1,8 +1,8 @@
 -- All and Pending are the least solution of the table's rows.
 use Rattle.std.proofs.Common.{◌≡◌, ◌⊎◌, inl, inr, ℕ, refl, sym, subst}
 use Rattle.std.specs.Prelude.{◌↔◌, Bool, true}
-use Rattle.types.specs.Code.{Code, Do, If, While, Split, Call, Async, Finish, Codes, End, Then, Program}
 use Rattle.sections.specs.Member.{Member}
+use Rattle.types.specs.Code.{Code, Do, If, While, Split, Call, Async, Finish, Codes, End, Then, Program}
 use Rattle.effects.specs.Effects.{Inner, Subject, AllOf, All, PendingOf, Pending}
 use Rattle.effects.specs.Rows.{AllInside, LeftBy, SolvesAll, SolvesPending}
 

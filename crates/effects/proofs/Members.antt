@@ -1,9 +1,8 @@
 -- Truth values, and elements of lists.
-use Rattle.std.proofs.Common.{◌≡◌, ◌≢◌, ◌⊎◌, inl, inr, ℕ, zero, suc, ◌+◌, ◌<◌, ◌≤◌, List, [], ◌∷◌, ◌++◌, map, refl, sym, ◌∙◌, arith}
-use Rattle.std.proofs.Common.{true≢false}
+use Rattle.std.proofs.Common.{◌≡◌, ◌≢◌, ◌⊎◌, inl, inr, ℕ, zero, suc, ◌+◌, ◌<◌, ◌≤◌, List, [], ◌∷◌, ◌++◌, map, refl}
+use Rattle.std.proofs.Common.{sym, ◌∙◌, arith, true≢false}
 use Rattle.std.proofs.lemmas.Bool.{eq-eqb}
 use Rattle.std.specs.Prelude.{Bool, true, false, ◌&&◌, ◌||◌, not, nat_eq}
-use Rattle.std.specs.List.{list_any}
 use Rattle.sections.specs.Member.{Member, first, next}
 use Rattle.effects.specs.Sound.{numbers_from}
 

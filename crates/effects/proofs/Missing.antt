@@ -1,8 +1,8 @@
 -- What is added to a table is no longer missing.
 use Rattle.std.proofs.Common.{◌≡◌, ℕ, ◌+◌, ◌<◌, ◌≤◌, List, [], ◌∷◌, refl, sym, arith, true≢false}
 use Rattle.std.specs.Prelude.{Bool, true, false, if◌then◌else◌}
-use Rattle.effects.specs.Accesses.{Access}
 use Rattle.sections.specs.Member.{Member, first, next}
+use Rattle.effects.specs.Accesses.{Access}
 
 -- how many of these a table doesn't have
 abbrev pub missing : (has : Access → Bool) → (possible : List Access) → ℕ

@@ -2,17 +2,17 @@
 use Rattle.std.proofs.Common.{◌≡◌, ◌⊎◌, ℕ, List, [], ◌∷◌, ◌++◌, refl, sym, subst, inl, inr}
 use Rattle.std.proofs.lemmas.Bool.{eqb-true}
 use Rattle.std.specs.Prelude.{Bool, true, false, nat_eq, if◌then◌else◌}
+use Rattle.sections.specs.Member.{Member, first, next}
+use Rattle.sections.proofs.Members.{any_member}
 use Rattle.types.specs.Code.{Code, Do, If, While, Split, Call, Async, Finish, Codes, End, Then, Program}
 use Rattle.types.specs.Run.{procedure_of}
 use Rattle.effects.specs.Accesses.{Access}
-use Rattle.sections.specs.Member.{Member, first, next}
 use Rattle.effects.specs.Tables.{Table, all_in, IsDerived, IsStable}
-use Rattle.sections.proofs.Members.{any_member}
+use Rattle.effects.specs.Needs.{Accessed, Stored, AreNeeds, ProvidesOf, ProvidesIn, Provides, among, also, written_by}
+use Rattle.effects.specs.Needs.{others_by, needs_in}
+use Rattle.effects.specs.Effects.{accesses}
 use Rattle.effects.proofs.Members.{in_left, in_right}
 use Rattle.effects.proofs.StableTables.{listed, derived}
-use Rattle.effects.specs.Needs.{Accessed, Stored, AreNeeds, ProvidesOf, ProvidesIn, Provides, among, also}
-use Rattle.effects.specs.Needs.{written_by, others_by, needs_in}
-use Rattle.effects.specs.Effects.{accesses}
 
 -- ---- tests
 is_among : (ss : List ℕ) (s : ℕ) → among ss s ≡ true → Member s ss

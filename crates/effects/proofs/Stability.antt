@@ -1,16 +1,17 @@
 -- Rounds that only add come to a stable table, where what they may add is listed.
-use Rattle.std.proofs.Common.{◌≡◌, ℕ, zero, suc, ◌+◌, ◌-◌, ◌<◌, ◌≤◌, List, [], ◌∷◌, length, refl, sym, ap, ◌∙◌, subst, arith, true≢false}
+use Rattle.std.proofs.Common.{◌≡◌, ℕ, zero, suc, ◌+◌, ◌-◌, ◌<◌, ◌≤◌, List, [], ◌∷◌, length, refl, sym, ap, ◌∙◌, subst}
+use Rattle.std.proofs.Common.{arith, true≢false}
 use Rattle.std.proofs.lemmas.Bool.{and_from, eqb-true, eq-eqb, ltb-true, ltb-false}
 use Rattle.std.specs.Prelude.{Bool, true, false, ◌&&◌, nat_eq, nat_lt, if◌then◌else◌}
-use Rattle.effects.specs.Accesses.{Access}
 use Rattle.sections.specs.Member.{Member, first, next}
-use Rattle.effects.specs.Tables.{Table}
-use Rattle.effects.proofs.Missing.{missing, missing-less, missing-falls}
 use Rattle.sections.proofs.Members.{any_member, member_any}
-use Rattle.effects.proofs.Members.{false_true, both_true}
+use Rattle.effects.specs.Accesses.{Access}
+use Rattle.effects.specs.Tables.{Table}
 use Rattle.effects.specs.Rounds.{same_kind, same_access, lists, has_all, none, after, is_stable_below, is_stable}
 use Rattle.effects.specs.Rounds.{first_stable}
 use Rattle.effects.specs.Effects.{accesses}
+use Rattle.effects.proofs.Missing.{missing, missing-less, missing-falls}
+use Rattle.effects.proofs.Members.{false_true, both_true}
 
 -- ---- tests
 abbrev make : ℕ → ℕ → Bool → Access

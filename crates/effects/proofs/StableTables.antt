@@ -1,9 +1,9 @@
 -- A table that lists what is derived, and to which one more round adds nothing, is the least solution.
 use Rattle.std.proofs.Common.{inl, inr, ℕ, zero, suc, List, ◌++◌, map, sym, subst}
 use Rattle.std.specs.Prelude.{◌↔◌}
+use Rattle.sections.specs.Member.{Member}
 use Rattle.types.specs.Code.{Code, Do, If, While, Split, Call, Async, Finish, Codes, End, Then, Program}
 use Rattle.types.specs.Run.{procedure_of}
-use Rattle.sections.specs.Member.{Member}
 use Rattle.effects.specs.Effects.{past_split, past_call, Inner, Subject, AllOf, All, PendingOf, Pending}
 use Rattle.effects.specs.Tables.{Table, all_inside, all_in, left_by, left_in, alls_after, pendings_after, IsDerived}
 use Rattle.effects.specs.Tables.{IsDerivedPending, IsStable, IsStablePending}

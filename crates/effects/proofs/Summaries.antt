@@ -1,21 +1,21 @@
 -- The rounds of a sound program come to a stable table.
-use Rattle.std.proofs.Common.{◌≡◌, ◌⊎◌, ℕ, zero, suc, ◌+◌, ◌-◌, ◌<◌, ◌≤◌, List, [], ◌∷◌, ◌++◌, length, map, refl, sym, ap, ◌∙◌, subst, inl}
-use Rattle.std.proofs.Common.{inr, arith}
+use Rattle.std.proofs.Common.{◌≡◌, ◌⊎◌, ℕ, zero, suc, ◌+◌, ◌-◌, ◌<◌, ◌≤◌, List, [], ◌∷◌, ◌++◌, length, map, refl, sym}
+use Rattle.std.proofs.Common.{ap, ◌∙◌, subst, inl, inr, arith}
 use Rattle.std.proofs.lemmas.Bool.{ltb-true, ltb-false}
 use Rattle.std.specs.Prelude.{Bool, true, false, nat_lt, flat_map, slice_index_or}
+use Rattle.sections.specs.Member.{Member, first, next}
 use Rattle.types.specs.Code.{Code, Do, If, While, Split, Call, Async, Finish, Codes, End, Then, Procedure, Program}
 use Rattle.types.specs.Run.{procedure_of, no_procedure}
 use Rattle.effects.specs.Accesses.{Access, own_accesses}
-use Rattle.sections.specs.Member.{Member, first, next}
 use Rattle.effects.specs.Effects.{past_split, past_call, renamed, Inner, AllOf, All, accesses}
 use Rattle.effects.specs.Sound.{parameters_of, IsSound}
 use Rattle.effects.specs.Tables.{Table, all_inside, all_in, left_by, left_in, IsDerived, IsDerivedPending, IsStable}
 use Rattle.effects.specs.Tables.{IsStablePending}
+use Rattle.effects.specs.Rounds.{none, after, all_round, pending_round, standing, possible, possible_below, summaries}
+use Rattle.effects.specs.Rounds.{pending_summaries}
 use Rattle.effects.proofs.Members.{in_left, in_right, in_map, from_map}
 use Rattle.effects.proofs.AccessesInScope.{allowed, pending_all}
 use Rattle.effects.proofs.StableTables.{parts, listed, left}
-use Rattle.effects.specs.Rounds.{none, after, all_round, pending_round, standing, possible, possible_below}
-use Rattle.effects.specs.Rounds.{summaries, pending_summaries}
 use Rattle.effects.proofs.Stability.{becomes_stable, first_keeps}
 
 abbrev make : ℕ → ℕ → Bool → Access

@@ -1,16 +1,17 @@
 -- A run of code whose names follow the rules leaves the windows in scope as they are.
 use Rattle.std.proofs.Common.{◌≡◌, ℕ, zero, suc, ◌+◌, List, ◌∷◌, Ok, Err, ℤ, refl, sym, ap, ◌∙◌, map}
 use Rattle.std.specs.Prelude.{Bool, true, false, ok_or}
-use Rattle.types.specs.declared.fault.FaultKind.TheVariants.{SplitPoint}
-use Rattle.types.specs.Code.{Truth, Primitive, Skip, Assign, Store, Print, Raise, Code, Do, If, While, Split, Call, Async, Finish, Codes}
-use Rattle.types.specs.Code.{End, Then, Procedure, Program}
 use Rattle.sections.specs.Place.{Place, sides_of}
-use Rattle.types.specs.Value.{Valued, element_of, holds_number}
-use Rattle.types.specs.Run.{Flow, On, Faulted, Stopped, State, Rules, Work, Block, Turn, at_flow, go_on, spend, with_step, with_value}
-use Rattle.types.specs.Run.{number_at, numbers_at, truth_at, window_at, assign, print, put, fault, choose, in_environment, primitive}
-use Rattle.types.specs.Run.{counted, act, block, work, within, run, with_sides, array_of, entry, procedure_of}
-use Rattle.types.specs.Meaning.{begin_one, one_rules}
 use Rattle.sections.specs.Member.{next}
+use Rattle.types.specs.declared.fault.FaultKind.TheVariants.{SplitPoint}
+use Rattle.types.specs.Code.{Truth, Primitive, Skip, Assign, Store, Print, Raise, Code, Do, If, While, Split, Call}
+use Rattle.types.specs.Code.{Async, Finish, Codes, End, Then, Procedure, Program}
+use Rattle.types.specs.Value.{Valued, element_of, holds_number}
+use Rattle.types.specs.Run.{Flow, On, Faulted, Stopped, State, Rules, Work, Block, Turn, at_flow, go_on, spend}
+use Rattle.types.specs.Run.{with_step, with_value, number_at, numbers_at, truth_at, window_at, assign, print, put}
+use Rattle.types.specs.Run.{fault, choose, in_environment, primitive, counted, act, block, work, within, run}
+use Rattle.types.specs.Run.{with_sides, array_of, entry, procedure_of}
+use Rattle.types.specs.Meaning.{begin_one, one_rules}
 use Rattle.effects.specs.Sound.{Follows, FollowsOf}
 use Rattle.effects.specs.Fits.{Fits}
 use Rattle.effects.specs.Kept.{SameWindows, KeepsWindows, WorkFollows}

@@ -1,7 +1,7 @@
 -- The footprint of statements: the places that they may touch, and those that they may write.
 use Rattle.std.specs.Prelude.{ℕ, ◌≡◌, true}
-use Rattle.types.specs.Code.{Code, Codes, Program}
 use Rattle.sections.specs.Place.{Place, In}
+use Rattle.types.specs.Code.{Code, Codes, Program}
 use Rattle.types.specs.Value.{Environment}
 use Rattle.effects.specs.Accesses.{Access}
 use Rattle.effects.specs.Effects.{accesses, AllOf, All, PendingOf, Pending}

@@ -1,6 +1,6 @@
 -- What each procedure may do and leaves pending, computed: round by round, until nothing is added.
-use Rattle.std.specs.Prelude.{ℕ, zero, suc, ◌+◌, List, [], ◌++◌, map, flat_map, length}
-use Rattle.std.specs.Prelude.{Bool, true, false, ◌&&◌, nat_eq, if◌then◌else◌}
+use Rattle.std.specs.Prelude.{ℕ, zero, suc, ◌+◌, List, [], ◌++◌, map, flat_map, length, Bool, true}
+use Rattle.std.specs.Prelude.{false, ◌&&◌, nat_eq, if◌then◌else◌}
 use Rattle.std.specs.List.{list_all, list_any}
 use Rattle.types.specs.Code.{Codes, Program}
 use Rattle.types.specs.Run.{procedure_of}

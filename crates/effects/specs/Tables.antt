@@ -1,12 +1,12 @@
 -- All and Pending as lists, over tables of what each procedure's body has.
 use Rattle.std.specs.Prelude.{ℕ, zero, suc, List, [], ◌++◌, map}
+use Rattle.sections.specs.Member.{Member}
 use Rattle.types.specs.Code.{Code, Do, If, While, Split, Call, Async, Finish, Codes, End, Then}
 use Rattle.types.specs.Code.{Program}
 use Rattle.types.specs.Run.{procedure_of}
-use Rattle.sections.specs.Member.{Member}
 use Rattle.effects.specs.Effects.{past_split, past_call, Subject, All, Pending}
 
--- a list of accesses for each procedure
+-- what is listed of each procedure
 abbrev pub Table : Subject → Type 0
 Table subject = ℕ → List subject.Item
 

@@ -1,31 +1,32 @@
 //! Laws of the definitions, each the contract of a function that does nothing.
 
-ghost use Rattle.std.specs.Prelude.{◌≡◌, ◌⊎◌, ◌↔◌, ℕ, ℤ, List, [], ◌∷◌, map, length, Bool, true, false};
-ghost use Rattle.std.specs.Prelude.{Some};
-ghost use Rattle.types.specs.Code.{Number, Truth, Primitive, Code, Do, Split, Call, Codes, End, Then};
-ghost use Rattle.types.specs.Code.{Procedure, Program};
+ghost use Rattle.std.specs.Prelude.{◌≡◌, ◌⊎◌, ◌↔◌, ℕ, ℤ, List, [], ◌∷◌, map, length, Bool, true};
+ghost use Rattle.std.specs.Prelude.{false, Some};
 ghost use Rattle.sections.specs.Place.{Place, Window, sides_of};
+ghost use Rattle.sections.specs.Member.{Member};
+ghost use Rattle.sections.specs.Origins.{IsNumbered};
+ghost use Rattle.sections.specs.Overlap.{overlap};
+ghost use Rattle.sections.specs.Placed.{Apart};
+ghost use Rattle.types.specs.Code.{Number, Truth, Primitive, Code, Do, Split, Call, Codes, End};
+ghost use Rattle.types.specs.Code.{Then, Procedure, Program};
 ghost use Rattle.types.specs.Indexed.{indexed, indexed_truth};
 ghost use Rattle.types.specs.Value.{Environment, number, truth};
-ghost use Rattle.types.specs.Run.{State, Rules, Work, run, primitive, procedure_of, entry, with_sides};
+ghost use Rattle.types.specs.Run.{State, Rules, Work, run, primitive, procedure_of, entry};
+ghost use Rattle.types.specs.Run.{with_sides};
 ghost use Rattle.types.specs.Meaning.{one_rules};
 ghost use Rattle.types.specs.Outcome.{whole_arrays};
-ghost use Rattle.sections.specs.Member.{Member};
 ghost use Rattle.effects.specs.Accesses.{Access, own_accesses, reads};
 ghost use Rattle.effects.specs.Effects.{accesses, labels, AllOf, All, PendingOf, Pending};
 ghost use Rattle.effects.specs.Rows.{AllInside, LeftBy, SolvesAll, SolvesPending};
-ghost use Rattle.effects.specs.Footprint.{Touches, Overwrites, MayTouch, MayWrite, MayTouchOf, MayWriteOf};
-ghost use Rattle.effects.specs.Footprint.{MayStillTouch, MayStillWrite, MayStillTouchOf};
-ghost use Rattle.effects.specs.Footprint.{MayStillWriteOf};
+ghost use Rattle.effects.specs.Footprint.{Touches, Overwrites, MayTouch, MayWrite, MayTouchOf};
+ghost use Rattle.effects.specs.Footprint.{MayWriteOf, MayStillTouch, MayStillWrite};
+ghost use Rattle.effects.specs.Footprint.{MayStillTouchOf, MayStillWriteOf};
 ghost use Rattle.effects.specs.Tables.{Table, all_in, left_in, alls_after, pendings_after};
 ghost use Rattle.effects.specs.Tables.{IsDerived, IsDerivedPending, IsStable, IsStablePending};
 ghost use Rattle.effects.specs.Rounds.{possible, summaries, pending_summaries, needs_of};
 ghost use Rattle.effects.specs.Needs.{Provides, needs_in};
-ghost use Rattle.sections.specs.Origins.{IsNumbered};
-ghost use Rattle.sections.specs.Overlap.{overlap};
-ghost use Rattle.effects.specs.Sound.{Allowed, SplitsWell, PassesWell, is_writable, parameters_of};
-ghost use Rattle.effects.specs.Sound.{main_of, IsSoundIn, IsSound};
-ghost use Rattle.sections.specs.Placed.{Apart};
+ghost use Rattle.effects.specs.Sound.{Allowed, SplitsWell, PassesWell, is_writable};
+ghost use Rattle.effects.specs.Sound.{parameters_of, main_of, IsSoundIn, IsSound};
 ghost use Rattle.effects.specs.Fits.{Fits};
 ghost use Rattle.effects.specs.Kept.{SameWindows, KeepsWindows, WorkFollows};
 

@@ -1,0 +1,4 @@
+pub mod RowLemmas
+pub mod MapLemmas
+pub mod FragmentLemmas
+pub mod CutLemmas

@@ -2,6 +2,8 @@
 
 #![tactic(auto)]
 
+mod cutting;
 pub mod error;
 pub mod fragment;
+mod fragments;
 pub mod holdings;

@@ -6,28 +6,29 @@ use Rattle.types.specs.Contents.{FitsArrays}
 use Rattle.types.specs.Outcome.{Budget, outcome}
 use Rattle.types.specs.Run.{State}
 use Rattle.effects.specs.Sound.{IsSound}
-use Rattle.race_checker.specs.Clash.{IsAccepted}
 use Rattle.effects.specs.Needs.{Provides}
-use Rattle.own_run.proofs.Lists.{each_more}
+use Rattle.effects.specs.Rounds.{summaries, needs_of}
+use Rattle.effects.proofs.NeedsOfAsyncs.{provides}
+use Rattle.effects.proofs.Summaries.{summaries_derived, summaries_stable}
+use Rattle.race_checker.specs.Clash.{IsAccepted}
+use Rattle.race_checker.proofs.Scoping.{is_scoped}
+use Rattle.race_checker.proofs.Calming.{is_calm}
 use Rattle.own_run.specs.Apart.{apart_outcome}
 use Rattle.own_run.specs.Results.{TaskResult, Settled}
-use Rattle.own_run.specs.OwnRun.{Start, Own, result_of, own, comes_to, below, IsOwn, root_of, told_of}
+use Rattle.own_run.specs.OwnRun.{Start, Own, result_of}
+use Rattle.own_run.specs.Given.{own, comes_to, below, IsOwn, root_of, told_of}
 use Rattle.own_run.specs.Frames.{Standing}
 use Rattle.own_run.specs.Holds.{MayBegin}
+use Rattle.own_run.specs.Reached.{Reached, IsResult, HasNext, CanSettle, CanEnd}
+use Rattle.own_run.specs.Settling.{settle, IsParted}
+use Rattle.own_run.specs.Lists.{Each, Shuffled}
+use Rattle.own_run.proofs.Lists.{each_more}
 use Rattle.own_run.proofs.ApartOutcome.{settles}
 use Rattle.own_run.proofs.SettledResults.{told_apart, settled_outcome}
 use Rattle.own_run.proofs.HoldingTurns.{root_begins}
-use Rattle.effects.specs.Rounds.{summaries, needs_of}
-use Rattle.own_run.specs.Reached.{Reached, IsResult, HasNext, CanSettle, CanEnd}
 use Rattle.own_run.proofs.TasksEnd.{all_settle}
 use Rattle.own_run.proofs.NeverStuck.{can_leave, can_end}
-use Rattle.effects.proofs.NeedsOfAsyncs.{provides}
 use Rattle.own_run.proofs.ReachedTasks.{has_next, is_parted, ends_own, root_ends}
-use Rattle.effects.proofs.Summaries.{summaries_derived, summaries_stable}
-use Rattle.race_checker.proofs.Scoping.{is_scoped}
-use Rattle.race_checker.proofs.Calming.{is_calm}
-use Rattle.own_run.specs.Settling.{settle, IsParted}
-use Rattle.own_run.specs.Lists.{Each, Shuffled}
 
 pub provides_needs : (p : Program) → IsSound p → Provides p (needs_of p)
 provides_needs p sound = provides p (summaries p) (summaries_derived p) (summaries_stable p sound)

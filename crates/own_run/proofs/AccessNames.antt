@@ -2,17 +2,17 @@
 use Rattle.std.proofs.Common.{◌≡◌, ℕ, zero, suc, ◌<◌, List, [], ◌∷◌, refl, sym, subst, inl, inr, arith}
 use Rattle.std.proofs.lemmas.Bool.{eqb-false}
 use Rattle.std.specs.Prelude.{Bool, true, false, ◌||◌, nat_eq, Contains, if◌then◌else◌}
-use Rattle.types.specs.Code.{Code, Codes, End, Then, Program}
 use Rattle.sections.specs.Place.{Place}
+use Rattle.sections.specs.Member.{Member, first, next}
+use Rattle.types.specs.Code.{Code, Codes, End, Then, Program}
 use Rattle.types.specs.Value.{Environment}
 use Rattle.types.specs.Run.{procedure_of}
 use Rattle.effects.specs.Accesses.{Access, reads, own_accesses}
-use Rattle.sections.specs.Member.{Member, first, next}
 use Rattle.effects.specs.Effects.{past_split, if_body, if_other, while, split, call, AllOf, All, PendingOf, Pending}
 use Rattle.effects.specs.Effects.{accesses}
 use Rattle.effects.specs.Footprint.{Touches, Overwrites}
-use Rattle.race_checker.proofs.Scoping.{length_may_writes}
 use Rattle.race_checker.specs.Scope.{Scope, Top, Inside, InScope, may_writes, ScopedOf, Scoped}
+use Rattle.race_checker.proofs.Scoping.{length_may_writes}
 
 module _ (p : Program) where
   -- ---- a statement alone

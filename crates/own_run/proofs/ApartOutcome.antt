@@ -1,8 +1,8 @@
 -- The outcome of tasks apart is the one-thread outcome.
 use Rattle.std.proofs.Common.{◌≡◌, ℕ, zero, suc, ◌+◌, List, [], ◌∷◌, Option, refl, sym, ap, ◌∙◌, arith}
 use Rattle.std.specs.Prelude.{ℤ, Bool, true, false, ◌||◌, slice_index_or}
-use Rattle.types.specs.Code.{Array, Codes, Finish, Program}
 use Rattle.sections.specs.Place.{Place, In, nowhere}
+use Rattle.types.specs.Code.{Array, Codes, Finish, Program}
 use Rattle.types.specs.Contents.{Contents, held_by, shown}
 use Rattle.types.specs.Run.{Flow, On, Faulted, Stopped, Block, entry}
 use Rattle.types.specs.Meaning.{one_rules, one, begin_one}
@@ -11,16 +11,15 @@ use Rattle.effects.specs.Accesses.{Access}
 use Rattle.effects.specs.Effects.{Pending, PendingOf, accesses}
 use Rattle.effects.specs.Footprint.{Overwrites}
 use Rattle.effects.specs.Needs.{Needs, Provides}
+use Rattle.effects.proofs.Members.{false_true}
 use Rattle.race_checker.specs.Scope.{Top, FitsTop, arrays_of, IsScoped}
 use Rattle.race_checker.specs.Calm.{IsCalm}
-use Rattle.effects.proofs.Members.{false_true}
 use Rattle.own_run.specs.Apart.{Aside, nothing, is_stopped, merged, gather, apart, apart_outcome, begin_apart}
 use Rattle.own_run.specs.Ready.{Around}
 use Rattle.own_run.proofs.Windows.{not_nowhere}
 use Rattle.own_run.proofs.SideBySide.{S, A, Same, Agree, same, both_stop}
 use Rattle.own_run.proofs.StaysStopped.{begin_marks}
-use Rattle.own_run.proofs.Simulation.{within_sim, finish_agrees, finish_ready, enter_same, begins}
-use Rattle.own_run.proofs.Simulation.{ReadyOf}
+use Rattle.own_run.proofs.Simulation.{within_sim, finish_agrees, finish_ready, enter_same, begins, ReadyOf}
 
 -- ---- the arrays share no place
 pub array_here : (xs : List Array) (k a : ℕ) (q : Place) → In (slice_index_or (whole_arrays a xs) k nowhere) q → q.array ≡ a + k

@@ -1,21 +1,21 @@
 -- What a task lists, it has begun, each under a path of its own; and where all is handed over it never waits.
 use Rattle.std.proofs.lemmas.Option.{none-some}
-use Rattle.std.proofs.Common.{◌≡◌, ℕ, zero, suc, ◌+◌, List, [], ◌∷◌, ◌++◌, length, Option, Some, None, refl, sym, ap, ◌∙◌, subst, arith}
-use Rattle.std.proofs.Common.{append_assoc}
+use Rattle.std.proofs.Common.{◌≡◌, ℕ, zero, suc, ◌+◌, List, [], ◌∷◌, ◌++◌, length, Option, Some, None, refl, sym, ap}
+use Rattle.std.proofs.Common.{◌∙◌, subst, arith, append_assoc}
 use Rattle.std.proofs.lemmas.List.{append-nil}
 use Rattle.std.specs.Prelude.{Bool, true, false, slice_get, if◌then◌else◌}
 use Rattle.types.specs.Code.{Codes, Program}
 use Rattle.types.specs.Run.{State, Rules, Work, run}
+use Rattle.types.specs.Laws.{IsKept}
+use Rattle.types.proofs.Keeps.{run_keeps}
 use Rattle.effects.specs.Needs.{Needs}
-use Rattle.own_run.proofs.Lists.{each_more, each_last}
 use Rattle.own_run.specs.Results.{Settled}
 use Rattle.own_run.specs.OwnRun.{Start, Child, Action, Step, Spawn, EnterFinish, EndFinish, EndTask, Own, at_first}
 use Rattle.own_run.specs.OwnRun.{is_waiting, child_of, list_child, begin_own, go_on_with, leave_with, own_rules}
 use Rattle.own_run.specs.OwnRun.{begun_by, beginning}
 use Rattle.own_run.specs.Frames.{IsBegun, Fine}
-use Rattle.types.specs.Laws.{IsKept}
-use Rattle.types.proofs.Keeps.{run_keeps}
 use Rattle.own_run.specs.Lists.{Each}
+use Rattle.own_run.proofs.Lists.{each_more, each_last}
 
 -- ---- lists
 pub begun_by-append : (acts bs : List Action) → begun_by (acts ++ bs) ≡ begun_by acts ++ begun_by bs

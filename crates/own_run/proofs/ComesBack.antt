@@ -1,22 +1,22 @@
 -- What a task had at its beginning is there once all has come.
 use Rattle.std.proofs.Common.{◌≡◌, ℕ, zero, suc, List, [], ◌∷◌, ◌++◌, Option, Some, None, refl, sym, subst, inl, inr}
 use Rattle.std.specs.Prelude.{ℤ, Bool, true, false, if◌then◌else◌}
-use Rattle.types.specs.Code.{Codes, Program}
 use Rattle.sections.specs.Place.{Place}
+use Rattle.types.specs.Code.{Codes, Program}
 use Rattle.types.specs.Value.{Environment}
 use Rattle.types.specs.Run.{State, Block, run}
-use Rattle.effects.proofs.Members.{either_true, false_true, in_left}
-use Rattle.own_run.specs.Places.{or_else, within, only, written, touched}
-use Rattle.types.specs.Contents.{IsThere}
-use Rattle.effects.specs.Needs.{Needs}
-use Rattle.own_run.specs.Apart.{Aside, nothing, merged, child_apart, apart_rules_by, begin_apart}
-use Rattle.own_run.specs.Results.{Settled, fill}
-use Rattle.own_run.specs.OwnRun.{Start, Child, back_from, filled, comes_to, beginning}
-use Rattle.own_run.proofs.Windows.{named_some, some_named}
+use Rattle.types.specs.Contents.{IsThere, Extends}
 use Rattle.types.specs.Laws.{IsKept}
 use Rattle.types.proofs.Keeps.{run_keeps}
-use Rattle.types.specs.Contents.{Extends}
+use Rattle.effects.specs.Needs.{Needs}
+use Rattle.effects.proofs.Members.{either_true, false_true, in_left}
+use Rattle.own_run.specs.Places.{or_else, within, only, written, touched}
+use Rattle.own_run.specs.Apart.{Aside, nothing, merged, child_apart, apart_rules_by, begin_apart}
+use Rattle.own_run.specs.Results.{Settled, fill}
+use Rattle.own_run.specs.OwnRun.{Start, Child, back_from, beginning}
+use Rattle.own_run.specs.Given.{filled, comes_to}
 use Rattle.own_run.specs.Lists.{Each}
+use Rattle.own_run.proofs.Windows.{named_some, some_named}
 
 abbrev A : Type 0
 A = State Aside

@@ -1,26 +1,26 @@
 -- Where the results of all tasks below one are there, each once and in whatever order, it is settled.
-use Rattle.std.proofs.Common.{◌≡◌, ℕ, zero, suc, ◌+◌, ◌<◌, ◌≤◌, List, [], ◌∷◌, ◌++◌, length, Option, Some, None, refl, sym, ap, ◌∙◌, subst}
-use Rattle.std.proofs.Common.{arith, append_assoc, le_refl}
+use Rattle.std.proofs.Common.{◌≡◌, ℕ, zero, suc, ◌+◌, ◌<◌, ◌≤◌, List, [], ◌∷◌, ◌++◌, length, Option, Some, None, refl}
+use Rattle.std.proofs.Common.{sym, ap, ◌∙◌, subst, arith, append_assoc, le_refl}
 use Rattle.std.proofs.lemmas.Bool.{eq-eqb, and_from, or_from, or_left, or_right}
 use Rattle.std.proofs.lemmas.List.{append-nil}
 use Rattle.std.specs.Prelude.{◌≢◌, Bool, true, false, ◌||◌, nat_eq, map, flat_map, if◌then◌else◌}
+use Rattle.sections.specs.Place.{Place, Window}
 use Rattle.types.specs.Code.{Codes, Program}
 use Rattle.types.specs.Run.{Block}
-use Rattle.sections.specs.Place.{Place, Window}
-use Rattle.own_run.proofs.Lists.{each_more}
-use Rattle.own_run.specs.Places.{Places, covered, within, has_one, meets}
 use Rattle.effects.specs.Needs.{Needs}
+use Rattle.own_run.specs.Places.{Places, covered, within, has_one, meets}
 use Rattle.own_run.specs.Results.{TaskResult, Settled, none_yet, fill, complete, and_then}
-use Rattle.own_run.specs.OwnRun.{Start, Child, at_first, result_of, beginning, filled, in_truth, comes_to, own}
-use Rattle.own_run.specs.OwnRun.{below}
+use Rattle.own_run.specs.OwnRun.{Start, Child, at_first, result_of, beginning}
+use Rattle.own_run.specs.Given.{filled, in_truth, comes_to, own, below}
 use Rattle.own_run.specs.Frames.{IsBegun, IsTrue}
+use Rattle.own_run.specs.Settling.{same_path, behind, take, fill_all, settle_within, none_left, settle, Parted}
+use Rattle.own_run.specs.Settling.{IsParted}
+use Rattle.own_run.specs.Lists.{Each, Inserted, here, later, Shuffled, none, one}
+use Rattle.own_run.proofs.Lists.{each_more, NoTwice}
 use Rattle.own_run.proofs.Windows.{in_covered}
 use Rattle.own_run.proofs.Begun.{run_tells, at_first_fine}
 use Rattle.own_run.proofs.SettledResults.{paths_same, IsGiven, begun_is_true}
 use Rattle.own_run.proofs.OwnRunSettles.{own_settles}
-use Rattle.own_run.specs.Settling.{same_path, behind, take, fill_all, settle_within, none_left, settle, Parted, IsParted}
-use Rattle.own_run.specs.Lists.{Each, Inserted, here, later, Shuffled, none, one}
-use Rattle.own_run.proofs.Lists.{NoTwice}
 
 -- ---- shuffles
 record Picked {A : Type 0} (x : A) (xs zs : List A) : Type 0 where

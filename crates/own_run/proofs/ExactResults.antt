@@ -1,18 +1,19 @@
 -- What is settled used up the results of all tasks below, and no others.
 use Rattle.std.proofs.lemmas.Option.{none-some, same_Some}
-use Rattle.std.proofs.Common.{◌≡◌, ℕ, zero, suc, ◌+◌, List, [], ◌∷◌, ◌++◌, length, Option, Some, None, refl, sym, ap, ◌∙◌, subst}
-use Rattle.std.proofs.Common.{append_assoc}
+use Rattle.std.proofs.Common.{◌≡◌, ℕ, zero, suc, ◌+◌, List, [], ◌∷◌, ◌++◌, length, Option, Some, None, refl, sym, ap}
+use Rattle.std.proofs.Common.{◌∙◌, subst, append_assoc}
 use Rattle.std.proofs.lemmas.List.{append-nil}
 use Rattle.std.specs.Prelude.{Bool, true, false, ◌||◌, map, flat_map, if◌then◌else◌}
 use Rattle.types.specs.Code.{Codes, Program}
 use Rattle.effects.specs.Needs.{Needs}
 use Rattle.own_run.specs.Places.{Places, within, meets}
 use Rattle.own_run.specs.Results.{TaskResult, Settled, none_yet, fill}
-use Rattle.own_run.specs.OwnRun.{Start, Child, result_of, own, given, IsOwn, below}
-use Rattle.own_run.proofs.SettledResults.{unless_none, gives, taken, IsGiven, settle_sound}
-use Rattle.own_run.proofs.CompleteResults.{Stands, stands, lists_none}
+use Rattle.own_run.specs.OwnRun.{Start, Child, result_of}
+use Rattle.own_run.specs.Given.{own, given, IsOwn, below}
 use Rattle.own_run.specs.Settling.{same_path, behind, take, fill_all, settle_within, none_left, settle}
 use Rattle.own_run.specs.Lists.{Each, Inserted, here, later, Shuffled, none, one}
+use Rattle.own_run.proofs.SettledResults.{unless_none, gives, taken, IsGiven, settle_sound}
+use Rattle.own_run.proofs.CompleteResults.{Stands, stands, lists_none}
 
 -- what was taken stood there
 took : (path : List ℕ) (rs : List TaskResult) (found : TaskResult × List TaskResult) → take path rs ≡ Some found

@@ -1,28 +1,29 @@
 -- From its beginning to its end a task has what it touches.
-use Rattle.std.proofs.Common.{◌≡◌, ℕ, zero, suc, ◌+◌, ◌<◌, List, [], ◌∷◌, ◌++◌, length, Option, Some, refl, sym, ap, ◌∙◌, subst, inl, inr}
-use Rattle.std.proofs.Common.{arith}
+use Rattle.std.proofs.Common.{◌≡◌, ℕ, zero, suc, ◌+◌, ◌<◌, List, [], ◌∷◌, ◌++◌, length, Option, Some, refl, sym, ap}
+use Rattle.std.proofs.Common.{◌∙◌, subst, inl, inr, arith}
 use Rattle.std.proofs.lemmas.Bool.{or_left, or_right, false_from_ne_true}
 use Rattle.std.specs.Prelude.{ℤ, ◌⊎◌, true, ◌||◌, slice_get, slice_index_or}
-use Rattle.types.specs.Code.{Truth, Code, Do, If, While, Split, Call, Async, Finish, Codes, End, Then, Array, Program}
 use Rattle.sections.specs.Place.{Window, Place, In, nowhere}
-use Rattle.types.specs.Contents.{FitsArrays, also}
+use Rattle.types.specs.Code.{Truth, Code, Do, If, While, Split, Call, Async, Finish, Codes, End, Then, Array, Program}
+use Rattle.types.specs.Contents.{FitsArrays, also, IsThere}
 use Rattle.types.specs.Value.{Environment}
 use Rattle.types.specs.Run.{Flow, On, Faulted, Stopped, State, Rules, stopped, counted, entry}
 use Rattle.types.specs.Outcome.{whole_arrays}
 use Rattle.effects.specs.Accesses.{Access}
 use Rattle.effects.specs.Effects.{AllOf, All, Pending, accesses}
-use Rattle.effects.proofs.Members.{either_true, false_true, in_parts}
-use Rattle.own_run.proofs.Lists.{each_more}
-use Rattle.own_run.specs.Places.{covered, within}
-use Rattle.types.specs.Contents.{IsThere}
 use Rattle.effects.specs.Needs.{Needs, Provides}
+use Rattle.effects.proofs.Members.{either_true, false_true, in_parts}
 use Rattle.race_checker.specs.Scope.{Scope, Top, InScope, arrays_of, IsScoped}
 use Rattle.race_checker.specs.Calm.{IsCalm}
+use Rattle.own_run.specs.Places.{covered, within}
 use Rattle.own_run.specs.Results.{TaskResult, Settled, none_yet, complete}
-use Rattle.own_run.specs.OwnRun.{Start, Own, Step, at_first, notes, result_of, back_from, own_rules, filled}
-use Rattle.own_run.specs.OwnRun.{beginning, root_of, IsOwn}
+use Rattle.own_run.specs.OwnRun.{Start, Own, Step, at_first, notes, result_of, back_from, own_rules, beginning}
+use Rattle.own_run.specs.Given.{filled, root_of, IsOwn}
 use Rattle.own_run.specs.Frames.{Frame, Rest, Again, AtEnd, Back, paid, by_flow, turn, handed, IsTask}
 use Rattle.own_run.specs.Holds.{having, locked_after, Stack, MayBegin, Carries, Returns, Holds, HasOwn, HasNeeds}
+use Rattle.own_run.specs.Settling.{settle, Parted}
+use Rattle.own_run.specs.Lists.{Each}
+use Rattle.own_run.proofs.Lists.{each_more}
 use Rattle.own_run.proofs.Windows.{named_some, in_covered, not_nowhere}
 use Rattle.own_run.proofs.AccessNames.{named_all, overwrites_more}
 use Rattle.own_run.proofs.ApartOutcome.{arrays_fit, array_here}
@@ -33,8 +34,6 @@ use Rattle.own_run.proofs.KeepingHold.{none, lists, parted_less, returns_move, B
 use Rattle.own_run.proofs.KeepingHold.{written_overwrites}
 use Rattle.own_run.proofs.SettledResults.{part_sound}
 use Rattle.own_run.proofs.TaskRuns.{lists_given}
-use Rattle.own_run.specs.Settling.{settle, Parted}
-use Rattle.own_run.specs.Lists.{Each}
 
 module _ (p : Program) (needs : Codes → Needs) (is_scoped : IsScoped p) (is_calm : IsCalm p) (provides : Provides p needs) where
   module _ (nest : ℕ) (close : State Own → Option Settled) where

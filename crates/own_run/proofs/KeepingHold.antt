@@ -1,43 +1,40 @@
 -- Each turn of a task leaves it what it touches; so does what comes at the end of a finish.
-use Rattle.std.proofs.Common.{◌≡◌, ℕ, zero, suc, ◌<◌, List, [], ◌∷◌, ◌++◌, Option, Some, None, Ok, Err, refl, sym, ap, ◌∙◌, subst, inl, inr}
+use Rattle.std.proofs.Common.{◌≡◌, ℕ, zero, suc, ◌<◌, List, [], ◌∷◌, ◌++◌, Option, Some, None, Ok, Err, refl, sym, ap}
+use Rattle.std.proofs.Common.{◌∙◌, subst, inl, inr}
 use Rattle.std.proofs.lemmas.Bool.{or_left, or_right, or_from, or_parts, false_from_ne_true}
 use Rattle.std.specs.Prelude.{ℤ, ◌⊎◌, Bool, true, false, not, ◌&&◌, ◌||◌, map, ok_or, if◌then◌else◌}
+use Rattle.sections.specs.Place.{Window, Place, In, sides_of, same_place}
 use Rattle.types.specs.declared.fault.FaultKind.{FaultKind}
 use Rattle.types.specs.declared.fault.FaultKind.TheVariants.{SplitPoint, Raised}
-use Rattle.types.specs.Code.{Number, Truth, Primitive, Skip, Assign, Store, Print, Raise, Code, Do, If, While, Split, Call, Async, Finish}
-use Rattle.types.specs.Code.{Codes, End, Then, Program}
-use Rattle.sections.specs.Place.{Window, Place, In, sides_of, same_place}
-use Rattle.types.specs.Contents.{Contents}
+use Rattle.types.specs.Code.{Number, Truth, Primitive, Skip, Assign, Store, Print, Raise, Code, Do, If, While, Split}
+use Rattle.types.specs.Code.{Call, Async, Finish, Codes, End, Then, Program}
+use Rattle.types.specs.Contents.{Contents, IsThere, Extends}
 use Rattle.types.specs.Value.{Environment, Valued, element_of, holds_number}
-use Rattle.types.specs.Run.{State, Rules, stopped, fault, with_value, assign, print, put, number_at, numbers_at, truth_at, window_at, entry}
-use Rattle.types.specs.Run.{with_sides, array_of, procedure_of, primitive}
+use Rattle.types.specs.Run.{State, Rules, stopped, fault, with_value, assign, print, put, number_at, numbers_at}
+use Rattle.types.specs.Run.{truth_at, window_at, entry, with_sides, array_of, procedure_of, primitive}
+use Rattle.types.proofs.Keeps.{still_there}
 use Rattle.effects.specs.Accesses.{Access}
 use Rattle.effects.specs.Effects.{past_call, if_body, if_other, while, AllOf, All, PendingOf, Pending, accesses}
 use Rattle.effects.specs.Footprint.{Touches, Overwrites}
-use Rattle.effects.proofs.Members.{both_true, false_true, either_true}
-use Rattle.own_run.proofs.Lists.{each_last}
-use Rattle.own_run.specs.Places.{Places, within, written, touched}
-use Rattle.types.specs.Contents.{IsThere}
 use Rattle.effects.specs.Needs.{Needs, AreNeeds, Provides}
-use Rattle.race_checker.proofs.Scoping.{length_may_writes}
+use Rattle.effects.proofs.Members.{both_true, false_true, either_true}
 use Rattle.race_checker.specs.Scope.{Scope, Top, Inside, InScope, may_writes, Scoped, IsScoped}
 use Rattle.race_checker.specs.Calm.{IsCalm}
+use Rattle.race_checker.proofs.Scoping.{length_may_writes}
+use Rattle.own_run.specs.Places.{Places, within, written, touched}
 use Rattle.own_run.specs.Ready.{Around, Ready}
 use Rattle.own_run.specs.Results.{Listed, Settled}
 use Rattle.own_run.specs.OwnRun.{Child, Own, child_of, list_child, begin_own, back_from, own_rules}
 use Rattle.own_run.specs.Frames.{Frame, Rest, Again, AtEnd, Back, Standing, by_value, chosen, acted}
 use Rattle.own_run.specs.Holds.{having, locked_after, Left, Stack, Carries, Comes, Returns, Holds}
-use Rattle.own_run.proofs.Windows.{named_some, some_named, passed_same, sides_some}
-use Rattle.own_run.proofs.Windows.{around_split, split_agree}
-use Rattle.own_run.proofs.AccessNames.{named_all, touches_more, overwrites_more}
-use Rattle.types.proofs.Keeps.{still_there}
-use Rattle.own_run.proofs.Simulation.{behind, part_ready, again_ready, split_ready, call_ready}
-use Rattle.own_run.proofs.Stacks.{anywhere, restack, anchor, anchor_ready, unlock}
-use Rattle.own_run.proofs.ComesBack.{written_touched}
-use Rattle.types.specs.Contents.{Extends}
-use Rattle.own_run.proofs.Simulation.{ReadyOf}
 use Rattle.own_run.specs.Lists.{Each}
 use Rattle.own_run.specs.Settling.{Parted}
+use Rattle.own_run.proofs.Lists.{each_last}
+use Rattle.own_run.proofs.Windows.{named_some, some_named, passed_same, sides_some, around_split, split_agree}
+use Rattle.own_run.proofs.AccessNames.{named_all, touches_more, overwrites_more}
+use Rattle.own_run.proofs.Simulation.{behind, part_ready, again_ready, split_ready, call_ready, ReadyOf}
+use Rattle.own_run.proofs.Stacks.{anywhere, restack, anchor, anchor_ready, unlock}
+use Rattle.own_run.proofs.ComesBack.{written_touched}
 
 abbrev pub none : Place → Type 0
 none q = ⊥

@@ -1,33 +1,35 @@
 -- No finish is stuck: wherever a task that may come about stands at the end of a finish, results of own runs settle.
 use Rattle.std.proofs.lemmas.Option.{same_Some}
-use Rattle.std.proofs.Common.{◌≡◌, ℕ, zero, suc, ◌+◌, ◌<◌, ◌≤◌, List, [], ◌∷◌, length, Some, Ok, Err, refl, sym, ap, ◌∙◌, subst}
-use Rattle.std.proofs.Common.{arith, le_refl}
+use Rattle.std.proofs.Common.{◌≡◌, ℕ, zero, suc, ◌+◌, ◌<◌, ◌≤◌, List, [], ◌∷◌, length, Some, Ok, Err, refl, sym, ap}
+use Rattle.std.proofs.Common.{◌∙◌, subst, arith, le_refl}
 use Rattle.std.proofs.lemmas.List.{append-nil}
 use Rattle.std.specs.Prelude.{Bool, true, false, map, flat_map, ok_or}
+use Rattle.sections.specs.Place.{sides_of}
 use Rattle.types.specs.declared.fault.FaultKind.TheVariants.{SplitPoint}
 use Rattle.types.specs.Code.{Code, Do, If, While, Split, Call, Async, Finish, Codes, End, Then, Program}
-use Rattle.sections.specs.Place.{sides_of}
 use Rattle.types.specs.Value.{Valued}
-use Rattle.types.specs.Run.{Flow, On, Faulted, Stopped, State, Rules, number_at, numbers_at, truth_at, window_at, counted}
+use Rattle.types.specs.Run.{Flow, On, Faulted, Stopped, State, Rules, number_at, numbers_at, truth_at, window_at}
+use Rattle.types.specs.Run.{counted}
+use Rattle.types.proofs.Keeps.{primitive_keeps, counted_keeps}
 use Rattle.effects.specs.Needs.{Needs, Provides}
 use Rattle.race_checker.specs.Scope.{IsScoped}
 use Rattle.race_checker.specs.Calm.{IsCalm}
-use Rattle.own_run.proofs.Lists.{each_more, each_append}
 use Rattle.own_run.specs.Results.{TaskResult, Settled, none_yet, complete, and_then}
-use Rattle.own_run.specs.OwnRun.{Start, Child, Own, result_of, own_rules, filled, in_truth, own, given, below, IsOwn}
+use Rattle.own_run.specs.OwnRun.{Start, Child, Own, result_of, own_rules}
+use Rattle.own_run.specs.Given.{filled, in_truth, own, given, below, IsOwn}
 use Rattle.own_run.specs.Frames.{Frame, Rest, Again, AtEnd, Back, Standing, by_value, chosen, acted, paid, by_flow}
 use Rattle.own_run.specs.Frames.{turn, handed, IsBegun, Fine, IsTask, IsTrue}
 use Rattle.own_run.specs.Holds.{MayBegin, Holds}
+use Rattle.own_run.specs.Reached.{Reached, root_begins, child_begins, turns, leaves, CanSettle, CanEnd}
+use Rattle.own_run.specs.Settling.{fill_all, settle_within, none_left, settle, IsParted}
+use Rattle.own_run.specs.Lists.{Each, Shuffled, none, one, here}
+use Rattle.own_run.proofs.Lists.{each_more, each_append}
 use Rattle.own_run.proofs.CompleteResults.{Stands, fill_complete, settle_complete, none_in}
-use Rattle.types.proofs.Keeps.{primitive_keeps, counted_keeps}
 use Rattle.own_run.proofs.TaskRuns.{lists_given}
 use Rattle.own_run.proofs.OnePath.{Once, Names, names, From, own_path, all_once, below_once}
 use Rattle.own_run.proofs.SettledResults.{lists_true}
-use Rattle.own_run.specs.Reached.{Reached, root_begins, child_begins, turns, leaves, CanSettle, CanEnd}
 use Rattle.own_run.proofs.TasksEnd.{own_ends, each_below, below_parted, weight, Falls, spends, sheds, flow_falls}
 use Rattle.own_run.proofs.ReachedTasks.{goes}
-use Rattle.own_run.specs.Settling.{fill_all, settle_within, none_left, settle, IsParted}
-use Rattle.own_run.specs.Lists.{Each, Shuffled, none, one, here}
 
 -- ---- children have different paths, here and at each finish around
 abbrev OnceBelow : List (Frame Own) → Type 0
@@ -109,7 +111,8 @@ module _ (p : Program) (needs : Codes → Needs) (fresh : ℕ) where
   module _ (root : Start) where
     own_is_own : (s : Start) → given p needs fresh root s.path ≡ Some s → IsOwn p needs fresh root (result_of (own p needs fresh s))
     own_is_own s is t e =
-        ap (λ s. result_of (own p needs fresh s)) (same_Some _ _ (sym is ∙ ap (given p needs fresh root) (sym (own_path p needs fresh s)) ∙ e))
+        ap (λ s. result_of (own p needs fresh s))
+        (same_Some _ _ (sym is ∙ ap (given p needs fresh root) (sym (own_path p needs fresh s)) ∙ e))
 
     each_own : (results : Child → List TaskResult) (cs : List Child) → Each (IsTrue p needs fresh root) cs
         → ((c : Child) → IsTrue p needs fresh root c → Each (IsOwn p needs fresh root) (results c))

@@ -7,8 +7,9 @@ use Rattle.types.specs.Run.{State}
 use Rattle.effects.specs.Needs.{Needs}
 use Rattle.own_run.specs.Apart.{is_stopped}
 use Rattle.own_run.specs.Results.{TaskResult}
-use Rattle.own_run.specs.OwnRun.{Start, Action, Own, EndFinish, is_waiting, own_rules, in_truth, from_receipts}
-use Rattle.own_run.specs.OwnRun.{run_by, actions_of, last_action, next_action}
+use Rattle.own_run.specs.OwnRun.{Start, Action, Own, EndFinish, is_waiting, own_rules, from_receipts, run_by}
+use Rattle.own_run.specs.OwnRun.{actions_of, last_action, next_action}
+use Rattle.own_run.specs.Given.{in_truth}
 use Rattle.own_run.specs.Frames.{Frame, AtEnd, Standing, resume, turn, done_in, Fine, FineBelow, Follows}
 use Rattle.own_run.proofs.TaskTurns.{resume_grows}
 use Rattle.own_run.proofs.TaskRuns.{turns_follow}

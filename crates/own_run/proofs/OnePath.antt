@@ -1,21 +1,21 @@
 -- No two tasks below one have the same path.
 use Rattle.std.proofs.lemmas.Option.{none-some}
-use Rattle.std.proofs.Common.{◌≡◌, ℕ, zero, suc, ◌+◌, ◌<◌, List, [], ◌∷◌, ◌++◌, length, Option, Some, None, refl, sym, ap, ◌∙◌, subst}
-use Rattle.std.proofs.Common.{arith, append_assoc}
+use Rattle.std.proofs.Common.{◌≡◌, ℕ, zero, suc, ◌+◌, ◌<◌, List, [], ◌∷◌, ◌++◌, length, Option, Some, None, refl, sym}
+use Rattle.std.proofs.Common.{ap, ◌∙◌, subst, arith, append_assoc}
 use Rattle.std.specs.Prelude.{◌≢◌, Bool, true, false, flat_map, slice_get, if◌then◌else◌}
 use Rattle.types.specs.Code.{Codes, Program}
 use Rattle.types.specs.Run.{State, Rules, Work, Block, run}
-use Rattle.effects.specs.Needs.{Needs}
-use Rattle.own_run.proofs.Lists.{each_more, each_append}
-use Rattle.own_run.specs.Results.{TaskResult, Settled}
-use Rattle.own_run.specs.OwnRun.{Start, Child, Own, EndFinish, at_first, is_waiting, result_of, child_of, begin_own}
-use Rattle.own_run.specs.OwnRun.{leave_with, own_rules, begun_by, beginning, in_truth, own, below}
-use Rattle.own_run.specs.Frames.{IsBegun, Fine}
 use Rattle.types.specs.Laws.{IsKept}
 use Rattle.types.proofs.Keeps.{run_keeps}
-use Rattle.own_run.proofs.Begun.{Tells, tells, begin_tells, enter_tells, run_tells, at_first_fine}
+use Rattle.effects.specs.Needs.{Needs}
+use Rattle.own_run.specs.Results.{TaskResult, Settled}
+use Rattle.own_run.specs.OwnRun.{Start, Child, Own, EndFinish, at_first, is_waiting, result_of, child_of, begin_own}
+use Rattle.own_run.specs.OwnRun.{leave_with, own_rules, begun_by, beginning}
+use Rattle.own_run.specs.Given.{in_truth, own, below}
+use Rattle.own_run.specs.Frames.{IsBegun, Fine}
 use Rattle.own_run.specs.Lists.{Each, Inserted, here, later, Shuffled, none, one}
-use Rattle.own_run.proofs.Lists.{NoTwice}
+use Rattle.own_run.proofs.Lists.{each_more, each_append, NoTwice}
+use Rattle.own_run.proofs.Begun.{Tells, tells, begin_tells, enter_tells, run_tells, at_first_fine}
 
 -- ---- paths
 abbrev head_or : ℕ → List ℕ → ℕ

@@ -3,7 +3,8 @@ use Rattle.std.proofs.Common.{◌≡◌, ℕ, zero, suc, ◌+◌, List, [], ◌�
 use Rattle.std.proofs.lemmas.List.{append-nil}
 use Rattle.std.specs.Prelude.{ℤ, ◌⊎◌, Bool, true, false, ◌&&◌, ◌||◌, if◌then◌else◌}
 use Rattle.types.specs.Code.{Codes, Program}
-use Rattle.types.specs.Run.{Flow, On, Faulted, Stopped, Fault, State, Rules, Work, Block, at_flow, go_on, spend, with_step, within, run}
+use Rattle.types.specs.Run.{Flow, On, Faulted, Stopped, Fault, State, Rules, Work, Block, at_flow, go_on, spend}
+use Rattle.types.specs.Run.{with_step, within, run}
 use Rattle.types.specs.Meaning.{after_finish}
 use Rattle.types.proofs.Views.{Follows, FollowsAt, IsView, work_follows}
 use Rattle.effects.specs.Needs.{Needs}
@@ -11,8 +12,8 @@ use Rattle.effects.proofs.Members.{both_true, false_true}
 use Rattle.own_run.specs.Apart.{Aside, is_stopped, halts, merged, gather, apart_rules, begin_apart, apart}
 use Rattle.own_run.specs.Results.{Settled, none_yet, fill, complete}
 use Rattle.own_run.specs.OwnRun.{Start, Child, Own, EndFinish, at_first, notes, is_waiting, result_of, child_of}
-use Rattle.own_run.specs.OwnRun.{list_child, begin_own, go_on_with, leave_with, own_rules, beginning, filled}
-use Rattle.own_run.specs.OwnRun.{in_truth, comes_to, own}
+use Rattle.own_run.specs.OwnRun.{list_child, begin_own, go_on_with, leave_with, own_rules, beginning}
+use Rattle.own_run.specs.Given.{filled, in_truth, comes_to, own}
 use Rattle.own_run.proofs.Begun.{never_waits}
 
 abbrev A : Type 0

@@ -1,20 +1,21 @@
 -- In a sound and accepted program each task that may come about is its own run, and has what it touches.
 use Rattle.std.proofs.Common.{◌≡◌, ℕ, List, [], ◌∷◌, Some, sym, ap, ◌∙◌, subst}
+use Rattle.sections.specs.Member.{Member, first, next}
 use Rattle.types.specs.Code.{Code, Do, If, While, Split, Call, Async, Finish, Codes, End, Then, Program}
 use Rattle.types.specs.Run.{State}
-use Rattle.sections.specs.Member.{Member, first, next}
 use Rattle.effects.specs.Needs.{Needs, Provides}
 use Rattle.race_checker.specs.Scope.{IsScoped}
 use Rattle.race_checker.specs.Calm.{IsCalm}
 use Rattle.own_run.specs.Results.{TaskResult}
-use Rattle.own_run.specs.OwnRun.{Start, Own, result_of, own, given, in_truth, IsOwn}
+use Rattle.own_run.specs.OwnRun.{Start, Own, result_of}
+use Rattle.own_run.specs.Given.{own, given, in_truth, IsOwn}
 use Rattle.own_run.specs.Frames.{Frame, Rest, Again, AtEnd, Back, Standing, IsTask, IsTrue}
 use Rattle.own_run.specs.Holds.{MayBegin, Carries, Holds}
-use Rattle.own_run.proofs.TaskRuns.{begins_task, turns_task, lists_given, leaves_task, ends_task}
-use Rattle.own_run.proofs.HoldingTurns.{turn_holds, handed_holds, first_has, again_has, async_has, begin_holds}
 use Rattle.own_run.specs.Reached.{Reached, root_begins, child_begins, turns, leaves, IsResult, HasNeedsOf, HasNext}
 use Rattle.own_run.specs.Lists.{Each}
 use Rattle.own_run.specs.Settling.{IsParted}
+use Rattle.own_run.proofs.TaskRuns.{begins_task, turns_task, lists_given, leaves_task, ends_task}
+use Rattle.own_run.proofs.HoldingTurns.{turn_holds, handed_holds, first_has, again_has, async_has, begin_holds}
 
 each_member : {A : Type 0} (P : A → Type 0) (x : A) (xs : List A) → Each P xs → Member x xs → P x
 each_member P x (y ∷ xs) all first = all.0

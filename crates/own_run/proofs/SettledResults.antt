@@ -1,28 +1,29 @@
 -- Whatever is settled from results that are own runs is what comes of its start, in whatever order they stand.
 use Rattle.std.proofs.lemmas.Option.{none-some, same_Some}
-use Rattle.std.proofs.Common.{◌≡◌, ℕ, zero, suc, ◌+◌, List, [], ◌∷◌, ◌++◌, length, Option, Some, None, refl, sym, ap, ◌∙◌, subst}
+use Rattle.std.proofs.Common.{◌≡◌, ℕ, zero, suc, ◌+◌, List, [], ◌∷◌, ◌++◌, length, Option, Some, None, refl, sym, ap}
+use Rattle.std.proofs.Common.{◌∙◌, subst}
 use Rattle.std.proofs.lemmas.Bool.{eqb-true}
 use Rattle.std.specs.Prelude.{ℤ, Bool, true, false, ◌||◌, nat_eq, map, slice_get, if◌then◌else◌}
 use Rattle.types.specs.Code.{Codes, Program}
 use Rattle.types.specs.Contents.{held_by, shown}
 use Rattle.types.specs.Run.{State, Block}
 use Rattle.types.specs.Outcome.{Budget, start, outcome_by, outcome}
-use Rattle.effects.proofs.Members.{both_true, false_true}
-use Rattle.own_run.proofs.Lists.{each_more}
-use Rattle.own_run.specs.Places.{Places, within, meets}
 use Rattle.effects.specs.Needs.{Needs, Provides}
+use Rattle.effects.proofs.Members.{both_true, false_true}
 use Rattle.race_checker.specs.Scope.{IsScoped}
 use Rattle.race_checker.specs.Calm.{IsCalm}
+use Rattle.own_run.specs.Places.{Places, within, meets}
 use Rattle.own_run.specs.Apart.{nothing, merged, apart, apart_outcome}
 use Rattle.own_run.specs.Results.{TaskResult, Settled, none_yet, fill, complete, and_then}
-use Rattle.own_run.specs.OwnRun.{Start, Child, Own, at_first, result_of, begun_by, kth, beginning, filled, in_truth}
-use Rattle.own_run.specs.OwnRun.{comes_to, own, given, IsOwn, root_of, told_of}
+use Rattle.own_run.specs.OwnRun.{Start, Child, Own, at_first, result_of, begun_by, kth, beginning}
+use Rattle.own_run.specs.Given.{filled, in_truth, comes_to, own, given, IsOwn, root_of, told_of}
 use Rattle.own_run.specs.Frames.{IsBegun, IsTrue}
+use Rattle.own_run.specs.Settling.{same_path, behind, take, fill_all, settle_within, none_left, settle}
+use Rattle.own_run.specs.Lists.{Each}
+use Rattle.own_run.proofs.Lists.{each_more}
 use Rattle.own_run.proofs.Begun.{run_tells, at_first_fine}
 use Rattle.own_run.proofs.OwnRunSettles.{own_settles, flow_is}
 use Rattle.own_run.proofs.ApartOutcome.{settles}
-use Rattle.own_run.specs.Settling.{same_path, behind, take, fill_all, settle_within, none_left, settle}
-use Rattle.own_run.specs.Lists.{Each}
 
 -- ---- options
 pub unless_none : {A : Type 0} {x : A} (b : Bool) (o : Option A) → (if b then None else o) ≡ Some x → o ≡ Some x

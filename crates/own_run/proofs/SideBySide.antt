@@ -1,18 +1,18 @@
 -- What holds between a run on one thread and a run of tasks apart, and what single operations keep of it.
-use Rattle.std.proofs.Common.{◌≡◌, ℕ, zero, suc, List, [], ◌∷◌, ◌++◌, Option, Some, None, Ok, Err, refl, sym, ap, ◌∙◌, subst, arith}
-use Rattle.std.proofs.Common.{unwrap_or}
+use Rattle.std.proofs.Common.{◌≡◌, ℕ, zero, suc, List, [], ◌∷◌, ◌++◌, Option, Some, None, Ok, Err, refl, sym, ap, ◌∙◌}
+use Rattle.std.proofs.Common.{subst, arith, unwrap_or}
 use Rattle.std.proofs.lemmas.Bool.{or_right}
 use Rattle.std.proofs.lemmas.List.Elements.{Contains-append_left, Contains-append_right}
 use Rattle.std.specs.Prelude.{ℤ, pos, Bool, true, false, ◌||◌, Contains, flat_map, if◌then◌else◌}
+use Rattle.sections.specs.Place.{Place, In, same_place}
 use Rattle.types.specs.declared.fault.FaultKind.{FaultKind}
 use Rattle.types.specs.Code.{Number, Truth}
-use Rattle.sections.specs.Place.{Place, In, same_place}
 use Rattle.types.specs.Contents.{read, write}
 use Rattle.types.specs.Value.{Environment, Valued, then_try, number, truth}
 use Rattle.types.specs.Indexed.{indexed, indexed_truth}
 use Rattle.types.specs.Laws.{SameOn}
-use Rattle.types.specs.Run.{Flow, On, Faulted, Stopped, State, fault, at_flow, go_on, spend, with_step, with_value, assign, bind, print}
-use Rattle.types.specs.Run.{put, choose, number_at, numbers_at, truth_at}
+use Rattle.types.specs.Run.{Flow, On, Faulted, Stopped, State, fault, at_flow, go_on, spend, with_step, with_value}
+use Rattle.types.specs.Run.{assign, bind, print, put, choose, number_at, numbers_at, truth_at}
 use Rattle.types.proofs.Readings.{number_same, truth_same}
 use Rattle.race_checker.specs.Scope.{InScope}
 use Rattle.own_run.specs.Places.{or_else}

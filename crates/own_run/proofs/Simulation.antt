@@ -1,40 +1,41 @@
 -- Run apart and gathered, a calm program does what it does on one thread.
 use Rattle.std.proofs.lemmas.Option.{none-some}
-use Rattle.std.proofs.Common.{◌≡◌, ℕ, zero, suc, ◌+◌, ◌<◌, List, [], ◌∷◌, ◌++◌, Option, Some, None, refl, sym, ap, ◌∙◌, subst, inl, inr}
+use Rattle.std.proofs.Common.{◌≡◌, ℕ, zero, suc, ◌+◌, ◌<◌, List, [], ◌∷◌, ◌++◌, Option, Some, None, refl, sym, ap}
+use Rattle.std.proofs.Common.{◌∙◌, subst, inl, inr}
 use Rattle.std.proofs.lemmas.Bool.{or_left, or_right, or_from}
 use Rattle.std.proofs.lemmas.List.Elements.{Contains-append_left, Contains-append_right}
 use Rattle.std.specs.Prelude.{ℤ, ◌⊎◌, Bool, true, false, Contains, flat_map, map, ok_or, if◌then◌else◌}
-use Rattle.types.specs.declared.fault.FaultKind.TheVariants.{SplitPoint, Raised}
-use Rattle.types.specs.Code.{Number, Truth, Primitive, Skip, Assign, Store, Print, Raise, Code, Do, If, While, Split, Call, Async, Finish}
-use Rattle.types.specs.Code.{Codes, End, Then, Program}
 use Rattle.sections.specs.Place.{Window, Place, In, sides_of}
+use Rattle.sections.specs.Member.{Member, first, next}
+use Rattle.types.specs.declared.fault.FaultKind.TheVariants.{SplitPoint, Raised}
+use Rattle.types.specs.Code.{Number, Truth, Primitive, Skip, Assign, Store, Print, Raise, Code, Do, If, While, Split}
+use Rattle.types.specs.Code.{Call, Async, Finish, Codes, End, Then, Program}
 use Rattle.types.specs.Contents.{Contents}
 use Rattle.types.specs.Value.{element_of, holds_number}
 use Rattle.types.specs.Indexed.{indexed, indexed_truth}
-use Rattle.types.specs.Run.{Flow, On, Faulted, Stopped, Work, Block, Turn, Rules, window_at, entry, with_sides, array_of, procedure_of}
-use Rattle.types.specs.Run.{counted, act, block, work, within}
+use Rattle.types.specs.Run.{Flow, On, Faulted, Stopped, Work, Block, Turn, Rules, window_at, entry, with_sides}
+use Rattle.types.specs.Run.{array_of, procedure_of, counted, act, block, work, within}
 use Rattle.types.specs.Meaning.{hushed, joined, child, after_async, after_body, after_finish, one_rules_by, begin_one}
 use Rattle.effects.specs.Accesses.{Access, own_accesses}
-use Rattle.sections.specs.Member.{Member, first, next}
 use Rattle.effects.specs.Effects.{past_split, past_call, renamed, if_body, if_other, while, split, call, AllOf, All}
 use Rattle.effects.specs.Effects.{PendingOf, Pending, accesses}
 use Rattle.effects.specs.Footprint.{Touches, Overwrites}
-use Rattle.effects.proofs.Members.{false_true}
-use Rattle.own_run.specs.Places.{or_else, written, touched}
 use Rattle.effects.specs.Needs.{Needs, ProvidesIn, ProvidesOf, Provides}
-use Rattle.race_checker.proofs.Scoping.{length_may_writes}
+use Rattle.effects.proofs.Members.{false_true}
 use Rattle.race_checker.specs.Scope.{Top, Inside, InScope, FitsScope, may_writes, Scoped, ScopedOf, IsScoped}
 use Rattle.race_checker.specs.Calm.{Calm, CalmOf, IsCalm}
+use Rattle.race_checker.proofs.Scoping.{length_may_writes}
+use Rattle.own_run.specs.Places.{or_else, written, touched}
 use Rattle.own_run.specs.Apart.{Aside, nothing, is_stopped, halts, merged, child_apart, set_aside, gather}
 use Rattle.own_run.specs.Apart.{apart_rules_by, begin_apart}
 use Rattle.own_run.specs.Ready.{Around, Ready}
-use Rattle.own_run.proofs.Windows.{named_some, some_named, element_in, sides_some, sides_in, split_in}
-use Rattle.own_run.proofs.Windows.{call_in, passed_same, fits_split, around_split, split_agree}
-use Rattle.own_run.proofs.AccessNames.{all_alone, pending_alone, named_all, touches_more}
-use Rattle.own_run.proofs.AccessNames.{overwrites_more, overwrites_touch, read_listed}
-use Rattle.own_run.proofs.SideBySide.{S, A, Set, Same, Agree, same, both_stop, widen, then_same, step_same, fault_same}
-use Rattle.own_run.proofs.SideBySide.{value_same, choose_same, reads_same, Readable, number_alike, truth_alike}
-use Rattle.own_run.proofs.SideBySide.{numbers_alike, assign_same, print_same, put_same}
+use Rattle.own_run.proofs.Windows.{named_some, some_named, element_in, sides_some, sides_in, split_in, call_in}
+use Rattle.own_run.proofs.Windows.{passed_same, fits_split, around_split, split_agree}
+use Rattle.own_run.proofs.AccessNames.{all_alone, pending_alone, named_all, touches_more, overwrites_more}
+use Rattle.own_run.proofs.AccessNames.{overwrites_touch, read_listed}
+use Rattle.own_run.proofs.SideBySide.{S, A, Set, Same, Agree, same, both_stop, widen, then_same, step_same}
+use Rattle.own_run.proofs.SideBySide.{fault_same, value_same, choose_same, reads_same, Readable, number_alike}
+use Rattle.own_run.proofs.SideBySide.{truth_alike, numbers_alike, assign_same, print_same, put_same}
 use Rattle.own_run.proofs.StaysStopped.{Marks, dies, within_marks, block_marks, begin_marks}
 
 abbrev pub nowhere : Set

@@ -1,25 +1,27 @@
 -- A task is stopped by its budget, and by a stopped task that its finish gathers; by nothing else.
 use Rattle.std.proofs.lemmas.Option.{none-some, same_Some}
-use Rattle.std.proofs.Common.{◌≡◌, ℕ, zero, suc, ◌+◌, List, [], ◌∷◌, length, Option, Some, None, Ok, Err, refl, sym, ap, ◌∙◌, subst}
+use Rattle.std.proofs.Common.{◌≡◌, ℕ, zero, suc, ◌+◌, List, [], ◌∷◌, length, Option, Some, None, Ok, Err, refl, sym}
+use Rattle.std.proofs.Common.{ap, ◌∙◌, subst}
 use Rattle.std.specs.Prelude.{Bool, true, false, ◌||◌, ok_or, if◌then◌else◌}
-use Rattle.types.specs.declared.fault.FaultKind.TheVariants.{SplitPoint}
-use Rattle.types.specs.Code.{Primitive, Skip, Assign, Store, Print, Raise, Code, Do, If, While, Split, Call, Async, Finish}
-use Rattle.types.specs.Code.{Codes, End, Then, Program}
+use Rattle.std.proofs.Math.Bool.{or-false}
 use Rattle.sections.specs.Place.{Place, sides_of}
+use Rattle.types.specs.declared.fault.FaultKind.TheVariants.{SplitPoint}
+use Rattle.types.specs.Code.{Primitive, Skip, Assign, Store, Print, Raise, Code, Do, If, While, Split, Call, Async}
+use Rattle.types.specs.Code.{Finish, Codes, End, Then, Program}
 use Rattle.types.specs.Value.{Valued, element_of, holds_number}
-use Rattle.types.specs.Run.{Flow, On, Faulted, Stopped, Fault, State, Rules, with_value, put, print, assign, primitive}
-use Rattle.types.specs.Run.{number_at, numbers_at, truth_at, window_at, array_of}
+use Rattle.types.specs.Run.{Flow, On, Faulted, Stopped, Fault, State, Rules, with_value, put, print, assign}
+use Rattle.types.specs.Run.{primitive, number_at, numbers_at, truth_at, window_at, array_of}
 use Rattle.types.specs.Meaning.{after_finish}
 use Rattle.effects.specs.Needs.{Needs}
 use Rattle.own_run.specs.Places.{Places, within, meets}
 use Rattle.own_run.specs.Apart.{is_stopped}
 use Rattle.own_run.specs.Results.{Listed, TaskResult, Settled, none_yet, fill, complete}
 use Rattle.own_run.specs.OwnRun.{Own, own_rules, begin_own, result_of}
-use Rattle.own_run.specs.Frames.{Frame, Rest, Again, AtEnd, Back, Standing, by_value, chosen, paid, by_flow, turn, handed}
+use Rattle.own_run.specs.Frames.{Frame, Rest, Again, AtEnd, Back, Standing, by_value, chosen, paid, by_flow, turn}
+use Rattle.own_run.specs.Frames.{handed}
 use Rattle.own_run.specs.Stops.{is_none, is_over, is_next_over, stops, some_halted}
-use Rattle.std.proofs.Math.Bool.{or-false}
-use Rattle.own_run.proofs.SettledResults.{unless_none, gives}
 use Rattle.own_run.specs.Settling.{same_path, behind, take, fill_all, settle_within, none_left, settle}
+use Rattle.own_run.proofs.SettledResults.{unless_none, gives}
 
 or_assoc : (a b c : Bool) → ((a || b) || c) ≡ (a || (b || c))
 or_assoc true b c = refl

@@ -1,23 +1,25 @@
 -- From its beginning to its end a task is its own run; so are its result and the starts of its children.
 use Rattle.std.proofs.lemmas.Option.{same_Some}
-use Rattle.std.proofs.Common.{◌≡◌, ℕ, zero, suc, ◌+◌, List, [], ◌∷◌, ◌++◌, length, Option, Some, refl, sym, ap, ◌∙◌, arith, append_assoc}
+use Rattle.std.proofs.Common.{◌≡◌, ℕ, zero, suc, ◌+◌, List, [], ◌∷◌, ◌++◌, length, Option, Some, refl, sym, ap, ◌∙◌}
+use Rattle.std.proofs.Common.{arith, append_assoc}
 use Rattle.std.specs.Prelude.{Bool, true, false, ◌&&◌, slice_get, if◌then◌else◌}
 use Rattle.types.specs.Code.{Code, Do, If, While, Split, Call, Async, Finish, Codes, End, Then, Program}
 use Rattle.types.specs.Run.{Flow, On, Faulted, Stopped, State, Rules}
 use Rattle.effects.specs.Needs.{Needs}
-use Rattle.own_run.proofs.Lists.{each_more}
 use Rattle.own_run.specs.Apart.{is_stopped}
 use Rattle.own_run.specs.Results.{TaskResult, Settled, none_yet, complete, and_then}
 use Rattle.own_run.specs.OwnRun.{Start, Action, Own, EndFinish, at_first, notes, result_of, leave_with, own_rules}
-use Rattle.own_run.specs.OwnRun.{begun_by, beginning, filled, in_truth, own, from_receipts, run_by, given, IsOwn}
+use Rattle.own_run.specs.OwnRun.{begun_by, beginning, from_receipts, run_by}
+use Rattle.own_run.specs.Given.{filled, in_truth, own, given, IsOwn}
 use Rattle.own_run.specs.Frames.{Frame, Rest, Again, AtEnd, Back, Standing, resume, paid, by_flow, turn, handed}
 use Rattle.own_run.specs.Frames.{IsBegun, Fine, FineBelow, IsTrue, IsTask, Follows}
+use Rattle.own_run.specs.Settling.{settle}
+use Rattle.own_run.specs.Lists.{Each}
+use Rattle.own_run.proofs.Lists.{each_more}
 use Rattle.own_run.proofs.Begun.{at_first_fine, quiet, begun_by-append, get-append_left, still_begun}
 use Rattle.own_run.proofs.SettledResults.{begun_is_true, part_sound}
 use Rattle.own_run.proofs.TurnsResume.{turn_keeps}
 use Rattle.own_run.proofs.TaskTurns.{own_thrifty, resume_grows, turn_kept}
-use Rattle.own_run.specs.Settling.{settle}
-use Rattle.own_run.specs.Lists.{Each}
 
 asleep : (f w : Bool) → w ≡ false → (f && w) ≡ false
 asleep true w e = e

@@ -1,26 +1,25 @@
 -- A task's turns keep what is true of it, whatever else happens between them.
-use Rattle.std.proofs.Common.{◌≡◌, ℕ, zero, suc, ◌≤◌, List, [], ◌∷◌, ◌++◌, Option, Some, None, Ok, Err, refl, sym, ap, ◌∙◌, le_refl}
-use Rattle.std.proofs.Common.{append_assoc}
+use Rattle.std.proofs.Common.{◌≡◌, ℕ, zero, suc, ◌≤◌, List, [], ◌∷◌, ◌++◌, Option, Some, None, Ok, Err, refl, sym, ap}
+use Rattle.std.proofs.Common.{◌∙◌, le_refl, append_assoc}
 use Rattle.std.proofs.lemmas.List.{append-nil}
 use Rattle.std.specs.Prelude.{Bool, true, false, map, ok_or, if◌then◌else◌}
+use Rattle.sections.specs.Place.{sides_of}
 use Rattle.types.specs.declared.fault.FaultKind.TheVariants.{SplitPoint}
 use Rattle.types.specs.Code.{Code, Do, If, While, Split, Call, Async, Finish, Codes, End, Then, Program}
-use Rattle.sections.specs.Place.{sides_of}
 use Rattle.types.specs.Value.{Valued}
-use Rattle.types.specs.Run.{Flow, On, Faulted, Stopped, State, Rules, Work, Block, Turn, stopped, at_flow, fault, number_at, numbers_at}
-use Rattle.types.specs.Run.{truth_at, window_at, entry, with_sides, procedure_of, primitive, counted, run}
-use Rattle.types.specs.Laws.{IsThrifty}
+use Rattle.types.specs.Run.{Flow, On, Faulted, Stopped, State, Rules, Work, Block, Turn, stopped, at_flow, fault}
+use Rattle.types.specs.Run.{number_at, numbers_at, truth_at, window_at, entry, with_sides, procedure_of, primitive}
+use Rattle.types.specs.Run.{counted, run}
+use Rattle.types.specs.Laws.{IsThrifty, IsKept}
+use Rattle.types.proofs.Keeps.{primitive_keeps, counted_keeps}
 use Rattle.effects.specs.Needs.{Needs}
-use Rattle.own_run.proofs.Lists.{each_more}
 use Rattle.own_run.specs.Results.{Settled}
 use Rattle.own_run.specs.OwnRun.{Action, Own, EndFinish, notes, is_waiting, begin_own, leave_with, leave_own}
 use Rattle.own_run.specs.OwnRun.{own_rules}
 use Rattle.own_run.specs.Frames.{Frame, Rest, Again, AtEnd, Back, Standing, frame, resume, by_value, chosen, acted}
 use Rattle.own_run.specs.Frames.{paid, by_flow, turn, IsBegun, Fine, FineBelow}
-use Rattle.types.specs.Laws.{IsKept}
-use Rattle.types.proofs.Keeps.{primitive_keeps, counted_keeps}
-use Rattle.own_run.proofs.Begun.{Tells, tells, idle_tells, still_begun, run_tells, enter_tells}
-use Rattle.own_run.proofs.Begun.{begin_tells}
+use Rattle.own_run.proofs.Lists.{each_more}
+use Rattle.own_run.proofs.Begun.{Tells, tells, idle_tells, still_begun, run_tells, enter_tells, begin_tells}
 
 module _ (p : Program) (needs : Codes → Needs) (nest : ℕ) (close : State Own → Option Settled) where
   abbrev r : Rules Own

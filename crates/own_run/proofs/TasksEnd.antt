@@ -1,30 +1,31 @@
 -- Each task that can begin comes to its end by turns, so that it has at its end what it touches; and the results of all settle.
-use Rattle.std.proofs.Common.{◌≡◌, ℕ, zero, suc, ◌+◌, ◌<◌, ◌≤◌, List, [], ◌∷◌, Some, Ok, Err, refl, subst, arith, le_refl}
+use Rattle.std.proofs.Common.{◌≡◌, ℕ, zero, suc, ◌+◌, ◌<◌, ◌≤◌, List, [], ◌∷◌, Some, Ok, Err, refl, subst, arith}
+use Rattle.std.proofs.Common.{le_refl}
 use Rattle.std.specs.Prelude.{ℤ, Bool, true, false, flat_map, ok_or}
-use Rattle.types.specs.declared.fault.FaultKind.TheVariants.{SplitPoint}
-use Rattle.types.specs.Code.{Primitive, Skip, Assign, Store, Print, Raise, Code, Do, If, While, Split, Call, Async, Finish, Codes, End}
-use Rattle.types.specs.Code.{Then, Program}
 use Rattle.sections.specs.Place.{Place, sides_of}
+use Rattle.types.specs.declared.fault.FaultKind.TheVariants.{SplitPoint}
+use Rattle.types.specs.Code.{Primitive, Skip, Assign, Store, Print, Raise, Code, Do, If, While, Split, Call, Async}
+use Rattle.types.specs.Code.{Finish, Codes, End, Then, Program}
 use Rattle.types.specs.Value.{Valued, element_of, holds_number}
-use Rattle.types.specs.Run.{Flow, On, Faulted, Stopped, State, Rules, with_value, assign, put, number_at, numbers_at, truth_at, window_at}
-use Rattle.types.specs.Run.{array_of, primitive, counted}
+use Rattle.types.specs.Run.{Flow, On, Faulted, Stopped, State, Rules, with_value, assign, put, number_at, numbers_at}
+use Rattle.types.specs.Run.{truth_at, window_at, array_of, primitive, counted}
 use Rattle.effects.specs.Needs.{Needs, Provides}
 use Rattle.race_checker.specs.Scope.{IsScoped}
 use Rattle.race_checker.specs.Calm.{IsCalm}
-use Rattle.own_run.proofs.Lists.{each_append}
 use Rattle.own_run.specs.Results.{TaskResult, none_yet, complete}
-use Rattle.own_run.specs.OwnRun.{Start, Child, Own, result_of, begin_own, own_rules, comes_to, filled, in_truth, own}
-use Rattle.own_run.specs.OwnRun.{given, below}
+use Rattle.own_run.specs.OwnRun.{Start, Child, Own, result_of, begin_own, own_rules}
+use Rattle.own_run.specs.Given.{comes_to, filled, in_truth, own, given, below}
 use Rattle.own_run.specs.Frames.{Frame, Rest, Again, AtEnd, Back, Standing, by_value, chosen, acted, paid, by_flow}
 use Rattle.own_run.specs.Frames.{turn, handed, IsTask, IsTrue}
 use Rattle.own_run.specs.Holds.{MayBegin, Carries, Holds}
+use Rattle.own_run.specs.Settling.{settle, IsParted}
+use Rattle.own_run.specs.Lists.{Each, Shuffled}
+use Rattle.own_run.proofs.Lists.{each_append}
 use Rattle.own_run.proofs.CompleteResults.{own_complete}
 use Rattle.own_run.proofs.TaskRuns.{begins_task, turns_task, handed_task}
 use Rattle.own_run.proofs.OnePath.{shuffled_each, shuffled_once, below_once}
 use Rattle.own_run.proofs.SettledResults.{lists_true}
 use Rattle.own_run.proofs.HoldingTurns.{turn_holds, handed_true, begin_holds}
-use Rattle.own_run.specs.Settling.{settle, IsParted}
-use Rattle.own_run.specs.Lists.{Each, Shuffled}
 
 -- ---- a turn spends a step, or leaves less on the frames
 abbrev pub size : Codes → ℕ

@@ -1,12 +1,16 @@
 -- What a turn does, and that a task waits at the end of a finish.
-use Rattle.std.proofs.Common.{◌≡◌, ℕ, zero, suc, List, [], ◌∷◌, ◌++◌, length, Option, None, Ok, Err, refl, sym, ap, ◌∙◌, subst, arith}
+use Rattle.std.proofs.Common.{◌≡◌, ℕ, zero, suc, List, [], ◌∷◌, ◌++◌, length, Option, None, Ok, Err, refl, sym, ap}
+use Rattle.std.proofs.Common.{◌∙◌, subst, arith}
 use Rattle.std.proofs.lemmas.List.{append-nil}
 use Rattle.std.specs.Prelude.{Bool, true, false, ◌&&◌, ok_or, slice_get, if◌then◌else◌}
+use Rattle.sections.specs.Place.{sides_of}
 use Rattle.types.specs.declared.fault.FaultKind.TheVariants.{SplitPoint}
 use Rattle.types.specs.Code.{Code, Do, If, While, Split, Call, Async, Finish, Codes, End, Then, Program}
-use Rattle.sections.specs.Place.{sides_of}
 use Rattle.types.specs.Value.{Valued}
-use Rattle.types.specs.Run.{Flow, On, Faulted, Stopped, State, Rules, Block, Turn, number_at, numbers_at, truth_at, window_at, at_flow, run}
+use Rattle.types.specs.Run.{Flow, On, Faulted, Stopped, State, Rules, Block, Turn, number_at, numbers_at, truth_at}
+use Rattle.types.specs.Run.{window_at, at_flow, run}
+use Rattle.types.specs.Laws.{IsKept}
+use Rattle.types.proofs.Keeps.{primitive_keeps}
 use Rattle.effects.specs.Needs.{Needs}
 use Rattle.effects.proofs.Members.{both_true, false_true}
 use Rattle.own_run.specs.Apart.{is_stopped}
@@ -15,8 +19,6 @@ use Rattle.own_run.specs.OwnRun.{Start, Action, Step, EnterFinish, Own, EndFinis
 use Rattle.own_run.specs.OwnRun.{leave_with, leave_own, own_rules, begin_own, from_receipts, run_by}
 use Rattle.own_run.specs.Frames.{Frame, Rest, Again, AtEnd, Back, Standing, frame, resume, by_value, chosen, paid}
 use Rattle.own_run.specs.Frames.{by_flow, turn, done_by, done_at, done_in, Follows}
-use Rattle.types.specs.Laws.{IsKept}
-use Rattle.types.proofs.Keeps.{primitive_keeps}
 use Rattle.own_run.specs.Settling.{settle}
 
 module _ (p : Program) (needs : Codes → Needs) (nest : ℕ) (close : State Own → Option Settled) where

@@ -1,12 +1,13 @@
 -- A turn keeps what is left to do.
 use Rattle.std.proofs.Common.{◌≡◌, ℕ, zero, suc, List, ◌∷◌, Ok, Err, refl, sym, ap, ◌∙◌}
 use Rattle.std.specs.Prelude.{Bool, true, false, map, ok_or}
+use Rattle.sections.specs.Place.{sides_of}
 use Rattle.types.specs.declared.fault.FaultKind.TheVariants.{SplitPoint}
 use Rattle.types.specs.Code.{Truth, Code, Do, If, While, Split, Call, Async, Finish, Codes, End, Then, Program}
-use Rattle.sections.specs.Place.{sides_of}
 use Rattle.types.specs.Value.{Valued}
-use Rattle.types.specs.Run.{Flow, On, Faulted, Stopped, State, Rules, Work, Block, Turn, at_flow, go_on, spend, with_step, with_value}
-use Rattle.types.specs.Run.{choose, number_at, numbers_at, truth_at, window_at, entry, with_sides, procedure_of, counted, act, block, run}
+use Rattle.types.specs.Run.{Flow, On, Faulted, Stopped, State, Rules, Work, Block, Turn, at_flow, go_on, spend}
+use Rattle.types.specs.Run.{with_step, with_value, choose, number_at, numbers_at, truth_at, window_at, entry}
+use Rattle.types.specs.Run.{with_sides, procedure_of, counted, act, block, run}
 use Rattle.types.specs.Laws.{IsThrifty}
 use Rattle.types.proofs.Solutions.{solves}
 use Rattle.own_run.specs.Frames.{Frame, Rest, Again, AtEnd, Back, Standing, resume, by_value, chosen, acted, paid}

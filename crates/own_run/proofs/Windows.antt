@@ -1,20 +1,21 @@
 -- Windows as sets of places: of elements, of sides, of sections.
 use Rattle.std.proofs.lemmas.Option.{none-some, same_Some}
-use Rattle.std.proofs.Common.{◌≡◌, ℕ, zero, suc, ◌+◌, ◌-◌, ◌<◌, List, [], ◌∷◌, length, Option, Some, None, Ok, Err, refl, sym, ap, ◌∙◌}
-use Rattle.std.proofs.Common.{subst, inl, inr, arith}
-use Rattle.std.proofs.lemmas.Bool.{ltb-true, leb-true, eqb-true, eqb-false, lt-ltb, le-leb, eq-eqb, and_from, or_left, or_right}
-use Rattle.std.specs.Prelude.{ℤ, pos, negsuc, ◌⊎◌, ◌≢◌, Bool, true, false, ◌||◌, nat_eq, nat_lt, nat_le, ok_or, map, slice_index_or}
-use Rattle.std.specs.Prelude.{if◌then◌else◌}
+use Rattle.std.proofs.Common.{◌≡◌, ℕ, zero, suc, ◌+◌, ◌-◌, ◌<◌, List, [], ◌∷◌, length, Option, Some, None, Ok, Err}
+use Rattle.std.proofs.Common.{refl, sym, ap, ◌∙◌, subst, inl, inr, arith}
+use Rattle.std.proofs.lemmas.Bool.{ltb-true, leb-true, eqb-true, eqb-false, lt-ltb, le-leb, eq-eqb, and_from, or_left}
+use Rattle.std.proofs.lemmas.Bool.{or_right}
+use Rattle.std.specs.Prelude.{ℤ, pos, negsuc, ◌⊎◌, ◌≢◌, Bool, true, false, ◌||◌, nat_eq, nat_lt, nat_le, ok_or, map}
+use Rattle.std.specs.Prelude.{slice_index_or, if◌then◌else◌}
+use Rattle.sections.specs.Place.{Place, Window, In, nowhere, sides_of, same_place}
+use Rattle.sections.specs.Member.{Member, first, next}
 use Rattle.types.specs.declared.fault.FaultKind.{FaultKind}
 use Rattle.types.specs.declared.fault.FaultKind.TheVariants.{Index, SplitPoint}
-use Rattle.sections.specs.Place.{Place, Window, In, nowhere, sides_of, same_place}
 use Rattle.types.specs.Value.{Environment, Valued, element_of}
 use Rattle.types.specs.Run.{bind, with_sides}
-use Rattle.sections.specs.Member.{Member, first, next}
-use Rattle.effects.proofs.Members.{false_true, both_true, either_true}
-use Rattle.own_run.specs.Places.{covered, named}
 use Rattle.effects.specs.Effects.{past_split, past_call}
+use Rattle.effects.proofs.Members.{false_true, both_true, either_true}
 use Rattle.race_checker.specs.Scope.{Scope, Top, Inside, InScope, FitsScope, FitsTop}
+use Rattle.own_run.specs.Places.{covered, named}
 
 -- ---- tests
 pub either_way : (b : Bool) → (b ≡ true) ⊎ (b ≡ false)

@@ -1,4 +1,4 @@
--- Tasks apart: an async's body runs on what it needs; what it made is set aside up to the finish's end.
+-- Tasks apart: an async's body runs on what it needs; what it made is set aside for a while.
 use Rattle.std.specs.Prelude.{ℕ, zero, suc, ◌+◌, List, ℤ, Bool, true, false, ◌||◌, if◌then◌else◌}
 use Rattle.types.specs.Code.{Codes, Program}
 use Rattle.types.specs.Contents.{Contents, held_by}

@@ -1,10 +1,10 @@
--- A task in the making: its frames, the top one first, and where it stands; a turn of the top frame.
+-- A task in the making: frames, the top one first, and where it stands; a turn of the top frame.
 use Rattle.std.specs.Prelude.{ℕ, zero, suc, ◌≡◌, List, [], ◌∷◌, ◌++◌, length, map, Bool, true}
 use Rattle.std.specs.Prelude.{false, Some, Ok, Err, ok_or, slice_get}
+use Rattle.sections.specs.Place.{sides_of}
 use Rattle.types.specs.declared.fault.FaultKind.TheVariants.{SplitPoint}
 use Rattle.types.specs.Code.{Truth, Code, Do, If, While, Split, Call, Async, Finish, Codes, End}
 use Rattle.types.specs.Code.{Then, Program}
-use Rattle.sections.specs.Place.{sides_of}
 use Rattle.types.specs.Value.{Environment, Valued}
 use Rattle.types.specs.Run.{Flow, On, Faulted, Stopped, State, Rules, Block, Turn, stopped, go_on}
 use Rattle.types.specs.Run.{fault, number_at, numbers_at, truth_at, window_at, entry, with_sides}
@@ -12,9 +12,9 @@ use Rattle.types.specs.Run.{procedure_of, primitive, counted, run}
 use Rattle.effects.specs.Needs.{Needs}
 use Rattle.own_run.specs.Results.{TaskResult, Settled}
 use Rattle.own_run.specs.OwnRun.{Start, Child, Action, Step, Spawn, EnterFinish, EndFinish, Own}
-use Rattle.own_run.specs.OwnRun.{notes, child_of}
-use Rattle.own_run.specs.OwnRun.{begun_by, go_on_with, own_rules, from_receipts, run_by, in_truth}
-use Rattle.own_run.specs.OwnRun.{own, given}
+use Rattle.own_run.specs.OwnRun.{notes, child_of, begun_by, go_on_with, own_rules, from_receipts}
+use Rattle.own_run.specs.OwnRun.{run_by}
+use Rattle.own_run.specs.Given.{in_truth, own, given}
 use Rattle.own_run.specs.Lists.{Each}
 
 -- what is left to do, piece by piece

@@ -1,18 +1,17 @@
 -- A task has what it touches up to its innermost finish's end, and owns where it may write.
 use Rattle.std.specs.Prelude.{ℕ, ◌≡◌, ◌⊎◌, List, [], ◌∷◌, map, true}
-use Rattle.types.specs.Code.{Code, While, Codes, End, Then, Program}
 use Rattle.sections.specs.Place.{Window, Place, In}
-use Rattle.types.specs.Contents.{Contents}
+use Rattle.sections.specs.Member.{Member}
+use Rattle.types.specs.Code.{Code, While, Codes, End, Then, Program}
+use Rattle.types.specs.Contents.{Contents, IsThere}
 use Rattle.types.specs.Value.{Environment}
 use Rattle.types.specs.Run.{State}
 use Rattle.effects.specs.Accesses.{Access, own_accesses}
-use Rattle.sections.specs.Member.{Member}
 use Rattle.effects.specs.Effects.{Pending, accesses}
 use Rattle.effects.specs.Footprint.{Overwrites}
-use Rattle.own_run.specs.Places.{Places, empty, within, written, touched}
-use Rattle.types.specs.Contents.{IsThere}
 use Rattle.effects.specs.Needs.{Needs}
 use Rattle.race_checker.specs.Scope.{Scope, InScope}
+use Rattle.own_run.specs.Places.{Places, empty, within, written, touched}
 use Rattle.own_run.specs.Ready.{Around, Ready}
 use Rattle.own_run.specs.OwnRun.{Start, Child, Own, back_from}
 use Rattle.own_run.specs.Frames.{Frame, Rest, Again, AtEnd, Back, Standing}

@@ -1,5 +1,6 @@
 pub mod Apart
 pub mod Frames
+pub mod Given
 pub mod Holds
 pub mod Lists
 pub mod OwnRun

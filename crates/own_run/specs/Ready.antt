@@ -1,16 +1,13 @@
 -- What may run next, by what is around it.
-use Rattle.std.specs.Prelude.{ℕ}
-use Rattle.types.specs.Code.{Code, Codes, Program}
 use Rattle.sections.specs.Place.{Place}
+use Rattle.types.specs.Code.{Codes, Program}
 use Rattle.types.specs.Contents.{Contents}
 use Rattle.types.specs.Value.{Environment}
-use Rattle.effects.specs.Accesses.{Access, own_accesses}
-use Rattle.sections.specs.Member.{Member}
-use Rattle.effects.specs.Effects.{AllOf, All, PendingOf, Pending, accesses}
+use Rattle.effects.specs.Effects.{All, Pending, accesses}
 use Rattle.effects.specs.Footprint.{Touches, Overwrites}
-use Rattle.effects.specs.Needs.{Needs, ProvidesOf, ProvidesIn}
-use Rattle.race_checker.specs.Scope.{Scope, InScope, FitsScope, ScopedOf, Scoped}
-use Rattle.race_checker.specs.Calm.{CalmOf, Calm}
+use Rattle.effects.specs.Needs.{Needs, ProvidesIn}
+use Rattle.race_checker.specs.Scope.{Scope, FitsScope, Scoped}
+use Rattle.race_checker.specs.Calm.{Calm}
 
 -- what stays fixed along a block
 pub record Around : Type 1 where

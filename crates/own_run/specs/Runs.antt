@@ -4,7 +4,8 @@ use Rattle.types.specs.Code.{Program}
 use Rattle.types.specs.Outcome.{Budget}
 use Rattle.effects.specs.Rounds.{needs_of}
 use Rattle.own_run.specs.Results.{TaskResult, Settled}
-use Rattle.own_run.specs.OwnRun.{Start, Own, result_of, own, comes_to, below, IsOwn, root_of}
+use Rattle.own_run.specs.OwnRun.{Start, Own, result_of}
+use Rattle.own_run.specs.Given.{own, comes_to, below, IsOwn, root_of}
 use Rattle.own_run.specs.Frames.{Standing}
 use Rattle.own_run.specs.Reached.{Reached, IsResult, CanSettle, CanEnd}
 

@@ -1,6 +1,7 @@
 //! Laws of the definitions, each the contract of a function that does nothing.
 
-ghost use Rattle.std.specs.Prelude.{◌≡◌, ◌||◌, ℕ, ℤ, List, [], ◌∷◌, ◌++◌, Option, Some, true, false, length};
+ghost use Rattle.std.specs.Prelude.{◌≡◌, ◌||◌, ℕ, ℤ, List, [], ◌∷◌, ◌++◌, Option, Some, true};
+ghost use Rattle.std.specs.Prelude.{false, length};
 ghost use Rattle.types.specs.Code.{Truth, Code, While, Async, Codes, Then, Program};
 ghost use Rattle.types.specs.Contents.{FitsArrays};
 ghost use Rattle.types.specs.Outcome.{Budget, outcome};
@@ -13,11 +14,13 @@ ghost use Rattle.race_checker.specs.Scope.{IsScoped};
 ghost use Rattle.race_checker.specs.Calm.{IsCalm};
 ghost use Rattle.own_run.specs.Apart.{apart_outcome, is_stopped};
 ghost use Rattle.own_run.specs.Results.{TaskResult, Settled};
-ghost use Rattle.own_run.specs.OwnRun.{Start, Own, at_first, beginning, result_of, own, given};
-ghost use Rattle.own_run.specs.OwnRun.{own_rules, in_truth, comes_to, below, IsOwn, root_of, told_of};
-ghost use Rattle.own_run.specs.OwnRun.{next_action, last_action, Action, EndFinish, is_waiting, run_by};
-ghost use Rattle.own_run.specs.Frames.{Frame, Rest, Again, AtEnd, Standing, turn, handed, Fine, FineBelow};
-ghost use Rattle.own_run.specs.Frames.{IsTrue, IsTask, Follows, done_in};
+ghost use Rattle.own_run.specs.OwnRun.{Start, Own, at_first, beginning, result_of, own_rules};
+ghost use Rattle.own_run.specs.OwnRun.{next_action, last_action, Action, EndFinish, is_waiting};
+ghost use Rattle.own_run.specs.OwnRun.{run_by};
+ghost use Rattle.own_run.specs.Given.{own, given, in_truth, comes_to, below, IsOwn, root_of};
+ghost use Rattle.own_run.specs.Given.{told_of};
+ghost use Rattle.own_run.specs.Frames.{Frame, Rest, Again, AtEnd, Standing, turn, handed, Fine};
+ghost use Rattle.own_run.specs.Frames.{FineBelow, IsTrue, IsTask, Follows, done_in};
 ghost use Rattle.own_run.specs.Holds.{MayBegin, Holds, HasOwn, HasNeeds};
 ghost use Rattle.own_run.specs.Stops.{stops, some_halted};
 ghost use Rattle.own_run.specs.Reached.{HasNext};

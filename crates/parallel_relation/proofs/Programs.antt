@@ -3,10 +3,10 @@ use Rattle.std.proofs.Common.{[], ◌∷◌}
 use Rattle.std.specs.Prelude.{true, false}
 use Rattle.syntax.specs.declared.tree.ElementType.TheVariants.{Int}
 use Rattle.syntax.specs.declared.tree.Relation.TheVariants.{Less}
-use Rattle.types.specs.declared.code.Operator.TheVariants.{Plus}
-use Rattle.types.specs.Code.{Scalar, Element, Chain, Link, Done, Compare, Assign, Store, Print, Do, While, Split, Call}
 use Rattle.sections.specs.Origins.{Root, Left, Right}
-use Rattle.types.specs.Code.{Async, Finish, End, Procedure, Program}
+use Rattle.types.specs.declared.code.Operator.TheVariants.{Plus}
+use Rattle.types.specs.Code.{Scalar, Element, Chain, Link, Done, Compare, Assign, Store, Print, Do, While, Split}
+use Rattle.types.specs.Code.{Call, Async, Finish, End, Procedure, Program}
 use Rattle.types.proofs.Programs.{◌⨾◌, lit, ints, main_of as program_of}
 
 -- async { a[0] = 7; } b[0] = 8; print a[0];

@@ -1,8 +1,8 @@
 //! Laws of the definitions, each the contract of a function that does nothing.
 
 ghost use Rattle.std.specs.Prelude.{◌↔◌, ℕ};
-ghost use Rattle.types.specs.Code.{Codes, Program};
 ghost use Rattle.sections.specs.Member.{Member};
+ghost use Rattle.types.specs.Code.{Codes, Program};
 ghost use Rattle.effects.specs.Accesses.{Access};
 ghost use Rattle.effects.specs.Effects.{accesses, labels};
 ghost use Rattle.effects.specs.Tables.{Table, IsDerived, IsDerivedPending, IsStable};

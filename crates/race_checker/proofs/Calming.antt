@@ -1,21 +1,20 @@
 -- From names to places: in a sound and accepted program, what is pending keeps apart from what is done later.
 use Rattle.std.proofs.Common.{◌≡◌, ◌⊎◌, inl, inr, ℕ, ◌<◌, List, [], length, refl, sym, ◌∙◌, subst, arith}
 use Rattle.std.specs.Prelude.{Bool, true, false, ◌||◌, map, slice_get, Some}
-use Rattle.sections.specs.Origins.{Root}
-use Rattle.types.specs.Code.{Code, Do, If, While, Split, Call, Async, Finish, Codes, End, Then, Procedure, Program}
+use Rattle.sections.specs.Origins.{Root, IsNumbered}
 use Rattle.sections.specs.Place.{Place, In, nowhere}
+use Rattle.sections.specs.Member.{Member}
+use Rattle.sections.specs.Overlap.{overlap}
+use Rattle.sections.specs.Placed.{Apart, Placed}
+use Rattle.sections.proofs.Windows.{disjoint-apart}
+use Rattle.types.specs.Code.{Code, Do, If, While, Split, Call, Async, Finish, Codes, End, Then, Procedure, Program}
 use Rattle.types.specs.Value.{Environment}
 use Rattle.types.specs.Run.{entry, procedure_of}
-use Rattle.sections.specs.Member.{Member}
 use Rattle.effects.specs.Accesses.{Access, own_accesses}
 use Rattle.effects.specs.Effects.{past_call, accesses, AllOf, All, PendingOf}
-use Rattle.sections.specs.Origins.{IsNumbered}
-use Rattle.sections.specs.Overlap.{overlap}
 use Rattle.effects.specs.Sound.{may_write, is_writable, Allowed, PassesWell, Follows, FollowsOf, IsSound, main_of}
-use Rattle.sections.specs.Placed.{Apart, Placed}
 use Rattle.effects.specs.Fits.{names_in}
 use Rattle.effects.proofs.Members.{left_true, right_true}
-use Rattle.sections.proofs.Windows.{disjoint-apart}
 use Rattle.effects.proofs.AccessesInScope.{allowed, allowed_of, pending_of_all}
 use Rattle.effects.proofs.EnvironmentsFit.{by_number-map}
 use Rattle.parallel_relation.specs.Together.{Block, Together}

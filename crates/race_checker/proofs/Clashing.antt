@@ -2,16 +2,16 @@
 use Rattle.std.proofs.lemmas.Bool.{and_from}
 use Rattle.std.proofs.Common.{◌≡◌, refl, sym, ◌∙◌, true≢false}
 use Rattle.std.specs.Prelude.{Bool, true, false, ◌||◌, ◌↔◌}
+use Rattle.sections.specs.Overlap.{overlap}
+use Rattle.sections.proofs.Members.{any_member, member_any}
 use Rattle.types.specs.Code.{Procedure, Program}
 use Rattle.effects.specs.Effects.{accesses}
-use Rattle.sections.specs.Overlap.{overlap}
 use Rattle.effects.specs.Tables.{Table, IsDerived, IsDerivedPending, IsStable, IsStablePending}
+use Rattle.effects.proofs.Members.{both_true}
 use Rattle.parallel_relation.specs.Meetings.{met_in}
+use Rattle.parallel_relation.proofs.Meeting.{meetings_exact}
 use Rattle.race_checker.specs.Clash.{HasNoClash}
 use Rattle.race_checker.specs.Acceptance.{is_clash, has_clash}
-use Rattle.sections.proofs.Members.{any_member, member_any}
-use Rattle.effects.proofs.Members.{both_true}
-use Rattle.parallel_relation.proofs.Meeting.{meetings_exact}
 
 module _ (p : Program) (alls pendings : Table accesses)
     (alls_derived : IsDerived p accesses alls) (alls_stable : IsStable p accesses alls)

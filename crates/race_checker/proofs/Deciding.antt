@@ -4,14 +4,14 @@ use Rattle.std.proofs.lemmas.Bool.{and_from, ltb-true, ltb-false}
 use Rattle.std.specs.Prelude.{◌↔◌, Bool, true, false, not, nat_lt}
 use Rattle.types.specs.Code.{Procedure, Program}
 use Rattle.types.specs.Run.{procedure_of, no_procedure}
-use Rattle.race_checker.specs.Acceptance.{has_clash, accepts, accepts_below, is_accepted}
 use Rattle.effects.specs.Sound.{IsSound}
-use Rattle.race_checker.specs.Clash.{HasNoClash, IsAccepted}
-use Rattle.effects.proofs.Members.{both_true, not_true}
-use Rattle.race_checker.proofs.Clashing.{has_clash-exact}
 use Rattle.effects.specs.Rounds.{summaries, pending_summaries}
+use Rattle.effects.proofs.Members.{both_true, not_true}
 use Rattle.effects.proofs.Summaries.{past_end, summaries_derived, pending_summaries_derived, summaries_stable}
 use Rattle.effects.proofs.Summaries.{pending_summaries_stable}
+use Rattle.race_checker.specs.Acceptance.{has_clash, accepts, accepts_below, is_accepted}
+use Rattle.race_checker.specs.Clash.{HasNoClash, IsAccepted}
+use Rattle.race_checker.proofs.Clashing.{has_clash-exact}
 
 module _ (p : Program) (sound : IsSound p) where
   exact : (g : Procedure) → (has_clash (summaries p) (pending_summaries p) g ≡ false) ↔ HasNoClash p g

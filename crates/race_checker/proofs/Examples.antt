@@ -1,18 +1,18 @@
 -- Worked programs: their clashes, and three that are sound, of which two are accepted.
-use Rattle.std.proofs.Common.{◌≡◌, ◌≢◌, ℕ, zero, suc, ◌+◌, ◌-◌, ◌<◌, List, [], ◌∷◌, refl, sym, ap, ◌∙◌, arith, true≢false}
+use Rattle.std.proofs.Common.{◌≡◌, ◌≢◌, ℕ, zero, suc, ◌+◌, ◌-◌, ◌<◌, List, [], ◌∷◌, refl, sym, ap, ◌∙◌, arith}
+use Rattle.std.proofs.Common.{true≢false}
 use Rattle.std.specs.Prelude.{Bool, true, false, filter, slice_get, Some}
 use Rattle.syntax.specs.declared.tree.Relation.TheVariants.{Equal}
+use Rattle.sections.specs.Origins.{Origin, Root, Left, Right, origin_of, IsNumbered}
+use Rattle.sections.specs.Member.{Member, first, next}
+use Rattle.sections.specs.Overlap.{overlap}
 use Rattle.types.specs.declared.code.Operator.TheVariants.{Times}
-use Rattle.types.specs.Code.{Element, Length, Chain, Link, Done, Compare, Store, Print, Do, If}
-use Rattle.sections.specs.Origins.{Origin, Root, Left, Right}
-use Rattle.types.specs.Code.{Call, Async, Finish, Codes, End, Then, Procedure, Program}
+use Rattle.types.specs.Code.{Element, Length, Chain, Link, Done, Compare, Store, Print, Do, If, Call, Async, Finish}
+use Rattle.types.specs.Code.{Codes, End, Then, Procedure, Program}
 use Rattle.types.specs.Run.{procedure_of, no_procedure}
 use Rattle.types.proofs.Programs.{◌⨾◌, lit, ints, main_of as program_of, two_arrays, twice, doubling, two_readers}
-use Rattle.sections.specs.Member.{Member, first, next}
 use Rattle.effects.specs.Accesses.{Access}
 use Rattle.effects.specs.Effects.{past_call, accesses}
-use Rattle.sections.specs.Origins.{origin_of, IsNumbered}
-use Rattle.sections.specs.Overlap.{overlap}
 use Rattle.effects.specs.Rounds.{summaries, pending_summaries}
 use Rattle.effects.specs.Sound.{may_write, is_writable, Allowed, SplitsWell, PassesWell, Follows, IsSoundIn, IsSound}
 use Rattle.effects.specs.Sound.{main_of}

@@ -1,23 +1,23 @@
 -- A sound program names what is in scope, and environments that fit its scopes stand as the origins say.
-use Rattle.std.proofs.Common.{◌≡◌, ℕ, zero, suc, ◌+◌, ◌<◌, List, [], ◌∷◌, length, refl, sym, ap, ◌∙◌, subst, inl, inr, arith}
+use Rattle.std.proofs.Common.{◌≡◌, ℕ, zero, suc, ◌+◌, ◌<◌, List, [], ◌∷◌, length, refl, sym, ap, ◌∙◌, subst, inl, inr}
+use Rattle.std.proofs.Common.{arith}
 use Rattle.std.specs.Prelude.{Bool, true, false, map, slice_index_or, slice_get, Some}
-use Rattle.sections.specs.Origins.{Root}
+use Rattle.sections.specs.Origins.{Root, origin_of}
+use Rattle.sections.specs.Member.{Member, first, next}
+use Rattle.sections.specs.Placed.{Placed}
 use Rattle.types.specs.Code.{Code, Do, If, While, Split, Call, Async, Finish, Codes, End, Then, Array, Parameter}
 use Rattle.types.specs.Code.{Procedure, Program}
 use Rattle.types.specs.Value.{Environment}
 use Rattle.types.specs.Run.{procedure_of}
-use Rattle.sections.specs.Member.{Member, first, next}
 use Rattle.effects.specs.Effects.{past_call}
-use Rattle.sections.specs.Origins.{origin_of}
-use Rattle.effects.specs.Sound.{no_parameter, as_parameter, main_of, numbers_from}
-use Rattle.effects.specs.Sound.{parameters_of, FollowsOf, Follows, IsSound}
-use Rattle.sections.specs.Placed.{Placed}
+use Rattle.effects.specs.Sound.{no_parameter, as_parameter, main_of, numbers_from, parameters_of, FollowsOf, Follows}
+use Rattle.effects.specs.Sound.{IsSound}
 use Rattle.effects.specs.Fits.{names_in}
 use Rattle.effects.proofs.Members.{numbers_from-below, false_true}
 use Rattle.effects.proofs.AccessesInScope.{origin_from_get}
 use Rattle.effects.proofs.EnvironmentsFit.{root_left, root_right, placed_inside}
-use Rattle.race_checker.specs.Scope.{Scope, Top, InScope, FitsScope, may_writes, arrays_of, Scoped}
-use Rattle.race_checker.specs.Scope.{ScopedOf, IsScoped, Lists, top, inside}
+use Rattle.race_checker.specs.Scope.{Scope, Top, InScope, FitsScope, may_writes, arrays_of, Scoped, ScopedOf}
+use Rattle.race_checker.specs.Scope.{IsScoped, Lists, top, inside}
 
 numbers_from-has : (a n k s : ℕ) → k < n → s ≡ a + k → Member s (numbers_from a n)
 numbers_from-has a zero k s h e = absurd (omega (arith, h))
@@ -62,7 +62,8 @@ module _ (p : Program) (g : Procedure) where
     is_root k m = origin_from_get g.sections k (firsts k (numbers_from-below (length g.parameters) k m))
 
     -- windows that fit a scope stand as the origins say
-    pub fits_placed : {sc : Scope} {scope : List ℕ} → Lists g sc scope → (env : Environment) → FitsScope sc env → Placed (names_in g scope) env.windows
+    pub fits_placed : {sc : Scope} {scope : List ℕ} → Lists g sc scope → (env : Environment) → FitsScope sc env
+        → Placed (names_in g scope) env.windows
     fits_placed top env fits = record {
       apart = λ r s ne m n e f w. fits r s (bits g.parameters r ∙ w) (in_scope top s n) ne;
       left = λ s l m e. root_left (is_root l m) e;

@@ -5,11 +5,11 @@ use Rattle.std.proofs.lemmas.Bool.{ltb-true, leb-true}
 use Rattle.std.specs.Prelude.{ℤ, pos, negsuc, Bool, true, false, ◌&&◌, IsTrue, nat_lt, nat_le, slice_get, slice_index_or}
 use Rattle.std.specs.List.{list_all}
 use Rattle.sections.specs.Place.{Place, Window}
-use Rattle.types.specs.Code.{Number, Literal, Element, Primitive, Skip, Store, Print, Code, Do, Async, Finish, Codes, End}
-use Rattle.types.specs.Code.{Then, Array, Program}
+use Rattle.types.specs.Code.{Number, Literal, Element, Primitive, Skip, Assign, Store, Print, Raise, Code, Do, Async}
+use Rattle.types.specs.Code.{Finish, Codes, End, Then, Array, Program}
 use Rattle.types.specs.Contents.{held_by, read}
 use Rattle.types.specs.Depth.{depth_in, depth_of}
-use Rattle.types.specs.FirstPart.{index_fits, printed_fits, primitive_fits, code_fits, codes_fit}
+use Rattle.types.specs.FirstPart.{index_fits, literal_value_fits, printed_fits, primitive_fits, code_fits, codes_fit}
 use Rattle.types.specs.FirstPart.{statements_in, statements, is_first_part}
 use Rattle.types.specs.Laws.{EndsWithoutFault}
 use Rattle.types.specs.Meaning.{after_async, after_body, after_finish, begin_one, child, hushed, one_rules}
@@ -18,7 +18,7 @@ use Rattle.types.specs.Run.{On, State, Work, Block, at_flow, go_on, spend, with_
 use Rattle.types.specs.Run.{with_value, put, print, entry, array_of, no_array, primitive, counted, act, block, within}
 use Rattle.types.specs.Value.{Environment, Valued, element_of, holds_number, number, numbers, then_try}
 use Rattle.types.proofs.Lists.{whole_array-by_number}
-use Rattle.types.proofs.Served.{both_true}
+use Rattle.syntax.proofs.LayoutLemmas.{both_true}
 
 -- the task goes on where it stood, has told no fault, and took at most k steps
 record Goes (k : ℕ) (st out : State (Unit {0})) : Type 0 where
@@ -105,7 +105,8 @@ module _ (p : Program) where
     printed_there (Element a (Literal i)) fits =
         let q = element_there env a i is fits in
         (read q.0, ap (λ x. then_try x (λ q. Ok (read q))) q.1.0)
-    printed_there e fits = absurd (true≢false (sym fits))
+    printed_there (Element a _) fits = absurd (true≢false (sym fits))
+    printed_there _ fits = absurd (true≢false (sym fits))
 
     numbers_there : (es : List Number) → list_all (printed_fits p) es ≡ true → (vs : List ℤ) × (numbers env read es ≡ Ok vs)
     numbers_there [] fits = ([], refl)
@@ -132,7 +133,11 @@ module _ (p : Program) where
       let vs = numbers_there st.environment (read st.store) is es fits in
       value_goes st 0 l (numbers st.environment (read st.store) es) vs.0 print vs.1
       (record { flow = on; environment = refl; faults = refl; steps = omega arith })
-  primitive_goes l s st fits is on = absurd (true≢false (sym fits))
+  primitive_goes l (Store a (Literal i) e) st fits is on =
+      absurd (true≢false (sym (both_true (index_fits p a i) (literal_value_fits p a e) fits).1))
+  primitive_goes l (Store a _ e) st fits is on = absurd (true≢false (sym fits))
+  primitive_goes l (Assign x e) st fits is on = absurd (true≢false (sym fits))
+  primitive_goes l (Raise e) st fits is on = absurd (true≢false (sym fits))
 
   -- a statement takes a step at least
   some_statement : (s : Code) → 1 ≤ statements_in s

@@ -45,11 +45,7 @@ shown-held_by arrays lists fits =
 
 -- what is there is one thing
 pub some_same : {A : Type 0} {x y : A} → Some x ≡ Some y → x ≡ y
-some_same {A} {x} e = ap or_x e
-  where
-    or_x : Option A → A
-    or_x None = x
-    or_x (Some y) = y
+some_same e = cc
 
 -- a list after a write, by number
 set_by_number : {A : Type 0} (d : A) (xs : List A) (i : ℕ) (v : A) → i < length xs → (k : ℕ)

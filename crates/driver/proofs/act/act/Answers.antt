@@ -18,7 +18,9 @@ returns-in-Err-perform-clause-asked g c a file asks =
     c.in-Err-perform.ensures (c.status.ensures, begins _ _ _ _ c.emit_message.ensures)
 
 pub returns-in-Err-perform-clause-over_one : goal.returns-in-Err-perform-clause-over_one
-returns-in-Err-perform-clause-over_one g c large =
-    (asked_of c.in-Ok.request, file_of c.in-Ok.request,
-    acts _ _ c.in-Ok.request (record { asks = refl; names = refl }) (g.F.FileSource.held c.args.files.now) _ _ _ _ _ _
-    c.in-Err-perform.ensures (c.status.ensures, begins _ _ _ _ c.emit_message.ensures))
+returns-in-Err-perform-clause-over_one g c large = (
+  asked_of c.in-Ok.request,
+  file_of c.in-Ok.request,
+  acts _ _ c.in-Ok.request (record { asks = refl; names = refl }) (g.F.FileSource.held c.args.files.now) _ _ _ _ _ _
+      c.in-Err-perform.ensures (c.status.ensures, begins _ _ _ _ c.emit_message.ensures),
+)

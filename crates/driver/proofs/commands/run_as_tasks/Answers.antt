@@ -41,7 +41,7 @@ returns-in-Ok-run g c =
     (record {
       code = p;
       is_code = c.in_ok-typed.ensures.code;
-      race_free = c.in-Ok.ensures.race_free;
+      clash_free = c.in-Ok.ensures.clash_free;
       outcome = o;
       reached = reached;
       shows = outcome_shown p o o (map array c.deref.result.now) refl arrays;
