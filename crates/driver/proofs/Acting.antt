@@ -1,10 +1,10 @@
 -- From a file and a command to what the program did.
-use Rattle.std.proofs.Common.{◌≡◌, ◌≢◌, ℕ, List, [], ◌∷◌, ◌++◌, Option, Result, Ok, Err, ap, ◌∙◌, sym, subst, refl, arith}
+use Rattle.std.proofs.Common.{◌≡◌, ℕ, List, [], Option, Result, Ok, Err, sym, subst}
 use Rattle.std.proofs.lemmas.List.{append-nil}
 use Rattle.std.proofs.KnownBytes.{Keeps-refl}
-use Rattle.std.specs.Prelude.{IsErrAnd, codes}
+use Rattle.std.specs.Prelude.{IsErrAnd}
 use Rattle.std.specs.Str.{IsUtf8}
-use Rattle.driver.specs.Acts.{Acts, Bytes, FailsSilently, IsGiven, Performs, ReadsAndPerforms, Reports, TellsFileError}
+use Rattle.driver.specs.Acts.{Acts, Bytes, IsGiven, ReadsAndPerforms, Reports, TellsFileError}
 use Rattle.driver.specs.Acts.{on_error, on_no_text, on_text}
 use Rattle.driver.specs.Answers.{Does}
 use Rattle.driver.specs.Appending.{AppendsBeginning, Writes}

@@ -1,12 +1,9 @@
 -- From what a command wrote, or why it wrote nothing, to what was done.
-use Rattle.std.proofs.Common.{◌≡◌, ◌≢◌, ℕ, List, [], ◌∷◌, ◌++◌, Option, Result, Ok, Err, ap, ◌∙◌, sym, subst, refl, inl, inr, arith}
-use Rattle.std.proofs.lemmas.List.{append-nil}
-use Rattle.std.specs.Io.KnownBytes.{Appends, Keeps}
+use Rattle.std.proofs.Common.{◌≡◌, ◌≢◌, ℕ, List, Option, Result, Ok, Err, ap, ◌∙◌, sym, subst, refl}
 use Rattle.std.proofs.KnownBytes.{Keeps-refl}
-use Rattle.std.specs.Prelude.{IfErr, IfOk, IsErrAnd, false, codes}
+use Rattle.std.specs.Prelude.{IfErr, IfOk, IsErrAnd, false}
 use Rattle.types.specs.Code.{Array, Program}
-use Rattle.types.specs.Outcome.{Budget, Outcome, Ended, Halted}
-use Rattle.types.specs.Run.{Fault}
+use Rattle.types.specs.Outcome.{Budget, Outcome}
 use Rattle.types.specs.Typed.{code_of}
 use Rattle.types.specs.declared.typed.Typed.{Typed}
 use Rattle.workers.specs.Refusal.{IsRefusalOf, pairs_of}
@@ -14,8 +11,8 @@ use Rattle.workers.specs.Races.{IsLeastClash}
 use Rattle.workers.specs.declared.race.Meeting.{Meeting}
 use Rattle.workers.specs.declared.check.Refused.{Refused}
 use Rattle.workers.specs.declared.check.Refused.TheVariants.{Race as RaceFound, OutOfMemory as MemoryInCheck}
-use Rattle.driver.specs.Answers.{Answers, Began, Does, Explains, Failed, HasRace, IsCodeOf, IsUnserved, Shows, Wrote, usual}
-use Rattle.driver.specs.Appending.{AppendsBeginning, Writes}
+use Rattle.driver.specs.Answers.{Answers, Does, Explains, Failed, IsCodeOf, Shows, usual}
+use Rattle.driver.specs.Appending.{Writes}
 use Rattle.driver.specs.Failures.{TellsRace, TellsRefusal}
 use Rattle.driver.specs.OutcomeText.{outcome_text, status_of}
 use Rattle.driver.specs.Requests.{Asked, run, check}

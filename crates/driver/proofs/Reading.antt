@@ -1,10 +1,10 @@
 -- Words that ask plainly are read as what they ask.
 use Rattle.std.proofs.Common.{◌≡◌, ℕ, List, [], ◌∷◌, Option, Some, None, refl, sym, ap, ◌∙◌, subst, codes}
-use Rattle.std.specs.Prelude.{Bool, true, false, ◌&&◌, if◌then◌else◌, IsTrue, IsOkAnd, option_map}
+use Rattle.std.specs.Prelude.{Bool, true, false, ◌&&◌, if◌then◌else◌, IsTrue, option_map}
 use Rattle.std.specs.Str.{bytes_eq}
 use Rattle.std.proofs.Math.Bool.{and-false}
 use Rattle.driver.specs.declared.command_line.Request.{Request}
-use Rattle.driver.specs.Reading.{plain, read, read_command, read_option}
+use Rattle.driver.specs.Reading.{plain, read}
 use Rattle.driver.specs.Requests.{Asked, Asks, IsRequest, is_file_name, words_for, run, serial, check, list}
 use Rattle.driver.specs.Requests.{by_words, by_option_behind, by_no_word}
 

@@ -1,5 +1,5 @@
 -- What the program does with the file that its words name, and how it reports.
-use Rattle.std.specs.Prelude.{ℕ, ◌≡◌, ◌≢◌, ◌⊎◌, List, ◌++◌, Option, None, Some, Result, Ok, Err, codes}
+use Rattle.std.specs.Prelude.{ℕ, ◌≡◌, ◌≢◌, List, ◌++◌, Option, None, Some, Result, Ok, Err, codes}
 use Rattle.std.specs.Prelude.{IsErrAnd}
 use Rattle.std.specs.Io.KnownBytes.{Keeps}
 use Rattle.std.specs.Str.{IsUtf8}
@@ -29,27 +29,29 @@ TellsFileError name Unread f = TellsUnread name f
 TellsFileError name NoMemoryInFile f = f ≡ NoMemory
 
 -- nothing was written, and the failure is such a one
-pub record FailsSilently (P : Failure → Type 0) (old new : Option (List ℕ)) (r : Result ℕ Failure) : Type 0 where
+pub record FailsSilently (P : Failure → Type 0) (old new : Option (List ℕ)) (r : Result ℕ Failure)
+    : Type 0 where
   pub failed : IsErrAnd r P
   pub silent : Keeps old new
 
 -- what is asked was done with a file of this name and these bytes
 pub data Performs (a : Asked) (name : List ℕ) (old new : Option (List ℕ)) (r : Result ℕ Failure)
     : Bytes → Type 0 where
-  on_text : (bytes : List ℕ) → IsUtf8 bytes → Does a bytes old new r → Performs a name old new r (Ok bytes)
+  on_text : (bytes : List ℕ) → IsUtf8 bytes → Does a bytes old new r
+      → Performs a name old new r (Ok bytes)
   on_no_text : (bytes : List ℕ) → ¬ IsUtf8 bytes → FailsSilently (TellsNotUtf8 name) old new r
       → Performs a name old new r (Ok bytes)
   on_error : (e : FileError) → FailsSilently (TellsFileError name e) old new r
       → Performs a name old new r (Err e)
 
 -- the file was read, and what is asked was done with it
-pub record ReadsAndPerforms (a : Asked) (name : List ℕ) (held : Option Bytes) (old new : Option (List ℕ))
-    (r : Result ℕ Failure) : Type 0 where
+pub record ReadsAndPerforms (a : Asked) (name : List ℕ) (held : Option Bytes)
+    (old new : Option (List ℕ)) (r : Result ℕ Failure) : Type 0 where
   pub given : Bytes
   pub is_given : IsGiven held given
   pub performs : Performs a name old new r given
 
--- the status of what was answered, or of a failure, whose line was appended as far as the writer took it
+-- the status of what was answered; or that of a failure, whose line was appended as far as it was taken
 abbrev pub Reports : (old new : Option (List ℕ)) → Result ℕ Failure → (status : ℕ) → Type 0
 Reports old new (Ok answered) status = (status ≡ answered) × Keeps old new
 Reports old new (Err f) status =

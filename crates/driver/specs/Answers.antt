@@ -79,7 +79,7 @@ pub record AnswersList (text told : List ℕ) (status : ℕ) : Type 0 where
   pub told_is : told ≡ listed program
   pub status_is : status ≡ 0
 
--- the text told, with its status, is the answer to what is asked of a program's text; `check` has none yet
+-- the text told, with its status, answers what is asked of a program's text; `check` has no answer yet
 abbrev pub Answers : Asked → (text told : List ℕ) → (status : ℕ) → Type 0
 Answers run text told status = AnswersRun text told status
 Answers serial text told status = AnswersSerial text told status
@@ -157,7 +157,8 @@ pub record Began (a : Asked) (text : List ℕ) (old new : Option (List ℕ)) : T
   pub begun : AppendsBeginning old new told
 
 -- there is a reason; nothing was written, or, where writing failed, a beginning of the answer
-pub record Failed (a : Asked) (text : List ℕ) (old new : Option (List ℕ)) (f : Failure) : Type 0 where
+pub record Failed (a : Asked) (text : List ℕ) (old new : Option (List ℕ)) (f : Failure)
+    : Type 0 where
   pub why : Explains a text f
   pub silent : f ≢ CannotWriteOutput → Keeps old new
   pub begun : f ≡ CannotWriteOutput → Began a text old new

@@ -1,4 +1,4 @@
--- The text of an outcome: what `afx` prints where a run ended, and the status that it then ends with.
+-- The text of an outcome: what `afx` prints where a run ended, and the status that tells it.
 use Rattle.std.specs.Prelude.{ℕ, List, [], ◌∷◌, ◌++◌, map, codes, Bool, if◌then◌else◌, ℤ}
 use Rattle.std.specs.Fmt.{decimal, signed_decimal}
 use Rattle.std.specs.List.{concat, flat_map, join_with_byte, zip}
@@ -26,16 +26,19 @@ line_text values = joined_text values ++ codes "\n"
 -- `fault PATH at LABEL: CODE`
 abbrev pub fault_text : Fault → List ℕ
 fault_text f =
-    concat (codes "fault " ∷ path_text f.path ∷ codes " at " ∷ decimal f.label ∷ codes ": " ∷ kind_text f.kind ∷ codes "\n" ∷ [])
+    concat (codes "fault " ∷ path_text f.path ∷ codes " at " ∷ decimal f.label ∷ codes ": "
+    ∷ kind_text f.kind ∷ codes "\n" ∷ [])
 
 -- `array NAME` and its elements
 abbrev pub array_text : Array × List ℤ → List ℕ
 array_text (a, elements) = concat (codes "array " ∷ a.name ∷ spaced_text elements ∷ codes "\n" ∷ [])
 
--- the printed lines, then the faults, then the arrays where they are to be shown: as many as are declared and have elements
+-- the printed lines, then the faults, then, where they are to be shown, the arrays that are declared
+-- and have elements
 abbrev pub ending_text : (declared : List Array) → (arrays : Bool) → Ending → List ℕ
 ending_text declared arrays e =
-    flat_map line_text e.lines ++ flat_map fault_text e.faults ++ (if arrays then flat_map array_text (zip declared e.arrays) else [])
+    flat_map line_text e.lines ++ flat_map fault_text e.faults
+    ++ (if arrays then flat_map array_text (zip declared e.arrays) else [])
 
 -- the text of an outcome
 abbrev pub outcome_text : (declared : List Array) → (arrays : Bool) → Outcome → List ℕ

@@ -1,6 +1,5 @@
--- How the words of a command line are read that name a command and a file, and nothing that only `clap` knows.
+-- How the words of a command line are read that name a command and a file, and no more.
 use Rattle.std.specs.Prelude.{ℕ, ◌&&◌, List, [], ◌∷◌, Option, Some, None, codes, if◌then◌else◌}
-use Rattle.std.specs.Prelude.{option_map}
 use Rattle.std.specs.Str.{bytes_eq}
 use Rattle.driver.specs.Requests.{Asked, asked_of, file_of, is_file_name, run, serial, check, list}
 use Rattle.driver.specs.declared.command_line.Request.{Request}

@@ -1,7 +1,6 @@
 -- What the words of a command line ask.
-use Rattle.std.specs.Prelude.{ℕ, ◌≡◌, ◌&&◌, List, [], ◌∷◌, Bool, true, false, not, Option, Some, None, codes}
-use Rattle.std.specs.Prelude.{if◌then◌else◌, nat_eq, nat_lt, IsTrue, length, map, is_none}
-use Rattle.std.specs.Str.{bytes_eq}
+use Rattle.std.specs.Prelude.{ℕ, ◌≡◌, List, [], ◌∷◌, Bool, true, false, not, codes}
+use Rattle.std.specs.Prelude.{nat_eq, IsTrue}
 use Rattle.driver.specs.declared.command_line.Request.{Request}
 use Rattle.driver.specs.declared.command_line.Request.TheVariants.{Run, Serial, Check}
 
@@ -43,7 +42,7 @@ words_for serial file = codes "serial" ∷ file ∷ []
 words_for check file = codes "check" ∷ file ∷ []
 words_for list file = codes "check" ∷ codes "--list" ∷ file ∷ []
 
--- the words ask this of the file of this name: the option may stand last, and no word at all is `run -`
+-- the words ask this of the file of this name; the option may stand last, and no word is `run -`
 pub data Asks (words : List (List ℕ)) (a : Asked) (file : List ℕ) : Type 0 where
   by_words : IsTrue (is_file_name file) → words ≡ words_for a file → Asks words a file
   by_option_behind : IsTrue (is_file_name file) → a ≡ list

@@ -1,6 +1,6 @@
 //! The whole program, over files and writers that it is lent.
 
-ghost use Rattle.std.specs.Prelude.{◌≡◌, ◌≤◌, ◌<◌, ℕ, List, map, MatchResult};
+ghost use Rattle.std.specs.Prelude.{◌≤◌, ◌<◌, ℕ, List, map, MatchResult};
 ghost use Rattle.std.specs.String.{string_bytes};
 ghost use Rattle.driver.specs.Acts.{Acts, IsGiven, ReadsAndPerforms, TellsFileError};
 ghost use Rattle.driver.specs.Requests.{Asked, Asks, asked_of, file_of};

@@ -1,7 +1,6 @@
 //! What each command does with the text of its file.
 
 ghost use Rattle.std.specs.Prelude.{◌≡◌, ◌≢◌, map, IfOk, IfErr, IsErrAnd, false};
-ghost use Rattle.std.specs.Io.KnownBytes.{Keeps};
 ghost use Rattle.std.specs.Str.{chars};
 ghost use Rattle.syntax.specs.Lexical.{AreTokensOf};
 ghost use Rattle.syntax.specs.Spelling.{spelling};
@@ -9,7 +8,7 @@ ghost use Rattle.syntax.specs.Tree.{program as tree_of};
 ghost use Rattle.types.specs.Contents.{FitsArrays};
 ghost use Rattle.types.specs.Translation.{array, input as lists_of, outcome as outcome_of};
 ghost use Rattle.types.specs.Typed.{code_of};
-ghost use Rattle.driver.specs.Answers.{AsksForCode, Does, Explains, Failed, IsCodeOf, zeros as zeros_of};
+ghost use Rattle.driver.specs.Answers.{AsksForCode, Does, Explains, IsCodeOf, zeros as zeros_of};
 ghost use Rattle.driver.specs.Appending.{Writes};
 ghost use Rattle.driver.specs.OutcomeText.{outcome_text, status_of};
 ghost use Rattle.driver.specs.Requests.{Asked, asked_of, run as asked_run, serial as asked_serial};
@@ -36,7 +35,8 @@ pub fn perform<O: Write>(
     text: &str,
     out: &mut O,
 ) -> Result<u8, Failure>
-    ensures { Does (asked_of request.entry) text.now (O.contents out.old) (O.contents out.new) result }
+    ensures { Does (asked_of request.entry) text.now
+        (O.contents out.old) (O.contents out.new) result }
 {
     match request {
         Request::Run { .. } => run_as_tasks(alloc, text, out),
@@ -92,7 +92,8 @@ fn list<O: Write>(alloc: Global, text: &str, out: &mut O) -> Result<u8, Failure>
 
 /// `check`, which no program passes as yet: tells why this one doesn't.
 fn reject(alloc: Global, text: &str) -> Result<u8, Failure>
-    ensures { IsErrAnd result (λ f. (f ≢ Failure.CannotWriteOutput) × Explains asked_check text.now f) }
+    ensures { IsErrAnd result (λ f.
+        (f ≢ Failure.CannotWriteOutput) × Explains asked_check text.now f) }
 {
     typed_of(alloc, text)?;
     Err(Failure::NotYet)

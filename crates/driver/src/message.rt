@@ -1,7 +1,6 @@
 //! The line that tells a failure, piece by piece, without memory of its own.
 
 ghost use Rattle.std.specs.Prelude.{◌++◌, codes};
-ghost use Rattle.std.specs.Str.{chars};
 ghost use Rattle.driver.specs.Appending.{Writes};
 ghost use Rattle.driver.specs.Messages.{at_label, at_place, failure_text, race_text};
 ghost use Rattle.driver.specs.Messages.{syntax_text, type_text};
