@@ -17,11 +17,13 @@ fitting true q v = Ok (q, v)
 fitting false q v = Err OutOfElement
 
 -- where a store writes, and what
-abbrev pub target : Program → State (Unit {0}) → (section : ℕ) → (index value : Number) → Valued (Place × ℤ)
+abbrev pub target : Program → State (Unit {0}) → (section : ℕ) → (index value : Number)
+    → Valued (Place × ℤ)
 target p st s i e =
     then_try (number_at st i) (λ at.
     then_try (number_at st e) (λ v.
-    then_try (element_of (st.environment.windows s) at) (λ q. fitting (holds_number (array_of p q.array).element v) q v)))
+    then_try (element_of (st.environment.windows s) at) (λ q.
+    fitting (holds_number (array_of p q.array).element v) q v)))
 
 abbrev pub found : Result (rPlace × ℤ) FaultKind → Valued (Place × ℤ)
 found (Ok t) = Ok (place t.0, t.1)
