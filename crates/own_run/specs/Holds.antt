@@ -57,10 +57,12 @@ module _ (p : Program) (needs : Codes → Needs) where
       → (locked : Place → Type 0) → List (Frame Own) → Type 0
   Stack f limit c o locked [] = Unit {0}
   Stack f limit c o locked (Rest b ∷ fs) =
-      (sc : Scope) × (env : Environment) × Remains f limit c o locked b sc env
+      (sc : Scope) × (env : Environment)
+      × Remains f limit c o locked b sc env
       × Stack f (InScope sc) c o (locked_after env locked b) fs
   Stack f limit c o locked (Again l t b ∷ fs) =
-      (sc : Scope) × (env : Environment) × Remains f limit c o locked (Then l (While t b) End) sc env
+      (sc : Scope) × (env : Environment)
+      × Remains f limit c o locked (Then l (While t b) End) sc env
       × Stack f (InScope sc) c o (locked_after env locked (Then l (While t b) End)) fs
   Stack f limit c o locked (AtEnd before ∷ fs) =
       Stack f limit before.store before.extra.owned (λ q. ⊥) fs

@@ -28,7 +28,8 @@ module _ (p : Program) (alls pendings : Table accesses)
       let m = any_member (is_clash g.sections) (met_in accesses alls pendings g.body) e in
       let c = both_true (m.item.0.write || m.item.1.write) (overlap g.sections m.item.0.section m.item.1.section) m.passes in
       absurd (free m.item.0 m.item.1
-      ((meetings_exact p accesses alls pendings alls_derived alls_stable pendings_derived pendings_stable g.body m.item.0 m.item.1).0 m.member)
+      ((meetings_exact p accesses alls pendings alls_derived alls_stable pendings_derived pendings_stable g.body
+      m.item.0 m.item.1).0 m.member)
       (record { writes = c.0; overlap = c.1 }))
   clash_stands g free false e = refl
 
