@@ -1,5 +1,5 @@
 -- The laws of overlap.
-use Rattle.std.proofs.Common.{◌≡◌, ◌≢◌, ◌⊎◌, inl, inr, ℕ, ◌+◌, ◌<◌, ◌≤◌, List, refl, sym, ap, ◌∙◌, subst, arith, true≢false}
+use Rattle.std.proofs.Common.{◌≡◌, ◌≢◌, ◌⊎◌, inl, inr, ℕ, ◌+◌, ◌-◌, ◌<◌, ◌≤◌, List, refl, sym, ap, ◌∙◌, subst, arith, true≢false}
 use Rattle.std.proofs.lemmas.Bool.{eqb-true, eqb-false, eq-eqb, ne_eqb, and_parts, and_from, or_cases, or_left, or_right}
 use Rattle.std.proofs.lemmas.Bool.{not-true, not-false, not_from_false, false_from_ne_true, false≢true, cases_order}
 use Rattle.std.specs.Prelude.{Bool, true, false, ◌||◌, not, nat_eq}
@@ -143,6 +143,23 @@ module _ (origins : List Origin) where
   right_parent a s t e (right f) = cc
 
   module _ (numbered : IsNumbered origins) where
+    -- each side has the other one of its split next to it
+    pub left_has_right : (l s : ℕ) → origin_of origins l ≡ Left s → are_sides origins l (l + 1) ≡ true
+    left_has_right l s e = are_sides-from l (l + 1) (record {
+      turn = refl;
+      parent = s;
+      left_of = e;
+      right_of = numbered.right_behind l s e;
+    })
+
+    pub right_has_left : (r s : ℕ) → origin_of origins r ≡ Right s → are_sides origins (r - 1) r ≡ true
+    right_has_left r s e = are_sides-from (r - 1) r (record {
+      turn = let below : s < r = numbered.right r s e in omega (arith, below);
+      parent = s;
+      left_of = numbered.left_before r s e;
+      right_of = e;
+    })
+
     -- no two sides of one split stand in one line
     sides_part : (l r a : ℕ) → Sides l r → Member l (line origins a) → Member r (line origins a) → ⊥
     sides_part l r a s h k =

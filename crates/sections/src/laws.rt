@@ -1,9 +1,9 @@
 //! Laws of sections, each the contract of a function that does nothing.
 
-ghost use Rattle.std.specs.Prelude.{◌≡◌, ◌⊎◌, ◌↔◌, ℕ, List, true, false};
+ghost use Rattle.std.specs.Prelude.{◌≡◌, ◌⊎◌, ◌↔◌, ◌+◌, ◌-◌, ℕ, List, true, false};
 ghost use Rattle.sections.specs.Covers.{is_in, has, is_cover};
 ghost use Rattle.sections.specs.Member.{Member};
-ghost use Rattle.sections.specs.Origins.{Origin, IsNumbered, IsSideOf};
+ghost use Rattle.sections.specs.Origins.{Origin, Left, Right, origin_of, IsNumbered, IsSideOf};
 ghost use Rattle.sections.specs.Overlap.{overlap, root_of, are_sides, are_opposite};
 ghost use Rattle.sections.specs.Place.{Place, Window, In};
 ghost use Rattle.sections.specs.Placed.{Apart, Names, Placed};
@@ -16,6 +16,14 @@ pub fn overlap_is_near()
         → overlap origins a a ≡ true }
     ensures parent { (origins : List Origin) → IsNumbered origins → (s a : ℕ)
         → IsSideOf origins s a → overlap origins s a ≡ true }
+{}
+
+/// Next to each side stands the other one of its split.
+pub fn sides_stand_together()
+    ensures left { (origins : List Origin) → IsNumbered origins → (l s : ℕ)
+        → origin_of origins l ≡ Left s → are_sides origins l (l + 1) ≡ true }
+    ensures right { (origins : List Origin) → IsNumbered origins → (r s : ℕ)
+        → origin_of origins r ≡ Right s → are_sides origins (r - 1) r ≡ true }
 {}
 
 /// The two sides of one split are disjoint, and what is disjoint from a section is disjoint from
