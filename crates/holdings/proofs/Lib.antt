@@ -2,3 +2,4 @@ pub mod RowLemmas
 pub mod MapLemmas
 pub mod FragmentLemmas
 pub mod CutLemmas
+pub mod ListedLemmas

@@ -1,5 +1,6 @@
 -- The numbers that fragments hold. Where two of a list hold one place, the first counts.
-use Rattle.std.specs.Prelude.{ℕ, ◌+◌, ◌-◌, ◌<◌, ◌≡◌, length, min, List, [], ◌∷◌, ◌&&◌, nat_eq, nat_le, ℤ, Option, None, slice_get, take, get_or, if◌then◌else◌}
+use Rattle.std.specs.Prelude.{ℕ, ◌+◌, ◌-◌, ◌<◌, ◌≡◌, length, min, List, [], ◌∷◌, ◌&&◌, nat_eq}
+use Rattle.std.specs.Prelude.{nat_le, ℤ, Option, None, slice_get, take, get_or, if◌then◌else◌}
 use Rattle.sections.specs.Place.{Place}
 use Rattle.holdings.specs.Held.{Map, first_of}
 use Rattle.holdings.specs.declared.fragment.Fragment.{Fragment}
@@ -27,7 +28,8 @@ pub record IsAt (f : Fragment) (q : Place) (i : ℕ) : Type 0 where
 -- how many numbers of a fragment stand before a place; all of them, where it is of another array
 abbrev pub reach : Fragment → (array index : ℕ) → ℕ
 reach f array index =
-    if nat_eq f.array.number array then min (length f.numbers.items) (index - f.first) else length f.numbers.items
+    if nat_eq f.array.number array then min (length f.numbers.items) (index - f.first)
+    else length f.numbers.items
 
 -- the fragment of a number is the first that has a place, the i-th behind its first
 pub record IsFirst (fs : List Fragment) (q : Place) (number i : ℕ) : Type 0 where

@@ -79,6 +79,6 @@ as_owned m q = option_map Owned (m q)
 abbrev pub as_shared : Map ℤ → Map Held
 as_shared m q = option_map Shared (m q)
 
--- what is held where some numbers are owned and some are copies; a copy of an owned place counts for nothing
+-- what is held where some numbers are owned and some are copies; an owned place hides its copy
 abbrev pub held_by : (own copies : Map ℤ) → Map Held
 held_by own copies = over (as_owned own) (as_shared copies)

@@ -8,7 +8,7 @@ ghost use Rattle.holdings.specs.Held.{AreApart, IsThere, is_in, over, put, withi
 use crate::fragment::Fragment;
 use sections::window::{Place, Window};
 
-/// The first fragment that has a place, by its number, and how far the place stands behind its first.
+/// The first fragment that has a place, by its number, and how far behind its first it stands.
 pub fn find(fragments: &[Fragment], place: Place) -> Option<(usize, usize)>
     ensures { MatchOption result (numbers_in fragments.now (place_of place) ≡ None)
         (λ at. IsFirst fragments.now (place_of place) at.0 at.1) }

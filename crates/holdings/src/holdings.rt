@@ -13,10 +13,12 @@ use crate::fragment::Fragment;
 use crate::fragments::{are_apart, has_all, number_at, write_at};
 use sections::id::ArrayId;
 use sections::window::{Place, Window};
-use std::alloc::Global;
+use std::alloc::{AllocError, Global};
+use types::input::Input;
+use types::typed::Typed;
 
-/// Numbers at places of the arrays. Each is owned, so that it may be written and carved out, or a copy. A
-/// copy of a place that is owned counts for nothing.
+/// Numbers at places of the arrays. Each is owned, so that it may be written and carved out, or a
+/// copy. An owned place hides its copy.
 #[derive(Drop)]
 pub struct Holdings {
     pub(crate) owned: Vec<Fragment>,
@@ -24,6 +26,31 @@ pub struct Holdings {
 }
 
 impl Holdings {
+    ghost use Rattle.holdings.specs.Holdings.{listed};
+    ghost use Rattle.types.specs.Inputs.{IsInput};
+    ghost use Rattle.types.specs.Translation.{input as lists_in};
+    ghost use Rattle.types.specs.Typed.{code_of};
+
+    /// All places of the arrays, owned, with the numbers of an input that fits the program.
+    pub fn of_input(alloc: Global, _typed: &Typed, input: &Input) -> Result<Holdings, AllocError>
+        requires { IsInput (code_of _typed.now).arrays (lists_in input.now) }
+        ensures { IfOk result (λ h. held h ≡ as_owned (listed (lists_in input.now))) }
+    {
+        let mut owned = Vec::new(alloc);
+        for (number, list) in input.arrays.iter().enumerate() {
+            let numbers = Vec::from_slice(alloc, list)?;
+            owned.push(Fragment {
+                array: ArrayId { number },
+                first: 0,
+                numbers,
+            })?;
+        }
+        Ok(Holdings {
+            owned,
+            shared: Vec::new(alloc),
+        })
+    }
+
     /// The number at a place.
     pub fn read(&self, array: ArrayId, index: usize) -> Result<i64, HoldError>
         ensures { result ≡ ok_or
@@ -46,7 +73,8 @@ impl Holdings {
             ≡ put (record { array = array.number; index = index }) (Owned value) (held self.old)) }
         ensures owned { OnOk result
             (IsSome (owned (held self.old) (record { array = array.number; index = index }))) }
-        ensures refused { IfErr result (λ e. (e ≡ HoldError.NotHeld) × (held self.new ≡ held self.old)
+        ensures refused { IfErr result (λ e. (e ≡ HoldError.NotHeld)
+            × (held self.new ≡ held self.old)
             × (owned (held self.old) (record { array = array.number; index = index }) ≡ None)) }
     {
         let place = Place { array, index };

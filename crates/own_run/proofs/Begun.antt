@@ -13,7 +13,7 @@ use Rattle.own_run.specs.Results.{Settled}
 use Rattle.own_run.specs.OwnRun.{Start, Child, Action, Step, Spawn, EnterFinish, EndFinish, EndTask, Own, at_first}
 use Rattle.own_run.specs.OwnRun.{is_waiting, child_of, list_child, begin_own, go_on_with, leave_with, own_rules}
 use Rattle.own_run.specs.OwnRun.{begun_by, beginning}
-use Rattle.own_run.specs.Frames.{IsBegun, Fine}
+use Rattle.own_run.specs.Frames.{IsBegun, HasBegun}
 use Rattle.own_run.specs.Lists.{Each}
 use Rattle.own_run.proofs.Lists.{each_more, each_last}
 
@@ -47,7 +47,7 @@ pub record Tells (nest : ℕ) (st to : State Own) : Type 0 where
   pub path : to.path ≡ st.path
   pub done : List Action
   pub more : to.extra.actions ≡ st.extra.actions ++ done
-  pub fine : Fine nest st → Fine nest to
+  pub fine : HasBegun nest st → HasBegun nest to
 
 module _ (nest : ℕ) where
   pub still_begun : (st to : State Own) (c : Child) → to.path ≡ st.path → (done : List Action) → to.extra.actions ≡ st.extra.actions ++ done
@@ -64,7 +64,7 @@ module _ (nest : ℕ) where
 
   -- an action other than a spawn, with no more begun
   pub quiet : (st to : State Own) (a : Action) → begun_by (a ∷ []) ≡ [] → to.path ≡ st.path → to.spawned ≡ st.spawned
-      → to.extra.actions ≡ st.extra.actions ++ a ∷ [] → to.extra.pending ≡ st.extra.pending → Fine nest st → Fine nest to
+      → to.extra.actions ≡ st.extra.actions ++ a ∷ [] → to.extra.pending ≡ st.extra.pending → HasBegun nest st → HasBegun nest to
   quiet st to a none path spawned more pending h = record {
     counted =
         ap (λ acts. length (begun_by acts)) more
@@ -208,7 +208,7 @@ module _ (nest : ℕ) where
     pub run_tells : (p : Program) (w : Work) (st : State Own) → Tells nest st (run p r w st)
     run_tells p w st = run_keeps p r (Tells nest) tells w st
 
-    pub at_first_fine : (fresh : ℕ) (s : Start) → Fine nest (beginning (at_first s.owned) fresh s)
+    pub at_first_fine : (fresh : ℕ) (s : Start) → HasBegun nest (beginning (at_first s.owned) fresh s)
     at_first_fine fresh s = record { counted = refl; begun = tt }
 
     -- where all is handed over, it never waits

@@ -12,7 +12,7 @@ use Rattle.own_run.specs.Places.{Places, covered, within, has_one, meets}
 use Rattle.own_run.specs.Results.{TaskResult, Settled, none_yet, fill, complete, and_then}
 use Rattle.own_run.specs.OwnRun.{Start, Child, at_first, result_of, beginning}
 use Rattle.own_run.specs.Given.{filled, in_truth, comes_to, own, below}
-use Rattle.own_run.specs.Frames.{IsBegun, IsTrue}
+use Rattle.own_run.specs.Frames.{IsBegun, IsGivenChild}
 use Rattle.own_run.specs.Settling.{same_path, behind, take, fill_all, settle_within, none_left, settle, Parted}
 use Rattle.own_run.specs.Settling.{IsParted}
 use Rattle.own_run.specs.Lists.{Each, Inserted, here, later, Shuffled, none, one}
@@ -95,7 +95,7 @@ module _ (p : Program) (needs : Codes → Needs) (fresh : ℕ) (root : Start) wh
 
   -- a listed task that is given its start, with so much nest
   pub record Stands (n : ℕ) (c : Child) : Type 0 where
-    pub is : IsTrue p needs fresh root c
+    pub is : IsGivenChild p needs fresh root c
     pub nest : c.start.nest ≡ n
 
   abbrev pub Deep : ℕ → ℕ → Type 0

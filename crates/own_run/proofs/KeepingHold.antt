@@ -26,7 +26,7 @@ use Rattle.own_run.specs.Ready.{Around, Ready}
 use Rattle.own_run.specs.Results.{Listed, Settled}
 use Rattle.own_run.specs.OwnRun.{Child, Own, child_of, list_child, begin_own, back_from, own_rules}
 use Rattle.own_run.specs.Frames.{Frame, Rest, Again, AtEnd, Back, Standing, by_value, chosen, acted}
-use Rattle.own_run.specs.Holds.{having, locked_after, Left, Stack, Carries, Comes, Returns, Holds}
+use Rattle.own_run.specs.Holds.{having, locked_after, Remains, Stack, Carries, Comes, Returns, Holds}
 use Rattle.own_run.specs.Lists.{Each}
 use Rattle.own_run.specs.Settling.{Parted}
 use Rattle.own_run.proofs.Lists.{each_last}
@@ -226,7 +226,7 @@ module _ (p : Program) (needs : Codes → Needs) where
       lower_for e b f = unlock p needs st.environment.windows (InScope sc) st.store st.extra.owned mid (after e b) gs (fewer e b f) h.lower
 
       left_of : (limit : ℕ → Type 0) (b : Codes) → ((z : ℕ) → InScope sc z → limit z) → Ready p needs x none mid b
-          → Left p needs st.environment.windows limit st.store st.extra.owned none b sc env
+          → Remains p needs st.environment.windows limit st.store st.extra.owned none b sc env
       left_of limit b i k = record {
         inside = i;
         known = h.known;

@@ -18,7 +18,7 @@ use Rattle.own_run.specs.Results.{TaskResult, Settled, none_yet, complete, and_t
 use Rattle.own_run.specs.OwnRun.{Start, Child, Own, result_of, own_rules}
 use Rattle.own_run.specs.Given.{filled, in_truth, own, given, below, IsOwn}
 use Rattle.own_run.specs.Frames.{Frame, Rest, Again, AtEnd, Back, Standing, by_value, chosen, acted, paid, by_flow}
-use Rattle.own_run.specs.Frames.{turn, handed, IsBegun, Fine, IsTask, IsTrue}
+use Rattle.own_run.specs.Frames.{turn, handed, IsBegun, HasBegun, IsTask, IsGivenChild}
 use Rattle.own_run.specs.Holds.{MayBegin, Holds}
 use Rattle.own_run.specs.Reached.{Reached, root_begins, child_begins, turns, leaves, CanSettle, CanEnd}
 use Rattle.own_run.specs.Settling.{fill_all, settle_within, none_left, settle, IsParted}
@@ -69,7 +69,7 @@ module _ (p : Program) (needs : Codes → Needs) (fresh : ℕ) where
     abbrev N : State Own → State Own → Type 0
     N = Names nest needs (in_truth p needs fresh)
 
-    acted_distinct : (c : Code) (l : ℕ) (fs : List (Frame Own)) (st : State Own) → Fine nest st → Once st.extra.pending → OnceBelow fs
+    acted_distinct : (c : Code) (l : ℕ) (fs : List (Frame Own)) (st : State Own) → HasBegun nest st → Once st.extra.pending → OnceBelow fs
         → Distinct (acted p r l c fs st)
     acted_distinct (Do c) l fs st f o b = both ((primitive_keeps p r N (names nest needs (in_truth p needs fresh)) l c st).once f o) b
     acted_distinct (If t c d) l fs st f o b =
@@ -83,7 +83,7 @@ module _ (p : Program) (needs : Codes → Needs) (fresh : ℕ) where
     acted_distinct (Async c) l fs st f o b = both (((names nest needs (in_truth p needs fresh)).begin c st).once f o) b
     acted_distinct (Finish c) l fs st f o b = both tt (o, b)
 
-    paid_distinct : (n l : ℕ) (c : Code) (fs : List (Frame Own)) (st : State Own) → Fine nest st → Once st.extra.pending → OnceBelow fs
+    paid_distinct : (n l : ℕ) (c : Code) (fs : List (Frame Own)) (st : State Own) → HasBegun nest st → Once st.extra.pending → OnceBelow fs
         → Distinct (paid p r n l c fs st)
     paid_distinct zero l c fs st f o b = both o b
     paid_distinct (suc n) l c fs st f o b =
@@ -92,14 +92,14 @@ module _ (p : Program) (needs : Codes → Needs) (fresh : ℕ) where
         let k = counted_keeps p r N (names nest needs (in_truth p needs fresh)) c once in
         acted_distinct c l fs (counted r c once) (k.tells.fine (i.tells.fine f)) (k.once (i.tells.fine f) (i.once f o)) b
 
-    flow_distinct : (g : Flow) (l : ℕ) (c : Code) (fs below : List (Frame Own)) (st : State Own) → Fine nest st → Once st.extra.pending
+    flow_distinct : (g : Flow) (l : ℕ) (c : Code) (fs below : List (Frame Own)) (st : State Own) → HasBegun nest st → Once st.extra.pending
         → OnceBelow fs → OnceBelow below
         → Distinct (by_flow p r g l c fs below st)
     flow_distinct On l c fs below st f o b d = paid_distinct st.steps l c fs st f o b
     flow_distinct Faulted l c fs below st f o b d = both o d
     flow_distinct Stopped l c fs below st f o b d = both o d
 
-    turn_distinct : (g : Frame Own) (fs : List (Frame Own)) (st : State Own) → Fine nest st
+    turn_distinct : (g : Frame Own) (fs : List (Frame Own)) (st : State Own) → HasBegun nest st
         → Distinct (record { frames = g ∷ fs; state = st }) → Distinct (turn p r g fs st)
     turn_distinct (Rest End) fs st f d = both d.ours d.around
     turn_distinct (Rest (Then l c rest)) fs st f d = flow_distinct st.flow l c (Rest rest ∷ fs) fs st f d.ours d.around d.around
@@ -114,8 +114,8 @@ module _ (p : Program) (needs : Codes → Needs) (fresh : ℕ) where
         ap (λ s. result_of (own p needs fresh s))
         (same_Some _ _ (sym is ∙ ap (given p needs fresh root) (sym (own_path p needs fresh s)) ∙ e))
 
-    each_own : (results : Child → List TaskResult) (cs : List Child) → Each (IsTrue p needs fresh root) cs
-        → ((c : Child) → IsTrue p needs fresh root c → Each (IsOwn p needs fresh root) (results c))
+    each_own : (results : Child → List TaskResult) (cs : List Child) → Each (IsGivenChild p needs fresh root) cs
+        → ((c : Child) → IsGivenChild p needs fresh root c → Each (IsOwn p needs fresh root) (results c))
         → Each (IsOwn p needs fresh root) (flat_map results cs)
     each_own results [] h f = tt
     each_own results (c ∷ cs) h f =
@@ -187,7 +187,7 @@ module _ (p : Program) (needs : Codes → Needs) (scoped : IsScoped p) (calm : I
           settles = settled_by st rs f.rest (filled p needs fresh st.extra.pending none_yet) (none_in f.left) f.is;
         }
       where
-        stand : (cs : List Child) → Each (IsTrue p needs fresh root) cs → Each (IsBegun s.nest st) cs
+        stand : (cs : List Child) → Each (IsGivenChild p needs fresh root) cs → Each (IsBegun s.nest st) cs
             → Each (Stands p needs fresh root n) cs
         stand [] h k = tt
         stand (c ∷ cs) h k = (record { is = h.0; nest = let d = k.0.deeper in omega (arith, d, e) }, stand cs h.1 k.1)

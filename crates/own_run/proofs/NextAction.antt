@@ -10,7 +10,7 @@ use Rattle.own_run.specs.Results.{TaskResult}
 use Rattle.own_run.specs.OwnRun.{Start, Action, Own, EndFinish, is_waiting, own_rules, from_receipts, run_by}
 use Rattle.own_run.specs.OwnRun.{actions_of, last_action, next_action}
 use Rattle.own_run.specs.Given.{in_truth}
-use Rattle.own_run.specs.Frames.{Frame, AtEnd, Standing, resume, turn, done_in, Fine, FineBelow, Follows}
+use Rattle.own_run.specs.Frames.{Frame, AtEnd, Standing, resume, turn, done_in, HasBegun, HasBegunBelow, Follows}
 use Rattle.own_run.proofs.TaskTurns.{resume_grows}
 use Rattle.own_run.proofs.TaskRuns.{turns_follow}
 use Rattle.own_run.proofs.TurnActions.{turn_does, follower_waits}
@@ -33,7 +33,8 @@ module _ (p : Program) (needs : Codes → Needs) (fresh : ℕ) (root s : Start) 
       ∙ ap (λ l. resume p (own_rules needs s.nest (from_receipts l)) t.frames t.state) (append-nil taken)
 
   -- before a turn that does something
-  pub next_is_done : (f : Frame Own) (fs : List (Frame Own)) (st : State Own) (a : Action) → Fine s.nest st → FineBelow s.nest st (f ∷ fs)
+  pub next_is_done : (f : Frame Own) (fs : List (Frame Own)) (st : State Own) (a : Action) → HasBegun s.nest st
+      → HasBegunBelow s.nest st (f ∷ fs)
       → Follows p needs fresh root s taken (record { frames = f ∷ fs; state = st }) → done_in needs s.nest f st ≡ a ∷ []
       → next_action p needs fresh taken (length st.extra.actions) s ≡ Some a
   next_is_done f fs st a fine below h e =

@@ -12,7 +12,7 @@ use Rattle.own_run.specs.Results.{TaskResult, Settled}
 use Rattle.own_run.specs.OwnRun.{Start, Child, Own, EndFinish, at_first, is_waiting, result_of, child_of, begin_own}
 use Rattle.own_run.specs.OwnRun.{leave_with, own_rules, begun_by, beginning}
 use Rattle.own_run.specs.Given.{in_truth, own, below}
-use Rattle.own_run.specs.Frames.{IsBegun, Fine}
+use Rattle.own_run.specs.Frames.{IsBegun, HasBegun}
 use Rattle.own_run.specs.Lists.{Each, Inserted, here, later, Shuffled, none, one}
 use Rattle.own_run.proofs.Lists.{each_more, each_append, NoTwice}
 use Rattle.own_run.proofs.Begun.{Tells, tells, begin_tells, enter_tells, run_tells, at_first_fine}
@@ -65,9 +65,9 @@ module _ (nest : ℕ) (needs : Codes → Needs) (close : State Own → Option Se
 
   pub record Names (st to : State Own) : Type 0 where
     pub tells : Tells nest st to
-    pub once : Fine nest st → Once st.extra.pending → Once to.extra.pending
+    pub once : HasBegun nest st → Once st.extra.pending → Once to.extra.pending
 
-  new_path : (n : Needs) (m : ℕ) (b : Codes) (st : State Own) → Fine nest st
+  new_path : (n : Needs) (m : ℕ) (b : Codes) (st : State Own) → HasBegun nest st
       → Each (λ d. (child_of n m b st).start.path ≢ d.start.path) st.extra.pending
   new_path n m b st f = each_more (IsBegun nest st) _ st.extra.pending
       (λ d h e.
@@ -91,14 +91,14 @@ module _ (nest : ℕ) (needs : Codes → Needs) (close : State Own → Option Se
       noted : State Own
       noted = record out { extra = record out.extra { actions = out.extra.actions ++ EndFinish ∷ [] } }
 
-      inner : Fine nest st → Once out.extra.pending
+      inner : HasBegun nest st → Once out.extra.pending
       inner f = h.once ((enter_tells nest needs close st).fine f) tt
 
-      ends : Fine nest st → Once st.extra.pending → (x : Option Settled) → Once (leave_with st noted x).extra.pending
+      ends : HasBegun nest st → Once st.extra.pending → (x : Option Settled) → Once (leave_with st noted x).extra.pending
       ends f o None = inner f
       ends f o (Some x) = o
 
-      by_waiting : Fine nest st → Once st.extra.pending → (b : Bool)
+      by_waiting : HasBegun nest st → Once st.extra.pending → (b : Bool)
           → Once (if b then out else leave_with st noted (close out)).extra.pending
       by_waiting f o true = inner f
       by_waiting f o false = ends f o (close out)
@@ -117,7 +117,7 @@ module _ (nest : ℕ) (needs : Codes → Needs) (close : State Own → Option Se
     finish = finish_names;
   }
 
-  pub run_once : (p : Program) (w : Work) (st : State Own) → Fine nest st → Once st.extra.pending → Once (run p r w st).extra.pending
+  pub run_once : (p : Program) (w : Work) (st : State Own) → HasBegun nest st → Once st.extra.pending → Once (run p r w st).extra.pending
   run_once p w st f o = (run_keeps p r Names names w st).once f o
 
 -- ---- results

@@ -9,7 +9,7 @@ use Rattle.race_checker.specs.Calm.{IsCalm}
 use Rattle.own_run.specs.Results.{TaskResult}
 use Rattle.own_run.specs.OwnRun.{Start, Own, result_of}
 use Rattle.own_run.specs.Given.{own, given, in_truth, IsOwn}
-use Rattle.own_run.specs.Frames.{Frame, Rest, Again, AtEnd, Back, Standing, IsTask, IsTrue}
+use Rattle.own_run.specs.Frames.{Frame, Rest, Again, AtEnd, Back, Standing, IsTask, IsGivenChild}
 use Rattle.own_run.specs.Holds.{MayBegin, Carries, Holds}
 use Rattle.own_run.specs.Reached.{Reached, root_begins, child_begins, turns, leaves, IsResult, HasNeedsOf, HasNext}
 use Rattle.own_run.specs.Lists.{Each}
@@ -41,7 +41,7 @@ module _ (p : Program) (needs : Codes → Needs) (scoped : IsScoped p) (calm : I
         }
     goes (child_begins {s = s} {t = t} {c = c} r m) =
         let k = goes r in
-        let is = each_member (IsTrue p needs fresh root) c t.state.extra.pending
+        let is = each_member (IsGivenChild p needs fresh root) c t.state.extra.pending
         (lists_given p needs fresh root s t.frames t.state k.task) m in
         let begins = each_member (Carries p needs) c t.state.extra.pending k.holds.carried m in
         record {

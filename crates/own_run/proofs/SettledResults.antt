@@ -17,7 +17,7 @@ use Rattle.own_run.specs.Apart.{nothing, merged, apart, apart_outcome}
 use Rattle.own_run.specs.Results.{TaskResult, Settled, none_yet, fill, complete, and_then}
 use Rattle.own_run.specs.OwnRun.{Start, Child, Own, at_first, result_of, begun_by, kth, beginning}
 use Rattle.own_run.specs.Given.{filled, in_truth, comes_to, own, given, IsOwn, root_of, told_of}
-use Rattle.own_run.specs.Frames.{IsBegun, IsTrue}
+use Rattle.own_run.specs.Frames.{IsBegun, IsGivenChild}
 use Rattle.own_run.specs.Settling.{same_path, behind, take, fill_all, settle_within, none_left, settle}
 use Rattle.own_run.specs.Lists.{Each}
 use Rattle.own_run.proofs.Lists.{each_more}
@@ -99,18 +99,19 @@ module _ (p : Program) (needs : Codes → Needs) (fresh : ℕ) where
     pub begun_is_true : (s : Start) → IsGiven s → (st : State Own) (c : Child) → st.path ≡ s.path
         → ((k : ℕ) (t : Start) → slice_get (begun_by st.extra.actions) k ≡ Some t
         → slice_get (begun_by (own p needs fresh s).extra.actions) k ≡ Some t)
-        → IsBegun s.nest st c → IsTrue p needs fresh root c
+        → IsBegun s.nest st c → IsGivenChild p needs fresh root c
     begun_is_true s is st c path more h = record {
       listed = h.listed;
       is = ap (given p needs fresh root) (h.path ∙ ap (λ q. q ++ suc h.number ∷ []) path)
           ∙ given_last s.path root s (suc h.number) is ∙ more h.number c.start h.here;
     }
 
-    pub lists_true : (s : Start) → IsGiven s → Each (IsTrue p needs fresh root) (own p needs fresh s).extra.pending
+    pub lists_true : (s : Start) → IsGiven s → Each (IsGivenChild p needs fresh root) (own p needs fresh s).extra.pending
     lists_true s is =
         let end = own p needs fresh s in
         let t = run_tells s.nest needs (in_truth p needs fresh) p (Block s.body) (beginning (at_first s.owned) fresh s) in
-        each_more (IsBegun s.nest end) (IsTrue p needs fresh root) end.extra.pending (λ c h. begun_is_true s is end c t.path (λ k t e. e) h)
+        each_more (IsBegun s.nest end) (IsGivenChild p needs fresh root) end.extra.pending
+        (λ c h. begun_is_true s is end c t.path (λ k t e. e) h)
         (t.fine (at_first_fine s.nest needs (in_truth p needs fresh) fresh s)).begun
 
     pub record Right (rest : List TaskResult) (x y : Settled) : Type 0 where
@@ -120,7 +121,7 @@ module _ (p : Program) (needs : Codes → Needs) (fresh : ℕ) where
     pub fill_sound : (deeper : TaskResult → List TaskResult → Option (Settled × List TaskResult))
         → ((s : Start) → IsGiven s → (rs : List TaskResult) → Each (IsOwn p needs fresh root) rs → (x : Settled × List TaskResult)
         → deeper (result_of (own p needs fresh s)) rs ≡ Some x → Right x.1 x.0 (comes_to p needs fresh s))
-        → (owned : Places) (cs : List Child) (so_far : Settled) (rs : List TaskResult) → Each (IsTrue p needs fresh root) cs
+        → (owned : Places) (cs : List Child) (so_far : Settled) (rs : List TaskResult) → Each (IsGivenChild p needs fresh root) cs
         → Each (IsOwn p needs fresh root) rs → (x : Settled × List TaskResult)
         → fill_all deeper owned (map (λ c. c.listed) cs) so_far rs ≡ Some x → Right x.1 x.0 (filled p needs fresh cs so_far)
     fill_sound deeper h owned [] so_far rs k all x e =
@@ -158,7 +159,7 @@ module _ (p : Program) (needs : Codes → Needs) (fresh : ℕ) where
     none_left_is (s, r ∷ rs) y e = absurd (none-some _ e)
 
     -- what is pending of a task that was given its start, with results that are own runs
-    pub part_sound : (cs : List Child) → Each (IsTrue p needs fresh root) cs → (r : TaskResult) → r.children ≡ map (λ c. c.listed) cs
+    pub part_sound : (cs : List Child) → Each (IsGivenChild p needs fresh root) cs → (r : TaskResult) → r.children ≡ map (λ c. c.listed) cs
         → (rs : List TaskResult)
         → Each (IsOwn p needs fresh root) rs → (x : Settled) → settle r rs ≡ Some x → x ≡ complete r (filled p needs fresh cs none_yet)
     part_sound cs k r e rs all x h = by_depth (length rs + 1) h

@@ -12,7 +12,7 @@ use Rattle.own_run.specs.OwnRun.{Start, Action, Own, EndFinish, at_first, notes,
 use Rattle.own_run.specs.OwnRun.{begun_by, beginning, from_receipts, run_by}
 use Rattle.own_run.specs.Given.{filled, in_truth, own, given, IsOwn}
 use Rattle.own_run.specs.Frames.{Frame, Rest, Again, AtEnd, Back, Standing, resume, paid, by_flow, turn, handed}
-use Rattle.own_run.specs.Frames.{IsBegun, Fine, FineBelow, IsTrue, IsTask, Follows}
+use Rattle.own_run.specs.Frames.{IsBegun, HasBegun, HasBegunBelow, IsGivenChild, IsTask, Follows}
 use Rattle.own_run.specs.Settling.{settle}
 use Rattle.own_run.specs.Lists.{Each}
 use Rattle.own_run.proofs.Lists.{each_more}
@@ -79,10 +79,10 @@ module _ (p : Program) (needs : Codes → Needs) (fresh : ℕ) (root : Start) wh
 
     -- each task that it lists is given its start
     pub lists_given : (fs : List (Frame Own)) (st : State Own) → IsTask p needs fresh root s (record { frames = fs; state = st })
-        → Each (IsTrue p needs fresh root) st.extra.pending
+        → Each (IsGivenChild p needs fresh root) st.extra.pending
     lists_given fs st h =
         let g = goes_on fs st h in
-        each_more (IsBegun s.nest st) (IsTrue p needs fresh root) st.extra.pending
+        each_more (IsBegun s.nest st) (IsGivenChild p needs fresh root) st.extra.pending
         (λ c. begun_is_true p needs fresh root s h.comes st c h.path
         (λ k t e. ap (λ acts. slice_get (begun_by acts) k) g.1 ∙ ap (λ ss. slice_get ss k) (begun_by-append st.extra.actions g.0)
         ∙ get-append_left (begun_by st.extra.actions) (begun_by g.0) k t e))
@@ -113,7 +113,7 @@ module _ (p : Program) (needs : Codes → Needs) (fresh : ℕ) (root : Start) wh
           below = below_still fs h.below.1;
         }
       where
-        below_still : (fs : List (Frame Own)) → FineBelow s.nest st fs → FineBelow s.nest (handed before x st) fs
+        below_still : (fs : List (Frame Own)) → HasBegunBelow s.nest st fs → HasBegunBelow s.nest (handed before x st) fs
         below_still [] k = tt
         below_still (Rest b ∷ fs) k = below_still fs k
         below_still (Again l t b ∷ fs) k = below_still fs k
@@ -172,8 +172,8 @@ module _ (p : Program) (needs : Codes → Needs) (fresh : ℕ) (root : Start) wh
       turn_alike (AtEnd before) fs st = refl
       turn_alike (Back env) fs st = refl
 
-    pub turns_follow : (taken : List (List TaskResult)) (f : Frame Own) (fs : List (Frame Own)) (st : State Own) → Fine s.nest st
-        → FineBelow s.nest st (f ∷ fs)
+    pub turns_follow : (taken : List (List TaskResult)) (f : Frame Own) (fs : List (Frame Own)) (st : State Own) → HasBegun s.nest st
+        → HasBegunBelow s.nest st (f ∷ fs)
         → Follows p needs fresh root s taken (record { frames = f ∷ fs; state = st })
         → Follows p needs fresh root s taken (turn p r f fs st)
     turns_follow taken f fs st fine below h = record {

@@ -17,7 +17,7 @@ use Rattle.own_run.specs.Results.{Settled}
 use Rattle.own_run.specs.OwnRun.{Action, Own, EndFinish, notes, is_waiting, begin_own, leave_with, leave_own}
 use Rattle.own_run.specs.OwnRun.{own_rules}
 use Rattle.own_run.specs.Frames.{Frame, Rest, Again, AtEnd, Back, Standing, frame, resume, by_value, chosen, acted}
-use Rattle.own_run.specs.Frames.{paid, by_flow, turn, IsBegun, Fine, FineBelow}
+use Rattle.own_run.specs.Frames.{paid, by_flow, turn, IsBegun, HasBegun, HasBegunBelow}
 use Rattle.own_run.proofs.Lists.{each_more}
 use Rattle.own_run.proofs.Begun.{Tells, tells, idle_tells, still_begun, run_tells, enter_tells, begin_tells}
 
@@ -92,7 +92,7 @@ module _ (p : Program) (needs : Codes → Needs) (nest : ℕ) (close : State Own
   T = Tells nest
 
   below_still : (st to : State Own) → to.path ≡ st.path → (done : List Action) → to.extra.actions ≡ st.extra.actions ++ done
-      → (fs : List (Frame Own)) → FineBelow nest st fs → FineBelow nest to fs
+      → (fs : List (Frame Own)) → HasBegunBelow nest st fs → HasBegunBelow nest to fs
   below_still st to path done more [] h = tt
   below_still st to path done more (Rest b ∷ fs) h = below_still st to path done more fs h
   below_still st to path done more (Again l t b ∷ fs) h = below_still st to path done more fs h
@@ -105,7 +105,7 @@ module _ (p : Program) (needs : Codes → Needs) (nest : ℕ) (close : State Own
   -- it stands at t, after a state, above frames
   pub record Kept (st : State Own) (t : Standing Own) : Type 0 where
     pub tells : T st t.state
-    pub below : FineBelow nest t.state t.frames
+    pub below : HasBegunBelow nest t.state t.frames
     pub waits : t.state.extra.waits ≡ st.extra.waits
     pub ended : t.state.extra.ended ≡ st.extra.ended
 
@@ -114,7 +114,7 @@ module _ (p : Program) (needs : Codes → Needs) (nest : ℕ) (close : State Own
     waits : to.extra.waits ≡ st.extra.waits
     ended : to.extra.ended ≡ st.extra.ended
 
-  kept_by : (st : State Own) (to : State Own) (fs : List (Frame Own)) → Quiet st to → FineBelow nest st fs
+  kept_by : (st : State Own) (to : State Own) (fs : List (Frame Own)) → Quiet st to → HasBegunBelow nest st fs
       → Kept st (record { frames = fs; state = to })
   kept_by st to fs q h =
       record { tells = q.tells; below = below_still st to q.tells.path q.tells.done q.tells.more fs h; waits = q.waits; ended = q.ended }
@@ -139,12 +139,13 @@ module _ (p : Program) (needs : Codes → Needs) (nest : ℕ) (close : State Own
     finish = λ st out h. h;
   }
 
-  value_kept : {A : Type 0} (l : ℕ) (v : Valued A) (go : A → Standing Own) (fs : List (Frame Own)) (st : State Own) → FineBelow nest st fs
+  value_kept : {A : Type 0} (l : ℕ) (v : Valued A) (go : A → Standing Own) (fs : List (Frame Own)) (st : State Own)
+      → HasBegunBelow nest st fs
       → ((x : A) → Kept st (go x)) → Kept st (by_value l v go fs st)
   value_kept l (Ok x) go fs st b h = h x
   value_kept l (Err f) go fs st b h = kept_by st (fault l f st) fs (idle st (fault l f st) refl refl refl) b
 
-  chosen_kept : (v : Bool) (fs gs : List (Frame Own)) (st : State Own) → FineBelow nest st fs → FineBelow nest st gs
+  chosen_kept : (v : Bool) (fs gs : List (Frame Own)) (st : State Own) → HasBegunBelow nest st fs → HasBegunBelow nest st gs
       → Kept st (chosen v fs gs st)
   chosen_kept true fs gs st h k = kept_by st st fs (idle st st refl refl refl) h
   chosen_kept false fs gs st h k = kept_by st st gs (idle st st refl refl refl) k
@@ -157,7 +158,7 @@ module _ (p : Program) (needs : Codes → Needs) (nest : ℕ) (close : State Own
   begin_ended zero b st = refl
   begin_ended (suc n) b st = refl
 
-  acted_kept : (s : Code) (l : ℕ) (fs : List (Frame Own)) (st : State Own) → Fine nest st → FineBelow nest st fs
+  acted_kept : (s : Code) (l : ℕ) (fs : List (Frame Own)) (st : State Own) → HasBegun nest st → HasBegunBelow nest st fs
       → Kept st (acted p r l s fs st)
   acted_kept (Do s) l fs st f b =
       let h = primitive_keeps p _ Hidden hidden l s st in kept_by st (primitive p l s st) fs (idle st (primitive p l s st) h.0 h.1 h.2) b
@@ -210,7 +211,7 @@ module _ (p : Program) (needs : Codes → Needs) (nest : ℕ) (close : State Own
     ended = k.ended ∙ q.ended;
   }
 
-  paid_kept : (n l : ℕ) (s : Code) (fs : List (Frame Own)) (st : State Own) → Fine nest st → FineBelow nest st fs
+  paid_kept : (n l : ℕ) (s : Code) (fs : List (Frame Own)) (st : State Own) → HasBegun nest st → HasBegunBelow nest st fs
       → Kept st (paid p r n l s fs st)
   paid_kept zero l s fs st f b = kept_by st (stopped st) fs (idle st (stopped st) refl refl refl) b
   paid_kept (suc n) l s fs st f b =
@@ -223,14 +224,14 @@ module _ (p : Program) (needs : Codes → Needs) (nest : ℕ) (close : State Own
       (below_still one two second.tells.path second.tells.done second.tells.more fs
       (below_still st one first.tells.path first.tells.done first.tells.more fs b))))
 
-  flow_kept : (g : Flow) (l : ℕ) (s : Code) (fs below : List (Frame Own)) (st : State Own) → Fine nest st → FineBelow nest st fs
-      → FineBelow nest st below
+  flow_kept : (g : Flow) (l : ℕ) (s : Code) (fs below : List (Frame Own)) (st : State Own) → HasBegun nest st → HasBegunBelow nest st fs
+      → HasBegunBelow nest st below
       → Kept st (by_flow p r g l s fs below st)
   flow_kept On l s fs below st f b c = paid_kept st.steps l s fs st f b
   flow_kept Faulted l s fs below st f b c = kept_by st st below (idle st st refl refl refl) c
   flow_kept Stopped l s fs below st f b c = kept_by st st below (idle st st refl refl refl) c
 
-  pub turn_kept : (g : Frame Own) (fs : List (Frame Own)) (st : State Own) → Fine nest st → FineBelow nest st (g ∷ fs)
+  pub turn_kept : (g : Frame Own) (fs : List (Frame Own)) (st : State Own) → HasBegun nest st → HasBegunBelow nest st (g ∷ fs)
       → Kept st (turn p r g fs st)
   turn_kept (Rest End) fs st f b = kept_by st st fs (idle st st refl refl refl) b
   turn_kept (Rest (Then l s rest)) fs st f b = flow_kept st.flow l s (Rest rest ∷ fs) fs st f b b

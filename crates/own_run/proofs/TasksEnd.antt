@@ -16,7 +16,7 @@ use Rattle.own_run.specs.Results.{TaskResult, none_yet, complete}
 use Rattle.own_run.specs.OwnRun.{Start, Child, Own, result_of, begin_own, own_rules}
 use Rattle.own_run.specs.Given.{comes_to, filled, in_truth, own, given, below}
 use Rattle.own_run.specs.Frames.{Frame, Rest, Again, AtEnd, Back, Standing, by_value, chosen, acted, paid, by_flow}
-use Rattle.own_run.specs.Frames.{turn, handed, IsTask, IsTrue}
+use Rattle.own_run.specs.Frames.{turn, handed, IsTask, IsGivenChild}
 use Rattle.own_run.specs.Holds.{MayBegin, Carries, Holds}
 use Rattle.own_run.specs.Settling.{settle, IsParted}
 use Rattle.own_run.specs.Lists.{Each, Shuffled}
@@ -167,9 +167,10 @@ module _ (p : Program) (needs : Codes → Needs) (scoped : IsScoped p) (calm : I
         ends (suc fresh) _ _ (omega arith) (begins_task p needs fresh root s is) (begin_holds p needs scoped calm provided fresh s may)
 
   -- ---- the results of all tasks below one
-  pub each_below : (P : TaskResult → Type 0) (results : Child → List TaskResult) (cs : List Child) → Each (IsTrue p needs fresh root) cs
+  pub each_below : (P : TaskResult → Type 0) (results : Child → List TaskResult) (cs : List Child)
+      → Each (IsGivenChild p needs fresh root) cs
       → Each (Carries p needs) cs
-      → ((c : Child) → IsTrue p needs fresh root c → Carries p needs c → Each P (results c)) → Each P (flat_map results cs)
+      → ((c : Child) → IsGivenChild p needs fresh root c → Carries p needs c → Each P (results c)) → Each P (flat_map results cs)
   each_below P results [] h k f = tt
   each_below P results (c ∷ cs) h k f = each_append P (results c) (flat_map results cs) (f c h.0 k.0) (each_below P results cs h.1 k.1 f)
 

@@ -114,22 +114,22 @@ pub record IsBegun (nest : ℕ) (st : State Own) (c : Child) : Type 0 where
   pub deeper : suc c.start.nest ≡ nest
 
 -- what a task lists it has begun, and it counts them
-pub record Fine (nest : ℕ) (st : State Own) : Type 0 where
+pub record HasBegun (nest : ℕ) (st : State Own) : Type 0 where
   pub counted : length (begun_by st.extra.actions) ≡ st.spawned
   pub begun : Each (IsBegun nest st) st.extra.pending
 
 -- so it has what it lists outside of its open finishes
-abbrev pub FineBelow : (nest : ℕ) → State Own → List (Frame Own) → Type 0
-FineBelow nest st [] = Unit {0}
-FineBelow nest st (Rest b ∷ fs) = FineBelow nest st fs
-FineBelow nest st (Again l t b ∷ fs) = FineBelow nest st fs
-FineBelow nest st (AtEnd before ∷ fs) =
-    Each (IsBegun nest st) before.extra.pending × FineBelow nest st fs
-FineBelow nest st (Back env ∷ fs) = FineBelow nest st fs
+abbrev pub HasBegunBelow : (nest : ℕ) → State Own → List (Frame Own) → Type 0
+HasBegunBelow nest st [] = Unit {0}
+HasBegunBelow nest st (Rest b ∷ fs) = HasBegunBelow nest st fs
+HasBegunBelow nest st (Again l t b ∷ fs) = HasBegunBelow nest st fs
+HasBegunBelow nest st (AtEnd before ∷ fs) =
+    Each (IsBegun nest st) before.extra.pending × HasBegunBelow nest st fs
+HasBegunBelow nest st (Back env ∷ fs) = HasBegunBelow nest st fs
 
 module _ (p : Program) (needs : Codes → Needs) (fresh : ℕ) (root : Start) where
   -- a task that is listed is known by its path, and started with what that is given
-  pub record IsTrue (c : Child) : Type 0 where
+  pub record IsGivenChild (c : Child) : Type 0 where
     pub listed : c.listed.path ≡ c.start.path
     pub is : given p needs fresh root c.start.path ≡ Some c.start
 
@@ -140,8 +140,8 @@ module _ (p : Program) (needs : Codes → Needs) (fresh : ℕ) (root : Start) wh
         ≡ own p needs fresh s
     pub path : t.state.path ≡ s.path
     pub awake : t.state.extra.waits ≡ false
-    pub fine : Fine s.nest t.state
-    pub below : FineBelow s.nest t.state t.frames
+    pub fine : HasBegun s.nest t.state
+    pub below : HasBegunBelow s.nest t.state t.frames
 
   -- for all later receipts, its own run is what it has so far, followed by that of what remains
   pub record Follows (s : Start) (taken : List (List TaskResult)) (t : Standing Own) : Type 0 where

@@ -45,7 +45,7 @@ module _ (p : Program) (needs : Codes → Needs) where
   locked_after env locked b q = locked q ⊎ Overwrites env (Pending p accesses b) q
 
   -- a block that is left: its scope lies in `limit`, with the windows of `env`, off what is locked
-  pub record Left (windows : ℕ → Window) (limit : ℕ → Type 0) (c : Contents) (o : Places)
+  pub record Remains (windows : ℕ → Window) (limit : ℕ → Type 0) (c : Contents) (o : Places)
       (locked : Place → Type 0) (b : Codes) (sc : Scope)
       (env : Environment) : Type 0 where
     pub inside : (s : ℕ) → InScope sc s → limit s
@@ -57,10 +57,10 @@ module _ (p : Program) (needs : Codes → Needs) where
       → (locked : Place → Type 0) → List (Frame Own) → Type 0
   Stack f limit c o locked [] = Unit {0}
   Stack f limit c o locked (Rest b ∷ fs) =
-      (sc : Scope) × (env : Environment) × Left f limit c o locked b sc env
+      (sc : Scope) × (env : Environment) × Remains f limit c o locked b sc env
       × Stack f (InScope sc) c o (locked_after env locked b) fs
   Stack f limit c o locked (Again l t b ∷ fs) =
-      (sc : Scope) × (env : Environment) × Left f limit c o locked (Then l (While t b) End) sc env
+      (sc : Scope) × (env : Environment) × Remains f limit c o locked (Then l (While t b) End) sc env
       × Stack f (InScope sc) c o (locked_after env locked (Then l (While t b) End)) fs
   Stack f limit c o locked (AtEnd before ∷ fs) =
       Stack f limit before.store before.extra.owned (λ q. ⊥) fs

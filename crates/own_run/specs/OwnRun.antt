@@ -1,7 +1,6 @@
 -- A task's own run: its asyncs are listed, and what comes of them is put in at a finish's end.
-use Rattle.std.specs.Prelude.{ℕ, zero, suc, ◌+◌, List, [], ◌∷◌, ◌++◌, map, Bool}
-use Rattle.std.specs.Prelude.{true, false, not, ◌&&◌, ◌||◌, Option, Some, None, slice_get}
-use Rattle.std.specs.Prelude.{if◌then◌else◌}
+use Rattle.std.specs.Prelude.{ℕ, zero, suc, ◌+◌, List, [], ◌∷◌, ◌++◌, map, Bool, true, false, not}
+use Rattle.std.specs.Prelude.{◌&&◌, ◌||◌, Option, Some, None, slice_get, if◌then◌else◌}
 use Rattle.types.specs.Code.{Codes, Program}
 use Rattle.types.specs.Contents.{Contents}
 use Rattle.types.specs.Value.{Environment}

@@ -2,12 +2,11 @@
 use Rattle.std.proofs.Common.{◌≡◌, ◌⊎◌, inl, inr, ℕ, ◌+◌, ◌-◌, ◌<◌, ◌≤◌, min, max, List, [], ◌∷◌, ◌++◌, refl, sym, ap, ◌∙◌, subst}
 use Rattle.std.proofs.Common.{arith, zero, suc, length, get_or, map, drop, append_assoc}
 use Rattle.std.proofs.lemmas.List.{drop_more, drop_all}
-use Rattle.std.proofs.lemmas.Bool.{eqb-true, eqb-false, eq-eqb, ne_eqb, ltb-true, ltb-false, lt-ltb, le-ltb, leb-true, leb-false}
-use Rattle.std.proofs.lemmas.Bool.{le-leb, and_parts, and_from, or_cases, or_left, or_right, or_parts, cases_order}
+use Rattle.std.proofs.lemmas.Bool.{eqb-true, eq-eqb, ne_eqb, ltb-true, ltb-false, lt-ltb, le-ltb, leb-true, leb-false}
+use Rattle.std.proofs.lemmas.Bool.{and_parts, and_from, or_cases, or_left, or_right, or_parts, cases_order}
 use Rattle.std.proofs.lemmas.Bool.{false_from_ne_true, not_from_false, not-true, false≢true, true≢false}
-use Rattle.std.proofs.lemmas.List.Folds.{list_any-append}
 use Rattle.std.specs.Prelude.{Bool, true, false, not, ◌&&◌, ◌||◌, nat_eq, nat_lt, nat_le, if◌then◌else◌}
-use Rattle.std.specs.List.{list_any, list_all}
+use Rattle.std.specs.List.{list_all}
 use Rattle.sections.specs.Place.{Place, Window, In}
 use Rattle.sections.specs.Covers.{is_in, has, has_places, ends_before, is_cover}
 use Rattle.sections.specs.Joining.{end_of, begins_no_later}
@@ -156,7 +155,7 @@ before_behind w v n h k = elim (no_later_cases v w n) [
 
 module _ (q : Place) where
   -- whether q comes before the place n of an array
-  abbrev precedes : (array n : ℕ) → Bool
+  abbrev pub precedes : (array n : ℕ) → Bool
   precedes a n = nat_lt q.array a || (nat_eq q.array a && nat_lt q.index n)
 
   precedes_cases : (a n : ℕ) → precedes a n ≡ true → (q.array < a) ⊎ ((q.array ≡ a) × (q.index < n))
@@ -170,11 +169,11 @@ module _ (q : Place) where
   precedes-array : (a n : ℕ) → q.array < a → precedes a n ≡ true
   precedes-array a n h = or_left (nat_lt q.array a) (nat_eq q.array a && nat_lt q.index n) (lt-ltb q.array a h)
 
-  precedes-index : (a n : ℕ) → q.array ≡ a → q.index < n → precedes a n ≡ true
+  pub precedes-index : (a n : ℕ) → q.array ≡ a → q.index < n → precedes a n ≡ true
   precedes-index a n e h = or_right (nat_lt q.array a) (nat_eq q.array a && nat_lt q.index n)
       (and_from (nat_eq q.array a) (nat_lt q.index n) (eq-eqb q.array a e) (lt-ltb q.index n h))
 
-  follows_cases : (a n : ℕ) → precedes a n ≡ false → (a < q.array) ⊎ ((q.array ≡ a) × (n ≤ q.index))
+  pub follows_cases : (a n : ℕ) → precedes a n ≡ false → (a < q.array) ⊎ ((q.array ≡ a) × (n ≤ q.index))
   follows_cases a n h =
       let parts = or_parts (nat_lt q.array a) (nat_eq q.array a && nat_lt q.index n) h in
       elim (cases_order q.array a) [
@@ -188,19 +187,19 @@ module _ (q : Place) where
       ]
 
   -- whether q comes before a window begins, and before it ends
-  abbrev is_before : Window → Bool
+  abbrev pub is_before : Window → Bool
   is_before w = precedes w.array w.at
 
-  abbrev is_before_end : Window → Bool
+  abbrev pub is_before_end : Window → Bool
   is_before_end w = precedes w.array (end_of w)
 
-  before_its_end : (w : Window) → is_before w ≡ true → is_before_end w ≡ true
+  pub before_its_end : (w : Window) → is_before w ≡ true → is_before_end w ≡ true
   before_its_end w h = elim (precedes_cases w.array w.at h) [
     | inl k ↦ precedes-array w.array (end_of w) k
     | inr k ↦ precedes-index w.array (end_of w) k.0 (omega (arith, k.1))
   ]
 
-  is_in-between : (w : Window) → is_in w q ≡ (not (is_before w) && is_before_end w)
+  pub is_in-between : (w : Window) → is_in w q ≡ (not (is_before w) && is_before_end w)
   is_in-between w = same_truth (is_in w q) (not (is_before w) && is_before_end w)
       (λ h.
       (let i = in_window w q h in
@@ -227,7 +226,7 @@ module _ (q : Place) where
       ]
 
   -- what comes before the end of a window is in none of those behind it
-  none_behind : (v : Window) (ws : List Window) → is_before_end v ≡ true → list_all (ends_before v) ws ≡ true → has ws q ≡ false
+  pub none_behind : (v : Window) (ws : List Window) → is_before_end v ≡ true → list_all (ends_before v) ws ≡ true → has ws q ≡ false
   none_behind v [] h all = refl
   none_behind v (w ∷ ws) h all =
       let parts = and_parts (ends_before v w) (list_all (ends_before v) ws) all in
@@ -568,7 +567,8 @@ cut_by-later w g go gs e =
 module _ (gone : List rWindow) (next : ℕ) (there : next < length gone) where
   pub next_first : (g : rWindow) → g ≡ get_or gone next g
       → map window (drop next gone) ≡ window g ∷ map window (drop (next + 1) gone)
-  next_first g is = ap (map window) (drop_more gone next g there) ∙ ap (λ (x : rWindow). window x ∷ map window (drop (next + 1) gone)) (sym is)
+  next_first g is = ap (map window) (drop_more gone next g there)
+      ∙ ap (λ (x : rWindow). window x ∷ map window (drop (next + 1) gone)) (sym is)
 
   -- one ends within w: the part before it is left, and the part behind it goes on
   pub turn_within : (done : List Window) (w r : Window) (go : List Window → List Window) (g h : rWindow) (whole : List Window)

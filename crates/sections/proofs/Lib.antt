@@ -6,4 +6,5 @@ pub mod Members
 pub mod Numbered
 pub mod Overlapping
 pub mod Sorting
+pub mod Unique
 pub mod Windows

@@ -1,6 +1,6 @@
 -- What is left of windows where others are taken away.
-use Rattle.std.specs.Prelude.{◌-◌, min, max, List, [], ◌∷◌, Bool, ◌&&◌, ◌||◌, nat_eq, nat_lt, nat_le}
-use Rattle.std.specs.Prelude.{if◌then◌else◌}
+use Rattle.std.specs.Prelude.{◌-◌, min, max, List, [], ◌∷◌, Bool, ◌&&◌, ◌||◌, nat_eq, nat_lt}
+use Rattle.std.specs.Prelude.{nat_le, if◌then◌else◌}
 use Rattle.sections.specs.Covers.{has_places}
 use Rattle.sections.specs.Joining.{end_of}
 use Rattle.sections.specs.Place.{Window}

@@ -11,8 +11,8 @@ ghost use Rattle.sections.specs.Translation.{window as window_of};
 use crate::window::Window;
 use std::alloc::{AllocError, Global};
 
-/// The places of some windows, in whatever order, as the one list of windows in ascending order, none
-/// empty and none touching another.
+/// The places of some windows, which stand in any order, as windows in ascending order, none empty
+/// and none touching another.
 pub fn cover(alloc: Global, windows: &[Window]) -> Result<Vec<Window>, AllocError>
     ensures places { IfOk result (λ c. (q : PlaceOf)
         → has (map window_of c.items) q ≡ has (map window_of windows.now) q) }

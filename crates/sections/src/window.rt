@@ -25,8 +25,8 @@ pub struct Place {
 }
 
 impl Window {
-    ghost use Rattle.sections.specs.Cutting.{ends_no_later as ends_no_later_as, before as before_as};
-    ghost use Rattle.sections.specs.Cutting.{behind as behind_as};
+    ghost use Rattle.sections.specs.Cutting.{ends_no_later as ends_no_later_as};
+    ghost use Rattle.sections.specs.Cutting.{before as before_as, behind as behind_as};
     ghost use Rattle.sections.specs.Joining.{end_of, meets as meets_as, joined as joined_as};
     ghost use Rattle.sections.specs.Place.{place_in};
     ghost use Rattle.sections.specs.Translation.{place as place_of, window as window_of};

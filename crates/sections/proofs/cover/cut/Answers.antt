@@ -1,4 +1,4 @@
-use Rattle.std.proofs.Common.{◌≡◌, ◌++◌, ◌+◌, ◌∷◌, List, map, drop, arith, ap, ◌∙◌, sym, append-nil}
+use Rattle.std.proofs.Common.{◌≡◌, ◌++◌, ◌+◌, List, map, drop, arith, ap, ◌∙◌, sym, append-nil}
 use Rattle.std.proofs.lemmas.List.{drop_all}
 use Rattle.sections.specs.Covers.{has, is_cover}
 use Rattle.sections.specs.Cutting.{unless_empty}

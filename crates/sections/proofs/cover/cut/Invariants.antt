@@ -1,4 +1,4 @@
-use Rattle.std.proofs.Common.{◌≡◌, ◌++◌, ◌+◌, ◌-◌, ◌≤◌, map, drop, length}
+use Rattle.std.proofs.Common.{◌≡◌, ◌++◌, ◌+◌, ◌-◌, map, drop, length}
 use Rattle.sections.specs.Translation.{window}
 use Rattle.sections.proofs.Cutting.{cut_by, minus}
 use Rattle.sections.proofs.cover.cut.Given as goal

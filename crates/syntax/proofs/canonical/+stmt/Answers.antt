@@ -11,8 +11,8 @@ use Rattle.syntax.specs.Token.{WordToken, MarkToken}
 use Rattle.syntax.specs.Tree.{If, IfElse, While, Split, Async, Finish, Then, expr, stmt, block}
 use Rattle.syntax.specs.Writing.{place, with_rest}
 use Rattle.syntax.proofs.ExpressionText.{ok_then, ok_map3, pushed}
-use Rattle.syntax.proofs.LineText.{wrote, wrote_adds, wrote_text, counted_by, stmt_begins, block_is_line, opened}
-use Rattle.syntax.proofs.LineText.{closed, laid_If, laid_IfElse, laid_Else, laid_While, laid_Split, laid_Async}
+use Rattle.syntax.proofs.LineText.{wrote, wrote_adds, wrote_text, counted_by, stmt_begins, block_is_line, laid-opening_brace}
+use Rattle.syntax.proofs.LineText.{laid-closing_brace, laid_If, laid_IfElse, laid_Else, laid_While, laid_Split, laid_Async}
 use Rattle.syntax.proofs.LineText.{laid_Finish, laid_end}
 use Rattle.syntax.proofs.RowLemmas.{stmt_If, stmt_IfElse, stmt_While, stmt_Split, stmt_Async, stmt_Finish}
 use Rattle.syntax.proofs.StatementKinds.{is_simple-true}
@@ -27,10 +27,10 @@ block-returns-clause-written t c =
     ok_map3 c.close.result c.close.ensures.text c.close.ensures.depth c.close.ensures.label (λ text depth label r.
     wrote old inside Other Margin _ _ (codes " {\n") (old.depth + 1) old.label
     c.in_ok-open.ensures.text c.in_ok-open.ensures.depth c.in_ok-open.ensures.label
-    (opened old.depth old.label (block_then body r) (block_is_line body r))
+    (laid-opening_brace old.depth old.label (block_then body r) (block_is_line body r))
     ∙ c.in_ok-statements.ensures.written r
     ∙ wrote behind c.close.new.self Margin Ended _ _ _ (behind.depth - 1) behind.label text depth label
-    (closed behind.depth behind.label r))
+    (laid-closing_brace behind.depth behind.label r))
 
 pub line-simple-requires-clause-simple : goal.line-simple-requires-clause-simple
 line-simple-requires-clause-simple t c = is_simple-true c.args.statement.now c.in-Skip.is
