@@ -8,6 +8,7 @@ use Rattle.serial_run.specs.declared.thread.Flow.TheVariants.{Stopped as rStoppe
 use Rattle.serial_run.specs.declared.thread.Thread.{Thread}
 use Rattle.serial_run.specs.Lists.{contents_of}
 
+-- whether the task goes on
 abbrev pub flow : rFlow → Flow
 flow rOn = On
 flow rFaulted = Faulted
@@ -32,6 +33,7 @@ pub record Standing : Type 0 where
   pub state : State (Unit {0})
   pub nest : ℕ
 
+-- where the thread stands
 abbrev pub standing : Thread → Standing
 standing t = record { state = state_of t; nest = t.nest }
 
