@@ -1,6 +1,7 @@
 pub mod Climbing
 pub mod Covering
 pub mod Cutting
+mod Examples
 pub mod Lines
 pub mod Members
 pub mod Numbered
