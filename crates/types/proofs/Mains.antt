@@ -11,7 +11,6 @@ use Rattle.types.specs.Rules.{Stands, StandsIn, in_a_procedure, in_the_main, nam
 use Rattle.types.specs.Rules.{TooMany, IsOverLimit, over_by_arrays, over_by_statements, BreaksNoRule, Tells}
 use Rattle.types.specs.ArrayScope.{place, only_main}
 use Rattle.types.specs.Told.{KnowsNames, UnknownAt, TellsBlock}
-use Rattle.types.specs.declared.check.TheConstants.{MOST_LABELS}
 use Rattle.types.specs.declared.error.TypeError.{TypeError}
 use Rattle.types.specs.declared.error.TypeError.TheVariants.{NotInScope, DeclaredTwice, NoMain, OverLimit, OutOfMemory, NotYet}
 use Rattle.types.proofs.Served.{at_main}
@@ -43,13 +42,13 @@ module _ (m : Main) (names : List (List ℕ)) (named : names ≡ map (λ a. a.na
       let there : Stands (in_main 1 m.arrays) m.body here s = subst (λ (n : Main). Stands (in_main 1 n.arrays) n.body here s) same h in
       known here s (subst (λ from. Stands from m.body here s) (sym (at_main names m.arrays named)) there)
 
-  limited : ¬ TooMany m.arrays → labels m.body ≤ MOST_LABELS → IsOverLimit (only_main m) → ⊥
+  limited : ¬ TooMany m.arrays → labels m.body ≤ 65535 → IsOverLimit (only_main m) → ⊥
   limited few short (over_by_arrays h) = few h
   limited few short (over_by_statements h) = omega (arith, h, short)
 
   -- it breaks no rule if its parts break none
   pub main_breaks_none : KnowsNames (place names 1) m.body → ¬ HasNameTwice m.arrays → ¬ TooMany m.arrays
-      → labels m.body ≤ MOST_LABELS → BreaksNoRule (only_main m)
+      → labels m.body ≤ 65535 → BreaksNoRule (only_main m)
   main_breaks_none known apart few short = record {
     names = λ label u. let a = known_in_main known u.here u.statement u.stands in let b = u.unknown in cc;
     arrays = apart;

@@ -5,7 +5,6 @@ use Rattle.std.specs.List.{list_all, list_any}
 use Rattle.syntax.specs.Tree.{Expr, Atom, Number, Element, Stmt, Skip, Store, Print, If, IfElse, While, Split, Async}
 use Rattle.syntax.specs.Tree.{Finish, Block, End, Then, Array, Procedure, Main, Program, lone_atom}
 use Rattle.types.specs.Resolution.{Scope, meant, labels, labels_before, inside, past, between, behind, in_procedure, in_main}
-use Rattle.types.specs.declared.check.TheConstants.{MOST_ARRAYS, MOST_LABELS}
 use Rattle.types.specs.declared.error.TypeError.{TypeError}
 use Rattle.types.specs.declared.error.TypeError.TheVariants.{NotInScope, DeclaredTwice, NoMain, OverLimit, OutOfMemory, NotYet}
 
@@ -96,13 +95,13 @@ HasNoMain p = p.main ≡ None
 
 -- there are too many arrays, or too many elements together
 pub data TooMany (arrays : List Array) : Type 0 where
-  too_many_arrays : MOST_ARRAYS < length arrays → TooMany arrays
+  too_many_arrays : 32 < length arrays → TooMany arrays
   too_many_elements : 4194304 < sum_by (λ a. a.length) arrays → TooMany arrays
 
 -- Y9: the same, or there are too many statements
 pub data IsOverLimit (p : Program) : Type 0 where
   over_by_arrays : TooMany (arrays_in p.main) → IsOverLimit p
-  over_by_statements : MOST_LABELS < labels_before p.procedures + labels (body_in p.main) → IsOverLimit p
+  over_by_statements : 65535 < labels_before p.procedures + labels (body_in p.main) → IsOverLimit p
 
 pub record BreaksNoRule (p : Program) : Type 0 where
   pub names : (label : ℕ) → ¬ NamesUnknown p label

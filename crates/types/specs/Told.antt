@@ -5,7 +5,6 @@ use Rattle.syntax.specs.Tree.{Expr, Atom, Stmt, Block, Array, lone_atom}
 use Rattle.types.specs.Resolution.{Scope, labels}
 use Rattle.types.specs.Rules.{Stands, HasNameTwice, TooMany, is_unknown, atom_unknown, item_unknown, names_unknown}
 use Rattle.types.specs.Rules.{is_printed, is_item, is_served_block}
-use Rattle.types.specs.declared.check.TheConstants.{MOST_LABELS}
 use Rattle.types.specs.declared.error.TypeError.{TypeError}
 use Rattle.types.specs.declared.error.TypeError.TheVariants.{NotInScope, DeclaredTwice, NoMain, OverLimit, OutOfMemory, NotYet}
 
@@ -47,7 +46,7 @@ pub record UnknownAt (from : Scope) (b : Block) (label : ℕ) : Type 0 where
 
 -- what an error says of a block that begins at the place
 abbrev pub TellsBlock : (from : Scope) → Block → TypeError → Type 0
-TellsBlock from b = Says (UnknownAt from b) ⊥ (MOST_LABELS + 1 < from.label + labels b) (is_served_block b ≡ false)
+TellsBlock from b = Says (UnknownAt from b) ⊥ (65536 < from.label + labels b) (is_served_block b ≡ false)
 
 -- what an error says of the declared arrays
 abbrev pub TellsArrays : List Array → TypeError → Type 0
