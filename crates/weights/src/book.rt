@@ -43,10 +43,18 @@ impl Model for Book {
     ghost Value = { Ledger };
 
     ghost view = { λ b. record {
-        w0 = b.w0; mints = b.mints; entries = map entry_of b.entries.items; unlisted = b.unlisted } };
+      w0 = b.w0;
+      mints = b.mints;
+      entries = map entry_of b.entries.items;
+      unlisted = b.unlisted;
+    } };
 
     ghost invariant = { λ b. let l : Ledger = record {
-        w0 = b.w0; mints = b.mints; entries = map entry_of b.entries.items; unlisted = b.unlisted } in
+      w0 = b.w0;
+      mints = b.mints;
+      entries = map entry_of b.entries.items;
+      unlisted = b.unlisted;
+    } in
         (b.issued ≡ issued_of l) × (b.returned ≡ returned_of l) × IsSound l };
 }
 
@@ -124,7 +132,9 @@ impl Book {
     pub fn back(&mut self, weight: Weight, path: Path) -> Back
         requires { weight ≤ issued_of self.old - returned_of self.old }
         ensures book { GivesBack self.old self.new (record {
-            path = path.turns.items; weight = weight }) }
+          path = path.turns.items;
+          weight = weight;
+        }) }
         ensures complete { (result ≡ Back.Complete) ↔ (returned_of self.new ≡ issued_of self.new) }
     {
         let Weight { units } = weight;
