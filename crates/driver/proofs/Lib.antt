@@ -1,4 +1,6 @@
-pub mod Examples
+pub mod Acting
+pub mod Answering
 pub mod Appending
+pub mod Examples
 pub mod OutcomeText
-pub mod Told
+pub mod Reading

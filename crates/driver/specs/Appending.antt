@@ -10,5 +10,7 @@ pub record AppendsBeginning (old new : Option (List ℕ)) (text : List ℕ) : Ty
   pub appended : Appends old new begun
 
 -- at Ok known bytes grew by the text, and at Err by a beginning of it
-abbrev pub Writes : {T E : Type 0} → (old new : Option (List ℕ)) → Result T E → (text : List ℕ) → Type 0
-Writes old new r text = MatchResult r (λ _. Appends old new text) (λ _. AppendsBeginning old new text)
+abbrev pub Writes : {T E : Type 0} → (old new : Option (List ℕ)) → Result T E → (text : List ℕ)
+    → Type 0
+Writes old new r text =
+    MatchResult r (λ _. Appends old new text) (λ _. AppendsBeginning old new text)

@@ -4,8 +4,10 @@ use Rattle.std.specs.Fmt.{decimal}
 use Rattle.std.specs.String.{string_bytes}
 use Rattle.types.specs.declared.code.Array.{Array}
 use Rattle.workers.specs.declared.check.Refused.{Refused}
-use Rattle.workers.specs.declared.check.Refused.TheVariants.{Race as RaceFound}
+use Rattle.workers.specs.declared.check.Refused.TheVariants.{Race as RaceFound, OutOfMemory}
 use Rattle.workers.specs.declared.race.Access.{Access}
+use Rattle.workers.specs.declared.race.Meeting.{Meeting}
+use Rattle.types.specs.declared.typed.Typed.{Typed}
 use Rattle.driver.specs.declared.failure.Failure.{Failure}
 use Rattle.driver.specs.declared.failure.Failure.TheVariants.{CannotRead, NotUtf8, Race, NoMemoryInCheck, NoMemory}
 
@@ -35,9 +37,13 @@ access_text arrays a =
     decimal a.label ++ (codes " " ++ (kind_of a.write ++ (codes " " ++ name_of (slice_get arrays a.array.number))))
 
 -- a race is told by both its accesses, if there is memory for it
-abbrev pub TellsRefusal : Refused → Failure → Type 0
-TellsRefusal (RaceFound race typed) (Race first second) =
+abbrev pub TellsRace : Meeting → Typed → Failure → Type 0
+TellsRace race typed (Race first second) =
     (string_bytes first ≡ access_text typed.code.arrays.items race.first)
     × (string_bytes second ≡ access_text typed.code.arrays.items race.second)
-TellsRefusal refused NoMemoryInCheck = Unit {0}
-TellsRefusal refused _ = ⊥
+TellsRace race typed NoMemoryInCheck = Unit {0}
+TellsRace race typed _ = ⊥
+
+abbrev pub TellsRefusal : Refused → Failure → Type 0
+TellsRefusal (RaceFound race typed) f = TellsRace race typed f
+TellsRefusal OutOfMemory f = f ≡ NoMemoryInCheck

@@ -1,6 +1,9 @@
+pub mod Acts
+pub mod Answers
 pub mod Appending
 pub mod FailureStatus
 pub mod Failures
+pub mod Messages
 pub mod OutcomeText
+pub mod Reading
 pub mod Requests
-pub mod Telling

@@ -1,10 +1,9 @@
--- The text of an outcome: what `afx` prints where a run ended, and the status that it then ends with.
+-- The text of an outcome: what `afx` prints where a run ended, and the status that tells it.
 use Rattle.std.specs.Prelude.{ℕ, List, [], ◌∷◌, ◌++◌, map, codes, Bool, if◌then◌else◌, ℤ}
 use Rattle.std.specs.Fmt.{decimal, signed_decimal}
 use Rattle.std.specs.List.{concat, flat_map, join_with_byte, zip}
-use Rattle.types.specs.declared.fault.FaultKind.{FaultKind}
-use Rattle.types.specs.declared.fault.FaultKind.TheVariants.{Index, Overflow, ZeroDivisor, OutOfElement, SplitPoint, Raised}
 use Rattle.types.specs.Code.{Array}
+use Rattle.types.specs.Names.{path_text, kind_text}
 use Rattle.types.specs.Run.{Fault}
 use Rattle.types.specs.Outcome.{Outcome, Ended, Halted, Ending}
 
@@ -24,32 +23,22 @@ spaced_text values = flat_map (λ n. codes " " ++ signed_decimal n) values
 abbrev pub line_text : List ℤ → List ℕ
 line_text values = joined_text values ++ codes "\n"
 
--- a task: `0`, then a dot and each child number on the way to it
-abbrev pub path_text : List ℕ → List ℕ
-path_text turns = codes "0" ++ flat_map (λ n. codes "." ++ decimal n) turns
-
--- the code of a fault, with the number of a raised one
-abbrev pub kind_text : FaultKind → List ℕ
-kind_text Index = codes "F1"
-kind_text Overflow = codes "F2"
-kind_text ZeroDivisor = codes "F3"
-kind_text OutOfElement = codes "F4"
-kind_text SplitPoint = codes "F5"
-kind_text (Raised n) = codes "F6 " ++ signed_decimal n
-
 -- `fault PATH at LABEL: CODE`
 abbrev pub fault_text : Fault → List ℕ
 fault_text f =
-    concat (codes "fault " ∷ path_text f.path ∷ codes " at " ∷ decimal f.label ∷ codes ": " ∷ kind_text f.kind ∷ codes "\n" ∷ [])
+    concat (codes "fault " ∷ path_text f.path ∷ codes " at " ∷ decimal f.label ∷ codes ": "
+    ∷ kind_text f.kind ∷ codes "\n" ∷ [])
 
 -- `array NAME` and its elements
 abbrev pub array_text : Array × List ℤ → List ℕ
 array_text (a, elements) = concat (codes "array " ∷ a.name ∷ spaced_text elements ∷ codes "\n" ∷ [])
 
--- the printed lines, then the faults, then the arrays where they are to be shown: as many as are declared and have elements
+-- the printed lines, then the faults, then, where they are to be shown, the arrays that are declared
+-- and have elements
 abbrev pub ending_text : (declared : List Array) → (arrays : Bool) → Ending → List ℕ
 ending_text declared arrays e =
-    flat_map line_text e.lines ++ flat_map fault_text e.faults ++ (if arrays then flat_map array_text (zip declared e.arrays) else [])
+    flat_map line_text e.lines ++ flat_map fault_text e.faults
+    ++ (if arrays then flat_map array_text (zip declared e.arrays) else [])
 
 -- the text of an outcome
 abbrev pub outcome_text : (declared : List Array) → (arrays : Bool) → Outcome → List ℕ

@@ -1,14 +1,16 @@
 //! The whole program, over files and writers that it is lent.
 
-ghost use Rattle.std.specs.Prelude.{◌≡◌, ◌≤◌, ◌<◌, ◌≢◌, IfOk, IfErr};
-ghost use Rattle.std.specs.Io.KnownBytes.{Keeps};
-ghost use Rattle.driver.specs.Telling.{TellsSome};
+ghost use Rattle.std.specs.Prelude.{◌≤◌, ◌<◌, ℕ, List, map, MatchResult};
+ghost use Rattle.std.specs.String.{string_bytes};
+ghost use Rattle.driver.specs.Acts.{Acts, IsGiven, ReadsAndPerforms, TellsFileError};
+ghost use Rattle.driver.specs.Requests.{Asked, Asks, asked_of, file_of};
 
 use crate::command_line::{Request, request_of};
-use crate::commands::{list, reject, run_as_tasks, run_serially};
+use crate::commands;
 use crate::emit::append;
 use crate::failure::Failure;
 use crate::files::{FileError, FileSource};
+use crate::message::emit_message;
 use clap::Error;
 use std::alloc::{AllocError, Global};
 use std::io::Write;
@@ -21,17 +23,19 @@ pub fn act<F: FileSource, O: Write, E: Write>(
     out: &mut O,
     err: &mut E,
 ) -> u8
-    ensures known { result ≤ 5 }
-    ensures told { 1 < result → result < 4
-        → TellsSome (O.contents out.old) (O.contents out.new) result }
-    ensures silent { 3 < result → Keeps (O.contents out.old) (O.contents out.new) }
+    ensures asked { (a : Asked) (file : List ℕ) → Asks (map string_bytes words.now) a file
+        → Acts a file (F.held files.old file) (O.contents out.old) (O.contents out.new)
+        (E.contents err.old) (E.contents err.new) result }
+    ensures over_one { 1 < result → (a : Asked) × (file : List ℕ)
+        × Acts a file (F.held files.old file) (O.contents out.old) (O.contents out.new)
+        (E.contents err.old) (E.contents err.new) result }
 {
     match request_of(alloc, words) {
         Err(error) => tell_command_line(alloc, &error, out, err),
         Ok(request) => match perform(alloc, request, files, out) {
             Ok(status) => status,
             Err(failure) => {
-                let _ = writeln!(err, "{failure}");
+                let _ = emit_message(err, &failure);
                 failure.status()
             }
         },
@@ -45,28 +49,24 @@ fn perform<F: FileSource, O: Write>(
     files: &mut F,
     out: &mut O,
 ) -> Result<u8, Failure>
-    ensures known { IfOk result (λ status. status ≤ 3) }
-    ensures told { IfOk result (λ status. 1 < status
-        → TellsSome (O.contents out.old) (O.contents out.new) status) }
-    ensures silent { IfErr result (λ failure. failure ≢ Failure.CannotWriteOutput
-        → Keeps (O.contents out.old) (O.contents out.new)) }
+    ensures { let file = file_of request.entry in
+        ReadsAndPerforms (asked_of request.entry) file (F.held files.old file)
+        (O.contents out.old) (O.contents out.new) result }
 {
     let name = request.file();
     let bytes = read(alloc, files, name)?;
-    let text = match std::str::from_utf8(&bytes) {
-        Ok(text) => text,
-        Err(_) => return Err(Failure::not_utf8(alloc, name)),
-    };
-    match request {
-        Request::Run { .. } => run_as_tasks(alloc, text, out),
-        Request::Serial { .. } => run_serially(alloc, text, out),
-        Request::Check { list: true, .. } => list(alloc, text, out),
-        Request::Check { list: false, .. } => reject(alloc, text),
+    match std::str::from_utf8(&bytes) {
+        Ok(text) => commands::perform(alloc, request, text, out),
+        Err(_) => Err(Failure::not_utf8(alloc, name)),
     }
 }
 
 /// What a file holds.
-fn read<F: FileSource>(alloc: Global, files: &mut F, name: &str) -> Result<Vec<u8>, Failure> {
+fn read<F: FileSource>(alloc: Global, files: &mut F, name: &str) -> Result<Vec<u8>, Failure>
+    ensures { let held = F.held files.old name.now in
+        MatchResult result (λ v. IsGiven held (Ok v.items))
+        (λ f. (e : FileError) × IsGiven held (Err e) × TellsFileError name.now e f) }
+{
     match files.read(name) {
         Ok(bytes) => Ok(bytes),
         Err(FileError::NoMemory) => Err(Failure::NoMemory),

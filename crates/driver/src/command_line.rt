@@ -1,7 +1,9 @@
 //! The words of a command line.
 
-ghost use Rattle.std.specs.Prelude.{◌≡◌, [], IfOk, IsOk};
-ghost use Rattle.driver.specs.Requests.{file_of, IsRunOfInput};
+ghost use Rattle.std.specs.Prelude.{◌≡◌, ℕ, List, IsOkAnd, map, option_map};
+ghost use Rattle.std.specs.String.{string_bytes};
+ghost use Rattle.driver.specs.Reading.{plain, read, read_two, read_three};
+ghost use Rattle.driver.specs.Requests.{Asked, Asks, IsRequest, file_of, is_file_name as names_file};
 
 use clap::{Arg, ArgAction, ArgMatches, Command, Error};
 use std::alloc::{AllocError, Global};
@@ -30,14 +32,83 @@ impl<'w> Request<'w> {
     }
 }
 
-/// Reads the words behind the program's name. No word at all means `run -`.
+/// Reads the words behind the program's name. What names a command and a file, and no more, is read here; all else,
+/// as options, help and mistakes, by `clap`.
 pub fn request_of<'w>(alloc: Global, words: &'w [String]) -> Result<Request<'w>, Error>
-    ensures no_word { words.now ≡ [] → IsOk result }
-    ensures input { words.now ≡ [] → IfOk result IsRunOfInput }
+    ensures { (a : Asked) (file : List ℕ) → Asks (map string_bytes words.now) a file
+        → IsOkAnd result (IsRequest a file) }
 {
-    if words.is_empty() {
-        return Ok(Request::Run { file: "-" });
+    match plain_request(words) {
+        Some(request) => Ok(request),
+        None => request_by_clap(alloc, words),
     }
+}
+
+/// The request of words that name a command and a file, and no more. No word at all means `run -`.
+fn plain_request<'w>(words: &'w [String]) -> Option<Request<'w>>
+    ensures { option_map plain result ≡ read (map string_bytes words.now) }
+{
+    match words {
+        [] => Some(Request::Run { file: "-" }),
+        [command, file] => request_of_two(command.as_str(), file.as_str()),
+        [command, one, other] => {
+            request_of_three(command.as_str(), one.as_str(), other.as_str())
+        }
+        _ => None,
+    }
+}
+
+/// The request of a command and a file.
+fn request_of_two<'w>(command: &str, file: &'w str) -> Option<Request<'w>>
+    ensures { option_map plain result ≡ read_two command.now file.now }
+{
+    if !is_file_name(file) {
+        None
+    } else if command == "run" {
+        Some(Request::Run { file })
+    } else if command == "serial" {
+        Some(Request::Serial { file })
+    } else if command == "check" {
+        Some(Request::Check { file, list: false })
+    } else {
+        None
+    }
+}
+
+/// The request of `check`, its option and a file, in either order.
+fn request_of_three<'w>(command: &str, one: &'w str, other: &'w str) -> Option<Request<'w>>
+    ensures { option_map plain result ≡ read_three command.now one.now other.now }
+{
+    if command != "check" {
+        None
+    } else if one == "--list" && is_file_name(other) {
+        Some(Request::Check {
+            file: other,
+            list: true,
+        })
+    } else if other == "--list" && is_file_name(one) {
+        Some(Request::Check {
+            file: one,
+            list: true,
+        })
+    } else {
+        None
+    }
+}
+
+/// Whether a word names a file: it begins with no `-`, or it is `-` alone.
+fn is_file_name(word: &str) -> bool
+    ensures { result ≡ names_file word.now }
+{
+    match word.as_bytes() {
+        [] => true,
+        [_] => true,
+        [first, _, ..] => *first != b'-',
+    }
+}
+
+/// The request that `clap` finds in the words.
+fn request_by_clap<'w>(alloc: Global, words: &'w [String]) -> Result<Request<'w>, Error> {
     let matches = command(alloc)?.try_get_matches_from(words)?;
     match matches.subcommand() {
         Some(("serial", given)) => Ok(Request::Serial {

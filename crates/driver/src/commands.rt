@@ -1,7 +1,6 @@
 //! What each command does with the text of its file.
 
-ghost use Rattle.std.specs.Prelude.{◌≡◌, ◌≢◌, map, IfOk, IfErr, IsErr, false};
-ghost use Rattle.std.specs.Io.KnownBytes.{Keeps};
+ghost use Rattle.std.specs.Prelude.{◌≡◌, ◌≢◌, map, IfOk, IfErr, IsErrAnd, false};
 ghost use Rattle.std.specs.Str.{chars};
 ghost use Rattle.syntax.specs.Lexical.{AreTokensOf};
 ghost use Rattle.syntax.specs.Spelling.{spelling};
@@ -9,10 +8,13 @@ ghost use Rattle.syntax.specs.Tree.{program as tree_of};
 ghost use Rattle.types.specs.Contents.{FitsArrays};
 ghost use Rattle.types.specs.Translation.{array, input as lists_of, outcome as outcome_of};
 ghost use Rattle.types.specs.Typed.{code_of};
+ghost use Rattle.driver.specs.Answers.{AsksForCode, Does, Explains, IsCodeOf, zeros as zeros_of};
 ghost use Rattle.driver.specs.Appending.{Writes};
 ghost use Rattle.driver.specs.OutcomeText.{outcome_text, status_of};
-ghost use Rattle.driver.specs.Telling.{IsCodeOf, ListsProgram, TellsRun, TellsOnOneThread, zeros as zeros_of};
+ghost use Rattle.driver.specs.Requests.{Asked, asked_of, run as asked_run, serial as asked_serial};
+ghost use Rattle.driver.specs.Requests.{check as asked_check, list as asked_list};
 
+use crate::command_line::Request;
 use crate::emit::{append, emit};
 use crate::failure::Failure;
 use std::alloc::{AllocError, Global};
@@ -26,13 +28,28 @@ use types::input::Input;
 use types::outcome::Outcome;
 use types::typed::Typed;
 
+/// What is asked of the text of a program.
+pub fn perform<O: Write>(
+    alloc: Global,
+    request: Request<'_>,
+    text: &str,
+    out: &mut O,
+) -> Result<u8, Failure>
+    ensures { Does (asked_of request.entry) text.now
+        (O.contents out.old) (O.contents out.new) result }
+{
+    match request {
+        Request::Run { .. } => run_as_tasks(alloc, text, out),
+        Request::Serial { .. } => run_serially(alloc, text, out),
+        Request::Check { list: true, .. } => list(alloc, text, out),
+        Request::Check { list: false, .. } => reject(alloc, text),
+    }
+}
+
 /// `run`: runs the program task by task on zeros, under the usual budget, and writes its outcome; gives the
 /// exit status.
-pub fn run_as_tasks<O: Write>(alloc: Global, text: &str, out: &mut O) -> Result<u8, Failure>
-    ensures told { IfOk result
-        (TellsRun (chars text.now) (O.contents out.old) (O.contents out.new)) }
-    ensures silent { IfErr result (λ failure. failure ≢ Failure.CannotWriteOutput
-        → Keeps (O.contents out.old) (O.contents out.new)) }
+fn run_as_tasks<O: Write>(alloc: Global, text: &str, out: &mut O) -> Result<u8, Failure>
+    ensures { Does asked_run text.now (O.contents out.old) (O.contents out.new) result }
 {
     let typed = typed_of(alloc, text)?;
     let accepted = match workers::check::check(alloc, typed) {
@@ -48,11 +65,8 @@ pub fn run_as_tasks<O: Write>(alloc: Global, text: &str, out: &mut O) -> Result<
 
 /// `serial`: runs the program on one thread on zeros, under the usual budget, and writes its outcome; gives the
 /// exit status.
-pub fn run_serially<O: Write>(alloc: Global, text: &str, out: &mut O) -> Result<u8, Failure>
-    ensures told { IfOk result
-        (TellsOnOneThread (chars text.now) (O.contents out.old) (O.contents out.new)) }
-    ensures silent { IfErr result (λ failure. failure ≢ Failure.CannotWriteOutput
-        → Keeps (O.contents out.old) (O.contents out.new)) }
+fn run_serially<O: Write>(alloc: Global, text: &str, out: &mut O) -> Result<u8, Failure>
+    ensures { Does asked_serial text.now (O.contents out.old) (O.contents out.new) result }
 {
     let typed = typed_of(alloc, text)?;
     let input = zeros(alloc, &typed)?;
@@ -63,11 +77,8 @@ pub fn run_serially<O: Write>(alloc: Global, text: &str, out: &mut O) -> Result<
 }
 
 /// `check --list`: writes the listing of any program.
-pub fn list<O: Write>(alloc: Global, text: &str, out: &mut O) -> Result<u8, Failure>
-    ensures told { IfOk result
-        (ListsProgram (chars text.now) (O.contents out.old) (O.contents out.new)) }
-    ensures silent { IfErr result (λ failure. failure ≢ Failure.CannotWriteOutput
-        → Keeps (O.contents out.old) (O.contents out.new)) }
+fn list<O: Write>(alloc: Global, text: &str, out: &mut O) -> Result<u8, Failure>
+    ensures { Does asked_list text.now (O.contents out.old) (O.contents out.new) result }
 {
     let program = program_of(alloc, text)?;
     let Ok(listing) = syntax::listing(alloc, &program) else {
@@ -80,8 +91,9 @@ pub fn list<O: Write>(alloc: Global, text: &str, out: &mut O) -> Result<u8, Fail
 }
 
 /// `check`, which no program passes as yet: tells why this one doesn't.
-pub fn reject(alloc: Global, text: &str) -> Result<u8, Failure>
-    ensures refused { IsErr result }
+fn reject(alloc: Global, text: &str) -> Result<u8, Failure>
+    ensures { IsErrAnd result (λ f.
+        (f ≢ Failure.CannotWriteOutput) × Explains asked_check text.now f) }
 {
     typed_of(alloc, text)?;
     Err(Failure::NotYet)
@@ -90,7 +102,8 @@ pub fn reject(alloc: Global, text: &str) -> Result<u8, Failure>
 /// The program that a text spells.
 fn program_of(alloc: Global, text: &str) -> Result<Program, Failure>
     ensures spelled { IfOk result (λ p. AreTokensOf (chars text.now) (spelling (tree_of p))) }
-    ensures failure { IfErr result (λ failure. failure ≢ Failure.CannotWriteOutput) }
+    ensures why { IfErr result (λ f. (a : Asked) → Explains a text.now f) }
+    ensures failure { IfErr result (λ f. f ≢ Failure.CannotWriteOutput) }
 {
     match syntax::parse(alloc, text) {
         Ok(program) => Ok(program),
@@ -100,8 +113,9 @@ fn program_of(alloc: Global, text: &str) -> Result<Program, Failure>
 
 /// The program of a text, where it is served. So far these are the programs of the first part.
 fn typed_of(alloc: Global, text: &str) -> Result<Typed, Failure>
-    ensures code { IfOk result (λ t. IsCodeOf (chars text.now) (code_of t)) }
-    ensures failure { IfErr result (λ failure. failure ≢ Failure.CannotWriteOutput) }
+    ensures code { IfOk result (λ t. IsCodeOf text.now (code_of t)) }
+    ensures why { IfErr result (λ f. (a : Asked) → AsksForCode a → Explains a text.now f) }
+    ensures failure { IfErr result (λ f. f ≢ Failure.CannotWriteOutput) }
 {
     let program = program_of(alloc, text)?;
     let typed = match type_check(alloc, program) {

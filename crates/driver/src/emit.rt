@@ -6,7 +6,8 @@ ghost use Rattle.std.specs.List.{flat_map, zip};
 ghost use Rattle.types.specs.Translation.{array, fault as fault_of, outcome as outcome_of};
 ghost use Rattle.driver.specs.Appending.{Writes};
 ghost use Rattle.driver.specs.OutcomeText.{outcome_text, line_text, joined_text, spaced_text, fault_text};
-ghost use Rattle.driver.specs.OutcomeText.{path_text, kind_text, array_text};
+ghost use Rattle.driver.specs.OutcomeText.{array_text};
+ghost use Rattle.types.specs.Names.{path_text, kind_text};
 
 use itoa::Buffer;
 use std::io::Write;
@@ -203,8 +204,8 @@ fn emit_number<W: Write>(out: &mut W, number: &i64) -> Result<(), EmitError>
     append(out, buffer.format(*number).as_bytes())
 }
 
-/// A label, or a part of a path, in decimal.
-fn emit_label<W: Write>(out: &mut W, number: Label) -> Result<(), EmitError>
+/// A label, a part of a path, or a part of a place, in decimal.
+pub fn emit_label<W: Write>(out: &mut W, number: Label) -> Result<(), EmitError>
     ensures { Writes (W.contents out.old) (W.contents out.new) result (decimal number) }
 {
     let mut buffer = Buffer::new();

@@ -8,35 +8,34 @@ ghost use Rattle.driver.specs.Failures.{TellsUnread, TellsNotUtf8, TellsRefusal,
 use sections::id::ArrayId;
 use std::alloc::{AllocError, Global};
 use syntax::error::SyntaxError;
-use thiserror::Error;
 use types::code::Array;
 use types::error::TypeError;
 use workers::check::Refused;
 use workers::race::Access;
 use workers::run::RunError;
 
-/// Why a command ended without its answer. `Display` is its line on standard error.
-#[derive(Debug, Drop, Error)]
+/// Why a command ended without its answer. `message::emit_message` writes its line.
+#[derive(Debug, Drop)]
 pub enum Failure {
-    #[error("cannot read {name}")]
+    /// `cannot read program.afx`
     CannotRead { name: String },
-    #[error("not UTF-8 {name}")]
+    /// `not UTF-8 program.afx`
     NotUtf8 { name: String },
-    #[error("{0}")]
+    /// `S2 at 1:13`
     Syntax(SyntaxError),
-    #[error("{0}")]
+    /// `Y1 at label 2`
     Types(TypeError),
-    #[error("Z1")]
+    /// `Z1`: a program that isn't served yet.
     NotYet,
-    #[error("C1 race in main: {first}, {second}")]
+    /// `C1 race in main: 2 write a, 4 read a`
     Race { first: String, second: String },
-    #[error("C2")]
+    /// `C2`
     NoMemoryInCheck,
-    #[error("{}", .0.code())]
+    /// `E1` or `E3`
     Run(RunError),
-    #[error("cannot write output")]
+    /// `cannot write output`
     CannotWriteOutput,
-    #[error("no memory")]
+    /// `no memory`
     NoMemory,
 }
 

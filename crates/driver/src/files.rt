@@ -1,6 +1,7 @@
 //! Where the program finds what its words name.
 
-ghost use Rattle.std.specs.Prelude.{◌≡◌};
+ghost use Rattle.std.specs.Prelude.{◌≡◌, ℕ, List, Option, None, MatchResult};
+ghost use Rattle.driver.specs.Acts.{Bytes, IsGiven};
 
 use std::io::{ErrorKind, Read};
 use std::rt::Files;
@@ -17,8 +18,13 @@ pub enum FileError {
 
 /// Files by their names.
 pub trait FileSource {
+    /// What a name is known to give: None where nobody can know it, as of the machine's files.
+    ghost held: { Self → List ℕ → Option Bytes } = { λ _ _. None };
+
     /// What a file holds.
-    fn read(&mut self, name: &str) -> Result<Vec<u8>, FileError>;
+    fn read(&mut self, name: &str) -> Result<Vec<u8>, FileError>
+        ensures { let held = held self.old name.now in
+            MatchResult result (λ v. IsGiven held (Ok v.items)) (λ e. IsGiven held (Err e)) };
 }
 
 /// The files of the machine; `-` is the standard input.

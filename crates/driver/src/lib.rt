@@ -8,3 +8,4 @@ pub mod commands;
 pub mod emit;
 pub mod failure;
 pub mod files;
+pub mod message;

@@ -1,21 +1,22 @@
 -- Footprints across a call and a split.
-use Rattle.std.proofs.Common.{◌≡◌, ◌⊎◌, inl, inr, ℕ, ◌<◌, List, length, map, Some, ℤ, refl, sym, ap, ◌∙◌, subst, arith, true≢false}
+use Rattle.std.proofs.Common.{◌≡◌, ◌⊎◌, inl, inr, ℕ, ◌<◌, List, length, map, Some, ℤ, refl, sym, ap, ◌∙◌, subst}
+use Rattle.std.proofs.Common.{arith, true≢false}
 use Rattle.std.specs.Prelude.{Bool, true, false, ◌||◌, nat_eq, if◌then◌else◌, flat_map, ◌↔◌}
+use Rattle.sections.specs.Place.{Place, Window, In, sides_of, nowhere}
+use Rattle.sections.specs.Member.{Member}
+use Rattle.sections.proofs.Windows.{sides_of-cut, left_inside, right_inside}
 use Rattle.types.specs.Code.{Number, Split, Call, Codes, Program}
 use Rattle.types.specs.Indexed.{indexed}
-use Rattle.sections.specs.Place.{Place, Window, In, sides_of, nowhere}
 use Rattle.types.specs.Value.{Environment}
 use Rattle.types.specs.Run.{procedure_of, entry, with_sides}
 use Rattle.effects.specs.Accesses.{Access, own_accesses, reads}
-use Rattle.effects.specs.Member.{Member}
 use Rattle.effects.specs.Effects.{past_split, past_call, renamed, Inner, AllOf, All, PendingOf, Pending, accesses}
 use Rattle.effects.specs.Footprint.{Touches, Overwrites, MayTouch, MayWrite, MayTouchOf, MayWriteOf, MayStillTouch}
 use Rattle.effects.specs.Footprint.{MayStillWrite, MayStillTouchOf, MayStillWriteOf}
 use Rattle.effects.specs.Sound.{IsSound, parameters_of}
 use Rattle.effects.proofs.Members.{from_map, numbers_from-below}
-use Rattle.effects.proofs.Windows.{sides_of-cut, left_inside, right_inside}
-use Rattle.effects.proofs.Scopes.{allowed, pending_all}
-use Rattle.effects.proofs.Fitting.{by_number-map}
+use Rattle.effects.proofs.AccessesInScope.{allowed, pending_all}
+use Rattle.effects.proofs.EnvironmentsFit.{by_number-map}
 
 -- Renaming, and places
 

@@ -1,10 +1,9 @@
 -- Truth values, and elements of lists.
-use Rattle.std.proofs.Common.{◌≡◌, ◌≢◌, ◌⊎◌, inl, inr, ℕ, zero, suc, ◌+◌, ◌<◌, ◌≤◌, List, [], ◌∷◌, ◌++◌, map, refl, sym, ◌∙◌, arith}
-use Rattle.std.proofs.Common.{true≢false}
+use Rattle.std.proofs.Common.{◌≡◌, ◌≢◌, ◌⊎◌, inl, inr, ℕ, zero, suc, ◌+◌, ◌<◌, ◌≤◌, List, [], ◌∷◌, ◌++◌, map, refl}
+use Rattle.std.proofs.Common.{sym, ◌∙◌, arith, true≢false}
 use Rattle.std.proofs.lemmas.Bool.{eq-eqb}
 use Rattle.std.specs.Prelude.{Bool, true, false, ◌&&◌, ◌||◌, not, nat_eq}
-use Rattle.std.specs.List.{list_any}
-use Rattle.effects.specs.Member.{Member, first, next}
+use Rattle.sections.specs.Member.{Member, first, next}
 use Rattle.effects.specs.Sound.{numbers_from}
 
 pub false_true : {A : Type 0} → false ≡ true → A
@@ -34,11 +33,6 @@ pub not_false : (a : Bool) → not a ≡ false → a ≡ true
 not_false true h = refl
 not_false false h = false_true (sym h)
 
-pub same_truth : (a b : Bool) → (a ≡ true → b ≡ true) → (b ≡ true → a ≡ true) → a ≡ b
-same_truth true b f g = sym (f refl)
-same_truth false true f g = g refl
-same_truth false false f g = refl
-
 pub differs : (a b : ℕ) → not (nat_eq a b) ≡ true → a ≢ b
 differs a b h e = true≢false (sym (eq-eqb a b e) ∙ not_true (nat_eq a b) h)
 
@@ -64,18 +58,6 @@ pub from_map : {A B : Type 0} (f : A → B) {y : B} (xs : List A) → Member y (
 from_map f [] h = elim h [ ]
 from_map f (x ∷ xs) first = (x, first, refl)
 from_map f (x ∷ xs) (next h) = let r = from_map f xs h in (r.0, next r.1, r.2)
-
-pub any_member : {A : Type 0} (test : A → Bool) (xs : List A) → list_any test xs ≡ true → (x : A) × Member x xs × (test x ≡ true)
-any_member test [] h = false_true h
-any_member test (x ∷ xs) h = elim (either_true (test x) (list_any test xs) h) [
-  | inl k ↦ (x, first, k)
-  | inr k ↦ (let r = any_member test xs k in (r.0, next r.1, r.2))
-]
-
-pub member_any : {A : Type 0} (test : A → Bool) {x : A} (xs : List A) → Member x xs → test x ≡ true → list_any test xs ≡ true
-member_any test [] h e = elim h [ ]
-member_any test (x ∷ xs) first e = left_true (test x) (list_any test xs) e
-member_any test (y ∷ xs) (next h) e = right_true (test y) (list_any test xs) (member_any test xs h e)
 
 numbers_from-bounds : (a n s : ℕ) → Member s (numbers_from a n) → (a ≤ s) × (s < a + n)
 numbers_from-bounds a zero s h = elim h [ ]

@@ -1,18 +1,19 @@
 -- A statement of one step reads and writes places of its own accesses alone.
-use Rattle.std.proofs.Common.{◌≡◌, ℕ, zero, suc, ◌+◌, ◌<◌, List, [], ◌∷◌, length, Some, None, Ok, Err, ℤ, pos, negsuc, refl, sym, ap, ◌∙◌}
-use Rattle.std.proofs.Common.{subst, arith}
+use Rattle.std.proofs.Common.{◌≡◌, ℕ, zero, suc, ◌+◌, ◌<◌, List, [], ◌∷◌, length, Some, None, Ok, Err, ℤ, pos, negsuc}
+use Rattle.std.proofs.Common.{refl, sym, ap, ◌∙◌, subst, arith}
 use Rattle.std.specs.Prelude.{Bool, true, false, Contains, slice_index_or, nat_lt, nat_eq, if◌then◌else◌, ok_or}
 use Rattle.std.proofs.lemmas.Bool.{ltb-true, eqb-true}
+use Rattle.sections.specs.Place.{Window, Place, In, same_place}
+use Rattle.sections.specs.Member.{Member, first, next}
 use Rattle.types.specs.declared.fault.FaultKind.TheVariants.{Index}
 use Rattle.types.specs.Code.{Number, Truth, Primitive, Skip, Assign, Store, Print, Raise, Do, Program}
-use Rattle.sections.specs.Place.{Window, Place, In, same_place}
 use Rattle.types.specs.Contents.{Contents, write}
 use Rattle.types.specs.Indexed.{indexed, indexed_truth}
 use Rattle.types.specs.Value.{Environment, Valued, element_of, holds_number, number, truth}
 use Rattle.types.specs.Laws.{SameOn}
-use Rattle.types.specs.Run.{State, with_value, number_at, numbers_at, window_at, put, print, assign, fault, primitive, array_of}
+use Rattle.types.specs.Run.{State, with_value, number_at, numbers_at, window_at, put, print, assign, fault, primitive}
+use Rattle.types.specs.Run.{array_of}
 use Rattle.types.proofs.Readings.{number_same, truth_same}
-use Rattle.effects.specs.Member.{Member, first, next}
 use Rattle.effects.specs.Accesses.{reads, own_accesses}
 use Rattle.effects.specs.Footprint.{Touches, Overwrites}
 use Rattle.effects.proofs.Members.{in_map, both_true}

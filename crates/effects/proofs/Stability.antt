@@ -1,15 +1,17 @@
 -- Rounds that only add come to a stable table, where what they may add is listed.
-use Rattle.std.proofs.Common.{◌≡◌, ℕ, zero, suc, ◌+◌, ◌-◌, ◌<◌, ◌≤◌, List, [], ◌∷◌, length, refl, sym, ap, ◌∙◌, subst, arith, true≢false}
-use Rattle.std.proofs.lemmas.Bool.{eqb-true, eq-eqb, ltb-true, ltb-false}
+use Rattle.std.proofs.Common.{◌≡◌, ℕ, zero, suc, ◌+◌, ◌-◌, ◌<◌, ◌≤◌, List, [], ◌∷◌, length, refl, sym, ap, ◌∙◌, subst}
+use Rattle.std.proofs.Common.{arith, true≢false}
+use Rattle.std.proofs.lemmas.Bool.{and_from, eqb-true, eq-eqb, ltb-true, ltb-false}
 use Rattle.std.specs.Prelude.{Bool, true, false, ◌&&◌, nat_eq, nat_lt, if◌then◌else◌}
+use Rattle.sections.specs.Member.{Member, first, next}
+use Rattle.sections.proofs.Members.{any_member, member_any}
 use Rattle.effects.specs.Accesses.{Access}
-use Rattle.effects.specs.Member.{Member, first, next}
 use Rattle.effects.specs.Tables.{Table}
-use Rattle.effects.proofs.Growing.{missing, missing-less, missing-falls}
-use Rattle.effects.proofs.Members.{false_true, both_true, any_member, member_any}
 use Rattle.effects.specs.Rounds.{same_kind, same_access, lists, has_all, none, after, is_stable_below, is_stable}
 use Rattle.effects.specs.Rounds.{first_stable}
 use Rattle.effects.specs.Effects.{accesses}
+use Rattle.effects.proofs.Missing.{missing, missing-less, missing-falls}
+use Rattle.effects.proofs.Members.{false_true, both_true}
 
 -- ---- tests
 abbrev make : ℕ → ℕ → Bool → Access
@@ -33,17 +35,13 @@ same_access-equal x y h =
     ∙ ap (λ s. make y.label s x.write) (eqb-true x.section y.section b.0)
     ∙ ap (make y.label y.section) (same_kind-equal x.write y.write b.1)
 
-and_true : (a b : Bool) → a ≡ true → b ≡ true → (a && b) ≡ true
-and_true true b e f = f
-and_true false b e f = false_true e
-
 same_access-refl : (x : Access) → same_access x x ≡ true
 same_access-refl x =
-    and_true (nat_eq x.label x.label) (nat_eq x.section x.section && same_kind x.write x.write) (eq-eqb x.label x.label refl)
-    (and_true (nat_eq x.section x.section) (same_kind x.write x.write) (eq-eqb x.section x.section refl) (same_kind-refl x.write))
+    and_from (nat_eq x.label x.label) (nat_eq x.section x.section && same_kind x.write x.write) (eq-eqb x.label x.label refl)
+    (and_from (nat_eq x.section x.section) (same_kind x.write x.write) (eq-eqb x.section x.section refl) (same_kind-refl x.write))
 
 is_listed : (xs : List Access) (x : Access) → lists xs x ≡ true → Member x xs
-is_listed xs x h = let r = any_member (same_access x) xs h in subst (λ y. Member y xs) (sym (same_access-equal x r.0 r.2)) r.1
+is_listed xs x h = let r = any_member (same_access x) xs h in subst (λ y. Member y xs) (sym (same_access-equal x r.item r.passes)) r.member
 
 has_listed : (xs : List Access) (x : Access) → Member x xs → lists xs x ≡ true
 has_listed xs x m = member_any (same_access x) xs m (same_access-refl x)

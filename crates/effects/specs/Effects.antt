@@ -1,10 +1,10 @@
 -- What a statement may do, and what it leaves pending: least sets of accesses, or of labels.
 use Rattle.std.specs.Prelude.{ℕ, ◌≡◌, List, [], ◌∷◌, slice_index_or, nat_eq, ◌||◌, if◌then◌else◌}
 use Rattle.std.proofs.Common.{refl}
+use Rattle.sections.specs.Member.{Member}
 use Rattle.types.specs.Code.{Number, Truth, Code, If, While, Split, Call, Async, Finish, Codes}
 use Rattle.types.specs.Code.{Then, Program}
 use Rattle.types.specs.Run.{procedure_of}
-use Rattle.effects.specs.Member.{Member}
 use Rattle.effects.specs.Accesses.{Access, own_accesses}
 
 -- around a split of s, both sides are s

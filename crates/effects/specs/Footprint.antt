@@ -1,7 +1,7 @@
 -- The footprint of statements: the places that they may touch, and those that they may write.
 use Rattle.std.specs.Prelude.{ℕ, ◌≡◌, true}
-use Rattle.types.specs.Code.{Code, Codes, Program}
 use Rattle.sections.specs.Place.{Place, In}
+use Rattle.types.specs.Code.{Code, Codes, Program}
 use Rattle.types.specs.Value.{Environment}
 use Rattle.effects.specs.Accesses.{Access}
 use Rattle.effects.specs.Effects.{accesses, AllOf, All, PendingOf, Pending}
@@ -20,10 +20,11 @@ pub record Overwrites (env : Environment) (those : Access → Type 0) (q : Place
   pub writes : access.write ≡ true
 
 module _ (p : Program) (env : Environment) where
-  -- the places that a list of statements may touch, and those that it may write
+  -- the places that a list of statements may touch
   abbrev pub MayTouch : Codes → Place → Type 0
   MayTouch b = Touches env (All p accesses b)
 
+  -- the places that it may write
   abbrev pub MayWrite : Codes → Place → Type 0
   MayWrite b = Overwrites env (All p accesses b)
 
@@ -31,13 +32,15 @@ module _ (p : Program) (env : Environment) where
   abbrev pub MayTouchOf : (label : ℕ) → Code → Place → Type 0
   MayTouchOf l s = Touches env (AllOf p accesses l s)
 
+  -- and those that it may write
   abbrev pub MayWriteOf : (label : ℕ) → Code → Place → Type 0
   MayWriteOf l s = Overwrites env (AllOf p accesses l s)
 
-  -- the places that may still be touched, and those that may still be written, once it has ended
+  -- the places that may still be touched once it has ended
   abbrev pub MayStillTouch : Codes → Place → Type 0
   MayStillTouch b = Touches env (Pending p accesses b)
 
+  -- and those that may still be written
   abbrev pub MayStillWrite : Codes → Place → Type 0
   MayStillWrite b = Overwrites env (Pending p accesses b)
 
@@ -45,5 +48,6 @@ module _ (p : Program) (env : Environment) where
   abbrev pub MayStillTouchOf : Code → Place → Type 0
   MayStillTouchOf s = Touches env (PendingOf p accesses s)
 
+  -- and those that it may still write
   abbrev pub MayStillWriteOf : Code → Place → Type 0
   MayStillWriteOf s = Overwrites env (PendingOf p accesses s)

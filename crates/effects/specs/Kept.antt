@@ -1,9 +1,9 @@
 -- Runs leave the windows in scope as they are.
 use Rattle.std.specs.Prelude.{ℕ, ◌≡◌, List}
+use Rattle.sections.specs.Member.{Member}
 use Rattle.types.specs.Code.{Codes, Procedure, Program}
 use Rattle.types.specs.Value.{Environment}
 use Rattle.types.specs.Run.{State, Rules, Work, Block, Turn}
-use Rattle.effects.specs.Member.{Member}
 use Rattle.effects.specs.Sound.{Follows}
 
 -- two environments have the same windows for the sections of the scope

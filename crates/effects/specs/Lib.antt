@@ -3,9 +3,7 @@ pub mod Effects
 pub mod Fits
 pub mod Footprint
 pub mod Kept
-pub mod Member
 pub mod Needs
-pub mod Overlap
 pub mod Rounds
 pub mod Rows
 pub mod Sound

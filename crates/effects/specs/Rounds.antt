@@ -1,6 +1,6 @@
 -- What each procedure may do and leaves pending, computed: round by round, until nothing is added.
-use Rattle.std.specs.Prelude.{ℕ, zero, suc, ◌+◌, List, [], ◌++◌, map, flat_map, length}
-use Rattle.std.specs.Prelude.{Bool, true, false, ◌&&◌, nat_eq, if◌then◌else◌}
+use Rattle.std.specs.Prelude.{ℕ, zero, suc, ◌+◌, List, [], ◌++◌, map, flat_map, length, Bool, true}
+use Rattle.std.specs.Prelude.{false, ◌&&◌, nat_eq, if◌then◌else◌}
 use Rattle.std.specs.List.{list_all, list_any}
 use Rattle.types.specs.Code.{Codes, Program}
 use Rattle.types.specs.Run.{procedure_of}
@@ -45,6 +45,7 @@ module _ (round : Table accesses → Table accesses) (count : ℕ) where
   is_stable_below table zero = true
   is_stable_below table (suc f) = has_all (table f) (round table f) && is_stable_below table f
 
+  -- whether one more round adds nothing
   abbrev pub is_stable : Table accesses → Bool
   is_stable table = is_stable_below table count
 
@@ -75,6 +76,7 @@ module _ (p : Program) where
   abbrev pub all_round : Table accesses → Table accesses
   all_round table f = all_in accesses table (procedure_of p f).body
 
+  -- and so for what is left pending
   abbrev pub pending_round : (alls : Table accesses) → Table accesses → Table accesses
   pending_round alls table f = left_in accesses alls table (procedure_of p f).body
 

@@ -1,8 +1,8 @@
 -- The rows of the table for All and Pending, as a reader would write them.
 use Rattle.std.specs.Prelude.{ℕ, ◌≡◌, ◌⊎◌, Bool, true}
+use Rattle.sections.specs.Member.{Member}
 use Rattle.types.specs.Code.{Code, Do, If, While, Split, Call, Async, Finish, Codes, Then, Program}
 use Rattle.types.specs.Run.{procedure_of}
-use Rattle.effects.specs.Member.{Member}
 use Rattle.effects.specs.Effects.{past_split, past_call, Inner, Subject, All, Pending}
 
 module _ (p : Program) (subject : Subject) where

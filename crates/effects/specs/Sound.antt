@@ -1,16 +1,15 @@
 -- What the type rules give of a program with its names resolved; each line names its rule.
 use Rattle.std.specs.Prelude.{ℕ, zero, suc, ◌+◌, ◌<◌, ◌≡◌, ◌≢◌, List, [], ◌∷◌, length, map, Bool}
-use Rattle.std.specs.Prelude.{true, false, slice_get}
-use Rattle.std.specs.Prelude.{slice_index_or, Some}
+use Rattle.std.specs.Prelude.{true, false, slice_get, slice_index_or, Some}
 use Rattle.syntax.specs.declared.tree.ElementType.TheVariants.{Int}
+use Rattle.sections.specs.Origins.{Root, Left, Right, origin_of, IsNumbered}
+use Rattle.sections.specs.Member.{Member}
+use Rattle.sections.specs.Overlap.{root_of, overlap}
 use Rattle.types.specs.Code.{Code, Do, If, While, Split, Call, Async, Finish, Codes, End, Then}
-use Rattle.sections.specs.Origins.{Root, Left, Right}
 use Rattle.types.specs.Code.{Array, Parameter, Procedure, Program}
 use Rattle.types.specs.Run.{procedure_of}
 use Rattle.effects.specs.Accesses.{Access, own_accesses}
-use Rattle.effects.specs.Member.{Member}
 use Rattle.effects.specs.Effects.{past_call}
-use Rattle.effects.specs.Overlap.{origin_of, root_of, overlap, IsNumbered}
 
 -- a parameter that isn't there may not be written
 abbrev pub no_parameter : Parameter
@@ -24,6 +23,7 @@ may_write parameters k = (slice_index_or parameters k no_parameter).may_write
 abbrev pub as_parameter : Array → Parameter
 as_parameter a = record { may_write = true; element = a.element }
 
+-- `main` with the arrays as its parameters
 abbrev pub main_of : Program → Procedure
 main_of p = record p.main { parameters = map as_parameter p.arrays }
 

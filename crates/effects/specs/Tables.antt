@@ -1,12 +1,12 @@
 -- All and Pending as lists, over tables of what each procedure's body has.
 use Rattle.std.specs.Prelude.{ℕ, zero, suc, List, [], ◌++◌, map}
+use Rattle.sections.specs.Member.{Member}
 use Rattle.types.specs.Code.{Code, Do, If, While, Split, Call, Async, Finish, Codes, End, Then}
 use Rattle.types.specs.Code.{Program}
 use Rattle.types.specs.Run.{procedure_of}
-use Rattle.effects.specs.Member.{Member}
 use Rattle.effects.specs.Effects.{past_split, past_call, Subject, All, Pending}
 
--- a list of accesses for each procedure
+-- what is listed of each procedure
 abbrev pub Table : Subject → Type 0
 Table subject = ℕ → List subject.Item
 
@@ -50,10 +50,12 @@ module _ (subject : Subject) (alls pendings : Table subject) where
 
 -- the tables from nothing on: each goes one call deeper
 module _ (p : Program) (subject : Subject) where
+  -- after so many rounds, All as far as so many calls within one another go
   abbrev pub alls_after : ℕ → Table subject
   alls_after zero f = []
   alls_after (suc k) f = all_in subject (alls_after k) (procedure_of p f).body
 
+  -- and Pending
   abbrev pub pendings_after : Table subject → ℕ → Table subject
   pendings_after alls zero f = []
   pendings_after alls (suc k) f =
@@ -64,6 +66,7 @@ module _ (p : Program) (subject : Subject) where
   IsDerived table = (f : ℕ) (x : subject.Item) → Member x (table f)
       → All p subject (procedure_of p f).body x
 
+  -- so it is of Pending
   abbrev pub IsDerivedPending : Table subject → Type 0
   IsDerivedPending table = (f : ℕ) (x : subject.Item) → Member x (table f)
       → Pending p subject (procedure_of p f).body x
@@ -73,6 +76,7 @@ module _ (p : Program) (subject : Subject) where
   IsStable table = (f : ℕ) (x : subject.Item)
       → Member x (all_in subject table (procedure_of p f).body) → Member x (table f)
 
+  -- so it is of Pending
   abbrev pub IsStablePending : (alls pendings : Table subject) → Type 0
   IsStablePending alls pendings = (f : ℕ) (x : subject.Item)
       → Member x (left_in subject alls pendings (procedure_of p f).body) → Member x (pendings f)

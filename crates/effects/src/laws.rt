@@ -1,30 +1,33 @@
 //! Laws of the definitions, each the contract of a function that does nothing.
 
-ghost use Rattle.std.specs.Prelude.{◌≡◌, ◌⊎◌, ◌↔◌, ℕ, ℤ, List, [], ◌∷◌, map, length, Bool, true, false};
-ghost use Rattle.std.specs.Prelude.{Some};
-ghost use Rattle.types.specs.Code.{Number, Truth, Primitive, Code, Do, Split, Call, Codes, End, Then};
-ghost use Rattle.types.specs.Code.{Procedure, Program};
+ghost use Rattle.std.specs.Prelude.{◌≡◌, ◌⊎◌, ◌↔◌, ℕ, ℤ, List, [], ◌∷◌, map, length, Bool, true};
+ghost use Rattle.std.specs.Prelude.{false, Some};
 ghost use Rattle.sections.specs.Place.{Place, Window, sides_of};
+ghost use Rattle.sections.specs.Member.{Member};
+ghost use Rattle.sections.specs.Origins.{IsNumbered};
+ghost use Rattle.sections.specs.Overlap.{overlap};
+ghost use Rattle.sections.specs.Placed.{Apart};
+ghost use Rattle.types.specs.Code.{Number, Truth, Primitive, Code, Do, Split, Call, Codes, End};
+ghost use Rattle.types.specs.Code.{Then, Procedure, Program};
 ghost use Rattle.types.specs.Indexed.{indexed, indexed_truth};
 ghost use Rattle.types.specs.Value.{Environment, number, truth};
-ghost use Rattle.types.specs.Run.{State, Rules, Work, run, primitive, procedure_of, entry, with_sides};
+ghost use Rattle.types.specs.Run.{State, Rules, Work, run, primitive, procedure_of, entry};
+ghost use Rattle.types.specs.Run.{with_sides};
 ghost use Rattle.types.specs.Meaning.{one_rules};
 ghost use Rattle.types.specs.Outcome.{whole_arrays};
-ghost use Rattle.effects.specs.Member.{Member};
 ghost use Rattle.effects.specs.Accesses.{Access, own_accesses, reads};
 ghost use Rattle.effects.specs.Effects.{accesses, labels, AllOf, All, PendingOf, Pending};
 ghost use Rattle.effects.specs.Rows.{AllInside, LeftBy, SolvesAll, SolvesPending};
-ghost use Rattle.effects.specs.Footprint.{Touches, Overwrites, MayTouch, MayWrite, MayTouchOf, MayWriteOf};
-ghost use Rattle.effects.specs.Footprint.{MayStillTouch, MayStillWrite, MayStillTouchOf};
-ghost use Rattle.effects.specs.Footprint.{MayStillWriteOf};
+ghost use Rattle.effects.specs.Footprint.{Touches, Overwrites, MayTouch, MayWrite, MayTouchOf};
+ghost use Rattle.effects.specs.Footprint.{MayWriteOf, MayStillTouch, MayStillWrite};
+ghost use Rattle.effects.specs.Footprint.{MayStillTouchOf, MayStillWriteOf};
 ghost use Rattle.effects.specs.Tables.{Table, all_in, left_in, alls_after, pendings_after};
 ghost use Rattle.effects.specs.Tables.{IsDerived, IsDerivedPending, IsStable, IsStablePending};
 ghost use Rattle.effects.specs.Rounds.{possible, summaries, pending_summaries, needs_of};
 ghost use Rattle.effects.specs.Needs.{Provides, needs_in};
-ghost use Rattle.effects.specs.Overlap.{overlap, IsNumbered};
-ghost use Rattle.effects.specs.Sound.{Allowed, SplitsWell, PassesWell, is_writable, parameters_of};
-ghost use Rattle.effects.specs.Sound.{main_of, IsSoundIn, IsSound};
-ghost use Rattle.effects.specs.Fits.{Fits, Apart};
+ghost use Rattle.effects.specs.Sound.{Allowed, SplitsWell, PassesWell, is_writable};
+ghost use Rattle.effects.specs.Sound.{parameters_of, main_of, IsSoundIn, IsSound};
+ghost use Rattle.effects.specs.Fits.{Fits};
 ghost use Rattle.effects.specs.Kept.{SameWindows, KeepsWindows, WorkFollows};
 
 /// All and Pending are solutions of the table's rows, and the least of them: of accesses, and of
@@ -60,7 +63,8 @@ pub fn effects_are_the_least_solution()
 pub fn pending_is_among_all()
     ensures statement { (p : Program) (l : ℕ) (s : Code) (x : Access)
         → PendingOf p accesses s x → AllOf p accesses l s x }
-    ensures block { (p : Program) (b : Codes) (x : Access) → Pending p accesses b x → All p accesses b x }
+    ensures block { (p : Program) (b : Codes) (x : Access)
+        → Pending p accesses b x → All p accesses b x }
 {}
 
 /// Tables that list only what is derived, and to which one more round adds nothing, are the least
@@ -120,26 +124,18 @@ pub fn accesses_are_in_scope()
 {}
 
 /// A value depends only on places that reads of its sections may touch, and a statement of one step
-/// writes no place but those that its own_accesses accesses may write.
+/// writes no place but those that its own accesses may write.
 pub fn steps_keep_to_their_own_accesses<X>()
     ensures number { (env : Environment) (l : ℕ) (read other : Place → ℤ) (e : Number)
         → ((q : Place) → Touches env (λ x. Member x (reads l (indexed e))) q → read q ≡ other q)
         → number env read e ≡ number env other e }
     ensures truth { (env : Environment) (l : ℕ) (read other : Place → ℤ) (t : Truth)
-        → ((q : Place) → Touches env (λ x. Member x (reads l (indexed_truth t))) q → read q ≡ other q)
+        → ((q : Place) → Touches env (λ x. Member x (reads l (indexed_truth t))) q
+        → read q ≡ other q)
         → truth env read t ≡ truth env other t }
     ensures written { (p : Program) (l : ℕ) (q : Place) (s : Primitive) (st : State X)
         → (Overwrites st.environment (λ x. Member x (own_accesses l (Do s))) q → ⊥)
         → (primitive p l s st).store q ≡ st.store q }
-{}
-
-/// Where an environment fits, two disjoint names, one of which may be written, share no place.
-pub fn disjoint_names_share_no_place()
-    ensures { (p : Program) (g : Procedure) (scope : List ℕ) (env : Environment)
-        → IsNumbered g.sections → Fits p g scope env
-        → (a b : ℕ) → Member a scope → Member b scope → overlap g.sections a b ≡ false
-        → (is_writable g a ≡ true) ⊎ (is_writable g b ≡ true)
-        → Apart (env.windows a) (env.windows b) }
 {}
 
 /// The environment of `main` fits at its start, and it stays so: in the block of a split, behind
@@ -178,26 +174,26 @@ pub fn runs_keep_windows<X>()
     ensures one_thread { (p : Program) (fresh nest : ℕ) → KeepsWindows (one_rules p fresh nest) }
 {}
 
-/// Beside the reads in its own_accesses arguments, a call may touch and write what the body may in the
+/// Beside the reads in its own arguments, a call may touch and write what the body may in the
 /// environment in which it begins, place for place; and what it leaves pending is what that does.
 pub fn calls_keep_footprints()
-    ensures reads { (p : Program) → IsSound p
+    ensures touched { (p : Program) → IsSound p
         → (env : Environment) (l f : ℕ) (es : List Number) (ss : List ℕ) (values : List ℤ)
         → length ss ≡ length (procedure_of p f).parameters → (q : Place)
         → MayTouchOf p env l (Call f es ss) q
         ↔ (Touches env (λ x. Member x (own_accesses l (Call f es ss))) q
         ⊎ MayTouch p (entry values (map env.windows ss)) (procedure_of p f).body q) }
-    ensures writes { (p : Program) → IsSound p
+    ensures written { (p : Program) → IsSound p
         → (env : Environment) (l f : ℕ) (es : List Number) (ss : List ℕ) (values : List ℤ)
         → length ss ≡ length (procedure_of p f).parameters → (q : Place)
         → MayWriteOf p env l (Call f es ss) q
         ↔ MayWrite p (entry values (map env.windows ss)) (procedure_of p f).body q }
-    ensures pending_reads { (p : Program) → IsSound p
+    ensures still_touched { (p : Program) → IsSound p
         → (env : Environment) (f : ℕ) (es : List Number) (ss : List ℕ) (values : List ℤ)
         → length ss ≡ length (procedure_of p f).parameters → (q : Place)
         → MayStillTouchOf p env (Call f es ss) q
         ↔ MayStillTouch p (entry values (map env.windows ss)) (procedure_of p f).body q }
-    ensures pending_writes { (p : Program) → IsSound p
+    ensures still_written { (p : Program) → IsSound p
         → (env : Environment) (f : ℕ) (es : List Number) (ss : List ℕ) (values : List ℤ)
         → length ss ≡ length (procedure_of p f).parameters → (q : Place)
         → MayStillWriteOf p env (Call f es ss) q
@@ -206,17 +202,17 @@ pub fn calls_keep_footprints()
 
 /// What the block of a split may do in its environment, the split may do in the one around it.
 pub fn splits_keep_footprints()
-    ensures reads { (p : Program) (env : Environment) (label s l r : ℕ) (e : Number) (b : Codes)
+    ensures touched { (p : Program) (env : Environment) (label s l r : ℕ) (e : Number) (b : Codes)
         → (v : ℤ) (ws : Window × Window) → sides_of (env.windows s) v ≡ Some ws → (q : Place)
         → MayTouch p (with_sides l r ws env) b q → MayTouchOf p env label (Split s e l r b) q }
-    ensures writes { (p : Program) (env : Environment) (label s l r : ℕ) (e : Number) (b : Codes)
+    ensures written { (p : Program) (env : Environment) (label s l r : ℕ) (e : Number) (b : Codes)
         → (v : ℤ) (ws : Window × Window) → sides_of (env.windows s) v ≡ Some ws → (q : Place)
         → MayWrite p (with_sides l r ws env) b q → MayWriteOf p env label (Split s e l r b) q }
-    ensures pending_reads { (p : Program) (env : Environment) (s l r : ℕ) (e : Number) (b : Codes)
+    ensures still_touched { (p : Program) (env : Environment) (s l r : ℕ) (e : Number) (b : Codes)
         → (v : ℤ) (ws : Window × Window) → sides_of (env.windows s) v ≡ Some ws → (q : Place)
         → MayStillTouch p (with_sides l r ws env) b q
         → MayStillTouchOf p env (Split s e l r b) q }
-    ensures pending_writes { (p : Program) (env : Environment) (s l r : ℕ) (e : Number) (b : Codes)
+    ensures still_written { (p : Program) (env : Environment) (s l r : ℕ) (e : Number) (b : Codes)
         → (v : ℤ) (ws : Window × Window) → sides_of (env.windows s) v ≡ Some ws → (q : Place)
         → MayStillWrite p (with_sides l r ws env) b q
         → MayStillWriteOf p env (Split s e l r b) q }

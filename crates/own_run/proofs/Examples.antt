@@ -8,8 +8,10 @@ use Rattle.types.proofs.Programs.{lit, two_arrays, doubling, two_readers, three_
 use Rattle.effects.specs.Rounds.{needs_of}
 use Rattle.race_checker.proofs.Examples.{first_child, racy}
 use Rattle.own_run.specs.Apart.{apart_outcome}
-use Rattle.own_run.specs.Results.{TaskResult, Settled, and_then, settle}
-use Rattle.own_run.specs.OwnRun.{result_of, own, run_by, given, root_of, told_of}
+use Rattle.own_run.specs.Results.{TaskResult, Settled, and_then}
+use Rattle.own_run.specs.OwnRun.{result_of, run_by}
+use Rattle.own_run.specs.Given.{own, given, root_of, told_of}
+use Rattle.own_run.specs.Settling.{settle}
 
 abbrev budget : (steps nest : ℕ) → Budget
 budget steps nest = record { steps = steps; nest = nest }

@@ -1,20 +1,20 @@
 -- Stacks of blocks that are left, under other windows, contents and locks.
 use Rattle.std.proofs.Common.{◌≡◌, ℕ, List, [], ◌∷◌, ◌∙◌, inl, inr}
 use Rattle.std.specs.Prelude.{◌⊎◌, true}
-use Rattle.types.specs.Code.{While, Codes, End, Then, Program}
 use Rattle.sections.specs.Place.{Window, Place}
-use Rattle.types.specs.Contents.{Contents}
+use Rattle.types.specs.Code.{While, Codes, End, Then, Program}
+use Rattle.types.specs.Contents.{Contents, IsThere}
 use Rattle.types.specs.Value.{Environment}
 use Rattle.effects.specs.Effects.{All, Pending, accesses}
 use Rattle.effects.specs.Footprint.{Overwrites}
-use Rattle.own_run.specs.Places.{Places, IsThere}
 use Rattle.effects.specs.Needs.{Needs}
 use Rattle.race_checker.specs.Scope.{Scope, InScope}
+use Rattle.own_run.specs.Places.{Places}
 use Rattle.own_run.specs.Ready.{Ready}
 use Rattle.own_run.specs.OwnRun.{Own}
 use Rattle.own_run.specs.Frames.{Frame, Rest, Again, AtEnd, Back}
 use Rattle.own_run.specs.Holds.{having, locked_after, Stack}
-use Rattle.own_run.proofs.Names.{overwrites_touch}
+use Rattle.own_run.proofs.AccessNames.{overwrites_touch}
 
 abbrev pub anywhere : ℕ → Type 0
 anywhere s = Unit {0}

@@ -1,24 +1,27 @@
 -- A task is stopped by its budget, and by a stopped task that its finish gathers; by nothing else.
-use Rattle.std.proofs.Common.{◌≡◌, ℕ, zero, suc, ◌+◌, List, [], ◌∷◌, length, Option, Some, None, Ok, Err, refl, sym, ap, ◌∙◌, subst}
+use Rattle.std.proofs.lemmas.Option.{none-some, same_Some}
+use Rattle.std.proofs.Common.{◌≡◌, ℕ, zero, suc, ◌+◌, List, [], ◌∷◌, length, Option, Some, None, Ok, Err, refl, sym}
+use Rattle.std.proofs.Common.{ap, ◌∙◌, subst}
 use Rattle.std.specs.Prelude.{Bool, true, false, ◌||◌, ok_or, if◌then◌else◌}
-use Rattle.types.specs.declared.fault.FaultKind.TheVariants.{SplitPoint, Raised}
-use Rattle.types.specs.Code.{Primitive, Skip, Assign, Store, Print, Raise, Code, Do, If, While, Split, Call, Async, Finish}
-use Rattle.types.specs.Code.{Codes, End, Then, Program}
+use Rattle.std.proofs.Math.Bool.{or-false}
 use Rattle.sections.specs.Place.{Place, sides_of}
+use Rattle.types.specs.declared.fault.FaultKind.TheVariants.{SplitPoint}
+use Rattle.types.specs.Code.{Primitive, Skip, Assign, Store, Print, Raise, Code, Do, If, While, Split, Call, Async}
+use Rattle.types.specs.Code.{Finish, Codes, End, Then, Program}
 use Rattle.types.specs.Value.{Valued, element_of, holds_number}
-use Rattle.types.specs.Run.{Flow, On, Faulted, Stopped, Fault, State, Rules, with_value, put, print, assign, fault, primitive}
-use Rattle.types.specs.Run.{number_at, numbers_at, truth_at, window_at, array_of}
+use Rattle.types.specs.Run.{Flow, On, Faulted, Stopped, Fault, State, Rules, with_value, put, print, assign}
+use Rattle.types.specs.Run.{primitive, number_at, numbers_at, truth_at, window_at, array_of}
 use Rattle.types.specs.Meaning.{after_finish}
 use Rattle.effects.specs.Needs.{Needs}
 use Rattle.own_run.specs.Places.{Places, within, meets}
 use Rattle.own_run.specs.Apart.{is_stopped}
-use Rattle.own_run.specs.Results.{Listed, TaskResult, Settled, none_yet, fill, complete, same_path, behind, take}
-use Rattle.own_run.specs.Results.{fill_all, settle_within, none_left, settle}
+use Rattle.own_run.specs.Results.{Listed, TaskResult, Settled, none_yet, fill, complete}
 use Rattle.own_run.specs.OwnRun.{Own, own_rules, begin_own, result_of}
-use Rattle.own_run.specs.Frames.{Frame, Rest, Again, AtEnd, Back, Standing, by_value, chosen, paid, by_flow, turn, handed}
+use Rattle.own_run.specs.Frames.{Frame, Rest, Again, AtEnd, Back, Standing, by_value, chosen, paid, by_flow, turn}
+use Rattle.own_run.specs.Frames.{handed}
 use Rattle.own_run.specs.Stops.{is_none, is_over, is_next_over, stops, some_halted}
-use Rattle.std.proofs.Math.Bool.{or-false}
-use Rattle.own_run.proofs.Sound.{none_some, some_same, unless_none, gives}
+use Rattle.own_run.specs.Settling.{same_path, behind, take, fill_all, settle_within, none_left, settle}
+use Rattle.own_run.proofs.SettledResults.{unless_none, gives}
 
 or_assoc : (a b c : Bool) → ((a || b) || c) ≡ (a || (b || c))
 or_assoc true b c = refl
@@ -102,15 +105,15 @@ module _ (p : Program) (needs : Codes → Needs) (nest : ℕ) (close : State Own
 -- ---- what is gathered
 take_halted : (path : List ℕ) (rs : List TaskResult) (found : TaskResult × List TaskResult) → take path rs ≡ Some found
     → some_halted rs ≡ (found.0.halted || some_halted found.1)
-take_halted path [] found e = absurd (none_some e)
+take_halted path [] found e = absurd (none-some _ e)
 take_halted path (r ∷ rs) found e = by_path (take_halted path rs) (same_path r.path path) e
   where
     later : ((f : TaskResult × List TaskResult) → take path rs ≡ Some f → some_halted rs ≡ (f.0.halted || some_halted f.1))
         → (o : Option (TaskResult × List TaskResult)) → take path rs ≡ o → behind r o ≡ Some found
         → (r.halted || some_halted rs) ≡ (found.0.halted || some_halted found.1)
-    later rec None w q = absurd (none_some q)
+    later rec None w q = absurd (none-some _ q)
     later rec (Some f) w q =
-        let i : (f.0, r ∷ f.1) ≡ found = some_same q in
+        let i : (f.0, r ∷ f.1) ≡ found = same_Some _ _ q in
         subst (λ (f : TaskResult × List TaskResult). (r.halted || some_halted rs) ≡ (f.0.halted || some_halted f.1)) i
         (ap (λ h. r.halted || h) (rec f w) ∙ or_turned r.halted f.0.halted (some_halted f.1))
 
@@ -118,7 +121,7 @@ take_halted path (r ∷ rs) found e = by_path (take_halted path rs) (same_path r
         → (b : Bool) → (if b then Some (r, rs) else behind r (take path rs)) ≡ Some found
         → (r.halted || some_halted rs) ≡ (found.0.halted || some_halted found.1)
     by_path rec true q =
-        let i : (r, rs) ≡ found = some_same q in
+        let i : (r, rs) ≡ found = same_Some _ _ q in
         subst (λ (f : TaskResult × List TaskResult). (r.halted || some_halted rs) ≡ (f.0.halted || some_halted f.1)) i refl
     by_path rec false q = later rec (take path rs) refl q
 
@@ -132,7 +135,7 @@ fill_halted : (deeper : TaskResult → List TaskResult → Option (Settled × Li
     → (owned : Places) (cs : List Listed) (so_far : Settled) (rs : List TaskResult) (x : Settled × List TaskResult)
     → fill_all deeper owned cs so_far rs ≡ Some x → either_halted x ≡ (so_far.halted || some_halted rs)
 fill_halted deeper h owned [] so_far rs x e =
-    let i : (so_far, rs) ≡ x = some_same e in
+    let i : (so_far, rs) ≡ x = same_Some _ _ e in
     subst (λ (x : Settled × List TaskResult). either_halted x ≡ (so_far.halted || some_halted rs)) i refl
 fill_halted deeper h owned (c ∷ cs) so_far rs x e =
     let g = gives (take c.path rs) _ x (unless_none (meets owned c.windows) _ e) in
@@ -143,17 +146,17 @@ fill_halted deeper h owned (c ∷ cs) so_far rs x e =
 
 within_halted : (k : ℕ) (r : TaskResult) (rs : List TaskResult) (x : Settled × List TaskResult)
     → settle_within k r rs ≡ Some x → either_halted x ≡ (r.halted || some_halted rs)
-within_halted zero r rs x e = absurd (none_some e)
+within_halted zero r rs x e = absurd (none-some _ e)
 within_halted (suc k) r rs x e =
     let g = gives (fill_all (settle_within k) r.owned r.children none_yet rs) _ x e in
-    let i : (complete r g.one.0, g.one.1) ≡ x = some_same g.next in
+    let i : (complete r g.one.0, g.one.1) ≡ x = same_Some _ _ g.next in
     subst (λ (x : Settled × List TaskResult). either_halted x ≡ (r.halted || some_halted rs)) i
     (or_assoc r.halted g.one.0.halted (some_halted g.one.1)
     ∙ ap (λ b. r.halted || b) (fill_halted (settle_within k) (within_halted k) r.owned r.children none_yet rs g.one g.first))
 
 left_halted : (x : Settled × List TaskResult) (y : Settled) → none_left x ≡ Some y → y.halted ≡ either_halted x
-left_halted (s, []) y e = ap (λ (s : Settled). s.halted) (sym (some_same e)) ∙ sym (or-false s.halted)
-left_halted (s, r ∷ rs) y e = absurd (none_some e)
+left_halted (s, []) y e = ap (λ (s : Settled). s.halted) (sym (same_Some _ _ e)) ∙ sym (or-false s.halted)
+left_halted (s, r ∷ rs) y e = absurd (none-some _ e)
 
 -- what comes of results was stopped exactly where one of them was
 pub settle_halted : (r : TaskResult) (rs : List TaskResult) (x : Settled) → settle r rs ≡ Some x

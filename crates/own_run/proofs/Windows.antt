@@ -1,19 +1,21 @@
 -- Windows as sets of places: of elements, of sides, of sections.
-use Rattle.std.proofs.Common.{◌≡◌, ℕ, zero, suc, ◌+◌, ◌-◌, ◌<◌, List, [], ◌∷◌, length, Option, Some, None, Ok, Err, refl, sym, ap, ◌∙◌}
-use Rattle.std.proofs.Common.{subst, inl, inr, arith}
-use Rattle.std.proofs.lemmas.Bool.{ltb-true, leb-true, eqb-true, eqb-false, lt-ltb, le-leb, eq-eqb, and_from, or_left, or_right}
-use Rattle.std.specs.Prelude.{ℤ, pos, negsuc, ◌⊎◌, ◌≢◌, Bool, true, false, ◌&&◌, ◌||◌, nat_eq, nat_lt, nat_le, ok_or, map, slice_index_or}
-use Rattle.std.specs.Prelude.{if◌then◌else◌}
+use Rattle.std.proofs.lemmas.Option.{none-some, same_Some}
+use Rattle.std.proofs.Common.{◌≡◌, ℕ, zero, suc, ◌+◌, ◌-◌, ◌<◌, List, [], ◌∷◌, length, Option, Some, None, Ok, Err}
+use Rattle.std.proofs.Common.{refl, sym, ap, ◌∙◌, subst, inl, inr, arith}
+use Rattle.std.proofs.lemmas.Bool.{ltb-true, leb-true, eqb-true, eqb-false, lt-ltb, le-leb, eq-eqb, and_from, or_left}
+use Rattle.std.proofs.lemmas.Bool.{or_right}
+use Rattle.std.specs.Prelude.{ℤ, pos, negsuc, ◌⊎◌, ◌≢◌, Bool, true, false, ◌||◌, nat_eq, nat_lt, nat_le, ok_or, map}
+use Rattle.std.specs.Prelude.{slice_index_or, if◌then◌else◌}
+use Rattle.sections.specs.Place.{Place, Window, In, nowhere, sides_of, same_place}
+use Rattle.sections.specs.Member.{Member, first, next}
 use Rattle.types.specs.declared.fault.FaultKind.{FaultKind}
 use Rattle.types.specs.declared.fault.FaultKind.TheVariants.{Index, SplitPoint}
-use Rattle.sections.specs.Place.{Place, Window, In, nowhere, sides_of, same_place}
 use Rattle.types.specs.Value.{Environment, Valued, element_of}
 use Rattle.types.specs.Run.{bind, with_sides}
-use Rattle.effects.specs.Member.{Member, first, next}
-use Rattle.effects.proofs.Members.{false_true, both_true, either_true}
-use Rattle.own_run.specs.Places.{covered, named}
 use Rattle.effects.specs.Effects.{past_split, past_call}
+use Rattle.effects.proofs.Members.{false_true, both_true, either_true}
 use Rattle.race_checker.specs.Scope.{Scope, Top, Inside, InScope, FitsScope, FitsTop}
+use Rattle.own_run.specs.Places.{covered, named}
 
 -- ---- tests
 pub either_way : (b : Bool) → (b ≡ true) ⊎ (b ≡ false)
@@ -92,23 +94,9 @@ pub sides_some : (o : Option (Window × Window)) (ws : Window × Window) → ok_
 sides_some None ws e = absurd (not_ok e)
 sides_some (Some v) ws e = ap Some (ok_same e)
 
-some_is : {A : Type 0} {x y : A} → Some x ≡ Some y → x ≡ y
-some_is {A} {x} e = ap or_x e
-  where
-    or_x : Option A → A
-    or_x None = x
-    or_x (Some y) = y
-
-none_not : {A : Type 0} {x : A} → None ≡ Some x → ⊥
-none_not {A} e = subst IsNothing e tt
-  where
-    IsNothing : Option A → Type 0
-    IsNothing None = Unit {0}
-    IsNothing (Some y) = ⊥
-
 -- both sides of a window lie in it
 pub sides_in : (w : Window) (v : ℤ) (l r : Window) → sides_of w v ≡ Some (l, r) → (q : Place) → (In l q → In w q) × (In r q → In w q)
-sides_in w (negsuc n) l r e q = absurd (none_not e)
+sides_in w (negsuc n) l r e q = absurd (none-some _ e)
 sides_in w (pos n) l r e q = by_test (nat_le n w.length) refl e
   where
     both : Window × Window
@@ -116,14 +104,14 @@ sides_in w (pos n) l r e q = by_test (nat_le n w.length) refl e
 
     by_test : (b : Bool) → nat_le n w.length ≡ b → (if b then Some both else None) ≡ Some (l, r) → (In l q → In w q) × (In r q → In w q)
     by_test true t e =
-        let k : both ≡ (l, r) = some_is e in
+        let k : both ≡ (l, r) = same_Some _ _ e in
         let le = leb-true n w.length t in (
           (λ i. let j : In both.0 q = subst (λ ws. In ws.0 q) (sym k) i in let h =
               j.high in record { array = j.array; low = j.low; high = omega (arith, h, le) }),
           (λ i. let j : In both.1 q = subst (λ ws. In ws.1 q) (sym k) i in let h = j.high in let g =
               j.low in record { array = j.array; low = omega (arith, g); high = omega (arith, h, le) }),
         )
-    by_test false t e = absurd (none_not e)
+    by_test false t e = absurd (none-some _ e)
 
 -- nothing is nowhere
 pub not_nowhere : (q : Place) → In nowhere q → ⊥

@@ -1,4 +1,4 @@
--- Tasks apart: an async's body runs on what it needs; what it made is set aside up to the finish's end.
+-- Tasks apart: an async's body runs on what it needs; what it made is set aside for a while.
 use Rattle.std.specs.Prelude.{ℕ, zero, suc, ◌+◌, List, ℤ, Bool, true, false, ◌||◌, if◌then◌else◌}
 use Rattle.types.specs.Code.{Codes, Program}
 use Rattle.types.specs.Contents.{Contents, held_by}
@@ -14,9 +14,11 @@ pub record Aside : Type 0 where
   -- whether one of them was stopped
   pub halted : Bool
 
+-- nothing is set aside
 abbrev pub nothing : Aside
 nothing = record { contents = empty; halted = false }
 
+-- whether the flow is stopped
 abbrev pub is_stopped : Flow → Bool
 is_stopped Stopped = true
 is_stopped On = false

@@ -1,21 +1,23 @@
--- A task in the making: its frames, the top one first, and where it stands; a turn of the top frame.
+-- A task in the making: frames, the top one first, and where it stands; a turn of the top frame.
 use Rattle.std.specs.Prelude.{ℕ, zero, suc, ◌≡◌, List, [], ◌∷◌, ◌++◌, length, map, Bool, true}
 use Rattle.std.specs.Prelude.{false, Some, Ok, Err, ok_or, slice_get}
+use Rattle.sections.specs.Place.{sides_of}
 use Rattle.types.specs.declared.fault.FaultKind.TheVariants.{SplitPoint}
 use Rattle.types.specs.Code.{Truth, Code, Do, If, While, Split, Call, Async, Finish, Codes, End}
 use Rattle.types.specs.Code.{Then, Program}
-use Rattle.sections.specs.Place.{sides_of}
 use Rattle.types.specs.Value.{Environment, Valued}
 use Rattle.types.specs.Run.{Flow, On, Faulted, Stopped, State, Rules, Block, Turn, stopped, go_on}
 use Rattle.types.specs.Run.{fault, number_at, numbers_at, truth_at, window_at, entry, with_sides}
 use Rattle.types.specs.Run.{procedure_of, primitive, counted, run}
 use Rattle.effects.specs.Needs.{Needs}
-use Rattle.own_run.specs.Results.{TaskResult, Settled, Each}
+use Rattle.own_run.specs.Results.{TaskResult, Settled}
 use Rattle.own_run.specs.OwnRun.{Start, Child, Action, Step, Spawn, EnterFinish, EndFinish, Own}
-use Rattle.own_run.specs.OwnRun.{notes, child_of}
-use Rattle.own_run.specs.OwnRun.{begun_by, go_on_with, own_rules, from_receipts, run_by, in_truth}
-use Rattle.own_run.specs.OwnRun.{own, given}
+use Rattle.own_run.specs.OwnRun.{notes, child_of, begun_by, go_on_with, own_rules, from_receipts}
+use Rattle.own_run.specs.OwnRun.{run_by}
+use Rattle.own_run.specs.Given.{in_truth, own, given}
+use Rattle.own_run.specs.Lists.{Each}
 
+-- what is left to do, piece by piece
 pub data Frame (X : Type 0) : Type 0 where
   -- the statements that are left of a block
   Rest : Codes → Frame X
@@ -26,6 +28,7 @@ pub data Frame (X : Type 0) : Type 0 where
   -- the end of a call, which comes back to this environment
   Back : Environment → Frame X
 
+-- a task in the making
 pub record Standing (X : Type 0) : Type 0 where
   pub frames : List (Frame X)
   pub state : State X
@@ -111,22 +114,22 @@ pub record IsBegun (nest : ℕ) (st : State Own) (c : Child) : Type 0 where
   pub deeper : suc c.start.nest ≡ nest
 
 -- what a task lists it has begun, and it counts them
-pub record Fine (nest : ℕ) (st : State Own) : Type 0 where
+pub record HasBegun (nest : ℕ) (st : State Own) : Type 0 where
   pub counted : length (begun_by st.extra.actions) ≡ st.spawned
   pub begun : Each (IsBegun nest st) st.extra.pending
 
 -- so it has what it lists outside of its open finishes
-abbrev pub FineBelow : (nest : ℕ) → State Own → List (Frame Own) → Type 0
-FineBelow nest st [] = Unit {0}
-FineBelow nest st (Rest b ∷ fs) = FineBelow nest st fs
-FineBelow nest st (Again l t b ∷ fs) = FineBelow nest st fs
-FineBelow nest st (AtEnd before ∷ fs) =
-    Each (IsBegun nest st) before.extra.pending × FineBelow nest st fs
-FineBelow nest st (Back env ∷ fs) = FineBelow nest st fs
+abbrev pub HasBegunBelow : (nest : ℕ) → State Own → List (Frame Own) → Type 0
+HasBegunBelow nest st [] = Unit {0}
+HasBegunBelow nest st (Rest b ∷ fs) = HasBegunBelow nest st fs
+HasBegunBelow nest st (Again l t b ∷ fs) = HasBegunBelow nest st fs
+HasBegunBelow nest st (AtEnd before ∷ fs) =
+    Each (IsBegun nest st) before.extra.pending × HasBegunBelow nest st fs
+HasBegunBelow nest st (Back env ∷ fs) = HasBegunBelow nest st fs
 
 module _ (p : Program) (needs : Codes → Needs) (fresh : ℕ) (root : Start) where
   -- a task that is listed is known by its path, and started with what that is given
-  pub record IsTrue (c : Child) : Type 0 where
+  pub record IsGivenChild (c : Child) : Type 0 where
     pub listed : c.listed.path ≡ c.start.path
     pub is : given p needs fresh root c.start.path ≡ Some c.start
 
@@ -137,8 +140,8 @@ module _ (p : Program) (needs : Codes → Needs) (fresh : ℕ) (root : Start) wh
         ≡ own p needs fresh s
     pub path : t.state.path ≡ s.path
     pub awake : t.state.extra.waits ≡ false
-    pub fine : Fine s.nest t.state
-    pub below : FineBelow s.nest t.state t.frames
+    pub fine : HasBegun s.nest t.state
+    pub below : HasBegunBelow s.nest t.state t.frames
 
   -- for all later receipts, its own run is what it has so far, followed by that of what remains
   pub record Follows (s : Start) (taken : List (List TaskResult)) (t : Standing Own) : Type 0 where

@@ -1,21 +1,22 @@
 -- A task has what it touches up to its innermost finish's end, and owns where it may write.
 use Rattle.std.specs.Prelude.{ℕ, ◌≡◌, ◌⊎◌, List, [], ◌∷◌, map, true}
-use Rattle.types.specs.Code.{Code, While, Codes, End, Then, Program}
 use Rattle.sections.specs.Place.{Window, Place, In}
-use Rattle.types.specs.Contents.{Contents}
+use Rattle.sections.specs.Member.{Member}
+use Rattle.types.specs.Code.{Code, While, Codes, End, Then, Program}
+use Rattle.types.specs.Contents.{Contents, IsThere}
 use Rattle.types.specs.Value.{Environment}
 use Rattle.types.specs.Run.{State}
 use Rattle.effects.specs.Accesses.{Access, own_accesses}
-use Rattle.effects.specs.Member.{Member}
 use Rattle.effects.specs.Effects.{Pending, accesses}
 use Rattle.effects.specs.Footprint.{Overwrites}
-use Rattle.own_run.specs.Places.{Places, empty, within, IsThere, written, touched}
 use Rattle.effects.specs.Needs.{Needs}
 use Rattle.race_checker.specs.Scope.{Scope, InScope}
+use Rattle.own_run.specs.Places.{Places, empty, within, written, touched}
 use Rattle.own_run.specs.Ready.{Around, Ready}
-use Rattle.own_run.specs.Results.{Each, Parted}
 use Rattle.own_run.specs.OwnRun.{Start, Child, Own, back_from}
 use Rattle.own_run.specs.Frames.{Frame, Rest, Again, AtEnd, Back, Standing}
+use Rattle.own_run.specs.Lists.{Each}
+use Rattle.own_run.specs.Settling.{Parted}
 
 -- what is around a block of a task that has these contents and owns these places
 abbrev pub having : Scope → Environment → Contents → Places → Around
@@ -44,7 +45,7 @@ module _ (p : Program) (needs : Codes → Needs) where
   locked_after env locked b q = locked q ⊎ Overwrites env (Pending p accesses b) q
 
   -- a block that is left: its scope lies in `limit`, with the windows of `env`, off what is locked
-  pub record Left (windows : ℕ → Window) (limit : ℕ → Type 0) (c : Contents) (o : Places)
+  pub record Remains (windows : ℕ → Window) (limit : ℕ → Type 0) (c : Contents) (o : Places)
       (locked : Place → Type 0) (b : Codes) (sc : Scope)
       (env : Environment) : Type 0 where
     pub inside : (s : ℕ) → InScope sc s → limit s
@@ -56,10 +57,12 @@ module _ (p : Program) (needs : Codes → Needs) where
       → (locked : Place → Type 0) → List (Frame Own) → Type 0
   Stack f limit c o locked [] = Unit {0}
   Stack f limit c o locked (Rest b ∷ fs) =
-      (sc : Scope) × (env : Environment) × Left f limit c o locked b sc env
+      (sc : Scope) × (env : Environment)
+      × Remains f limit c o locked b sc env
       × Stack f (InScope sc) c o (locked_after env locked b) fs
   Stack f limit c o locked (Again l t b ∷ fs) =
-      (sc : Scope) × (env : Environment) × Left f limit c o locked (Then l (While t b) End) sc env
+      (sc : Scope) × (env : Environment)
+      × Remains f limit c o locked (Then l (While t b) End) sc env
       × Stack f (InScope sc) c o (locked_after env locked (Then l (While t b) End)) fs
   Stack f limit c o locked (AtEnd before ∷ fs) =
       Stack f limit before.store before.extra.owned (λ q. ⊥) fs

@@ -1,10 +1,13 @@
 pub mod Apart
 pub mod Frames
+pub mod Given
 pub mod Holds
+pub mod Lists
 pub mod OwnRun
 pub mod Places
 pub mod Reached
 pub mod Ready
 pub mod Results
 pub mod Runs
+pub mod Settling
 pub mod Stops

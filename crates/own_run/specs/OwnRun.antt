@@ -1,18 +1,16 @@
--- A task's own run: its asyncs are listed with what each is given, and their results are put in later.
-use Rattle.std.specs.Prelude.{ℕ, zero, suc, ◌+◌, ◌≡◌, List, [], ◌∷◌, ◌++◌, map, flat_map, ℤ, Bool}
-use Rattle.std.specs.Prelude.{true, false, not, ◌&&◌, ◌||◌, Option, Some, None, slice_get}
-use Rattle.std.specs.Prelude.{if◌then◌else◌}
+-- A task's own run: its asyncs are listed, and what comes of them is put in at a finish's end.
+use Rattle.std.specs.Prelude.{ℕ, zero, suc, ◌+◌, List, [], ◌∷◌, ◌++◌, map, Bool, true, false, not}
+use Rattle.std.specs.Prelude.{◌&&◌, ◌||◌, Option, Some, None, slice_get, if◌then◌else◌}
 use Rattle.types.specs.Code.{Codes, Program}
-use Rattle.types.specs.Contents.{Contents, held_by, shown}
+use Rattle.types.specs.Contents.{Contents}
 use Rattle.types.specs.Value.{Environment}
-use Rattle.types.specs.Run.{Flow, On, Stopped, State, Rules, Block, stopped, run, entry}
+use Rattle.types.specs.Run.{Flow, On, Stopped, State, Rules, Block, stopped, run}
 use Rattle.types.specs.Meaning.{hushed, after_finish}
-use Rattle.types.specs.Outcome.{Outcome, outcome_by, whole_arrays}
 use Rattle.effects.specs.Needs.{Needs}
 use Rattle.own_run.specs.Places.{written, touched, Places, within, only, without}
-use Rattle.own_run.specs.Apart.{nothing, is_stopped, halts, merged, apart}
-use Rattle.own_run.specs.Results.{Listed, TaskResult, Settled, none_yet, fill, complete, and_then}
-use Rattle.own_run.specs.Results.{settle}
+use Rattle.own_run.specs.Apart.{is_stopped}
+use Rattle.own_run.specs.Results.{Listed, TaskResult, Settled, and_then}
+use Rattle.own_run.specs.Settling.{settle}
 
 -- what a task starts with, but for its steps
 pub record Start : Type 0 where
@@ -50,12 +48,15 @@ pub record Own : Type 0 where
   -- it stands at the end of a finish, and what came of it isn't there
   pub waits : Bool
 
+-- at the beginning
 abbrev pub at_first : Places → Own
 at_first owned = record { pending = []; ended = 0; actions = []; owned = owned; waits = false }
 
+-- notes an action
 abbrev pub notes : Action → Own → Own
 notes a x = record x { actions = x.actions ++ a ∷ [] }
 
+-- it waits, for good
 abbrev pub is_waiting : State Own → Bool
 is_waiting st = is_stopped st.flow && st.extra.waits
 
@@ -106,6 +107,7 @@ list_child n nest b st =
       });
     }
 
+-- with no nest left, the task is stopped
 abbrev pub begin_own : (Codes → Needs) → (nest : ℕ) → Codes → State Own → State Own
 begin_own needs zero b st = stopped st
 begin_own needs (suc n) b st = list_child (needs b) n b st
@@ -115,10 +117,11 @@ abbrev pub back_from : List Child → Places
 back_from [] q = false
 back_from (c ∷ cs) q = within c.listed.windows q || back_from cs q
 
--- how a task goes on with what came of a finish
+-- whether a task goes on behind a finish
 abbrev pub flow_after : Settled → Flow
 flow_after s = if s.halted then Stopped else after_finish On s.faults
 
+-- it goes on behind the finish with what came of it
 abbrev pub go_on_with : (before out : State Own) → Settled → State Own
 go_on_with before out s = record out {
   flow = flow_after s;
@@ -138,6 +141,7 @@ leave_with before out None =
     record out { flow = Stopped; extra = record out.extra { waits = true } }
 leave_with before out (Some s) = go_on_with before out s
 
+-- the end of a finish is noted, and it goes on or waits
 abbrev pub leave_own : (State Own → Option Settled) → (before out : State Own) → State Own
 leave_own close before out =
     if is_waiting out then out
@@ -208,52 +212,3 @@ module _ (p : Program) (needs : Codes → Needs) (fresh : ℕ) where
   -- the next action of a task that has these receipts and has done so many; none where it waits
   abbrev pub next_action : (receipts : List (List TaskResult)) → (done : ℕ) → Start → Option Action
   next_action receipts done s = slice_get (actions_of (run_by receipts s)) done
-
-  -- what comes of a start
-  abbrev pub comes_to : Start → Settled
-  comes_to s =
-      let out = apart p needs fresh s.nest (Block s.body) (beginning nothing fresh s) in
-      record { halted = halts out; contents = merged out; lines = out.lines; faults = out.faults }
-
-  -- holes filled with what comes of each
-  abbrev pub filled : List Child → Settled → Settled
-  filled [] so_far = so_far
-  filled (c ∷ cs) so_far = filled cs (fill c.listed (comes_to c.start) so_far)
-
-  abbrev pub in_truth : State Own → Option Settled
-  in_truth st = Some (complete (result_of st) (filled st.extra.pending none_yet))
-
-  -- the own run of a task, where each finish goes on with what really came of it
-  abbrev pub own : Start → State Own
-  own = own_run in_truth
-
-  -- what the task of a path starts with, below one with this start
-  abbrev pub given : Start → List ℕ → Option Start
-  given s [] = Some s
-  given s (k ∷ path) = and_then (kth k (begun_by (own s).extra.actions)) (λ c. given c path)
-
-  -- a result is what its task has at the end of its own run
-  abbrev pub IsOwn : Start → TaskResult → Type 0
-  IsOwn root r = (s : Start) → given root r.path ≡ Some s → r ≡ result_of (own s)
-
-  -- the results of all tasks below one, where no more than so many stand inside one another
-  abbrev pub below : (nest : ℕ) → Start → List TaskResult
-  below zero s = []
-  below (suc n) s = flat_map (λ c. result_of (own c.start) ∷ below n c.start) (own s).extra.pending
-
--- what the root starts with
-abbrev pub root_of : Program → (input : List (List ℤ)) → (nest : ℕ) → Start
-root_of p input nest = record {
-  body = p.main.body;
-  environment = entry [] (whole_arrays 0 p.arrays);
-  contents = held_by input;
-  owned = within (whole_arrays 0 p.arrays);
-  nest = nest;
-  path = [];
-}
-
--- what is told of a run, once all has come
-abbrev pub told_of : Program → Settled → Outcome
-told_of p s =
-    outcome_by (flow_after s)
-    (record { arrays = shown p.arrays s.contents; lines = s.lines; faults = s.faults })

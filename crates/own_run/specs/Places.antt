@@ -1,7 +1,6 @@
 -- Sets of places, and the contents that are there.
 use Rattle.std.specs.Prelude.{ℕ, zero, suc, ℤ, ◌+◌, List, [], ◌∷◌, ◌++◌, map, Option, Some, None}
-use Rattle.std.specs.Prelude.{Bool, false, ◌&&◌, ◌||◌, nat_eq, nat_lt, nat_le}
-use Rattle.std.specs.Prelude.{if◌then◌else◌}
+use Rattle.std.specs.Prelude.{Bool, false, ◌&&◌, ◌||◌, nat_eq, nat_lt, nat_le, if◌then◌else◌}
 use Rattle.sections.specs.Place.{Place, Window}
 use Rattle.types.specs.Contents.{Contents}
 use Rattle.types.specs.Value.{Environment}
@@ -24,10 +23,11 @@ within (w ∷ ws) q = covered w q || within ws q
 abbrev pub named : Environment → List ℕ → Places
 named env ss = within (map env.windows ss)
 
--- the places that a body with these needs may write, and all that it may touch
+-- the places that a body with these needs may write
 abbrev pub written : Environment → Needs → Places
 written env n = named env n.writes
 
+-- and all that it may touch
 abbrev pub touched : Environment → Needs → Places
 touched env n = named env (n.writes ++ n.reads)
 
@@ -51,15 +51,6 @@ or_else (Some v) y = Some v
 -- the contents of the first, and those of the second where the first has none
 abbrev pub over : Contents → Contents → Contents
 over c d q = or_else (c q) (d q)
-
--- a number is there
-abbrev pub IsThere : Option ℤ → Type 0
-IsThere None = ⊥
-IsThere (Some v) = Unit {0}
-
--- the second has a number wherever the first has one
-abbrev pub Extends : (c d : Contents) → Type 0
-Extends c d = (q : Place) → IsThere (c q) → IsThere (d q)
 
 -- whether a set has one of n places of an array, from the place `at` on
 abbrev pub has_one : Places → (array at n : ℕ) → Bool

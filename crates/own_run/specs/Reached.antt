@@ -1,14 +1,16 @@
 -- How far the tasks of a run come: turn by turn, in any order, with results of own runs.
 use Rattle.std.specs.Prelude.{◌≡◌, ℕ, List, [], ◌∷◌, Some}
+use Rattle.sections.specs.Member.{Member}
 use Rattle.types.specs.Code.{Code, While, Async, Codes, Then, Program}
 use Rattle.types.specs.Run.{State}
-use Rattle.effects.specs.Member.{Member}
 use Rattle.effects.specs.Needs.{Needs}
-use Rattle.own_run.specs.Results.{TaskResult, Settled, settle, Each}
+use Rattle.own_run.specs.Results.{TaskResult, Settled}
 use Rattle.own_run.specs.OwnRun.{Start, Child, Own, at_first, beginning, result_of, own_rules}
-use Rattle.own_run.specs.OwnRun.{in_truth, IsOwn}
+use Rattle.own_run.specs.Given.{in_truth, IsOwn}
 use Rattle.own_run.specs.Frames.{Frame, Rest, Again, AtEnd, Standing, turn, handed}
 use Rattle.own_run.specs.Holds.{HasOwn, HasNeeds}
+use Rattle.own_run.specs.Settling.{settle}
+use Rattle.own_run.specs.Lists.{Each}
 
 -- a task at its beginning
 abbrev pub begun : (fresh : ℕ) → Start → Standing Own

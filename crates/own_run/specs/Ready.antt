@@ -1,16 +1,13 @@
 -- What may run next, by what is around it.
-use Rattle.std.specs.Prelude.{ℕ}
-use Rattle.types.specs.Code.{Code, Codes, Program}
 use Rattle.sections.specs.Place.{Place}
+use Rattle.types.specs.Code.{Codes, Program}
 use Rattle.types.specs.Contents.{Contents}
 use Rattle.types.specs.Value.{Environment}
-use Rattle.effects.specs.Accesses.{Access, own_accesses}
-use Rattle.effects.specs.Member.{Member}
-use Rattle.effects.specs.Effects.{AllOf, All, PendingOf, Pending, accesses}
+use Rattle.effects.specs.Effects.{All, Pending, accesses}
 use Rattle.effects.specs.Footprint.{Touches, Overwrites}
-use Rattle.effects.specs.Needs.{Needs, ProvidesOf, ProvidesIn}
-use Rattle.race_checker.specs.Scope.{Scope, InScope, FitsScope, ScopedOf, Scoped}
-use Rattle.race_checker.specs.Calm.{CalmOf, Calm}
+use Rattle.effects.specs.Needs.{Needs, ProvidesIn}
+use Rattle.race_checker.specs.Scope.{Scope, FitsScope, Scoped}
+use Rattle.race_checker.specs.Calm.{Calm}
 
 -- what stays fixed along a block
 pub record Around : Type 1 where
@@ -24,19 +21,7 @@ pub record Around : Type 1 where
   pub held : Place → Type 0
 
 module _ (p : Program) (needs : Codes → Needs) where
-  -- it may run next: within what is around, off what is locked; `final` is locked afterwards
-  pub record ReadyOf (x : Around) (locked final : Place → Type 0) (l : ℕ) (s : Code) : Type 0 where
-    pub fits : FitsScope x.scope x.env
-    pub names : (y : Access) → Member y (own_accesses l s) → InScope x.scope y.section
-    pub scoped : ScopedOf p x.scope s
-    pub calm : CalmOf p x.scope l s
-    pub provided : ProvidesOf p needs s
-    pub free : (q : Place) → Touches x.env (AllOf p accesses l s) q → locked q → ⊥
-    pub held : (q : Place) → Touches x.env (AllOf p accesses l s) q → x.held q
-    pub wrote : (q : Place) → Overwrites x.env (AllOf p accesses l s) q → x.wrote q
-    pub kept : (q : Place) → locked q → final q
-    pub added : (q : Place) → Overwrites x.env (PendingOf p accesses s) q → final q
-
+  -- a block may run next: within what is around, off what is locked; `final` is locked afterwards
   pub record Ready (x : Around) (locked final : Place → Type 0) (b : Codes) : Type 0 where
     pub fits : FitsScope x.scope x.env
     pub scoped : Scoped p x.scope b

@@ -4,7 +4,8 @@ use Rattle.types.specs.Code.{Program}
 use Rattle.types.specs.Outcome.{Budget}
 use Rattle.effects.specs.Rounds.{needs_of}
 use Rattle.own_run.specs.Results.{TaskResult, Settled}
-use Rattle.own_run.specs.OwnRun.{Start, Own, result_of, own, comes_to, below, IsOwn, root_of}
+use Rattle.own_run.specs.OwnRun.{Start, Own, result_of}
+use Rattle.own_run.specs.Given.{own, comes_to, below, IsOwn, root_of}
 use Rattle.own_run.specs.Frames.{Standing}
 use Rattle.own_run.specs.Reached.{Reached, IsResult, CanSettle, CanEnd}
 
@@ -13,10 +14,11 @@ module _ (p : Program) (input : List (List ℤ)) (b : Budget) where
   abbrev pub root : Start
   root = root_of p input b.nest
 
-  -- what the root has at the end of its own run, and what comes of it once all is put in
+  -- what the root has at the end of its own run
   abbrev pub root_result : TaskResult
   root_result = result_of (own p (needs_of p) b.steps root)
 
+  -- what comes of the root once all is put in
   abbrev pub root_comes_to : Settled
   root_comes_to = comes_to p (needs_of p) b.steps root
 

@@ -1,12 +1,13 @@
 -- When a task is stopped.
 use Rattle.std.specs.Prelude.{ℕ, zero, suc, List, Bool, true, false, ◌&&◌, ◌||◌}
 use Rattle.std.specs.List.{list_any}
-use Rattle.types.specs.Code.{Code, Do, If, While, Split, Call, Async, Finish, Codes, End, Then}
+use Rattle.types.specs.Code.{Code, Do, If, While, Split, Call, Async, Finish, End, Then}
 use Rattle.types.specs.Run.{Flow, On, Faulted, Stopped, State}
 use Rattle.own_run.specs.Results.{TaskResult}
 use Rattle.own_run.specs.OwnRun.{Own}
 use Rattle.own_run.specs.Frames.{Frame, Rest, Again, AtEnd, Back}
 
+-- whether it is an async
 abbrev pub is_async : Code → Bool
 is_async (Async b) = true
 is_async (Do s) = false
@@ -16,6 +17,7 @@ is_async (Split s e x y b) = false
 is_async (Call f es ss) = false
 is_async (Finish b) = false
 
+-- whether nothing is left
 abbrev pub is_none : ℕ → Bool
 is_none zero = true
 is_none (suc n) = false

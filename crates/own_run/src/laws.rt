@@ -1,6 +1,7 @@
 //! Laws of the definitions, each the contract of a function that does nothing.
 
-ghost use Rattle.std.specs.Prelude.{◌≡◌, ◌||◌, ℕ, ℤ, List, [], ◌∷◌, ◌++◌, Option, Some, true, false, length};
+ghost use Rattle.std.specs.Prelude.{◌≡◌, ◌||◌, ℕ, ℤ, List, [], ◌∷◌, ◌++◌, Option, Some, true};
+ghost use Rattle.std.specs.Prelude.{false, length};
 ghost use Rattle.types.specs.Code.{Truth, Code, While, Async, Codes, Then, Program};
 ghost use Rattle.types.specs.Contents.{FitsArrays};
 ghost use Rattle.types.specs.Outcome.{Budget, outcome};
@@ -12,21 +13,27 @@ ghost use Rattle.race_checker.specs.Clash.{IsAccepted};
 ghost use Rattle.race_checker.specs.Scope.{IsScoped};
 ghost use Rattle.race_checker.specs.Calm.{IsCalm};
 ghost use Rattle.own_run.specs.Apart.{apart_outcome, is_stopped};
-ghost use Rattle.own_run.specs.Results.{TaskResult, Settled, settle, Each, Shuffled, IsParted};
-ghost use Rattle.own_run.specs.OwnRun.{Start, Own, at_first, beginning, result_of, own, given};
-ghost use Rattle.own_run.specs.OwnRun.{own_rules, in_truth, comes_to, below, IsOwn, root_of, told_of};
-ghost use Rattle.own_run.specs.OwnRun.{next_action, last_action, Action, EndFinish, is_waiting, run_by};
-ghost use Rattle.own_run.specs.Frames.{Frame, Rest, Again, AtEnd, Standing, turn, handed, Fine, FineBelow};
-ghost use Rattle.own_run.specs.Frames.{IsTrue, IsTask, Follows, done_in};
+ghost use Rattle.own_run.specs.Results.{TaskResult, Settled};
+ghost use Rattle.own_run.specs.OwnRun.{Start, Own, at_first, beginning, result_of, own_rules};
+ghost use Rattle.own_run.specs.OwnRun.{next_action, last_action, Action, EndFinish, is_waiting};
+ghost use Rattle.own_run.specs.OwnRun.{run_by};
+ghost use Rattle.own_run.specs.Given.{own, given, in_truth, comes_to, below, IsOwn, root_of};
+ghost use Rattle.own_run.specs.Given.{told_of};
+ghost use Rattle.own_run.specs.Frames.{Frame, Rest, Again, AtEnd, Standing, turn, handed};
+ghost use Rattle.own_run.specs.Frames.{HasBegun, HasBegunBelow, IsGivenChild, IsTask, Follows};
+ghost use Rattle.own_run.specs.Frames.{done_in};
 ghost use Rattle.own_run.specs.Holds.{MayBegin, Holds, HasOwn, HasNeeds};
 ghost use Rattle.own_run.specs.Stops.{stops, some_halted};
 ghost use Rattle.own_run.specs.Reached.{HasNext};
 ghost use Rattle.own_run.specs.Runs.{root, root_result, root_comes_to, all_results, IsOwnResult};
 ghost use Rattle.own_run.specs.Runs.{MayStand, IsTaskResult, MayGoOn, MayEnd};
+ghost use Rattle.own_run.specs.Settling.{settle, IsParted};
+ghost use Rattle.own_run.specs.Lists.{Each, Shuffled};
 
 /// Of a sound and accepted program: tasks apart come to the one-thread outcome; results of own runs
 /// that settle, in whatever order they stand, are told as it; and the results of all tasks, each
-/// once and in whatever order, do settle where the input fits, to what comes of the root.
+/// once and in whatever order, do settle where the input fits, to what comes of the root, which is
+/// told as it too.
 pub fn accepted_programs_come_to_one_outcome()
     ensures apart { (p : Program) → IsSound p → IsAccepted p
         → (input : List (List ℤ)) (b : Budget)
@@ -39,6 +46,9 @@ pub fn accepted_programs_come_to_one_outcome()
         → (input : List (List ℤ)) (b : Budget) → FitsArrays p.arrays input
         → (rs : List TaskResult) → Shuffled (all_results p input b) rs
         → settle (root_result p input b) rs ≡ Some (root_comes_to p input b) }
+    ensures root { (p : Program) → IsSound p → IsAccepted p
+        → (input : List (List ℤ)) (b : Budget)
+        → told_of p (root_comes_to p input b) ≡ outcome p input b }
 {}
 
 /// No task of a sound and accepted program ever misses a place: wherever it may come to stand, what
@@ -106,11 +116,12 @@ pub fn tasks_are_own_runs()
     ensures turns { (p : Program) (needs : Codes → Needs) (fresh : ℕ) (root s : Start)
         → (f : Frame Own) (fs : List (Frame Own)) (st : State Own)
         → IsTask p needs fresh root s (record { frames = f ∷ fs; state = st })
-        → IsTask p needs fresh root s (turn p (own_rules needs s.nest (in_truth p needs fresh)) f fs st) }
+        → IsTask p needs fresh root s
+        (turn p (own_rules needs s.nest (in_truth p needs fresh)) f fs st) }
     ensures lists { (p : Program) (needs : Codes → Needs) (fresh : ℕ) (root s : Start)
         → (fs : List (Frame Own)) (st : State Own)
         → IsTask p needs fresh root s (record { frames = fs; state = st })
-        → Each (IsTrue p needs fresh root) st.extra.pending }
+        → Each (IsGivenChild p needs fresh root) st.extra.pending }
     ensures leaves { (p : Program) (needs : Codes → Needs) (fresh : ℕ) (root s : Start)
         → (rs : List TaskResult) → Each (IsOwn p needs fresh root) rs
         → (before : State Own) (fs : List (Frame Own)) (st : State Own)
@@ -130,7 +141,7 @@ pub fn tasks_follow_their_receipts()
         (record { frames = Rest s.body ∷ []; state = beginning (at_first s.owned) fresh s }) }
     ensures turns { (p : Program) (needs : Codes → Needs) (fresh : ℕ) (root s : Start)
         → (taken : List (List TaskResult)) (f : Frame Own) (fs : List (Frame Own)) (st : State Own)
-        → Fine s.nest st → FineBelow s.nest st (f ∷ fs)
+        → HasBegun s.nest st → HasBegunBelow s.nest st (f ∷ fs)
         → Follows p needs fresh root s taken (record { frames = f ∷ fs; state = st })
         → Follows p needs fresh root s taken
         (turn p (own_rules needs s.nest (in_truth p needs fresh)) f fs st) }
@@ -155,7 +166,8 @@ pub fn turns_are_actions()
         → IsTask p needs fresh root s (record { frames = fs; state = st })
         → (rest : List Action) × ((own p needs fresh s).extra.actions ≡ st.extra.actions ++ rest) }
     ensures waits { (p : Program) (needs : Codes → Needs) (fresh : ℕ) (root s : Start)
-        → (taken : List (List TaskResult)) (before : State Own) (fs : List (Frame Own)) (st : State Own)
+        → (taken : List (List TaskResult)) (before : State Own)
+        → (fs : List (Frame Own)) (st : State Own)
         → st.extra.waits ≡ false
         → Follows p needs fresh root s taken (record { frames = AtEnd before ∷ fs; state = st })
         → (is_waiting (run_by p needs fresh taken s) ≡ true)
@@ -167,12 +179,13 @@ pub fn turns_are_actions()
 pub fn turns_do_the_next_action()
     ensures done { (p : Program) (needs : Codes → Needs) (fresh : ℕ) (root s : Start)
         → (taken : List (List TaskResult)) (f : Frame Own) (fs : List (Frame Own)) (st : State Own)
-        → (a : Action) → Fine s.nest st → FineBelow s.nest st (f ∷ fs)
+        → (a : Action) → HasBegun s.nest st → HasBegunBelow s.nest st (f ∷ fs)
         → Follows p needs fresh root s taken (record { frames = f ∷ fs; state = st })
         → done_in needs s.nest f st ≡ a ∷ []
         → next_action p needs fresh taken (length st.extra.actions) s ≡ Some a }
     ensures finish { (p : Program) (needs : Codes → Needs) (fresh : ℕ) (root s : Start)
-        → (taken : List (List TaskResult)) (before : State Own) (fs : List (Frame Own)) (st : State Own)
+        → (taken : List (List TaskResult)) (before : State Own)
+        → (fs : List (Frame Own)) (st : State Own)
         → st.extra.waits ≡ false
         → Follows p needs fresh root s taken (record { frames = AtEnd before ∷ fs; state = st })
         → next_action p needs fresh taken (length st.extra.actions) s ≡ Some EndFinish }

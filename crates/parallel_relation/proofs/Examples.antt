@@ -1,16 +1,26 @@
 -- The labels of worked programs that may run together.
 use Rattle.std.proofs.Common.{◌≡◌, ℕ, List, [], ◌∷◌, refl}
-use Rattle.types.specs.Code.{Program, Procedure}
+use Rattle.types.specs.Code.{Procedure, Program}
 use Rattle.types.proofs.Programs.{two_arrays}
 use Rattle.effects.specs.Effects.{labels}
 use Rattle.effects.specs.Tables.{alls_after, pendings_after}
 use Rattle.parallel_relation.specs.Meetings.{met_in}
+use Rattle.parallel_relation.proofs.Programs.{split_in_loop, call_then_store}
 
+-- the label pairs of a procedure, where calls go at most three deep
 abbrev pairs : Program → Procedure → List (ℕ × ℕ)
 pairs p g =
     let alls = alls_after p labels 3 in
     met_in labels alls (pendings_after p labels alls 3) g.body
 
--- of row 2: `mhp` prints `3 4` alone
 two_arrays_pairs : pairs two_arrays two_arrays.main ≡ (3, 4) ∷ []
 two_arrays_pairs = refl
+
+-- the async inside the loop meets all of the loop's next turn, itself too, and what follows it in its own turn
+split_in_loop_pairs : pairs split_in_loop split_in_loop.main
+    ≡ (6, 3) ∷ (6, 4) ∷ (6, 5) ∷ (6, 6) ∷ (6, 7) ∷ (6, 7) ∷ []
+split_in_loop_pairs = refl
+
+-- the callee's async meets what follows the call
+call_then_store_pairs : pairs call_then_store call_then_store.main ≡ (2, 5) ∷ []
+call_then_store_pairs = refl

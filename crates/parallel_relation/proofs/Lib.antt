@@ -1,2 +1,4 @@
 pub mod Examples
 pub mod Meeting
+pub mod Ordering
+pub mod Programs

@@ -1,15 +1,15 @@
 -- The listed pairs are those that may run together.
 use Rattle.std.proofs.Common.{ℕ, List, [], ◌∷◌, ◌++◌, map, sym, subst}
 use Rattle.std.specs.Prelude.{◌↔◌}
+use Rattle.sections.specs.Member.{Member, first, next}
 use Rattle.types.specs.Code.{Code, Do, If, While, Split, Call, Async, Finish, Codes, End, Then, Program}
-use Rattle.effects.specs.Member.{Member, first, next}
 use Rattle.effects.specs.Effects.{Subject, AllOf}
-use Rattle.parallel_relation.specs.Together.{Block, Together}
 use Rattle.effects.specs.Tables.{Table, all_of, all_in, left_by, IsDerived, IsDerivedPending, IsStable}
 use Rattle.effects.specs.Tables.{IsStablePending}
-use Rattle.parallel_relation.specs.Meetings.{crossed, turned, met_inside, met_in}
 use Rattle.effects.proofs.Members.{in_left, in_right, in_map, from_map}
-use Rattle.effects.proofs.Solved.{parts, listed_of, listed, derived_of, derived, left_of, pending_of}
+use Rattle.effects.proofs.StableTables.{parts, listed_of, listed, derived_of, derived, left_of, pending_of}
+use Rattle.parallel_relation.specs.Together.{Block, Together}
+use Rattle.parallel_relation.specs.Meetings.{crossed, turned, met_inside, met_in}
 
 in_crossed : {A : Type 0} {x y : A} {xs ys : List A} → Member x xs → Member y ys → Member (x, y) (crossed xs ys)
 in_crossed {x = x} {ys = ys} (first {xs = xs}) k = in_left (crossed xs ys) (in_map (λ y. (x, y)) k)

@@ -1,31 +1,32 @@
 -- From names to places: in a sound and accepted program, what is pending keeps apart from what is done later.
-use Rattle.std.proofs.Common.{◌≡◌, ◌⊎◌, inl, inr, ℕ, ◌<◌, List, [], ◌∷◌, length, refl, sym, ◌∙◌, subst, arith}
+use Rattle.std.proofs.Common.{◌≡◌, ◌⊎◌, inl, inr, ℕ, ◌<◌, List, [], length, refl, sym, ◌∙◌, subst, arith}
 use Rattle.std.specs.Prelude.{Bool, true, false, ◌||◌, map, slice_get, Some}
-use Rattle.sections.specs.Origins.{Root}
-use Rattle.types.specs.Code.{Code, Do, If, While, Split, Call, Async, Finish, Codes, End, Then, Procedure, Program}
+use Rattle.sections.specs.Origins.{Root, IsNumbered}
 use Rattle.sections.specs.Place.{Place, In, nowhere}
+use Rattle.sections.specs.Member.{Member}
+use Rattle.sections.specs.Overlap.{overlap}
+use Rattle.sections.specs.Placed.{Apart, Placed}
+use Rattle.sections.proofs.Windows.{disjoint-apart}
+use Rattle.types.specs.Code.{Code, Do, If, While, Split, Call, Async, Finish, Codes, End, Then, Procedure, Program}
 use Rattle.types.specs.Value.{Environment}
 use Rattle.types.specs.Run.{entry, procedure_of}
-use Rattle.effects.specs.Member.{Member}
 use Rattle.effects.specs.Accesses.{Access, own_accesses}
 use Rattle.effects.specs.Effects.{past_call, accesses, AllOf, All, PendingOf}
-use Rattle.effects.specs.Overlap.{overlap, IsNumbered}
 use Rattle.effects.specs.Sound.{may_write, is_writable, Allowed, PassesWell, Follows, FollowsOf, IsSound, main_of}
-use Rattle.effects.specs.Fits.{Apart, Placed}
+use Rattle.effects.specs.Fits.{names_in}
 use Rattle.effects.proofs.Members.{left_true, right_true}
-use Rattle.effects.proofs.Windows.{names_apart}
-use Rattle.effects.proofs.Scopes.{allowed, allowed_of, pending_of_all}
-use Rattle.effects.proofs.Fitting.{by_number-map}
+use Rattle.effects.proofs.AccessesInScope.{allowed, allowed_of, pending_of_all}
+use Rattle.effects.proofs.EnvironmentsFit.{by_number-map}
 use Rattle.parallel_relation.specs.Together.{Block, Together}
 use Rattle.race_checker.specs.Clash.{Clash, IsAccepted}
 use Rattle.race_checker.specs.Scope.{Scope, Top, FitsScope, FitsTop, may_writes, Lists, top, inside}
-use Rattle.race_checker.specs.Calm.{KeepApart, AlwaysApart, Calm, CalmOf, IsCalm}
+use Rattle.race_checker.specs.Calm.{AlwaysApart, Calm, CalmOf, IsCalm}
 use Rattle.race_checker.proofs.Scoping.{length_may_writes, bits, bit_inside, fits_placed, arrays_written}
 
 module _ (p : Program) (sound : IsSound p) (g : Procedure) (numbered : IsNumbered g.sections)
     (firsts : (k : ℕ) → k < length g.parameters → slice_get g.sections k ≡ Some Root) where
   -- two accesses that don't clash, one of which writes, share no place
-  accesses_apart : (scope : List ℕ) (env : Environment) → Placed g scope env → (x y : Access)
+  accesses_apart : (scope : List ℕ) (env : Environment) → Placed (names_in g scope) env.windows → (x y : Access)
       → Allowed g scope x → Allowed g scope y → (x.write ≡ true) ⊎ (y.write ≡ true)
       → (Clash g.sections x y → ⊥) → (q : Place) → In (env.windows x.section) q → In (env.windows y.section) q → ⊥
   accesses_apart scope env placed x y a b w free q h k = by_test (overlap g.sections x.section y.section) refl
@@ -42,7 +43,7 @@ module _ (p : Program) (sound : IsSound p) (g : Procedure) (numbered : IsNumbere
       by_test : (o : Bool) → overlap g.sections x.section y.section ≡ o → ⊥
       by_test true e = free (record { writes = some_writes w; overlap = e })
       by_test false e =
-          names_apart g scope env numbered placed x.section y.section a.in_scope b.in_scope e (some_writable w) q h k
+          disjoint-apart (names_in g scope) env.windows numbered placed x.section y.section a.in_scope b.in_scope e (some_writable w) q h k
 
   -- sets of accesses that don't clash keep apart
   keep_apart : {sc : Scope} {scope : List ℕ} → Lists g sc scope → (xs ys : Access → Type 0)
@@ -57,7 +58,7 @@ module _ (p : Program) (sound : IsSound p) (g : Procedure) (numbered : IsNumbere
         (free t.access w.access t.among w.among) q t.place w.place;
   }
     where
-      placed : Placed g scope env
+      placed : Placed (names_in g scope) env.windows
       placed = fits_placed p g firsts ls env fits
 
   -- a call passes windows that fit
@@ -67,7 +68,7 @@ module _ (p : Program) (sound : IsSound p) (g : Procedure) (numbered : IsNumbere
   passes {scope = scope} ls f ss k env fits i j may lt ne =
       subst (λ v. Apart v (inner.windows j)) (sym (at_argument i inside_i))
       (subst (λ v. Apart (env.windows (past_call ss i)) v) (sym (at_argument j inside_j))
-      (names_apart g scope env numbered (fits_placed p g firsts ls env fits) (past_call ss i) (past_call ss j)
+      (disjoint-apart (names_in g scope) env.windows numbered (fits_placed p g firsts ls env fits) (past_call ss i) (past_call ss j)
       (k.in_scope i inside_i) (k.in_scope j inside_j) (k.alone i j ne inside_j w) (inl (k.writable i w))))
     where
       inner : Environment

@@ -1,15 +1,17 @@
 -- Over tables that are the least solution, the test for clashes is exact.
-use Rattle.std.proofs.Common.{◌≡◌, refl, sym, ap, ◌∙◌, true≢false}
-use Rattle.std.specs.Prelude.{Bool, true, false, ◌&&◌, ◌||◌, ◌↔◌}
+use Rattle.std.proofs.lemmas.Bool.{and_from}
+use Rattle.std.proofs.Common.{◌≡◌, refl, sym, ◌∙◌, true≢false}
+use Rattle.std.specs.Prelude.{Bool, true, false, ◌||◌, ◌↔◌}
+use Rattle.sections.specs.Overlap.{overlap}
+use Rattle.sections.proofs.Members.{any_member, member_any}
 use Rattle.types.specs.Code.{Procedure, Program}
 use Rattle.effects.specs.Effects.{accesses}
-use Rattle.effects.specs.Overlap.{overlap}
 use Rattle.effects.specs.Tables.{Table, IsDerived, IsDerivedPending, IsStable, IsStablePending}
+use Rattle.effects.proofs.Members.{both_true}
 use Rattle.parallel_relation.specs.Meetings.{met_in}
+use Rattle.parallel_relation.proofs.Meeting.{meetings_exact}
 use Rattle.race_checker.specs.Clash.{HasNoClash}
 use Rattle.race_checker.specs.Acceptance.{is_clash, has_clash}
-use Rattle.effects.proofs.Members.{any_member, member_any, both_true}
-use Rattle.parallel_relation.proofs.Meeting.{meetings_exact}
 
 module _ (p : Program) (alls pendings : Table accesses)
     (alls_derived : IsDerived p accesses alls) (alls_stable : IsStable p accesses alls)
@@ -19,17 +21,15 @@ module _ (p : Program) (alls pendings : Table accesses)
   clash_found g e x y h c =
       true≢false (sym (member_any (is_clash g.sections) (met_in accesses alls pendings g.body)
       ((meetings_exact p accesses alls pendings alls_derived alls_stable pendings_derived pendings_stable g.body x y).1 h)
-      (both c.writes c.overlap)) ∙ e)
-    where
-      both : {a b : Bool} → a ≡ true → b ≡ true → (a && b) ≡ true
-      both {b = b} f g = ap (λ a. a && b) f ∙ g
+      (and_from (x.write || y.write) (overlap g.sections x.section y.section) c.writes c.overlap)) ∙ e)
 
   clash_stands : (g : Procedure) → HasNoClash p g → (b : Bool) → has_clash alls pendings g ≡ b → b ≡ false
   clash_stands g free true e =
       let m = any_member (is_clash g.sections) (met_in accesses alls pendings g.body) e in
-      let c = both_true (m.0.0.write || m.0.1.write) (overlap g.sections m.0.0.section m.0.1.section) m.2 in
-      absurd (free m.0.0 m.0.1
-      ((meetings_exact p accesses alls pendings alls_derived alls_stable pendings_derived pendings_stable g.body m.0.0 m.0.1).0 m.1)
+      let c = both_true (m.item.0.write || m.item.1.write) (overlap g.sections m.item.0.section m.item.1.section) m.passes in
+      absurd (free m.item.0 m.item.1
+      ((meetings_exact p accesses alls pendings alls_derived alls_stable pendings_derived pendings_stable g.body
+      m.item.0 m.item.1).0 m.member)
       (record { writes = c.0; overlap = c.1 }))
   clash_stands g free false e = refl
 

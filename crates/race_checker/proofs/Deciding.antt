@@ -1,21 +1,17 @@
 -- Whether a sound program is accepted is computed.
-use Rattle.std.proofs.Common.{◌≡◌, ℕ, zero, suc, ◌+◌, ◌-◌, ◌<◌, ◌≤◌, length, refl, sym, ap, subst, arith, true≢false}
-use Rattle.std.proofs.lemmas.Bool.{ltb-true, ltb-false}
-use Rattle.std.specs.Prelude.{◌↔◌, Bool, true, false, not, ◌&&◌, nat_lt}
+use Rattle.std.proofs.Common.{◌≡◌, ℕ, zero, suc, ◌+◌, ◌-◌, ◌<◌, ◌≤◌, length, refl, sym, ap, subst, arith}
+use Rattle.std.proofs.lemmas.Bool.{and_from, ltb-true, ltb-false}
+use Rattle.std.specs.Prelude.{◌↔◌, Bool, true, false, not, nat_lt}
 use Rattle.types.specs.Code.{Procedure, Program}
 use Rattle.types.specs.Run.{procedure_of, no_procedure}
-use Rattle.race_checker.specs.Acceptance.{has_clash, accepts, accepts_below, is_accepted}
 use Rattle.effects.specs.Sound.{IsSound}
-use Rattle.race_checker.specs.Clash.{HasNoClash, IsAccepted}
-use Rattle.effects.proofs.Members.{both_true, not_true}
-use Rattle.race_checker.proofs.Clashing.{has_clash-exact}
 use Rattle.effects.specs.Rounds.{summaries, pending_summaries}
-use Rattle.effects.proofs.Rounding.{past_end, summaries_derived, pending_summaries_derived, summaries_stable}
-use Rattle.effects.proofs.Rounding.{pending_summaries_stable}
-
-and_true : (a b : Bool) → a ≡ true → b ≡ true → (a && b) ≡ true
-and_true true b e f = f
-and_true false b e f = absurd (true≢false (sym e))
+use Rattle.effects.proofs.Members.{both_true, not_true}
+use Rattle.effects.proofs.Summaries.{past_end, summaries_derived, pending_summaries_derived, summaries_stable}
+use Rattle.effects.proofs.Summaries.{pending_summaries_stable}
+use Rattle.race_checker.specs.Acceptance.{has_clash, accepts, accepts_below, is_accepted}
+use Rattle.race_checker.specs.Clash.{HasNoClash, IsAccepted}
+use Rattle.race_checker.proofs.Clashing.{has_clash-exact}
 
 module _ (p : Program) (sound : IsSound p) where
   exact : (g : Procedure) → (has_clash (summaries p) (pending_summaries p) g ≡ false) ↔ HasNoClash p g
@@ -58,7 +54,7 @@ module _ (p : Program) (sound : IsSound p) where
   below_free : ((f : ℕ) → HasNoClash p (procedure_of p f)) → (n : ℕ) → accepts_below p n ≡ true
   below_free h zero = refl
   below_free h (suc n) =
-      and_true (accepts p (procedure_of p n)) (accepts_below p n) (no_clash-accepts (procedure_of p n) (h n)) (below_free h n)
+      and_from (accepts p (procedure_of p n)) (accepts_below p n) (no_clash-accepts (procedure_of p n) (h n)) (below_free h n)
 
   tested : is_accepted p ≡ true → IsAccepted p
   tested h =
@@ -69,6 +65,6 @@ module _ (p : Program) (sound : IsSound p) where
   pub accepted_exact : (is_accepted p ≡ true) ↔ IsAccepted p
   accepted_exact = (
     tested,
-    λ a. and_true (accepts p p.main) (accepts_below p (length p.procedures)) (no_clash-accepts p.main a.main)
+    λ a. and_from (accepts p p.main) (accepts_below p (length p.procedures)) (no_clash-accepts p.main a.main)
         (below_free a.procedures (length p.procedures)),
   )

@@ -1,23 +1,25 @@
 -- Worked programs: their clashes, and three that are sound, of which two are accepted.
-use Rattle.std.proofs.Common.{◌≡◌, ◌≢◌, ℕ, zero, suc, ◌<◌, List, [], ◌∷◌, refl, sym, ◌∙◌, arith, true≢false}
+use Rattle.std.proofs.Common.{◌≡◌, ◌≢◌, ℕ, zero, suc, ◌+◌, ◌-◌, ◌<◌, List, [], ◌∷◌, refl, sym, ap, ◌∙◌, arith}
+use Rattle.std.proofs.Common.{true≢false}
 use Rattle.std.specs.Prelude.{Bool, true, false, filter, slice_get, Some}
-use Rattle.syntax.specs.declared.tree.ElementType.TheVariants.{Int}
-use Rattle.syntax.specs.declared.tree.Relation.TheVariants.{Less, Equal}
-use Rattle.types.specs.declared.code.Operator.TheVariants.{Plus, Times}
-use Rattle.types.specs.Code.{Scalar, Element, Length, Chain, Link, Done, Compare, Assign, Store, Print, Do, If, While, Split}
-use Rattle.sections.specs.Origins.{Origin, Root, Left, Right}
-use Rattle.types.specs.Code.{Call, Async, Finish, Codes, End, Then, Procedure, Program}
+use Rattle.syntax.specs.declared.tree.Relation.TheVariants.{Equal}
+use Rattle.sections.specs.Origins.{Origin, Root, Left, Right, origin_of, IsNumbered}
+use Rattle.sections.specs.Member.{Member, first, next}
+use Rattle.sections.specs.Overlap.{overlap}
+use Rattle.types.specs.declared.code.Operator.TheVariants.{Times}
+use Rattle.types.specs.Code.{Element, Length, Chain, Link, Done, Compare, Store, Print, Do, If, Call, Async, Finish}
+use Rattle.types.specs.Code.{Codes, End, Then, Procedure, Program}
 use Rattle.types.specs.Run.{procedure_of, no_procedure}
 use Rattle.types.proofs.Programs.{◌⨾◌, lit, ints, main_of as program_of, two_arrays, twice, doubling, two_readers}
-use Rattle.effects.specs.Member.{Member, first, next}
 use Rattle.effects.specs.Accesses.{Access}
 use Rattle.effects.specs.Effects.{past_call, accesses}
-use Rattle.effects.specs.Overlap.{origin_of, overlap, IsNumbered}
 use Rattle.effects.specs.Rounds.{summaries, pending_summaries}
 use Rattle.effects.specs.Sound.{may_write, is_writable, Allowed, SplitsWell, PassesWell, Follows, IsSoundIn, IsSound}
 use Rattle.effects.specs.Sound.{main_of}
-use Rattle.effects.proofs.Fitting.{root_left, root_right, left_right, one_left, one_right}
+use Rattle.effects.proofs.EnvironmentsFit.{root_left, root_right, left_right, one_left, one_right}
 use Rattle.parallel_relation.specs.Meetings.{met_in}
+use Rattle.parallel_relation.proofs.Programs.{unfinished, two_splits, split_in_loop, spawner, call_then_store}
+use Rattle.parallel_relation.proofs.Programs.{readers_and_writer, copying}
 use Rattle.race_checker.specs.Clash.{IsAccepted}
 use Rattle.race_checker.specs.Acceptance.{is_clash, is_accepted}
 use Rattle.race_checker.proofs.Deciding.{accepted_exact}
@@ -39,44 +41,11 @@ clashes p g =
 two_arrays_accepted : clashes two_arrays two_arrays.main ≡ []
 two_arrays_accepted = refl
 
--- async { a[0] = 7; } b[0] = 8; print a[0];
-abbrev unfinished : Program
-unfinished = program_of (ints 97 1 ∷ ints 98 1 ∷ []) 0 (Root ∷ Root ∷ []) (
-    (1, Async ((2, Do (Store 0 (lit 0) (lit 7))) ⨾ End)) ⨾ (3, Do (Store 1 (lit 0) (lit 8))) ⨾
-    (4, Do (Print (Element 0 (lit 0) ∷ []))) ⨾ End)
-
 unfinished_races : clashes unfinished unfinished.main ≡ (writes 2 0, reads 4 0) ∷ []
 unfinished_races = refl
 
--- sides of two splits of one section overlap
-abbrev two_splits : Program
-two_splits = program_of (ints 115 8 ∷ []) 0 (Root ∷ Left 0 ∷ Right 0 ∷ Left 0 ∷ Right 0 ∷ []) ((
-  1,
-  Finish ((
-    2,
-    Split 0 (lit 2) 1 2 ((
-      3,
-      Split 0 (lit 5) 3 4 (
-          (4, Async ((5, Do (Store 1 (lit 0) (lit 1))) ⨾ End)) ⨾ (6, Do (Store 3 (lit 0) (lit 2))) ⨾ End),
-    ) ⨾ End),
-  ) ⨾ End),
-) ⨾ End)
-
 two_splits_race : clashes two_splits two_splits.main ≡ (writes 5 1, writes 6 3) ∷ []
 two_splits_race = refl
-
--- while k < 2 { split s at k as l, r { async { l[0] = 1; } } k = k + 1; }
-abbrev split_in_loop : Program
-split_in_loop = program_of (ints 115 8 ∷ []) 1 (Root ∷ Left 0 ∷ Right 0 ∷ []) (
-    (1, Do (Assign 0 (lit 0))) ⨾ (
-      2,
-      Finish ((
-        3,
-        While (Compare Less (Scalar 0) (lit 2)) (
-            (4, Split 0 (Scalar 0) 1 2 ((5, Async ((6, Do (Store 1 (lit 0) (lit 1))) ⨾ End)) ⨾ End)) ⨾
-            (7, Do (Assign 0 (Chain (Scalar 0) (Link Plus (lit 1) Done)))) ⨾ End),
-      ) ⨾ End),
-    ) ⨾ End)
 
 split_in_loop_races : clashes split_in_loop split_in_loop.main ≡ (writes 6 0, writes 6 0) ∷ []
 split_in_loop_races = refl
@@ -84,67 +53,14 @@ split_in_loop_races = refl
 two_readers_accepted : clashes two_readers two_readers.main ≡ []
 two_readers_accepted = refl
 
--- proc g(mut s: int) { async { s[0] = 1; } } main { finish { g(a); a[0] = 2; } }
-abbrev spawner : Procedure
-spawner = record {
-  parameters = record { may_write = true; element = Int } ∷ [];
-  scalars = 0;
-  slots = 0;
-  sections = Root ∷ [];
-  body = (1, Async ((2, Do (Store 0 (lit 0) (lit 1))) ⨾ End)) ⨾ End;
-}
-
-abbrev call_then_store : Program
-call_then_store = record {
-  arrays = ints 97 1 ∷ [];
-  procedures = spawner ∷ [];
-  main = record {
-    parameters = [];
-    scalars = 0;
-    slots = 0;
-    sections = Root ∷ [];
-    body = (3, Finish ((4, Call 0 [] (0 ∷ [])) ⨾ (5, Do (Store 0 (lit 0) (lit 2))) ⨾ End)) ⨾ End;
-  };
-}
-
 call_then_store_races : clashes call_then_store call_then_store.main ≡ (writes 2 0, writes 5 0) ∷ []
 call_then_store_races = refl
 
 spawner_accepted : clashes call_then_store spawner ≡ []
 spawner_accepted = refl
 
--- two_readers with `a[0] = 1;` in place of `print a[0];`
-abbrev readers_and_writer : Program
-readers_and_writer = program_of (ints 97 1 ∷ ints 98 1 ∷ ints 99 1 ∷ []) 0 (Root ∷ Root ∷ Root ∷ []) ((
-  1,
-  Finish (
-      (2, Async ((3, Do (Store 1 (lit 0) (Element 0 (lit 0)))) ⨾ End)) ⨾
-      (4, Async ((5, Do (Store 2 (lit 0) (Element 0 (lit 0)))) ⨾ End)) ⨾
-      (6, Do (Store 0 (lit 0) (lit 1))) ⨾ End),
-) ⨾ End)
-
 readers_and_writer_race : clashes readers_and_writer readers_and_writer.main ≡ (reads 3 0, writes 6 0) ∷ (reads 5 0, writes 6 0) ∷ []
 readers_and_writer_race = refl
-
--- proc f(mut s: int, read t: int) { s[0] = t[0]; } main { split a at 1 as l, r { f(l, r); } }, and f(a, a) overlaps
-abbrev copying : Program
-copying = record {
-  arrays = ints 97 2 ∷ [];
-  procedures = record {
-    parameters = record { may_write = true; element = Int } ∷ record { may_write = false; element = Int } ∷ [];
-    scalars = 0;
-    slots = 0;
-    sections = Root ∷ Root ∷ [];
-    body = (1, Do (Store 0 (lit 0) (Element 1 (lit 0)))) ⨾ End;
-  } ∷ [];
-  main = record {
-    parameters = [];
-    scalars = 0;
-    slots = 0;
-    sections = Root ∷ Left 0 ∷ Right 0 ∷ [];
-    body = (2, Split 0 (lit 1) 1 2 ((3, Call 0 [] (1 ∷ 2 ∷ [])) ⨾ End)) ⨾ End;
-  };
-}
 
 copying_accepted : clashes copying copying.main ≡ []
 copying_accepted = refl
@@ -161,7 +77,7 @@ doubling_clashes = refl
 -- The doubling program is sound
 
 numbered_sides : IsNumbered twice.sections
-numbered_sides = record { left = left_later; right = right_later }
+numbered_sides = record { left = left_later; right = right_later; right_behind = right_behind; left_before = left_before }
   where
     left_later : (a s : ℕ) → origin_of twice.sections a ≡ Left s → s < a
     left_later zero s e = root_left refl e
@@ -175,8 +91,25 @@ numbered_sides = record { left = left_later; right = right_later }
     right_later (suc (suc zero)) s e = let h : 0 ≡ s = one_right refl e in omega arith
     right_later (suc (suc (suc n))) s e = root_right refl e
 
+    right_behind : (a s : ℕ) → origin_of twice.sections a ≡ Left s → origin_of twice.sections (a + 1) ≡ Right s
+    right_behind zero s e = root_left refl e
+    right_behind (suc zero) s e = ap Right (one_left refl e)
+    right_behind (suc (suc zero)) s e = left_right e refl
+    right_behind (suc (suc (suc n))) s e = root_left refl e
+
+    left_before : (a s : ℕ) → origin_of twice.sections a ≡ Right s → origin_of twice.sections (a - 1) ≡ Left s
+    left_before zero s e = root_right refl e
+    left_before (suc zero) s e = left_right refl e
+    left_before (suc (suc zero)) s e = ap Left (one_right refl e)
+    left_before (suc (suc (suc n))) s e = root_right refl e
+
 pub numbered_roots : (origins : List Origin) → ((a : ℕ) → origin_of origins a ≡ Root) → IsNumbered origins
-numbered_roots origins root = record { left = λ a s e. root_left (root a) e; right = λ a s e. root_right (root a) e }
+numbered_roots origins root = record {
+  left = λ a s e. root_left (root a) e;
+  right = λ a s e. root_right (root a) e;
+  right_behind = λ a s e. root_left (root a) e;
+  left_before = λ a s e. root_right (root a) e;
+}
 
 one_root : (a : ℕ) → origin_of (Root ∷ []) a ≡ Root
 one_root zero = refl
@@ -256,7 +189,7 @@ first_root origins (suc k) h = absurd (omega arith)
 pub missing_sound : (p : Program) → IsSoundIn p (no_procedure)
 missing_sound p = record {
   first = λ k h. absurd (omega arith);
-  numbered = record { left = λ a s e. root_left refl e; right = λ a s e. root_right refl e };
+  numbered = numbered_roots [] (λ a. refl);
   body = tt;
 }
 

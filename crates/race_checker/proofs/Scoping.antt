@@ -1,25 +1,23 @@
 -- A sound program names what is in scope, and environments that fit its scopes stand as the origins say.
-use Rattle.std.proofs.Common.{◌≡◌, ◌≢◌, ℕ, zero, suc, ◌+◌, ◌<◌, List, [], ◌∷◌, length, refl, sym, ap, ◌∙◌, subst, inl, inr, arith}
+use Rattle.std.proofs.Common.{◌≡◌, ℕ, zero, suc, ◌+◌, ◌<◌, List, [], ◌∷◌, length, refl, sym, ap, ◌∙◌, subst, inl, inr}
+use Rattle.std.proofs.Common.{arith}
 use Rattle.std.specs.Prelude.{Bool, true, false, map, slice_index_or, slice_get, Some}
-use Rattle.sections.specs.Origins.{Root, Left, Right}
+use Rattle.sections.specs.Origins.{Root, origin_of}
+use Rattle.sections.specs.Member.{Member, first, next}
+use Rattle.sections.specs.Placed.{Placed}
 use Rattle.types.specs.Code.{Code, Do, If, While, Split, Call, Async, Finish, Codes, End, Then, Array, Parameter}
 use Rattle.types.specs.Code.{Procedure, Program}
-use Rattle.sections.specs.Place.{nowhere, sides_of}
 use Rattle.types.specs.Value.{Environment}
-use Rattle.types.specs.Run.{entry, procedure_of}
-use Rattle.effects.specs.Accesses.{Access}
-use Rattle.effects.specs.Member.{Member, first, next}
-use Rattle.effects.specs.Effects.{past_call, AllOf, All, PendingOf, accesses}
-use Rattle.effects.specs.Overlap.{origin_of, IsNumbered}
-use Rattle.effects.specs.Sound.{may_write, no_parameter, as_parameter, main_of, numbers_from}
-use Rattle.effects.specs.Sound.{parameters_of, SplitsWell, PassesWell, FollowsOf, Follows, IsSound}
-use Rattle.effects.specs.Fits.{Apart, AreSidesOf, HasLeft, Placed}
+use Rattle.types.specs.Run.{procedure_of}
+use Rattle.effects.specs.Effects.{past_call}
+use Rattle.effects.specs.Sound.{no_parameter, as_parameter, main_of, numbers_from, parameters_of, FollowsOf, Follows}
+use Rattle.effects.specs.Sound.{IsSound}
+use Rattle.effects.specs.Fits.{names_in}
 use Rattle.effects.proofs.Members.{numbers_from-below, false_true}
-use Rattle.effects.proofs.Scopes.{origin_from_get}
-use Rattle.effects.proofs.Windows.{names_apart}
-use Rattle.effects.proofs.Fitting.{root_left, root_right, left_right, one_left, one_right, by_number-map}
-use Rattle.race_checker.specs.Scope.{Scope, Top, Inside, InScope, FitsScope, FitsTop, may_writes, arrays_of, Scoped}
-use Rattle.race_checker.specs.Scope.{ScopedOf, IsScoped, Lists, top, inside}
+use Rattle.effects.proofs.AccessesInScope.{origin_from_get}
+use Rattle.effects.proofs.EnvironmentsFit.{root_left, root_right, placed_inside}
+use Rattle.race_checker.specs.Scope.{Scope, Top, InScope, FitsScope, may_writes, arrays_of, Scoped, ScopedOf}
+use Rattle.race_checker.specs.Scope.{IsScoped, Lists, top, inside}
 
 numbers_from-has : (a n k s : ℕ) → k < n → s ≡ a + k → Member s (numbers_from a n)
 numbers_from-has a zero k s h e = absurd (omega (arith, h))
@@ -63,58 +61,16 @@ module _ (p : Program) (g : Procedure) where
     is_root : (k : ℕ) → Member k (parameters_of g) → origin_of g.sections k ≡ Root
     is_root k m = origin_from_get g.sections k (firsts k (numbers_from-below (length g.parameters) k m))
 
-    -- a split around
-    placed_inside : (sc : Scope) {scope : List ℕ} (t a b : ℕ) → SplitsWell g scope t a b → (env : Environment)
-        → FitsScope (Inside t a b sc) env
-        → Placed g scope env → Placed g (a ∷ b ∷ scope) env
-    placed_inside sc {scope = scope} t a b k env fits outer = record { apart = apart; left = left; right = right }
-      where
-        old_root : (x : ℕ) → Member x (a ∷ b ∷ scope) → origin_of g.sections x ≡ Root → Member x scope
-        old_root x first e = root_left e k.left
-        old_root x (next first) e = root_right e k.right
-        old_root x (next (next m)) e = m
-
-        apart : (r s : ℕ) → r ≢ s → Member r (a ∷ b ∷ scope) → Member s (a ∷ b ∷ scope) → origin_of g.sections r ≡ Root
-            → origin_of g.sections s ≡ Root → may_write g.parameters r ≡ true → Apart (env.windows r) (env.windows s)
-        apart r s ne m n e f w = outer.apart r s ne (old_root r m e) (old_root s n f) e f w
-
-        sides : AreSidesOf g (a ∷ b ∷ scope) env t a
-        sides = record {
-          parent = next (next k.in_scope);
-          right = subst (λ x. Member x (a ∷ b ∷ scope)) k.next (next first);
-          right_origin = subst (λ x. origin_of g.sections x ≡ Right t) k.next k.right;
-          at = fits.2.0;
-          cut = subst (λ x. sides_of (env.windows t) fits.2.0 ≡ Some (env.windows a, env.windows x)) k.next fits.2.1;
-        }
-
-        left : (s l : ℕ) → Member l (a ∷ b ∷ scope) → origin_of g.sections l ≡ Left s → AreSidesOf g (a ∷ b ∷ scope) env s l
-        left s l first e = subst (λ t. AreSidesOf g (a ∷ b ∷ scope) env t a) (one_left k.left e) sides
-        left s l (next first) e = left_right e k.right
-        left s l (next (next m)) e =
-            let o = outer.left s l m e in
-            record { parent = next (next o.parent); right = next (next o.right); right_origin = o.right_origin; at = o.at; cut = o.cut }
-
-        right : (s r : ℕ) → Member r (a ∷ b ∷ scope) → origin_of g.sections r ≡ Right s → HasLeft g (a ∷ b ∷ scope) s r
-        right s r first e = left_right k.left e
-        right s r (next first) e = record {
-          left = a;
-          next = k.next;
-          in_scope = first;
-          origin = subst (λ t. origin_of g.sections a ≡ Left t) (one_right k.right e) k.left;
-        }
-        right s r (next (next m)) e =
-            let o = outer.right s r m e in
-            record { left = o.left; next = o.next; in_scope = next (next o.in_scope); origin = o.origin }
-
     -- windows that fit a scope stand as the origins say
-    pub fits_placed : {sc : Scope} {scope : List ℕ} → Lists g sc scope → (env : Environment) → FitsScope sc env → Placed g scope env
+    pub fits_placed : {sc : Scope} {scope : List ℕ} → Lists g sc scope → (env : Environment) → FitsScope sc env
+        → Placed (names_in g scope) env.windows
     fits_placed top env fits = record {
       apart = λ r s ne m n e f w. fits r s (bits g.parameters r ∙ w) (in_scope top s n) ne;
       left = λ s l m e. root_left (is_root l m) e;
       right = λ s r m e. root_right (is_root r m) e;
     }
-    fits_placed (inside {sc = sc} {s = t} {l = a} {r = b} k deeper) env fits =
-        placed_inside sc t a b k env fits (fits_placed deeper env fits.0)
+    fits_placed (inside {s = t} {l = a} {r = b} k deeper) env fits =
+        placed_inside g _ env t a b k fits.2.0 fits.2.1 (fits_placed deeper env fits.0)
 
     -- ---- names in scope
     mutual

@@ -2,11 +2,11 @@
 use Rattle.std.specs.Prelude.{ℕ, zero, suc, List, length, Bool, true, not, ◌&&◌, ◌||◌}
 use Rattle.std.specs.List.{list_any}
 use Rattle.sections.specs.Origins.{Origin}
+use Rattle.sections.specs.Overlap.{overlap}
 use Rattle.types.specs.Code.{Procedure, Program}
 use Rattle.types.specs.Run.{procedure_of}
 use Rattle.effects.specs.Accesses.{Access}
 use Rattle.effects.specs.Effects.{accesses}
-use Rattle.effects.specs.Overlap.{overlap}
 use Rattle.effects.specs.Tables.{Table}
 use Rattle.effects.specs.Rounds.{summaries, pending_summaries}
 use Rattle.parallel_relation.specs.Meetings.{met_in}

@@ -1,11 +1,11 @@
 -- Which pairs of accesses clash, and which programs are accepted.
 use Rattle.std.specs.Prelude.{ℕ, ◌≡◌, List, true, ◌||◌}
 use Rattle.sections.specs.Origins.{Origin}
+use Rattle.sections.specs.Overlap.{overlap}
 use Rattle.types.specs.Code.{Procedure, Program}
 use Rattle.types.specs.Run.{procedure_of}
 use Rattle.effects.specs.Accesses.{Access}
 use Rattle.effects.specs.Effects.{accesses}
-use Rattle.effects.specs.Overlap.{overlap}
 use Rattle.parallel_relation.specs.Together.{Together}
 
 -- one of two accesses writes, and their sections may share a place

@@ -1,16 +1,16 @@
 -- Sections in scope, the environments that fit them, and programs that name only what is in scope.
 use Rattle.std.specs.Prelude.{ℕ, ◌≡◌, ◌≢◌, ◌<◌, ◌⊎◌, ℤ, List, ◌∷◌, map, length, slice_index_or}
 use Rattle.std.specs.Prelude.{Some, Bool, true, false}
+use Rattle.sections.specs.Place.{sides_of}
+use Rattle.sections.specs.Member.{Member}
+use Rattle.sections.specs.Placed.{Apart}
 use Rattle.types.specs.Code.{Code, Do, If, While, Split, Call, Async, Finish, Codes, End, Then}
 use Rattle.types.specs.Code.{Procedure, Program}
-use Rattle.sections.specs.Place.{sides_of}
 use Rattle.types.specs.Value.{Environment}
 use Rattle.types.specs.Run.{procedure_of}
-use Rattle.effects.specs.Member.{Member}
 use Rattle.effects.specs.Accesses.{Access, own_accesses}
 use Rattle.effects.specs.Effects.{past_call}
 use Rattle.effects.specs.Sound.{SplitsWell, parameters_of}
-use Rattle.effects.specs.Fits.{Apart}
 
 -- the sections in scope: those of the procedure's beginning, written or not, and sides of splits
 pub data Scope : Type 0 where
@@ -35,10 +35,11 @@ FitsScope (Inside s l r around) env =
     FitsScope around env × InScope around s
     × ((at : ℤ) × (sides_of (env.windows s) at ≡ Some (env.windows l, env.windows r)))
 
--- which of a procedure's section parameters may be written, and of `main`'s arrays
+-- which of a procedure's section parameters may be written
 abbrev pub may_writes : Procedure → List Bool
 may_writes g = map (λ x. x.may_write) g.parameters
 
+-- all of `main`'s arrays may be written
 abbrev pub arrays_of : Program → List Bool
 arrays_of p = map (λ x. true) p.arrays
 

@@ -1,13 +1,14 @@
 //! Laws of the definitions, each the contract of a function that does nothing.
 
 ghost use Rattle.std.specs.Prelude.{◌≡◌, ◌↔◌, ℕ, List, true, false};
+ghost use Rattle.sections.specs.Placed.{Placed};
 ghost use Rattle.types.specs.Code.{Procedure, Program};
 ghost use Rattle.types.specs.Value.{Environment};
 ghost use Rattle.effects.specs.Effects.{accesses};
 ghost use Rattle.effects.specs.Tables.{Table, IsDerived, IsStable, IsDerivedPending};
 ghost use Rattle.effects.specs.Tables.{IsStablePending};
 ghost use Rattle.effects.specs.Sound.{IsSound, IsSoundIn};
-ghost use Rattle.effects.specs.Fits.{Placed};
+ghost use Rattle.effects.specs.Fits.{names_in};
 ghost use Rattle.race_checker.specs.Clash.{HasNoClash, IsAccepted};
 ghost use Rattle.race_checker.specs.Acceptance.{has_clash, is_accepted};
 ghost use Rattle.race_checker.specs.Scope.{Scope, FitsScope, Lists, IsScoped};
@@ -27,7 +28,7 @@ pub fn acceptance_is_decided()
 pub fn scopes_stand_as_origins_say()
     ensures { (p : Program) (g : Procedure) → IsSoundIn p g
         → (sc : Scope) (scope : List ℕ) → Lists g sc scope
-        → (env : Environment) → FitsScope sc env → Placed g scope env }
+        → (env : Environment) → FitsScope sc env → Placed (names_in g scope) env.windows }
 {}
 
 /// A sound program names only what is in scope.

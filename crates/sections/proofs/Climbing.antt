@@ -1,11 +1,12 @@
 -- One step of the walk up: from the section with the larger number to its parent.
-use Rattle.std.proofs.Common.{◌≡◌, ℕ, ◌+◌, ◌-◌, ◌<◌, ◌≤◌, List, inl, inr, refl, sym, ap, ◌∙◌, subst, arith}
+use Rattle.std.proofs.Common.{◌≡◌, ℕ, ◌+◌, ◌-◌, ◌<◌, ◌≤◌, List, inl, inr, sym, ap, ◌∙◌, subst, arith}
 use Rattle.std.proofs.lemmas.Bool.{false_from_ne_true, or_left, cases_lt}
 use Rattle.std.proofs.Common.{min, max}
 use Rattle.std.specs.Prelude.{true, false}
 use Rattle.sections.specs.Origins.{Origin, Root, Left, Right, origin_of, IsNumbered, left, right}
 use Rattle.sections.specs.Overlap.{are_sides, are_opposite, overlap}
-use Rattle.sections.proofs.Overlapping.{opposite_cases, opposite-disjoint, are_sides-from, root-disjoint, overlap-walks, overlap-sym, overlap-self}
+use Rattle.sections.proofs.Overlapping.{opposite_cases, opposite-disjoint, are_sides-from, root-disjoint}
+use Rattle.sections.proofs.Overlapping.{overlap-walks, overlap-sym, overlap-self}
 
 module _ (origins : List Origin) (numbered : IsNumbered origins) (low high : ℕ) (order : low < high) where
   pub above_root : origin_of origins high ≡ Root → overlap origins low high ≡ false

@@ -1,5 +1,5 @@
 -- Lines from a section up to its root.
-use Rattle.std.proofs.Common.{◌≡◌, ◌⊎◌, inl, inr, ℕ, zero, suc, ◌+◌, ◌<◌, ◌≤◌, List, [], ◌∷◌, refl, sym, ap, ◌∙◌, subst, arith}
+use Rattle.std.proofs.Common.{◌≡◌, ◌⊎◌, inl, inr, ℕ, zero, suc, ◌<◌, ◌≤◌, List, [], refl, sym, ap, ◌∙◌, subst, arith}
 use Rattle.std.proofs.Common.{le_refl}
 use Rattle.sections.specs.Member.{Member, first, next}
 use Rattle.sections.specs.Origins.{Origin, Root, Left, Right, origin_of, IsNumbered, IsSideOf, left, right}

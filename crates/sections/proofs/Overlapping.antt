@@ -1,6 +1,6 @@
 -- The laws of overlap.
-use Rattle.std.proofs.Common.{◌≡◌, ◌≢◌, ◌⊎◌, inl, inr, ℕ, ◌+◌, ◌<◌, ◌≤◌, List, refl, sym, ap, ◌∙◌, subst, arith, true≢false}
-use Rattle.std.proofs.lemmas.Bool.{eqb-true, eqb-false, eq-eqb, ne_eqb, and_parts, and_from, or_cases, or_left, or_right, or_from}
+use Rattle.std.proofs.Common.{◌≡◌, ◌≢◌, ◌⊎◌, inl, inr, ℕ, ◌+◌, ◌-◌, ◌<◌, ◌≤◌, List, refl, sym, ap, ◌∙◌, subst, arith, true≢false}
+use Rattle.std.proofs.lemmas.Bool.{eqb-true, eqb-false, eq-eqb, ne_eqb, and_parts, and_from, or_cases, or_left, or_right}
 use Rattle.std.proofs.lemmas.Bool.{not-true, not-false, not_from_false, false_from_ne_true, false≢true, cases_order}
 use Rattle.std.specs.Prelude.{Bool, true, false, ◌||◌, not, nat_eq}
 use Rattle.std.specs.List.{list_any}
@@ -8,7 +8,7 @@ use Rattle.sections.specs.Member.{Member}
 use Rattle.sections.specs.Origins.{Origin, Root, Left, Right, origin_of, IsNumbered, IsSideOf, left, right}
 use Rattle.sections.specs.Overlap.{one_parent, line, root_of, are_sides, are_opposite, under_opposite, are_disjoint, overlap}
 use Rattle.sections.proofs.Members.{same_truth, any_member, member_any}
-use Rattle.sections.proofs.Lines.{in_own_line, line-below, root_in_line, root_of-root, root-below, parent_below, up_line, line-side}
+use Rattle.sections.proofs.Lines.{in_own_line, line-below, root_of-root, root-below, parent_below, up_line, line-side}
 use Rattle.sections.proofs.Lines.{root_of-side, line_cases}
 
 nat_eq-sym : (a b : ℕ) → nat_eq a b ≡ nat_eq b a
@@ -44,7 +44,8 @@ module _ (origins : List Origin) where
   -- what disjoint sections are
   pub disjoint_cases : (a b : ℕ) → overlap origins a b ≡ false → (root_of origins a ≢ root_of origins b) ⊎ Under a b
   disjoint_cases a b h =
-      elim (or_cases (not (nat_eq (root_of origins a) (root_of origins b))) (under_opposite origins a b) (not-false (are_disjoint origins a b) h)) [
+      elim (or_cases (not (nat_eq (root_of origins a) (root_of origins b))) (under_opposite origins a b)
+      (not-false (are_disjoint origins a b) h)) [
         | inl k ↦ inl (eqb-false (root_of origins a) (root_of origins b) (not-true (nat_eq (root_of origins a) (root_of origins b)) k))
         | inr k ↦ inr (under a b k)
       ]
@@ -142,12 +143,32 @@ module _ (origins : List Origin) where
   right_parent a s t e (right f) = cc
 
   module _ (numbered : IsNumbered origins) where
+    -- each side has the other one of its split next to it
+    pub left_has_right : (l s : ℕ) → origin_of origins l ≡ Left s → are_sides origins l (l + 1) ≡ true
+    left_has_right l s e = are_sides-from l (l + 1) (record {
+      turn = refl;
+      parent = s;
+      left_of = e;
+      right_of = numbered.right_behind l s e;
+    })
+
+    pub right_has_left : (r s : ℕ) → origin_of origins r ≡ Right s → are_sides origins (r - 1) r ≡ true
+    right_has_left r s e = are_sides-from (r - 1) r (record {
+      turn = let below : s < r = numbered.right r s e in omega (arith, below);
+      parent = s;
+      left_of = numbered.left_before r s e;
+      right_of = e;
+    })
+
     -- no two sides of one split stand in one line
     sides_part : (l r a : ℕ) → Sides l r → Member l (line origins a) → Member r (line origins a) → ⊥
     sides_part l r a s h k =
         let same : l ≡ r =
         line_cases origins numbered a l r a h k
-        (λ t side low. (let below : t < l = parent_below origins numbered t l side in let n : r ≡ l + 1 = s.turn in omega (arith, below, low, n)))
+        (λ t side low.
+        (let below : t < l = parent_below origins numbered t l side in
+        let n : r ≡ l + 1 = s.turn in
+        omega (arith, below, low, n)))
         (λ t side low.
         (let parent : s.parent ≡ t = right_parent r s.parent t s.right_of side in
         let below : s.parent < l = numbered.left l s.parent s.left_of in

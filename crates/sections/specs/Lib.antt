@@ -1,4 +1,5 @@
 pub mod Covers
+pub mod Cutting
 pub mod Joining
 pub mod Member
 pub mod Origins

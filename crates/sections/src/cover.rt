@@ -1,8 +1,9 @@
 //! Lists of windows as sets of places.
 
-ghost use Rattle.std.specs.Prelude.{◌≡◌, ◌∷◌, IfOk, map, true};
+ghost use Rattle.std.specs.Prelude.{◌≡◌, ◌∷◌, ◌++◌, IfOk, OnOk, map, true, ◌&&◌, not};
 ghost use Rattle.std.specs.List.{filter};
 ghost use Rattle.sections.specs.Covers.{has, has_places, is_cover};
+ghost use Rattle.sections.specs.Cutting.{unless_empty};
 ghost use Rattle.sections.specs.Joining.{is_ascending};
 ghost use Rattle.sections.specs.Place.{Place as PlaceOf};
 ghost use Rattle.sections.specs.Translation.{window as window_of};
@@ -10,8 +11,8 @@ ghost use Rattle.sections.specs.Translation.{window as window_of};
 use crate::window::Window;
 use std::alloc::{AllocError, Global};
 
-/// The places of some windows, in whatever order, as the one list of windows in ascending order, none
-/// empty and none touching another.
+/// The places of some windows, which stand in any order, as windows in ascending order, none empty
+/// and none touching another.
 pub fn cover(alloc: Global, windows: &[Window]) -> Result<Vec<Window>, AllocError>
     ensures places { IfOk result (λ c. (q : PlaceOf)
         → has (map window_of c.items) q ≡ has (map window_of windows.now) q) }
@@ -23,6 +24,17 @@ pub fn cover(alloc: Global, windows: &[Window]) -> Result<Vec<Window>, AllocErro
         [] => Ok(Vec::new(alloc)),
         [first, rest @ ..] => join(alloc, *first, rest),
     }
+}
+
+/// The places of some windows that aren't places of others, as a cover.
+pub fn less(alloc: Global, windows: &[Window], others: &[Window]) -> Result<Vec<Window>, AllocError>
+    ensures places { IfOk result (λ c. (q : PlaceOf) → has (map window_of c.items) q
+        ≡ (has (map window_of windows.now) q && not (has (map window_of others.now) q))) }
+    ensures form { IfOk result (λ c. is_cover (map window_of c.items) ≡ true) }
+{
+    let kept = cover(alloc, windows)?;
+    let gone = cover(alloc, others)?;
+    cut(alloc, &kept, &gone)
 }
 
 /// The windows that have a place.
@@ -51,4 +63,41 @@ fn join(alloc: Global, first: Window, rest: &[Window]) -> Result<Vec<Window>, Al
     }
     cover.push(last)?;
     Ok(cover)
+}
+
+/// The places of one cover that aren't places of another one, as a cover. Each window is met once.
+fn cut(alloc: Global, kept: &[Window], gone: &[Window]) -> Result<Vec<Window>, AllocError>
+    requires kept { is_cover (map window_of kept.now) ≡ true }
+    requires gone { is_cover (map window_of gone.now) ≡ true }
+    ensures places { IfOk result (λ c. (q : PlaceOf) → has (map window_of c.items) q
+        ≡ (has (map window_of kept.now) q && not (has (map window_of gone.now) q))) }
+    ensures form { IfOk result (λ c. is_cover (map window_of c.items) ≡ true) }
+{
+    let mut left = Vec::new(alloc);
+    let mut next = 0;
+    'windows: for window in kept {
+        let mut rest = *window;
+        'cuts: while next < gone.len() && gone[next].ends_no_later(rest) {
+            let taken = gone[next];
+            add(&mut left, rest.before(taken))?;
+            rest = rest.behind(taken);
+            next += 1;
+        }
+        if next < gone.len() {
+            rest = rest.before(gone[next]);
+        }
+        add(&mut left, rest)?;
+    }
+    Ok(left)
+}
+
+/// Adds a window, unless it is empty.
+fn add(windows: &mut Vec<Window>, window: Window) -> Result<(), AllocError>
+    ensures { OnOk result (map window_of windows.new.items
+        ≡ map window_of windows.old.items ++ unless_empty (window_of window)) }
+{
+    if window.len > 0 {
+        windows.push(window)?;
+    }
+    Ok(())
 }

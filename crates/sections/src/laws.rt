@@ -1,10 +1,11 @@
 //! Laws of sections, each the contract of a function that does nothing.
 
-ghost use Rattle.std.specs.Prelude.{◌≡◌, ◌⊎◌, ℕ, List, true, false};
+ghost use Rattle.std.specs.Prelude.{◌≡◌, ◌⊎◌, ◌↔◌, ◌+◌, ◌-◌, ℕ, List, true, false};
+ghost use Rattle.sections.specs.Covers.{is_in, has, is_cover};
 ghost use Rattle.sections.specs.Member.{Member};
-ghost use Rattle.sections.specs.Origins.{Origin, IsNumbered, IsSideOf};
+ghost use Rattle.sections.specs.Origins.{Origin, Left, Right, origin_of, IsNumbered, IsSideOf};
 ghost use Rattle.sections.specs.Overlap.{overlap, root_of, are_sides, are_opposite};
-ghost use Rattle.sections.specs.Place.{Window};
+ghost use Rattle.sections.specs.Place.{Place, Window, In};
 ghost use Rattle.sections.specs.Placed.{Apart, Names, Placed};
 
 /// Overlap has no order, and a section overlaps itself and its sides.
@@ -17,8 +18,16 @@ pub fn overlap_is_near()
         → IsSideOf origins s a → overlap origins s a ≡ true }
 {}
 
-/// The two sides of one split are disjoint, and what is disjoint from a section is disjoint from its
-/// sides. Sides of two different splits of one section overlap.
+/// Next to each side stands the other one of its split.
+pub fn sides_stand_together()
+    ensures left { (origins : List Origin) → IsNumbered origins → (l s : ℕ)
+        → origin_of origins l ≡ Left s → are_sides origins l (l + 1) ≡ true }
+    ensures right { (origins : List Origin) → IsNumbered origins → (r s : ℕ)
+        → origin_of origins r ≡ Right s → are_sides origins (r - 1) r ≡ true }
+{}
+
+/// The two sides of one split are disjoint, and what is disjoint from a section is disjoint from
+/// its sides. Sides of two different splits of one section overlap.
 pub fn overlap_follows_the_splits()
     ensures sides { (origins : List Origin) (l r : ℕ)
         → are_sides origins l r ≡ true → overlap origins l r ≡ false }
@@ -29,8 +38,8 @@ pub fn overlap_follows_the_splits()
         → overlap origins a b ≡ true }
 {}
 
-/// Where the windows of sections stand as the origins say, disjoint sections share no place, if one of
-/// them may be written.
+/// Where the windows of sections stand as the origins say, disjoint sections share no place, if one
+/// of them may be written.
 pub fn disjoint_sections_share_no_place()
     ensures { (names : Names) (windows : ℕ → Window)
         → IsNumbered names.origins → Placed names windows
@@ -39,4 +48,11 @@ pub fn disjoint_sections_share_no_place()
         → (names.may_write (root_of names.origins a) ≡ true)
         ⊎ (names.may_write (root_of names.origins b) ≡ true)
         → Apart (windows a) (windows b) }
+{}
+
+/// A set of places has one cover, so `cover` and `less` have no choice.
+pub fn covers_are_unique()
+    ensures tested { (w : Window) (q : Place) → (is_in w q ≡ true) ↔ In w q }
+    ensures unique { (vs ws : List Window) → is_cover vs ≡ true → is_cover ws ≡ true
+        → ((q : Place) → has vs q ≡ has ws q) → vs ≡ ws }
 {}

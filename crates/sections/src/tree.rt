@@ -73,8 +73,8 @@ impl SectionTree {
         Ok((left, right))
     }
 
-    /// Whether two sections may share a place: walks up from the one with the larger number until both
-    /// are one, or are disjoint at sight. It takes no memory.
+    /// Whether two sections may share a place: walks up from the one with the larger number until
+    /// both are one, or are disjoint at sight. It takes no memory.
     pub fn overlap(&self, a: SectionId, b: SectionId) -> bool
         requires first { a.number < length (origins_of self.now) }
         requires second { b.number < length (origins_of self.now) }
@@ -96,8 +96,8 @@ impl SectionTree {
         true
     }
 
-    /// The parent of the section with the larger number. None where the two are disjoint at sight: that
-    /// one is a root, or the right side next to its left one.
+    /// The parent of the section with the larger number. None where the two are disjoint at sight:
+    /// that one is a root, or the right side next to its left one.
     fn above(&self, low: usize, high: usize) -> Option<usize>
         requires order { low < high }
         requires there { high < length (origins_of self.now) }

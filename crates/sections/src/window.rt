@@ -25,6 +25,8 @@ pub struct Place {
 }
 
 impl Window {
+    ghost use Rattle.sections.specs.Cutting.{ends_no_later as ends_no_later_as};
+    ghost use Rattle.sections.specs.Cutting.{before as before_as, behind as behind_as};
     ghost use Rattle.sections.specs.Joining.{end_of, meets as meets_as, joined as joined_as};
     ghost use Rattle.sections.specs.Place.{place_in};
     ghost use Rattle.sections.specs.Translation.{place as place_of, window as window_of};
@@ -111,6 +113,46 @@ impl Window {
             array: self.array,
             at: self.at,
             len: end - self.at,
+        }
+    }
+
+    /// Whether this window ends before another one does, or where it does.
+    pub(crate) fn ends_no_later(self, other: Window) -> bool
+        ensures { result ≡ ends_no_later_as (window_of self) (window_of other) }
+    {
+        self.array < other.array || (self.array == other.array && self.end() <= other.end())
+    }
+
+    /// The places before another window begins.
+    pub(crate) fn before(self, other: Window) -> Window
+        ensures { window_of result ≡ before_as (window_of self) (window_of other) }
+    {
+        let len = if self.array == other.array {
+            self.len.min(other.at.saturating_sub(self.at))
+        } else if self.array < other.array {
+            self.len
+        } else {
+            0
+        };
+        Window {
+            array: self.array,
+            at: self.at,
+            len,
+        }
+    }
+
+    /// The places behind the end of another window, which ends no later.
+    pub(crate) fn behind(self, other: Window) -> Window
+        ensures { window_of result ≡ behind_as (window_of self) (window_of other) }
+    {
+        if self.array != other.array {
+            return self;
+        }
+        let at = self.at.max(other.end());
+        Window {
+            array: self.array,
+            at,
+            len: self.end().saturating_sub(at),
         }
     }
 }

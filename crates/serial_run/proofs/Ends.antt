@@ -1,5 +1,5 @@
 -- From the standing at the end to the outcome.
-use Rattle.std.proofs.Common.{◌≡◌, ℕ, List, [], ◌∷◌, length, refl, sym, ap, ◌∙◌, arith}
+use Rattle.std.proofs.Common.{◌≡◌, List, [], ◌∷◌, length, refl, sym, ap, ◌∙◌}
 use Rattle.std.specs.Prelude.{ℤ, map}
 use Rattle.types.specs.Code.{Array, Program}
 use Rattle.types.specs.Contents.{held_by, shown, FitsArrays, no_more, also}
@@ -7,19 +7,6 @@ use Rattle.types.specs.Meaning.{one, one_rules, after_finish}
 use Rattle.types.specs.Outcome.{Budget, Ending, start, outcome, outcome_by, outcome_of}
 use Rattle.types.specs.Run.{Flow, On, Faulted, Stopped, Fault, State, Block}
 use Rattle.types.proofs.Lists.{shown-held_by}
-use Rattle.serial_run.specs.Standing.{Standing}
-
--- the root at its start
-abbrev pub first : Program → (steps nest : ℕ) → List (List ℤ) → Standing
-first p steps nest input = record { state = start tt p steps (held_by input); nest = nest }
-
-abbrev pub lengths_in : List (List ℤ) → List ℕ
-lengths_in lists = map length lists
-
--- a list of no length is empty
-pub no_frames : {A : Type 0} (xs : List A) → length xs ≡ 0 → xs ≡ []
-no_frames [] e = refl
-no_frames (x ∷ xs) e = absurd (omega (arith, e))
 
 -- lists of the same lengths fit the same arrays
 pub fits_too : (arrays : List Array) (xs ys : List (List ℤ)) → FitsArrays arrays xs → map length ys ≡ map length xs → FitsArrays arrays ys

@@ -3,7 +3,8 @@ use Rattle.std.proofs.Common.{◌≡◌, ℕ, zero, suc, ◌+◌, ◌<◌, List,
 use Rattle.std.proofs.Common.{refl, sym, ap, ◌∙◌, append_assoc, append-nil, arith}
 use Rattle.std.proofs.Math.Seq.{drop-cons, take-suc}
 use Rattle.std.proofs.lemmas.List.{map-append}
-use Rattle.std.specs.Prelude.{ℤ, map, slice_get, slice_index_or, Some}
+use Rattle.std.specs.Prelude.{ℤ, map, slice_get, slice_index_or, Some, None, Result, OnOk}
+use Rattle.types.specs.Code.{End}
 use Rattle.types.specs.declared.fault.FaultKind.{FaultKind}
 use Rattle.types.specs.declared.code.Number.{Number as rNumber}
 use Rattle.types.specs.declared.code.Array.{Array as rArray}
@@ -13,6 +14,11 @@ use Rattle.types.specs.Run.{no_procedure}
 use Rattle.sections.specs.Place.{Place, Window}
 use Rattle.types.specs.Translation.{number as number_of, array, codes, procedure}
 use Rattle.types.specs.Value.{Environment, Valued, then_try, number, numbers}
+
+-- of two facts for Ok follows a third
+pub on_ok_both : {T E P Q R : Type 0} (r : Result T E) → (P → Q → R) → OnOk r P → OnOk r Q → OnOk r R
+on_ok_both (Ok x) f p q = f p q
+on_ok_both (Err e) f p q = p
 
 pub map-pushed : {A B : Type 0} (f : A → B) (xs ys : List A) (x : A) → ys ≡ xs ++ x ∷ [] → map f ys ≡ map f xs ++ f x ∷ []
 map-pushed f xs ys x e = ap (map f) e ∙ map-append f xs (x ∷ [])
@@ -85,3 +91,10 @@ body_at ps f x e = by_lookup ps f e
     by_lookup [] f e = cc
     by_lookup (y ∷ ys) zero e = let same : y ≡ x = cc in ap (λ (z : rProcedure). codes z.body.items) (sym same)
     by_lookup (y ∷ ys) (suc f) e = by_lookup ys f e
+
+-- there is none at a number past the end
+pub no_body_at : (ps : List rProcedure) (f : ℕ) → slice_get ps f ≡ None
+    → End ≡ (slice_index_or (map procedure ps) f no_procedure).body
+no_body_at [] f e = refl
+no_body_at (y ∷ ys) zero e = absurd (let bad : ⊥ = cc in bad)
+no_body_at (y ∷ ys) (suc f) e = no_body_at ys f e

@@ -19,6 +19,17 @@ row_at [] a row lt at = absurd (omega (arith, lt))
 row_at (r ∷ rows) zero row lt at = sym (ap numbers at)
 row_at (r ∷ rows) (suc a) row lt at = row_at rows a row (omega (arith, lt)) at
 
+-- where a place is, there is its array
+pub array_is_there : (rows : List Row) (a i : ℕ) → i < length (slice_index_or (map numbers rows) a []) → a < length rows
+array_is_there [] a i lt = absurd (omega (arith, lt))
+array_is_there (r ∷ rows) zero i lt = omega arith
+array_is_there (r ∷ rows) (suc a) i lt = omega (arith, array_is_there rows a i lt)
+
+-- and the place in its row
+pub place_is_there : (rows : List Row) (row : Row) (a i : ℕ) → i < length (slice_index_or (map numbers rows) a [])
+    → row ≡ get_or rows a row → i < length row.items
+place_is_there rows row a i lt at = subst (λ l. i < length l) (row_at rows a row (array_is_there rows a i lt) at) lt
+
 pub held_by-with_item : (rows : List Row) (row : Row) (a i : ℕ) (v z : ℤ) → a < length rows → row ≡ get_or rows a row
     → i < length row.items → z ≡ v
     → held_by (map numbers (slice_set rows a (with_item row i z))) ≡ write (record { array = a; index = i }) v (held_by (map numbers rows))

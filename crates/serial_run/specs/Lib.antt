@@ -3,3 +3,5 @@ pub mod Standing
 pub mod Primitive
 pub mod Resume
 pub mod Frames
+pub mod Bounds
+pub mod Machines

@@ -7,6 +7,7 @@ use Rattle.serial_run.specs.declared.store.Store.{Store}
 abbrev pub lists_of : Store → List (List ℤ)
 lists_of s = map (λ v. v.items) s.arrays.items
 
+-- the number at each place
 abbrev pub contents_of : Store → Contents
 contents_of s = held_by (lists_of s)
 

@@ -17,16 +17,20 @@ fitting true q v = Ok (q, v)
 fitting false q v = Err OutOfElement
 
 -- where a store writes, and what
-abbrev pub target : Program → State (Unit {0}) → (section : ℕ) → (index value : Number) → Valued (Place × ℤ)
+abbrev pub target : Program → State (Unit {0}) → (section : ℕ) → (index value : Number)
+    → Valued (Place × ℤ)
 target p st s i e =
     then_try (number_at st i) (λ at.
     then_try (number_at st e) (λ v.
-    then_try (element_of (st.environment.windows s) at) (λ q. fitting (holds_number (array_of p q.array).element v) q v)))
+    then_try (element_of (st.environment.windows s) at) (λ q.
+    fitting (holds_number (array_of p q.array).element v) q v)))
 
+-- the same of what the code answers
 abbrev pub found : Result (rPlace × ℤ) FaultKind → Valued (Place × ℤ)
 found (Ok t) = Ok (place t.0, t.1)
 found (Err f) = Err f
 
+-- the numbers that the code answers
 abbrev pub listed : Result (Vec ℤ Global) FaultKind → Valued (List ℤ)
 listed (Ok vs) = Ok vs.items
 listed (Err f) = Err f
@@ -35,6 +39,7 @@ listed (Err f) = Err f
 abbrev pub halves : State (Unit {0}) → (section : ℕ) → Number → Valued (Window × Window)
 halves st s e = then_try (number_at st e) (λ v. ok_or (sides_of (window_at st s) v) SplitPoint)
 
+-- the sides that the code answers
 abbrev pub cut : Result (rWindow × rWindow) FaultKind → Valued (Window × Window)
 cut (Ok ws) = Ok (window ws.0, window ws.1)
 cut (Err f) = Err f

@@ -3,10 +3,12 @@ use Rattle.std.specs.Prelude.{ℕ, ◌+◌, ◌≡◌, map}
 use Rattle.types.specs.Run.{Flow, On, Faulted, Stopped, State, at_flow, stopped}
 use Rattle.types.specs.Translation.{environment, fault}
 use Rattle.serial_run.specs.declared.thread.Flow.{Flow as rFlow}
-use Rattle.serial_run.specs.declared.thread.Flow.TheVariants.{On as rOn, Faulted as rFaulted, Stopped as rStopped}
+use Rattle.serial_run.specs.declared.thread.Flow.TheVariants.{On as rOn, Faulted as rFaulted}
+use Rattle.serial_run.specs.declared.thread.Flow.TheVariants.{Stopped as rStopped}
 use Rattle.serial_run.specs.declared.thread.Thread.{Thread}
 use Rattle.serial_run.specs.Lists.{contents_of}
 
+-- whether the task goes on
 abbrev pub flow : rFlow → Flow
 flow rOn = On
 flow rFaulted = Faulted
@@ -31,6 +33,7 @@ pub record Standing : Type 0 where
   pub state : State (Unit {0})
   pub nest : ℕ
 
+-- where the thread stands
 abbrev pub standing : Thread → Standing
 standing t = record { state = state_of t; nest = t.nest }
 
@@ -43,7 +46,5 @@ pub record TakesStep (old new : Thread) : Type 0 where
 -- nothing is done: the flow wasn't on, or no step was left, by which the task is stopped
 pub record MissesStep (old new : Thread) : Type 0 where
   pub none : old.flow ≡ rOn → old.steps ≡ 0
-  pub state : state_of new ≡ at_flow (state_of old).flow (state_of old) stopped
-  pub nest : new.nest ≡ old.nest
-  pub steps : new.steps ≡ old.steps
-  pub store : new.store ≡ old.store
+  pub flow : state_of new ≡ at_flow (state_of old).flow (state_of old) stopped
+  pub same : new ≡ record old { flow = new.flow }

@@ -1,6 +1,6 @@
 //! The contents of all arrays.
 
-ghost use Rattle.std.specs.Prelude.{◌≡◌, IfOk, OnOk};
+ghost use Rattle.std.specs.Prelude.{◌≡◌, IfOk};
 
 use sections::window::Place;
 use std::alloc::{AllocError, Global};
@@ -33,6 +33,7 @@ impl Places for Store {
 impl Store {
     ghost use Rattle.types.specs.Translation.{input as lists_in};
     ghost use Rattle.serial_run.specs.Lists.{lists_of};
+    ghost use Rattle.serial_run.specs.Bounds.{HasPlace};
     ghost use Rattle.types.specs.Contents.{write as written};
     ghost use Rattle.sections.specs.Translation.{place as place_of};
     ghost use Rattle.serial_run.specs.Lists.{contents_of, lengths_of};
@@ -48,20 +49,14 @@ impl Store {
         Ok(Store { arrays })
     }
 
-    /// Writes the number at a place. A place that isn't there is refused as want of memory; no run of a
-    /// well-typed program comes to one, since windows lie in their arrays, but that isn't proved yet.
-    pub fn write(&mut self, place: Place, value: i64) -> Result<(), AllocError>
-        ensures written { OnOk result (contents_of self.new ≡ written (place_of place) value (contents_of self.old)) }
+    /// Writes the number at a place.
+    pub fn write(&mut self, place: Place, value: i64)
+        requires { HasPlace self.old (place_of place) }
+        ensures written { contents_of self.new
+            ≡ written (place_of place) value (contents_of self.old) }
         ensures lengths { lengths_of self.new ≡ lengths_of self.old }
     {
-        if place.array.number >= self.arrays.len() {
-            return Err(AllocError);
-        }
         let contents = &mut self.arrays[place.array.number];
-        if place.index >= contents.len() {
-            return Err(AllocError);
-        }
         contents[place.index] = value;
-        Ok(())
     }
 }

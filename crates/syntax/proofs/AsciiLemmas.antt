@@ -18,55 +18,55 @@ use Rattle.syntax.specs.Token.{Token, NameToken, NumberToken, WordToken, MarkTok
 use Rattle.syntax.specs.Tree.{Program}
 use Rattle.syntax.proofs.LayoutLemmas.{IsWritable, AreWritable, both_true, before_blank, canonical_tokens, label_none}
 use Rattle.syntax.proofs.LayoutLemmas.{line_end_blank, tokens_writable}
-use Rattle.syntax.proofs.LexicalLemmas.{either, letters_are_ascii}
+use Rattle.syntax.proofs.LexicalLemmas.{one_is_true, letters_are_ascii}
 use Rattle.syntax.proofs.Pieces.{word_in_name}
 
-small : (c k : ℕ) → k < 128 → (c == k) ≡ true → c < 128
-small c k below same = subst (λ n. n < 128) (sym (eqb-true c k same)) below
+equal_is_small : (c k : ℕ) → k < 128 → (c == k) ≡ true → c < 128
+equal_is_small c k below same = subst (λ n. n < 128) (sym (eqb-true c k same)) below
 
 blank_is_ascii : (c : ℕ) → is_blank c ≡ true → c < 128
 blank_is_ascii c blank =
-    ⊎_elim (small c 32 (lit< tt))
-    (λ others. ⊎_elim (small c 9 (lit< tt))
-    (λ ends. ⊎_elim (small c 13 (lit< tt)) (small c 10 (lit< tt)) (either (c == 13) (c == 10) ends))
-    (either (c == 9) (c == 13 || c == 10) others))
-    (either (c == 32) (c == 9 || (c == 13 || c == 10)) blank)
+    ⊎_elim (equal_is_small c 32 (lit< tt))
+    (λ others. ⊎_elim (equal_is_small c 9 (lit< tt))
+    (λ ends. ⊎_elim (equal_is_small c 13 (lit< tt)) (equal_is_small c 10 (lit< tt)) (one_is_true (c == 13) (c == 10) ends))
+    (one_is_true (c == 9) (c == 13 || c == 10) others))
+    (one_is_true (c == 32) (c == 9 || (c == 13 || c == 10)) blank)
 
 blanks_are_ascii : (cs : List ℕ) → list_all is_blank cs ≡ true → IsAscii cs
 blanks_are_ascii [] all i = lit< tt
 blanks_are_ascii (c ∷ cs) all zero = blank_is_ascii c (both_true (is_blank c) (list_all is_blank cs) all).0
 blanks_are_ascii (c ∷ cs) all (suc i) = blanks_are_ascii cs (both_true (is_blank c) (list_all is_blank cs) all).1 i
 
-one : (c : ℕ) → c < 128 → IsAscii (c ∷ [])
-one c below zero = below
-one c below (suc i) = lit< tt
+one_is_ascii : (c : ℕ) → c < 128 → IsAscii (c ∷ [])
+one_is_ascii c below zero = below
+one_is_ascii c below (suc i) = lit< tt
 
-two : (c d : ℕ) → c < 128 → d < 128 → IsAscii (c ∷ d ∷ [])
-two c d first second zero = first
-two c d first second (suc i) = one d second i
+two_are_ascii : (c d : ℕ) → c < 128 → d < 128 → IsAscii (c ∷ d ∷ [])
+two_are_ascii c d first second zero = first
+two_are_ascii c d first second (suc i) = one_is_ascii d second i
 
 mark_is_ascii : (m : Mark) → IsAscii (mark_text m)
-mark_is_ascii LeftParen = one 40 (lit< tt)
-mark_is_ascii RightParen = one 41 (lit< tt)
-mark_is_ascii LeftBrace = one 123 (lit< tt)
-mark_is_ascii RightBrace = one 125 (lit< tt)
-mark_is_ascii LeftBracket = one 91 (lit< tt)
-mark_is_ascii RightBracket = one 93 (lit< tt)
-mark_is_ascii Comma = one 44 (lit< tt)
-mark_is_ascii Semicolon = one 59 (lit< tt)
-mark_is_ascii Colon = one 58 (lit< tt)
-mark_is_ascii Becomes = one 61 (lit< tt)
-mark_is_ascii Plus = one 43 (lit< tt)
-mark_is_ascii Minus = one 45 (lit< tt)
-mark_is_ascii Star = one 42 (lit< tt)
-mark_is_ascii Slash = one 47 (lit< tt)
-mark_is_ascii Percent = one 37 (lit< tt)
-mark_is_ascii Less = one 60 (lit< tt)
-mark_is_ascii AtMost = two 60 61 (lit< tt) (lit< tt)
-mark_is_ascii Greater = one 62 (lit< tt)
-mark_is_ascii AtLeast = two 62 61 (lit< tt) (lit< tt)
-mark_is_ascii Equal = two 61 61 (lit< tt) (lit< tt)
-mark_is_ascii Differs = two 33 61 (lit< tt) (lit< tt)
+mark_is_ascii LeftParen = one_is_ascii 40 (lit< tt)
+mark_is_ascii RightParen = one_is_ascii 41 (lit< tt)
+mark_is_ascii LeftBrace = one_is_ascii 123 (lit< tt)
+mark_is_ascii RightBrace = one_is_ascii 125 (lit< tt)
+mark_is_ascii LeftBracket = one_is_ascii 91 (lit< tt)
+mark_is_ascii RightBracket = one_is_ascii 93 (lit< tt)
+mark_is_ascii Comma = one_is_ascii 44 (lit< tt)
+mark_is_ascii Semicolon = one_is_ascii 59 (lit< tt)
+mark_is_ascii Colon = one_is_ascii 58 (lit< tt)
+mark_is_ascii Becomes = one_is_ascii 61 (lit< tt)
+mark_is_ascii Plus = one_is_ascii 43 (lit< tt)
+mark_is_ascii Minus = one_is_ascii 45 (lit< tt)
+mark_is_ascii Star = one_is_ascii 42 (lit< tt)
+mark_is_ascii Slash = one_is_ascii 47 (lit< tt)
+mark_is_ascii Percent = one_is_ascii 37 (lit< tt)
+mark_is_ascii Less = one_is_ascii 60 (lit< tt)
+mark_is_ascii AtMost = two_are_ascii 60 61 (lit< tt) (lit< tt)
+mark_is_ascii Greater = one_is_ascii 62 (lit< tt)
+mark_is_ascii AtLeast = two_are_ascii 62 61 (lit< tt) (lit< tt)
+mark_is_ascii Equal = two_are_ascii 61 61 (lit< tt) (lit< tt)
+mark_is_ascii Differs = two_are_ascii 33 61 (lit< tt) (lit< tt)
 
 token_is_ascii : (t : Token) → IsWritable t → IsAscii (token_text t)
 token_is_ascii (NameToken x) name = letters_are_ascii x name.in_name

@@ -38,14 +38,14 @@ pub then_adds : (before first second : List ℕ) {between behind : List ℕ} →
 then_adds before first second e f = f ∙ ap (λ l. l ++ second) e ∙ append_assoc before first second
 
 -- what is added and what is left, where a part of that is added
-pub moved : (before part rest : List ℕ) {behind left all : List ℕ} → before ++ left ≡ all → behind ≡ before ++ part → left
+pub adds_part : (before part rest : List ℕ) {behind left all : List ℕ} → before ++ left ≡ all → behind ≡ before ++ part → left
     ≡ part ++ rest → behind ++ rest ≡ all
-moved before part rest was added parts =
+adds_part before part rest was added parts =
     ap (λ l. l ++ rest) added ∙ append_assoc before part rest ∙ ap (λ l. before ++ l) (sym parts) ∙ was
 
 -- where nothing is left, all is added
-pub all_moved : (now : List ℕ) {left all : List ℕ} → now ++ left ≡ all → left ≡ [] → now ≡ all
-all_moved now was none = sym (append-nil now) ∙ ap (λ l. now ++ l) (sym none) ∙ was
+pub adds_all : (now : List ℕ) {left all : List ℕ} → now ++ left ≡ all → left ≡ [] → now ≡ all
+adds_all now was none = sym (append-nil now) ∙ ap (λ l. now ++ l) (sym none) ∙ was
 
 pub ok_map : {X E P Q : Type 0} (r : Result X E) → (P → Q) → OnOk r P → OnOk r Q
 ok_map (Ok x) f p = f p
@@ -69,9 +69,9 @@ pub then_ok : {X E : Type 0} (r : Result X E) (before first second behind : List
 then_ok r before first second behind e = ok_map r (then_adds before first second e)
 
 -- the text under another name
-pub called : {X E : Type 0} (r : Result X E) (before now : List ℕ) {text whole : List ℕ} → OnOk r (now ≡ before ++ text) → whole ≡ text
+pub ok_adds_equal : {X E : Type 0} (r : Result X E) (before now : List ℕ) {text whole : List ℕ} → OnOk r (now ≡ before ++ text) → whole ≡ text
     → OnOk r (now ≡ before ++ whole)
-called r before now h e = ok_map r (λ f. f ∙ ap (λ l. before ++ l) (sym e)) h
+ok_adds_equal r before now h e = ok_map r (λ f. f ∙ ap (λ l. before ++ l) (sym e)) h
 
 -- the texts of what stands behind first operands
 

@@ -33,11 +33,11 @@ abbrev pub Follows : Place → List Token → Type 0
 Follows at r = laid (at_left at Called) r ≡ laid (at_left at Operand) r
 
 -- what two texts begin with and what follows in one of them
-pub joined : (a b c x y z : List ℕ) → a ≡ x ++ b → c ≡ x ++ y → b ≡ y ++ z → a ≡ c ++ z
-joined a b c x y z p q s = p ∙ ap (λ l. x ++ l) s ∙ sym (append_assoc x y z) ∙ ap (λ l. l ++ z) (sym q)
+pub append_joined : (a b c x y z : List ℕ) → a ≡ x ++ b → c ≡ x ++ y → b ≡ y ++ z → a ≡ c ++ z
+append_joined a b c x y z p q s = p ∙ ap (λ l. x ++ l) s ∙ sym (append_assoc x y z) ∙ ap (λ l. l ++ z) (sym q)
 
-pub under : (x a c z : List ℕ) → a ≡ c ++ z → x ++ a ≡ (x ++ c) ++ z
-under x a c z e = ap (λ l. x ++ l) e ∙ sym (append_assoc x c z)
+pub append_under : (x a c z : List ℕ) → a ≡ c ++ z → x ++ a ≡ (x ++ c) ++ z
+append_under x a c z e = ap (λ l. x ++ l) e ∙ sym (append_assoc x c z)
 
 pub before_nil : (x z : List ℕ) → x ++ z ≡ (x ++ []) ++ z
 before_nil x z = ap (λ l. l ++ z) (sym (append-nil x))
@@ -157,7 +157,7 @@ mutual
   pub expr_laid : (at : Place) (e : Expr) (r : List Token) → Follows at r → laid (at_left at Opening) (expr_then e r)
       ≡ in_line (expr_then e []) ++ laid (at_left at Operand) r
   expr_laid at (Or c cs) r f =
-      joined _ _ _ _ _ _ (conj_laid at c (conjs_then cs r) (conjs_follow at cs r f)) (conj_laid line c (conjs_then cs [])
+      append_joined _ _ _ _ _ _ (conj_laid at c (conjs_then cs r) (conjs_follow at cs r f)) (conj_laid line c (conjs_then cs [])
       (conjs_follow line cs [] (end_follows line))) (conjs_laid at cs r f)
 
   pub conjs_laid : (at : Place) (cs : Conjs) (r : List Token) → Follows at r → laid (at_left at Operand) (conjs_then cs r)
@@ -166,14 +166,14 @@ mutual
   conjs_laid at (OrConj c cs) r f =
       let rest = conjs_then cs r in let none = conjs_then cs [] in
       ap (λ l. 32 ∷ 111 ∷ 114 ∷ l) (conj_apart at c rest ∙ ap (λ l. 32 ∷ l)
-      (joined _ _ _ _ _ _ (conj_laid at c rest (conjs_follow at cs r f)) (conj_laid line c none (conjs_follow line cs []
+      (append_joined _ _ _ _ _ _ (conj_laid at c rest (conjs_follow at cs r f)) (conj_laid line c none (conjs_follow line cs []
       (end_follows line))) (conjs_laid at cs r f)))
       ∙ ap (λ l. (32 ∷ 111 ∷ 114 ∷ l) ++ laid (at_left at Operand) r) (sym (conj_apart line c none))
 
   pub conj_laid : (at : Place) (c : Conj) (r : List Token) → Follows at r → laid (at_left at Opening) (conj_then c r)
       ≡ in_line (conj_then c []) ++ laid (at_left at Operand) r
   conj_laid at (And n ns) r f =
-      joined _ _ _ _ _ _ (neg_laid at n (negs_then ns r) (negs_follow at ns r f)) (neg_laid line n (negs_then ns [])
+      append_joined _ _ _ _ _ _ (neg_laid at n (negs_then ns r) (negs_follow at ns r f)) (neg_laid line n (negs_then ns [])
       (negs_follow line ns [] (end_follows line))) (negs_laid at ns r f)
 
   pub negs_laid : (at : Place) (ns : Negs) (r : List Token) → Follows at r → laid (at_left at Operand) (negs_then ns r)
@@ -182,7 +182,7 @@ mutual
   negs_laid at (AndNeg n ns) r f =
       let rest = negs_then ns r in let none = negs_then ns [] in
       ap (λ l. 32 ∷ 97 ∷ 110 ∷ 100 ∷ l) (neg_apart at n rest ∙ ap (λ l. 32 ∷ l)
-      (joined _ _ _ _ _ _ (neg_laid at n rest (negs_follow at ns r f)) (neg_laid line n none (negs_follow line ns []
+      (append_joined _ _ _ _ _ _ (neg_laid at n rest (negs_follow at ns r f)) (neg_laid line n none (negs_follow line ns []
       (end_follows line))) (negs_laid at ns r f)))
       ∙ ap (λ l. (32 ∷ 97 ∷ 110 ∷ 100 ∷ l) ++ laid (at_left at Operand) r) (sym (neg_apart line n none))
 
@@ -198,15 +198,15 @@ mutual
   cmp_laid at (Alone s) r f = sum_laid at s r f
   cmp_laid at (Compare s o t) r f =
       let rest = sum_then t r in let none = sum_then t [] in
-      joined _ _ _ _ _ _ (sum_laid at s (MarkToken (relation_mark o) ∷ rest) (relation_follows at o rest)) (sum_laid line s (MarkToken
+      append_joined _ _ _ _ _ _ (sum_laid at s (MarkToken (relation_mark o) ∷ rest) (relation_follows at o rest)) (sum_laid line s (MarkToken
       (relation_mark o) ∷ none) (relation_follows line o none))
-      (joined _ _ _ (32 ∷ (mark_text (relation_mark o) ++ 32 ∷ [])) _ _ (relation_laid at o rest rest (sum_apart at t r))
+      (append_joined _ _ _ (32 ∷ (mark_text (relation_mark o) ++ 32 ∷ [])) _ _ (relation_laid at o rest rest (sum_apart at t r))
       (relation_laid line o none none (sum_apart line t [])) (sum_laid at t r f))
 
   pub sum_laid : (at : Place) (s : Sum) (r : List Token) → Follows at r → laid (at_left at Opening) (sum_then s r)
       ≡ in_line (sum_then s []) ++ laid (at_left at Operand) r
   sum_laid at (Add p ts) r f =
-      joined _ _ _ _ _ _ (prod_laid at p (terms_then ts r) (terms_follow at ts r f)) (prod_laid line p (terms_then ts [])
+      append_joined _ _ _ _ _ _ (prod_laid at p (terms_then ts r) (terms_follow at ts r f)) (prod_laid line p (terms_then ts [])
       (terms_follow line ts [] (end_follows line))) (terms_laid at ts r f)
 
   pub terms_laid : (at : Place) (ts : Terms) (r : List Token) → Follows at r → laid (at_left at Operand) (terms_then ts r)
@@ -214,15 +214,15 @@ mutual
   terms_laid at NoTerm r f = refl
   terms_laid at (AddTerm o p ts) r f =
       let rest = terms_then ts r in let none = terms_then ts [] in
-      joined _ _ _ (32 ∷ (mark_text (sign_mark o) ++ 32 ∷ [])) _ _ (sign_laid at o _ (prod_then p rest) (prod_apart at p rest))
+      append_joined _ _ _ (32 ∷ (mark_text (sign_mark o) ++ 32 ∷ [])) _ _ (sign_laid at o _ (prod_then p rest) (prod_apart at p rest))
       (sign_laid line o _ (prod_then p none) (prod_apart line p none))
-      (joined _ _ _ _ _ _ (prod_laid at p rest (terms_follow at ts r f)) (prod_laid line p none (terms_follow line ts []
+      (append_joined _ _ _ _ _ _ (prod_laid at p rest (terms_follow at ts r f)) (prod_laid line p none (terms_follow line ts []
       (end_follows line))) (terms_laid at ts r f))
 
   pub prod_laid : (at : Place) (p : Prod) (r : List Token) → Follows at r → laid (at_left at Opening) (prod_then p r)
       ≡ in_line (prod_then p []) ++ laid (at_left at Operand) r
   prod_laid at (Multiply u fs) r f =
-      joined _ _ _ _ _ _ (unary_laid at u (factors_then fs r) (factors_follow at fs r f)) (unary_laid line u (factors_then fs [])
+      append_joined _ _ _ _ _ _ (unary_laid at u (factors_then fs r) (factors_follow at fs r f)) (unary_laid line u (factors_then fs [])
       (factors_follow line fs [] (end_follows line))) (factors_laid at fs r f)
 
   pub factors_laid : (at : Place) (fs : Factors) (r : List Token) → Follows at r → laid (at_left at Operand) (factors_then fs r)
@@ -230,9 +230,9 @@ mutual
   factors_laid at NoFactor r f = refl
   factors_laid at (MultiplyFactor o u fs) r f =
       let rest = factors_then fs r in let none = factors_then fs [] in
-      joined _ _ _ (32 ∷ (mark_text (operator_mark o) ++ 32 ∷ [])) _ _ (operator_laid at o _ (unary_then u rest)
+      append_joined _ _ _ (32 ∷ (mark_text (operator_mark o) ++ 32 ∷ [])) _ _ (operator_laid at o _ (unary_then u rest)
       (unary_apart at u rest)) (operator_laid line o _ (unary_then u none) (unary_apart line u none))
-      (joined _ _ _ _ _ _ (unary_laid at u rest (factors_follow at fs r f)) (unary_laid line u none (factors_follow line fs []
+      (append_joined _ _ _ _ _ _ (unary_laid at u rest (factors_follow at fs r f)) (unary_laid line u none (factors_follow line fs []
       (end_follows line))) (factors_laid at fs r f))
 
   pub unary_laid : (at : Place) (u : Unary) (r : List Token) → Follows at r → laid (at_left at Opening) (unary_then u r)
@@ -247,11 +247,11 @@ mutual
   atom_laid at False r f = refl
   atom_laid at (Name x) r f = ap (λ l. x ++ l) f ∙ before_nil x _
   atom_laid at (Element s e) r f =
-      under s _ _ _ (ap (λ l. 91 ∷ l) (joined _ _ _ _ _ _ (expr_laid at e (MarkToken RightBracket ∷ r) refl) (expr_laid line e
+      append_under s _ _ _ (ap (λ l. 91 ∷ l) (append_joined _ _ _ _ _ _ (expr_laid at e (MarkToken RightBracket ∷ r) refl) (expr_laid line e
       (MarkToken RightBracket ∷ []) refl) refl))
-  atom_laid at (Length s) r f = ap (λ l. 108 ∷ 101 ∷ 110 ∷ 40 ∷ l) (under s _ _ _ refl)
+  atom_laid at (Length s) r f = ap (λ l. 108 ∷ 101 ∷ 110 ∷ 40 ∷ l) (append_under s _ _ _ refl)
   atom_laid at (Parens e) r f =
-      ap (λ l. 40 ∷ l) (joined _ _ _ _ _ _ (expr_laid at e (MarkToken RightParen ∷ r) refl) (expr_laid line e
+      ap (λ l. 40 ∷ l) (append_joined _ _ _ _ _ _ (expr_laid at e (MarkToken RightParen ∷ r) refl) (expr_laid line e
       (MarkToken RightParen ∷ []) refl) refl)
 
 -- behind a comma
@@ -267,6 +267,6 @@ more_laid at [] r f = refl
 more_laid at (e ∷ es) r f =
     let rest = more_then es r in let none = more_then es [] in
     ap (λ l. 44 ∷ l) (expr_apart at e rest ∙ ap (λ l. 32 ∷ l)
-    (joined _ _ _ _ _ _ (expr_laid at e rest (more_follow at es r f)) (expr_laid line e none (more_follow line es []
+    (append_joined _ _ _ _ _ _ (expr_laid at e rest (more_follow at es r f)) (expr_laid line e none (more_follow line es []
     (end_follows line))) (more_laid at es r f)))
     ∙ ap (λ l. (44 ∷ l) ++ laid (at_left at Operand) r) (sym (expr_apart line e none))

@@ -147,45 +147,45 @@ IsQuiet _ = ⊥
 abbrev IsNeither : List ℕ → Type 0
 IsNeither cs = (starts (λ c. c == 61) cs ≡ false) × (starts (λ c. c == 47) cs ≡ false)
 
-mark_quiet : (d : ℕ) (n : Option ℕ) (left : Left) (m : Mark) (ts : List Token) → IsQuiet left
+mark_laid_is_neither : (d : ℕ) (n : Option ℕ) (left : Left) (m : Mark) (ts : List Token) → IsQuiet left
     → IsNeither (laid (record { depth = d; label = n; left = left }) (MarkToken m ∷ ts))
 unfolding laid
-mark_quiet d n Operand Comma ts a = (refl, refl)
-mark_quiet d n Operand _ ts a = (refl, refl)
-mark_quiet d n Other Comma ts a = (refl, refl)
-mark_quiet d n Other _ ts a = (refl, refl)
-mark_quiet d n Ended m ts a = (refl, refl)
-mark_quiet d n Margin m ts a = absurd a
-mark_quiet d n Opening m ts a = absurd a
-mark_quiet d n Called m ts a = absurd a
+mark_laid_is_neither d n Operand Comma ts a = (refl, refl)
+mark_laid_is_neither d n Operand _ ts a = (refl, refl)
+mark_laid_is_neither d n Other Comma ts a = (refl, refl)
+mark_laid_is_neither d n Other _ ts a = (refl, refl)
+mark_laid_is_neither d n Ended m ts a = (refl, refl)
+mark_laid_is_neither d n Margin m ts a = absurd a
+mark_laid_is_neither d n Opening m ts a = absurd a
+mark_laid_is_neither d n Called m ts a = absurd a
 
-word_quiet : (d : ℕ) (n : Option ℕ) (w : Word) (ts : List Token)
+word_laid_is_neither : (d : ℕ) (n : Option ℕ) (w : Word) (ts : List Token)
     → IsNeither (laid (record { depth = d; label = n; left = Ended }) (WordToken w ∷ ts))
 unfolding laid
-word_quiet d n WordElse ts = (refl, refl)
-word_quiet d n _ ts = (refl, refl)
+word_laid_is_neither d n WordElse ts = (refl, refl)
+word_laid_is_neither d n _ ts = (refl, refl)
 
-quiet : (d : ℕ) (n : Option ℕ) (left : Left) (ts : List Token) → IsQuiet left
+laid_is_neither : (d : ℕ) (n : Option ℕ) (left : Left) (ts : List Token) → IsQuiet left
     → IsNeither (laid (record { depth = d; label = n; left = left }) ts)
 unfolding laid
-quiet d n Operand [] a = (refl, refl)
-quiet d n Operand (NameToken x ∷ ts) a = (refl, refl)
-quiet d n Operand (NumberToken k ∷ ts) a = (refl, refl)
-quiet d n Operand (WordToken w ∷ ts) a = (refl, refl)
-quiet d n Operand (MarkToken m ∷ ts) a = mark_quiet d n Operand m ts a
-quiet d n Other [] a = (refl, refl)
-quiet d n Other (NameToken x ∷ ts) a = (refl, refl)
-quiet d n Other (NumberToken k ∷ ts) a = (refl, refl)
-quiet d n Other (WordToken w ∷ ts) a = (refl, refl)
-quiet d n Other (MarkToken m ∷ ts) a = mark_quiet d n Other m ts a
-quiet d n Ended [] a = (refl, refl)
-quiet d n Ended (NameToken x ∷ ts) a = (refl, refl)
-quiet d n Ended (NumberToken k ∷ ts) a = (refl, refl)
-quiet d n Ended (WordToken w ∷ ts) a = word_quiet d n w ts
-quiet d n Ended (MarkToken m ∷ ts) a = mark_quiet d n Ended m ts a
-quiet d n Margin ts a = absurd a
-quiet d n Opening ts a = absurd a
-quiet d n Called ts a = absurd a
+laid_is_neither d n Operand [] a = (refl, refl)
+laid_is_neither d n Operand (NameToken x ∷ ts) a = (refl, refl)
+laid_is_neither d n Operand (NumberToken k ∷ ts) a = (refl, refl)
+laid_is_neither d n Operand (WordToken w ∷ ts) a = (refl, refl)
+laid_is_neither d n Operand (MarkToken m ∷ ts) a = mark_laid_is_neither d n Operand m ts a
+laid_is_neither d n Other [] a = (refl, refl)
+laid_is_neither d n Other (NameToken x ∷ ts) a = (refl, refl)
+laid_is_neither d n Other (NumberToken k ∷ ts) a = (refl, refl)
+laid_is_neither d n Other (WordToken w ∷ ts) a = (refl, refl)
+laid_is_neither d n Other (MarkToken m ∷ ts) a = mark_laid_is_neither d n Other m ts a
+laid_is_neither d n Ended [] a = (refl, refl)
+laid_is_neither d n Ended (NameToken x ∷ ts) a = (refl, refl)
+laid_is_neither d n Ended (NumberToken k ∷ ts) a = (refl, refl)
+laid_is_neither d n Ended (WordToken w ∷ ts) a = word_laid_is_neither d n w ts
+laid_is_neither d n Ended (MarkToken m ∷ ts) a = mark_laid_is_neither d n Ended m ts a
+laid_is_neither d n Margin ts a = absurd a
+laid_is_neither d n Opening ts a = absurd a
+laid_is_neither d n Called ts a = absurd a
 
 -- marks
 
@@ -236,18 +236,18 @@ mark_stands : (d : ℕ) (n : Option ℕ) (left : Left) (m : Mark) (ts : List Tok
     → IsMark m (laid (record { depth = d; label = n; left = left_by_mark left m }) ts)
 mark_stands d n left LeftParen ts = record { longest = λ e. paren_no_longer; no_comment = paren_no_comment _ }
 mark_stands d n left LeftBracket ts = record { longest = λ e. bracket_no_longer; no_comment = bracket_no_comment _ }
-mark_stands d n left RightParen ts = quiet_mark RightParen _ (quiet d n Operand ts tt)
-mark_stands d n left RightBracket ts = quiet_mark RightBracket _ (quiet d n Operand ts tt)
-mark_stands d n left Semicolon ts = quiet_mark Semicolon _ (quiet d n Ended ts tt)
-mark_stands d n left LeftBrace ts = quiet_mark LeftBrace _ (quiet d n Ended ts tt)
-mark_stands d n left RightBrace ts = quiet_mark RightBrace _ (quiet d n Ended ts tt)
-mark_stands d n Called Minus ts = quiet_mark Minus _ (quiet d n Other ts tt)
-mark_stands d n Operand Minus ts = quiet_mark Minus _ (quiet d n Other ts tt)
+mark_stands d n left RightParen ts = quiet_mark RightParen _ (laid_is_neither d n Operand ts tt)
+mark_stands d n left RightBracket ts = quiet_mark RightBracket _ (laid_is_neither d n Operand ts tt)
+mark_stands d n left Semicolon ts = quiet_mark Semicolon _ (laid_is_neither d n Ended ts tt)
+mark_stands d n left LeftBrace ts = quiet_mark LeftBrace _ (laid_is_neither d n Ended ts tt)
+mark_stands d n left RightBrace ts = quiet_mark RightBrace _ (laid_is_neither d n Ended ts tt)
+mark_stands d n Called Minus ts = quiet_mark Minus _ (laid_is_neither d n Other ts tt)
+mark_stands d n Operand Minus ts = quiet_mark Minus _ (laid_is_neither d n Other ts tt)
 mark_stands d n Margin Minus ts = minus_stands d n ts
 mark_stands d n Opening Minus ts = minus_stands d n ts
 mark_stands d n Ended Minus ts = minus_stands d n ts
 mark_stands d n Other Minus ts = minus_stands d n ts
-mark_stands d n left m ts = quiet_mark m _ (quiet d n Other ts tt)
+mark_stands d n left m ts = quiet_mark m _ (laid_is_neither d n Other ts tt)
 
 -- numbers
 

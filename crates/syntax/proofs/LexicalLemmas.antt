@@ -74,20 +74,20 @@ both false b e = absurd (false≢true e)
 in_range_is_below : (low high c : ℕ) → high < 128 → is_in_range low high c ≡ true → c < 128
 in_range_is_below low high c small e = omega (arith, small, leb-true c high (both _ _ e).1)
 
-pub either : (a b : Bool) → (a || b) ≡ true → (a ≡ true) ⊎ (b ≡ true)
-either true b e = inl refl
-either false b e = inr e
+pub one_is_true : (a b : Bool) → (a || b) ≡ true → (a ≡ true) ⊎ (b ≡ true)
+one_is_true true b e = inl refl
+one_is_true false b e = inr e
 
 in_name_is_ascii : (c : ℕ) → is_in_name c ≡ true → c < 128
 in_name_is_ascii c e =
     ⊎_elim
     (λ begins. ⊎_elim
     (λ letter. ⊎_elim (in_range_is_below 65 90 c (lit< tt)) (in_range_is_below 97 122 c (lit< tt))
-    (either (is_in_range 65 90 c) (is_in_range 97 122 c) letter))
+    (one_is_true (is_in_range 65 90 c) (is_in_range 97 122 c) letter))
     (λ underscore. subst (λ n. n < 128) (sym (eqb-true c 95 underscore)) (lit< tt))
-    (either (is_ascii_alphabetic c) (c == 95) begins))
+    (one_is_true (is_ascii_alphabetic c) (c == 95) begins))
     (in_range_is_below 48 57 c (lit< tt))
-    (either (begins_name c) (is_ascii_digit c) e)
+    (one_is_true (begins_name c) (is_ascii_digit c) e)
 
 all_in_name : (c : ℕ) (cs : List ℕ) → list_all is_in_name (c ∷ cs) ≡ true → (is_in_name c ≡ true) × (list_all is_in_name cs ≡ true)
 all_in_name c cs e = both (is_in_name c) (list_all is_in_name cs) e

@@ -25,7 +25,7 @@ use Rattle.syntax.specs.Tree.{Expr, Stmt, Skip, Var, Assign, Store, Print, Fault
 use Rattle.syntax.specs.Tree.{Finish, Block, End, Then, Array, Parameter, Written, Read, Scalar, Procedure, Main}
 use Rattle.syntax.specs.Tree.{parameter}
 use Rattle.syntax.specs.Writing.{place, with_rest, Adds, IsCounted}
-use Rattle.syntax.proofs.LaidLemmas.{at_left, line, Follows, joined, under, before_nil, end_follows, more_follow}
+use Rattle.syntax.proofs.LaidLemmas.{at_left, line, Follows, append_joined, append_under, before_nil, end_follows, more_follow}
 use Rattle.syntax.proofs.LaidLemmas.{expr_apart, expr_laid, more_laid}
 
 -- text that a layout begins with is written
@@ -124,16 +124,16 @@ procedures_are_lines (p ∷ ps) m d n = refl
 
 -- braces
 
-pub opened : (d : ℕ) (n : Option ℕ) (ts : List Token) → BeginsLine ts
+pub laid-opening_brace : (d : ℕ) (n : Option ℕ) (ts : List Token) → BeginsLine ts
     → laid (record { depth = d; label = n; left = Other }) (MarkToken LeftBrace ∷ ts)
     ≡ codes " {\n" ++ laid (record { depth = d + 1; label = n; left = Margin }) ts
 unfolding laid
-opened d n ts begins = ap (λ l. 32 ∷ 123 ∷ l) (begins (d + 1) n)
+laid-opening_brace d n ts begins = ap (λ l. 32 ∷ 123 ∷ l) (begins (d + 1) n)
 
-pub closed : (d : ℕ) (n : Option ℕ) (r : List Token) → laid (record { depth = d; label = n; left = Margin }) (MarkToken RightBrace ∷ r)
+pub laid-closing_brace : (d : ℕ) (n : Option ℕ) (r : List Token) → laid (record { depth = d; label = n; left = Margin }) (MarkToken RightBrace ∷ r)
     ≡ ((plain_margin n ++ indent (d - 1)) ++ codes "}") ++ laid (record { depth = d - 1; label = n; left = Ended }) r
 unfolding laid
-closed d n r = sym (append_assoc (plain_margin n ++ indent (d - 1)) (codes "}") (laid
+laid-closing_brace d n r = sym (append_assoc (plain_margin n ++ indent (d - 1)) (codes "}") (laid
     (record { depth = d - 1; label = n; left = Ended }) r))
 
 -- headers
@@ -179,7 +179,7 @@ laid_Finish at b r = refl
 pub expr_behind : (at : Place) (e : Expr) (r q : List Token) (z : List ℕ) → Follows at r → Follows line q → laid (at_left at Operand) r
     ≡ laid (at_left line Operand) q ++ z → laid (at_left at Other) (expr_then e r) ≡ laid (at_left line Other) (expr_then e q) ++ z
 expr_behind at e r q z f g tail =
-    expr_apart at e r ∙ ap (λ l. 32 ∷ l) (joined _ _ _ _ _ _ (expr_laid at e r f) (expr_laid line e q g) tail)
+    expr_apart at e r ∙ ap (λ l. 32 ∷ l) (append_joined _ _ _ _ _ _ (expr_laid at e r f) (expr_laid line e q g) tail)
     ∙ ap (λ l. l ++ z) (sym (expr_apart line e q))
 
 -- `split s at e as x, y`
@@ -192,9 +192,9 @@ pub laid_Split : (at : Place) (s : List ℕ) (e : Expr) (x y : List ℕ) (b : Bl
     ≡ in_line (split_then s e x y []) ++ laid (at_left at Other) (MarkToken LeftBrace ∷ block_then b r)
 unfolding laid stmt_then
 laid_Split at s e x y b r =
-    let sides = ap (λ l. 32 ∷ 97 ∷ 115 ∷ 32 ∷ l) (under x _ _ _ (ap (λ l. 44 ∷ 32 ∷ l) (before_nil y (laid (at_left at Other)
+    let sides = ap (λ l. 32 ∷ 97 ∷ 115 ∷ 32 ∷ l) (append_under x _ _ _ (ap (λ l. 44 ∷ 32 ∷ l) (before_nil y (laid (at_left at Other)
     (MarkToken LeftBrace ∷ block_then b r))))) in
-    ap (λ l. 115 ∷ 112 ∷ 108 ∷ 105 ∷ 116 ∷ 32 ∷ l) (under s _ _ _ (ap (λ l. 32 ∷ 97 ∷ 116 ∷ l) (expr_behind at e _ _ _ refl refl sides)))
+    ap (λ l. 115 ∷ 112 ∷ 108 ∷ 105 ∷ 116 ∷ 32 ∷ l) (append_under s _ _ _ (ap (λ l. 32 ∷ 97 ∷ 116 ∷ l) (expr_behind at e _ _ _ refl refl sides)))
 
 pub split_text : (s : List ℕ) (e : Expr) (x y : List ℕ) → in_line (split_then s e x y [])
     ≡ codes "split " ++ (s ++ (codes " at " ++ (in_line (expr_then e []) ++ (codes " as " ++ (x ++ (codes ", " ++ y))))))
@@ -226,7 +226,7 @@ laid_Skip at r = refl
 pub laid_Assign : (at : Place) (x : List ℕ) (e : Expr) (r : List Token) → laid (at_left at Opening) (stmt_then (Assign x e) r)
     ≡ in_line (assignment_then x e []) ++ up_to_end at r
 unfolding laid stmt_then
-laid_Assign at x e r = under x _ _ _ (ap (λ l. 32 ∷ 61 ∷ l) (expr_behind at e (MarkToken Semicolon ∷ r) [] (up_to_end at r) refl refl refl))
+laid_Assign at x e r = append_under x _ _ _ (ap (λ l. 32 ∷ 61 ∷ l) (expr_behind at e (MarkToken Semicolon ∷ r) [] (up_to_end at r) refl refl refl))
 
 pub laid_Var : (at : Place) (x : List ℕ) (e : Expr) (r : List Token) → laid (at_left at Opening) (stmt_then (Var x e) r)
     ≡ (codes "var " ++ in_line (assignment_then x e [])) ++ up_to_end at r
@@ -249,7 +249,7 @@ pub laid_Store : (at : Place) (s : List ℕ) (i e : Expr) (r : List Token) → l
 unfolding laid stmt_then
 laid_Store at s i e r =
     let value = expr_behind at e (MarkToken Semicolon ∷ r) [] (up_to_end at r) refl refl refl in
-    under s _ _ _ (ap (λ l. 91 ∷ l) (joined _ _ _ _ _ _ (expr_laid at i (MarkToken RightBracket ∷ MarkToken Becomes ∷ expr_then e
+    append_under s _ _ _ (ap (λ l. 91 ∷ l) (append_joined _ _ _ _ _ _ (expr_laid at i (MarkToken RightBracket ∷ MarkToken Becomes ∷ expr_then e
     (MarkToken Semicolon ∷ r)) refl) (expr_laid line i (MarkToken RightBracket ∷ MarkToken Becomes ∷ expr_then e []) refl)
     (ap (λ l. 93 ∷ 32 ∷ 61 ∷ l) value)))
 
@@ -284,14 +284,14 @@ exprs_laid : (at : Place) (es : List Expr) (r : List Token) → laid (at_left at
 unfolding laid exprs_then
 exprs_laid at [] r = refl
 exprs_laid at (e ∷ es) r =
-    joined _ _ _ _ _ _ (expr_laid at e (more_then es (MarkToken RightParen ∷ r)) (more_follow at es (MarkToken RightParen ∷ r) refl))
+    append_joined _ _ _ _ _ _ (expr_laid at e (more_then es (MarkToken RightParen ∷ r)) (more_follow at es (MarkToken RightParen ∷ r) refl))
     (expr_laid line e (more_then es []) (more_follow line es [] (end_follows line))) (more_laid at es (MarkToken RightParen ∷ r) refl)
 
 pub laid_Call : (at : Place) (f : List ℕ) (es : List Expr) (r : List Token) → laid (at_left at Opening) (stmt_then (Call f es) r)
     ≡ (f ++ (codes "(" ++ (in_line (exprs_then es []) ++ codes ")"))) ++ up_to_end at r
 unfolding laid stmt_then
-laid_Call at f es r = under f _ _ _ (ap (λ l. 40 ∷ l) (exprs_laid at es (MarkToken Semicolon ∷ r)
-    ∙ under (in_line (exprs_then es [])) _ (codes ")") _ refl))
+laid_Call at f es r = append_under f _ _ _ (ap (λ l. 40 ∷ l) (exprs_laid at es (MarkToken Semicolon ∷ r)
+    ∙ append_under (in_line (exprs_then es [])) _ (codes ")") _ refl))
 
 pub laid_end : (at : Place) (r : List Token) → laid (at_left at Operand) (MarkToken Semicolon ∷ r) ≡ codes ";" ++ laid (at_left at Ended) r
 unfolding laid
@@ -325,15 +325,15 @@ parameter_text_Scalar x = refl
 parameter_laid : (at : Place) (p : Parameter) (r : List Token) → Follows at r → laid (at_left at Opening) (parameter_then p r)
     ≡ in_line (parameter_then p []) ++ laid (at_left at Operand) r
 unfolding laid parameter_then
-parameter_laid at (Written x IntElement) r f = ap (λ l. 109 ∷ 117 ∷ 116 ∷ 32 ∷ l) (under x _ _ _ (ap
+parameter_laid at (Written x IntElement) r f = ap (λ l. 109 ∷ 117 ∷ 116 ∷ 32 ∷ l) (append_under x _ _ _ (ap
     (λ l. 58 ∷ 32 ∷ 105 ∷ 110 ∷ 116 ∷ l) f))
-parameter_laid at (Written x ByteElement) r f = ap (λ l. 109 ∷ 117 ∷ 116 ∷ 32 ∷ l) (under x _ _ _ (ap
+parameter_laid at (Written x ByteElement) r f = ap (λ l. 109 ∷ 117 ∷ 116 ∷ 32 ∷ l) (append_under x _ _ _ (ap
     (λ l. 58 ∷ 32 ∷ 98 ∷ 121 ∷ 116 ∷ 101 ∷ l) f))
-parameter_laid at (Read x IntElement) r f = ap (λ l. 114 ∷ 101 ∷ 97 ∷ 100 ∷ 32 ∷ l) (under x _ _ _ (ap
+parameter_laid at (Read x IntElement) r f = ap (λ l. 114 ∷ 101 ∷ 97 ∷ 100 ∷ 32 ∷ l) (append_under x _ _ _ (ap
     (λ l. 58 ∷ 32 ∷ 105 ∷ 110 ∷ 116 ∷ l) f))
-parameter_laid at (Read x ByteElement) r f = ap (λ l. 114 ∷ 101 ∷ 97 ∷ 100 ∷ 32 ∷ l) (under x _ _ _ (ap
+parameter_laid at (Read x ByteElement) r f = ap (λ l. 114 ∷ 101 ∷ 97 ∷ 100 ∷ 32 ∷ l) (append_under x _ _ _ (ap
     (λ l. 58 ∷ 32 ∷ 98 ∷ 121 ∷ 116 ∷ 101 ∷ l) f))
-parameter_laid at (Scalar x) r f = under x _ _ _ (ap (λ l. 58 ∷ 32 ∷ 105 ∷ 110 ∷ 116 ∷ l) f)
+parameter_laid at (Scalar x) r f = append_under x _ _ _ (ap (λ l. 58 ∷ 32 ∷ 105 ∷ 110 ∷ 116 ∷ l) f)
 
 parameters_follow : (at : Place) (ps : List Parameter) (r : List Token) → Follows at r → Follows at (more_parameters_then ps r)
 unfolding laid more_parameters_then
@@ -348,7 +348,7 @@ more_parameters_laid at [] r f = refl
 more_parameters_laid at (p ∷ ps) r f =
     let rest = more_parameters_then ps r in let none = more_parameters_then ps [] in
     ap (λ l. 44 ∷ l) (parameter_apart at p rest ∙ ap (λ l. 32 ∷ l)
-    (joined _ _ _ _ _ _ (parameter_laid at p rest (parameters_follow at ps r f)) (parameter_laid line p none
+    (append_joined _ _ _ _ _ _ (parameter_laid at p rest (parameters_follow at ps r f)) (parameter_laid line p none
     (parameters_follow line ps [] (end_follows line))) (more_parameters_laid at ps r f)))
     ∙ ap (λ l. (44 ∷ l) ++ laid (at_left at Operand) r) (sym (parameter_apart line p none))
 
@@ -358,7 +358,7 @@ parameters_laid : (at : Place) (ps : List Parameter) (r : List Token)
 unfolding laid parameters_then
 parameters_laid at [] r = refl
 parameters_laid at (p ∷ ps) r =
-    joined _ _ _ _ _ _ (parameter_laid at p (more_parameters_then ps (MarkToken RightParen ∷ r)) (parameters_follow at ps
+    append_joined _ _ _ _ _ _ (parameter_laid at p (more_parameters_then ps (MarkToken RightParen ∷ r)) (parameters_follow at ps
     (MarkToken RightParen ∷ r) refl)) (parameter_laid line p (more_parameters_then ps []) (parameters_follow line ps []
     (end_follows line))) (more_parameters_laid at ps (MarkToken RightParen ∷ r) refl)
 
@@ -392,8 +392,8 @@ pub laid_procedure : (d : ℕ) (n : Option ℕ) (f : List ℕ) (ps : List Parame
 unfolding laid
 laid_procedure d n f ps ts =
     let at : Place = record { depth = d; label = n; left = Opening } in
-    under (plain_margin n ++ indent d) _ _ _ (ap (λ l. 112 ∷ 114 ∷ 111 ∷ 99 ∷ 32 ∷ l) (under f _ _ _ (ap (λ l. 40 ∷ l)
-    (parameters_laid at ps (MarkToken LeftBrace ∷ ts) ∙ under (in_line (parameters_then ps [])) _ (codes ")") _ refl))))
+    append_under (plain_margin n ++ indent d) _ _ _ (ap (λ l. 112 ∷ 114 ∷ 111 ∷ 99 ∷ 32 ∷ l) (append_under f _ _ _ (ap (λ l. 40 ∷ l)
+    (parameters_laid at ps (MarkToken LeftBrace ∷ ts) ∙ append_under (in_line (parameters_then ps [])) _ (codes ")") _ refl))))
 
 pub laid_array : (d : ℕ) (n : Option ℕ) (x : List ℕ) (e : ElementType) (k : ℕ) (ts : List Token) →
     laid (record { depth = d; label = n; left = Margin }) (WordToken WordArray ∷ NameToken x ∷ MarkToken Colon ∷ WordToken
@@ -402,17 +402,17 @@ pub laid_array : (d : ℕ) (n : Option ℕ) (x : List ℕ) (e : ElementType) (k 
     (decimal k ++ codes "];"))))))) ++ laid (record { depth = d; label = n; left = Ended }) ts
 unfolding laid
 laid_array d n x IntElement k ts =
-    under (plain_margin n ++ indent d) _ _ _ (ap (λ l. 97 ∷ 114 ∷ 114 ∷ 97 ∷ 121 ∷ 32 ∷ l) (under x _ _ _ (ap
-    (λ l. 58 ∷ 32 ∷ 105 ∷ 110 ∷ 116 ∷ 91 ∷ l) (under (decimal k) _ (codes "];") _ refl))))
+    append_under (plain_margin n ++ indent d) _ _ _ (ap (λ l. 97 ∷ 114 ∷ 114 ∷ 97 ∷ 121 ∷ 32 ∷ l) (append_under x _ _ _ (ap
+    (λ l. 58 ∷ 32 ∷ 105 ∷ 110 ∷ 116 ∷ 91 ∷ l) (append_under (decimal k) _ (codes "];") _ refl))))
 laid_array d n x ByteElement k ts =
-    under (plain_margin n ++ indent d) _ _ _ (ap (λ l. 97 ∷ 114 ∷ 114 ∷ 97 ∷ 121 ∷ 32 ∷ l) (under x _ _ _ (ap
-    (λ l. 58 ∷ 32 ∷ 98 ∷ 121 ∷ 116 ∷ 101 ∷ 91 ∷ l) (under (decimal k) _ (codes "];") _ refl))))
+    append_under (plain_margin n ++ indent d) _ _ _ (ap (λ l. 97 ∷ 114 ∷ 114 ∷ 97 ∷ 121 ∷ 32 ∷ l) (append_under x _ _ _ (ap
+    (λ l. 58 ∷ 32 ∷ 98 ∷ 121 ∷ 116 ∷ 101 ∷ 91 ∷ l) (append_under (decimal k) _ (codes "];") _ refl))))
 
 pub laid_main : (d : ℕ) (n : Option ℕ) (ts : List Token)
     → laid (record { depth = d; label = n; left = Margin }) (WordToken WordMain ∷ MarkToken LeftBrace ∷ ts)
     ≡ ((plain_margin n ++ indent d) ++ codes "main") ++ laid (record { depth = d; label = n; left = Other }) (MarkToken LeftBrace ∷ ts)
 unfolding laid
-laid_main d n ts = under (plain_margin n ++ indent d) _ (codes "main") _ refl
+laid_main d n ts = append_under (plain_margin n ++ indent d) _ (codes "main") _ refl
 
 -- a label right in five places
 

@@ -13,8 +13,8 @@ use Rattle.syntax.specs.Tree.{Finish, Block, End, Then}
 use Rattle.syntax.specs.Spelling.{expr_then, more_then, exprs_then, stmt_then, block_then}
 use Rattle.syntax.specs.Reading.{binds, list_level, or_level, else_level}
 use Rattle.syntax.proofs.ExprSpellings.{begins, expr_begins}
-use Rattle.syntax.proofs.StmtSpellings.{begun, more_bind}
-use Rattle.syntax.proofs.RefusalLemmas.{next}
+use Rattle.syntax.proofs.StmtSpellings.{stmt_begins_with_no_brace, more_bind}
+use Rattle.syntax.proofs.RefusalLemmas.{rests_equal}
 
 -- an expression, and others behind commas
 pub record Several (ts r : List Token) : Type 0 where
@@ -25,15 +25,15 @@ pub record Several (ts r : List Token) : Type 0 where
   pub ends : binds after < or_level
   pub more : after ≡ more_then others r
 
-several : (e : Expr) (es : List Expr) {ts : List Token} (r : List Token) → binds r < list_level
+several_opened : (e : Expr) (es : List Expr) {ts : List Token} (r : List Token) → binds r < list_level
     → ts ≡ expr_then e (more_then es r) → Several ts r
-several e es r ends same =
+several_opened e es r ends same =
     record { first = e; after = more_then es r; others = es; spelled = same; ends = more_bind es r ends; more = refl }
 
 pub block_closed : (b : Block) (ts r : List Token) → MarkToken RightBrace ∷ ts ≡ block_then b r → ts ≡ r
 unfolding block_then
-block_closed End ts r same = next same
-block_closed (Then s b) ts r same = absurd (begun s _ same)
+block_closed End ts r same = rests_equal same
+block_closed (Then s b) ts r same = absurd (stmt_begins_with_no_brace s _ same)
 
 pub block_opened : (b : Block) (ts r : List Token) → ((rest : List Token) → ts ≢ MarkToken RightBrace ∷ rest)
     → ts ≡ block_then b r → (s : Stmt) × (c : Block) × (ts ≡ stmt_then s (block_then c r))
@@ -51,8 +51,8 @@ pub record Conditional (ts r : List Token) : Type 0 where
 
 pub if_opened : (s : Stmt) (ts r : List Token) → WordToken WordIf ∷ ts ≡ stmt_then s r → Conditional ts r
 unfolding stmt_then
-if_opened (If e b) ts r same = record { guard = e; body = b; after = r; spelled = next same; other = inl refl }
-if_opened (IfElse e b c) ts r same = record { guard = e; body = b; after = _; spelled = next same; other = inr (c, refl) }
+if_opened (If e b) ts r same = record { guard = e; body = b; after = r; spelled = rests_equal same; other = inl refl }
+if_opened (IfElse e b c) ts r same = record { guard = e; body = b; after = _; spelled = rests_equal same; other = inr (c, refl) }
 if_opened _ ts r same = cc
 
 pub if_alone : {ts r : List Token} (c : Conditional ts r) (left : List Token)
@@ -62,12 +62,12 @@ if_alone c left none same = elim c.other [ inl e ↦ same ∙ e | inr w ↦ absu
 pub if_otherwise : {ts r : List Token} (c : Conditional ts r) (left : List Token) → binds r < else_level
     → WordToken WordElse ∷ left ≡ c.after → (d : Block) × (left ≡ MarkToken LeftBrace ∷ block_then d r)
 if_otherwise c left ends same =
-    elim c.other [ inl e ↦ absurd (omega (arith, ends, ap binds (same ∙ e))) | inr w ↦ (w.0, next (same ∙ w.1)) ]
+    elim c.other [ inl e ↦ absurd (omega (arith, ends, ap binds (same ∙ e))) | inr w ↦ (w.0, rests_equal (same ∙ w.1)) ]
 
 pub while_opened : (s : Stmt) (ts r : List Token) → WordToken WordWhile ∷ ts ≡ stmt_then s r
     → (e : Expr) × (b : Block) × (ts ≡ expr_then e (MarkToken LeftBrace ∷ block_then b r))
 unfolding stmt_then
-while_opened (While e b) ts r same = (e, b, next same)
+while_opened (While e b) ts r same = (e, b, rests_equal same)
 while_opened _ ts r same = cc
 
 -- the parts of a `split` whose first word was read
@@ -91,7 +91,7 @@ split_opened (Split x e y z b) ts r same = record {
   left = y;
   right = z;
   body = b;
-  spelled = next same;
+  spelled = rests_equal same;
   ends = omega arith;
   sided = refl;
 }
@@ -100,35 +100,35 @@ split_opened _ ts r same = cc
 pub async_opened : (s : Stmt) (ts r : List Token) → WordToken WordAsync ∷ ts ≡ stmt_then s r
     → (b : Block) × (ts ≡ MarkToken LeftBrace ∷ block_then b r)
 unfolding stmt_then
-async_opened (Async b) ts r same = (b, next same)
+async_opened (Async b) ts r same = (b, rests_equal same)
 async_opened _ ts r same = cc
 
 pub finish_opened : (s : Stmt) (ts r : List Token) → WordToken WordFinish ∷ ts ≡ stmt_then s r
     → (b : Block) × (ts ≡ MarkToken LeftBrace ∷ block_then b r)
 unfolding stmt_then
-finish_opened (Finish b) ts r same = (b, next same)
+finish_opened (Finish b) ts r same = (b, rests_equal same)
 finish_opened _ ts r same = cc
 
 pub skip_opened : (s : Stmt) (ts r : List Token) → WordToken WordSkip ∷ ts ≡ stmt_then s r → ts ≡ MarkToken Semicolon ∷ r
 unfolding stmt_then
-skip_opened Skip ts r same = next same
+skip_opened Skip ts r same = rests_equal same
 skip_opened _ ts r same = cc
 
 pub var_opened : (s : Stmt) (ts r : List Token) → WordToken WordVar ∷ ts ≡ stmt_then s r
     → (x : List ℕ) × (e : Expr) × (ts ≡ NameToken x ∷ MarkToken Becomes ∷ expr_then e (MarkToken Semicolon ∷ r))
 unfolding stmt_then
-var_opened (Var x e) ts r same = (x, e, next same)
+var_opened (Var x e) ts r same = (x, e, rests_equal same)
 var_opened _ ts r same = cc
 
 pub print_opened : (s : Stmt) (ts r : List Token) → WordToken WordPrint ∷ ts ≡ stmt_then s r → Several ts (MarkToken Semicolon ∷ r)
 unfolding stmt_then
-print_opened (Print e es) ts r same = several e es _ (omega arith) (next same)
+print_opened (Print e es) ts r same = several_opened e es _ (omega arith) (rests_equal same)
 print_opened _ ts r same = cc
 
 pub fault_opened : (s : Stmt) (ts r : List Token) → WordToken WordFault ∷ ts ≡ stmt_then s r
     → (e : Expr) × (ts ≡ expr_then e (MarkToken Semicolon ∷ r))
 unfolding stmt_then
-fault_opened (Fault e) ts r same = (e, next same)
+fault_opened (Fault e) ts r same = (e, rests_equal same)
 fault_opened _ ts r same = cc
 
 pub store_opened : (s : Stmt) (x : List ℕ) (ts r : List Token)
@@ -136,13 +136,13 @@ pub store_opened : (s : Stmt) (x : List ℕ) (ts r : List Token)
     → (i : Expr) × (e : Expr) × (ts ≡ expr_then i (MarkToken RightBracket ∷ MarkToken Becomes
     ∷ expr_then e (MarkToken Semicolon ∷ r)))
 unfolding stmt_then
-store_opened (Store y i e) x ts r same = (i, e, next (next same))
+store_opened (Store y i e) x ts r same = (i, e, rests_equal (rests_equal same))
 store_opened _ x ts r same = cc
 
 pub call_opened : (s : Stmt) (x : List ℕ) (ts r : List Token) → NameToken x ∷ MarkToken LeftParen ∷ ts ≡ stmt_then s r
     → (es : List Expr) × (ts ≡ exprs_then es (MarkToken RightParen ∷ MarkToken Semicolon ∷ r))
 unfolding stmt_then
-call_opened (Call f es) x ts r same = (es, next (next same))
+call_opened (Call f es) x ts r same = (es, rests_equal (rests_equal same))
 call_opened _ x ts r same = cc
 
 pub assign_opened : (s : Stmt) (x : List ℕ) (ts r : List Token)
@@ -150,9 +150,9 @@ pub assign_opened : (s : Stmt) (x : List ℕ) (ts r : List Token)
     → ((rest : List Token) → ts ≢ MarkToken LeftParen ∷ rest) → NameToken x ∷ ts ≡ stmt_then s r
     → (e : Expr) × (ts ≡ MarkToken Becomes ∷ expr_then e (MarkToken Semicolon ∷ r))
 unfolding stmt_then
-assign_opened (Assign y e) x ts r bracket paren same = (e, next same)
-assign_opened (Store y i e) x ts r bracket paren same = absurd (bracket _ (next same))
-assign_opened (Call f es) x ts r bracket paren same = absurd (paren _ (next same))
+assign_opened (Assign y e) x ts r bracket paren same = (e, rests_equal same)
+assign_opened (Store y i e) x ts r bracket paren same = absurd (bracket _ (rests_equal same))
+assign_opened (Call f es) x ts r bracket paren same = absurd (paren _ (rests_equal same))
 assign_opened _ x ts r bracket paren same = cc
 
 -- where neither a word nor a name stands
@@ -204,11 +204,11 @@ no_simple ts none _ r same = cc (none.first)
 
 pub exprs_closed : (es : List Expr) (ts r : List Token) → MarkToken RightParen ∷ ts ≡ exprs_then es (MarkToken RightParen ∷ r) → ts ≡ r
 unfolding exprs_then
-exprs_closed [] ts r same = next same
+exprs_closed [] ts r same = rests_equal same
 exprs_closed (e ∷ es) ts r same = absurd (omega (arith, ap begins same, expr_begins e (more_then es (MarkToken RightParen ∷ r))))
 
 pub exprs_opened : (es : List Expr) (ts r : List Token) → ((rest : List Token) → ts ≢ MarkToken RightParen ∷ rest)
     → ts ≡ exprs_then es (MarkToken RightParen ∷ r) → Several ts (MarkToken RightParen ∷ r)
 unfolding exprs_then
 exprs_opened [] ts r none same = absurd (none _ same)
-exprs_opened (e ∷ fs) ts r none same = several e fs _ (omega arith) same
+exprs_opened (e ∷ fs) ts r none same = several_opened e fs _ (omega arith) same

@@ -53,21 +53,21 @@ stmt_binds (Async b) r = refl
 stmt_binds (Finish b) r = refl
 
 -- no statement begins with the brace that closes its block
-pub begun : (x : Stmt) (r : List Token) {s : List Token} → MarkToken RightBrace ∷ s ≢ stmt_then x r
+pub stmt_begins_with_no_brace : (x : Stmt) (r : List Token) {s : List Token} → MarkToken RightBrace ∷ s ≢ stmt_then x r
 unfolding stmt_then
-begun Skip r same = cc
-begun (Var x e) r same = cc
-begun (Assign x e) r same = cc
-begun (Store x i e) r same = cc
-begun (Print e es) r same = cc
-begun (Fault e) r same = cc
-begun (If e b) r same = cc
-begun (IfElse e b c) r same = cc
-begun (While e b) r same = cc
-begun (Split x e y z b) r same = cc
-begun (Call f es) r same = cc
-begun (Async b) r same = cc
-begun (Finish b) r same = cc
+stmt_begins_with_no_brace Skip r same = cc
+stmt_begins_with_no_brace (Var x e) r same = cc
+stmt_begins_with_no_brace (Assign x e) r same = cc
+stmt_begins_with_no_brace (Store x i e) r same = cc
+stmt_begins_with_no_brace (Print e es) r same = cc
+stmt_begins_with_no_brace (Fault e) r same = cc
+stmt_begins_with_no_brace (If e b) r same = cc
+stmt_begins_with_no_brace (IfElse e b c) r same = cc
+stmt_begins_with_no_brace (While e b) r same = cc
+stmt_begins_with_no_brace (Split x e y z b) r same = cc
+stmt_begins_with_no_brace (Call f es) r same = cc
+stmt_begins_with_no_brace (Async b) r same = cc
+stmt_begins_with_no_brace (Finish b) r same = cc
 
 pub block_binds : (b : Block) (r : List Token) → binds (block_then b r) ≡ 0
 unfolding block_then
@@ -162,8 +162,8 @@ mutual
 
   pub block_one : (x y : Block) (r s : List Token) → block_then x r ≡ block_then y s → (x ≡ y) × (r ≡ s)
   block_one End End r s same = (refl, cc)
-  block_one End (Then q c) r s same = absurd (begun q (block_then c s) same)
-  block_one (Then p b) End r s same = absurd (begun p (block_then b r) (sym same))
+  block_one End (Then q c) r s same = absurd (stmt_begins_with_no_brace q (block_then c s) same)
+  block_one (Then p b) End r s same = absurd (stmt_begins_with_no_brace p (block_then b r) (sym same))
   block_one (Then p b) (Then q c) r s same =
       let first = stmt_one p q (block_then b r) (block_then c s) (omega (arith, block_binds b r)) (omega (arith, block_binds c s)) same in
       let more = block_one b c r s first.1 in

@@ -2,7 +2,7 @@
 use Rattle.std.specs.Prelude.{◌+◌, ◌-◌, ◌≤◌, ℕ, List, [], ◌∷◌}
 use Rattle.syntax.specs.declared.token.Mark.{Mark}
 use Rattle.syntax.specs.declared.token.Mark.TheVariants.{LeftParen, RightParen, LeftBrace, RightBrace, LeftBracket, RightBracket}
-use Rattle.syntax.specs.Token.{Token, MarkToken}
+use Rattle.syntax.specs.Token.{Token, NameToken, NumberToken, WordToken, MarkToken}
 
 -- a mark that opens a bracket adds one, and one that closes a bracket takes one away, never below 0
 abbrev pub open_behind_mark : ℕ → Mark → ℕ
@@ -14,9 +14,12 @@ open_behind_mark count RightBrace = count - 1
 open_behind_mark count RightBracket = count - 1
 open_behind_mark count _ = count
 
+-- and no other token changes how many are open
 abbrev pub open_behind : ℕ → Token → ℕ
 open_behind count (MarkToken mark) = open_behind_mark count mark
-open_behind count _ = count
+open_behind count (NameToken name) = count
+open_behind count (NumberToken number) = count
+open_behind count (WordToken word) = count
 
 -- with so many open before the tokens, no more than 100 are open at any of them
 abbrev pub AreShallow : ℕ → List Token → Type 0

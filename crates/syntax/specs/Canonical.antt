@@ -1,4 +1,5 @@
--- The canonical text of a program: its tokens laid out in lines, and its listing, with labels before the lines.
+-- The canonical text of a program: its tokens laid out in lines; and its listing, with labels before the
+-- lines.
 use Rattle.std.specs.Prelude.{ℕ, ◌+◌, ◌-◌, ◌*◌, Bool, true, false, not, ◌||◌, ◌&&◌, if◌then◌else◌, List, [], ◌++◌, ◌∷◌}
 use Rattle.std.specs.Prelude.{length, replicate, codes, Option, None, Some}
 use Rattle.std.specs.Fmt.{decimal}
@@ -30,8 +31,8 @@ pub data Left : Type 0 where
   -- any other token
   Other : Left
 
--- where a layout stands: how many blocks are open, the label of the last statement, if labels are written,
--- and what stands to the left
+-- where a layout stands: how many blocks are open, the label of the last statement, if labels are
+-- written, and what stands to the left
 pub record Place : Type 0 where
   pub depth : ℕ
   pub label : Option ℕ
@@ -134,7 +135,8 @@ indentation depth _ = indent depth
 -- what stands before the line that a token begins
 abbrev pub line_start : Place → Token → List ℕ
 line_start at t =
-    (if begins_statement t then statement_margin at.label else plain_margin at.label) ++ indentation at.depth t
+    (if begins_statement t then statement_margin at.label else plain_margin at.label)
+    ++ indentation at.depth t
 
 -- the line feed behind a line
 abbrev pub line_end : Left → List ℕ
@@ -156,7 +158,9 @@ depth_by depth _ = depth
 abbrev pub next : Place → Token → Place
 next at t = record {
   depth = depth_by at.depth t;
-  label = (if begins_line at.left t && begins_statement t then option_map (λ n. n + 1) at.label else at.label);
+  label = (if begins_line at.left t && begins_statement t
+      then option_map (λ n. n + 1) at.label
+      else at.label);
   left = left_by at.left t;
 }
 

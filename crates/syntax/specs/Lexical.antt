@@ -1,5 +1,5 @@
--- The tokens of a text: a text is cut into pieces, each the longest that stands there, and a piece is a
--- token, a blank or a comment.
+-- The tokens of a text: a text is cut into pieces, each the longest that stands there, and a piece is
+-- a token, a blank or a comment.
 use Rattle.std.specs.Prelude.{◌≡◌, ◌≢◌, ◌+◌, ◌*◌, ◌<◌, ◌≤◌, ℕ, Bool, true, false, not, ◌==◌, ◌||◌, ◌&&◌, List, [], ◌∷◌}
 use Rattle.std.specs.Prelude.{◌++◌, codes, drop, fold, length}
 use Rattle.std.specs.Char.{is_ascii_alphabetic, is_ascii_digit, digit_value}
@@ -143,7 +143,8 @@ pub record IsNumber (cs rest : List ℕ) : Type 0 where
 
 -- where `=` stands behind a mark, the two together are no mark; and a comment is no mark
 pub record IsMark (m : Mark) (rest : List ℕ) : Type 0 where
-  pub longest : starts (λ c. c == 61) rest ≡ true → (longer : Mark) → mark_text longer ≢ mark_text m ++ 61 ∷ []
+  pub longest : starts (λ c. c == 61) rest ≡ true → (longer : Mark)
+      → mark_text longer ≢ mark_text m ++ 61 ∷ []
   pub no_comment : begins_comment (mark_text m ++ rest) ≡ false
 
 -- a piece may stand before the rest of a text, and could be no longer there
@@ -206,7 +207,7 @@ pub record BeginsLargeNumber (text : List ℕ) : Type 0 where
   pub ends : starts is_ascii_digit behind ≡ false
   pub over : 9223372036854775807 < number_of digits
 
--- so many characters of a text are cut into pieces, and behind them others stand that begin with no piece
+-- so many characters of a text are cut into pieces, and others stand behind that begin with no piece
 pub record StopsAt (text : List ℕ) (at : ℕ) : Type 0 where
   pub tokens : List Token
   pub read : HasTokens text tokens (drop at text)

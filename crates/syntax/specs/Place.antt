@@ -15,7 +15,10 @@ column_behind before = prefix_len is_in_line (reverse before) + 1
 
 -- the place of the character with this number from 0, or the one just behind the text
 abbrev pub place_at : List ℕ → ℕ → Place
-place_at text at = record { line = line_behind (take at text); column = column_behind (take at text) }
+place_at text at = record {
+  line = line_behind (take at text);
+  column = column_behind (take at text);
+}
 
 -- the text of a place: its line, then its column
 abbrev pub place_text : Place → List ℕ

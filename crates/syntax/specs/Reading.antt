@@ -1,4 +1,4 @@
--- What a loop over a list of the grammar adds, which tokens go on with what stands before them, and what spells nothing.
+-- What it means that tokens were read as a tree, and which tokens go on with what stands before them.
 use Rattle.std.specs.Prelude.{◌≡◌, ◌≢◌, ◌<◌, ℕ, List, [], ◌∷◌, ◌++◌}
 use Rattle.syntax.specs.declared.cursor.Stuck.{Stuck}
 use Rattle.syntax.specs.declared.cursor.Stuck.TheVariants.{OutOfMemory}
@@ -87,39 +87,44 @@ binds (NumberToken _ ∷ _) = 0
 binds (WordToken w ∷ _) = word_binds w
 binds (MarkToken m ∷ _) = mark_binds m
 
+-- how trees are spelled, with other tokens behind them
+abbrev pub Spells : Type 0 → Type 0
+Spells Tree = Tree → List Token → List Token
+
 -- the tokens spell no tree, with anything behind it that binds less tightly
-abbrev pub SpellsNone : {Tree : Type 0} → (Tree → List Token → List Token) → ℕ → List Token → Type 0
-SpellsNone spelled level tokens = (tree : _) (rest : List Token) → binds rest < level → tokens ≢ spelled tree rest
+abbrev pub SpellsNone : {Tree : Type 0} → Spells Tree → ℕ → List Token → Type 0
+SpellsNone spell level tokens =
+    (tree : _) (rest : List Token) → binds rest < level → tokens ≢ spell tree rest
 
--- whatever tree the tokens spell, with anything behind it that binds less tightly, these stand behind it
-abbrev pub Leaves : {Tree : Type 0} → (Tree → List Token → List Token) → ℕ → List Token → List Token → Type 0
-Leaves spelled level tokens left = (tree : _) (rest : List Token) → binds rest < level → tokens ≡ spelled tree rest → left ≡ rest
+-- whatever tree the tokens spell, with anything behind it that binds less tightly, these stand behind
+abbrev pub Leaves : {Tree : Type 0} → Spells Tree → ℕ → List Token → List Token → Type 0
+Leaves spell level tokens left =
+    (tree : _) (rest : List Token) → binds rest < level → tokens ≡ spell tree rest → left ≡ rest
 
--- the same of trees that end by a token of their own, behind which anything may stand
-abbrev pub SpellsNoneClosed : {Tree : Type 0} → (Tree → List Token → List Token) → List Token → Type 0
-SpellsNoneClosed spelled tokens = (tree : _) (rest : List Token) → tokens ≢ spelled tree rest
-
--- and of what stands behind them
-abbrev pub LeavesClosed : {Tree : Type 0} → (Tree → List Token → List Token) → List Token → List Token → Type 0
-LeavesClosed spelled tokens left = (tree : _) (rest : List Token) → tokens ≡ spelled tree rest → left ≡ rest
-
--- these tokens were read as this tree, which they spell, up to those that are left; and whatever tree they spell, the
--- same are left
-pub record IsRead {Tree : Type 0} (spell : Tree → List Token → List Token) (level : ℕ) (tokens : List Token) (tree : Tree)
+-- these tokens were read as this tree: they spell it, up to those that are left, and no other, nor more
+-- or less of it
+pub record IsRead {Tree : Type 0} (spell : Spells Tree) (level : ℕ) (tokens : List Token) (tree : Tree)
     (left : List Token) : Type 0 where
   pub spelled : tokens ≡ spell tree left
   pub whole : Leaves spell level tokens left
 
--- the same of trees that end by a token of their own
-pub record IsReadClosed {Tree : Type 0} (spell : Tree → List Token → List Token) (tokens : List Token) (tree : Tree)
+-- tokens are refused only where they spell no tree, memory aside
+abbrev pub Refuses : {Tree : Type 0} → Spells Tree → ℕ → List Token → Stuck → Type 0
+Refuses spell level tokens stuck = stuck ≢ OutOfMemory → SpellsNone spell level tokens
+
+-- The same of trees that end by a token of their own, behind which anything may stand.
+
+abbrev pub SpellsNoneClosed : {Tree : Type 0} → Spells Tree → List Token → Type 0
+SpellsNoneClosed spell tokens = (tree : _) (rest : List Token) → tokens ≢ spell tree rest
+
+abbrev pub LeavesClosed : {Tree : Type 0} → Spells Tree → List Token → List Token → Type 0
+LeavesClosed spell tokens left =
+    (tree : _) (rest : List Token) → tokens ≡ spell tree rest → left ≡ rest
+
+pub record IsReadClosed {Tree : Type 0} (spell : Spells Tree) (tokens : List Token) (tree : Tree)
     (left : List Token) : Type 0 where
   pub spelled : tokens ≡ spell tree left
   pub whole : LeavesClosed spell tokens left
 
--- tokens that spell no tree are refused, and no others, memory aside
-abbrev pub Refuses : {Tree : Type 0} → (Tree → List Token → List Token) → ℕ → List Token → Stuck → Type 0
-Refuses spell level tokens stuck = stuck ≢ OutOfMemory → SpellsNone spell level tokens
-
--- the same of trees that end by a token of their own
-abbrev pub RefusesClosed : {Tree : Type 0} → (Tree → List Token → List Token) → List Token → Stuck → Type 0
+abbrev pub RefusesClosed : {Tree : Type 0} → Spells Tree → List Token → Stuck → Type 0
 RefusesClosed spell tokens stuck = stuck ≢ OutOfMemory → SpellsNoneClosed spell tokens

@@ -17,12 +17,12 @@ use Rattle.syntax.specs.Spelling.{spelling}
 use Rattle.syntax.specs.Token.{Token, token, plain}
 use Rattle.syntax.specs.Tree.{Program}
 
--- S1: a text can be read up to the character with this number, which begins no piece and is no digit
+-- S1: a text can be read up to this character, which begins no piece and is no digit
 pub record IsNoCharacter (text : List ℕ) (at : ℕ) : Type 0 where
   pub stops : StopsAt text at
   pub no_digit : starts is_ascii_digit (drop at text) ≡ false
 
--- S3: a text can be read up to the character with this number, where a number begins that is too large
+-- S3: a text can be read up to this character, where a number begins that is too large
 pub record IsLargeNumber (text : List ℕ) (at : ℕ) : Type 0 where
   pub stops : StopsAt text at
   pub large : BeginsLargeNumber (drop at text)
@@ -62,7 +62,7 @@ ArePlaced text found =
     (before : List Spanned) (s : Spanned) (after : List Spanned) → found ≡ before ++ s ∷ after
     → StandsAt text (plain before) (token s.token) s.at
 
--- by the token that begins with this character, and by none before it, more than 100 brackets are open
+-- by the token that begins with this character, and none before it, more than 100 brackets are open
 pub record OpensTooMany (found : List Spanned) (at : ℕ) : Type 0 where
   pub before : List Spanned
   pub last : Spanned
@@ -72,7 +72,7 @@ pub record OpensTooMany (found : List Spanned) (at : ℕ) : Type 0 where
   pub deep : AreShallow 0 (plain before ++ token last.token ∷ []) → ⊥
   pub there : at ≡ last.at
 
--- S4: a text has tokens, and by the one at this character more than 100 brackets are open for the first time
+-- S4: a text has tokens, and by the one at this character, as the first, more than 100 brackets are open
 pub record IsTooDeep (text : List ℕ) (at : ℕ) : Type 0 where
   pub tokens : List Token
   pub read : AreTokensOf text tokens
@@ -83,7 +83,7 @@ pub record IsTooDeep (text : List ℕ) (at : ℕ) : Type 0 where
   pub deep : AreShallow 0 (before ++ last ∷ []) → ⊥
   pub all_deep : AreShallow 0 tokens → ⊥
 
--- S2: a text has tokens, by which no more than 100 brackets are open, and no program is spelled by them
+-- S2: a text has tokens, by which at most 100 brackets are open, and they spell no program
 pub record SpellsNoProgram (text : List ℕ) (at : ℕ) : Type 0 where
   pub tokens : List Token
   pub read : AreTokensOf text tokens

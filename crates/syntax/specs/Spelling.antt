@@ -94,7 +94,8 @@ unfoldable mutual
 
   pub factors_then : Factors → List Token → List Token
   factors_then NoFactor r = r
-  factors_then (MultiplyFactor operator u fs) r = MarkToken (operator_mark operator) ∷ unary_then u (factors_then fs r)
+  factors_then (MultiplyFactor operator u fs) r =
+      MarkToken (operator_mark operator) ∷ unary_then u (factors_then fs r)
 
   -- unary = [ "-" ] atom
   pub unary_then : Unary → List Token → List Token
@@ -107,8 +108,10 @@ unfoldable mutual
   atom_then True r = WordToken WordTrue ∷ r
   atom_then False r = WordToken WordFalse ∷ r
   atom_then (Name x) r = NameToken x ∷ r
-  atom_then (Element s e) r = NameToken s ∷ MarkToken LeftBracket ∷ expr_then e (MarkToken RightBracket ∷ r)
-  atom_then (Length s) r = WordToken WordLen ∷ MarkToken LeftParen ∷ NameToken s ∷ MarkToken RightParen ∷ r
+  atom_then (Element s e) r =
+      NameToken s ∷ MarkToken LeftBracket ∷ expr_then e (MarkToken RightBracket ∷ r)
+  atom_then (Length s) r =
+      WordToken WordLen ∷ MarkToken LeftParen ∷ NameToken s ∷ MarkToken RightParen ∷ r
   atom_then (Parens e) r = MarkToken LeftParen ∷ expr_then e (MarkToken RightParen ∷ r)
 
 -- { "," expr }
@@ -126,29 +129,34 @@ unfoldable mutual
   -- stmt = "skip" ";"
   stmt_then Skip r = WordToken WordSkip ∷ MarkToken Semicolon ∷ r
   -- | "var" name "=" expr ";"
-  stmt_then (Var x e) r = WordToken WordVar ∷ NameToken x ∷ MarkToken Becomes ∷ expr_then e (MarkToken Semicolon ∷ r)
+  stmt_then (Var x e) r =
+      WordToken WordVar ∷ NameToken x ∷ MarkToken Becomes ∷ expr_then e (MarkToken Semicolon ∷ r)
   -- | name "=" expr ";"
   stmt_then (Assign x e) r = NameToken x ∷ MarkToken Becomes ∷ expr_then e (MarkToken Semicolon ∷ r)
   -- | name "[" expr "]" "=" expr ";"
   stmt_then (Store s i e) r =
-      NameToken s ∷ MarkToken LeftBracket ∷ expr_then i (MarkToken RightBracket ∷ MarkToken Becomes ∷ expr_then e (MarkToken Semicolon ∷ r))
+      NameToken s ∷ MarkToken LeftBracket
+      ∷ expr_then i (MarkToken RightBracket ∷ MarkToken Becomes ∷ expr_then e (MarkToken Semicolon ∷ r))
   -- | "print" expr { "," expr } ";"
-  stmt_then (Print e es) r = WordToken WordPrint ∷ expr_then e (more_then es (MarkToken Semicolon ∷ r))
+  stmt_then (Print e es) r =
+      WordToken WordPrint ∷ expr_then e (more_then es (MarkToken Semicolon ∷ r))
   -- | "fault" expr ";"
   stmt_then (Fault e) r = WordToken WordFault ∷ expr_then e (MarkToken Semicolon ∷ r)
   -- | "if" expr block [ "else" block ]
   stmt_then (If e b) r = WordToken WordIf ∷ expr_then e (MarkToken LeftBrace ∷ block_then b r)
   stmt_then (IfElse e b c) r =
-      WordToken WordIf ∷ expr_then e (MarkToken LeftBrace ∷ block_then b (WordToken WordElse ∷ MarkToken LeftBrace ∷ block_then c r))
+      WordToken WordIf ∷ expr_then e (MarkToken LeftBrace
+      ∷ block_then b (WordToken WordElse ∷ MarkToken LeftBrace ∷ block_then c r))
   -- | "while" expr block
   stmt_then (While e b) r = WordToken WordWhile ∷ expr_then e (MarkToken LeftBrace ∷ block_then b r)
   -- | "split" name "at" expr "as" name "," name block
   stmt_then (Split s e x y b) r =
       WordToken WordSplit ∷ NameToken s ∷ WordToken WordAt
-      ∷ expr_then e (WordToken WordAs ∷ NameToken x ∷ MarkToken Comma ∷ NameToken y ∷ MarkToken LeftBrace
-      ∷ block_then b r)
+      ∷ expr_then e (WordToken WordAs ∷ NameToken x ∷ MarkToken Comma ∷ NameToken y
+      ∷ MarkToken LeftBrace ∷ block_then b r)
   -- | name "(" [ expr { "," expr } ] ")" ";"
-  stmt_then (Call f es) r = NameToken f ∷ MarkToken LeftParen ∷ exprs_then es (MarkToken RightParen ∷ MarkToken Semicolon ∷ r)
+  stmt_then (Call f es) r =
+      NameToken f ∷ MarkToken LeftParen ∷ exprs_then es (MarkToken RightParen ∷ MarkToken Semicolon ∷ r)
   -- | "async" block
   stmt_then (Async b) r = WordToken WordAsync ∷ MarkToken LeftBrace ∷ block_then b r
   -- | "finish" block
@@ -169,8 +177,10 @@ arrays_then (a ∷ rest) r =
 
 -- param = ( "mut" | "read" ) name ":" elem | name ":" "int"
 unfoldable pub parameter_then : Parameter → List Token → List Token
-parameter_then (Written x e) r = WordToken WordMut ∷ NameToken x ∷ MarkToken Colon ∷ WordToken (element_word e) ∷ r
-parameter_then (Read x e) r = WordToken WordRead ∷ NameToken x ∷ MarkToken Colon ∷ WordToken (element_word e) ∷ r
+parameter_then (Written x e) r =
+    WordToken WordMut ∷ NameToken x ∷ MarkToken Colon ∷ WordToken (element_word e) ∷ r
+parameter_then (Read x e) r =
+    WordToken WordRead ∷ NameToken x ∷ MarkToken Colon ∷ WordToken (element_word e) ∷ r
 parameter_then (Scalar x) r = NameToken x ∷ MarkToken Colon ∷ WordToken WordInt ∷ r
 
 -- { "," param }
@@ -194,7 +204,8 @@ procedures_then (p ∷ ps) r =
 -- [ "main" "{" { array } { stmt } "}" ]
 unfoldable pub main_tokens : Option Main → List Token
 main_tokens None = []
-main_tokens (Some m) = WordToken WordMain ∷ MarkToken LeftBrace ∷ arrays_then m.arrays (block_then m.body [])
+main_tokens (Some m) =
+    WordToken WordMain ∷ MarkToken LeftBrace ∷ arrays_then m.arrays (block_then m.body [])
 
 -- program = { proc } [ "main" "{" { array } { stmt } "}" ]
 unfoldable pub spelling : Program → List Token

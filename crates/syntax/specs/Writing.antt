@@ -4,7 +4,8 @@ use Rattle.std.specs.String.{string_bytes}
 use Rattle.syntax.specs.declared.canonical.Lines.{Lines}
 use Rattle.syntax.specs.Canonical.{Left, Place, laid}
 use Rattle.syntax.specs.Token.{Token}
-use Rattle.syntax.specs.Tree.{Stmt, If, IfElse, While, Split, Async, Finish}
+use Rattle.syntax.specs.Tree.{Stmt, Skip, Var, Assign, Store, Print, Fault, If, IfElse, While, Split, Call, Async}
+use Rattle.syntax.specs.Tree.{Finish}
 
 -- where the writer stands, with this to the left
 abbrev pub place : Lines → Left → Place
@@ -33,4 +34,10 @@ is_simple (While e b) = false
 is_simple (Split s e x y b) = false
 is_simple (Async b) = false
 is_simple (Finish b) = false
-is_simple _ = true
+is_simple Skip = true
+is_simple (Var x e) = true
+is_simple (Assign x e) = true
+is_simple (Store s i e) = true
+is_simple (Print e es) = true
+is_simple (Fault e) = true
+is_simple (Call f es) = true

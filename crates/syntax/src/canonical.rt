@@ -309,7 +309,13 @@ fn line(statement: &Stmt, lines: &mut Lines) -> Result<(), AllocError>
             lines.text.push_str("finish")?;
             block(body, lines)
         }
-        _ => {
+        Stmt::Skip
+        | Stmt::Var { .. }
+        | Stmt::Assign { .. }
+        | Stmt::Store { .. }
+        | Stmt::Print { .. }
+        | Stmt::Fault { .. }
+        | Stmt::Call { .. } => {
             simple(statement, lines)?;
             lines.text.push(';')
         }
@@ -383,6 +389,7 @@ fn simple(statement: &Stmt, lines: &mut Lines) -> Result<(), AllocError>
 {
     let out = &mut lines.text;
     match statement {
+        Stmt::Skip => out.push_str("skip"),
         Stmt::Var { name, value } => {
             out.push_str("var ")?;
             assignment(name, value, out)
@@ -407,8 +414,12 @@ fn simple(statement: &Stmt, lines: &mut Lines) -> Result<(), AllocError>
             expressions::listed(arguments, out)?;
             out.push(')')
         }
-        // Only `skip` is left: the others have blocks.
-        _ => out.push_str("skip"),
+        // `line` writes these.
+        Stmt::If { .. }
+        | Stmt::While { .. }
+        | Stmt::Split { .. }
+        | Stmt::Async { .. }
+        | Stmt::Finish { .. } => Ok(()),
     }
 }
 

@@ -11,7 +11,7 @@ use std::alloc::{AllocError, AllocFailed};
 /// Why no more can be read.
 #[derive(Clone, Copy, Debug)]
 pub enum Stuck {
-    /// A token may not stand where so many are left, itself among them; with none left the text ends.
+    /// A token may not stand where so many are left, with itself; with none left the text ends.
     Unexpected { left: usize },
     OutOfMemory,
 }
@@ -65,7 +65,7 @@ pub fn after_mark(tokens: &[Spanned], wanted: Mark) -> Option<&[Spanned]>
     let (first, rest) = tokens.split_first()?;
     match &first.token {
         Token::Mark(mark) => { if *mark == wanted { Some(rest) } else { None } }
-        _ => None,
+        Token::Name(_) | Token::Number(_) | Token::Word(_) => None,
     }
 }
 
@@ -79,7 +79,7 @@ pub fn after_word(tokens: &[Spanned], wanted: Word) -> Option<&[Spanned]>
     let (first, rest) = tokens.split_first()?;
     match &first.token {
         Token::Word(word) => { if *word == wanted { Some(rest) } else { None } }
-        _ => None,
+        Token::Name(_) | Token::Number(_) | Token::Mark(_) => None,
     }
 }
 
@@ -93,7 +93,7 @@ pub fn first_word(tokens: &[Spanned]) -> Option<(Word, &[Spanned])>
     let (first, rest) = tokens.split_first()?;
     match &first.token {
         Token::Word(word) => Some((*word, rest)),
-        _ => None,
+        Token::Name(_) | Token::Number(_) | Token::Mark(_) => None,
     }
 }
 
@@ -142,7 +142,7 @@ pub fn name(tokens: &[Spanned]) -> Result<(String, &[Spanned]), Stuck>
     };
     match &first.token {
         Token::Name(name) => Ok((name.clone()?, rest)),
-        _ => Err(unexpected(tokens)),
+        Token::Number(_) | Token::Word(_) | Token::Mark(_) => Err(unexpected(tokens)),
     }
 }
 
@@ -159,6 +159,6 @@ pub fn number(tokens: &[Spanned]) -> Result<(u64, &[Spanned]), Stuck>
     };
     match &first.token {
         Token::Number(value) => Ok((*value, rest)),
-        _ => Err(unexpected(tokens)),
+        Token::Name(_) | Token::Word(_) | Token::Mark(_) => Err(unexpected(tokens)),
     }
 }

@@ -197,7 +197,7 @@ fn atom(alloc: Global, tokens: &[Spanned]) -> Result<(Atom, &[Spanned]), Stuck>
             let (inner, left) = enclosed(alloc, after, Mark::RightParen)?;
             Ok((Atom::Parens(inner), left))
         }
-        _ => constant(tokens),
+        Some(Token::Number(_)) | Some(Token::Word(_)) | None => constant(tokens),
     }
 }
 
@@ -242,7 +242,8 @@ fn enclosed(
     ensures whole { IfOk result (λ read. mark_binds closing < or_level
         → LeavesClosed (λ inner rest. expr_then inner (MarkToken closing ∷ rest))
         (plain tokens.now) (plain read.1.now)) }
-    ensures refused { IfErr result (λ stuck. stuck ≢ Stuck.OutOfMemory → mark_binds closing < or_level
+    ensures refused { IfErr result (λ stuck. stuck ≢ Stuck.OutOfMemory
+        → mark_binds closing < or_level
         → SpellsNoneClosed (λ inner rest. expr_then inner (MarkToken closing ∷ rest))
         (plain tokens.now)) }
 {

@@ -15,8 +15,8 @@ use crate::tree::Program;
 use crate::{canonical, parser};
 use std::alloc::Global;
 
-/// What is written is read as what it was: reads the canonical text of a program. A `Program` that is
-/// made by hand may hold a name that is none; no text spells it, and the law says nothing of it.
+/// What is written is read as what it was: this reads the canonical text of a program. A `Program`
+/// that is made by hand may hold a name that is none; no text spells it, and the law is silent.
 pub fn read_again(alloc: Global, program: &Program) -> Result<Program, SyntaxError>
     ensures { IsSpelled (program_tree program.now)
         → length (canonical (program_tree program.now)) ≤ 1048576

@@ -18,3 +18,5 @@ pub mod Expressions
 pub mod Statements
 pub mod LabelLimit
 pub mod Sizes
+pub mod FirstParts
+pub mod InputLemmas

@@ -2,7 +2,7 @@
 use Rattle.std.proofs.Common.{◌≡◌, ℕ, zero, suc, ◌+◌, ◌<◌, List, [], ◌∷◌, ◌++◌, length, Option, Some, None, refl, sym}
 use Rattle.std.proofs.Common.{ap, ◌∙◌, subst, arith}
 use Rattle.std.proofs.lemmas.Bool.{eqb-true, eqb-false}
-use Rattle.std.proofs.lemmas.Option.{unwrap_or-slice_get}
+use Rattle.std.proofs.lemmas.Option.{unwrap_or-slice_get, none-some}
 use Rattle.std.proofs.lemmas.List.{get_or-set_same, get_or-set_other}
 use Rattle.std.specs.Prelude.{ℤ, pos, Bool, true, false, ◌&&◌, nat_eq, slice_get, slice_index_or, slice_set, replicate, if◌then◌else◌}
 use Rattle.types.specs.Code.{Array}
@@ -43,19 +43,9 @@ shown-held_by arrays lists fits =
     rows_are (held_by lists) 0 arrays lists fits (λ j k. let z : 0 + j ≡ j = omega arith in
     unwrap_or-slice_get (slice_index_or lists (0 + j) []) k (pos 0) ∙ ap (λ j. slice_index_or (slice_index_or lists j []) k (pos 0)) z)
 
-none_is_some : {A : Type 0} {x : A} → None ≡ Some x → ⊥
-none_is_some {A} e = subst IsNothing e tt
-  where
-    IsNothing : Option A → Type 0
-    IsNothing None = Unit {0}
-    IsNothing (Some y) = ⊥
-
-some_same : {A : Type 0} {x y : A} → Some x ≡ Some y → x ≡ y
-some_same {A} {x} e = ap or_x e
-  where
-    or_x : Option A → A
-    or_x None = x
-    or_x (Some y) = y
+-- what is there is one thing
+pub some_same : {A : Type 0} {x y : A} → Some x ≡ Some y → x ≡ y
+some_same e = cc
 
 -- a list after a write, by number
 set_by_number : {A : Type 0} (d : A) (xs : List A) (i : ℕ) (v : A) → i < length xs → (k : ℕ)
@@ -131,7 +121,7 @@ by_number-append-replicate d xs n = λ t k. padded_by_number d xs n k t
 -- the windows of all arrays, by number
 whole_by_number : (n : ℕ) (arrays : List Array) (k : ℕ) (x : Array) → slice_get arrays k ≡ Some x
     → by_number nowhere (whole_arrays n arrays) k ≡ record { array = n + k; at = 0; length = x.length }
-whole_by_number n [] k x e = absurd (none_is_some e)
+whole_by_number n [] k x e = absurd (none-some x e)
 whole_by_number n (y ∷ ys) zero x e =
     let here : n ≡ n + 0 = omega arith in
     ap (λ (z : Array). record { array = n; at = 0; length = z.length }) (some_same e)

@@ -11,8 +11,8 @@ use Rattle.types.specs.Value.{Environment, Valued, then_try, element_of, within_
 use Rattle.types.specs.Indexed.{indexed, indexed_links, indexed_truth, indexed_truths}
 use Rattle.types.specs.Laws.{SameOn}
 
-tried : {A B : Type 0} (x y : Valued A) (f g : A → Valued B) → x ≡ y → ((a : A) → f a ≡ g a) → then_try x f ≡ then_try y g
-tried x y f g e h = each x ∙ ap (λ y. then_try y g) e
+then_try-same : {A B : Type 0} (x y : Valued A) (f g : A → Valued B) → x ≡ y → ((a : A) → f a ≡ g a) → then_try x f ≡ then_try y g
+then_try-same x y f g e h = each x ∙ ap (λ y. then_try y g) e
   where
     each : (x : _) → then_try x f ≡ then_try x g
     each (Ok a) = h a
@@ -52,26 +52,26 @@ module _ (env : Environment) (read other : Place → ℤ) where
     number_same (Literal v) h = refl
     number_same (Scalar x) h = refl
     number_same (Element s i) h =
-        tried (number env read i) (number env other i) _ _ (number_same i (same_right (s ∷ []) (indexed i) h))
+        then_try-same (number env read i) (number env other i) _ _ (number_same i (same_right (s ∷ []) (indexed i) h))
         (λ v. element_same (env.windows s) v (same_first s (indexed i) h))
     number_same (Length s) h = refl
     number_same (Negative e) h = ap (λ x. then_try x (λ v. within_64_bits (neg_ℤ v))) (number_same e h)
     number_same (Chain e rest) h =
-        tried (number env read e) (number env other e) (links env read rest) (links env other rest)
+        then_try-same (number env read e) (number env other e) (links env read rest) (links env other rest)
         (number_same e (same_left (indexed e) (indexed_links rest) h)) (links_same rest (same_right (indexed e) (indexed_links rest) h))
 
     links_same : (rest : Links) → Same (indexed_links rest) → (x : ℤ) → links env read rest x ≡ links env other rest x
     links_same Done h x = refl
     links_same (Link o e rest) h x =
-        tried (number env read e) (number env other e) _ _ (number_same e (same_left (indexed e) (indexed_links rest) h))
-        (λ y. tried (operate o x y) (operate o x y) (links env read rest)
+        then_try-same (number env read e) (number env other e) _ _ (number_same e (same_left (indexed e) (indexed_links rest) h))
+        (λ y. then_try-same (operate o x y) (operate o x y) (links env read rest)
         (links env other rest) refl (links_same rest (same_right (indexed e) (indexed_links rest) h)))
 
   mutual
     pub truth_same : (t : Truth) → Same (indexed_truth t) → truth env read t ≡ truth env other t
     truth_same (Constant b) h = refl
     truth_same (Compare r a b) h =
-        tried (number env read a) (number env other a) _ _ (number_same a (same_left (indexed a) (indexed b) h))
+        then_try-same (number env read a) (number env other a) _ _ (number_same a (same_left (indexed a) (indexed b) h))
         (λ x. ap (λ v. then_try v (λ y. Ok (holds r x y))) (number_same b (same_right (indexed a) (indexed b) h)))
     truth_same (Not t) h = ap (λ v. then_try v (λ b. Ok (not b))) (truth_same t h)
     truth_same (Both ts) h = all_same ts h true
@@ -81,7 +81,7 @@ module _ (env : Environment) (read other : Place → ℤ) where
     all_same NoMore h b = refl
     all_same (Also t rest) h false = refl
     all_same (Also t rest) h true =
-        tried (truth env read t) (truth env other t) (all env read rest) (all env other rest)
+        then_try-same (truth env read t) (truth env other t) (all env read rest) (all env other rest)
         (truth_same t (same_left (indexed_truth t) (indexed_truths rest) h))
         (all_same rest (same_right (indexed_truth t) (indexed_truths rest) h))
 
@@ -89,6 +89,6 @@ module _ (env : Environment) (read other : Place → ℤ) where
     any_same NoMore h b = refl
     any_same (Also t rest) h true = refl
     any_same (Also t rest) h false =
-        tried (truth env read t) (truth env other t) (any env read rest) (any env other rest)
+        then_try-same (truth env read t) (truth env other t) (any env read rest) (any env other rest)
         (truth_same t (same_left (indexed_truth t) (indexed_truths rest) h))
         (any_same rest (same_right (indexed_truth t) (indexed_truths rest) h))

@@ -9,41 +9,41 @@ use Rattle.types.proofs.Lists.{by_number-append-replicate}
 pub by_number-filled : {A : Type 0} (d : A) (xs ys : List A) → ys ≡ xs ++ d ∷ [] → by_number d ys ≡ by_number d xs
 by_number-filled d xs ys e = ap (by_number d) e ∙ by_number-append-replicate d xs 1
 
-at_end : {A : Type 0} (d v : A) (xs : List A) → slice_index_or (xs ++ v ∷ []) (length xs) d ≡ v
-at_end d v [] = refl
-at_end d v (x ∷ xs) = at_end d v xs
+slice_index_or-push_last : {A : Type 0} (d v : A) (xs : List A) → slice_index_or (xs ++ v ∷ []) (length xs) d ≡ v
+slice_index_or-push_last d v [] = refl
+slice_index_or-push_last d v (x ∷ xs) = slice_index_or-push_last d v xs
 
-elsewhere : {A : Type 0} (d v : A) (xs : List A) (k : ℕ) → (length xs ≡ k → ⊥) → slice_index_or (xs ++ v ∷ []) k d ≡ slice_index_or xs k d
-elsewhere d v [] zero ne = absurd (ne refl)
-elsewhere d v [] (suc k) ne = refl
-elsewhere d v (x ∷ xs) zero ne = refl
-elsewhere d v (x ∷ xs) (suc k) ne = elsewhere d v xs k (λ e. ne (ap suc e))
+slice_index_or-push_other : {A : Type 0} (d v : A) (xs : List A) (k : ℕ) → (length xs ≡ k → ⊥) → slice_index_or (xs ++ v ∷ []) k d ≡ slice_index_or xs k d
+slice_index_or-push_other d v [] zero ne = absurd (ne refl)
+slice_index_or-push_other d v [] (suc k) ne = refl
+slice_index_or-push_other d v (x ∷ xs) zero ne = refl
+slice_index_or-push_other d v (x ∷ xs) (suc k) ne = slice_index_or-push_other d v xs k (λ e. ne (ap suc e))
 
-added_is : {A : Type 0} (d v : A) (xs : List A) (k : ℕ) (b : Bool) → nat_eq (length xs) k ≡ b
+slice_index_or-push : {A : Type 0} (d v : A) (xs : List A) (k : ℕ) (b : Bool) → nat_eq (length xs) k ≡ b
     → slice_index_or (xs ++ v ∷ []) k d ≡ (if b then v else slice_index_or xs k d)
-added_is d v xs k true e = ap (λ k. slice_index_or (xs ++ v ∷ []) k d) (sym (eqb-true (length xs) k e)) ∙ at_end d v xs
-added_is d v xs k false e = elsewhere d v xs k (eqb-false (length xs) k e)
+slice_index_or-push d v xs k true e = ap (λ k. slice_index_or (xs ++ v ∷ []) k d) (sym (eqb-true (length xs) k e)) ∙ slice_index_or-push_last d v xs
+slice_index_or-push d v xs k false e = slice_index_or-push_other d v xs k (eqb-false (length xs) k e)
 
 -- an item more is bound to the number that the length was
 pub by_number-added : {A : Type 0} (d v : A) (xs ys : List A) (i : ℕ) → i ≡ length xs → ys ≡ xs ++ v ∷ []
     → by_number d ys ≡ bind i v (by_number d xs)
 by_number-added d v xs ys i at e =
     ap (by_number d) e
-    ∙ (λ t k. added_is d v xs k (nat_eq (length xs) k) refl t)
+    ∙ (λ t k. slice_index_or-push d v xs k (nat_eq (length xs) k) refl t)
     ∙ ap (λ i. bind i v (by_number d xs)) (sym at)
 
 -- what a list of views gives is the view of what the list gives
-map_is : {A B : Type 0} (f : A → B) (d : A) (xs : List A) (k : ℕ) → slice_index_or (map f xs) k (f d) ≡ f (slice_index_or xs k d)
-map_is f d [] k = refl
-map_is f d (x ∷ xs) zero = refl
-map_is f d (x ∷ xs) (suc k) = map_is f d xs k
+slice_index_or-map : {A B : Type 0} (f : A → B) (d : A) (xs : List A) (k : ℕ) → slice_index_or (map f xs) k (f d) ≡ f (slice_index_or xs k d)
+slice_index_or-map f d [] k = refl
+slice_index_or-map f d (x ∷ xs) zero = refl
+slice_index_or-map f d (x ∷ xs) (suc k) = slice_index_or-map f d xs k
 
 pub by_number-map : {A B : Type 0} (f : A → B) (d : A) (xs : List A) → by_number (f d) (map f xs) ≡ (λ k. f (by_number d xs k))
-by_number-map f d xs = λ t k. map_is f d xs k t
+by_number-map f d xs = λ t k. slice_index_or-map f d xs k t
 
-view_of_bound : {A B : Type 0} (f : A → B) (b : Bool) (v w : A) → f (if b then v else w) ≡ (if b then f v else f w)
-view_of_bound f true v w = refl
-view_of_bound f false v w = refl
+if-view : {A B : Type 0} (f : A → B) (b : Bool) (v w : A) → f (if b then v else w) ≡ (if b then f v else f w)
+if-view f true v w = refl
+if-view f false v w = refl
 
 -- a view of a list after a write is the write of the view
 pub by_number-map-bound : {A B : Type 0} (f : A → B) (d : A) (xs ys : List A) (i : ℕ) (v : A) → by_number d ys ≡ bind i v (by_number d xs)
@@ -51,5 +51,5 @@ pub by_number-map-bound : {A B : Type 0} (f : A → B) (d : A) (xs ys : List A) 
 by_number-map-bound f d xs ys i v e =
     by_number-map f d ys
     ∙ (λ t k. f (e t k))
-    ∙ (λ t k. view_of_bound f (nat_eq i k) v (slice_index_or xs k d) t)
+    ∙ (λ t k. if-view f (nat_eq i k) v (slice_index_or xs k d) t)
     ∙ ap (bind i (f v)) (sym (by_number-map f d xs))

@@ -1,5 +1,5 @@
--- A program with its names resolved: scalars are slots of their procedure's frame, sections are numbers of their
--- procedure, arrays and procedures are numbers of the program.
+-- A program with its names resolved: scalars are slots of their procedure's frame, sections are
+-- numbers of their procedure, arrays and procedures are numbers of the program.
 use Rattle.std.specs.Prelude.{ℕ, ℤ, Bool, List}
 use Rattle.sections.specs.Origins.{Origin}
 use Rattle.syntax.specs.declared.tree.ElementType.{ElementType}
@@ -67,7 +67,8 @@ pub record Parameter : Type 0 where
   pub may_write : Bool
   pub element : ElementType
 
--- a procedure, or `main`; its section parameters are its first sections, its scalar parameters its first slots
+-- a procedure, or `main`; its section parameters are its first sections, its scalar parameters its
+-- first slots
 pub record Procedure : Type 0 where
   pub name : List ℕ
   pub parameters : List Parameter

@@ -1,11 +1,12 @@
 -- What holds of runs and of values, whatever the program.
-use Rattle.std.specs.Prelude.{ℕ, ℤ, ◌≡◌, ◌≤◌, List, Contains}
+use Rattle.std.specs.Prelude.{ℕ, ℤ, ◌≡◌, ◌≤◌, List, [], Contains}
 use Rattle.types.specs.Code.{Codes, Program}
 use Rattle.sections.specs.Place.{Place, In}
 use Rattle.types.specs.Contents.{Extends}
 use Rattle.types.specs.Value.{Environment}
 use Rattle.types.specs.Run.{State, Rules, Work, work}
 use Rattle.types.specs.Meaning.{hushed, joined}
+use Rattle.types.specs.Outcome.{Outcome, Ended, Halted}
 
 module _ {X : Type 0} where
   -- the rules spend steps honestly: nothing gives a step back
@@ -20,15 +21,22 @@ module _ {X : Type 0} where
 
   -- no other function does
   abbrev pub IsOnly : Program → Rules X → (Work → State X → State X) → Type 0
-  IsOnly p r f = (g : Work → State X → State X) → Solves p r g → (w : Work) (st : State X) → g w st ≡ f w st
+  IsOnly p r f =
+      (g : Work → State X → State X) → Solves p r g → (w : Work) (st : State X) → g w st ≡ f w st
 
   -- it only adds to the lines and faults that are there, and goes the same way without them
   abbrev pub OnlyAdds : (State X → State X) → Type 0
   OnlyAdds go = (st : State X) → go st ≡ joined st (go (hushed st))
 
+-- it ended, and no task faulted
+abbrev pub EndsWithoutFault : Outcome → Type 0
+EndsWithoutFault (Ended e) = e.faults ≡ []
+EndsWithoutFault Halted = ⊥
+
 module _ {X : Type 0} where
-  -- a way in which a state may follow another, by each operation of the rules, by all that changes neither the names of
-  -- a task and its children nor `extra` and loses no place, and by one such change behind another
+  -- a way in which a state may follow another: by each operation of the rules, by all that changes
+  -- neither the names of a task and its children nor `extra` and loses no place, and by one such
+  -- change behind another
   pub record IsKept (r : Rules X) (R : State X → State X → Type 0) : Type 0 where
     pub idle : (st to : State X) → to.path ≡ st.path → to.spawned ≡ st.spawned → to.extra ≡ st.extra
         → Extends st.store to.store → R st to
@@ -43,4 +51,5 @@ module _ {X : Type 0} where
 
 -- two readings give the same number at each place of the sections
 abbrev pub SameOn : Environment → List ℕ → (read other : Place → ℤ) → Type 0
-SameOn env ss read other = (s : ℕ) → Contains ss s → (q : Place) → In (env.windows s) q → read q ≡ other q
+SameOn env ss read other =
+    (s : ℕ) → Contains ss s → (q : Place) → In (env.windows s) q → read q ≡ other q

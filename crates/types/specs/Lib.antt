@@ -9,6 +9,11 @@ pub mod Labels
 pub mod Laws
 pub mod Meaning
 pub mod NameErrors
+pub mod Depth
+pub mod InputErrors
+pub mod InputNames
+pub mod Inputs
+pub mod Names
 pub mod Outcome
 pub mod Resolution
 pub mod Resolving

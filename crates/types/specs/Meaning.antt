@@ -10,11 +10,19 @@ module _ {X : Type 0} where
 
   -- what was told before, followed by what was told since
   abbrev pub joined : (before out : State X) → State X
-  joined before out = record out { lines = before.lines ++ out.lines; faults = before.faults ++ out.faults }
+  joined before out = record out {
+    lines = before.lines ++ out.lines;
+    faults = before.faults ++ out.faults;
+  }
 
   -- the next child as it begins, with fresh steps, its parent's environment and contents
   abbrev pub child : (fresh : ℕ) → State X → State X
-  child fresh st = record (hushed st) { flow = On; steps = fresh; path = st.path ++ (st.spawned + 1) ∷ []; spawned = 0 }
+  child fresh st = record (hushed st) {
+    flow = On;
+    steps = fresh;
+    path = st.path ++ (st.spawned + 1) ∷ [];
+    spawned = 0;
+  }
 
 -- a stopped body stops all at once
 abbrev pub after_async : Flow → Flow
@@ -54,7 +62,8 @@ module _ (p : Program) where
   -- an async where so many may stand inside one another; a child begins with `fresh` steps
   abbrev pub begin_one : (fresh nest : ℕ) → Codes → State (Unit {0}) → State (Unit {0})
   begin_one fresh zero b st = stopped st
-  begin_one fresh (suc n) b st = after_body st (run p (one_rules_by (begin_one fresh n)) (Block b) (child fresh st))
+  begin_one fresh (suc n) b st =
+      after_body st (run p (one_rules_by (begin_one fresh n)) (Block b) (child fresh st))
 
   -- the rules of one thread
   abbrev pub one_rules : (fresh nest : ℕ) → Rules (Unit {0})

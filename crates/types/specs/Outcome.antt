@@ -16,7 +16,8 @@ pub record IsLarger (larger budget : Budget) : Type 0 where
   pub steps : budget.steps ≤ larger.steps
   pub nest : budget.nest ≤ larger.nest
 
--- what the arrays hold at the end, in the order of declaration, and what was told in depth-first order
+-- what the arrays hold at the end, in the order of declaration, and what was told in depth-first
+-- order
 pub record Ending : Type 0 where
   pub arrays : List (List ℤ)
   pub lines : List (List ℤ)
@@ -31,7 +32,8 @@ pub data Outcome : Type 0 where
 -- all places of each array, the first of which has the number `array`
 abbrev pub whole_arrays : (array : ℕ) → List Array → List Window
 whole_arrays array [] = []
-whole_arrays array (x ∷ xs) = record { array = array; at = 0; length = x.length } ∷ whole_arrays (array + 1) xs
+whole_arrays array (x ∷ xs) =
+    record { array = array; at = 0; length = x.length } ∷ whole_arrays (array + 1) xs
 
 -- a task with the path of the root at the beginning of `main`
 abbrev pub start : {X : Type 0} → X → Program → (steps : ℕ) → Contents → State X
@@ -65,7 +67,8 @@ outcome_of p st = outcome_by st.flow (ending_of p st)
 abbrev pub outcome : Program → (input : List (List ℤ)) → Budget → Outcome
 outcome p input b =
     let st = start tt p b.steps (held_by input) in
-    outcome_of p ((one_rules p b.steps b.nest).leave st (one p b.steps b.nest (Block p.main.body) st))
+    let out = one p b.steps b.nest (Block p.main.body) st in
+    outcome_of p ((one_rules p b.steps b.nest).leave st out)
 
 -- some budget gives this ending
 abbrev pub Means : Program → (input : List (List ℤ)) → Ending → Type 0

@@ -18,13 +18,15 @@ pub data Flow : Type 0 where
   -- it is over its budget, or a task that it waited for was
   Stopped : Flow
 
--- what went wrong, in which task and at which statement; a path is the child numbers from the root down, none for the root itself
+-- what went wrong, in which task and at which statement; a path is the child numbers from the root
+-- down, none for the root itself
 pub record Fault : Type 0 where
   pub path : List ℕ
   pub label : ℕ
   pub kind : FaultKind
 
--- where a task stands; `extra` is what its kind of run keeps beside
+-- where a task stands; `extra` is what its kind of run keeps beside: nothing on one thread, in a
+-- task's own run the actions that it has done so far
 pub record State (X : Type 0) : Type 0 where
   pub flow : Flow
   pub environment : Environment
@@ -48,7 +50,10 @@ by_number d xs k = slice_index_or xs k d
 
 -- the environment in which a procedure begins: its parameters, and zeros
 abbrev pub entry : List ℤ → List Window → Environment
-entry values windows = record { scalars = by_number (pos 0) values; windows = by_number nowhere windows }
+entry values windows = record {
+  scalars = by_number (pos 0) values;
+  windows = by_number nowhere windows;
+}
 
 -- an environment that names the two sides of a split
 abbrev pub with_sides : (left right : ℕ) → Window × Window → Environment → Environment
@@ -104,7 +109,8 @@ module _ {X : Type 0} where
   }
 
   -- goes on with a value, or faults
-  abbrev pub with_value : {A : Type 0} → (label : ℕ) → Valued A → (A → State X → State X) → State X → State X
+  abbrev pub with_value : {A : Type 0} → (label : ℕ) → Valued A → (A → State X → State X)
+      → State X → State X
   with_value label (Ok v) go st = go v st
   with_value label (Err f) go st = fault label f st
 
@@ -123,7 +129,9 @@ module _ {X : Type 0} where
 
   -- changes one scalar
   abbrev pub assign : (slot : ℕ) → ℤ → State X → State X
-  assign x v st = record st { environment = record st.environment { scalars = bind x v st.environment.scalars } }
+  assign x v st = record st {
+    environment = record st.environment { scalars = bind x v st.environment.scalars };
+  }
 
   -- adds a line
   abbrev pub print : List ℤ → State X → State X
@@ -147,7 +155,8 @@ module _ {X : Type 0} where
 
 -- what a kind of run does where it isn't alone
 pub record Rules (X : Type 0) : Type 0 where
-  -- a step was taken, other than that of an async or a finish
+  -- a step was taken, other than that of an async or a finish: one thread notes nothing of it, a
+  -- task's own run notes it in `extra` among its actions
   pub stepped : X → X
   -- an async with its body, whose step was taken
   pub begin : Codes → State X → State X
@@ -164,7 +173,8 @@ module _ (p : Program) {X : Type 0} where
   primitive l (Store s i e) st =
       with_value l (number_at st i) (λ at.
       with_value l (number_at st e) (λ v.
-      with_value l (element_of (window_at st s) at) (λ q. put l (holds_number (array_of p q.array).element v) q v))) st
+      with_value l (element_of (window_at st s) at) (λ q.
+      put l (holds_number (array_of p q.array).element v) q v))) st
   primitive l (Print es) st = with_value l (numbers_at st es) print st
   primitive l (Raise e) st = with_value l (number_at st e) (λ v. fault l (Raised v)) st
 
@@ -180,16 +190,19 @@ module _ (p : Program) {X : Type 0} (r : Rules X) where
     -- a statement whose step was taken; `deeper` is what calls and further turns of a loop do
     pub act : (deeper : Work → State X → State X) → (label : ℕ) → Code → State X → State X
     act deeper l (Do s) st = primitive p l s st
-    act deeper l (If t b c) st = with_value l (truth_at st t) (choose (block deeper b) (block deeper c)) st
+    act deeper l (If t b c) st =
+        with_value l (truth_at st t) (choose (block deeper b) (block deeper c)) st
     act deeper l (While t b) st =
-        with_value l (truth_at st t) (choose (λ s. go_on (deeper (Turn l t b)) (block deeper b s)) (λ s. s)) st
+        with_value l (truth_at st t)
+        (choose (λ s. go_on (deeper (Turn l t b)) (block deeper b s)) (λ s. s)) st
     act deeper l (Split s e x y b) st =
         with_value l (number_at st e) (λ v.
         with_value l (ok_or (sides_of (window_at st s) v) SplitPoint) (λ ws.
         λ st. block deeper b (record st { environment = with_sides x y ws st.environment }))) st
     act deeper l (Call f es ss) st =
         with_value l (numbers_at st es) (λ vs.
-        in_environment (entry vs (map (window_at st) ss)) (deeper (Block (procedure_of p f).body))) st
+        in_environment (entry vs (map (window_at st) ss))
+        (deeper (Block (procedure_of p f).body))) st
     act deeper l (Async b) st = r.begin b st
     act deeper l (Finish b) st = r.leave st (block deeper b (r.enter st))
 
@@ -202,7 +215,8 @@ module _ (p : Program) {X : Type 0} (r : Rules X) where
   -- what work does, where `deeper` does what is inside its calls and further turns
   abbrev pub work : (deeper : Work → State X → State X) → Work → State X → State X
   work deeper (Block b) st = block deeper b st
-  work deeper (Turn l t b) st = with_step (λ st. act deeper l (While t b) (counted r (While t b) st)) st
+  work deeper (Turn l t b) st =
+      with_step (λ st. act deeper l (While t b) (counted r (While t b) st)) st
 
   -- at most k calls and turns within one another
   abbrev pub within : ℕ → Work → State X → State X

@@ -74,7 +74,9 @@ module _ (env : Environment) (read : Place → ℤ) where
     pub number : Number → Valued ℤ
     number (Literal v) = Ok v
     number (Scalar x) = Ok (env.scalars x)
-    number (Element s i) = then_try (number i) (λ v. then_try (element_of (env.windows s) v) (λ q. Ok (read q)))
+    number (Element s i) =
+        then_try (number i) (λ v.
+        then_try (element_of (env.windows s) v) (λ q. Ok (read q)))
     number (Length s) = Ok (pos (env.windows s).length)
     number (Negative e) = then_try (number e) (λ v. within_64_bits (neg_ℤ v))
     number (Chain e rest) = then_try (number e) (links rest)

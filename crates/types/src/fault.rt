@@ -1,7 +1,12 @@
 //! What goes wrong in a run.
 
+ghost use Rattle.std.specs.Prelude.{Some};
+ghost use Rattle.types.specs.Names.{kind_text, fault_text};
+ghost use Rattle.types.specs.Translation.{fault as fault_of};
+
 use crate::code::Label;
 use crate::path::Path;
+use std::fmt;
 
 /// A fault of a task, which ended its statements up to the nearest finish.
 #[derive(Clone, PartialEq, Eq, Debug, Drop)]
@@ -28,4 +33,30 @@ pub enum FaultKind {
     SplitPoint,
     /// F6: `fault n`.
     Raised(i64),
+}
+
+impl fmt::Display for FaultKind {
+    ghost output = { λ kind. Some (kind_text kind) };
+
+    fn fmt<W: fmt::Write>(&self, f: &mut fmt::Formatter<W>) -> fmt::Result {
+        match self {
+            FaultKind::Index => write!(f, "F1"),
+            FaultKind::Overflow => write!(f, "F2"),
+            FaultKind::ZeroDivisor => write!(f, "F3"),
+            FaultKind::OutOfElement => write!(f, "F4"),
+            FaultKind::SplitPoint => write!(f, "F5"),
+            FaultKind::Raised(number) => write!(f, "F6 {number}"),
+        }
+    }
+}
+
+impl fmt::Display for Fault {
+    ghost output = { λ fault. Some (fault_text (fault_of fault)) };
+
+    fn fmt<W: fmt::Write>(&self, f: &mut fmt::Formatter<W>) -> fmt::Result {
+        let path = &self.path;
+        let label = self.label;
+        let kind = self.kind;
+        write!(f, "fault {path} at {label}: {kind}")
+    }
 }

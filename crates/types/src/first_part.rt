@@ -1,8 +1,9 @@
 //! The programs that are served first: they come to their end without a fault, and within the usual budget.
 
-ghost use Rattle.std.specs.Prelude.{◌≡◌, ◌^◌, ◌-◌, map, min};
+ghost use Rattle.std.specs.Prelude.{◌≡◌, ◌^◌, ◌-◌, ◌&&◌, map, min};
 ghost use Rattle.std.specs.List.{list_all};
-ghost use Rattle.types.specs.FirstPart.{index_fits, printed_fits, store_fits, primitive_fits};
+ghost use Rattle.types.specs.FirstPart.{index_fits, literal_index_fits, literal_value_fits};
+ghost use Rattle.types.specs.FirstPart.{printed_fits, primitive_fits};
 ghost use Rattle.types.specs.FirstPart.{code_fits, codes_fit, statements_in, statements, is_first_part};
 ghost use Rattle.types.specs.Run.{array_of};
 ghost use Rattle.types.specs.Translation.{program, codes, code as plain_code, number};
@@ -11,10 +12,10 @@ ghost use Rattle.types.specs.Typed.{code_of};
 ghost use Rattle.types.specs.Value.{holds_number};
 
 use crate::code::{Number, Primitive, Program, Stmt, StmtKind};
+use crate::element::holds;
 use crate::ids::array_in_main;
 use crate::typed::Typed;
 use sections::id::{ArrayId, SectionId};
-use syntax::tree::ElementType;
 
 /// How many statements a program of the first part has, at most.
 pub const MOST_STATEMENTS: u32 = 10_000;
@@ -48,9 +49,12 @@ fn fits(code: &Program, kind: &StmtKind) -> bool
 {
     match kind {
         StmtKind::Do(primitive) => primitive_fits(code, primitive),
+        StmtKind::If { .. } => false,
+        StmtKind::While { .. } => false,
+        StmtKind::Split { .. } => false,
+        StmtKind::Call { .. } => false,
         StmtKind::Async { body } => all_fit(code, body),
         StmtKind::Finish { body } => all_fit(code, body),
-        _ => false,
     }
 }
 
@@ -72,14 +76,15 @@ fn count_in(kind: &StmtKind) -> u32
     ensures { result ≡ min (statements_in (plain_code kind.now)) (2 ^ 32 - 1) }
 {
     match kind {
+        StmtKind::Do(_) => 1,
         StmtKind::If { body, other, .. } => count(body)
             .saturating_add(count(other))
             .saturating_add(1),
         StmtKind::While { body, .. } => count(body).saturating_add(1),
         StmtKind::Split { body, .. } => count(body).saturating_add(1),
+        StmtKind::Call { .. } => 1,
         StmtKind::Async { body } => count(body).saturating_add(1),
         StmtKind::Finish { body } => count(body).saturating_add(1),
-        _ => 1,
     }
 }
 
@@ -89,26 +94,52 @@ fn primitive_fits(code: &Program, primitive: &Primitive) -> bool
 {
     match primitive {
         Primitive::Skip => true,
+        Primitive::Assign { .. } => false,
         Primitive::Store {
             section,
             index,
             value,
         } => store_fits(code, *section, index, value),
         Primitive::Print { values } => all_printed_fit(code, values),
-        _ => false,
+        Primitive::Fault { .. } => false,
     }
 }
 
 /// A store of a literal at a literal index.
 fn store_fits(code: &Program, section: SectionId, index: &Number, value: &Number) -> bool
-    ensures { result ≡ store_fits (program code.now) section.number (number index.now) (number value.now) }
+    ensures { let p = program code.now in
+        result ≡ (literal_index_fits p section.number (number index.now)
+        && literal_value_fits p section.number (number value.now)) }
 {
     let array = array_in_main(section);
-    match (index, value) {
-        (Number::Literal(index), Number::Literal(value)) => {
-            index_fits(code, array, *index) && value_fits(code, array, *value)
-        }
-        _ => false,
+    literal_index_fits(code, array, index) && literal_value_fits(code, array, value)
+}
+
+/// A literal index below the length of an array.
+fn literal_index_fits(code: &Program, array: ArrayId, index: &Number) -> bool
+    ensures { result ≡ literal_index_fits (program code.now) array.number (number index.now) }
+{
+    match index {
+        Number::Literal(index) => index_fits(code, array, *index),
+        Number::Scalar { .. } => false,
+        Number::Element { .. } => false,
+        Number::Length { .. } => false,
+        Number::Negative(_) => false,
+        Number::Chain { .. } => false,
+    }
+}
+
+/// A literal that the elements of an array hold.
+fn literal_value_fits(code: &Program, array: ArrayId, value: &Number) -> bool
+    ensures { result ≡ literal_value_fits (program code.now) array.number (number value.now) }
+{
+    match value {
+        Number::Literal(value) => value_fits(code, array, *value),
+        Number::Scalar { .. } => false,
+        Number::Element { .. } => false,
+        Number::Length { .. } => false,
+        Number::Negative(_) => false,
+        Number::Chain { .. } => false,
     }
 }
 
@@ -130,11 +161,13 @@ fn printed_fits(code: &Program, value: &Number) -> bool
 {
     match value {
         Number::Literal(_) => true,
-        Number::Element { section, index } => match &**index {
-            Number::Literal(index) => index_fits(code, array_in_main(*section), *index),
-            _ => false,
-        },
-        _ => false,
+        Number::Scalar { .. } => false,
+        Number::Element { section, index } => {
+            literal_index_fits(code, array_in_main(*section), index)
+        }
+        Number::Length { .. } => false,
+        Number::Negative(_) => false,
+        Number::Chain { .. } => false,
     }
 }
 
@@ -153,10 +186,7 @@ fn value_fits(code: &Program, array: ArrayId, value: i64) -> bool
     ensures { result ≡ holds_number (array_of (program code.now) array.number).element value }
 {
     match code.arrays.get(array.number) {
-        Some(array) => match array.element {
-            ElementType::Int => true,
-            ElementType::Byte => 0 <= value && value < 256,
-        },
+        Some(array) => holds(array.element, value),
         None => true,
     }
 }

@@ -1,7 +1,13 @@
 //! Laws of the definitions, each the contract of a function that does nothing.
 
-ghost use Rattle.std.specs.Prelude.{◌≡◌, ◌<◌, ℕ, ℤ, List, [], ◌++◌, length, replicate, slice_get};
+ghost use Rattle.std.specs.Prelude.{◌≡◌, ◌<◌, ◌≤◌, IsTrue, ℕ, ℤ, List, [], ◌++◌, length, replicate, slice_get};
 ghost use Rattle.std.specs.Prelude.{slice_index_or, slice_set};
+ghost use Rattle.std.specs.List.{range_with_len};
+ghost use Rattle.syntax.specs.Tree.{Program as Text};
+ghost use Rattle.types.specs.Depth.{depth_of};
+ghost use Rattle.types.specs.FirstPart.{codes_fit, statements, is_first_part};
+ghost use Rattle.types.specs.Labels.{labels_of_program};
+ghost use Rattle.types.specs.Resolution.{resolution};
 ghost use Rattle.types.specs.Code.{Number, Truth, Array, Program};
 ghost use Rattle.sections.specs.Place.{Place, nowhere};
 ghost use Rattle.types.specs.Contents.{held_by, shown, write, FitsArrays};
@@ -11,6 +17,7 @@ ghost use Rattle.types.specs.Meaning.{one, one_rules};
 ghost use Rattle.types.specs.Outcome.{Budget, IsLarger, Ending, Ended, outcome, Means, whole_arrays};
 ghost use Rattle.types.specs.Indexed.{indexed, indexed_truth};
 ghost use Rattle.types.specs.Laws.{IsThrifty, Solves, IsOnly, IsKept, Keeps, OnlyAdds, SameOn};
+ghost use Rattle.types.specs.Laws.{EndsWithoutFault};
 
 /// Where the rules spend steps honestly, a run does what its work says, with runs in place of what
 /// is inside of its calls and further turns; and it alone does. So the bound on depth says nothing.
@@ -49,6 +56,24 @@ pub fn larger_budgets_end_alike()
         → IsLarger larger b → outcome p input b ≡ Ended e → outcome p input larger ≡ Ended e }
     ensures one { (p : Program) (input : List (List ℤ)) (e f : Ending)
         → Means p input e → Means p input f → e ≡ f }
+{}
+
+/// A program of the first part ends on one thread, and no task faults, whatever the input, where the
+/// budget has a step for each of its statements and nest for its asyncs. The usual budget has the
+/// steps, and the nest as far as no async stands in more than 99 others.
+pub fn first_parts_end_without_fault()
+    ensures within { (p : Program) (input : List (List ℤ)) (b : Budget)
+        → IsTrue (codes_fit p p.main.body) → statements p.main.body ≤ b.steps
+        → depth_of p.main.body ≤ b.nest → EndsWithoutFault (outcome p input b) }
+    ensures usual { (p : Program) (input : List (List ℤ)) → IsTrue (is_first_part p)
+        → depth_of p.main.body ≤ 100
+        → EndsWithoutFault (outcome p input (record { steps = 1000000; nest = 100 })) }
+{}
+
+/// The labels of a resolved text, in the order of the text, are 1, 2 and so on: each stands once.
+pub fn labels_are_counted()
+    ensures { (t : Text) (p : Program) → resolution t ≡ Some p
+        → labels_of_program p ≡ range_with_len 1 (length (labels_of_program p)) }
 {}
 
 /// A value depends only on the places of the sections that its expression indexes.

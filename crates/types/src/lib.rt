@@ -5,13 +5,16 @@
 pub mod budget;
 pub mod check;
 pub mod code;
+pub mod element;
 pub mod error;
 pub mod fault;
 pub mod first_part;
 pub mod ids;
 pub mod input;
+pub mod input_error;
 pub mod laws;
 pub mod outcome;
 pub mod path;
+pub mod scope_id;
 pub mod typed;
 pub mod value;

@@ -1,6 +1,7 @@
 //! The names of tasks.
 
-ghost use Rattle.std.specs.Prelude.{◌≡◌, ◌++◌, ◌∷◌, [], IfOk};
+ghost use Rattle.std.specs.Prelude.{◌≡◌, ◌++◌, ◌∷◌, [], IfOk, Some};
+ghost use Rattle.types.specs.Names.{path_text};
 
 use std::alloc::AllocError;
 use std::fmt;
@@ -14,6 +15,8 @@ pub struct Path {
 }
 
 impl fmt::Display for Path {
+    ghost output = { λ p. Some (path_text p.turns.items) };
+
     fn fmt<W: fmt::Write>(&self, f: &mut fmt::Formatter<W>) -> fmt::Result {
         write!(f, "0")?;
         for turn in &self.turns {

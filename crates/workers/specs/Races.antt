@@ -44,8 +44,8 @@ pub record IsClash (together : List (Access × Access)) (m : Meeting) : Type 0 w
   pub clashes : is_clash m ≡ true
 
 -- no two clash
-abbrev pub IsRaceFree : List (Access × Access) → Type 0
-IsRaceFree together = (m : Meeting) → IsClash together m → ⊥
+abbrev pub IsClashFree : List (Access × Access) → Type 0
+IsClashFree together = (m : Meeting) → IsClash together m → ⊥
 
 -- a clash, before which no other one comes
 pub record IsLeastClash (together : List (Access × Access)) (m : Meeting) : Type 0 where
@@ -54,7 +54,7 @@ pub record IsLeastClash (together : List (Access × Access)) (m : Meeting) : Typ
 
 -- the least clash, where there is one
 abbrev pub IsLeast : List (Access × Access) → Option Meeting → Type 0
-IsLeast together found = MatchOption found (IsRaceFree together) (IsLeastClash together)
+IsLeast together found = MatchOption found (IsClashFree together) (IsLeastClash together)
 
 -- the lesser of a race found before and a pair, where that clashes
 abbrev pub lesser : Option Meeting → Meeting → Option Meeting

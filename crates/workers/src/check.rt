@@ -2,7 +2,7 @@
 
 ghost use Rattle.std.specs.Prelude.{◌≡◌, IfOk, IfErr, OnOk};
 ghost use Rattle.workers.specs.Refusal.{pairs_of, IsRefusalOf};
-ghost use Rattle.workers.specs.Races.{IsRaceFree};
+ghost use Rattle.workers.specs.Races.{IsClashFree};
 
 use crate::race::Meeting;
 use crate::search::race_in;
@@ -31,7 +31,7 @@ pub enum Refused {
 /// Whether a program has a race.
 pub fn check(alloc: Global, typed: Typed) -> Result<Accepted, Refused>
     ensures accepted { IfOk result (λ accepted. accepted.typed ≡ typed) }
-    ensures race_free { OnOk result (IsRaceFree (pairs_of typed)) }
+    ensures clash_free { OnOk result (IsClashFree (pairs_of typed)) }
     ensures refused { IfErr result (IsRefusalOf typed) }
 {
     match race_in(alloc, &typed.code().main.body) {

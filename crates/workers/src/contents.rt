@@ -2,7 +2,6 @@
 
 ghost use Rattle.std.specs.Prelude.{◌≡◌, IfOk, OnOk, Some, map, replicate, slice_get, is_some, true};
 ghost use Rattle.std.specs.Result.{result_unwrap_or};
-ghost use Rattle.types.specs.Value.{holds_number};
 ghost use Rattle.types.specs.Translation.{input as lists_of};
 ghost use Rattle.workers.specs.Holdings.{CopyOf, Without, Own, holding, holdings, given, kept};
 ghost use Rattle.workers.specs.Holdings.{element_at, read_from, place_of, stored, stored_in, trouble_of};
@@ -14,6 +13,7 @@ use sections::id::ArrayId;
 use std::alloc::{AllocError, Global};
 use std::mem;
 use syntax::tree::ElementType;
+use types::element::holds;
 use types::fault::FaultKind;
 use types::input::Input;
 
@@ -238,19 +238,9 @@ fn store(numbers: &mut Vec<i64>, kind: ElementType, index: i64, value: i64) -> R
         numbers.new.items ≡ result_unwrap_or (stored kind index value old) old }
 {
     let place = place(numbers.len(), index)?;
-    if !fits(kind, value) {
+    if !holds(kind, value) {
         return Err(Trouble::Fault(FaultKind::OutOfElement));
     }
     numbers[place] = value;
     Ok(())
-}
-
-/// Whether an array of this type holds the number.
-fn fits(kind: ElementType, value: i64) -> bool
-    ensures { result ≡ holds_number kind value }
-{
-    match kind {
-        ElementType::Int => true,
-        ElementType::Byte => 0 <= value && value <= 255,
-    }
 }

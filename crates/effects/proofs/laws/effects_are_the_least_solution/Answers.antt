@@ -1,5 +1,5 @@
 use Rattle.effects.specs.Effects.{accesses, labels}
-use Rattle.effects.proofs.Tabled.{all_rows, pending_rows, all_lists, pending_lists, all_none, least, least_pending}
+use Rattle.effects.proofs.LeastRows.{all_rows, pending_rows, all_lists, pending_lists, all_none, least, least_pending}
 use Rattle.effects.proofs.laws.effects_are_the_least_solution.Goals as goal
 
 pub returns-clause-all_of_statement : goal.returns-clause-all_of_statement

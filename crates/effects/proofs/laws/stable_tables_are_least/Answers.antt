@@ -1,5 +1,5 @@
 use Rattle.effects.specs.Effects.{accesses, labels}
-use Rattle.effects.proofs.Solved.{alls_exact, pendings_exact, alls_derived, pendings_derived}
+use Rattle.effects.proofs.StableTables.{alls_exact, pendings_exact, alls_derived, pendings_derived}
 use Rattle.effects.proofs.laws.stable_tables_are_least.Goals as goal
 
 pub returns-clause-alls : goal.returns-clause-alls

@@ -1,6 +1,6 @@
-use Rattle.own_run.proofs.Sound.{own_sound}
-use Rattle.own_run.proofs.Ending.{all_settle}
-use Rattle.own_run.proofs.Exact.{own_exact}
+use Rattle.own_run.proofs.SettledResults.{own_sound}
+use Rattle.own_run.proofs.TasksEnd.{all_settle}
+use Rattle.own_run.proofs.ExactResults.{own_exact}
 use Rattle.own_run.proofs.laws.results_settle.Goals as goal
 
 pub returns-clause-complete : goal.returns-clause-complete

@@ -1,4 +1,4 @@
-use Rattle.own_run.proofs.Joining.{settles_anywhere, ends_anywhere}
+use Rattle.own_run.proofs.AcceptedPrograms.{settles_anywhere, ends_anywhere}
 use Rattle.own_run.proofs.laws.tasks_of_accepted_programs_are_never_stuck.Goals as goal
 
 pub returns-clause-settles : goal.returns-clause-settles

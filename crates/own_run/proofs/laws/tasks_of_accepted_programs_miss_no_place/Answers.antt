@@ -1,4 +1,4 @@
-use Rattle.own_run.proofs.Joining.{next_has, parted, results_own, told}
+use Rattle.own_run.proofs.AcceptedPrograms.{next_has, parted, results_own, told}
 use Rattle.own_run.proofs.laws.tasks_of_accepted_programs_miss_no_place.Goals as goal
 
 pub returns-clause-next : goal.returns-clause-next

@@ -1,9 +1,9 @@
-use Rattle.std.proofs.Common.{◌≡◌, ◌∷◌, ◌-◌, List, map, take, drop, length, ap, ◌∙◌, sym, arith}
+use Rattle.std.proofs.Common.{map, ap, ◌∙◌, sym, arith}
 use Rattle.std.proofs.lemmas.Result.{IfOk-weaker}
 use Rattle.sections.specs.Covers.{has}
 use Rattle.sections.specs.Joining.{is_ascending}
 use Rattle.sections.specs.Translation.{window}
-use Rattle.sections.proofs.Sorting.{sorted-filter, Sorted, first_and_rest, empty_list}
+use Rattle.sections.proofs.Sorting.{sorted-filter, first_and_rest, empty_list}
 use Rattle.sections.proofs.cover.cover.Goals as goal
 
 pub join-requires : goal.join-requires

@@ -11,11 +11,11 @@ use Rattle.syntax.specs.Token.{WordToken, MarkToken}
 use Rattle.syntax.specs.Tree.{If, IfElse, While, Split, Async, Finish, Then, expr, stmt, block}
 use Rattle.syntax.specs.Writing.{place, with_rest}
 use Rattle.syntax.proofs.ExpressionText.{ok_then, ok_map3, pushed}
-use Rattle.syntax.proofs.LineText.{wrote, wrote_adds, wrote_text, counted_by, stmt_begins, block_is_line, opened}
-use Rattle.syntax.proofs.LineText.{closed, laid_If, laid_IfElse, laid_Else, laid_While, laid_Split, laid_Async}
+use Rattle.syntax.proofs.LineText.{wrote, wrote_adds, wrote_text, counted_by, stmt_begins, block_is_line, laid-opening_brace}
+use Rattle.syntax.proofs.LineText.{laid-closing_brace, laid_If, laid_IfElse, laid_Else, laid_While, laid_Split, laid_Async}
 use Rattle.syntax.proofs.LineText.{laid_Finish, laid_end}
 use Rattle.syntax.proofs.RowLemmas.{stmt_If, stmt_IfElse, stmt_While, stmt_Split, stmt_Async, stmt_Finish}
-use Rattle.syntax.proofs.StatementKinds.{simple_is_left}
+use Rattle.syntax.proofs.StatementKinds.{is_simple-true}
 use Rattle.syntax.proofs.canonical.+stmt.Goals as goal
 
 pub block-returns-clause-written : goal.block-returns-clause-written
@@ -27,17 +27,13 @@ block-returns-clause-written t c =
     ok_map3 c.close.result c.close.ensures.text c.close.ensures.depth c.close.ensures.label (λ text depth label r.
     wrote old inside Other Margin _ _ (codes " {\n") (old.depth + 1) old.label
     c.in_ok-open.ensures.text c.in_ok-open.ensures.depth c.in_ok-open.ensures.label
-    (opened old.depth old.label (block_then body r) (block_is_line body r))
+    (laid-opening_brace old.depth old.label (block_then body r) (block_is_line body r))
     ∙ c.in_ok-statements.ensures.written r
     ∙ wrote behind c.close.new.self Margin Ended _ _ _ (behind.depth - 1) behind.label text depth label
-    (closed behind.depth behind.label r))
+    (laid-closing_brace behind.depth behind.label r))
 
-pub line-simple-requires : goal.line-simple-requires
-line-simple-requires t c = record {
-  simple = simple_is_left c.args.statement.now c.in_default.not-If c.in_default.not-While c.in_default.not-Split c.in_default.not-Async
-      c.in_default.not-Finish;
-  counted = c.requires;
-}
+pub line-simple-requires-clause-simple : goal.line-simple-requires-clause-simple
+line-simple-requires-clause-simple t c = is_simple-true c.args.statement.now c.in-Skip.is
 
 pub line-returns-in-If-clause-written : goal.line-returns-in-If-clause-written
 line-returns-in-If-clause-written t c =
@@ -95,15 +91,15 @@ line-returns-in_ok-push_str-in-Finish-clause-written t c =
     (laid_Finish (place old Opening) body r)
     ∙ written r)
 
-pub line-returns-in_ok-simple-in_default : goal.line-returns-in_ok-simple-in_default
+pub line-returns-in_ok-simple-in-Skip : goal.line-returns-in_ok-simple-in-Skip
 unfolding lib.Utf8.encode
-line-returns-in_ok-simple-in_default t c =
+line-returns-in_ok-simple-in-Skip t c =
     let old = c.simple.new.lines in
     let added = pushed c.push.result _ _ _ c.push.ensures.bytes in
     record {
       counted = ok_then c.push.result added (λ text. counted_by old (record old { text = c.push.new.self }) (codes ";") text refl refl
-          c.in_ok-simple-in_default.ensures.counted);
-      written = ok_then c.push.result added (λ text r. c.in_ok-simple-in_default.ensures.written r
+          c.in_ok-simple-in-Skip.ensures.counted);
+      written = ok_then c.push.result added (λ text r. c.in_ok-simple-in-Skip.ensures.written r
           ∙ wrote_text old c.push.new.self Operand Ended _ _ (codes ";") text (laid_end (place old Operand) r));
     }
 

@@ -1,7 +1,7 @@
 use Rattle.std.proofs.Common.{◌++◌, ap, ◌∙◌}
 use Rattle.std.specs.String.{string_bytes}
 use Rattle.syntax.specs.Tree.{expr}
-use Rattle.syntax.proofs.ExpressionText.{then_ok, called}
+use Rattle.syntax.proofs.ExpressionText.{then_ok, ok_adds_equal}
 use Rattle.syntax.proofs.LineText.{assignment_text}
 use Rattle.syntax.proofs.canonical.assignment.Goals as goal
 
@@ -9,5 +9,5 @@ pub returns : goal.returns
 returns c =
     let old = string_bytes c.args.out.now in
     let name = c.in_ok-push_str.ensures.bytes ∙ ap (λ l. old ++ l) c.as_str.ensures.value in
-    called _ old _ (then_ok _ old _ _ _ name (then_ok _ (string_bytes c.push_str.new.self) _ _ _ c.in_ok-push_str-2.ensures.bytes
+    ok_adds_equal _ old _ (then_ok _ old _ _ _ name (then_ok _ (string_bytes c.push_str.new.self) _ _ _ c.in_ok-push_str-2.ensures.bytes
     c.expr.ensures)) (assignment_text (string_bytes c.args.name.now) (expr c.args.value.now))

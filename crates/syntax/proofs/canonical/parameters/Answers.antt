@@ -1,7 +1,7 @@
 use Rattle.std.proofs.Common.{◌≡◌, ◌+◌, ◌<◌, ◌≤◌, false, if◌then◌else◌, [], ◌++◌, ◌∷◌, codes, drop, length, ap, sym, ◌∙◌, rules, append-nil}
 use Rattle.std.proofs.lemmas.List.{at_drop_more, at_drop_all}
 use Rattle.std.specs.String.{string_bytes}
-use Rattle.syntax.proofs.ExpressionText.{then_adds, moved, all_moved}
+use Rattle.syntax.proofs.ExpressionText.{then_adds, adds_part, adds_all}
 use Rattle.syntax.proofs.LineText.{parameters_text, parameters_text_more, parameters_text_none}
 use Rattle.syntax.proofs.canonical.parameters.Goals as goal
 use Rattle.syntax.proofs.canonical.parameters.Goals.{then-not-first+in_ok-push_str, else-not-first}
@@ -23,10 +23,10 @@ loop-next-preserved c =
     ] in
     let parts = at_drop_more (parameters_text first) xs i x inside
     ∙ ap (λ y. parameters_text first (y ∷ drop (i + 1) xs)) (sym c.next-item.is) ∙ parameters_text_more first x (drop (i + 1) xs) in
-    moved old _ (parameters_text false (drop (i + 1) xs)) c.loop-next.invariant (then_adds old _ _ comma c.in_ok-parameter.ensures) parts
+    adds_part old _ (parameters_text false (drop (i + 1) xs)) c.loop-next.invariant (then_adds old _ _ comma c.in_ok-parameter.ensures) parts
 
 pub returns : goal.returns
 returns c =
     let at_end : length c.args.parameters.now ≤ c.loop-next.next-index = search rules in
-    all_moved (string_bytes c.loop-next.out) c.loop-next.invariant (at_drop_all (parameters_text c.loop-next.first)
+    adds_all (string_bytes c.loop-next.out) c.loop-next.invariant (at_drop_all (parameters_text c.loop-next.first)
     c.args.parameters.now c.loop-next.next-index at_end ∙ parameters_text_none c.loop-next.first)

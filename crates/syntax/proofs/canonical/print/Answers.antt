@@ -2,7 +2,7 @@ use Rattle.std.proofs.Common.{◌+◌, ◌<◌, ◌≤◌, false, ◌++◌, ◌�
 use Rattle.std.proofs.lemmas.List.{at_drop_more, at_drop_all}
 use Rattle.std.specs.String.{string_bytes}
 use Rattle.syntax.specs.Tree.{expr, exprs}
-use Rattle.syntax.proofs.ExpressionText.{then_adds, moved, all_moved, exprs_text, exprs_text_more, exprs_text_none}
+use Rattle.syntax.proofs.ExpressionText.{then_adds, adds_part, adds_all, exprs_text, exprs_text_more, exprs_text_none}
 use Rattle.syntax.proofs.LineText.{print_text}
 use Rattle.syntax.proofs.canonical.print.Goals as goal
 
@@ -15,14 +15,14 @@ loop-value-preserved c =
     let parts = at_drop_more (exprs_text false) xs i x inside ∙ ap (λ y. exprs_text false (y ∷ drop (i + 1) xs)) (sym c.value-item.is)
     ∙ exprs_text_more false x (drop (i + 1) xs) in
     let added = then_adds (string_bytes c.loop-value.out) _ _ c.in_ok-push_str-2.ensures.bytes c.in_ok-expr-2.ensures in
-    moved (string_bytes c.loop-value.out) _ (exprs_text false (drop (i + 1) xs)) c.loop-value.invariant added parts
+    adds_part (string_bytes c.loop-value.out) _ (exprs_text false (drop (i + 1) xs)) c.loop-value.invariant added parts
 
 pub returns : goal.returns
 returns c =
     let xs = c.args.rest.now in
     let old = string_bytes c.args.out.now in
     let at_end : length xs ≤ c.loop-value.value-index = search rules in
-    let ended = all_moved (string_bytes c.loop-value.out) c.loop-value.invariant (at_drop_all (exprs_text false) xs
+    let ended = adds_all (string_bytes c.loop-value.out) c.loop-value.invariant (at_drop_all (exprs_text false) xs
     c.loop-value.value-index at_end ∙ exprs_text_none false) in
     let text = then_adds old _ _ c.in_ok-push_str.ensures.bytes (then_adds (string_bytes c.push_str.new.self) _ _
     c.in_ok-expr.ensures ended) in

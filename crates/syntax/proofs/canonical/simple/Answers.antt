@@ -1,4 +1,5 @@
 use Rattle.std.proofs.Common.{◌++◌, refl, ap, sym, ◌∙◌}
+use Rattle.std.proofs.lemmas.Bool.{both_ways}
 use Rattle.std.specs.String.{string_bytes}
 use Rattle.syntax.specs.Canonical.{Opening}
 use Rattle.syntax.specs.Spelling.{stmt_then}
@@ -7,7 +8,7 @@ use Rattle.syntax.specs.Writing.{with_rest}
 use Rattle.syntax.proofs.ExpressionText.{ok_then, pushed, then_ok}
 use Rattle.syntax.proofs.LineText.{wrote_simple, laid_Skip, laid_Var, laid_Assign, laid_Store, laid_Print}
 use Rattle.syntax.proofs.LineText.{laid_Fault, laid_Call}
-use Rattle.syntax.proofs.StatementKinds.{stmt_Skip, stmt_Var, stmt_Assign, stmt_Store, stmt_Print, stmt_Fault, stmt_Call, skip_is_left}
+use Rattle.syntax.proofs.StatementKinds.{stmt_Skip, stmt_Var, stmt_Assign, stmt_Store, stmt_Print, stmt_Fault, stmt_Call, is_simple-false}
 use Rattle.syntax.proofs.canonical.simple.Goals as goal
 
 pub returns-in_ok-push_str-in-Var-clause-written : goal.returns-in_ok-push_str-in-Var-clause-written
@@ -70,11 +71,24 @@ returns-in_ok-listed-in-Call-clause-written c =
     ∙ wrote_simple old (record old { text = c.push-in-Call.new.self }) _ _ (λ at q. laid_Call at (string_bytes
     c.in-Call.procedure) (exprs c.deref-in-Call.result.now) q) added refl refl r)
 
-pub returns-in_default-clause-written : goal.returns-in_default-clause-written
-returns-in_default-clause-written c =
+pub returns-in-Skip-clause-written : goal.returns-in-Skip-clause-written
+returns-in-Skip-clause-written c =
     let old = c.args.lines.now in
-    let skip = skip_is_left c.args.statement.now c.requires.simple c.in_default.not-Var c.in_default.not-Assign c.in_default.not-Store
-    c.in_default.not-Print c.in_default.not-Fault c.in_default.not-Call in
-    ok_then c.push_str-in_default.result (pushed c.push_str-in_default.result _ _ _ c.push_str-in_default.ensures.bytes)
-    (λ added r. ap (λ s. with_rest old Opening (stmt_then s r)) (ap stmt skip ∙ stmt_Skip)
-    ∙ wrote_simple old (record old { text = c.push_str-in_default.new.self }) _ _ (λ at q. laid_Skip at q) added refl refl r)
+    ok_then c.push_str.result (pushed c.push_str.result _ _ _ c.push_str.ensures.bytes)
+    (λ added r. ap (λ s. with_rest old Opening (stmt_then s r)) (ap stmt c.in-Skip.is ∙ stmt_Skip)
+    ∙ wrote_simple old (record old { text = c.push_str.new.self }) _ _ (λ at q. laid_Skip at q) added refl refl r)
+
+pub returns-in-If-clause-written : goal.returns-in-If-clause-written
+returns-in-If-clause-written c = absurd (both_ways _ (is_simple-false c.args.statement.now c.in-If.is) c.requires.simple)
+
+pub returns-in-If-2-clause-written : goal.returns-in-If-2-clause-written
+returns-in-If-2-clause-written c = absurd (both_ways _ (is_simple-false c.args.statement.now c.in-If.is) c.requires.simple)
+
+pub returns-in-If-3-clause-written : goal.returns-in-If-3-clause-written
+returns-in-If-3-clause-written c = absurd (both_ways _ (is_simple-false c.args.statement.now c.in-If.is) c.requires.simple)
+
+pub returns-in-If-4-clause-written : goal.returns-in-If-4-clause-written
+returns-in-If-4-clause-written c = absurd (both_ways _ (is_simple-false c.args.statement.now c.in-If.is) c.requires.simple)
+
+pub returns-in-If-5-clause-written : goal.returns-in-If-5-clause-written
+returns-in-If-5-clause-written c = absurd (both_ways _ (is_simple-false c.args.statement.now c.in-If.is) c.requires.simple)

@@ -1,7 +1,7 @@
 use Rattle.std.proofs.Common.{◌++◌, ap, ◌∙◌}
 use Rattle.std.specs.String.{string_bytes}
 use Rattle.syntax.specs.Tree.{expr}
-use Rattle.syntax.proofs.ExpressionText.{then_ok, called}
+use Rattle.syntax.proofs.ExpressionText.{then_ok, ok_adds_equal}
 use Rattle.syntax.proofs.LineText.{store_text}
 use Rattle.syntax.proofs.canonical.store.Goals as goal
 
@@ -12,5 +12,5 @@ returns c =
     let name = c.in_ok-push_str.ensures.bytes ∙ ap (λ l. old ++ l) c.as_str.ensures.value in
     let value = then_ok _ (string_bytes c.expr.new.out) _ _ _ c.in_ok-push_str-2.ensures.bytes c.expr-2.ensures in
     let index = then_ok _ (string_bytes c.push.new.self) _ _ _ c.in_ok-expr.ensures value in
-    called _ old _ (then_ok _ old _ _ _ name (then_ok _ (string_bytes c.push_str.new.self) _ _ _ c.in_ok-push.ensures.bytes index))
+    ok_adds_equal _ old _ (then_ok _ old _ _ _ name (then_ok _ (string_bytes c.push_str.new.self) _ _ _ c.in_ok-push.ensures.bytes index))
     (store_text (string_bytes c.args.section.now) (expr c.args.index.now) (expr c.args.value.now))

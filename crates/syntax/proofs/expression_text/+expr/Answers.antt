@@ -9,7 +9,7 @@ use Rattle.syntax.specs.declared.tree.Prod.{out-Prod}
 use Rattle.syntax.specs.Canonical.{in_line}
 use Rattle.syntax.specs.Spelling.{expr_then, conj_then, neg_then, prod_then, unary_then, atom_then}
 use Rattle.syntax.specs.Tree.{expr, conj, neg, prod, unary, atom}
-use Rattle.syntax.proofs.ExpressionText.{then_adds, moved, all_moved, pushed, then_ok, called, conjs_text}
+use Rattle.syntax.proofs.ExpressionText.{then_adds, adds_part, adds_all, pushed, then_ok, ok_adds_equal, conjs_text}
 use Rattle.syntax.proofs.ExpressionText.{conjs_text_more, conjs_text_none, negs_text, negs_text_more, negs_text_none}
 use Rattle.syntax.proofs.ExpressionText.{terms_text, terms_text_more, terms_text_none, factors_text, factors_text_more}
 use Rattle.syntax.proofs.ExpressionText.{factors_text_none, expr_text, conj_text, neg_text, cmp_text_alone}
@@ -24,7 +24,7 @@ expr-loop-operand-init t c =
     let parts = expr_text c.args.e.now
     ∙ ap (λ l. in_line (conj_then (conj (out-Expr c.args.e.now).first) []) ++ conjs_text l) (sym
     c.deref-operand-items.ensures.value) in
-    moved (string_bytes c.args.out.now) _ (conjs_text c.deref-operand-items.result.now) refl c.in_ok-conj.ensures parts
+    adds_part (string_bytes c.args.out.now) _ (conjs_text c.deref-operand-items.result.now) refl c.in_ok-conj.ensures parts
 
 pub expr-loop-operand-preserved : goal.expr-loop-operand-preserved
 expr-loop-operand-preserved t c =
@@ -35,20 +35,20 @@ expr-loop-operand-preserved t c =
     let parts = at_drop_more conjs_text xs i x inside ∙ ap (λ y. conjs_text (y ∷ drop (i + 1) xs)) (sym c.operand-item.is)
     ∙ conjs_text_more x (drop (i + 1) xs) in
     let added = then_adds (string_bytes c.loop-operand.out) _ _ (c.in_ok-push_str.ensures.bytes) c.in_ok-conj-2.ensures in
-    moved (string_bytes c.loop-operand.out) _ (conjs_text (drop (i + 1) xs)) c.loop-operand.invariant added parts
+    adds_part (string_bytes c.loop-operand.out) _ (conjs_text (drop (i + 1) xs)) c.loop-operand.invariant added parts
 
 pub expr-returns : goal.expr-returns
 expr-returns t c =
     let xs = c.deref-operand-items.result.now in
     let at_end : length xs ≤ c.loop-operand.operand-index = search rules in
-    all_moved (string_bytes c.loop-operand.out) c.loop-operand.invariant (at_drop_all conjs_text xs c.loop-operand.operand-index at_end
+    adds_all (string_bytes c.loop-operand.out) c.loop-operand.invariant (at_drop_all conjs_text xs c.loop-operand.operand-index at_end
     ∙ conjs_text_none)
 
 pub conj-loop-operand-init : goal.conj-loop-operand-init
 conj-loop-operand-init t c =
     let parts = conj_text c.args.e.now
     ∙ ap (λ l. in_line (neg_then (neg (out-Conj c.args.e.now).first) []) ++ negs_text l) (sym c.deref-operand-items.ensures.value) in
-    moved (string_bytes c.args.out.now) _ (negs_text c.deref-operand-items.result.now) refl c.in_ok-neg.ensures parts
+    adds_part (string_bytes c.args.out.now) _ (negs_text c.deref-operand-items.result.now) refl c.in_ok-neg.ensures parts
 
 pub conj-loop-operand-preserved : goal.conj-loop-operand-preserved
 conj-loop-operand-preserved t c =
@@ -59,13 +59,13 @@ conj-loop-operand-preserved t c =
     let parts = at_drop_more negs_text xs i x inside ∙ ap (λ y. negs_text (y ∷ drop (i + 1) xs)) (sym c.operand-item.is)
     ∙ negs_text_more x (drop (i + 1) xs) in
     let added = then_adds (string_bytes c.loop-operand.out) _ _ (c.in_ok-push_str.ensures.bytes) c.in_ok-neg-2.ensures in
-    moved (string_bytes c.loop-operand.out) _ (negs_text (drop (i + 1) xs)) c.loop-operand.invariant added parts
+    adds_part (string_bytes c.loop-operand.out) _ (negs_text (drop (i + 1) xs)) c.loop-operand.invariant added parts
 
 pub conj-returns : goal.conj-returns
 conj-returns t c =
     let xs = c.deref-operand-items.result.now in
     let at_end : length xs ≤ c.loop-operand.operand-index = search rules in
-    all_moved (string_bytes c.loop-operand.out) c.loop-operand.invariant (at_drop_all negs_text xs c.loop-operand.operand-index at_end
+    adds_all (string_bytes c.loop-operand.out) c.loop-operand.invariant (at_drop_all negs_text xs c.loop-operand.operand-index at_end
     ∙ negs_text_none)
 
 pub neg-returns : goal.neg-returns
@@ -78,7 +78,7 @@ neg-returns t c =
       | neg-else-e w ↦ ap string_bytes w.out-is ∙ sym (append-nil old)
           ∙ ap (λ b. old ++ (if b then codes "not " else [])) (sym w.if-e.false)
     ] in
-    called _ old _ (then_ok _ old _ _ _ added c.cmp.ensures) (neg_text c.args.e.now)
+    ok_adds_equal _ old _ (then_ok _ old _ _ _ added c.cmp.ensures) (neg_text c.args.e.now)
 
 pub cmp-returns-in-None : goal.cmp-returns-in-None
 cmp-returns-in-None t c =
@@ -90,14 +90,14 @@ cmp-returns-in_ok-push_str-in-Some t c =
     let between = string_bytes c.sum.new.out in
     let mark = ◌∙◌ {b = between ++ c.relation.result.now} c.in_ok-push_str-in-Some.ensures.bytes
     (ap (λ l. between ++ l) c.relation.ensures) in
-    called _ old _ (then_ok _ old _ _ _ c.in_ok-sum.ensures (then_ok _ between _ _ _ mark c.sum-in-Some.ensures)) (cmp_text_compared
+    ok_adds_equal _ old _ (then_ok _ old _ _ _ c.in_ok-sum.ensures (then_ok _ between _ _ _ mark c.sum-in-Some.ensures)) (cmp_text_compared
     c.args.e.now c.in-Some.compared c.in-Some.is)
 
 pub sum-loop-term-init : goal.sum-loop-term-init
 sum-loop-term-init t c =
     let parts = sum_text c.args.e.now
     ∙ ap (λ l. in_line (prod_then (prod (out-Sum c.args.e.now).first) []) ++ terms_text l) (sym c.deref-term-items.ensures.value) in
-    moved (string_bytes c.args.out.now) _ (terms_text c.deref-term-items.result.now) refl c.in_ok-prod.ensures parts
+    adds_part (string_bytes c.args.out.now) _ (terms_text c.deref-term-items.result.now) refl c.in_ok-prod.ensures parts
 
 pub sum-loop-term-preserved : goal.sum-loop-term-preserved
 sum-loop-term-preserved t c =
@@ -110,13 +110,13 @@ sum-loop-term-preserved t c =
     let old = string_bytes c.loop-term.out in
     let mark = ◌∙◌ {b = old ++ c.sign.result.now} c.in_ok-push_str.ensures.bytes (ap (λ l. old ++ l) c.sign.ensures) in
     let added = then_adds old _ _ mark c.in_ok-prod-2.ensures in
-    moved (string_bytes c.loop-term.out) _ (terms_text (drop (i + 1) xs)) c.loop-term.invariant added parts
+    adds_part (string_bytes c.loop-term.out) _ (terms_text (drop (i + 1) xs)) c.loop-term.invariant added parts
 
 pub sum-returns : goal.sum-returns
 sum-returns t c =
     let xs = c.deref-term-items.result.now in
     let at_end : length xs ≤ c.loop-term.term-index = search rules in
-    all_moved (string_bytes c.loop-term.out) c.loop-term.invariant (at_drop_all terms_text xs c.loop-term.term-index at_end
+    adds_all (string_bytes c.loop-term.out) c.loop-term.invariant (at_drop_all terms_text xs c.loop-term.term-index at_end
     ∙ terms_text_none)
 
 pub prod-loop-factor-init : goal.prod-loop-factor-init
@@ -124,7 +124,7 @@ prod-loop-factor-init t c =
     let parts = prod_text c.args.e.now
     ∙ ap (λ l. in_line (unary_then (unary (out-Prod c.args.e.now).first) []) ++ factors_text l) (sym
     c.deref-factor-items.ensures.value) in
-    moved (string_bytes c.args.out.now) _ (factors_text c.deref-factor-items.result.now) refl c.in_ok-unary.ensures parts
+    adds_part (string_bytes c.args.out.now) _ (factors_text c.deref-factor-items.result.now) refl c.in_ok-unary.ensures parts
 
 pub prod-loop-factor-preserved : goal.prod-loop-factor-preserved
 prod-loop-factor-preserved t c =
@@ -137,13 +137,13 @@ prod-loop-factor-preserved t c =
     let old = string_bytes c.loop-factor.out in
     let mark = ◌∙◌ {b = old ++ c.operator.result.now} c.in_ok-push_str.ensures.bytes (ap (λ l. old ++ l) c.operator.ensures) in
     let added = then_adds old _ _ mark c.in_ok-unary-2.ensures in
-    moved (string_bytes c.loop-factor.out) _ (factors_text (drop (i + 1) xs)) c.loop-factor.invariant added parts
+    adds_part (string_bytes c.loop-factor.out) _ (factors_text (drop (i + 1) xs)) c.loop-factor.invariant added parts
 
 pub prod-returns : goal.prod-returns
 prod-returns t c =
     let xs = c.deref-factor-items.result.now in
     let at_end : length xs ≤ c.loop-factor.factor-index = search rules in
-    all_moved (string_bytes c.loop-factor.out) c.loop-factor.invariant (at_drop_all factors_text xs c.loop-factor.factor-index at_end
+    adds_all (string_bytes c.loop-factor.out) c.loop-factor.invariant (at_drop_all factors_text xs c.loop-factor.factor-index at_end
     ∙ factors_text_none)
 
 pub unary-returns : goal.unary-returns
@@ -156,27 +156,27 @@ unary-returns t c =
           ∙ ap (λ b. old ++ (if b then codes "-" else [])) (sym w.if-e.true)
       | unary-else-e w ↦ ap string_bytes w.out-is ∙ sym (append-nil old) ∙ ap (λ b. old ++ (if b then codes "-" else [])) (sym w.if-e.false)
     ] in
-    called _ old _ (then_ok _ old _ _ _ added c.atom.ensures) (unary_text c.args.e.now.negative (atom c.args.e.now.atom))
+    ok_adds_equal _ old _ (then_ok _ old _ _ _ added c.atom.ensures) (unary_text c.args.e.now.negative (atom c.args.e.now.atom))
 
 pub atom-returns-in-Number : goal.atom-returns-in-Number
 atom-returns-in-Number t c =
     let is = ap (λ a. in_line (atom_then (atom a) [])) c.in-Number.is ∙ atom_text_Number c.in-Number.value in
-    called _ (string_bytes c.args.out.now) _ c.write.ensures.bytes is
+    ok_adds_equal _ (string_bytes c.args.out.now) _ c.write.ensures.bytes is
 
 pub atom-returns-in-True : goal.atom-returns-in-True
 atom-returns-in-True t c =
     let is = ap (λ a. in_line (atom_then (atom a) [])) c.in-True.is ∙ atom_text_True in
-    called _ (string_bytes c.args.out.now) _ (pushed _ _ _ _ c.push_str.ensures.bytes) is
+    ok_adds_equal _ (string_bytes c.args.out.now) _ (pushed _ _ _ _ c.push_str.ensures.bytes) is
 
 pub atom-returns-in-False : goal.atom-returns-in-False
 atom-returns-in-False t c =
     let is = ap (λ a. in_line (atom_then (atom a) [])) c.in-False.is ∙ atom_text_False in
-    called _ (string_bytes c.args.out.now) _ (pushed _ _ _ _ c.push_str-in-False.ensures.bytes) is
+    ok_adds_equal _ (string_bytes c.args.out.now) _ (pushed _ _ _ _ c.push_str-in-False.ensures.bytes) is
 
 pub atom-returns-in-Name : goal.atom-returns-in-Name
 atom-returns-in-Name t c =
     let is = ap (λ a. in_line (atom_then (atom a) [])) c.in-Name.is ∙ atom_text_Name c.in-Name.name ∙ sym c.as_str.ensures.value in
-    called _ (string_bytes c.args.out.now) _ (pushed _ _ _ _ c.push_str-in-Name.ensures.bytes) is
+    ok_adds_equal _ (string_bytes c.args.out.now) _ (pushed _ _ _ _ c.push_str-in-Name.ensures.bytes) is
 
 pub atom-returns-in_ok-expr-in-Element : goal.atom-returns-in_ok-expr-in-Element
 unfolding lib.Utf8.encode
@@ -187,7 +187,7 @@ atom-returns-in_ok-expr-in-Element t c =
     let inside = string_bytes c.push.new.self in
     let index = c.in_ok-expr-in-Element.ensures ∙ ap (λ e. inside ++ in_line (expr_then (expr e) [])) c.deref.ensures in
     let is = ap (λ a. in_line (atom_then (atom a) [])) c.in-Element.is ∙ atom_text_Element c.in-Element.section c.in-Element.index in
-    called _ old _ (then_ok _ old _ _ _ name (then_ok _ opened _ _ _ c.in_ok-push-in-Element.ensures.bytes (then_ok _ inside _ _ _ index
+    ok_adds_equal _ old _ (then_ok _ old _ _ _ name (then_ok _ opened _ _ _ c.in_ok-push-in-Element.ensures.bytes (then_ok _ inside _ _ _ index
     (pushed _ _ _ _ c.push-in-Element.ensures.bytes)))) is
 
 pub atom-returns-in_ok-push_str-in-Length-2 : goal.atom-returns-in_ok-push_str-in-Length-2
@@ -197,7 +197,7 @@ atom-returns-in_ok-push_str-in-Length-2 t c =
     let between = string_bytes c.push_str-in-Length.new.self in
     let name = c.in_ok-push_str-in-Length-2.ensures.bytes ∙ ap (λ l. between ++ l) c.as_str-in-Length.ensures.value in
     let is = ap (λ a. in_line (atom_then (atom a) [])) c.in-Length.is ∙ atom_text_Length c.in-Length.section in
-    called _ old _ (then_ok _ old _ _ _ c.in_ok-push_str-in-Length.ensures.bytes (then_ok _ between _ _ _ name (pushed _ _ _ _
+    ok_adds_equal _ old _ (then_ok _ old _ _ _ c.in_ok-push_str-in-Length.ensures.bytes (then_ok _ between _ _ _ name (pushed _ _ _ _
     c.push-in-Length.ensures.bytes))) is
 
 pub atom-returns-in_ok-expr-in-Parens : goal.atom-returns-in_ok-expr-in-Parens
@@ -207,5 +207,5 @@ atom-returns-in_ok-expr-in-Parens t c =
     let inside = string_bytes c.push-in-Parens.new.self in
     let index = c.in_ok-expr-in-Parens.ensures ∙ ap (λ e. inside ++ in_line (expr_then (expr e) [])) c.deref-in-Parens.ensures in
     let is = ap (λ a. in_line (atom_then (atom a) [])) c.in-Parens.is ∙ atom_text_Parens c.in-Parens.inner in
-    called _ old _ (then_ok _ old _ _ _ c.in_ok-push-in-Parens.ensures.bytes (then_ok _ inside _ _ _ index (pushed _ _ _ _
+    ok_adds_equal _ old _ (then_ok _ old _ _ _ c.in_ok-push-in-Parens.ensures.bytes (then_ok _ inside _ _ _ index (pushed _ _ _ _
     c.push-in-Parens-2.ensures.bytes))) is

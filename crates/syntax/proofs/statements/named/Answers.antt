@@ -4,7 +4,7 @@ use Rattle.syntax.specs.Tree.{expr, exprs, stmt}
 use Rattle.syntax.proofs.ChainLemmas.{behind}
 use Rattle.syntax.specs.declared.token.Mark.TheVariants.{RightBracket, Semicolon, Becomes}
 use Rattle.syntax.specs.Token.{MarkToken}
-use Rattle.syntax.proofs.RefusalLemmas.{passed_on, next}
+use Rattle.syntax.proofs.RefusalLemmas.{passed_on, rests_equal}
 use Rattle.syntax.proofs.StmtRefusals.{no_statement, store_opened, call_opened, assign_opened}
 use Rattle.syntax.proofs.statements.named.Goals as goal
 
@@ -20,8 +20,8 @@ returns-in-Some-clause-read c = record {
       let parts = store_opened s _ _ r (sym (c.in_ok-name.ensures.found ∙ behind c.in-Some.ensures.found) ∙ spelled) in
       let bracket = c.in_ok-index.ensures.read.whole parts.0 (MarkToken RightBracket ∷ MarkToken Becomes
       ∷ expr_then parts.1 (MarkToken Semicolon ∷ r)) (omega arith) parts.2 in
-      let mark = next (sym c.in_ok-rest.ensures.found ∙ bracket) in
-      let value = next (sym c.in_ok-rest-2.ensures.found ∙ mark) in
+      let mark = rests_equal (sym c.in_ok-rest.ensures.found ∙ bracket) in
+      let value = rests_equal (sym c.in_ok-rest-2.ensures.found ∙ mark) in
       c.in_ok-value.ensures.read.whole parts.1 r value;
 }
 
@@ -35,7 +35,7 @@ returns-in-Some-after_mark-clause-read c = record {
   whole = λ s r ends spelled.
       let parts = call_opened s _ _ r (sym (c.in_ok-name.ensures.found ∙ behind c.in-Some-after_mark.ensures.found) ∙ spelled) in
       let mark = c.in_ok-arguments.ensures.read.whole parts.0 (MarkToken Semicolon ∷ r) parts.1 in
-      next (sym c.in_ok-rest-3.ensures.found ∙ mark);
+      rests_equal (sym c.in_ok-rest-3.ensures.found ∙ mark);
 }
 
 pub returns-clause-read : goal.returns-clause-read
@@ -45,7 +45,7 @@ returns-clause-read c = record {
   whole = λ s r ends spelled.
       let parts = assign_opened s _ _ r c.in_default.ensures.absent c.in_default-after_mark.ensures.absent
       (sym c.in_ok-name.ensures.found ∙ spelled) in
-      let value = next (sym c.in_ok-rest-4.ensures.found ∙ parts.1) in
+      let value = rests_equal (sym c.in_ok-rest-4.ensures.found ∙ parts.1) in
       c.in_ok-value-2.ensures.read.whole parts.0 r value;
 }
 
@@ -76,7 +76,7 @@ returns-in_err-rest-2-clause-refused c =
     let parts = store_opened s _ _ r (sym (c.in_ok-name.ensures.found ∙ behind c.in-Some.ensures.found) ∙ spelled) in
     let bracket = c.in_ok-index.ensures.read.whole parts.0 (MarkToken RightBracket ∷ MarkToken Becomes
     ∷ expr_then parts.1 (MarkToken Semicolon ∷ r)) (omega arith) parts.2 in
-    let mark = next (sym c.in_ok-rest.ensures.found ∙ bracket) in
+    let mark = rests_equal (sym c.in_ok-rest.ensures.found ∙ bracket) in
     c.in_err-rest-2.ensures.refused _ mark)
 
 pub returns-in_err-value-clause-refused : goal.returns-in_err-value-clause-refused
@@ -85,8 +85,8 @@ returns-in_err-value-clause-refused c =
     let parts = store_opened s _ _ r (sym (c.in_ok-name.ensures.found ∙ behind c.in-Some.ensures.found) ∙ spelled) in
     let bracket = c.in_ok-index.ensures.read.whole parts.0 (MarkToken RightBracket ∷ MarkToken Becomes
     ∷ expr_then parts.1 (MarkToken Semicolon ∷ r)) (omega arith) parts.2 in
-    let mark = next (sym c.in_ok-rest.ensures.found ∙ bracket) in
-    let value = next (sym c.in_ok-rest-2.ensures.found ∙ mark) in
+    let mark = rests_equal (sym c.in_ok-rest.ensures.found ∙ bracket) in
+    let value = rests_equal (sym c.in_ok-rest-2.ensures.found ∙ mark) in
     c.in_err-value.ensures.refused room parts.1 r value)
 
 pub returns-in_err-arguments-clause-refused : goal.returns-in_err-arguments-clause-refused
@@ -114,5 +114,5 @@ returns-in_err-value-2-clause-refused c =
     passed_on _ _ c.from_residual-in_err-value-2.ensures.1 (λ room no_word s r ends spelled.
     let parts = assign_opened s _ _ r c.in_default.ensures.absent c.in_default-after_mark.ensures.absent
     (sym c.in_ok-name.ensures.found ∙ spelled) in
-    let value = next (sym c.in_ok-rest-4.ensures.found ∙ parts.1) in
+    let value = rests_equal (sym c.in_ok-rest-4.ensures.found ∙ parts.1) in
     c.in_err-value-2.ensures.refused room parts.0 r value)

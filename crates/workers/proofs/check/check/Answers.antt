@@ -19,8 +19,8 @@ returns-in-Some-clause-refused c = (
       c.in-Some.is c.in-Ok.ensures,
 )
 
-pub returns-in-None-clause-race_free : goal.returns-in-None-clause-race_free
-returns-in-None-clause-race_free c =
+pub returns-in-None-clause-clash_free : goal.returns-in-None-clause-clash_free
+returns-in-None-clause-clash_free c =
     least_of_same _ _ _ _
     (ap pairs c.deref.ensures.value ∙ ap (λ (p : Program). pairs p.main.body.items) c.code.ensures.field)
     c.in-None.is c.in-Ok.ensures

@@ -9,7 +9,7 @@ use Rattle.syntax.specs.Token.{MarkToken}
 use Rattle.syntax.specs.Tree.{procedure, main, array, block}
 use Rattle.syntax.specs.Writing.{with_rest}
 use Rattle.syntax.proofs.ExpressionText.{ok_then, then_adds}
-use Rattle.syntax.proofs.LineText.{wrote, laid_main, opened, closed, arrays_are_lines}
+use Rattle.syntax.proofs.LineText.{wrote, laid_main, laid-opening_brace, laid-closing_brace, arrays_are_lines}
 use Rattle.syntax.proofs.canonical.Lines.program.Goals as goal
 
 pub loop-procedure-init : goal.loop-procedure-init
@@ -53,7 +53,7 @@ loop-array-init c =
           (block_then body [])))
           ∙ wrote (record begun { text = c.push_str.new.self }) c.open.new.self Other Margin _ _ (codes " {\n")
           (begun.depth + 1) begun.label c.in_ok-open.ensures.text c.in_ok-open.ensures.depth c.in_ok-open.ensures.label
-          (opened begun.depth begun.label (arrays_then arrays (block_then body [])) (arrays_are_lines arrays body []))
+          (laid-opening_brace begun.depth begun.label (arrays_then arrays (block_then body [])) (arrays_are_lines arrays body []))
           ∙ ap (λ l. with_rest c.open.new.self Margin (arrays_then (map array l) (block_then body []))) (sym
           c.deref-array-items.ensures.value);
     }
@@ -71,5 +71,5 @@ returns c =
     ∙ ap (λ b. with_rest old Margin (block_then (block b) [])) (sym c.deref.ensures.value)
     ∙ c.in_ok-statements.ensures.written []
     ∙ wrote behind c.close.new.self Margin Ended (MarkToken RightBrace ∷ []) [] _ (behind.depth - 1) behind.label
-    c.in_ok-close.ensures.text c.in_ok-close.ensures.depth c.in_ok-close.ensures.label (closed behind.depth behind.label [])
+    c.in_ok-close.ensures.text c.in_ok-close.ensures.depth c.in_ok-close.ensures.label (laid-closing_brace behind.depth behind.label [])
     ∙ sym ends.text)

@@ -1,0 +1,109 @@
+//! The line that tells a failure, piece by piece, without memory of its own.
+
+ghost use Rattle.std.specs.Prelude.{◌++◌, codes};
+ghost use Rattle.driver.specs.Appending.{Writes};
+ghost use Rattle.driver.specs.Messages.{at_label, at_place, failure_text, race_text};
+ghost use Rattle.driver.specs.Messages.{syntax_text, type_text};
+
+use crate::emit::{EmitError, append, emit_label};
+use crate::failure::Failure;
+use std::io::Write;
+use syntax::Place;
+use syntax::error::SyntaxError;
+use types::code::Label;
+use types::error::TypeError;
+
+/// Writes the line of a failure, with its line feed.
+pub fn emit_message<W: Write>(err: &mut W, failure: &Failure) -> Result<(), EmitError>
+    ensures { Writes (W.contents err.old) (W.contents err.new) result
+        (failure_text failure.now ++ codes "\n") }
+{
+    emit_failure(err, failure)?;
+    append(err, b"\n")
+}
+
+/// The line without its line feed.
+fn emit_failure<W: Write>(err: &mut W, failure: &Failure) -> Result<(), EmitError>
+    ensures { Writes (W.contents err.old) (W.contents err.new) result (failure_text failure.now) }
+{
+    match failure {
+        Failure::CannotRead { name } => emit_named(err, "cannot read ", name.as_str()),
+        Failure::NotUtf8 { name } => emit_named(err, "not UTF-8 ", name.as_str()),
+        Failure::Syntax(error) => emit_syntax_error(err, error),
+        Failure::Types(error) => emit_type_error(err, *error),
+        Failure::NotYet => emit_text(err, "Z1"),
+        Failure::Race { first, second } => emit_race(err, first.as_str(), second.as_str()),
+        Failure::NoMemoryInCheck => emit_text(err, "C2"),
+        Failure::Run(error) => emit_text(err, error.code()),
+        Failure::CannotWriteOutput => emit_text(err, "cannot write output"),
+        Failure::NoMemory => emit_text(err, "no memory"),
+    }
+}
+
+/// A text.
+fn emit_text<W: Write>(err: &mut W, text: &str) -> Result<(), EmitError>
+    ensures { Writes (W.contents err.old) (W.contents err.new) result text.now }
+{
+    append(err, text.as_bytes())
+}
+
+/// What is told, and a name.
+fn emit_named<W: Write>(err: &mut W, told: &str, name: &str) -> Result<(), EmitError>
+    ensures { Writes (W.contents err.old) (W.contents err.new) result (told.now ++ name.now) }
+{
+    emit_text(err, told)?;
+    emit_text(err, name)
+}
+
+/// `S2 at 1:13`
+fn emit_syntax_error<W: Write>(err: &mut W, error: &SyntaxError) -> Result<(), EmitError>
+    ensures { Writes (W.contents err.old) (W.contents err.new) result (syntax_text error.now) }
+{
+    match error.place() {
+        None => emit_text(err, error.code()),
+        Some(place) => emit_at_place(err, error.code(), place),
+    }
+}
+
+/// A code, and the line before the column.
+fn emit_at_place<W: Write>(err: &mut W, code: &str, place: Place) -> Result<(), EmitError>
+    ensures { Writes (W.contents err.old) (W.contents err.new) result
+        (at_place code.now (Some place)) }
+{
+    emit_text(err, code)?;
+    emit_text(err, " at ")?;
+    emit_label(err, place.line)?;
+    emit_text(err, ":")?;
+    emit_label(err, place.column)
+}
+
+/// `Y1 at label 2`
+fn emit_type_error<W: Write>(err: &mut W, error: TypeError) -> Result<(), EmitError>
+    ensures { Writes (W.contents err.old) (W.contents err.new) result (type_text error) }
+{
+    match error.label() {
+        None => emit_text(err, error.code()),
+        Some(label) => emit_at_label(err, error.code(), label),
+    }
+}
+
+/// A code and a label.
+fn emit_at_label<W: Write>(err: &mut W, code: &str, label: Label) -> Result<(), EmitError>
+    ensures { Writes (W.contents err.old) (W.contents err.new) result
+        (at_label code.now (Some label)) }
+{
+    emit_text(err, code)?;
+    emit_text(err, " at label ")?;
+    emit_label(err, label)
+}
+
+/// `C1 race in main: 2 write a, 4 read a`
+fn emit_race<W: Write>(err: &mut W, first: &str, second: &str) -> Result<(), EmitError>
+    ensures { Writes (W.contents err.old) (W.contents err.new) result
+        (race_text first.now second.now) }
+{
+    emit_text(err, "C1 race in main: ")?;
+    emit_text(err, first)?;
+    emit_text(err, ", ")?;
+    emit_text(err, second)
+}

@@ -1,0 +1,5 @@
+pub mod RowLemmas
+pub mod MapLemmas
+pub mod FragmentLemmas
+pub mod CutLemmas
+pub mod ListedLemmas

@@ -1,0 +1,22 @@
+-- What a refused call is told by.
+use Rattle.std.specs.Prelude.{ℕ, List, codes}
+use Rattle.holdings.specs.declared.error.HoldError.{HoldError}
+use Rattle.holdings.specs.declared.error.HoldError.TheVariants.{NotHeld, OutOfMemory, OwnedTwice}
+
+-- the code of an error
+abbrev pub code_of : HoldError → List ℕ
+code_of NotHeld = codes "H1"
+code_of OutOfMemory = codes "H2"
+code_of OwnedTwice = codes "H3"
+
+-- a call that asks for places was refused: one is missing, or memory was, though all were there
+abbrev pub RefusesPlaces : HoldError → (all_there : Type 0) → Type 0
+RefusesPlaces NotHeld there = there → ⊥
+RefusesPlaces OutOfMemory there = there
+RefusesPlaces OwnedTwice there = ⊥
+
+-- a call that brings places was refused: one is owned already, or memory was missing
+abbrev pub RefusesOwned : HoldError → (apart : Type 0) → Type 0
+RefusesOwned NotHeld apart = ⊥
+RefusesOwned OutOfMemory apart = apart
+RefusesOwned OwnedTwice apart = apart → ⊥

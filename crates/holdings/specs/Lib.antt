@@ -1,0 +1,4 @@
+pub mod Errors
+pub mod Fragments
+pub mod Held
+pub mod Holdings

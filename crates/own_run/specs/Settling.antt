@@ -1,0 +1,62 @@
+-- Results settled: each hole filled once by the result of its path, wherever that stands.
+use Rattle.std.specs.Prelude.{ℕ, zero, suc, ◌+◌, ◌≡◌, List, [], ◌∷◌, length, Bool, true, false}
+use Rattle.std.specs.Prelude.{◌&&◌, ◌||◌, nat_eq, Option, Some, None, if◌then◌else◌}
+use Rattle.sections.specs.Place.{Place}
+use Rattle.own_run.specs.Places.{Places, within, meets}
+use Rattle.own_run.specs.Results.{Listed, TaskResult, Settled, none_yet, fill, complete, and_then}
+
+-- whether two paths are the same
+abbrev pub same_path : List ℕ → List ℕ → Bool
+same_path [] [] = true
+same_path [] (k ∷ q) = false
+same_path (j ∷ p) [] = false
+same_path (j ∷ p) (k ∷ q) = nat_eq j k && same_path p q
+
+-- a result stays behind those that were looked at
+abbrev pub behind : TaskResult → Option (TaskResult × List TaskResult)
+    → Option (TaskResult × List TaskResult)
+behind r None = None
+behind r (Some (found, others)) = Some (found, r ∷ others)
+
+-- takes the first result of a path out of a list
+abbrev pub take : List ℕ → List TaskResult → Option (TaskResult × List TaskResult)
+take path [] = None
+take path (r ∷ rs) = if same_path r.path path then Some (r, rs) else behind r (take path rs)
+
+-- fills holes, using up results; nothing where one is lost, or a place comes back that is owned
+abbrev pub fill_all : (TaskResult → List TaskResult → Option (Settled × List TaskResult))
+    → (owned : Places) → List Listed → Settled
+    → List TaskResult → Option (Settled × List TaskResult)
+fill_all deeper owned [] so_far rs = Some (so_far, rs)
+fill_all deeper owned (c ∷ cs) so_far rs =
+    if meets owned c.windows then None else
+    and_then (take c.path rs) (λ found.
+    and_then (deeper found.0 found.1) (λ child.
+    fill_all deeper (λ q. owned q || within c.windows q) cs (fill c child.0 so_far) child.1))
+
+-- settles a result with others, at most k within one another, and leaves the others
+abbrev pub settle_within : ℕ → TaskResult → List TaskResult → Option (Settled × List TaskResult)
+settle_within zero r rs = None
+settle_within (suc k) r rs =
+    and_then (fill_all (settle_within k) r.owned r.children none_yet rs)
+    (λ all. Some (complete r all.0, all.1))
+
+-- nothing, where a path has a second result, or a result is listed by nobody
+abbrev pub none_left : Settled × List TaskResult → Option Settled
+none_left (s, []) = Some s
+none_left (s, r ∷ rs) = None
+
+-- a result with those of all tasks that are listed, at any depth
+abbrev pub settle : TaskResult → List TaskResult → Option Settled
+settle r rs = and_then (settle_within (length rs + 1) r rs) none_left
+
+-- no place comes back that is owned
+abbrev pub Parted : Places → List Listed → Type 0
+Parted owned [] = Unit {0}
+Parted owned (c ∷ cs) =
+    ((q : Place) → within c.windows q ≡ true → owned q ≡ false)
+    × Parted (λ q. owned q || within c.windows q) cs
+
+-- so it is of a result
+abbrev pub IsParted : TaskResult → Type 0
+IsParted r = Parted r.owned r.children

@@ -1,0 +1,2 @@
+pub mod ShareLemmas
+pub mod Steps

@@ -1,0 +1,84 @@
+//! Drawing numbers.
+
+ghost use Rattle.std.specs.Prelude.{◌≡◌, ℕ, ◌<◌, ◌≤◌, ◌++◌, [], ◌∷◌, length, All, IfOk, vec_len};
+ghost use Rattle.tickets.specs.Shares.{times, one_below};
+ghost use Rattle.tickets.specs.Seats.{drawn_of, drawn_by, IsSeatOf, seats_of};
+
+use crate::rule::{Draw, Parting, Share};
+use crate::word::{Seat, Tickets};
+use atomic_table::{Seat as Place, Table};
+use std::alloc::{AllocError, Global};
+
+/// A drawn number. `Tickets::draw` alone makes one.
+#[derive(Debug, Drop, PartialEq, Eq)]
+pub struct Ticket {
+    number: u64,
+}
+
+impl Ticket {
+    /// The number that was drawn.
+    pub fn number(&self) -> u64
+        ensures { result ≡ self.now.number }
+    {
+        self.number
+    }
+}
+
+impl Tickets {
+    /// A word from which nothing was drawn, and all of its seats.
+    pub fn new(alloc: Global, seats: u64) -> Result<(Tickets, Vec<Seat>), AllocError>
+        requires { (1 ≤ seats) × (seats ≤ 64) }
+        ensures seats { IfOk result (λ r. (seats_of r.0 ≡ seats) × (vec_len r.1 ≡ seats)) }
+        ensures each { IfOk result (λ r. All (λ s. IsSeatOf r.0 s × (drawn_of s ≡ [])) r.1.items) }
+    {
+        let (table, mut rest) = Table::of_words(alloc, &[0], &seats)?;
+        let mut made = Vec::new(alloc);
+        for seat in 1..seats {
+            made.reserve(1)?;
+            made.push_reserved(seat_at(table.shared.split_seat::<Parting>(&mut rest)));
+        }
+        made.reserve(1)?;
+        made.push_reserved(seat_at(rest));
+        Ok((Tickets { table }, made))
+    }
+
+    /// The next number, from 0 on: the one step that the word takes.
+    pub fn draw(&self, seat: &mut Seat) -> Ticket
+        requires of { IsSeatOf self.now seat.old }
+        requires left { length (drawn_of seat.old) < 4294967296 }
+        ensures of { IsSeatOf self.now seat.new }
+        ensures drawn { drawn_of seat.new ≡ drawn_of seat.old ++ result.number ∷ [] }
+    {
+        let number = self.table.shared.fetch_add::<Draw>(&mut seat.place, 0, 1);
+        Ticket { number }
+    }
+
+    /// How many numbers were drawn, told by all seats: they drew the numbers below it, each once.
+    pub fn close(self, mut seats: Vec<Seat>) -> u64
+        requires all { vec_len seats ≡ seats_of self }
+        requires each { All (IsSeatOf self) seats.items }
+        ensures { (x : ℕ) → times x (drawn_by seats.items) ≡ one_below x result }
+    {
+        let Tickets { table } = self;
+        let Some(last) = seats.pop() else {
+            unreachable!()
+        };
+        let Seat { place: mut whole } = last;
+        for seat in seats {
+            let Seat { place } = seat;
+            table.shared.join_seat::<Parting>(&mut whole, place);
+        }
+        let closed = table.close_with(whole);
+        let drawn = closed.word(0);
+        closed.free();
+        drawn
+    }
+}
+
+fn seat_at(place: Place<(), Share>) -> Seat
+    requires slots { place.me.1 ≡ [] }
+    requires one { place.me.0.seats ≡ 1 }
+    ensures { result.place ≡ place }
+{
+    Seat { place }
+}

@@ -1,0 +1,10 @@
+use Rattle.std.proofs.Common.{sym, ap, ◌∙◌}
+use Rattle.types.specs.FirstPart.{literal_value_fits}
+use Rattle.types.specs.Translation.{program, number}
+use Rattle.types.proofs.Chains.{number-Chain}
+use Rattle.types.proofs.first_part.literal_value_fits.Goals as goal
+
+pub returns-in-Chain : goal.returns-in-Chain
+returns-in-Chain c =
+    ap (literal_value_fits (program c.args.code.now) c.args.array.number)
+    (sym (ap number c.in-Chain.is ∙ number-Chain c.in-Chain.first c.in-Chain.rest))

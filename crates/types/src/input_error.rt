@@ -1,0 +1,81 @@
+//! Why an input is refused.
+
+ghost use Rattle.std.specs.Prelude.{◌≡◌, Some};
+ghost use Rattle.types.specs.InputErrors.{code_of, text_of};
+ghost use Rattle.types.specs.declared.input_error.InputError.TheVariants.{OutOfMemory};
+
+use std::alloc::{AllocError, AllocFailed};
+use std::error::Error;
+use std::fmt;
+
+/// Why an input is refused. The arrays are taken in the order of their declaration, and for each first its
+/// length, then its elements.
+#[derive(PartialEq, Eq, Debug, Drop)]
+pub enum InputError {
+    /// N1: a text that is no JSON, as `{`.
+    NotJson,
+    /// N2: a value that is no object, as `[]`.
+    NotAnObject,
+    /// N3: a member that names no array; the least name of those, in the order of bytes.
+    UnknownArray { name: String },
+    /// N4 without a name: not one list for each array.
+    WrongNumberOfLists,
+    /// N4: an array that is given no list, or one of another length.
+    WrongLength { name: String },
+    /// N5: an element that isn't written as a whole number, as `1.0`, or that the element type doesn't hold, as
+    /// 256 in a `byte`.
+    WrongElement { name: String },
+    /// N6: want of memory.
+    OutOfMemory,
+}
+
+impl InputError {
+    /// The code that the program prints.
+    pub fn code(&self) -> &'static str
+        ensures { result.now ≡ code_of self.now }
+    {
+        match self {
+            InputError::NotJson => "N1",
+            InputError::NotAnObject => "N2",
+            InputError::UnknownArray { .. } => "N3",
+            InputError::WrongNumberOfLists => "N4",
+            InputError::WrongLength { .. } => "N4",
+            InputError::WrongElement { .. } => "N5",
+            InputError::OutOfMemory => "N6",
+        }
+    }
+}
+
+impl fmt::Display for InputError {
+    ghost output = { λ e. Some (text_of e) };
+
+    fn fmt<W: fmt::Write>(&self, f: &mut fmt::Formatter<W>) -> fmt::Result {
+        match self {
+            InputError::NotJson => write!(f, "N1"),
+            InputError::NotAnObject => write!(f, "N2"),
+            InputError::UnknownArray { name } => write!(f, "N3 {name}"),
+            InputError::WrongNumberOfLists => write!(f, "N4"),
+            InputError::WrongLength { name } => write!(f, "N4 {name}"),
+            InputError::WrongElement { name } => write!(f, "N5 {name}"),
+            InputError::OutOfMemory => write!(f, "N6"),
+        }
+    }
+}
+
+impl Error for InputError {}
+
+impl From<AllocError> for InputError {
+    ghost from_gives = { λ _ e. e ≡ OutOfMemory };
+
+    fn from(_error: AllocError) -> InputError {
+        InputError::OutOfMemory
+    }
+}
+
+impl<T: Drop> From<AllocFailed<T>> for InputError {
+    ghost from_gives = { λ _ e. e ≡ OutOfMemory };
+
+    fn from(_error: AllocFailed<T>) -> InputError {
+        InputError::OutOfMemory
+    }
+}

@@ -1,0 +1,155 @@
+//! The book of a scope.
+
+ghost use Rattle.std.specs.Prelude.{◌≡◌, ◌+◌, ◌-◌, ◌<◌, ◌≤◌, ◌↔◌, map};
+ghost use Rattle.weights.specs.Entries.{entry_of};
+ghost use Rattle.weights.specs.Ledger.{issued_of, returned_of, opened, minted, GivesBack};
+
+use crate::entry::Entry;
+use crate::weight::Weight;
+use std::alloc::Global;
+use std::marker::Model;
+use types::path::Path;
+
+/// Whether weight is out.
+#[derive(Clone, Copy, Debug, PartialEq, Eq)]
+pub enum Back {
+    /// Some of what was issued is out.
+    Open,
+    /// All that was issued is back.
+    Complete,
+}
+
+/// What a scope has issued, and what came back. Its sums are the replay of its mints, entries and unlisted weight.
+#[derive(Drop)]
+pub struct Book {
+    /// What it issues at a time.
+    w0: u64,
+    /// How many times it has issued more.
+    mints: u64,
+    entries: Vec<Entry>,
+    /// What came back while its entry found no memory.
+    unlisted: u64,
+
+    // The sums.
+    issued: u64,
+    returned: u64,
+}
+
+impl Model for Book {
+    ghost use Rattle.std.specs.Prelude.{◌≡◌, map};
+    ghost use Rattle.weights.specs.Entries.{entry_of};
+    ghost use Rattle.weights.specs.Ledger.{Ledger, issued_of, returned_of, IsSound};
+
+    ghost Value = { Ledger };
+
+    ghost view = { λ b. record {
+      w0 = b.w0;
+      mints = b.mints;
+      entries = map entry_of b.entries.items;
+      unlisted = b.unlisted;
+    } };
+
+    ghost invariant = { λ b. let l : Ledger = record {
+      w0 = b.w0;
+      mints = b.mints;
+      entries = map entry_of b.entries.items;
+      unlisted = b.unlisted;
+    } in
+        (b.issued ≡ issued_of l) × (b.returned ≡ returned_of l) × IsSound l };
+}
+
+impl Book {
+    /// A book that has issued w0 once, and that weight.
+    pub fn open(alloc: Global, w0: u64) -> (Book, Weight)
+        requires { (1 ≤ w0) × (w0 ≤ 4294967296) }
+        ensures book { result.0 ≡ opened w0 }
+        ensures weight { result.1 ≡ w0 }
+    {
+        let book = Book {
+            w0,
+            mints: 0,
+            entries: Vec::new(alloc),
+            unlisted: 0,
+            issued: w0,
+            returned: 0,
+        };
+        (book, Weight { units: w0 })
+    }
+
+    /// How many times it has issued weight, the opening among them.
+    pub fn issues(&self) -> u64
+        ensures issues { result ≡ 1 + self.now.mints }
+        ensures most { result ≤ 2147483648 }
+    {
+        1 + self.mints
+    }
+
+    /// How much it has issued.
+    pub fn issued(&self) -> u64
+        ensures { result ≡ issued_of self.now }
+    {
+        self.issued
+    }
+
+    /// How much came back.
+    pub fn returned(&self) -> u64
+        ensures returned { result ≡ returned_of self.now }
+        ensures within { result ≤ issued_of self.now }
+    {
+        self.returned
+    }
+
+    /// How much of that has no entry, since none found memory.
+    pub fn unlisted(&self) -> u64
+        ensures { result ≡ self.now.unlisted }
+    {
+        self.unlisted
+    }
+
+    /// The weights that came back, in that order, but for the unlisted.
+    pub fn entries(&self) -> &[Entry]
+        ensures { map entry_of result.now ≡ self.now.entries }
+    {
+        &self.entries
+    }
+
+    /// Issues w0 more, on top of a weight that is out.
+    pub fn mint(&mut self, weight: Weight) -> Weight
+        requires issues { 1 + self.old.mints < 2147483648 }
+        requires out { weight ≤ issued_of self.old - returned_of self.old }
+        ensures book { self.new ≡ minted self.old }
+        ensures weight { result ≡ weight + self.old.w0 }
+    {
+        let Weight { units } = weight;
+        self.mints += 1;
+        self.issued += self.w0;
+        Weight {
+            units: units + self.w0,
+        }
+    }
+
+    /// Takes a weight back from the task of this path. It is counted also where its entry finds no memory.
+    pub fn back(&mut self, weight: Weight, path: Path) -> Back
+        requires { weight ≤ issued_of self.old - returned_of self.old }
+        ensures book { GivesBack self.old self.new (record {
+          path = path.turns.items;
+          weight = weight;
+        }) }
+        ensures complete { (result ≡ Back.Complete) ↔ (returned_of self.new ≡ issued_of self.new) }
+    {
+        let Weight { units } = weight;
+        self.returned += units;
+        let entry = Entry {
+            path,
+            weight: units,
+        };
+        if self.entries.push(entry).is_err() {
+            self.unlisted += units;
+        }
+        if self.returned == self.issued {
+            Back::Complete
+        } else {
+            Back::Open
+        }
+    }
+}
