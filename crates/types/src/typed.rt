@@ -1,6 +1,9 @@
 //! A well-typed program.
 
 ghost use Rattle.std.specs.Prelude.{◌≡◌};
+ghost use Rattle.syntax.specs.Tree.{program as tree_of};
+ghost use Rattle.types.specs.Rules.{BreaksNoRule};
+ghost use Rattle.types.specs.Translation.{program as plain};
 
 use crate::code;
 
@@ -9,16 +12,16 @@ use crate::code;
 pub struct Typed {
     pub(crate) program: syntax::tree::Program,
     pub(crate) code: code::Program,
+    ghost right: { BreaksNoRule (tree_of program) },
 }
 
 impl Typed {
-    ghost use Rattle.syntax.specs.Tree.{program as tree_of};
-    ghost use Rattle.types.specs.Translation.{program as plain};
     ghost use Rattle.types.specs.Typed.{program_of, code_of};
 
     /// The program as it was read.
     pub fn program(&self) -> &syntax::tree::Program
-        ensures { tree_of result.now ≡ program_of self.now }
+        ensures program { tree_of result.now ≡ program_of self.now }
+        ensures right { BreaksNoRule (program_of self.now) }
     {
         &self.program
     }

@@ -21,6 +21,14 @@ pub const MOST_ARRAYS: usize = 32;
 /// How many statements a program has, at most.
 pub const MOST_LABELS: Label = 65_535;
 
+const _: () = prove!(MOST_PROCEDURES == 256);
+
+const _: () = prove!(MOST_PARAMETERS == 16);
+
+const _: () = prove!(MOST_ARRAYS == 32);
+
+const _: () = prove!(MOST_LABELS == 65_535);
+
 /// Whether there are no more than so many.
 pub fn limit(most: usize, count: usize) -> Result<(), TypeError>
     ensures right { OnOk result (over most count ≡ []) }
