@@ -68,8 +68,9 @@ fn resolve_procedure(
     ensures error { IfErr result (Told (procedure_errors
         (procedures_of statements.now.procedures) label.old (procedure_as declared.now))) }
 {
-    limit(MOST_PARAMETERS, declared.parameters.len())?;
-    let scope = at_procedure(statements.alloc, *label, declared.parameters.as_slice())?;
+    let parameters = declared.parameters.as_slice();
+    limit(MOST_PARAMETERS, parameters.len())?;
+    let scope = at_procedure(statements.alloc, *label, parameters)?;
     let name = declared.name.clone()?;
     resolved(statements, label, scope, name, declared.body.as_slice())
 }
