@@ -17,6 +17,7 @@ pub mod NamesInScope
 pub mod Expressions
 pub mod Statements
 pub mod LabelLimit
+pub mod Labels
 pub mod Sizes
 pub mod FirstParts
 pub mod InputLemmas
