@@ -15,6 +15,7 @@ pub mod Telling
 pub mod Scopes
 pub mod NamesInScope
 pub mod Expressions
+pub mod Calls
 pub mod Statements
 pub mod LabelLimit
 pub mod Labels
