@@ -13,6 +13,7 @@ mod rows;
 mod schedules;
 mod statuses;
 mod texts;
+mod typing_rules;
 mod writers;
 
 use crate::tests::rows::compare;

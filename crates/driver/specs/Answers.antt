@@ -1,5 +1,5 @@
 -- What a command answers to the text of a program, and why it fails.
-use Rattle.std.specs.Prelude.{ℕ, ℤ, pos, ◌≡◌, ◌≢◌, ◌⊎◌, List, [], Option, Some, Result, IsTrue, false, map}
+use Rattle.std.specs.Prelude.{ℕ, ℤ, pos, ◌≡◌, ◌≢◌, List, [], Option, Some, Result, IsTrue, Bool, true, false, map}
 use Rattle.std.specs.Prelude.{replicate, MatchResult}
 use Rattle.std.specs.Io.KnownBytes.{Appends, Keeps}
 use Rattle.std.specs.Str.{chars}
@@ -13,7 +13,8 @@ use Rattle.types.specs.Code.{Program}
 use Rattle.types.specs.FirstPart.{is_first_part}
 use Rattle.types.specs.Outcome.{Budget, Outcome, outcome}
 use Rattle.types.specs.Resolution.{resolution}
-use Rattle.types.specs.Rules.{BreaksNoRule, Tells as IsErrorOfProgram}
+use Rattle.types.specs.Rules.{BreaksNoRule, errors_of}
+use Rattle.types.specs.Told.{Told}
 use Rattle.types.specs.Typed.{code_of}
 use Rattle.types.specs.declared.error.TypeError.{TypeError}
 use Rattle.types.specs.declared.typed.Typed.{Typed}
@@ -72,10 +73,11 @@ pub record AnswersRun (text told : List ℕ) (status : ℕ) : Type 0 where
   pub reached : IsReached code (zeros code) usual outcome
   pub shows : Shows outcome code told status
 
--- `check --list`: the listing of the program
+-- `check --list`: the listing of the program, which breaks no rule
 pub record AnswersList (text told : List ℕ) (status : ℕ) : Type 0 where
   pub program : tree.Program
   pub spelled : AreTokensOf (chars text) (spelling program)
+  pub right : BreaksNoRule program
   pub told_is : told ≡ listed program
   pub status_is : status ≡ 0
 
@@ -88,29 +90,27 @@ Answers check text told status = ⊥
 
 -- ---- failures
 
--- all but a listing ask for a program that is served
-abbrev pub AsksForCode : Asked → Type 0
-AsksForCode run = Unit {0}
-AsksForCode serial = Unit {0}
-AsksForCode check = Unit {0}
-AsksForCode list = ⊥
-
--- the text spells a program, and the error is one of it
-pub record BreaksRule (a : Asked) (text : List ℕ) (e : TypeError) : Type 0 where
-  pub asks : AsksForCode a
+-- the text spells a program, and the error is one of it, or want of memory
+pub record BreaksRule (text : List ℕ) (e : TypeError) : Type 0 where
   pub program : tree.Program
   pub spelled : AreTokensOf (chars text) (spelling program)
-  pub broken : IsErrorOfProgram program e
+  pub broken : Told (errors_of program) e
 
--- Z1: the text spells a program that breaks no rule and isn't served; `check` serves none yet
+-- whether a program that breaks no rule is served: a listing is given of each, and `check` serves none yet
+abbrev pub is_served : Asked → (code : Program) → Bool
+is_served run code = is_first_part code
+is_served serial code = is_first_part code
+is_served check code = false
+is_served list code = true
+
+-- Z1: the text spells a program that breaks no rule and isn't served
 pub record IsUnserved (a : Asked) (text : List ℕ) : Type 0 where
-  pub asks : AsksForCode a
   pub program : tree.Program
   pub spelled : AreTokensOf (chars text) (spelling program)
   pub right : BreaksNoRule program
   pub code : Program
   pub resolved : resolution program ≡ Some code
-  pub unserved : (a ≡ check) ⊎ (is_first_part code ≡ false)
+  pub unserved : is_served a code ≡ false
 
 -- C1: the text's program has a race, and the two texts tell the accesses of its least one
 pub record HasRace (text first second : List ℕ) : Type 0 where
@@ -132,7 +132,7 @@ abbrev pub Explains : Asked → (text : List ℕ) → Failure → Type 0
 Explains a text (CannotRead name) = ⊥
 Explains a text (NotUtf8 name) = ⊥
 Explains a text (Syntax e) = IsErrorOfText text e
-Explains a text (Types e) = BreaksRule a text e
+Explains a text (Types e) = BreaksRule text e
 Explains a text NotYet = IsUnserved a text
 Explains a text (Race first second) =
     (a ≡ run) × HasRace text (string_bytes first) (string_bytes second)

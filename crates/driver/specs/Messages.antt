@@ -5,8 +5,7 @@ use Rattle.std.specs.String.{string_bytes}
 use Rattle.syntax.specs.Refusals.{code_of as syntax_code, place_of}
 use Rattle.syntax.specs.declared.error.SyntaxError.{SyntaxError}
 use Rattle.syntax.specs.declared.place.Place.{Place}
-use Rattle.types.specs.Codes.{code_of as type_code, label_of}
-use Rattle.types.specs.declared.error.TypeError.{TypeError}
+use Rattle.types.specs.Codes.{error_text}
 use Rattle.workers.specs.Codes.{code_of as run_code}
 use Rattle.driver.specs.declared.failure.Failure.{Failure}
 use Rattle.driver.specs.declared.failure.Failure.TheVariants.{CannotRead, NotUtf8, Syntax, Types, NotYet}
@@ -18,16 +17,8 @@ at_place code None = code
 at_place code (Some place) =
     code ++ (codes " at " ++ (decimal place.line ++ (codes ":" ++ decimal place.column)))
 
--- the code of a broken rule, and its label where it names one: `Y1 at label 2`
-abbrev pub at_label : (code : List ℕ) → Option ℕ → List ℕ
-at_label code None = code
-at_label code (Some label) = code ++ (codes " at label " ++ decimal label)
-
 abbrev pub syntax_text : SyntaxError → List ℕ
 syntax_text e = at_place (syntax_code e) (place_of e)
-
-abbrev pub type_text : TypeError → List ℕ
-type_text e = at_label (type_code e) (label_of e)
 
 -- both accesses of a race
 abbrev pub race_text : (first second : List ℕ) → List ℕ
@@ -38,7 +29,7 @@ abbrev pub failure_text : Failure → List ℕ
 failure_text (CannotRead name) = codes "cannot read " ++ string_bytes name
 failure_text (NotUtf8 name) = codes "not UTF-8 " ++ string_bytes name
 failure_text (Syntax e) = syntax_text e
-failure_text (Types e) = type_text e
+failure_text (Types e) = error_text e
 failure_text NotYet = codes "Z1"
 failure_text (Race first second) = race_text (string_bytes first) (string_bytes second)
 failure_text NoMemoryInCheck = codes "C2"

@@ -1,14 +1,16 @@
 //! What each command does with the text of its file.
 
-ghost use Rattle.std.specs.Prelude.{◌≡◌, ◌≢◌, map, IfOk, IfErr, IsErrAnd, false};
+ghost use Rattle.std.specs.Prelude.{◌≡◌, ◌≢◌, map, IfOk, IfErr, IsErrAnd, Some, false};
 ghost use Rattle.std.specs.Str.{chars};
 ghost use Rattle.syntax.specs.Lexical.{AreTokensOf};
 ghost use Rattle.syntax.specs.Spelling.{spelling};
 ghost use Rattle.syntax.specs.Tree.{program as tree_of};
 ghost use Rattle.types.specs.Contents.{FitsArrays};
+ghost use Rattle.types.specs.Resolution.{resolution};
+ghost use Rattle.types.specs.Rules.{BreaksNoRule};
 ghost use Rattle.types.specs.Translation.{array, input as lists_of, outcome as outcome_of};
-ghost use Rattle.types.specs.Typed.{code_of};
-ghost use Rattle.driver.specs.Answers.{AsksForCode, Does, Explains, IsCodeOf, zeros as zeros_of};
+ghost use Rattle.types.specs.Typed.{code_of, program_of as program_in};
+ghost use Rattle.driver.specs.Answers.{Does, Explains, IsCodeOf, zeros as zeros_of};
 ghost use Rattle.driver.specs.Appending.{Writes};
 ghost use Rattle.driver.specs.OutcomeText.{outcome_text, status_of};
 ghost use Rattle.driver.specs.Requests.{Asked, asked_of, run as asked_run, serial as asked_serial};
@@ -51,7 +53,7 @@ pub fn perform<O: Write>(
 fn run_as_tasks<O: Write>(alloc: Global, text: &str, out: &mut O) -> Result<u8, Failure>
     ensures { Does asked_run text.now (O.contents out.old) (O.contents out.new) result }
 {
-    let typed = typed_of(alloc, text)?;
+    let typed = served(alloc, text)?;
     let accepted = match workers::check::check(alloc, typed) {
         Ok(accepted) => accepted,
         Err(refused) => return Err(Failure::of_refused(alloc, refused)),
@@ -68,7 +70,7 @@ fn run_as_tasks<O: Write>(alloc: Global, text: &str, out: &mut O) -> Result<u8, 
 fn run_serially<O: Write>(alloc: Global, text: &str, out: &mut O) -> Result<u8, Failure>
     ensures { Does asked_serial text.now (O.contents out.old) (O.contents out.new) result }
 {
-    let typed = typed_of(alloc, text)?;
+    let typed = served(alloc, text)?;
     let input = zeros(alloc, &typed)?;
     match serial_run::serial(alloc, &typed, &input, Budget::usual()) {
         Ok(outcome) => show(out, &typed.code().arrays, &outcome),
@@ -76,12 +78,12 @@ fn run_serially<O: Write>(alloc: Global, text: &str, out: &mut O) -> Result<u8, 
     }
 }
 
-/// `check --list`: writes the listing of any program.
+/// `check --list`: writes the listing of a program that breaks no rule.
 fn list<O: Write>(alloc: Global, text: &str, out: &mut O) -> Result<u8, Failure>
     ensures { Does asked_list text.now (O.contents out.old) (O.contents out.new) result }
 {
-    let program = program_of(alloc, text)?;
-    let Ok(listing) = syntax::listing(alloc, &program) else {
+    let typed = typed_of(alloc, text)?;
+    let Ok(listing) = syntax::listing(alloc, typed.program()) else {
         return Err(Failure::NoMemory);
     };
     match append(out, listing.as_bytes()) {
@@ -111,17 +113,29 @@ fn program_of(alloc: Global, text: &str) -> Result<Program, Failure>
     }
 }
 
-/// The program of a text, where it is served. So far these are the programs of the first part.
+/// The program that a text spells, where it breaks no rule.
 fn typed_of(alloc: Global, text: &str) -> Result<Typed, Failure>
-    ensures code { IfOk result (λ t. IsCodeOf text.now (code_of t)) }
-    ensures why { IfErr result (λ f. (a : Asked) → AsksForCode a → Explains a text.now f) }
+    ensures spelled { IfOk result (λ t. AreTokensOf (chars text.now) (spelling (program_in t))) }
+    ensures right { IfOk result (λ t. BreaksNoRule (program_in t)) }
+    ensures code { IfOk result (λ t. resolution (program_in t) ≡ Some (code_of t)) }
+    ensures why { IfErr result (λ f. (a : Asked) → Explains a text.now f) }
     ensures failure { IfErr result (λ f. f ≢ Failure.CannotWriteOutput) }
 {
     let program = program_of(alloc, text)?;
-    let typed = match type_check(alloc, program) {
-        Ok(typed) => typed,
-        Err(error) => return Err(Failure::Types(error)),
-    };
+    match type_check(alloc, program) {
+        Ok(typed) => Ok(typed),
+        Err(error) => Err(Failure::Types(error)),
+    }
+}
+
+/// The program of a text, where it is served by a run. So far these are the programs of the first part.
+fn served(alloc: Global, text: &str) -> Result<Typed, Failure>
+    ensures code { IfOk result (λ t. IsCodeOf text.now (code_of t)) }
+    ensures run { IfErr result (Explains asked_run text.now) }
+    ensures serial { IfErr result (Explains asked_serial text.now) }
+    ensures failure { IfErr result (λ f. f ≢ Failure.CannotWriteOutput) }
+{
+    let typed = typed_of(alloc, text)?;
     if first_part(&typed) {
         Ok(typed)
     } else {

@@ -1,9 +1,9 @@
 //! The line that tells a failure, piece by piece, without memory of its own.
 
 ghost use Rattle.std.specs.Prelude.{◌++◌, codes};
+ghost use Rattle.types.specs.Codes.{error_text, labelled};
 ghost use Rattle.driver.specs.Appending.{Writes};
-ghost use Rattle.driver.specs.Messages.{at_label, at_place, failure_text, race_text};
-ghost use Rattle.driver.specs.Messages.{syntax_text, type_text};
+ghost use Rattle.driver.specs.Messages.{at_place, failure_text, race_text, syntax_text};
 
 use crate::emit::{EmitError, append, emit_label};
 use crate::failure::Failure;
@@ -79,7 +79,7 @@ fn emit_at_place<W: Write>(err: &mut W, code: &str, place: Place) -> Result<(), 
 
 /// `Y1 at label 2`
 fn emit_type_error<W: Write>(err: &mut W, error: TypeError) -> Result<(), EmitError>
-    ensures { Writes (W.contents err.old) (W.contents err.new) result (type_text error) }
+    ensures { Writes (W.contents err.old) (W.contents err.new) result (error_text error) }
 {
     match error.label() {
         None => emit_text(err, error.code()),
@@ -90,7 +90,7 @@ fn emit_type_error<W: Write>(err: &mut W, error: TypeError) -> Result<(), EmitEr
 /// A code and a label.
 fn emit_at_label<W: Write>(err: &mut W, code: &str, label: Label) -> Result<(), EmitError>
     ensures { Writes (W.contents err.old) (W.contents err.new) result
-        (at_label code.now (Some label)) }
+        (labelled code.now (Some label)) }
 {
     emit_text(err, code)?;
     emit_text(err, " at label ")?;

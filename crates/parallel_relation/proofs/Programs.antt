@@ -1,6 +1,6 @@
 -- Programs whose statements meet.
 use Rattle.std.proofs.Common.{[], ◌∷◌}
-use Rattle.std.specs.Prelude.{true, false}
+use Rattle.std.specs.Prelude.{codes, true, false}
 use Rattle.syntax.specs.declared.tree.ElementType.TheVariants.{Int}
 use Rattle.syntax.specs.declared.tree.Relation.TheVariants.{Less}
 use Rattle.sections.specs.Origins.{Root, Left, Right}
@@ -45,10 +45,12 @@ split_in_loop = program_of (ints 115 8 ∷ []) 1 (Root ∷ Left 0 ∷ Right 0 �
 -- proc g(mut s: int) { async { s[0] = 1; } } main { finish { g(a); a[0] = 2; } }
 abbrev pub spawner : Procedure
 spawner = record {
+  name = 103 ∷ [];
   parameters = record { may_write = true; element = Int } ∷ [];
   scalars = 0;
   slots = 0;
   sections = Root ∷ [];
+  section_names = (115 ∷ []) ∷ [];
   body = (1, Async ((2, Do (Store 0 (lit 0) (lit 1))) ⨾ End)) ⨾ End;
 }
 
@@ -57,10 +59,12 @@ call_then_store = record {
   arrays = ints 97 1 ∷ [];
   procedures = spawner ∷ [];
   main = record {
-    parameters = [];
+    name = codes "main";
+    parameters = record { may_write = true; element = Int } ∷ [];
     scalars = 0;
     slots = 0;
     sections = Root ∷ [];
+    section_names = (97 ∷ []) ∷ [];
     body = (3, Finish ((4, Call 0 [] (0 ∷ [])) ⨾ (5, Do (Store 0 (lit 0) (lit 2))) ⨾ End)) ⨾ End;
   };
 }
@@ -80,17 +84,21 @@ abbrev pub copying : Program
 copying = record {
   arrays = ints 97 2 ∷ [];
   procedures = record {
+    name = 102 ∷ [];
     parameters = record { may_write = true; element = Int } ∷ record { may_write = false; element = Int } ∷ [];
     scalars = 0;
     slots = 0;
     sections = Root ∷ Root ∷ [];
+    section_names = (115 ∷ []) ∷ (116 ∷ []) ∷ [];
     body = (1, Do (Store 0 (lit 0) (Element 1 (lit 0)))) ⨾ End;
   } ∷ [];
   main = record {
-    parameters = [];
+    name = codes "main";
+    parameters = record { may_write = true; element = Int } ∷ [];
     scalars = 0;
     slots = 0;
     sections = Root ∷ Left 0 ∷ Right 0 ∷ [];
+    section_names = (97 ∷ []) ∷ (108 ∷ []) ∷ (114 ∷ []) ∷ [];
     body = (2, Split 0 (lit 1) 1 2 ((3, Call 0 [] (1 ∷ 2 ∷ [])) ⨾ End)) ⨾ End;
   };
 }

@@ -15,8 +15,10 @@ pub mod Telling
 pub mod Scopes
 pub mod NamesInScope
 pub mod Expressions
+pub mod Calls
 pub mod Statements
 pub mod LabelLimit
+pub mod Labels
 pub mod Sizes
 pub mod FirstParts
 pub mod InputLemmas

@@ -29,7 +29,7 @@ program =
       arrays = [];
       procedures = [];
       main =
-          record { parameters = []; scalars = 0; slots = 0; sections = []; body = worked };
+          record { name = []; section_names = []; parameters = []; scalars = 0; slots = 0; sections = []; body = worked };
     }
 
 worked_fits : IsWithin program (record { steps = 4; nest = 2 })

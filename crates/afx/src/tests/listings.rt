@@ -30,16 +30,20 @@ const CHOICE_LISTED: &str = "      main {
 
 const TWO_PROCEDURES: &str = "proc f(mut s:int,read t:byte,n:int){
 while not(n<len(s)-1)and true or false{}}
-proc g(){f(a,b,- n);}";
+proc g(mut a:int,read b:byte){f(a,b,- 1);}main{}";
 
 const TWO_PROCEDURES_LISTED: &str = "      proc f(mut s: int, read t: byte, n: int) {
     1   while not (n < len(s) - 1) and true or false {
         }
       }
-      proc g() {
-    2   f(a, b, -n);
+      proc g(mut a: int, read b: byte) {
+    2   f(a, b, -1);
+      }
+      main {
       }
 ";
+
+const UNKNOWN_ARGUMENTS: &str = "proc f(mut s: int, n: int) { } proc g() { f(a, -n); } main { }";
 
 pub const ROWS: &[Row] = &[
     Row {
@@ -67,12 +71,20 @@ pub const ROWS: &[Row] = &[
         status: 0,
     },
     Row {
-        name: "the empty text listed",
+        name: "no listing of a program without main",
         words: LIST,
         text: "",
         out: "",
-        err: "",
-        status: 0,
+        err: "Y8\n",
+        status: 1,
+    },
+    Row {
+        name: "no listing of a call with unknown names",
+        words: LIST,
+        text: UNKNOWN_ARGUMENTS,
+        out: "",
+        err: "Y1 at label 1\n",
+        status: 1,
     },
 ];
 

@@ -3,6 +3,7 @@
 #![tactic(auto, using(crate::proofs::Telling::told_left, crate::proofs::Telling::told_right, crate::proofs::Telling::told_memory, crate::proofs::Telling::told_alone, crate::proofs::Telling::none_both))]
 
 ghost use Rattle.std.specs.Prelude.{◌≡◌, [], ◌∷◌, ◌++◌, map, OnOk, IfOk, IfErr, Some, ◌<◌, length, All};
+ghost use Rattle.std.specs.List.{list_any};
 ghost use Rattle.std.specs.String.{string_bytes};
 ghost use Rattle.sections.specs.Translation.{section as section_as};
 ghost use Rattle.sections.specs.Tree.{origins_of};
@@ -279,15 +280,25 @@ fn overlapping(sections: &SectionTree, passed: &[Passed]) -> bool
     ensures { result ≡ errors.overlapping (origins_of sections.now) (map passed_by passed.now) }
 {
     let mut rest = passed;
-    for one in passed {
-        rest = match rest.split_first() {
-            Some((_, others)) => others,
-            None => return false,
-        };
-        for other in rest {
-            if clash(sections, *one, *other) {
-                return true;
-            }
+    while let Some((one, later)) = rest.split_first() {
+        if clashes(sections, *one, later) {
+            return true;
+        }
+        rest = later;
+    }
+    false
+}
+
+/// Whether an argument and a later one do.
+fn clashes(sections: &SectionTree, one: Passed, later: &[Passed]) -> bool
+    requires one { one.section.number < length (origins_of sections.now) }
+    requires later { All (λ p. p.0 < length (origins_of sections.now)) (map passed_by later.now) }
+    ensures { result ≡ list_any (errors.clash (origins_of sections.now) (passed_by one))
+        (map passed_by later.now) }
+{
+    for other in later {
+        if clash(sections, one, *other) {
+            return true;
         }
     }
     false

@@ -8,4 +8,4 @@ use Rattle.driver.proofs.commands.reject.Goals as goal
 pub returns-in_err-typed_of : goal.returns-in_err-typed_of
 returns-in_err-typed_of c =
     err_passed _ _ (λ f. (f ≢ CannotWriteOutput) × Explains check c.args.text.now f) c.from_residual.ensures.1
-    (c.in_err-typed_of.ensures.failure, c.in_err-typed_of.ensures.why check tt)
+    (c.in_err-typed_of.ensures.failure, c.in_err-typed_of.ensures.why check)

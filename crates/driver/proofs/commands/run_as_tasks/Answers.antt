@@ -12,7 +12,7 @@ use Rattle.driver.proofs.commands.run_as_tasks.Goals as goal
 
 pub returns-in_err-typed : goal.returns-in_err-typed
 returns-in_err-typed g c =
-    passes_on run _ _ _ _ c.from_residual.ensures.1 (c.in_err-typed.ensures.why run tt) c.in_err-typed.ensures.failure
+    passes_on run _ _ _ _ c.from_residual.ensures.1 c.in_err-typed.ensures.run c.in_err-typed.ensures.failure
 
 pub returns-in-Err : goal.returns-in-Err
 returns-in-Err g c =

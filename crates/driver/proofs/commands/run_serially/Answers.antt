@@ -10,7 +10,7 @@ use Rattle.driver.proofs.commands.run_serially.Goals as goal
 
 pub returns-in_err-typed : goal.returns-in_err-typed
 returns-in_err-typed g c =
-    passes_on serial _ _ _ _ c.from_residual.ensures.1 (c.in_err-typed.ensures.why serial tt) c.in_err-typed.ensures.failure
+    passes_on serial _ _ _ _ c.from_residual.ensures.1 c.in_err-typed.ensures.serial c.in_err-typed.ensures.failure
 
 pub returns-in-Ok : goal.returns-in-Ok
 returns-in-Ok g c =
