@@ -1,15 +1,16 @@
 -- Calls: the arguments one by one, and the procedure of a name.
-use Rattle.std.proofs.Common.{◌≡◌, ℕ, suc, ◌+◌, ◌<◌, ◌≤◌, Bool, true, false, cond, not, Option, Some, None, List, [], ◌∷◌, ◌++◌, length, map, String, All}
+use Rattle.std.proofs.Common.{◌≡◌, ℕ, suc, ◌+◌, ◌<◌, ◌≤◌, Bool, true, false, cond, not, ◌||◌, Option, Some, None, List, [], ◌∷◌, ◌++◌, length, map, String, All}
 use Rattle.std.proofs.Common.{refl, sym, ap, ◌∙◌, arith, if◌then◌else◌, slice_get, slice_index_or, option_map, nat_eq, nat_lt, position, append_assoc, subst}
 use Rattle.std.proofs.lemmas.Bool.{ltb-false}
 use Rattle.std.proofs.lemmas.List.{length-map, get_or-map}
 use Rattle.std.proofs.lemmas.Option.{slice_get_past}
 use Rattle.std.specs.Cmp.Lexicographic.{pointwise}
-use Rattle.std.specs.List.{position_or_len}
+use Rattle.std.specs.List.{position_or_len, list_any}
+use Rattle.indexmap.specs.IndexSet.{insert_key}
 use Rattle.std.specs.String.{string_bytes, string_eq}
 use Rattle.std.proofs.lemmas.List.Elements.{All-nil, All-cons}
 use Rattle.syntax.specs.Tree.{Expr, Atom, Number, True, False, Name, Element, Length, Parens, lone_atom, procedure, parameter}
-use Rattle.syntax.specs.Tree.{Parameter as Declared, Written, Read, Scalar, Procedure}
+use Rattle.syntax.specs.Tree.{Parameter as Declared, Written, Read, Scalar}
 use Rattle.syntax.specs.declared.tree.Procedure.{Procedure as rProcedure}
 use Rattle.types.specs.CallErrors.{Passed, and_passed, and_named, passed}
 use Rattle.types.specs.Resolving.{passed_by}
@@ -141,6 +142,30 @@ module _ {Z : Type 0} (x : String Z) where
         let first : 0 + i ≡ i = omega arith in
         procedure_at 0 ks fs same ∙ ap (λ k. option_map (numbered (0 + k)) (slice_get fs k)) e ∙ ap (option_map (numbered (0 + i))) there
         ∙ ap (λ k. Some (numbered k f)) first
+
+-- ---- the names of the procedures so far
+not_not : (b : Bool) → not (not b) ≡ b
+not_not true = refl
+not_not false = refl
+
+module _ {Z : Type 0} where
+  name_any : (b : List ℕ) (ks : List (String Z))
+      → list_any (pointwise nat_eq b) (map string_bytes ks) ≡ list_any (λ k. pointwise nat_eq b (string_bytes k)) ks
+  name_any b [] = refl
+  name_any b (k ∷ ks) = ap (λ o. pointwise nat_eq b (string_bytes k) || o) (name_any b ks)
+
+  -- a clone of a name is new among these just where the name is
+  pub declared_before : (x k : String Z) (ks : List (String Z)) (added : Bool) → string_bytes k ≡ string_bytes x
+      → added ≡ not (list_any (string_eq k) ks)
+      → list_any (pointwise nat_eq (string_bytes x)) (map string_bytes ks) ≡ not added
+  declared_before x k ks added same e =
+      name_any (string_bytes x) ks ∙ ap (λ c. list_any (λ y. pointwise nat_eq c (string_bytes y)) ks) (sym same)
+      ∙ sym (not_not (list_any (string_eq k) ks)) ∙ ap not (sym e)
+
+  pub new_key : (k : String Z) (ks : List (String Z)) (added : Bool) → added ≡ not (list_any (string_eq k) ks) → added ≡ true
+      → insert_key string_eq ks k ≡ ks ++ k ∷ []
+  new_key k ks added e new =
+      ap (λ b. if b then ks else ks ++ k ∷ []) (sym (not_not (list_any (string_eq k) ks)) ∙ ap not (sym e ∙ new))
 
 -- ---- an argument that is there
 pub there_at : (n : ℕ) (ps : List rPassed) (i : ℕ) (d : rPassed) → i < length ps → All (λ p. p.0 < n) (map passed_by ps)

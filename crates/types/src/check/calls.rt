@@ -2,7 +2,8 @@
 
 #![tactic(auto, using(crate::proofs::Telling::told_left, crate::proofs::Telling::told_right, crate::proofs::Telling::told_memory, crate::proofs::Telling::told_alone, crate::proofs::Telling::none_both))]
 
-ghost use Rattle.std.specs.Prelude.{◌≡◌, [], ◌∷◌, ◌++◌, map, OnOk, IfOk, IfErr, Some, ◌<◌, length, All};
+ghost use Rattle.std.specs.Prelude.{◌≡◌, [], ◌∷◌, ◌++◌, map, OnOk, IfOk, IfErr, Some};
+ghost use Rattle.std.specs.Prelude.{◌<◌, length, All};
 ghost use Rattle.std.specs.List.{list_any};
 ghost use Rattle.std.specs.String.{string_bytes};
 ghost use Rattle.sections.specs.Translation.{section as section_as};
@@ -90,7 +91,8 @@ fn gathered(
     ensures values { IfOk result (λ g. resolution.values_for (names_of scope.now.names)
         (map parameter_of parameters.now) (map expr_of arguments.now) ≡ map number g.values.items) }
     ensures sections { IfOk result (λ g. resolution.sections_for (names_of scope.now.names)
-        (map parameter_of parameters.now) (map expr_of arguments.now) ≡ map section_as g.sections.items) }
+        (map parameter_of parameters.now) (map expr_of arguments.now)
+        ≡ map section_as g.sections.items) }
     ensures passed { IfOk result (λ g. errors.passed (names_of scope.now.names)
         (map parameter_of parameters.now) (map expr_of arguments.now)
         ≡ map passed_by g.passed.items) }
@@ -134,7 +136,8 @@ impl Given {
             ≡ map number self.old.values.items ++ resolution.values_for (names_of scope.now.names)
             (parameter_of parameter.now ∷ []) (expr_of argument.now ∷ [])) }
         ensures sections { OnOk result (map section_as self.new.sections.items
-            ≡ map section_as self.old.sections.items ++ resolution.sections_for (names_of scope.now.names)
+            ≡ map section_as self.old.sections.items
+            ++ resolution.sections_for (names_of scope.now.names)
             (parameter_of parameter.now ∷ []) (expr_of argument.now ∷ [])) }
         ensures passed { OnOk result (map passed_by self.new.passed.items
             ≡ map passed_by self.old.passed.items ++ errors.passed (names_of scope.now.names)
@@ -181,7 +184,8 @@ impl Given {
             (parameter_in kind) (lone_atom (expr_of argument.now)) ≡ []) }
         ensures values { self.new.values ≡ self.old.values }
         ensures sections { OnOk result (map section_as self.new.sections.items
-            ≡ map section_as self.old.sections.items ++ resolution.named_by (names_of scope.now.names)
+            ≡ map section_as self.old.sections.items
+            ++ resolution.named_by (names_of scope.now.names)
             (lone_atom (expr_of argument.now)) ∷ []) }
         ensures passed { OnOk result (map passed_by self.new.passed.items
             ≡ map passed_by self.old.passed.items ++ errors.and_named (names_of scope.now.names)

@@ -54,15 +54,18 @@ loop-parameter-preserved c =
     record {
       right = so_far.right ∙ ap (λ l. errors.arguments label here l rest) front
           ∙ ap (errors.arguments label here (p ∷ left)) given ∙ ap (λ l. l ++ errors.arguments label here left others) taken.right;
-      values = one_taken (map number c.loop-parameter.given.values.items) (resolution.values_for names (p ∷ []) (a ∷ [])) (resolution.values_for names left others)
+      values = one_taken (map number c.loop-parameter.given.values.items) (resolution.values_for names (p ∷ []) (a ∷ []))
+          (resolution.values_for names left others)
           so_far.values
           (ap (λ l. resolution.values_for names l rest) front ∙ ap (resolution.values_for names (p ∷ left)) given
           ∙ values_more names a others p left) taken.values;
-      sections = one_taken (map section c.loop-parameter.given.sections.items) (resolution.sections_for names (p ∷ []) (a ∷ [])) (resolution.sections_for names left others)
+      sections = one_taken (map section c.loop-parameter.given.sections.items) (resolution.sections_for names (p ∷ []) (a ∷ []))
+          (resolution.sections_for names left others)
           so_far.sections
           (ap (λ l. resolution.sections_for names l rest) front ∙ ap (resolution.sections_for names (p ∷ left)) given
           ∙ sections_more names a others p left) taken.sections;
-      passed = one_taken (map passed_by c.loop-parameter.given.passed.items) (errors.passed names (p ∷ []) (a ∷ [])) (errors.passed names left others)
+      passed = one_taken (map passed_by c.loop-parameter.given.passed.items) (errors.passed names (p ∷ []) (a ∷ []))
+          (errors.passed names left others)
           so_far.passed
           (ap (λ l. errors.passed names l rest) front ∙ ap (errors.passed names (p ∷ left)) given
           ∙ passed_more names a others p left) taken.passed;

@@ -1,4 +1,4 @@
-use Rattle.std.proofs.Common.{◌≡◌, ℕ, ◌<◌, All, length, map}
+use Rattle.std.proofs.Common.{◌≡◌, ◌<◌, All, length, map}
 use Rattle.sections.specs.Tree.{origins_of}
 use Rattle.types.specs.CallErrors as errors
 use Rattle.types.specs.Resolving.{passed_by}
