@@ -2,6 +2,9 @@
 
 mod budgets;
 mod command_lines;
+mod drawn_numbers;
+mod held_places;
+mod inputs;
 mod limits;
 mod listings;
 mod outputs;
@@ -11,6 +14,8 @@ mod refused_programs;
 mod results;
 mod rows;
 mod schedules;
+mod scope_weights;
+mod section_trees;
 mod statuses;
 mod texts;
 mod typing_rules;

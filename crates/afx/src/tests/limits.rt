@@ -112,6 +112,16 @@ const ROWS: &[Long] = &[
     Long {
         words: RUN,
         head: "main { ",
+        count: 100,
+        part: "async { ",
+        closing: "}",
+        tail: "}",
+        err: "S4 at 1:806\n",
+        status: 1,
+    },
+    Long {
+        words: RUN,
+        head: "main { ",
         count: 1_000,
         part: "async { skip; } ",
         closing: "",

@@ -141,6 +141,14 @@ pub const ROWS: &[Row] = &[
         status: 0,
     },
     Row {
+        name: "as many elements as there may be",
+        words: SERIAL,
+        text: "main { array a: byte[4194303]; array b: int[1]; b[0] = 5; print b[0]; }",
+        out: "5\n",
+        err: "",
+        status: 0,
+    },
+    Row {
         name: "a race on one thread",
         words: SERIAL,
         text: RACE,
