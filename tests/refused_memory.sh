@@ -1,7 +1,7 @@
 #!/bin/sh
-# Runs `run` and `serial` on the two-array program and on one of three nested tasks, with the n-th allocation refused,
-# for every n. Each run must print the whole right output with status 0, or end with one of the refusals below; anything
-# else is a wrong answer.
+# Runs commands on small programs with the n-th allocation refused, for every n: the two-array program, three nested
+# tasks, and the doubling by halves with an input. Each run must print the whole right output with status 0, or end with
+# one of the refusals below; anything else is a wrong answer.
 #
 #   tests/refused_memory.sh            the proved program, with `malloc` replaced (seconds)
 #   tests/refused_memory.sh try [N]    the unproved build of `rt try --fail-alloc n`, from n = N on (half a minute for
@@ -16,16 +16,20 @@ first=${2:-1}
 folder=$(mktemp -d) || exit 2
 trap 'rm -rf "$folder"' EXIT
 
-# Runs a command, `run` or `serial`, with the n-th allocation refused; leaves `out`, `err` and `status`.
+# Runs a command with the n-th allocation refused; leaves `out`, `err` and `status`.
 refuse_in_proved() {
-    out=$(REFUSED_ALLOCATION=$2 LD_PRELOAD=$folder/refuse.so "$top/crates/afx/out/afx" "$1" - <"$program" 2>"$folder/err")
+    n=$1
+    shift
+    out=$(REFUSED_ALLOCATION=$n LD_PRELOAD=$folder/refuse.so "$top/crates/afx/out/afx" "$@" 2>"$folder/err")
     status=$?
     err=$(cat "$folder/err")
 }
 
 # The same by rt try, whose own lines stand around the program's.
 refuse_in_try() {
-    out=$(cd "$top/crates/afx" && "$rt" try --fail-alloc "$2" -- "$1" - <"$program" 2>"$folder/err")
+    n=$1
+    shift
+    out=$(cd "$top/crates/afx" && "$rt" try --fail-alloc "$n" -- "$@" 2>"$folder/err")
     status=$(sed -n 's/^run=ended status=\([0-9]*\) .*/\1/p' "$folder/err")
     err=$(sed -e '/^allocations: /d' -e '/^interpreter: /d' -e '/^checked: /d' -e '/^run=/d' "$folder/err")
 }
@@ -34,7 +38,7 @@ refuse_in_try() {
 judge() {
     case "$status:$out:$err" in
     "0:$right:") echo whole ;;
-    '4::S6' | '4::Y10' | '4::C2' | '4::E1' | '4::no memory') echo refused ;;
+    '4::S6' | '4::Y10' | '4::C2' | '4::N6' | '4::E1' | '4::no memory') echo refused ;;
     '1::error: out of memory') echo refused ;;         # told by clap
     '1::Error: Kind(OutOfMemory)') echo refused ;;     # before the words are read
     '1:'*':cannot write output')
@@ -43,26 +47,28 @@ judge() {
     esac
 }
 
-# Where 20 numbers in turn refuse nothing, a run has no further allocation.
+# sweep RIGHT WORD..: where 20 numbers in turn refuse nothing, a run has no further allocation.
 sweep() {
-    n=$first
+    right=$1
+    shift
+    number=$first
     refused=0
     whole=0
     while [ "$whole" -lt "$enough" ]; do
-        "refuse_in_$way" "$1" "$n"
+        "refuse_in_$way" "$number" "$@"
         case $(judge) in
         whole) whole=$((whole + 1)) ;;
         refused) refused=$((refused + 1)) whole=0 ;;
         *)
-            echo "$1 of $name, allocation $n refused: status '$status', output '$out', error '$err'"
+            echo "$*: allocation $number refused: status '$status', output '$out', error '$err'"
             exit 1
             ;;
         esac
-        n=$((n + 1))
+        number=$((number + 1))
     done
-    echo "$1 of $name: allocations $first to $((n - 1)) refused in turn, $refused refusals told, no wrong output"
+    echo "$*: allocations $first to $((number - 1)) refused in turn, $refused refusals told, no wrong output"
     if [ "$first" = 1 ] && [ "$refused" = 0 ]; then
-        echo "$1 of $name: nothing was refused"
+        echo "$*: nothing was refused"
         exit 1
     fi
 }
@@ -77,16 +83,30 @@ proved)
 try) enough=5 ;;
 *) echo "usage: $0 [try [N]]" >&2; exit 2 ;;
 esac
-# A program, and what it prints.
-sweep_program() {
-    name=$1
-    program=$top/examples/$1.afx
-    right=$2
-    sweep run
-    sweep serial
-}
 
-sweep_program two_arrays '7 8'
-sweep_program nested_tasks '1
+cat >"$folder/doubling.afx" <<'END'
+proc twice(mut s: int) {
+  if len(s) <= 1 {
+    if len(s) == 1 { s[0] = s[0] * 2; }
+  } else {
+    split s at len(s) / 2 as l, r { async { twice(l); } twice(r); }
+  }
+}
+main { array a: int[16]; finish { twice(a); } }
+END
+echo '{"a":[1,2,3,4,5,6,7,8,9,10,11,12,13,14,15,16]}' >"$folder/doubling.json"
+
+examples=$top/examples
+sweep '7 8' run "$examples/two_arrays.afx"
+sweep '7 8' serial "$examples/two_arrays.afx"
+sweep '3 4' mhp "$examples/two_arrays.afx"
+sweep 'accepted: 0 procedures, 5 labels' check "$examples/two_arrays.afx"
+sweep '1
 2
-3'
+3' run "$examples/nested_tasks.afx"
+sweep '1
+2
+3' serial "$examples/nested_tasks.afx"
+sweep 'accepted: 1 procedures, 9 labels' check "$folder/doubling.afx"
+sweep 'array a 2 4 6 8 10 12 14 16 18 20 22 24 26 28 30 32' \
+    serial "$folder/doubling.afx" --input "$folder/doubling.json" --arrays

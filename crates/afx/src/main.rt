@@ -7,15 +7,20 @@ mod tests;
 
 use driver::act::act;
 use driver::files::MachineFiles;
+use std::io::IsTerminal;
 use std::process::ExitCode;
 use std::{env, io};
 
-/// Does what the words behind the program's name ask.
+/// Does what the words behind the program's name ask. No word at a terminal asks for help, since nobody types a program
+/// there.
 fn main(rt: HostRuntime) -> io::Result<ExitCode> {
     let alloc = rt.alloc();
     let mut words = Vec::new(alloc);
     for word in env::args(&rt)?.skip(1) {
         words.push(word)?;
+    }
+    if words.is_empty() && rt.stdin().is_terminal() {
+        words.push(String::from_str(alloc, "--help")?)?;
     }
     let mut files = MachineFiles::new(&rt);
     let mut out = rt.stdout();

@@ -1,6 +1,7 @@
 //! What no clause says, shown by rows: whole commands by `act`, and the library's calls where a row needs them.
 
 mod budgets;
+mod checks;
 mod command_lines;
 mod drawn_numbers;
 mod held_places;
@@ -16,6 +17,7 @@ mod rows;
 mod schedules;
 mod scope_weights;
 mod section_trees;
+mod settings;
 mod statuses;
 mod texts;
 mod typing_rules;
@@ -28,6 +30,7 @@ use std::test::Fail;
 #[test]
 fn commands_answer_as_their_rows_say(rt: HostRuntime) -> Result<(), Fail> {
     let areas = [
+        checks::ROWS,
         command_lines::ROWS,
         listings::ROWS,
         programs_that_run::ROWS,

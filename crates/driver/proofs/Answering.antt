@@ -1,45 +1,49 @@
 -- From what a command wrote, or why it wrote nothing, to what was done.
-use Rattle.std.proofs.Common.{◌≡◌, ◌≢◌, ℕ, List, Option, Result, Ok, Err, ap, ◌∙◌, sym, subst, refl}
+use Rattle.std.proofs.Common.{◌≡◌, ◌≢◌, ℕ, List, Option, Some, Result, Ok, Err, ap, ◌∙◌, sym, subst, refl}
 use Rattle.std.proofs.KnownBytes.{Keeps-refl}
-use Rattle.std.specs.Prelude.{IfErr, IfOk, IsErrAnd, false}
+use Rattle.std.specs.List.{flat_map}
+use Rattle.std.specs.Prelude.{◌↔◌, IfErr, IfOk, IsErrAnd, IsTrue, Bool}
+use Rattle.std.specs.Str.{chars}
+use Rattle.syntax.specs.Canonical.{listed}
+use Rattle.syntax.specs.Lexical.{AreTokensOf}
+use Rattle.syntax.specs.Spelling.{spelling}
 use Rattle.types.specs.Code.{Array, Program}
-use Rattle.types.specs.Outcome.{Budget, Outcome}
-use Rattle.types.specs.Typed.{code_of}
+use Rattle.types.specs.FirstPart.{is_first_part}
+use Rattle.types.specs.Outcome.{Outcome}
+use Rattle.types.specs.Typed.{code_of, program_of}
 use Rattle.types.specs.declared.typed.Typed.{Typed}
+use Rattle.parallel_relation.specs.Pairs.{ArePairs, AreListed, HasPair}
+use Rattle.parallel_relation.specs.Together.{LabelsMeet}
+use Rattle.parallel_relation.specs.declared.pairs.Pairs.{Pairs as KeptPairs}
+use Rattle.race_checker.specs.Clash.{IsAccepted}
+use Rattle.race_checker.specs.Races.{IsLeastRace, Race as ProgramRace}
 use Rattle.workers.specs.Refusal.{IsRefusalOf, pairs_of}
 use Rattle.workers.specs.Races.{IsLeastClash}
 use Rattle.workers.specs.declared.race.Meeting.{Meeting}
 use Rattle.workers.specs.declared.check.Refused.{Refused}
 use Rattle.workers.specs.declared.check.Refused.TheVariants.{Race as RaceFound, OutOfMemory as MemoryInCheck}
-use Rattle.driver.specs.Answers.{Answers, Does, Explains, Failed, IsCodeOf, Shows, usual}
+use Rattle.driver.specs.Answers.{Answers, AnswersCheck, AnswersList, AnswersPairs}
+use Rattle.driver.specs.Answers.{Does, Explains, Failed, HasRace, IsCodeOf, IsRunBy, LooksForRaces, Shows}
+use Rattle.driver.specs.Answers.{TellsNoCode, TellsNotAccepted, TellsRaceTo}
 use Rattle.driver.specs.Appending.{Writes}
-use Rattle.driver.specs.Failures.{TellsRace, TellsRefusal}
+use Rattle.driver.specs.Failures.{TellsRace, TellsRaceIn, TellsRefusal}
+use Rattle.driver.specs.Held.{Held, TellsNoInput}
+use Rattle.driver.specs.Labels.{accepted_text, pair_text}
 use Rattle.driver.specs.OutcomeText.{outcome_text, status_of}
-use Rattle.driver.specs.Requests.{Asked, run, check}
+use Rattle.driver.specs.Requests.{Settings}
 use Rattle.driver.specs.declared.failure.Failure.{Failure}
 use Rattle.driver.specs.declared.failure.Failure.TheVariants.{CannotRead, NotUtf8, Syntax, Types, NotYet}
-use Rattle.driver.specs.declared.failure.Failure.TheVariants.{Race, NoMemoryInCheck, Run, CannotWriteOutput, NoMemory}
-
--- the budget of a run that names none
-pub usual_is : (b : Budget) → b.steps ≡ 1000000 → b.nest ≡ 100 → b ≡ usual
-usual_is b steps nest =
-    ap (λ (n : ℕ). let c : Budget = record { steps = n; nest = b.nest } in c) steps
-    ∙ ap (λ (n : ℕ). let c : Budget = record { steps = 1000000; nest = n } in c) nest
+use Rattle.driver.specs.declared.failure.Failure.TheVariants.{Race, NoMemoryInCheck, Input, CannotWriteOutput, NoMemory}
+use Rattle.driver.specs.declared.failure.Failure.TheVariants.{Run as RunFailed}
+use Rattle.driver.specs.declared.request.Command.{Command}
+use Rattle.driver.specs.declared.request.Command.TheVariants.{Run, Serial, Check, Listing, Pairs}
 
 -- ---- failures
 
 -- any failure but that of writing
 abbrev pub IsOther : Failure → Type 0
-IsOther (CannotRead name) = Unit {0}
-IsOther (NotUtf8 name) = Unit {0}
-IsOther (Syntax e) = Unit {0}
-IsOther (Types e) = Unit {0}
-IsOther NotYet = Unit {0}
-IsOther (Race first second) = Unit {0}
-IsOther NoMemoryInCheck = Unit {0}
-IsOther (Run e) = Unit {0}
 IsOther CannotWriteOutput = ⊥
-IsOther NoMemory = Unit {0}
+IsOther _ = Unit {0}
 
 pub other_failure : (f : Failure) → IsOther f → f ≢ CannotWriteOutput
 other_failure f other is = subst IsOther is other
@@ -55,85 +59,226 @@ pub if_err_passed : {T : Type 0} (r : Result T Failure) (f : Failure) (Q : Failu
 if_err_passed (Ok x) f Q is fact = absurd is
 if_err_passed (Err y) f Q is fact = subst Q (sym is) fact
 
-module _ (a : Asked) (text : List ℕ) (b : Option (List ℕ)) where
+module _ (c : Command) (s : Settings) (held : Held) (text : List ℕ) (b : Option (List ℕ)) where
   -- a failure that comes before anything is written
-  pub refuses : (f : Failure) → Explains a text f → f ≢ CannotWriteOutput → Failed a text b b f
+  pub refuses : (f : Failure) → Explains c s held text f → f ≢ CannotWriteOutput → Failed c s held text b b f
   refuses f why other = record { why = why; silent = λ _. Keeps-refl b; begun = λ is. absurd (other is) }
 
   -- one that is passed on
-  pub passes_on : (r : Result ℕ Failure) (f : Failure) → IsErrAnd r (λ y. y ≡ f) → Explains a text f
-      → f ≢ CannotWriteOutput → Does a text b b r
+  pub passes_on : (r : Result ℕ Failure) (f : Failure) → IsErrAnd r (λ y. y ≡ f) → Explains c s held text f
+      → f ≢ CannotWriteOutput → Does c s held text b b r
   passes_on (Ok x) f is why other = absurd is
-  passes_on (Err y) f is why other = subst (Failed a text b b) (sym is) (refuses f why other)
+  passes_on (Err y) f is why other = subst (Failed c s held text b b) (sym is) (refuses f why other)
 
-  pub passes_memory_on : (r : Result ℕ Failure) (f : Failure) → IsErrAnd r (λ y. y ≡ f) → f ≡ NoMemory
-      → Does a text b b r
-  passes_memory_on r f is memory =
-      passes_on r f is (subst (Explains a text) (sym memory) tt)
-      (λ write. other_failure NoMemory tt (sym memory ∙ write))
+  -- ---- a text without a code
 
-  -- one of `check`
-  pub rejects : (r : Result ℕ Failure) → IsErrAnd r (λ f. (f ≢ CannotWriteOutput) × Explains a text f)
-      → Does a text b b r
-  rejects (Ok x) is = absurd is
-  rejects (Err f) is = refuses f is.1 is.0
+  pub no_code_explained : (f : Failure) → TellsNoCode text f → Explains c s held text f
+  no_code_explained (Syntax e) told = told
+  no_code_explained (Types e) told = told
+  no_code_explained _ told = absurd told
 
--- ---- a race that was found
+  no_code_other : (f : Failure) → TellsNoCode text f → IsOther f
+  no_code_other CannotWriteOutput told = told
+  no_code_other _ told = tt
 
-module _ (text : List ℕ) (typed back : Typed) (race : Meeting) (is_code : IsCodeOf text (code_of typed))
-    (same : back ≡ typed) (least : IsLeastClash (pairs_of typed) race) where
-  race_explained : (f : Failure) → TellsRace race back f → Explains run text f
-  race_explained (Race first second) told = (
-    refl,
-    record {
-      typed = back;
-      is_code = subst (λ (t : Typed). IsCodeOf text (code_of t)) (sym same) is_code;
-      race = race;
-      least = subst (λ (t : Typed). IsLeastClash (pairs_of t) race) (sym same) least;
-      first_is = told.0;
-      second_is = told.1;
-    },
-  )
-  race_explained NoMemoryInCheck told = refl
-  race_explained (CannotRead name) told = absurd told
-  race_explained (NotUtf8 name) told = absurd told
-  race_explained (Syntax e) told = absurd told
-  race_explained (Types e) told = absurd told
-  race_explained NotYet told = absurd told
-  race_explained (Run e) told = absurd told
-  race_explained CannotWriteOutput told = absurd told
-  race_explained NoMemory told = absurd told
+  pub passes_no_code : (r : Result ℕ Failure) (f : Failure) → IsErrAnd r (λ y. y ≡ f) → TellsNoCode text f
+      → Does c s held text b b r
+  passes_no_code r f is told = passes_on r f is (no_code_explained f told) (other_failure f (no_code_other f told))
 
-pub refusal_explained : (text : List ℕ) (typed : Typed) (refused : Refused) (f : Failure) → IsCodeOf text (code_of typed)
-    → IsRefusalOf typed refused → TellsRefusal refused f → Explains run text f
-refusal_explained text typed (RaceFound race back) f is_code refusal told =
-    race_explained text typed back race is_code refusal.0 refusal.1 f told
-refusal_explained text typed MemoryInCheck f is_code refusal told = subst (Explains run text) (sym told) refl
+  -- ---- a run without an input
+
+  module _ (code : Program) (is_code : IsCodeOf text code) (is_run : IsRunBy c code) where
+    no_input_explained : (f : Failure) → TellsNoInput s.input held code.arrays f → Explains c s held text f
+    no_input_explained (CannotRead name) told = record { code = code; is_code = is_code; is_run = is_run; why = told }
+    no_input_explained (NotUtf8 name) told = record { code = code; is_code = is_code; is_run = is_run; why = told }
+    no_input_explained (Input e) told = record { code = code; is_code = is_code; is_run = is_run; why = told }
+    no_input_explained NoMemory told = tt
+    no_input_explained _ told = absurd told
+
+    no_input_other : (f : Failure) → TellsNoInput s.input held code.arrays f → IsOther f
+    no_input_other CannotWriteOutput told = told
+    no_input_other _ told = tt
+
+    pub passes_no_input : (r : Result ℕ Failure) (f : Failure) → IsErrAnd r (λ y. y ≡ f)
+        → TellsNoInput s.input held code.arrays f → Does c s held text b b r
+    passes_no_input r f is told = passes_on r f is (no_input_explained f told) (other_failure f (no_input_other f told))
+
+-- ---- a race that was found by `run`
+
+module _ (s : Settings) (held : Held) (text : List ℕ) (typed : Typed) (is_code : IsCodeOf text (code_of typed))
+    (first_part : IsTrue (is_first_part (code_of typed))) where
+  race_explained : (back : Typed) (race : Meeting) → back ≡ typed → IsLeastClash (pairs_of typed) race → (f : Failure)
+      → TellsRace race back f → Explains Run s held text f
+  race_explained back race same least (Race procedure first second) told = record {
+    typed = back;
+    is_code = subst (λ (t : Typed). IsCodeOf text (code_of t)) (sym same) is_code;
+    first_part = subst (λ (t : Typed). IsTrue (is_first_part (code_of t))) (sym same) first_part;
+    race = race;
+    least = subst (λ (t : Typed). IsLeastClash (pairs_of t) race) (sym same) least;
+    procedure_is = told.0;
+    first_is = told.1;
+    second_is = told.2;
+  }
+  race_explained back race same least NoMemoryInCheck told = tt
+  race_explained back race same least _ told = absurd told
+
+  pub refusal_explained : (refused : Refused) (f : Failure) → IsRefusalOf typed refused → TellsRefusal refused f
+      → Explains Run s held text f
+  refusal_explained (RaceFound race back) f refusal told = race_explained back race refusal.0 refusal.1 f told
+  refusal_explained MemoryInCheck f refusal told = subst (Explains Run s held text) (sym told) tt
+
+race_other : (race : Meeting) (back : Typed) (f : Failure) → TellsRace race back f → IsOther f
+race_other race back CannotWriteOutput told = told
+race_other race back _ told = tt
 
 pub refusal_other : (refused : Refused) (f : Failure) → TellsRefusal refused f → f ≢ CannotWriteOutput
-refusal_other (RaceFound race back) f told is = subst (TellsRace race back) is told
-refusal_other MemoryInCheck f told is = other_failure NoMemoryInCheck tt (sym told ∙ is)
+refusal_other (RaceFound race back) f told = other_failure f (race_other race back f told)
+refusal_other MemoryInCheck f told = λ is. other_failure NoMemoryInCheck tt (sym told ∙ is)
+
+-- ---- a text without an accepted program
+
+pub no_code_not_accepted : (text : List ℕ) (f : Failure) → TellsNoCode text f → TellsNotAccepted text f
+no_code_not_accepted text (Syntax e) told = told
+no_code_not_accepted text (Types e) told = told
+no_code_not_accepted text _ told = absurd told
+
+-- a race that `check` tells
+pub told_race : (text : List ℕ) (typed back : Typed) (race : ProgramRace) → IsCodeOf text (code_of typed) → back ≡ typed
+    → IsLeastRace (code_of typed) race → (f : Failure) → TellsRaceIn (code_of back) race f → TellsNotAccepted text f
+told_race text typed back race is_code same least (Race procedure first second) told = record {
+  code = code_of back;
+  is_code = subst (λ (t : Typed). IsCodeOf text (code_of t)) (sym same) is_code;
+  race = race;
+  least = subst (λ (t : Typed). IsLeastRace (code_of t) race) (sym same) least;
+  told = told;
+}
+told_race text typed back race is_code same least NoMemoryInCheck told = tt
+told_race text typed back race is_code same least _ told = absurd told
+
+-- the commands of `check`
+abbrev pub Checks : Command → Type 0
+Checks Run = ⊥
+Checks Serial = ⊥
+Checks Check = Unit {0}
+Checks Listing = Unit {0}
+Checks Pairs = ⊥
+
+race_told : (c : Command) (text procedure first second : List ℕ) → Checks c → HasRace text procedure first second
+    → TellsRaceTo c text procedure first second
+race_told Run text procedure first second checks race = absurd checks
+race_told Serial text procedure first second checks race = absurd checks
+race_told Check text procedure first second checks race = race
+race_told Listing text procedure first second checks race = race
+race_told Pairs text procedure first second checks race = absurd checks
+
+looks : (c : Command) → Checks c → LooksForRaces c
+looks Run checks = tt
+looks Serial checks = checks
+looks Check checks = tt
+looks Listing checks = tt
+looks Pairs checks = checks
+
+module _ (c : Command) (checks : Checks c) (s : Settings) (held : Held) (text : List ℕ) (b : Option (List ℕ)) where
+  not_accepted_explained : (f : Failure) → TellsNotAccepted text f → Explains c s held text f
+  not_accepted_explained (Syntax e) told = told
+  not_accepted_explained (Types e) told = told
+  not_accepted_explained (Race procedure first second) told = race_told c text _ _ _ checks told
+  not_accepted_explained NoMemoryInCheck told = looks c checks
+  not_accepted_explained _ told = absurd told
+
+  not_accepted_other : (f : Failure) → TellsNotAccepted text f → IsOther f
+  not_accepted_other CannotWriteOutput told = told
+  not_accepted_other _ told = tt
+
+  pub passes_not_accepted : (r : Result ℕ Failure) (f : Failure) → IsErrAnd r (λ y. y ≡ f) → TellsNotAccepted text f
+      → Does c s held text b b r
+  passes_not_accepted r f is told =
+      passes_on c s held text b r f is (not_accepted_explained f told) (other_failure f (not_accepted_other f told))
+
+-- want of memory before anything is written
+pub passes_memory : (c : Command) (s : Settings) (held : Held) (text : List ℕ) (b : Option (List ℕ)) (r : Result ℕ Failure)
+    (f : Failure) → IsErrAnd r (λ y. y ≡ f) → f ≡ NoMemory → Does c s held text b b r
+passes_memory c s held text b r f is memory =
+    passes_on c s held text b r f is (subst (Explains c s held text) (sym memory) tt)
+    (λ write. other_failure NoMemory tt (sym memory ∙ write))
 
 -- ---- answers
 
+-- the code of a program that a text spells
+abbrev pub code_of_text : (text : List ℕ) (typed : Typed) → AreTokensOf (chars text) (spelling (program_of typed))
+    → IsCodeOf text (code_of typed)
+code_of_text text typed spelled = record {
+  program = program_of typed;
+  spelled = spelled;
+  right = typed.right;
+  resolved = typed.resolved;
+}
+
+module _ (text told : List ℕ) (kept typed : Typed) (same : typed ≡ kept)
+    (spelled : AreTokensOf (chars text) (spelling (program_of kept))) (accepted : IsAccepted (code_of typed)) where
+  spelled_so : AreTokensOf (chars text) (spelling (program_of typed))
+  spelled_so = subst (λ (t : Typed). AreTokensOf (chars text) (spelling (program_of t))) (sym same) spelled
+
+  -- the listing of an accepted program
+  pub listing_answers : told ≡ listed (program_of typed) → AnswersList text told 0
+  listing_answers is = record {
+    code = code_of typed;
+    is_code = code_of_text text typed spelled_so;
+    accepted = accepted;
+    told_is = is;
+    status_is = refl;
+  }
+
+  -- the line that tells an accepted program
+  pub line_answers : told ≡ accepted_text (code_of typed) → AnswersCheck text told 0
+  line_answers is = record {
+    code = code_of typed;
+    is_code = code_of_text text typed spelled_so;
+    accepted = accepted;
+    told_is = is;
+    status_is = refl;
+  }
+
+-- pairs as they are kept are listed as those of the program
+listed_as : (has meets : ℕ → ℕ → Type 0) → ((x y : ℕ) → has x y ↔ meets x y) → (pairs : List (ℕ × ℕ))
+    → AreListed has pairs → AreListed meets pairs
+listed_as has meets same pairs listed = record {
+  smaller_first = listed.smaller_first;
+  only = λ x y m. (same x y).0 (listed.only x y m);
+  every = λ x y le meet. listed.every x y le ((same x y).1 meet);
+  ascending = listed.ascending;
+}
+
+-- the pairs of labels that may run together
+pub pairs_answer : (text : List ℕ) (code : Program) (kept : KeptPairs) (list : List (ℕ × ℕ)) → IsCodeOf text code
+    → ArePairs code kept → AreListed (HasPair kept) list → AnswersPairs text (flat_map pair_text list) 0
+pairs_answer text code kept list is_code are listed = record {
+  code = code;
+  is_code = is_code;
+  pairs = list;
+  listed = listed_as (HasPair kept) (LabelsMeet code) are list listed;
+  told_is = refl;
+  status_is = refl;
+}
+
 -- what was shown is the answer, or a beginning of it
-pub shown : (a : Asked) (text : List ℕ) (old new : Option (List ℕ)) (r : Result ℕ Failure) (told : List ℕ) (status : ℕ)
-    → Answers a text told status → Writes old new r told → IfOk r (λ s. s ≡ status)
-    → IfErr r (λ f. f ≡ CannotWriteOutput) → Does a text old new r
-shown a text old new (Ok s) told status answers written is only = record {
+pub shown : (c : Command) (s : Settings) (held : Held) (text : List ℕ) (old new : Option (List ℕ)) (r : Result ℕ Failure)
+    (told : List ℕ) (status : ℕ) → Answers c s held text told status → Writes old new r told → IfOk r (λ x. x ≡ status)
+    → IfErr r (λ f. f ≡ CannotWriteOutput) → Does c s held text old new r
+shown c s held text old new (Ok x) told status answers written is only = record {
   told = told;
-  answers = subst (Answers a text told) (sym is) answers;
+  answers = subst (Answers c s held text told) (sym is) answers;
   written = written;
 }
-shown a text old new (Err f) told status answers written is only = record {
-  why = subst (Explains a text) (sym only) tt;
+shown c s held text old new (Err f) told status answers written is only = record {
+  why = subst (Explains c s held text) (sym only) tt;
   silent = λ other. absurd (other only);
   begun = λ _. record { told = told; status = status; answers = answers; begun = written };
 }
 
-pub outcome_shown : (code : Program) (o p : Outcome) (shown_arrays : List Array) → o ≡ p → shown_arrays ≡ code.arrays
-    → Shows p code (outcome_text shown_arrays false o) (status_of o)
-outcome_shown code o p arrays same are = record {
-  told_is = ap (λ (d : List Array). outcome_text d false o) are ∙ ap (outcome_text code.arrays false) same;
+pub outcome_shown : (arrays : Bool) (code : Program) (o p : Outcome) (declared : List Array) → o ≡ p → declared ≡ code.arrays
+    → Shows arrays p code (outcome_text declared arrays o) (status_of o)
+outcome_shown arrays code o p declared same are = record {
+  told_is = ap (λ (d : List Array). outcome_text d arrays o) are ∙ ap (outcome_text code.arrays arrays) same;
   status_is = ap status_of same;
 }

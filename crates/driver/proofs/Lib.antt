@@ -2,5 +2,6 @@ pub mod Acting
 pub mod Answering
 pub mod Appending
 pub mod Examples
+pub mod Inputs
 pub mod OutcomeText
 pub mod Reading

@@ -1,12 +1,21 @@
 -- Words that ask plainly are read as what they ask.
 use Rattle.std.proofs.Common.{◌≡◌, ℕ, List, [], ◌∷◌, Option, Some, None, refl, sym, ap, ◌∙◌, subst, codes}
-use Rattle.std.specs.Prelude.{Bool, true, false, ◌&&◌, if◌then◌else◌, IsTrue, option_map}
+use Rattle.std.specs.Prelude.{Bool, true, false, ◌&&◌, if◌then◌else◌, IsTrue, IfSome, IsSomeAnd, option_map}
+use Rattle.std.specs.Prelude.{◌<◌, ◌^◌, Result, unwrap_or}
+use Rattle.std.specs.Fmt.{decimal}
+use Rattle.std.specs.Result.{result_ok}
 use Rattle.std.specs.Str.{bytes_eq}
+use Rattle.std.specs.Str.Parse.{ParsesUnsigned}
+use Rattle.std.proofs.lemmas.Fmt.{parse-decimal}
 use Rattle.std.proofs.Math.Bool.{and-false}
-use Rattle.driver.specs.declared.command_line.Request.{Request}
-use Rattle.driver.specs.Reading.{plain, read}
-use Rattle.driver.specs.Requests.{Asked, Asks, IsRequest, is_file_name, words_for, run, serial, check, list}
-use Rattle.driver.specs.Requests.{by_words, by_option_behind, by_no_word}
+use Rattle.driver.specs.declared.command_line.Line.{Line as rLine}
+use Rattle.driver.specs.declared.request.Command.{Command}
+use Rattle.driver.specs.declared.request.Command.TheVariants.{Run, Serial, Check, Listing, Pairs}
+use Rattle.driver.specs.declared.request.Settings.{Settings as rSettings}
+use Rattle.driver.specs.Reading.{Line, bare, line_of, read, read_file, read_run, read_texts}
+use Rattle.driver.specs.Requests.{AreRight, Asked, Asks, Options, Settings, Texts, is_file_name, optioned, plain, settings_by}
+use Rattle.driver.specs.Requests.{texts_by, words_of}
+use Rattle.driver.specs.Requests.{by_no_word, to_run, to_run_on_one_thread, to_check, to_list, to_list_behind, to_pair}
 
 if_true : {A : Type 0} (b : Bool) (x y : A) → b ≡ true → (if b then x else y) ≡ x
 if_true b x y e = ap (λ (c : Bool). if c then x else y) e
@@ -14,40 +23,135 @@ if_true b x y e = ap (λ (c : Bool). if c then x else y) e
 if_false : {A : Type 0} (b : Bool) (x y : A) → b ≡ false → (if b then x else y) ≡ y
 if_false b x y e = ap (λ (c : Bool). if c then x else y) e
 
--- the words of each command are read as that command
-read_words : (a : Asked) (file : List ℕ) → IsTrue (is_file_name file) → read (words_for a file) ≡ Some (a, file)
-read_words run file named = if_true (is_file_name file) _ _ named
-read_words serial file named = if_true (is_file_name file) _ _ named
-read_words check file named = if_true (is_file_name file) _ _ named
-read_words list file named = if_true (is_file_name file) _ _ named
+abbrev texts_with : (input steps nest : Option (List ℕ)) (arrays : Bool) → Texts
+texts_with input steps nest arrays = record { input = input; steps = steps; nest = nest; arrays = arrays }
 
--- the option may stand last
-read_behind : (file : List ℕ) → IsTrue (is_file_name file)
-    → read (codes "check" ∷ file ∷ codes "--list" ∷ []) ≡ Some (list, file)
-read_behind file named =
+-- the words of options are read as these options
+read_words : (input steps nest : Option (List ℕ)) (arrays : Bool)
+    → read_texts (words_of (texts_with input steps nest arrays)) ≡ Some (texts_with input steps nest arrays)
+read_words (Some i) (Some s) (Some n) true = refl
+read_words (Some i) (Some s) (Some n) false = refl
+read_words (Some i) (Some s) None true = refl
+read_words (Some i) (Some s) None false = refl
+read_words (Some i) None (Some n) true = refl
+read_words (Some i) None (Some n) false = refl
+read_words (Some i) None None true = refl
+read_words (Some i) None None false = refl
+read_words None (Some s) (Some n) true = refl
+read_words None (Some s) (Some n) false = refl
+read_words None (Some s) None true = refl
+read_words None (Some s) None false = refl
+read_words None None (Some n) true = refl
+read_words None None (Some n) false = refl
+read_words None None None true = refl
+read_words None None None false = refl
+
+read_option_words : (t : Texts) → read_texts (words_of t) ≡ Some t
+read_option_words t = read_words t.input t.steps t.nest t.arrays
+
+abbrev line : Command → (file : List ℕ) → Texts → Line
+line command file texts = record { command = command; file = file; texts = texts }
+
+read_running : (command : Command) (file : List ℕ) (t : Texts) → IsTrue (is_file_name file)
+    → read_run command file (words_of t) ≡ Some (line command file t)
+read_running command file t named =
+    if_true (is_file_name file) _ _ named ∙ ap (option_map (line command file)) (read_option_words t)
+
+read_named : (command : Command) (file : List ℕ) → IsTrue (is_file_name file)
+    → read_file command file ≡ Some (bare command file)
+read_named command file named = if_true (is_file_name file) _ _ named
+
+-- the option of `check` may stand last
+read_list_behind : (file : List ℕ) → IsTrue (is_file_name file)
+    → read (codes "check" ∷ file ∷ codes "--list" ∷ []) ≡ Some (bare Listing file)
+read_list_behind file named =
     if_false (bytes_eq file (codes "--list") && false) _ _ (and-false (bytes_eq file (codes "--list")))
-    ∙ if_true (is_file_name file) _ _ named
+    ∙ read_named Listing file named
 
-pub asks_read : (words : List (List ℕ)) (a : Asked) (file : List ℕ) → Asks words a file → read words ≡ Some (a, file)
-asks_read words a file (by_words named is) = ap read is ∙ read_words a file named
-asks_read words a file (by_option_behind named asks is) =
-    ap read is ∙ read_behind file named ∙ ap (λ (b : Asked). Some (b, file)) (sym asks)
-asks_read words a file (by_no_word is asks names) =
-    ap read is ∙ ap (λ (b : Asked). Some (b, codes "-")) (sym asks) ∙ ap (λ (f : List ℕ). Some (a, f)) (sym names)
+-- what words that ask are read as, and for which options that stands
+pub record IsLineOf (words : List (List ℕ)) (a : Asked) : Type 0 where
+  pub command : Command
+  pub file : List ℕ
+  pub options : Options
+  pub right : AreRight options
+  pub is_read : read words ≡ Some (line command file (texts_by options))
+  pub asked : a ≡ optioned command file options
+
+abbrev no_options : Options
+no_options = record { input = None; steps = None; nest = None; arrays = false }
+
+bare_line : (words : List (List ℕ)) (a : Asked) (command : Command) (file : List ℕ) → read words ≡ Some (bare command file)
+    → a ≡ plain command file → IsLineOf words a
+bare_line words a command file is_read asked = record {
+  command = command;
+  file = file;
+  options = no_options;
+  right = record { input = tt; steps = tt; nest = tt };
+  is_read = is_read;
+  asked = asked;
+}
+
+pub asks_line : (words : List (List ℕ)) (a : Asked) → Asks words a → IsLineOf words a
+asks_line words a (by_no_word is asked) = bare_line words a Run (codes "-") (ap read is) asked
+asks_line words a (to_run file o named right is asked) = record {
+  command = Run;
+  file = file;
+  options = o;
+  right = right;
+  is_read = ap read is ∙ read_running Run file (texts_by o) named;
+  asked = asked;
+}
+asks_line words a (to_run_on_one_thread file o named right is asked) = record {
+  command = Serial;
+  file = file;
+  options = o;
+  right = right;
+  is_read = ap read is ∙ read_running Serial file (texts_by o) named;
+  asked = asked;
+}
+asks_line words a (to_check file named is asked) = bare_line words a Check file (ap read is ∙ read_named Check file named) asked
+asks_line words a (to_list file named is asked) =
+    bare_line words a Listing file (ap read is ∙ if_true (is_file_name file) _ _ named) asked
+asks_line words a (to_list_behind file named is asked) =
+    bare_line words a Listing file (ap read is ∙ read_list_behind file named) asked
+asks_line words a (to_pair file named is asked) = bare_line words a Pairs file (ap read is ∙ read_named Pairs file named) asked
 
 -- what was read
-abbrev IsRead : Asked → List ℕ → Option (Asked × List ℕ) → Type 0
-IsRead a file (Some p) = (p.0 ≡ a) × (p.1 ≡ file)
-IsRead a file None = ⊥
+abbrev IsRead : Line → Option Line → Type 0
+IsRead l (Some m) = m ≡ l
+IsRead l None = ⊥
 
-is_read : (words : List (List ℕ)) (a : Asked) (file : List ℕ) (o : Option (Asked × List ℕ)) → o ≡ read words
-    → Asks words a file → IsRead a file o
-is_read words a file o is asks = subst (IsRead a file) (sym (is ∙ asks_read words a file asks)) (refl, refl)
+-- words that ask are read
+pub asked_is_read : (words : List (List ℕ)) (a : Asked)
+    → option_map line_of (let o : Option rLine = None in o) ≡ read words → Asks words a → ⊥
+asked_is_read words a unread asks =
+    let l = asks_line words a asks in subst (IsRead (line l.command l.file (texts_by l.options))) (sym (unread ∙ l.is_read)) refl
 
-module _ (words : List (List ℕ)) (a : Asked) (file : List ℕ) where
-  pub plain_is_asked : (r : Request) → option_map plain (Some r) ≡ read words → Asks words a file → IsRequest a file r
-  plain_is_asked r is asks =
-      let found = is_read words a file (Some (plain r)) is asks in record { asks = found.0; names = found.1 }
+-- and as what they ask
+pub read_is_asked : (words : List (List ℕ)) (a : Asked) (l : rLine) (asked : IsLineOf words a)
+    → option_map line_of (Some l) ≡ read words → line_of l ≡ line asked.command asked.file (texts_by asked.options)
+read_is_asked words a l asked is =
+    subst (IsRead (line asked.command asked.file (texts_by asked.options))) (sym (is ∙ asked.is_read)) refl
 
-  pub asked_is_plain : option_map plain (let o : Option Request = None in o) ≡ read words → Asks words a file → ⊥
-  asked_is_plain is asks = is_read words a file None is asks
+-- a line's command and file, with the settings of its options, are what was asked
+pub settled : (words : List (List ℕ)) (a : Asked) (asked : IsLineOf words a) (m : Line) (s : Settings)
+    → m ≡ line asked.command asked.file (texts_by asked.options) → s ≡ settings_by asked.options
+    → (let b : Asked = record { command = m.command; file = m.file; settings = s } in b) ≡ a
+settled words a asked m s same set =
+    ap (λ (l : Line). let b : Asked = record { command = l.command; file = l.file; settings = s } in b) same
+    ∙ ap (λ (t : Settings). let b : Asked = record { command = asked.command; file = asked.file; settings = t } in b) set
+    ∙ sym asked.asked
+
+some_is_none : (text : List ℕ) → Some text ≡ (let o : Option (List ℕ) = None in o) → ⊥
+some_is_none text is = cc
+
+some_injective : (a b : List ℕ) → Some a ≡ Some b → a ≡ b
+some_injective a b is = cc
+
+-- a number in decimal is parsed, and the usual one stands for none
+pub parsed : {E : Type 0} (n : Option ℕ) (usual : ℕ) (text : List ℕ) (r : Result ℕ E) (o : Option ℕ)
+    → IfSome n (λ m. m < 2 ^ 64) → Some text ≡ option_map decimal n → ParsesUnsigned 64 10 text r → o ≡ result_ok r
+    → o ≡ Some (unwrap_or n usual)
+parsed None usual text r o small is parses ok = absurd (some_is_none text is)
+parsed (Some m) usual text r o small is parses ok =
+    ok ∙ ap result_ok (parse-decimal 64 m text r small small (some_injective text (decimal m) is) parses)

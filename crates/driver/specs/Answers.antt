@@ -1,7 +1,7 @@
 -- What a command answers to the text of a program, and why it fails.
-use Rattle.std.specs.Prelude.{ℕ, ℤ, pos, ◌≡◌, ◌≢◌, List, [], Option, Some, Result, IsTrue, Bool, true, false, map}
-use Rattle.std.specs.Prelude.{replicate, MatchResult}
+use Rattle.std.specs.Prelude.{ℕ, ℤ, ◌≡◌, ◌≢◌, List, [], Option, Some, Result, IsTrue, Bool, false, MatchResult, codes}
 use Rattle.std.specs.Io.KnownBytes.{Appends, Keeps}
+use Rattle.std.specs.List.{flat_map}
 use Rattle.std.specs.Str.{chars}
 use Rattle.std.specs.String.{string_bytes}
 use Rattle.syntax.specs.Canonical.{listed}
@@ -11,82 +11,114 @@ use Rattle.syntax.specs.Spelling.{spelling}
 use Rattle.syntax.specs.Tree as tree
 use Rattle.types.specs.Code.{Program}
 use Rattle.types.specs.FirstPart.{is_first_part}
-use Rattle.types.specs.Outcome.{Budget, Outcome, outcome}
+use Rattle.types.specs.Outcome.{Outcome, outcome}
 use Rattle.types.specs.Resolution.{resolution}
 use Rattle.types.specs.Rules.{BreaksNoRule, errors_of}
 use Rattle.types.specs.Told.{Told}
 use Rattle.types.specs.Typed.{code_of}
 use Rattle.types.specs.declared.error.TypeError.{TypeError}
 use Rattle.types.specs.declared.typed.Typed.{Typed}
+use Rattle.parallel_relation.specs.Pairs.{AreListed}
+use Rattle.parallel_relation.specs.Together.{LabelsMeet}
+use Rattle.race_checker.specs.Clash.{IsAccepted}
+use Rattle.race_checker.specs.Races.{IsLeastRace, Race as ProgramRace}
 use Rattle.workers.specs.Accesses.{pairs_in}
 use Rattle.workers.specs.Races.{IsLeastClash, IsClashFree}
 use Rattle.workers.specs.Refusal.{pairs_of}
 use Rattle.workers.specs.Worlds.{IsReached}
 use Rattle.workers.specs.declared.race.Meeting.{Meeting}
 use Rattle.driver.specs.Appending.{AppendsBeginning}
-use Rattle.driver.specs.Failures.{access_text}
+use Rattle.driver.specs.Failures.{array_text, told_procedure, IsToldAs}
+use Rattle.driver.specs.Held.{Held, BeginsWith, TellsNoInput}
+use Rattle.driver.specs.Labels.{accepted_text, pair_text}
 use Rattle.driver.specs.OutcomeText.{outcome_text, status_of}
-use Rattle.driver.specs.Requests.{Asked, run, serial, check, list}
+use Rattle.driver.specs.Requests.{Settings}
 use Rattle.driver.specs.declared.failure.Failure.{Failure}
 use Rattle.driver.specs.declared.failure.Failure.TheVariants.{CannotRead, NotUtf8, Syntax, Types, NotYet}
-use Rattle.driver.specs.declared.failure.Failure.TheVariants.{Race, NoMemoryInCheck, Run, CannotWriteOutput, NoMemory}
+use Rattle.driver.specs.declared.failure.Failure.TheVariants.{Race, NoMemoryInCheck, Input, CannotWriteOutput, NoMemory}
+use Rattle.driver.specs.declared.failure.Failure.TheVariants.{Run as RunFailed}
+use Rattle.driver.specs.declared.request.Command.{Command}
+use Rattle.driver.specs.declared.request.Command.TheVariants.{Run, Serial, Check, Listing, Pairs}
 
--- a zero for each element of each array
-abbrev pub zeros : Program → List (List ℤ)
-zeros p = map (λ a. replicate a.length (pos 0)) p.arrays
-
--- the budget of a run that names none
-abbrev pub usual : Budget
-usual = record { steps = 1000000; nest = 100 }
-
--- what a program comes to on one thread, on zeros and under the usual budget
-abbrev pub on_one_thread : Program → Outcome
-on_one_thread p = outcome p (zeros p) usual
-
--- the text spells a program of the first part that breaks no rule, of which this is the code
+-- the text spells a program that breaks no rule, of which this is the code
 pub record IsCodeOf (text : List ℕ) (code : Program) : Type 0 where
   pub program : tree.Program
   pub spelled : AreTokensOf (chars text) (spelling program)
   pub right : BreaksNoRule program
   pub resolved : resolution program ≡ Some code
+
+-- the program is of the first part, and has no race
+pub record MayRunAsTasks (code : Program) : Type 0 where
   pub first_part : IsTrue (is_first_part code)
+  pub clash_free : IsClashFree (pairs_in [] code.main.body)
+
+-- the command runs the program
+abbrev pub IsRunBy : Command → Program → Type 0
+IsRunBy Run code = MayRunAsTasks code
+IsRunBy Serial code = Unit {0}
+IsRunBy Check code = ⊥
+IsRunBy Listing code = ⊥
+IsRunBy Pairs code = ⊥
 
 -- ---- answers
 
--- the text of an outcome, without the arrays, and its status
-pub record Shows (o : Outcome) (code : Program) (told : List ℕ) (status : ℕ) : Type 0 where
-  pub told_is : told ≡ outcome_text code.arrays false o
+-- the text of an outcome, with the arrays if they are asked for, and its status
+pub record Shows (arrays : Bool) (o : Outcome) (code : Program) (told : List ℕ) (status : ℕ)
+    : Type 0 where
+  pub told_is : told ≡ outcome_text code.arrays arrays o
   pub status_is : status ≡ status_of o
 
--- `serial`: the one-thread outcome of the program
-pub record AnswersSerial (text told : List ℕ) (status : ℕ) : Type 0 where
+-- `serial`: the one-thread outcome of the text's program, of the input and under the budget given
+pub record AnswersSerial (s : Settings) (held : Held) (text told : List ℕ) (status : ℕ) : Type 0 where
   pub code : Program
   pub is_code : IsCodeOf text code
-  pub shows : Shows (on_one_thread code) code told status
+  pub input : List (List ℤ)
+  pub begins : BeginsWith s.input held code.arrays input
+  pub shows : Shows s.arrays (outcome code input s.budget) code told status
 
--- `run`: the program has no race, and its tasks come to the outcome on zeros
-pub record AnswersRun (text told : List ℕ) (status : ℕ) : Type 0 where
+-- `run`: the text's program may run as tasks, which come to the outcome
+pub record AnswersRun (s : Settings) (held : Held) (text told : List ℕ) (status : ℕ) : Type 0 where
   pub code : Program
   pub is_code : IsCodeOf text code
-  pub clash_free : IsClashFree (pairs_in [] code.main.body)
+  pub may_run : MayRunAsTasks code
+  pub input : List (List ℤ)
+  pub begins : BeginsWith s.input held code.arrays input
   pub outcome : Outcome
-  pub reached : IsReached code (zeros code) usual outcome
-  pub shows : Shows outcome code told status
+  pub reached : IsReached code input s.budget outcome
+  pub shows : Shows s.arrays outcome code told status
 
--- `check --list`: the listing of the program, which breaks no rule
-pub record AnswersList (text told : List ℕ) (status : ℕ) : Type 0 where
-  pub program : tree.Program
-  pub spelled : AreTokensOf (chars text) (spelling program)
-  pub right : BreaksNoRule program
-  pub told_is : told ≡ listed program
+-- `check`: the text's program has no race, and the line tells how many procedures and labels it has
+pub record AnswersCheck (text told : List ℕ) (status : ℕ) : Type 0 where
+  pub code : Program
+  pub is_code : IsCodeOf text code
+  pub accepted : IsAccepted code
+  pub told_is : told ≡ accepted_text code
   pub status_is : status ≡ 0
 
--- the text told, with its status, answers what is asked of a program's text; `check` has no answer yet
-abbrev pub Answers : Asked → (text told : List ℕ) → (status : ℕ) → Type 0
-Answers run text told status = AnswersRun text told status
-Answers serial text told status = AnswersSerial text told status
-Answers list text told status = AnswersList text told status
-Answers check text told status = ⊥
+-- `check --list`: the listing of the text's program, which has no race
+pub record AnswersList (text told : List ℕ) (status : ℕ) : Type 0 where
+  pub code : Program
+  pub is_code : IsCodeOf text code
+  pub accepted : IsAccepted code
+  pub told_is : told ≡ listed is_code.program
+  pub status_is : status ≡ 0
+
+-- `mhp`: the pairs of labels of the text's program that may run together, ascending, a line each
+pub record AnswersPairs (text told : List ℕ) (status : ℕ) : Type 0 where
+  pub code : Program
+  pub is_code : IsCodeOf text code
+  pub pairs : List (ℕ × ℕ)
+  pub listed : AreListed (LabelsMeet code) pairs
+  pub told_is : told ≡ flat_map pair_text pairs
+  pub status_is : status ≡ 0
+
+-- the text told, with its status, answers what is asked of a program's text
+abbrev pub Answers : Command → Settings → Held → (text told : List ℕ) → (status : ℕ) → Type 0
+Answers Run s held text told status = AnswersRun s held text told status
+Answers Serial s held text told status = AnswersSerial s held text told status
+Answers Check s held text told status = AnswersCheck text told status
+Answers Listing s held text told status = AnswersList text told status
+Answers Pairs s held text told status = AnswersPairs text told status
 
 -- ---- failures
 
@@ -96,73 +128,118 @@ pub record BreaksRule (text : List ℕ) (e : TypeError) : Type 0 where
   pub spelled : AreTokensOf (chars text) (spelling program)
   pub broken : Told (errors_of program) e
 
--- whether a program that breaks no rule is served: a listing is given of each, and `check` serves none yet
-abbrev pub is_served : Asked → (code : Program) → Bool
-is_served run code = is_first_part code
-is_served serial code = is_first_part code
-is_served check code = false
-is_served list code = true
+-- why a text has no code, memory aside: it spells no program, or one that breaks a rule
+abbrev pub TellsNoCode : (text : List ℕ) → Failure → Type 0
+TellsNoCode text (Syntax e) = IsErrorOfText text e
+TellsNoCode text (Types e) = BreaksRule text e
+TellsNoCode text _ = ⊥
 
--- Z1: the text spells a program that breaks no rule and isn't served
-pub record IsUnserved (a : Asked) (text : List ℕ) : Type 0 where
-  pub program : tree.Program
-  pub spelled : AreTokensOf (chars text) (spelling program)
-  pub right : BreaksNoRule program
-  pub code : Program
-  pub resolved : resolution program ≡ Some code
-  pub unserved : is_served a code ≡ false
-
--- C1: the text's program has a race, and the two texts tell the accesses of its least one
-pub record HasRace (text first second : List ℕ) : Type 0 where
-  pub typed : Typed
-  pub is_code : IsCodeOf text (code_of typed)
-  pub race : Meeting
-  pub least : IsLeastClash (pairs_of typed) race
-  pub first_is : first ≡ access_text typed.code.arrays.items race.first
-  pub second_is : second ≡ access_text typed.code.arrays.items race.second
-
--- the text spells a program that is served and has no race
-pub record IsAccepted (text : List ℕ) : Type 0 where
+-- Z1: the text spells a program that breaks no rule and isn't of the first part
+pub record IsUnserved (text : List ℕ) : Type 0 where
   pub code : Program
   pub is_code : IsCodeOf text code
-  pub clash_free : IsClashFree (pairs_in [] code.main.body)
+  pub unserved : is_first_part code ≡ false
+
+-- C1 of `run`: `main` of the text's program has a race, and the least one is told
+pub record HasMainRace (text procedure first second : List ℕ) : Type 0 where
+  pub typed : Typed
+  pub is_code : IsCodeOf text (code_of typed)
+  pub first_part : IsTrue (is_first_part (code_of typed))
+  pub race : Meeting
+  pub least : IsLeastClash (pairs_of typed) race
+  pub procedure_is : procedure ≡ codes "main"
+  pub first_is : first ≡ array_text typed.code.arrays.items race.first
+  pub second_is : second ≡ array_text typed.code.arrays.items race.second
+
+-- C1 of `check`: the text's program has a race, and the least one is told
+pub record HasRace (text procedure first second : List ℕ) : Type 0 where
+  pub code : Program
+  pub is_code : IsCodeOf text code
+  pub race : ProgramRace
+  pub least : IsLeastRace code race
+  pub told : IsToldAs (told_procedure code race.procedure) race procedure first second
+
+abbrev pub TellsRaceTo : Command → (text procedure first second : List ℕ) → Type 0
+TellsRaceTo Run text procedure first second = HasMainRace text procedure first second
+TellsRaceTo Serial text procedure first second = ⊥
+TellsRaceTo Check text procedure first second = HasRace text procedure first second
+TellsRaceTo Listing text procedure first second = HasRace text procedure first second
+TellsRaceTo Pairs text procedure first second = ⊥
+
+-- the command looks for races
+abbrev pub LooksForRaces : Command → Type 0
+LooksForRaces Run = Unit {0}
+LooksForRaces Serial = ⊥
+LooksForRaces Check = Unit {0}
+LooksForRaces Listing = Unit {0}
+LooksForRaces Pairs = ⊥
+
+-- why a text has no accepted program, memory aside
+abbrev pub TellsNotAccepted : (text : List ℕ) → Failure → Type 0
+TellsNotAccepted text (Syntax e) = TellsNoCode text (Syntax e)
+TellsNotAccepted text (Types e) = TellsNoCode text (Types e)
+TellsNotAccepted text (Race procedure first second) =
+    HasRace text (string_bytes procedure) (string_bytes first) (string_bytes second)
+TellsNotAccepted text NoMemoryInCheck = Unit {0}
+TellsNotAccepted text _ = ⊥
+
+-- the text's program is run, but there is no input, as the failure says
+pub record LacksInput (c : Command) (s : Settings) (held : Held) (text : List ℕ) (f : Failure)
+    : Type 0 where
+  pub code : Program
+  pub is_code : IsCodeOf text code
+  pub is_run : IsRunBy c code
+  pub why : TellsNoInput s.input held code.arrays f
+
+-- the text's program may run as tasks, on an input that there is
+pub record IsRun (s : Settings) (held : Held) (text : List ℕ) : Type 0 where
+  pub code : Program
+  pub is_code : IsCodeOf text code
+  pub may_run : MayRunAsTasks code
+  pub input : List (List ℤ)
+  pub begins : BeginsWith s.input held code.arrays input
 
 -- a failure is one of the text, for what was asked; only want of memory is free
-abbrev pub Explains : Asked → (text : List ℕ) → Failure → Type 0
-Explains a text (CannotRead name) = ⊥
-Explains a text (NotUtf8 name) = ⊥
-Explains a text (Syntax e) = IsErrorOfText text e
-Explains a text (Types e) = BreaksRule text e
-Explains a text NotYet = IsUnserved a text
-Explains a text (Race first second) =
-    (a ≡ run) × HasRace text (string_bytes first) (string_bytes second)
-Explains a text NoMemoryInCheck = a ≡ run
-Explains a text (Run e) = (a ≡ run) × IsAccepted text
-Explains a text CannotWriteOutput = Unit {0}
-Explains a text NoMemory = Unit {0}
+abbrev pub Explains : Command → Settings → Held → (text : List ℕ) → Failure → Type 0
+Explains c s held text (CannotRead name) = LacksInput c s held text (CannotRead name)
+Explains c s held text (NotUtf8 name) = LacksInput c s held text (NotUtf8 name)
+Explains c s held text (Syntax e) = TellsNoCode text (Syntax e)
+Explains c s held text (Types e) = TellsNoCode text (Types e)
+Explains c s held text NotYet = (c ≡ Run) × IsUnserved text
+Explains c s held text (Race procedure first second) =
+    TellsRaceTo c text (string_bytes procedure) (string_bytes first) (string_bytes second)
+Explains c s held text NoMemoryInCheck = LooksForRaces c
+Explains c s held text (Input e) = LacksInput c s held text (Input e)
+Explains c s held text (RunFailed e) = (c ≡ Run) × IsRun s held text
+Explains c s held text CannotWriteOutput = Unit {0}
+Explains c s held text NoMemory = Unit {0}
 
 -- ---- what was done
 
 -- an answer was written whole, and its status given
-pub record Wrote (a : Asked) (text : List ℕ) (old new : Option (List ℕ)) (status : ℕ) : Type 0 where
+pub record Wrote (c : Command) (s : Settings) (held : Held) (text : List ℕ)
+    (old new : Option (List ℕ)) (status : ℕ) : Type 0 where
   pub told : List ℕ
-  pub answers : Answers a text told status
+  pub answers : Answers c s held text told status
   pub written : Appends old new told
 
 -- an answer was begun
-pub record Began (a : Asked) (text : List ℕ) (old new : Option (List ℕ)) : Type 0 where
+pub record Began (c : Command) (s : Settings) (held : Held) (text : List ℕ)
+    (old new : Option (List ℕ)) : Type 0 where
   pub told : List ℕ
   pub status : ℕ
-  pub answers : Answers a text told status
+  pub answers : Answers c s held text told status
   pub begun : AppendsBeginning old new told
 
 -- there is a reason; nothing was written, or, where writing failed, a beginning of the answer
-pub record Failed (a : Asked) (text : List ℕ) (old new : Option (List ℕ)) (f : Failure)
-    : Type 0 where
-  pub why : Explains a text f
+pub record Failed (c : Command) (s : Settings) (held : Held) (text : List ℕ)
+    (old new : Option (List ℕ)) (f : Failure) : Type 0 where
+  pub why : Explains c s held text f
   pub silent : f ≢ CannotWriteOutput → Keeps old new
-  pub begun : f ≡ CannotWriteOutput → Began a text old new
+  pub begun : f ≡ CannotWriteOutput → Began c s held text old new
 
 -- what is asked was done with the text of a program
-abbrev pub Does : Asked → (text : List ℕ) → (old new : Option (List ℕ)) → Result ℕ Failure → Type 0
-Does a text old new r = MatchResult r (Wrote a text old new) (Failed a text old new)
+abbrev pub Does : Command → Settings → Held → (text : List ℕ) → (old new : Option (List ℕ))
+    → Result ℕ Failure → Type 0
+Does c s held text old new r =
+    MatchResult r (Wrote c s held text old new) (Failed c s held text old new)

@@ -1,8 +1,11 @@
 -- What the failures of a command tell.
-use Rattle.std.specs.Prelude.{ℕ, ◌≡◌, Bool, true, false, List, [], ◌++◌, Option, None, Some, codes, slice_get}
+use Rattle.std.specs.Prelude.{ℕ, ◌≡◌, Bool, true, false, List, [], ◌++◌, Option, None, Some, codes, slice_get, unwrap_or}
 use Rattle.std.specs.Fmt.{decimal}
 use Rattle.std.specs.String.{string_bytes}
+use Rattle.types.specs.Code.{Procedure, Program}
 use Rattle.types.specs.declared.code.Array.{Array}
+use Rattle.effects.specs.Accesses.{Access as SectionAccess}
+use Rattle.race_checker.specs.Races.{Race as ProgramRace}
 use Rattle.workers.specs.declared.check.Refused.{Refused}
 use Rattle.workers.specs.declared.check.Refused.TheVariants.{Race as RaceFound, OutOfMemory}
 use Rattle.workers.specs.declared.race.Access.{Access}
@@ -27,23 +30,67 @@ abbrev pub kind_of : (write : Bool) → List ℕ
 kind_of true = codes "write"
 kind_of false = codes "read"
 
+-- an access as a message tells it: `2 write a`
+abbrev pub access_text : (label : ℕ) → (write : Bool) → (name : List ℕ) → List ℕ
+access_text label write name =
+    decimal label ++ (codes " " ++ (kind_of write ++ (codes " " ++ name)))
+
+-- ---- races of `main`, as `run` finds them
+
 abbrev pub name_of : Option Array → List ℕ
 name_of (Some a) = string_bytes a.name
 name_of None = []
 
--- an access as a message tells it: `2 write a`
-abbrev pub access_text : List Array → Access → List ℕ
-access_text arrays a =
-    decimal a.label ++ (codes " " ++ (kind_of a.write ++ (codes " " ++ name_of (slice_get arrays a.array.number))))
+-- an access of an array
+abbrev pub array_text : List Array → Access → List ℕ
+array_text arrays a = access_text a.label a.write (name_of (slice_get arrays a.array.number))
 
--- a race is told by both its accesses, if there is memory for it
+-- a race is told by both its accesses
+abbrev pub IsMainRace : List Array → Meeting → Failure → Type 0
+IsMainRace arrays race (Race procedure first second) =
+    (string_bytes procedure ≡ codes "main") × (string_bytes first ≡ array_text arrays race.first)
+    × (string_bytes second ≡ array_text arrays race.second)
+IsMainRace arrays race _ = ⊥
+
+-- so it is, if there is memory for it
 abbrev pub TellsRace : Meeting → Typed → Failure → Type 0
-TellsRace race typed (Race first second) =
-    (string_bytes first ≡ access_text typed.code.arrays.items race.first)
-    × (string_bytes second ≡ access_text typed.code.arrays.items race.second)
+TellsRace race typed (Race procedure first second) =
+    IsMainRace typed.code.arrays.items race (Race procedure first second)
 TellsRace race typed NoMemoryInCheck = Unit {0}
 TellsRace race typed _ = ⊥
 
 abbrev pub TellsRefusal : Refused → Failure → Type 0
 TellsRefusal (RaceFound race typed) f = TellsRace race typed f
 TellsRefusal OutOfMemory f = f ≡ NoMemoryInCheck
+
+-- ---- races of a program, as `check` finds them
+
+-- the procedure of a number; `main` stands behind the others
+abbrev pub told_procedure : Program → ℕ → Procedure
+told_procedure p f = unwrap_or (slice_get p.procedures f) p.main
+
+-- the name of a section of a procedure
+abbrev pub section_name : Procedure → ℕ → List ℕ
+section_name g s = unwrap_or (slice_get g.section_names s) []
+
+-- an access of a section
+abbrev pub section_text : Procedure → SectionAccess → List ℕ
+section_text g a = access_text a.label a.write (section_name g a.section)
+
+-- a race is told by the name of its procedure and both its accesses, in the names of that procedure
+pub record IsToldAs (g : Procedure) (race : ProgramRace) (procedure first second : List ℕ) : Type 0 where
+  pub procedure_is : procedure ≡ g.name
+  pub first_is : first ≡ section_text g race.first
+  pub second_is : second ≡ section_text g race.second
+
+abbrev pub IsRaceOf : Procedure → ProgramRace → Failure → Type 0
+IsRaceOf g race (Race procedure first second) =
+    IsToldAs g race (string_bytes procedure) (string_bytes first) (string_bytes second)
+IsRaceOf g race _ = ⊥
+
+-- so it is, if there is memory for it
+abbrev pub TellsRaceIn : Program → ProgramRace → Failure → Type 0
+TellsRaceIn p race (Race procedure first second) =
+    IsRaceOf (told_procedure p race.procedure) race (Race procedure first second)
+TellsRaceIn p race NoMemoryInCheck = Unit {0}
+TellsRaceIn p race _ = ⊥

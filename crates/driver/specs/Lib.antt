@@ -3,6 +3,8 @@ pub mod Answers
 pub mod Appending
 pub mod FailureStatus
 pub mod Failures
+pub mod Held
+pub mod Labels
 pub mod Messages
 pub mod OutcomeText
 pub mod Reading

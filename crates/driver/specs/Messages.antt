@@ -6,10 +6,11 @@ use Rattle.syntax.specs.Refusals.{code_of as syntax_code, place_of}
 use Rattle.syntax.specs.declared.error.SyntaxError.{SyntaxError}
 use Rattle.syntax.specs.declared.place.Place.{Place}
 use Rattle.types.specs.Codes.{error_text}
+use Rattle.types.specs.InputErrors.{text_of as input_text}
 use Rattle.workers.specs.Codes.{code_of as run_code}
 use Rattle.driver.specs.declared.failure.Failure.{Failure}
 use Rattle.driver.specs.declared.failure.Failure.TheVariants.{CannotRead, NotUtf8, Syntax, Types, NotYet}
-use Rattle.driver.specs.declared.failure.Failure.TheVariants.{Race, NoMemoryInCheck, Run, CannotWriteOutput, NoMemory}
+use Rattle.driver.specs.declared.failure.Failure.TheVariants.{Race, NoMemoryInCheck, Input, Run, CannotWriteOutput, NoMemory}
 
 -- the code of a syntax error, and its place where it names one, line before column: `S2 at 1:13`
 abbrev pub at_place : (code : List ℕ) → Option Place → List ℕ
@@ -20,9 +21,10 @@ at_place code (Some place) =
 abbrev pub syntax_text : SyntaxError → List ℕ
 syntax_text e = at_place (syntax_code e) (place_of e)
 
--- both accesses of a race
-abbrev pub race_text : (first second : List ℕ) → List ℕ
-race_text first second = codes "C1 race in main: " ++ (first ++ (codes ", " ++ second))
+-- a race: its procedure, and both its accesses
+abbrev pub race_text : (procedure first second : List ℕ) → List ℕ
+race_text procedure first second =
+    (codes "C1 race in " ++ procedure) ++ ((codes ": " ++ first) ++ (codes ", " ++ second))
 
 -- the line that tells a failure, without its line feed
 abbrev pub failure_text : Failure → List ℕ
@@ -31,8 +33,10 @@ failure_text (NotUtf8 name) = codes "not UTF-8 " ++ string_bytes name
 failure_text (Syntax e) = syntax_text e
 failure_text (Types e) = error_text e
 failure_text NotYet = codes "Z1"
-failure_text (Race first second) = race_text (string_bytes first) (string_bytes second)
+failure_text (Race procedure first second) =
+    race_text (string_bytes procedure) (string_bytes first) (string_bytes second)
 failure_text NoMemoryInCheck = codes "C2"
+failure_text (Input e) = input_text e
 failure_text (Run e) = run_code e
 failure_text CannotWriteOutput = codes "cannot write output"
 failure_text NoMemory = codes "no memory"

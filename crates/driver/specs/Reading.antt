@@ -1,39 +1,98 @@
--- How the words of a command line are read that name a command and a file, and no more.
-use Rattle.std.specs.Prelude.{ℕ, ◌&&◌, List, [], ◌∷◌, Option, Some, None, codes, if◌then◌else◌}
+-- How the words of a command line are read that name a command, a file and options behind it.
+use Rattle.std.specs.Prelude.{ℕ, ◌&&◌, List, [], ◌∷◌, Bool, true, false, Option, Some, None, codes, if◌then◌else◌, option_map}
 use Rattle.std.specs.Str.{bytes_eq}
-use Rattle.driver.specs.Requests.{Asked, asked_of, file_of, is_file_name, run, serial, check, list}
-use Rattle.driver.specs.declared.command_line.Request.{Request}
+use Rattle.driver.specs.Requests.{Texts, is_file_name}
+use Rattle.driver.specs.declared.request.Command.{Command}
+use Rattle.driver.specs.declared.request.Command.TheVariants.{Run, Serial, Check, Listing, Pairs}
+use Rattle.driver.specs.declared.command_line.Line.{Line as rLine}
+use Rattle.driver.specs.declared.command_line.Texts.{Texts as rTexts}
 
--- a request, and the name of its file
-abbrev pub plain : Request → Asked × List ℕ
-plain r = (asked_of r, file_of r)
+-- a command, a file, and the texts behind options
+pub record Line : Type 0 where
+  pub command : Command
+  pub file : List ℕ
+  pub texts : Texts
 
--- what the word of a command asks of a file
-abbrev pub read_command : (command file : List ℕ) → Option (Asked × List ℕ)
-read_command command file =
-    if bytes_eq command (codes "run") then Some (run, file) else
-    (if bytes_eq command (codes "serial") then Some (serial, file) else
-    (if bytes_eq command (codes "check") then Some (check, file) else None))
+abbrev pub texts_of : rTexts → Texts
+texts_of t = record {
+  input = option_map (λ s. s.now) t.input;
+  steps = option_map (λ s. s.now) t.steps;
+  nest = option_map (λ s. s.now) t.nest;
+  arrays = t.arrays;
+}
 
--- what two words ask
-abbrev pub read_two : (command file : List ℕ) → Option (Asked × List ℕ)
-read_two command file = if is_file_name file then read_command command file else None
+abbrev pub line_of : rLine → Line
+line_of l = record { command = l.command; file = l.file.now; texts = texts_of l.texts }
 
--- what two words behind `check` ask, one of which is the option
-abbrev pub read_option : (one other : List ℕ) → Option (Asked × List ℕ)
-read_option one other =
-    if bytes_eq one (codes "--list") && is_file_name other then Some (list, other) else
-    (if bytes_eq other (codes "--list") && is_file_name one then Some (list, one) else None)
+-- a line without options
+abbrev pub bare : Command → (file : List ℕ) → Line
+bare command file = record {
+  command = command;
+  file = file;
+  texts = record { input = None; steps = None; nest = None; arrays = false };
+}
 
--- what three words ask
-abbrev pub read_three : (command one other : List ℕ) → Option (Asked × List ℕ)
-read_three command one other =
-    if bytes_eq command (codes "check") then read_option one other else None
+-- the value behind an option that stands first, and the words behind both
+abbrev pub taken : (option : List ℕ) → List (List ℕ) → Option (List ℕ) × List (List ℕ)
+taken option [] = (None, [])
+taken option (word ∷ []) = (None, word ∷ [])
+taken option (word ∷ value ∷ behind) =
+    if bytes_eq word option then (Some value, behind) else (None, word ∷ value ∷ behind)
 
--- what the words ask, if they name a command and a file, and no more
-abbrev pub read : List (List ℕ) → Option (Asked × List ℕ)
-read [] = Some (run, codes "-")
+-- the last option, which has no value
+abbrev pub read_arrays : List (List ℕ) → Option Bool
+read_arrays [] = Some false
+read_arrays (word ∷ []) = if bytes_eq word (codes "--arrays") then Some true else None
+read_arrays (word ∷ other ∷ behind) = None
+
+-- the options of a run
+abbrev pub read_texts : List (List ℕ) → Option Texts
+read_texts words =
+    let input = taken (codes "--input") words in
+    let steps = taken (codes "--steps") input.1 in
+    let nest = taken (codes "--nest") steps.1 in
+    option_map (λ arrays. let t : Texts = record { input = input.0; steps = steps.0; nest = nest.0; arrays = arrays } in t)
+    (read_arrays nest.1)
+
+-- the words behind a command that runs
+abbrev pub read_run : Command → (file : List ℕ) → (behind : List (List ℕ)) → Option Line
+read_run command file behind =
+    if is_file_name file
+    then option_map (λ texts. let line : Line = record { command = command; file = file; texts = texts } in line)
+    (read_texts behind) else None
+
+-- a command with a file alone
+abbrev pub read_file : Command → (file : List ℕ) → Option Line
+read_file command file =
+    if is_file_name file then Some (bare command file) else None
+
+-- the two words behind `check`, one of which is its option
+abbrev pub read_listing : (one other : List ℕ) → Option Line
+read_listing one other =
+    if bytes_eq one (codes "--list") && is_file_name other then Some (bare Listing other) else
+    (if bytes_eq other (codes "--list") then read_file Listing one else None)
+
+-- the words behind `check`
+abbrev pub read_check : (one : List ℕ) → (others : List (List ℕ)) → Option Line
+read_check one [] = read_file Check one
+read_check one (other ∷ []) = read_listing one other
+read_check one (other ∷ third ∷ behind) = None
+
+-- the words behind a command that takes a file alone
+abbrev pub read_alone : Command → (file : List ℕ) → (behind : List (List ℕ)) → Option Line
+read_alone command file [] = read_file command file
+read_alone command file (other ∷ behind) = None
+
+-- the words behind a command
+abbrev pub read_behind : (command file : List ℕ) → (behind : List (List ℕ)) → Option Line
+read_behind command file behind =
+    if bytes_eq command (codes "run") then read_run Run file behind else
+    (if bytes_eq command (codes "serial") then read_run Serial file behind else
+    (if bytes_eq command (codes "check") then read_check file behind else
+    (if bytes_eq command (codes "mhp") then read_alone Pairs file behind else None)))
+
+-- the words of a command line
+abbrev pub read : List (List ℕ) → Option Line
+read [] = Some (bare Run (codes "-"))
 read (command ∷ []) = None
-read (command ∷ file ∷ []) = read_two command file
-read (command ∷ one ∷ other ∷ []) = read_three command one other
-read (a ∷ b ∷ c ∷ d ∷ rest) = None
+read (command ∷ file ∷ behind) = read_behind command file behind

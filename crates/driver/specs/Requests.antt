@@ -1,33 +1,47 @@
 -- What the words of a command line ask.
-use Rattle.std.specs.Prelude.{ℕ, ◌≡◌, List, [], ◌∷◌, Bool, true, false, not, codes}
-use Rattle.std.specs.Prelude.{nat_eq, IsTrue}
-use Rattle.driver.specs.declared.command_line.Request.{Request}
-use Rattle.driver.specs.declared.command_line.Request.TheVariants.{Run, Serial, Check}
+use Rattle.std.specs.Prelude.{ℕ, ◌≡◌, ◌≤◌, List, [], ◌∷◌, Bool, true, false, not, codes, Option, None, Some}
+use Rattle.std.specs.Prelude.{nat_eq, IsTrue, IfSome, option_map, unwrap_or}
+use Rattle.std.specs.Fmt.{decimal}
+use Rattle.types.specs.Outcome.{Budget}
+use Rattle.types.specs.Translation.{budget as budget_of}
+use Rattle.driver.specs.declared.request.Command.{Command}
+use Rattle.driver.specs.declared.request.Command.TheVariants.{Run, Serial, Check, Listing, Pairs}
+use Rattle.driver.specs.declared.request.Settings.{Settings as rSettings}
+use Rattle.driver.specs.declared.request.Request.{Request}
 
--- what is to be done with a file
-pub data Asked : Type 0 where
-  run : Asked
-  serial : Asked
-  check : Asked
-  list : Asked
+-- how a program is to be run: the file of what its arrays hold at first, where one is named; its
+-- budget; whether the arrays are shown
+pub record Settings : Type 0 where
+  pub input : Option (List ℕ)
+  pub budget : Budget
+  pub arrays : Bool
+
+-- what is to be done with the program of a file
+pub record Asked : Type 0 where
+  pub command : Command
+  pub file : List ℕ
+  pub settings : Settings
+
+abbrev pub settings : rSettings → Settings
+settings s = record {
+  input = option_map (λ name. name.now) s.input;
+  budget = budget_of s.budget;
+  arrays = s.arrays;
+}
 
 -- what a request asks
 abbrev pub asked_of : Request → Asked
-asked_of (Run file) = run
-asked_of (Serial file) = serial
-asked_of (Check file true) = list
-asked_of (Check file false) = check
+asked_of r = record { command = r.command; file = r.file.now; settings = settings r.settings }
 
--- the name of the file
-abbrev pub file_of : Request → List ℕ
-file_of (Run file) = file.now
-file_of (Serial file) = file.now
-file_of (Check file given) = file.now
+-- the budget of a run that names none
+abbrev pub usual_budget : Budget
+usual_budget = record { steps = 1000000; nest = 100 }
 
--- a request asks this, of the file of this name
-pub record IsRequest (a : Asked) (file : List ℕ) (r : Request) : Type 0 where
-  pub asks : asked_of r ≡ a
-  pub names : file_of r ≡ file
+-- the settings of a command line that names none
+abbrev pub usual : Settings
+usual = record { input = None; budget = usual_budget; arrays = false }
+
+-- ---- words
 
 -- a file's name begins with no `-`, or it is `-` alone, the standard input
 abbrev pub is_file_name : List ℕ → Bool
@@ -35,16 +49,78 @@ is_file_name [] = true
 is_file_name (c ∷ []) = true
 is_file_name (c ∷ d ∷ rest) = not (nat_eq c 45)
 
--- the words that ask it
-abbrev pub words_for : Asked → (file : List ℕ) → List (List ℕ)
-words_for run file = codes "run" ∷ file ∷ []
-words_for serial file = codes "serial" ∷ file ∷ []
-words_for check file = codes "check" ∷ file ∷ []
-words_for list file = codes "check" ∷ codes "--list" ∷ file ∷ []
+-- what may stand behind the file of a run
+pub record Options : Type 0 where
+  pub input : Option (List ℕ)
+  pub steps : Option ℕ
+  pub nest : Option ℕ
+  pub arrays : Bool
 
--- the words ask this of the file of this name; the option may stand last, and no word is `run -`
-pub data Asks (words : List (List ℕ)) (a : Asked) (file : List ℕ) : Type 0 where
-  by_words : IsTrue (is_file_name file) → words ≡ words_for a file → Asks words a file
-  by_option_behind : IsTrue (is_file_name file) → a ≡ list
-      → words ≡ codes "check" ∷ file ∷ codes "--list" ∷ [] → Asks words a file
-  by_no_word : words ≡ [] → a ≡ run → file ≡ codes "-" → Asks words a file
+-- an input file has a file's name, and numbers are in their ranges
+pub record AreRight (o : Options) : Type 0 where
+  pub input : IfSome o.input (λ name. IsTrue (is_file_name name))
+  pub steps : IfSome o.steps (λ n. (1 ≤ n) × (n ≤ 1000000000))
+  pub nest : IfSome o.nest (λ n. n ≤ 1000)
+
+-- the texts that stand behind options
+pub record Texts : Type 0 where
+  pub input : Option (List ℕ)
+  pub steps : Option (List ℕ)
+  pub nest : Option (List ℕ)
+  pub arrays : Bool
+
+-- numbers in decimal
+abbrev pub texts_by : Options → Texts
+texts_by o = record {
+  input = o.input;
+  steps = option_map decimal o.steps;
+  nest = option_map decimal o.nest;
+  arrays = o.arrays;
+}
+
+-- an option and its value
+abbrev pub valued : (option : List ℕ) → (value : Option (List ℕ)) → (behind : List (List ℕ)) → List (List ℕ)
+valued option None behind = behind
+valued option (Some value) behind = option ∷ value ∷ behind
+
+abbrev pub flagged : (option : List ℕ) → Bool → List (List ℕ)
+flagged option true = option ∷ []
+flagged option false = []
+
+-- the words of options, in this order: `--input FILE --steps N --nest N --arrays`
+abbrev pub words_of : Texts → List (List ℕ)
+words_of t =
+    valued (codes "--input") t.input (valued (codes "--steps") t.steps
+    (valued (codes "--nest") t.nest (flagged (codes "--arrays") t.arrays)))
+
+-- what they set; what isn't named is as usual
+abbrev pub settings_by : Options → Settings
+settings_by o = record {
+  input = o.input;
+  budget = record { steps = unwrap_or o.steps 1000000; nest = unwrap_or o.nest 100 };
+  arrays = o.arrays;
+}
+
+-- a command with a file alone
+abbrev pub plain : Command → (file : List ℕ) → Asked
+plain command file = record { command = command; file = file; settings = usual }
+
+-- a command with a file and options behind it
+abbrev pub optioned : Command → (file : List ℕ) → Options → Asked
+optioned command file o = record { command = command; file = file; settings = settings_by o }
+
+-- the words ask this; no word is `run -`
+pub data Asks (words : List (List ℕ)) (a : Asked) : Type 0 where
+  by_no_word : words ≡ [] → a ≡ plain Run (codes "-") → Asks words a
+  to_run : (file : List ℕ) (o : Options) → IsTrue (is_file_name file) → AreRight o
+      → words ≡ codes "run" ∷ file ∷ words_of (texts_by o) → a ≡ optioned Run file o → Asks words a
+  to_run_on_one_thread : (file : List ℕ) (o : Options) → IsTrue (is_file_name file) → AreRight o
+      → words ≡ codes "serial" ∷ file ∷ words_of (texts_by o) → a ≡ optioned Serial file o → Asks words a
+  to_check : (file : List ℕ) → IsTrue (is_file_name file)
+      → words ≡ codes "check" ∷ file ∷ [] → a ≡ plain Check file → Asks words a
+  to_list : (file : List ℕ) → IsTrue (is_file_name file)
+      → words ≡ codes "check" ∷ codes "--list" ∷ file ∷ [] → a ≡ plain Listing file → Asks words a
+  to_list_behind : (file : List ℕ) → IsTrue (is_file_name file)
+      → words ≡ codes "check" ∷ file ∷ codes "--list" ∷ [] → a ≡ plain Listing file → Asks words a
+  to_pair : (file : List ℕ) → IsTrue (is_file_name file)
+      → words ≡ codes "mhp" ∷ file ∷ [] → a ≡ plain Pairs file → Asks words a

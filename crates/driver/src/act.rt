@@ -1,16 +1,17 @@
 //! The whole program, over files and writers that it is lent.
 
-ghost use Rattle.std.specs.Prelude.{◌≤◌, ◌<◌, ℕ, List, map, MatchResult};
+ghost use Rattle.std.specs.Prelude.{◌≤◌, ◌<◌, map};
 ghost use Rattle.std.specs.String.{string_bytes};
-ghost use Rattle.driver.specs.Acts.{Acts, IsGiven, ReadsAndPerforms, TellsFileError};
-ghost use Rattle.driver.specs.Requests.{Asked, Asks, asked_of, file_of};
+ghost use Rattle.driver.specs.Acts.{Acts, ReadsAndPerforms};
+ghost use Rattle.driver.specs.Requests.{Asked, Asks, asked_of};
 
-use crate::command_line::{Request, request_of};
+use crate::command_line::request_of;
 use crate::commands;
 use crate::emit::append;
 use crate::failure::Failure;
-use crate::files::{FileError, FileSource};
+use crate::files::{FileSource, read_file};
 use crate::message::emit_message;
+use crate::request::Request;
 use clap::Error;
 use std::alloc::{AllocError, Global};
 use std::io::Write;
@@ -23,11 +24,11 @@ pub fn act<F: FileSource, O: Write, E: Write>(
     out: &mut O,
     err: &mut E,
 ) -> u8
-    ensures asked { (a : Asked) (file : List ℕ) → Asks (map string_bytes words.now) a file
-        → Acts a file (F.held files.old file) (O.contents out.old) (O.contents out.new)
+    ensures asked { (a : Asked) → Asks (map string_bytes words.now) a
+        → Acts a (F.held files.old) (O.contents out.old) (O.contents out.new)
         (E.contents err.old) (E.contents err.new) result }
-    ensures over_one { 1 < result → (a : Asked) × (file : List ℕ)
-        × Acts a file (F.held files.old file) (O.contents out.old) (O.contents out.new)
+    ensures over_one { 1 < result → (a : Asked)
+        × Acts a (F.held files.old) (O.contents out.old) (O.contents out.new)
         (E.contents err.old) (E.contents err.new) result }
 {
     match request_of(alloc, words) {
@@ -49,28 +50,14 @@ fn perform<F: FileSource, O: Write>(
     files: &mut F,
     out: &mut O,
 ) -> Result<u8, Failure>
-    ensures { let file = file_of request.entry in
-        ReadsAndPerforms (asked_of request.entry) file (F.held files.old file)
+    ensures { ReadsAndPerforms (asked_of request.entry) (F.held files.old)
         (O.contents out.old) (O.contents out.new) result }
 {
-    let name = request.file();
-    let bytes = read(alloc, files, name)?;
+    let name = request.file;
+    let bytes = read_file(alloc, files, name)?;
     match std::str::from_utf8(&bytes) {
-        Ok(text) => commands::perform(alloc, request, text, out),
+        Ok(text) => commands::perform(alloc, request, text, files, out),
         Err(_) => Err(Failure::not_utf8(alloc, name)),
-    }
-}
-
-/// What a file holds.
-fn read<F: FileSource>(alloc: Global, files: &mut F, name: &str) -> Result<Vec<u8>, Failure>
-    ensures { let held = F.held files.old name.now in
-        MatchResult result (λ v. IsGiven held (Ok v.items))
-        (λ f. (e : FileError) × IsGiven held (Err e) × TellsFileError name.now e f) }
-{
-    match files.read(name) {
-        Ok(bytes) => Ok(bytes),
-        Err(FileError::NoMemory) => Err(Failure::NoMemory),
-        Err(FileError::Failed) => Err(Failure::cannot_read(alloc, name)),
     }
 }
 

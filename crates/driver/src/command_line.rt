@@ -1,42 +1,24 @@
 //! The words of a command line.
 
-ghost use Rattle.std.specs.Prelude.{◌≡◌, ℕ, List, IsOkAnd, map, option_map};
+ghost use Rattle.std.specs.Prelude.{◌≡◌, ◌<◌, ◌^◌, ℕ, Option, IfSome, IsOkAnd, IsSomeAnd, Some, map, option_map, true, unwrap_or};
+ghost use Rattle.std.specs.Fmt.{decimal};
 ghost use Rattle.std.specs.String.{string_bytes};
-ghost use Rattle.driver.specs.Reading.{plain, read, read_two, read_three};
-ghost use Rattle.driver.specs.Requests.{Asked, Asks, IsRequest, file_of, is_file_name as names_file};
+ghost use Rattle.driver.specs.Reading.{bare as bare_line, line_of, read, read_alone, read_arrays, read_behind, read_check};
+ghost use Rattle.driver.specs.Reading.{read_file, read_listing, read_run, read_texts, taken, texts_of};
+ghost use Rattle.driver.specs.Requests.{AreRight, Asked, Asks, Options, asked_of, is_file_name as names_file};
+ghost use Rattle.driver.specs.Requests.{settings as settings_of, settings_by, texts_by};
 
-use clap::{Arg, ArgAction, ArgMatches, Command, Error};
-use std::alloc::{AllocError, Global};
+use crate::by_clap::request_by_clap;
+use crate::request::{Command, Request, Settings};
+use clap::Error;
+use std::alloc::Global;
+use types::budget::Budget;
 
-/// What the words ask.
-#[derive(Clone, Copy, PartialEq, Eq, Debug)]
-pub enum Request<'w> {
-    /// `run FILE`: run the program as tasks.
-    Run { file: &'w str },
-    /// `serial FILE`: run it on one thread.
-    Serial { file: &'w str },
-    /// `check FILE`: tell whether it would be run. `check FILE --list`: write its listing.
-    Check { file: &'w str, list: bool },
-}
-
-impl<'w> Request<'w> {
-    /// The file that is named.
-    pub fn file(&self) -> &'w str
-        ensures { result.now ≡ file_of self.now }
-    {
-        match self {
-            Request::Run { file } => file,
-            Request::Serial { file } => file,
-            Request::Check { file, .. } => file,
-        }
-    }
-}
-
-/// Reads the words behind the program's name. What names a command and a file, and no more, is read here; all else,
-/// as options, help and mistakes, by `clap`.
+/// Reads the words behind the program's name. What names a command, a file and options behind it, in their order, is
+/// read here; all else, as other orders, help and mistakes, by `clap`.
 pub fn request_of<'w>(alloc: Global, words: &'w [String]) -> Result<Request<'w>, Error>
-    ensures { (a : Asked) (file : List ℕ) → Asks (map string_bytes words.now) a file
-        → IsOkAnd result (IsRequest a file) }
+    ensures { (a : Asked) → Asks (map string_bytes words.now) a
+        → IsOkAnd result (λ r. asked_of r ≡ a) }
 {
     match plain_request(words) {
         Some(request) => Ok(request),
@@ -44,55 +26,238 @@ pub fn request_of<'w>(alloc: Global, words: &'w [String]) -> Result<Request<'w>,
     }
 }
 
-/// The request of words that name a command and a file, and no more. No word at all means `run -`.
+/// The request of words that ask plainly.
 fn plain_request<'w>(words: &'w [String]) -> Option<Request<'w>>
-    ensures { option_map plain result ≡ read (map string_bytes words.now) }
+    ensures { (a : Asked) → Asks (map string_bytes words.now) a
+        → IsSomeAnd result (λ r. asked_of r ≡ a) }
+{
+    let line = line_in(words)?;
+    let settings = settings_in(line.texts)?;
+    Some(Request {
+        command: line.command,
+        file: line.file,
+        settings,
+    })
+}
+
+// ---- settings
+
+/// What stands behind the options of a command line, as it is written.
+#[derive(Clone, Copy)]
+pub struct Texts<'w> {
+    pub input: Option<&'w str>,
+    pub steps: Option<&'w str>,
+    pub nest: Option<&'w str>,
+    pub arrays: bool,
+}
+
+/// The settings that texts say, where they are right.
+fn settings_in<'w>(texts: Texts<'w>) -> Option<Settings<'w>>
+    ensures { (o : Options) → AreRight o → texts_of texts.entry ≡ texts_by o
+        → IsSomeAnd result (λ s. settings_of s ≡ settings_by o) }
+{
+    let input = file_or_none(texts.input)?;
+    let steps = number_or(texts.steps, 1_000_000)?;
+    let nest = number_or(texts.nest, 100)?;
+    let budget = Budget::new(steps, nest)?;
+    Some(Settings {
+        input,
+        budget,
+        arrays: texts.arrays,
+    })
+}
+
+/// The name of a file, if it is one; or that none is named.
+fn file_or_none<'w>(name: Option<&'w str>) -> Option<Option<&'w str>>
+    ensures { let named = option_map (λ n. n.now) name.entry in
+        IfSome named (λ n. names_file n ≡ true) → option_map (option_map (λ n. n.now)) result ≡ Some named }
+{
+    match name {
+        Some(name) if !is_file_name(name) => None,
+        _ => Some(name),
+    }
+}
+
+/// A number in decimal; the usual one where there is no text.
+fn number_or(text: Option<&str>, usual: u64) -> Option<u64>
+    ensures { (n : Option ℕ) → IfSome n (λ m. m < 2 ^ 64)
+        → option_map (λ t. t.now) text.entry ≡ option_map decimal n
+        → result ≡ Some (unwrap_or n usual) }
+{
+    match text {
+        None => Some(usual),
+        Some(text) => u64::from_str_radix(text, 10).ok(),
+    }
+}
+
+// ---- lines
+
+/// A command line that names a command, a file and options behind it.
+#[derive(Clone, Copy)]
+pub struct Line<'w> {
+    pub command: Command,
+    pub file: &'w str,
+    pub texts: Texts<'w>,
+}
+
+/// The line of words. No word at all means `run -`.
+fn line_in<'w>(words: &'w [String]) -> Option<Line<'w>>
+    ensures { option_map line_of result ≡ read (map string_bytes words.now) }
 {
     match words {
-        [] => Some(Request::Run { file: "-" }),
-        [command, file] => request_of_two(command.as_str(), file.as_str()),
-        [command, one, other] => {
-            request_of_three(command.as_str(), one.as_str(), other.as_str())
-        }
-        _ => None,
+        [] => Some(bare(Command::Run, "-")),
+        [_] => None,
+        [command, file, behind @ ..] => line_behind(command.as_str(), file.as_str(), behind),
     }
 }
 
-/// The request of a command and a file.
-fn request_of_two<'w>(command: &str, file: &'w str) -> Option<Request<'w>>
-    ensures { option_map plain result ≡ read_two command.now file.now }
+/// The line of a command and the words behind it.
+fn line_behind<'w>(command: &str, file: &'w str, behind: &'w [String]) -> Option<Line<'w>>
+    ensures { option_map line_of result
+        ≡ read_behind command.now file.now (map string_bytes behind.now) }
 {
-    if !is_file_name(file) {
-        None
-    } else if command == "run" {
-        Some(Request::Run { file })
+    if command == "run" {
+        run_line(Command::Run, file, behind)
     } else if command == "serial" {
-        Some(Request::Serial { file })
+        run_line(Command::Serial, file, behind)
     } else if command == "check" {
-        Some(Request::Check { file, list: false })
+        check_line(file, behind)
+    } else if command == "mhp" {
+        alone_line(Command::Pairs, file, behind)
     } else {
         None
     }
 }
 
-/// The request of `check`, its option and a file, in either order.
-fn request_of_three<'w>(command: &str, one: &'w str, other: &'w str) -> Option<Request<'w>>
-    ensures { option_map plain result ≡ read_three command.now one.now other.now }
+/// A line of a command that runs.
+fn run_line<'w>(command: Command, file: &'w str, behind: &'w [String]) -> Option<Line<'w>>
+    ensures { option_map line_of result
+        ≡ read_run command file.now (map string_bytes behind.now) }
 {
-    if command != "check" {
-        None
-    } else if one == "--list" && is_file_name(other) {
-        Some(Request::Check {
-            file: other,
-            list: true,
-        })
-    } else if other == "--list" && is_file_name(one) {
-        Some(Request::Check {
-            file: one,
-            list: true,
+    if is_file_name(file) {
+        let texts = texts_in(behind)?;
+        Some(Line {
+            command,
+            file,
+            texts,
         })
     } else {
         None
+    }
+}
+
+/// The texts behind options: `--input FILE --steps N --nest N --arrays`, each of which may be left out.
+fn texts_in<'w>(words: &'w [String]) -> Option<Texts<'w>>
+    ensures { option_map texts_of result ≡ read_texts (map string_bytes words.now) }
+{
+    let (input, words) = take("--input", words);
+    let (steps, words) = take("--steps", words);
+    let (nest, words) = take("--nest", words);
+    let arrays = arrays_in(words)?;
+    Some(Texts {
+        input,
+        steps,
+        nest,
+        arrays,
+    })
+}
+
+/// The value behind an option that stands first, and the words behind both.
+fn take<'w>(option: &str, words: &'w [String]) -> (Option<&'w str>, &'w [String])
+    ensures value { option_map (λ v. v.now) result.0
+        ≡ (taken option.now (map string_bytes words.now)).0 }
+    ensures behind { map string_bytes result.1.now
+        ≡ (taken option.now (map string_bytes words.now)).1 }
+{
+    match words {
+        [] => (None, words),
+        [_] => (None, words),
+        [first, value, behind @ ..] => {
+            if first.as_str() == option {
+                (Some(value.as_str()), behind)
+            } else {
+                (None, words)
+            }
+        }
+    }
+}
+
+/// Whether the arrays are asked for, where the words say nothing else.
+fn arrays_in(words: &[String]) -> Option<bool>
+    ensures { result ≡ read_arrays (map string_bytes words.now) }
+{
+    match words {
+        [] => Some(false),
+        [last] => {
+            if last.as_str() == "--arrays" {
+                Some(true)
+            } else {
+                None
+            }
+        }
+        [_, _, ..] => None,
+    }
+}
+
+/// A line of `check`: a file, with its option before or behind it, or without it.
+fn check_line<'w>(one: &'w str, others: &'w [String]) -> Option<Line<'w>>
+    ensures { option_map line_of result ≡ read_check one.now (map string_bytes others.now) }
+{
+    match others {
+        [] => file_line(Command::Check, one),
+        [other] => listing_line(one, other.as_str()),
+        [_, _, ..] => None,
+    }
+}
+
+/// A line of `check --list`.
+fn listing_line<'w>(one: &'w str, other: &'w str) -> Option<Line<'w>>
+    ensures { option_map line_of result ≡ read_listing one.now other.now }
+{
+    if one == "--list" && is_file_name(other) {
+        Some(bare(Command::Listing, other))
+    } else if other == "--list" {
+        file_line(Command::Listing, one)
+    } else {
+        None
+    }
+}
+
+/// A line of a command that takes a file alone.
+fn alone_line<'w>(command: Command, file: &'w str, behind: &'w [String]) -> Option<Line<'w>>
+    ensures { option_map line_of result
+        ≡ read_alone command file.now (map string_bytes behind.now) }
+{
+    match behind {
+        [] => file_line(command, file),
+        [_, ..] => None,
+    }
+}
+
+/// A line of a command and a file alone.
+fn file_line<'w>(command: Command, file: &'w str) -> Option<Line<'w>>
+    ensures { option_map line_of result ≡ read_file command file.now }
+{
+    if is_file_name(file) {
+        Some(bare(command, file))
+    } else {
+        None
+    }
+}
+
+/// A command and a file, without options.
+fn bare<'w>(command: Command, file: &'w str) -> Line<'w>
+    ensures { line_of result ≡ bare_line command file.now }
+{
+    Line {
+        command,
+        file,
+        texts: Texts {
+            input: None,
+            steps: None,
+            nest: None,
+            arrays: false,
+        },
     }
 }
 
@@ -105,64 +270,4 @@ fn is_file_name(word: &str) -> bool
         [_] => true,
         [first, _, ..] => *first != b'-',
     }
-}
-
-/// The request that `clap` finds in the words.
-fn request_by_clap<'w>(alloc: Global, words: &'w [String]) -> Result<Request<'w>, Error> {
-    let matches = command(alloc)?.try_get_matches_from(words)?;
-    match matches.subcommand() {
-        Some(("serial", given)) => Ok(Request::Serial {
-            file: file_in(given),
-        }),
-        Some(("check", given)) => Ok(Request::Check {
-            file: file_in(given),
-            list: given.get_flag("list"),
-        }),
-        Some((_, given)) => Ok(Request::Run {
-            file: file_in(given),
-        }),
-        None => Ok(Request::Run { file: "-" }),
-    }
-}
-
-/// The file among the words of a command.
-fn file_in<'w>(given: &ArgMatches<'w>) -> &'w str {
-    given.get_str("FILE").unwrap_or("-")
-}
-
-/// The commands and their arguments.
-fn command<'w>(alloc: Global) -> Result<Command<'w>, AllocError> {
-    let run = Command::new(alloc, "run")
-        .about("Runs a program as tasks")
-        .arg(file(alloc))?;
-    let serial = Command::new(alloc, "serial")
-        .about("Runs a program on one thread")
-        .arg(file(alloc))?;
-    let check = Command::new(alloc, "check")
-        .about("Tells whether a program would be run")
-        .arg(file(alloc))?
-        .arg(list(alloc))?;
-    Command::new(alloc, "afx")
-        .bin_name("afx")?
-        .about("Checks and runs programs of tasks")
-        .no_binary_name(true)
-        .subcommand_required(true)
-        .subcommand(run)?
-        .subcommand(serial)?
-        .subcommand(check)
-}
-
-/// The file of a program.
-fn file<'w>(alloc: Global) -> Arg<'w> {
-    Arg::new(alloc, "FILE")
-        .help("The program; - is the standard input")
-        .required(true)
-}
-
-/// The option of `check`.
-fn list<'w>(alloc: Global) -> Arg<'w> {
-    Arg::new(alloc, "list")
-        .long("list")
-        .help("Writes the program, each statement behind its label")
-        .action(ArgAction::SetTrue)
 }

@@ -1,111 +1,195 @@
 //! What each command does with the text of its file.
 
-ghost use Rattle.std.specs.Prelude.{◌≡◌, ◌≢◌, map, IfOk, IfErr, IsErrAnd, Some, false};
+ghost use Rattle.std.specs.Prelude.{◌≡◌, map, IfOk, IfErr};
+ghost use Rattle.std.specs.List.{flat_map};
 ghost use Rattle.std.specs.Str.{chars};
 ghost use Rattle.syntax.specs.Lexical.{AreTokensOf};
 ghost use Rattle.syntax.specs.Spelling.{spelling};
 ghost use Rattle.syntax.specs.Tree.{program as tree_of};
-ghost use Rattle.types.specs.Contents.{FitsArrays};
-ghost use Rattle.types.specs.Resolution.{resolution};
-ghost use Rattle.types.specs.Rules.{BreaksNoRule};
-ghost use Rattle.types.specs.Translation.{array, input as lists_of, outcome as outcome_of};
+ghost use Rattle.types.specs.Translation.{array, outcome as outcome_of};
 ghost use Rattle.types.specs.Typed.{code_of, program_of as program_in};
-ghost use Rattle.driver.specs.Answers.{Does, Explains, IsCodeOf, zeros as zeros_of};
+ghost use Rattle.parallel_relation.specs.Pairs.{ArePairs, pairs_left};
+ghost use Rattle.driver.specs.Answers.{Does, IsCodeOf, TellsNoCode, TellsNotAccepted};
 ghost use Rattle.driver.specs.Appending.{Writes};
+ghost use Rattle.driver.specs.Held.{Held};
+ghost use Rattle.driver.specs.Labels.{pair_text};
 ghost use Rattle.driver.specs.OutcomeText.{outcome_text, status_of};
-ghost use Rattle.driver.specs.Requests.{Asked, asked_of, run as asked_run, serial as asked_serial};
-ghost use Rattle.driver.specs.Requests.{check as asked_check, list as asked_list};
+ghost use Rattle.driver.specs.Requests.{Settings as SettingsOf, settings as settings_of};
 
-use crate::command_line::Request;
-use crate::emit::{append, emit};
+use crate::emit::{append, emit, emit_pairs};
 use crate::failure::Failure;
+use crate::files::FileSource;
+use crate::input_file::input_of;
+use crate::labels::accepted_line;
+use crate::request::{Command, Request, Settings};
+use effects::laws::typed_programs_are_sound;
+use effects::summaries::summarize;
+use parallel_relation::pairs::{PairList, Pairs, may_run_together};
+use race_checker::accepted::Accepted;
+use race_checker::check::Refused;
 use std::alloc::{AllocError, Global};
 use std::io::Write;
 use syntax::tree::Program;
-use types::budget::Budget;
 use types::check::type_check;
 use types::code::Array;
 use types::first_part::first_part;
-use types::input::Input;
 use types::outcome::Outcome;
 use types::typed::Typed;
 
 /// What is asked of the text of a program.
-pub fn perform<O: Write>(
+pub fn perform<F: FileSource, O: Write>(
     alloc: Global,
     request: Request<'_>,
     text: &str,
+    files: &mut F,
     out: &mut O,
 ) -> Result<u8, Failure>
-    ensures { Does (asked_of request.entry) text.now
-        (O.contents out.old) (O.contents out.new) result }
+    ensures { Does request.entry.command (settings_of request.entry.settings)
+        (F.held files.old) text.now (O.contents out.old) (O.contents out.new) result }
 {
-    match request {
-        Request::Run { .. } => run_as_tasks(alloc, text, out),
-        Request::Serial { .. } => run_serially(alloc, text, out),
-        Request::Check { list: true, .. } => list(alloc, text, out),
-        Request::Check { list: false, .. } => reject(alloc, text),
+    match request.command {
+        Command::Run => run_as_tasks(alloc, request.settings, text, files, out),
+        Command::Serial => run_serially(alloc, request.settings, text, files, out),
+        Command::Check => check(alloc, text, out),
+        Command::Listing => list(alloc, text, out),
+        Command::Pairs => pairs(alloc, text, out),
     }
 }
 
-/// `run`: runs the program task by task on zeros, under the usual budget, and writes its outcome; gives the
-/// exit status.
-fn run_as_tasks<O: Write>(alloc: Global, text: &str, out: &mut O) -> Result<u8, Failure>
-    ensures { Does asked_run text.now (O.contents out.old) (O.contents out.new) result }
+/// `run`: runs the program task by task, and writes its outcome; gives the exit status.
+fn run_as_tasks<F: FileSource, O: Write>(
+    alloc: Global,
+    settings: Settings<'_>,
+    text: &str,
+    files: &mut F,
+    out: &mut O,
+) -> Result<u8, Failure>
+    ensures { Does Command.Run (settings_of settings.entry) (F.held files.old) text.now
+        (O.contents out.old) (O.contents out.new) result }
 {
-    let typed = served(alloc, text)?;
+    let typed = typed_of(alloc, text)?;
+    if !first_part(&typed) {
+        return Err(Failure::NotYet);
+    }
     let accepted = match workers::check::check(alloc, typed) {
         Ok(accepted) => accepted,
         Err(refused) => return Err(Failure::of_refused(alloc, refused)),
     };
-    let input = zeros(alloc, accepted.typed())?;
-    match workers::run::run(alloc, &accepted, &input, Budget::usual()) {
-        Ok(outcome) => show(out, &accepted.typed().code().arrays, &outcome),
+    let input = input_of(alloc, files, accepted.typed(), settings.input)?;
+    match workers::run::run(alloc, &accepted, &input, settings.budget) {
+        Ok(outcome) => {
+            let arrays = &accepted.typed().code().arrays;
+            show(out, arrays, &outcome, settings.arrays)
+        }
         Err(error) => Err(Failure::Run(error)),
     }
 }
 
-/// `serial`: runs the program on one thread on zeros, under the usual budget, and writes its outcome; gives the
-/// exit status.
-fn run_serially<O: Write>(alloc: Global, text: &str, out: &mut O) -> Result<u8, Failure>
-    ensures { Does asked_serial text.now (O.contents out.old) (O.contents out.new) result }
+/// `serial`: runs the program on one thread, and writes its outcome; gives the exit status.
+fn run_serially<F: FileSource, O: Write>(
+    alloc: Global,
+    settings: Settings<'_>,
+    text: &str,
+    files: &mut F,
+    out: &mut O,
+) -> Result<u8, Failure>
+    ensures { Does Command.Serial (settings_of settings.entry) (F.held files.old) text.now
+        (O.contents out.old) (O.contents out.new) result }
 {
-    let typed = served(alloc, text)?;
-    let input = zeros(alloc, &typed)?;
-    match serial_run::serial(alloc, &typed, &input, Budget::usual()) {
-        Ok(outcome) => show(out, &typed.code().arrays, &outcome),
+    let typed = typed_of(alloc, text)?;
+    let input = input_of(alloc, files, &typed, settings.input)?;
+    match serial_run::serial(alloc, &typed, &input, settings.budget) {
+        Ok(outcome) => show(out, &typed.code().arrays, &outcome, settings.arrays),
         Err(_) => Err(Failure::NoMemory),
     }
 }
 
-/// `check --list`: writes the listing of a program that breaks no rule.
-fn list<O: Write>(alloc: Global, text: &str, out: &mut O) -> Result<u8, Failure>
-    ensures { Does asked_list text.now (O.contents out.old) (O.contents out.new) result }
+/// `check`: tells how many procedures and labels an accepted program has.
+fn check<O: Write>(alloc: Global, text: &str, out: &mut O) -> Result<u8, Failure>
+    ensures { (s : SettingsOf) (held : Held) → Does Command.Check s held text.now
+        (O.contents out.old) (O.contents out.new) result }
 {
-    let typed = typed_of(alloc, text)?;
-    let Ok(listing) = syntax::listing(alloc, typed.program()) else {
+    let accepted = accepted_of(alloc, text)?;
+    let line = accepted_line(alloc, accepted.typed().code())?;
+    answer(out, line.as_str())
+}
+
+/// `check --list`: writes the listing of an accepted program.
+fn list<O: Write>(alloc: Global, text: &str, out: &mut O) -> Result<u8, Failure>
+    ensures { (s : SettingsOf) (held : Held) → Does Command.Listing s held text.now
+        (O.contents out.old) (O.contents out.new) result }
+{
+    let accepted = accepted_of(alloc, text)?;
+    let Ok(listing) = syntax::listing(alloc, accepted.typed().program()) else {
         return Err(Failure::NoMemory);
     };
-    match append(out, listing.as_bytes()) {
+    answer(out, listing.as_str())
+}
+
+/// Writes an answer whose status is 0.
+fn answer<O: Write>(out: &mut O, text: &str) -> Result<u8, Failure>
+    ensures text { Writes (O.contents out.old) (O.contents out.new) result text.now }
+    ensures status { IfOk result (λ status. status ≡ 0) }
+    ensures failure { IfErr result (λ failure. failure ≡ Failure.CannotWriteOutput) }
+{
+    match append(out, text.as_bytes()) {
         Ok(()) => Ok(0),
         Err(_) => Err(Failure::CannotWriteOutput),
     }
 }
 
-/// `check`, which no program passes as yet: tells why this one doesn't.
-fn reject(alloc: Global, text: &str) -> Result<u8, Failure>
-    ensures { IsErrAnd result (λ f.
-        (f ≢ Failure.CannotWriteOutput) × Explains asked_check text.now f) }
+/// `mhp`: writes the pairs of labels of a program that may run together.
+fn pairs<O: Write>(alloc: Global, text: &str, out: &mut O) -> Result<u8, Failure>
+    ensures { (s : SettingsOf) (held : Held) → Does Command.Pairs s held text.now
+        (O.contents out.old) (O.contents out.new) result }
 {
-    typed_of(alloc, text)?;
-    Err(Failure::NotYet)
+    let typed = typed_of(alloc, text)?;
+    let Ok(pairs) = pairs_of(alloc, &typed) else {
+        return Err(Failure::NoMemory);
+    };
+    answer_pairs(out, pairs.list())
+}
+
+/// The pairs of labels of a program that may run together.
+fn pairs_of(alloc: Global, typed: &Typed) -> Result<Pairs, AllocError>
+    ensures { IfOk result (ArePairs (code_of typed.now)) }
+{
+    typed_programs_are_sound(typed);
+    let summaries = summarize(alloc, typed)?;
+    may_run_together(alloc, typed, &summaries)
+}
+
+/// Writes pairs of labels, a line each; the status is 0.
+fn answer_pairs<O: Write>(out: &mut O, pairs: PairList<'_>) -> Result<u8, Failure>
+    ensures text { Writes (O.contents out.old) (O.contents out.new) result
+        (flat_map pair_text (pairs_left pairs.entry)) }
+    ensures status { IfOk result (λ status. status ≡ 0) }
+    ensures failure { IfErr result (λ failure. failure ≡ Failure.CannotWriteOutput) }
+{
+    match emit_pairs(out, pairs) {
+        Ok(()) => Ok(0),
+        Err(_) => Err(Failure::CannotWriteOutput),
+    }
+}
+
+/// The program of a text, where it breaks no rule and has no race.
+fn accepted_of(alloc: Global, text: &str) -> Result<Accepted, Failure>
+    ensures spelled { IfOk result (λ a. AreTokensOf (chars text.now) (spelling (program_in a.typed))) }
+    ensures why { IfErr result (TellsNotAccepted text.now) }
+{
+    let typed = typed_of(alloc, text)?;
+    typed_programs_are_sound(&typed);
+    match race_checker::check::check(alloc, typed) {
+        Ok(accepted) => Ok(accepted),
+        Err(Refused::OutOfMemory) => Err(Failure::NoMemoryInCheck),
+        Err(Refused::Race { race, typed }) => Err(Failure::of_race(alloc, typed.code(), race)),
+    }
 }
 
 /// The program that a text spells.
 fn program_of(alloc: Global, text: &str) -> Result<Program, Failure>
     ensures spelled { IfOk result (λ p. AreTokensOf (chars text.now) (spelling (tree_of p))) }
-    ensures why { IfErr result (λ f. (a : Asked) → Explains a text.now f) }
-    ensures failure { IfErr result (λ f. f ≢ Failure.CannotWriteOutput) }
+    ensures why { IfErr result (TellsNoCode text.now) }
 {
     match syntax::parse(alloc, text) {
         Ok(program) => Ok(program),
@@ -116,10 +200,8 @@ fn program_of(alloc: Global, text: &str) -> Result<Program, Failure>
 /// The program that a text spells, where it breaks no rule.
 fn typed_of(alloc: Global, text: &str) -> Result<Typed, Failure>
     ensures spelled { IfOk result (λ t. AreTokensOf (chars text.now) (spelling (program_in t))) }
-    ensures right { IfOk result (λ t. BreaksNoRule (program_in t)) }
-    ensures code { IfOk result (λ t. resolution (program_in t) ≡ Some (code_of t)) }
-    ensures why { IfErr result (λ f. (a : Asked) → Explains a text.now f) }
-    ensures failure { IfErr result (λ f. f ≢ Failure.CannotWriteOutput) }
+    ensures code { IfOk result (λ t. IsCodeOf text.now (code_of t)) }
+    ensures why { IfErr result (TellsNoCode text.now) }
 {
     let program = program_of(alloc, text)?;
     match type_check(alloc, program) {
@@ -128,41 +210,20 @@ fn typed_of(alloc: Global, text: &str) -> Result<Typed, Failure>
     }
 }
 
-/// The program of a text, where it is served by a run. So far these are the programs of the first part.
-fn served(alloc: Global, text: &str) -> Result<Typed, Failure>
-    ensures code { IfOk result (λ t. IsCodeOf text.now (code_of t)) }
-    ensures run { IfErr result (Explains asked_run text.now) }
-    ensures serial { IfErr result (Explains asked_serial text.now) }
-    ensures failure { IfErr result (λ f. f ≢ Failure.CannotWriteOutput) }
-{
-    let typed = typed_of(alloc, text)?;
-    if first_part(&typed) {
-        Ok(typed)
-    } else {
-        Err(Failure::NotYet)
-    }
-}
-
-/// An input of zeros.
-fn zeros(alloc: Global, typed: &Typed) -> Result<Input, Failure>
-    ensures zeros { IfOk result (λ i. lists_of i ≡ zeros_of (code_of typed.now)) }
-    ensures fits { IfOk result (λ i. FitsArrays (code_of typed.now).arrays (lists_of i)) }
-    ensures failure { IfErr result (λ failure. failure ≡ Failure.NoMemory) }
-{
-    match Input::zeros(alloc, typed) {
-        Ok(input) => Ok(input),
-        Err(_) => Err(Failure::NoMemory),
-    }
-}
-
-/// Writes an outcome, and gives its exit status: 0 ended, 2 ended with faults, 3 stopped.
-pub fn show<O: Write>(out: &mut O, declared: &[Array], outcome: &Outcome) -> Result<u8, Failure>
+/// Writes an outcome, with the arrays if they are asked for, and gives its exit status: 0 ended, 2 ended with faults,
+/// 3 stopped.
+pub fn show<O: Write>(
+    out: &mut O,
+    declared: &[Array],
+    outcome: &Outcome,
+    arrays: bool,
+) -> Result<u8, Failure>
     ensures text { Writes (O.contents out.old) (O.contents out.new) result
-        (outcome_text (map array declared.now) false (outcome_of outcome.now)) }
+        (outcome_text (map array declared.now) arrays (outcome_of outcome.now)) }
     ensures status { IfOk result (λ status. status ≡ status_of (outcome_of outcome.now)) }
     ensures failure { IfErr result (λ failure. failure ≡ Failure.CannotWriteOutput) }
 {
-    if emit(out, outcome, declared, false).is_err() {
+    if emit(out, outcome, declared, arrays).is_err() {
         return Err(Failure::CannotWriteOutput);
     }
     match outcome {

@@ -1,4 +1,4 @@
-//! The text of an outcome.
+//! The text of an outcome, and of pairs of labels.
 
 ghost use Rattle.std.specs.Prelude.{◌++◌, codes, map};
 ghost use Rattle.std.specs.Fmt.{decimal, signed_decimal};
@@ -7,9 +7,12 @@ ghost use Rattle.types.specs.Translation.{array, fault as fault_of, outcome as o
 ghost use Rattle.driver.specs.Appending.{Writes};
 ghost use Rattle.driver.specs.OutcomeText.{outcome_text, line_text, joined_text, spaced_text, fault_text};
 ghost use Rattle.driver.specs.OutcomeText.{array_text};
+ghost use Rattle.driver.specs.Labels.{pair_text};
+ghost use Rattle.parallel_relation.specs.Pairs.{pairs_left};
 ghost use Rattle.types.specs.Names.{path_text, kind_text};
 
 use itoa::Buffer;
+use parallel_relation::pairs::PairList;
 use std::io::Write;
 use types::code::{Array, Label};
 use types::fault::{Fault, FaultKind};
@@ -202,6 +205,27 @@ fn emit_number<W: Write>(out: &mut W, number: &i64) -> Result<(), EmitError>
 {
     let mut buffer = Buffer::new();
     append(out, buffer.format(*number).as_bytes())
+}
+
+/// Pairs of labels, a line each.
+pub fn emit_pairs<W: Write>(out: &mut W, pairs: PairList<'_>) -> Result<(), EmitError>
+    ensures { Writes (W.contents out.old) (W.contents out.new) result
+        (flat_map pair_text (pairs_left pairs.entry)) }
+{
+    for (one, other) in pairs {
+        emit_pair(out, one, other)?;
+    }
+    Ok(())
+}
+
+/// `3 6`
+fn emit_pair<W: Write>(out: &mut W, one: Label, other: Label) -> Result<(), EmitError>
+    ensures { Writes (W.contents out.old) (W.contents out.new) result (pair_text (one, other)) }
+{
+    emit_label(out, one)?;
+    append(out, b" ")?;
+    emit_label(out, other)?;
+    append(out, b"\n")
 }
 
 /// A label, a part of a path, or a part of a place, in decimal.

@@ -3,24 +3,36 @@
 ghost use Rattle.std.specs.Prelude.{◌≡◌, IfOk, slice_get};
 ghost use Rattle.std.specs.String.{string_bytes};
 ghost use Rattle.driver.specs.FailureStatus.{failure_status};
-ghost use Rattle.driver.specs.Failures.{TellsUnread, TellsNotUtf8, TellsRefusal, access_text, kind_of, name_of};
+ghost use Rattle.types.specs.Translation.{procedure as plain_procedure, program};
+ghost use Rattle.effects.specs.Translation.{access as access_of};
+ghost use Rattle.race_checker.specs.Translation.{race as race_of};
+ghost use Rattle.driver.specs.Failures.{IsMainRace, IsRaceOf, TellsNotUtf8, TellsRaceIn, TellsRefusal, TellsUnread};
+ghost use Rattle.driver.specs.Failures.{access_text, array_text, kind_of, name_of, section_text, told_procedure};
+ghost use Rattle.driver.specs.Failures.{section_name as name_of_section};
 
-use sections::id::ArrayId;
+use race_checker::race::Race;
+use sections::id::{ArrayId, SectionId};
 use std::alloc::{AllocError, Global};
 use syntax::error::SyntaxError;
-use types::code::Array;
+use types::code::{Array, Label, Procedure, Program};
 use types::error::TypeError;
+use types::ids::ProcedureId;
+use types::input_error::InputError;
 use workers::check::Refused;
-use workers::race::Access;
+use workers::race::Meeting;
 use workers::run::RunError;
 
 /// Why a command ended without its answer. `message::emit_message` writes its line.
 #[derive(Debug, Drop)]
 pub enum Failure {
     /// `cannot read program.afx`
-    CannotRead { name: String },
+    CannotRead {
+        name: String,
+    },
     /// `not UTF-8 program.afx`
-    NotUtf8 { name: String },
+    NotUtf8 {
+        name: String,
+    },
     /// `S2 at 1:13`
     Syntax(SyntaxError),
     /// `Y1 at label 2`
@@ -28,9 +40,15 @@ pub enum Failure {
     /// `Z1`: a program that isn't served yet.
     NotYet,
     /// `C1 race in main: 2 write a, 4 read a`
-    Race { first: String, second: String },
+    Race {
+        procedure: String,
+        first: String,
+        second: String,
+    },
     /// `C2`
     NoMemoryInCheck,
+    /// `N4 a`
+    Input(InputError),
     /// `E1` or `E3`
     Run(RunError),
     /// `cannot write output`
@@ -48,6 +66,7 @@ impl Failure {
             Failure::Syntax(SyntaxError::OutOfMemory) => 4,
             Failure::Types(TypeError::OutOfMemory) => 4,
             Failure::NoMemoryInCheck => 4,
+            Failure::Input(InputError::OutOfMemory) => 4,
             Failure::Run(RunError::OutOfMemory) => 4,
             Failure::NoMemory => 4,
             Failure::Run(RunError::Gather(_)) => 5,
@@ -75,33 +94,122 @@ impl Failure {
         }
     }
 
-    /// A program that the race check refuses.
+    /// A program in which `run` finds a race.
     pub fn of_refused(alloc: Global, refused: Refused) -> Failure
         ensures { TellsRefusal refused result }
     {
         match refused {
             Refused::OutOfMemory => Failure::NoMemoryInCheck,
             Refused::Race { race, typed } => {
-                let arrays = &typed.code().arrays;
-                match (
-                    told(alloc, arrays, race.first),
-                    told(alloc, arrays, race.second),
-                ) {
-                    (Ok(first), Ok(second)) => Failure::Race { first, second },
-                    _ => Failure::NoMemoryInCheck,
+                match race_in_main(alloc, &typed.code().arrays, race) {
+                    Ok(failure) => failure,
+                    Err(AllocError) => Failure::NoMemoryInCheck,
                 }
             }
         }
     }
+
+    /// A program in which `check` finds a race.
+    pub fn of_race(alloc: Global, code: &Program, race: Race) -> Failure
+        ensures { TellsRaceIn (program code.now) (race_of race) result }
+    {
+        match race_in(alloc, procedure_of(code, race.procedure), race) {
+            Ok(failure) => failure,
+            Err(AllocError) => Failure::NoMemoryInCheck,
+        }
+    }
+}
+
+/// A race of `main`, told by the names of arrays.
+fn race_in_main(alloc: Global, arrays: &[Array], race: Meeting) -> Result<Failure, AllocError>
+    ensures { IfOk result (IsMainRace arrays.now race) }
+{
+    Ok(Failure::Race {
+        procedure: String::from_str(alloc, "main")?,
+        first: array_told(alloc, arrays, race.first)?,
+        second: array_told(alloc, arrays, race.second)?,
+    })
+}
+
+/// An access of an array.
+fn array_told(
+    alloc: Global,
+    arrays: &[Array],
+    access: workers::race::Access,
+) -> Result<String, AllocError>
+    ensures { IfOk result (λ text. string_bytes text ≡ array_text arrays.now access) }
+{
+    told(
+        alloc,
+        access.label,
+        access.write,
+        array_name(arrays, access.array),
+    )
+}
+
+/// The name of an array.
+fn array_name(arrays: &[Array], array: ArrayId) -> &str
+    ensures { result.now ≡ name_of (slice_get arrays.now array.number) }
+{
+    match arrays.get(array.number) {
+        Some(array) => array.name.as_str(),
+        None => "",
+    }
+}
+
+/// The procedure of a number; `main` stands behind the others.
+fn procedure_of(code: &Program, procedure: ProcedureId) -> &Procedure
+    ensures { plain_procedure result.now ≡ told_procedure (program code.now) procedure.number }
+{
+    match code.procedures.get(procedure.number) {
+        Some(procedure) => procedure,
+        None => &code.main,
+    }
+}
+
+/// A race of a procedure, told by the names of its sections.
+fn race_in(alloc: Global, procedure: &Procedure, race: Race) -> Result<Failure, AllocError>
+    ensures { IfOk result (IsRaceOf (plain_procedure procedure.now) (race_of race)) }
+{
+    Ok(Failure::Race {
+        procedure: procedure.name.clone()?,
+        first: section_told(alloc, procedure, race.first)?,
+        second: section_told(alloc, procedure, race.second)?,
+    })
+}
+
+/// An access of a section.
+fn section_told(
+    alloc: Global,
+    procedure: &Procedure,
+    access: effects::access::Access,
+) -> Result<String, AllocError>
+    ensures { IfOk result (λ text. string_bytes text
+        ≡ section_text (plain_procedure procedure.now) (access_of access)) }
+{
+    told(
+        alloc,
+        access.label,
+        access.write,
+        section_name(procedure, access.section),
+    )
+}
+
+/// The name of a section.
+fn section_name(procedure: &Procedure, section: SectionId) -> &str
+    ensures { result.now ≡ name_of_section (plain_procedure procedure.now) section.number }
+{
+    match procedure.section_names.get(section.number) {
+        Some(name) => name.as_str(),
+        None => "",
+    }
 }
 
 /// An access as the message tells it: `2 write a`.
-fn told(alloc: Global, arrays: &[Array], access: Access) -> Result<String, AllocError>
-    ensures { IfOk result (λ text. string_bytes text ≡ access_text arrays.now access) }
+fn told(alloc: Global, label: Label, write: bool, name: &str) -> Result<String, AllocError>
+    ensures { IfOk result (λ text. string_bytes text ≡ access_text label write name.now) }
 {
-    let label = access.label;
-    let kind = kind(access.write);
-    let name = name(arrays, access.array);
+    let kind = kind(write);
     format!(in alloc; "{label} {kind} {name}")
 }
 
@@ -110,14 +218,4 @@ fn kind(write: bool) -> &'static str
     ensures { result.now ≡ kind_of write }
 {
     if write { "write" } else { "read" }
-}
-
-/// The name of an array.
-fn name(arrays: &[Array], array: ArrayId) -> &str
-    ensures { result.now ≡ name_of (slice_get arrays.now array.number) }
-{
-    match arrays.get(array.number) {
-        Some(array) => array.name.as_str(),
-        None => "",
-    }
 }

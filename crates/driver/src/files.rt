@@ -1,8 +1,10 @@
 //! Where the program finds what its words name.
 
-ghost use Rattle.std.specs.Prelude.{◌≡◌, ℕ, List, Option, None, MatchResult};
-ghost use Rattle.driver.specs.Acts.{Bytes, IsGiven};
+ghost use Rattle.std.specs.Prelude.{◌≡◌, ℕ, List, Option, None, IfOk, IfErr, MatchResult};
+ghost use Rattle.driver.specs.Held.{Held, IsGiven, TellsNoText};
 
+use crate::failure::Failure;
+use std::alloc::Global;
 use std::io::{ErrorKind, Read};
 use std::rt::Files;
 use std::{fs, io};
@@ -19,12 +21,30 @@ pub enum FileError {
 /// Files by their names.
 pub trait FileSource {
     /// What a name is known to give: None where nobody can know it, as of the machine's files.
-    ghost held: { Self → List ℕ → Option Bytes } = { λ _ _. None };
+    ghost held: { Self → Held } = { λ _ _. None };
 
     /// What a file holds.
     fn read(&mut self, name: &str) -> Result<Vec<u8>, FileError>
-        ensures { let held = held self.old name.now in
-            MatchResult result (λ v. IsGiven held (Ok v.items)) (λ e. IsGiven held (Err e)) };
+        ensures given { let known = held self.old name.now in
+            MatchResult result (λ v. IsGiven known (Ok v.items)) (λ e. IsGiven known (Err e)) }
+        ensures keeps { held self.new ≡ held self.old };
+}
+
+/// What a file holds, or the failure that says why there is nothing.
+pub fn read_file<F: FileSource>(
+    alloc: Global,
+    files: &mut F,
+    name: &str,
+) -> Result<Vec<u8>, Failure>
+    ensures given { IfOk result (λ v. IsGiven (F.held files.old name.now) (Ok v.items)) }
+    ensures why { IfErr result (TellsNoText (F.held files.old) name.now) }
+    ensures keeps { F.held files.new ≡ F.held files.old }
+{
+    match files.read(name) {
+        Ok(bytes) => Ok(bytes),
+        Err(FileError::NoMemory) => Err(Failure::NoMemory),
+        Err(FileError::Failed) => Err(Failure::cannot_read(alloc, name)),
+    }
 }
 
 /// The files of the machine; `-` is the standard input.

@@ -3,9 +3,13 @@
 #![tactic(auto)]
 
 pub mod act;
+pub mod by_clap;
 pub mod command_line;
 pub mod commands;
 pub mod emit;
 pub mod failure;
 pub mod files;
+pub mod input_file;
+pub mod labels;
 pub mod message;
+pub mod request;

@@ -2,6 +2,7 @@
 
 ghost use Rattle.std.specs.Prelude.{◌++◌, codes};
 ghost use Rattle.types.specs.Codes.{error_text, labelled};
+ghost use Rattle.types.specs.InputErrors.{text_of as input_text};
 ghost use Rattle.driver.specs.Appending.{Writes};
 ghost use Rattle.driver.specs.Messages.{at_place, failure_text, race_text, syntax_text};
 
@@ -12,6 +13,7 @@ use syntax::Place;
 use syntax::error::SyntaxError;
 use types::code::Label;
 use types::error::TypeError;
+use types::input_error::InputError;
 
 /// Writes the line of a failure, with its line feed.
 pub fn emit_message<W: Write>(err: &mut W, failure: &Failure) -> Result<(), EmitError>
@@ -32,8 +34,13 @@ fn emit_failure<W: Write>(err: &mut W, failure: &Failure) -> Result<(), EmitErro
         Failure::Syntax(error) => emit_syntax_error(err, error),
         Failure::Types(error) => emit_type_error(err, *error),
         Failure::NotYet => emit_text(err, "Z1"),
-        Failure::Race { first, second } => emit_race(err, first.as_str(), second.as_str()),
+        Failure::Race {
+            procedure,
+            first,
+            second,
+        } => emit_race(err, procedure.as_str(), first.as_str(), second.as_str()),
         Failure::NoMemoryInCheck => emit_text(err, "C2"),
+        Failure::Input(error) => emit_input_error(err, error),
         Failure::Run(error) => emit_text(err, error.code()),
         Failure::CannotWriteOutput => emit_text(err, "cannot write output"),
         Failure::NoMemory => emit_text(err, "no memory"),
@@ -98,12 +105,31 @@ fn emit_at_label<W: Write>(err: &mut W, code: &str, label: Label) -> Result<(), 
 }
 
 /// `C1 race in main: 2 write a, 4 read a`
-fn emit_race<W: Write>(err: &mut W, first: &str, second: &str) -> Result<(), EmitError>
+fn emit_race<W: Write>(
+    err: &mut W,
+    procedure: &str,
+    first: &str,
+    second: &str,
+) -> Result<(), EmitError>
     ensures { Writes (W.contents err.old) (W.contents err.new) result
-        (race_text first.now second.now) }
+        (race_text procedure.now first.now second.now) }
 {
-    emit_text(err, "C1 race in main: ")?;
-    emit_text(err, first)?;
-    emit_text(err, ", ")?;
-    emit_text(err, second)
+    emit_named(err, "C1 race in ", procedure)?;
+    emit_named(err, ": ", first)?;
+    emit_named(err, ", ", second)
+}
+
+/// `N4 a`
+fn emit_input_error<W: Write>(err: &mut W, error: &InputError) -> Result<(), EmitError>
+    ensures { Writes (W.contents err.old) (W.contents err.new) result (input_text error.now) }
+{
+    match error {
+        InputError::NotJson => emit_text(err, "N1"),
+        InputError::NotAnObject => emit_text(err, "N2"),
+        InputError::UnknownArray { name } => emit_named(err, "N3 ", name.as_str()),
+        InputError::WrongNumberOfLists => emit_text(err, "N4"),
+        InputError::WrongLength { name } => emit_named(err, "N4 ", name.as_str()),
+        InputError::WrongElement { name } => emit_named(err, "N5 ", name.as_str()),
+        InputError::OutOfMemory => emit_text(err, "N6"),
+    }
 }

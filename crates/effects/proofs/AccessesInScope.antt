@@ -13,6 +13,7 @@ use Rattle.effects.specs.Effects.{past_split, past_call, renamed, Inner, AllOf, 
 use Rattle.effects.specs.Sound.{may_write, is_writable, Allowed, SplitsWell, PassesWell, Follows, FollowsOf}
 use Rattle.effects.specs.Sound.{IsSoundIn, IsSound, parameters_of}
 use Rattle.effects.proofs.Members.{false_true, numbers_from-below}
+use Rattle.effects.proofs.OwnAllowed.{own_allowed}
 
 pub origin_from_get : (origins : List Origin) (k : ℕ) → slice_get origins k ≡ Some Root → origin_of origins k ≡ Root
 origin_from_get [] k e = refl
@@ -93,15 +94,15 @@ module _ (p : Program) where
         → ((g : Procedure) (scope : List ℕ) → IsNumbered g.sections → Follows p g scope b → Allowed g scope x)
         → (g : Procedure) (scope : List ℕ) → IsNumbered g.sections → FollowsOf p g scope s
         → Allowed g scope (renamed out x)
-    through Inner.if_body x deeper g scope numbered k = deeper g scope numbered k.0
-    through Inner.if_other x deeper g scope numbered k = deeper g scope numbered k.1
-    through Inner.while x deeper g scope numbered k = deeper g scope numbered k
+    through Inner.if_body x deeper g scope numbered k = deeper g scope numbered k.1
+    through Inner.if_other x deeper g scope numbered k = deeper g scope numbered k.2
+    through Inner.while x deeper g scope numbered k = deeper g scope numbered k.1
     through (Inner.split {s = s} {l = l} {r = r}) x deeper g scope numbered k =
-        let a = deeper g (l ∷ r ∷ scope) numbered k.1 in
+        let a = deeper g (l ∷ r ∷ scope) numbered k.2 in
         past_split_allowed g scope numbered s l r k.0 x a.in_scope a.writable
     through (Inner.call {f = f} {ss = ss}) x deeper g scope numbered k =
         let callee = sound.procedures f in
-        past_call_allowed g scope f ss callee k x (deeper (procedure_of p f) (parameters_of (procedure_of p f)) callee.numbered callee.body)
+        past_call_allowed g scope f ss callee k.passes x (deeper (procedure_of p f) (parameters_of (procedure_of p f)) callee.numbered callee.body)
 
     mutual
       -- what a statement may do is in scope, and is written only where that is allowed
@@ -116,8 +117,8 @@ module _ (p : Program) where
 
       pub allowed : {b : Codes} {x : Access} → All p accesses b x
           → (g : Procedure) (scope : List ℕ) → IsNumbered g.sections → Follows p g scope b → Allowed g scope x
-      allowed (All.here h) g scope numbered k = allowed_of h g scope numbered k.0 k.1
-      allowed (All.later h) g scope numbered k = allowed h g scope numbered k.2
+      allowed (All.here {l = l} {s = s} h) g scope numbered k = allowed_of h g scope numbered (own_allowed p g scope l s k.0) k.0
+      allowed (All.later h) g scope numbered k = allowed h g scope numbered k.1
 
   mutual
     -- what is left pending is among all

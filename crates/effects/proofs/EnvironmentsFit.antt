@@ -15,7 +15,7 @@ use Rattle.types.specs.Run.{array_of, no_array, bind, by_number, entry, with_sid
 use Rattle.types.specs.Outcome.{whole_arrays}
 use Rattle.types.proofs.Lists.{whole_array-by_number}
 use Rattle.effects.specs.Effects.{past_call}
-use Rattle.effects.specs.Sound.{may_write, SplitsWell, PassesWell, IsSoundIn, parameters_of, as_parameter, main_of}
+use Rattle.effects.specs.Sound.{may_write, SplitsWell, PassesWell, IsSoundIn, parameters_of, as_parameter, HasArrays}
 use Rattle.effects.specs.Fits.{LiesInArray, Fits, names_in}
 use Rattle.effects.proofs.Members.{numbers_from-below}
 use Rattle.effects.proofs.AccessesInScope.{origin_from_get}
@@ -221,19 +221,21 @@ array_at [] k h = absurd (omega arith)
 array_at (x ∷ xs) zero h = refl
 array_at (x ∷ xs) (suc k) h = array_at xs k (omega arith)
 
-module _ (p : Program) (sound : IsSoundIn p (main_of p)) where
-  whole : (k : ℕ) → Member k (parameters_of (main_of p))
+module _ (p : Program) (sound : IsSoundIn p p.main) (arrays : HasArrays p) where
+  whole : (k : ℕ) → Member k (parameters_of p.main)
       → by_number nowhere (whole_arrays 0 p.arrays) k ≡ record { array = k; at = 0; length = (array_of p k).length }
-  whole k m = whole_array-by_number p.arrays k (array_of p k) (array_at p.arrays k (numbers_from-below (length (main_of p).parameters) k m))
+  whole k m =
+      let lt = numbers_from-below (length p.main.parameters) k m in
+      whole_array-by_number p.arrays k (array_of p k) (array_at p.arrays k (subst (λ ps. k < length ps) arrays lt))
 
-  pub fits_at_start : Fits p (main_of p) (parameters_of (main_of p)) (entry [] (whole_arrays 0 p.arrays))
+  pub fits_at_start : Fits p p.main (parameters_of p.main) (entry [] (whole_arrays 0 p.arrays))
   fits_at_start = record {
     lies = λ k m. subst (LiesInArray p) (sym (whole k m)) (omega arith);
     placed = record {
       apart = λ j k ne m n e f w. subst (λ v. Apart (by_number nowhere (whole_arrays 0 p.arrays) j) v) (sym (whole k n))
           (subst (λ v. Apart v (record { array = k; at = 0; length = (array_of p k).length })) (sym (whole j m))
           (λ q x y. ne (sym x.array ∙ y.array)));
-      left = λ s l m e. root_left (first_root p (main_of p) sound l m) e;
-      right = λ s r m e. root_right (first_root p (main_of p) sound r m) e;
+      left = λ s l m e. root_left (first_root p p.main sound l m) e;
+      right = λ s r m e. root_right (first_root p p.main sound r m) e;
     };
   }

@@ -1,10 +1,10 @@
 -- Truth values, and elements of lists.
-use Rattle.std.proofs.Common.{◌≡◌, ◌≢◌, ◌⊎◌, inl, inr, ℕ, zero, suc, ◌+◌, ◌<◌, ◌≤◌, List, [], ◌∷◌, ◌++◌, map, refl}
-use Rattle.std.proofs.Common.{sym, ◌∙◌, arith, true≢false}
+use Rattle.std.proofs.Common.{◌≡◌, ◌≢◌, ◌⊎◌, inl, inr, ℕ, List, [], ◌∷◌, ◌++◌, map, refl}
+use Rattle.std.proofs.Common.{sym, ◌∙◌, true≢false}
 use Rattle.std.proofs.lemmas.Bool.{eq-eqb}
 use Rattle.std.specs.Prelude.{Bool, true, false, ◌&&◌, ◌||◌, not, nat_eq}
 use Rattle.sections.specs.Member.{Member, first, next}
-use Rattle.effects.specs.Sound.{numbers_from}
+pub use Rattle.types.proofs.NumbersFrom.{numbers_from-member, numbers_from-below}
 
 pub false_true : {A : Type 0} → false ≡ true → A
 false_true h = absurd (true≢false (sym h))
@@ -58,15 +58,3 @@ pub from_map : {A B : Type 0} (f : A → B) {y : B} (xs : List A) → Member y (
 from_map f [] h = elim h [ ]
 from_map f (x ∷ xs) first = (x, first, refl)
 from_map f (x ∷ xs) (next h) = let r = from_map f xs h in (r.0, next r.1, r.2)
-
-numbers_from-bounds : (a n s : ℕ) → Member s (numbers_from a n) → (a ≤ s) × (s < a + n)
-numbers_from-bounds a zero s h = elim h [ ]
-numbers_from-bounds a (suc n) s first = (omega arith, omega arith)
-numbers_from-bounds a (suc n) s (next h) =
-    let k = numbers_from-bounds (a + 1) n s h in
-    let low : a + 1 ≤ s = k.0 in
-    let high : s < a + 1 + n = k.1 in
-    (omega arith, omega arith)
-
-pub numbers_from-below : (n s : ℕ) → Member s (numbers_from 0 n) → s < n
-numbers_from-below n s h = let k : s < 0 + n = (numbers_from-bounds 0 n s h).1 in omega arith

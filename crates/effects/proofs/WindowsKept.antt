@@ -78,19 +78,24 @@ module _ (p : Program) {X : Type 0} where
 
     module _ (deeper : Work → State X → State X)
         (deeper_keeps : (scope : List ℕ) (l : ℕ) (t : Truth) (b : Codes) → Follows p g scope b → Keeps scope (deeper (Turn l t b))) where
+      -- a turn of a loop, where its block does and further turns do
+      while_keeps : (t : Truth) (b : Codes) (l : ℕ) (scope : List ℕ) → Keeps scope (block p r deeper b) → Keeps scope (deeper (Turn l t b))
+          → Keeps scope (act p r deeper l (While t b))
+      while_keeps t b l scope inner further st =
+          value_keeps scope l (truth_at st t) (choose (λ s. go_on (deeper (Turn l t b)) (block p r deeper b s)) (λ s. s)) st (λ v.
+          choose_keeps scope (λ s. go_on (deeper (Turn l t b)) (block p r deeper b s)) (λ s. s) v st
+          (λ st. then_keep scope st (block p r deeper b st) (go_on (deeper (Turn l t b)) (block p r deeper b st))
+          (inner st)
+          (at_flow_keeps scope (block p r deeper b st).flow (block p r deeper b st) (deeper (Turn l t b)) further))
+          (λ st s m. refl))
+
       mutual
         pub act_keeps : (s : Code) (l : ℕ) (scope : List ℕ) → FollowsOf p g scope s → Keeps scope (act p r deeper l s)
         act_keeps (Do s) l scope k st = primitive_keeps scope l s st
         act_keeps (If t b c) l scope k st =
             value_keeps scope l (truth_at st t) (choose (block p r deeper b) (block p r deeper c)) st (λ v.
-            choose_keeps scope (block p r deeper b) (block p r deeper c) v st (block_keeps b scope k.0) (block_keeps c scope k.1))
-        act_keeps (While t b) l scope k st =
-            value_keeps scope l (truth_at st t) (choose (λ s. go_on (deeper (Turn l t b)) (block p r deeper b s)) (λ s. s)) st (λ v.
-            choose_keeps scope (λ s. go_on (deeper (Turn l t b)) (block p r deeper b s)) (λ s. s) v st
-            (λ st. then_keep scope st (block p r deeper b st) (go_on (deeper (Turn l t b)) (block p r deeper b st))
-            (block_keeps b scope k st)
-            (at_flow_keeps scope (block p r deeper b st).flow (block p r deeper b st) (deeper (Turn l t b)) (deeper_keeps scope l t b k)))
-            (λ st s m. refl))
+            choose_keeps scope (block p r deeper b) (block p r deeper c) v st (block_keeps b scope k.1) (block_keeps c scope k.2))
+        act_keeps (While t b) l scope k st = while_keeps t b l scope (block_keeps b scope k.1) (deeper_keeps scope l t b k.1) st
         act_keeps (Split s e x y b) l scope k st =
             value_keeps scope l (number_at st e)
             (λ v. with_value l (ok_or (sides_of (window_at st s) v) SplitPoint)
@@ -98,7 +103,7 @@ module _ (p : Program) {X : Type 0} where
             value_keeps scope l (ok_or (sides_of (window_at st s) v) SplitPoint)
             (λ ws st. block p r deeper b (record st { environment = with_sides x y ws st.environment })) st (λ ws.
             λ z m. at_other p g scope st.environment s x y k.0 ws z m
-            ∙ block_keeps b (x ∷ y ∷ scope) k.1 (record st { environment = with_sides x y ws st.environment }) z (next (next m))))
+            ∙ block_keeps b (x ∷ y ∷ scope) k.2 (record st { environment = with_sides x y ws st.environment }) z (next (next m))))
         act_keeps (Call f es ss) l scope k st =
             value_keeps scope l (numbers_at st es)
             (λ vs. in_environment (entry vs (map (window_at st) ss)) (deeper (Block (procedure_of p f).body))) st (λ vs s m. refl)
@@ -114,14 +119,14 @@ module _ (p : Program) {X : Type 0} where
             (go_on (block p r deeper rest) (with_step (λ st. act p r deeper l s (counted r s st)) st))
             (spend_keeps scope st.steps st (λ st. act p r deeper l s (counted r s st))
             (λ st. then_keep scope st (counted r s st) (act p r deeper l s (counted r s st)) (counted_keeps scope s st)
-            (act_keeps s l scope k.1 (counted r s st))))
+            (act_keeps s l scope k.0 (counted r s st))))
             (at_flow_keeps scope (with_step (λ st. act p r deeper l s (counted r s st)) st).flow
-            (with_step (λ st. act p r deeper l s (counted r s st)) st) (block p r deeper rest) (block_keeps rest scope k.2))
+            (with_step (λ st. act p r deeper l s (counted r s st)) st) (block p r deeper rest) (block_keeps rest scope k.1))
 
       work_keeps : (w : Work) (scope : List ℕ) → WorkFollows p g scope w → Keeps scope (work p r deeper w)
       work_keeps (Block b) scope k st = block_keeps b scope k st
       work_keeps (Turn l t b) scope k st = spend_keeps scope st.steps st (λ st. act p r deeper l (While t b) (counted r (While t b) st))
-          (λ st. act_keeps (While t b) l scope k (counted r (While t b) st))
+          (λ st. while_keeps t b l scope (block_keeps b scope k) (deeper_keeps scope l t b k) (counted r (While t b) st))
 
     within_keeps : (n : ℕ) (w : Work) (scope : List ℕ) → WorkFollows p g scope w → Keeps scope (within p r n w)
     within_keeps zero w scope k st = λ s m. refl

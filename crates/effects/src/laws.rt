@@ -15,6 +15,7 @@ ghost use Rattle.types.specs.Run.{State, Rules, Work, run, primitive, procedure_
 ghost use Rattle.types.specs.Run.{with_sides};
 ghost use Rattle.types.specs.Meaning.{one_rules};
 ghost use Rattle.types.specs.Outcome.{whole_arrays};
+ghost use Rattle.types.specs.Typed.{code_of};
 ghost use Rattle.effects.specs.Accesses.{Access, own_accesses, reads};
 ghost use Rattle.effects.specs.Effects.{accesses, labels, AllOf, All, PendingOf, Pending};
 ghost use Rattle.effects.specs.Rows.{AllInside, LeftBy, SolvesAll, SolvesPending};
@@ -26,9 +27,16 @@ ghost use Rattle.effects.specs.Tables.{IsDerived, IsDerivedPending, IsStable, Is
 ghost use Rattle.effects.specs.Rounds.{possible, summaries, pending_summaries, needs_of};
 ghost use Rattle.effects.specs.Needs.{Provides, needs_in};
 ghost use Rattle.effects.specs.Sound.{Allowed, SplitsWell, PassesWell, is_writable};
-ghost use Rattle.effects.specs.Sound.{parameters_of, main_of, IsSoundIn, IsSound};
+ghost use Rattle.effects.specs.Sound.{parameters_of, HasArrays, IsSoundIn, IsSound};
 ghost use Rattle.effects.specs.Fits.{Fits};
 ghost use Rattle.effects.specs.Kept.{SameWindows, KeepsWindows, WorkFollows};
+
+use types::typed::Typed;
+
+/// Every well-typed program is sound: the typing rules and the resolution of names give it.
+pub fn typed_programs_are_sound(typed: &Typed)
+    ensures { IsSound (code_of typed.now) }
+{}
 
 /// All and Pending are solutions of the table's rows, and the least of them: of accesses, and of
 /// labels.
@@ -116,11 +124,8 @@ pub fn stable_tables_provide_needs()
 /// Where the type rules hold, all that a procedure may do is in the scope of its parameters, and
 /// it writes only what it may write.
 pub fn accesses_are_in_scope()
-    ensures procedure { (p : Program) → IsSound p → (f : ℕ) (x : Access)
-        → All p accesses (procedure_of p f).body x
-        → Allowed (procedure_of p f) (parameters_of (procedure_of p f)) x }
-    ensures main { (p : Program) → IsSound p → (x : Access)
-        → All p accesses p.main.body x → Allowed (main_of p) (parameters_of (main_of p)) x }
+    ensures { (p : Program) → IsSound p → (g : Procedure) → IsSoundIn p g → (x : Access)
+        → All p accesses g.body x → Allowed g (parameters_of g) x }
 {}
 
 /// A value depends only on places that reads of its sections may touch, and a statement of one step
@@ -141,8 +146,8 @@ pub fn steps_keep_to_their_own_accesses<X>()
 /// The environment of `main` fits at its start, and it stays so: in the block of a split, behind
 /// it, and in the body of a call. Only the windows in scope matter.
 pub fn environments_fit()
-    ensures start { (p : Program) → IsSoundIn p (main_of p)
-        → Fits p (main_of p) (parameters_of (main_of p)) (entry [] (whole_arrays 0 p.arrays)) }
+    ensures start { (p : Program) → IsSoundIn p p.main → HasArrays p
+        → Fits p p.main (parameters_of p.main) (entry [] (whole_arrays 0 p.arrays)) }
     ensures inside_split { (p : Program) (g : Procedure) (scope : List ℕ) (env : Environment)
         → Fits p g scope env → (s l r : ℕ) → SplitsWell g scope s l r
         → (v : ℤ) (ws : Window × Window) → sides_of (env.windows s) v ≡ Some ws

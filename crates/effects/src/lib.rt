@@ -2,4 +2,20 @@
 
 #![tactic(auto)]
 
+pub mod access;
+pub mod accesses;
+pub mod closing;
+pub mod firsts;
+pub mod flows;
+pub mod indexed;
+pub mod label_set;
 pub mod laws;
+pub mod outlines;
+pub mod own;
+pub mod roots;
+pub mod starts;
+pub mod summaries;
+pub mod summary;
+pub mod tables;
+pub mod uses;
+pub mod visits;

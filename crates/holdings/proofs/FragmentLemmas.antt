@@ -15,15 +15,15 @@ first_of-assoc : (a b c : Option ℤ) → first_of a (first_of b c) ≡ first_of
 first_of-assoc (Some x) b c = refl
 first_of-assoc None b c = refl
 
-first_of-none : (a : Option ℤ) → first_of a None ≡ a
+pub first_of-none : (a : Option ℤ) → first_of a None ≡ a
 first_of-none (Some x) = refl
 first_of-none None = refl
 
-first_none : (a b : Option ℤ) → first_of a b ≡ None → (a ≡ None) × (b ≡ None)
+pub first_none : (a b : Option ℤ) → first_of a b ≡ None → (a ≡ None) × (b ≡ None)
 first_none None b e = (refl, e)
 first_none (Some x) b e = cc
 
-append_at : (xs ys : List Fragment) (q : Place) → numbers_in (xs ++ ys) q ≡ first_of (numbers_in xs q) (numbers_in ys q)
+pub append_at : (xs ys : List Fragment) (q : Place) → numbers_in (xs ++ ys) q ≡ first_of (numbers_in xs q) (numbers_in ys q)
 append_at [] ys q = refl
 append_at (x ∷ xs) ys q = ap (first_of (numbers_of x q)) (append_at xs ys q) ∙ first_of-assoc (numbers_of x q) (numbers_in xs q) (numbers_in ys q)
 
@@ -43,6 +43,12 @@ pub numbers_in-take_more : (fs : List Fragment) (i : ℕ) (f : Fragment) → i <
     → numbers_in (take (i + 1) fs) ≡ over (numbers_in (take i fs)) (numbers_of f)
 numbers_in-take_more fs i f lt is =
     ap numbers_in (take_more fs i f lt ∙ ap (λ g. take i fs ++ g ∷ []) (sym is)) ∙ numbers_in-pushed (take i fs) f
+
+-- an item of a list that has two names
+pub same_item : {X : Type 0} (xs ys : List X) (i : ℕ) (x : X) → xs ≡ ys → i < length xs → x ≡ get_or xs i x → (i < length ys) × (x ≡ get_or ys i x)
+same_item {X = X} xs ys i x e lt is =
+    let P : List X → Type 0 = λ zs. (i < length zs) × (x ≡ get_or zs i x) in
+    subst P e (lt, is)
 
 -- those so far don't have a place, and the next hasn't
 pub none_more : (fs : List Fragment) (i : ℕ) (f : Fragment) (q : Place) → i < length fs → f ≡ get_or fs i f
@@ -71,19 +77,19 @@ numbers_of-at f q i at =
     let same : q.index - f.first ≡ i = omega (arith, at.index) in
     row_at-here f.array.number f.first f.numbers.items q at.array le ∙ ap (slice_get f.numbers.items) same
 
+pub get_within : (ns : List ℤ) (i : ℕ) → i < length ns → slice_get ns i ≡ None → ⊥
+get_within [] i lt e = absurd (omega (arith, lt))
+get_within (n ∷ ns) zero lt e = cc
+get_within (n ∷ ns) (suc i) lt e = get_within ns i (omega (arith, lt)) e
+
 -- what the first fragment that has a place says of it
 pub numbers_in-first : (fs : List Fragment) (number i : ℕ) (f : Fragment) (q : Place) → f ≡ get_or fs number f
     → number < length fs → numbers_in (take number fs) q ≡ None → IsAt f q i → numbers_in fs q ≡ slice_get f.numbers.items i
 numbers_in-first [] number i f q is lt none at = absurd (omega (arith, lt))
 numbers_in-first (g ∷ gs) zero i f q is lt none at =
     let here = ap (λ h. first_of (numbers_of h q) (numbers_in gs q)) (sym is) in
-    here ∙ by_number (numbers_of f q) (slice_get f.numbers.items i) (numbers_of-at f q i at) (there f.numbers.items i at.inside)
+    here ∙ by_number (numbers_of f q) (slice_get f.numbers.items i) (numbers_of-at f q i at) (get_within f.numbers.items i at.inside)
   where
-    there : (ns : List ℤ) (i : ℕ) → i < length ns → slice_get ns i ≡ None → ⊥
-    there [] i lt e = absurd (omega (arith, lt))
-    there (n ∷ ns) zero lt e = cc
-    there (n ∷ ns) (suc i) lt e = there ns i (omega (arith, lt)) e
-
     by_number : (a b : Option ℤ) → a ≡ b → (b ≡ None → ⊥) → first_of a (numbers_in gs q) ≡ b
     by_number (Some x) b e some = e
     by_number None b e some = absurd (some (sym e))
@@ -144,7 +150,7 @@ written_later : (b : Bool) (v : ℤ) (x rest : Option ℤ) → (b ≡ true → x
 written_later true v x rest none = ap (λ o. first_of o (Some v)) (none refl)
 written_later false v x rest none = refl
 
-same_place-true : (q p : Place) → same_place q p ≡ true → (q.array ≡ p.array) × (q.index ≡ p.index)
+pub same_place-true : (q p : Place) → same_place q p ≡ true → (q.array ≡ p.array) × (q.index ≡ p.index)
 same_place-true q p e = by_tests (nat_eq q.array p.array) refl (nat_eq q.index p.index) refl e
   where
     by_tests : (b : Bool) → nat_eq q.array p.array ≡ b → (c : Bool) → nat_eq q.index p.index ≡ c → (b && c) ≡ true
@@ -204,17 +210,6 @@ pub place_of_fragment : (f : Fragment) (q : Place) → (numbers_of f q ≡ None 
     → (q.array ≡ f.array.number) × (f.first ≤ q.index) × (q.index < f.first + length f.numbers.items)
 place_of_fragment f q some = row_at-some f.array.number f.first f.numbers.items q some
 
--- the others have no place of a fragment
-pub AreApart-by_offset : (f : Fragment) (m : Map ℤ)
-    → ((k : ℕ) → k < length f.numbers.items → m (record { array = f.array.number; index = f.first + k }) ≡ None)
-    → AreApart (numbers_of f) m
-AreApart-by_offset f m none q some =
-    let h = place_of_fragment f q some in
-    let k : f.first + (q.index - f.first) ≡ q.index = omega (arith, h.1) in
-    let at : record { array = f.array.number; index = f.first + (q.index - f.first) } ≡ q =
-    ap (λ i. record { array = f.array.number; index = i }) k ∙ ap (λ a. record { array = a; index = q.index }) (sym h.0) in
-    ap m (sym at) ∙ none (q.index - f.first) (omega (arith, h.1, h.2))
-
 both_none : (x y z : Option ℤ) → ((x ≡ None → ⊥) → z ≡ None) → ((y ≡ None → ⊥) → z ≡ None) → (first_of x y ≡ None → ⊥) → z ≡ None
 both_none (Some v) y z h k some = h (λ e. cc)
 both_none None y z h k some = k some
@@ -227,7 +222,7 @@ AreApart-take_more fs i f m lt is so_far here =
     (λ q. both_none (numbers_in (take i fs) q) (numbers_of f q) (m q) (so_far q) (here q))
 
 -- what a fragment of a list holds, the list holds
-held_in_list : (fs : List Fragment) (i : ℕ) (f : Fragment) (q : Place) → i < length fs → f ≡ get_or fs i f
+pub held_in_list : (fs : List Fragment) (i : ℕ) (f : Fragment) (q : Place) → i < length fs → f ≡ get_or fs i f
     → (numbers_of f q ≡ None → ⊥) → numbers_in fs q ≡ None → ⊥
 held_in_list [] i f q lt is some none = absurd (omega (arith, lt))
 held_in_list (g ∷ gs) zero f q lt is some none =

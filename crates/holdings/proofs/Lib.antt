@@ -1,5 +1,7 @@
-pub mod RowLemmas
-pub mod MapLemmas
-pub mod FragmentLemmas
+mod DisjointLemmas
 pub mod CutLemmas
+pub mod FragmentLemmas
 pub mod ListedLemmas
+pub mod MapLemmas
+pub mod RowLemmas
+mod HoldingsLemmas

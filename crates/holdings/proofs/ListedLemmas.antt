@@ -34,9 +34,6 @@ first_of-none : (a : Option ℤ) → first_of a None ≡ a
 first_of-none (Some x) = refl
 first_of-none None = refl
 
-none_at : (i : ℕ) → slice_get {X = ℤ} [] i ≡ None
-none_at i = refl
-
 listed_at : (xs : List (List ℤ)) (y : List ℤ) (n : ℕ) (q : Place) → n ≡ length xs
     → listed (xs ++ y ∷ []) q ≡ first_of (listed xs q) (row_at n 0 y q)
 listed_at xs y n q e = by_array (nat_eq q.array n) refl
@@ -62,6 +59,12 @@ listed_at xs y n q e = by_array (nat_eq q.array n) refl
         let ne = eqb-false _ _ other in
         by_side (nat_lt q.array (length xs)) refl ne
         ∙ sym (ap (first_of (listed xs q)) (row_at-elsewhere n 0 y q ne) ∙ first_of-none (listed xs q))
+
+-- none of the first lists has a place of the next array
+pub listed_none : (vs : List (Vec ℤ Global)) (i : ℕ) (q : Place) → i ≤ length vs → q.array ≡ i → listed (map (λ v. v.items) (take i vs)) q ≡ None
+listed_none vs i q le e =
+    let long : length (map (λ v. v.items) (take i vs)) ≡ i = length-map (take i vs) (λ v. v.items) ∙ length-take-le i vs le in
+    ap (λ l. slice_get l q.index) (list_past (map (λ v. v.items) (take i vs)) q.array (omega (arith, long, e)))
 
 map_behind : (vs : List (Vec ℤ Global)) (v : Vec ℤ Global) → map (λ v. v.items) (vs ++ v ∷ []) ≡ map (λ v. v.items) vs ++ v.items ∷ []
 map_behind [] v = refl

@@ -2,7 +2,7 @@
 use Rattle.std.proofs.Common.{◌≡◌, ℕ, ◌+◌, ◌<◌, ◌≤◌, List, [], ◌∷◌, ◌++◌, Option, Some, None, Bool, true, false, refl, sym, ap, ◌∙◌}
 use Rattle.std.specs.Prelude.{ℤ, ◌||◌, option_map, ok_or, is_some, if◌then◌else◌, map, Result, Ok, Err}
 use Rattle.sections.specs.Place.{Place, Window, same_place}
-use Rattle.holdings.specs.Held.{Map, Held, Owned, Shared, first_of, only, without, over, put, is_in, within, IsThere, AreApart}
+use Rattle.holdings.specs.Held.{Map, Held, Owned, Shared, first_of, only, without, over, put, IsThere, AreApart}
 use Rattle.holdings.specs.Held.{number_of, numbers, owned_number, owned, as_owned, as_shared, held_by}
 
 -- ---- at one place
@@ -53,17 +53,6 @@ pub held_by-only : (set : Place → Bool) (own copies : Map ℤ) → IsThere set
     → held_by (only set own) (λ q. None) ≡ only set (held_by own copies)
 held_by-only set own copies there = λ t q. only_at (set q) (own q) (copies q) (there q) t
 
-without_at : (b : Bool) (x y : Option ℤ)
-    → first_of (option_map Owned (if b then None else x)) (option_map Shared (if b then None else y))
-    ≡ (if b then None else first_of (option_map Owned x) (option_map Shared y))
-without_at true x y = refl
-without_at false x y = refl
-
--- and what is left
-pub held_by-without : (set : Place → Bool) (own copies : Map ℤ)
-    → held_by (without set own) (without set copies) ≡ without set (held_by own copies)
-held_by-without set own copies = λ t q. without_at (set q) (own q) (copies q) t
-
 share_at : (b : Bool) (x y : Option ℤ)
     → first_of (option_map Owned None) (option_map Shared (first_of (if b then x else None) (if b then y else None)))
     ≡ option_map Shared (if b then option_map number_of (first_of (option_map Owned x) (option_map Shared y)) else None)
@@ -74,18 +63,6 @@ share_at false x y = refl
 pub held_by-shared : (set : Place → Bool) (own copies : Map ℤ)
     → held_by (λ q. None) (over (only set own) (only set copies)) ≡ as_shared (only set (numbers (held_by own copies)))
 held_by-shared set own copies = λ t q. share_at (set q) (own q) (copies q) t
-
-over_at : (x y z : Option ℤ) → ((z ≡ None → ⊥) → x ≡ None)
-    → first_of (option_map Owned (first_of x z)) (option_map Shared y)
-    ≡ first_of (option_map Owned z) (first_of (option_map Owned x) (option_map Shared y))
-over_at x y None apart = ap (λ o. first_of (option_map Owned o) (option_map Shared y)) (first_of-none x)
-over_at x y (Some v) apart =
-    ap (λ o. first_of (option_map Owned (first_of o (Some v))) (option_map Shared y)) (apart (λ e. none_is_some (sym e)))
-
--- what was pasted
-pub held_by-pasted : (own copies pasted : Map ℤ) → AreApart pasted own
-    → held_by (over own pasted) copies ≡ over (as_owned pasted) (held_by own copies)
-held_by-pasted own copies pasted apart = λ t q. over_at (own q) (copies q) (pasted q) (apart q) t
 
 there_at : (x y : Option ℤ) → first_of (option_map Owned x) (option_map Shared y) ≡ None → first_of x y ≡ None
 there_at None None e = refl

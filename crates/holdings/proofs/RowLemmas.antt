@@ -6,14 +6,11 @@ use Rattle.std.proofs.lemmas.Option.{slice_get_past}
 use Rattle.std.specs.Prelude.{ℤ, ◌&&◌, ◌||◌, not, nat_eq, nat_le, nat_lt, slice_get, slice_range, slice_set, if◌then◌else◌}
 use Rattle.sections.specs.Place.{Place, Window, same_place}
 use Rattle.holdings.specs.Fragments.{row_at, numbers_of, numbers_in, IsAt, reach}
-use Rattle.holdings.specs.Held.{Map, first_of, is_in}
+use Rattle.holdings.specs.Held.{Map, first_of}
 use Rattle.holdings.specs.declared.fragment.Fragment.{Fragment}
 
 none_is_some : {A : Type 0} {x : A} → None ≡ Some x → ⊥
 none_is_some e = cc
-
-true_is_false : true ≡ false → ⊥
-true_is_false e = cc
 
 eq_test : (n m : ℕ) → n ≡ m → nat_eq n m ≡ true
 eq_test n m e = search rules

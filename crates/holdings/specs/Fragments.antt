@@ -1,7 +1,9 @@
--- The numbers that fragments hold. Where two of a list hold one place, the first counts.
-use Rattle.std.specs.Prelude.{ℕ, ◌+◌, ◌-◌, ◌<◌, ◌≡◌, length, min, List, [], ◌∷◌, ◌&&◌, nat_eq}
-use Rattle.std.specs.Prelude.{nat_le, ℤ, Option, None, slice_get, take, get_or, if◌then◌else◌}
-use Rattle.sections.specs.Place.{Place}
+-- The numbers that fragments hold, and which fragments stand apart.
+use Rattle.std.specs.Prelude.{ℕ, ◌+◌, ◌-◌, ◌<◌, ◌≡◌, length, min, max, List, [], ◌∷◌, Bool, true}
+use Rattle.std.specs.Prelude.{◌&&◌, ◌||◌, nat_eq, nat_le, nat_lt, ℤ, Option, None, is_none}
+use Rattle.std.specs.Prelude.{slice_get, take, get_or, if◌then◌else◌}
+use Rattle.std.specs.List.{list_any}
+use Rattle.sections.specs.Place.{Place, Window}
 use Rattle.holdings.specs.Held.{Map, first_of}
 use Rattle.holdings.specs.declared.fragment.Fragment.{Fragment}
 
@@ -14,10 +16,34 @@ row_at array first ns q =
 abbrev pub numbers_of : Fragment → Map ℤ
 numbers_of f = row_at f.array.number f.first f.numbers.items
 
--- the numbers of fragments
+-- the numbers of fragments; where two of them have a place, the first counts
 abbrev pub numbers_in : List Fragment → Map ℤ
 numbers_in [] q = None
 numbers_in (f ∷ fs) q = first_of (numbers_of f q) (numbers_in fs q)
+
+-- at most one of some fragments has a place
+abbrev pub one_at_most : List Fragment → Place → Bool
+one_at_most [] q = true
+one_at_most (f ∷ fs) q =
+    (is_none (numbers_of f q) || is_none (numbers_in fs q)) && one_at_most fs q
+
+-- no two of some fragments have a place together
+abbrev pub AreDisjoint : List Fragment → Type 0
+AreDisjoint fs = (q : Place) → one_at_most fs q ≡ true
+
+-- the places of a fragment
+abbrev pub places : Fragment → Window
+places f =
+    record { array = f.array.number; at = f.first; length = length f.numbers.items }
+
+-- whether a fragment has a place of a window
+abbrev pub meets : Window → Fragment → Bool
+meets w f = nat_eq f.array.number w.array
+    && nat_lt (max f.first w.at) (min (f.first + length f.numbers.items) (w.at + w.length))
+
+-- whether it has a place of one of some windows
+abbrev pub meets_any : List Window → Fragment → Bool
+meets_any ws f = list_any (λ w. meets w f) ws
 
 -- a place is the i-th behind the first of a fragment
 pub record IsAt (f : Fragment) (q : Place) (i : ℕ) : Type 0 where

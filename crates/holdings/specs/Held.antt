@@ -1,8 +1,7 @@
 -- What is held of the arrays: at some places a number, owned or as a copy.
-use Rattle.std.specs.Prelude.{ℕ, ◌+◌, ◌≡◌, List, Bool, true, ◌&&◌, nat_eq, nat_le, nat_lt, ℤ}
+use Rattle.std.specs.Prelude.{ℕ, ◌≡◌, ◌<◌, ◌≤◌, Bool, true, ℤ}
 use Rattle.std.specs.Prelude.{Option, Some, None, option_map, if◌then◌else◌}
-use Rattle.std.specs.List.{list_any}
-use Rattle.sections.specs.Place.{Place, Window, same_place}
+use Rattle.sections.specs.Place.{Place, same_place}
 
 -- a number that is held
 pub data Held : Type 0 where
@@ -36,17 +35,18 @@ over top below q = first_of (top q) (below q)
 abbrev pub put : {A : Type 0} → Place → A → Map A → Map A
 put p x m q = if same_place p q then Some x else m q
 
--- a place of a window
-abbrev pub is_in : Window → Place → Bool
-is_in w q = nat_eq q.array w.array && (nat_le w.at q.index && nat_lt q.index (w.at + w.length))
-
--- a place of one of some windows
-abbrev pub within : List Window → Place → Bool
-within ws q = list_any (λ w. is_in w q) ws
-
 -- there is something at each place of a set
 abbrev pub IsThere : {A : Type 0} → (Place → Bool) → Map A → Type 0
 IsThere set m = (q : Place) → set q ≡ true → m q ≡ None → ⊥
+
+-- there is nothing at a place of a set
+abbrev pub IsFree : {A : Type 0} → (Place → Bool) → Map A → Type 0
+IsFree set m = (q : Place) → set q ≡ true → m q ≡ None
+
+-- a map has the places of an array from one up to an end behind it
+pub record IsRun {A : Type 0} (m : Map A) (from : Place) (end : ℕ) : Type 0 where
+  pub behind : from.index < end
+  pub there : (i : ℕ) → from.index ≤ i → i < end → m (record from { index = i }) ≡ None → ⊥
 
 -- two maps have no place together
 abbrev pub AreApart : {A : Type 0} → Map A → Map A → Type 0

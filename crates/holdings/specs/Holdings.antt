@@ -6,7 +6,7 @@ use Rattle.holdings.specs.declared.holdings.Holdings.{Holdings}
 
 -- a partial map from places to a number and its kind
 abbrev pub held : Holdings → Map Held
-held h = held_by (numbers_in h.owned.items) (numbers_in h.shared.items)
+held h = held_by (numbers_in h.owned.list.items) (numbers_in h.shared.list.items)
 
 -- what lists hold, one for each array
 abbrev pub listed : List (List ℤ) → Map ℤ

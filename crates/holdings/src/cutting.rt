@@ -1,100 +1,133 @@
 //! Fragments cut at windows.
 
-ghost use Rattle.std.specs.Prelude.{◌≡◌, ◌≤◌, IfOk, OnOk, map};
+ghost use Rattle.std.specs.Prelude.{◌≡◌, ◌∷◌, [], IfOk, OnErr, OnOk, map, is_some, true};
+ghost use Rattle.std.specs.List.{filter};
+ghost use Rattle.sections.specs.Covers.{has, is_cover, is_in};
+ghost use Rattle.sections.specs.Place.{Place as PlaceOf};
 ghost use Rattle.sections.specs.Translation.{window as window_of};
-ghost use Rattle.holdings.specs.Fragments.{numbers_in, row_at, reach};
-ghost use Rattle.holdings.specs.Held.{is_in, only, over, within, without};
+ghost use Rattle.holdings.specs.Fragments.{meets_any, numbers_in, numbers_of};
+ghost use Rattle.holdings.specs.Held.{AreApart, only, over, without};
 
 use crate::fragment::Fragment;
-use sections::id::ArrayId;
+use crate::fragments::Fragments;
+use sections::cover::less;
 use sections::window::Window;
 use std::alloc::{AllocError, Global};
 
-/// What of some fragments lies inside of windows, and what lies outside of them.
-#[derive(Drop)]
-pub struct Parts {
-    pub inside: Vec<Fragment>,
-    pub outside: Vec<Fragment>,
-}
-
-/// Copies of fragments, cut at windows.
-pub fn cut(alloc: Global, fragments: &[Fragment], windows: &[Window]) -> Result<Parts, AllocError>
-    ensures inside { IfOk result (λ c. numbers_in c.inside.items
-        ≡ only (within (map window_of windows.now)) (numbers_in fragments.now)) }
-    ensures outside { IfOk result (λ c. numbers_in c.outside.items
-        ≡ without (within (map window_of windows.now)) (numbers_in fragments.now)) }
-{
-    let mut parts = cut_at(alloc, fragments, Window::NOWHERE)?;
-    for window in windows {
-        let mut next = cut_at(alloc, &parts.outside, *window)?;
-        parts.inside.append(&mut next.inside)?;
-        parts.outside = next.outside;
-    }
-    Ok(parts)
-}
-
-/// Copies of fragments, cut at a window.
-fn cut_at(alloc: Global, fragments: &[Fragment], window: Window) -> Result<Parts, AllocError>
-    ensures inside { IfOk result (λ c. numbers_in c.inside.items
-        ≡ only (is_in (window_of window)) (numbers_in fragments.now)) }
-    ensures outside { IfOk result (λ c. numbers_in c.outside.items
-        ≡ without (is_in (window_of window)) (numbers_in fragments.now)) }
-{
-    let mut inside = Vec::new(alloc);
-    let mut outside = Vec::new(alloc);
-    let end = window.at + window.len;
-    for fragment in fragments {
-        let array = fragment.array;
-        let first = fragment.first;
-        let numbers = fragment.numbers.as_slice();
-        let low = before(fragment, window.array, window.at);
-        let high = before(fragment, window.array, end);
-        add_part(alloc, &mut outside, array, first, &numbers[..low])?;
-        add_part(
-            alloc,
-            &mut inside,
-            array,
-            first.max(window.at),
-            &numbers[low..high],
-        )?;
-        add_part(alloc, &mut outside, array, first.max(end), &numbers[high..])?;
-    }
-    Ok(Parts { inside, outside })
-}
-
-/// How many numbers of a fragment stand before a place; all of them, where it is of another array.
-fn before(fragment: &Fragment, array: ArrayId, index: usize) -> usize
-    ensures { result ≡ reach fragment.now array.number index }
-{
-    if fragment.array.number != array.number {
-        return fragment.numbers.len();
-    }
-    fragment
-        .numbers
-        .len()
-        .min(index.saturating_sub(fragment.first))
-}
-
-/// Adds a fragment of these numbers, if there are any.
-fn add_part(
+/// Copies of what of fragments lies in the windows of a cover.
+pub fn copies(
     alloc: Global,
-    parts: &mut Vec<Fragment>,
-    array: ArrayId,
-    first: usize,
-    numbers: &[i64],
-) -> Result<(), AllocError>
-    requires { first ≤ 4194304 }
-    ensures { OnOk result (numbers_in parts.new.items
-        ≡ over (numbers_in parts.old.items) (row_at array.number first numbers.now)) }
+    fragments: &Fragments,
+    windows: &[Window],
+) -> Result<Fragments, AllocError>
+    requires { is_cover (map window_of windows.now) ≡ true }
+    ensures { IfOk result (λ c. numbers_in c.list.items
+        ≡ only (has (map window_of windows.now)) (numbers_in fragments.now.list.items)) }
 {
-    if numbers.is_empty() {
+    let mut copies = Fragments::new(alloc);
+    for fragment in &fragments.list {
+        add_parts(alloc, &mut copies, fragment, windows)?;
+    }
+    Ok(copies)
+}
+
+/// Clears the places of windows. Fragments that have none of them stay as they are.
+pub fn clear(alloc: Global, fragments: &mut Fragments, windows: &[Window]) -> Result<(), AllocError>
+    ensures cleared { OnOk result (numbers_in fragments.new.list.items
+        ≡ without (has (map window_of windows.now)) (numbers_in fragments.old.list.items)) }
+    ensures same { OnErr result (fragments.new.list.items ≡ fragments.old.list.items) }
+{
+    let mut left = rests(alloc, fragments, windows)?;
+    // Room comes first: nothing has changed where it is missing, and the rest needs none.
+    fragments.list.reserve(left.list.len())?;
+    fragments
+        .list
+        .retain(|fragment| !fragment.meets_any(windows));
+    fragments.append(&mut left)
+}
+
+/// Copies of what windows leave of the fragments that they meet.
+fn rests(alloc: Global, fragments: &Fragments, windows: &[Window]) -> Result<Fragments, AllocError>
+    ensures { IfOk result (λ c. numbers_in c.list.items ≡ without (has (map window_of windows.now))
+        (numbers_in (filter (meets_any (map window_of windows.now)) fragments.now.list.items))) }
+{
+    let mut rests = Fragments::new(alloc);
+    for fragment in &fragments.list {
+        add_rest(alloc, &mut rests, fragment, windows)?;
+    }
+    Ok(rests)
+}
+
+/// Adds copies of what windows leave of a fragment, if they meet it.
+fn add_rest(
+    alloc: Global,
+    rests: &mut Fragments,
+    fragment: &Fragment,
+    windows: &[Window],
+) -> Result<(), AllocError>
+    requires { AreApart (numbers_of fragment.now) (numbers_in rests.old.list.items) }
+    ensures { let met = filter (meets_any (map window_of windows.now)) (fragment.now ∷ []) in
+        OnOk result (numbers_in rests.new.list.items ≡ over (numbers_in rests.old.list.items)
+        (without (has (map window_of windows.now)) (numbers_in met))) }
+{
+    if !fragment.meets_any(windows) {
         return Ok(());
     }
-    let numbers = Vec::from_slice(alloc, numbers)?;
-    parts.push(Fragment {
-        array,
-        first,
-        numbers,
-    })?;
+    let left = less(alloc, &[fragment.window()], windows)?;
+    add_parts(alloc, rests, fragment, &left)
+}
+
+/// Adds copies of what of a fragment lies in the windows of a cover.
+fn add_parts(
+    alloc: Global,
+    parts: &mut Fragments,
+    fragment: &Fragment,
+    windows: &[Window],
+) -> Result<(), AllocError>
+    requires cover { is_cover (map window_of windows.now) ≡ true }
+    requires apart { AreApart (numbers_of fragment.now) (numbers_in parts.old.list.items) }
+    ensures { OnOk result (numbers_in parts.new.list.items ≡ over (numbers_in parts.old.list.items)
+        (only (has (map window_of windows.now)) (numbers_of fragment.now))) }
+{
+    for window in windows {
+        add_part(alloc, parts, fragment, *window)?;
+    }
     Ok(())
+}
+
+/// Adds a copy of what of a fragment lies in a window.
+fn add_part(
+    alloc: Global,
+    parts: &mut Fragments,
+    fragment: &Fragment,
+    window: Window,
+) -> Result<(), AllocError>
+    requires { AreApart (only (is_in (window_of window)) (numbers_of fragment.now))
+        (numbers_in parts.old.list.items) }
+    ensures { OnOk result (numbers_in parts.new.list.items ≡ over (numbers_in parts.old.list.items)
+        (only (is_in (window_of window)) (numbers_of fragment.now))) }
+{
+    let low = fragment.before(window.array, window.at);
+    let high = fragment.before(window.array, window.at + window.len);
+    if low == high {
+        return Ok(());
+    }
+    let numbers = Vec::from_slice(alloc, &fragment.numbers.as_slice()[low..high])?;
+    parts.push(Fragment {
+        array: fragment.array,
+        first: fragment.first + low,
+        numbers,
+    })
+}
+
+/// The places of fragments.
+pub fn windows(alloc: Global, fragments: &Fragments) -> Result<Vec<Window>, AllocError>
+    ensures { IfOk result (λ ws. (q : PlaceOf) → has (map window_of ws.items) q
+        ≡ is_some (numbers_in fragments.now.list.items q)) }
+{
+    let mut windows = Vec::new(alloc);
+    for fragment in &fragments.list {
+        windows.push(fragment.window())?;
+    }
+    Ok(windows)
 }

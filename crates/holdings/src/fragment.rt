@@ -1,9 +1,9 @@
 //! Numbers of neighbouring places.
 
-ghost use Rattle.std.specs.Prelude.{◌≤◌, MatchOption};
+ghost use Rattle.std.specs.Prelude.{◌≤◌, ◌+◌, length};
 
 use sections::id::ArrayId;
-use sections::window::Place;
+use sections::window::{Place, Window};
 
 /// The numbers of neighbouring places of an array, from the place `first` on.
 #[derive(Drop)]
@@ -11,13 +11,14 @@ pub struct Fragment {
     pub array: ArrayId,
     pub first: usize,
     pub numbers: Vec<i64>,
-    ghost near: { first ≤ 4194304 },
+    ghost within: { first + length numbers.items ≤ 4194304 },
 }
 
 impl Fragment {
-    ghost use Rattle.std.specs.Prelude.{◌≡◌, None, slice_get};
-    ghost use Rattle.holdings.specs.Fragments.{numbers_of, IsAt};
-    ghost use Rattle.sections.specs.Translation.{place as place_of};
+    ghost use Rattle.std.specs.Prelude.{◌≡◌, MatchOption, None, map, slice_get};
+    ghost use Rattle.holdings.specs.Fragments.{numbers_of, IsAt, places, reach};
+    ghost use Rattle.holdings.specs.Fragments.{meets as meets_as, meets_any as meets_any_as};
+    ghost use Rattle.sections.specs.Translation.{place as place_of, window as window_of};
 
     /// How far behind the first a place stands, where it is one of the fragment's.
     pub fn offset(&self, place: Place) -> Option<usize>
@@ -39,5 +40,53 @@ impl Fragment {
         ensures { result ≡ slice_get self.now.numbers.items offset }
     {
         self.numbers.get(offset).copied()
+    }
+
+    /// The place behind the last one.
+    pub fn end(&self) -> usize
+        ensures { result ≡ self.now.first + length self.now.numbers.items }
+    {
+        self.first + self.numbers.len()
+    }
+
+    /// The places of the fragment.
+    pub fn window(&self) -> Window
+        ensures { window_of result ≡ places self.now }
+    {
+        Window {
+            array: self.array,
+            at: self.first,
+            len: self.numbers.len(),
+        }
+    }
+
+    /// Whether it has a place of a window.
+    pub fn meets(&self, window: Window) -> bool
+        ensures { result ≡ meets_as (window_of window) self.now }
+    {
+        let end = window.at + window.len;
+        self.array.number == window.array.number && self.first.max(window.at) < self.end().min(end)
+    }
+
+    /// Whether it has a place of one of some windows.
+    pub fn meets_any(&self, windows: &[Window]) -> bool
+        ensures { result ≡ meets_any_as (map window_of windows.now) self.now }
+    {
+        for window in windows {
+            if self.meets(*window) {
+                return true;
+            }
+        }
+        false
+    }
+
+    /// How many of the numbers stand before a place; all of them, where it is of another array.
+    pub fn before(&self, array: ArrayId, index: usize) -> usize
+        ensures { result ≡ reach self.now array.number index }
+    {
+        if self.array.number != array.number {
+            return self.numbers.len();
+        }
+        self.numbers.len().min(index.saturating_sub(self.first))
     }
 }

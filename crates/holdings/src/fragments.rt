@@ -1,107 +1,143 @@
-//! Lists of fragments. Where two of a list hold one place, the first counts.
+//! Lists of fragments.
 
-ghost use Rattle.std.specs.Prelude.{◌≡◌, ◌↔◌, IsTrue, MatchOption, None, is_some, false, map};
-ghost use Rattle.sections.specs.Translation.{place as place_of, window as window_of};
-ghost use Rattle.holdings.specs.Fragments.{IsFirst, numbers_in, numbers_of};
-ghost use Rattle.holdings.specs.Held.{AreApart, IsThere, is_in, over, put, within};
+ghost use Rattle.std.specs.Prelude.{◌≡◌, IfSome, IsTrue, MatchOption, None, OnErr, OnOk, Some, [], false};
+ghost use Rattle.std.specs.Prelude.{◌+◌, ◌≤◌, IsOk, is_some};
+ghost use Rattle.std.specs.Vec.{vec_capacity, vec_len};
+ghost use Rattle.sections.specs.Translation.{place as place_of};
+ghost use Rattle.holdings.specs.Fragments.{AreDisjoint, IsFirst, numbers_in, numbers_of};
+ghost use Rattle.holdings.specs.Held.{AreApart, IsRun, over, put};
 
 use crate::fragment::Fragment;
-use sections::window::{Place, Window};
+use sections::window::Place;
+use std::alloc::{AllocError, Global};
+use std::cell::Cell;
 
-/// The first fragment that has a place, by its number, and how far behind its first it stands.
-pub fn find(fragments: &[Fragment], place: Place) -> Option<(usize, usize)>
-    ensures { MatchOption result (numbers_in fragments.now (place_of place) ≡ None)
-        (λ at. IsFirst fragments.now (place_of place) at.0 at.1) }
-{
-    for (number, fragment) in fragments.iter().enumerate() {
-        if let Some(offset) = fragment.offset(place) {
-            return Some((number, offset));
-        }
-    }
-    None
+/// Fragments, no two of which have a place together. A search begins with the one it found last.
+#[derive(Drop)]
+pub struct Fragments {
+    pub(crate) list: Vec<Fragment>,
+    last: Cell<usize>,
+    ghost disjoint: { AreDisjoint list.items },
 }
 
-/// The number at a place, where one of the fragments has it.
-pub fn number_at(fragments: &[Fragment], place: Place) -> Option<i64>
-    ensures { result ≡ numbers_in fragments.now (place_of place) }
-{
-    match find(fragments, place) {
-        None => None,
-        Some((number, offset)) => fragments[number].number(offset),
-    }
-}
-
-/// Writes the number at a place, where one of the fragments has it.
-pub fn write_at(fragments: &mut Vec<Fragment>, place: Place, value: i64) -> bool
-    ensures found { result ≡ is_some (numbers_in fragments.old.items (place_of place)) }
-    ensures written { IsTrue result → numbers_in fragments.new.items
-        ≡ put (place_of place) value (numbers_in fragments.old.items) }
-    ensures same { (result ≡ false) → fragments.new.items ≡ fragments.old.items }
-{
-    match find(fragments, place) {
-        None => false,
-        Some((number, offset)) => {
-            let fragment = &mut fragments[number];
-            fragment.numbers[offset] = value;
-            true
+impl Fragments {
+    /// No fragments.
+    pub fn new(alloc: Global) -> Fragments
+        ensures { result.list.items ≡ [] }
+    {
+        Fragments {
+            list: Vec::new(alloc),
+            last: Cell::new(0),
         }
     }
-}
 
-/// Whether some fragments or others have each place of a window.
-fn has_window(fragments: &[Fragment], others: &[Fragment], window: Window) -> bool
-    ensures { IsTrue result ↔ IsThere (is_in (window_of window))
-        (over (numbers_in fragments.now) (numbers_in others.now)) }
-{
-    for index in window.at..window.at + window.len {
-        let place = Place {
-            array: window.array,
-            index,
-        };
-        if number_at(fragments, place).is_none() && number_at(others, place).is_none() {
-            return false;
+    /// Adds a fragment that stands apart from them.
+    pub fn push(&mut self, fragment: Fragment) -> Result<(), AllocError>
+        requires { AreApart (numbers_of fragment) (numbers_in self.old.list.items) }
+        ensures { OnOk result (numbers_in self.new.list.items
+            ≡ over (numbers_in self.old.list.items) (numbers_of fragment)) }
+    {
+        self.list.push(fragment)?;
+        Ok(())
+    }
+
+    /// Moves others in, which stand apart from them; where memory is missing, all stay.
+    pub fn append(&mut self, others: &mut Fragments) -> Result<(), AllocError>
+        requires { AreApart (numbers_in others.old.list.items) (numbers_in self.old.list.items) }
+        ensures all { OnOk result (numbers_in self.new.list.items
+            ≡ over (numbers_in self.old.list.items) (numbers_in others.old.list.items)) }
+        ensures same { OnErr result (self.new.list.items ≡ self.old.list.items) }
+        ensures others { OnErr result (others.new.list.items ≡ others.old.list.items) }
+        ensures room { vec_len self.old.list + vec_len others.old.list ≤ vec_capacity self.old.list
+            → IsOk result }
+    {
+        self.list.append(&mut others.list)
+    }
+
+    /// How far behind its first place a fragment has a place, where it has it.
+    fn offset_in(&self, number: usize, place: Place) -> Option<usize>
+        ensures { IfSome result (IsFirst self.now.list.items (place_of place) number) }
+    {
+        if number >= self.list.len() {
+            return None;
+        }
+        self.list[number].offset(place)
+    }
+
+    /// The fragment that has a place, by its number, and how far behind its first place; all are
+    /// asked.
+    fn search(&self, place: Place) -> Option<(usize, usize)>
+        ensures { MatchOption result (numbers_in self.now.list.items (place_of place) ≡ None)
+            (λ at. IsFirst self.now.list.items (place_of place) at.0 at.1) }
+    {
+        for (number, fragment) in self.list.iter().enumerate() {
+            if let Some(offset) = fragment.offset(place) {
+                self.last.set(number);
+                return Some((number, offset));
+            }
+        }
+        None
+    }
+
+    /// The fragment that has a place, by its number, and how far behind its first place. The one
+    /// that was found last is asked first.
+    fn find(&self, place: Place) -> Option<(usize, usize)>
+        ensures { MatchOption result (numbers_in self.now.list.items (place_of place) ≡ None)
+            (λ at. IsFirst self.now.list.items (place_of place) at.0 at.1) }
+    {
+        let last = self.last.get();
+        match self.offset_in(last, place) {
+            Some(offset) => Some((last, offset)),
+            None => self.search(place),
         }
     }
-    true
-}
 
-/// Whether some fragments or others have each place of windows.
-pub fn has_all(fragments: &[Fragment], others: &[Fragment], windows: &[Window]) -> bool
-    ensures { IsTrue result ↔ IsThere (within (map window_of windows.now))
-        (over (numbers_in fragments.now) (numbers_in others.now)) }
-{
-    for window in windows {
-        if !has_window(fragments, others, *window) {
-            return false;
+    /// The number at a place, where the fragment that was found last has it.
+    pub fn number_near(&self, place: Place) -> Option<i64>
+        ensures { IfSome result (λ v. numbers_in self.now.list.items (place_of place) ≡ Some v) }
+    {
+        let last = self.last.get();
+        match self.offset_in(last, place) {
+            Some(offset) => self.list[last].number(offset),
+            None => None,
         }
     }
-    true
-}
 
-/// Whether fragments have none of a fragment's places.
-fn is_apart(fragment: &Fragment, others: &[Fragment]) -> bool
-    ensures { IsTrue result ↔ AreApart (numbers_of fragment.now) (numbers_in others.now) }
-{
-    for offset in 0..fragment.numbers.len() {
-        let place = Place {
-            array: fragment.array,
-            index: fragment.first + offset,
-        };
-        if number_at(others, place).is_some() {
-            return false;
+    /// The number at a place, where one of the fragments has it.
+    pub fn number_at(&self, place: Place) -> Option<i64>
+        ensures { result ≡ numbers_in self.now.list.items (place_of place) }
+    {
+        match self.find(place) {
+            None => None,
+            Some((number, offset)) => self.list[number].number(offset),
         }
     }
-    true
-}
 
-/// Whether some fragments and others have no place together.
-pub fn are_apart(fragments: &[Fragment], others: &[Fragment]) -> bool
-    ensures { IsTrue result ↔ AreApart (numbers_in fragments.now) (numbers_in others.now) }
-{
-    for fragment in fragments {
-        if !is_apart(fragment, others) {
-            return false;
+    /// Where the fragment ends that has a place.
+    pub fn end_of_run(&self, place: Place) -> Option<usize>
+        ensures { MatchOption result (numbers_in self.now.list.items (place_of place) ≡ None)
+            (IsRun (numbers_in self.now.list.items) (place_of place)) }
+    {
+        match self.find(place) {
+            None => None,
+            Some((number, _)) => Some(self.list[number].end()),
         }
     }
-    true
+
+    /// Writes the number at a place, where one of the fragments has it.
+    pub fn write_at(&mut self, place: Place, value: i64) -> bool
+        ensures found { result ≡ is_some (numbers_in self.old.list.items (place_of place)) }
+        ensures written { IsTrue result → numbers_in self.new.list.items
+            ≡ put (place_of place) value (numbers_in self.old.list.items) }
+        ensures same { (result ≡ false) → self.new.list.items ≡ self.old.list.items }
+    {
+        match self.find(place) {
+            None => false,
+            Some((number, offset)) => {
+                let fragment = &mut self.list[number];
+                fragment.numbers[offset] = value;
+                true
+            }
+        }
+    }
 }

@@ -1,16 +1,14 @@
 //! What a task holds of the arrays.
 
-ghost use Rattle.std.specs.Prelude.{◌≡◌, IfErr, IfOk, IsSome, None, OnErr, OnOk, map, ok_or};
-ghost use Rattle.sections.specs.Translation.{window as window_of};
-ghost use Rattle.holdings.specs.Held.{AreApart, IsThere, Owned, as_owned, as_shared, numbers, only};
-ghost use Rattle.holdings.specs.Held.{over, owned, put, within, without};
-ghost use Rattle.holdings.specs.Holdings.{held};
-ghost use Rattle.holdings.specs.Errors.{RefusesPlaces, RefusesOwned};
+ghost use Rattle.holdings.specs.Fragments.{numbers_in};
+ghost use Rattle.holdings.specs.Held.{AreApart};
 
-use crate::cutting::cut;
+use crate::cutting::{clear, copies, windows};
 use crate::error::HoldError;
 use crate::fragment::Fragment;
-use crate::fragments::{are_apart, has_all, number_at, write_at};
+use crate::fragments::Fragments;
+use crate::presence::{are_apart, has_all};
+use sections::cover::cover;
 use sections::id::ArrayId;
 use sections::window::{Place, Window};
 use std::alloc::{AllocError, Global};
@@ -18,15 +16,24 @@ use types::input::Input;
 use types::typed::Typed;
 
 /// Numbers at places of the arrays. Each is owned, so that it may be written and carved out, or a
-/// copy. An owned place hides its copy.
+/// copy.
 #[derive(Drop)]
 pub struct Holdings {
-    pub(crate) owned: Vec<Fragment>,
-    pub(crate) shared: Vec<Fragment>,
+    pub(crate) owned: Fragments,
+    pub(crate) shared: Fragments,
+    ghost apart: { AreApart (numbers_in owned.list.items) (numbers_in shared.list.items) },
 }
 
 impl Holdings {
-    ghost use Rattle.holdings.specs.Holdings.{listed};
+    ghost use Rattle.std.specs.Prelude.{◌≡◌, ◌+◌, ◌≤◌, IfErr, IfOk, IfSome, IsSome, None, OnErr, OnOk, Some};
+    ghost use Rattle.std.specs.Prelude.{is_some, map, ok_or};
+    ghost use Rattle.std.specs.Vec.{vec_len, vec_capacity};
+    ghost use Rattle.sections.specs.Covers.{has};
+    ghost use Rattle.sections.specs.Translation.{place as place_of, window as window_of};
+    ghost use Rattle.holdings.specs.Held.{IsThere, Owned, as_owned, as_shared, numbers, only};
+    ghost use Rattle.holdings.specs.Held.{over, owned, put, without};
+    ghost use Rattle.holdings.specs.Holdings.{held, listed};
+    ghost use Rattle.holdings.specs.Errors.{RefusesPlaces, RefusesOwned};
     ghost use Rattle.types.specs.Inputs.{IsInput};
     ghost use Rattle.types.specs.Translation.{input as lists_in};
     ghost use Rattle.types.specs.Typed.{code_of};
@@ -36,7 +43,7 @@ impl Holdings {
         requires { IsInput (code_of _typed.now).arrays (lists_in input.now) }
         ensures { IfOk result (λ h. held h ≡ as_owned (listed (lists_in input.now))) }
     {
-        let mut owned = Vec::new(alloc);
+        let mut owned = Fragments::new(alloc);
         for (number, list) in input.arrays.iter().enumerate() {
             let numbers = Vec::from_slice(alloc, list)?;
             owned.push(Fragment {
@@ -45,10 +52,8 @@ impl Holdings {
                 numbers,
             })?;
         }
-        Ok(Holdings {
-            owned,
-            shared: Vec::new(alloc),
-        })
+        let shared = Fragments::new(alloc);
+        Ok(Holdings { owned, shared })
     }
 
     /// The number at a place.
@@ -58,12 +63,32 @@ impl Holdings {
             HoldError.NotHeld }
     {
         let place = Place { array, index };
-        if let Some(number) = number_at(&self.owned, place) {
+        if let Some(number) = self.number_near(place) {
             return Ok(number);
         }
-        match number_at(&self.shared, place) {
+        match self.number_at(place) {
             Some(number) => Ok(number),
             None => Err(HoldError::NotHeld),
+        }
+    }
+
+    /// The number at a place, where one of the fragments that were found last has it.
+    fn number_near(&self, place: Place) -> Option<i64>
+        ensures { IfSome result (λ v. numbers (held self.now) (place_of place) ≡ Some v) }
+    {
+        match self.owned.number_near(place) {
+            Some(number) => Some(number),
+            None => self.shared.number_near(place),
+        }
+    }
+
+    /// The number at a place, where it is held.
+    fn number_at(&self, place: Place) -> Option<i64>
+        ensures { result ≡ numbers (held self.now) (place_of place) }
+    {
+        match self.owned.number_at(place) {
+            Some(number) => Some(number),
+            None => self.shared.number_at(place),
         }
     }
 
@@ -78,7 +103,7 @@ impl Holdings {
             × (owned (held self.old) (record { array = array.number; index = index }) ≡ None)) }
     {
         let place = Place { array, index };
-        if write_at(&mut self.owned, place, value) {
+        if self.owned.write_at(place, value) {
             Ok(())
         } else {
             Err(HoldError::NotHeld)
@@ -88,50 +113,44 @@ impl Holdings {
     /// Moves the places of windows out, all of which are owned.
     pub fn carve(&mut self, alloc: Global, windows: &[Window]) -> Result<Holdings, HoldError>
         ensures taken { IfOk result (λ c. held c
-            ≡ only (within (map window_of windows.now)) (held self.old)) }
+            ≡ only (has (map window_of windows.now)) (held self.old)) }
         ensures left { OnOk result (held self.new
-            ≡ without (within (map window_of windows.now)) (held self.old)) }
+            ≡ without (has (map window_of windows.now)) (held self.old)) }
         ensures owned { OnOk result
-            (IsThere (within (map window_of windows.now)) (owned (held self.old))) }
+            (IsThere (has (map window_of windows.now)) (owned (held self.old))) }
         ensures refused { IfErr result (λ e. RefusesPlaces e
-            (IsThere (within (map window_of windows.now)) (owned (held self.old)))) }
+            (IsThere (has (map window_of windows.now)) (owned (held self.old)))) }
         ensures unchanged { OnErr result (held self.new ≡ held self.old) }
     {
-        if !has_all(&self.owned, &[], windows) {
+        let shared = Fragments::new(alloc);
+        if !has_all(&self.owned, &shared, windows) {
             return Err(HoldError::NotHeld);
         }
-        let places = cut(alloc, &self.owned, windows)?;
-        let copies = cut(alloc, &self.shared, windows)?;
-        self.owned = places.outside;
-        self.shared = copies.outside;
-        Ok(Holdings {
-            owned: places.inside,
-            shared: Vec::new(alloc),
-        })
+        let owned = copies(alloc, &self.owned, &cover(alloc, windows)?)?;
+        clear(alloc, &mut self.owned, windows)?;
+        Ok(Holdings { owned, shared })
     }
 
     /// Copies of the places of windows, all of which are held.
     pub fn share(&self, alloc: Global, windows: &[Window]) -> Result<Holdings, HoldError>
         ensures shared { IfOk result (λ c. held c
-            ≡ as_shared (only (within (map window_of windows.now)) (numbers (held self.now)))) }
-        ensures held { OnOk result (IsThere (within (map window_of windows.now)) (held self.now)) }
+            ≡ as_shared (only (has (map window_of windows.now)) (numbers (held self.now)))) }
+        ensures held { OnOk result (IsThere (has (map window_of windows.now)) (held self.now)) }
         ensures refused { IfErr result (λ e. RefusesPlaces e
-            (IsThere (within (map window_of windows.now)) (held self.now))) }
+            (IsThere (has (map window_of windows.now)) (held self.now))) }
     {
         if !has_all(&self.owned, &self.shared, windows) {
             return Err(HoldError::NotHeld);
         }
-        let mut copies = cut(alloc, &self.owned, windows)?;
-        let mut others = cut(alloc, &self.shared, windows)?;
-        copies.inside.append(&mut others.inside)?;
-        Ok(Holdings {
-            owned: Vec::new(alloc),
-            shared: copies.inside,
-        })
+        let places = cover(alloc, windows)?;
+        let mut shared = copies(alloc, &self.owned, &places)?;
+        shared.append(&mut copies(alloc, &self.shared, &places)?)?;
+        let owned = Fragments::new(alloc);
+        Ok(Holdings { owned, shared })
     }
 
     /// Takes the owned places of others in; their copies are dropped.
-    pub fn paste(&mut self, other: Holdings) -> Result<(), (HoldError, Holdings)>
+    pub fn paste(&mut self, alloc: Global, other: Holdings) -> Result<(), (HoldError, Holdings)>
         ensures pasted { OnOk result (held self.new
             ≡ over (as_owned (owned (held other))) (held self.old)) }
         ensures apart { OnOk result (AreApart (owned (held other)) (owned (held self.old))) }
@@ -140,13 +159,29 @@ impl Holdings {
         ensures unchanged { IfErr result (λ e. (held self.new ≡ held self.old)
             × (held e.1 ≡ held other)) }
     {
+        let mut other = other;
         if !are_apart(&other.owned, &self.owned) {
             return Err((HoldError::OwnedTwice, other));
         }
-        let Holdings { mut owned, shared } = other;
-        match self.owned.append(&mut owned) {
+        match self.take(alloc, &mut other.owned) {
             Ok(()) => Ok(()),
-            Err(_) => Err((HoldError::OutOfMemory, Holdings { owned, shared })),
+            Err(_) => Err((HoldError::OutOfMemory, other)),
         }
+    }
+
+    /// Takes owned fragments in, in the place of copies.
+    fn take(&mut self, alloc: Global, fragments: &mut Fragments) -> Result<(), AllocError>
+        requires { AreApart (numbers_in fragments.old.list.items)
+            (numbers_in self.old.owned.list.items) }
+        ensures taken { OnOk result (held self.new
+            ≡ over (as_owned (numbers_in fragments.old.list.items)) (held self.old)) }
+        ensures unchanged { OnErr result (held self.new ≡ held self.old) }
+        ensures kept { OnErr result (fragments.new.list.items ≡ fragments.old.list.items) }
+    {
+        let places = windows(alloc, fragments)?;
+        // Room comes first: nothing has changed where it is missing, and the last step needs none.
+        self.owned.list.reserve(fragments.list.len())?;
+        clear(alloc, &mut self.shared, &places)?;
+        self.owned.append(fragments)
     }
 }

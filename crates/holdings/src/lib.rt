@@ -7,3 +7,4 @@ pub mod error;
 pub mod fragment;
 mod fragments;
 pub mod holdings;
+mod presence;

@@ -9,7 +9,7 @@ use Rattle.effects.specs.Sound.{IsSound}
 use Rattle.effects.specs.Needs.{Provides}
 use Rattle.effects.specs.Rounds.{summaries, needs_of}
 use Rattle.effects.proofs.NeedsOfAsyncs.{provides}
-use Rattle.effects.proofs.Summaries.{summaries_derived, summaries_stable}
+use Rattle.effects.proofs.StableRounds.{summaries_derived, summaries_stable}
 use Rattle.race_checker.specs.Clash.{IsAccepted}
 use Rattle.race_checker.proofs.Scoping.{is_scoped}
 use Rattle.race_checker.proofs.Calming.{is_calm}

@@ -13,7 +13,8 @@ use Rattle.own_run.specs.Results.{TaskResult, Settled, none_yet, fill, complete,
 use Rattle.own_run.specs.OwnRun.{Start, Child, at_first, result_of, beginning}
 use Rattle.own_run.specs.Given.{filled, in_truth, comes_to, own, below}
 use Rattle.own_run.specs.Frames.{IsBegun, IsGivenChild}
-use Rattle.own_run.specs.Settling.{same_path, behind, take, fill_all, settle_within, none_left, settle, Parted}
+use Rattle.std.specs.Cmp.Lexicographic.{pointwise}
+use Rattle.own_run.specs.Settling.{behind, take, fill_all, settle_within, none_left, settle, Parted}
 use Rattle.own_run.specs.Settling.{IsParted}
 use Rattle.own_run.specs.Lists.{Each, Inserted, here, later, Shuffled, none, one}
 use Rattle.own_run.proofs.Lists.{each_more, NoTwice}
@@ -47,16 +48,16 @@ pub none_in : {A : Type 0} {zs : List A} → Shuffled [] zs → zs ≡ []
 none_in none = refl
 
 -- ---- the one result of a path is taken
-path_same : (p : List ℕ) → same_path p p ≡ true
+path_same : (p : List ℕ) → pointwise nat_eq p p ≡ true
 path_same [] = refl
-path_same (k ∷ p) = and_from (nat_eq k k) (same_path p p) (eq-eqb k k refl) (path_same p)
+path_same (k ∷ p) = and_from (nat_eq k k) (pointwise nat_eq p p) (eq-eqb k k refl) (path_same p)
 
 passed_over : (r : TaskResult) (path : List ℕ) (o : Option (TaskResult × List TaskResult)) (rs : List TaskResult)
     (found : TaskResult × List TaskResult)
-    → path ≢ r.path → o ≡ Some found → (if same_path r.path path then Some (r, rs) else behind r o) ≡ Some (found.0, r ∷ found.1)
-passed_over r path o rs found ne e = by_path (same_path r.path path) refl
+    → path ≢ r.path → o ≡ Some found → (if pointwise nat_eq r.path path then Some (r, rs) else behind r o) ≡ Some (found.0, r ∷ found.1)
+passed_over r path o rs found ne e = by_path (pointwise nat_eq r.path path) refl
   where
-    by_path : (b : Bool) → same_path r.path path ≡ b → (if b then Some (r, rs) else behind r o) ≡ Some (found.0, r ∷ found.1)
+    by_path : (b : Bool) → pointwise nat_eq r.path path ≡ b → (if b then Some (r, rs) else behind r o) ≡ Some (found.0, r ∷ found.1)
     by_path true w = absurd (ne (sym (paths_same r.path path w)))
     by_path false w = ap (behind r) e
 

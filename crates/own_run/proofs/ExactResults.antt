@@ -3,14 +3,15 @@ use Rattle.std.proofs.lemmas.Option.{none-some, same_Some}
 use Rattle.std.proofs.Common.{◌≡◌, ℕ, zero, suc, ◌+◌, List, [], ◌∷◌, ◌++◌, length, Option, Some, None, refl, sym, ap}
 use Rattle.std.proofs.Common.{◌∙◌, subst, append_assoc}
 use Rattle.std.proofs.lemmas.List.{append-nil}
-use Rattle.std.specs.Prelude.{Bool, true, false, ◌||◌, map, flat_map, if◌then◌else◌}
+use Rattle.std.specs.Prelude.{Bool, true, false, nat_eq, ◌||◌, map, flat_map, if◌then◌else◌}
 use Rattle.types.specs.Code.{Codes, Program}
 use Rattle.effects.specs.Needs.{Needs}
 use Rattle.own_run.specs.Places.{Places, within, meets}
 use Rattle.own_run.specs.Results.{TaskResult, Settled, none_yet, fill}
 use Rattle.own_run.specs.OwnRun.{Start, Child, result_of}
 use Rattle.own_run.specs.Given.{own, given, IsOwn, below}
-use Rattle.own_run.specs.Settling.{same_path, behind, take, fill_all, settle_within, none_left, settle}
+use Rattle.std.specs.Cmp.Lexicographic.{pointwise}
+use Rattle.own_run.specs.Settling.{behind, take, fill_all, settle_within, none_left, settle}
 use Rattle.own_run.specs.Lists.{Each, Inserted, here, later, Shuffled, none, one}
 use Rattle.own_run.proofs.SettledResults.{unless_none, gives, taken, IsGiven, settle_sound}
 use Rattle.own_run.proofs.CompleteResults.{Stands, stands, lists_none}
@@ -19,7 +20,7 @@ use Rattle.own_run.proofs.CompleteResults.{Stands, stands, lists_none}
 took : (path : List ℕ) (rs : List TaskResult) (found : TaskResult × List TaskResult) → take path rs ≡ Some found
     → Inserted found.0 found.1 rs
 took path [] found e = absurd (none-some _ e)
-took path (r ∷ rs) found e = by_path (λ f. took path rs f) (same_path r.path path) e
+took path (r ∷ rs) found e = by_path (λ f. took path rs f) (pointwise nat_eq r.path path) e
   where
     later_one : ((f : TaskResult × List TaskResult) → take path rs ≡ Some f → Inserted f.0 f.1 rs)
         → (o : Option (TaskResult × List TaskResult)) → take path rs ≡ o → behind r o ≡ Some found → Inserted found.0 found.1 (r ∷ rs)

@@ -18,7 +18,8 @@ use Rattle.own_run.specs.Results.{TaskResult, Settled, none_yet, fill, complete,
 use Rattle.own_run.specs.OwnRun.{Start, Child, Own, at_first, result_of, begun_by, kth, beginning}
 use Rattle.own_run.specs.Given.{filled, in_truth, comes_to, own, given, IsOwn, root_of, told_of}
 use Rattle.own_run.specs.Frames.{IsBegun, IsGivenChild}
-use Rattle.own_run.specs.Settling.{same_path, behind, take, fill_all, settle_within, none_left, settle}
+use Rattle.std.specs.Cmp.Lexicographic.{pointwise}
+use Rattle.own_run.specs.Settling.{behind, take, fill_all, settle_within, none_left, settle}
 use Rattle.own_run.specs.Lists.{Each}
 use Rattle.own_run.proofs.Lists.{each_more}
 use Rattle.own_run.proofs.Begun.{run_tells, at_first_fine}
@@ -40,12 +41,12 @@ gives None go y e = absurd (none-some _ e)
 gives (Some x) go y e = record { one = x; first = refl; next = e }
 
 -- ---- a result by its path
-pub paths_same : (p q : List ℕ) → same_path p q ≡ true → p ≡ q
+pub paths_same : (p q : List ℕ) → pointwise nat_eq p q ≡ true → p ≡ q
 paths_same [] [] e = refl
 paths_same [] (k ∷ q) e = absurd (false_true e)
 paths_same (j ∷ p) [] e = absurd (false_true e)
 paths_same (j ∷ p) (k ∷ q) e =
-    let h = both_true (nat_eq j k) (same_path p q) e in
+    let h = both_true (nat_eq j k) (pointwise nat_eq p q) e in
     ap (λ i. i ∷ p) (eqb-true j k h.0) ∙ ap (λ l. k ∷ l) (paths_same p q h.1)
 
 pub record Taken (P : TaskResult → Type 0) (path : List ℕ) (found : TaskResult × List TaskResult) : Type 0 where
@@ -56,7 +57,7 @@ pub record Taken (P : TaskResult → Type 0) (path : List ℕ) (found : TaskResu
 module _ (P : TaskResult → Type 0) (path : List ℕ) where
   pub taken : (rs : List TaskResult) (found : TaskResult × List TaskResult) → Each P rs → take path rs ≡ Some found → Taken P path found
   taken [] found h e = absurd (none-some _ e)
-  taken (r ∷ rs) found h e = by_path (λ f. taken rs f h.1) (same_path r.path path) refl e
+  taken (r ∷ rs) found h e = by_path (λ f. taken rs f h.1) (pointwise nat_eq r.path path) refl e
     where
       later : ((f : TaskResult × List TaskResult) → take path rs ≡ Some f → Taken P path f)
           → (o : Option (TaskResult × List TaskResult)) → take path rs ≡ o → behind r o ≡ Some found → Taken P path found
@@ -67,7 +68,7 @@ module _ (P : TaskResult → Type 0) (path : List ℕ) where
           subst (Taken P path) i (record { at = t.at; this = t.this; others = (h.0, t.others) })
 
       by_path : ((f : TaskResult × List TaskResult) → take path rs ≡ Some f → Taken P path f)
-          → (b : Bool) → same_path r.path path ≡ b → (if b then Some (r, rs) else behind r (take path rs)) ≡ Some found → Taken P path found
+          → (b : Bool) → pointwise nat_eq r.path path ≡ b → (if b then Some (r, rs) else behind r (take path rs)) ≡ Some found → Taken P path found
       by_path rec true w q =
           let i : (r, rs) ≡ found = same_Some _ _ q in
           subst (Taken P path) i (record { at = paths_same r.path path w; this = h.0; others = h.1 })

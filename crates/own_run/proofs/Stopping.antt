@@ -2,7 +2,7 @@
 use Rattle.std.proofs.lemmas.Option.{none-some, same_Some}
 use Rattle.std.proofs.Common.{◌≡◌, ℕ, zero, suc, ◌+◌, List, [], ◌∷◌, length, Option, Some, None, Ok, Err, refl, sym}
 use Rattle.std.proofs.Common.{ap, ◌∙◌, subst}
-use Rattle.std.specs.Prelude.{Bool, true, false, ◌||◌, ok_or, if◌then◌else◌}
+use Rattle.std.specs.Prelude.{Bool, true, false, nat_eq, ◌||◌, ok_or, if◌then◌else◌}
 use Rattle.std.proofs.Math.Bool.{or-false}
 use Rattle.sections.specs.Place.{Place, sides_of}
 use Rattle.types.specs.declared.fault.FaultKind.TheVariants.{SplitPoint}
@@ -20,7 +20,8 @@ use Rattle.own_run.specs.OwnRun.{Own, own_rules, begin_own, result_of}
 use Rattle.own_run.specs.Frames.{Frame, Rest, Again, AtEnd, Back, Standing, by_value, chosen, paid, by_flow, turn}
 use Rattle.own_run.specs.Frames.{handed}
 use Rattle.own_run.specs.Stops.{is_none, is_over, is_next_over, stops, some_halted}
-use Rattle.own_run.specs.Settling.{same_path, behind, take, fill_all, settle_within, none_left, settle}
+use Rattle.std.specs.Cmp.Lexicographic.{pointwise}
+use Rattle.own_run.specs.Settling.{behind, take, fill_all, settle_within, none_left, settle}
 use Rattle.own_run.proofs.SettledResults.{unless_none, gives}
 
 or_assoc : (a b c : Bool) → ((a || b) || c) ≡ (a || (b || c))
@@ -106,7 +107,7 @@ module _ (p : Program) (needs : Codes → Needs) (nest : ℕ) (close : State Own
 take_halted : (path : List ℕ) (rs : List TaskResult) (found : TaskResult × List TaskResult) → take path rs ≡ Some found
     → some_halted rs ≡ (found.0.halted || some_halted found.1)
 take_halted path [] found e = absurd (none-some _ e)
-take_halted path (r ∷ rs) found e = by_path (take_halted path rs) (same_path r.path path) e
+take_halted path (r ∷ rs) found e = by_path (take_halted path rs) (pointwise nat_eq r.path path) e
   where
     later : ((f : TaskResult × List TaskResult) → take path rs ≡ Some f → some_halted rs ≡ (f.0.halted || some_halted f.1))
         → (o : Option (TaskResult × List TaskResult)) → take path rs ≡ o → behind r o ≡ Some found

@@ -1,16 +1,10 @@
 -- Results settled: each hole filled once by the result of its path, wherever that stands.
 use Rattle.std.specs.Prelude.{ℕ, zero, suc, ◌+◌, ◌≡◌, List, [], ◌∷◌, length, Bool, true, false}
-use Rattle.std.specs.Prelude.{◌&&◌, ◌||◌, nat_eq, Option, Some, None, if◌then◌else◌}
+use Rattle.std.specs.Prelude.{◌||◌, nat_eq, Option, Some, None, if◌then◌else◌}
+use Rattle.std.specs.Cmp.Lexicographic.{pointwise}
 use Rattle.sections.specs.Place.{Place}
 use Rattle.own_run.specs.Places.{Places, within, meets}
 use Rattle.own_run.specs.Results.{Listed, TaskResult, Settled, none_yet, fill, complete, and_then}
-
--- whether two paths are the same
-abbrev pub same_path : List ℕ → List ℕ → Bool
-same_path [] [] = true
-same_path [] (k ∷ q) = false
-same_path (j ∷ p) [] = false
-same_path (j ∷ p) (k ∷ q) = nat_eq j k && same_path p q
 
 -- a result stays behind those that were looked at
 abbrev pub behind : TaskResult → Option (TaskResult × List TaskResult)
@@ -21,7 +15,7 @@ behind r (Some (found, others)) = Some (found, r ∷ others)
 -- takes the first result of a path out of a list
 abbrev pub take : List ℕ → List TaskResult → Option (TaskResult × List TaskResult)
 take path [] = None
-take path (r ∷ rs) = if same_path r.path path then Some (r, rs) else behind r (take path rs)
+take path (r ∷ rs) = if pointwise nat_eq r.path path then Some (r, rs) else behind r (take path rs)
 
 -- fills holes, using up results; nothing where one is lost, or a place comes back that is owned
 abbrev pub fill_all : (TaskResult → List TaskResult → Option (Settled × List TaskResult))

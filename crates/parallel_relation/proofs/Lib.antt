@@ -1,4 +1,14 @@
 pub mod Examples
+pub mod FoundLemmas
+pub mod LabelsLemmas
+pub mod ListLemmas
 pub mod Meeting
 pub mod Ordering
+pub mod PairsLemmas
 pub mod Programs
+pub mod RowsLemmas
+pub mod SpreadLemmas
+pub mod StatementParts
+pub mod Statements
+pub mod Sums
+pub mod WalkLemmas

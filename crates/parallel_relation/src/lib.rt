@@ -2,4 +2,10 @@
 
 #![tactic(auto)]
 
+pub mod found;
+pub mod labels;
 pub mod laws;
+pub mod pairs;
+pub mod rows;
+pub mod spread;
+pub mod walk;

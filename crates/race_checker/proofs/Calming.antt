@@ -12,11 +12,12 @@ use Rattle.types.specs.Value.{Environment}
 use Rattle.types.specs.Run.{entry, procedure_of}
 use Rattle.effects.specs.Accesses.{Access, own_accesses}
 use Rattle.effects.specs.Effects.{past_call, accesses, AllOf, All, PendingOf}
-use Rattle.effects.specs.Sound.{may_write, is_writable, Allowed, PassesWell, Follows, FollowsOf, IsSound, main_of}
+use Rattle.effects.specs.Sound.{may_write, is_writable, Allowed, PassesWell, Follows, FollowsOf, IsSound}
 use Rattle.effects.specs.Fits.{names_in}
 use Rattle.effects.proofs.Members.{left_true, right_true}
 use Rattle.effects.proofs.AccessesInScope.{allowed, allowed_of, pending_of_all}
 use Rattle.effects.proofs.EnvironmentsFit.{by_number-map}
+use Rattle.effects.proofs.OwnAllowed.{own_allowed}
 use Rattle.parallel_relation.specs.Together.{Block, Together}
 use Rattle.race_checker.specs.Clash.{Clash, IsAccepted}
 use Rattle.race_checker.specs.Scope.{Scope, Top, FitsScope, FitsTop, may_writes, Lists, top, inside}
@@ -101,18 +102,18 @@ module _ (p : Program) (sound : IsSound p) (g : Procedure) (numbered : IsNumbere
         → FollowsOf p g scope s → NoClash (Then l s rest) → CalmOf p sc l s
     calm_of ls (Do s) l rest o k h = tt
     calm_of ls (If t b c) l rest o k h = (
-      calm ls b k.0 (λ x y r. h x y (Together.inside Block.if_body r)),
-      calm ls c k.1 (λ x y r. h x y (Together.inside Block.if_other r)),
+      calm ls b k.1 (λ x y r. h x y (Together.inside Block.if_body r)),
+      calm ls c k.2 (λ x y r. h x y (Together.inside Block.if_other r)),
     )
     calm_of {scope = scope} ls (While t b) l rest o k h = (
-      calm ls b k (λ x y r. h x y (Together.inside Block.while r)),
+      calm ls b k.1 (λ x y r. h x y (Together.inside Block.while r)),
       keep_apart ls (PendingOf p accesses (While t b)) (AllOf p accesses l (While t b))
           (λ x r. allowed_of p sound (pending_of_all p r) g scope numbered o k)
           (λ x r. allowed_of p sound r g scope numbered o k)
           (λ x y r q. h x y (Together.turns r q)),
     )
-    calm_of ls (Split s e x y b) l rest o k h = calm (inside k.0 ls) b k.1 (λ x y r. h x y (Together.inside Block.split r))
-    calm_of ls (Call f es ss) l rest o k h = passes ls (procedure_of p f) ss k
+    calm_of ls (Split s e x y b) l rest o k h = calm (inside k.0 ls) b k.2 (λ x y r. h x y (Together.inside Block.split r))
+    calm_of ls (Call f es ss) l rest o k h = passes ls (procedure_of p f) ss k.passes
     calm_of ls (Async b) l rest o k h = calm ls b k (λ x y r. h x y (Together.inside Block.async r))
     calm_of ls (Finish b) l rest o k h = calm ls b k (λ x y r. h x y (Together.inside Block.finish r))
 
@@ -121,19 +122,19 @@ module _ (p : Program) (sound : IsSound p) (g : Procedure) (numbered : IsNumbere
         → Follows p g scope b → NoClash b → Calm p sc b
     calm ls End k h = tt
     calm {scope = scope} ls (Then l s rest) k h = (
-      calm_of ls s l rest k.0 k.1 h,
-      calm ls rest k.2 (λ x y r. h x y (Together.later r)),
+      calm_of ls s l rest (own_allowed p g scope l s k.0) k.0 h,
+      calm ls rest k.1 (λ x y r. h x y (Together.later r)),
       keep_apart ls (PendingOf p accesses s) (All p accesses rest)
-          (λ x r. allowed_of p sound {l = l} (pending_of_all p r) g scope numbered k.0 k.1)
-          (λ x r. allowed p sound r g scope numbered k.2)
+          (λ x r. allowed_of p sound {l = l} (pending_of_all p r) g scope numbered (own_allowed p g scope l s k.0) k.0)
+          (λ x r. allowed p sound r g scope numbered k.1)
           (λ x y r q. h x y (Together.follows r q)),
     )
 
 -- a sound and accepted program is calm
 pub is_calm : (p : Program) → IsSound p → IsAccepted p → IsCalm p
 is_calm p sound accepted = record {
-  main = subst (λ ms. Calm p (Top ms) p.main.body) (arrays_written p)
-      (calm p sound (main_of p) sound.main.numbered sound.main.first top p.main.body sound.main.body accepted.main);
+  main = subst (λ ms. Calm p (Top ms) p.main.body) (arrays_written p sound.arrays)
+      (calm p sound p.main sound.main.numbered sound.main.first top p.main.body sound.main.body accepted.main);
   procedures = λ f. let g = sound.procedures f in
       calm p sound (procedure_of p f) g.numbered g.first top (procedure_of p f).body g.body (accepted.procedures f);
 }

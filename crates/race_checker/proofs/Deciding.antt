@@ -7,8 +7,8 @@ use Rattle.types.specs.Run.{procedure_of, no_procedure}
 use Rattle.effects.specs.Sound.{IsSound}
 use Rattle.effects.specs.Rounds.{summaries, pending_summaries}
 use Rattle.effects.proofs.Members.{both_true, not_true}
-use Rattle.effects.proofs.Summaries.{past_end, summaries_derived, pending_summaries_derived, summaries_stable}
-use Rattle.effects.proofs.Summaries.{pending_summaries_stable}
+use Rattle.effects.proofs.StableRounds.{past_end, summaries_derived, pending_summaries_derived, summaries_stable}
+use Rattle.effects.proofs.StableRounds.{pending_summaries_stable}
 use Rattle.race_checker.specs.Acceptance.{has_clash, accepts, accepts_below, is_accepted}
 use Rattle.race_checker.specs.Clash.{HasNoClash, IsAccepted}
 use Rattle.race_checker.proofs.Clashing.{has_clash-exact}

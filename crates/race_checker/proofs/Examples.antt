@@ -1,21 +1,22 @@
 -- Worked programs: their clashes, and three that are sound, of which two are accepted.
-use Rattle.std.proofs.Common.{◌≡◌, ◌≢◌, ℕ, zero, suc, ◌+◌, ◌-◌, ◌<◌, List, [], ◌∷◌, refl, sym, ap, ◌∙◌, arith}
+use Rattle.std.proofs.Common.{◌≡◌, ◌≢◌, ℕ, zero, suc, ◌+◌, ◌-◌, ◌^◌, ◌<◌, ◌≤◌, List, [], ◌∷◌, refl, sym, ap, ◌∙◌, arith}
 use Rattle.std.proofs.Common.{true≢false}
 use Rattle.std.specs.Prelude.{Bool, true, false, filter, slice_get, Some}
+use Rattle.syntax.specs.declared.tree.ElementType.TheVariants.{Int}
 use Rattle.syntax.specs.declared.tree.Relation.TheVariants.{Equal}
 use Rattle.sections.specs.Origins.{Origin, Root, Left, Right, origin_of, IsNumbered}
 use Rattle.sections.specs.Member.{Member, first, next}
 use Rattle.sections.specs.Overlap.{overlap}
 use Rattle.types.specs.declared.code.Operator.TheVariants.{Times}
 use Rattle.types.specs.Code.{Element, Length, Chain, Link, Done, Compare, Store, Print, Do, If, Call, Async, Finish}
-use Rattle.types.specs.Code.{Codes, End, Then, Procedure, Program}
+use Rattle.types.specs.Code.{Codes, End, Then, Parameter, Procedure, Program}
 use Rattle.types.specs.Run.{procedure_of, no_procedure}
 use Rattle.types.proofs.Programs.{◌⨾◌, lit, ints, main_of as program_of, two_arrays, twice, doubling, two_readers}
 use Rattle.effects.specs.Accesses.{Access}
-use Rattle.effects.specs.Effects.{past_call, accesses}
+use Rattle.effects.specs.Effects.{accesses}
 use Rattle.effects.specs.Rounds.{summaries, pending_summaries}
-use Rattle.effects.specs.Sound.{may_write, is_writable, Allowed, SplitsWell, PassesWell, Follows, IsSoundIn, IsSound}
-use Rattle.effects.specs.Sound.{main_of}
+use Rattle.types.specs.Sound.{parameter_at, may_write, parameter_of, is_writable, passed_for, StoresWell, SplitsWell}
+use Rattle.types.specs.Sound.{PassesWell, CallsWell, Follows, IsSoundIn, IsSound}
 use Rattle.effects.proofs.EnvironmentsFit.{root_left, root_right, left_right, one_left, one_right}
 use Rattle.parallel_relation.specs.Meetings.{met_in}
 use Rattle.parallel_relation.proofs.Programs.{unfinished, two_splits, split_in_loop, spawner, call_then_store}
@@ -115,33 +116,46 @@ one_root : (a : ℕ) → origin_of (Root ∷ []) a ≡ Root
 one_root zero = refl
 one_root (suc n) = refl
 
-pub none : (g : Procedure) (scope : List ℕ) (x : Access) → Member x [] → Allowed g scope x
-none g scope x h = elim h [ ]
-
-pub besides : (g : Procedure) (scope : List ℕ) {y : Access} {ys : List Access} → Allowed g scope y
-    → ((x : Access) → Member x ys → Allowed g scope x)
-    → (x : Access) → Member x (y ∷ ys) → Allowed g scope x
-besides g scope f h x first = f
-besides g scope f h x (next k) = h x k
+-- small numbers, and the first element of a section
+small : (n : ℕ) → n < 10 → n < 2 ^ 63
+small n h = let k : 10 ≤ 2 ^ 63 = 10-small in omega (arith, h, k)
+  where
+    10-small : 10 ≤ 2 ^ 63
+    10-small = omega arith
 
 -- one argument for one parameter that may be written
-one_argument : (g : Procedure) (scope : List ℕ) (a : ℕ) → Member a scope → is_writable g a ≡ true
+one_argument : (g : Procedure) (scope : List ℕ) (a : ℕ) → Member a scope
+    → parameter_of g a ≡ record { may_write = true; element = Int }
     → PassesWell g scope twice.parameters (a ∷ [])
-one_argument g scope a m w = record { number = refl; in_scope = in_scope; writable = writable; alone = alone }
+one_argument g scope a m e = record { number = refl; element = element; in_scope = in_scope; writable = writable; alone = alone }
   where
-    in_scope : (k : ℕ) → k < 1 → Member (past_call (a ∷ []) k) scope
+    element : (k : ℕ) → k < 1 → (parameter_of g (passed_for (a ∷ []) k)).element ≡ (parameter_at twice.parameters k).element
+    element zero h = ap (λ (x : Parameter). x.element) e
+    element (suc k) h = absurd (omega arith)
+
+    in_scope : (k : ℕ) → k < 1 → Member (passed_for (a ∷ []) k) scope
     in_scope zero h = m
     in_scope (suc k) h = absurd (omega arith)
 
-    writable : (k : ℕ) → may_write twice.parameters k ≡ true → is_writable g (past_call (a ∷ []) k) ≡ true
-    writable zero h = w
+    writable : (k : ℕ) → may_write twice.parameters k ≡ true → is_writable g (passed_for (a ∷ []) k) ≡ true
+    writable zero h = ap (λ (x : Parameter). x.may_write) e
     writable (suc k) h = absurd (true≢false (sym h))
 
     alone : (k j : ℕ) → k ≢ j → j < 1 → may_write twice.parameters k ≡ true
-        → overlap g.sections (past_call (a ∷ []) k) (past_call (a ∷ []) j) ≡ false
+        → overlap g.sections (passed_for (a ∷ []) k) (passed_for (a ∷ []) j) ≡ false
     alone zero zero ne h w = absurd (ne refl)
     alone zero (suc j) ne h w = absurd (omega arith)
     alone (suc k) j ne h w = absurd (true≢false (sym w))
+
+one_call : (n : ℕ) (g : Procedure) (scope : List ℕ) (a : ℕ) → Member a scope
+    → parameter_of g a ≡ record { may_write = true; element = Int }
+    → CallsWell (doubling n) g scope 0 [] (a ∷ [])
+one_call n g scope a m e = record { there = omega arith; number = refl; values = tt; passes = one_argument g scope a m e }
+
+-- a store of a literal
+stores : (g : Procedure) (scope : List ℕ) (s n : ℕ) → Member s scope → is_writable g s ≡ true → n < 10
+    → StoresWell g scope s (lit 0) (lit n)
+stores g scope s n m w h = record { in_scope = m; writable = w; at = small 0 (omega arith); stored = small n h }
 
 splits_0 : SplitsWell twice (0 ∷ []) 0 1 2
 splits_0 = record { in_scope = first; left = refl; right = refl; next = refl; later = later }
@@ -150,36 +164,39 @@ splits_0 = record { in_scope = first; left = refl; right = refl; next = refl; la
     later x first = omega arith
     later x (next h) = elim h [ ]
 
-allowed_0 : (l : ℕ) (w : Bool) → Allowed twice (0 ∷ []) (record { label = l; section = 0; write = w })
-allowed_0 l w = record { in_scope = first; writable = λ h. refl }
-
 doubles : (n : ℕ) → Follows (doubling n) twice (0 ∷ [])
     ((
       2,
       If (Compare Equal (Length 0) (lit 1))
           ((3, Do (Store 0 (lit 0) (Chain (Element 0 (lit 0)) (Link Times (lit 2) Done)))) ⨾ End) End,
     ) ⨾ End)
-doubles n = (
-  none twice (0 ∷ []),
-  ((besides twice (0 ∷ []) (allowed_0 3 true) (besides twice (0 ∷ []) (allowed_0 3 false) (none twice (0 ∷ []))), tt, tt), tt),
+doubles n =
+    let store : StoresWell twice (0 ∷ []) 0 (lit 0) (Chain (Element 0 (lit 0)) (Link Times (lit 2) Done)) = record {
+      in_scope = first;
+      writable = refl;
+      at = small 0 (omega arith);
+      stored = ((first, small 0 (omega arith)), (small 2 (omega arith), tt));
+    } in
+    (((first, small 1 (omega arith)), (store, tt), tt), tt)
+
+halves : (n : ℕ)
+    → Follows (doubling n) twice (1 ∷ 2 ∷ 0 ∷ []) ((5, Async ((6, Call 0 [] (1 ∷ [])) ⨾ End)) ⨾ (7, Call 0 [] (2 ∷ [])) ⨾ End)
+halves n =
+    let scope = 1 ∷ 2 ∷ 0 ∷ [] in
+    ((one_call n twice scope 1 first refl, tt), (one_call n twice scope 2 (next first) refl, tt))
+
+twice_body : (n : ℕ) → Follows (doubling n) twice (0 ∷ []) twice.body
+twice_body n = (
+  (
+    (first, small 1 (omega arith)),
+    doubles n,
+    ((splits_0, (first, (small 2 (omega arith), tt)), halves n), tt),
+  ),
   tt,
 )
 
-halves : (n : ℕ) → Follows (doubling n) twice (1 ∷ 2 ∷ 0 ∷ []) ((5, Async ((6, Call 0 [] (1 ∷ [])) ⨾ End)) ⨾ (7, Call 0 [] (2 ∷ [])) ⨾ End)
-halves n =
-    let scope = 1 ∷ 2 ∷ 0 ∷ [] in (
-      none twice scope,
-      (none twice scope, one_argument twice scope 1 first refl, tt),
-      (none twice scope, one_argument twice scope 2 (next first) refl, tt),
-    )
-
-twice_body : (n : ℕ) → Follows (doubling n) twice (0 ∷ []) twice.body
-twice_body n = (none twice (0 ∷ []), (doubles n, (none twice (0 ∷ []), (splits_0, halves n), tt)), tt)
-
-main_body : (n : ℕ) → Follows (doubling n) (main_of (doubling n)) (0 ∷ []) (doubling n).main.body
-main_body n =
-    let g = main_of (doubling n) in
-    (none g (0 ∷ []), (none g (0 ∷ []), one_argument g (0 ∷ []) 0 first refl, tt), tt)
+main_body : (n : ℕ) → Follows (doubling n) (doubling n).main (0 ∷ []) (doubling n).main.body
+main_body n = ((one_call n (doubling n).main (0 ∷ []) 0 first refl, tt), tt)
 
 first_root : (origins : List Origin) (k : ℕ) → k < 1 → slice_get (Root ∷ origins) k ≡ Some Root
 first_root origins zero h = refl
@@ -189,18 +206,28 @@ first_root origins (suc k) h = absurd (omega arith)
 pub missing_sound : (p : Program) → IsSoundIn p (no_procedure)
 missing_sound p = record {
   first = λ k h. absurd (omega arith);
+  scalars = omega arith;
   numbered = numbered_roots [] (λ a. refl);
   body = tt;
 }
 
 doubling_procedures : (n f : ℕ) → IsSoundIn (doubling n) (procedure_of (doubling n) f)
-doubling_procedures n zero = record { first = first_root (Left 0 ∷ Right 0 ∷ []); numbered = numbered_sides; body = twice_body n }
+doubling_procedures n zero = record {
+  first = first_root (Left 0 ∷ Right 0 ∷ []);
+  scalars = omega arith;
+  numbered = numbered_sides;
+  body = twice_body n;
+}
 doubling_procedures n (suc f) = missing_sound (doubling n)
 
 pub doubling_sound : (n : ℕ) → IsSound (doubling n)
 doubling_sound n = record {
   procedures = doubling_procedures n;
-  main = record { first = first_root []; numbered = numbered_roots (Root ∷ []) one_root; body = main_body n };
+  main = record { first = first_root []; scalars = omega arith; numbered = numbered_roots (Root ∷ []) one_root; body = main_body n };
+  arrays = refl;
+  no_scalars = refl;
+  labels = refl;
+  few_labels = omega arith;
 }
 
 -- Two arrays are sound
@@ -210,28 +237,28 @@ two_roots zero = refl
 two_roots (suc zero) = refl
 two_roots (suc (suc a)) = refl
 
-two_arrays_body : Follows two_arrays (main_of two_arrays) (0 ∷ 1 ∷ []) two_arrays.main.body
+two_arrays_body : Follows two_arrays two_arrays.main (0 ∷ 1 ∷ []) two_arrays.main.body
 two_arrays_body =
-    let g = main_of two_arrays in
-    let sc : List ℕ = 0 ∷ 1 ∷ [] in (
-      none g sc,
-      (
-        none g sc,
-        (besides g sc (record { in_scope = first; writable = λ h. refl }) (none g sc), tt, tt),
-        (besides g sc (record { in_scope = next first; writable = λ h. refl }) (none g sc), tt, tt),
-      ),
-      (
-        besides g sc (record { in_scope = first; writable = λ h. refl })
-            (besides g sc (record { in_scope = next first; writable = λ h. refl }) (none g sc)),
-        tt,
-        tt,
-      ),
+    let g = two_arrays.main in
+    let scope : List ℕ = 0 ∷ 1 ∷ [] in
+    let zero_fits = small 0 (omega arith) in (
+      ((stores g scope 0 7 first refl (omega arith), tt), (stores g scope 1 8 (next first) refl (omega arith), tt)),
+      (((first, zero_fits), ((next first, zero_fits), tt)), tt),
     )
 
 pub two_arrays_sound : IsSound two_arrays
 two_arrays_sound = record {
   procedures = λ f. missing_sound two_arrays;
-  main = record { first = first_two; numbered = numbered_roots (Root ∷ Root ∷ []) two_roots; body = two_arrays_body };
+  main = record {
+    first = first_two;
+    scalars = omega arith;
+    numbered = numbered_roots (Root ∷ Root ∷ []) two_roots;
+    body = two_arrays_body;
+  };
+  arrays = refl;
+  no_scalars = refl;
+  labels = refl;
+  few_labels = omega arith;
 }
   where
     first_two : (k : ℕ) → k < 2 → slice_get (Root ∷ Root ∷ []) k ≡ Some Root
@@ -264,25 +291,22 @@ racy = program_of (ints 97 1 ∷ []) 0 (Root ∷ [])
 racy_sound : IsSound racy
 racy_sound = record {
   procedures = λ f. missing_sound racy;
-  main = record { first = first_one; numbered = numbered_roots (Root ∷ []) one_root; body = body };
+  main = record { first = first_one; scalars = omega arith; numbered = numbered_roots (Root ∷ []) one_root; body = body };
+  arrays = refl;
+  no_scalars = refl;
+  labels = refl;
+  few_labels = omega arith;
 }
   where
     first_one : (k : ℕ) → k < 1 → slice_get (Root ∷ []) k ≡ Some Root
     first_one zero h = refl
     first_one (suc k) h = absurd (omega (arith, h))
 
-    body : Follows racy (main_of racy) (0 ∷ []) racy.main.body
-    body =
-        let g = main_of racy in
-        let sc : List ℕ = 0 ∷ [] in (
-          none g sc,
-          (
-            none g sc,
-            (besides g sc (record { in_scope = first; writable = λ h. refl }) (none g sc), tt, tt),
-            (besides g sc (record { in_scope = first; writable = λ h. refl }) (none g sc), tt, tt),
-          ),
-          tt,
-        )
+    body : Follows racy racy.main (0 ∷ []) racy.main.body
+    body = (
+      ((stores racy.main (0 ∷ []) 0 7 first refl (omega arith), tt), (((first, small 0 (omega arith)), tt), tt)),
+      tt,
+    )
 
 racy_decided : is_accepted racy ≡ false
 racy_decided = refl

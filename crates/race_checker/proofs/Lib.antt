@@ -2,4 +2,9 @@ pub mod Calming
 pub mod Clashing
 pub mod Deciding
 pub mod Examples
+pub mod Finding
+pub mod Judging
+pub mod LeastRaces
+pub mod RaceOrder
 pub mod Scoping
+pub mod ToldExamples

@@ -10,19 +10,15 @@ use Rattle.types.specs.Code.{Procedure, Program}
 use Rattle.types.specs.Value.{Environment}
 use Rattle.types.specs.Run.{procedure_of}
 use Rattle.effects.specs.Effects.{past_call}
-use Rattle.effects.specs.Sound.{no_parameter, as_parameter, main_of, numbers_from, parameters_of, FollowsOf, Follows}
-use Rattle.effects.specs.Sound.{IsSound}
+use Rattle.effects.specs.Sound.{no_parameter, as_parameter, numbers_from, parameters_of, FollowsOf, Follows}
+use Rattle.effects.specs.Sound.{HasArrays, IsSound}
 use Rattle.effects.specs.Fits.{names_in}
-use Rattle.effects.proofs.Members.{numbers_from-below, false_true}
+use Rattle.effects.proofs.Members.{numbers_from-member, numbers_from-below, false_true}
 use Rattle.effects.proofs.AccessesInScope.{origin_from_get}
 use Rattle.effects.proofs.EnvironmentsFit.{root_left, root_right, placed_inside}
+use Rattle.effects.proofs.OwnAllowed.{own_allowed}
 use Rattle.race_checker.specs.Scope.{Scope, Top, InScope, FitsScope, may_writes, arrays_of, Scoped, ScopedOf}
 use Rattle.race_checker.specs.Scope.{IsScoped, Lists, top, inside}
-
-numbers_from-has : (a n k s : ℕ) → k < n → s ≡ a + k → Member s (numbers_from a n)
-numbers_from-has a zero k s h e = absurd (omega (arith, h))
-numbers_from-has a (suc n) zero s h e = subst (λ s. Member s (a ∷ numbers_from (a + 1) n)) (let f : a ≡ s = omega (arith, e) in f) first
-numbers_from-has a (suc n) (suc k) s h e = next (numbers_from-has (a + 1) n k s (omega (arith, h)) (omega (arith, e)))
 
 pub length_may_writes : (g : Procedure) → length (may_writes g) ≡ length g.parameters
 length_may_writes g = each g.parameters
@@ -34,7 +30,9 @@ length_may_writes g = each g.parameters
 module _ (p : Program) (g : Procedure) where
   -- a scope and its list have the same names
   pub named : {sc : Scope} {scope : List ℕ} → Lists g sc scope → (s : ℕ) → InScope sc s → Member s scope
-  named top s h = numbers_from-has 0 (length g.parameters) s s (subst (λ n. s < n) (length_may_writes g) h) (omega arith)
+  named top s h =
+      let lt : s < length g.parameters = subst (λ n. s < n) (length_may_writes g) h in
+      numbers_from-member 0 (length g.parameters) s (omega arith) (omega arith)
   named (inside {scope = scope} {l = l} {r = r} k deeper) s (inl e) = subst (λ s. Member s (l ∷ r ∷ scope)) (sym e) first
   named (inside {scope = scope} {l = l} {r = r} k deeper) s (inr (inl e)) = subst (λ s. Member s (l ∷ r ∷ scope)) (sym e) (next first)
   named (inside k deeper) s (inr (inr h)) = next (next (named deeper s h))
@@ -76,28 +74,32 @@ module _ (p : Program) (g : Procedure) where
     mutual
       scoped_of : {sc : Scope} {scope : List ℕ} → Lists g sc scope → (s : Code) → FollowsOf p g scope s → ScopedOf p sc s
       scoped_of ls (Do s) k = tt
-      scoped_of ls (If t b c) k = (scoped ls b k.0, scoped ls c k.1)
-      scoped_of ls (While t b) k = scoped ls b k
+      scoped_of ls (If t b c) k = (scoped ls b k.1, scoped ls c k.2)
+      scoped_of ls (While t b) k = scoped ls b k.1
       scoped_of ls (Split s e x y b) k = (
         in_scope ls s k.0.in_scope,
         (λ h. let lt : x < x = k.0.later x (named ls x h) in omega (arith, lt)),
         (λ h. let lt : y < x = k.0.later y (named ls y h) in let n : y ≡ x + 1 = k.0.next in omega (arith, lt, n)),
         (λ e. let n : y ≡ x + 1 = k.0.next in omega (arith, e, n)),
-        scoped (inside k.0 ls) b k.1,
+        scoped (inside k.0 ls) b k.2,
       )
       scoped_of ls (Call f es ss) k =
           λ j lt. in_scope ls (past_call ss j)
-          (k.in_scope j (let n : length ss ≡ length (procedure_of p f).parameters = k.number in omega (arith, lt, n)))
+          (k.passes.in_scope j (let n : length ss ≡ length (procedure_of p f).parameters = k.passes.number in omega (arith, lt, n)))
       scoped_of ls (Async b) k = scoped ls b k
       scoped_of ls (Finish b) k = scoped ls b k
 
       pub scoped : {sc : Scope} {scope : List ℕ} → Lists g sc scope → (b : Codes) → Follows p g scope b → Scoped p sc b
       scoped ls End k = tt
-      scoped ls (Then l s rest) k = ((λ x m. in_scope ls x.section (k.0 x m).in_scope), scoped_of ls s k.1, scoped ls rest k.2)
+      scoped {scope = scope} ls (Then l s rest) k = (
+        (λ x m. in_scope ls x.section (own_allowed p g scope l s k.0 x m).in_scope),
+        scoped_of ls s k.0,
+        scoped ls rest k.1,
+      )
 
 -- ---- the arrays are main's parameters, all of which may be written
-pub arrays_written : (p : Program) → may_writes (main_of p) ≡ arrays_of p
-arrays_written p = each p.arrays
+pub arrays_written : (p : Program) → HasArrays p → may_writes p.main ≡ arrays_of p
+arrays_written p arrays = ap (map (λ (x : Parameter). x.may_write)) arrays ∙ each p.arrays
   where
     each : (xs : List Array) → map (λ (x : Parameter). x.may_write) (map as_parameter xs) ≡ map (λ (x : Array). true) xs
     each [] = refl
@@ -105,7 +107,7 @@ arrays_written p = each p.arrays
 
 pub is_scoped : (p : Program) → IsSound p → IsScoped p
 is_scoped p sound = record {
-  main = subst (λ ms. Scoped p (Top ms) p.main.body) (arrays_written p)
-      (scoped p (main_of p) sound.main.first top p.main.body sound.main.body);
+  main = subst (λ ms. Scoped p (Top ms) p.main.body) (arrays_written p sound.arrays)
+      (scoped p p.main sound.main.first top p.main.body sound.main.body);
   procedures = λ f. let g = sound.procedures f in scoped p (procedure_of p f) g.first top (procedure_of p f).body g.body;
 }

@@ -1,4 +1,9 @@
 pub mod Acceptance
 pub mod Calm
 pub mod Clash
+pub mod Found
+pub mod Races
+pub mod Refusal
 pub mod Scope
+pub mod Search
+pub mod Translation

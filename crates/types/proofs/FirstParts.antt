@@ -1,7 +1,7 @@
 -- A program of the first part ends on one thread, and no task faults.
 use Rattle.std.proofs.Common.{◌≡◌, ℕ, zero, suc, ◌+◌, ◌≤◌, ◌<◌, max, List, [], ◌∷◌, ◌++◌, Some, Ok, refl, sym, ap, ◌∙◌, subst}
 use Rattle.std.proofs.Common.{◌-◌, append-nil, true≢false, arith}
-use Rattle.std.proofs.lemmas.Bool.{ltb-true, leb-true}
+use Rattle.std.proofs.lemmas.Bool.{and_parts, ltb-true, leb-true}
 use Rattle.std.specs.Prelude.{ℤ, pos, negsuc, Bool, true, false, ◌&&◌, IsTrue, nat_lt, nat_le, slice_get, slice_index_or}
 use Rattle.std.specs.List.{list_all}
 use Rattle.sections.specs.Place.{Place, Window}
@@ -18,7 +18,6 @@ use Rattle.types.specs.Run.{On, State, Work, Block, at_flow, go_on, spend, with_
 use Rattle.types.specs.Run.{with_value, put, print, entry, array_of, no_array, primitive, counted, act, block, within}
 use Rattle.types.specs.Value.{Environment, Valued, element_of, holds_number, number, numbers, then_try}
 use Rattle.types.proofs.Lists.{whole_array-by_number}
-use Rattle.syntax.proofs.LayoutLemmas.{both_true}
 
 -- the task goes on where it stood, has told no fault, and took at most k steps
 record Goes (k : ℕ) (st out : State (Unit {0})) : Type 0 where
@@ -111,7 +110,7 @@ module _ (p : Program) where
     numbers_there : (es : List Number) → list_all (printed_fits p) es ≡ true → (vs : List ℤ) × (numbers env read es ≡ Ok vs)
     numbers_there [] fits = ([], refl)
     numbers_there (e ∷ es) fits =
-        let both = both_true (printed_fits p e) (list_all (printed_fits p) es) fits in
+        let both = and_parts (printed_fits p e) (list_all (printed_fits p) es) fits in
         let v = printed_there e both.0 in
         let vs = numbers_there es both.1 in (
           v.0 ∷ vs.0,
@@ -124,7 +123,7 @@ module _ (p : Program) where
       → st.flow ≡ On → Goes 0 st (primitive p l s st)
   primitive_goes l Skip st fits is on = stays st on
   primitive_goes l (Store a (Literal i) (Literal v)) st fits is on =
-      let both = both_true (index_fits p a i) (holds_number (array_of p a).element v) fits in
+      let both = and_parts (index_fits p a i) (holds_number (array_of p a).element v) fits in
       let q = element_there st.environment a i is both.0 in
       value_goes st 0 l (element_of (st.environment.windows a) i) q.0 _ q.1.0
       (put_goes st l (holds_number (array_of p q.0.array).element v) q.0 v
@@ -134,7 +133,7 @@ module _ (p : Program) where
       value_goes st 0 l (numbers st.environment (read st.store) es) vs.0 print vs.1
       (record { flow = on; environment = refl; faults = refl; steps = omega arith })
   primitive_goes l (Store a (Literal i) e) st fits is on =
-      absurd (true≢false (sym (both_true (index_fits p a i) (literal_value_fits p a e) fits).1))
+      absurd (true≢false (sym (and_parts (index_fits p a i) (literal_value_fits p a e) fits).1))
   primitive_goes l (Store a _ e) st fits is on = absurd (true≢false (sym fits))
   primitive_goes l (Assign x e) st fits is on = absurd (true≢false (sym fits))
   primitive_goes l (Raise e) st fits is on = absurd (true≢false (sym fits))
@@ -194,7 +193,7 @@ module _ (p : Program) where
       block_goes End nest deeper st fits few deep is on left = stays st on
       block_goes (Then l s rest) nest deeper st fits few deep is on left =
           let r = one_rules p fresh nest in
-          let both = both_true (code_fits p s) (codes_fit p rest) fits in
+          let both = and_parts (code_fits p s) (codes_fit p rest) fits in
           let k = statements_in s - 1 in
           let some = some_statement s in
           let counts : k + 1 ≡ statements_in s = omega (arith, some) in
@@ -227,6 +226,6 @@ ends_within p input b fits few deep =
 pub ends_in_usual_budget : (p : Program) (input : List (List ℤ)) → IsTrue (is_first_part p) → depth_of p.main.body ≤ 100
     → EndsWithoutFault (outcome p input (record { steps = 1000000; nest = 100 }))
 ends_in_usual_budget p input is deep =
-    let both = both_true (codes_fit p p.main.body) (nat_le (statements p.main.body) 10000) is in
+    let both = and_parts (codes_fit p p.main.body) (nat_le (statements p.main.body) 10000) is in
     let few = leb-true (statements p.main.body) 10000 both.1 in
     ends_within p input (record { steps = 1000000; nest = 100 }) both.0 (omega (arith, few)) deep

@@ -114,6 +114,11 @@ counts_program fs m =
     (subst (λ n. Counts n (after m.body here).label (labels_of (codes fs here m.body))) (label_with_arrays m.arrays (empty_scope before))
     (counts_codes fs m.body here))
 
+-- a program has as many labels as the label goes on by
+pub last_label : (fs : List Procedure) (m : Main)
+    → (after m.body (in_main (label_behind_all 1 fs) m.arrays)).label ≡ 1 + length (labels_of_program (with_main fs m))
+last_label fs m = (counts_program fs m).end
+
 resolved_are_counted : (fs : List Procedure) (m : Option Main) (p : resolved.Program)
     → resolution (record { procedures = fs; main = m }) ≡ Some p
     → labels_of_program p ≡ range_with_len 1 (length (labels_of_program p))

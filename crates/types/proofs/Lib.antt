@@ -1,5 +1,6 @@
 pub mod Programs
 pub mod Examples
+pub mod TreeExamples
 pub mod Solutions
 pub mod Views
 pub mod Keeps
@@ -22,3 +23,13 @@ pub mod Labels
 pub mod Sizes
 pub mod FirstParts
 pub mod InputLemmas
+pub mod Refused
+pub mod Prefixes
+pub mod Growth
+pub mod Known
+pub mod ExpressionsFollow
+pub mod CallsFollow
+pub mod StatementsFollow
+pub mod NumbersFrom
+pub mod ProgramsSound
+pub mod OpenBrackets

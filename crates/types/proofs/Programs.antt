@@ -6,7 +6,8 @@ use Rattle.syntax.specs.declared.tree.Relation.TheVariants.{Less, AtMost, Equal}
 use Rattle.types.specs.declared.code.Operator.TheVariants.{Plus, Minus, Times, Over, Modulo}
 use Rattle.types.specs.Code.{Number, Literal, Scalar, Element, Length, Negative, Chain, Done, Link, Constant, Compare}
 use Rattle.types.specs.Code.{Skip, Assign, Store, Print, Raise, Code, Do, If, While, Split, Call, Async, Finish, Codes}
-use Rattle.types.specs.Code.{End, Then, Array, Parameter, Procedure, Program}
+use Rattle.types.specs.Code.{End, Then, Array, Procedure, Program}
+use Rattle.types.specs.Sound.{as_parameter}
 
 -- a labelled statement before others
 infixr 4 ◌⨾◌
@@ -19,10 +20,6 @@ lit n = Literal (pos n)
 -- an array of ints whose name is one letter
 abbrev pub ints : (letter n : ℕ) → Array
 ints letter n = record { name = letter ∷ []; element = Int; length = n }
-
--- an array as a parameter of `main`
-abbrev pub as_parameter : Array → Parameter
-as_parameter a = record { may_write = true; element = a.element }
 
 -- `main` with these arrays; sides of splits have no names here
 abbrev pub main_of : List Array → (slots : ℕ) → List Origin → Codes → Program

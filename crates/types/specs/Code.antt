@@ -15,10 +15,12 @@ mutual
     Length : (section : ℕ) → Number
     Negative : Number → Number
     Chain : (first : Number) → (rest : Links) → Number
+    deriving IsSet as Number-set
 
   pub data Links : Type 0 where
     Done : Links
     Link : Operator → (operand : Number) → Links → Links
+    deriving IsSet as Links-set
 
 -- an expression for a truth value
 mutual
@@ -28,10 +30,12 @@ mutual
     Not : Truth → Truth
     Both : Truths → Truth
     Either : Truths → Truth
+    deriving IsSet as Truth-set
 
   pub data Truths : Type 0 where
     NoMore : Truths
     Also : Truth → Truths → Truths
+    deriving IsSet as Truths-set
 
 -- a statement that runs in one step
 pub data Primitive : Type 0 where
@@ -40,6 +44,7 @@ pub data Primitive : Type 0 where
   Store : (section : ℕ) → (index value : Number) → Primitive
   Print : (values : List Number) → Primitive
   Raise : (value : Number) → Primitive
+  deriving IsSet as Primitive-set
 
 -- a statement; and a list of statements, each behind its label
 mutual
@@ -51,10 +56,12 @@ mutual
     Call : (procedure : ℕ) → (values : List Number) → (sections : List ℕ) → Code
     Async : (body : Codes) → Code
     Finish : (body : Codes) → Code
+    deriving IsSet as Code-set
 
   pub data Codes : Type 0 where
     End : Codes
     Then : (label : ℕ) → Code → (rest : Codes) → Codes
+    deriving IsSet as Codes-set
 
 -- a declared array; its name is bytes
 pub record Array : Type 0 where

@@ -1,8 +1,10 @@
 -- The first part of the language: whole arrays, literals, asyncs and finishes.
 use Rattle.std.specs.Prelude.{ℕ, ◌+◌, Bool, true, false, ◌&&◌, ℤ, pos, negsuc, nat_lt, nat_le}
 use Rattle.std.specs.List.{list_all}
-use Rattle.types.specs.Code.{Number, Literal, Scalar, Element, Length, Negative, Chain, Primitive, Skip, Assign, Store}
-use Rattle.types.specs.Code.{Print, Raise, Code, Do, If, While, Split, Call, Async, Finish, Codes, End, Then, Program}
+use Rattle.types.specs.Code.{Number, Literal, Scalar, Element, Length, Negative, Chain, Primitive}
+use Rattle.types.specs.Code.{Skip, Assign, Store}
+use Rattle.types.specs.Code.{Print, Raise, Code, Do, If, While, Split, Call, Async, Finish, Codes}
+use Rattle.types.specs.Code.{End, Then, Program}
 use Rattle.types.specs.Run.{array_of}
 use Rattle.types.specs.Value.{holds_number}
 

@@ -1,6 +1,7 @@
 -- Which inputs fit a program, what a JSON value says of its arrays, and what is wrong where it says nothing.
 use Rattle.std.specs.Prelude.{ℕ, ◌+◌, ◌≡◌, ◌&&◌, List, [], ◌∷◌, length, replicate, Bool, true, ℤ, pos, nat_eq}
-use Rattle.std.specs.Prelude.{Option, Some, None, option_map, option_and_then, unwrap_or, Result, Ok, Err, ok_or}
+use Rattle.std.specs.Prelude.{Option, Some, None, option_map, option_and_then, unwrap_or, Result}
+use Rattle.std.specs.Prelude.{Ok, Err, ok_or}
 use Rattle.std.specs.Prelude.{if◌then◌else◌}
 use Rattle.std.specs.Str.{bytes_eq}
 use Rattle.std.specs.List.{list_all, list_any}
@@ -43,7 +44,8 @@ pub data IsInput : List Array → List (List ℤ) → Type 0 where
 -- what is wrong with a list for an array: its length comes first
 abbrev pub wrong_row : Array → List ℤ → Option Mistake
 wrong_row x row =
-    if nat_eq (length row) x.length then (if list_all (holds_number x.element) row then None else Some (BadElement x.name))
+    if nat_eq (length row) x.length
+    then (if list_all (holds_number x.element) row then None else Some (BadElement x.name))
     else Some (OtherLength x.name)
 
 -- the first thing that is wrong, where there is one
@@ -59,7 +61,8 @@ wrong_rows (x ∷ xs) (row ∷ rows) = first_of (wrong_row x row) (wrong_rows xs
 
 -- what is wrong with an input of these lists: their number comes before any array
 abbrev pub wrong_input : List Array → List (List ℤ) → Option Mistake
-wrong_input arrays rows = if nat_eq (length rows) (length arrays) then wrong_rows arrays rows else Some OtherCount
+wrong_input arrays rows =
+    if nat_eq (length rows) (length arrays) then wrong_rows arrays rows else Some OtherCount
 
 -- the number that a JSON value is, where it is one of 64 bits with sign that the element type holds
 abbrev pub number_in : ElementType → Data → Option ℤ

@@ -1,6 +1,7 @@
 -- The labels of a program's code.
 use Rattle.std.specs.Prelude.{ℕ, List, [], ◌∷◌, ◌++◌}
-use Rattle.types.specs.Code.{Code, Do, If, While, Split, Call, Async, Finish, Codes, End, Then, Procedure, Program}
+use Rattle.types.specs.Code.{Code, Do, If, While, Split, Call, Async, Finish, Codes, End, Then}
+use Rattle.types.specs.Code.{Procedure, Program}
 
 abbrev mutual
   -- the labels inside a statement, and those of a list of statements, in the order of the text

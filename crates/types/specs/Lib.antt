@@ -21,8 +21,14 @@ pub mod Rows
 pub mod Rules
 pub mod Run
 pub mod Scope
+pub mod Sets
+pub mod Sound
 pub mod Stands
 pub mod Told
 pub mod Translation
+pub mod TreePlaces
+pub mod TreeRuns
+pub mod TreeSteps
+pub mod Trees
 pub mod Typed
 pub mod Value

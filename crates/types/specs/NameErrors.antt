@@ -1,7 +1,8 @@
 -- Which errors the names of a statement are, by what they mean at its place. The statement has the label.
 use Rattle.std.specs.Prelude.{ℕ, List, [], ◌∷◌, Option, Some, None, nat_lt, if◌then◌else◌}
 use Rattle.types.specs.declared.error.TypeError.{TypeError}
-use Rattle.types.specs.declared.error.TypeError.TheVariants.{NotInScope, DeclaredTwice, WrongKind, AssignedOutsideAsync, ReadOnly}
+use Rattle.types.specs.declared.error.TypeError.TheVariants.{NotInScope, DeclaredTwice, WrongKind}
+use Rattle.types.specs.declared.error.TypeError.TheVariants.{AssignedOutsideAsync, ReadOnly}
 use Rattle.types.specs.Code.{Parameter}
 use Rattle.types.specs.Scope.{Meant, ASection, AScalar, Scope, kind_of}
 
@@ -37,4 +38,5 @@ module _ (label : ℕ) where
   abbrev pub naming_assigned : Scope → Option Meant → List TypeError
   naming_assigned here None = NotInScope label ∷ []
   naming_assigned here (Some (ASection s)) = WrongKind label ∷ []
-  naming_assigned here (Some (AScalar k)) = if nat_lt k here.outside then AssignedOutsideAsync label ∷ [] else []
+  naming_assigned here (Some (AScalar k)) =
+      if nat_lt k here.outside then AssignedOutsideAsync label ∷ [] else []

@@ -1,28 +1,38 @@
 -- The code of a program: what its names mean, and which label each statement has.
-use Rattle.std.specs.Prelude.{ℕ, ◌+◌, List, [], ◌∷◌, map, length, codes as ascii, true, false, pos, Option, Some, None}
+use Rattle.std.specs.Prelude.{ℕ, ◌+◌, List, [], ◌∷◌, map, length, codes as ascii, true, false, pos}
+use Rattle.std.specs.Prelude.{Option, Some, None}
 use Rattle.std.specs.Prelude.{option_map, nat_eq, if◌then◌else◌}
 use Rattle.std.specs.Cmp.Lexicographic.{pointwise}
 use Rattle.syntax.specs.declared.tree.Sign.{Sign}
 use Rattle.syntax.specs.declared.tree.Sign.TheVariants.{Plus as SignPlus, Minus as SignMinus}
 use Rattle.syntax.specs.declared.tree.Operator.{Operator as Factored}
-use Rattle.syntax.specs.declared.tree.Operator.TheVariants.{Times as ByTimes, Over as ByOver, Modulo as ByModulo}
+use Rattle.syntax.specs.declared.tree.Operator.TheVariants.{Times as ByTimes, Over as ByOver}
+use Rattle.syntax.specs.declared.tree.Operator.TheVariants.{Modulo as ByModulo}
 use Rattle.syntax.specs.Tree.{Expr, Or, Conjs, NoConj, OrConj, Conj, And, Negs, NoNeg, AndNeg, Neg, Plainly}
-use Rattle.syntax.specs.Tree.{Not as Denied, Cmp, Alone, Compare as Compared, Sum, Add, Terms, NoTerm, AddTerm, Prod}
-use Rattle.syntax.specs.Tree.{Multiply, Factors, NoFactor, MultiplyFactor, Unary, Positive, Negative as Minus_of, Atom}
-use Rattle.syntax.specs.Tree.{Number as Numeral, True, False, Name, Element as Element_of, Length as Length_of, Parens}
+use Rattle.syntax.specs.Tree.{Not as Denied, Cmp, Alone, Compare as Compared, Sum, Add, Terms}
+use Rattle.syntax.specs.Tree.{NoTerm, AddTerm, Prod}
+use Rattle.syntax.specs.Tree.{Multiply, Factors, NoFactor, MultiplyFactor, Unary, Positive}
+use Rattle.syntax.specs.Tree.{Negative as Minus_of, Atom}
+use Rattle.syntax.specs.Tree.{Number as Numeral, True, False, Name, Element as Element_of}
+use Rattle.syntax.specs.Tree.{Length as Length_of, Parens}
 use Rattle.syntax.specs.Tree.{Stmt, Skip as Skips, Var, Assign as Assigns, Store as Stores, Print as Prints}
-use Rattle.syntax.specs.Tree.{Fault as Faults, If as Ifs, IfElse, While as Whiles, Split as Splits, Call as Calls}
+use Rattle.syntax.specs.Tree.{Fault as Faults, If as Ifs, IfElse, While as Whiles, Split as Splits}
+use Rattle.syntax.specs.Tree.{Call as Calls}
 use Rattle.syntax.specs.Tree.{Async as Asyncs, Finish as Finishes, Block, End as Ends, Then as Thens}
-use Rattle.syntax.specs.Tree.{Array as DeclaredArray, Parameter as DeclaredParameter, Scalar as ScalarParameter}
+use Rattle.syntax.specs.Tree.{Array as DeclaredArray, Parameter as DeclaredParameter}
+use Rattle.syntax.specs.Tree.{Scalar as ScalarParameter}
 use Rattle.syntax.specs.Tree.{Procedure as DeclaredProcedure, Main, Program as Text, Written, Read}
 use Rattle.syntax.specs.Tree.{lone_atom}
 use Rattle.types.specs.declared.code.Operator.{Operator}
 use Rattle.types.specs.declared.code.Operator.TheVariants.{Plus, Minus, Times, Over, Modulo}
-use Rattle.types.specs.Code.{Number, Literal, Scalar, Element, Length, Negative, Chain, Links, Done, Link, Truth}
-use Rattle.types.specs.Code.{Constant, Compare, Not, Both, Either, Truths, NoMore, Also, Skip, Assign, Store, Print}
+use Rattle.types.specs.Code.{Number, Literal, Scalar, Element, Length, Negative, Chain, Links, Done}
+use Rattle.types.specs.Code.{Link, Truth}
+use Rattle.types.specs.Code.{Constant, Compare, Not, Both, Either, Truths, NoMore, Also, Skip}
+use Rattle.types.specs.Code.{Assign, Store, Print}
 use Rattle.types.specs.Code.{Raise, Code, Do, If, While, Split, Call, Async, Finish, Codes, End, Then, Array}
 use Rattle.types.specs.Code.{Procedure, Program}
-use Rattle.types.specs.Scope.{Names, Scope, section_of, slot_of, with_sides, next, inside_async, out_of, behind, after}
+use Rattle.types.specs.Scope.{Names, Scope, section_of, slot_of, with_sides, next, inside_async}
+use Rattle.types.specs.Scope.{out_of, behind, after}
 use Rattle.types.specs.Scope.{in_procedure, in_main}
 
 abbrev pub sign : Sign → Operator
@@ -70,7 +80,8 @@ module _ (names : Names) where
 
     pub number_prod : Prod → Number
     number_prod (Multiply u NoFactor) = number_unary u
-    number_prod (Multiply u (MultiplyFactor o w rest)) = Chain (number_unary u) (Link (factor o) (number_unary w) (factors rest))
+    number_prod (Multiply u (MultiplyFactor o w rest)) =
+        Chain (number_unary u) (Link (factor o) (number_unary w) (factors rest))
 
     pub factors : Factors → Links
     factors NoFactor = Done
@@ -160,7 +171,8 @@ sections_for names ps es = []
 -- the number and the parameters of the first procedure of a name, where those before it are n
 abbrev pub procedure_of : (n : ℕ) → List ℕ → List DeclaredProcedure → Option (ℕ × List DeclaredParameter)
 procedure_of n x [] = None
-procedure_of n x (f ∷ fs) = if pointwise nat_eq x f.name then Some (n, f.parameters) else procedure_of (n + 1) x fs
+procedure_of n x (f ∷ fs) =
+    if pointwise nat_eq x f.name then Some (n, f.parameters) else procedure_of (n + 1) x fs
 
 module _ (procedures : List DeclaredProcedure) where
   -- a call of a procedure that isn't there stands for nothing
@@ -174,13 +186,18 @@ module _ (procedures : List DeclaredProcedure) where
     code here Skips = Do Skip
     code here (Var x e) = Do (Assign here.slot (number here.names e))
     code here (Assigns x e) = Do (Assign (slot_of here.names x) (number here.names e))
-    code here (Stores s i e) = Do (Store (section_of here.names s) (number here.names i) (number here.names e))
+    code here (Stores s i e) =
+        Do (Store (section_of here.names s) (number here.names i) (number here.names e))
     code here (Prints e es) = Do (Print (number here.names e ∷ map (number here.names) es))
     code here (Faults e) = Do (Raise (number here.names e))
     code here (Ifs e b) = If (truth here.names e) (codes (next here) b) End
-    code here (IfElse e b c) = If (truth here.names e) (codes (next here) b) (codes (out_of here (after b (next here))) c)
+    code here (IfElse e b c) =
+        If (truth here.names e) (codes (next here) b)
+        (codes (out_of here (after b (next here))) c)
     code here (Whiles e b) = While (truth here.names e) (codes (next here) b)
-    code here (Splits s e l r b) = Split (section_of here.names s) (number here.names e) (length here.sections) (length here.sections + 1)
+    code here (Splits s e l r b) =
+        Split (section_of here.names s) (number here.names e) (length here.sections)
+        (length here.sections + 1)
         (codes (with_sides (section_of here.names s) l r (next here)) b)
     code here (Calls f es) = call here.names (procedure_of 0 f procedures) es
     code here (Asyncs b) = Async (codes (inside_async (next here)) b)
@@ -217,7 +234,9 @@ module _ (all : List DeclaredProcedure) where
   -- procedures, the first of which begins with the label
   abbrev pub procedures : (label : ℕ) → List DeclaredProcedure → List Procedure
   procedures label [] = []
-  procedures label (f ∷ fs) = resolved f.name (in_procedure label f.parameters) f.body ∷ procedures (label_behind label f) fs
+  procedures label (f ∷ fs) =
+      resolved f.name (in_procedure label f.parameters) f.body
+      ∷ procedures (label_behind label f) fs
 
 -- `main` has the arrays as its parameters
 abbrev pub with_main : List DeclaredProcedure → Main → Program

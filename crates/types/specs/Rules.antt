@@ -1,16 +1,21 @@
--- Which rules of the language a program breaks: its errors, each with its kind and, where it lies in a statement, the label.
-use Rattle.std.specs.Prelude.{ℕ, ◌+◌, ◌≡◌, List, [], ◌∷◌, ◌++◌, Option, Some, None, length, sum_by, nat_eq, nat_lt, if◌then◌else◌}
+-- Which rules of the language a program breaks: its errors, each with its kind and, where it lies in
+-- a statement, the label.
+use Rattle.std.specs.Prelude.{ℕ, ◌+◌, ◌≡◌, List, [], ◌∷◌, ◌++◌, Option, Some, None, length, sum_by}
+use Rattle.std.specs.Prelude.{nat_eq, nat_lt, if◌then◌else◌}
 use Rattle.std.specs.List.{list_any}
 use Rattle.std.specs.Cmp.Lexicographic.{pointwise}
-use Rattle.syntax.specs.Tree.{Stmt, Skip, Var, Assign, Store, Print, Fault, If, IfElse, While, Split, Call, Async}
-use Rattle.syntax.specs.Tree.{Finish, Block, End, Then, Array, Parameter, Written, Read, Scalar, Procedure, Main, Program}
+use Rattle.syntax.specs.Tree.{Stmt, Skip, Var, Assign, Store, Print, Fault, If, IfElse, While}
+use Rattle.syntax.specs.Tree.{Split, Call, Async}
+use Rattle.syntax.specs.Tree.{Finish, Block, End, Then, Array, Parameter, Written, Read, Scalar}
+use Rattle.syntax.specs.Tree.{Procedure, Main, Program}
 use Rattle.types.specs.declared.error.TypeError.{TypeError}
 use Rattle.types.specs.declared.error.TypeError.TheVariants.{DeclaredTwice, NoMain, OverLimit}
 use Rattle.types.specs.CallErrors.{calling}
 use Rattle.types.specs.ExpressionErrors.{number, numbers, truth}
 use Rattle.types.specs.NameErrors.{declaring, naming_section, naming_written, naming_assigned}
 use Rattle.types.specs.Resolution.{procedure_of, label_behind, label_behind_all}
-use Rattle.types.specs.Scope.{ASection, meant, section_of, Scope, empty_scope, next, inside_async, with_sides, out_of, behind}
+use Rattle.types.specs.Scope.{ASection, meant, section_of, Scope, empty_scope, next, inside_async}
+use Rattle.types.specs.Scope.{with_sides, out_of, behind}
 use Rattle.types.specs.Scope.{after, with_parameter, with_array, in_procedure, in_main}
 
 -- Y9: there are more than so many
@@ -21,10 +26,13 @@ module _ (procedures : List Procedure) where
   -- the errors of a statement itself, without those of the statements inside it
   abbrev pub own_errors : Scope → Stmt → List TypeError
   own_errors here Skip = []
-  own_errors here (Var x e) = number here.label here.names e ++ declaring (Some here.label) (meant x here.names)
-  own_errors here (Assign x e) = naming_assigned here.label here (meant x here.names) ++ number here.label here.names e
+  own_errors here (Var x e) =
+      number here.label here.names e ++ declaring (Some here.label) (meant x here.names)
+  own_errors here (Assign x e) =
+      naming_assigned here.label here (meant x here.names) ++ number here.label here.names e
   own_errors here (Store s i e) =
-      naming_written here.label here (meant s here.names) ++ (number here.label here.names i ++ number here.label here.names e)
+      naming_written here.label here (meant s here.names)
+      ++ (number here.label here.names i ++ number here.label here.names e)
   own_errors here (Print e es) = numbers here.label here.names (e ∷ es)
   own_errors here (Fault e) = number here.label here.names e
   own_errors here (If e b) = truth here.label here.names e
@@ -73,17 +81,20 @@ name_of (Scalar x) = x
 
 abbrev pub parameter_errors : Scope → List Parameter → List TypeError
 parameter_errors here [] = []
-parameter_errors here (p ∷ ps) = declaring None (meant (name_of p) here.names) ++ parameter_errors (with_parameter p here) ps
+parameter_errors here (p ∷ ps) =
+    declaring None (meant (name_of p) here.names) ++ parameter_errors (with_parameter p here) ps
 
 abbrev pub array_errors : Scope → List Array → List TypeError
 array_errors here [] = []
-array_errors here (a ∷ arrays) = declaring None (meant a.name here.names) ++ array_errors (with_array a here) arrays
+array_errors here (a ∷ arrays) =
+    declaring None (meant a.name here.names) ++ array_errors (with_array a here) arrays
 
 -- Y2: a procedure has the name of one before it
 abbrev pub name_errors : (before : List (List ℕ)) → List Procedure → List TypeError
 name_errors before [] = []
 name_errors before (f ∷ fs) =
-    (if list_any (pointwise nat_eq f.name) before then DeclaredTwice None ∷ [] else []) ++ name_errors (before ++ f.name ∷ []) fs
+    (if list_any (pointwise nat_eq f.name) before then DeclaredTwice None ∷ [] else [])
+    ++ name_errors (before ++ f.name ∷ []) fs
 
 module _ (all : List Procedure) where
   -- a procedure whose first statement has the label; Y9: 16 parameters
@@ -96,7 +107,8 @@ module _ (all : List Procedure) where
   procedures_errors label [] = []
   procedures_errors label (f ∷ fs) = procedure_errors label f ++ procedures_errors (label_behind label f) fs
 
-  -- `main`, whose first statement has the label; Y8: there is none; Y9: 32 arrays, and 4,194,304 elements of all together
+  -- `main`, whose first statement has the label; Y8: there is none; Y9: 32 arrays, and 4,194,304
+  -- elements of all together
   abbrev pub main_errors : (label : ℕ) → Option Main → List TypeError
   main_errors label None = NoMain ∷ []
   main_errors label (Some m) =

@@ -1,10 +1,12 @@
 -- What a task does: the one recursion over statements, by rules for what an async and a finish do.
-use Rattle.std.specs.Prelude.{ℕ, zero, suc, ◌+◌, List, [], ◌∷◌, ◌++◌, map, Bool, true, false, ℤ, pos, Ok, Err, ok_or}
+use Rattle.std.specs.Prelude.{ℕ, zero, suc, ◌+◌, List, [], ◌∷◌, ◌++◌, map, Bool, true, false, ℤ}
+use Rattle.std.specs.Prelude.{pos, Ok, Err, ok_or}
 use Rattle.std.specs.Prelude.{nat_eq, slice_index_or, if◌then◌else◌}
 use Rattle.syntax.specs.declared.tree.ElementType.TheVariants.{Int}
 use Rattle.types.specs.declared.fault.FaultKind.{FaultKind}
 use Rattle.types.specs.declared.fault.FaultKind.TheVariants.{OutOfElement, SplitPoint, Raised}
-use Rattle.types.specs.Code.{Number, Truth, Primitive, Skip, Assign, Store, Print, Raise, Code, Do, If, While, Split}
+use Rattle.types.specs.Code.{Number, Truth, Primitive, Skip, Assign, Store, Print, Raise, Code, Do}
+use Rattle.types.specs.Code.{If, While, Split}
 use Rattle.types.specs.Code.{Call, Async, Finish, Codes, End, Then, Array, Procedure, Program}
 use Rattle.sections.specs.Place.{Window, Place, nowhere, sides_of}
 use Rattle.types.specs.Contents.{Contents, read, write}
@@ -64,7 +66,15 @@ abbrev pub no_array : Array
 no_array = record { name = []; element = Int; length = 0 }
 
 abbrev pub no_procedure : Procedure
-no_procedure = record { name = []; section_names = []; parameters = []; scalars = 0; slots = 0; sections = []; body = End }
+no_procedure = record {
+  name = [];
+  section_names = [];
+  parameters = [];
+  scalars = 0;
+  slots = 0;
+  sections = [];
+  body = End;
+}
 
 -- the array, and the procedure, of a number
 abbrev pub array_of : Program → ℕ → Array

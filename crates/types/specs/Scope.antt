@@ -4,7 +4,8 @@ use Rattle.std.specs.Prelude.{nat_eq, if◌then◌else◌, slice_index_or}
 use Rattle.std.specs.Cmp.Lexicographic.{pointwise}
 use Rattle.syntax.specs.declared.tree.ElementType.{ElementType}
 use Rattle.syntax.specs.declared.tree.ElementType.TheVariants.{Int}
-use Rattle.syntax.specs.Tree.{Stmt, Skip, Var, Assign, Store, Print, Fault, If, IfElse, While, Split, Call, Async}
+use Rattle.syntax.specs.Tree.{Stmt, Skip, Var, Assign, Store, Print, Fault, If, IfElse, While}
+use Rattle.syntax.specs.Tree.{Split, Call, Async}
 use Rattle.syntax.specs.Tree.{Finish, Block, End, Then, Array, Parameter as Declared, Written, Read, Scalar}
 use Rattle.sections.specs.Origins.{Origin, Root, Left, Right}
 use Rattle.types.specs.Code.{Parameter}
@@ -40,9 +41,10 @@ section_of names x = section_or_0 (meant x names)
 abbrev pub slot_of : Names → List ℕ → ℕ
 slot_of names x = slot_or_0 (meant x names)
 
--- a place of a text: the names in scope there, and the label and the slot that come next. Slots below `outside` are of
--- scalars that were declared outside of the innermost async body. Of each section of the procedure so far: where it
--- comes from, its name, and whether it may be written and what it holds
+-- a place of a text: the names in scope there, and the label and the slot that come next. Slots
+-- below `outside` are of scalars that were declared outside of the innermost async body. Of each
+-- section of the procedure so far: where it comes from, its name, and whether it may be written and
+-- what it holds
 pub record Scope : Type 0 where
   pub names : Names
   pub label : ℕ

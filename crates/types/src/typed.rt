@@ -1,8 +1,10 @@
 //! A well-typed program.
 
-ghost use Rattle.std.specs.Prelude.{◌≡◌};
+ghost use Rattle.std.specs.Prelude.{◌≡◌, Some};
 ghost use Rattle.syntax.specs.Tree.{program as tree_of};
+ghost use Rattle.types.specs.Resolution.{resolution};
 ghost use Rattle.types.specs.Rules.{BreaksNoRule};
+ghost use Rattle.types.specs.Sets.{one_proof};
 ghost use Rattle.types.specs.Translation.{program as plain};
 
 use crate::code;
@@ -12,7 +14,8 @@ use crate::code;
 pub struct Typed {
     pub(crate) program: syntax::tree::Program,
     pub(crate) code: code::Program,
-    ghost right: { BreaksNoRule (tree_of program) },
+    pub ghost right: { BreaksNoRule (tree_of program) },
+    pub ghost resolved: { resolution (tree_of program) ≡ Some (plain code) } by { one_proof _ _ },
 }
 
 impl Typed {

@@ -11,10 +11,39 @@ Commands:
   run     Runs a program as tasks
   serial  Runs a program on one thread
   check   Tells whether a program would be run
+  mhp     Tells which labels of a program may run together
   help    Print this message or the help of the given subcommand(s)
 
 Options:
-  -h, --help  Print help
+  -h, --help     Print help
+  -V, --version  Print version
+
+Example: afx serial examples/doubling.afx --input examples/doubling.json --arrays
+
+Exit status:
+  0  the run ended; the program is accepted; pairs of labels; help
+  1  refused: the command line, a file, the text, a rule, Z1, a race, the input, the output
+  2  the run ended with faults
+  3  the run was stopped over its budget
+  4  no memory
+  5  the result of a task was lost
+";
+
+const SERIAL_HELP: &str = "Runs a program on one thread
+
+Usage: afx serial [OPTIONS] <FILE>
+
+Arguments:
+  <FILE>  The program; - is the standard input
+
+Options:
+      --input <JSON>  The file of the arrays' first contents; without it they hold zeros
+      --steps <N>     How many steps each task may take; without it 1000000
+      --nest <N>      How many asyncs may stand inside one another; without it 100
+      --arrays        Shows the arrays behind the outcome
+  -h, --help          Print help
+
+Example: afx serial examples/doubling.afx --input examples/doubling.json --arrays
 ";
 
 const UNKNOWN_COMMAND: &str = "error: unrecognized subcommand 'fly'
@@ -28,7 +57,7 @@ const UNKNOWN_OPTION: &str = "error: unexpected argument '--fast' found
 
   tip: to pass '--fast' as a value, use '-- --fast'
 
-Usage: afx run <FILE>
+Usage: afx run [OPTIONS] <FILE>
 
 For more information, try '--help'.
 ";
@@ -103,6 +132,22 @@ pub const ROWS: &[Row] = &[
         words: &["help"],
         text: "",
         out: HELP,
+        err: "",
+        status: 0,
+    },
+    Row {
+        name: "help of a command",
+        words: &["serial", "--help"],
+        text: "",
+        out: SERIAL_HELP,
+        err: "",
+        status: 0,
+    },
+    Row {
+        name: "the version",
+        words: &["--version"],
+        text: "",
+        out: "afx 0.1.0\n",
         err: "",
         status: 0,
     },

@@ -45,7 +45,7 @@ fn carved_and_pasted(rt: HostRuntime) -> Result<(), Fail> {
     compare(&rt, &own, OUTER, "left");
     assert_eq!(rt; own.write(ARRAY, 1, 5), Err(HoldError::NotHeld));
     assert_eq!(rt; own.read(ArrayId { number: 1 }, 0), Err(HoldError::NotHeld));
-    let pasted = own.paste(part).is_ok();
+    let pasted = own.paste(alloc, part).is_ok();
     assert!(rt; pasted);
     compare(&rt, &own, ALL, "pasted");
     Ok(())
@@ -102,7 +102,7 @@ fn what_a_paste_takes_in(rt: HostRuntime) -> Result<(), Fail> {
     let mut snapshot = own.share(alloc, &inner)?;
     own.write(ARRAY, 1, 7)?;
     let part = own.carve(alloc, &inner)?;
-    let over_copies = snapshot.paste(part).is_ok();
+    let over_copies = snapshot.paste(alloc, part).is_ok();
     assert!(rt; over_copies);
     assert_eq!(rt;
         snapshot.read(ARRAY, 1),
@@ -110,7 +110,7 @@ fn what_a_paste_takes_in(rt: HostRuntime) -> Result<(), Fail> {
         "an owned place hides its copy"
     );
     let copies = own.share(alloc, &windows(&rt, alloc, &[(0, 3, 1)])?)?;
-    let dropped = snapshot.paste(copies).is_ok();
+    let dropped = snapshot.paste(alloc, copies).is_ok();
     assert!(rt; dropped);
     assert_eq!(rt;
         snapshot.read(ARRAY, 3),
@@ -124,7 +124,7 @@ fn what_a_paste_takes_in(rt: HostRuntime) -> Result<(), Fail> {
 fn places_owned_twice(rt: HostRuntime) {
     let alloc = rt.alloc();
     let mut own = four(&rt, alloc);
-    match own.paste(four(&rt, alloc)) {
+    match own.paste(alloc, four(&rt, alloc)) {
         Ok(()) => panic!(rt; "places owned twice"),
         Err((error, back)) => {
             assert_eq!(rt; error, HoldError::OwnedTwice);

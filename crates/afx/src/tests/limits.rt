@@ -40,7 +40,7 @@ const ROWS: &[Long] = &[
         status: 1,
     },
     Long {
-        words: SERIAL,
+        words: RUN,
         head: "main { ",
         count: 10_000,
         part: "skip; ",
@@ -50,7 +50,7 @@ const ROWS: &[Long] = &[
         status: 0,
     },
     Long {
-        words: SERIAL,
+        words: RUN,
         head: "main { ",
         count: 10_001,
         part: "skip; ",
@@ -66,8 +66,8 @@ const ROWS: &[Long] = &[
         part: "skip; ",
         closing: "",
         tail: "}",
-        err: "Z1\n",
-        status: 1,
+        err: "",
+        status: 0,
     },
     Long {
         words: SERIAL,

@@ -24,6 +24,8 @@ pub const CHECK: &[&str] = &["check", "program.afx"];
 
 pub const LIST: &[&str] = &["check", "--list", "program.afx"];
 
+pub const PAIRS: &[&str] = &["mhp", "program.afx"];
+
 pub const TWO_ARRAYS: &str = "main {
   array a: int[1];
   array b: int[1];
@@ -43,15 +45,29 @@ pub const RACE: &str = "main {
   print a[0];
 }";
 
+/// Doubles each element, half by half, each left half as a task.
+pub const DOUBLING: &str = "proc twice(mut s: int) {
+  if len(s) <= 1 {
+    if len(s) == 1 { s[0] = s[0] * 2; }
+  } else {
+    split s at len(s) / 2 as l, r {
+      async { twice(l); }
+      twice(r);
+    }
+  }
+}
+main { array a: int[1024]; finish { twice(a); } }";
+
 /// The text of `other.afx`, which is always there.
 const OTHER: &str = "main { print 1; }";
 
-/// A shelf of three files: the program, under the names `program.afx` and `-`, `other.afx`, and `heavy.afx`, for
-/// which there is no memory.
+/// A shelf of files: the program, under the names `program.afx` and `-`, `input.json`, `other.afx`, and `heavy.afx`,
+/// for which there is no memory.
 #[derive(Drop)]
 pub struct Shelf<'t> {
     pub alloc: Global,
     pub program: &'t [u8],
+    pub input: &'t [u8],
 }
 
 impl FileSource for Shelf<'_> {
@@ -59,6 +75,7 @@ impl FileSource for Shelf<'_> {
         let bytes = match name {
             "program.afx" => self.program,
             "-" => self.program,
+            "input.json" => self.input,
             "other.afx" => OTHER.as_bytes(),
             "heavy.afx" => return Err(FileError::NoMemory),
             _ => return Err(FileError::Failed),
@@ -86,8 +103,22 @@ pub struct Answer {
 
 /// Does what the words ask, where the program has these bytes.
 pub fn answered(alloc: Global, words: &[&str], program: &[u8]) -> Result<Answer, AllocError> {
+    answered_with_input(alloc, words, program, b"{}")
+}
+
+/// Does what the words ask, where the program and the file `input.json` have these bytes.
+pub fn answered_with_input(
+    alloc: Global,
+    words: &[&str],
+    program: &[u8],
+    input: &[u8],
+) -> Result<Answer, AllocError> {
     let words = owned(alloc, words)?;
-    let mut files = Shelf { alloc, program };
+    let mut files = Shelf {
+        alloc,
+        program,
+        input,
+    };
     let mut out = Vec::new(alloc);
     let mut err = Vec::new(alloc);
     let status = act(alloc, &words, &mut files, &mut out, &mut err);

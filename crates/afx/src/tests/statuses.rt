@@ -1,4 +1,4 @@
-//! Each exit status once: 0 and 1 stand in every table; no program of the first part comes to 2, 3 or 5.
+//! Each exit status once, by the calls that give it: 0 and 1 stand in every table, and no command comes to 5.
 
 use crate::tests::outputs::faulted;
 use crate::tests::rows::answered;
@@ -16,7 +16,7 @@ fn an_outcome_or_a_failure_has_its_status(rt: HostRuntime) -> Result<(), Fail> {
     let faulted = faulted(alloc)?;
     for (outcome, status) in [(faulted, 2), (Outcome::Stopped, 3)] {
         let mut out = Vec::new(alloc);
-        let shown = show(&mut out, &[], &outcome);
+        let shown = show(&mut out, &[], &outcome, false);
         assert!(rt;
             matches!(shown, Ok(given) if given == status),
             "status {status}"

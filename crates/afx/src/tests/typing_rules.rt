@@ -1,16 +1,17 @@
 //! The typing rules, each by programs that keep it and programs that break it alone.
 //!
-//! A program that breaks no rule isn't served by `check` yet, which answers `Z1`; one that breaks a rule is told its
-//! code, and the label where it is broken in a statement.
+//! A program that breaks no rule is accepted without a message; one that breaks a rule is told its code, and the label
+//! where it is broken in a statement.
 
-use crate::tests::rows::{CHECK, answered};
 use std::alloc::{AllocError, Global};
 use std::test::Fail;
+use syntax::parse;
+use types::check::type_check;
 
-/// A program, and the line that `check` tells.
+/// A program, and the line that tells what is wrong with it.
 type Verdict = (&'static str, &'static str);
 
-const RIGHT: &str = "Z1\n";
+const RIGHT: &str = "";
 
 /// Y1: names and procedures that aren't in scope.
 const SCOPE: &[Verdict] = &[
@@ -327,6 +328,18 @@ const MAIN: &[Verdict] = &[
     ("proc f() { f(); } proc g() { }", "Y8\n"),
 ];
 
+/// The line that tells what is wrong with a text.
+fn verdict(alloc: Global, text: &str) -> Result<String, AllocError> {
+    let program = match parse(alloc, text) {
+        Ok(program) => program,
+        Err(error) => return format!(in alloc; "{error}\n"),
+    };
+    match type_check(alloc, program) {
+        Ok(_) => Ok(String::new(alloc)),
+        Err(error) => format!(in alloc; "{error}\n"),
+    }
+}
+
 #[test]
 fn a_program_keeps_the_rules_or_is_told_which_it_breaks(rt: HostRuntime) -> Result<(), Fail> {
     let rules = [
@@ -334,9 +347,7 @@ fn a_program_keeps_the_rules_or_is_told_which_it_breaks(rt: HostRuntime) -> Resu
     ];
     for rows in rules {
         for (text, line) in rows {
-            let told = answered(rt.alloc(), CHECK, text.as_bytes())?;
-            assert_eq!(rt; told.err.as_slice(), line.as_bytes(), "of {text}");
-            assert_eq!(rt; told.status, 1, "status of {text}");
+            assert_eq!(rt; verdict(rt.alloc(), text)?.as_str(), *line, "of {text}");
         }
     }
     Ok(())
@@ -453,11 +464,11 @@ fn text_of(alloc: Global, row: &Many) -> Result<String, AllocError> {
 fn each_limit_is_met_and_passed_by_one(rt: HostRuntime) -> Result<(), Fail> {
     let alloc = rt.alloc();
     for row in LIMITS {
-        let told = answered(alloc, CHECK, text_of(alloc, row)?.as_bytes())?;
+        let text = text_of(alloc, row)?;
         let Many { count, before, .. } = row;
         assert_eq!(rt;
-            told.err.as_slice(),
-            row.line.as_bytes(),
+            verdict(alloc, text.as_str())?.as_str(),
+            row.line,
             "of {count} times {before}"
         );
     }

@@ -76,6 +76,7 @@ fn an_output_or_an_error_output_that_ends(rt: HostRuntime) -> Result<(), Fail> {
             let mut files = Shelf {
                 alloc,
                 program: row.text.as_bytes(),
+                input: b"{}",
             };
             let mut out = Ending {
                 left: row.left,

@@ -2,7 +2,8 @@
 
 #![tactic(auto, using(crate::proofs::Telling::told_left, crate::proofs::Telling::told_right, crate::proofs::Telling::told_memory, crate::proofs::Telling::told_alone, crate::proofs::Telling::none_both))]
 
-ghost use Rattle.std.specs.Prelude.{◌≡◌, [], ◌∷◌, ◌++◌, ◌≤◌, ◌+◌, map, OnOk, IfOk, IfErr, length, sum_by, Some, None, codes};
+ghost use Rattle.std.specs.Prelude.{◌≡◌, [], ◌∷◌, ◌++◌, ◌≤◌, ◌+◌, map, OnOk, IfOk, IfErr, length};
+ghost use Rattle.std.specs.Prelude.{sum_by, Some, None, codes};
 ghost use Rattle.std.specs.String.{string_bytes};
 ghost use Rattle.syntax.specs.Tree.{block as block_of, procedure as procedure_as, parameter as parameter_of};
 ghost use Rattle.syntax.specs.Tree.{array as array_of, main as main_of};

@@ -2,7 +2,8 @@
 
 #![tactic(auto, using(crate::proofs::Telling::told_left, crate::proofs::Telling::told_right, crate::proofs::Telling::told_memory, crate::proofs::Telling::told_alone, crate::proofs::Telling::none_both))]
 
-ghost use Rattle.std.specs.Prelude.{◌≡◌, ◌∷◌, ◌++◌, [], ◌-◌, ◌+◌, ◌≤◌, ◌<◌, length, drop, OnOk, IfOk, IfErr, Some};
+ghost use Rattle.std.specs.Prelude.{◌≡◌, ◌∷◌, ◌++◌, [], ◌-◌, ◌+◌, ◌≤◌, ◌<◌, length, drop, OnOk};
+ghost use Rattle.std.specs.Prelude.{IfOk, IfErr, Some};
 ghost use Rattle.std.specs.String.{string_bytes};
 ghost use Rattle.types.specs.NameErrors.{declaring};
 ghost use Rattle.types.specs.Resolving.{scope_of, left as left_by, IsWellScoped};

@@ -5,11 +5,15 @@
 ghost use Rattle.std.specs.Prelude.{◌≡◌, [], ◌∷◌, ◌++◌, ◌≤◌, map, OnOk, IfOk, IfErr, Some};
 ghost use Rattle.std.specs.String.{string_bytes};
 ghost use Rattle.syntax.specs.Tree.{block as block_of, stmt as stmt_of, expr as expr_of};
-ghost use Rattle.syntax.specs.Tree.{Var, Assign, Store, Print, Fault, If, IfElse, While, Split, Call, Async, Finish};
-ghost use Rattle.types.specs.Resolution.{code as code_at, codes as codes_at, number as number_at, truth as truth_at};
-ghost use Rattle.types.specs.ExpressionErrors.{number as number_errors, numbers as numbers_errors, truth as truth_errors};
+ghost use Rattle.syntax.specs.Tree.{Var, Assign, Store, Print, Fault, If, IfElse, While, Split};
+ghost use Rattle.syntax.specs.Tree.{Call, Async, Finish};
+ghost use Rattle.types.specs.Resolution.{code as code_at, codes as codes_at, number as number_at};
+ghost use Rattle.types.specs.Resolution.{truth as truth_at};
+ghost use Rattle.types.specs.ExpressionErrors.{number as number_errors, numbers as numbers_errors};
+ghost use Rattle.types.specs.ExpressionErrors.{truth as truth_errors};
 ghost use Rattle.types.specs.NameErrors.{naming_section, naming_written, naming_assigned};
-ghost use Rattle.types.specs.Resolving.{scope_of, names_of, procedures_of, left as left_by, IsWellScoped, Resolves};
+ghost use Rattle.types.specs.Resolving.{scope_of, names_of, procedures_of, left as left_by};
+ghost use Rattle.types.specs.Resolving.{IsWellScoped, Resolves};
 ghost use Rattle.types.specs.Rules.{errors, errors_in, limit as over};
 ghost use Rattle.types.specs.Scope.{ASection, AScalar, meant, behind, after};
 ghost use Rattle.types.specs.Told.{Told};
@@ -410,9 +414,11 @@ impl Statements<'_> {
 
     /// A number in the statement that begins at this place.
     fn number(&self, scope: &Scope, e: &Expr) -> Result<Number, TypeError>
-        ensures right { OnOk result (number_errors scope.now.label (names_of scope.now.names) (expr_of e.now) ≡ []) }
+        ensures right { OnOk result
+            (number_errors scope.now.label (names_of scope.now.names) (expr_of e.now) ≡ []) }
         ensures code { IfOk result (λ r. number_at (names_of scope.now.names) (expr_of e.now) ≡ number r) }
-        ensures error { IfErr result (Told (number_errors scope.now.label (names_of scope.now.names) (expr_of e.now))) }
+        ensures error { IfErr result
+            (Told (number_errors scope.now.label (names_of scope.now.names) (expr_of e.now))) }
     {
         let expressions = Expressions {
             alloc: self.alloc,
@@ -424,9 +430,15 @@ impl Statements<'_> {
 
     /// Numbers there.
     fn numbers(&self, scope: &Scope, first: &Expr, rest: &[Expr]) -> Result<Vec<Number>, TypeError>
-        ensures right { OnOk result (numbers_errors scope.now.label (names_of scope.now.names) (expr_of first.now ∷ map expr_of rest.now) ≡ []) }
-        ensures code { IfOk result (λ r. map (number_at (names_of scope.now.names)) (expr_of first.now ∷ map expr_of rest.now) ≡ map number r.items) }
-        ensures error { IfErr result (Told (numbers_errors scope.now.label (names_of scope.now.names) (expr_of first.now ∷ map expr_of rest.now))) }
+        ensures right { OnOk result
+            (numbers_errors scope.now.label (names_of scope.now.names)
+            (expr_of first.now ∷ map expr_of rest.now) ≡ []) }
+        ensures code { IfOk result
+            (λ r. map (number_at (names_of scope.now.names))
+            (expr_of first.now ∷ map expr_of rest.now) ≡ map number r.items) }
+        ensures error { IfErr result
+            (Told (numbers_errors scope.now.label (names_of scope.now.names)
+            (expr_of first.now ∷ map expr_of rest.now))) }
     {
         let expressions = Expressions {
             alloc: self.alloc,
@@ -438,9 +450,11 @@ impl Statements<'_> {
 
     /// A truth value there.
     fn truth(&self, scope: &Scope, e: &Expr) -> Result<Truth, TypeError>
-        ensures right { OnOk result (truth_errors scope.now.label (names_of scope.now.names) (expr_of e.now) ≡ []) }
+        ensures right { OnOk result
+            (truth_errors scope.now.label (names_of scope.now.names) (expr_of e.now) ≡ []) }
         ensures code { IfOk result (λ r. truth_at (names_of scope.now.names) (expr_of e.now) ≡ truth r) }
-        ensures error { IfErr result (Told (truth_errors scope.now.label (names_of scope.now.names) (expr_of e.now))) }
+        ensures error { IfErr result
+            (Told (truth_errors scope.now.label (names_of scope.now.names) (expr_of e.now))) }
     {
         let expressions = Expressions {
             alloc: self.alloc,
@@ -452,9 +466,15 @@ impl Statements<'_> {
 
     /// A section that is named there.
     fn section(&self, scope: &Scope, name: &String) -> Result<SectionId, TypeError>
-        ensures right { OnOk result (naming_section scope.now.label (meant (string_bytes name.now) (names_of scope.now.names)) ≡ []) }
-        ensures meaning { IfOk result (λ r. meant (string_bytes name.now) (names_of scope.now.names) ≡ Some (ASection r.number)) }
-        ensures error { IfErr result (Told (naming_section scope.now.label (meant (string_bytes name.now) (names_of scope.now.names)))) }
+        ensures right { OnOk result
+            (naming_section scope.now.label (meant (string_bytes name.now)
+            (names_of scope.now.names)) ≡ []) }
+        ensures meaning { IfOk result
+            (λ r. meant (string_bytes name.now) (names_of scope.now.names)
+            ≡ Some (ASection r.number)) }
+        ensures error { IfErr result
+            (Told (naming_section scope.now.label (meant (string_bytes name.now)
+            (names_of scope.now.names)))) }
     {
         let expressions = Expressions {
             alloc: self.alloc,

@@ -1,26 +1,32 @@
 use Rattle.std.proofs.Common.{refl}
 use Rattle.std.proofs.KnownBytes.{Keeps-refl}
 use Rattle.driver.proofs.Acting.{acts, begins}
-use Rattle.driver.specs.Requests.{asked_of, file_of}
+use Rattle.driver.specs.Requests.{asked_of}
 use Rattle.driver.proofs.act.act.Goals as goal
 
 pub returns-in-Err-clause-asked : goal.returns-in-Err-clause-asked
-returns-in-Err-clause-asked g c a file asks = absurd (c.in-Err.ensures a file asks)
+returns-in-Err-clause-asked g c a asks = absurd (c.in-Err.ensures a asks)
 
 pub returns-in-Ok-perform-clause-asked : goal.returns-in-Ok-perform-clause-asked
-returns-in-Ok-perform-clause-asked g c a file asks =
-    acts a file c.in-Ok.request (c.in-Ok.ensures a file asks) (g.F.FileSource.held c.args.files.now) _ _ _ _ _ _
+returns-in-Ok-perform-clause-asked g c a asks =
+    acts a c.in-Ok.request (c.in-Ok.ensures a asks) (g.F.FileSource.held c.args.files.now) _ _ _ _ _ _
     c.in-Ok-perform.ensures (refl, Keeps-refl _)
 
+pub returns-in-Ok-perform-clause-over_one : goal.returns-in-Ok-perform-clause-over_one
+returns-in-Ok-perform-clause-over_one g c large = (
+  asked_of c.in-Ok.request,
+  acts _ c.in-Ok.request refl (g.F.FileSource.held c.args.files.now) _ _ _ _ _ _ c.in-Ok-perform.ensures
+      (refl, Keeps-refl _),
+)
+
 pub returns-in-Err-perform-clause-asked : goal.returns-in-Err-perform-clause-asked
-returns-in-Err-perform-clause-asked g c a file asks =
-    acts a file c.in-Ok.request (c.in-Ok.ensures a file asks) (g.F.FileSource.held c.args.files.now) _ _ _ _ _ _
+returns-in-Err-perform-clause-asked g c a asks =
+    acts a c.in-Ok.request (c.in-Ok.ensures a asks) (g.F.FileSource.held c.args.files.now) _ _ _ _ _ _
     c.in-Err-perform.ensures (c.status.ensures, begins _ _ _ _ c.emit_message.ensures)
 
 pub returns-in-Err-perform-clause-over_one : goal.returns-in-Err-perform-clause-over_one
 returns-in-Err-perform-clause-over_one g c large = (
   asked_of c.in-Ok.request,
-  file_of c.in-Ok.request,
-  acts _ _ c.in-Ok.request (record { asks = refl; names = refl }) (g.F.FileSource.held c.args.files.now) _ _ _ _ _ _
-      c.in-Err-perform.ensures (c.status.ensures, begins _ _ _ _ c.emit_message.ensures),
+  acts _ c.in-Ok.request refl (g.F.FileSource.held c.args.files.now) _ _ _ _ _ _ c.in-Err-perform.ensures
+      (c.status.ensures, begins _ _ _ _ c.emit_message.ensures),
 )

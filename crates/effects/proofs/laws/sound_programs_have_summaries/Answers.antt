@@ -1,7 +1,7 @@
 use Rattle.effects.specs.Rounds.{summaries}
 use Rattle.effects.proofs.NeedsOfAsyncs.{provides}
-use Rattle.effects.proofs.Summaries.{is_possible, summaries_derived, summaries_stable, pending_summaries_derived}
-use Rattle.effects.proofs.Summaries.{pending_summaries_stable}
+use Rattle.effects.proofs.StableRounds.{is_possible, summaries_derived, summaries_stable, pending_summaries_derived}
+use Rattle.effects.proofs.StableRounds.{pending_summaries_stable}
 use Rattle.effects.proofs.laws.sound_programs_have_summaries.Goals as goal
 
 pub returns-clause-possible : goal.returns-clause-possible

@@ -1,0 +1,84 @@
+-- What is known of files, and what reading them gives.
+use Rattle.std.specs.Prelude.{ℕ, ℤ, pos, ◌≡◌, ◌≢◌, List, Option, None, Some, Result, Ok, Err, IfSome, map, replicate}
+use Rattle.std.specs.Str.{IsUtf8}
+use Rattle.std.specs.String.{string_bytes}
+use Rattle.types.specs.Code.{Array}
+use Rattle.types.specs.InputErrors.{told}
+use Rattle.types.specs.Inputs.{text_says}
+use Rattle.types.specs.declared.input_error.InputError.{InputError}
+use Rattle.driver.specs.declared.failure.Failure.{Failure}
+use Rattle.driver.specs.declared.failure.Failure.TheVariants.{CannotRead, NotUtf8, Input, NoMemory}
+use Rattle.driver.specs.declared.files.FileError.{FileError}
+use Rattle.driver.specs.declared.files.FileError.TheVariants.{Failed as Unread, NoMemory as NoMemoryInFile}
+
+-- the bytes of a file, or why there are none
+abbrev pub Bytes : Type 0
+Bytes = Result (List ℕ) FileError
+
+-- what each name is known to give: None where nobody can know it
+abbrev pub Held : Type 0
+Held = List ℕ → Option Bytes
+
+-- a file that is known is given as it is, memory aside
+abbrev pub IsGiven : (known : Option Bytes) → Bytes → Type 0
+IsGiven None given = Unit {0}
+IsGiven (Some known) given = given ≢ Err NoMemoryInFile → given ≡ known
+
+-- the file of this name has this text
+pub record HasText (held : Held) (name text : List ℕ) : Type 0 where
+  pub given : IsGiven (held name) (Ok text)
+  pub is_text : IsUtf8 text
+
+-- the file of this name has bytes that are no text
+pub record HasNoText (held : Held) (name : List ℕ) : Type 0 where
+  pub bytes : List ℕ
+  pub given : IsGiven (held name) (Ok bytes)
+  pub no_text : ¬ IsUtf8 bytes
+
+-- the failure says why a file of this name gives no text, if there is memory to say so
+abbrev pub TellsNoText : Held → (name : List ℕ) → Failure → Type 0
+TellsNoText held name (CannotRead told) = (string_bytes told ≡ name) × IsGiven (held name) (Err Unread)
+TellsNoText held name (NotUtf8 told) = (string_bytes told ≡ name) × HasNoText held name
+TellsNoText held name NoMemory = Unit {0}
+TellsNoText held name _ = ⊥
+
+-- ---- inputs
+
+-- a zero for each element of each array
+abbrev pub zeros : List Array → List (List ℤ)
+zeros arrays = map (λ a. replicate a.length (pos 0)) arrays
+
+-- the file of this name has a JSON text that says these lists of the arrays
+pub record Says (held : Held) (name : List ℕ) (arrays : List Array) (lists : List (List ℤ))
+    : Type 0 where
+  pub text : List ℕ
+  pub has_text : HasText held name text
+  pub says : text_says arrays text ≡ Ok lists
+
+-- what the arrays hold at first: zeros, or what the input file says
+abbrev pub BeginsWith : (input : Option (List ℕ)) → Held → List Array → List (List ℤ) → Type 0
+BeginsWith None held arrays lists = lists ≡ zeros arrays
+BeginsWith (Some name) held arrays lists = Says held name arrays lists
+
+-- the file of this name has a text with the mistake that is told, or memory was missing
+pub record HasMistake (held : Held) (name : List ℕ) (arrays : List Array) (e : InputError)
+    : Type 0 where
+  pub text : List ℕ
+  pub has_text : HasText held name text
+  pub mistake : IfSome (told e) (λ m. text_says arrays text ≡ Err m)
+
+-- there is an input file, and this holds of its name
+pub record NamesInput (input : Option (List ℕ)) (P : List ℕ → Type 0) : Type 0 where
+  pub name : List ℕ
+  pub named : input ≡ Some name
+  pub fact : P name
+
+-- the failure says why there is no input, memory aside
+abbrev pub TellsNoInput : (input : Option (List ℕ)) → Held → List Array → Failure → Type 0
+TellsNoInput input held arrays (CannotRead told) =
+    NamesInput input (λ name. TellsNoText held name (CannotRead told))
+TellsNoInput input held arrays (NotUtf8 told) =
+    NamesInput input (λ name. TellsNoText held name (NotUtf8 told))
+TellsNoInput input held arrays (Input e) = NamesInput input (λ name. HasMistake held name arrays e)
+TellsNoInput input held arrays NoMemory = Unit {0}
+TellsNoInput input held arrays _ = ⊥

@@ -1,0 +1,164 @@
+//! The words of a command line that `clap` reads.
+
+use crate::request::{Command, Request, Settings};
+use clap::error::ErrorKind;
+use clap::{Arg, ArgAction, ArgMatches, Error, value_parser};
+use std::alloc::{AllocError, Global};
+use types::budget::Budget;
+
+/// The request that `clap` finds in the words.
+pub fn request_by_clap<'w>(alloc: Global, words: &'w [String]) -> Result<Request<'w>, Error> {
+    let matches = commands(alloc)?.try_get_matches_from(words)?;
+    match matches.subcommand() {
+        Some(("run", given)) => request(alloc, Command::Run, given),
+        Some(("serial", given)) => request(alloc, Command::Serial, given),
+        Some(("check", given)) if given.get_flag("list") => {
+            request(alloc, Command::Listing, given)
+        }
+        Some(("check", given)) => request(alloc, Command::Check, given),
+        Some(("mhp", given)) => request(alloc, Command::Pairs, given),
+        _ => Err(commands(alloc)?.error(ErrorKind::MissingSubcommand, "no command")?),
+    }
+}
+
+/// The request of a command that was read.
+fn request<'w>(
+    alloc: Global,
+    command: Command,
+    given: &ArgMatches<'w>,
+) -> Result<Request<'w>, Error> {
+    Ok(Request {
+        command,
+        file: given.get_str("FILE").unwrap_or("-"),
+        settings: Settings {
+            input: given.get_str("input"),
+            budget: budget(alloc, given)?,
+            arrays: given.get_flag("arrays"),
+        },
+    })
+}
+
+/// The budget that is given; `clap` has seen that its numbers are in their ranges.
+fn budget(alloc: Global, given: &ArgMatches<'_>) -> Result<Budget, Error> {
+    let usual = Budget::usual();
+    let steps = given.get_one("steps").unwrap_or(u64::from(usual.steps));
+    let nest = given.get_one("nest").unwrap_or(u64::from(usual.nest));
+    match Budget::new(steps, nest) {
+        Some(budget) => Ok(budget),
+        None => Err(commands(alloc)?.error(ErrorKind::ValueValidation, "no budget")?),
+    }
+}
+
+/// What stands behind the help of the program.
+const STATUSES: &str =
+    "Example: afx serial examples/doubling.afx --input examples/doubling.json --arrays
+
+Exit status:
+  0  the run ended; the program is accepted; pairs of labels; help
+  1  refused: the command line, a file, the text, a rule, Z1, a race, the input, the output
+  2  the run ended with faults
+  3  the run was stopped over its budget
+  4  no memory
+  5  the result of a task was lost";
+
+/// What stands behind the help of a command that runs.
+const RUN_EXAMPLE: &str = "Example: afx run examples/two_arrays.afx --steps 1000";
+
+/// The same of the run on one thread.
+const SERIAL_EXAMPLE: &str =
+    "Example: afx serial examples/doubling.afx --input examples/doubling.json --arrays";
+
+/// The commands and their arguments.
+fn commands<'w>(alloc: Global) -> Result<clap::Command<'w>, AllocError> {
+    let check = clap::Command::new(alloc, "check")
+        .about("Tells whether a program would be run")
+        .after_help("Example: afx check examples/two_arrays.afx --list")
+        .arg(file(alloc))?
+        .arg(list(alloc))?;
+    let pairs = clap::Command::new(alloc, "mhp")
+        .about("Tells which labels of a program may run together")
+        .after_help("Example: afx mhp examples/two_arrays.afx")
+        .arg(file(alloc))?;
+    clap::Command::new(alloc, "afx")
+        .bin_name("afx")?
+        .about("Checks and runs programs of tasks")
+        .after_help(STATUSES)
+        .version("0.1.0")
+        .no_binary_name(true)
+        .subcommand_required(true)
+        .subcommand(run(alloc, "run", "Runs a program as tasks", RUN_EXAMPLE)?)?
+        .subcommand(run(
+            alloc,
+            "serial",
+            "Runs a program on one thread",
+            SERIAL_EXAMPLE,
+        )?)?
+        .subcommand(check)?
+        .subcommand(pairs)
+}
+
+/// A command that runs a program.
+fn run<'w>(
+    alloc: Global,
+    name: &'static str,
+    about: &'static str,
+    example: &'static str,
+) -> Result<clap::Command<'w>, AllocError> {
+    clap::Command::new(alloc, name)
+        .about(about)
+        .after_help(example)
+        .arg(file(alloc))?
+        .arg(input(alloc))?
+        .arg(steps(alloc))?
+        .arg(nest(alloc))?
+        .arg(arrays(alloc))
+}
+
+/// The file of a program.
+fn file<'w>(alloc: Global) -> Arg<'w> {
+    Arg::new(alloc, "FILE")
+        .help("The program; - is the standard input")
+        .required(true)
+}
+
+/// The option of `check`.
+fn list<'w>(alloc: Global) -> Arg<'w> {
+    Arg::new(alloc, "list")
+        .long("list")
+        .help("Writes the program, each statement behind its label")
+        .action(ArgAction::SetTrue)
+}
+
+/// What the arrays hold at first.
+fn input<'w>(alloc: Global) -> Arg<'w> {
+    Arg::new(alloc, "input")
+        .long("input")
+        .value_name("JSON")
+        .help("The file of the arrays' first contents; without it they hold zeros")
+}
+
+/// How many steps each task may take.
+fn steps<'w>(alloc: Global) -> Arg<'w> {
+    Arg::new(alloc, "steps")
+        .long("steps")
+        .value_name("N")
+        .help("How many steps each task may take; without it 1000000")
+        .value_parser(value_parser!(u64).range(1..=1_000_000_000))
+}
+
+/// How many asyncs may stand inside one another.
+fn nest<'w>(alloc: Global) -> Arg<'w> {
+    Arg::new(alloc, "nest")
+        .long("nest")
+        .value_name("N")
+        .help("How many asyncs may stand inside one another; without it 100")
+        .value_parser(value_parser!(u64).range(0..=1_000))
+}
+
+/// Whether the arrays are shown.
+fn arrays<'w>(alloc: Global) -> Arg<'w> {
+    Arg::new(alloc, "arrays")
+        .long("arrays")
+        .help("Shows the arrays behind the outcome")
+        .action(ArgAction::SetTrue)
+}

@@ -1,0 +1,45 @@
+use Rattle.std.proofs.Common.{◌++◌, map, ap, sym, ◌∙◌}
+use Rattle.types.specs.Translation.{codes, code}
+use Rattle.types.proofs.Blocks.{code_If, code_While, code_Split, code_Async, code_Finish}
+use Rattle.effects.specs.Visits.{visits_in, visits_inside, visit, in_async, in_finish}
+use Rattle.effects.proofs.Appending.{in_two_steps}
+use Rattle.effects.proofs.visits.+visit.Goals as goal
+
+pub visit_inside-returns-in_ok-visit_block-in-If-2 : goal.visit_inside-returns-in_ok-visit_block-in-If-2
+visit_inside-returns-in_ok-visit_block-in-If-2 t c =
+    let w = c.args.standing in
+    let first = c.visit_block.new.into.items in
+    in_two_steps (map visit c.args.into.now.items) (map visit first) _ _ _ _
+    (c.in_ok-visit_block-in-If.ensures ∙ ap (λ b. map visit c.args.into.now.items ++ visits_in w (codes b)) c.deref.ensures.value)
+    (c.in_ok-visit_block-in-If-2.ensures ∙ ap (λ b. map visit first ++ visits_in w (codes b)) c.deref-in-If.ensures.value)
+    (ap (λ k. visits_inside w (code k)) c.in-If.is ∙ ap (visits_inside w) (code_If c.in-If.guard c.in-If.body c.in-If.other))
+
+pub visit_inside-returns-in_ok-visit_block-in-While : goal.visit_inside-returns-in_ok-visit_block-in-While
+visit_inside-returns-in_ok-visit_block-in-While t c =
+    let before = map visit c.args.into.now.items in
+    c.in_ok-visit_block-in-While.ensures
+    ∙ ap (λ b. before ++ visits_in c.args.standing (codes b)) c.deref-in-While.ensures.value
+    ∙ ap (λ k. before ++ visits_inside c.args.standing k) (sym (ap code c.in-While.is ∙ code_While c.in-While.guard c.in-While.body))
+
+pub visit_inside-returns-in_ok-visit_block-in-Split : goal.visit_inside-returns-in_ok-visit_block-in-Split
+visit_inside-returns-in_ok-visit_block-in-Split t c =
+    let before = map visit c.args.into.now.items in
+    c.in_ok-visit_block-in-Split.ensures
+    ∙ ap (λ b. before ++ visits_in c.args.standing (codes b)) c.deref-in-Split.ensures.value
+    ∙ ap (λ k. before ++ visits_inside c.args.standing k) (sym (ap code c.in-Split.is ∙ code_Split c.in-Split.section c.in-Split.at c.in-Split.left c.in-Split.right c.in-Split.body))
+
+pub visit_inside-returns-in_ok-visit_block-in-Async : goal.visit_inside-returns-in_ok-visit_block-in-Async
+visit_inside-returns-in_ok-visit_block-in-Async t c =
+    let before = map visit c.args.into.now.items in
+    c.in_ok-visit_block-in-Async.ensures
+    ∙ ap (λ w. before ++ visits_in w (codes c.deref-in-Async.result.now)) c.in_async.ensures
+    ∙ ap (λ b. before ++ visits_in (in_async c.args.standing) (codes b)) c.deref-in-Async.ensures.value
+    ∙ ap (λ k. before ++ visits_inside c.args.standing k) (sym (ap code c.in-Async.is ∙ code_Async c.in-Async.body))
+
+pub visit_inside-returns-in_ok-visit_block-in-Finish : goal.visit_inside-returns-in_ok-visit_block-in-Finish
+visit_inside-returns-in_ok-visit_block-in-Finish t c =
+    let before = map visit c.args.into.now.items in
+    c.in_ok-visit_block-in-Finish.ensures
+    ∙ ap (λ w. before ++ visits_in w (codes c.deref-in-Finish.result.now)) c.in_finish.ensures
+    ∙ ap (λ b. before ++ visits_in (in_finish c.args.standing) (codes b)) c.deref-in-Finish.ensures.value
+    ∙ ap (λ k. before ++ visits_inside c.args.standing k) (sym (ap code c.in-Finish.is ∙ code_Finish c.in-Finish.body))

@@ -1,0 +1,61 @@
+-- What calls bring from the rows of their procedures into those of the caller.
+use Rattle.std.specs.Prelude.{ℕ, ◌+◌, List, [], ◌∷◌, ◌++◌, Bool, true, false, nat_lt}
+use Rattle.std.specs.Prelude.{if◌then◌else◌}
+use Rattle.sections.specs.declared.id.SectionId.{SectionId}
+use Rattle.types.specs.Code.{Code, Do, If, While, Split, Call, Async, Finish}
+use Rattle.types.specs.declared.ids.ProcedureId.{ProcedureId}
+use Rattle.effects.specs.Visits.{Visit}
+use Rattle.effects.specs.declared.flows.Flow.{Flow}
+use Rattle.effects.specs.declared.summary.Row.{Row}
+use Rattle.effects.specs.declared.summary.Row.TheVariants.{All, Pending, Labels, PendingLabels}
+use Rattle.effects.specs.declared.visits.Standing.{Standing}
+use Rattle.effects.specs.declared.visits.Standing.TheVariants.{Open, Begun, Awaited}
+
+module _ (caller : ProcedureId) where
+  -- from a row of the callee to a row of the caller
+  abbrev pub flow : (callee : ProcedureId) → (from to : Row) → Flow
+  flow f from to = record { callee = f; from = from; caller = caller; to = to }
+
+  -- all labels are among all; what is pending once the callee has ended is pending behind an open
+  -- call, and all behind one that was begun
+  abbrev pub flows_of_labels : Standing → (callee : ProcedureId) → List Flow
+  flows_of_labels Open f =
+      flow f Labels Labels ∷ flow f PendingLabels PendingLabels ∷ []
+  flows_of_labels Begun f = flow f Labels Labels ∷ flow f Labels PendingLabels ∷ []
+  flows_of_labels Awaited f = flow f Labels Labels ∷ []
+
+  -- the same of the accesses of one kind to a parameter, for which this section is passed
+  abbrev pub flows_of_use : Standing → (callee : ProcedureId) → (parameter section : SectionId)
+      → (write : Bool) → List Flow
+  flows_of_use Open f k s w = flow f (All k w) (All s w) ∷ flow f (Pending k w) (Pending s w) ∷ []
+  flows_of_use Begun f k s w = flow f (All k w) (All s w) ∷ flow f (All k w) (Pending s w) ∷ []
+  flows_of_use Awaited f k s w = flow f (All k w) (All s w) ∷ []
+
+  module _ (root : ℕ → ℕ) where
+    -- those of the parameters from k on
+    abbrev pub flows_of_sections : Standing → (callee : ProcedureId) → (k : ℕ) → List ℕ → List Flow
+    flows_of_sections w f k [] = []
+    flows_of_sections w f k (s ∷ ss) =
+        flows_of_use w f (record { number = k }) (record { number = root s }) true
+        ++ (flows_of_use w f (record { number = k }) (record { number = root s }) false
+        ++ flows_of_sections w f (k + 1) ss)
+
+  module _ (procedures : ℕ) (root : ℕ → ℕ) where
+    -- what a call of a procedure that is there brings
+    abbrev pub flows_of_call : Standing → (callee : ℕ) → List ℕ → List Flow
+    flows_of_call w f ss =
+        if nat_lt f procedures then flows_of_labels w (record { number = f })
+        ++ flows_of_sections root w (record { number = f }) 0 ss else []
+
+    -- what a statement that stands so brings
+    abbrev pub flows_of_code : Standing → Code → List Flow
+    flows_of_code w (Do s) = []
+    flows_of_code w (If t b c) = []
+    flows_of_code w (While t b) = []
+    flows_of_code w (Split s e l r b) = []
+    flows_of_code w (Call f es ss) = flows_of_call w f ss
+    flows_of_code w (Async b) = []
+    flows_of_code w (Finish b) = []
+
+    abbrev pub flows_of : Visit → List Flow
+    flows_of v = flows_of_code v.standing v.code

@@ -1,0 +1,43 @@
+-- What each procedure does by itself, and what its calls bring.
+use Rattle.std.specs.Prelude.{ℕ, ◌+◌, List, [], ◌∷◌, ◌++◌, flat_map, Option, None, Some, slice_get}
+use Rattle.sections.specs.Member.{Member}
+use Rattle.sections.specs.Overlap.{root_of}
+use Rattle.types.specs.Code.{Procedure, Program}
+use Rattle.types.specs.declared.ids.ProcedureId.{ProcedureId}
+use Rattle.effects.specs.Flows.{flows_of}
+use Rattle.effects.specs.Starts.{starts_of}
+use Rattle.effects.specs.Visits.{Visit, visits_in}
+use Rattle.effects.specs.declared.flows.Flow.{Flow}
+use Rattle.effects.specs.declared.starts.Start.{Start}
+use Rattle.effects.specs.declared.summary.Row.{Row}
+use Rattle.effects.specs.declared.visits.Standing.TheVariants.{Open}
+
+-- the statements of a procedure
+abbrev pub visits_of : Procedure → List Visit
+visits_of g = visits_in Open g.body
+
+-- what it does by itself
+abbrev pub starts_in : Procedure → List Start
+starts_in g = flat_map (starts_of (root_of g.sections)) (visits_of g)
+
+-- what its calls bring
+abbrev pub flows_in : (procedures : ℕ) → (caller : ProcedureId) → Procedure → List Flow
+flows_in n f g = flat_map (flows_of f n (root_of g.sections)) (visits_of g)
+
+-- and those of procedures that are numbered from k on
+abbrev pub flows_in_all : (procedures k : ℕ) → List Procedure → List Flow
+flows_in_all n k [] = []
+flows_in_all n k (g ∷ gs) = flows_in n (record { number = k }) g ++ flows_in_all n (k + 1) gs
+
+-- the procedures of a program in the order of the text, with `main` behind them
+abbrev pub numbered : Program → List Procedure
+numbered p = p.procedures ++ p.main ∷ []
+
+-- there is a procedure, and by itself it puts the label in the row
+abbrev pub StartsIn : Option Procedure → Row → (label : ℕ) → Type 0
+StartsIn None r l = ⊥
+StartsIn (Some g) r l = Member (record { row = r; label = l }) (starts_in g)
+
+-- so it is of the procedure of a number
+abbrev pub StartsAt : List Procedure → ℕ → Row → (label : ℕ) → Type 0
+StartsAt gs f r l = StartsIn (slice_get gs f) r l

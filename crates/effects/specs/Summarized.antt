@@ -1,0 +1,32 @@
+-- Summaries: what each procedure may do and leaves pending.
+use Rattle.std.specs.Prelude.{ℕ, ◌≡◌, ◌+◌, ◌↔◌, List, length, Some, slice_get}
+use Rattle.std.specs.Prelude.{if◌then◌else◌, nat_eq}
+use Rattle.types.specs.Code.{Codes, Program}
+use Rattle.types.specs.Run.{procedure_of}
+use Rattle.effects.specs.Accesses.{Access}
+use Rattle.effects.specs.Effects.{accesses, labels as by_label, All, Pending}
+use Rattle.effects.specs.LabelSets.{HasLabel}
+use Rattle.effects.specs.AccessSets.{HasAccess}
+use Rattle.effects.specs.declared.summary.Summary.{Summary}
+use Rattle.effects.specs.declared.summaries.Summaries.{Summaries}
+
+-- the procedures' summaries in the order of the text, and that of `main` behind them
+abbrev pub summaries_of : Summaries → List Summary
+summaries_of s = s.procedures.items
+
+-- the body of the procedure of a number, where `main` is numbered behind the others
+abbrev pub body_of : Program → ℕ → Codes
+body_of p f = if nat_eq f (length p.procedures) then p.main.body else (procedure_of p f).body
+
+-- the summary has what these statements may do and leave pending, and nothing else
+pub record IsSummary (p : Program) (b : Codes) (s : Summary) : Type 0 where
+  pub all : (x : Access) → HasAccess s.all x ↔ All p accesses b x
+  pub pending : (x : Access) → HasAccess s.pending x ↔ Pending p accesses b x
+  pub labels : (l : ℕ) → HasLabel s.labels l ↔ All p by_label b l
+  pub pending_labels : (l : ℕ) → HasLabel s.pending_labels l ↔ Pending p by_label b l
+
+-- there is a summary of each procedure, and of `main`
+pub record AreSummaries (p : Program) (s : Summaries) : Type 0 where
+  pub number : length (summaries_of s) ≡ length p.procedures + 1
+  pub procedures : (f : ℕ) (x : Summary) → slice_get (summaries_of s) f ≡ Some x
+      → IsSummary p (body_of p f) x

@@ -1,0 +1,49 @@
+-- The statements of a body, at any depth, and where each stands.
+use Rattle.std.specs.Prelude.{ℕ, List, [], ◌∷◌, ◌++◌}
+use Rattle.types.specs.Code.{Code, Do, If, While, Split, Call, Async, Finish, Codes, End, Then}
+use Rattle.types.specs.Translation.{code}
+use Rattle.effects.specs.declared.visits.Standing.{Standing}
+use Rattle.effects.specs.declared.visits.Standing.TheVariants.{Open, Begun, Awaited}
+use Rattle.effects.specs.declared.visits.Visit.{Visit as rVisit}
+
+-- a statement, where it stands
+pub record Visit : Type 0 where
+  pub standing : Standing
+  pub label : ℕ
+  pub code : Code
+
+abbrev pub visit : rVisit → Visit
+visit v = record {
+  standing = v.standing;
+  label = v.statement.now.label;
+  code = code v.statement.now.kind;
+}
+
+-- where the body of an async stands
+abbrev pub in_async : Standing → Standing
+in_async Open = Begun
+in_async Begun = Begun
+in_async Awaited = Awaited
+
+-- and that of a finish, which waits for what isn't pending anyway
+abbrev pub in_finish : Standing → Standing
+in_finish Open = Awaited
+in_finish Begun = Begun
+in_finish Awaited = Awaited
+
+abbrev mutual
+  -- the statements inside a statement
+  pub visits_inside : Standing → Code → List Visit
+  visits_inside w (Do s) = []
+  visits_inside w (If t b c) = visits_in w b ++ visits_in w c
+  visits_inside w (While t b) = visits_in w b
+  visits_inside w (Split s e l r b) = visits_in w b
+  visits_inside w (Call f es ss) = []
+  visits_inside w (Async b) = visits_in (in_async w) b
+  visits_inside w (Finish b) = visits_in (in_finish w) b
+
+  -- and those of a list of statements
+  pub visits_in : Standing → Codes → List Visit
+  visits_in w End = []
+  visits_in w (Then l s rest) =
+      record { standing = w; label = l; code = s } ∷ (visits_inside w s ++ visits_in w rest)

@@ -1,0 +1,108 @@
+//! Sets of accesses.
+
+ghost use Rattle.std.specs.Prelude.{◌↔◌, ◌⊎◌, ◌≡◌, IsTrue, OnOk, IfOk, false, ℕ};
+ghost use Rattle.effects.specs.Accesses.{Access as PlainAccess};
+ghost use Rattle.effects.specs.AccessSets.{HasAccess, IsUseOf};
+ghost use Rattle.effects.specs.LabelSets.{HasLabel};
+ghost use Rattle.effects.specs.Least.{IsFirst};
+ghost use Rattle.effects.specs.Translation.{access as access_of};
+
+use crate::access::Access;
+use crate::label_set::LabelSet;
+use crate::uses::Uses;
+use sections::id::SectionId;
+use std::alloc::{AllocError, Global};
+use types::code::Label;
+
+/// A set of accesses.
+#[derive(Drop)]
+pub struct Accesses {
+    reads: Uses,
+    writes: Uses,
+}
+
+impl Accesses {
+    /// No access yet. It takes no memory.
+    pub fn new(alloc: Global) -> Accesses
+        ensures { (x : PlainAccess) → HasAccess result x → ⊥ }
+    {
+        Accesses {
+            reads: Uses::new(alloc),
+            writes: Uses::new(alloc),
+        }
+    }
+
+    /// Whether it has an access.
+    pub fn has(&self, access: Access) -> bool
+        ensures { IsTrue result ↔ HasAccess self.now (access_of access) }
+    {
+        if access.write {
+            self.writes.has(access.section, access.label)
+        } else {
+            self.reads.has(access.section, access.label)
+        }
+    }
+
+    /// The least label of the accesses of this kind to a section.
+    pub fn first(&self, section: SectionId, write: bool) -> Option<Label>
+        ensures { IsFirst (HasAccess self.now) section.number write result }
+    {
+        if write {
+            self.writes.first(section)
+        } else {
+            self.reads.first(section)
+        }
+    }
+
+    /// Puts an access in.
+    pub fn insert(&mut self, alloc: Global, access: Access) -> Result<(), AllocError>
+        ensures { OnOk result ((x : PlainAccess) → HasAccess self.new x
+            ↔ (HasAccess self.old x ⊎ (IsUseOf access.section.number access.write x
+            × (x.label ≡ access.label)))) }
+    {
+        if access.write {
+            self.writes.insert(alloc, access.section, access.label)
+        } else {
+            self.reads.insert(alloc, access.section, access.label)
+        }
+    }
+
+    /// Statements with these labels write a section, or read it. False if that was known of all.
+    pub fn unite(
+        &mut self,
+        alloc: Global,
+        section: SectionId,
+        write: bool,
+        labels: &LabelSet,
+    ) -> Result<bool, AllocError>
+        ensures both { OnOk result ((x : PlainAccess) → HasAccess self.new x
+            ↔ (HasAccess self.old x ⊎ (IsUseOf section.number write x
+            × HasLabel labels.now x.label))) }
+        ensures grown { IfOk result (λ grown. grown ≡ false
+            → (l : ℕ) → HasLabel labels.now l
+            → HasAccess self.old (record { label = l; section = section.number; write = write })) }
+    {
+        if write {
+            self.writes.unite(alloc, section, labels)
+        } else {
+            self.reads.unite(alloc, section, labels)
+        }
+    }
+
+    /// The labels of the statements that write a section, or of those that read it.
+    pub fn copied(
+        &self,
+        alloc: Global,
+        section: SectionId,
+        write: bool,
+    ) -> Result<LabelSet, AllocError>
+        ensures { IfOk result (λ labels. (l : ℕ) → HasLabel labels l
+            ↔ HasAccess self.now (record { label = l; section = section.number; write = write })) }
+    {
+        if write {
+            self.writes.copied(alloc, section)
+        } else {
+            self.reads.copied(alloc, section)
+        }
+    }
+}

@@ -1,0 +1,61 @@
+//! Rows that have what calls bring, and nothing else.
+
+ghost use Rattle.std.specs.Prelude.{◌≡◌, ◌↔◌, ◌⊎◌, ℕ, OnOk, IfOk, false, length};
+ghost use Rattle.effects.specs.Closing.{HasIn, Reached, Brings, IsClosed};
+ghost use Rattle.effects.specs.declared.summary.Row.{Row as TheRow};
+
+use crate::flows::Flow;
+use crate::summary::Summary;
+use std::alloc::{AllocError, Global};
+
+/// Brings labels along the flows, until none is new. Each round but the last puts a label in, so
+/// there is memory for less than 2^64 of them.
+pub fn close(alloc: Global, flows: &[Flow], table: &mut Vec<Summary>) -> Result<(), AllocError>
+    ensures exact { OnOk result ((f : ℕ) (r : TheRow) (l : ℕ)
+        → HasIn table.new.items f r l ↔ Reached flows.now table.old.items f r l) }
+    ensures number { OnOk result (length table.new.items ≡ length table.old.items) }
+{
+    for _ in 0..u64::MAX {
+        if !round(alloc, flows, table)? {
+            return Ok(());
+        }
+    }
+    Err(AllocError)
+}
+
+/// Brings labels along each flow once. False if none was new.
+fn round(alloc: Global, flows: &[Flow], table: &mut Vec<Summary>) -> Result<bool, AllocError>
+    ensures number { OnOk result (length table.new.items ≡ length table.old.items) }
+    ensures more { OnOk result ((f : ℕ) (r : TheRow) (l : ℕ)
+        → HasIn table.old.items f r l → HasIn table.new.items f r l) }
+    ensures reached { OnOk result ((f : ℕ) (r : TheRow) (l : ℕ)
+        → HasIn table.new.items f r l → Reached flows.now table.old.items f r l) }
+    ensures same { IfOk result (λ grown. grown ≡ false → (f : ℕ) (r : TheRow) (l : ℕ)
+        → HasIn table.new.items f r l → HasIn table.old.items f r l) }
+    ensures closed { IfOk result (λ grown. grown ≡ false → IsClosed flows.now table.old.items) }
+{
+    let mut grown = false;
+    for flow in flows {
+        grown |= bring(alloc, *flow, table)?;
+    }
+    Ok(grown)
+}
+
+/// Brings labels along a flow. False if none was new.
+fn bring(alloc: Global, flow: Flow, table: &mut Vec<Summary>) -> Result<bool, AllocError>
+    ensures number { OnOk result (length table.new.items ≡ length table.old.items) }
+    ensures both { OnOk result ((f : ℕ) (r : TheRow) (l : ℕ) → HasIn table.new.items f r l
+        ↔ (HasIn table.old.items f r l ⊎ Brings flow table.old.items f r l)) }
+    ensures grown { IfOk result (λ grown. grown ≡ false → (l : ℕ)
+        → Brings flow table.old.items flow.caller.number flow.to l
+        → HasIn table.old.items flow.caller.number flow.to l) }
+{
+    let labels = match table.get(flow.callee.number) {
+        Some(callee) => callee.copied(alloc, flow.from)?,
+        None => return Ok(false),
+    };
+    match table.get_mut(flow.caller.number) {
+        Some(caller) => caller.unite(alloc, flow.to, &labels),
+        None => Ok(false),
+    }
+}

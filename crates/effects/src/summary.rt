@@ -1,0 +1,105 @@
+//! What a procedure may do.
+
+ghost use Rattle.std.specs.Prelude.{◌↔◌, ◌⊎◌, ◌≡◌, OnOk, IfOk, false, ℕ};
+ghost use Rattle.effects.specs.LabelSets.{HasLabel};
+ghost use Rattle.effects.specs.SummaryRows.{HasRow};
+ghost use Rattle.effects.specs.declared.summary.Row.{Row as TheRow};
+
+use crate::access::Access;
+use crate::accesses::Accesses;
+use crate::label_set::LabelSet;
+use sections::id::SectionId;
+use std::alloc::{AllocError, Global};
+use types::code::Label;
+
+/// What the body of a procedure may do, in the names of its parameters.
+#[derive(Drop)]
+pub struct Summary {
+    pub all: Accesses,
+    /// What may still be done once it has ended.
+    pub pending: Accesses,
+    /// The labels of its statements, and of those that its calls run.
+    pub labels: LabelSet,
+    pub pending_labels: LabelSet,
+}
+
+/// A set of labels of a summary.
+#[derive(Clone, Copy, PartialEq, Eq, Debug)]
+pub enum Row {
+    /// Those of the accesses that write a section, or of those that read it.
+    All { section: SectionId, write: bool },
+    /// The same of the accesses that are left pending.
+    Pending { section: SectionId, write: bool },
+    /// Those of all statements.
+    Labels,
+    /// Those of the statements that are left pending.
+    PendingLabels,
+}
+
+impl Summary {
+    /// Of a body that does nothing.
+    pub fn new(alloc: Global) -> Summary
+        ensures { (r : TheRow) (l : ℕ) → HasRow result r l → ⊥ }
+    {
+        Summary {
+            all: Accesses::new(alloc),
+            pending: Accesses::new(alloc),
+            labels: LabelSet::new(alloc),
+            pending_labels: LabelSet::new(alloc),
+        }
+    }
+
+    /// Puts a label in a row.
+    pub fn insert(&mut self, alloc: Global, row: Row, label: Label) -> Result<(), AllocError>
+        ensures { OnOk result ((r : TheRow) (l : ℕ) → HasRow self.new r l
+            ↔ (HasRow self.old r l ⊎ ((r ≡ row) × (l ≡ label)))) }
+    {
+        match row {
+            Row::All { section, write } => {
+                let access = Access {
+                    label,
+                    section,
+                    write,
+                };
+                self.all.insert(alloc, access)
+            }
+            Row::Pending { section, write } => {
+                let access = Access {
+                    label,
+                    section,
+                    write,
+                };
+                self.pending.insert(alloc, access)
+            }
+            Row::Labels => self.labels.insert(label),
+            Row::PendingLabels => self.pending_labels.insert(label),
+        }
+    }
+
+    /// Puts labels in a row. False if all of them were there.
+    pub fn unite(&mut self, alloc: Global, row: Row, labels: &LabelSet) -> Result<bool, AllocError>
+        ensures both { OnOk result ((r : TheRow) (l : ℕ) → HasRow self.new r l
+            ↔ (HasRow self.old r l ⊎ ((r ≡ row) × HasLabel labels.now l))) }
+        ensures grown { IfOk result (λ grown. grown ≡ false
+            → (l : ℕ) → HasLabel labels.now l → HasRow self.old row l) }
+    {
+        match row {
+            Row::All { section, write } => self.all.unite(alloc, section, write, labels),
+            Row::Pending { section, write } => self.pending.unite(alloc, section, write, labels),
+            Row::Labels => self.labels.unite(labels),
+            Row::PendingLabels => self.pending_labels.unite(labels),
+        }
+    }
+
+    /// The labels of a row.
+    pub fn copied(&self, alloc: Global, row: Row) -> Result<LabelSet, AllocError>
+        ensures { IfOk result (λ labels. (l : ℕ) → HasLabel labels l ↔ HasRow self.now row l) }
+    {
+        match row {
+            Row::All { section, write } => self.all.copied(alloc, section, write),
+            Row::Pending { section, write } => self.pending.copied(alloc, section, write),
+            Row::Labels => self.labels.copied(alloc),
+            Row::PendingLabels => self.pending_labels.copied(alloc),
+        }
+    }
+}

@@ -1,0 +1,107 @@
+//! The statements of a body, at any depth, and where each stands.
+
+ghost use Rattle.std.specs.Prelude.{◌≡◌, ◌++◌, OnOk, map};
+ghost use Rattle.types.specs.Translation.{code as code_of, codes as codes_of};
+ghost use Rattle.effects.specs.Visits.{visits_in, visits_inside, visit as visit_of, in_async, in_finish};
+
+use std::alloc::AllocError;
+use types::code::{Stmt, StmtKind};
+
+/// Whether what a statement does may be pending once the body has ended.
+#[derive(Clone, Copy, PartialEq, Eq, Debug)]
+pub enum Standing {
+    /// It stands in no async and no finish: what it leaves pending is pending.
+    Open,
+    /// It stands in an async for which no finish of the body waits: all of it may be pending.
+    Begun,
+    /// It stands in a finish, which waits for all of it.
+    Awaited,
+}
+
+/// A statement and where it stands.
+#[derive(Clone, Copy)]
+pub struct Visit<'p> {
+    pub standing: Standing,
+    pub statement: &'p Stmt,
+}
+
+impl Standing {
+    /// Where the body of an async stands.
+    pub fn in_async(self) -> Standing
+        ensures { result ≡ in_async self }
+    {
+        match self {
+            Standing::Open => Standing::Begun,
+            Standing::Begun => Standing::Begun,
+            Standing::Awaited => Standing::Awaited,
+        }
+    }
+
+    /// Where the body of a finish stands.
+    pub fn in_finish(self) -> Standing
+        ensures { result ≡ in_finish self }
+    {
+        match self {
+            Standing::Open => Standing::Awaited,
+            Standing::Begun => Standing::Begun,
+            Standing::Awaited => Standing::Awaited,
+        }
+    }
+}
+
+/// Adds the statements of a block, each before those inside it.
+#[cycle(visit)]
+pub fn visit_block<'p>(
+    standing: Standing,
+    block: &'p [Stmt],
+    into: &mut Vec<Visit<'p>>,
+) -> Result<(), AllocError>
+    ensures { OnOk result (map visit_of into.new.items
+        ≡ map visit_of into.old.items ++ visits_in standing (codes_of block.entry.now)) }
+{
+    for statement in block {
+        into.push(Visit {
+            standing,
+            statement,
+        })?;
+        visit_inside(standing, &statement.kind, into)?;
+    }
+    Ok(())
+}
+
+/// Adds the statements inside a statement.
+#[cycle(visit)]
+fn visit_inside<'p>(
+    standing: Standing,
+    kind: &'p StmtKind,
+    into: &mut Vec<Visit<'p>>,
+) -> Result<(), AllocError>
+    ensures { OnOk result (map visit_of into.new.items
+        ≡ map visit_of into.old.items ++ visits_inside standing (code_of kind.entry.now)) }
+{
+    match kind {
+        StmtKind::Do(_) => Ok(()),
+        StmtKind::If { body, other, .. } => {
+            visit_block(standing, body, into)?;
+            visit_block(standing, other, into)?;
+            Ok(())
+        }
+        StmtKind::While { body, .. } => {
+            visit_block(standing, body, into)?;
+            Ok(())
+        }
+        StmtKind::Split { body, .. } => {
+            visit_block(standing, body, into)?;
+            Ok(())
+        }
+        StmtKind::Call { .. } => Ok(()),
+        StmtKind::Async { body } => {
+            visit_block(standing.in_async(), body, into)?;
+            Ok(())
+        }
+        StmtKind::Finish { body } => {
+            visit_block(standing.in_finish(), body, into)?;
+            Ok(())
+        }
+    }
+}

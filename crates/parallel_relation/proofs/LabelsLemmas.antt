@@ -1,0 +1,92 @@
+-- The labels of statements, added up.
+use Rattle.std.proofs.Common.{◌≡◌, ◌≢◌, ◌⊎◌, inl, inr, ℕ, ◌<◌, ◌≤◌, length, nat_eq, refl, sym, ap, ◌∙◌, subst, arith}
+use Rattle.std.proofs.lemmas.Bool.{ne_eqb}
+use Rattle.std.specs.Prelude.{◌↔◌, Bool, true, false, if◌then◌else◌}
+use Rattle.types.specs.Code.{Code, Codes, End, Then, Program}
+use Rattle.types.specs.Run.{procedure_of}
+use Rattle.effects.specs.Effects.{labels, All}
+use Rattle.effects.specs.Summarized.{body_of}
+use Rattle.parallel_relation.specs.Around.{Gains, none, both, one}
+use Rattle.parallel_relation.proofs.StatementParts.{Done, all_one, of_label, of_done}
+use Rattle.parallel_relation.proofs.Sums.{gains_joined, gains_nothing}
+
+module _ (p : Program) where
+  -- a statement's own label and those inside
+  pub gains_statement : {a c e : ℕ → Type 0} (l : ℕ) {s t : Code} → s ≡ t → Gains a (λ x. x ≡ l) c → Gains c (Done p t) e
+      → Gains a (All p labels (one l s)) e
+  gains_statement {a} {c} {e} l {s} {t} same g h = subst (λ s. Gains a (All p labels (one l s)) e) (sym same)
+      (gains_joined (All p labels (one l t)) g h
+      (λ x k. elim k [ inl own ↦ All.here (of_label p l t x own) | inr d ↦ All.here (of_done p l t x d) ])
+      (all_one p l t))
+
+  -- with those of the statements that are left, all are there: at first
+  pub all_are_left : (a b : ℕ → Type 0) → Gains a b (both a b)
+  all_are_left a b = record { keeps = λ x k. inl k; has = λ x k. inr k; only = λ x k. k }
+
+  nothing : {A : Type 0} {x : ℕ} → All p labels End x → A
+  nothing h = elim h [ ]
+
+  only_first : (l : ℕ) (s : Code) (rest : Codes) (x : ℕ) → All p labels (one l s) x → All p labels (Then l s rest) x
+  only_first l s rest x (All.here k) = All.here k
+  only_first l s rest x (All.later k) = nothing k
+
+  either : (l : ℕ) (s : Code) (rest : Codes) (x : ℕ) → All p labels (Then l s rest) x → All p labels (one l s) x ⊎ All p labels rest x
+  either l s rest x (All.here k) = inl (All.here k)
+  either l s rest x (All.later k) = inr k
+
+  -- after one more
+  pub one_less_left : {a c w : ℕ → Type 0} (l : ℕ) (s : Code) (rest : Codes) → Gains a (All p labels (Then l s rest)) w
+      → Gains a (All p labels (one l s)) c → Gains c (All p labels rest) w
+  one_less_left l s rest g h = record {
+    keeps = λ x k. elim (h.only x k) [ inl o ↦ g.keeps x o | inr n ↦ g.has x (only_first l s rest x n) ];
+    has = λ x k. g.has x (All.later k);
+    only = λ x k. elim (g.only x k) [
+      | inl o ↦ inl (h.keeps x o)
+      | inr n ↦ elim (either l s rest x n) [ inl m ↦ inl (h.has x m) | inr m ↦ inr m ]
+    ];
+  }
+
+  in_first : (c : ℕ → Type 0) (x : ℕ) → c x ⊎ All p labels End x → c x
+  in_first c x (inl k) = k
+  in_first c x (inr k) = nothing k
+
+  -- and in the end
+  pub none_is_left : {a b c : ℕ → Type 0} → Gains c (All p labels End) (both a b) → Gains a b c
+  none_is_left {a} {b} {c} g = record {
+    keeps = λ x k. in_first c x (g.only x (inl k));
+    has = λ x k. in_first c x (g.only x (inr k));
+    only = λ x k. g.keeps x k;
+  }
+
+  -- behind the last statement
+  pub nothing_behind : {a c : ℕ → Type 0} → Gains none a c → Gains a (All p labels End) c
+  nothing_behind g = record {
+    keeps = λ x k. g.has x k;
+    has = λ x k. nothing k;
+    only = λ x k. elim (g.only x k) [ inl n ↦ absurd n | inr o ↦ inl o ];
+  }
+
+  -- those behind a statement, and then its own
+  pub one_more : {a c e : ℕ → Type 0} (l : ℕ) (s : Code) (rest : Codes) → Gains a (All p labels rest) c
+      → Gains c (All p labels (one l s)) e → Gains a (All p labels (Then l s rest)) e
+  one_more l s rest g h = gains_joined (All p labels (Then l s rest)) g h
+      (λ x k. elim k [ inl r ↦ All.later r | inr f ↦ only_first l s rest x f ])
+      (λ x k. elim (either l s rest x k) [ inl f ↦ inr f | inr r ↦ inl r ])
+
+  by_false : (b : Bool) (c d : Codes) → b ≡ false → (if b then c else d) ≡ d
+  by_false true c d e = cc
+  by_false false c d e = refl
+
+  -- a procedure that can be called isn't `main`
+  pub callee_body : (f : ℕ) → f < length p.procedures → body_of p f ≡ (procedure_of p f).body
+  callee_body f within =
+      by_false (nat_eq f (length p.procedures)) p.main.body (procedure_of p f).body
+      (ne_eqb f (length p.procedures) (λ e. omega (arith, e)))
+
+  pub gains_callee : (f : ℕ) (a s e : ℕ → Type 0) → f < length p.procedures → ((l : ℕ) → e l ↔ (a l ⊎ s l))
+      → ((l : ℕ) → s l ↔ All p labels (body_of p f) l) → Gains a (All p labels (procedure_of p f).body) e
+  gains_callee f a s e within h same = subst (λ b. Gains a (All p labels b) e) (callee_body f within) (record {
+    keeps = λ x k. (h x).1 (inl k);
+    has = λ x k. (h x).1 (inr ((same x).1 k));
+    only = λ x k. elim ((h x).0 k) [ inl o ↦ inl o | inr n ↦ inr ((same x).0 n) ];
+  })

@@ -1,0 +1,173 @@
+-- Pairs that are added number by number.
+use Rattle.std.proofs.Common.{◌≡◌, ◌⊎◌, inl, inr, ℕ, ◌+◌, ◌<◌, ◌≤◌, List, length, refl, sym, ap, subst, arith}
+use Rattle.std.proofs.lemmas.Bool.{cases_lt}
+use Rattle.std.proofs.lemmas.List.{get_or_past}
+use Rattle.std.proofs.lemmas.Option.{slice_get_past}
+use Rattle.std.specs.Prelude.{◌↔◌, IsSomeAnd, Some, None, slice_get}
+use Rattle.types.specs.Code.{Codes, End, Procedure, Program}
+use Rattle.types.specs.Run.{procedure_of, no_procedure}
+use Rattle.effects.specs.Effects.{labels, All, Pending}
+use Rattle.effects.specs.LabelSets.{HasLabel}
+use Rattle.effects.specs.declared.label_set.LabelSet.{LabelSet}
+use Rattle.effects.specs.Summarized.{body_of}
+use Rattle.parallel_relation.specs.Around.{Adds, at, each}
+use Rattle.parallel_relation.specs.Found.{FoundMeets}
+use Rattle.parallel_relation.specs.Rows.{HasIn, HasAt}
+use Rattle.parallel_relation.specs.Spread.{Turns}
+use Rattle.parallel_relation.specs.declared.found.Found.{Found}
+use Rattle.parallel_relation.proofs.LabelsLemmas.{callee_body}
+use Rattle.parallel_relation.proofs.Sums.{adds_same, adds_joined, adds_nothing}
+
+pub below_next : (x n : ℕ) → x < n + 1 → (x < n) ⊎ (x ≡ n)
+below_next x n h = elim (cases_lt x n) [ inl a ↦ inl a | inr b ↦ inr (omega arith) ]
+
+-- those of smaller numbers, and then those of the next
+pub adds_next : {f g h : ℕ → ℕ → Type 0} (n : ℕ) (m : ℕ → ℕ → Type 0) → Adds f (λ x y. (x < n) × m x y) g
+    → Adds g (λ x y. (x ≡ n) × m x y) h → Adds f (λ x y. (x < n + 1) × m x y) h
+adds_next n m g h = adds_joined (λ x y. (x < n + 1) × m x y) g h
+    (λ x y k. elim k [ inl a ↦ (let l : x < n = a.0 in omega arith, a.1) | inr b ↦ (let e : x ≡ n = b.0 in omega arith, b.1) ])
+    (λ x y k. elim (below_next x n k.0) [ inl a ↦ inl (a, k.1) | inr b ↦ inr (b, k.1) ])
+
+-- at first there are none
+pub adds_none_below : (f m : ℕ → ℕ → Type 0) → Adds f (λ x y. (x < 0) × m x y) f
+adds_none_below f m = adds_nothing f (λ x y. (x < 0) × m x y) (λ x y k. let h : x < 0 = k.0 in omega arith)
+
+-- and in the end all
+pub adds_all_below : {f g : ℕ → ℕ → Type 0} (n : ℕ) (these those : ℕ → Type 0) → ((x : ℕ) → these x → x < n)
+    → Adds f (λ x y. (x < n) × each these those x y) g → Adds f (each these those) g
+adds_all_below n these those below h = adds_same (each these those) h (λ x y k. k.1) (λ x y k. (below x k.0, k))
+
+-- what procedures of smaller numbers meet
+pub data CalledBelow (p : Program) (calls ends : ℕ → ℕ → Type 0) (n : ℕ) (x y : ℕ) : Type 0 where
+  call : (f : ℕ) → f < n → All p labels (procedure_of p f).body x → calls f y → CalledBelow p calls ends n x y
+  end : (f : ℕ) → f < n → Pending p labels (procedure_of p f).body x → ends f y → CalledBelow p calls ends n x y
+
+module _ (p : Program) (calls ends : ℕ → ℕ → Type 0) where
+  no_call : (x y : ℕ) → CalledBelow p calls ends 0 x y → ⊥
+  no_call x y (CalledBelow.call f h a k) = omega arith
+  no_call x y (CalledBelow.end f h a k) = omega arith
+
+  pub adds_no_call : (f : ℕ → ℕ → Type 0) → Adds f (CalledBelow p calls ends 0) f
+  adds_no_call f = adds_nothing f (CalledBelow p calls ends 0) no_call
+
+  abbrev AllOf : ℕ → ℕ → Type 0
+  AllOf f x = All p labels (procedure_of p f).body x
+
+  abbrev LeftOf : ℕ → ℕ → Type 0
+  LeftOf f x = Pending p labels (procedure_of p f).body x
+
+  split_call : (n : ℕ) (x y : ℕ) → CalledBelow p calls ends (n + 1) x y
+      → CalledBelow p calls ends n x y ⊎ ((AllOf n x × calls n y) ⊎ (LeftOf n x × ends n y))
+  split_call n x y (CalledBelow.call f h a k) = elim (below_next f n h) [
+    | inl l ↦ inl (CalledBelow.call f l a k)
+    | inr e ↦ inr (inl (subst (λ f. AllOf f x) e a, subst (λ f. calls f y) e k))
+  ]
+  split_call n x y (CalledBelow.end f h a k) = elim (below_next f n h) [
+    | inl l ↦ inl (CalledBelow.end f l a k)
+    | inr e ↦ inr (inr (subst (λ f. LeftOf f x) e a, subst (λ f. ends f y) e k))
+  ]
+
+  wider : (n : ℕ) (x y : ℕ) → CalledBelow p calls ends n x y → CalledBelow p calls ends (n + 1) x y
+  wider n x y (CalledBelow.call f h a k) = CalledBelow.call f (omega arith) a k
+  wider n x y (CalledBelow.end f h a k) = CalledBelow.end f (omega arith) a k
+
+  -- and then what the next one meets
+  pub adds_callee : {f g h k : ℕ → ℕ → Type 0} (n : ℕ) (all left : ℕ → Type 0) → n < length p.procedures
+      → ((x : ℕ) → all x ↔ All p labels (body_of p n) x) → ((x : ℕ) → left x ↔ Pending p labels (body_of p n) x)
+      → Adds f (CalledBelow p calls ends n) g → Adds g (each all (calls n)) h → Adds h (each left (ends n)) k
+      → Adds f (CalledBelow p calls ends (n + 1)) k
+  adds_callee n all left within all_is left_is below a b =
+      let body = callee_body p n within in
+      let those : (x : ℕ) → all x ↔ AllOf n x = subst (λ b. (x : ℕ) → all x ↔ All p labels b x) body all_is in
+      let these : (x : ℕ) → left x ↔ LeftOf n x = subst (λ b. (x : ℕ) → left x ↔ Pending p labels b x) body left_is in
+      adds_joined (CalledBelow p calls ends (n + 1)) below
+      (adds_joined (λ x y. (AllOf n x × calls n y) ⊎ (LeftOf n x × ends n y)) a b
+      (λ x y k. elim k [ inl c ↦ inl ((those x).0 c.0, c.1) | inr c ↦ inr ((these x).0 c.0, c.1) ])
+      (λ x y k. elim k [ inl c ↦ inl ((those x).1 c.0, c.1) | inr c ↦ inr ((these x).1 c.0, c.1) ]))
+      (λ x y k. elim k [
+        | inl c ↦ wider n x y c
+        | inr c ↦ elim c [
+          | inl d ↦ CalledBelow.call n (omega arith) d.0 d.1
+          | inr d ↦ CalledBelow.end n (omega arith) d.0 d.1
+        ]
+      ])
+      (λ x y k. split_call n x y k)
+
+-- a number past all procedures has none
+pub no_body : (p : Program) (f : ℕ) → length p.procedures ≤ f → (procedure_of p f).body ≡ End
+no_body p f past = ap (λ (g : Procedure). g.body) (get_or_past p.procedures f no_procedure past)
+
+all_within : (p : Program) (f x : ℕ) → All p labels (procedure_of p f).body x → f < length p.procedures
+all_within p f x h = elim (cases_lt f (length p.procedures)) [
+  | inl l ↦ l
+  | inr past ↦ absurd (elim (subst (λ b. All p labels b x) (no_body p f past) h) [ ])
+]
+
+left_within : (p : Program) (f x : ℕ) → Pending p labels (procedure_of p f).body x → f < length p.procedures
+left_within p f x h = elim (cases_lt f (length p.procedures)) [
+  | inl l ↦ l
+  | inr past ↦ absurd (elim (subst (λ b. Pending p labels b x) (no_body p f past) h) [ ])
+]
+
+-- with what all procedures meet, that is what is found
+pub all_found : (p : Program) (found : Found) (rows : ℕ → ℕ → Type 0)
+    → Adds (HasAt found.labels) (CalledBelow p (HasAt found.calls) (HasAt found.ends) (length p.procedures)) rows
+    → (x y : ℕ) → rows x y ↔ FoundMeets p found x y
+all_found p found rows h x y = (λ k. elim (h.only x y k) [ inl o ↦ FoundMeets.label o | inr c ↦ to c ], from)
+  where
+    to : CalledBelow p (HasAt found.calls) (HasAt found.ends) (length p.procedures) x y → FoundMeets p found x y
+    to (CalledBelow.call f l a k) = FoundMeets.call f a k
+    to (CalledBelow.end f l a k) = FoundMeets.end f a k
+
+    from : FoundMeets p found x y → rows x y
+    from (FoundMeets.label k) = h.keeps x y k
+    from (FoundMeets.call f a k) = h.has x y (CalledBelow.call f (all_within p f x a) a k)
+    from (FoundMeets.end f a k) = h.has x y (CalledBelow.end f (left_within p f x a) a k)
+
+-- one row is turned, label by label
+module _ (row : ℕ) where
+  -- pairs of this row, the other way round
+  abbrev pub Turned : (ℕ → ℕ → Type 0) → ℕ → ℕ → Type 0
+  Turned has x y = (y ≡ row) × has y x
+
+  pub turned_next : {f g h : ℕ → ℕ → Type 0} (n : ℕ) → n < row → Adds f (λ x y. (x < n) × Turned f x y) g
+      → Adds g (λ x y. (x ≡ n) × Turned g x y) h → Adds f (λ x y. (x < n + 1) × Turned f x y) h
+  turned_next {f} {g} {h} n less a b = adds_next n (Turned f) a (adds_same (λ x y. (x ≡ n) × Turned f x y) b
+      (λ x y k. (k.0, (k.1.0, before x y k.0 k.1.0 k.1.1)))
+      (λ x y k. (k.0, (k.1.0, a.keeps y x k.1.1))))
+    where
+      before : (x y : ℕ) → x ≡ n → y ≡ row → g y x → f y x
+      before x y e i k = elim (a.only y x k) [ inl o ↦ o | inr m ↦ absurd (let l : y < n = m.0 in omega arith) ]
+
+  pub turned_all : {f g : ℕ → ℕ → Type 0} → Adds f (λ x y. (x < row) × Turned f x y) g
+      → Adds f (λ x y. (y ≡ row) × Turns f x y) g
+  turned_all {f} h = adds_same (λ x y. (y ≡ row) × Turns f x y) h
+      (λ x y k. (k.1.0, (let l : x < row = k.0 in let e : y ≡ row = k.1.0 in omega arith, k.1.1)))
+      (λ x y k. (let l : x < y = k.1.0 in let e : y ≡ row = k.0 in omega arith, (k.0, k.1.1)))
+
+-- so are all rows, one by one
+pub turns_next : {f g h : ℕ → ℕ → Type 0} (n : ℕ) → Adds f (λ x y. (y < n) × Turns f x y) g
+    → Adds g (λ x y. (y ≡ n) × Turns g x y) h → Adds f (λ x y. (y < n + 1) × Turns f x y) h
+turns_next {f} {g} {h} n a b = adds_joined (λ x y. (y < n + 1) × Turns f x y) a b
+    (λ x y k. elim k [
+      | inl m ↦ (let l : y < n = m.0 in omega arith, m.1)
+      | inr m ↦ (let e : y ≡ n = m.0 in omega arith, (m.1.0, before x y m.0 m.1.0 m.1.1))
+    ])
+    (λ x y k. elim (below_next y n k.0) [ inl l ↦ inl (l, k.1) | inr e ↦ inr (e, (k.1.0, a.keeps y x k.1.1)) ])
+  where
+    before : (x y : ℕ) → y ≡ n → x < y → g y x → f y x
+    before x y e l k = elim (a.only y x k) [ inl o ↦ o | inr m ↦ absurd (let j : y < x = m.1.0 in omega arith) ]
+
+pub no_turns : (f : ℕ → ℕ → Type 0) → Adds f (λ x y. (y < 0) × Turns f x y) f
+no_turns f = adds_nothing f (λ x y. (y < 0) × Turns f x y) (λ x y k. let h : y < 0 = k.0 in omega arith)
+
+pub row_within : (rows : List LabelSet) (i y : ℕ) → HasIn rows i y → i < length rows
+row_within rows i y h = elim (cases_lt i (length rows)) [
+  | inl l ↦ l
+  | inr past ↦ absurd (subst (λ o. IsSomeAnd o (λ (r : LabelSet). HasLabel r y)) (slice_get_past rows i past) h)
+]
+
+pub all_turns : (rows : List LabelSet) (n : ℕ) (g : ℕ → ℕ → Type 0) → length rows ≤ n
+    → Adds (HasIn rows) (λ x y. (y < n) × Turns (HasIn rows) x y) g → Adds (HasIn rows) (Turns (HasIn rows)) g
+all_turns rows n g past h = adds_same (Turns (HasIn rows)) h (λ x y k. k.1)
+    (λ x y k. (let l = row_within rows y x k.1 in omega arith, k))

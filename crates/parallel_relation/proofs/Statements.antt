@@ -1,0 +1,71 @@
+-- Statements as their Rust types have them, and how much they hold.
+use Rattle.std.proofs.Common.{◌≡◌, ℕ, zero, suc, ◌+◌, ◌-◌, ◌<◌, ◌≤◌, arith, List, [], ◌∷◌, drop, length, Vec, Global, sym, ap, ◌∙◌, add-one}
+use Rattle.std.proofs.Math.Seq.{drop-cons}
+use Rattle.std.specs.Prelude.{slice_index_or}
+use Rattle.sections.specs.declared.id.SectionId.{SectionId}
+use Rattle.types.specs.Code.{Code, Do, If, While, Split, Call, Async, Finish, Codes, End, Then}
+use Rattle.types.specs.Translation.{number, truth, code, codes}
+use Rattle.types.specs.declared.code.Number.{Number}
+use Rattle.types.specs.declared.code.Truth.{Truth}
+use Rattle.types.specs.declared.code.Stmt.{Stmt}
+use Rattle.types.specs.declared.code.StmtKind.{StmtKind}
+use Rattle.types.specs.declared.code.StmtKind.TheVariants.{If as rIf, While as rWhile, Split as rSplit, Async as rAsync, Finish as rFinish}
+use Rattle.types.proofs.Blocks.{code_If, code_While, code_Split, code_Async, code_Finish}
+
+pub is_If : (k : StmtKind) (t : Truth) (v w : Vec Stmt Global) (b d : List Stmt) → k ≡ rIf t v w → b ≡ v.items → d ≡ w.items
+    → code k ≡ If (truth t) (codes b) (codes d)
+is_If k t v w b d is e f = ap code is ∙ code_If t v w ∙ ap (λ b. If (truth t) (codes b) (codes w.items)) (sym e)
+    ∙ ap (λ d. If (truth t) (codes b) (codes d)) (sym f)
+
+pub is_While : (k : StmtKind) (t : Truth) (v : Vec Stmt Global) (b : List Stmt) → k ≡ rWhile t v → b ≡ v.items
+    → code k ≡ While (truth t) (codes b)
+is_While k t v b is e = ap code is ∙ code_While t v ∙ ap (λ b. While (truth t) (codes b)) (sym e)
+
+pub is_Split : (k : StmtKind) (s : SectionId) (n : Number) (l r : SectionId) (v : Vec Stmt Global) (b : List Stmt)
+    → k ≡ rSplit s n l r v → b ≡ v.items → code k ≡ Split s.number (number n) l.number r.number (codes b)
+is_Split k s n l r v b is e = ap code is ∙ code_Split s n l r v ∙ ap (λ b. Split s.number (number n) l.number r.number (codes b)) (sym e)
+
+pub is_Async : (k : StmtKind) (v : Vec Stmt Global) (b : List Stmt) → k ≡ rAsync v → b ≡ v.items → code k ≡ Async (codes b)
+is_Async k v b is e = ap code is ∙ code_Async v ∙ ap (λ b. Async (codes b)) (sym e)
+
+pub is_Finish : (k : StmtKind) (v : Vec Stmt Global) (b : List Stmt) → k ≡ rFinish v → b ≡ v.items → code k ≡ Finish (codes b)
+is_Finish k v b is e = ap code is ∙ code_Finish v ∙ ap (λ b. Finish (codes b)) (sym e)
+
+-- a statement of a list and those behind it
+pub codes_at : (xs : List Stmt) (i : ℕ) (x : Stmt) → i < length xs → x ≡ slice_index_or xs i x
+    → codes (drop i xs) ≡ Then x.label (code x.kind) (codes (drop (i + 1) xs))
+codes_at xs i x within is = ap codes (drop-cons xs i x within) ∙ ap (λ y. codes (y ∷ drop (suc i) xs)) (sym is)
+    ∙ ap (λ n. codes (x ∷ drop n xs)) (sym (add-one i))
+
+abbrev mutual
+  -- how many statements there are inside a statement, and in a list
+  pub size_in : Code → ℕ
+  size_in (Do s) = 0
+  size_in (If t b c) = size b + size c
+  size_in (While t b) = size b
+  size_in (Split s e l r b) = size b
+  size_in (Call f es ss) = 0
+  size_in (Async b) = size b
+  size_in (Finish b) = size b
+
+  pub size : Codes → ℕ
+  size End = 0
+  size (Then l s rest) = size_in s + size rest + 1
+
+-- so counted from behind
+pub codes_before : (xs : List Stmt) (k : ℕ) (x : Stmt) → 0 < k → k ≤ length xs → x ≡ slice_index_or xs (k - 1) x
+    → codes (drop (k - 1) xs) ≡ Then x.label (code x.kind) (codes (drop k xs))
+codes_before xs k x some within is =
+    let next : k - 1 + 1 ≡ k = omega arith in
+    codes_at xs (k - 1) x (omega arith) is ∙ ap (λ n. Then x.label (code x.kind) (codes (drop n xs))) next
+
+-- and there are fewer
+pub smaller : (xs : List Stmt) (k : ℕ) (x : Stmt) → 0 < k → k ≤ length xs → x ≡ slice_index_or xs (k - 1) x
+    → size (codes (drop (k - 1) xs)) ≡ size_in (code x.kind) + size (codes (drop k xs)) + 1
+smaller xs k x some within is = ap size (codes_before xs k x some within is)
+
+-- some of the statements are no more than all
+pub size-drop : (k : ℕ) (xs : List Stmt) → size (codes (drop k xs)) ≤ size (codes xs)
+size-drop zero xs = omega arith
+size-drop (suc k) [] = omega arith
+size-drop (suc k) (x ∷ xs) = let h = size-drop k xs in omega arith

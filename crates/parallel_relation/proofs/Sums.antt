@@ -1,0 +1,59 @@
+-- Sets and pairs that are added up.
+use Rattle.std.proofs.Common.{◌≡◌, ◌⊎◌, inl, inr, ℕ, Result, Ok, Err, OnOk, IfOk}
+use Rattle.std.specs.Prelude.{◌↔◌}
+use Rattle.parallel_relation.specs.Around.{Adds, Gains, none, both}
+
+-- what follows from what holds of an Ok
+pub on_ok : {T E : Type 0} {P Q : Type 0} (r : Result T E) → (P → Q) → OnOk r P → OnOk r Q
+on_ok (Ok x) f h = f h
+on_ok (Err e) f h = h
+
+pub if_ok : {T E : Type 0} {P Q : T → Type 0} (r : Result T E) → ((x : T) → P x → Q x) → IfOk r P → IfOk r Q
+if_ok (Ok x) f h = f x h
+if_ok (Err e) f h = h
+
+pub gains_union : (before more after : ℕ → Type 0) → ((x : ℕ) → after x ↔ (before x ⊎ more x)) → Gains before more after
+gains_union before more after h = record { keeps = λ x k. (h x).1 (inl k); has = λ x k. (h x).1 (inr k); only = λ x k. (h x).0 k }
+
+pub gains_copy : (those after : ℕ → Type 0) → ((x : ℕ) → after x ↔ those x) → Gains none those after
+gains_copy those after h = record { keeps = λ x k. absurd k; has = λ x k. (h x).1 k; only = λ x k. inr ((h x).0 k) }
+
+-- some and then some more, where both together are known
+pub gains_joined : {a b c d e : ℕ → Type 0} (m : ℕ → Type 0) → Gains a b c → Gains c d e
+    → ((x : ℕ) → b x ⊎ d x → m x) → ((x : ℕ) → m x → b x ⊎ d x) → Gains a m e
+gains_joined {a} {b} {c} {d} {e} m g h to from = record {
+  keeps = λ x k. h.keeps x (g.keeps x k);
+  has = λ x k. elim (from x k) [ inl l ↦ h.keeps x (g.has x l) | inr r ↦ h.has x r ];
+  only = λ x k. elim (h.only x k) [
+    | inl l ↦ elim (g.only x l) [ inl o ↦ inl o | inr n ↦ inr (to x (inl n)) ]
+    | inr r ↦ inr (to x (inr r))
+  ];
+}
+
+-- nothing is added
+pub gains_nothing : (a m : ℕ → Type 0) → ((x : ℕ) → m x → ⊥) → Gains a m a
+gains_nothing a m empty = record { keeps = λ x k. k; has = λ x k. absurd (empty x k); only = λ x k. inl k }
+
+pub adds_nothing : (a m : ℕ → ℕ → Type 0) → ((x y : ℕ) → m x y → ⊥) → Adds a m a
+adds_nothing a m empty = record { keeps = λ x y k. k; has = λ x y k. absurd (empty x y k); only = λ x y k. inl k }
+
+-- the same pairs in other words
+pub adds_same : {a b c : ℕ → ℕ → Type 0} (m : ℕ → ℕ → Type 0) → Adds a b c
+    → ((x y : ℕ) → b x y → m x y) → ((x y : ℕ) → m x y → b x y) → Adds a m c
+adds_same m g to from = record {
+  keeps = g.keeps;
+  has = λ x y k. g.has x y (from x y k);
+  only = λ x y k. elim (g.only x y k) [ inl o ↦ inl o | inr n ↦ inr (to x y n) ];
+}
+
+-- some and then some more, where both together are known
+pub adds_joined : {a b c d e : ℕ → ℕ → Type 0} (m : ℕ → ℕ → Type 0) → Adds a b c → Adds c d e
+    → ((x y : ℕ) → b x y ⊎ d x y → m x y) → ((x y : ℕ) → m x y → b x y ⊎ d x y) → Adds a m e
+adds_joined m g h to from = record {
+  keeps = λ x y k. h.keeps x y (g.keeps x y k);
+  has = λ x y k. elim (from x y k) [ inl l ↦ h.keeps x y (g.has x y l) | inr r ↦ h.has x y r ];
+  only = λ x y k. elim (h.only x y k) [
+    | inl l ↦ elim (g.only x y l) [ inl o ↦ inl o | inr n ↦ inr (to x y (inl n)) ]
+    | inr r ↦ inr (to x y (inr r))
+  ];
+}

@@ -1,0 +1,6 @@
+-- Pairs the other way round.
+use Rattle.std.specs.Prelude.{ℕ, ◌<◌}
+
+-- the larger label has the smaller
+abbrev pub Turns : (ℕ → ℕ → Type 0) → (x y : ℕ) → Type 0
+Turns has x y = (x < y) × has y x

@@ -1,0 +1,89 @@
+//! Sets of labels by number.
+
+ghost use Rattle.std.specs.Prelude.{◌↔◌, ◌≡◌, ◌≤◌, ◌<◌, ◌^◌, ℕ, IsTrue, OnOk, length, slice_get};
+ghost use Rattle.std.specs.Option.{option_copied};
+ghost use Rattle.effects.specs.LabelSets.{HasLabel};
+ghost use Rattle.parallel_relation.specs.Around.{Adds, at};
+
+use effects::label_set::LabelSet;
+use std::alloc::{AllocError, Global};
+use types::code::Label;
+
+/// A set of labels for each number, without labels at first.
+#[derive(Drop)]
+pub struct Rows {
+    rows: Vec<LabelSet>,
+    ghost within: { length rows.items ≤ 2 ^ 32 },
+}
+
+impl Rows {
+    ghost use Rattle.parallel_relation.specs.Rows.{HasAt, rows_of};
+
+    /// Rows without labels. They take no memory.
+    pub fn new(alloc: Global) -> Rows
+        ensures { (i y : ℕ) → HasAt result i y → ⊥ }
+    {
+        Rows {
+            rows: Vec::new(alloc),
+        }
+    }
+
+    /// How many rows there are; behind them no row has labels.
+    pub fn len(&self) -> usize
+        ensures len { result ≡ length (rows_of self.now) }
+        ensures within { result ≤ 2 ^ 32 }
+    {
+        self.rows.len()
+    }
+
+    /// The row of a number, where there is one.
+    pub fn get(&self, number: usize) -> Option<&LabelSet>
+        ensures { option_copied result ≡ slice_get (rows_of self.now) number }
+    {
+        self.rows.get(number)
+    }
+
+    /// Whether the row of a number has a label.
+    pub fn has(&self, number: usize, label: Label) -> bool
+        ensures { IsTrue result ↔ HasAt self.now number label }
+    {
+        match self.rows.get(number) {
+            Some(row) => row.has(label),
+            None => false,
+        }
+    }
+
+    /// Adds labels to the row of a number.
+    pub fn add(&mut self, alloc: Global, number: usize, more: &LabelSet) -> Result<(), AllocError>
+        ensures { OnOk result
+            (Adds (HasAt self.old) (at number (HasLabel more.now)) (HasAt self.new)) }
+    {
+        self.reach(alloc, number)?;
+        self.rows[number].unite(more)?;
+        Ok(())
+    }
+
+    /// Adds a label to the row of a number.
+    pub fn put(&mut self, alloc: Global, number: usize, label: Label) -> Result<(), AllocError>
+        ensures { OnOk result
+            (Adds (HasAt self.old) (at number (λ y. y ≡ label)) (HasAt self.new)) }
+    {
+        self.reach(alloc, number)?;
+        self.rows[number].insert(label)?;
+        Ok(())
+    }
+
+    /// Makes a row for a number. More than 4,294,967,296 rows are refused as want of memory is.
+    fn reach(&mut self, alloc: Global, number: usize) -> Result<(), AllocError>
+        ensures there { OnOk result (number < length (rows_of self.new)) }
+        ensures same { OnOk result ((i y : ℕ) → HasAt self.new i y ↔ HasAt self.old i y) }
+    {
+        if number > Label::MAX as usize {
+            return Err(AllocError);
+        }
+        while self.rows.len() <= number {
+            self.rows.push(LabelSet::new(alloc))?;
+        }
+        Ok(())
+    }
+}

@@ -1,0 +1,152 @@
+//! The walk that finds which labels may run together.
+
+ghost use Rattle.std.specs.Prelude.{◌↔◌, ◌∷◌, [], ℕ, IfOk, OnOk};
+ghost use Rattle.types.specs.Translation.{program, codes, code as code_of};
+ghost use Rattle.effects.specs.LabelSets.{HasLabel};
+ghost use Rattle.effects.specs.Summarized.{AreSummaries};
+ghost use Rattle.parallel_relation.specs.Around.{Adds, BlockMeets, InsideMeets};
+ghost use Rattle.parallel_relation.specs.Found.{FoundMeets, Arises};
+
+use crate::found::Found;
+use crate::labels::{add_labels_of, copy_of, union_of};
+use effects::label_set::LabelSet;
+use effects::summaries::Summaries;
+use std::alloc::{AllocError, Global};
+use types::code::{Program, Stmt, StmtKind};
+
+/// Finds the pairs of all procedures and of `main`.
+pub fn walk_all(alloc: Global, code: &Program, summaries: &Summaries) -> Result<Found, AllocError>
+    requires { AreSummaries (program code.now) summaries.now }
+    ensures { let p = program code.now in
+        IfOk result (λ found. (x y : ℕ) → FoundMeets p found x y ↔ Arises p x y) }
+{
+    let nothing = LabelSet::new(alloc);
+    let mut found = Found::new(alloc);
+    for procedure in &code.procedures {
+        walk(
+            alloc,
+            code,
+            summaries,
+            &nothing,
+            &nothing,
+            &procedure.body,
+            &mut found,
+        )?;
+    }
+    walk(
+        alloc,
+        code,
+        summaries,
+        &nothing,
+        &nothing,
+        &code.main.body,
+        &mut found,
+    )?;
+    Ok(found)
+}
+
+/// Finds the pairs of a block: all that it does meets `everything`, what it leaves pending meets `later`, and
+/// its statements meet one another. The statements are taken from the last to the first, so that what stands
+/// behind each is known.
+#[cycle(walk)]
+pub fn walk(
+    alloc: Global,
+    code: &Program,
+    summaries: &Summaries,
+    everything: &LabelSet,
+    later: &LabelSet,
+    block: &[Stmt],
+    found: &mut Found,
+) -> Result<(), AllocError>
+    requires { AreSummaries (program code.now) summaries.now }
+    ensures { let p = program code.now in OnOk result (Adds (FoundMeets p found.old)
+        (BlockMeets p (HasLabel everything.now) (HasLabel later.now) (codes block.now))
+        (FoundMeets p found.new)) }
+{
+    let mut behind = copy_of(alloc, later)?;
+    for k in (0..block.len()).rev() {
+        let statement = &block[k];
+        walk_statement(
+            alloc, code, summaries, everything, &behind, statement, found,
+        )?;
+        add_labels_of(code, summaries, statement, &mut behind)?;
+    }
+    Ok(())
+}
+
+/// Finds the pairs of a statement.
+#[cycle(walk)]
+fn walk_statement(
+    alloc: Global,
+    code: &Program,
+    summaries: &Summaries,
+    everything: &LabelSet,
+    later: &LabelSet,
+    statement: &Stmt,
+    found: &mut Found,
+) -> Result<(), AllocError>
+    requires { AreSummaries (program code.now) summaries.now }
+    ensures { let p = program code.now in OnOk result (Adds (FoundMeets p found.old)
+        (BlockMeets p (HasLabel everything.now) (HasLabel later.now) (codes (statement.now ∷ [])))
+        (FoundMeets p found.new)) }
+{
+    found.add_label(alloc, statement.label, everything)?;
+    walk_inside(alloc, code, summaries, everything, later, statement, found)
+}
+
+/// Finds the pairs of a statement's blocks and of its call.
+#[cycle(walk)]
+fn walk_inside(
+    alloc: Global,
+    code: &Program,
+    summaries: &Summaries,
+    everything: &LabelSet,
+    later: &LabelSet,
+    statement: &Stmt,
+    found: &mut Found,
+) -> Result<(), AllocError>
+    requires { AreSummaries (program code.now) summaries.now }
+    ensures { let p = program code.now in OnOk result (Adds (FoundMeets p found.old)
+        (InsideMeets p (HasLabel everything.now) (HasLabel later.now) statement.now.label
+        (code_of statement.now.kind)) (FoundMeets p found.new)) }
+{
+    match &statement.kind {
+        StmtKind::Do(_) => Ok(()),
+        StmtKind::If { body, other, .. } => {
+            walk(alloc, code, summaries, everything, later, body, found)?;
+            walk(alloc, code, summaries, everything, later, other, found)
+        }
+        StmtKind::While { body, .. } => {
+            let mut again = copy_of(alloc, later)?;
+            add_labels_of(code, summaries, statement, &mut again)?;
+            walk(alloc, code, summaries, everything, &again, body, found)
+        }
+        StmtKind::Split { body, .. } => {
+            walk(alloc, code, summaries, everything, later, body, found)
+        }
+        StmtKind::Call { procedure, .. } => found.add_call(alloc, *procedure, everything, later),
+        StmtKind::Async { body } => {
+            let beside = union_of(alloc, everything, later)?;
+            walk(
+                alloc,
+                code,
+                summaries,
+                &beside,
+                &LabelSet::new(alloc),
+                body,
+                found,
+            )
+        }
+        StmtKind::Finish { body } => {
+            walk(
+                alloc,
+                code,
+                summaries,
+                everything,
+                &LabelSet::new(alloc),
+                body,
+                found,
+            )
+        }
+    }
+}

@@ -1,0 +1,98 @@
+//! The race check.
+
+ghost use Rattle.std.specs.Prelude.{◌≡◌, ◌<◌, ◌≤◌, IfErr, IfOk, OnOk, length};
+ghost use Rattle.types.specs.Typed.{code_of};
+ghost use Rattle.effects.specs.Sound.{IsSound};
+ghost use Rattle.effects.specs.Summarized.{AreSummaries};
+ghost use Rattle.race_checker.specs.Clash.{IsAccepted};
+ghost use Rattle.race_checker.specs.Races.{IsRace, IsRaceIn, LeastOf};
+ghost use Rattle.race_checker.specs.Refusal.{IsRefusalOf};
+ghost use Rattle.race_checker.specs.Translation.{found};
+
+use crate::accepted::Accepted;
+use crate::race::{Race, lesser};
+use crate::walk::{found_in, procedure_of};
+use effects::laws::typed_programs_are_sound;
+use effects::summaries::{Summaries, summarize};
+use std::alloc::{AllocError, Global};
+use types::ids::ProcedureId;
+use types::typed::Typed;
+
+/// Why a program isn't accepted.
+#[derive(Drop)]
+pub enum Refused {
+    /// C1: two accesses clash. Of all clashes this is the least.
+    Race {
+        race: Race,
+        /// The program, for the names in it.
+        typed: Typed,
+    },
+    /// C2: memory.
+    OutOfMemory,
+}
+
+/// Whether a program has a race: in a procedure, called or not, or in `main`.
+pub fn check(alloc: Global, typed: Typed) -> Result<Accepted, Refused>
+    ensures accepted { IfOk result (λ accepted. accepted.typed ≡ typed) }
+    ensures no_clash { OnOk result (IsAccepted (code_of typed)) }
+    ensures refused { IfErr result (IsRefusalOf typed) }
+{
+    typed_programs_are_sound(&typed);
+    match summarize(alloc, &typed) {
+        Err(_) => Err(Refused::OutOfMemory),
+        Ok(summaries) => judge(alloc, typed, summaries),
+    }
+}
+
+/// The same, with the summaries of the program.
+fn judge(alloc: Global, typed: Typed, summaries: Summaries) -> Result<Accepted, Refused>
+    requires sound { IsSound (code_of typed) }
+    requires summaries { AreSummaries (code_of typed) summaries }
+    ensures accepted { IfOk result (λ accepted. accepted.typed ≡ typed) }
+    ensures no_clash { OnOk result (IsAccepted (code_of typed)) }
+    ensures refused { IfErr result (IsRefusalOf typed) }
+{
+    match least_race(alloc, &typed, &summaries) {
+        Err(_) => Err(Refused::OutOfMemory),
+        Ok(least) => match least {
+            Some(race) => Err(Refused::Race { race, typed }),
+            None => Ok(Accepted { typed, summaries }),
+        },
+    }
+}
+
+/// The least clash of a program.
+fn least_race(
+    alloc: Global,
+    typed: &Typed,
+    summaries: &Summaries,
+) -> Result<Option<Race>, AllocError>
+    requires sound { IsSound (code_of typed.now) }
+    requires summaries { AreSummaries (code_of typed.now) summaries.now }
+    ensures { IfOk result (λ race. LeastOf (IsRace (code_of typed.now)) (found race)) }
+{
+    let mut race = None;
+    for number in 0..typed.code().procedures.len() + 1 {
+        let procedure = ProcedureId { number };
+        race = lesser(race, least_race_in(alloc, typed, summaries, procedure)?);
+    }
+    Ok(race)
+}
+
+/// The least clash of a procedure, or of `main`.
+fn least_race_in(
+    alloc: Global,
+    typed: &Typed,
+    summaries: &Summaries,
+    procedure: ProcedureId,
+) -> Result<Option<Race>, AllocError>
+    requires sound { IsSound (code_of typed.now) }
+    requires summaries { AreSummaries (code_of typed.now) summaries.now }
+    requires procedure { procedure.number ≤ length (code_of typed.now).procedures }
+    ensures { IfOk result (λ race. LeastOf (IsRaceIn (code_of typed.now) procedure.number)
+        (found race)) }
+{
+    let body = &procedure_of(typed.code(), procedure).body;
+    let found = found_in(alloc, typed, summaries, procedure, body)?;
+    Ok(found.race)
+}

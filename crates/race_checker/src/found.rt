@@ -1,0 +1,168 @@
+//! What is found of statements.
+
+ghost use Rattle.std.specs.Prelude.{◌≡◌, ◌<◌, [], All, IfOk, None, length, map};
+ghost use Rattle.sections.specs.Tree.{origins_of};
+ghost use Rattle.effects.specs.Effects.{past_split};
+ghost use Rattle.effects.specs.Firsts.{kept_in};
+ghost use Rattle.effects.specs.Translation.{access as access_of};
+ghost use Rattle.race_checker.specs.Found.{IsBoth, IsInFront, IsRenamed, IsWithOwn, IsInTurn};
+ghost use Rattle.race_checker.specs.Translation.{found as race_found};
+
+use crate::race::{Race, lesser};
+use crate::search::least_clash;
+use effects::access::Access;
+use effects::firsts::Firsts;
+use sections::id::SectionId;
+use sections::tree::SectionTree;
+use std::alloc::{AllocError, Global};
+use types::ids::ProcedureId;
+
+/// What statements do, what they leave pending, and their least clash.
+#[derive(Drop)]
+pub(crate) struct Found {
+    pub all: Firsts,
+    pub pending: Firsts,
+    pub race: Option<Race>,
+}
+
+impl Found {
+    /// Of statements that do nothing.
+    pub fn nothing(alloc: Global) -> Found
+        ensures all { kept_in result.all ≡ [] }
+        ensures pending { kept_in result.pending ≡ [] }
+        ensures race { race_found result.race ≡ None }
+    {
+        Found {
+            all: Firsts::new(alloc),
+            pending: Firsts::new(alloc),
+            race: None,
+        }
+    }
+
+    /// Of two blocks, of which one is run.
+    pub fn or(self, other: Found) -> Result<Found, AllocError>
+        ensures { IfOk result (IsBoth self other) }
+    {
+        let Found {
+            mut all,
+            mut pending,
+            race,
+        } = self;
+        all.add_all(other.all.items())?;
+        pending.add_all(other.pending.items())?;
+        Ok(Found {
+            all,
+            pending,
+            race: lesser(race, other.race),
+        })
+    }
+
+    /// Of a list of statements with one more in front: what that leaves pending meets all of the list.
+    pub fn with_first(
+        self,
+        sections: &SectionTree,
+        procedure: ProcedureId,
+        here: Found,
+    ) -> Result<Found, AllocError>
+        requires pending { All (λ x. x.section.number < length (origins_of sections.now))
+            here.pending.items.items }
+        requires all { All (λ x. x.section.number < length (origins_of sections.now))
+            self.all.items.items }
+        ensures { IfOk result (IsInFront (origins_of sections.now) procedure.number here self) }
+    {
+        let crossing = least_clash(sections, procedure, here.pending.items(), self.all.items());
+        let Found {
+            mut all,
+            mut pending,
+            race,
+        } = self;
+        all.add_all(here.all.items())?;
+        pending.add_all(here.pending.items())?;
+        Ok(Found {
+            all,
+            pending,
+            race: lesser(crossing, lesser(here.race, race)),
+        })
+    }
+
+    /// Of a statement with these blocks, and its own accesses.
+    pub fn with_own(self, own: &[Access]) -> Result<Found, AllocError>
+        ensures { IfOk result (IsWithOwn (map access_of own.now) self) }
+    {
+        let Found {
+            mut all,
+            pending,
+            race,
+        } = self;
+        all.add_all(own)?;
+        Ok(Found { all, pending, race })
+    }
+
+    /// Of a loop, which follows itself: what it leaves pending meets all of its next turn.
+    pub fn in_turn(self, sections: &SectionTree, procedure: ProcedureId) -> Found
+        requires pending { All (λ x. x.section.number < length (origins_of sections.now))
+            self.pending.items.items }
+        requires all { All (λ x. x.section.number < length (origins_of sections.now))
+            self.all.items.items }
+        ensures { IsInTurn (origins_of sections.now) procedure.number self result }
+    {
+        let crossing = least_clash(sections, procedure, self.pending.items(), self.all.items());
+        let Found { all, pending, race } = self;
+        Found {
+            all,
+            pending,
+            race: lesser(crossing, race),
+        }
+    }
+
+    /// Of a split with these statements, in the names around it.
+    pub fn past_split(
+        self,
+        alloc: Global,
+        section: SectionId,
+        left: SectionId,
+        right: SectionId,
+    ) -> Result<Found, AllocError>
+        ensures { IfOk result
+            (IsRenamed (past_split section.number left.number right.number) self) }
+    {
+        Ok(Found {
+            all: self.all.past_split(alloc, section, left, right)?,
+            pending: self.pending.past_split(alloc, section, left, right)?,
+            race: self.race,
+        })
+    }
+
+    /// Of an async with these statements: all that they do is left pending.
+    pub fn in_async(self, alloc: Global) -> Result<Found, AllocError>
+        ensures all { IfOk result (λ found. found.all ≡ self.all) }
+        ensures pending { IfOk result (λ found. kept_in found.pending ≡ kept_in self.all) }
+        ensures race { IfOk result (λ found. found.race ≡ self.race) }
+    {
+        let Found {
+            all,
+            pending: _,
+            race,
+        } = self;
+        let pending = all.copy(alloc)?;
+        Ok(Found { all, pending, race })
+    }
+
+    /// Of a finish with these statements: it leaves nothing pending.
+    pub fn in_finish(self, alloc: Global) -> Found
+        ensures all { result.all ≡ self.all }
+        ensures pending { kept_in result.pending ≡ [] }
+        ensures race { result.race ≡ self.race }
+    {
+        let Found {
+            all,
+            pending: _,
+            race,
+        } = self;
+        Found {
+            all,
+            pending: Firsts::new(alloc),
+            race,
+        }
+    }
+}

@@ -1,0 +1,91 @@
+//! What is told of a clash.
+
+ghost use Rattle.std.specs.Prelude.{◌≡◌};
+ghost use Rattle.effects.specs.Translation.{access as access_of};
+ghost use Rattle.race_checker.specs.Races.{comes_before, is_less, race_key, access_key};
+ghost use Rattle.race_checker.specs.Search.{race_of, lesser_of};
+ghost use Rattle.race_checker.specs.Translation.{race as plain, found};
+
+use effects::access::Access;
+use types::ids::ProcedureId;
+
+/// Two accesses that clash, in the names of the procedure in which they do. The first has the smaller label; with
+/// equal labels it has the smaller section, and then it is the read.
+#[derive(Clone, Copy, PartialEq, Eq, Debug)]
+pub struct Race {
+    pub procedure: ProcedureId,
+    pub first: Access,
+    pub second: Access,
+}
+
+impl Race {
+    /// The race of two accesses, in whichever order they come.
+    pub(crate) fn of(procedure: ProcedureId, one: Access, other: Access) -> Race
+        ensures { plain result ≡ race_of procedure.number (access_of one, access_of other) }
+    {
+        if is_before(other, one) {
+            Race {
+                procedure,
+                first: other,
+                second: one,
+            }
+        } else {
+            Race {
+                procedure,
+                first: one,
+                second: other,
+            }
+        }
+    }
+
+    /// Whether it is told before the other: ordered by both labels, then by procedure, then by what each access does.
+    pub(crate) fn is_before(self, other: Race) -> bool
+        ensures { result ≡ comes_before (plain self) (plain other) }
+    {
+        self.key() < other.key()
+    }
+
+    /// What it is ordered by.
+    fn key(self) -> [usize; 7]
+        ensures { result ≡ race_key (plain self) }
+    {
+        [
+            self.first.label as usize,
+            self.second.label as usize,
+            self.procedure.number,
+            self.first.section.number,
+            usize::from(self.first.write),
+            self.second.section.number,
+            usize::from(self.second.write),
+        ]
+    }
+}
+
+/// Whether an access stands before another in a race.
+fn is_before(access: Access, other: Access) -> bool
+    ensures { result ≡ is_less (access_key (access_of access)) (access_key (access_of other)) }
+{
+    key_of(access) < key_of(other)
+}
+
+/// What accesses are ordered by.
+fn key_of(access: Access) -> [usize; 3]
+    ensures { result ≡ access_key (access_of access) }
+{
+    [
+        access.label as usize,
+        access.section.number,
+        usize::from(access.write),
+    ]
+}
+
+/// The lesser of two races that were found.
+pub(crate) fn lesser(one: Option<Race>, other: Option<Race>) -> Option<Race>
+    ensures { found result ≡ lesser_of (found one) (found other) }
+{
+    match (one, other) {
+        (None, _) => other,
+        (Some(_), None) => one,
+        (Some(race), Some(next)) => { if next.is_before(race) { other } else { one } }
+    }
+}

@@ -1,0 +1,163 @@
+//! What statements do and leave pending, and which of them clash: one pass over a procedure.
+
+ghost use Rattle.std.specs.Prelude.{◌≡◌, ◌≤◌, length, map, IfOk, None};
+ghost use Rattle.sections.specs.Tree.{origins_of};
+ghost use Rattle.sections.specs.Translation.{section as section_of};
+ghost use Rattle.types.specs.Translation.{code as code_as, codes as codes_of, procedure as procedure_as};
+ghost use Rattle.types.specs.Translation.{program as program_as};
+ghost use Rattle.types.specs.Typed.{code_of};
+ghost use Rattle.effects.specs.Sound.{IsSound};
+ghost use Rattle.effects.specs.Summarized.{AreSummaries};
+ghost use Rattle.types.specs.Run.{procedure_of as plain_procedure_of};
+ghost use Rattle.effects.specs.Effects.{accesses, All, Pending, past_call};
+ghost use Rattle.effects.specs.Firsts.{AreFirsts, kept_in};
+ghost use Rattle.effects.specs.Rows.{Renamed};
+ghost use Rattle.race_checker.specs.Found.{Stands, StandsOf, IsFoundIn, IsFoundOf};
+ghost use Rattle.race_checker.specs.Translation.{found as race_found};
+ghost use Rattle.race_checker.specs.Races.{numbered};
+
+use crate::found::Found;
+use effects::firsts::Firsts;
+use effects::own::own_accesses;
+use effects::summaries::Summaries;
+use sections::id::SectionId;
+use std::alloc::{AllocError, Global};
+use types::code::{Procedure, Program, Stmt, StmtKind};
+use types::ids::ProcedureId;
+use types::typed::Typed;
+
+/// The procedure of a number; `main` is numbered behind the others.
+pub(crate) fn procedure_of(program: &Program, procedure: ProcedureId) -> &Procedure
+    requires { procedure.number ≤ length program.now.procedures.items }
+    ensures { procedure_as result.now ≡ numbered (program_as program.now) procedure.number }
+{
+    match program.procedures.get(procedure.number) {
+        Some(procedure) => procedure,
+        None => &program.main,
+    }
+}
+
+/// What is found of a list of statements, from its end to its front.
+#[cycle(walk)]
+pub(crate) fn found_in(
+    alloc: Global,
+    typed: &Typed,
+    summaries: &Summaries,
+    procedure: ProcedureId,
+    body: &[Stmt],
+) -> Result<Found, AllocError>
+    requires sound { IsSound (code_of typed.now) }
+    requires summaries { AreSummaries (code_of typed.now) summaries.now }
+    requires procedure { procedure.number ≤ length (code_of typed.now).procedures }
+    requires stands { Stands (code_of typed.now)
+        (numbered (code_of typed.now) procedure.number).sections (codes_of body.now) }
+    ensures { IfOk result (IsFoundIn (code_of typed.now)
+        (numbered (code_of typed.now) procedure.number).sections procedure.number
+        (codes_of body.now)) }
+{
+    let sections = &procedure_of(typed.code(), procedure).sections;
+    let mut found = Found::nothing(alloc);
+    for place in (0..body.len()).rev() {
+        let here = found_of(alloc, typed, summaries, procedure, &body[place])?;
+        found = found.with_first(sections, procedure, here)?;
+    }
+    Ok(found)
+}
+
+/// What is found of a statement.
+#[cycle(walk)]
+fn found_of(
+    alloc: Global,
+    typed: &Typed,
+    summaries: &Summaries,
+    procedure: ProcedureId,
+    statement: &Stmt,
+) -> Result<Found, AllocError>
+    requires sound { IsSound (code_of typed.now) }
+    requires summaries { AreSummaries (code_of typed.now) summaries.now }
+    requires procedure { procedure.number ≤ length (code_of typed.now).procedures }
+    requires stands { StandsOf (code_of typed.now)
+        (numbered (code_of typed.now) procedure.number).sections
+        statement.now.label (code_as statement.now.kind) }
+    ensures { IfOk result (IsFoundOf (code_of typed.now)
+        (numbered (code_of typed.now) procedure.number).sections procedure.number
+        statement.now.label (code_as statement.now.kind)) }
+{
+    let own = own_accesses(alloc, statement.label, &statement.kind)?;
+    match &statement.kind {
+        StmtKind::Do(_) => Found::nothing(alloc).with_own(&own),
+        StmtKind::If { body, other, .. } => {
+            let body = found_in(alloc, typed, summaries, procedure, body)?;
+            let other = found_in(alloc, typed, summaries, procedure, other)?;
+            body.or(other)?.with_own(&own)
+        }
+        StmtKind::While { body, .. } => {
+            let turn = found_in(alloc, typed, summaries, procedure, body)?.with_own(&own)?;
+            Ok(turn.in_turn(&procedure_of(typed.code(), procedure).sections, procedure))
+        }
+        StmtKind::Split {
+            section,
+            left,
+            right,
+            body,
+            ..
+        } => {
+            let found = found_in(alloc, typed, summaries, procedure, body)?;
+            let outside = found.past_split(alloc, *section, *left, *right)?;
+            outside.with_own(&own)
+        }
+        StmtKind::Call {
+            procedure: callee,
+            sections,
+            ..
+        } => {
+            let found = found_of_call(alloc, typed, summaries, *callee, sections)?;
+            found.with_own(&own)
+        }
+        StmtKind::Async { body } => {
+            let found = found_in(alloc, typed, summaries, procedure, body)?;
+            found.in_async(alloc)?.with_own(&own)
+        }
+        StmtKind::Finish { body } => {
+            let found = found_in(alloc, typed, summaries, procedure, body)?;
+            found.in_finish(alloc).with_own(&own)
+        }
+    }
+}
+
+/// What is found of a call: what its procedure does and leaves pending, in the names around the call. What clashes
+/// in there is found in that procedure.
+fn found_of_call(
+    alloc: Global,
+    typed: &Typed,
+    summaries: &Summaries,
+    callee: ProcedureId,
+    sections: &[SectionId],
+) -> Result<Found, AllocError>
+    requires sound { IsSound (code_of typed.now) }
+    requires summaries { AreSummaries (code_of typed.now) summaries.now }
+    requires number { length sections.now
+        ≡ length (plain_procedure_of (code_of typed.now) callee.number).parameters }
+    ensures all { IfOk result (λ found. AreFirsts
+        (Renamed (code_of typed.now) accesses (past_call (map section_of sections.now))
+        (All (code_of typed.now) accesses
+        (plain_procedure_of (code_of typed.now) callee.number).body))
+        (kept_in found.all)) }
+    ensures pending { IfOk result (λ found. AreFirsts
+        (Renamed (code_of typed.now) accesses (past_call (map section_of sections.now))
+        (Pending (code_of typed.now) accesses
+        (plain_procedure_of (code_of typed.now) callee.number).body))
+        (kept_in found.pending)) }
+    ensures race { IfOk result (λ found. race_found found.race ≡ None) }
+{
+    // Typed programs call no other procedure.
+    if callee.number >= typed.code().procedures.len() {
+        return Ok(Found::nothing(alloc));
+    }
+    let summary = summaries.of(callee);
+    Ok(Found {
+        all: Firsts::past_call(alloc, &summary.all, sections)?,
+        pending: Firsts::past_call(alloc, &summary.pending, sections)?,
+        race: None,
+    })
+}

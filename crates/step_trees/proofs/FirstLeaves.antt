@@ -1,0 +1,166 @@
+-- Runs in which the first leaf that may step always steps.
+use Rattle.std.proofs.Common.{◌≡◌, ℕ, zero, suc, ◌+◌, ◌<◌, List, refl, sym, ap, ◌∙◌, subst, arith}
+use Rattle.std.specs.Prelude.{Bool, true, false, if◌then◌else◌}
+use Rattle.types.specs.Code.{Codes, End, Then, Program}
+use Rattle.types.specs.Contents.{Contents}
+use Rattle.types.specs.Trees.{Leaf, Tree, Single, AndThen, Beside, is_done, all_done, ready, and_then, closed}
+use Rattle.types.specs.TreeSteps.{tree_after, store_after}
+use Rattle.types.specs.TreeRuns.{Runs, here, next}
+use Rattle.effects.specs.Sound.{IsSound}
+use Rattle.effects.proofs.Members.{both_true}
+use Rattle.race_checker.specs.Clash.{IsAccepted}
+use Rattle.race_checker.proofs.Calming.{is_calm}
+use Rattle.step_trees.proofs.Steps.{Step, step_from, step_below}
+use Rattle.step_trees.proofs.GoodTrees.{Good, step_kept}
+use Rattle.step_trees.proofs.CommutingSteps.{one_step}
+
+true_false : {A : Type 0} → true ≡ false → A
+true_false e = cc
+
+module _ (p : Program) where
+  pub data LeftRun : ℕ → Tree → Contents → Tree → Contents → Type 0 where
+    ended : {t : Tree} {a : Contents} → LeftRun 0 t a t a
+    goes : {n : ℕ} {k : Leaf} {t u v : Tree} {a b c : Contents} → Step p 0 k t a u b → LeftRun n u b v c
+        → LeftRun (suc n) t a v c
+
+  -- a tree with a leaf that may step has a first one
+  first_leaf : (c : Codes) (k : Leaf) (a : Contents) → k.rest ≡ c → ◌<◌ 0 (if is_done c then 0 else 1)
+      → (u : Tree) × (b : Contents) × Step p 0 k (Single k) a u b
+  first_leaf End k a e h = absurd (omega arith)
+  first_leaf (Then l s rest) k a e h =
+      (tree_after p l s (record k { rest = rest }) a, store_after p l s (record k { rest = rest }) a, Step.here e refl refl)
+
+  pub first_step : (t : Tree) (a : Contents) → 0 < ready t
+      → (k : Leaf) × (u : Tree) × (b : Contents) × Step p 0 k t a u b
+  first_step (Single k) a h = let s = first_leaf k.rest k a refl h in (k, s.0, s.1, s.2)
+  first_step (AndThen t j) a h = let s = first_step t a h in (s.0, and_then s.1 j, s.2, Step.first s.3 refl)
+  first_step (Beside t u) a h = by (ready t) refl (first_step t a) (first_step u a)
+    where
+      by : (n : ℕ) → ready t ≡ n → (0 < ready t → (k : Leaf) × (v : Tree) × (b : Contents) × Step p 0 k t a v b)
+          → (0 < ready u → (k : Leaf) × (v : Tree) × (b : Contents) × Step p 0 k u a v b)
+          → (k : Leaf) × (v : Tree) × (b : Contents) × Step p 0 k (Beside t u) a v b
+      by zero e f g = let s = g (omega arith) in (s.0, Beside t s.1, s.2, Step.right (omega arith) s.3)
+      by (suc n) e f g = let s = f (omega arith) in (s.0, Beside s.1 u, s.2, Step.left s.3)
+
+  -- a tree in which none may step stays
+  pub stuck : {n : ℕ} {t u : Tree} {a b : Contents} → ready t ≡ 0 → LeftRun n t a u b → (n ≡ 0) × (u ≡ t) × (b ≡ a)
+  stuck e ended = (refl, refl, refl)
+  stuck e (goes s r) = absurd (let h = step_below p s in omega arith)
+
+  -- One tree beside another
+
+  pub record Halves (n : ℕ) (t u : Tree) (a : Contents) (e : Tree) (z : Contents) : Type 0 where
+    pub first_count : ℕ
+    pub second_count : ℕ
+    pub count : first_count + second_count ≡ n
+    pub middle : Contents
+    pub first_tree : Tree
+    pub second_tree : Tree
+    pub first : LeftRun first_count t a first_tree middle
+    pub second : LeftRun second_count u middle second_tree z
+    pub first_done : all_done first_tree ≡ true
+    pub second_done : all_done second_tree ≡ true
+    pub both : e ≡ Beside first_tree second_tree
+
+  later_half : {n : ℕ} {t u v e : Tree} {a b z : Contents} {k : Leaf} → 0 ≡ ready t → Step p 0 k u a v b
+      → Halves n t v b e z → Halves (suc n) t u a e z
+  later_half {n = n} {t = t} {u = u} {e = e} {a = a} {z = z} q s h =
+      let x = stuck (sym q) h.first in
+      record {
+        first_count = 0;
+        second_count = suc h.second_count;
+        count = (let c = h.count in let y = x.0 in omega arith);
+        middle = a;
+        first_tree = t;
+        second_tree = h.second_tree;
+        first = ended;
+        second = goes s (subst (λ b. LeftRun h.second_count _ b h.second_tree z) x.2 h.second);
+        first_done = ap all_done (sym x.1) ∙ h.first_done;
+        second_done = h.second_done;
+        both = h.both ∙ ap (λ t. Beside t h.second_tree) x.1;
+      }
+
+  pub halves : (n : ℕ) {t u e : Tree} {a z : Contents} → LeftRun n (Beside t u) a e z → all_done e ≡ true
+      → Halves n t u a e z
+  halves zero {t} {u} {a = a} ended d =
+      let h = both_true (all_done t) (all_done u) d in
+      record {
+        first_count = 0;
+        second_count = 0;
+        count = refl;
+        middle = a;
+        first_tree = t;
+        second_tree = u;
+        first = ended;
+        second = ended;
+        first_done = h.0;
+        second_done = h.1;
+        both = refl;
+      }
+  halves (suc n) (goes (Step.left s) r) d =
+      let h = halves n r d in
+      record {
+        first_count = suc h.first_count;
+        second_count = h.second_count;
+        count = (let c = h.count in omega arith);
+        middle = h.middle;
+        first_tree = h.first_tree;
+        second_tree = h.second_tree;
+        first = goes s h.first;
+        second = h.second;
+        first_done = h.first_done;
+        second_done = h.second_done;
+        both = h.both;
+      }
+  halves (suc n) (goes (Step.right {m = m} {k = k} {t = t} {v = v} {w = w} {a = a} {b = b} e s) r) d =
+      later_half (omega arith) (subst (λ m. Step p m k v a w b) (omega arith) s) (halves n r d)
+
+  -- A finish
+
+  pub record Finished (n : ℕ) (t : Tree) (j : Leaf) (a : Contents) (e : Tree) (z : Contents) : Type 0 where
+    pub first_count : ℕ
+    pub second_count : ℕ
+    pub count : first_count + second_count ≡ n
+    pub middle : Contents
+    pub tree : Tree
+    pub first : LeftRun first_count t a tree middle
+    pub done : all_done tree ≡ true
+    pub second : LeftRun second_count (Single (closed tree j)) middle e z
+
+  pub finished : (n : ℕ) (t : Tree) (j : Leaf) (b : Bool) → all_done t ≡ b → (a : Contents) (e : Tree) (z : Contents)
+      → LeftRun n (if b then Single (closed t j) else AndThen t j) a e z → all_done e ≡ true → Finished n t j a e z
+  finished n t j true h a e z r d = record {
+    first_count = 0;
+    second_count = n;
+    count = omega arith;
+    middle = a;
+    tree = t;
+    first = ended;
+    done = h;
+    second = r;
+  }
+  finished zero t j false h a e z ended d = true_false (sym d)
+  finished (suc n) t j false h a e z (goes (Step.first {u = u} {b = b} s q) r) d =
+      let f = finished n u j (all_done u) refl b e z (subst (λ w. LeftRun n w b e z) q r) d in
+      record {
+        first_count = suc f.first_count;
+        second_count = f.second_count;
+        count = (let c = f.count in omega arith);
+        middle = f.middle;
+        tree = f.tree;
+        first = goes s f.first;
+        done = f.done;
+        second = f.second;
+      }
+
+module _ (p : Program) (sound : IsSound p) (accepted : IsAccepted p) where
+  -- where a run ends, the first leaves lead to the same end in as many steps
+  pub leftmost : (n : ℕ) {t e : Tree} {a z : Contents} → Runs p n t a e z → all_done e ≡ true → (keep : List ℕ)
+      → Good p keep t → LeftRun p n t a e z
+  leftmost zero here d keep g = LeftRun.ended
+  leftmost (suc n) {e = e} {z = z} (next {t = t} {u = u} {a = a} {b = b} m h rest) d keep g =
+      let x = step_from p t m a u b h in
+      let s = first_step p t a (let y = step_below p x.1 in omega arith) in
+      let i = one_step p sound accepted (next m h rest) d keep g 0 s.0 s.1 s.2 s.3 in
+      let same : i.0 ≡ n = (let q = i.1 in omega arith) in
+      LeftRun.goes s.3 (leftmost n (subst (λ r. Runs p r s.1 s.2 e z) same i.2) d keep (step_kept p sound (is_calm p sound accepted) s.3 keep g).good)

@@ -1,0 +1,542 @@
+-- A run in which the first leaf always steps does what the one-thread meaning says.
+use Rattle.std.proofs.Common.{◌≡◌, ℕ, zero, suc, ◌+◌, ◌<◌, ◌≤◌, List, [], ◌∷◌, ◌++◌, map, refl, sym, ap, ◌∙◌, subst, arith, append_assoc}
+use Rattle.std.proofs.lemmas.List.{append-nil}
+use Rattle.std.specs.Prelude.{ℤ, Bool, true, false, Ok, Err, ok_or, if◌then◌else◌}
+use Rattle.sections.specs.Place.{sides_of}
+use Rattle.types.specs.declared.fault.FaultKind.{FaultKind}
+use Rattle.types.specs.declared.fault.FaultKind.TheVariants.{SplitPoint}
+use Rattle.types.specs.Code.{Number, Truth, Primitive, Code, Do, If, While, Split, Call, Async, Finish, Codes, End, Then, Program}
+use Rattle.types.specs.Contents.{Contents, read, held_by}
+use Rattle.types.specs.Value.{Environment, Valued, then_try, number, numbers, truth}
+use Rattle.types.specs.Run.{Flow, On, Faulted, Stopped, Fault, State, Block, Turn, at_flow as flow_goes, go_on, with_step, fault, with_value, choose, in_environment, act, block, entry, with_sides, procedure_of, counted}
+use Rattle.types.specs.Meaning.{hushed, joined, child as child_state, after_async, after_body, after_finish, begin_one, one_rules, one as one_run}
+use Rattle.types.specs.Outcome.{Budget, IsLarger, Outcome, Ended, start, outcome_by, outcome_of, outcome}
+use Rattle.types.proofs.Adds.{only_adds}
+use Rattle.types.proofs.Larger.{one_is_thrifty}
+use Rattle.types.proofs.Solutions.{solves}
+use Rattle.types.specs.Trees.{Caller, Leaf, Tree, Single, Beside, append, single, is_done, done, failed, owner_environment, outermost, returned, returned_by, return_to, before_rest, all_done, faults_of, lines_of, rightmost, unless_faulted, and_then, called, child, parent, inside}
+use Rattle.types.specs.TreeSteps.{on_value, as_state, with_state, tree_after, store_after, first_leaf, first_tree}
+use Rattle.types.specs.TreeRuns.{tree_ending}
+use Rattle.step_trees.proofs.Steps.{Step}
+use Rattle.step_trees.proofs.Deeds.{Deed, Nothing, Assigns, Writes, Prints, Fails, deed, did, primitive-did}
+use Rattle.step_trees.proofs.FirstLeaves.{LeftRun, ended, goes, stuck, Halves, halves, Finished, finished}
+
+abbrev S : Type 0
+S = State (Unit {0})
+
+-- A state with lines and faults before its own
+
+abbrev behind : List (List ℤ) → List Fault → S → S
+behind l f st = record st { lines = l ++ st.lines; faults = f ++ st.faults }
+
+same_told : (st : S) (l m : List (List ℤ)) (f g : List Fault) → l ≡ m → f ≡ g
+    → record st { lines = l; faults = f } ≡ record st { lines = m; faults = g }
+same_told st l m f g e h = λ i. record st { lines = e i; faults = h i }
+
+abbrev Adds : (S → S) → Type 0
+Adds go = (l : List (List ℤ)) (f : List Fault) (st : S) → go (behind l f st) ≡ behind l f (go st)
+
+-- nothing was told before
+behind-nothing : (l : List (List ℤ)) (f : List Fault) (st : S)
+    → behind l f (hushed st) ≡ record st { lines = l; faults = f }
+behind-nothing l f st = same_told st (l ++ []) l (f ++ []) f (append-nil l) (append-nil f)
+
+go_on_adds : (go : S → S) → Adds go → Adds (go_on go)
+go_on_adds go h l f st = by st.flow
+  where
+    by : (x : Flow) → flow_goes x (behind l f st) go ≡ behind l f (flow_goes x st go)
+    by On = h l f st
+    by Faulted = refl
+    by Stopped = refl
+
+-- Going on twice
+
+go_on_twice : (st : S) (f g h : S → S) → (st.flow ≡ On → f st ≡ go_on g (h st)) → go_on f st ≡ go_on g (go_on h st)
+go_on_twice st f g h same = by st.flow refl
+  where
+    by : (x : Flow) → st.flow ≡ x → flow_goes x st f ≡ go_on g (flow_goes x st h)
+    by On e = same e
+    by Faulted e = sym (ap (λ x. flow_goes x st g) e)
+    by Stopped e = sym (ap (λ x. flow_goes x st g) e)
+
+try_twice : {A B : Type 0} (l : ℕ) (r : Valued A) (f : A → Valued B) (go : B → S → S) (st : S)
+    → with_value l (then_try r f) go st ≡ with_value l r (λ v. with_value l (f v) go) st
+try_twice l (Ok v) f go st = refl
+try_twice l (Err x) f go st = refl
+
+-- A task's state, as a leaf has it, and at the end of a tree
+
+abbrev state_of : Leaf → Contents → ℕ → S
+state_of k a n = record (as_state k a) { steps = n }
+
+abbrev end_state : List ℕ → Tree → Contents → Flow → ℕ → S
+end_state path t a flow left = record {
+  flow = flow;
+  environment = owner_environment t;
+  store = a;
+  lines = lines_of t;
+  faults = faults_of t;
+  steps = left;
+  path = path;
+  spawned = (rightmost t).spawned;
+  extra = tt;
+}
+
+-- a state is that of an ended tree which took at most n steps, and isn't stopped
+record ComesTo (n steps : ℕ) (path : List ℕ) (t : Tree) (a : Contents) (out : S) : Type 0 where
+  flow : Flow
+  goes : flow ≡ Stopped → ⊥
+  left : ℕ
+  enough : steps ≤ left + n
+  meaning : out ≡ end_state path t a flow left
+
+comes_same : {n steps : ℕ} {path : List ℕ} {t : Tree} {a : Contents} {out other : S} → other ≡ out
+    → ComesTo n steps path t a out → ComesTo n steps path t a other
+comes_same {n = n} {steps = steps} {path = path} {t = t} {a = a} e c = subst (ComesTo n steps path t a) (sym e) c
+
+not_stopped : {A : Type 0} (f : Flow) → (f ≡ Stopped → ⊥) → (fs : List Fault) → (f ≡ On → A) → (f ≡ Faulted → A) → A
+not_stopped On h fs a b = a refl
+not_stopped Faulted h fs a b = b refl
+not_stopped Stopped h fs a b = absurd (h refl)
+
+async_on : (f : Flow) → (f ≡ Stopped → ⊥) → after_async f ≡ On
+async_on On h = refl
+async_on Faulted h = refl
+async_on Stopped h = absurd (h refl)
+
+finish_on : (f : Flow) → (f ≡ Stopped → ⊥) → after_finish f [] ≡ On
+finish_on On h = refl
+finish_on Faulted h = refl
+finish_on Stopped h = absurd (h refl)
+
+finish_faulted : (f : Flow) → (f ≡ Stopped → ⊥) → (x : Fault) (fs : List Fault) → after_finish f (x ∷ fs) ≡ Faulted
+finish_faulted On h x fs = refl
+finish_faulted Faulted h x fs = refl
+finish_faulted Stopped h x fs = absurd (h refl)
+
+module _ (p : Program) (fresh : ℕ) where
+  abbrev blk : ℕ → Codes → S → S
+  blk nest b = block p (one_rules p fresh nest) (one_run p fresh nest) b
+
+  abbrev doing : ℕ → ℕ → Code → S → S
+  doing nest l s = act p (one_rules p fresh nest) (one_run p fresh nest) l s
+
+  -- what waits for calls
+  abbrev calls : ℕ → List Caller → S → S
+  calls nest [] st = st
+  calls nest (f ∷ fs) st = calls nest fs (go_on (blk nest f.rest) (record st { environment = f.environment }))
+
+  -- all that a leaf has left
+  abbrev task : ℕ → Codes → List Caller → S → S
+  task nest c fs st = calls nest fs (blk nest c st)
+
+  one-block : (nest : ℕ) (b : Codes) (st : S) → one_run p fresh nest (Block b) st ≡ blk nest b st
+  one-block nest b st = solves p (one_rules p fresh nest) (one_is_thrifty p fresh nest) (Block b) st
+
+  one-turn : (nest l : ℕ) (t : Truth) (b : Codes) (st : S)
+      → one_run p fresh nest (Turn l t b) st ≡ with_step (doing nest l (While t b)) st
+  one-turn nest l t b st = solves p (one_rules p fresh nest) (one_is_thrifty p fresh nest) (Turn l t b) st
+
+  block-append : (nest : ℕ) (b c : Codes) (st : S) → st.flow ≡ On
+      → blk nest (append b c) st ≡ go_on (blk nest c) (blk nest b st)
+  block-append nest End c st e = sym (ap (λ x. flow_goes x st (blk nest c)) e)
+  block-append nest (Then l s b) c st e =
+      let out = with_step (λ st. doing nest l s (counted (one_rules p fresh nest) s st)) st in
+      go_on_twice out (blk nest (append b c)) (blk nest c) (blk nest b) (block-append nest b c out)
+
+  block_adds : (nest : ℕ) (b : Codes) → Adds (blk nest b)
+  block_adds nest b l f st =
+      let out = one_run p fresh nest (Block b) (hushed st) in
+      sym (one-block nest b (behind l f st)) ∙ only_adds p fresh nest (Block b) (behind l f st)
+      ∙ same_told out _ _ _ _ (append_assoc l st.lines out.lines) (append_assoc f st.faults out.faults)
+      ∙ sym (ap (behind l f) (only_adds p fresh nest (Block b) st)) ∙ ap (behind l f) (one-block nest b st)
+
+  calls_adds : (nest : ℕ) (fs : List Caller) → Adds (calls nest fs)
+  calls_adds nest [] l f st = refl
+  calls_adds nest (g ∷ fs) l f st =
+      ap (calls nest fs) (go_on_adds (blk nest g.rest) (block_adds nest g.rest) l f (record st { environment = g.environment }))
+      ∙ calls_adds nest fs l f (go_on (blk nest g.rest) (record st { environment = g.environment }))
+
+  -- a faulted task leaves its calls
+  faulted_calls : (nest : ℕ) (fs : List Caller) (st : S) → st.flow ≡ Faulted
+      → calls nest fs st ≡ record st { environment = outermost fs st.environment }
+  faulted_calls nest [] st e = refl
+  faulted_calls nest (f ∷ fs) st e =
+      ap (λ x. calls nest fs (flow_goes x (record st { environment = f.environment }) (blk nest f.rest))) e
+      ∙ faulted_calls nest fs (record st { environment = f.environment }) e
+
+  -- a leaf that goes back to its callers means the same
+  back_by : (nest : ℕ) (k : Leaf) (a : Contents) (n : ℕ) (env : Environment) (fs : List Caller) (c : Codes)
+      → (calls nest fs (state_of (record k { environment = env }) a n)
+      ≡ (let j = return_to fs (record k { environment = env }) in task nest j.rest j.callers (state_of j a n)))
+      → calls nest fs (blk nest c (state_of (record k { environment = env }) a n))
+      ≡ (let j = elim c as (λ c. Leaf) [
+        | End ↦ return_to fs (record k { environment = env })
+        | Then l s rest ↦ record k { environment = env; rest = Then l s rest; callers = fs }
+      ] in task nest j.rest j.callers (state_of j a n))
+  back_by nest k a n env fs End h = h
+  back_by nest k a n env fs (Then l s rest) h = refl
+
+  back : (nest : ℕ) (fs : List Caller) (k : Leaf) (a : Contents) (n : ℕ)
+      → calls nest fs (state_of k a n) ≡ (let j = return_to fs k in task nest j.rest j.callers (state_of j a n))
+  back nest [] k a n = refl
+  back nest (f ∷ fs) k a n = back_by nest k a n f.environment fs f.rest (back nest fs (record k { environment = f.environment }) a n)
+
+  returned_by-task : (nest : ℕ) (c : Codes) (k : Leaf) (a : Contents) (n : ℕ) → k.rest ≡ c
+      → task nest c k.callers (state_of k a n) ≡ (let j = returned_by c k in task nest j.rest j.callers (state_of j a n))
+  returned_by-task nest End k a n e = back nest k.callers k a n
+  returned_by-task nest (Then l s rest) k a n e = ap (λ c. task nest c k.callers (state_of k a n)) (sym e)
+
+  -- the end of a finish, where nothing was faulted before
+  finish_is : (nest l : ℕ) (b : Codes) (st : S) → st.faults ≡ []
+      → doing nest l (Finish b) st ≡ (let out = blk nest b st in record out { flow = after_finish out.flow out.faults })
+  finish_is nest l b st e =
+      let h = blk nest b (hushed st) in
+      ap (λ fs. record (joined st h) { flow = after_finish h.flow fs }) (sym (ap (λ fs. fs ++ h.faults) e))
+      ∙ ap (λ (out : S). record out { flow = after_finish out.flow out.faults }) (sym (block_adds nest b st.lines st.faults (hushed st)) ∙ ap (blk nest b) (behind-nothing st.lines st.faults st))
+
+  -- a leaf of which no statement is left came to its end
+  done_comes : (n steps : ℕ) (k : Leaf) (a : Contents) (flow : Flow) (t : Tree) (z : Contents) (out : S)
+      → (flow ≡ Stopped → ⊥)
+      → k.rest ≡ End → LeftRun p n (Single k) a t z → out ≡ end_state k.path (Single k) a flow steps → ComesTo n steps k.path t z out
+  done_comes n steps k a flow t z out on e r h =
+      let x = stuck p (ap (λ c. if is_done c then 0 else 1) e) r in
+      record {
+        flow = flow;
+        goes = on;
+        left = steps;
+        enough = omega arith;
+        meaning = h ∙ ap (λ t. end_state k.path t a flow steps) (sym x.1) ∙ ap (λ a. end_state k.path t a flow steps) (sym x.2);
+      }
+
+  faulted_on : Faulted ≡ Stopped → ⊥
+  faulted_on e = cc
+
+  on_on : On ≡ Stopped → ⊥
+  on_on e = cc
+
+  -- a fault ends a leaf, and its task
+  fault_comes : (n nest steps l : ℕ) (f : FaultKind) (k : Leaf) (a : Contents) (t : Tree) (z : Contents)
+      → LeftRun p n (Single (failed l f k)) a t z
+      → ComesTo n steps k.path t z (calls nest k.callers (go_on (blk nest k.rest) (fault l f (state_of k a steps))))
+  fault_comes n nest steps l f k a t z r =
+      done_comes n steps (failed l f k) a Faulted t z (calls nest k.callers (fault l f (state_of k a steps))) faulted_on refl r
+      (faulted_calls nest k.callers (fault l f (state_of k a steps)) refl)
+
+  -- what is promised of all runs of so many steps
+  abbrev Claim : ℕ → Type 0
+  Claim n = (nest steps : ℕ) (k : Leaf) (a : Contents) (t : Tree) (z : Contents) → n ≤ fresh → n ≤ nest → n ≤ steps → k.faults ≡ []
+      → LeftRun p n (Single (returned k)) a t z → all_done t ≡ true → ComesTo n steps k.path t z (task nest k.rest k.callers (state_of k a steps))
+
+  module _ (n : ℕ) (deeper : (m : ℕ) → m ≤ n → Claim m) (nest steps : ℕ) (in_fresh : suc n ≤ fresh) (in_nest : suc n ≤ nest) (in_steps : n ≤ steps)
+      (l : ℕ) (k : Leaf) (faultless : k.faults ≡ []) (t : Tree) (z : Contents) (d : all_done t ≡ true) where
+    -- so goes on what was done to the leaf's state
+    abbrev Comes : S → Type 0
+    Comes out = ComesTo n steps k.path t z (calls nest k.callers (go_on (blk nest k.rest) out))
+
+    -- the leaf k with another environment and lines goes on
+    goes_on : (j : Leaf) (a : Contents) → j.faults ≡ [] → LeftRun p n (Single (returned j)) a t z
+        → ComesTo n steps j.path t z (task nest j.rest j.callers (state_of j a steps))
+    goes_on j a e r = deeper n (omega arith) nest steps j a t z (omega arith) (omega arith) in_steps e r d
+
+    deed_comes : (x : Deed) (a : Contents)
+        → LeftRun p n (with_state k (did l x (as_state k a))) (did l x (as_state k a)).store t z
+        → Comes (did l x (state_of k a steps))
+    deed_comes Nothing a r = goes_on k a faultless r
+    deed_comes (Assigns x v) a r = goes_on (record k { environment = (did l (Assigns x v) (as_state k a)).environment }) a faultless r
+    deed_comes (Writes q v) a r = goes_on k (did l (Writes q v) (as_state k a)).store faultless r
+    deed_comes (Prints vs) a r = goes_on (record k { lines = k.lines ++ vs ∷ [] }) a faultless r
+    deed_comes (Fails f) a r = fault_comes n nest steps l f k a t z r
+
+    do_comes : (s : Primitive) (a : Contents)
+        → LeftRun p n (tree_after p l (Do s) k a) (store_after p l (Do s) k a) t z
+        → Comes (doing nest l (Do s) (state_of k a steps))
+    do_comes s a r =
+        let e = primitive-did p l s (as_state k a) in
+        subst Comes (sym (primitive-did p l s (state_of k a steps)))
+        (deed_comes (deed p k.environment (read a) s) a (subst (λ st. LeftRun p n (with_state k st) st.store t z) e r))
+
+    value_comes : {A : Type 0} (r : Valued A) (go : A → S → S) (tree : A → Tree) (a : Contents)
+        → LeftRun p n (on_value l k r tree) a t z
+        → ((v : A) → LeftRun p n (tree v) a t z → Comes (go v (state_of k a steps))) → Comes (with_value l r go (state_of k a steps))
+    value_comes (Ok v) go tree a r h = h v r
+    value_comes (Err f) go tree a r h = fault_comes n nest steps l f k a t z r
+
+    -- into a block
+    block_comes : (b : Codes) (env : Environment) (a : Contents)
+        → LeftRun p n (single (before_rest b (record k { environment = env }))) a t z
+        → Comes (blk nest b (state_of (record k { environment = env }) a steps))
+    block_comes b env a r = comes_same (ap (calls nest k.callers) (sym (block-append nest b k.rest (state_of (record k { environment = env }) a steps) refl)))
+        (goes_on (before_rest b (record k { environment = env })) a faultless r)
+
+    if_comes : (b c : Codes) (a : Contents) (v : Bool) → LeftRun p n (single (before_rest (if v then b else c) k)) a t z
+        → Comes (choose (blk nest b) (blk nest c) v (state_of k a steps))
+    if_comes b c a true r = block_comes b k.environment a r
+    if_comes b c a false r = block_comes c k.environment a r
+
+    while_comes : (x : Truth) (b : Codes) (a : Contents) (v : Bool)
+        → LeftRun p n (single (if v then before_rest b (before_rest (Then l (While x b) End) k) else k)) a t z
+        → Comes (choose (λ s. go_on (one_run p fresh nest (Turn l x b)) (blk nest b s)) (λ s. s) v (state_of k a steps))
+    while_comes x b a true r =
+        let out = blk nest b (state_of k a steps) in
+        comes_same (ap (calls nest k.callers)
+        (sym (go_on_twice out (blk nest (Then l (While x b) k.rest)) (blk nest k.rest) (one_run p fresh nest (Turn l x b))
+        (λ e. sym (ap (go_on (blk nest k.rest)) (one-turn nest l x b out))))
+        ∙ sym (block-append nest b (Then l (While x b) k.rest) (state_of k a steps) refl)))
+        (goes_on (before_rest b (before_rest (Then l (While x b) End) k)) a faultless r)
+    while_comes x b a false r = goes_on k a faultless r
+
+    split_comes : (s : ℕ) (e : Number) (x y : ℕ) (b : Codes) (a : Contents)
+        → LeftRun p n (tree_after p l (Split s e x y b) k a) a t z
+        → Comes (doing nest l (Split s e x y b) (state_of k a steps))
+    split_comes s e x y b a r =
+        subst Comes (try_twice l (number k.environment (read a) e) (λ v. ok_or (sides_of (k.environment.windows s) v) SplitPoint)
+        (λ ws st. blk nest b (record st { environment = with_sides x y ws st.environment })) (state_of k a steps))
+        (value_comes (then_try (number k.environment (read a) e) (λ v. ok_or (sides_of (k.environment.windows s) v) SplitPoint))
+        (λ ws st. blk nest b (record st { environment = with_sides x y ws st.environment }))
+        (λ ws. single (before_rest b (record k { environment = with_sides x y ws k.environment }))) a r
+        (λ ws r. block_comes b (with_sides x y ws k.environment) a r))
+
+    call_comes : (f : ℕ) (es : List Number) (ss : List ℕ) (a : Contents)
+        → LeftRun p n (tree_after p l (Call f es ss) k a) a t z
+        → Comes (doing nest l (Call f es ss) (state_of k a steps))
+    call_comes f es ss a r =
+        value_comes (numbers k.environment (read a) es)
+        (λ vs. in_environment (entry vs (map k.environment.windows ss)) (one_run p fresh nest (Block (procedure_of p f).body)))
+        (λ vs. single (called (procedure_of p f) (entry vs (map k.environment.windows ss)) k)) a r
+        (λ vs r.
+        let j = called (procedure_of p f) (entry vs (map k.environment.windows ss)) k in
+        comes_same (ap (λ (out : S). calls nest k.callers (go_on (blk nest k.rest) (record out { environment = k.environment })))
+        (one-block nest (procedure_of p f).body (state_of j a steps)))
+        (goes_on j a faultless r))
+
+    async_comes : (b : Codes) (a : Contents) → LeftRun p n (Beside (single (child b k)) (single (parent k))) a t z
+        → Comes (doing nest l (Async b) (state_of k a steps))
+    async_comes b a r = by nest in_nest
+      where
+        h : Halves p n (single (child b k)) (single (parent k)) a t z
+        h = halves p n r d
+
+        left_less : h.first_count ≤ n
+        left_less = let c = h.count in omega arith
+
+        right_less : h.second_count ≤ n
+        right_less = let c = h.count in omega arith
+
+        -- the state behind the async, by what the body's run from the lines so far comes to
+        behind_it : S → S
+        behind_it out = record (state_of k a steps) {
+          flow = after_async out.flow;
+          store = out.store;
+          lines = out.lines;
+          faults = out.faults;
+          spawned = k.spawned + 1;
+        }
+
+        second : ComesTo h.second_count steps k.path h.second_tree z (task nest k.rest k.callers (state_of (parent k) h.middle steps))
+        second = deeper h.second_count right_less nest steps (parent k) h.middle h.second_tree z (omega (arith, right_less)) (omega (arith, right_less)) (omega (arith, right_less)) refl h.second h.second_done
+
+        after : (flow : Flow) → (flow ≡ Stopped → ⊥) → (path : List ℕ) (left : ℕ)
+            → behind_it (end_state path h.first_tree h.middle flow left)
+            ≡ behind (lines_of h.first_tree) (faults_of h.first_tree) (state_of (parent k) h.middle steps)
+        after flow on path left =
+            ap (λ f. record (state_of k h.middle steps) { flow = f; lines = lines_of h.first_tree; faults = faults_of h.first_tree; spawned = k.spawned + 1 }) (async_on flow on)
+            ∙ sym (behind-nothing (lines_of h.first_tree) (faults_of h.first_tree) (state_of (parent k) h.middle steps))
+
+        begun : (m : ℕ)
+            → begin_one p fresh (suc m) b (state_of k a steps) ≡ behind_it (blk m b (state_of (child b k) a fresh))
+        begun m =
+            ap (after_body (state_of k a steps)) (one-block m b (child_state fresh (state_of k a steps)))
+            ∙ ap behind_it (sym (block_adds m b k.lines k.faults (child_state fresh (state_of k a steps)))
+            ∙ ap (blk m b) (behind-nothing k.lines k.faults (child_state fresh (state_of k a steps))))
+
+        first : (m : ℕ) → n ≤ m
+            → ComesTo h.first_count fresh (k.path ++ (k.spawned + 1) ∷ []) h.first_tree h.middle (blk m b (state_of (child b k) a fresh))
+        first m le = deeper h.first_count left_less m fresh (child b k) a h.first_tree h.middle (omega (arith, left_less)) (omega (arith, left_less)) (omega (arith, left_less)) faultless h.first h.first_done
+
+        so : (m : ℕ) → n ≤ m → begin_one p fresh (suc m) b (state_of k a steps)
+            ≡ behind (lines_of h.first_tree) (faults_of h.first_tree) (state_of (parent k) h.middle steps)
+        so m le = let c = first m le in begun m ∙ ap behind_it c.meaning ∙ after c.flow c.goes (k.path ++ (k.spawned + 1) ∷ []) c.left
+
+        whole : calls nest k.callers (blk nest k.rest (behind (lines_of h.first_tree) (faults_of h.first_tree) (state_of (parent k) h.middle steps)))
+            ≡ end_state k.path t z second.flow second.left
+        whole =
+            ap (calls nest k.callers) (block_adds nest k.rest (lines_of h.first_tree) (faults_of h.first_tree) (state_of (parent k) h.middle steps))
+            ∙ calls_adds nest k.callers (lines_of h.first_tree) (faults_of h.first_tree) (blk nest k.rest (state_of (parent k) h.middle steps))
+            ∙ ap (behind (lines_of h.first_tree) (faults_of h.first_tree)) second.meaning
+            ∙ ap (λ t. end_state k.path t z second.flow second.left) (sym h.both)
+
+        comes : Comes (behind (lines_of h.first_tree) (faults_of h.first_tree) (state_of (parent k) h.middle steps))
+        comes = record {
+          flow = second.flow;
+          goes = second.goes;
+          left = second.left;
+          enough = (let e = second.enough in let c = h.count in omega arith);
+          meaning = whole;
+        }
+
+        by : (m : ℕ) → suc n ≤ m → Comes (begin_one p fresh m b (state_of k a steps))
+        by zero le = absurd (omega arith)
+        by (suc m) le = subst Comes (sym (so m (omega arith))) comes
+
+    finish_comes : (b : Codes) (a : Contents) → LeftRun p n (and_then (single (inside b k)) k) a t z
+        → Comes (doing nest l (Finish b) (state_of k a steps))
+    finish_comes b a r = subst Comes (sym (finish_is nest l b (state_of k a steps) faultless ∙ ap left_by body.meaning)) (by (faults_of f.tree) refl f.second)
+      where
+        f : Finished p n (single (inside b k)) k a t z
+        f = finished p n (single (inside b k)) k (all_done (single (inside b k))) refl a t z r d
+
+        first_less : f.first_count ≤ n
+        first_less = let c = f.count in omega arith
+
+        body : ComesTo f.first_count steps k.path f.tree f.middle (blk nest b (state_of k a steps))
+        body = deeper f.first_count first_less nest steps (inside b k) a f.tree f.middle (omega (arith, first_less)) (omega (arith, first_less)) (omega (arith, first_less)) faultless f.first f.done
+
+        left_by : S → S
+        left_by out = record out { flow = after_finish out.flow out.faults }
+
+        -- the leaf behind the finish
+        j : Leaf
+        j = record k {
+          environment = owner_environment f.tree;
+          spawned = (rightmost f.tree).spawned;
+          lines = lines_of f.tree;
+          faults = faults_of f.tree;
+        }
+
+        second_less : f.second_count ≤ n
+        second_less = let c = f.count in omega arith
+
+        second_in : f.second_count ≤ body.left
+        second_in = let c = f.count in let e = body.enough in omega arith
+
+        with_flow : Flow → S
+        with_flow x = record (state_of j f.middle body.left) { flow = x }
+
+        by : (fs : List Fault) → faults_of f.tree ≡ fs
+            → LeftRun p f.second_count (Single (unless_faulted fs j)) f.middle t z
+            → Comes (with_flow (after_finish body.flow (faults_of f.tree)))
+        by [] e r =
+            let c = deeper f.second_count second_less nest body.left j f.middle t z (omega (arith, second_less)) (omega (arith, second_less)) second_in e r d in
+            subst (λ x. Comes (with_flow x)) (sym (ap (after_finish body.flow) e ∙ finish_on body.flow body.goes)) (record {
+              flow = c.flow;
+              goes = c.goes;
+              left = c.left;
+              enough = (let x = c.enough in let y = body.enough in let w = f.count in omega arith);
+              meaning = c.meaning;
+            })
+        by (x ∷ fs) e r =
+            let c = done_comes f.second_count body.left (done j) f.middle Faulted t z (calls nest k.callers (with_flow Faulted)) faulted_on refl r
+            (faulted_calls nest k.callers (with_flow Faulted) refl) in
+            subst (λ x. Comes (with_flow x)) (sym (ap (after_finish body.flow) e ∙ finish_faulted body.flow body.goes x fs)) (record {
+              flow = c.flow;
+              goes = c.goes;
+              left = c.left;
+              enough = (let x = c.enough in let y = body.enough in let w = f.count in omega arith);
+              meaning = c.meaning;
+            })
+
+    statement_comes : (s : Code) (a : Contents) → LeftRun p n (tree_after p l s k a) (store_after p l s k a) t z
+        → Comes (doing nest l s (counted (one_rules p fresh nest) s (state_of k a steps)))
+    statement_comes (Do s) a r = do_comes s a r
+    statement_comes (If x b c) a r = value_comes (truth k.environment (read a) x) (choose (blk nest b) (blk nest c)) (λ v. single (before_rest (if v then b else c) k)) a r
+        (λ v r. if_comes b c a v r)
+    statement_comes (While x b) a r = value_comes (truth k.environment (read a) x) (choose (λ s. go_on (one_run p fresh nest (Turn l x b)) (blk nest b s)) (λ s. s))
+        (λ v. single (if v then before_rest b (before_rest (Then l (While x b) End) k) else k)) a r (λ v r. while_comes x b a v r)
+    statement_comes (Split s e x y b) a r = split_comes s e x y b a r
+    statement_comes (Call f es ss) a r = call_comes f es ss a r
+    statement_comes (Async b) a r = async_comes b a r
+    statement_comes (Finish b) a r = finish_comes b a r
+
+  is_end : (c : Codes) → is_done c ≡ true → c ≡ End
+  is_end End e = refl
+  is_end (Then l s rest) e = cc
+
+  -- where nothing is left of a leaf, nothing waits for its calls
+  landed_by : (k : Leaf) (env : Environment) (fs : List Caller) (c : Codes)
+      → (let j = return_to fs (record k { environment = env }) in j.rest ≡ End → j.callers ≡ [])
+      → (let j = elim c as (λ c. Leaf) [
+        | End ↦ return_to fs (record k { environment = env })
+        | Then l s rest ↦ record k { environment = env; rest = Then l s rest; callers = fs }
+      ] in j.rest ≡ End → j.callers ≡ [])
+  landed_by k env fs End h = h
+  landed_by k env fs (Then l s rest) h = λ e. cc
+
+  landed : (fs : List Caller) (k : Leaf) → (return_to fs k).rest ≡ End → (return_to fs k).callers ≡ []
+  landed [] k = λ e. refl
+  landed (f ∷ fs) k = landed_by k f.environment fs f.rest (landed fs (record k { environment = f.environment }))
+
+  returned_ends : (c : Codes) (k : Leaf) → k.rest ≡ c → (returned_by c k).rest ≡ End → (returned_by c k).callers ≡ []
+  returned_ends End k e = landed k.callers k
+  returned_ends (Then l s rest) k e = λ f. absurd (by (sym e ∙ f))
+    where
+      by : Then l s rest ≡ End → ⊥
+      by e = cc
+
+  faultless_by : (k : Leaf) (env : Environment) (fs : List Caller) (c : Codes)
+      → (let j = return_to fs (record k { environment = env }) in (j.faults ≡ k.faults) × (j.path ≡ k.path))
+      → (let j = elim c as (λ c. Leaf) [
+        | End ↦ return_to fs (record k { environment = env })
+        | Then l s rest ↦ record k { environment = env; rest = Then l s rest; callers = fs }
+      ] in (j.faults ≡ k.faults) × (j.path ≡ k.path))
+  faultless_by k env fs End h = h
+  faultless_by k env fs (Then l s rest) h = (refl, refl)
+
+  returned_to : (fs : List Caller) (k : Leaf) → ((return_to fs k).faults ≡ k.faults) × ((return_to fs k).path ≡ k.path)
+  returned_to [] k = (refl, refl)
+  returned_to (f ∷ fs) k = faultless_by k f.environment fs f.rest (returned_to fs (record k { environment = f.environment }))
+
+  returned_as : (c : Codes) (k : Leaf) → ((returned_by c k).faults ≡ k.faults) × ((returned_by c k).path ≡ k.path)
+  returned_as End k = returned_to k.callers k
+  returned_as (Then l s rest) k = (refl, refl)
+
+  -- a leaf that has gone back to its callers
+  leaf_comes : (n : ℕ) → ((m : ℕ) → m < n → Claim m)
+      → (nest steps : ℕ) (k : Leaf) (a : Contents) (t : Tree) (z : Contents)
+      → n ≤ fresh → n ≤ nest → n ≤ steps → k.faults ≡ [] → (k.rest ≡ End → k.callers ≡ []) → LeftRun p n (Single k) a t z → all_done t ≡ true
+      → ComesTo n steps k.path t z (task nest k.rest k.callers (state_of k a steps))
+  leaf_comes zero deeper nest steps k a t z in_fresh in_nest in_steps e ends ended d =
+      let none = is_end k.rest d in
+      comes_same (ap (λ c. task nest c k.callers (state_of k a steps)) none ∙ ap (λ fs. calls nest fs (state_of k a steps)) (ends none))
+      (done_comes zero steps k a On (Single k) a (state_of k a steps) on_on none ended
+      (ap (λ env. record (state_of k a steps) { environment = env }) (sym (ap (λ fs. outermost fs k.environment) (ends none)))))
+  leaf_comes (suc n) deeper nest zero k a t z in_fresh in_nest in_steps e ends r d = absurd (omega arith)
+  leaf_comes (suc n) deeper nest (suc steps) k a t z in_fresh in_nest in_steps e ends (goes (Step.here {l = l} {s = s} {rest = rest} {b = b} q f g) r) d =
+      let c = statement_comes n (λ m le. deeper m (omega arith)) nest steps in_fresh in_nest (omega arith) l (record k { rest = rest }) e t z d s a
+      (subst (λ b. LeftRun p n (tree_after p l s (record k { rest = rest }) a) b t z) g (subst (λ u. LeftRun p n u b t z) f r)) in
+      comes_same (ap (λ c. task nest c k.callers (state_of k a (suc steps))) q) (record {
+        flow = c.flow;
+        goes = c.goes;
+        left = c.left;
+        enough = (let x = c.enough in omega arith);
+        meaning = c.meaning;
+      })
+
+  all_come : (bound n : ℕ) → n < bound → Claim n
+  all_come zero n h = λ nest steps k a t z in_fresh in_nest in_steps e r d. absurd (omega arith)
+  all_come (suc bound) n h = λ nest steps k a t z in_fresh in_nest in_steps e r d.
+      let j = returned k in
+      let same = returned_as k.rest k in
+      comes_same (returned_by-task nest k.rest k a steps refl)
+      (subst (λ path. ComesTo n steps path t z (task nest j.rest j.callers (state_of j a steps))) same.1
+      (leaf_comes n (λ m less. all_come bound m (omega arith)) nest steps j a t z in_fresh in_nest in_steps (same.0 ∙ e) (returned_ends k.rest k refl) r d))
+
+-- an ended run in which the first leaf always steps ends as one thread does
+pub left_run_ends : (p : Program) (input : List (List ℤ)) (n : ℕ) (t : Tree) (a : Contents)
+    → LeftRun p n (first_tree p) (held_by input) t a → all_done t ≡ true
+    → (b : Budget) → IsLarger b (record { steps = n; nest = n }) → outcome p input b ≡ Ended (tree_ending p t a)
+left_run_ends p input n t a r d b larger =
+    let st : S = start tt p b.steps (held_by input) in
+    let c = all_come p b.steps (suc n) n (omega arith) b.nest b.steps (first_leaf p) (held_by input) t a larger.steps larger.nest larger.steps refl r d in
+    ap at_end (one-block p b.steps b.nest p.main.body st ∙ c.meaning) ∙ by c.flow c.goes c.left (faults_of t)
+  where
+    at_end : S → Outcome
+    at_end out = outcome_of p ((one_rules p b.steps b.nest).leave (start tt p b.steps (held_by input)) out)
+
+    by : (f : Flow) → (f ≡ Stopped → ⊥) → (left : ℕ) (fs : List Fault)
+        → outcome_by (after_finish f fs) (tree_ending p t a) ≡ Ended (tree_ending p t a)
+    by On h left [] = refl
+    by On h left (x ∷ fs) = refl
+    by Faulted h left [] = refl
+    by Faulted h left (x ∷ fs) = refl
+    by Stopped h left fs = absurd (h refl)

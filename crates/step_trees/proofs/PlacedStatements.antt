@@ -1,0 +1,324 @@
+-- Statements as they stand in a leaf: blocks of one procedure, the innermost first, each in its scope.
+use Rattle.std.proofs.Common.{◌≡◌, inl, inr, ℕ, List, [], ◌∷◌, refl, sym, ap, subst}
+use Rattle.sections.specs.Member.{Member}
+use Rattle.sections.specs.Origins.{IsNumbered}
+use Rattle.types.specs.Code.{Code, Codes, End, Then, Procedure, Program}
+use Rattle.types.specs.Value.{Environment}
+use Rattle.types.specs.Trees.{append}
+use Rattle.effects.specs.Accesses.{Access}
+use Rattle.effects.specs.Effects.{All, PendingOf, Pending, accesses}
+use Rattle.effects.specs.Sound.{Follows, IsSoundIn, IsSound}
+use Rattle.effects.specs.Fits.{Fits}
+use Rattle.effects.specs.Kept.{SameWindows}
+use Rattle.effects.proofs.EnvironmentsFit.{fits_same}
+use Rattle.effects.proofs.AccessesInScope.{allowed, pending_all}
+use Rattle.race_checker.specs.Calm.{Calm}
+use Rattle.race_checker.specs.Scope.{Scope, Lists}
+use Rattle.step_trees.proofs.Statements.{all_append}
+use Rattle.step_trees.proofs.Scopes.{fits_scope}
+use Rattle.step_trees.specs.Still.{Footprint, foot, Separate, all}
+use Rattle.step_trees.proofs.Footprints.{Within, within_itself, separate_within, separate_both, separate_from, shifted, append_all, statement_pending, rest_pending}
+
+-- a block with the sections in its scope
+pub record Part : Type 0 where
+  pub scope : List ℕ
+  pub code : Codes
+
+-- the blocks one after another
+abbrev pub flat : List Part → Codes
+flat [] = End
+flat (b ∷ bs) = append b.code (flat bs)
+
+-- the scope of the first of them; `keep` where there is none
+abbrev pub top : (keep : List ℕ) → List Part → List ℕ
+top keep [] = keep
+top keep (b ∷ bs) = b.scope
+
+abbrev pub Among : List ℕ → List ℕ → Type 0
+Among small large = (x : ℕ) → Member x small → Member x large
+
+abbrev pub pending : Program → Environment → Codes → Footprint
+pending p env b = foot env (Pending p accesses b)
+
+abbrev label_of : Codes → ℕ
+label_of End = 0
+label_of (Then l s rest) = l
+
+abbrev code_of : Code → Codes → Code
+code_of d End = d
+code_of d (Then l s rest) = s
+
+abbrev rest_of : Codes → Codes
+rest_of End = End
+rest_of (Then l s rest) = rest
+
+abbrev is_then : Codes → Type 0
+is_then End = ⊥
+is_then (Then l s rest) = Unit {0}
+
+module _ (p : Program) where
+  module _ (g : Procedure) (env : Environment) (keep : List ℕ) where
+    -- a block fits where it stands before others, and what it leaves pending keeps apart from them
+    pub record Stands (scope : List ℕ) (b : Codes) (bs : List Part) : Type 0 where
+      pub fits : Fits p g scope env
+      pub follows : Follows p g scope b
+      pub names : Scope
+      pub lists : Lists g names scope
+      pub calm : Calm p names b
+      pub outer : Among (top keep bs) scope
+      pub apart : Separate (pending p env b) (all p env (flat bs))
+
+    pub data Parts : List Part → Type 0 where
+      none : Parts []
+      also : {b : Part} {bs : List Part} → Stands b.scope b.code bs → Parts bs → Parts (b ∷ bs)
+
+  -- statements of one procedure, of which the first stand in a scope, in an environment
+  pub record IsPlaced (keep scope : List ℕ) (env : Environment) (c : Codes) : Type 0 where
+    pub procedure : Procedure
+    pub is_sound : IsSoundIn p procedure
+    pub code : Codes
+    pub parts : List Part
+    pub stands : Stands procedure env keep scope code parts
+    pub standing : Parts procedure env keep parts
+    pub flat : c ≡ append code (flat parts)
+
+  module _ (g : Procedure) (env : Environment) (keep : List ℕ) where
+    pub keep_among : {bs : List Part} → Parts g env keep bs → Among keep (top keep bs)
+    keep_among none = λ x m. m
+    keep_among (also s r) = λ x m. s.outer x (keep_among r x m)
+
+    module _ (sound : IsSound p) (numbered : IsNumbered g.sections) where
+      pub block_scoped : {scope : List ℕ} {b : Codes} {bs : List Part} → Stands g env keep scope b bs → (x : Access)
+          → All p accesses b x → Member x.section scope
+      block_scoped {scope = scope} s x h = (allowed p sound h g scope numbered s.follows).in_scope
+
+      pub parts_scoped : {bs : List Part} → Parts g env keep bs → (x : Access) → All p accesses (flat bs) x
+          → Member x.section (top keep bs)
+      parts_scoped none x h = by h
+        where
+          by : {A : Type 0} → All p accesses End x → A
+          by h = elim h [ ]
+      parts_scoped (also {b = b} {bs = bs} s r) x h = elim (all_append p accesses b.code (flat bs) x h) [
+        | inl h ↦ block_scoped s x h
+        | inr h ↦ s.outer x.section (parts_scoped r x h)
+      ]
+
+  module _ (sound : IsSound p) (g : Procedure) (numbered : IsNumbered g.sections) (env other : Environment) (keep : List ℕ) where
+    -- only the windows in scope matter
+    pub same_stands : {scope : List ℕ} {b : Codes} {bs : List Part} → Parts g env keep bs
+        → SameWindows scope env other
+        → Stands g env keep scope b bs → Stands g other keep scope b bs
+    same_stands {scope = scope} r same s = record {
+      fits = fits_same p g scope env other s.fits same;
+      follows = s.follows;
+      names = s.names;
+      lists = s.lists;
+      calm = s.calm;
+      outer = s.outer;
+      apart = separate_within
+          (shifted (λ x h. block_scoped g env keep sound numbered s x (pending_all p h)) same)
+          (shifted (λ x h. s.outer x.section (parts_scoped g env keep sound numbered r x h)) same) s.apart;
+    }
+
+    pub same_parts : {bs : List Part} → SameWindows (top keep bs) env other → Parts g env keep bs
+        → Parts g other keep bs
+    same_parts same none = none
+    same_parts same (also s r) = also (same_stands r same s) (same_parts (λ x m. same x (s.outer x m)) r)
+
+  -- A statement that stands first
+
+  -- the first statement of some that are placed, with the blocks that it stands in
+  pub record Focus (keep : List ℕ) (env : Environment) (l : ℕ) (s : Code) (rest : Codes) : Type 0 where
+    pub procedure : Procedure
+    pub is_sound : IsSoundIn p procedure
+    pub scope : List ℕ
+    pub more : Codes
+    pub parts : List Part
+    pub stands : Stands procedure env keep scope (Then l s more) parts
+    pub standing : Parts procedure env keep parts
+    pub flat : rest ≡ append more (flat parts)
+
+  module _ (keep : List ℕ) (env : Environment) (g : Procedure) (is_sound : IsSoundIn p g) (l : ℕ) (s : Code) (rest : Codes) where
+    focus_in : (scope : List ℕ) (c : Codes) (bs : List Part) → Stands g env keep scope c bs → Parts g env keep bs
+        → Then l s rest ≡ append c (flat bs) → (Parts g env keep bs → Then l s rest ≡ flat bs → Focus keep env l s rest) → Focus keep env l s rest
+    focus_in scope End bs k r e deeper = deeper r e
+    focus_in scope (Then m t c) bs k r e deeper = record {
+      procedure = g;
+      is_sound = is_sound;
+      scope = scope;
+      more = c;
+      parts = bs;
+      stands = subst (λ x. Stands g env keep scope (Then x s c) bs) (sym (ap label_of e))
+          (subst (λ x. Stands g env keep scope (Then m x c) bs) (sym (ap (code_of t) e)) k);
+      standing = r;
+      flat = ap rest_of e;
+    }
+
+    focus_parts : (bs : List Part) → Parts g env keep bs → Then l s rest ≡ flat bs → Focus keep env l s rest
+    focus_parts [] r e = absurd (subst is_then e tt)
+    focus_parts (b ∷ bs) (also k r) e = focus_in b.scope b.code bs k r e (focus_parts bs)
+
+  pub focus : {keep scope : List ℕ} {env : Environment} {l : ℕ} {s : Code} {rest : Codes}
+      → IsPlaced keep scope env (Then l s rest) → Focus keep env l s rest
+  focus {keep = keep} {scope = scope} {env = env} {l = l} {s = s} {rest = rest} k =
+      focus_in keep env k.procedure k.is_sound l s rest scope k.code k.parts k.stands k.standing k.flat
+      (focus_parts keep env k.procedure k.is_sound l s rest k.parts)
+
+  -- what is placed lets the windows of `keep` alone
+  pub keep_below : {keep scope : List ℕ} {env : Environment} {c : Codes} → IsPlaced keep scope env c
+      → Among keep scope
+  keep_below {keep = keep} {env = env} k = λ x m. k.stands.outer x (keep_among k.procedure env keep k.standing x m)
+
+  end_pending : {A : Type 0} {x : Access} → Pending p accesses End x → A
+  end_pending h = elim h [ ]
+
+  end_all : {A : Type 0} {x : Access} → All p accesses End x → A
+  end_all h = elim h [ ]
+
+  pub end_within : (env : Environment) (f : Footprint) → Within (all p env End) f
+  end_within env f = record { touches = λ q t. end_all t.among; writes = λ q t. end_all t.among }
+
+  -- nothing is left
+  pub end_placed : {keep scope : List ℕ} {env : Environment} {c : Codes} → IsPlaced keep scope env c
+      → IsPlaced keep scope env End
+  end_placed {env = env} k = record {
+    procedure = k.procedure;
+    is_sound = k.is_sound;
+    code = End;
+    parts = [];
+    stands = record {
+      fits = k.stands.fits;
+      follows = tt;
+      names = k.stands.names;
+      lists = k.stands.lists;
+      calm = tt;
+      outer = keep_below k;
+      apart = record { writes_first = λ q w t. end_all t.among; writes_second = λ q t w. end_all w.among };
+    };
+    standing = none;
+    flat = refl;
+  }
+
+  module _ (sound : IsSound p) where
+    pub all_scoped : {keep scope : List ℕ} {env : Environment} {c : Codes} → IsPlaced keep scope env c → (x : Access)
+        → All p accesses c x → Member x.section scope
+    all_scoped {keep = keep} {env = env} k x h = elim (all_append p accesses k.code (flat k.parts) x (subst (λ c. All p accesses c x) k.flat h)) [
+      | inl h ↦ block_scoped k.procedure env keep sound k.is_sound.numbered k.stands x h
+      | inr h ↦ k.stands.outer x.section (parts_scoped k.procedure env keep sound k.is_sound.numbered k.standing x h)
+    ]
+
+    -- only the windows in scope matter
+    abbrev pub same_placed : {keep scope : List ℕ} {env other : Environment} {c : Codes} → SameWindows scope env other
+        → IsPlaced keep scope env c → IsPlaced keep scope other c
+    same_placed {keep = keep} {env = env} {other = other} same k = record {
+      procedure = k.procedure;
+      is_sound = k.is_sound;
+      code = k.code;
+      parts = k.parts;
+      stands = same_stands sound k.procedure k.is_sound.numbered env other keep k.standing same k.stands;
+      standing = same_parts sound k.procedure k.is_sound.numbered env other keep (λ x m. same x (k.stands.outer x m)) k.standing;
+      flat = k.flat;
+    }
+
+    pub same_all : {keep scope : List ℕ} {env other : Environment} {c : Codes} → SameWindows scope env other
+        → IsPlaced keep scope env c
+        → Within (all p other c) (all p env c)
+    same_all same k = shifted (all_scoped k) same
+
+    pub same_pending : {keep scope : List ℕ} {env other : Environment} {c : Codes} → SameWindows scope env other
+        → IsPlaced keep scope env c
+        → Within (pending p other c) (pending p env c)
+    same_pending same k = shifted (λ x h. all_scoped k x (pending_all p h)) same
+
+  -- behind the first statement
+  abbrev pub rest_placed : {keep : List ℕ} {env : Environment} {l : ℕ} {s : Code} {rest : Codes}
+      → (f : Focus keep env l s rest) → IsPlaced keep f.scope env rest
+  rest_placed {env = env} {l = l} {s = s} f = record {
+    procedure = f.procedure;
+    is_sound = f.is_sound;
+    code = f.more;
+    parts = f.parts;
+    stands = record {
+      fits = f.stands.fits;
+      follows = f.stands.follows.1;
+      names = f.stands.names;
+      lists = f.stands.lists;
+      calm = f.stands.calm.1;
+      outer = f.stands.outer;
+      apart = separate_within (rest_pending p env l s f.more) (within_itself _) f.stands.apart;
+    };
+    standing = f.standing;
+    flat = f.flat;
+  }
+
+  -- the first statement and what follows it
+  abbrev pub focused : {keep : List ℕ} {env : Environment} {l : ℕ} {s : Code} {rest : Codes}
+      → (f : Focus keep env l s rest) → IsPlaced keep f.scope env (Then l s rest)
+  focused {l = l} {s = s} f = record {
+    procedure = f.procedure;
+    is_sound = f.is_sound;
+    code = Then l s f.more;
+    parts = f.parts;
+    stands = f.stands;
+    standing = f.standing;
+    flat = ap (Then l s) f.flat;
+  }
+
+  -- what the first statement leaves pending keeps apart from what follows
+  pub rest_apart : {keep : List ℕ} {env : Environment} {l : ℕ} {s : Code} {rest : Codes} → Focus keep env l s rest
+      → Separate (foot env (PendingOf p accesses s)) (all p env rest)
+  rest_apart {env = env} {l = l} {s = s} f = subst (λ c. Separate (foot env (PendingOf p accesses s)) (all p env c)) (sym f.flat)
+      (separate_within (within_itself _) (append_all p env f.more (flat f.parts))
+      (separate_both (separate_from (f.stands.calm.2 env (fits_scope p f.procedure f.is_sound f.stands.lists env f.stands.fits.placed)))
+      (separate_within (statement_pending p env l s f.more) (within_itself _) f.stands.apart)))
+
+  -- a block before what is placed
+  pub prefixed : {keep scope : List ℕ} {env : Environment} {c : Codes} (k : IsPlaced keep scope env c)
+      → (inner : List ℕ) (b : Codes) → Among scope inner
+      → Fits p k.procedure inner env → Follows p k.procedure inner b → (names : Scope)
+      → Lists k.procedure names inner → Calm p names b
+      → Separate (pending p env b) (all p env c) → IsPlaced keep inner env (append b c)
+  prefixed {scope = scope} {env = env} k inner b m fits follows names lists calm apart = record {
+    procedure = k.procedure;
+    is_sound = k.is_sound;
+    code = b;
+    parts = record { scope = scope; code = k.code } ∷ k.parts;
+    stands = record {
+      fits = fits;
+      follows = follows;
+      names = names;
+      lists = lists;
+      calm = calm;
+      outer = m;
+      apart = subst (λ c. Separate (pending p env b) (all p env c)) k.flat apart;
+    };
+    standing = also k.stands k.standing;
+    flat = ap (append b) k.flat;
+  }
+
+  -- one block alone
+  pub alone : (keep scope : List ℕ) (env : Environment) (g : Procedure) (b : Codes) → IsSoundIn p g
+      → Among keep scope
+      → Fits p g scope env → Follows p g scope b → (names : Scope) → Lists g names scope → Calm p names b
+      → IsPlaced keep scope env b
+  alone keep scope env g b is_sound m fits follows names lists calm = record {
+    procedure = g;
+    is_sound = is_sound;
+    code = b;
+    parts = [];
+    stands = record {
+      fits = fits;
+      follows = follows;
+      names = names;
+      lists = lists;
+      calm = calm;
+      outer = m;
+      apart = record { writes_first = λ q w t. end_all t.among; writes_second = λ q t w. end_all w.among };
+    };
+    standing = none;
+    flat = append_end b;
+  }
+    where
+      append_end : (b : Codes) → b ≡ append b End
+      append_end End = refl
+      append_end (Then l s b) = ap (Then l s) (append_end b)

@@ -1,0 +1,5 @@
+//! Step trees: all tasks of a program over one shared store.
+
+#![tactic(auto)]
+
+pub mod laws;

@@ -1,0 +1,61 @@
+-- Along a text sections and slots are only added.
+use Rattle.std.proofs.Common.{◌≡◌, ℕ, ◌+◌, ◌≤◌, List, [], ◌∷◌, ◌++◌, length, refl, sym, ap, ◌∙◌, arith, append_assoc, append-nil}
+use Rattle.std.proofs.lemmas.List.{length-append}
+use Rattle.syntax.specs.Tree.{Stmt, Skip, Var, Assign, Store, Print, Fault, If, IfElse, While, Split, Call, Async, Finish}
+use Rattle.syntax.specs.Tree.{Block, End, Then}
+use Rattle.sections.specs.Origins.{Origin, Left, Right}
+use Rattle.types.specs.Scope.{Scope, section_of, next, inside_async, with_sides, out_of, behind, after}
+
+-- sections, and how many slots there are, and later ones
+pub record Grows (os : List Origin) (n : ℕ) (qs : List Origin) (m : ℕ) : Type 0 where
+  pub more : List Origin
+  pub sections : qs ≡ os ++ more
+  pub slots : n ≤ m
+
+abbrev pub GrowsTo : Scope → Scope → Type 0
+GrowsTo here there = Grows here.sections here.slot there.sections there.slot
+
+pub grows_none : (os : List Origin) (n m : ℕ) → n ≤ m → Grows os n os m
+grows_none os n m h = record { more = []; sections = sym (append-nil os); slots = h }
+
+pub grows_both : (a b c : Scope) → GrowsTo a b → GrowsTo b c → GrowsTo a c
+grows_both a b c g h =
+    let first : a.slot ≤ b.slot = g.slots in
+    let others : b.slot ≤ c.slot = h.slots in
+    record {
+      more = g.more ++ h.more;
+      sections = h.sections ∙ ap (λ os. os ++ h.more) g.sections ∙ append_assoc a.sections g.more h.more;
+      slots = omega arith;
+    }
+
+pub grows_longer : (os : List Origin) (n : ℕ) (qs : List Origin) (m : ℕ) → Grows os n qs m → length os ≤ length qs
+grows_longer os n qs m g =
+    let all : length qs ≡ length os + length g.more = ap length g.sections ∙ length-append os g.more in omega arith
+
+grows_sides : (s : ℕ) (l r : List ℕ) (here : Scope) → GrowsTo here (with_sides s l r here)
+grows_sides s l r here = record { more = Left s ∷ Right s ∷ []; sections = refl; slots = omega arith }
+
+mutual
+  pub grows_behind : (s : Stmt) (here : Scope) → GrowsTo here (behind s here)
+  grows_behind Skip here = grows_none here.sections here.slot here.slot (omega arith)
+  grows_behind (Var x e) here = grows_none here.sections here.slot (here.slot + 1) (omega arith)
+  grows_behind (Assign x e) here = grows_none here.sections here.slot here.slot (omega arith)
+  grows_behind (Store s i e) here = grows_none here.sections here.slot here.slot (omega arith)
+  grows_behind (Print e es) here = grows_none here.sections here.slot here.slot (omega arith)
+  grows_behind (Fault e) here = grows_none here.sections here.slot here.slot (omega arith)
+  grows_behind (If e b) here = grows_after b (next here)
+  grows_behind (IfElse e b c) here =
+      let there = out_of here (after b (next here)) in
+      grows_both here there (after c there) (grows_after b (next here)) (grows_after c there)
+  grows_behind (While e b) here = grows_after b (next here)
+  grows_behind (Split s e l r b) here =
+      let inside = with_sides (section_of here.names s) l r (next here) in
+      grows_both here inside (after b inside) (grows_sides (section_of here.names s) l r (next here)) (grows_after b inside)
+  grows_behind (Call f es) here = grows_none here.sections here.slot here.slot (omega arith)
+  grows_behind (Async b) here = grows_after b (inside_async (next here))
+  grows_behind (Finish b) here = grows_after b (next here)
+
+  pub grows_after : (b : Block) (here : Scope) → GrowsTo here (after b here)
+  grows_after End here = grows_none here.sections here.slot here.slot (omega arith)
+  grows_after (Then s rest) here =
+      grows_both here (behind s here) (after rest (behind s here)) (grows_behind s here) (grows_after rest (behind s here))

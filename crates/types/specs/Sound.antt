@@ -1,0 +1,179 @@
+-- What a program keeps that breaks no rule, once its names are resolved. Each line says which rule
+-- of the language gives it, or that the resolution of names does.
+use Rattle.std.specs.Prelude.{ℕ, zero, suc, ◌+◌, ◌^◌, ◌<◌, ◌≤◌, ◌≡◌, ◌≢◌, List, [], ◌∷◌, length}
+use Rattle.std.specs.Prelude.{map, Bool, true, false, ℤ, pos, negsuc, slice_get, slice_index_or, Some}
+use Rattle.std.specs.List.{AllByRecursion, range_with_len}
+use Rattle.syntax.specs.declared.tree.ElementType.TheVariants.{Int}
+use Rattle.sections.specs.Member.{Member}
+use Rattle.sections.specs.Origins.{Root, Left, Right, origin_of, IsNumbered}
+use Rattle.sections.specs.Overlap.{root_of, overlap}
+use Rattle.types.specs.Code.{Number, Literal, Scalar, Element, Length, Negative, Chain, Links, Done}
+use Rattle.types.specs.Code.{Link, Truth, Constant, Compare, Not, Both, Either, Truths, NoMore}
+use Rattle.types.specs.Code.{Also, Primitive, Skip, Assign, Store, Print, Raise, Code, Do, If, While}
+use Rattle.types.specs.Code.{Split, Call, Async, Finish, Codes, End, Then, Array, Parameter}
+use Rattle.types.specs.Code.{Procedure, Program}
+use Rattle.types.specs.Labels.{labels_of_program}
+use Rattle.types.specs.Run.{procedure_of}
+
+-- a parameter that isn't there may not be written
+abbrev pub no_parameter : Parameter
+no_parameter = record { may_write = false; element = Int }
+
+-- the parameter of a number, and whether it may be written
+abbrev pub parameter_at : List Parameter → ℕ → Parameter
+parameter_at parameters k = slice_index_or parameters k no_parameter
+
+abbrev pub may_write : List Parameter → ℕ → Bool
+may_write parameters k = (parameter_at parameters k).may_write
+
+-- an array as a parameter of `main`
+abbrev pub as_parameter : Array → Parameter
+as_parameter a = record { may_write = true; element = a.element }
+
+-- so many numbers from the first on
+abbrev pub numbers_from : (from count : ℕ) → List ℕ
+numbers_from a zero = []
+numbers_from a (suc n) = a ∷ numbers_from (a + 1) n
+
+-- what is in scope where a procedure begins
+abbrev pub parameters_of : Procedure → List ℕ
+parameters_of g = numbers_from 0 (length g.parameters)
+
+-- the section that is passed for parameter k
+abbrev pub passed_for : (sections : List ℕ) → ℕ → ℕ
+passed_for ss k = slice_index_or ss k 0
+
+-- Y9: a literal is less than 2^63
+abbrev pub IsLiteral : ℤ → Type 0
+IsLiteral (pos n) = n < 2 ^ 63
+IsLiteral (negsuc n) = ⊥
+
+module _ (g : Procedure) where
+  -- the parameter that a section of the procedure lies in, and whether it may be written
+  abbrev pub parameter_of : ℕ → Parameter
+  parameter_of s = parameter_at g.parameters (root_of g.sections s)
+
+  abbrev pub is_writable : ℕ → Bool
+  is_writable s = may_write g.parameters (root_of g.sections s)
+
+-- in a procedure, where the sections of the scope may be named
+module _ (g : Procedure) (scope : List ℕ) where
+  abbrev mutual
+    -- Y1, Y3: the scalars and the sections that an expression for a number names are there
+    pub NumberFollows : Number → Type 0
+    NumberFollows (Literal v) = IsLiteral v
+    NumberFollows (Scalar x) = x < g.slots
+    NumberFollows (Element s i) = Member s scope × NumberFollows i
+    NumberFollows (Length s) = Member s scope
+    NumberFollows (Negative e) = NumberFollows e
+    NumberFollows (Chain e rest) = NumberFollows e × LinksFollow rest
+
+    pub LinksFollow : Links → Type 0
+    LinksFollow Done = Unit {0}
+    LinksFollow (Link o e rest) = NumberFollows e × LinksFollow rest
+
+  abbrev mutual
+    -- and those that one for a truth value names
+    pub TruthFollows : Truth → Type 0
+    TruthFollows (Constant b) = Unit {0}
+    TruthFollows (Compare r a b) = NumberFollows a × NumberFollows b
+    TruthFollows (Not t) = TruthFollows t
+    TruthFollows (Both ts) = TruthsFollow ts
+    TruthFollows (Either ts) = TruthsFollow ts
+
+    pub TruthsFollow : Truths → Type 0
+    TruthsFollow NoMore = Unit {0}
+    TruthsFollow (Also t rest) = TruthFollows t × TruthsFollow rest
+
+  -- a store to s
+  pub record StoresWell (s : ℕ) (index value : Number) : Type 0 where
+    -- Y1, Y3
+    pub in_scope : Member s scope
+    -- Y6
+    pub writable : is_writable g s ≡ true
+    pub at : NumberFollows index
+    pub stored : NumberFollows value
+
+  -- a statement of one step
+  abbrev pub PrimitiveFollows : Primitive → Type 0
+  PrimitiveFollows Skip = Unit {0}
+  PrimitiveFollows (Assign x e) = (x < g.slots) × NumberFollows e
+  PrimitiveFollows (Store s i e) = StoresWell s i e
+  PrimitiveFollows (Print es) = AllByRecursion NumberFollows es
+  PrimitiveFollows (Raise e) = NumberFollows e
+
+  -- a split of s into l and r
+  pub record SplitsWell (s l r : ℕ) : Type 0 where
+    -- Y1, Y3
+    pub in_scope : Member s scope
+    -- resolution: the sides come from s, and are numbered in turn, behind all that is in scope
+    pub left : origin_of g.sections l ≡ Left s
+    pub right : origin_of g.sections r ≡ Right s
+    pub next : r ≡ l + 1
+    pub later : (x : ℕ) → Member x scope → x < l
+
+  -- section arguments ss for these parameters
+  pub record PassesWell (parameters : List Parameter) (ss : List ℕ) : Type 0 where
+    -- Y4: there are as many, and each holds what its parameter holds
+    pub number : length ss ≡ length parameters
+    pub element : (k : ℕ) → k < length ss
+        → (parameter_of g (passed_for ss k)).element ≡ (parameter_at parameters k).element
+    -- Y1
+    pub in_scope : (k : ℕ) → k < length ss → Member (passed_for ss k) scope
+    -- Y6: what the callee may write, the caller may write
+    pub writable : (k : ℕ) → may_write parameters k ≡ true
+        → is_writable g (passed_for ss k) ≡ true
+    -- Y7: a `mut` argument overlaps no other
+    pub alone : (k j : ℕ) → k ≢ j → j < length ss → may_write parameters k ≡ true
+        → overlap g.sections (passed_for ss k) (passed_for ss j) ≡ false
+
+module _ (p : Program) (g : Procedure) where
+  -- a call of procedure f
+  pub record CallsWell (scope : List ℕ) (f : ℕ) (es : List Number) (ss : List ℕ) : Type 0 where
+    -- Y1
+    pub there : f < length p.procedures
+    -- Y4: there are as many scalar arguments as scalar parameters
+    pub number : length es ≡ (procedure_of p f).scalars
+    pub values : AllByRecursion (NumberFollows g scope) es
+    pub passes : PassesWell g scope (procedure_of p f).parameters ss
+
+  abbrev mutual
+    -- the names inside a statement are used as the rules say
+    pub FollowsOf : (scope : List ℕ) → Code → Type 0
+    FollowsOf scope (Do s) = PrimitiveFollows g scope s
+    FollowsOf scope (If t b c) = TruthFollows g scope t × Follows scope b × Follows scope c
+    FollowsOf scope (While t b) = TruthFollows g scope t × Follows scope b
+    FollowsOf scope (Split s e l r b) =
+        SplitsWell g scope s l r × NumberFollows g scope e × Follows (l ∷ r ∷ scope) b
+    FollowsOf scope (Call f es ss) = CallsWell scope f es ss
+    FollowsOf scope (Async b) = Follows scope b
+    FollowsOf scope (Finish b) = Follows scope b
+
+    -- the names in a list of statements are
+    pub Follows : (scope : List ℕ) → Codes → Type 0
+    Follows scope End = Unit {0}
+    Follows scope (Then l s rest) = FollowsOf scope s × Follows scope rest
+
+-- a procedure follows the rules
+pub record IsSoundIn (p : Program) (g : Procedure) : Type 0 where
+  -- resolution: its first sections are its parameters, and its first slots its scalar parameters
+  pub first : (k : ℕ) → k < length g.parameters → slice_get g.sections k ≡ Some Root
+  pub scalars : g.scalars ≤ g.slots
+  -- resolution: a side is numbered behind the section that it is a side of
+  pub numbered : IsNumbered g.sections
+  pub body : Follows p g (parameters_of g) g.body
+
+-- resolution: the section parameters of `main` are the arrays
+abbrev pub HasArrays : Program → Type 0
+HasArrays p = p.main.parameters ≡ map as_parameter p.arrays
+
+-- every procedure does, `main` among them
+pub record IsSound (p : Program) : Type 0 where
+  pub procedures : (f : ℕ) → IsSoundIn p (procedure_of p f)
+  pub main : IsSoundIn p p.main
+  pub arrays : HasArrays p
+  pub no_scalars : p.main.scalars ≡ 0
+  -- resolution: the labels are 1, 2 and so on, in the order of the text
+  pub labels : labels_of_program p ≡ range_with_len 1 (length (labels_of_program p))
+  -- Y9
+  pub few_labels : length (labels_of_program p) ≤ 65535

@@ -1,0 +1,127 @@
+-- One step of a step tree: one step of one of its leaves.
+use Rattle.std.specs.Prelude.{ℕ, ◌-◌, List, [], map, ℤ, Ok, Err, ok_or, nat_eq, nat_lt}
+use Rattle.std.specs.Prelude.{Option, Some, None, if◌then◌else◌}
+use Rattle.sections.specs.Place.{Window, sides_of}
+use Rattle.types.specs.declared.fault.FaultKind.TheVariants.{SplitPoint}
+use Rattle.types.specs.Code.{Code, Do, If, While, Split, Call, Async, Finish, Codes, End, Then}
+use Rattle.types.specs.Code.{Program}
+use Rattle.types.specs.Contents.{Contents, read}
+use Rattle.types.specs.Value.{Valued, then_try, number, numbers, truth}
+use Rattle.types.specs.Run.{Flow, On, Faulted, Stopped, State, entry, with_sides, procedure_of}
+use Rattle.types.specs.Run.{primitive}
+use Rattle.types.specs.Outcome.{whole_arrays}
+use Rattle.types.specs.Trees.{Leaf, Tree, Single, AndThen, Beside, single, done, failed}
+use Rattle.types.specs.Trees.{before_rest, called, child, parent, inside, and_then, ready}
+
+-- goes on with a value, or is done with its fault
+abbrev pub on_value : {A : Type 0} → (label : ℕ) → Leaf → Valued A → (A → Tree) → Tree
+on_value label k (Ok v) go = go v
+on_value label k (Err f) go = Single (failed label f k)
+
+-- a leaf as a task over the store
+abbrev pub as_state : Leaf → Contents → State (Unit {0})
+as_state k a = record {
+  flow = On;
+  environment = k.environment;
+  store = a;
+  lines = k.lines;
+  faults = k.faults;
+  steps = 0;
+  path = k.path;
+  spawned = k.spawned;
+  extra = tt;
+}
+
+-- a leaf whose task has this flow
+abbrev pub by_flow : Flow → Leaf → Tree
+by_flow On k = single k
+by_flow Faulted k = Single (done k)
+by_flow Stopped k = Single (done k)
+
+-- a leaf that has come to this state
+abbrev pub with_state : Leaf → State (Unit {0}) → Tree
+with_state k st = by_flow st.flow (record k {
+  environment = st.environment;
+  lines = st.lines;
+  faults = st.faults;
+})
+
+-- both sides of a section, split at a number
+abbrev pub sides_at : Leaf → ℕ → Valued ℤ → Valued (Window × Window)
+sides_at k s r = then_try r (λ v. ok_or (sides_of (k.environment.windows s) v) SplitPoint)
+
+module _ (p : Program) where
+  -- what a leaf becomes by one step of a statement; `k` has what follows the statement
+  abbrev pub tree_after : (label : ℕ) → Code → Leaf → Contents → Tree
+  tree_after l (Do s) k a = with_state k (primitive p l s (as_state k a))
+  tree_after l (If t b c) k a =
+      on_value l k (truth k.environment (read a) t) (λ v.
+      single (before_rest (if v then b else c) k))
+  tree_after l (While t b) k a =
+      on_value l k (truth k.environment (read a) t) (λ v.
+      single (if v then before_rest b (before_rest (Then l (While t b) End) k) else k))
+  tree_after l (Split s e x y b) k a =
+      on_value l k (sides_at k s (number k.environment (read a) e)) (λ ws.
+      single (before_rest b (record k { environment = with_sides x y ws k.environment })))
+  tree_after l (Call f es ss) k a =
+      on_value l k (numbers k.environment (read a) es) (λ vs.
+      single (called (procedure_of p f) (entry vs (map k.environment.windows ss)) k))
+  tree_after l (Async b) k a = Beside (single (child b k)) (single (parent k))
+  tree_after l (Finish b) k a = and_then (single (inside b k)) k
+
+  -- and the store
+  abbrev pub store_after : (label : ℕ) → Code → Leaf → Contents → Contents
+  store_after l (Do s) k a = (primitive p l s (as_state k a)).store
+  store_after l (If t b c) k a = a
+  store_after l (While t b) k a = a
+  store_after l (Split s e x y b) k a = a
+  store_after l (Call f es ss) k a = a
+  store_after l (Async b) k a = a
+  store_after l (Finish b) k a = a
+
+  -- one step of a leaf that has these statements left
+  abbrev pub leaf_step : Codes → Leaf → Contents → Option (Tree × Contents)
+  leaf_step End k a = None
+  leaf_step (Then l s rest) k a =
+      let j = record k { rest = rest } in Some (tree_after l s j a, store_after l s j a)
+
+-- a step inside a tree
+abbrev pub in_tree : (Tree → Tree) → Option (Tree × Contents) → Option (Tree × Contents)
+in_tree f None = None
+in_tree f (Some ta) = Some (f ta.0, ta.1)
+
+module _ (p : Program) where
+  -- one step of the n-th leaf that may step, numbered from 0 and from the left
+  abbrev pub step : ℕ → Tree → Contents → Option (Tree × Contents)
+  step n (Single k) a = if nat_eq n 0 then leaf_step p k.rest k a else None
+  step n (AndThen t k) a = in_tree (λ u. and_then u k) (step n t a)
+  step n (Beside t v) a =
+      if nat_lt n (ready t) then in_tree (λ u. Beside u v) (step n t a)
+      else in_tree (λ u. Beside t u) (step (n - ready t) v a)
+
+-- a leaf that may step
+abbrev pub unless_done : Codes → Leaf → Option Leaf
+unless_done End k = None
+unless_done (Then l s rest) k = Some k
+
+-- the n-th leaf that may step
+abbrev pub leaf_at : ℕ → Tree → Option Leaf
+leaf_at n (Single k) = if nat_eq n 0 then unless_done k.rest k else None
+leaf_at n (AndThen t k) = leaf_at n t
+leaf_at n (Beside t v) = if nat_lt n (ready t) then leaf_at n t else leaf_at (n - ready t) v
+
+-- `main` at its beginning
+abbrev pub first_leaf : Program → Leaf
+first_leaf p = record {
+  environment = entry [] (whole_arrays 0 p.arrays);
+  rest = p.main.body;
+  callers = [];
+  path = [];
+  spawned = 0;
+  lines = [];
+  faults = [];
+}
+
+-- `<main>`
+abbrev pub first_tree : Program → Tree
+first_tree p = single (first_leaf p)

@@ -1,0 +1,165 @@
+-- Step trees: all tasks of a program over one shared store, without a budget.
+use Rattle.std.specs.Prelude.{ℕ, ◌+◌, List, [], ◌∷◌, ◌++◌, Bool, true, false, ◌&&◌, ℤ}
+use Rattle.std.specs.Prelude.{if◌then◌else◌}
+use Rattle.types.specs.declared.fault.FaultKind.{FaultKind}
+use Rattle.types.specs.Code.{Codes, End, Then, Procedure}
+use Rattle.types.specs.Value.{Environment}
+use Rattle.types.specs.Run.{Fault}
+
+-- what waits for a call to end: the caller's environment and the statements behind the call
+pub record Caller : Type 0 where
+  pub environment : Environment
+  pub rest : Codes
+
+-- a task as it stands: the statements that it has left, with their environments, its name and how
+-- many children it spawned, and what it told; it is done where no statement is left
+pub record Leaf : Type 0 where
+  pub environment : Environment
+  pub rest : Codes
+  -- the calls that it is in, the innermost first
+  pub callers : List Caller
+  pub path : List ℕ
+  pub spawned : ℕ
+  pub lines : List (List ℤ)
+  pub faults : List Fault
+
+-- a leaf, `t then <k>` or `t par u`
+pub data Tree : Type 0 where
+  Single : Leaf → Tree
+  AndThen : Tree → Leaf → Tree
+  Beside : (left right : Tree) → Tree
+
+-- one list of statements before another
+abbrev pub append : Codes → Codes → Codes
+append End more = more
+append (Then l s rest) more = Then l s (append rest more)
+
+-- whether no statement is left
+abbrev pub is_done : Codes → Bool
+is_done End = true
+is_done (Then l s rest) = false
+
+-- Of a leaf
+
+-- back to the innermost call behind which statements are left
+abbrev pub return_to : List Caller → Leaf → Leaf
+return_to [] k = record k { rest = End; callers = [] }
+return_to (f ∷ fs) k = elim f.rest [
+  | End ↦ return_to fs (record k { environment = f.environment })
+  | Then l s rest ↦ record k { environment = f.environment; rest = Then l s rest; callers = fs }
+]
+
+-- at the end of a call's body a leaf is back at its caller
+abbrev pub returned_by : Codes → Leaf → Leaf
+returned_by End k = return_to k.callers k
+returned_by (Then l s rest) k = k
+
+-- a leaf whose next statement, if any is left, comes first
+abbrev pub returned : Leaf → Leaf
+returned k = returned_by k.rest k
+
+-- the tree of one leaf
+abbrev pub single : Leaf → Tree
+single k = Single (returned k)
+
+-- the environment outside of all calls
+abbrev pub outermost : List Caller → Environment → Environment
+outermost [] env = env
+outermost (f ∷ fs) env = outermost fs f.environment
+
+-- that of a leaf
+abbrev pub task_environment : Leaf → Environment
+task_environment k = outermost k.callers k.environment
+
+-- a leaf that drops what it has left
+abbrev pub done : Leaf → Leaf
+done k = record k { environment = task_environment k; rest = End; callers = [] }
+
+-- a fault makes its leaf done
+abbrev pub failed : (label : ℕ) → FaultKind → Leaf → Leaf
+failed label f k = done (record k {
+  faults = k.faults ++ record { path = k.path; label = label; kind = f } ∷ [];
+})
+
+-- a leaf that has a block to do first
+abbrev pub before_rest : Codes → Leaf → Leaf
+before_rest b k = record k { rest = append b k.rest }
+
+-- a leaf that begins a call
+abbrev pub called : Procedure → Environment → Leaf → Leaf
+called f env k = record k {
+  environment = env;
+  rest = f.body;
+  callers = record { environment = k.environment; rest = k.rest } ∷ k.callers;
+}
+
+-- the next child with its body: the lines so far go to it
+abbrev pub child : Codes → Leaf → Leaf
+child b k = record k {
+  rest = b;
+  callers = [];
+  path = k.path ++ (k.spawned + 1) ∷ [];
+  spawned = 0;
+}
+
+-- and the leaf behind the async begins with none
+abbrev pub parent : Leaf → Leaf
+parent k = record k { spawned = k.spawned + 1; lines = []; faults = [] }
+
+-- the body of a finish as it begins: the lines so far, and the number of children, go to it
+abbrev pub inside : Codes → Leaf → Leaf
+inside b k = record k { rest = b; callers = [] }
+
+-- Of a tree
+
+-- whether all leaves are done
+abbrev pub all_done : Tree → Bool
+all_done (Single k) = is_done k.rest
+all_done (AndThen t k) = false
+all_done (Beside t u) = all_done t && all_done u
+
+-- the lines of its leaves, from left to right
+abbrev pub lines_of : Tree → List (List ℤ)
+lines_of (Single k) = k.lines
+lines_of (AndThen t k) = lines_of t
+lines_of (Beside t u) = lines_of t ++ lines_of u
+
+-- and their faults
+abbrev pub faults_of : Tree → List Fault
+faults_of (Single k) = k.faults
+faults_of (AndThen t k) = faults_of t
+faults_of (Beside t u) = faults_of t ++ faults_of u
+
+-- the tree's owner: the leaf of the task that spawned the others
+abbrev pub rightmost : Tree → Leaf
+rightmost (Single k) = k
+rightmost (AndThen t k) = k
+rightmost (Beside t u) = rightmost u
+
+-- the owner's environment
+abbrev pub owner_environment : Tree → Environment
+owner_environment t = task_environment (rightmost t)
+
+-- without faults a leaf goes on, with some it is done
+abbrev pub unless_faulted : List Fault → Leaf → Leaf
+unless_faulted [] k = returned k
+unless_faulted (f ∷ fs) k = done k
+
+-- what `t then <k>` becomes once all leaves of t are done
+abbrev pub closed : Tree → Leaf → Leaf
+closed t k = unless_faulted (faults_of t) (record k {
+  environment = owner_environment t;
+  spawned = (rightmost t).spawned;
+  lines = lines_of t;
+  faults = faults_of t;
+})
+
+-- `t then <k>`, or what it becomes at once
+abbrev pub and_then : Tree → Leaf → Tree
+and_then t k = if all_done t then Single (closed t k) else AndThen t k
+
+-- how many leaves may step: those that aren't done, and no `<k>` behind a `then`
+abbrev pub ready : Tree → ℕ
+ready (Single k) = if is_done k.rest then 0 else 1
+ready (AndThen t k) = ready t
+ready (Beside t u) = ready t + ready u
