@@ -1,0 +1,230 @@
+-- Tasks and scopes by their names, and what changes when one is changed.
+use Rattle.std.proofs.Common.{◌≡◌, ℕ, ◌+◌, ◌≤◌, List, [], ◌∷◌, Option, Some, None, refl, sym, ap, ◌∙◌}
+use Rattle.std.proofs.Common.{subst, arith}
+use Rattle.std.proofs.lemmas.Bool.{eqb-true, eqb-false}
+use Rattle.std.specs.Prelude.{Bool, true, false, ◌&&◌, nat_eq, if◌then◌else◌}
+use Rattle.std.proofs.lemmas.Option.{none-some, same_Some}
+use Rattle.effects.proofs.Members.{both_true, false_true}
+use Rattle.own_run.specs.Lists.{Each}
+use Rattle.own_run.proofs.SettledResults.{paths_same}
+use Rattle.interleave.specs.World.{same_path, ScopeId, Live, Scope, same_scope, task, put_task}
+use Rattle.interleave.specs.World.{without_task, scope, put_scope, weight_in, held}
+use Rattle.interleave.specs.Events.{only_if}
+
+-- ---- tests
+pub true_not_false : {b : Bool} → b ≡ true → b ≡ false → ⊥
+true_not_false e f = false_true (sym f ∙ e)
+
+pub eq_refl : (k : ℕ) → nat_eq k k ≡ true
+eq_refl k = by_test (nat_eq k k) refl
+  where
+    by_test : (b : Bool) → nat_eq k k ≡ b → b ≡ true
+    by_test true e = refl
+    by_test false e = absurd (eqb-false k k e refl)
+
+pub path_refl : (p : List ℕ) → same_path p p ≡ true
+path_refl [] = refl
+path_refl (k ∷ p) = ap (λ b. b && same_path p p) (eq_refl k) ∙ path_refl p
+
+pub path_is : {p q : List ℕ} → p ≡ q → same_path p q ≡ true
+path_is {p} e = subst (λ r. same_path p r ≡ true) e (path_refl p)
+
+pub other_path : {p q : List ℕ} → same_path p q ≡ false → p ≡ q → ⊥
+other_path f e = true_not_false (path_is e) f
+
+pub path_not : (p q : List ℕ) → (p ≡ q → ⊥) → same_path p q ≡ false
+path_not p q ne = by_test (same_path p q) refl
+  where
+    by_test : (b : Bool) → same_path p q ≡ b → b ≡ false
+    by_test true e = absurd (ne (paths_same p q e))
+    by_test false e = refl
+
+pub scope_is : {a b : ScopeId} → a ≡ b → same_scope a b ≡ true
+scope_is {a} e = subst (λ c. same_scope a c ≡ true) e (ap (λ x. x && nat_eq a.number a.number) (path_refl a.owner) ∙ eq_refl a.number)
+
+pub scopes_same : (a b : ScopeId) → same_scope a b ≡ true → a ≡ b
+scopes_same a b e =
+    let h = both_true (same_path a.owner b.owner) (nat_eq a.number b.number) e in
+    let owners = paths_same a.owner b.owner h.0 in
+    let numbers : a.number ≡ b.number = eqb-true a.number b.number h.1 in
+    ap (λ o. let i : ScopeId = record { owner = o; number = a.number } in i) owners
+    ∙ ap (λ n. let i : ScopeId = record { owner = b.owner; number = n } in i) numbers
+
+pub other_scope : {a b : ScopeId} → same_scope a b ≡ false → a ≡ b → ⊥
+other_scope f e = true_not_false (scope_is e) f
+
+pub record Holds {A : Type 0} (b : Bool) (o : Option A) (y : A) : Type 0 where
+  pub test : b ≡ true
+  pub gives : o ≡ Some y
+
+pub holds : {A : Type 0} (b : Bool) (o : Option A) (y : A) → only_if b o ≡ Some y → Holds b o y
+holds true o y e = record { test = refl; gives = e }
+holds false o y e = absurd (none-some _ e)
+
+-- by what a test says
+pub by_test : (P : Bool → Type 0) (b : Bool) → (b ≡ true → P true) → (b ≡ false → P false) → P b
+by_test P true h k = h refl
+by_test P false h k = k refl
+
+-- ---- tasks
+pub task_path : (q : List ℕ) (ts : List Live) (t : Live) → task q ts ≡ Some t → t.path ≡ q
+task_path q [] t e = absurd (none-some _ e)
+task_path q (u ∷ ts) t e =
+    by_test (λ b. (if b then Some u else task q ts) ≡ Some t → t.path ≡ q) (same_path u.path q)
+    (λ f e. ap (λ (t : Live). t.path) (sym (same_Some _ _ e)) ∙ paths_same u.path q f)
+    (λ f e. task_path q ts t e) e
+
+-- another task in the place of one
+pub task-put_task : (to t : Live) (j : List ℕ) (ts : List Live) → task to.path ts ≡ Some t → task j (put_task to ts) ≡ (if same_path to.path j then Some to else task j ts)
+task-put_task to t j [] e = absurd (none-some _ e)
+task-put_task to t j (u ∷ ts) e =
+    by_test (λ b. (if b then Some u else task to.path ts) ≡ Some t → task j (if b then to ∷ ts else u ∷ put_task to ts) ≡ (if same_path to.path j then Some to else task j (u ∷ ts)))
+    (same_path u.path to.path)
+    (λ f e. here (paths_same u.path to.path f) (same_path to.path j) refl)
+    (λ f e. later (same_path u.path j) (same_path to.path j) refl refl f (task-put_task to t j ts e)) e
+  where
+    here : u.path ≡ to.path → (b : Bool) → same_path to.path j ≡ b → task j (to ∷ ts) ≡ (if b then Some to else task j (u ∷ ts))
+    here same true f = ap (λ (b : Bool). if b then Some to else task j ts) f
+    here same false f = ap (λ (b : Bool). if b then Some to else task j ts) f ∙ ap (λ (b : Bool). if b then Some u else task j ts) (sym (ap (λ p. same_path p j) same ∙ f))
+
+    later : (b c : Bool) → same_path u.path j ≡ b → same_path to.path j ≡ c → same_path u.path to.path ≡ false → task j (put_task to ts) ≡ (if c then Some to else task j ts)
+        → (if b then Some u else task j (put_task to ts)) ≡ (if c then Some to else (if b then Some u else task j ts))
+    later true true f g ne h = absurd (other_path ne (paths_same u.path j f ∙ sym (paths_same to.path j g)))
+    later true false f g ne h = refl
+    later false c f g ne h = h
+
+pub task-without_task : (q j : List ℕ) (ts : List Live) → (q ≡ j → ⊥) → task j (without_task q ts) ≡ task j ts
+task-without_task q j [] ne = refl
+task-without_task q j (u ∷ ts) ne =
+    by_test (λ b. task j (if b then ts else u ∷ without_task q ts) ≡ task j (u ∷ ts)) (same_path u.path q)
+    (λ f. ap (λ (b : Bool). if b then Some u else task j ts) (sym (path_not u.path j (λ e. ne (sym (paths_same u.path q f) ∙ e)))))
+    (λ f. ap (λ o. if same_path u.path j then Some u else o) (task-without_task q j ts ne))
+
+-- no two of one path
+abbrev pub Unique : List Live → Type 0
+Unique [] = Unit {0}
+Unique (t ∷ ts) = (task t.path ts ≡ None) × Unique ts
+
+pub unique-put_task : (to t : Live) (ts : List Live) → task to.path ts ≡ Some t → Unique ts → Unique (put_task to ts)
+unique-put_task to t [] e h = tt
+unique-put_task to t (u ∷ ts) e h =
+    by_test (λ b. (if b then Some u else task to.path ts) ≡ Some t → Unique (if b then to ∷ ts else u ∷ put_task to ts)) (same_path u.path to.path)
+    (λ f e. (ap (λ p. task p ts) (sym (paths_same u.path to.path f)) ∙ h.0, h.1))
+    (λ f e. (
+      task-put_task to t u.path ts e ∙ ap (λ (b : Bool). if b then Some to else task u.path ts) (path_not to.path u.path (λ g. other_path f (sym g))) ∙ h.0,
+      unique-put_task to t ts e h.1,
+    )) e
+
+some_none : {A : Type 0} {x : A} → Some x ≡ None → ⊥
+some_none e = none-some _ (sym e)
+
+skipped : (j : List ℕ) (ts : List Live) → task j ts ≡ None → task j (without_task j ts) ≡ None
+skipped j [] e = refl
+skipped j (u ∷ ts) e =
+    by_test (λ b. (if b then Some u else task j ts) ≡ None → task j (if b then ts else u ∷ without_task j ts) ≡ None) (same_path u.path j)
+    (λ f e. absurd (some_none e))
+    (λ f e. ap (λ (b : Bool). if b then Some u else task j (without_task j ts)) f ∙ skipped j ts e) e
+
+pub none-without_task : (q j : List ℕ) (ts : List Live) → task j ts ≡ None → task j (without_task q ts) ≡ None
+none-without_task q j ts e =
+    by_test (λ b. task j (without_task q ts) ≡ None) (same_path q j)
+    (λ f. ap (λ i. task j (without_task i ts)) (paths_same q j f) ∙ skipped j ts e)
+    (λ f. task-without_task q j ts (other_path f) ∙ e)
+
+pub unique-without_task : (q : List ℕ) (ts : List Live) → Unique ts → Unique (without_task q ts)
+unique-without_task q [] h = tt
+unique-without_task q (u ∷ ts) h =
+    by_test (λ b. Unique (if b then ts else u ∷ without_task q ts)) (same_path u.path q)
+    (λ f. h.1)
+    (λ f. (none-without_task q u.path ts h.0, unique-without_task q ts h.1))
+
+-- once it is taken out, it isn't there
+pub gone-without_task : (q : List ℕ) (ts : List Live) → Unique ts → task q (without_task q ts) ≡ None
+gone-without_task q [] h = refl
+gone-without_task q (u ∷ ts) h =
+    by_test (λ b. task q (if b then ts else u ∷ without_task q ts) ≡ None) (same_path u.path q)
+    (λ f. ap (λ p. task p ts) (sym (paths_same u.path q f)) ∙ h.0)
+    (λ f. ap (λ (b : Bool). if b then Some u else task q (without_task q ts)) f ∙ gone-without_task q ts h.1)
+
+-- ---- of each
+pub each-put_task : (P : Live → Type 0) (to : Live) (ts : List Live) → Each P ts → P to → Each P (put_task to ts)
+each-put_task P to [] h k = tt
+each-put_task P to (u ∷ ts) h k =
+    by_test (λ b. Each P (if b then to ∷ ts else u ∷ put_task to ts)) (same_path u.path to.path)
+    (λ f. (k, h.1)) (λ f. (h.0, each-put_task P to ts h.1 k))
+
+pub each-without_task : (P : Live → Type 0) (q : List ℕ) (ts : List Live) → Each P ts → Each P (without_task q ts)
+each-without_task P q [] h = tt
+each-without_task P q (u ∷ ts) h =
+    by_test (λ b. Each P (if b then ts else u ∷ without_task q ts)) (same_path u.path q)
+    (λ f. h.1) (λ f. (h.0, each-without_task P q ts h.1))
+
+pub each_task : (P : Live → Type 0) (q : List ℕ) (ts : List Live) (t : Live) → Each P ts → task q ts ≡ Some t → P t
+each_task P q [] t h e = absurd (none-some _ e)
+each_task P q (u ∷ ts) t h e =
+    by_test (λ b. (if b then Some u else task q ts) ≡ Some t → P t) (same_path u.path q)
+    (λ f e. subst P (same_Some _ _ e) h.0) (λ f e. each_task P q ts t h.1 e) e
+
+-- ---- weights held
+pub held-put_task : (id : ScopeId) (to t : Live) (ts : List Live) → task to.path ts ≡ Some t
+    → held id (put_task to ts) + weight_in id t.stakes ≡ held id ts + weight_in id to.stakes
+held-put_task id to t [] e = absurd (none-some _ e)
+held-put_task id to t (u ∷ ts) e =
+    by_test (λ b. (if b then Some u else task to.path ts) ≡ Some t
+    → held id (if b then to ∷ ts else u ∷ put_task to ts) + weight_in id t.stakes ≡ (weight_in id u.stakes + held id ts) + weight_in id to.stakes)
+    (same_path u.path to.path)
+    (λ f e. here (same_Some _ _ e))
+    (λ f e. let h = held-put_task id to t ts e in more h) e
+  where
+    here : u ≡ t → (weight_in id to.stakes + held id ts) + weight_in id t.stakes ≡ (weight_in id u.stakes + held id ts) + weight_in id to.stakes
+    here same = let e : weight_in id u.stakes ≡ weight_in id t.stakes = ap (λ (t : Live). weight_in id t.stakes) same in omega (arith, e)
+
+    more : held id (put_task to ts) + weight_in id t.stakes ≡ held id ts + weight_in id to.stakes
+        → (weight_in id u.stakes + held id (put_task to ts)) + weight_in id t.stakes ≡ (weight_in id u.stakes + held id ts) + weight_in id to.stakes
+    more h = omega (arith, h)
+
+pub held-without_task : (id : ScopeId) (q : List ℕ) (t : Live) (ts : List Live) → task q ts ≡ Some t
+    → held id (without_task q ts) + weight_in id t.stakes ≡ held id ts
+held-without_task id q t [] e = absurd (none-some _ e)
+held-without_task id q t (u ∷ ts) e =
+    by_test (λ b. (if b then Some u else task q ts) ≡ Some t
+    → held id (if b then ts else u ∷ without_task q ts) + weight_in id t.stakes ≡ weight_in id u.stakes + held id ts)
+    (same_path u.path q)
+    (λ f e. here (same_Some _ _ e))
+    (λ f e. more (held-without_task id q t ts e)) e
+  where
+    here : u ≡ t → held id ts + weight_in id t.stakes ≡ weight_in id u.stakes + held id ts
+    here same = let e : weight_in id u.stakes ≡ weight_in id t.stakes = ap (λ (t : Live). weight_in id t.stakes) same in omega (arith, e)
+
+    more : held id (without_task q ts) + weight_in id t.stakes ≡ held id ts
+        → (weight_in id u.stakes + held id (without_task q ts)) + weight_in id t.stakes ≡ weight_in id u.stakes + held id ts
+    more h = omega (arith, h)
+
+pub held_least : (id : ScopeId) (q : List ℕ) (t : Live) (ts : List Live) → task q ts ≡ Some t → weight_in id t.stakes ≤ held id ts
+held_least id q t ts e = let h = held-without_task id q t ts e in omega (arith, h)
+
+-- ---- scopes
+pub scope_id : (i : ScopeId) (ss : List Scope) (s : Scope) → scope i ss ≡ Some s → s.id ≡ i
+scope_id i [] s e = absurd (none-some _ e)
+scope_id i (r ∷ ss) s e =
+    by_test (λ b. (if b then Some r else scope i ss) ≡ Some s → s.id ≡ i) (same_scope r.id i)
+    (λ f e. ap (λ (s : Scope). s.id) (sym (same_Some _ _ e)) ∙ scopes_same r.id i f)
+    (λ f e. scope_id i ss s e) e
+
+pub scope-put_scope : (to s : Scope) (j : ScopeId) (ss : List Scope) → scope to.id ss ≡ Some s → scope j (put_scope to ss) ≡ (if same_scope to.id j then Some to else scope j ss)
+scope-put_scope to s j [] e = absurd (none-some _ e)
+scope-put_scope to s j (r ∷ ss) e =
+    by_test (λ b. (if b then Some r else scope to.id ss) ≡ Some s → scope j (if b then to ∷ ss else r ∷ put_scope to ss) ≡ (if same_scope to.id j then Some to else scope j (r ∷ ss)))
+    (same_scope r.id to.id)
+    (λ f e. here (scopes_same r.id to.id f) (same_scope to.id j) refl)
+    (λ f e. later (same_scope r.id j) (same_scope to.id j) refl refl f (scope-put_scope to s j ss e)) e
+  where
+    here : r.id ≡ to.id → (b : Bool) → same_scope to.id j ≡ b → scope j (to ∷ ss) ≡ (if b then Some to else scope j (r ∷ ss))
+    here same true f = ap (λ (b : Bool). if b then Some to else scope j ss) f
+    here same false f = ap (λ (b : Bool). if b then Some to else scope j ss) f ∙ ap (λ (b : Bool). if b then Some r else scope j ss) (sym (ap (λ p. same_scope p j) same ∙ f))
+
+    later : (b c : Bool) → same_scope r.id j ≡ b → same_scope to.id j ≡ c → same_scope r.id to.id ≡ false → scope j (put_scope to ss) ≡ (if c then Some to else scope j ss)
+        → (if b then Some r else scope j (put_scope to ss)) ≡ (if c then Some to else (if b then Some r else scope j ss))
+    later true true f g ne h = absurd (other_scope ne (scopes_same r.id j f ∙ sym (scopes_same to.id j g)))
+    later true false f g ne h = refl
+    later false c f g ne h = h

@@ -1,0 +1,140 @@
+-- Once the root's scope has passed its results settle, in whatever order they came.
+use Rattle.std.proofs.Common.{◌≡◌, ℕ, zero, suc, ◌+◌, ◌≤◌, List, [], ◌∷◌, ◌++◌, Some, refl, sym, ap, ◌∙◌}
+use Rattle.std.proofs.Common.{subst, arith}
+use Rattle.std.specs.Prelude.{Bool, true, flat_map, if◌then◌else◌}
+use Rattle.types.specs.Code.{Codes, Program}
+use Rattle.types.specs.Run.{Block}
+use Rattle.effects.specs.Needs.{Needs}
+use Rattle.own_run.specs.Results.{TaskResult, and_then}
+use Rattle.own_run.specs.Settling.{settle, IsParted}
+use Rattle.own_run.specs.Lists.{Each, Inserted, here, later, Shuffled, none, one}
+use Rattle.own_run.specs.OwnRun.{Start, Child, at_first, result_of, beginning}
+use Rattle.own_run.specs.Given.{in_truth, own, comes_to, below, given, IsOwn, root_of, told_of}
+use Rattle.own_run.specs.Frames.{IsGivenChild}
+use Rattle.own_run.proofs.Begun.{run_tells}
+use Rattle.own_run.proofs.Lists.{each_more}
+use Rattle.own_run.proofs.SettledResults.{paths_same, IsGiven, lists_true}
+use Rattle.own_run.proofs.CompleteResults.{own_complete}
+use Rattle.interleave.specs.World.{same_path, root_scope, task}
+use Rattle.interleave.specs.Events.{only_if}
+use Rattle.interleave.specs.Replay.{hands_on}
+use Rattle.interleave.specs.ReplayLaws.{measured, OutcomeIsThere}
+use Rattle.interleave.proofs.Lookups.{by_test, path_refl}
+use Rattle.interleave.proofs.Outcomes.{sound, root_hands_on}
+use Rattle.interleave.proofs.Measured.{root_holds_all}
+
+-- a list with one element put in
+measured-inserted : (f : TaskResult → ℕ) (x : TaskResult) (ys zs : List TaskResult) → Inserted x ys zs → measured f zs ≡ f x + measured f ys
+measured-inserted f x ys zs here = refl
+measured-inserted f x _ _ (later {y = y} {ys = ys} {zs = zs} i) = let a = measured-inserted f x ys zs i in omega (arith, a)
+
+record Picked (path : List ℕ) (zs : List TaskResult) : Type 0 where
+  it : TaskResult
+  others : List TaskResult
+  put : Inserted it others zs
+  named : it.path ≡ path
+
+pick : (path : List ℕ) (zs : List TaskResult) → 1 ≤ measured (λ r. if same_path r.path path then 1 else 0) zs → Picked path zs
+pick path [] h = absurd (omega (arith, h))
+pick path (z ∷ zs) h =
+    by_test (λ b. 1 ≤ (if b then 1 else 0) + measured (λ r. if same_path r.path path then 1 else 0) zs → Picked path (z ∷ zs)) (same_path z.path path)
+    (λ e k. record { it = z; others = zs; put = here; named = paths_same z.path path e })
+    (λ e k. further (pick path zs (less k))) h
+  where
+    less : 1 ≤ 0 + measured (λ r. if same_path r.path path then 1 else 0) zs → 1 ≤ measured (λ r. if same_path r.path path then 1 else 0) zs
+    less k = omega (arith, k)
+
+    further : Picked path zs → Picked path (z ∷ zs)
+    further p = record { it = p.it; others = z ∷ p.others; put = later p.put; named = p.named }
+
+each_inserted : (P : TaskResult → Type 0) (x : TaskResult) (ys zs : List TaskResult) → Inserted x ys zs → Each P zs → P x × Each P ys
+each_inserted P x ys zs here h = h
+each_inserted P x _ _ (later {y = y} {ys = ys} {zs = zs} i) h = let k = each_inserted P x ys zs i h.1 in (k.0, (h.0, k.1))
+
+empty : (ys : List TaskResult) → 0 ≡ measured (λ r. 1) ys → ys ≡ []
+empty [] e = refl
+empty (y ∷ ys) e = absurd (omega (arith, e))
+
+counts_one : (b : Bool) → b ≡ true → ◌≡◌ {A = ℕ} (if b then 1 else 0) 1
+counts_one b e = ap (λ (b : Bool). if b then 1 else 0) e
+
+module _ (p : Program) (needs : Codes → Needs) (fresh : ℕ) (root : Start) where
+  -- a result of an own run
+  record IsReal (r : TaskResult) : Type 0 where
+    start : Start
+    is : given p needs fresh root r.path ≡ Some start
+    same : r ≡ result_of (own p needs fresh start)
+
+  -- results that measure alike stand in some order
+  shuffled : (xs ys : List TaskResult) → Each IsReal xs → Each (IsOwn p needs fresh root) ys → ((f : TaskResult → ℕ) → measured f xs ≡ measured f ys) → Shuffled xs ys
+  shuffled [] ys h k e = subst (Shuffled []) (sym (empty ys (e (λ r. 1)))) none
+  shuffled (x ∷ xs) ys h k e =
+      let first = counts_one (same_path x.path x.path) (path_refl x.path) in
+      let some = e (λ r. if same_path r.path x.path then 1 else 0) in
+      let q = pick x.path ys (omega (arith, first, some)) in
+      let own_ones = each_inserted (IsOwn p needs fresh root) q.it q.others ys q.put k in
+      let same : q.it ≡ x = own_ones.0 h.0.start (ap (given p needs fresh root) q.named ∙ h.0.is) ∙ sym h.0.same in
+      one (subst (λ y. Inserted y q.others ys) same q.put) (shuffled xs q.others h.1 own_ones.1 (λ f. less f q.it q.others q.put same))
+    where
+      less : (f : TaskResult → ℕ) (it : TaskResult) (others : List TaskResult) → Inserted it others ys → it ≡ x → measured f xs ≡ measured f others
+      less f it others i same =
+          let a = e f in
+          let b = measured-inserted f it others ys i in
+          let c : f it ≡ f x = ap f same in
+          omega (arith, a, b, c)
+
+  own_path : (s : Start) → (own p needs fresh s).path ≡ s.path
+  own_path s = (run_tells s.nest needs (in_truth p needs fresh) p (Block s.body) (beginning (at_first s.owned) fresh s)).path
+
+  each_join : (P : TaskResult → Type 0) (xs ys : List TaskResult) → Each P xs → Each P ys → Each P (xs ++ ys)
+  each_join P [] ys h k = k
+  each_join P (x ∷ xs) ys h k = (h.0, each_join P xs ys h.1 k)
+
+  -- all that is below a task is real
+  below_real : (n : ℕ) (s : Start) → IsGiven p needs fresh root s → Each IsReal (below p needs fresh n s)
+  below_real zero s is = tt
+  below_real (suc n) s is = each_child (own p needs fresh s).extra.pending (lists_true p needs fresh root s is) (λ c i. below_real n c i)
+    where
+      each_child : (cs : List Child) → Each (IsGivenChild p needs fresh root) cs → ((c : Start) → IsGiven p needs fresh root c → Each IsReal (below p needs fresh n c))
+          → Each IsReal (flat_map (λ c. result_of (own p needs fresh c.start) ∷ below p needs fresh n c.start) cs)
+      each_child cs h rec = walk cs h
+        where
+          walk : (cs : List Child) → Each (IsGivenChild p needs fresh root) cs → Each IsReal (flat_map (λ c. result_of (own p needs fresh c.start) ∷ below p needs fresh n c.start) cs)
+          walk [] h = tt
+          walk (c ∷ cs) h =
+              each_join IsReal (result_of (own p needs fresh c.start) ∷ below p needs fresh n c.start) _
+              (record { start = c.start; is = ap (given p needs fresh root) (own_path c.start) ∙ h.0.is; same = refl }, rec c.start h.0.is) (walk cs h.1)
+
+pub outcome_is_there : (p : Program) (needs : Codes → Needs) (w0 : ℕ) → OutcomeIsThere p needs w0
+outcome_is_there p needs w0 least input b es w e s there passed parted =
+    let root = root_of p input b.nest in
+    let h = sound p needs w0 least input b es w e in
+    let own_ones = h.own.results root_scope s there in
+    let real = below_real p needs b.steps root b.nest root refl in
+    let order = shuffled p needs b.steps root (below p needs b.steps b.nest root) s.results real own_ones (λ f. sym (root_holds_all p needs w0 least input b es w e s there passed f)) in
+    let once = (h.once root_scope s there).0 in
+    let each_parted = shuffled_parted (below p needs b.steps b.nest root) s.results order (each_more (IsReal p needs b.steps root) IsParted (below p needs b.steps b.nest root)
+    (λ r i. subst IsParted (sym i.same) (parted r.path i.start i.is)) real) in
+    let settles = own_complete p needs b.steps root root refl s.results order once (parted [] root refl) each_parted in
+    let hands = root_hands_on p needs b.steps w0 least root refl es w h s there passed in (
+      told_of p (comes_to p needs b.steps root),
+      ap (λ o. and_then o (λ s. only_if s.passed (and_then (task [] w.live) (λ t. and_then (settle (hands_on p needs b.steps w0 t.start t.receipts) s.results) (λ x. Some (told_of p x)))))) there
+          ∙ ap (λ x. only_if x (and_then (task [] w.live) (λ t. and_then (settle (hands_on p needs b.steps w0 t.start t.receipts) s.results) (λ x. Some (told_of p x))))) passed
+          ∙ ap (λ o. and_then o (λ t. and_then (settle (hands_on p needs b.steps w0 t.start t.receipts) s.results) (λ x. Some (told_of p x)))) h.rooted.lives
+          ∙ ap (λ r. and_then (settle r s.results) (λ x. Some (told_of p x))) hands
+          ∙ ap (λ o. and_then o (λ x. Some (told_of p x))) settles,
+    )
+  where
+    insert_parted : (x : TaskResult) (ys zs : List TaskResult) → Inserted x ys zs → IsParted x → Each IsParted ys → Each IsParted zs
+    insert_parted x ys zs i h k = walk i h k
+      where
+        walk : {x : TaskResult} {ys zs : List TaskResult} → Inserted x ys zs → IsParted x → Each IsParted ys → Each IsParted zs
+        walk here h k = (h, k)
+        walk (later i) h k = (k.0, walk i h k.1)
+
+    shuffled_parted : (xs ys : List TaskResult) → Shuffled xs ys → Each IsParted xs → Each IsParted ys
+    shuffled_parted xs ys order h = walk order h
+      where
+        walk : {xs ys : List TaskResult} → Shuffled xs ys → Each IsParted xs → Each IsParted ys
+        walk none h = tt
+        walk (one {x = x} {ys = ys} {zs = zs} i s) h = insert_parted x ys zs i h.0 (walk s h.1)

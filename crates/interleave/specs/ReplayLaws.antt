@@ -1,0 +1,135 @@
+-- What holds of every world that a replay leads to.
+use Rattle.std.specs.Prelude.{ℕ, ◌+◌, ◌≡◌, ◌≤◌, ◌*◌, ◌^◌, ◌⊎◌, ◌↔◌, List, [], ◌∷◌, ◌++◌, length, ℤ, true}
+use Rattle.std.specs.Prelude.{false, Some, None, Contains}
+use Rattle.types.specs.Code.{Codes, Program}
+use Rattle.types.specs.Outcome.{Budget, Outcome, outcome}
+use Rattle.effects.specs.Needs.{Needs, Provides}
+use Rattle.race_checker.specs.Scope.{IsScoped}
+use Rattle.race_checker.specs.Calm.{IsCalm}
+use Rattle.own_run.specs.Results.{TaskResult}
+use Rattle.own_run.specs.Lists.{Each}
+use Rattle.own_run.specs.Settling.{IsParted}
+use Rattle.own_run.specs.OwnRun.{Start, Spawn, EndFinish, EndTask, is_waiting, run_by, result_of}
+use Rattle.own_run.specs.Given.{below, own, given, IsOwn, root_of}
+use Rattle.own_run.proofs.Lists.{NoTwice}
+use Rattle.interleave.specs.World.{ScopeId, Stake, Live, Scope, World, is_parked, hand_of, root_scope, task}
+use Rattle.interleave.specs.World.{scope}
+use Rattle.interleave.specs.Events.{Event, Ends, owns, next_action, after}
+use Rattle.interleave.specs.History.{Begun, BegunIn, Ended}
+use Rattle.interleave.specs.Replay.{does, hands_on, event, Legal, IllegalAt, start_of, replay}
+use Rattle.interleave.specs.Replay.{world_outcome}
+
+-- what results come to by a measure
+abbrev pub measured : (TaskResult → ℕ) → List TaskResult → ℕ
+measured f [] = 0
+measured f (r ∷ rs) = f r + measured f rs
+
+module _ (p : Program) (needs : Codes → Needs) (fresh w0 : ℕ) (w : World) where
+  -- some event is legal
+  pub record IsFree : Type 0 where
+    pub first : Event
+    pub to : World
+    pub legal : event p needs fresh w0 first w ≡ Some to
+
+  -- a task wants weight from a scope that has issued 2^31 times
+  pub record IsSpent : Type 0 where
+    pub path : List ℕ
+    pub its : Live
+    pub lives : task path w.live ≡ Some its
+    pub child : Start
+    pub wants : next_action w0 (does p needs fresh w0) (hands_on p needs fresh w0) its ≡ Some (Spawn child)
+    pub inner : Stake
+    pub outer : List Stake
+    pub stakes : its.stakes ≡ inner ∷ outer
+    pub one : inner.weight ≡ 1
+    pub book : Scope
+    pub found : scope inner.scope w.scopes ≡ Some book
+    pub spent : 2 ^ 31 * w0 ≤ book.issued
+
+  -- a task has gone on with results that don't settle: its own run still waits
+  pub record IsUnsettled : Type 0 where
+    pub path : List ℕ
+    pub its : Live
+    pub lives : task path w.live ≡ Some its
+    pub awake : is_parked its.place ≡ false
+    pub nothing : next_action w0 (does p needs fresh w0) (hands_on p needs fresh w0) its ≡ None
+    pub waits : is_waiting (run_by p needs fresh its.receipts its.start) ≡ true
+
+module _ (p : Program) (needs : Codes → Needs) (w0 : ℕ) where
+  -- P holds of each replayed list and of the world that it leads to
+  abbrev pub OfAllReplays : ((input : List (List ℤ)) → Budget → List Event → World → Type 0) → Type 0
+  OfAllReplays P = 1 ≤ w0 → (input : List (List ℤ)) (b : Budget) (es : List Event) (w : World) → replay p needs w0 input b es ≡ Legal w → P input b es w
+
+  -- a replay is the world after its events, one after the other
+  abbrev pub ReplaysAreWorlds : Type 0
+  ReplaysAreWorlds = (input : List (List ℤ)) (b : Budget) (es : List Event) (w : World)
+      → replay p needs w0 input b es ≡ Legal w → after w0 (does p needs b.steps w0) (hands_on p needs b.steps w0) es (start_of p w0 input b) ≡ Some w
+
+  -- all that was begun in a passed scope has ended
+  abbrev pub PassedHasEnded : Type 0
+  PassedHasEnded = OfAllReplays (λ input b es w. (id : ScopeId) (s : Scope) (path : List ℕ) → scope id w.scopes ≡ Some s → s.passed ≡ true → Begun es id path → Ended es id path)
+
+  -- a live task started with what its path is given
+  abbrev pub StartsAreGiven : Type 0
+  StartsAreGiven = OfAllReplays (λ input b es w. (path : List ℕ) (t : Live) → task path w.live ≡ Some t → given p needs b.steps (root_of p input b.nest) path ≡ Some t.start)
+
+  -- a result that a scope keeps is its task's own run
+  abbrev pub ResultsAreOwn : Type 0
+  ResultsAreOwn = OfAllReplays (λ input b es w. (id : ScopeId) (s : Scope) → scope id w.scopes ≡ Some s → Each (IsOwn p needs b.steps (root_of p input b.nest)) s.results)
+
+  -- a scope keeps one result of a task at most, and only once that has ended
+  abbrev pub ResultsComeOnce : Type 0
+  ResultsComeOnce = OfAllReplays (λ input b es w. (id : ScopeId) (s : Scope) → scope id w.scopes ≡ Some s
+      → NoTwice s.results × Each (λ (r : TaskResult). (task r.path w.live ≡ None) × Contains es (Ends r.path)) s.results)
+
+  -- a scope keeps the results of the tasks begun in it directly, and that of each which has ended
+  abbrev pub ResultsAreHanded : Type 0
+  ResultsAreHanded = OfAllReplays (λ input b es w. (id : ScopeId) (s : Scope) → scope id w.scopes ≡ Some s
+      → Each (λ (r : TaskResult). BegunIn es id r.path) s.results
+      × ((path : List ℕ) → BegunIn es id path → Contains es (Ends path) → (r : TaskResult) × Contains s.results r × (r.path ≡ path)))
+
+  -- once it has passed the root's scope holds the results of all tasks below the root, by whatever they are measured
+  abbrev pub RootHoldsAll : Type 0
+  RootHoldsAll = OfAllReplays (λ input b es w. (s : Scope) → scope root_scope w.scopes ≡ Some s → s.passed ≡ true
+      → (f : TaskResult → ℕ) → measured f s.results ≡ measured f (below p needs b.steps b.nest (root_of p input b.nest)))
+
+  -- what is told once the root's scope has passed is the one-thread outcome
+  abbrev pub OutcomeIsOne : Type 0
+  OutcomeIsOne = IsScoped p → IsCalm p → Provides p needs
+      → OfAllReplays (λ input b es w. (o : Outcome) → world_outcome p needs b.steps w0 w ≡ Some o → o ≡ outcome p input b)
+
+  -- the places that come back at the end of each task's own run are its own once (own_run proves it of accepted programs)
+  abbrev pub ArePartedIn : (input : List (List ℤ)) → Budget → Type 0
+  ArePartedIn input b = (path : List ℕ) (s : Start) → given p needs b.steps (root_of p input b.nest) path ≡ Some s → IsParted (result_of (own p needs b.steps s))
+
+  -- then the outcome is there once the root's scope has passed
+  abbrev pub OutcomeIsThere : Type 0
+  OutcomeIsThere = OfAllReplays (λ input b es w. (s : Scope) → scope root_scope w.scopes ≡ Some s → s.passed ≡ true → ArePartedIn input b
+      → (o : Outcome) × (world_outcome p needs b.steps w0 w ≡ Some o))
+
+  -- until the root's scope has passed the world goes on
+  abbrev pub GoesOn : Type 0
+  GoesOn = OfAllReplays (λ input b es w. (s : Scope) → scope root_scope w.scopes ≡ Some s → s.passed ≡ false
+      → IsFree p needs b.steps w0 w ⊎ IsSpent p needs b.steps w0 w ⊎ IsUnsettled p needs b.steps w0 w)
+
+  -- a task in a hand that ends a finish stands in a scope of its own, and one that ends does not
+  abbrev pub EndsAreOwn : Type 0
+  EndsAreOwn = OfAllReplays (λ input b es w. (path : List ℕ) (t : Live) (worker : ℕ) (s : Stake) (outer : List Stake)
+      → task path w.live ≡ Some t → hand_of t.place ≡ Some worker → t.stakes ≡ s ∷ outer
+      → (next_action w0 (does p needs b.steps w0) (hands_on p needs b.steps w0) t ≡ Some EndFinish → owns t s.scope ≡ true)
+      × (next_action w0 (does p needs b.steps w0) (hands_on p needs b.steps w0) t ≡ Some EndTask → owns t s.scope ≡ false))
+
+  -- the events before the n-th are legal, and that isn't
+  pub record IsFirstIllegal (input : List (List ℤ)) (b : Budget) (es : List Event) (n : ℕ) : Type 0 where
+    pub before : List Event
+    pub first : Event
+    pub later : List Event
+    pub are : es ≡ before ++ first ∷ later
+    pub count : length before ≡ n
+    pub to : World
+    pub legal : after w0 (does p needs b.steps w0) (hands_on p needs b.steps w0) before (start_of p w0 input b) ≡ Some to
+    pub illegal : event p needs b.steps w0 first to ≡ None
+
+  -- a replay refuses the first event that isn't legal
+  abbrev pub RefusesTheFirst : Type 0
+  RefusesTheFirst = (input : List (List ℤ)) (b : Budget) (es : List Event) (n : ℕ) → (replay p needs w0 input b es ≡ IllegalAt n) ↔ IsFirstIllegal input b es n
