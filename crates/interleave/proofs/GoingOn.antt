@@ -73,7 +73,7 @@ pub each_of : (P : Live → Type 0) (ts : List Live) → Unique ts → ((q : Lis
 each_of P [] h f = tt
 each_of P (u ∷ ts) h f = (f u.path u (here_found u ts), each_of P ts h.1 (λ q t e. f q t (later_found u t q ts h e)))
 
-each_at : (P : Live → Type 0) (ts : List Live) (q : List ℕ) (t : Live) → Each P ts → task q ts ≡ Some t → P t
+pub each_at : (P : Live → Type 0) (ts : List Live) (q : List ℕ) (t : Live) → Each P ts → task q ts ≡ Some t → P t
 each_at P [] q t h e = absurd (none-some _ e)
 each_at P (u ∷ ts) q t h e =
     by_test (λ b. (if b then Some u else task q ts) ≡ Some t → P t) (same_path u.path q)
@@ -177,7 +177,7 @@ falls_absent b n (m ∷ ns) h le c = by_place (contains_cons m ns n c) (falls_ab
     by_place (inl e) rec = let x = h.0 in omega (arith, x, le, e)
     by_place (inr d) rec = rec d
 
-take_all : {A : Type 0} (xs ys : List A) → take (length xs) (xs ++ ys) ≡ xs
+pub take_all : {A : Type 0} (xs ys : List A) → take (length xs) (xs ++ ys) ≡ xs
 take_all [] ys = refl
 take_all (x ∷ xs) ys = ap (λ l. x ∷ l) (take_all xs ys)
 

@@ -3,11 +3,11 @@ use Rattle.std.proofs.Common.{◌≡◌, ℕ, zero, suc, ◌+◌, List, [], ◌�
 use Rattle.std.proofs.lemmas.List.{append-nil}
 use Rattle.std.specs.Prelude.{map, flat_map}
 use Rattle.types.specs.Code.{Codes, Program}
-use Rattle.types.specs.Run.{Block}
+use Rattle.types.specs.Run.{State, Block}
 use Rattle.effects.specs.Needs.{Needs}
 use Rattle.own_run.specs.Results.{TaskResult}
 use Rattle.own_run.specs.Lists.{Each}
-use Rattle.own_run.specs.OwnRun.{Start, Child, at_first, result_of, last_action, beginning}
+use Rattle.own_run.specs.OwnRun.{Start, Child, at_first, result_of, last_action, beginning, Own}
 use Rattle.own_run.specs.Given.{in_truth, own, below, root_of}
 use Rattle.own_run.specs.Frames.{IsBegun}
 use Rattle.own_run.proofs.Begun.{run_tells, at_first_fine}
@@ -19,7 +19,7 @@ use Rattle.interleave.proofs.Outcomes.{replays_are_worlds}
 use Rattle.interleave.proofs.Worth.{sum_of, sum_of-nil, sum_of-cons, coming, coming_is}
 use Rattle.interleave.proofs.Whole.{root_scope_is_whole}
 
-measured_is : (f : TaskResult → ℕ) (rs : List TaskResult) → measured f rs ≡ sum_of f rs
+pub measured_is : (f : TaskResult → ℕ) (rs : List TaskResult) → measured f rs ≡ sum_of f rs
 measured_is f [] = sym (sum_of-nil f)
 measured_is f (r ∷ rs) = let a = measured_is f rs in let b = sum_of-cons f r rs in omega (arith, a, b)
 
@@ -32,38 +32,41 @@ module _ (p : Program) (needs : Codes → Needs) (fresh w0 : ℕ) (root : Start)
   worth_by : ℕ → Start → ℕ
   worth_by n c = f (result_of (own p needs fresh c)) + measured f (below p needs fresh n c)
 
-  worth : Start → ℕ
+  pub worth : Start → ℕ
   worth c = worth_by c.nest c
 
   begun : (c : Start) → Each (IsBegun c.nest (own p needs fresh c)) (own p needs fresh c).extra.pending
   begun c =
       ((run_tells c.nest needs (in_truth p needs fresh) p (Block c.body) (beginning (at_first c.owned) fresh c)).fine (at_first_fine c.nest needs (in_truth p needs fresh) fresh c)).begun
 
+  -- what is below tasks that are listed, each counted with so much nest
+  one : (n : ℕ) (d : Child) (rest : List TaskResult) → d.start.nest ≡ n
+      → measured f ((result_of (own p needs fresh d.start) ∷ below p needs fresh n d.start) ++ rest) ≡ worth d.start + measured f rest
+  unfolding worth worth_by
+  one n d rest k =
+      measured-append f (result_of (own p needs fresh d.start) ∷ below p needs fresh n d.start) rest
+      ∙ ap (λ m. worth_by m d.start + measured f rest) (sym k)
+
+  pub pending_worth : (n nest : ℕ) (st : State Own) → nest ≡ suc n → (cs : List Child) → Each (IsBegun nest st) cs
+      → measured f (flat_map (λ d. result_of (own p needs fresh d.start) ∷ below p needs fresh n d.start) cs) ≡ sum_of worth (map start_of cs)
+  pending_worth n nest st e [] h = sym (sum_of-nil worth)
+  pending_worth n nest st e (d ∷ cs) h =
+      let k : d.start.nest ≡ n = (let a = h.0.deeper in omega (arith, a, e)) in
+      one n d (flat_map (λ d. result_of (own p needs fresh d.start) ∷ below p needs fresh n d.start) cs) k
+      ∙ ap (λ m. worth d.start + m) (pending_worth n nest st e cs h.1) ∙ sym (sum_of-cons worth d.start (map start_of cs))
+
   -- what is below is worth what is listed
   below_is : (n : ℕ) (c : Start) → c.nest ≡ n → measured f (below p needs fresh n c) ≡ sum_of worth (map start_of (own p needs fresh c).extra.pending)
-  unfolding worth worth_by
   below_is zero c e = none_at (own p needs fresh c).extra.pending (begun c)
     where
       none_at : (cs : List Child) → Each (IsBegun c.nest (own p needs fresh c)) cs → 0 ≡ sum_of worth (map start_of cs)
       none_at [] h = sym (sum_of-nil worth)
       none_at (d ∷ cs) h = absurd (let k = h.0.deeper in omega (arith, k, e))
-  below_is (suc n) c e = each_at (own p needs fresh c).extra.pending (begun c)
-    where
-      one : (d : Child) (rest : List TaskResult) → d.start.nest ≡ n
-          → measured f ((result_of (own p needs fresh d.start) ∷ below p needs fresh n d.start) ++ rest) ≡ worth d.start + measured f rest
-      one d rest k =
-          measured-append f (result_of (own p needs fresh d.start) ∷ below p needs fresh n d.start) rest
-          ∙ ap (λ m. worth_by m d.start + measured f rest) (sym k)
+  below_is (suc n) c e = pending_worth n c.nest (own p needs fresh c) e (own p needs fresh c).extra.pending (begun c)
 
-      each_at : (cs : List Child) → Each (IsBegun c.nest (own p needs fresh c)) cs → measured f (flat_map (λ d. result_of (own p needs fresh d.start) ∷ below p needs fresh n d.start) cs) ≡ sum_of worth (map start_of cs)
-      each_at = rec
-        where
-          rec : (cs : List Child) → Each (IsBegun c.nest (own p needs fresh c)) cs → measured f (flat_map (λ d. result_of (own p needs fresh d.start) ∷ below p needs fresh n d.start) cs) ≡ sum_of worth (map start_of cs)
-          rec [] h = sym (sum_of-nil worth)
-          rec (d ∷ cs) h =
-              let k : d.start.nest ≡ n = (let a = h.0.deeper in omega (arith, a, e)) in
-              one d (flat_map (λ d. result_of (own p needs fresh d.start) ∷ below p needs fresh n d.start) cs) k
-              ∙ ap (λ m. worth d.start + m) (rec cs h.1) ∙ sym (sum_of-cons worth d.start (map start_of cs))
+  pub worth_lists : (c : Start) → worth c ≡ f (result_of (own p needs fresh c)) + sum_of worth (map start_of (own p needs fresh c).extra.pending)
+  unfolding worth worth_by
+  worth_lists c = ap (λ n. f (result_of (own p needs fresh c)) + n) (below_is c.nest c refl)
 
   -- a task's own run spawns for its scope what it lists
   truly_direct : (c : Start) → direct 0 (truly p needs fresh w0 root nameless c) ≡ map start_of (own p needs fresh c).extra.pending

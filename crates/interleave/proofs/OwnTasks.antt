@@ -154,7 +154,7 @@ module _ (p : Program) (needs : Codes → Needs) (fresh w0 : ℕ) (root : Start)
         by_rel (inr i) = absurd (behind i)
 
     -- one action more
-    more_done : (a : Action) → nexts t ≡ Some a → take (t.done + 1) (truly t.start) ≡ take t.done (truly t.start) ++ a ∷ []
+    pub more_done : (a : Action) → nexts t ≡ Some a → take (t.done + 1) (truly t.start) ≡ take t.done (truly t.start) ++ a ∷ []
     more_done a e =
         let k : t.done + 1 ≡ suc t.done = omega arith in
         ap (λ n. take n (truly t.start)) k ∙ take_next (truly t.start) t.done a (next_in_truth a e)

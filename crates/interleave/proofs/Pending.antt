@@ -42,7 +42,7 @@ spawned-append (cs ∷ css) (EndFinish ∷ xs) ys = spawned-append css xs ys
 spawned-append css (EndTask ∷ xs) ys = spawned-append css xs ys
 
 -- what is pending at the finishes around
-abbrev around : List (Frame Own) → List (List Start)
+abbrev pub around : List (Frame Own) → List (List Start)
 around [] = []
 around (Rest b ∷ fs) = around fs
 around (Again l t b ∷ fs) = around fs
@@ -52,7 +52,7 @@ around (Back env ∷ fs) = around fs
 abbrev pub pendings : List (Frame Own) → State Own → List (List Start)
 pendings fs st = map start_of st.extra.pending ∷ around fs
 
-abbrev of : Standing Own → List (List Start)
+abbrev pub of : Standing Own → List (List Start)
 of t = pendings t.frames t.state
 
 map-append : {A B : Type 0} (f : A → B) (xs ys : List A) → map f (xs ++ ys) ≡ map f xs ++ map f ys
@@ -136,7 +136,7 @@ module _ (p : Program) (needs : Codes → Needs) (fresh : ℕ) where
   flow_pending nest Stopped l s fs below st e = refl
 
   -- a turn adds what it does
-  turn_pending : (nest : ℕ) (f : Frame Own) (fs : List (Frame Own)) (st : State Own)
+  pub turn_pending : (nest : ℕ) (f : Frame Own) (fs : List (Frame Own)) (st : State Own)
       → of (turn p (r nest) f fs st) ≡ spawned (pendings (f ∷ fs) st) (done_in needs nest f st)
   turn_pending nest (Rest End) fs st = refl
   turn_pending nest (Rest (Then l s rest)) fs st = flow_pending nest st.flow l s (Rest rest ∷ fs) fs st refl

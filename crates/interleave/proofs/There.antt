@@ -60,13 +60,13 @@ counts_one b e = ap (λ (b : Bool). if b then 1 else 0) e
 
 module _ (p : Program) (needs : Codes → Needs) (fresh : ℕ) (root : Start) where
   -- a result of an own run
-  record IsReal (r : TaskResult) : Type 0 where
+  pub record IsReal (r : TaskResult) : Type 0 where
     start : Start
     is : given p needs fresh root r.path ≡ Some start
     same : r ≡ result_of (own p needs fresh start)
 
   -- results that measure alike stand in some order
-  shuffled : (xs ys : List TaskResult) → Each IsReal xs → Each (IsOwn p needs fresh root) ys → ((f : TaskResult → ℕ) → measured f xs ≡ measured f ys) → Shuffled xs ys
+  pub shuffled : (xs ys : List TaskResult) → Each IsReal xs → Each (IsOwn p needs fresh root) ys → ((f : TaskResult → ℕ) → measured f xs ≡ measured f ys) → Shuffled xs ys
   shuffled [] ys h k e = subst (Shuffled []) (sym (empty ys (e (λ r. 1)))) none
   shuffled (x ∷ xs) ys h k e =
       let first = counts_one (same_path x.path x.path) (path_refl x.path) in
@@ -90,20 +90,23 @@ module _ (p : Program) (needs : Codes → Needs) (fresh : ℕ) (root : Start) wh
   each_join P [] ys h k = k
   each_join P (x ∷ xs) ys h k = (h.0, each_join P xs ys h.1 k)
 
-  -- all that is below a task is real
-  below_real : (n : ℕ) (s : Start) → IsGiven p needs fresh root s → Each IsReal (below p needs fresh n s)
+  -- all that is below a task is real, and all that it lists
+  each_real : (n : ℕ) → ((c : Start) → IsGiven p needs fresh root c → Each IsReal (below p needs fresh n c))
+      → (cs : List Child) → Each (IsGivenChild p needs fresh root) cs
+      → Each IsReal (flat_map (λ c. result_of (own p needs fresh c.start) ∷ below p needs fresh n c.start) cs)
+  each_real n rec [] h = tt
+  each_real n rec (c ∷ cs) h =
+      each_join IsReal (result_of (own p needs fresh c.start) ∷ below p needs fresh n c.start) _
+      (record { start = c.start; is = ap (given p needs fresh root) (own_path c.start) ∙ h.0.is; same = refl }, rec c.start h.0.is)
+      (each_real n rec cs h.1)
+
+  pub below_real : (n : ℕ) (s : Start) → IsGiven p needs fresh root s → Each IsReal (below p needs fresh n s)
   below_real zero s is = tt
-  below_real (suc n) s is = each_child (own p needs fresh s).extra.pending (lists_true p needs fresh root s is) (λ c i. below_real n c i)
-    where
-      each_child : (cs : List Child) → Each (IsGivenChild p needs fresh root) cs → ((c : Start) → IsGiven p needs fresh root c → Each IsReal (below p needs fresh n c))
-          → Each IsReal (flat_map (λ c. result_of (own p needs fresh c.start) ∷ below p needs fresh n c.start) cs)
-      each_child cs h rec = walk cs h
-        where
-          walk : (cs : List Child) → Each (IsGivenChild p needs fresh root) cs → Each IsReal (flat_map (λ c. result_of (own p needs fresh c.start) ∷ below p needs fresh n c.start) cs)
-          walk [] h = tt
-          walk (c ∷ cs) h =
-              each_join IsReal (result_of (own p needs fresh c.start) ∷ below p needs fresh n c.start) _
-              (record { start = c.start; is = ap (given p needs fresh root) (own_path c.start) ∙ h.0.is; same = refl }, rec c.start h.0.is) (walk cs h.1)
+  below_real (suc n) s is = each_real n (λ c i. below_real n c i) (own p needs fresh s).extra.pending (lists_true p needs fresh root s is)
+
+  pub pending_real : (n : ℕ) (cs : List Child) → Each (IsGivenChild p needs fresh root) cs
+      → Each IsReal (flat_map (λ c. result_of (own p needs fresh c.start) ∷ below p needs fresh n c.start) cs)
+  pending_real n cs h = each_real n (λ c i. below_real n c i) cs h
 
 pub outcome_is_there : (p : Program) (needs : Codes → Needs) (w0 : ℕ) → OutcomeIsThere p needs w0
 outcome_is_there p needs w0 least input b es w e s there passed parted =

@@ -41,7 +41,7 @@ pub sum_of-cons : {A : Type 0} (g : A → ℕ) (x : A) (xs : List A) → sum_of 
 unfolding sum_of
 sum_of-cons g x xs = refl
 
-sum_of-last : {A : Type 0} (g : A → ℕ) (xs : List A) (x : A) → sum_of g (xs ++ x ∷ []) ≡ sum_of g xs + g x
+pub sum_of-last : {A : Type 0} (g : A → ℕ) (xs : List A) (x : A) → sum_of g (xs ++ x ∷ []) ≡ sum_of g xs + g x
 unfolding sum_of
 sum_of-last g [] x = omega arith
 sum_of-last g (y ∷ xs) x = let h = sum_of-last g xs x in omega (arith, h)
@@ -51,7 +51,7 @@ drop_next [] k x e = absurd (none-some _ e)
 drop_next (y ∷ xs) zero x e = ap (λ z. z ∷ xs) (same_Some _ _ e)
 drop_next (y ∷ xs) (suc k) x e = drop_next xs k x e
 
-sum_of-put_task : (g : Live → ℕ) (to t : Live) (ts : List Live) → task to.path ts ≡ Some t → sum_of g (put_task to ts) + g t ≡ sum_of g ts + g to
+pub sum_of-put_task : (g : Live → ℕ) (to t : Live) (ts : List Live) → task to.path ts ≡ Some t → sum_of g (put_task to ts) + g t ≡ sum_of g ts + g to
 unfolding sum_of
 sum_of-put_task g to t [] e = absurd (none-some _ e)
 sum_of-put_task g to t (u ∷ ts) e =
@@ -65,7 +65,7 @@ sum_of-put_task g to t (u ∷ ts) e =
     more : sum_of g (put_task to ts) + g t ≡ sum_of g ts + g to → (g u + sum_of g (put_task to ts)) + g t ≡ (g u + sum_of g ts) + g to
     more h = omega (arith, h)
 
-sum_of-without_task : (g : Live → ℕ) (q : List ℕ) (t : Live) (ts : List Live) → task q ts ≡ Some t → sum_of g (without_task q ts) + g t ≡ sum_of g ts
+pub sum_of-without_task : (g : Live → ℕ) (q : List ℕ) (t : Live) (ts : List Live) → task q ts ≡ Some t → sum_of g (without_task q ts) + g t ≡ sum_of g ts
 unfolding sum_of
 sum_of-without_task g q t [] e = absurd (none-some _ e)
 sum_of-without_task g q t (u ∷ ts) e =

@@ -23,10 +23,10 @@ use Rattle.own_run.specs.Holds.{MayBegin, Holds}
 use Rattle.own_run.specs.Reached.{Reached, root_begins, child_begins, turns, leaves, CanSettle, CanEnd}
 use Rattle.own_run.specs.Settling.{fill_all, settle_within, none_left, settle, IsParted}
 use Rattle.own_run.specs.Lists.{Each, Shuffled, none, one, here}
-use Rattle.own_run.proofs.Lists.{each_more, each_append}
+use Rattle.own_run.proofs.Lists.{each_more, each_append, NoTwice}
 use Rattle.own_run.proofs.CompleteResults.{Stands, fill_complete, settle_complete, none_in}
 use Rattle.own_run.proofs.TaskRuns.{lists_given}
-use Rattle.own_run.proofs.OnePath.{Once, Names, names, From, own_path, all_once, below_once}
+use Rattle.own_run.proofs.OnePath.{Once, Names, names, From, own_path, all_once, below_once, shuffled_each}
 use Rattle.own_run.proofs.SettledResults.{lists_true}
 use Rattle.own_run.proofs.TasksEnd.{own_ends, each_below, below_parted, weight, Falls, spends, sheds, flow_falls}
 use Rattle.own_run.proofs.ReachedTasks.{goes}
@@ -62,6 +62,11 @@ shuffled_same [] = none
 shuffled_same (x ∷ xs) = one here (shuffled_same xs)
 
 module _ (p : Program) (needs : Codes → Needs) (fresh : ℕ) where
+  -- the results of tasks that are pending, and of all below them
+  abbrev pub pending_results : (nest : ℕ) → List Child → List TaskResult
+  pending_results zero cs = []
+  pending_results (suc n) cs = flat_map (λ c. result_of (own p needs fresh c.start) ∷ below p needs fresh n c.start) cs
+
   module _ (nest : ℕ) where
     abbrev r : Rules Own
     r = own_rules needs nest (in_truth p needs fresh)
@@ -145,52 +150,66 @@ module _ (p : Program) (needs : Codes → Needs) (scoped : IsScoped p) (calm : I
         ∙ ap (λ o. and_then (and_then o (λ all. Some (complete (result_of st) all.0, all.1))) none_left) e
         ∙ ap (λ rest. none_left (complete (result_of st) x, rest)) nil
 
-    leaves_at : (n : ℕ) (s : Start) (fs : List (Frame Own)) (st : State Own) → s.nest ≡ n
+    -- where the results of all that is pending are there, each once and in whatever order, they settle
+    pub settles_any : (n : ℕ) (s : Start) (fs : List (Frame Own)) (st : State Own) → s.nest ≡ n
         → IsTask p needs fresh root s (record { frames = fs; state = st })
-        → Holds p needs (record { frames = fs; state = st }) → Once st.extra.pending → CanSettle p needs fresh root st
-    leaves_at zero s fs st e task holds o =
-        record {
-          results = [];
-          owns = tt;
-          comes = complete (result_of st) none_yet;
-          settles =
-              settled_by st [] [] none_yet refl (none_filled st.extra.pending task.fine.begun);
-        }
+        → Holds p needs (record { frames = fs; state = st }) → (rs : List TaskResult)
+        → Shuffled (pending_results p needs fresh n st.extra.pending) rs → NoTwice rs
+        → (x : Settled) × (settle (result_of st) rs ≡ Some x)
+    settles_any zero s fs st e task holds rs order once =
+        let none = none_in order in (
+          complete (result_of st) none_yet,
+          ap (settle (result_of st)) none ∙ settled_by st [] [] none_yet refl (none_filled st.extra.pending task.fine.begun),
+        )
       where
         none_filled : (cs : List Child) → Each (IsBegun s.nest st) cs
             → fill_all (settle_within 0) st.extra.owned (map (λ c. c.listed) cs) none_yet [] ≡ Some (none_yet, [])
         none_filled [] h = refl
         none_filled (c ∷ cs) h = absurd (let d = h.0.deeper in omega (arith, d, e))
-    leaves_at (suc n) s fs st e task holds o =
+    settles_any (suc n) s fs st e task holds rs order once =
         let given_all = lists_given p needs fresh root s fs st task in
         let results = λ (c : Child). result_of (own p needs fresh c.start) ∷ below p needs fresh n c.start in
-        let rs = flat_map results st.extra.pending in
         let f = fill_complete p needs fresh root (length rs) n
         (settle_complete p needs fresh root (length rs) n) st.extra.owned st.extra.pending none_yet [] rs
         (stand st.extra.pending given_all task.fine.begun)
-        (subst (λ l. Shuffled l rs) (sym (append-nil rs)) (shuffled_same rs))
-        (all_once p needs fresh n st.path st.extra.pending
-        (each_more (IsBegun s.nest st) (From p needs fresh st.path) st.extra.pending
-        (λ c h. record { number = h.number; path = h.path }) task.fine.begun) o (below_once p needs fresh n))
+        (subst (λ l. Shuffled l rs) (sym (append-nil (flat_map results st.extra.pending))) order) once
         holds.parted
+        (shuffled_each IsParted order
         (each_below p needs scoped calm provided fresh root IsParted results st.extra.pending given_all holds.carried
         (λ c t k. (
           (own_ends p needs scoped calm provided fresh root c.start t.is k.begins).parted,
           below_parted p needs scoped calm provided fresh root n c.start t.is k.begins,
-        )))
-        (le_refl (length rs)) in
-        record {
-          results = rs;
-          owns = each_own p needs fresh root results st.extra.pending given_all
-              (λ c t. (own_is_own p needs fresh root c.start t.is, below_own p needs fresh root n c.start t.is));
-          comes = complete (result_of st) (filled p needs fresh st.extra.pending none_yet);
-          settles = settled_by st rs f.rest (filled p needs fresh st.extra.pending none_yet) (none_in f.left) f.is;
-        }
+        ))))
+        (le_refl (length rs)) in (
+          complete (result_of st) (filled p needs fresh st.extra.pending none_yet),
+          settled_by st rs f.rest (filled p needs fresh st.extra.pending none_yet) (none_in f.left) f.is,
+        )
       where
         stand : (cs : List Child) → Each (IsGivenChild p needs fresh root) cs → Each (IsBegun s.nest st) cs
             → Each (Stands p needs fresh root n) cs
         stand [] h k = tt
         stand (c ∷ cs) h k = (record { is = h.0; nest = let d = k.0.deeper in omega (arith, d, e) }, stand cs h.1 k.1)
+
+    leaves_at : (n : ℕ) (s : Start) (fs : List (Frame Own)) (st : State Own) → s.nest ≡ n
+        → IsTask p needs fresh root s (record { frames = fs; state = st })
+        → Holds p needs (record { frames = fs; state = st }) → Once st.extra.pending → CanSettle p needs fresh root st
+    leaves_at zero s fs st e task holds o =
+        let k = settles_any zero s fs st e task holds [] none tt in
+        record { results = []; owns = tt; comes = k.0; settles = k.1 }
+    leaves_at (suc n) s fs st e task holds o =
+        let results = λ (c : Child). result_of (own p needs fresh c.start) ∷ below p needs fresh n c.start in
+        let rs = flat_map results st.extra.pending in
+        let k = settles_any (suc n) s fs st e task holds rs (shuffled_same rs)
+        (all_once p needs fresh n st.path st.extra.pending
+        (each_more (IsBegun s.nest st) (From p needs fresh st.path) st.extra.pending
+        (λ c h. record { number = h.number; path = h.path }) task.fine.begun) o (below_once p needs fresh n)) in
+        record {
+          results = rs;
+          owns = each_own p needs fresh root results st.extra.pending (lists_given p needs fresh root s fs st task)
+              (λ c t. (own_is_own p needs fresh root c.start t.is, below_own p needs fresh root n c.start t.is));
+          comes = k.0;
+          settles = k.1;
+        }
 
     -- wherever a task stands at the end of a finish, it can be left
     pub can_leave : (s : Start) (t : Standing Own) → Reached p needs fresh root s t → CanSettle p needs fresh root t.state
