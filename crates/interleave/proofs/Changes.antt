@@ -1,15 +1,16 @@
 -- What each legal event changes.
-use Rattle.std.proofs.Common.{◌≡◌, ℕ, ◌+◌, ◌-◌, ◌/◌, ◌≤◌, List, [], ◌∷◌, ◌++◌, Option, Some, refl, inl, inr}
-use Rattle.std.proofs.lemmas.Bool.{eqb-true, leb-true}
-use Rattle.std.specs.Prelude.{Bool, true, false, ◌⊎◌, not}
+use Rattle.std.proofs.Common.{◌≡◌, ℕ, ◌+◌, ◌-◌, ◌/◌, ◌≤◌, List, [], ◌∷◌, ◌++◌, Option, Some, None, refl, inl, inr}
+use Rattle.std.proofs.lemmas.Bool.{eqb-true, leb-true, eq-eqb}
+use Rattle.std.specs.Prelude.{Bool, true, false, ◌⊎◌, ◌&&◌, not, nat_eq}
 use Rattle.std.proofs.lemmas.Option.{none-some, same_Some}
 use Rattle.effects.proofs.Members.{both_true, false_true}
-use Rattle.own_run.specs.Results.{TaskResult}
+use Rattle.own_run.specs.Results.{TaskResult, and_then}
 use Rattle.own_run.specs.OwnRun.{Start, Action, Step, Spawn, EnterFinish, EndFinish, EndTask}
 use Rattle.own_run.proofs.SettledResults.{Gives, gives}
 use Rattle.interleave.specs.World.{same_path, ScopeId, Stake, Live, Scope, World, Whereabouts, Queue, Hand}
 use Rattle.interleave.specs.World.{Parked, task, put_task, without_task, scope, put_scope, in_queue}
 use Rattle.interleave.specs.World.{hand_of, is_parked, child_path}
+use Rattle.interleave.specs.Events.{only_if, moved}
 use Rattle.interleave.specs.Events.{Event, Take, Steal, Steps, Replenish, Spawns, Opens, Parks, Ends, Pass}
 use Rattle.interleave.specs.Events.{Resume, issue, give_back, did, new_scope, new_task, next_action}
 use Rattle.interleave.specs.Events.{by_step, by_replenish, by_spawn, by_open, by_park, by_end, with_next}
@@ -436,3 +437,17 @@ module _ (w0 : ℕ) (actions : Start → List (List TaskResult) → List Action)
   becomes (Ends path) a b e = ends path a b e
   becomes (Pass id) a b e = passes id a b e
   becomes (Resume w path) a b e = resumes w path a b e
+
+  -- a steal from oneself is not
+  pub steals_from_others : (v : ℕ) (path : List ℕ) (a : World) → nx (Steal v v path) a ≡ None
+  steals_from_others v path a = by_task (task path a.live)
+    where
+      refused : (x y : Bool) (o : Option World) → y ≡ true → only_if (x && not y) o ≡ None
+      refused true true o e = refl
+      refused false true o e = refl
+      refused x false o e = absurd (false_true e)
+
+      by_task : (o : Option Live)
+          → and_then o (λ t. only_if (in_queue t.place v && not (nat_eq v v)) (Some (moved (Queue v) t a))) ≡ None
+      by_task None = refl
+      by_task (Some t) = refused (in_queue t.place v) (nat_eq v v) (Some (moved (Queue v) t a)) (eq-eqb v v refl)

@@ -25,7 +25,7 @@ use Rattle.interleave.specs.Events.{may_issue, next_action, with_next, in_innerm
 use Rattle.interleave.specs.Events.{by_spawn, by_open, by_park, by_end, by_resume}
 use Rattle.interleave.specs.History.{told}
 use Rattle.interleave.specs.Replay.{does, hands_on, event}
-use Rattle.interleave.specs.ReplayLaws.{IsFree, IsSpent, IsUnsettled, GoesOn, EndsAreOwn}
+use Rattle.interleave.proofs.ReplayLaws.{IsFree, IsSpent, IsUnsettled, GoesOn, EndsAreOwn}
 use Rattle.interleave.proofs.Lookups.{by_test, path_refl, path_is, path_not, other_path, scopes_same}
 use Rattle.interleave.proofs.Lookups.{task_path, Unique}
 use Rattle.interleave.proofs.Histories.{contains_nil, contains_here, contains_later, contains_cons}

@@ -11,7 +11,7 @@ use Rattle.own_run.specs.OwnRun.{Start, Child, at_first, result_of, last_action,
 use Rattle.own_run.specs.Given.{in_truth, own, below, root_of}
 use Rattle.own_run.specs.Frames.{IsBegun}
 use Rattle.own_run.proofs.Begun.{run_tells, at_first_fine}
-use Rattle.interleave.specs.ReplayLaws.{measured, RootHoldsAll}
+use Rattle.interleave.proofs.ReplayLaws.{measured, RootHoldsAll}
 use Rattle.interleave.proofs.Levels.{bracketed}
 use Rattle.interleave.proofs.Direct.{start_of, direct, direct-append, own_lists}
 use Rattle.interleave.proofs.OwnTasks.{truly, truly_is, own_is_awake}

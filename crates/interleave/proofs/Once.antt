@@ -8,7 +8,8 @@ use Rattle.std.proofs.lemmas.Option.{none-some, same_Some}
 use Rattle.own_run.specs.Results.{TaskResult}
 use Rattle.own_run.specs.Lists.{Each}
 use Rattle.own_run.specs.OwnRun.{Action}
-use Rattle.own_run.proofs.Lists.{NoTwice, each_more, each_last}
+use Rattle.own_run.proofs.Lists.{each_more, each_last}
+use Rattle.own_run.specs.Settling.{NoTwice}
 use Rattle.interleave.specs.World.{ScopeId, Live, Scope, World, Hand, Parked, same_scope, child_path, task}
 use Rattle.interleave.specs.World.{put_task, without_task, scope, put_scope}
 use Rattle.interleave.specs.Events.{Event, Take, Steal, Steps, Replenish, Spawns, Opens, Parks, Ends, Pass}

@@ -12,15 +12,16 @@ use Rattle.own_run.specs.Settling.{settle}
 use Rattle.own_run.specs.Lists.{Each}
 use Rattle.own_run.specs.OwnRun.{Start, result_of, run_by}
 use Rattle.own_run.specs.Given.{own, given, IsOwn, root_of}
-use Rattle.own_run.proofs.Lists.{NoTwice, each_more}
-use Rattle.own_run.proofs.SettledResults.{gives, settled_outcome}
+use Rattle.own_run.proofs.Lists.{each_more}
+use Rattle.own_run.specs.Settling.{NoTwice}
+use Rattle.own_run.proofs.SettledResults.{gives}
 use Rattle.interleave.specs.World.{ScopeId, Stake, Live, Scope, World, Whereabouts, Queue, Hand, Parked}
 use Rattle.interleave.specs.World.{same_scope, root_scope, task, scope, weight_in, held}
 use Rattle.interleave.specs.Events.{Event, new_task, new_scope, next, first_world, after, Ends}
 use Rattle.interleave.specs.Replay.{does, hands_on, event, Replayed, Legal, IllegalAt, go_or, replay_from}
 use Rattle.interleave.specs.Replay.{start_of, replay}
-use Rattle.interleave.specs.ReplayLaws.{ReplaysAreWorlds, PassedHasEnded, StartsAreGiven, ResultsAreOwn}
-use Rattle.interleave.specs.ReplayLaws.{ResultsComeOnce, ResultsAreHanded, OutcomeIsOne, RefusesTheFirst}
+use Rattle.interleave.proofs.ReplayLaws.{ReplaysAreWorlds, PassedHasEnded, StartsAreGiven, ResultsAreOwn}
+use Rattle.interleave.proofs.ReplayLaws.{ResultsComeOnce, ResultsAreHanded, RefusesTheFirst}
 use Rattle.interleave.specs.History.{BegunIn}
 use Rattle.interleave.proofs.Lookups.{by_test, holds, held_least, task_path}
 use Rattle.interleave.proofs.Handed.{Last, Handed, event_handed, begun_in_one}
@@ -218,18 +219,18 @@ module _ (p : Program) (needs : Codes → Needs) (w0 : ℕ) where
         (k.result, subst (λ (s : Scope). Contains s.results k.result) its k.among, k.path)),
   )
 
-  pub outcome_is_one : OutcomeIsOne p needs w0
-  outcome_is_one scoped calm provides least input b es w e o f =
-      let h = sound least input b es w e in
-      let g = gives (scope root_scope w.scopes) _ o f in
-      let k = holds g.one.passed _ o g.next in
-      let t = gives (task [] w.live) _ o k.gives in
-      let x = gives (settle (hands_on p needs b.steps w0 t.one.start t.one.receipts) g.one.results) _ o t.next in
-      let its : h.rooted.its ≡ t.one = same_Some _ _ (sym h.rooted.lives ∙ t.first) in
-      let hands = ap (λ (t : Live). hands_on p needs b.steps w0 t.start t.receipts) (sym its)
-      ∙ root_hands_on p needs b.steps w0 least (root_of p input b.nest) refl es w h g.one g.first k.test in
-      sym (same_Some _ _ x.next)
-      ∙ settled_outcome p needs scoped calm provides input b g.one.results x.one (h.own.results root_scope g.one g.first) (ap (λ r. settle r g.one.results) (sym hands) ∙ x.first)
+  lead : (fresh n : ℕ) (es : List Event) (a w : World) → after w0 (does p needs fresh w0) (hands_on p needs fresh w0) es a ≡ Some w
+      → replay_from p needs fresh w0 n es a ≡ Legal w
+  lead fresh n [] a w e = ap Legal (same_Some _ _ e)
+  lead fresh n (x ∷ es) a w e =
+      let g = gives (event p needs fresh w0 x a) (after w0 (does p needs fresh w0) (hands_on p needs fresh w0) es) w e in
+      ap (go_or n (replay_from p needs fresh w0 (n + 1) es)) g.first ∙ lead fresh (n + 1) es g.one w g.next
+
+  -- what events lead to is what they are replayed to
+  pub worlds_are_replays : (input : List (List ℤ)) (b : Budget) (es : List Event) (w : World)
+      → after w0 (does p needs b.steps w0) (hands_on p needs b.steps w0) es (start_of p w0 input b) ≡ Some w
+      → replay p needs w0 input b es ≡ Legal w
+  worlds_are_replays input b es w e = lead b.steps 0 es (start_of p w0 input b) w e
 
   -- ---- the first event that isn't legal
   record IsIllegalFrom (fresh : ℕ) (es : List Event) (a : World) (n : ℕ) : Type 0 where

@@ -27,7 +27,7 @@ use Rattle.interleave.specs.World.{ScopeId, Stake, Live, Scope, World, Whereabou
 use Rattle.interleave.specs.World.{child_path, task, put_task, without_task, is_parked}
 use Rattle.interleave.specs.Events.{Event, Take, Steal, Steps, Replenish, Spawns, Opens, Parks, Ends, Pass, Resume}
 use Rattle.interleave.specs.Events.{did, new_task}
-use Rattle.interleave.specs.ReplayLaws.{measured}
+use Rattle.interleave.proofs.ReplayLaws.{measured}
 use Rattle.interleave.proofs.Lookups.{by_test, other_path, task-without_task, gone-without_task, Unique}
 use Rattle.interleave.proofs.Histories.{cons_head, cons_tail, nil_snoc}
 use Rattle.interleave.proofs.Changes.{IsQuiet, IsAt, IsReplenish, IsSpawn, IsOpen, IsPark, IsEnd, IsPass, IsResume, Becomes}

@@ -14,8 +14,9 @@ use Rattle.interleave.specs.World.{same_scope, root_scope, task, scope, weight_i
 use Rattle.interleave.specs.Events.{Event, Take, Steal, Steps, Replenish, Spawns, Opens, Parks, Ends, Pass}
 use Rattle.interleave.specs.Events.{Resume, new_scope, new_task, next_action, next, first_world, after}
 use Rattle.interleave.specs.History.{told}
-use Rattle.interleave.specs.WorldLaws.{standing, Weighs, WeightsAddUp, TasksWeigh, NobodyIsLeft}
-use Rattle.interleave.specs.WorldLaws.{PassedIsEnded}
+use Rattle.interleave.specs.Weights.{standing, Weighs}
+use Rattle.interleave.proofs.WorldLaws.{WeightsAddUp, TasksWeigh, NobodyIsLeft}
+use Rattle.interleave.proofs.WorldLaws.{PassedIsEnded}
 use Rattle.interleave.proofs.Lookups.{scopes_same, held_least}
 use Rattle.interleave.proofs.Histories.{map_contains, nil_snoc, told_last}
 use Rattle.interleave.proofs.Stakes.{scope_of, IsPositive, Weighty, positive_in}

@@ -18,10 +18,16 @@ use Rattle.own_run.proofs.CompleteResults.{own_complete}
 use Rattle.interleave.specs.World.{same_path, root_scope, task}
 use Rattle.interleave.specs.Events.{only_if}
 use Rattle.interleave.specs.Replay.{hands_on}
-use Rattle.interleave.specs.ReplayLaws.{measured, OutcomeIsThere}
+use Rattle.interleave.proofs.ReplayLaws.{measured}
 use Rattle.interleave.proofs.Lookups.{by_test, path_refl}
 use Rattle.interleave.proofs.Outcomes.{sound, root_hands_on}
 use Rattle.interleave.proofs.Measured.{root_holds_all}
+use Rattle.std.specs.Prelude.{ℤ}
+use Rattle.types.specs.Outcome.{Budget}
+use Rattle.own_run.specs.Results.{Settled}
+use Rattle.interleave.specs.World.{Scope, World, scope}
+use Rattle.interleave.specs.Events.{Event}
+use Rattle.interleave.specs.Replay.{Legal, replay, world_outcome}
 
 -- a list with one element put in
 measured-inserted : (f : TaskResult → ℕ) (x : TaskResult) (ys zs : List TaskResult) → Inserted x ys zs → measured f zs ≡ f x + measured f ys
@@ -108,36 +114,27 @@ module _ (p : Program) (needs : Codes → Needs) (fresh : ℕ) (root : Start) wh
       → Each IsReal (flat_map (λ c. result_of (own p needs fresh c.start) ∷ below p needs fresh n c.start) cs)
   pending_real n cs h = each_real n (λ c i. below_real n c i) cs h
 
-pub outcome_is_there : (p : Program) (needs : Codes → Needs) (w0 : ℕ) → OutcomeIsThere p needs w0
-outcome_is_there p needs w0 least input b es w e s there passed parted =
-    let root = root_of p input b.nest in
-    let h = sound p needs w0 least input b es w e in
-    let own_ones = h.own.results root_scope s there in
-    let real = below_real p needs b.steps root b.nest root refl in
-    let order = shuffled p needs b.steps root (below p needs b.steps b.nest root) s.results real own_ones (λ f. sym (root_holds_all p needs w0 least input b es w e s there passed f)) in
-    let once = (h.once root_scope s there).0 in
-    let each_parted = shuffled_parted (below p needs b.steps b.nest root) s.results order (each_more (IsReal p needs b.steps root) IsParted (below p needs b.steps b.nest root)
-    (λ r i. subst IsParted (sym i.same) (parted r.path i.start i.is)) real) in
-    let settles = own_complete p needs b.steps root root refl s.results order once (parted [] root refl) each_parted in
-    let hands = root_hands_on p needs b.steps w0 least root refl es w h s there passed in (
-      told_of p (comes_to p needs b.steps root),
-      ap (λ o. and_then o (λ s. only_if s.passed (and_then (task [] w.live) (λ t. and_then (settle (hands_on p needs b.steps w0 t.start t.receipts) s.results) (λ x. Some (told_of p x)))))) there
-          ∙ ap (λ x. only_if x (and_then (task [] w.live) (λ t. and_then (settle (hands_on p needs b.steps w0 t.start t.receipts) s.results) (λ x. Some (told_of p x))))) passed
-          ∙ ap (λ o. and_then o (λ t. and_then (settle (hands_on p needs b.steps w0 t.start t.receipts) s.results) (λ x. Some (told_of p x)))) h.rooted.lives
-          ∙ ap (λ r. and_then (settle r s.results) (λ x. Some (told_of p x))) hands
-          ∙ ap (λ o. and_then o (λ x. Some (told_of p x))) settles,
-    )
-  where
-    insert_parted : (x : TaskResult) (ys zs : List TaskResult) → Inserted x ys zs → IsParted x → Each IsParted ys → Each IsParted zs
-    insert_parted x ys zs i h k = walk i h k
-      where
-        walk : {x : TaskResult} {ys zs : List TaskResult} → Inserted x ys zs → IsParted x → Each IsParted ys → Each IsParted zs
-        walk here h k = (h, k)
-        walk (later i) h k = (k.0, walk i h k.1)
+module _ (p : Program) (needs : Codes → Needs) (w0 : ℕ) (least : 1 ≤ w0) (input : List (List ℤ)) (b : Budget) (es : List Event) (w : World)
+    (e : replay p needs w0 input b es ≡ Legal w) (s : Scope) (there : scope root_scope w.scopes ≡ Some s) (passed : s.passed ≡ true) where
+  -- once it has passed the root's scope has the results of all tasks
+  pub root_has_all : Shuffled (below p needs b.steps b.nest (root_of p input b.nest)) s.results
+  root_has_all =
+      shuffled p needs b.steps (root_of p input b.nest) (below p needs b.steps b.nest (root_of p input b.nest)) s.results
+      (below_real p needs b.steps (root_of p input b.nest) b.nest (root_of p input b.nest) refl)
+      ((sound p needs w0 least input b es w e).own.results root_scope s there)
+      (λ f. sym (root_holds_all p needs w0 least input b es w e s there passed f))
 
-    shuffled_parted : (xs ys : List TaskResult) → Shuffled xs ys → Each IsParted xs → Each IsParted ys
-    shuffled_parted xs ys order h = walk order h
-      where
-        walk : {xs ys : List TaskResult} → Shuffled xs ys → Each IsParted xs → Each IsParted ys
-        walk none h = tt
-        walk (one {x = x} {ys = ys} {zs = zs} i s) h = insert_parted x ys zs i h.0 (walk s h.1)
+  -- and where they settle, what is told is what they come to
+  pub told_once_settled : {x : Settled} → settle (result_of (own p needs b.steps (root_of p input b.nest))) s.results ≡ Some x
+      → world_outcome p needs b.steps w0 w ≡ Some (told_of p x)
+  told_once_settled settles =
+      let h = sound p needs w0 least input b es w e in
+      ap (λ o. and_then o (λ s. only_if s.passed (and_then (task [] w.live) (λ t.
+      and_then (settle (hands_on p needs b.steps w0 t.start t.receipts) s.results) (λ x. Some (told_of p x)))))) there
+      ∙ ap (λ x. only_if x (and_then (task [] w.live) (λ t.
+      and_then (settle (hands_on p needs b.steps w0 t.start t.receipts) s.results) (λ x. Some (told_of p x))))) passed
+      ∙ ap (λ o. and_then o (λ t. and_then (settle (hands_on p needs b.steps w0 t.start t.receipts) s.results) (λ x. Some (told_of p x))))
+      h.rooted.lives
+      ∙ ap (λ r. and_then (settle r s.results) (λ x. Some (told_of p x)))
+      (root_hands_on p needs b.steps w0 least (root_of p input b.nest) refl es w h s there passed)
+      ∙ ap (λ o. and_then o (λ x. Some (told_of p x))) settles

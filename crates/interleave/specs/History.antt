@@ -1,6 +1,6 @@
 -- What was begun in a scope and what has ended, read from the events alone.
 use Rattle.std.specs.Prelude.{ℕ, ◌+◌, ◌≡◌, List, [], ◌∷◌, ◌++◌, drop, Contains, if◌then◌else◌}
-use Rattle.interleave.specs.World.{same_path, ScopeId, child_path}
+use Rattle.interleave.specs.World.{ScopeId, same_path, child_path}
 use Rattle.interleave.specs.Events.{Event, Take, Steal, Steps, Replenish, Spawns, Opens, Parks, Ends, Pass}
 use Rattle.interleave.specs.Events.{Resume}
 
@@ -16,15 +16,19 @@ abbrev pub untold : List ℕ → Told
 untold [] = record { spawned = 0; opened = 0; inside = 0 ∷ [] }
 untold (k ∷ path) = record { spawned = 0; opened = 0; inside = [] }
 
+-- with one child more
 abbrev pub spawned_more : Told → Told
 spawned_more t = record t { spawned = t.spawned + 1 }
 
+-- with one finish more, which is its innermost
 abbrev pub opened_more : Told → Told
 opened_more t = record t { opened = t.opened + 1; inside = (t.opened + 1) ∷ t.inside }
 
+-- with its innermost finish left
 abbrev pub left_one : Told → Told
 left_one t = record t { inside = drop 1 t.inside }
 
+-- what an event adds
 abbrev pub tell : List ℕ → Event → Told → Told
 tell path (Spawns q) t = if same_path q path then spawned_more t else t
 tell path (Opens q) t = if same_path q path then opened_more t else t
@@ -37,10 +41,12 @@ tell path (Parks q) t = t
 tell path (Ends q) t = t
 tell path (Pass id) t = t
 
+-- and events
 abbrev pub tell_all : List ℕ → List Event → Told → Told
 tell_all path [] t = t
 tell_all path (e ∷ es) t = tell_all path es (tell path e t)
 
+-- what is told of the task of a path
 abbrev pub told : List Event → List ℕ → Told
 told es path = tell_all path es (untold path)
 
@@ -52,8 +58,10 @@ pub record SpawnsAt (es before : List Event) (path child : List ℕ) : Type 0 wh
 
 -- every child that a scope's owner spawns while it is open, and every child of a member
 pub data Begun (es : List Event) (id : ScopeId) : List ℕ → Type 0 where
-  by_owner : {before : List Event} {child : List ℕ} → SpawnsAt es before id.owner child → Contains (told before id.owner).inside id.number → Begun es id child
-  by_member : {before : List Event} {path child : List ℕ} → Begun es id path → SpawnsAt es before path child → Begun es id child
+  by_owner : {before : List Event} {child : List ℕ} → SpawnsAt es before id.owner child
+      → Contains (told before id.owner).inside id.number → Begun es id child
+  by_member : {before : List Event} {path child : List ℕ} → Begun es id path
+      → SpawnsAt es before path child → Begun es id child
 
 -- the members that have an end
 pub record Ended (es : List Event) (id : ScopeId) (path : List ℕ) : Type 0 where
@@ -62,5 +70,7 @@ pub record Ended (es : List Event) (id : ScopeId) (path : List ℕ) : Type 0 whe
 
 -- a task was begun in a scope directly: it is the innermost that its parent stood in
 pub data BegunIn (es : List Event) (id : ScopeId) : List ℕ → Type 0 where
-  in_own : {before : List Event} {child : List ℕ} {low : List ℕ} → SpawnsAt es before id.owner child → (told before id.owner).inside ≡ id.number ∷ low → BegunIn es id child
-  handed_on : {before : List Event} {path child : List ℕ} → SpawnsAt es before path child → (told before path).inside ≡ [] → BegunIn es id path → BegunIn es id child
+  in_own : {before : List Event} {child : List ℕ} {low : List ℕ} → SpawnsAt es before id.owner child
+      → (told before id.owner).inside ≡ id.number ∷ low → BegunIn es id child
+  handed_on : {before : List Event} {path child : List ℕ} → SpawnsAt es before path child
+      → (told before path).inside ≡ [] → BegunIn es id path → BegunIn es id child

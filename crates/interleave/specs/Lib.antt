@@ -1,7 +1,6 @@
 pub mod Events
 pub mod History
-pub mod Locked
 pub mod Replay
-pub mod ReplayLaws
+pub mod Weights
 pub mod World
-pub mod WorldLaws
+pub mod Worlds

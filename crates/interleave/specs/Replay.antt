@@ -16,21 +16,25 @@ pub data Replayed : Type 0 where
   Legal : World → Replayed
   IllegalAt : ℕ → Replayed
 
+-- goes on with the world after an event, or that event isn't legal
 abbrev pub go_or : ℕ → (World → Replayed) → Option World → Replayed
 go_or n go None = IllegalAt n
 go_or n go (Some w) = go w
 
 module _ (p : Program) (needs : Codes → Needs) (fresh w0 : ℕ) where
-  -- what the own run of a start does with these receipts, and what it hands on
+  -- what the own run of a start does with these receipts
   abbrev pub does : Start → List (List TaskResult) → List Action
   does s receipts = actions_of (run_by p needs fresh receipts s)
 
+  -- what it hands on with these receipts
   abbrev pub hands_on : Start → List (List TaskResult) → TaskResult
   hands_on s receipts = result_of (run_by p needs fresh receipts s)
 
+  -- the world after an event
   abbrev pub event : Event → World → Option World
   event = next w0 does hands_on
 
+  -- a list of events, the first of which has this number
   abbrev pub replay_from : ℕ → List Event → World → Replayed
   replay_from n [] world = Legal world
   replay_from n (e ∷ es) world = go_or n (replay_from (n + 1) es) (event e world)
@@ -42,8 +46,11 @@ module _ (p : Program) (needs : Codes → Needs) (fresh w0 : ℕ) where
       and_then (task [] world.live) (λ t.
       and_then (settle (hands_on t.start t.receipts) s.results) (λ x. Some (told_of p x)))))
 
+-- the world at the start
 abbrev pub start_of : (p : Program) (w0 : ℕ) (input : List (List ℤ)) → Budget → World
 start_of p w0 input b = first_world w0 (root_of p input b.nest)
 
-abbrev pub replay : (p : Program) (needs : Codes → Needs) (w0 : ℕ) (input : List (List ℤ)) → Budget → List Event → Replayed
+-- a list of events, from the start
+abbrev pub replay : (p : Program) (needs : Codes → Needs) (w0 : ℕ) (input : List (List ℤ)) → Budget
+    → List Event → Replayed
 replay p needs w0 input b es = replay_from p needs b.steps w0 0 es (start_of p w0 input b)

@@ -17,7 +17,8 @@ use Rattle.std.specs.Cmp.Lexicographic.{pointwise}
 use Rattle.own_run.specs.Settling.{behind, take, fill_all, settle_within, none_left, settle, Parted}
 use Rattle.own_run.specs.Settling.{IsParted}
 use Rattle.own_run.specs.Lists.{Each, Inserted, here, later, Shuffled, none, one}
-use Rattle.own_run.proofs.Lists.{each_more, NoTwice}
+use Rattle.own_run.proofs.Lists.{each_more}
+use Rattle.own_run.specs.Settling.{NoTwice}
 use Rattle.own_run.proofs.Windows.{in_covered}
 use Rattle.own_run.proofs.Begun.{run_tells, at_first_fine}
 use Rattle.own_run.proofs.SettledResults.{paths_same, IsGiven, begun_is_true}

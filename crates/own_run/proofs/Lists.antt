@@ -1,8 +1,6 @@
 -- What holds of each element of a list.
 use Rattle.std.proofs.Common.{List, [], ◌∷◌, ◌++◌}
-use Rattle.std.specs.Prelude.{◌≢◌}
 use Rattle.own_run.specs.Lists.{Each}
-use Rattle.own_run.specs.Results.{TaskResult}
 
 pub each_more : {A : Type 0} (P Q : A → Type 0) (xs : List A) → ((x : A) → P x → Q x) → Each P xs → Each Q xs
 each_more P Q [] f h = tt
@@ -15,8 +13,3 @@ each_last P (y ∷ xs) x h k = (h.0, each_last P xs x h.1 k)
 pub each_append : {A : Type 0} (P : A → Type 0) (xs ys : List A) → Each P xs → Each P ys → Each P (xs ++ ys)
 each_append P [] ys h k = k
 each_append P (x ∷ xs) ys h k = (h.0, each_append P xs ys h.1 k)
-
--- no path has two results
-abbrev pub NoTwice : List TaskResult → Type 0
-NoTwice [] = Unit {0}
-NoTwice (r ∷ rs) = Each (λ other. other.path ≢ r.path) rs × NoTwice rs

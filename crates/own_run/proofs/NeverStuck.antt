@@ -23,7 +23,8 @@ use Rattle.own_run.specs.Holds.{MayBegin, Holds}
 use Rattle.own_run.specs.Reached.{Reached, root_begins, child_begins, turns, leaves, CanSettle, CanEnd}
 use Rattle.own_run.specs.Settling.{fill_all, settle_within, none_left, settle, IsParted}
 use Rattle.own_run.specs.Lists.{Each, Shuffled, none, one, here}
-use Rattle.own_run.proofs.Lists.{each_more, each_append, NoTwice}
+use Rattle.own_run.proofs.Lists.{each_more, each_append}
+use Rattle.own_run.specs.Settling.{NoTwice}
 use Rattle.own_run.proofs.CompleteResults.{Stands, fill_complete, settle_complete, none_in}
 use Rattle.own_run.proofs.TaskRuns.{lists_given}
 use Rattle.own_run.proofs.OnePath.{Once, Names, names, From, own_path, all_once, below_once, shuffled_each}

@@ -14,7 +14,8 @@ use Rattle.own_run.specs.OwnRun.{leave_with, own_rules, begun_by, beginning}
 use Rattle.own_run.specs.Given.{in_truth, own, below}
 use Rattle.own_run.specs.Frames.{IsBegun, HasBegun}
 use Rattle.own_run.specs.Lists.{Each, Inserted, here, later, Shuffled, none, one}
-use Rattle.own_run.proofs.Lists.{each_more, each_append, NoTwice}
+use Rattle.own_run.proofs.Lists.{each_more, each_append}
+use Rattle.own_run.specs.Settling.{NoTwice}
 use Rattle.own_run.proofs.Begun.{Tells, tells, begin_tells, enter_tells, run_tells, at_first_fine}
 
 -- ---- paths

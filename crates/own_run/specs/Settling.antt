@@ -1,9 +1,10 @@
 -- Results settled: each hole filled once by the result of its path, wherever that stands.
-use Rattle.std.specs.Prelude.{ℕ, zero, suc, ◌+◌, ◌≡◌, List, [], ◌∷◌, length, Bool, true, false}
+use Rattle.std.specs.Prelude.{ℕ, zero, suc, ◌+◌, ◌≡◌, ◌≢◌, List, [], ◌∷◌, length, Bool, true, false}
 use Rattle.std.specs.Prelude.{◌||◌, nat_eq, Option, Some, None, if◌then◌else◌}
 use Rattle.std.specs.Cmp.Lexicographic.{pointwise}
 use Rattle.sections.specs.Place.{Place}
 use Rattle.own_run.specs.Places.{Places, within, meets}
+use Rattle.own_run.specs.Lists.{Each}
 use Rattle.own_run.specs.Results.{Listed, TaskResult, Settled, none_yet, fill, complete, and_then}
 
 -- a result stays behind those that were looked at
@@ -54,3 +55,8 @@ Parted owned (c ∷ cs) =
 -- so it is of a result
 abbrev pub IsParted : TaskResult → Type 0
 IsParted r = Parted r.owned r.children
+
+-- no path has two results
+abbrev pub NoTwice : List TaskResult → Type 0
+NoTwice [] = Unit {0}
+NoTwice (r ∷ rs) = Each (λ other. other.path ≢ r.path) rs × NoTwice rs

@@ -8,10 +8,9 @@ use Rattle.race_checker.specs.Scope.{IsScoped}
 use Rattle.race_checker.specs.Calm.{IsCalm}
 use Rattle.own_run.specs.Results.{TaskResult}
 use Rattle.own_run.specs.Lists.{Each}
-use Rattle.own_run.specs.Settling.{IsParted}
+use Rattle.own_run.specs.Settling.{NoTwice}
 use Rattle.own_run.specs.OwnRun.{Start, Spawn, EndFinish, EndTask, is_waiting, run_by, result_of}
 use Rattle.own_run.specs.Given.{below, own, given, IsOwn, root_of}
-use Rattle.own_run.proofs.Lists.{NoTwice}
 use Rattle.interleave.specs.World.{ScopeId, Stake, Live, Scope, World, is_parked, hand_of, root_scope, task}
 use Rattle.interleave.specs.World.{scope}
 use Rattle.interleave.specs.Events.{Event, Ends, owns, next_action, after}
@@ -92,20 +91,6 @@ module _ (p : Program) (needs : Codes → Needs) (w0 : ℕ) where
   abbrev pub RootHoldsAll : Type 0
   RootHoldsAll = OfAllReplays (λ input b es w. (s : Scope) → scope root_scope w.scopes ≡ Some s → s.passed ≡ true
       → (f : TaskResult → ℕ) → measured f s.results ≡ measured f (below p needs b.steps b.nest (root_of p input b.nest)))
-
-  -- what is told once the root's scope has passed is the one-thread outcome
-  abbrev pub OutcomeIsOne : Type 0
-  OutcomeIsOne = IsScoped p → IsCalm p → Provides p needs
-      → OfAllReplays (λ input b es w. (o : Outcome) → world_outcome p needs b.steps w0 w ≡ Some o → o ≡ outcome p input b)
-
-  -- the places that come back at the end of each task's own run are its own once (own_run proves it of accepted programs)
-  abbrev pub ArePartedIn : (input : List (List ℤ)) → Budget → Type 0
-  ArePartedIn input b = (path : List ℕ) (s : Start) → given p needs b.steps (root_of p input b.nest) path ≡ Some s → IsParted (result_of (own p needs b.steps s))
-
-  -- then the outcome is there once the root's scope has passed
-  abbrev pub OutcomeIsThere : Type 0
-  OutcomeIsThere = OfAllReplays (λ input b es w. (s : Scope) → scope root_scope w.scopes ≡ Some s → s.passed ≡ true → ArePartedIn input b
-      → (o : Outcome) × (world_outcome p needs b.steps w0 w ≡ Some o))
 
   -- until the root's scope has passed the world goes on
   abbrev pub GoesOn : Type 0

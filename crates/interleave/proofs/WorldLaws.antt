@@ -3,25 +3,10 @@ use Rattle.std.specs.Prelude.{ℕ, ◌+◌, ◌≡◌, ◌≤◌, List, drop, tr
 use Rattle.own_run.specs.Results.{TaskResult}
 use Rattle.own_run.specs.Lists.{Each}
 use Rattle.own_run.specs.OwnRun.{Start, Action}
+use Rattle.interleave.specs.Weights.{Weighs, StandsIn}
 use Rattle.interleave.specs.World.{ScopeId, Stake, Live, Scope, World, task, scope, held, is_parked}
 use Rattle.interleave.specs.Events.{Event, first_world, after}
 use Rattle.interleave.specs.History.{Begun, Ended}
-
--- the scopes that a task stands in; a parked one has given back its weight in the innermost
-abbrev pub standing : Live → List Stake
-standing t = if is_parked t.place then drop 1 t.stakes else t.stakes
-
-abbrev pub Weighs : Live → Type 0
-Weighs t = Each (λ (s : Stake). 1 ≤ s.weight) (standing t)
-
--- a live task stands in a scope
-pub record StandsIn (live : List Live) (id : ScopeId) : Type 0 where
-  pub path : List ℕ
-  pub its : Live
-  pub lives : task path live ≡ Some its
-  pub stake : Stake
-  pub among : Contains (standing its) stake
-  pub there : stake.scope ≡ id
 
 module _ (w0 : ℕ) (actions : Start → List (List TaskResult) → List Action) (result : Start → List (List TaskResult) → TaskResult) where
   -- P holds of each list of legal events, and of the world that it leads to
@@ -43,3 +28,8 @@ module _ (w0 : ℕ) (actions : Start → List (List TaskResult) → List Action)
   -- all that was begun in a passed scope has ended
   abbrev pub PassedIsEnded : Type 0
   PassedIsEnded = OfAllLists (λ es w. (id : ScopeId) (s : Scope) (path : List ℕ) → scope id w.scopes ≡ Some s → s.passed ≡ true → Begun es id path → Ended es id path)
+
+  -- no weight is more than what is out
+  abbrev pub NoneIsLate : Type 0
+  NoneIsLate = OfAllLists (λ es w. (path : List ℕ) (t : Live) (k : Stake) (s : Scope)
+      → task path w.live ≡ Some t → Contains t.stakes k → scope k.scope w.scopes ≡ Some s → s.returned + k.weight ≤ s.issued)

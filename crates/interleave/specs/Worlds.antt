@@ -1,0 +1,70 @@
+-- The worlds of a program's run on an input and under a budget, with the needs that are computed.
+use Rattle.std.specs.Prelude.{ℕ, ℤ, ◌≡◌, ◌≤◌, ◌*◌, ◌^◌, List, [], ◌∷◌, ◌++◌, length, Option, Some, None}
+use Rattle.types.specs.Code.{Program}
+use Rattle.types.specs.Outcome.{Budget, Outcome}
+use Rattle.effects.specs.Rounds.{needs_of}
+use Rattle.own_run.specs.OwnRun.{Start, Action, Spawn}
+use Rattle.own_run.specs.Given.{given}
+use Rattle.own_run.specs.Runs.{root}
+use Rattle.interleave.specs.World.{Stake, Live, Scope, World, task, scope}
+use Rattle.interleave.specs.Events.{Event, next_action}
+use Rattle.interleave.specs.Replay.{does, hands_on, event, start_of, Replayed, Legal, replay, world_outcome}
+
+module _ (p : Program) (input : List (List ℤ)) (b : Budget) where
+  -- what the task of a path starts with, in the run of the program
+  abbrev pub given_to : List ℕ → Option Start
+  given_to = given p (needs_of p) b.steps (root p input b)
+
+module _ (p : Program) (w0 : ℕ) (b : Budget) where
+  -- the world after an event, where it is legal
+  abbrev pub event_of : Event → World → Option World
+  event_of = event p (needs_of p) b.steps w0
+
+  -- what a task does next
+  abbrev pub next_of : Live → Option Action
+  next_of = next_action w0 (does p (needs_of p) b.steps w0) (hands_on p (needs_of p) b.steps w0)
+
+  -- what is told of a world, once the root's scope has passed
+  abbrev pub outcome_of : World → Option Outcome
+  outcome_of = world_outcome p (needs_of p) b.steps w0
+
+  -- some event is legal
+  pub record IsFree (w : World) : Type 0 where
+    pub first : Event
+    pub to : World
+    pub legal : event_of first w ≡ Some to
+
+  -- a task wants weight from a scope that has issued 2^31 times
+  pub record IsSpent (w : World) : Type 0 where
+    pub path : List ℕ
+    pub its : Live
+    pub lives : task path w.live ≡ Some its
+    pub child : Start
+    pub wants : next_of its ≡ Some (Spawn child)
+    pub inner : Stake
+    pub outer : List Stake
+    pub stakes : its.stakes ≡ inner ∷ outer
+    pub one : inner.weight ≡ 1
+    pub book : Scope
+    pub found : scope inner.scope w.scopes ≡ Some book
+    pub spent : 2 ^ 31 * w0 ≤ book.issued
+
+module _ (p : Program) (w0 : ℕ) (input : List (List ℤ)) (b : Budget) where
+  -- the world that events lead to, or the number of the first that isn't legal
+  abbrev pub replayed : List Event → Replayed
+  replayed = replay p (needs_of p) w0 input b
+
+  -- events are legal from the start, and lead to a world
+  abbrev pub LeadsTo : List Event → World → Type 0
+  LeadsTo es w = replayed es ≡ Legal w
+
+  -- the events before the n-th are legal, and that isn't
+  pub record IsFirstIllegal (es : List Event) (n : ℕ) : Type 0 where
+    pub before : List Event
+    pub first : Event
+    pub later : List Event
+    pub are : es ≡ before ++ first ∷ later
+    pub count : length before ≡ n
+    pub to : World
+    pub legal : LeadsTo before to
+    pub illegal : event_of p w0 b first to ≡ None
