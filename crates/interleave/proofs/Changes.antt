@@ -7,14 +7,13 @@ use Rattle.effects.proofs.Members.{both_true, false_true}
 use Rattle.own_run.specs.Results.{TaskResult, and_then}
 use Rattle.own_run.specs.OwnRun.{Start, Action, Step, Spawn, EnterFinish, EndFinish, EndTask}
 use Rattle.own_run.proofs.SettledResults.{Gives, gives}
-use Rattle.interleave.specs.World.{same_path, ScopeId, Stake, Live, Scope, World, Whereabouts, Queue, Hand}
-use Rattle.interleave.specs.World.{Parked, task, put_task, without_task, scope, put_scope, in_queue}
-use Rattle.interleave.specs.World.{hand_of, is_parked, child_path}
-use Rattle.interleave.specs.Events.{only_if, moved}
-use Rattle.interleave.specs.Events.{Event, Take, Steal, Steps, Replenish, Spawns, Opens, Parks, Ends, Pass}
-use Rattle.interleave.specs.Events.{Resume, issue, give_back, did, new_scope, new_task, next_action}
-use Rattle.interleave.specs.Events.{by_step, by_replenish, by_spawn, by_open, by_park, by_end, with_next}
-use Rattle.interleave.specs.Events.{in_innermost, by_resume, next}
+use Rattle.interleave.specs.World.{same_path, ScopeId, Stake, Live, Scope, World, Whereabouts, Queue, Hand, Parked}
+use Rattle.interleave.specs.World.{task, put_task, without_task, scope, put_scope, in_queue, hand_of, is_parked}
+use Rattle.interleave.specs.World.{child_path}
+use Rattle.interleave.specs.Events.{only_if, moved, Event, Take, Steal, Steps, Replenish, Spawns, Opens, Parks, Ends}
+use Rattle.interleave.specs.Events.{Pass, Resume, issue, give_back, did, new_scope, new_task, next_action, by_step}
+use Rattle.interleave.specs.Events.{by_replenish, by_spawn, by_open, by_park, by_end, with_next, in_innermost}
+use Rattle.interleave.specs.Events.{by_resume, next}
 use Rattle.interleave.proofs.Lookups.{holds, task_path, scope_id}
 
 -- a task changes, but not in what it has begun, where it stands or what it weighs; it isn't parked

@@ -1,6 +1,6 @@
 -- What a task has pending at its end are the tasks that it spawned outside of its own finishes.
-use Rattle.std.proofs.Common.{◌≡◌, ℕ, zero, suc, ◌+◌, List, [], ◌∷◌, ◌++◌, Option, Some, None, refl, sym}
-use Rattle.std.proofs.Common.{ap, ◌∙◌, arith, append_assoc}
+use Rattle.std.proofs.Common.{◌≡◌, ℕ, zero, suc, ◌+◌, List, [], ◌∷◌, ◌++◌, Option, Some, None, refl, sym, ap, ◌∙◌}
+use Rattle.std.proofs.Common.{arith, append_assoc}
 use Rattle.std.proofs.lemmas.List.{append-nil}
 use Rattle.std.specs.Prelude.{Bool, true, false, map, if◌then◌else◌}
 use Rattle.std.proofs.lemmas.Option.{none-some, same_Some}
@@ -12,9 +12,8 @@ use Rattle.effects.specs.Needs.{Needs}
 use Rattle.effects.proofs.Members.{both_true, false_true}
 use Rattle.own_run.specs.Apart.{is_stopped}
 use Rattle.own_run.specs.Results.{Settled, none_yet, complete}
-use Rattle.own_run.specs.OwnRun.{Start, Child, Action, Step, Spawn, EnterFinish, EndFinish, EndTask, Own}
-use Rattle.own_run.specs.OwnRun.{at_first, notes, is_waiting, result_of, child_of, begin_own, leave_with}
-use Rattle.own_run.specs.OwnRun.{own_rules, beginning}
+use Rattle.own_run.specs.OwnRun.{Start, Child, Action, Step, Spawn, EnterFinish, EndFinish, EndTask, Own, at_first}
+use Rattle.own_run.specs.OwnRun.{notes, is_waiting, result_of, child_of, begin_own, leave_with, own_rules, beginning}
 use Rattle.own_run.specs.Given.{filled, in_truth, own}
 use Rattle.own_run.proofs.Begun.{never_waits}
 use Rattle.interleave.proofs.Levels.{depth, depth-append, IsLevel, level-append}

@@ -1,13 +1,13 @@
 -- Each kind of event keeps what holds of a world.
-use Rattle.std.proofs.Common.{◌≡◌, ℕ, ◌+◌, ◌<◌, ◌≤◌, List, [], ◌∷◌, ◌++◌, Option, Some, refl, sym, ap, ◌∙◌}
-use Rattle.std.proofs.Common.{subst, inl, inr, arith}
+use Rattle.std.proofs.Common.{◌≡◌, ℕ, ◌+◌, ◌<◌, ◌≤◌, List, [], ◌∷◌, ◌++◌, Option, Some, refl, sym, ap, ◌∙◌, subst}
+use Rattle.std.proofs.Common.{inl, inr, arith}
 use Rattle.std.specs.Prelude.{Bool, true, false, ◌⊎◌, map, if◌then◌else◌}
 use Rattle.std.proofs.lemmas.Option.{same_Some}
 use Rattle.own_run.specs.Lists.{Each}
 use Rattle.own_run.specs.OwnRun.{Action}
 use Rattle.own_run.proofs.SettledResults.{paths_same}
-use Rattle.interleave.specs.World.{ScopeId, Stake, Live, Scope, World, Parked, same_scope, task, put_task}
-use Rattle.interleave.specs.World.{scope, put_scope, weight_in, held}
+use Rattle.interleave.specs.World.{ScopeId, Stake, Live, Scope, World, Parked, same_scope, task, put_task, scope}
+use Rattle.interleave.specs.World.{put_scope, weight_in, held}
 use Rattle.interleave.specs.Events.{Event, Spawns, issue, give_back, did}
 use Rattle.interleave.specs.History.{Told, told}
 use Rattle.interleave.proofs.Lookups.{by_test, scope_is, scopes_same, each_task, held-put_task, held_least}

@@ -1,13 +1,12 @@
 -- Worked lists of events, computed.
 use Rattle.std.proofs.Common.{◌≡◌, ℕ, zero, suc, List, [], ◌∷◌, ◌++◌, Option, Some, None, refl}
-use Rattle.std.specs.Prelude.{ℤ, pos, take, drop}
+use Rattle.std.specs.Prelude.{ℤ, pos, map, take, drop}
 use Rattle.types.specs.Code.{Codes, Program, End, Do, Async, Finish, Skip}
 use Rattle.types.specs.Outcome.{Budget, Outcome, Ended}
 use Rattle.types.proofs.Programs.{◌⨾◌, main_of, two_arrays}
 use Rattle.effects.specs.Rounds.{needs_of}
-use Rattle.interleave.specs.World.{ScopeId, root_scope, book}
-use Rattle.interleave.specs.Events.{Event, Take, Steal, Steps, Replenish, Spawns, Opens, Parks, Ends, Pass}
-use Rattle.interleave.specs.Events.{Resume}
+use Rattle.interleave.specs.World.{ScopeId, Live, root_scope, weight_in, book}
+use Rattle.interleave.specs.Events.{Event, Take, Steal, Steps, Replenish, Spawns, Opens, Parks, Ends, Pass, Resume}
 use Rattle.interleave.specs.History.{SpawnsAt, Begun, by_owner, by_member}
 use Rattle.interleave.specs.Replay.{Replayed, Legal, IllegalAt, replay, world_outcome}
 use Rattle.interleave.proofs.Histories.{contains_here}
@@ -107,6 +106,14 @@ four_with_eight =
 
 four_book : book_of its_finish (replayed (skips 4) 8 [] four_with_eight) ≡ Some (16, 16)
 four_book = refl
+
+-- what its tasks weigh by then, the newest first
+abbrev weights : Replayed → List ℕ
+weights (Legal w) = map (λ (t : Live). weight_in its_finish t.stakes) w.live
+weights (IllegalAt n) = []
+
+four_weights : weights (replayed (skips 4) 8 [] (take 7 four_with_eight)) ≡ 4 ∷ 1 ∷ 2 ∷ 4 ∷ 5 ∷ []
+four_weights = refl
 
 -- ---- a child ends before its own child, and the scope waits for both
 abbrev nested : Program

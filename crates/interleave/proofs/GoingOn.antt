@@ -1,43 +1,43 @@
 -- Until the root's scope has passed some event is legal.
-use Rattle.std.proofs.Common.{◌≡◌, ℕ, zero, suc, ◌+◌, ◌*◌, ◌^◌, ◌≤◌, List, [], ◌∷◌, ◌++◌, length, Option}
-use Rattle.std.proofs.Common.{Some, None, refl, sym, ap, ◌∙◌, subst, inl, inr, arith, le_refl}
+use Rattle.std.proofs.Common.{◌≡◌, ℕ, zero, suc, ◌+◌, ◌*◌, ◌^◌, ◌≤◌, List, [], ◌∷◌, ◌++◌, length, Option, Some, None}
+use Rattle.std.proofs.Common.{refl, sym, ap, ◌∙◌, subst, inl, inr, arith, le_refl}
 use Rattle.std.proofs.lemmas.Bool.{ltb-false, leb-true, leb-false, eq-eqb, and_from}
 use Rattle.std.proofs.lemmas.List.Elements.{Contains-append_cases}
-use Rattle.std.specs.Prelude.{Bool, true, false, ◌⊎◌, ◌&&◌, not, nat_eq, nat_le, map, take, slice_get}
-use Rattle.std.specs.Prelude.{Contains, if◌then◌else◌}
+use Rattle.std.specs.Prelude.{Bool, true, false, ◌⊎◌, ◌&&◌, not, nat_eq, nat_le, map, take, slice_get, Contains}
+use Rattle.std.specs.Prelude.{if◌then◌else◌}
 use Rattle.std.proofs.lemmas.Option.{none-some, same_Some}
 use Rattle.types.specs.Code.{Codes, Program}
-use Rattle.types.specs.Run.{State}
+use Rattle.types.specs.Run.{State, Block}
 use Rattle.effects.specs.Needs.{Needs}
 use Rattle.effects.proofs.Members.{false_true}
 use Rattle.own_run.specs.Results.{and_then}
 use Rattle.own_run.specs.Lists.{Each}
-use Rattle.own_run.specs.OwnRun.{is_waiting, run_by, actions_of, Start, Action, Step, Spawn, EnterFinish}
-use Rattle.own_run.specs.OwnRun.{EndFinish, EndTask, Own, last_action}
+use Rattle.own_run.specs.OwnRun.{is_waiting, run_by, actions_of, Start, Action, Step, Spawn, EnterFinish, EndFinish}
+use Rattle.own_run.specs.OwnRun.{EndTask, Own, last_action, at_first, beginning}
 use Rattle.own_run.specs.Given.{in_truth, own, root_of}
 use Rattle.own_run.proofs.SettledResults.{paths_same}
-use Rattle.interleave.specs.World.{same_path, ScopeId, Stake, Live, Scope, World, Whereabouts, Queue, Hand}
-use Rattle.interleave.specs.World.{Parked, same_scope, root_scope, task, scope, in_queue, in_hand}
-use Rattle.interleave.specs.World.{is_parked, hand_of, hand_is_free, weight_in, held}
-use Rattle.interleave.specs.Events.{only_if}
-use Rattle.interleave.specs.Events.{Event, Take, Steps, Replenish, Spawns, Opens, Parks, Ends, Pass, Resume}
-use Rattle.interleave.specs.Events.{may_issue, next_action, with_next, in_innermost, by_step, by_replenish}
-use Rattle.interleave.specs.Events.{by_spawn, by_open, by_park, by_end, by_resume}
+use Rattle.own_run.proofs.Begun.{run_tells}
+use Rattle.interleave.specs.World.{same_path, ScopeId, Stake, Live, Scope, World, Whereabouts, Queue, Hand, Parked}
+use Rattle.interleave.specs.World.{same_scope, root_scope, task, scope, in_queue, in_hand, is_parked, hand_of}
+use Rattle.interleave.specs.World.{hand_is_free, weight_in, held}
+use Rattle.interleave.specs.Events.{only_if, Event, Take, Steps, Replenish, Spawns, Opens, Parks, Ends, Pass, Resume}
+use Rattle.interleave.specs.Events.{may_issue, next_action, with_next, in_innermost, by_step, by_replenish, by_spawn}
+use Rattle.interleave.specs.Events.{by_open, by_park, by_end, by_resume}
 use Rattle.interleave.specs.History.{told}
 use Rattle.interleave.specs.Replay.{does, hands_on, event}
 use Rattle.interleave.proofs.ReplayLaws.{IsFree, IsSpent, IsUnsettled, GoesOn, EndsAreOwn}
-use Rattle.interleave.proofs.Lookups.{by_test, path_refl, path_is, path_not, other_path, scopes_same}
-use Rattle.interleave.proofs.Lookups.{task_path, Unique}
-use Rattle.interleave.proofs.Histories.{contains_nil, contains_here, contains_later, contains_cons}
-use Rattle.interleave.proofs.Histories.{contains_map, cons_head, cons_tail, nil_cons, nil_snoc}
+use Rattle.interleave.proofs.Lookups.{by_test, path_refl, path_is, path_not, other_path, scopes_same, task_path}
+use Rattle.interleave.proofs.Lookups.{Unique}
+use Rattle.interleave.proofs.Histories.{contains_nil, contains_here, contains_later, contains_cons, contains_map}
+use Rattle.interleave.proofs.Histories.{cons_head, cons_tail, nil_cons, nil_snoc}
 use Rattle.interleave.proofs.Stakes.{scope_of, own as own_scope, IsPositive, Weighty, weighty_awake}
 use Rattle.interleave.proofs.Changes.{hand_awake}
 use Rattle.interleave.proofs.Kept.{base, Hangs, IsTold}
 use Rattle.interleave.proofs.Truth.{Rel}
 use Rattle.interleave.proofs.Levels.{depth, depth-append, bracketed, depth_next}
 use Rattle.interleave.proofs.Numbered.{get_last}
-use Rattle.interleave.proofs.OwnTasks.{IsOwnTask, truly, truly_is, own_is_awake, nexts, awake_level}
-use Rattle.interleave.proofs.OwnTasks.{next_in_truth, in_truth_or_behind, start_path}
+use Rattle.interleave.proofs.OwnTasks.{IsOwnTask, truly, truly_is, own_is_awake, nexts, awake_level, next_in_truth}
+use Rattle.interleave.proofs.OwnTasks.{in_truth_or_behind, start_path, IsAtLevel, no_level}
 use Rattle.interleave.proofs.Present.{IsThere, Falls, told_falls}
 use Rattle.interleave.proofs.Outcomes.{IsSound, sound}
 
@@ -231,7 +231,7 @@ module _ (p : Program) (needs : Codes → Needs) (fresh w0 : ℕ) (least : 1 ≤
       scopes_are = ap (map scope_of) (sym are) ∙ tells.stakes
 
       level : depth 0 (take t.done (truly p needs fresh w0 root nameless t.start)) ≡ Some (length outer)
-      level = awake_level p needs fresh w0 root nameless t.place s outer t awake (subst (λ ss. Rattle.interleave.proofs.OwnTasks.IsAtLevel p needs fresh w0 root nameless t.place ss t) are its.level)
+      level = awake_level p needs fresh w0 root nameless t.place s outer t awake (subst (λ ss. IsAtLevel p needs fresh w0 root nameless t.place ss t) are its.level)
 
       inner_is : (go : Stake → List Stake → Option World) → in_innermost w0 (does p needs fresh w0) (hands_on p needs fresh w0) t.stakes go ≡ go s outer
       inner_is go = ap (λ ss. in_innermost w0 (does p needs fresh w0) (hands_on p needs fresh w0) ss go) are
@@ -258,7 +258,7 @@ module _ (p : Program) (needs : Codes → Needs) (fresh w0 : ℕ) (least : 1 ≤
           by_place (inr f) = (f.0, ap last_action (sym own_path) ∙ f.1)
             where
               own_path : (own p needs fresh t.start).path ≡ t.path
-              own_path = (Rattle.own_run.proofs.Begun.run_tells t.start.nest needs (in_truth p needs fresh) p (Rattle.types.specs.Run.Block t.start.body) (Rattle.own_run.specs.OwnRun.beginning (Rattle.own_run.specs.OwnRun.at_first t.start.owned) fresh t.start)).path
+              own_path = (run_tells t.start.nest needs (in_truth p needs fresh) p (Block t.start.body) (beginning (at_first t.start.owned) fresh t.start)).path
                   ∙ start_path p needs fresh w0 root nameless t its
 
       -- where it ends a finish, that is its own
@@ -407,8 +407,8 @@ module _ (p : Program) (needs : Codes → Needs) (fresh w0 : ℕ) (least : 1 ≤
   in_hand_goes : (q : List ℕ) (t : Live) → task q w.live ≡ Some t → (v : ℕ) → hand_of t.place ≡ Some v → Goes
   in_hand_goes q t lives v hand = by_stakes t.stakes refl ((h.own.tasks q t lives).level)
     where
-      by_stakes : (ss : List Stake) → t.stakes ≡ ss → Rattle.interleave.proofs.OwnTasks.IsAtLevel p needs fresh w0 root nameless t.place t.stakes t → Goes
-      by_stakes [] e l = absurd (Rattle.interleave.proofs.OwnTasks.no_level p needs fresh w0 root nameless t.place t (subst (λ ss. Rattle.interleave.proofs.OwnTasks.IsAtLevel p needs fresh w0 root nameless t.place ss t) e l))
+      by_stakes : (ss : List Stake) → t.stakes ≡ ss → IsAtLevel p needs fresh w0 root nameless t.place t.stakes t → Goes
+      by_stakes [] e l = absurd (no_level p needs fresh w0 root nameless t.place t (subst (λ ss. IsAtLevel p needs fresh w0 root nameless t.place ss t) e l))
       by_stakes (s ∷ outer) e l = by_action q t lives v hand s outer e (does_next t) refl
 
   -- ---- a task in a queue, where all hands are free

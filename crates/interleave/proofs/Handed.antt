@@ -1,6 +1,6 @@
 -- The result of each ended task is in the scope that it was begun in, and nowhere else.
-use Rattle.std.proofs.Common.{◌≡◌, ℕ, ◌+◌, ◌-◌, ◌/◌, List, [], ◌∷◌, ◌++◌, length, Option, Some, refl, sym}
-use Rattle.std.proofs.Common.{ap, ◌∙◌, subst, inl, inr, arith}
+use Rattle.std.proofs.Common.{◌≡◌, ℕ, ◌+◌, ◌-◌, ◌/◌, List, [], ◌∷◌, ◌++◌, length, Option, Some, refl, sym, ap, ◌∙◌}
+use Rattle.std.proofs.Common.{subst, inl, inr, arith}
 use Rattle.std.proofs.lemmas.List.{append-nil}
 use Rattle.std.proofs.lemmas.List.Elements.{Contains-append_left, Contains-push, Contains-push_cases}
 use Rattle.std.specs.Prelude.{Bool, true, false, ◌⊎◌, map, Contains, if◌then◌else◌}
@@ -12,16 +12,15 @@ use Rattle.own_run.proofs.SettledResults.{paths_same}
 use Rattle.own_run.proofs.Lists.{each_more, each_last}
 use Rattle.interleave.specs.World.{same_path, ScopeId, Stake, Live, Scope, World, Hand, Parked, same_scope}
 use Rattle.interleave.specs.World.{child_path, task, put_task, without_task, scope, put_scope}
-use Rattle.interleave.specs.Events.{Event, Take, Steal, Steps, Replenish, Spawns, Opens, Parks, Ends, Pass}
-use Rattle.interleave.specs.Events.{Resume, issue, give_back, did, new_task, new_scope}
+use Rattle.interleave.specs.Events.{Event, Take, Steal, Steps, Replenish, Spawns, Opens, Parks, Ends, Pass, Resume}
+use Rattle.interleave.specs.Events.{issue, give_back, did, new_task, new_scope}
 use Rattle.interleave.specs.History.{told, SpawnsAt, BegunIn, in_own, handed_on}
 use Rattle.interleave.proofs.Lookups.{by_test, other_path, task-without_task, gone-without_task, Unique}
-use Rattle.interleave.proofs.Lookups.{scope-put_scope, scope_is}
-use Rattle.interleave.proofs.Histories.{cons_head, cons_tail, nil_cons, last_same, still_spawns}
-use Rattle.interleave.proofs.Histories.{spawned_since}
+use Rattle.interleave.proofs.Lookups.{scope-put_scope, scope_is, path_is, scopes_same, true_not_false}
+use Rattle.interleave.proofs.Histories.{cons_head, cons_tail, nil_cons, last_same, still_spawns, spawned_since}
 use Rattle.interleave.proofs.Stakes.{scope_of, own}
 use Rattle.interleave.proofs.Changes.{IsQuiet, IsSpawn, IsOpen, IsEnd, IsResume, Becomes}
-use Rattle.interleave.proofs.Kept.{base, Kept, IsTold}
+use Rattle.interleave.proofs.Kept.{base, Kept, IsTold, Hangs}
 use Rattle.interleave.proofs.Steps.{put_cases}
 use Rattle.interleave.proofs.Events.{rebooked}
 use Rattle.interleave.proofs.Scopes.{Lone, lone}
@@ -125,7 +124,7 @@ pub record Handed (es : List Event) (w : World) : Type 0 where
 kept_put : (es : List Event) (e : Event) (ss : List Scope) (x : ScopeId) (book to : Scope) (more : List TaskResult) → scope x ss ≡ Some book → to.id ≡ x → to.results ≡ book.results ++ more → (q : List ℕ) → IsKeptIn es ss q → IsKeptIn (es ++ e ∷ []) (put_scope to ss) q
 kept_put es e ss x book to more f g same q h =
     by_test (λ b. scope h.id (put_scope to ss) ≡ (if b then Some to else scope h.id ss) → (same_scope to.id h.id ≡ b) → IsKeptIn (es ++ e ∷ []) (put_scope to ss) q) (same_scope to.id h.id)
-    (λ i j i'. let at = sym g ∙ Rattle.interleave.proofs.Lookups.scopes_same to.id h.id i in
+    (λ i j i'. let at = sym g ∙ scopes_same to.id h.id i in
     let its : h.its ≡ book = same_Some _ _ (sym h.there ∙ ap (λ y. scope y ss) (sym at) ∙ f) in
     record {
       id = h.id;
@@ -245,7 +244,7 @@ module _ (does : Live → Option Action) (gives : Live → TaskResult) (w0 : ℕ
       still q g =
           by_test (λ x. same_scope (record { owner = c.was.path; number = c.was.opened + 1 }) g.id ≡ x → IsKeptIn (es ++ Opens p ∷ []) (new_scope (record { owner = c.was.path; number = c.was.opened + 1 }) w0 ∷ a.scopes) q)
           (same_scope (record { owner = c.was.path; number = c.was.opened + 1 }) g.id)
-          (λ i i'. let same = Rattle.interleave.proofs.Lookups.scopes_same (record { owner = c.was.path; number = c.was.opened + 1 }) g.id i in
+          (λ i i'. let same = scopes_same (record { owner = c.was.path; number = c.was.opened + 1 }) g.id i in
           let known = (k.scopes g.id g.its g.there).known in
           let opened = (k.tasks p c.was c.found).opened in
           let number : c.was.opened + 1 ≡ g.id.number = ap (λ (i : ScopeId). i.number) same in
@@ -288,7 +287,7 @@ module _ (does : Live → Option Action) (gives : Live → TaskResult) (w0 : ℕ
               alone [] e = refl
               alone (s ∷ ss) e = absurd (nil_cons (sym e))
 
-              by_hang : (p ≡ []) ⊎ Rattle.interleave.proofs.Kept.Hangs es a.live k.line p → c.at.inner.scope.owner ≡ p → ⊥
+              by_hang : (p ≡ []) ⊎ Hangs es a.live k.line p → c.at.inner.scope.owner ≡ p → ⊥
               by_hang (inl r) o = nil_cons (sym k.no_line ∙ ap k.line (sym r) ∙ g)
               by_hang (inr r) o =
                   let same : r.owner ≡ p = ap (λ (i : ScopeId). i.owner) (cons_head (sym r.lined ∙ g) ∙ sym (cons_head e)) ∙ o in
@@ -327,7 +326,7 @@ module _ (does : Live → Option Action) (gives : Live → TaskResult) (w0 : ℕ
         where
           by_owner : (c.at.inner.scope.owner ≡ p) ⊎ BegunIn es c.at.inner.scope p → BegunIn es c.at.inner.scope p
           by_owner (inr o) = o
-          by_owner (inl o) = absurd (Rattle.interleave.proofs.Lookups.true_not_false (Rattle.interleave.proofs.Lookups.path_is (c.at.named ∙ sym o)) c.own)
+          by_owner (inl o) = absurd (true_not_false (path_is (c.at.named ∙ sym o)) c.own)
 
       begun' : BegunIn (es ++ Ends p ∷ []) c.at.inner.scope p
       begun' = begun_in_still es (Ends p) c.at.inner.scope p begun

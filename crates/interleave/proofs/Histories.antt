@@ -1,12 +1,11 @@
 -- What one event more adds to a history.
-use Rattle.std.proofs.Common.{◌≡◌, ℕ, zero, suc, ◌+◌, ◌<◌, ◌≤◌, List, [], ◌∷◌, ◌++◌, length, refl, sym, ap}
-use Rattle.std.proofs.Common.{◌∙◌, subst, inl, inr, arith, append_assoc, le_refl}
+use Rattle.std.proofs.Common.{◌≡◌, ℕ, zero, suc, ◌+◌, ◌<◌, ◌≤◌, List, [], ◌∷◌, ◌++◌, length, refl, sym, ap, ◌∙◌}
+use Rattle.std.proofs.Common.{subst, inl, inr, arith, append_assoc, le_refl}
 use Rattle.std.specs.Prelude.{Bool, ◌⊎◌, map, Contains, if◌then◌else◌}
 use Rattle.interleave.specs.World.{same_path, ScopeId, child_path}
-use Rattle.interleave.specs.Events.{Event, Take, Steal, Steps, Replenish, Spawns, Opens, Parks, Ends, Pass}
-use Rattle.interleave.specs.Events.{Resume}
-use Rattle.interleave.specs.History.{Told, untold, spawned_more, opened_more, left_one, tell, tell_all}
-use Rattle.interleave.specs.History.{told, SpawnsAt, Begun, by_owner, by_member}
+use Rattle.interleave.specs.Events.{Event, Take, Steal, Steps, Replenish, Spawns, Opens, Parks, Ends, Pass, Resume}
+use Rattle.interleave.specs.History.{Told, untold, spawned_more, opened_more, left_one, tell, tell_all, told}
+use Rattle.interleave.specs.History.{SpawnsAt, Begun, by_owner, by_member}
 use Rattle.interleave.proofs.Lookups.{by_test, path_refl}
 
 -- ---- lists

@@ -1,6 +1,6 @@
 -- What holds of each world that a list of legal events leads to.
-use Rattle.std.proofs.Common.{◌≡◌, ℕ, zero, suc, ◌+◌, ◌<◌, ◌≤◌, List, [], ◌∷◌, ◌++◌, length, Some, ap, ◌∙◌}
-use Rattle.std.proofs.Common.{subst, inl, inr, arith}
+use Rattle.std.proofs.Common.{◌≡◌, ℕ, zero, suc, ◌+◌, ◌<◌, ◌≤◌, List, [], ◌∷◌, ◌++◌, length, Some, ap, ◌∙◌, subst}
+use Rattle.std.proofs.Common.{inl, inr, arith}
 use Rattle.std.proofs.lemmas.List.Elements.{Contains-append_left, Contains-append_cases}
 use Rattle.std.specs.Prelude.{true, ◌⊎◌, map, Contains}
 use Rattle.own_run.specs.Lists.{Each}
@@ -8,8 +8,7 @@ use Rattle.interleave.specs.World.{ScopeId, Stake, Live, Scope, World, task, sco
 use Rattle.interleave.specs.Events.{Event, Ends}
 use Rattle.interleave.specs.History.{Told, untold, told, SpawnsAt, Begun}
 use Rattle.interleave.proofs.Lookups.{Unique, held_least}
-use Rattle.interleave.proofs.Histories.{contains_nil, contains_later, contains_cons, contains_map}
-use Rattle.interleave.proofs.Histories.{map_contains}
+use Rattle.interleave.proofs.Histories.{contains_nil, contains_later, contains_cons, contains_map, map_contains}
 use Rattle.interleave.proofs.Stakes.{scope_of, own, Weighty, weighs_below, weighs_last}
 
 -- the scope that a task was begun in stands first in its line

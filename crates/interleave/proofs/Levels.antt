@@ -1,6 +1,6 @@
 -- What a task does is bracketed: it ends no finish that it hasn't begun, and its end comes last.
-use Rattle.std.proofs.Common.{◌≡◌, ℕ, zero, suc, ◌+◌, List, [], ◌∷◌, ◌++◌, Option, Some, None, refl, sym}
-use Rattle.std.proofs.Common.{ap, ◌∙◌, arith, append_assoc}
+use Rattle.std.proofs.Common.{◌≡◌, ℕ, zero, suc, ◌+◌, List, [], ◌∷◌, ◌++◌, Option, Some, None, refl, sym, ap, ◌∙◌}
+use Rattle.std.proofs.Common.{arith, append_assoc}
 use Rattle.std.proofs.lemmas.List.{append-nil}
 use Rattle.std.specs.Prelude.{Bool, true, false, take, slice_get, if◌then◌else◌}
 use Rattle.std.proofs.lemmas.Option.{none-some, same_Some}
@@ -12,8 +12,8 @@ use Rattle.effects.specs.Needs.{Needs}
 use Rattle.effects.proofs.Members.{both_true, false_true}
 use Rattle.own_run.specs.Apart.{is_stopped}
 use Rattle.own_run.specs.Results.{Settled}
-use Rattle.own_run.specs.OwnRun.{Start, Action, Step, Spawn, EnterFinish, EndFinish, EndTask, Own, at_first}
-use Rattle.own_run.specs.OwnRun.{notes, is_waiting, begin_own, leave_with, own_rules, beginning, own_run}
+use Rattle.own_run.specs.OwnRun.{Start, Action, Step, Spawn, EnterFinish, EndFinish, EndTask, Own, at_first, notes}
+use Rattle.own_run.specs.OwnRun.{is_waiting, begin_own, leave_with, own_rules, beginning, own_run}
 
 -- how many finishes are open behind actions, where d were before; none where one ends that isn't there, or the task
 abbrev pub depth : ℕ → List Action → Option ℕ

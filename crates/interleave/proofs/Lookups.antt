@@ -1,14 +1,13 @@
 -- Tasks and scopes by their names, and what changes when one is changed.
-use Rattle.std.proofs.Common.{◌≡◌, ℕ, ◌+◌, ◌≤◌, List, [], ◌∷◌, Option, Some, None, refl, sym, ap, ◌∙◌}
-use Rattle.std.proofs.Common.{subst, arith}
+use Rattle.std.proofs.Common.{◌≡◌, ℕ, ◌+◌, ◌≤◌, List, [], ◌∷◌, Option, Some, None, refl, sym, ap, ◌∙◌, subst, arith}
 use Rattle.std.proofs.lemmas.Bool.{eqb-true, eqb-false}
 use Rattle.std.specs.Prelude.{Bool, true, false, ◌&&◌, nat_eq, if◌then◌else◌}
 use Rattle.std.proofs.lemmas.Option.{none-some, same_Some}
 use Rattle.effects.proofs.Members.{both_true, false_true}
 use Rattle.own_run.specs.Lists.{Each}
 use Rattle.own_run.proofs.SettledResults.{paths_same}
-use Rattle.interleave.specs.World.{same_path, ScopeId, Live, Scope, same_scope, task, put_task}
-use Rattle.interleave.specs.World.{without_task, scope, put_scope, weight_in, held}
+use Rattle.interleave.specs.World.{same_path, ScopeId, Live, Scope, same_scope, task, put_task, without_task, scope}
+use Rattle.interleave.specs.World.{put_scope, weight_in, held}
 use Rattle.interleave.specs.Events.{only_if}
 
 -- ---- tests

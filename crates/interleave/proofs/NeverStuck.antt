@@ -1,5 +1,6 @@
 -- No world of a sound and accepted program is stuck, and at the end its outcome is told.
-use Rattle.std.proofs.Common.{◌≡◌, ℕ, ◌+◌, ◌≤◌, List, [], ◌∷◌, ◌++◌, Option, Some, refl, sym, ap, ◌∙◌, subst, inl, inr}
+use Rattle.std.proofs.Common.{◌≡◌, ℕ, ◌+◌, ◌≤◌, List, [], ◌∷◌, ◌++◌, Option, Some, refl, sym, ap, ◌∙◌, subst, inl}
+use Rattle.std.proofs.Common.{inr}
 use Rattle.std.proofs.lemmas.Option.{none-some, same_Some}
 use Rattle.std.specs.Prelude.{ℤ, true, false, ◌⊎◌}
 use Rattle.types.specs.Code.{Codes, Program}
@@ -34,7 +35,7 @@ use Rattle.interleave.proofs.Measured.{worth, worth_lists}
 use Rattle.interleave.proofs.There.{root_has_all, told_once_settled}
 use Rattle.interleave.proofs.Standing.{poise, has_next_action}
 use Rattle.interleave.proofs.Owed.{first_even}
-use Rattle.interleave.proofs.Parting.{AllPlaced, AllEvenBy, awake_stands, event_placed, event_even}
+use Rattle.interleave.proofs.Parting.{AllPlaced, AllEvenBy, awake_stands, event_placed, event_even, HasPlace}
 
 module _ (p : Program) (needs : Codes → Needs) (scoped : IsScoped p) (calm : IsCalm p) (provided : Provides p needs) (fresh w0 : ℕ)
     (least : 1 ≤ w0) (root : Start) (nameless : root.path ≡ []) (may_begin : MayBegin p needs root) where
@@ -54,7 +55,7 @@ module _ (p : Program) (needs : Codes → Needs) (scoped : IsScoped p) (calm : I
     where
       placed : AllPlaced p needs scoped calm provided fresh w0 root nameless may_begin (first_world w0 root).live
       placed [] t e =
-          subst (λ (t : Live). Rattle.interleave.proofs.Parting.HasPlace p needs scoped calm provided fresh w0 root nameless may_begin t.place t.stakes t)
+          subst (λ (t : Live). HasPlace p needs scoped calm provided fresh w0 root nameless may_begin t.place t.stakes t)
           (same_Some _ _ e)
           (begun fresh root, record { reached = root_stands; follows = begins_follow p needs fresh root root; after = refl })
       placed (j ∷ q) t e = absurd (none-some _ e)

@@ -1,6 +1,6 @@
 -- The n-th child that a task begins has its path with n behind.
-use Rattle.std.proofs.Common.{◌≡◌, ℕ, zero, suc, ◌+◌, List, [], ◌∷◌, ◌++◌, length, Option, Some, None, refl}
-use Rattle.std.proofs.Common.{sym, ap, ◌∙◌, inl, inr, arith, append_assoc}
+use Rattle.std.proofs.Common.{◌≡◌, ℕ, zero, suc, ◌+◌, List, [], ◌∷◌, ◌++◌, length, Option, Some, None, refl, sym, ap}
+use Rattle.std.proofs.Common.{◌∙◌, inl, inr, arith, append_assoc}
 use Rattle.std.proofs.lemmas.List.{append-nil}
 use Rattle.std.specs.Prelude.{Bool, true, false, ◌⊎◌, take, slice_get, if◌then◌else◌}
 use Rattle.std.proofs.lemmas.Option.{none-some, same_Some}
@@ -10,9 +10,9 @@ use Rattle.types.specs.Laws.{IsKept}
 use Rattle.types.proofs.Keeps.{run_keeps}
 use Rattle.effects.specs.Needs.{Needs}
 use Rattle.own_run.specs.Results.{Settled}
-use Rattle.own_run.specs.OwnRun.{Start, Action, Step, Spawn, EnterFinish, EndFinish, EndTask, Own, at_first}
-use Rattle.own_run.specs.OwnRun.{notes, is_waiting, child_of, list_child, begin_own, leave_with, own_rules}
-use Rattle.own_run.specs.OwnRun.{beginning, begun_by}
+use Rattle.own_run.specs.OwnRun.{Start, Action, Step, Spawn, EnterFinish, EndFinish, EndTask, Own, at_first, notes}
+use Rattle.own_run.specs.OwnRun.{is_waiting, child_of, list_child, begin_own, leave_with, own_rules, beginning}
+use Rattle.own_run.specs.OwnRun.{begun_by}
 use Rattle.own_run.specs.Given.{in_truth, own, given}
 use Rattle.own_run.proofs.SettledResults.{gives}
 use Rattle.own_run.proofs.Begun.{begun_by-append}

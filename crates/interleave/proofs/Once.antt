@@ -1,6 +1,6 @@
 -- A task hands on one result, once it has ended.
-use Rattle.std.proofs.Common.{◌≡◌, ℕ, ◌+◌, ◌-◌, ◌/◌, List, [], ◌∷◌, ◌++◌, Option, Some, None, refl, sym, ap}
-use Rattle.std.proofs.Common.{◌∙◌, subst, inl, inr}
+use Rattle.std.proofs.Common.{◌≡◌, ℕ, ◌+◌, ◌-◌, ◌/◌, List, [], ◌∷◌, ◌++◌, Option, Some, None, refl, sym, ap, ◌∙◌}
+use Rattle.std.proofs.Common.{subst, inl, inr}
 use Rattle.std.proofs.lemmas.List.{append-nil}
 use Rattle.std.proofs.lemmas.List.Elements.{Contains-append_left, Contains-push}
 use Rattle.std.specs.Prelude.{Bool, true, false, ◌⊎◌, ◌≢◌, map, Contains, if◌then◌else◌}
@@ -8,15 +8,15 @@ use Rattle.std.proofs.lemmas.Option.{none-some, same_Some}
 use Rattle.own_run.specs.Results.{TaskResult}
 use Rattle.own_run.specs.Lists.{Each}
 use Rattle.own_run.specs.OwnRun.{Action}
-use Rattle.own_run.proofs.Lists.{each_more, each_last}
 use Rattle.own_run.specs.Settling.{NoTwice}
-use Rattle.interleave.specs.World.{ScopeId, Live, Scope, World, Hand, Parked, same_scope, child_path, task}
-use Rattle.interleave.specs.World.{put_task, without_task, scope, put_scope}
-use Rattle.interleave.specs.Events.{Event, Take, Steal, Steps, Replenish, Spawns, Opens, Parks, Ends, Pass}
-use Rattle.interleave.specs.Events.{Resume, issue, give_back, did, new_task, new_scope}
+use Rattle.own_run.proofs.Lists.{each_more, each_last}
+use Rattle.interleave.specs.World.{ScopeId, Live, Scope, World, Hand, Parked, same_scope, child_path, task, put_task}
+use Rattle.interleave.specs.World.{without_task, scope, put_scope}
+use Rattle.interleave.specs.Events.{Event, Take, Steal, Steps, Replenish, Spawns, Opens, Parks, Ends, Pass, Resume}
+use Rattle.interleave.specs.Events.{issue, give_back, did, new_task, new_scope}
 use Rattle.interleave.specs.History.{told}
-use Rattle.interleave.proofs.Lookups.{true_not_false, path_is, by_test, path_not, task-put_task}
-use Rattle.interleave.proofs.Lookups.{none-without_task, gone-without_task}
+use Rattle.interleave.proofs.Lookups.{true_not_false, path_is, by_test, path_not, task-put_task, none-without_task}
+use Rattle.interleave.proofs.Lookups.{gone-without_task}
 use Rattle.interleave.proofs.Histories.{still_spawns, cons_head, nil_cons}
 use Rattle.interleave.proofs.Stakes.{scope_of, own}
 use Rattle.interleave.proofs.Changes.{IsQuiet, IsEnd, Becomes}

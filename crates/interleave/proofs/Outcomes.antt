@@ -1,6 +1,6 @@
 -- What every replay keeps, and what it comes to.
-use Rattle.std.proofs.Common.{inl, ◌≡◌, ℕ, suc, ◌+◌, ◌≤◌, List, [], ◌∷◌, ◌++◌, length, Option, Some, None}
-use Rattle.std.proofs.Common.{refl, sym, ap, ◌∙◌, subst, arith, append_assoc}
+use Rattle.std.proofs.Common.{inl, ◌≡◌, ℕ, suc, ◌+◌, ◌≤◌, List, [], ◌∷◌, ◌++◌, length, Option, Some, None, refl, sym}
+use Rattle.std.proofs.Common.{ap, ◌∙◌, subst, arith, append_assoc}
 use Rattle.std.proofs.lemmas.List.{append-nil}
 use Rattle.std.specs.Prelude.{take, ◌⊎◌, ℤ, true, map, Contains, if◌then◌else◌}
 use Rattle.std.proofs.lemmas.Option.{none-some, same_Some}
@@ -8,21 +8,20 @@ use Rattle.types.specs.Code.{Codes, Program}
 use Rattle.types.specs.Outcome.{Budget}
 use Rattle.effects.specs.Needs.{Needs}
 use Rattle.own_run.specs.Results.{TaskResult, and_then}
-use Rattle.own_run.specs.Settling.{settle}
+use Rattle.own_run.specs.Settling.{settle, NoTwice}
 use Rattle.own_run.specs.Lists.{Each}
 use Rattle.own_run.specs.OwnRun.{Start, result_of, run_by}
 use Rattle.own_run.specs.Given.{own, given, IsOwn, root_of}
 use Rattle.own_run.proofs.Lists.{each_more}
-use Rattle.own_run.specs.Settling.{NoTwice}
 use Rattle.own_run.proofs.SettledResults.{gives}
-use Rattle.interleave.specs.World.{ScopeId, Stake, Live, Scope, World, Whereabouts, Queue, Hand, Parked}
-use Rattle.interleave.specs.World.{same_scope, root_scope, task, scope, weight_in, held}
+use Rattle.interleave.specs.World.{ScopeId, Stake, Live, Scope, World, Whereabouts, Queue, Hand, Parked, same_scope}
+use Rattle.interleave.specs.World.{root_scope, task, scope, weight_in, held}
 use Rattle.interleave.specs.Events.{Event, new_task, new_scope, next, first_world, after, Ends}
-use Rattle.interleave.specs.Replay.{does, hands_on, event, Replayed, Legal, IllegalAt, go_or, replay_from}
-use Rattle.interleave.specs.Replay.{start_of, replay}
+use Rattle.interleave.specs.Replay.{does, hands_on, event, Replayed, Legal, IllegalAt, go_or, replay_from, start_of}
+use Rattle.interleave.specs.Replay.{replay}
+use Rattle.interleave.specs.History.{BegunIn}
 use Rattle.interleave.proofs.ReplayLaws.{ReplaysAreWorlds, PassedHasEnded, StartsAreGiven, ResultsAreOwn}
 use Rattle.interleave.proofs.ReplayLaws.{ResultsComeOnce, ResultsAreHanded, RefusesTheFirst}
-use Rattle.interleave.specs.History.{BegunIn}
 use Rattle.interleave.proofs.Lookups.{by_test, holds, held_least, task_path}
 use Rattle.interleave.proofs.Handed.{Last, Handed, event_handed, begun_in_one}
 use Rattle.interleave.proofs.Histories.{contains_nil, contains_here, contains_later}

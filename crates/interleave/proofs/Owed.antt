@@ -1,11 +1,12 @@
 -- Whatever results are worth: what a scope holds, and what the tasks begun in it are, is what was spawned for it.
-use Rattle.std.proofs.Common.{◌≡◌, ℕ, zero, suc, ◌+◌, ◌-◌, ◌/◌, ◌<◌, ◌≤◌, List, [], ◌∷◌, ◌++◌, length, Option, Some, None}
-use Rattle.std.proofs.Common.{refl, sym, ap, ◌∙◌, subst, inl, inr, arith}
+use Rattle.std.proofs.Common.{◌≡◌, ℕ, zero, suc, ◌+◌, ◌-◌, ◌/◌, ◌<◌, ◌≤◌, List, [], ◌∷◌, ◌++◌, length, Option, Some}
+use Rattle.std.proofs.Common.{None, refl, sym, ap, ◌∙◌, subst, inl, inr, arith}
 use Rattle.std.proofs.lemmas.Option.{none-some, same_Some}
 use Rattle.std.proofs.lemmas.List.{append-nil}
 use Rattle.std.specs.Prelude.{Bool, true, false, ◌⊎◌, map, take, Contains, if◌then◌else◌}
 use Rattle.types.specs.Code.{Codes, Program}
 use Rattle.effects.specs.Needs.{Needs}
+use Rattle.effects.proofs.Members.{false_true}
 use Rattle.own_run.specs.Results.{TaskResult}
 use Rattle.own_run.specs.Lists.{Each}
 use Rattle.own_run.specs.OwnRun.{Start, Action, Step, Spawn, EnterFinish, EndFinish, EndTask, result_of}
@@ -17,9 +18,10 @@ use Rattle.interleave.specs.World.{is_parked, weight_in, held}
 use Rattle.interleave.specs.Events.{Event, issue, give_back, did, new_task, new_scope}
 use Rattle.interleave.specs.History.{told}
 use Rattle.interleave.proofs.Lookups.{by_test, path_not, other_path, scope_is, scopes_same, other_scope}
-use Rattle.interleave.proofs.Lookups.{task-without_task, gone-without_task, unique-without_task, held_least, task_path}
-use Rattle.interleave.proofs.Histories.{contains_nil, contains_here, contains_later, contains_cons, cons_head, cons_tail}
-use Rattle.interleave.proofs.Histories.{nil_cons, nil_snoc, last_same}
+use Rattle.interleave.proofs.Lookups.{task-without_task, gone-without_task, unique-without_task, held_least}
+use Rattle.interleave.proofs.Lookups.{task_path, Unique}
+use Rattle.interleave.proofs.Histories.{contains_nil, contains_here, contains_later, contains_cons, cons_head}
+use Rattle.interleave.proofs.Histories.{cons_tail, nil_cons, nil_snoc, last_same}
 use Rattle.interleave.proofs.Stakes.{scope_of, own as own_scope, Weighty, positive_in}
 use Rattle.interleave.proofs.Changes.{IsQuiet, IsAt, IsReplenish, IsSpawn, IsOpen, IsPark, IsEnd, IsPass, IsResume}
 use Rattle.interleave.proofs.Kept.{base, Hangs, IsKnown, Kept, base_weighs}
@@ -29,11 +31,12 @@ use Rattle.interleave.proofs.Scopes.{Lone, lone}
 use Rattle.interleave.proofs.Once.{root_stays}
 use Rattle.interleave.proofs.Levels.{depth}
 use Rattle.interleave.proofs.Direct.{start_of}
-use Rattle.interleave.proofs.OwnTasks.{IsOwnTask, AllOwn, IsAtLevel, truly, nexts, hands, more_done, ends_in_truth, at_level}
-use Rattle.interleave.proofs.OwnTasks.{awake_level}
-use Rattle.interleave.proofs.GoingOn.{each_of}
+use Rattle.interleave.proofs.OwnTasks.{IsOwnTask, AllOwn, IsAtLevel, truly, nexts, hands, more_done, ends_in_truth}
+use Rattle.interleave.proofs.OwnTasks.{at_level, awake_level}
+use Rattle.interleave.proofs.GoingOn.{each_of, each_at}
 use Rattle.interleave.proofs.Pending.{spawned, spawned-append}
-use Rattle.interleave.proofs.Worth.{sum_of, sum_of-nil, sum_of-cons, sum_of-last, sum_of-put_task, sum_of-without_task}
+use Rattle.interleave.proofs.Worth.{sum_of, sum_of-nil, sum_of-cons, sum_of-last, sum_of-put_task}
+use Rattle.interleave.proofs.Worth.{sum_of-without_task}
 
 -- ---- lists
 pub sum_of-zero : {A : Type 0} (g : A → ℕ) (xs : List A) → Each (λ x. g x ≡ 0) xs → sum_of g xs ≡ 0
@@ -41,7 +44,7 @@ sum_of-zero g [] h = sum_of-nil g
 sum_of-zero g (x ∷ xs) h = let a = sum_of-cons g x xs in let b = h.0 in let c = sum_of-zero g xs h.1 in omega (arith, a, b, c)
 
 -- where only one task counts
-pub sum_of-one : (g : Live → ℕ) (path : List ℕ) (t : Live) (ts : List Live) → Rattle.interleave.proofs.Lookups.Unique ts → task path ts ≡ Some t
+pub sum_of-one : (g : Live → ℕ) (path : List ℕ) (t : Live) (ts : List Live) → Unique ts → task path ts ≡ Some t
     → ((q : List ℕ) (u : Live) → task q ts ≡ Some u → (path ≡ q → ⊥) → g u ≡ 0) → sum_of g ts ≡ g t
 sum_of-one g path t ts unique e h =
     let a = sum_of-without_task g path t ts e in
@@ -74,12 +77,12 @@ based id (x ∷ []) = same_scope x id
 based id (x ∷ y ∷ more) = based id (y ∷ more)
 
 based_last : (id : ScopeId) (xs : List ScopeId) → based id xs ≡ true → (ys : List ScopeId) × (xs ≡ ys ++ id ∷ [])
-based_last id [] e = absurd (Rattle.effects.proofs.Members.false_true e)
+based_last id [] e = absurd (false_true e)
 based_last id (x ∷ []) e = ([], ap (λ i. i ∷ []) (scopes_same x id e))
 based_last id (x ∷ y ∷ more) e = let h = based_last id (y ∷ more) e in (x ∷ h.0, ap (λ l. x ∷ l) h.1)
 
 based_in : (id : ScopeId) (xs : List ScopeId) → based id xs ≡ true → Contains xs id
-based_in id [] e = absurd (Rattle.effects.proofs.Members.false_true e)
+based_in id [] e = absurd (false_true e)
 based_in id (x ∷ []) e = subst (Contains (x ∷ [])) (scopes_same x id e) (contains_here x [])
 based_in id (x ∷ y ∷ more) e = contains_later x (y ∷ more) id (based_in id (y ∷ more) e)
 
@@ -134,7 +137,7 @@ module _ (p : Program) (needs : Codes → Needs) (fresh w0 : ℕ) (root : Start)
   pub prior_awake : (w : Whereabouts) (n : ℕ) → is_parked w ≡ false → prior w n ≡ n
   prior_awake (Queue w) n e = refl
   prior_awake (Hand w) n e = refl
-  prior_awake Parked n e = absurd (Rattle.effects.proofs.Members.false_true (sym e))
+  prior_awake Parked n e = absurd (false_true (sym e))
 
   -- what a task has spawned in each scope that it stands in
   pub open_in : Live → List (List Start)
@@ -313,7 +316,7 @@ module _ (p : Program) (needs : Codes → Needs) (fresh w0 : ℕ) (root : Start)
           omega (arith, x, y))
 
       nobody : (q : List ℕ) (u : Live) → task q a.live ≡ Some u → Contains (map scope_of u.stakes) new → ⊥
-      nobody q u e = is_new u.stakes (Rattle.interleave.proofs.GoingOn.each_at (λ (t : Live). Each (IsKnown es) t.stakes) a.live q u k.known e)
+      nobody q u e = is_new u.stakes (each_at (λ (t : Live). Each (IsKnown es) t.stakes) a.live q u k.known e)
 
       opens : open_in opener ≡ [] ∷ open_in c.was
       opens = open_more c.was opener (o.tasks path c.was c.found) EnterFinish c.next c.awake c.awake refl refl
@@ -560,8 +563,8 @@ module _ (p : Program) (needs : Codes → Needs) (fresh w0 : ℕ) (root : Start)
       outer_not d = by_weights c.was.place c.parked (subst (Weighty c.was.place path) c.stakes (k.tasks path c.was c.found).weighty)
         where
           by_weights : (w : Whereabouts) → is_parked w ≡ true → Weighty w path (c.inner ∷ c.next ∷ c.outer) → ⊥
-          by_weights (Queue w) e x = Rattle.effects.proofs.Members.false_true e
-          by_weights (Hand w) e x = Rattle.effects.proofs.Members.false_true e
+          by_weights (Queue w) e x = false_true e
+          by_weights (Hand w) e x = false_true e
           by_weights Parked e x =
               let y = positive_in c.inner.scope (c.next ∷ c.outer) x.2 d in
               let z : weight_in c.inner.scope c.was.stakes ≡ weight_in c.inner.scope (c.inner ∷ c.next ∷ c.outer) = ap (weight_in c.inner.scope) c.stakes in

@@ -1,6 +1,6 @@
 -- Each task of a world started with what its path is given, and does what its own run does.
-use Rattle.std.proofs.Common.{◌≡◌, ℕ, zero, suc, ◌+◌, ◌-◌, ◌/◌, List, [], ◌∷◌, ◌++◌, length, Option, Some}
-use Rattle.std.proofs.Common.{None, refl, sym, ap, ◌∙◌, subst, inl, inr, arith, append_assoc}
+use Rattle.std.proofs.Common.{◌≡◌, ℕ, zero, suc, ◌+◌, ◌-◌, ◌/◌, List, [], ◌∷◌, ◌++◌, length, Option, Some, None, refl}
+use Rattle.std.proofs.Common.{sym, ap, ◌∙◌, subst, inl, inr, arith, append_assoc}
 use Rattle.std.proofs.lemmas.List.{append-nil}
 use Rattle.std.specs.Prelude.{Bool, true, false, ◌⊎◌, ◌&&◌, take, slice_get, if◌then◌else◌}
 use Rattle.std.proofs.lemmas.Option.{none-some, same_Some}
@@ -12,21 +12,19 @@ use Rattle.own_run.specs.Apart.{is_stopped}
 use Rattle.own_run.specs.Results.{TaskResult, none_yet, complete}
 use Rattle.own_run.specs.Lists.{Each}
 use Rattle.own_run.specs.OwnRun.{Start, Action, Step, Spawn, EnterFinish, EndFinish, EndTask, Own, at_first}
-use Rattle.own_run.specs.OwnRun.{result_of, last_action, actions_of, begun_by, beginning, from_receipts}
-use Rattle.own_run.specs.OwnRun.{run_by}
+use Rattle.own_run.specs.OwnRun.{result_of, last_action, actions_of, begun_by, beginning, from_receipts, run_by}
 use Rattle.own_run.specs.Given.{filled, in_truth, own, given, IsOwn}
 use Rattle.own_run.proofs.SettledResults.{paths_same, IsGiven, given_last}
 use Rattle.own_run.proofs.Begun.{begun_by-append, get-append_left, never_waits, run_tells}
 use Rattle.own_run.proofs.Lists.{each_last}
-use Rattle.interleave.specs.World.{same_path, ScopeId, Stake, Live, Scope, World, Whereabouts, Queue, Hand}
-use Rattle.interleave.specs.World.{Parked, same_scope, child_path, task, put_task, without_task, scope}
-use Rattle.interleave.specs.World.{put_scope, is_parked}
-use Rattle.interleave.specs.Events.{Event, Take, Steal, Steps, Replenish, Spawns, Opens, Parks, Ends, Pass}
-use Rattle.interleave.specs.Events.{Resume, issue, give_back, did, new_scope, new_task, next_action}
+use Rattle.interleave.specs.World.{same_path, ScopeId, Stake, Live, Scope, World, Whereabouts, Queue, Hand, Parked}
+use Rattle.interleave.specs.World.{same_scope, child_path, task, put_task, without_task, scope, put_scope, is_parked}
+use Rattle.interleave.specs.Events.{Event, Take, Steal, Steps, Replenish, Spawns, Opens, Parks, Ends, Pass, Resume}
+use Rattle.interleave.specs.Events.{issue, give_back, did, new_scope, new_task, next_action}
 use Rattle.interleave.specs.Replay.{does, hands_on}
 use Rattle.interleave.proofs.Lookups.{by_test, other_path, task-without_task, gone-without_task, Unique}
-use Rattle.interleave.proofs.Changes.{IsQuiet, IsAt, IsReplenish, IsSpawn, IsOpen, IsPark, IsEnd, IsPass}
-use Rattle.interleave.proofs.Changes.{IsResume, Becomes}
+use Rattle.interleave.proofs.Changes.{IsQuiet, IsAt, IsReplenish, IsSpawn, IsOpen, IsPark, IsEnd, IsPass, IsResume}
+use Rattle.interleave.proofs.Changes.{Becomes}
 use Rattle.interleave.proofs.Steps.{put_cases}
 use Rattle.interleave.proofs.Events.{rebooked}
 use Rattle.interleave.proofs.Truth.{Rel, Behind, run_in_truth}

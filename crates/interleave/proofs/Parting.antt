@@ -14,13 +14,13 @@ use Rattle.own_run.specs.Results.{TaskResult, Settled}
 use Rattle.own_run.specs.Settling.{settle}
 use Rattle.own_run.specs.Lists.{Each, Shuffled, none}
 use Rattle.own_run.specs.OwnRun.{Start, Child, Action, Step, Spawn, EnterFinish, EndFinish, EndTask, Own, result_of}
-use Rattle.own_run.specs.OwnRun.{own_rules, last_action}
+use Rattle.own_run.specs.OwnRun.{own_rules, last_action, next_action}
 use Rattle.own_run.specs.Given.{own, in_truth, below, IsOwn}
 use Rattle.own_run.specs.Frames.{Frame, AtEnd, Standing, turn, handed, IsBegun}
 use Rattle.own_run.specs.Holds.{MayBegin}
 use Rattle.own_run.specs.Reached.{Reached, child_begins, begun}
 use Rattle.own_run.proofs.NeverStuck.{pending_results, settles_any}
-use Rattle.own_run.proofs.ReachedTasks.{goes}
+use Rattle.own_run.proofs.ReachedTasks.{goes, Goes}
 use Rattle.own_run.proofs.TaskRuns.{goes_on, lists_given, begins_follow}
 use Rattle.own_run.proofs.SettledResults.{paths_same}
 use Rattle.interleave.specs.World.{ScopeId, Stake, Live, Scope, World, Whereabouts, Queue, Hand, Parked, same_path}
@@ -30,7 +30,8 @@ use Rattle.interleave.specs.Events.{did, new_task}
 use Rattle.interleave.proofs.ReplayLaws.{measured}
 use Rattle.interleave.proofs.Lookups.{by_test, other_path, task-without_task, gone-without_task, Unique}
 use Rattle.interleave.proofs.Histories.{cons_head, cons_tail, nil_snoc}
-use Rattle.interleave.proofs.Changes.{IsQuiet, IsAt, IsReplenish, IsSpawn, IsOpen, IsPark, IsEnd, IsPass, IsResume, Becomes}
+use Rattle.interleave.proofs.Changes.{IsQuiet, IsAt, IsReplenish, IsSpawn, IsOpen, IsPark, IsEnd, IsPass, IsResume}
+use Rattle.interleave.proofs.Changes.{Becomes}
 use Rattle.interleave.proofs.Kept.{Kept}
 use Rattle.interleave.proofs.Steps.{put_cases}
 use Rattle.interleave.proofs.Levels.{depth, depth-append, bracketed, take_next}
@@ -42,10 +43,11 @@ use Rattle.interleave.proofs.GoingOn.{take_all}
 use Rattle.interleave.proofs.Worth.{sum_of, sum_of-nil}
 use Rattle.interleave.proofs.Measured.{worth, worth_lists, measured_is, pending_worth}
 use Rattle.interleave.proofs.There.{IsReal, shuffled, pending_real}
-use Rattle.interleave.proofs.Standing.{Stands, Poised, Closes, finishes, is_over, poise, moves, closes, closed, moved_on, left}
+use Rattle.interleave.proofs.Standing.{Stands, Poised, Closes, finishes, is_over, poise, moves, closes, closed}
+use Rattle.interleave.proofs.Standing.{moved_on, left, IsMove}
 use Rattle.interleave.proofs.Pending.{spawned, spawned-append, around, pendings, turn_pending, pending_spawned}
-use Rattle.interleave.proofs.Owed.{AllEven, open_in, open_is, quiet_even, replenish_even, park_even, pass_even, open_even}
-use Rattle.interleave.proofs.Owed.{spawn_even, end_even, resume_even, results_are}
+use Rattle.interleave.proofs.Owed.{AllEven, open_in, open_is, quiet_even, replenish_even, park_even, pass_even}
+use Rattle.interleave.proofs.Owed.{open_even, spawn_even, end_even, resume_even, results_are, prior, prior_awake}
 
 -- the last of what is listed
 listed_last : (cs : List Child) (ss : List Start) (c : Start) → map start_of cs ≡ ss ++ c ∷ [] → (d : Child) × Member d cs × (d.start ≡ c)
@@ -118,8 +120,8 @@ module _ (p : Program) (needs : Codes → Needs) (scoped : IsScoped p) (calm : I
       by_place (inr (i, j)) = h q t j
 
   -- a step further
-  further : (s : Start) (receipts : List (List TaskResult)) (done : ℕ) (a : Action) → Rattle.interleave.proofs.Standing.IsMove a
-      → Rattle.own_run.specs.OwnRun.next_action p needs fresh receipts done s ≡ Some a → StandsBy s receipts done
+  further : (s : Start) (receipts : List (List TaskResult)) (done : ℕ) (a : Action) → IsMove a
+      → next_action p needs fresh receipts done s ≡ Some a → StandsBy s receipts done
       → StandsBy s receipts (done + 1)
   further s receipts done a m e h =
       let k = moves p needs scoped calm provided fresh root nameless may_begin s receipts done
@@ -180,7 +182,7 @@ module _ (p : Program) (needs : Codes → Needs) (scoped : IsScoped p) (calm : I
     abbrev opened : Live → List (List Start)
     opened t = open_in p needs fresh w0 root nameless (worth p needs fresh w0 root nameless f) f (worth_lists p needs fresh w0 root nameless f) t
 
-    opened_is : (t : Live) (n : ℕ) → Rattle.interleave.proofs.Owed.prior p needs fresh w0 root nameless (worth p needs fresh w0 root nameless f) f
+    opened_is : (t : Live) (n : ℕ) → prior p needs fresh w0 root nameless (worth p needs fresh w0 root nameless f) f
         (worth_lists p needs fresh w0 root nameless f) t.place t.done ≡ n → opened t ≡ spawned ([] ∷ []) (take n (truth t.start))
     opened_is t n e =
         open_is p needs fresh w0 root nameless (worth p needs fresh w0 root nameless f) f (worth_lists p needs fresh w0 root nameless f) t
@@ -218,48 +220,48 @@ module _ (p : Program) (needs : Codes → Needs) (scoped : IsScoped p) (calm : I
         (place_awake c.at.was.place c.at.was.stakes c.at.was c.at.awake (h path c.at.was c.at.found))))
 
     module _ (path : List ℕ) (b : World) (c : IsSpawn its_next path a b) where
-        abbrev kid : Live
-        kid = new_task (child_path c.at.was.path (c.at.was.spawned + 1)) c.child (record c.at.inner { weight = c.at.inner.weight / 2 }) c.at.worker
+      abbrev kid : Live
+      kid = new_task (child_path c.at.was.path (c.at.was.spawned + 1)) c.child (record c.at.inner { weight = c.at.inner.weight / 2 }) c.at.worker
 
-        abbrev parent : Live
-        parent = record (did c.at.was (record c.at.inner { weight = c.at.inner.weight - c.at.inner.weight / 2 } ∷ c.at.outer)) { spawned = c.at.was.spawned + 1 }
+      abbrev parent : Live
+      parent = record (did c.at.was (record c.at.inner { weight = c.at.inner.weight - c.at.inner.weight / 2 } ∷ c.at.outer)) { spawned = c.at.was.spawned + 1 }
 
-        spawner_stood : StandsBy c.at.was.start c.at.was.receipts c.at.was.done
-        spawner_stood = place_awake c.at.was.place c.at.was.stakes c.at.was c.at.awake (h path c.at.was c.at.found)
+      spawner_stood : StandsBy c.at.was.start c.at.was.receipts c.at.was.done
+      spawner_stood = place_awake c.at.was.place c.at.was.stakes c.at.was c.at.awake (h path c.at.was c.at.found)
 
-        on_parent : HasPlace parent.place parent.stakes parent
-        on_parent =
-            awake_place c.at.was.place parent.stakes parent c.at.awake
-            (further c.at.was.start c.at.was.receipts c.at.was.done (Spawn c.child) tt c.next spawner_stood)
+      on_parent : HasPlace parent.place parent.stakes parent
+      on_parent =
+          awake_place c.at.was.place parent.stakes parent c.at.awake
+          (further c.at.was.start c.at.was.receipts c.at.was.done (Spawn c.child) tt c.next spawner_stood)
 
-        on_kid : StandsBy c.child [] 0
-        on_kid =
-            let m = moves p needs scoped calm provided fresh root nameless may_begin c.at.was.start c.at.was.receipts c.at.was.done
-            (poise p needs scoped calm provided fresh root nameless may_begin c.at.was.start c.at.was.receipts c.at.was.done spawner_stood.0 spawner_stood.1)
-            (Spawn c.child) tt c.next in
-            let s = moved_on p needs scoped calm provided fresh root nameless may_begin c.at.was.start c.at.was.receipts c.at.was.done (Spawn c.child) m in
-            let to = turn p (own_rules needs c.at.was.start.nest (in_truth p needs fresh)) m.frame m.frames m.state in
-            let all = turn_pending p needs fresh c.at.was.start.nest m.frame m.frames m.state
-            ∙ ap (λ xs. spawned (pendings (m.frame ∷ m.frames) m.state) xs) m.does in
-            let d = listed_last to.state.extra.pending (map start_of m.state.extra.pending) c.child (cons_head all) in
-            subst (λ x. StandsBy x [] 0) d.2 (
-              begun fresh d.0.start,
-              record {
-                reached = child_begins s.reached d.1;
-                follows = begins_follow p needs fresh root d.0.start;
-                after = refl;
-              },
-            )
+      on_kid : StandsBy c.child [] 0
+      on_kid =
+          let m = moves p needs scoped calm provided fresh root nameless may_begin c.at.was.start c.at.was.receipts c.at.was.done
+          (poise p needs scoped calm provided fresh root nameless may_begin c.at.was.start c.at.was.receipts c.at.was.done spawner_stood.0 spawner_stood.1)
+          (Spawn c.child) tt c.next in
+          let s = moved_on p needs scoped calm provided fresh root nameless may_begin c.at.was.start c.at.was.receipts c.at.was.done (Spawn c.child) m in
+          let to = turn p (own_rules needs c.at.was.start.nest (in_truth p needs fresh)) m.frame m.frames m.state in
+          let all = turn_pending p needs fresh c.at.was.start.nest m.frame m.frames m.state
+          ∙ ap (λ xs. spawned (pendings (m.frame ∷ m.frames) m.state) xs) m.does in
+          let d = listed_last to.state.extra.pending (map start_of m.state.extra.pending) c.child (cons_head all) in
+          subst (λ x. StandsBy x [] 0) d.2 (
+            begun fresh d.0.start,
+            record {
+              reached = child_begins s.reached d.1;
+              follows = begins_follow p needs fresh root d.0.start;
+              after = refl;
+            },
+          )
 
-        placed : AllPlaced (kid ∷ put_task parent a.live)
-        placed q t f =
-            by_test (λ x. (if x then Some kid else task q (put_task parent a.live)) ≡ Some t → HasPlace t.place t.stakes t)
-            (same_path kid.path q)
-            (λ g e. subst (λ (t : Live). HasPlace t.place t.stakes t) (same_Some _ _ e) on_kid)
-            (λ g e. put_placed parent c.at.was path a.live c.at.found c.at.named h on_parent q t e) f
+      placed : AllPlaced (kid ∷ put_task parent a.live)
+      placed q t f =
+          by_test (λ x. (if x then Some kid else task q (put_task parent a.live)) ≡ Some t → HasPlace t.place t.stakes t)
+          (same_path kid.path q)
+          (λ g e. subst (λ (t : Live). HasPlace t.place t.stakes t) (same_Some _ _ e) on_kid)
+          (λ g e. put_placed parent c.at.was path a.live c.at.found c.at.named h on_parent q t e) f
 
-        spawn_placed : AllPlaced b.live
-        spawn_placed = subst (λ (w : World). AllPlaced w.live) c.now placed
+      spawn_placed : AllPlaced b.live
+      spawn_placed = subst (λ (w : World). AllPlaced w.live) c.now placed
 
     open_placed : (path : List ℕ) (b : World) → IsOpen its_next w0 path a b → AllPlaced b.live
     open_placed path b c =
@@ -272,44 +274,44 @@ module _ (p : Program) (needs : Codes → Needs) (scoped : IsScoped p) (calm : I
         (place_awake c.was.place c.was.stakes c.was c.awake (h path c.was c.found)))))
 
     module _ (path : List ℕ) (b : World) (c : IsPark its_next path a b) where
-        abbrev parked : Live
-        parked = record (did c.at.was (record c.at.inner { weight = 0 } ∷ c.at.outer)) { place = Parked }
+      abbrev parked : Live
+      parked = record (did c.at.was (record c.at.inner { weight = 0 } ∷ c.at.outer)) { place = Parked }
 
-        its : IsTaskOf c.at.was
-        its = o.tasks path c.at.was c.at.found
+      its : IsTaskOf c.at.was
+      its = o.tasks path c.at.was c.at.found
 
-        parker_stood : StandsBy c.at.was.start c.at.was.receipts c.at.was.done
-        parker_stood = place_awake c.at.was.place c.at.was.stakes c.at.was c.at.awake (h path c.at.was c.at.found)
+      parker_stood : StandsBy c.at.was.start c.at.was.receipts c.at.was.done
+      parker_stood = place_awake c.at.was.place c.at.was.stakes c.at.was c.at.awake (h path c.at.was c.at.found)
 
-        by_close : (r : Stake) (more : List Stake) → c.at.outer ≡ r ∷ more
-            → Closes p needs scoped calm provided fresh root nameless may_begin c.at.was.start c.at.was.receipts c.at.was.done → WaitsAt parked
-        by_close r more e (finishes before fs st s) = record {
-          before = before;
-          frames = fs;
-          state = st;
-          done = c.at.was.done;
-          stands = s;
-          count = refl;
-          ends = next_in_truth p needs fresh w0 root nameless c.at.was its EndFinish c.next;
-        }
-        by_close r more e (is_over st s) =
-            let d = depth_more p needs fresh w0 root nameless c.at.was its EndFinish (length c.at.outer) c.next
-            (at_level p needs fresh w0 root nameless a o path c.at) in
-            absurd (none-some _
-            (sym (truth_none c.at.was.start) ∙ ap (depth 0) (sym (over_whole c.at.was.start c.at.was.receipts c.at.was.done st s))
-            ∙ d ∙ ap (λ (ss : List Stake). depth (length ss) (EndFinish ∷ [])) e))
+      by_close : (r : Stake) (more : List Stake) → c.at.outer ≡ r ∷ more
+          → Closes p needs scoped calm provided fresh root nameless may_begin c.at.was.start c.at.was.receipts c.at.was.done → WaitsAt parked
+      by_close r more e (finishes before fs st s) = record {
+        before = before;
+        frames = fs;
+        state = st;
+        done = c.at.was.done;
+        stands = s;
+        count = refl;
+        ends = next_in_truth p needs fresh w0 root nameless c.at.was its EndFinish c.next;
+      }
+      by_close r more e (is_over st s) =
+          let d = depth_more p needs fresh w0 root nameless c.at.was its EndFinish (length c.at.outer) c.next
+          (at_level p needs fresh w0 root nameless a o path c.at) in
+          absurd (none-some _
+          (sym (truth_none c.at.was.start) ∙ ap (depth 0) (sym (over_whole c.at.was.start c.at.was.receipts c.at.was.done st s))
+          ∙ d ∙ ap (λ (ss : List Stake). depth (length ss) (EndFinish ∷ [])) e))
 
-        by_outer : (ss : List Stake) → c.at.outer ≡ ss → HasPlace Parked (record c.at.inner { weight = 0 } ∷ c.at.outer) parked
-        by_outer [] e = subst (λ ss. HasPlace Parked (record c.at.inner { weight = 0 } ∷ ss) parked) (sym e) tt
-        by_outer (r ∷ more) e =
-            subst (λ ss. HasPlace Parked (record c.at.inner { weight = 0 } ∷ ss) parked) (sym e)
-            (by_close r more e
-            (closes p needs scoped calm provided fresh root nameless may_begin c.at.was.start c.at.was.receipts c.at.was.done
-            (poise p needs scoped calm provided fresh root nameless may_begin c.at.was.start c.at.was.receipts c.at.was.done parker_stood.0 parker_stood.1) c.next))
+      by_outer : (ss : List Stake) → c.at.outer ≡ ss → HasPlace Parked (record c.at.inner { weight = 0 } ∷ c.at.outer) parked
+      by_outer [] e = subst (λ ss. HasPlace Parked (record c.at.inner { weight = 0 } ∷ ss) parked) (sym e) tt
+      by_outer (r ∷ more) e =
+          subst (λ ss. HasPlace Parked (record c.at.inner { weight = 0 } ∷ ss) parked) (sym e)
+          (by_close r more e
+          (closes p needs scoped calm provided fresh root nameless may_begin c.at.was.start c.at.was.receipts c.at.was.done
+          (poise p needs scoped calm provided fresh root nameless may_begin c.at.was.start c.at.was.receipts c.at.was.done parker_stood.0 parker_stood.1) c.next))
 
-        park_placed : AllPlaced b.live
-        park_placed =
-            subst (λ (w : World). AllPlaced w.live) c.now (put_placed parked c.at.was path a.live c.at.found c.at.named h (by_outer c.at.outer refl))
+      park_placed : AllPlaced b.live
+      park_placed =
+          subst (λ (w : World). AllPlaced w.live) c.now (put_placed parked c.at.was path a.live c.at.found c.at.named h (by_outer c.at.outer refl))
 
     end_placed : (path : List ℕ) (b : World) → IsEnd its_next (λ t. hands p needs fresh w0 root nameless t) path a b → AllPlaced b.live
     end_placed path b c = subst (λ (w : World). AllPlaced w.live) c.now (λ q t f.
@@ -327,7 +329,7 @@ module _ (p : Program) (needs : Codes → Needs) (scoped : IsScoped p) (calm : I
         (poise p needs scoped calm provided fresh root nameless may_begin c.at.was.start c.at.was.receipts c.at.was.done stood.0 stood.1) c.next in
         let at : Standing Own = record { frames = []; state = over.0 } in
         opened_is f c.at.was c.at.was.done
-        (Rattle.interleave.proofs.Owed.prior_awake p needs fresh w0 root nameless (worth p needs fresh w0 root nameless f) f
+        (prior_awake p needs fresh w0 root nameless (worth p needs fresh w0 root nameless f) f
         (worth_lists p needs fresh w0 root nameless f) c.at.was.place c.at.was.done c.at.awake)
         ∙ ap (spawned ([] ∷ [])) (so_far c.at.was.start c.at.was.receipts c.at.was.done at over.1)
         ∙ sym (pending_spawned p needs fresh root over.1.reached)
@@ -350,7 +352,7 @@ module _ (p : Program) (needs : Codes → Needs) (scoped : IsScoped p) (calm : I
       beyond = around (AtEnd waited.before ∷ waited.frames)
 
       prior_is : (f : TaskResult → ℕ) (w : Whereabouts) → is_parked w ≡ true
-          → Rattle.interleave.proofs.Owed.prior p needs fresh w0 root nameless (worth p needs fresh w0 root nameless f) f
+          → prior p needs fresh w0 root nameless (worth p needs fresh w0 root nameless f) f
           (worth_lists p needs fresh w0 root nameless f) w c.was.done ≡ waited.done
       prior_is f (Queue w) e = absurd (false_true e)
       prior_is f (Hand w) e = absurd (false_true e)
@@ -392,7 +394,7 @@ module _ (p : Program) (needs : Codes → Needs) (scoped : IsScoped p) (calm : I
       at_end : Standing Own
       at_end = record { frames = AtEnd waited.before ∷ waited.frames; state = waited.state }
 
-      reached : Rattle.own_run.proofs.ReachedTasks.Goes p needs scoped calm provided fresh root nameless may_begin c.was.start
+      reached : Goes p needs scoped calm provided fresh root nameless may_begin c.was.start
           (record { frames = AtEnd waited.before ∷ waited.frames; state = waited.state })
       reached = goes p needs scoped calm provided fresh root nameless may_begin waited.stands.reached
 

@@ -4,9 +4,10 @@ use Rattle.std.proofs.lemmas.List.{append-nil}
 use Rattle.std.specs.Prelude.{Bool, true, false, map, ok_or}
 use Rattle.sections.specs.Place.{sides_of}
 use Rattle.types.specs.declared.fault.FaultKind.TheVariants.{SplitPoint}
-use Rattle.types.specs.Code.{Code, Do, If, While, Split, Call, Async, Finish, Codes, End, Then, Program}
+use Rattle.types.specs.Code.{Code, Do, If, While, Split, Call, Async, Finish, Codes, End, Then, Program, Number}
+use Rattle.types.specs.Code.{Primitive, Truth}
 use Rattle.types.specs.Value.{Valued}
-use Rattle.types.specs.Run.{Flow, On, Faulted, Stopped, State, number_at, numbers_at, truth_at, window_at}
+use Rattle.types.specs.Run.{Flow, On, Faulted, Stopped, State, number_at, numbers_at, truth_at, window_at, Rules}
 use Rattle.types.specs.Laws.{IsKept}
 use Rattle.types.proofs.Keeps.{primitive_keeps}
 use Rattle.effects.specs.Needs.{Needs}
@@ -14,8 +15,8 @@ use Rattle.own_run.specs.Results.{Settled}
 use Rattle.own_run.specs.OwnRun.{Start, Child, Action, Step, Spawn, EnterFinish, EndFinish, EndTask, Own, notes}
 use Rattle.own_run.specs.OwnRun.{own_rules, child_of}
 use Rattle.own_run.specs.Given.{in_truth}
-use Rattle.own_run.specs.Frames.{Frame, Rest, Again, AtEnd, Back, Standing, by_value, chosen, paid, by_flow, turn, handed}
-use Rattle.own_run.specs.Frames.{done_by, done_at, done_in}
+use Rattle.own_run.specs.Frames.{Frame, Rest, Again, AtEnd, Back, Standing, by_value, chosen, paid, by_flow, turn}
+use Rattle.own_run.specs.Frames.{handed, done_by, done_at, done_in}
 use Rattle.own_run.specs.Reached.{Reached, root_begins, child_begins, turns, leaves}
 use Rattle.own_run.proofs.TurnActions.{turn_does}
 use Rattle.interleave.proofs.Direct.{start_of}
@@ -60,7 +61,7 @@ map-append f [] ys = refl
 map-append f (x ∷ xs) ys = ap (λ l. f x ∷ l) (map-append f xs ys)
 
 module _ (p : Program) (needs : Codes → Needs) (fresh : ℕ) where
-  abbrev r : ℕ → Rattle.types.specs.Run.Rules Own
+  abbrev r : ℕ → Rules Own
   r nest = own_rules needs nest (in_truth p needs fresh)
 
   silent : IsKept {X = Own} (record { stepped = λ x. x; begin = λ b st. st; enter = λ st. st; leave = λ st out. out })
@@ -88,23 +89,23 @@ module _ (p : Program) (needs : Codes → Needs) (fresh : ℕ) where
     abbrev after : State Own
     after = record st { steps = n; extra = notes Step st.extra }
 
-    do_pending : (l : ℕ) (s : Rattle.types.specs.Code.Primitive) → of (paid p (r nest) (suc n) l (Do s) fs st) ≡ pendings fs st
+    do_pending : (l : ℕ) (s : Primitive) → of (paid p (r nest) (suc n) l (Do s) fs st) ≡ pendings fs st
     do_pending l s =
         ap (λ cs. map start_of cs ∷ around fs) (primitive_keeps p _ (λ st to. to.extra.pending ≡ st.extra.pending) silent l s after)
 
-    if_pending : (l : ℕ) (t : Rattle.types.specs.Code.Truth) (b c : Codes) → of (paid p (r nest) (suc n) l (If t b c) fs st) ≡ pendings fs st
+    if_pending : (l : ℕ) (t : Truth) (b c : Codes) → of (paid p (r nest) (suc n) l (If t b c) fs st) ≡ pendings fs st
     if_pending l t b c = value_pending l (truth_at st t) _ fs after _ refl (λ v. chosen_pending v _ _ after _ refl refl)
 
-    while_pending : (l : ℕ) (t : Rattle.types.specs.Code.Truth) (b : Codes) → of (paid p (r nest) (suc n) l (While t b) fs st) ≡ pendings fs st
+    while_pending : (l : ℕ) (t : Truth) (b : Codes) → of (paid p (r nest) (suc n) l (While t b) fs st) ≡ pendings fs st
     while_pending l t b = value_pending l (truth_at st t) _ fs after _ refl (λ v. chosen_pending v _ _ after _ refl refl)
 
-    split_pending : (l s x y : ℕ) (e : Rattle.types.specs.Code.Number) (b : Codes)
+    split_pending : (l s x y : ℕ) (e : Number) (b : Codes)
         → of (paid p (r nest) (suc n) l (Split s e x y b) fs st) ≡ pendings fs st
     split_pending l s x y e b =
         value_pending l (number_at st e) _ fs after _ refl (λ v.
         value_pending l (ok_or (sides_of (window_at st s) v) SplitPoint) _ fs after _ refl (λ ws. refl))
 
-    call_pending : (l f : ℕ) (es : List Rattle.types.specs.Code.Number) (ss : List ℕ)
+    call_pending : (l f : ℕ) (es : List Number) (ss : List ℕ)
         → of (paid p (r nest) (suc n) l (Call f es ss) fs st) ≡ pendings fs st
     call_pending l f es ss = value_pending l (numbers_at st es) _ fs after _ refl (λ vs. refl)
 

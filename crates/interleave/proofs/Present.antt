@@ -1,6 +1,6 @@
 -- The scopes that tasks stand in are there, and a task's own are numbered downwards.
-use Rattle.std.proofs.Common.{◌≡◌, ℕ, ◌+◌, ◌-◌, ◌/◌, ◌<◌, ◌≤◌, List, [], ◌∷◌, ◌++◌, Option, Some, refl, sym}
-use Rattle.std.proofs.Common.{ap, ◌∙◌, subst, inl, inr, arith}
+use Rattle.std.proofs.Common.{◌≡◌, ℕ, ◌+◌, ◌-◌, ◌/◌, ◌<◌, ◌≤◌, List, [], ◌∷◌, ◌++◌, Option, Some, refl, sym, ap, ◌∙◌}
+use Rattle.std.proofs.Common.{subst, inl, inr, arith}
 use Rattle.std.specs.Prelude.{Bool, true, ◌⊎◌, drop, if◌then◌else◌}
 use Rattle.std.proofs.lemmas.Option.{none-some, same_Some}
 use Rattle.own_run.specs.Results.{TaskResult}
@@ -10,12 +10,11 @@ use Rattle.own_run.proofs.SettledResults.{paths_same}
 use Rattle.own_run.proofs.Lists.{each_more}
 use Rattle.interleave.specs.World.{same_path, ScopeId, Stake, Live, Scope, World, Hand, Parked, same_scope}
 use Rattle.interleave.specs.World.{child_path, task, put_task, without_task, scope, put_scope}
-use Rattle.interleave.specs.Events.{Event, Take, Steal, Steps, Replenish, Spawns, Opens, Parks, Ends, Pass}
-use Rattle.interleave.specs.Events.{Resume, issue, give_back, did, new_task, new_scope}
-use Rattle.interleave.specs.History.{Told, untold, spawned_more, opened_more, left_one, tell, tell_all}
-use Rattle.interleave.specs.History.{told}
-use Rattle.interleave.proofs.Lookups.{by_test, other_path, scope_is, task-without_task, gone-without_task}
-use Rattle.interleave.proofs.Lookups.{Unique, scope-put_scope}
+use Rattle.interleave.specs.Events.{Event, Take, Steal, Steps, Replenish, Spawns, Opens, Parks, Ends, Pass, Resume}
+use Rattle.interleave.specs.Events.{issue, give_back, did, new_task, new_scope}
+use Rattle.interleave.specs.History.{Told, untold, spawned_more, opened_more, left_one, tell, tell_all, told}
+use Rattle.interleave.proofs.Lookups.{by_test, other_path, scope_is, task-without_task, gone-without_task, Unique}
+use Rattle.interleave.proofs.Lookups.{scope-put_scope}
 use Rattle.interleave.proofs.Changes.{IsQuiet, IsAt, Becomes}
 use Rattle.interleave.proofs.Steps.{put_cases}
 

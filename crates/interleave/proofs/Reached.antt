@@ -1,6 +1,6 @@
 -- The laws of all worlds.
-use Rattle.std.proofs.Common.{◌≡◌, ℕ, ◌≤◌, List, [], ◌∷◌, ◌++◌, Option, Some, None, refl, sym, subst, inl}
-use Rattle.std.proofs.Common.{inr, arith, append_assoc}
+use Rattle.std.proofs.Common.{◌≡◌, ℕ, ◌≤◌, List, [], ◌∷◌, ◌++◌, Option, Some, None, refl, sym, subst, inl, inr, arith}
+use Rattle.std.proofs.Common.{append_assoc}
 use Rattle.std.proofs.lemmas.List.{append-nil}
 use Rattle.std.specs.Prelude.{Bool, true, false, map, drop, Contains, if◌then◌else◌}
 use Rattle.std.proofs.lemmas.Option.{none-some, same_Some}
@@ -9,14 +9,13 @@ use Rattle.own_run.specs.Results.{TaskResult}
 use Rattle.own_run.specs.Lists.{Each}
 use Rattle.own_run.specs.OwnRun.{Start, Action}
 use Rattle.own_run.proofs.SettledResults.{gives}
-use Rattle.interleave.specs.World.{ScopeId, Stake, Live, Scope, World, Whereabouts, Queue, Hand, Parked}
-use Rattle.interleave.specs.World.{same_scope, root_scope, task, scope, weight_in, is_parked}
-use Rattle.interleave.specs.Events.{Event, Take, Steal, Steps, Replenish, Spawns, Opens, Parks, Ends, Pass}
-use Rattle.interleave.specs.Events.{Resume, new_scope, new_task, next_action, next, first_world, after}
+use Rattle.interleave.specs.World.{ScopeId, Stake, Live, Scope, World, Whereabouts, Queue, Hand, Parked, same_scope}
+use Rattle.interleave.specs.World.{root_scope, task, scope, weight_in, is_parked}
+use Rattle.interleave.specs.Events.{Event, Take, Steal, Steps, Replenish, Spawns, Opens, Parks, Ends, Pass, Resume}
+use Rattle.interleave.specs.Events.{new_scope, new_task, next_action, next, first_world, after}
 use Rattle.interleave.specs.History.{told}
 use Rattle.interleave.specs.Weights.{standing, Weighs}
-use Rattle.interleave.proofs.WorldLaws.{WeightsAddUp, TasksWeigh, NobodyIsLeft}
-use Rattle.interleave.proofs.WorldLaws.{PassedIsEnded}
+use Rattle.interleave.proofs.WorldLaws.{WeightsAddUp, TasksWeigh, NobodyIsLeft, PassedIsEnded}
 use Rattle.interleave.proofs.Lookups.{scopes_same, held_least}
 use Rattle.interleave.proofs.Histories.{map_contains, nil_snoc, told_last}
 use Rattle.interleave.proofs.Stakes.{scope_of, IsPositive, Weighty, positive_in}

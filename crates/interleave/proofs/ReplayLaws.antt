@@ -1,6 +1,6 @@
 -- What holds of every world that a replay leads to.
-use Rattle.std.specs.Prelude.{ℕ, ◌+◌, ◌≡◌, ◌≤◌, ◌*◌, ◌^◌, ◌⊎◌, ◌↔◌, List, [], ◌∷◌, ◌++◌, length, ℤ, true}
-use Rattle.std.specs.Prelude.{false, Some, None, Contains}
+use Rattle.std.specs.Prelude.{ℕ, ◌+◌, ◌≡◌, ◌≤◌, ◌*◌, ◌^◌, ◌⊎◌, ◌↔◌, List, [], ◌∷◌, ◌++◌, length, ℤ, true, false, Some}
+use Rattle.std.specs.Prelude.{None, Contains}
 use Rattle.types.specs.Code.{Codes, Program}
 use Rattle.types.specs.Outcome.{Budget, Outcome, outcome}
 use Rattle.effects.specs.Needs.{Needs, Provides}
@@ -11,12 +11,10 @@ use Rattle.own_run.specs.Lists.{Each}
 use Rattle.own_run.specs.Settling.{NoTwice}
 use Rattle.own_run.specs.OwnRun.{Start, Spawn, EndFinish, EndTask, is_waiting, run_by, result_of}
 use Rattle.own_run.specs.Given.{below, own, given, IsOwn, root_of}
-use Rattle.interleave.specs.World.{ScopeId, Stake, Live, Scope, World, is_parked, hand_of, root_scope, task}
-use Rattle.interleave.specs.World.{scope}
+use Rattle.interleave.specs.World.{ScopeId, Stake, Live, Scope, World, is_parked, hand_of, root_scope, task, scope}
 use Rattle.interleave.specs.Events.{Event, Ends, owns, next_action, after}
 use Rattle.interleave.specs.History.{Begun, BegunIn, Ended}
-use Rattle.interleave.specs.Replay.{does, hands_on, event, Legal, IllegalAt, start_of, replay}
-use Rattle.interleave.specs.Replay.{world_outcome}
+use Rattle.interleave.specs.Replay.{does, hands_on, event, Legal, IllegalAt, start_of, replay, world_outcome}
 
 -- what results come to by a measure
 abbrev pub measured : (TaskResult → ℕ) → List TaskResult → ℕ

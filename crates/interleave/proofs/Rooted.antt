@@ -1,16 +1,14 @@
 -- The root lives on, in its outer finish.
-use Rattle.std.proofs.Common.{◌≡◌, ℕ, ◌+◌, ◌-◌, ◌/◌, List, [], ◌∷◌, ◌++◌, Option, Some, refl, sym, ap, ◌∙◌}
-use Rattle.std.proofs.Common.{subst}
+use Rattle.std.proofs.Common.{◌≡◌, ℕ, ◌+◌, ◌-◌, ◌/◌, List, [], ◌∷◌, ◌++◌, Option, Some, refl, sym, ap, ◌∙◌, subst}
 use Rattle.std.proofs.lemmas.List.{append-nil}
 use Rattle.std.specs.Prelude.{map, drop, if◌then◌else◌}
 use Rattle.std.proofs.lemmas.Option.{same_Some}
 use Rattle.own_run.specs.Results.{TaskResult}
 use Rattle.own_run.specs.OwnRun.{Action}
 use Rattle.own_run.proofs.SettledResults.{paths_same}
-use Rattle.interleave.specs.World.{same_path, ScopeId, Live, World, Hand, Parked, child_path, task}
-use Rattle.interleave.specs.World.{put_task}
-use Rattle.interleave.specs.Events.{Event, Take, Steal, Steps, Replenish, Spawns, Opens, Parks, Ends, Pass}
-use Rattle.interleave.specs.Events.{Resume, did, new_task}
+use Rattle.interleave.specs.World.{same_path, ScopeId, Live, World, Hand, Parked, child_path, task, put_task}
+use Rattle.interleave.specs.Events.{Event, Take, Steal, Steps, Replenish, Spawns, Opens, Parks, Ends, Pass, Resume}
+use Rattle.interleave.specs.Events.{did, new_task}
 use Rattle.interleave.specs.History.{Told, spawned_more, opened_more, left_one, tell, told}
 use Rattle.interleave.proofs.Lookups.{by_test, path_is, true_not_false, task-without_task}
 use Rattle.interleave.proofs.Histories.{told_last, cons_head, cons_tail, nil_cons}

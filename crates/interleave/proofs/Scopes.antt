@@ -1,6 +1,6 @@
 -- A task ends, opens a finish, or goes on behind it.
-use Rattle.std.proofs.Common.{◌≡◌, ℕ, ◌+◌, ◌<◌, ◌≤◌, List, [], ◌∷◌, ◌++◌, Option, Some, refl, sym, ap, ◌∙◌}
-use Rattle.std.proofs.Common.{subst, inl, inr, arith}
+use Rattle.std.proofs.Common.{◌≡◌, ℕ, ◌+◌, ◌<◌, ◌≤◌, List, [], ◌∷◌, ◌++◌, Option, Some, refl, sym, ap, ◌∙◌, subst}
+use Rattle.std.proofs.Common.{inl, inr, arith}
 use Rattle.std.specs.Prelude.{Bool, true, false, ◌⊎◌, map, drop, if◌then◌else◌}
 use Rattle.std.proofs.lemmas.Option.{none-some, same_Some}
 use Rattle.effects.proofs.Members.{false_true}
@@ -8,23 +8,22 @@ use Rattle.own_run.specs.Results.{TaskResult}
 use Rattle.own_run.specs.Lists.{Each}
 use Rattle.own_run.specs.OwnRun.{Action}
 use Rattle.own_run.proofs.SettledResults.{paths_same}
-use Rattle.interleave.specs.World.{same_path, ScopeId, Stake, Live, Scope, World, Whereabouts, Queue, Hand}
-use Rattle.interleave.specs.World.{Parked, same_scope, task, put_task, without_task, scope, put_scope}
-use Rattle.interleave.specs.World.{weight_in, held, is_parked}
-use Rattle.interleave.specs.Events.{Event, Take, Steal, Steps, Replenish, Spawns, Opens, Parks, Ends, Pass}
-use Rattle.interleave.specs.Events.{Resume, give_back, did, new_scope}
+use Rattle.interleave.specs.World.{same_path, ScopeId, Stake, Live, Scope, World, Whereabouts, Queue, Hand, Parked}
+use Rattle.interleave.specs.World.{same_scope, task, put_task, without_task, scope, put_scope, weight_in, held}
+use Rattle.interleave.specs.World.{is_parked}
+use Rattle.interleave.specs.Events.{Event, Take, Steal, Steps, Replenish, Spawns, Opens, Parks, Ends, Pass, Resume}
+use Rattle.interleave.specs.Events.{give_back, did, new_scope}
 use Rattle.interleave.specs.History.{Told, opened_more, left_one, told}
-use Rattle.interleave.proofs.Lookups.{true_not_false, by_test, path_refl, path_is, path_not, other_path}
-use Rattle.interleave.proofs.Lookups.{scopes_same, task-without_task, unique-without_task}
-use Rattle.interleave.proofs.Lookups.{gone-without_task, each-without_task, held-put_task}
-use Rattle.interleave.proofs.Lookups.{held-without_task}
+use Rattle.interleave.proofs.Lookups.{true_not_false, by_test, path_refl, path_is, path_not, other_path, scopes_same}
+use Rattle.interleave.proofs.Lookups.{task-without_task, unique-without_task, gone-without_task, each-without_task}
+use Rattle.interleave.proofs.Lookups.{held-put_task, held-without_task}
 use Rattle.interleave.proofs.Histories.{cons_head, cons_tail, nil_cons, nil_snoc, told_last}
 use Rattle.interleave.proofs.Stakes.{scope_of, own, IsPositive, Weighty, weighty_awake, awake_weighty}
 use Rattle.interleave.proofs.Changes.{IsOpen, IsEnd, IsResume}
 use Rattle.interleave.proofs.Kept.{base, IsTold, IsKnown, ScopeOk, Kept}
 use Rattle.interleave.proofs.Steps.{StillOpen, kept_by, put_change, known_more, all_known_more, scope_still}
-use Rattle.interleave.proofs.Events.{in_scope, in_scope_same, in_scope_other, rebooked, none_held}
-use Rattle.interleave.proofs.Events.{task_known, opened_still}
+use Rattle.interleave.proofs.Events.{in_scope, in_scope_same, in_scope_other, rebooked, none_held, task_known}
+use Rattle.interleave.proofs.Events.{opened_still}
 
 -- ---- constructors
 abbrev IsNoSpawn : Event → Type 0

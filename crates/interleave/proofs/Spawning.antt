@@ -1,25 +1,23 @@
 -- A task spawns another.
-use Rattle.std.proofs.Common.{◌≡◌, ℕ, ◌+◌, ◌-◌, ◌/◌, ◌<◌, List, [], ◌∷◌, ◌++◌, length, Option, Some, None}
-use Rattle.std.proofs.Common.{refl, sym, ap, ◌∙◌, subst, inl, inr, arith}
+use Rattle.std.proofs.Common.{◌≡◌, ℕ, ◌+◌, ◌-◌, ◌/◌, ◌<◌, List, [], ◌∷◌, ◌++◌, length, Option, Some, None, refl, sym}
+use Rattle.std.proofs.Common.{ap, ◌∙◌, subst, inl, inr, arith}
 use Rattle.std.proofs.lemmas.List.Elements.{Contains-append_left, Contains-append_right}
 use Rattle.std.specs.Prelude.{Bool, true, false, ◌⊎◌, map, Contains, if◌then◌else◌}
 use Rattle.std.proofs.lemmas.Option.{same_Some}
 use Rattle.own_run.specs.Lists.{Each}
 use Rattle.own_run.specs.OwnRun.{Action}
 use Rattle.own_run.proofs.SettledResults.{paths_same}
-use Rattle.interleave.specs.World.{same_path, ScopeId, Live, World, same_scope, child_path, task, put_task}
-use Rattle.interleave.specs.World.{held}
+use Rattle.interleave.specs.World.{same_path, ScopeId, Live, World, same_scope, child_path, task, put_task, held}
 use Rattle.interleave.specs.Events.{Event, Spawns, Ends, did, new_task}
 use Rattle.interleave.specs.History.{Told, untold, spawned_more, told, SpawnsAt, Begun, by_owner, by_member}
-use Rattle.interleave.proofs.Lookups.{by_test, path_refl, path_not, other_path, task-put_task}
-use Rattle.interleave.proofs.Lookups.{unique-put_task, each-put_task}
-use Rattle.interleave.proofs.Histories.{map_contains, nil_cons, nil_snoc, told_last, spawned_last}
-use Rattle.interleave.proofs.Histories.{next_is_new, child_is_longer, child_is_other, BegunLast, begun_last}
+use Rattle.interleave.proofs.Lookups.{by_test, path_refl, path_not, other_path, task-put_task, unique-put_task}
+use Rattle.interleave.proofs.Lookups.{each-put_task}
+use Rattle.interleave.proofs.Histories.{map_contains, nil_cons, nil_snoc, told_last, spawned_last, next_is_new}
+use Rattle.interleave.proofs.Histories.{child_is_longer, child_is_other, BegunLast, begun_last}
 use Rattle.interleave.proofs.Stakes.{scope_of, own, IsPositive, weighty_awake, awake_weighty}
 use Rattle.interleave.proofs.Changes.{IsSpawn}
 use Rattle.interleave.proofs.Kept.{base, Hangs, WasSpawned, IsNamed, IsTold, IsKnown, Kept}
-use Rattle.interleave.proofs.Steps.{named_still, known_more, all_known_more, scope_still, IsPut, put_cases}
-use Rattle.interleave.proofs.Steps.{put_lives}
+use Rattle.interleave.proofs.Steps.{named_still, known_more, all_known_more, scope_still, IsPut, put_cases, put_lives}
 use Rattle.interleave.proofs.Events.{reweighed, task_known}
 use Rattle.interleave.proofs.Scopes.{spawns_same, base_is}
 

@@ -3,11 +3,10 @@ use Rattle.std.proofs.Common.{◌≡◌, ℕ, ◌+◌, ◌≤◌, List, [], ◌�
 use Rattle.std.specs.Prelude.{Bool, false, ◌⊎◌, map, Contains, if◌then◌else◌}
 use Rattle.effects.proofs.Members.{false_true}
 use Rattle.own_run.specs.Lists.{Each}
-use Rattle.interleave.specs.World.{ScopeId, Stake, Whereabouts, Queue, Hand, Parked, same_scope, weight_in}
-use Rattle.interleave.specs.World.{is_parked}
+use Rattle.interleave.specs.World.{ScopeId, Stake, Whereabouts, Queue, Hand, Parked, same_scope, weight_in, is_parked}
 use Rattle.interleave.proofs.Lookups.{scope_is}
-use Rattle.interleave.proofs.Histories.{contains_nil, contains_here, contains_later, contains_cons}
-use Rattle.interleave.proofs.Histories.{cons_head, cons_tail, nil_cons}
+use Rattle.interleave.proofs.Histories.{contains_nil, contains_here, contains_later, contains_cons, cons_head}
+use Rattle.interleave.proofs.Histories.{cons_tail, nil_cons}
 
 abbrev pub scope_of : Stake → ScopeId
 scope_of s = s.scope

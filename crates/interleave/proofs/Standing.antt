@@ -3,7 +3,7 @@ use Rattle.std.proofs.Common.{◌≡◌, ℕ, zero, suc, ◌+◌, ◌<◌, ◌�
 use Rattle.std.proofs.Common.{subst, inl, inr, arith, le_refl}
 use Rattle.std.proofs.lemmas.Option.{same_Some}
 use Rattle.std.proofs.lemmas.List.{append-nil}
-use Rattle.std.specs.Prelude.{◌⊎◌}
+use Rattle.std.specs.Prelude.{◌⊎◌, false}
 use Rattle.types.specs.Code.{Code, Do, If, While, Split, Call, Async, Finish, Codes, End, Then, Program}
 use Rattle.types.specs.Run.{Flow, On, Faulted, Stopped, State}
 use Rattle.effects.specs.Needs.{Needs, Provides}
@@ -16,7 +16,7 @@ use Rattle.own_run.specs.OwnRun.{Start, Action, Step, Spawn, EnterFinish, EndFin
 use Rattle.own_run.specs.OwnRun.{own_rules, last_action, next_action}
 use Rattle.own_run.specs.Given.{in_truth, IsOwn}
 use Rattle.own_run.specs.Frames.{Frame, Rest, Again, AtEnd, Back, Standing, turn, handed, done_by, done_at, done_in}
-use Rattle.own_run.specs.Frames.{Follows}
+use Rattle.own_run.specs.Frames.{Follows, by_flow}
 use Rattle.own_run.specs.Holds.{MayBegin}
 use Rattle.own_run.specs.Reached.{Reached, turns, leaves}
 use Rattle.own_run.proofs.NextAction.{next_is_done, next_is_end, next_is_last}
@@ -135,7 +135,7 @@ module _ (p : Program) (needs : Codes → Needs) (scoped : IsScoped p) (calm : I
         by_done (inl e) (sheds k lt) = lighter (go f fs st).frames (go f fs st).state (omega (arith, k, le)) lt (silent f fs st h e)
 
     falls : (g : Flow) (l : ℕ) (c : Code) (fs below : List (Frame Own)) (st : State Own) (w : ℕ) → weight fs < w → weight below < w
-        → Falls st w (Rattle.own_run.specs.Frames.by_flow p (own_rules needs s.nest (in_truth p needs fresh)) g l c fs below st)
+        → Falls st w (by_flow p (own_rules needs s.nest (in_truth p needs fresh)) g l c fs below st)
     falls = flow_falls p needs scoped calm provided fresh root s
 
     within : (n w : ℕ) → PoisesBelow n → PoisesWithin n w
@@ -161,7 +161,7 @@ module _ (p : Program) (needs : Codes → Needs) (scoped : IsScoped p) (calm : I
     pub poise : (u : Standing Own) → Stands s receipts done u → Poised s receipts done
     poise u h = within_steps (suc u.state.steps) u.frames u.state (omega arith) h
 
-    awake : (u : Standing Own) → Stands s receipts done u → u.state.extra.waits ≡ Rattle.std.specs.Prelude.false
+    awake : (u : Standing Own) → Stands s receipts done u → u.state.extra.waits ≡ false
     awake u h = (goes p needs scoped calm provided fresh root named may_begin h.reached).task.awake
 
     -- what it does next

@@ -1,18 +1,15 @@
 -- Each legal event keeps what holds of a world.
-use Rattle.std.proofs.Common.{◌≡◌, ℕ, ◌+◌, ◌≤◌, List, [], ◌∷◌, ◌++◌, Some, refl, sym, ap, ◌∙◌, subst, inl}
-use Rattle.std.proofs.Common.{inr, arith}
+use Rattle.std.proofs.Common.{◌≡◌, ℕ, ◌+◌, ◌≤◌, List, [], ◌∷◌, ◌++◌, Some, refl, sym, ap, ◌∙◌, subst, inl, inr, arith}
 use Rattle.std.proofs.lemmas.List.Elements.{Contains-append_left, Contains-push}
 use Rattle.std.specs.Prelude.{◌⊎◌, Contains, if◌then◌else◌}
 use Rattle.std.proofs.lemmas.Option.{same_Some}
 use Rattle.own_run.specs.Lists.{Each}
 use Rattle.own_run.proofs.SettledResults.{paths_same}
 use Rattle.own_run.proofs.Lists.{each_more}
-use Rattle.interleave.specs.World.{same_path, ScopeId, Stake, Live, Scope, World, task, put_task, scope}
-use Rattle.interleave.specs.World.{held}
+use Rattle.interleave.specs.World.{same_path, ScopeId, Stake, Live, Scope, World, task, put_task, scope, held}
 use Rattle.interleave.specs.Events.{Event, Spawns, Ends}
 use Rattle.interleave.specs.History.{Told, untold, told, SpawnsAt, Begun}
-use Rattle.interleave.proofs.Lookups.{by_test, other_path, task-put_task, Unique, unique-put_task}
-use Rattle.interleave.proofs.Lookups.{each-put_task}
+use Rattle.interleave.proofs.Lookups.{by_test, other_path, task-put_task, Unique, unique-put_task, each-put_task}
 use Rattle.interleave.proofs.Histories.{told_more, still_spawns, spawned_last, BegunLast, begun_last}
 use Rattle.interleave.proofs.Stakes.{own}
 use Rattle.interleave.proofs.Kept.{Hangs, IsNamed, IsTold, IsKnown, ScopeOk, Kept, base_weighs}

@@ -1,11 +1,12 @@
 -- Once the root's scope has passed its results settle, in whatever order they came.
-use Rattle.std.proofs.Common.{◌≡◌, ℕ, zero, suc, ◌+◌, ◌≤◌, List, [], ◌∷◌, ◌++◌, Some, refl, sym, ap, ◌∙◌}
-use Rattle.std.proofs.Common.{subst, arith}
-use Rattle.std.specs.Prelude.{Bool, true, flat_map, if◌then◌else◌}
+use Rattle.std.proofs.Common.{◌≡◌, ℕ, zero, suc, ◌+◌, ◌≤◌, List, [], ◌∷◌, ◌++◌, Some, refl, sym, ap, ◌∙◌, subst}
+use Rattle.std.proofs.Common.{arith}
+use Rattle.std.specs.Prelude.{Bool, true, flat_map, if◌then◌else◌, ℤ}
 use Rattle.types.specs.Code.{Codes, Program}
 use Rattle.types.specs.Run.{Block}
+use Rattle.types.specs.Outcome.{Budget}
 use Rattle.effects.specs.Needs.{Needs}
-use Rattle.own_run.specs.Results.{TaskResult, and_then}
+use Rattle.own_run.specs.Results.{TaskResult, and_then, Settled}
 use Rattle.own_run.specs.Settling.{settle, IsParted}
 use Rattle.own_run.specs.Lists.{Each, Inserted, here, later, Shuffled, none, one}
 use Rattle.own_run.specs.OwnRun.{Start, Child, at_first, result_of, beginning}
@@ -15,19 +16,13 @@ use Rattle.own_run.proofs.Begun.{run_tells}
 use Rattle.own_run.proofs.Lists.{each_more}
 use Rattle.own_run.proofs.SettledResults.{paths_same, IsGiven, lists_true}
 use Rattle.own_run.proofs.CompleteResults.{own_complete}
-use Rattle.interleave.specs.World.{same_path, root_scope, task}
-use Rattle.interleave.specs.Events.{only_if}
-use Rattle.interleave.specs.Replay.{hands_on}
+use Rattle.interleave.specs.World.{same_path, root_scope, task, Scope, World, scope}
+use Rattle.interleave.specs.Events.{only_if, Event}
+use Rattle.interleave.specs.Replay.{hands_on, Legal, replay, world_outcome}
 use Rattle.interleave.proofs.ReplayLaws.{measured}
 use Rattle.interleave.proofs.Lookups.{by_test, path_refl}
 use Rattle.interleave.proofs.Outcomes.{sound, root_hands_on}
 use Rattle.interleave.proofs.Measured.{root_holds_all}
-use Rattle.std.specs.Prelude.{ℤ}
-use Rattle.types.specs.Outcome.{Budget}
-use Rattle.own_run.specs.Results.{Settled}
-use Rattle.interleave.specs.World.{Scope, World, scope}
-use Rattle.interleave.specs.Events.{Event}
-use Rattle.interleave.specs.Replay.{Legal, replay, world_outcome}
 
 -- a list with one element put in
 measured-inserted : (f : TaskResult → ℕ) (x : TaskResult) (ys zs : List TaskResult) → Inserted x ys zs → measured f zs ≡ f x + measured f ys

@@ -1,6 +1,6 @@
 -- With receipts of own runs a task does what its own run does, as far as they go.
-use Rattle.std.proofs.Common.{◌≡◌, ℕ, zero, suc, ◌+◌, List, [], ◌∷◌, ◌++◌, Option, Some, None, Ok, Err}
-use Rattle.std.proofs.Common.{refl, sym, ap, ◌∙◌, subst, inl, inr, append_assoc}
+use Rattle.std.proofs.Common.{◌≡◌, ℕ, zero, suc, ◌+◌, List, [], ◌∷◌, ◌++◌, Option, Some, None, Ok, Err, refl, sym, ap}
+use Rattle.std.proofs.Common.{◌∙◌, subst, inl, inr, append_assoc}
 use Rattle.std.proofs.lemmas.List.{append-nil}
 use Rattle.std.specs.Prelude.{◌⊎◌, Bool, true, false, map, ok_or, slice_get, if◌then◌else◌}
 use Rattle.std.proofs.lemmas.Option.{none-some, same_Some}
@@ -8,10 +8,9 @@ use Rattle.sections.specs.Place.{sides_of}
 use Rattle.types.specs.declared.fault.FaultKind.TheVariants.{SplitPoint}
 use Rattle.types.specs.Code.{Code, Do, If, While, Split, Call, Async, Finish, Codes, End, Then, Program}
 use Rattle.types.specs.Value.{Environment, Valued}
-use Rattle.types.specs.Run.{Flow, On, Faulted, Stopped, State, Work, Block, Turn, Rules, stopped, at_flow}
-use Rattle.types.specs.Run.{go_on, spend, with_step, fault, with_value, choose, number_at, numbers_at}
-use Rattle.types.specs.Run.{truth_at, window_at, entry, with_sides, procedure_of, primitive, counted, act}
-use Rattle.types.specs.Run.{block, work, within}
+use Rattle.types.specs.Run.{Flow, On, Faulted, Stopped, State, Work, Block, Turn, Rules, stopped, at_flow, go_on}
+use Rattle.types.specs.Run.{spend, with_step, fault, with_value, choose, number_at, numbers_at, truth_at, window_at}
+use Rattle.types.specs.Run.{entry, with_sides, procedure_of, primitive, counted, act, block, work, within}
 use Rattle.types.proofs.Keeps.{primitive_keeps, counted_keeps}
 use Rattle.effects.specs.Needs.{Needs}
 use Rattle.effects.proofs.Members.{both_true, false_true}
@@ -19,8 +18,8 @@ use Rattle.own_run.specs.Apart.{is_stopped}
 use Rattle.own_run.specs.Results.{TaskResult, Settled}
 use Rattle.own_run.specs.Settling.{settle}
 use Rattle.own_run.specs.Lists.{Each}
-use Rattle.own_run.specs.OwnRun.{Start, Action, EndFinish, Own, at_first, notes, is_waiting, result_of}
-use Rattle.own_run.specs.OwnRun.{leave_with, own_rules, begun_by, beginning, from_receipts, run_by}
+use Rattle.own_run.specs.OwnRun.{Start, Action, EndFinish, Own, at_first, notes, is_waiting, result_of, leave_with}
+use Rattle.own_run.specs.OwnRun.{own_rules, begun_by, beginning, from_receipts, run_by}
 use Rattle.own_run.specs.Given.{in_truth, own, IsOwn}
 use Rattle.own_run.specs.Frames.{IsBegun, HasBegun, IsGivenChild}
 use Rattle.own_run.proofs.Begun.{begun_by-append, get-append_left, Tells, tells, begin_tells, enter_tells}

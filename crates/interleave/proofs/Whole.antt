@@ -1,10 +1,10 @@
 -- Once the root's scope has passed it holds all that is worth something, and nothing is still to come.
-use Rattle.std.proofs.Common.{◌≡◌, ℕ, ◌+◌, ◌≤◌, List, [], ◌∷◌, ◌++◌, Option, Some, refl, sym, ap, ◌∙◌}
-use Rattle.std.proofs.Common.{subst, arith}
+use Rattle.std.proofs.Common.{◌≡◌, ℕ, ◌+◌, ◌≤◌, List, [], ◌∷◌, ◌++◌, Option, Some, refl, sym, ap, ◌∙◌, subst, arith}
 use Rattle.std.specs.Prelude.{true, map, if◌then◌else◌}
 use Rattle.std.proofs.lemmas.Option.{same_Some}
 use Rattle.types.specs.Code.{Codes, Program}
 use Rattle.effects.specs.Needs.{Needs}
+use Rattle.effects.proofs.Members.{false_true}
 use Rattle.own_run.specs.Results.{TaskResult, and_then}
 use Rattle.own_run.specs.Lists.{Each}
 use Rattle.own_run.specs.OwnRun.{Start, result_of}
@@ -19,8 +19,8 @@ use Rattle.interleave.proofs.Changes.{becomes}
 use Rattle.interleave.proofs.OwnTasks.{truly}
 use Rattle.interleave.proofs.Outcomes.{IsSound, first_sound, list_sound, none_held, root_is_done}
 use Rattle.interleave.proofs.GoingOn.{each_of}
-use Rattle.interleave.proofs.Worth.{sum_of, sum_of-nil, sum_of-cons, coming, left, based, reward, share}
-use Rattle.interleave.proofs.Worth.{Balanced, event_balanced, first_balanced, none_left}
+use Rattle.interleave.proofs.Worth.{sum_of, sum_of-nil, sum_of-cons, coming, left, based, reward, share, Balanced}
+use Rattle.interleave.proofs.Worth.{event_balanced, first_balanced, none_left}
 
 sum_of-zero : {A : Type 0} (g : A → ℕ) (xs : List A) → Each (λ x. g x ≡ 0) xs → sum_of g xs ≡ 0
 sum_of-zero g [] h = sum_of-nil g
@@ -44,7 +44,7 @@ module _ (p : Program) (needs : Codes → Needs) (fresh w0 : ℕ) (least : 1 ≤
 
   -- whose last scope is the root's
   based_last : (ss : List Stake) → based p needs fresh w0 root nameless worth f all_of ss ≡ true → (xs : List ScopeId) × (map scope_of ss ≡ xs ++ root_scope ∷ [])
-  based_last [] e = absurd (Rattle.effects.proofs.Members.false_true e)
+  based_last [] e = absurd (false_true e)
   based_last (s ∷ []) e = ([], ap (λ i. i ∷ []) (scopes_same s.scope root_scope e))
   based_last (s ∷ r ∷ more) e = let h = based_last (r ∷ more) e in (s.scope ∷ h.0, ap (λ l. s.scope ∷ l) h.1)
 

@@ -1,6 +1,6 @@
 -- Whatever results are worth: what the root's scope holds and what is still to come to it is always the same.
-use Rattle.std.proofs.Common.{◌≡◌, ℕ, zero, suc, ◌+◌, ◌-◌, ◌/◌, ◌≤◌, List, [], ◌∷◌, ◌++◌, length, Option}
-use Rattle.std.proofs.Common.{Some, None, refl, sym, ap, ◌∙◌, subst, inl, inr, arith}
+use Rattle.std.proofs.Common.{◌≡◌, ℕ, zero, suc, ◌+◌, ◌-◌, ◌/◌, ◌≤◌, List, [], ◌∷◌, ◌++◌, length, Option, Some, None}
+use Rattle.std.proofs.Common.{refl, sym, ap, ◌∙◌, subst, inl, inr, arith}
 use Rattle.std.proofs.lemmas.List.{append-nil}
 use Rattle.std.specs.Prelude.{Bool, true, false, ◌⊎◌, map, take, drop, slice_get, if◌then◌else◌}
 use Rattle.std.proofs.lemmas.Option.{none-some, same_Some}
@@ -10,24 +10,24 @@ use Rattle.own_run.specs.Results.{TaskResult}
 use Rattle.own_run.specs.OwnRun.{Start, Action, Step, Spawn, EnterFinish, EndFinish, EndTask, result_of}
 use Rattle.own_run.specs.Given.{own}
 use Rattle.interleave.specs.World.{same_path, ScopeId, Stake, Live, Scope, World, Whereabouts, Hand, Parked}
-use Rattle.interleave.specs.World.{same_scope, root_scope, child_path, task, put_task, without_task, scope}
-use Rattle.interleave.specs.World.{put_scope, is_parked}
-use Rattle.interleave.specs.Events.{Event, Take, Steal, Steps, Replenish, Spawns, Opens, Parks, Ends, Pass}
-use Rattle.interleave.specs.Events.{Resume, issue, give_back, did, new_task, new_scope, first_world}
+use Rattle.interleave.specs.World.{same_scope, root_scope, child_path, task, put_task, without_task, scope, put_scope}
+use Rattle.interleave.specs.World.{is_parked}
+use Rattle.interleave.specs.Events.{Event, Take, Steal, Steps, Replenish, Spawns, Opens, Parks, Ends, Pass, Resume}
+use Rattle.interleave.specs.Events.{issue, give_back, did, new_task, new_scope, first_world}
 use Rattle.interleave.specs.History.{told}
 use Rattle.interleave.proofs.Lookups.{by_test, path_not, scope_is, scopes_same}
 use Rattle.interleave.proofs.Histories.{cons_head, cons_tail, nil_cons, nil_snoc}
 use Rattle.interleave.proofs.Stakes.{scope_of, own as own_scope}
-use Rattle.interleave.proofs.Changes.{IsQuiet, IsReplenish, IsSpawn, IsOpen, IsPark, IsEnd, IsPass}
-use Rattle.interleave.proofs.Changes.{IsResume, Becomes}
+use Rattle.interleave.proofs.Changes.{IsQuiet, IsReplenish, IsSpawn, IsOpen, IsPark, IsEnd, IsPass, IsResume, Becomes}
 use Rattle.interleave.proofs.Kept.{base, Kept}
 use Rattle.interleave.proofs.Events.{rebooked}
 use Rattle.interleave.proofs.Scopes.{Lone, lone}
 use Rattle.interleave.proofs.Once.{root_stays}
 use Rattle.interleave.proofs.Levels.{depth}
 use Rattle.interleave.proofs.Direct.{direct}
-use Rattle.interleave.proofs.OwnTasks.{IsOwnTask, AllOwn, IsAtLevel, truly, nexts, hands, awake_level}
-use Rattle.interleave.proofs.OwnTasks.{next_in_truth, ends_in_truth, depth_more, at_level}
+use Rattle.interleave.proofs.OwnTasks.{IsOwnTask, AllOwn, IsAtLevel, truly, nexts, hands, awake_level, next_in_truth}
+use Rattle.interleave.proofs.OwnTasks.{ends_in_truth, depth_more, at_level}
+use Rattle.interleave.proofs.Present.{Falls, told_falls}
 
 pub sum_of : {A : Type 0} → (A → ℕ) → List A → ℕ
 sum_of g [] = 0
@@ -188,7 +188,7 @@ module _ (p : Program) (needs : Codes → Needs) (fresh w0 : ℕ) (root : Start)
     Balanced ts ss = (s : Scope) → scope root_scope ss ≡ Some s → sum_of f s.results + sum_of share ts ≡ coming (Some 0) (truly p needs fresh w0 root nameless root)
 
     same_results : (x : ScopeId) (book to : Scope) (ts : List Live) (ss : List Scope) → scope x ss ≡ Some book → to.id ≡ x → to.results ≡ book.results → Balanced ts ss → Balanced ts (put_scope to ss)
-    same_results x book to ts ss e g same h s i = by_place (Rattle.interleave.proofs.Events.rebooked x book to ss root_scope s e g i)
+    same_results x book to ts ss e g same h s i = by_place (rebooked x book to ss root_scope s e g i)
       where
         by_place : ((x ≡ root_scope) × (to ≡ s)) ⊎ ((same_scope x root_scope ≡ false) × (scope root_scope ss ≡ Some s)) → sum_of f s.results + sum_of share ts ≡ coming (Some 0) (truly p needs fresh w0 root nameless root)
         by_place (inl (u, v)) =
@@ -338,9 +338,9 @@ module _ (p : Program) (needs : Codes → Needs) (fresh w0 : ℕ) (root : Start)
             heads = sym (ap (map scope_of) (c.at.stakes ∙ ap (λ ss. c.at.inner ∷ ss) e)) ∙ (k.tasks path c.at.was c.at.found).stakes
 
             differs : c.at.inner.scope ≡ root_scope → ⊥
-            differs g = by_inside (told es path).inside (k.line path) refl heads (Rattle.interleave.proofs.Present.told_falls es path)
+            differs g = by_inside (told es path).inside (k.line path) refl heads (told_falls es path)
               where
-                by_inside : (ns : List ℕ) (l : List ScopeId) → k.line path ≡ l → c.at.inner.scope ∷ r.scope ∷ map scope_of more ≡ map (own_scope path) ns ++ base l → Rattle.interleave.proofs.Present.Falls ((told es path).opened + 1) ns → ⊥
+                by_inside : (ns : List ℕ) (l : List ScopeId) → k.line path ≡ l → c.at.inner.scope ∷ r.scope ∷ map scope_of more ≡ map (own_scope path) ns ++ base l → Falls ((told es path).opened + 1) ns → ⊥
                 by_inside [] [] i j x = nil_cons (sym j)
                 by_inside [] (d ∷ l) i j x = nil_cons (sym (cons_tail j))
                 by_inside (n ∷ m ∷ ns) l i j x =
