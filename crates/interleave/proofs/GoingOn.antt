@@ -7,13 +7,13 @@ use Rattle.std.specs.Prelude.{Bool, true, false, ◌⊎◌, ◌&&◌, not, nat_e
 use Rattle.std.specs.Prelude.{if◌then◌else◌}
 use Rattle.std.proofs.lemmas.Option.{none-some, same_Some}
 use Rattle.types.specs.Code.{Codes, Program}
-use Rattle.types.specs.Run.{State, Block}
+use Rattle.types.specs.Run.{Block}
 use Rattle.effects.specs.Needs.{Needs}
 use Rattle.effects.proofs.Members.{false_true}
 use Rattle.own_run.specs.Results.{and_then}
 use Rattle.own_run.specs.Lists.{Each}
 use Rattle.own_run.specs.OwnRun.{is_waiting, run_by, actions_of, Start, Action, Step, Spawn, EnterFinish, EndFinish}
-use Rattle.own_run.specs.OwnRun.{EndTask, Own, last_action, at_first, beginning}
+use Rattle.own_run.specs.OwnRun.{EndTask, last_action, at_first, beginning}
 use Rattle.own_run.specs.Given.{in_truth, own, root_of}
 use Rattle.own_run.proofs.SettledResults.{paths_same}
 use Rattle.own_run.proofs.Begun.{run_tells}
@@ -36,7 +36,7 @@ use Rattle.interleave.proofs.Kept.{base, Hangs, IsTold}
 use Rattle.interleave.proofs.Truth.{Rel}
 use Rattle.interleave.proofs.Levels.{depth, depth-append, bracketed, depth_next}
 use Rattle.interleave.proofs.Numbered.{get_last}
-use Rattle.interleave.proofs.OwnTasks.{IsOwnTask, truly, truly_is, own_is_awake, nexts, awake_level, next_in_truth}
+use Rattle.interleave.proofs.OwnTasks.{IsOwnTask, truly, truly_is, own_is_awake, awake_level, next_in_truth}
 use Rattle.interleave.proofs.OwnTasks.{in_truth_or_behind, start_path, IsAtLevel, no_level}
 use Rattle.interleave.proofs.Present.{IsThere, Falls, told_falls}
 use Rattle.interleave.proofs.Outcomes.{IsSound, sound}

@@ -15,12 +15,12 @@ use Rattle.interleave.specs.World.{child_path, task, put_task, without_task, sco
 use Rattle.interleave.specs.Events.{Event, Take, Steal, Steps, Replenish, Spawns, Opens, Parks, Ends, Pass, Resume}
 use Rattle.interleave.specs.Events.{issue, give_back, did, new_task, new_scope}
 use Rattle.interleave.specs.History.{told, SpawnsAt, BegunIn, in_own, handed_on}
-use Rattle.interleave.proofs.Lookups.{by_test, other_path, task-without_task, gone-without_task, Unique}
+use Rattle.interleave.proofs.Lookups.{by_test, other_path, task-without_task, gone-without_task}
 use Rattle.interleave.proofs.Lookups.{scope-put_scope, scope_is, path_is, scopes_same, true_not_false}
 use Rattle.interleave.proofs.Histories.{cons_head, cons_tail, nil_cons, last_same, still_spawns, spawned_since}
 use Rattle.interleave.proofs.Stakes.{scope_of, own}
 use Rattle.interleave.proofs.Changes.{IsQuiet, IsSpawn, IsOpen, IsEnd, IsResume, Becomes}
-use Rattle.interleave.proofs.Kept.{base, Kept, IsTold, Hangs}
+use Rattle.interleave.proofs.Kept.{base, Kept, Hangs}
 use Rattle.interleave.proofs.Steps.{put_cases}
 use Rattle.interleave.proofs.Events.{rebooked}
 use Rattle.interleave.proofs.Scopes.{Lone, lone}

@@ -1,5 +1,5 @@
 -- No live task weighs more in a scope than the scope has out.
-use Rattle.std.proofs.Common.{◌≡◌, ℕ, ◌+◌, ◌≤◌, List, [], ◌∷◌, ap, inl, inr, arith}
+use Rattle.std.proofs.Common.{◌≡◌, ℕ, ◌≤◌, List, [], ◌∷◌, ap, inl, inr, arith}
 use Rattle.std.specs.Prelude.{◌⊎◌, Bool, Contains, if◌then◌else◌}
 use Rattle.own_run.specs.Results.{TaskResult}
 use Rattle.own_run.specs.OwnRun.{Start, Action}

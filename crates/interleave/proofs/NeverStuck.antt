@@ -1,5 +1,5 @@
 -- No world of a sound and accepted program is stuck, and at the end its outcome is told.
-use Rattle.std.proofs.Common.{◌≡◌, ℕ, ◌+◌, ◌≤◌, List, [], ◌∷◌, ◌++◌, Option, Some, refl, sym, ap, ◌∙◌, subst, inl}
+use Rattle.std.proofs.Common.{◌≡◌, ℕ, ◌≤◌, List, [], ◌∷◌, ◌++◌, Option, Some, refl, sym, ap, ◌∙◌, subst, inl}
 use Rattle.std.proofs.Common.{inr}
 use Rattle.std.proofs.lemmas.Option.{none-some, same_Some}
 use Rattle.std.specs.Prelude.{ℤ, true, false, ◌⊎◌}
@@ -24,7 +24,7 @@ use Rattle.own_run.proofs.HoldingTurns.{root_begins}
 use Rattle.own_run.proofs.SettledResults.{gives}
 use Rattle.own_run.proofs.TaskRuns.{begins_follow}
 use Rattle.interleave.specs.World.{Live, Scope, World, root_scope, task, scope, is_parked}
-use Rattle.interleave.specs.Events.{Event, next_action, next, first_world, after, new_task}
+use Rattle.interleave.specs.Events.{Event, next_action, next, first_world, after}
 use Rattle.interleave.specs.Replay.{does, hands_on}
 use Rattle.interleave.specs.Worlds.{IsFree, IsSpent, LeadsTo, next_of, outcome_of}
 use Rattle.interleave.proofs.ReplayLaws.{IsUnsettled}

@@ -8,7 +8,7 @@ use Rattle.types.specs.Code.{Codes, Program}
 use Rattle.types.specs.Outcome.{Budget}
 use Rattle.effects.specs.Needs.{Needs}
 use Rattle.own_run.specs.Results.{TaskResult, and_then}
-use Rattle.own_run.specs.Settling.{settle, NoTwice}
+use Rattle.own_run.specs.Settling.{NoTwice}
 use Rattle.own_run.specs.Lists.{Each}
 use Rattle.own_run.specs.OwnRun.{Start, result_of, run_by}
 use Rattle.own_run.specs.Given.{own, given, IsOwn, root_of}
@@ -22,7 +22,7 @@ use Rattle.interleave.specs.Replay.{replay}
 use Rattle.interleave.specs.History.{BegunIn}
 use Rattle.interleave.proofs.ReplayLaws.{ReplaysAreWorlds, PassedHasEnded, StartsAreGiven, ResultsAreOwn}
 use Rattle.interleave.proofs.ReplayLaws.{ResultsComeOnce, ResultsAreHanded, RefusesTheFirst}
-use Rattle.interleave.proofs.Lookups.{by_test, holds, held_least, task_path}
+use Rattle.interleave.proofs.Lookups.{by_test, held_least, task_path}
 use Rattle.interleave.proofs.Handed.{Last, Handed, event_handed, begun_in_one}
 use Rattle.interleave.proofs.Histories.{contains_nil, contains_here, contains_later}
 use Rattle.interleave.proofs.Stakes.{scope_of, own as own_scope, Weighty, weighs_below, positive_in}

@@ -1,5 +1,5 @@
 -- Whatever results are worth: what a scope holds, and what the tasks begun in it are, is what was spawned for it.
-use Rattle.std.proofs.Common.{◌≡◌, ℕ, zero, suc, ◌+◌, ◌-◌, ◌/◌, ◌<◌, ◌≤◌, List, [], ◌∷◌, ◌++◌, length, Option, Some}
+use Rattle.std.proofs.Common.{◌≡◌, ℕ, zero, suc, ◌+◌, ◌-◌, ◌/◌, ◌<◌, ◌≤◌, List, [], ◌∷◌, ◌++◌, length, Some}
 use Rattle.std.proofs.Common.{None, refl, sym, ap, ◌∙◌, subst, inl, inr, arith}
 use Rattle.std.proofs.lemmas.Option.{none-some, same_Some}
 use Rattle.std.proofs.lemmas.List.{append-nil}
@@ -20,10 +20,10 @@ use Rattle.interleave.specs.History.{told}
 use Rattle.interleave.proofs.Lookups.{by_test, path_not, other_path, scope_is, scopes_same, other_scope}
 use Rattle.interleave.proofs.Lookups.{task-without_task, gone-without_task, unique-without_task, held_least}
 use Rattle.interleave.proofs.Lookups.{task_path, Unique}
-use Rattle.interleave.proofs.Histories.{contains_nil, contains_here, contains_later, contains_cons, cons_head}
-use Rattle.interleave.proofs.Histories.{cons_tail, nil_cons, nil_snoc, last_same}
+use Rattle.interleave.proofs.Histories.{contains_nil, contains_here, contains_later, contains_cons}
+use Rattle.interleave.proofs.Histories.{nil_snoc, last_same}
 use Rattle.interleave.proofs.Stakes.{scope_of, own as own_scope, Weighty, positive_in}
-use Rattle.interleave.proofs.Changes.{IsQuiet, IsAt, IsReplenish, IsSpawn, IsOpen, IsPark, IsEnd, IsPass, IsResume}
+use Rattle.interleave.proofs.Changes.{IsQuiet, IsReplenish, IsSpawn, IsOpen, IsPark, IsEnd, IsPass, IsResume}
 use Rattle.interleave.proofs.Kept.{base, Hangs, IsKnown, Kept, base_weighs}
 use Rattle.interleave.proofs.Steps.{put_cases}
 use Rattle.interleave.proofs.Events.{rebooked}
@@ -32,7 +32,7 @@ use Rattle.interleave.proofs.Once.{root_stays}
 use Rattle.interleave.proofs.Levels.{depth}
 use Rattle.interleave.proofs.Direct.{start_of}
 use Rattle.interleave.proofs.OwnTasks.{IsOwnTask, AllOwn, IsAtLevel, truly, nexts, hands, more_done, ends_in_truth}
-use Rattle.interleave.proofs.OwnTasks.{at_level, awake_level}
+use Rattle.interleave.proofs.OwnTasks.{at_level}
 use Rattle.interleave.proofs.GoingOn.{each_of, each_at}
 use Rattle.interleave.proofs.Pending.{spawned, spawned-append}
 use Rattle.interleave.proofs.Worth.{sum_of, sum_of-nil, sum_of-cons, sum_of-last, sum_of-put_task}

@@ -1,8 +1,8 @@
 -- Each live task goes on: what a passed scope holds settles what its owner made in it.
-use Rattle.std.proofs.Common.{◌≡◌, ℕ, zero, suc, ◌+◌, ◌-◌, ◌/◌, ◌≤◌, List, [], ◌∷◌, ◌++◌, length, Option, Some, None}
+use Rattle.std.proofs.Common.{◌≡◌, ℕ, zero, suc, ◌+◌, ◌-◌, ◌/◌, List, [], ◌∷◌, ◌++◌, length, Option, Some, None}
 use Rattle.std.proofs.Common.{refl, sym, ap, ◌∙◌, subst, inl, inr, arith, append_assoc}
 use Rattle.std.proofs.lemmas.Option.{none-some, same_Some}
-use Rattle.std.specs.Prelude.{Bool, true, false, ◌⊎◌, map, take, flat_map, slice_get, if◌then◌else◌}
+use Rattle.std.specs.Prelude.{true, false, ◌⊎◌, map, take, slice_get, if◌then◌else◌}
 use Rattle.sections.specs.Member.{Member, first, next}
 use Rattle.types.specs.Code.{Codes, Program}
 use Rattle.types.specs.Run.{State}
@@ -12,13 +12,13 @@ use Rattle.race_checker.specs.Scope.{IsScoped}
 use Rattle.race_checker.specs.Calm.{IsCalm}
 use Rattle.own_run.specs.Results.{TaskResult, Settled}
 use Rattle.own_run.specs.Settling.{settle}
-use Rattle.own_run.specs.Lists.{Each, Shuffled, none}
-use Rattle.own_run.specs.OwnRun.{Start, Child, Action, Step, Spawn, EnterFinish, EndFinish, EndTask, Own, result_of}
+use Rattle.own_run.specs.Lists.{Each, Shuffled}
+use Rattle.own_run.specs.OwnRun.{Start, Child, Action, Step, Spawn, EnterFinish, EndFinish, Own, result_of}
 use Rattle.own_run.specs.OwnRun.{own_rules, last_action, next_action}
-use Rattle.own_run.specs.Given.{own, in_truth, below, IsOwn}
+use Rattle.own_run.specs.Given.{own, in_truth}
 use Rattle.own_run.specs.Frames.{Frame, AtEnd, Standing, turn, handed, IsBegun}
 use Rattle.own_run.specs.Holds.{MayBegin}
-use Rattle.own_run.specs.Reached.{Reached, child_begins, begun}
+use Rattle.own_run.specs.Reached.{child_begins, begun}
 use Rattle.own_run.proofs.NeverStuck.{pending_results, settles_any}
 use Rattle.own_run.proofs.ReachedTasks.{goes, Goes}
 use Rattle.own_run.proofs.TaskRuns.{goes_on, lists_given, begins_follow}
@@ -28,9 +28,9 @@ use Rattle.interleave.specs.World.{child_path, task, put_task, without_task, is_
 use Rattle.interleave.specs.Events.{Event, Take, Steal, Steps, Replenish, Spawns, Opens, Parks, Ends, Pass, Resume}
 use Rattle.interleave.specs.Events.{did, new_task}
 use Rattle.interleave.proofs.ReplayLaws.{measured}
-use Rattle.interleave.proofs.Lookups.{by_test, other_path, task-without_task, gone-without_task, Unique}
+use Rattle.interleave.proofs.Lookups.{by_test, other_path, task-without_task, gone-without_task}
 use Rattle.interleave.proofs.Histories.{cons_head, cons_tail, nil_snoc}
-use Rattle.interleave.proofs.Changes.{IsQuiet, IsAt, IsReplenish, IsSpawn, IsOpen, IsPark, IsEnd, IsPass, IsResume}
+use Rattle.interleave.proofs.Changes.{IsQuiet, IsReplenish, IsSpawn, IsOpen, IsPark, IsEnd, IsResume}
 use Rattle.interleave.proofs.Changes.{Becomes}
 use Rattle.interleave.proofs.Kept.{Kept}
 use Rattle.interleave.proofs.Steps.{put_cases}
@@ -42,8 +42,8 @@ use Rattle.interleave.proofs.OwnTasks.{depth_more, at_level}
 use Rattle.interleave.proofs.GoingOn.{take_all}
 use Rattle.interleave.proofs.Worth.{sum_of, sum_of-nil}
 use Rattle.interleave.proofs.Measured.{worth, worth_lists, measured_is, pending_worth}
-use Rattle.interleave.proofs.There.{IsReal, shuffled, pending_real}
-use Rattle.interleave.proofs.Standing.{Stands, Poised, Closes, finishes, is_over, poise, moves, closes, closed}
+use Rattle.interleave.proofs.There.{shuffled, pending_real}
+use Rattle.interleave.proofs.Standing.{Stands, Closes, finishes, is_over, poise, moves, closes, closed}
 use Rattle.interleave.proofs.Standing.{moved_on, left, IsMove}
 use Rattle.interleave.proofs.Pending.{spawned, spawned-append, around, pendings, turn_pending, pending_spawned}
 use Rattle.interleave.proofs.Owed.{AllEven, open_in, open_is, quiet_even, replenish_even, park_even, pass_even}

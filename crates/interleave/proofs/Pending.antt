@@ -1,6 +1,5 @@
 -- What a task has pending at each finish that it has open are the tasks that it spawned there.
 use Rattle.std.proofs.Common.{◌≡◌, ℕ, zero, suc, List, [], ◌∷◌, ◌++◌, Ok, Err, refl, sym, ap, ◌∙◌}
-use Rattle.std.proofs.lemmas.List.{append-nil}
 use Rattle.std.specs.Prelude.{Bool, true, false, map, ok_or}
 use Rattle.sections.specs.Place.{sides_of}
 use Rattle.types.specs.declared.fault.FaultKind.TheVariants.{SplitPoint}
@@ -11,12 +10,11 @@ use Rattle.types.specs.Run.{Flow, On, Faulted, Stopped, State, number_at, number
 use Rattle.types.specs.Laws.{IsKept}
 use Rattle.types.proofs.Keeps.{primitive_keeps}
 use Rattle.effects.specs.Needs.{Needs}
-use Rattle.own_run.specs.Results.{Settled}
-use Rattle.own_run.specs.OwnRun.{Start, Child, Action, Step, Spawn, EnterFinish, EndFinish, EndTask, Own, notes}
+use Rattle.own_run.specs.OwnRun.{Start, Action, Step, Spawn, EnterFinish, EndFinish, EndTask, Own, notes}
 use Rattle.own_run.specs.OwnRun.{own_rules, child_of}
 use Rattle.own_run.specs.Given.{in_truth}
 use Rattle.own_run.specs.Frames.{Frame, Rest, Again, AtEnd, Back, Standing, by_value, chosen, paid, by_flow, turn}
-use Rattle.own_run.specs.Frames.{handed, done_by, done_at, done_in}
+use Rattle.own_run.specs.Frames.{done_by, done_at, done_in}
 use Rattle.own_run.specs.Reached.{Reached, root_begins, child_begins, turns, leaves}
 use Rattle.own_run.proofs.TurnActions.{turn_does}
 use Rattle.interleave.proofs.Direct.{start_of}

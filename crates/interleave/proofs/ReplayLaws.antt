@@ -2,19 +2,17 @@
 use Rattle.std.specs.Prelude.{ℕ, ◌+◌, ◌≡◌, ◌≤◌, ◌*◌, ◌^◌, ◌⊎◌, ◌↔◌, List, [], ◌∷◌, ◌++◌, length, ℤ, true, false, Some}
 use Rattle.std.specs.Prelude.{None, Contains}
 use Rattle.types.specs.Code.{Codes, Program}
-use Rattle.types.specs.Outcome.{Budget, Outcome, outcome}
-use Rattle.effects.specs.Needs.{Needs, Provides}
-use Rattle.race_checker.specs.Scope.{IsScoped}
-use Rattle.race_checker.specs.Calm.{IsCalm}
+use Rattle.types.specs.Outcome.{Budget}
+use Rattle.effects.specs.Needs.{Needs}
 use Rattle.own_run.specs.Results.{TaskResult}
 use Rattle.own_run.specs.Lists.{Each}
 use Rattle.own_run.specs.Settling.{NoTwice}
-use Rattle.own_run.specs.OwnRun.{Start, Spawn, EndFinish, EndTask, is_waiting, run_by, result_of}
-use Rattle.own_run.specs.Given.{below, own, given, IsOwn, root_of}
+use Rattle.own_run.specs.OwnRun.{Start, Spawn, EndFinish, EndTask, is_waiting, run_by}
+use Rattle.own_run.specs.Given.{below, given, IsOwn, root_of}
 use Rattle.interleave.specs.World.{ScopeId, Stake, Live, Scope, World, is_parked, hand_of, root_scope, task, scope}
 use Rattle.interleave.specs.Events.{Event, Ends, owns, next_action, after}
 use Rattle.interleave.specs.History.{Begun, BegunIn, Ended}
-use Rattle.interleave.specs.Replay.{does, hands_on, event, Legal, IllegalAt, start_of, replay, world_outcome}
+use Rattle.interleave.specs.Replay.{does, hands_on, event, Legal, IllegalAt, start_of, replay}
 
 -- what results come to by a measure
 abbrev pub measured : (TaskResult → ℕ) → List TaskResult → ℕ

@@ -7,15 +7,13 @@ use Rattle.types.specs.Run.{Block}
 use Rattle.types.specs.Outcome.{Budget}
 use Rattle.effects.specs.Needs.{Needs}
 use Rattle.own_run.specs.Results.{TaskResult, and_then, Settled}
-use Rattle.own_run.specs.Settling.{settle, IsParted}
+use Rattle.own_run.specs.Settling.{settle}
 use Rattle.own_run.specs.Lists.{Each, Inserted, here, later, Shuffled, none, one}
 use Rattle.own_run.specs.OwnRun.{Start, Child, at_first, result_of, beginning}
-use Rattle.own_run.specs.Given.{in_truth, own, comes_to, below, given, IsOwn, root_of, told_of}
+use Rattle.own_run.specs.Given.{in_truth, own, below, given, IsOwn, root_of, told_of}
 use Rattle.own_run.specs.Frames.{IsGivenChild}
 use Rattle.own_run.proofs.Begun.{run_tells}
-use Rattle.own_run.proofs.Lists.{each_more}
 use Rattle.own_run.proofs.SettledResults.{paths_same, IsGiven, lists_true}
-use Rattle.own_run.proofs.CompleteResults.{own_complete}
 use Rattle.interleave.specs.World.{same_path, root_scope, task, Scope, World, scope}
 use Rattle.interleave.specs.Events.{only_if, Event}
 use Rattle.interleave.specs.Replay.{hands_on, Legal, replay, world_outcome}

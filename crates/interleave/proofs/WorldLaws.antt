@@ -1,10 +1,9 @@
 -- What holds of every world that a list of legal events leads to.
-use Rattle.std.specs.Prelude.{ℕ, ◌+◌, ◌≡◌, ◌≤◌, List, drop, true, Some, Contains, if◌then◌else◌}
+use Rattle.std.specs.Prelude.{ℕ, ◌+◌, ◌≡◌, ◌≤◌, List, true, Some, Contains}
 use Rattle.own_run.specs.Results.{TaskResult}
-use Rattle.own_run.specs.Lists.{Each}
 use Rattle.own_run.specs.OwnRun.{Start, Action}
 use Rattle.interleave.specs.Weights.{Weighs, StandsIn}
-use Rattle.interleave.specs.World.{ScopeId, Stake, Live, Scope, World, task, scope, held, is_parked}
+use Rattle.interleave.specs.World.{ScopeId, Stake, Live, Scope, World, task, scope, held}
 use Rattle.interleave.specs.Events.{Event, first_world, after}
 use Rattle.interleave.specs.History.{Begun, Ended}
 

@@ -1,5 +1,5 @@
 -- The worlds of a program's run on an input and under a budget, with the needs that are computed.
-use Rattle.std.specs.Prelude.{ℕ, ℤ, ◌≡◌, ◌≤◌, ◌*◌, ◌^◌, List, [], ◌∷◌, ◌++◌, length, Option, Some, None}
+use Rattle.std.specs.Prelude.{ℕ, ℤ, ◌≡◌, ◌≤◌, ◌*◌, ◌^◌, List, ◌∷◌, ◌++◌, length, Option, Some, None}
 use Rattle.types.specs.Code.{Program}
 use Rattle.types.specs.Outcome.{Budget, Outcome}
 use Rattle.effects.specs.Rounds.{needs_of}
@@ -8,7 +8,7 @@ use Rattle.own_run.specs.Given.{given}
 use Rattle.own_run.specs.Runs.{root}
 use Rattle.interleave.specs.World.{Stake, Live, Scope, World, task, scope}
 use Rattle.interleave.specs.Events.{Event, next_action}
-use Rattle.interleave.specs.Replay.{does, hands_on, event, start_of, Replayed, Legal, replay, world_outcome}
+use Rattle.interleave.specs.Replay.{does, hands_on, event, Replayed, Legal, replay, world_outcome}
 
 module _ (p : Program) (input : List (List ℤ)) (b : Budget) where
   -- what the task of a path starts with, in the run of the program
