@@ -98,10 +98,6 @@ last_same_scopes (s ∷ []) (r ∷ t ∷ rs) id e h = absurd (nil_cons (cons_tai
 last_same_scopes (s ∷ t ∷ ss) (r ∷ []) id e h = absurd (nil_cons (sym (cons_tail e)))
 last_same_scopes (s ∷ t ∷ ss) (r ∷ u ∷ rs) id e h = last_same_scopes (t ∷ ss) (u ∷ rs) id (cons_tail e) h
 
-last_cons : (s : Stake) (ss : List Stake) (id : ScopeId) → Last ss id → Last (s ∷ ss) id
-last_cons s [] id h = absurd h
-last_cons s (r ∷ ss) id h = h
-
 -- the result of a task is in a scope
 pub record IsKeptIn (es : List Event) (ss : List Scope) (q : List ℕ) : Type 0 where
   pub id : ScopeId

@@ -129,9 +129,6 @@ module _ (p : Program) (needs : Codes → Needs) (fresh w0 : ℕ) (root : Start)
     pub ends_in_truth : (a : Action) (f : ℕ) → nexts t ≡ Some a → depth 0 (take t.done (truly t.start)) ≡ Some f → (depth f (a ∷ []) ≡ None) → run_by p needs fresh t.receipts t.start ≡ own p needs fresh t.start
     ends_in_truth a f e d n = by_rel in_truth_or_behind
       where
-        abbrev_run : State Own
-        abbrev_run = run_by p needs fresh t.receipts t.start
-
         behind : Behind (run_by p needs fresh t.receipts t.start) (own p needs fresh t.start) → ⊥
         behind i =
             let raw = (run_by p needs fresh t.receipts t.start).extra.actions in

@@ -391,9 +391,6 @@ module _ (p : Program) (needs : Codes → Needs) (scoped : IsScoped p) (calm : I
           ∙ results_are p needs fresh w0 root nameless (worth p needs fresh w0 root nameless f) f (worth_lists p needs fresh w0 root nameless f)
           es a k o (even f) path b c here beyond (was_open f)
 
-      at_end : Standing Own
-      at_end = record { frames = AtEnd waited.before ∷ waited.frames; state = waited.state }
-
       reached : Goes p needs scoped calm provided fresh root nameless may_begin c.was.start
           (record { frames = AtEnd waited.before ∷ waited.frames; state = waited.state })
       reached = goes p needs scoped calm provided fresh root nameless may_begin waited.stands.reached

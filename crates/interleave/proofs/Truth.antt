@@ -171,9 +171,6 @@ module _ (p : Program) (needs : Codes → Needs) (fresh : ℕ) (root s : Start) 
       before : Prefix (r2.leave st b).extra.actions Z → Prefix b.extra.actions Z
       before e = let g = leave_grows st b in record { rest = g.rest ++ e.rest; is = e.is ∙ ap (λ l. l ++ e.rest) g.is ∙ append_assoc b.extra.actions g.rest e.rest }
 
-      noted : State Own → State Own
-      noted c = record c { extra = notes EndFinish c.extra }
-
       by_close : Good b → Prefix b.extra.actions Z → (o : Option Settled) → from_receipts receipts b ≡ o
           → Rel (leave_with st (record b { extra = notes EndFinish b.extra }) o) (leave_with st (record b { extra = notes EndFinish b.extra }) (in_truth p needs fresh b))
       by_close g e None f = inr (record { waits = refl; prefix = record { rest = []; is = sym (append-nil _) } })
