@@ -1,0 +1,5 @@
+pub mod Tries
+pub mod Sequences
+pub mod Computing
+pub mod Operands
+pub mod Deciding

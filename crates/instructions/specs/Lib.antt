@@ -1,0 +1,3 @@
+pub mod Execution
+pub mod Tests
+pub mod Compiled
