@@ -1,19 +1,23 @@
 //! Expressions, one function for each production.
 
-ghost use Rattle.std.specs.Prelude.{◌≡◌, ◌≢◌, ◌<◌, ◌≤◌, ℕ, List, ◌∷◌, length, IfOk, IfErr, IfSome, IfNone};
+ghost use Rattle.std.specs.Prelude.{◌≡◌, ◌≢◌, ◌<◌, ◌≤◌, ℕ, List, ◌∷◌, length, IfOk, IfErr};
+ghost use Rattle.std.specs.Prelude.{IfSome, IfNone};
 ghost use Rattle.syntax.specs.declared.token.Mark.{Mark as AnyMark};
 ghost use Rattle.syntax.specs.declared.tree.Relation.{Relation as AnyRelation};
 ghost use Rattle.syntax.specs.declared.tree.Sign.{Sign as AnySign};
 ghost use Rattle.syntax.specs.declared.tree.Operator.{Operator as AnyOperator};
-ghost use Rattle.syntax.specs.Reading.{AddsExprs, IsRead, Refuses, Leaves, LeavesClosed, SpellsNone};
+ghost use Rattle.syntax.specs.Reading.{AddsExprs, IsRead, Refuses, Leaves};
+ghost use Rattle.syntax.specs.Reading.{LeavesClosed, SpellsNone};
 ghost use Rattle.syntax.specs.Reading.{SpellsNoneClosed};
 ghost use Rattle.syntax.specs.Reading.{mark_binds, list_level, or_level, and_level, relation_level};
 ghost use Rattle.syntax.specs.Reading.{sign_level, operator_level, bracket_level};
-ghost use Rattle.syntax.specs.Spelling.{more_then, expr_then, conj_then, neg_then, cmp_then, sum_then};
+ghost use Rattle.syntax.specs.Spelling.{more_then, expr_then, conj_then, neg_then};
+ghost use Rattle.syntax.specs.Spelling.{cmp_then, sum_then};
 ghost use Rattle.syntax.specs.Spelling.{prod_then, unary_then, atom_then, relation_mark, sign_mark};
 ghost use Rattle.syntax.specs.Spelling.{operator_mark};
 ghost use Rattle.syntax.specs.Token.{Token as PlainToken, NameToken, MarkToken, plain};
-ghost use Rattle.syntax.specs.Tree.{expr as expr_tree, conj as conj_tree, neg as neg_tree, cmp as cmp_tree};
+ghost use Rattle.syntax.specs.Tree.{expr as expr_tree, conj as conj_tree};
+ghost use Rattle.syntax.specs.Tree.{neg as neg_tree, cmp as cmp_tree};
 ghost use Rattle.syntax.specs.Tree.{sum as sum_tree, prod as prod_tree, unary as unary_tree};
 ghost use Rattle.syntax.specs.Tree.{atom as atom_tree};
 

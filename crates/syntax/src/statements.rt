@@ -2,7 +2,8 @@
 
 ghost use Rattle.std.specs.Prelude.{◌≡◌, ◌≢◌, ◌<◌, List, ◌∷◌, length, IfOk, IfErr};
 ghost use Rattle.syntax.specs.declared.token.Word.{Word as AnyWord};
-ghost use Rattle.syntax.specs.Reading.{IsRead, IsReadClosed, Refuses, RefusesClosed, SpellsNone, else_level};
+ghost use Rattle.syntax.specs.Reading.{IsRead, IsReadClosed, Refuses, RefusesClosed};
+ghost use Rattle.syntax.specs.Reading.{SpellsNone, else_level};
 ghost use Rattle.syntax.specs.Spelling.{expr_then, exprs_then, stmt_then, block_then};
 ghost use Rattle.syntax.specs.Token.{Token as PlainToken, WordToken, MarkToken, plain};
 ghost use Rattle.syntax.specs.Tree.{expr as expr_tree, exprs, stmt, block as block_tree};

@@ -31,6 +31,9 @@ told_left (x ∷ xs) ys e h = told_left_by x xs ys e (told_left xs ys e) h
 pub told_alone : (x : TypeError) → Told (x ∷ []) x
 told_alone x = inl refl
 
+-- by what parts an error is told of a whole
+pub ruleset telling = (told_left, told_right, told_memory, told_alone, none_both)
+
 -- at an exit by `?`, whose error is that of the part
 pub at_exit : {X : Type 0} (P : TypeError → Type 0) (r : Result X TypeError) (e : TypeError) → IsErrAnd r (λ y. y ≡ e) → P e → IfErr r P
 at_exit P (Ok x) e passed h = tt
