@@ -2,7 +2,7 @@
 use Rattle.std.proofs.Common.{◌≡◌, ℕ, zero, suc, ◌+◌, ◌<◌, List, [], ◌∷◌, length, Some, None, Ok, Err, ℤ, pos, negsuc}
 use Rattle.std.proofs.Common.{refl, sym, ap, ◌∙◌, subst, arith}
 use Rattle.std.specs.Prelude.{Bool, true, false, Contains, slice_index_or, nat_lt, nat_eq, if◌then◌else◌, ok_or}
-use Rattle.std.proofs.lemmas.Bool.{ltb-true, eqb-true}
+use Rattle.std.proofs.lemmas.Bool.{ltb-true, eqb-true, and_parts}
 use Rattle.sections.specs.Place.{Window, Place, In, same_place}
 use Rattle.sections.specs.Member.{Member, first, next}
 use Rattle.types.specs.declared.fault.FaultKind.TheVariants.{Index}
@@ -16,7 +16,7 @@ use Rattle.types.specs.Run.{array_of}
 use Rattle.types.proofs.Readings.{number_same, truth_same}
 use Rattle.effects.specs.Accesses.{reads, own_accesses}
 use Rattle.effects.specs.Footprint.{Touches, Overwrites}
-use Rattle.effects.proofs.Members.{in_map, both_true}
+use Rattle.effects.proofs.Members.{in_map}
 
 member_at : {A : Type 0} (x : A) (xs : List A) (k : ℕ) → k < length xs → slice_index_or xs k x ≡ x → Member x xs
 member_at x [] k h e = absurd (omega arith)
@@ -67,7 +67,7 @@ write-other q r v c h = go (same_place q r) refl
 
 same_place-equal : (q r : Place) → same_place q r ≡ true → q ≡ r
 same_place-equal q r h =
-    let e = both_true (nat_eq q.array r.array) (nat_eq q.index r.index) h in
+    let e = and_parts (nat_eq q.array r.array) (nat_eq q.index r.index) h in
     ap (λ a. make a q.index) (eqb-true q.array r.array e.0) ∙ ap (λ i. make r.array i) (eqb-true q.index r.index e.1)
   where
     make : ℕ → ℕ → Place

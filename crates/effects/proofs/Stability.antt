@@ -1,7 +1,7 @@
 -- Rounds that only add come to a stable table, where what they may add is listed.
 use Rattle.std.proofs.Common.{◌≡◌, ℕ, zero, suc, ◌+◌, ◌-◌, ◌<◌, ◌≤◌, List, [], ◌∷◌, length, refl, sym, ap, ◌∙◌, subst}
 use Rattle.std.proofs.Common.{arith, true≢false}
-use Rattle.std.proofs.lemmas.Bool.{and_from, eqb-true, eq-eqb, ltb-true, ltb-false}
+use Rattle.std.proofs.lemmas.Bool.{and_from, eqb-true, eq-eqb, ltb-true, ltb-false, and_parts}
 use Rattle.std.specs.Prelude.{Bool, true, false, ◌&&◌, nat_eq, nat_lt, if◌then◌else◌}
 use Rattle.sections.specs.Member.{Member, first, next}
 use Rattle.sections.proofs.Members.{any_member, member_any}
@@ -11,7 +11,7 @@ use Rattle.effects.specs.Rounds.{same_kind, same_access, lists, has_all, none, a
 use Rattle.effects.specs.Rounds.{first_stable}
 use Rattle.effects.specs.Effects.{accesses}
 use Rattle.effects.proofs.Missing.{missing, missing-less, missing-falls}
-use Rattle.effects.proofs.Members.{false_true, both_true}
+use Rattle.effects.proofs.Members.{false_true}
 
 -- ---- tests
 abbrev make : ℕ → ℕ → Bool → Access
@@ -29,8 +29,8 @@ same_kind-refl false = refl
 
 same_access-equal : (x y : Access) → same_access x y ≡ true → x ≡ y
 same_access-equal x y h =
-    let a = both_true (nat_eq x.label y.label) (nat_eq x.section y.section && same_kind x.write y.write) h in
-    let b = both_true (nat_eq x.section y.section) (same_kind x.write y.write) a.1 in
+    let a = and_parts (nat_eq x.label y.label) (nat_eq x.section y.section && same_kind x.write y.write) h in
+    let b = and_parts (nat_eq x.section y.section) (same_kind x.write y.write) a.1 in
     ap (λ l. make l x.section x.write) (eqb-true x.label y.label a.0)
     ∙ ap (λ s. make y.label s x.write) (eqb-true x.section y.section b.0)
     ∙ ap (make y.label y.section) (same_kind-equal x.write y.write b.1)
@@ -48,8 +48,8 @@ has_listed xs x m = member_any (same_access x) xs m (same_access-refl x)
 
 has_each : (xs part : List Access) → has_all xs part ≡ true → (x : Access) → Member x part → Member x xs
 has_each xs [] h x m = elim m [ ]
-has_each xs (y ∷ part) h x first = is_listed xs x (both_true (lists xs x) (has_all xs part) h).0
-has_each xs (y ∷ part) h x (next m) = has_each xs part (both_true (lists xs y) (has_all xs part) h).1 x m
+has_each xs (y ∷ part) h x first = is_listed xs x (and_parts (lists xs x) (has_all xs part) h).0
+has_each xs (y ∷ part) h x (next m) = has_each xs part (and_parts (lists xs y) (has_all xs part) h).1 x m
 
 -- one is not listed
 record Lacks (xs part : List Access) : Type 0 where
@@ -95,11 +95,11 @@ module _ (round : Table accesses → Table accesses) (count : ℕ)
   stable_row table zero f lt h j e = absurd (omega (arith, lt))
   stable_row table (suc n) f lt h zero e = absurd (omega (arith, lt, e))
   stable_row table (suc n) f lt h (suc zero) e =
-      let k = both_true (has_all (table n) (round table n)) (is_stable_below round count table n) h in
+      let k = and_parts (has_all (table n) (round table n)) (is_stable_below round count table n) h in
       subst (IsRow table) (let i : n ≡ f = omega (arith, e) in i)
       (record { row = λ x m. has_each (table n) (round table n) k.0 x m })
   stable_row table (suc n) f lt h (suc (suc j)) e =
-      let k = both_true (has_all (table n) (round table n)) (is_stable_below round count table n) h in
+      let k = and_parts (has_all (table n) (round table n)) (is_stable_below round count table n) h in
       stable_row table n f (omega (arith, lt, e)) k.1 (suc j) (omega (arith, e))
 
   tested : (table : Table accesses) → is_stable round count table ≡ true → LiesIn (round table) table

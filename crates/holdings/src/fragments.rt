@@ -1,6 +1,7 @@
 //! Lists of fragments.
 
-ghost use Rattle.std.specs.Prelude.{◌≡◌, IfSome, IsTrue, MatchOption, None, OnErr, OnOk, Some, [], false};
+ghost use Rattle.std.specs.Prelude.{◌≡◌, IfSome, IsTrue, MatchOption, None, OnErr, OnOk, Some};
+ghost use Rattle.std.specs.Prelude.{[], false};
 ghost use Rattle.std.specs.Prelude.{◌+◌, ◌≤◌, IsOk, is_some};
 ghost use Rattle.std.specs.Vec.{vec_capacity, vec_len};
 ghost use Rattle.sections.specs.Translation.{place as place_of};

@@ -25,7 +25,8 @@ pub struct Holdings {
 }
 
 impl Holdings {
-    ghost use Rattle.std.specs.Prelude.{◌≡◌, ◌+◌, ◌≤◌, IfErr, IfOk, IfSome, IsSome, None, OnErr, OnOk, Some};
+    ghost use Rattle.std.specs.Prelude.{◌≡◌, ◌+◌, ◌≤◌, IfErr, IfOk, IfSome, IsSome, None, OnErr};
+    ghost use Rattle.std.specs.Prelude.{OnOk, Some};
     ghost use Rattle.std.specs.Prelude.{is_some, map, ok_or};
     ghost use Rattle.std.specs.Vec.{vec_len, vec_capacity};
     ghost use Rattle.sections.specs.Covers.{has};

@@ -1,6 +1,7 @@
 -- What a task had at its beginning is there once all has come.
 use Rattle.std.proofs.Common.{◌≡◌, ℕ, zero, suc, List, [], ◌∷◌, ◌++◌, Option, Some, None, refl, sym, subst, inl, inr}
 use Rattle.std.specs.Prelude.{ℤ, Bool, true, false, if◌then◌else◌}
+use Rattle.std.proofs.lemmas.Bool.{or_cases}
 use Rattle.sections.specs.Place.{Place}
 use Rattle.types.specs.Code.{Codes, Program}
 use Rattle.types.specs.Value.{Environment}
@@ -9,7 +10,7 @@ use Rattle.types.specs.Contents.{IsThere, Extends}
 use Rattle.types.specs.Laws.{IsKept}
 use Rattle.types.proofs.Keeps.{run_keeps}
 use Rattle.effects.specs.Needs.{Needs}
-use Rattle.effects.proofs.Members.{either_true, false_true, in_left}
+use Rattle.effects.proofs.Members.{false_true, in_left}
 use Rattle.own_run.specs.Places.{or_else, within, only, written, touched}
 use Rattle.own_run.specs.Apart.{Aside, nothing, merged, child_apart, apart_rules_by, begin_apart}
 use Rattle.own_run.specs.Results.{Settled, fill}
@@ -96,7 +97,7 @@ module _ (p : Program) (needs : Codes → Needs) (fresh : ℕ) where
       → back_from cs q ≡ true → IsThere ((filled p needs fresh cs so_far).contents q)
   back_there [] so_far q h e = absurd (false_true e)
   back_there (c ∷ cs) so_far q h e =
-      elim (either_true (within c.listed.windows q) (back_from cs q) e) as
+      elim (or_cases (within c.listed.windows q) (back_from cs q) e) as
       (λ _. IsThere ((filled p needs fresh (c ∷ cs) so_far).contents q)) [
         | inl w ↦ filled_there cs (fill c.listed (comes_to p needs fresh c.start) so_far) q
             (there_left (only (within c.listed.windows) (comes_to p needs fresh c.start).contents q) (so_far.contents q)

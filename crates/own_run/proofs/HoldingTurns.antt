@@ -1,7 +1,7 @@
 -- From its beginning to its end a task has what it touches.
 use Rattle.std.proofs.Common.{◌≡◌, ℕ, zero, suc, ◌+◌, ◌<◌, List, [], ◌∷◌, ◌++◌, length, Option, Some, refl, sym, ap}
 use Rattle.std.proofs.Common.{◌∙◌, subst, inl, inr, arith}
-use Rattle.std.proofs.lemmas.Bool.{or_left, or_right, false_from_ne_true}
+use Rattle.std.proofs.lemmas.Bool.{or_left, or_right, false_from_ne_true, or_cases}
 use Rattle.std.specs.Prelude.{ℤ, ◌⊎◌, true, ◌||◌, slice_get, slice_index_or}
 use Rattle.sections.specs.Place.{Window, Place, In, nowhere}
 use Rattle.types.specs.Code.{Truth, Code, Do, If, While, Split, Call, Async, Finish, Codes, End, Then, Array, Program}
@@ -12,7 +12,7 @@ use Rattle.types.specs.Outcome.{whole_arrays}
 use Rattle.effects.specs.Accesses.{Access}
 use Rattle.effects.specs.Effects.{AllOf, All, Pending, accesses}
 use Rattle.effects.specs.Needs.{Needs, Provides}
-use Rattle.effects.proofs.Members.{either_true, false_true, in_parts}
+use Rattle.effects.proofs.Members.{false_true, in_parts}
 use Rattle.race_checker.specs.Scope.{Scope, Top, InScope, arrays_of, IsScoped}
 use Rattle.race_checker.specs.Calm.{IsCalm}
 use Rattle.own_run.specs.Places.{covered, within}
@@ -256,7 +256,7 @@ module _ (p : Program) (needs : Codes → Needs) (is_scoped : IsScoped p) (is_ca
         to = handed before x st
 
         mine : (q : Place) → to.extra.owned q ≡ true → before.extra.owned q ≡ true
-        mine q k = h.returns.0.no_more q (either_true (st.extra.owned q) (back_from st.extra.pending q) k)
+        mine q k = h.returns.0.no_more q (or_cases (st.extra.owned q) (back_from st.extra.pending q) k)
 
         there : (q : Place) → IsThere (before.store q) → IsThere (x.contents q)
         there q i =

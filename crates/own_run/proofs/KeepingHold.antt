@@ -1,7 +1,7 @@
 -- Each turn of a task leaves it what it touches; so does what comes at the end of a finish.
 use Rattle.std.proofs.Common.{◌≡◌, ℕ, zero, suc, ◌<◌, List, [], ◌∷◌, ◌++◌, Option, Some, None, Ok, Err, refl, sym, ap}
 use Rattle.std.proofs.Common.{◌∙◌, subst, inl, inr}
-use Rattle.std.proofs.lemmas.Bool.{or_left, or_right, or_from, or_parts, false_from_ne_true}
+use Rattle.std.proofs.lemmas.Bool.{or_left, or_right, or_from, or_parts, false_from_ne_true, and_parts, or_cases}
 use Rattle.std.specs.Prelude.{ℤ, ◌⊎◌, Bool, true, false, not, ◌&&◌, ◌||◌, map, ok_or, if◌then◌else◌}
 use Rattle.sections.specs.Place.{Window, Place, In, sides_of, same_place}
 use Rattle.types.specs.declared.fault.FaultKind.{FaultKind}
@@ -17,7 +17,7 @@ use Rattle.effects.specs.Accesses.{Access}
 use Rattle.effects.specs.Effects.{past_call, if_body, if_other, while, AllOf, All, PendingOf, Pending, accesses}
 use Rattle.effects.specs.Footprint.{Touches, Overwrites}
 use Rattle.effects.specs.Needs.{Needs, AreNeeds, Provides}
-use Rattle.effects.proofs.Members.{both_true, false_true, either_true}
+use Rattle.effects.proofs.Members.{false_true}
 use Rattle.race_checker.specs.Scope.{Scope, Top, Inside, InScope, may_writes, Scoped, IsScoped}
 use Rattle.race_checker.specs.Calm.{IsCalm}
 use Rattle.race_checker.proofs.Scoping.{length_may_writes}
@@ -42,7 +42,7 @@ none q = ⊥
 back_left : (cs : List Child) (c : Child) (q : Place) → back_from cs q ≡ true → back_from (cs ++ c ∷ []) q ≡ true
 back_left [] c q e = absurd (false_true e)
 back_left (d ∷ cs) c q e =
-    elim (either_true (within d.listed.windows q) (back_from cs q) e) as (λ _. back_from ((d ∷ cs) ++ c ∷ []) q ≡ true) [
+    elim (or_cases (within d.listed.windows q) (back_from cs q) e) as (λ _. back_from ((d ∷ cs) ++ c ∷ []) q ≡ true) [
       | inl w ↦ or_left (within d.listed.windows q) (back_from (cs ++ c ∷ []) q) w
       | inr w ↦ or_right (within d.listed.windows q) (back_from (cs ++ c ∷ []) q) (back_left cs c q w)
     ]
@@ -54,10 +54,10 @@ back_last (d ∷ cs) c q e = or_right (within d.listed.windows q) (back_from (cs
 back_split : (cs : List Child) (c : Child) (q : Place) → back_from (cs ++ c ∷ []) q ≡ true
     → (back_from cs q ≡ true) ⊎ (within c.listed.windows q ≡ true)
 back_split [] c q e =
-    elim (either_true (within c.listed.windows q) false e) as
+    elim (or_cases (within c.listed.windows q) false e) as
     (λ _. (false ≡ true) ⊎ (within c.listed.windows q ≡ true)) [ inl w ↦ inr w | inr w ↦ inl w ]
 back_split (d ∷ cs) c q e =
-    elim (either_true (within d.listed.windows q) (back_from (cs ++ c ∷ []) q) e) as
+    elim (or_cases (within d.listed.windows q) (back_from (cs ++ c ∷ []) q) e) as
     (λ _. (back_from (d ∷ cs) q ≡ true) ⊎ (within c.listed.windows q ≡ true)) [
       | inl w ↦ inl (or_left (within d.listed.windows q) (back_from cs q) w)
       | inr w ↦ elim (back_split cs c q w) as (λ _. (back_from (d ∷ cs) q ≡ true) ⊎ (within c.listed.windows q ≡ true)) [
@@ -509,7 +509,7 @@ module _ (p : Program) (needs : Codes → Needs) where
               (parted_less st.extra.owned to.extra.owned st.extra.pending (λ q e. not_owned (st.extra.owned q) (w q) e) h.parted);
           returns = returns_move st to (record {
             no_more = λ q i. elim i as (λ _. (st.extra.owned q ≡ true) ⊎ (back_from st.extra.pending q ≡ true)) [
-              | inl k ↦ inl (both_true (st.extra.owned q) (not (w q)) k).0
+              | inl k ↦ inl (and_parts (st.extra.owned q) (not (w q)) k).0
               | inr k ↦ elim (back_split st.extra.pending c q k) as
                   (λ _. (st.extra.owned q ≡ true) ⊎ (back_from st.extra.pending q ≡ true)) [
                     | inl j ↦ inr j

@@ -2,13 +2,14 @@
 use Rattle.std.proofs.Common.{◌≡◌, ℕ, zero, suc, ◌+◌, List, [], ◌∷◌, ◌++◌, refl, sym, ap, ◌∙◌, inl, inr, append_assoc}
 use Rattle.std.proofs.lemmas.List.{append-nil}
 use Rattle.std.specs.Prelude.{ℤ, ◌⊎◌, Bool, true, false, ◌&&◌, ◌||◌, if◌then◌else◌}
+use Rattle.std.proofs.lemmas.Bool.{and_parts}
 use Rattle.types.specs.Code.{Codes, Program}
 use Rattle.types.specs.Run.{Flow, On, Faulted, Stopped, Fault, State, Rules, Work, Block, at_flow, go_on, spend}
 use Rattle.types.specs.Run.{with_step, within, run}
 use Rattle.types.specs.Meaning.{after_finish}
 use Rattle.types.proofs.Views.{Follows, FollowsAt, IsView, work_follows}
 use Rattle.effects.specs.Needs.{Needs}
-use Rattle.effects.proofs.Members.{both_true, false_true}
+use Rattle.effects.proofs.Members.{false_true}
 use Rattle.own_run.specs.Apart.{Aside, is_stopped, halts, merged, gather, apart_rules, begin_apart, apart}
 use Rattle.own_run.specs.Results.{Settled, none_yet, fill, complete}
 use Rattle.own_run.specs.OwnRun.{Start, Child, Own, EndFinish, at_first, notes, is_waiting, result_of, child_of}
@@ -56,7 +57,7 @@ module _ (p : Program) (needs : Codes → Needs) (fresh : ℕ) where
   flow_is Stopped h fs = refl
 
   stays_lost : (st : State Own) (go : State Own → State Own) → IsLost st → IsLost (go_on go st)
-  stays_lost st go e = by_flow st.flow refl (both_true (is_stopped st.flow) st.extra.waits e).0
+  stays_lost st go e = by_flow st.flow refl (and_parts (is_stopped st.flow) st.extra.waits e).0
     where
       by_flow : (f : Flow) → st.flow ≡ f → is_stopped st.flow ≡ true → IsLost (at_flow f st go)
       by_flow On q y = absurd (false_true (sym (ap is_stopped q) ∙ y))
@@ -165,7 +166,7 @@ module _ (p : Program) (needs : Codes → Needs) (fresh : ℕ) where
             (λ st. complete (result_of st) (filled p needs fresh st.extra.pending none_yet)) (λ st. refl) p w st e
 
         asleep : (f : Bool) (w : Bool) → (f && w) ≡ true → w ≡ false → ⊥
-        asleep f w y n = false_true (sym n ∙ (both_true f w y).1)
+        asleep f w y n = false_true (sym n ∙ (and_parts f w y).1)
 
         surely : IsLost out ⊎ (apart p needs fresh nest w (settled tt st) ≡ settled tt out)
             → apart p needs fresh nest w (settled tt st) ≡ settled tt out

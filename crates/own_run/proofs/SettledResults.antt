@@ -2,14 +2,14 @@
 use Rattle.std.proofs.lemmas.Option.{none-some, same_Some}
 use Rattle.std.proofs.Common.{◌≡◌, ℕ, zero, suc, ◌+◌, List, [], ◌∷◌, ◌++◌, length, Option, Some, None, refl, sym, ap}
 use Rattle.std.proofs.Common.{◌∙◌, subst}
-use Rattle.std.proofs.lemmas.Bool.{eqb-true}
+use Rattle.std.proofs.lemmas.Bool.{eqb-true, and_parts}
 use Rattle.std.specs.Prelude.{ℤ, Bool, true, false, ◌||◌, nat_eq, map, slice_get, if◌then◌else◌}
 use Rattle.types.specs.Code.{Codes, Program}
 use Rattle.types.specs.Contents.{held_by, shown}
 use Rattle.types.specs.Run.{State, Block}
 use Rattle.types.specs.Outcome.{Budget, start, outcome_by, outcome}
 use Rattle.effects.specs.Needs.{Needs, Provides}
-use Rattle.effects.proofs.Members.{both_true, false_true}
+use Rattle.effects.proofs.Members.{false_true}
 use Rattle.race_checker.specs.Scope.{IsScoped}
 use Rattle.race_checker.specs.Calm.{IsCalm}
 use Rattle.own_run.specs.Places.{Places, within, meets}
@@ -46,7 +46,7 @@ paths_same [] [] e = refl
 paths_same [] (k ∷ q) e = absurd (false_true e)
 paths_same (j ∷ p) [] e = absurd (false_true e)
 paths_same (j ∷ p) (k ∷ q) e =
-    let h = both_true (nat_eq j k) (pointwise nat_eq p q) e in
+    let h = and_parts (nat_eq j k) (pointwise nat_eq p q) e in
     ap (λ i. i ∷ p) (eqb-true j k h.0) ∙ ap (λ l. k ∷ l) (paths_same p q h.1)
 
 pub record Taken (P : TaskResult → Type 0) (path : List ℕ) (found : TaskResult × List TaskResult) : Type 0 where

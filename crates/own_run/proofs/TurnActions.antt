@@ -3,6 +3,7 @@ use Rattle.std.proofs.Common.{◌≡◌, ℕ, zero, suc, List, [], ◌∷◌, �
 use Rattle.std.proofs.Common.{◌∙◌, subst, arith}
 use Rattle.std.proofs.lemmas.List.{append-nil}
 use Rattle.std.specs.Prelude.{Bool, true, false, ◌&&◌, ok_or, slice_get, if◌then◌else◌}
+use Rattle.std.proofs.lemmas.Bool.{and_parts}
 use Rattle.sections.specs.Place.{sides_of}
 use Rattle.types.specs.declared.fault.FaultKind.TheVariants.{SplitPoint}
 use Rattle.types.specs.Code.{Code, Do, If, While, Split, Call, Async, Finish, Codes, End, Then, Program}
@@ -12,7 +13,7 @@ use Rattle.types.specs.Run.{window_at, at_flow, run}
 use Rattle.types.specs.Laws.{IsKept}
 use Rattle.types.proofs.Keeps.{primitive_keeps}
 use Rattle.effects.specs.Needs.{Needs}
-use Rattle.effects.proofs.Members.{both_true, false_true}
+use Rattle.effects.proofs.Members.{false_true}
 use Rattle.own_run.specs.Apart.{is_stopped}
 use Rattle.own_run.specs.Results.{TaskResult, Settled, and_then}
 use Rattle.own_run.specs.OwnRun.{Start, Action, Step, EnterFinish, Own, EndFinish, notes, is_waiting, result_of}
@@ -97,7 +98,7 @@ module _ (p : Program) (needs : Codes → Needs) (nest : ℕ) (close : State Own
 
   flow_waits : (g : Flow) (st : State Own) (go : State Own → State Own) → st.flow ≡ g → is_waiting st ≡ true
       → StillWaits st (at_flow g st go)
-  flow_waits On st go e w = absurd (false_true (sym (ap is_stopped e) ∙ (both_true (is_stopped st.flow) st.extra.waits w).0))
+  flow_waits On st go e w = absurd (false_true (sym (ap is_stopped e) ∙ (and_parts (is_stopped st.flow) st.extra.waits w).0))
   flow_waits Faulted st go e w = record { waits = w; actions = refl }
   flow_waits Stopped st go e w = record { waits = w; actions = refl }
 

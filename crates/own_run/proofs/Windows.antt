@@ -2,7 +2,7 @@
 use Rattle.std.proofs.lemmas.Option.{none-some, same_Some}
 use Rattle.std.proofs.Common.{◌≡◌, ℕ, zero, suc, ◌+◌, ◌-◌, ◌<◌, List, [], ◌∷◌, length, Option, Some, None, Ok, Err}
 use Rattle.std.proofs.Common.{refl, sym, ap, ◌∙◌, subst, inl, inr, arith}
-use Rattle.std.proofs.lemmas.Bool.{ltb-true, leb-true, eqb-true, eqb-false, lt-ltb, le-leb, eq-eqb, and_from, or_left}
+use Rattle.std.proofs.lemmas.Bool.{ltb-true, leb-true, eqb-true, eqb-false, lt-ltb, le-leb, eq-eqb, and_from, or_left, and_parts, or_cases}
 use Rattle.std.proofs.lemmas.Bool.{or_right}
 use Rattle.std.specs.Prelude.{ℤ, pos, negsuc, ◌⊎◌, ◌≢◌, Bool, true, false, ◌||◌, nat_eq, nat_lt, nat_le, ok_or, map}
 use Rattle.std.specs.Prelude.{slice_index_or, if◌then◌else◌}
@@ -13,7 +13,7 @@ use Rattle.types.specs.declared.fault.FaultKind.TheVariants.{Index, SplitPoint}
 use Rattle.types.specs.Value.{Environment, Valued, element_of}
 use Rattle.types.specs.Run.{bind, with_sides}
 use Rattle.effects.specs.Effects.{past_split, past_call}
-use Rattle.effects.proofs.Members.{false_true, both_true, either_true}
+use Rattle.effects.proofs.Members.{false_true}
 use Rattle.race_checker.specs.Scope.{Scope, Top, Inside, InScope, FitsScope, FitsTop}
 use Rattle.own_run.specs.Places.{covered, named}
 
@@ -25,8 +25,8 @@ either_way false = inr refl
 -- ---- the test of a window
 pub covered_in : (w : Window) (q : Place) → covered w q ≡ true → In w q
 covered_in w q h =
-    let a = both_true (nat_eq q.array w.array) _ h in
-    let b = both_true (nat_le w.at q.index) _ a.1 in
+    let a = and_parts (nat_eq q.array w.array) _ h in
+    let b = and_parts (nat_le w.at q.index) _ a.1 in
     record {
       array = eqb-true q.array w.array a.0;
       low = leb-true w.at q.index b.0;
@@ -46,7 +46,7 @@ pub record Names (env : Environment) (ss : List ℕ) (q : Place) : Type 0 where
 
 pub named_some : (env : Environment) (ss : List ℕ) (q : Place) → named env ss q ≡ true → Names env ss q
 named_some env [] q h = absurd (false_true h)
-named_some env (s ∷ ss) q h = elim (either_true (covered (env.windows s) q) _ h) as (λ _. Names env (s ∷ ss) q) [
+named_some env (s ∷ ss) q h = elim (or_cases (covered (env.windows s) q) _ h) as (λ _. Names env (s ∷ ss) q) [
   | inl y ↦ record { section = s; listed = first; place = covered_in (env.windows s) q y }
   | inr n ↦
       let k = named_some env ss q n in
@@ -120,7 +120,7 @@ not_nowhere q i = let h = i.high in let l = i.low in omega (arith, h, l)
 -- two places that are the same
 pub places_same : (p q : Place) → same_place p q ≡ true → p ≡ q
 places_same p q h =
-    let k = both_true (nat_eq p.array q.array) _ h in
+    let k = and_parts (nat_eq p.array q.array) _ h in
     ap (λ a. record p { array = a }) (eqb-true p.array q.array k.0) ∙ ap (λ i. record q { index = i }) (eqb-true p.index q.index k.1)
 
 -- ---- the sections of a split, seen from around it

@@ -1,6 +1,7 @@
 -- From names to places: in a sound and accepted program, what is pending keeps apart from what is done later.
 use Rattle.std.proofs.Common.{◌≡◌, ◌⊎◌, inl, inr, ℕ, ◌<◌, List, [], length, refl, sym, ◌∙◌, subst, arith}
 use Rattle.std.specs.Prelude.{Bool, true, false, ◌||◌, map, slice_get, Some}
+use Rattle.std.proofs.lemmas.Bool.{or_left, or_right}
 use Rattle.sections.specs.Origins.{Root, IsNumbered}
 use Rattle.sections.specs.Place.{Place, In, nowhere}
 use Rattle.sections.specs.Member.{Member}
@@ -14,7 +15,6 @@ use Rattle.effects.specs.Accesses.{Access, own_accesses}
 use Rattle.effects.specs.Effects.{past_call, accesses, AllOf, All, PendingOf}
 use Rattle.effects.specs.Sound.{may_write, is_writable, Allowed, PassesWell, Follows, FollowsOf, IsSound}
 use Rattle.effects.specs.Fits.{names_in}
-use Rattle.effects.proofs.Members.{left_true, right_true}
 use Rattle.effects.proofs.AccessesInScope.{allowed, allowed_of, pending_of_all}
 use Rattle.effects.proofs.EnvironmentsFit.{by_number-map}
 use Rattle.effects.proofs.OwnAllowed.{own_allowed}
@@ -33,8 +33,8 @@ module _ (p : Program) (sound : IsSound p) (g : Procedure) (numbered : IsNumbere
   accesses_apart scope env placed x y a b w free q h k = by_test (overlap g.sections x.section y.section) refl
     where
       some_writes : (x.write ≡ true) ⊎ (y.write ≡ true) → (x.write || y.write) ≡ true
-      some_writes (inl w) = left_true x.write y.write w
-      some_writes (inr w) = right_true x.write y.write w
+      some_writes (inl w) = or_left x.write y.write w
+      some_writes (inr w) = or_right x.write y.write w
 
       some_writable : (x.write ≡ true) ⊎ (y.write ≡ true)
           → (is_writable g x.section ≡ true) ⊎ (is_writable g y.section ≡ true)

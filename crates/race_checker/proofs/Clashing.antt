@@ -1,5 +1,5 @@
 -- Over tables that are the least solution, the test for clashes is exact.
-use Rattle.std.proofs.lemmas.Bool.{and_from}
+use Rattle.std.proofs.lemmas.Bool.{and_from, and_parts}
 use Rattle.std.proofs.Common.{◌≡◌, refl, sym, ◌∙◌, true≢false}
 use Rattle.std.specs.Prelude.{Bool, true, false, ◌||◌, ◌↔◌}
 use Rattle.sections.specs.Overlap.{overlap}
@@ -7,7 +7,6 @@ use Rattle.sections.proofs.Members.{any_member, member_any}
 use Rattle.types.specs.Code.{Procedure, Program}
 use Rattle.effects.specs.Effects.{accesses}
 use Rattle.effects.specs.Tables.{Table, IsDerived, IsDerivedPending, IsStable, IsStablePending}
-use Rattle.effects.proofs.Members.{both_true}
 use Rattle.parallel_relation.specs.Meetings.{met_in}
 use Rattle.parallel_relation.proofs.Meeting.{meetings_exact}
 use Rattle.race_checker.specs.Clash.{HasNoClash}
@@ -26,7 +25,7 @@ module _ (p : Program) (alls pendings : Table accesses)
   clash_stands : (g : Procedure) → HasNoClash p g → (b : Bool) → has_clash alls pendings g ≡ b → b ≡ false
   clash_stands g free true e =
       let m = any_member (is_clash g.sections) (met_in accesses alls pendings g.body) e in
-      let c = both_true (m.item.0.write || m.item.1.write) (overlap g.sections m.item.0.section m.item.1.section) m.passes in
+      let c = and_parts (m.item.0.write || m.item.1.write) (overlap g.sections m.item.0.section m.item.1.section) m.passes in
       absurd (free m.item.0 m.item.1
       ((meetings_exact p accesses alls pendings alls_derived alls_stable pendings_derived pendings_stable g.body
       m.item.0 m.item.1).0 m.member)

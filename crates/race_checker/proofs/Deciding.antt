@@ -1,12 +1,12 @@
 -- Whether a sound program is accepted is computed.
 use Rattle.std.proofs.Common.{◌≡◌, ℕ, zero, suc, ◌+◌, ◌-◌, ◌<◌, ◌≤◌, length, refl, sym, ap, subst, arith}
-use Rattle.std.proofs.lemmas.Bool.{and_from, ltb-true, ltb-false}
+use Rattle.std.proofs.lemmas.Bool.{and_from, ltb-true, ltb-false, and_parts}
 use Rattle.std.specs.Prelude.{◌↔◌, Bool, true, false, not, nat_lt}
 use Rattle.types.specs.Code.{Procedure, Program}
 use Rattle.types.specs.Run.{procedure_of, no_procedure}
 use Rattle.effects.specs.Sound.{IsSound}
 use Rattle.effects.specs.Rounds.{summaries, pending_summaries}
-use Rattle.effects.proofs.Members.{both_true, not_true}
+use Rattle.effects.proofs.Members.{not_true}
 use Rattle.effects.proofs.StableRounds.{past_end, summaries_derived, pending_summaries_derived, summaries_stable}
 use Rattle.effects.proofs.StableRounds.{pending_summaries_stable}
 use Rattle.race_checker.specs.Acceptance.{has_clash, accepts, accepts_below, is_accepted}
@@ -30,10 +30,10 @@ module _ (p : Program) (sound : IsSound p) where
   free_below : (n f : ℕ) → accepts_below p n ≡ true → (j : ℕ) → suc j + f ≡ n → IsFree f
   free_below zero f h j e = absurd (omega (arith, e))
   free_below (suc n) f h zero e =
-      let k = both_true (accepts p (procedure_of p n)) (accepts_below p n) h in
+      let k = and_parts (accepts p (procedure_of p n)) (accepts_below p n) h in
       subst IsFree (let i : n ≡ f = omega (arith, e) in i) (record { free = accepts-no_clash (procedure_of p n) k.0 })
   free_below (suc n) f h (suc j) e =
-      let k = both_true (accepts p (procedure_of p n)) (accepts_below p n) h in
+      let k = and_parts (accepts p (procedure_of p n)) (accepts_below p n) h in
       free_below n f k.1 j (omega (arith, e))
 
   none_there : (f : ℕ) → length p.procedures ≤ f → HasNoClash p (procedure_of p f)
@@ -58,7 +58,7 @@ module _ (p : Program) (sound : IsSound p) where
 
   tested : is_accepted p ≡ true → IsAccepted p
   tested h =
-      let k = both_true (accepts p p.main) (accepts_below p (length p.procedures)) h in
+      let k = and_parts (accepts p p.main) (accepts_below p (length p.procedures)) h in
       record { procedures = all_free k.1; main = accepts-no_clash p.main k.0 }
 
   -- the test is exact

@@ -2,13 +2,14 @@
 use Rattle.std.proofs.Common.{◌≡◌, ◌⊎◌, inl, inr, ℕ, ◌≤◌, Bool, true, false, ◌&&◌, ◌||◌, List, [], ◌∷◌, ◌++◌, map, flat_map, fold}
 use Rattle.std.proofs.Common.{if◌then◌else◌, refl, sym, ap, ◌∙◌, subst, true≢false}
 use Rattle.std.specs.Prelude.{Option, None, Some}
+use Rattle.std.proofs.lemmas.Bool.{and_parts}
 use Rattle.sections.specs.Member.{Member, first, next}
 use Rattle.sections.specs.Origins.{Origin}
 use Rattle.sections.specs.Overlap.{overlap}
 use Rattle.sections.proofs.Overlapping.{overlap-sym}
 use Rattle.effects.specs.Accesses.{Access}
 use Rattle.effects.specs.Firsts.{HasAsEarly, AreFirsts}
-use Rattle.effects.proofs.Members.{in_left, in_right, in_map, in_parts, from_map, both_true}
+use Rattle.effects.proofs.Members.{in_left, in_right, in_map, in_parts, from_map}
 use Rattle.race_checker.specs.Acceptance.{is_clash}
 use Rattle.race_checker.specs.Clash.{Clash}
 use Rattle.race_checker.specs.Races.{is_less, access_key, Race, race_key, comes_before, Clashes, IsLeast, LeastOf}
@@ -164,7 +165,7 @@ each_with-from (x ∷ xs) ys p m = elim (in_parts (map (λ y. (x, y)) ys) m) [
 
 clash_from : (origins : List Origin) (x y : Access) → is_clash origins (x, y) ≡ true → Clash origins x y
 clash_from origins x y h =
-    let parts = both_true (x.write || y.write) (overlap origins x.section y.section) h in
+    let parts = and_parts (x.write || y.write) (overlap origins x.section y.section) h in
     record { writes = parts.0; overlap = parts.1 }
 
 and_of : (a b : Bool) → a ≡ true → b ≡ true → (a && b) ≡ true

@@ -1,6 +1,6 @@
 -- Steps of two leaves commute, so all runs that end come to one end.
 use Rattle.std.proofs.Common.{◌≡◌, ◌⊎◌, inl, inr, ℕ, suc, ◌+◌, ◌<◌, List, [], ◌∷◌, Some, None, refl, sym, ap, ◌∙◌, subst, arith}
-use Rattle.std.proofs.lemmas.Bool.{eqb-true}
+use Rattle.std.proofs.lemmas.Bool.{eqb-true, and_parts}
 use Rattle.std.specs.Prelude.{ℤ, Bool, true, false, nat_eq, if◌then◌else◌}
 use Rattle.sections.specs.Place.{Place, same_place}
 use Rattle.types.specs.Code.{Codes, End, Then, Program}
@@ -11,7 +11,6 @@ use Rattle.types.specs.TreeRuns.{Runs, here, next}
 use Rattle.effects.specs.Accesses.{Access}
 use Rattle.effects.specs.Footprint.{Touches, Overwrites}
 use Rattle.effects.specs.Sound.{IsSound}
-use Rattle.effects.proofs.Members.{both_true}
 use Rattle.race_checker.specs.Clash.{IsAccepted}
 use Rattle.race_checker.proofs.Calming.{is_calm}
 use Rattle.step_trees.specs.Still.{waiting, left_of, still}
@@ -23,7 +22,7 @@ use Rattle.step_trees.proofs.GoodTrees.{Good, step_kept}
 
 pub place_same : (p q : Place) → same_place p q ≡ true → p ≡ q
 place_same p q e =
-    let h = both_true (nat_eq p.array q.array) (nat_eq p.index q.index) e in
+    let h = and_parts (nat_eq p.array q.array) (nat_eq p.index q.index) e in
     let f : p.array ≡ q.array = eqb-true p.array q.array h.0 in
     let g : p.index ≡ q.index = eqb-true p.index q.index h.1 in
     λ i. record { array = f i; index = g i }
@@ -88,7 +87,7 @@ module _ (p : Program) where
       by (Then l s rest) e = cc
   done_ready (AndThen t k) e = cc
   done_ready (Beside t u) e =
-      let h = both_true (all_done t) (all_done u) e in
+      let h = and_parts (all_done t) (all_done u) e in
       let x = done_ready t h.0 in
       let y = done_ready u h.1 in
       omega arith

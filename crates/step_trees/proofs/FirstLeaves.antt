@@ -1,13 +1,13 @@
 -- Runs in which the first leaf that may step always steps.
 use Rattle.std.proofs.Common.{◌≡◌, ℕ, zero, suc, ◌+◌, ◌<◌, List, refl, sym, ap, ◌∙◌, subst, arith}
 use Rattle.std.specs.Prelude.{Bool, true, false, if◌then◌else◌}
+use Rattle.std.proofs.lemmas.Bool.{and_parts}
 use Rattle.types.specs.Code.{Codes, End, Then, Program}
 use Rattle.types.specs.Contents.{Contents}
 use Rattle.types.specs.Trees.{Leaf, Tree, Single, AndThen, Beside, is_done, all_done, ready, and_then, closed}
 use Rattle.types.specs.TreeSteps.{tree_after, store_after}
 use Rattle.types.specs.TreeRuns.{Runs, here, next}
 use Rattle.effects.specs.Sound.{IsSound}
-use Rattle.effects.proofs.Members.{both_true}
 use Rattle.race_checker.specs.Clash.{IsAccepted}
 use Rattle.race_checker.proofs.Calming.{is_calm}
 use Rattle.step_trees.proofs.Steps.{Step, step_from, step_below}
@@ -83,7 +83,7 @@ module _ (p : Program) where
   pub halves : (n : ℕ) {t u e : Tree} {a z : Contents} → LeftRun n (Beside t u) a e z → all_done e ≡ true
       → Halves n t u a e z
   halves zero {t} {u} {a = a} ended d =
-      let h = both_true (all_done t) (all_done u) d in
+      let h = and_parts (all_done t) (all_done u) d in
       record {
         first_count = 0;
         second_count = 0;

@@ -3,7 +3,7 @@ use Rattle.std.proofs.Common.{◌≡◌, ◌<◌, ◌&&◌, ◌||◌, ◌==◌, 
 use Rattle.std.proofs.Common.{refl, sym, subst, arith}
 use Rattle.std.specs.List.{list_all}
 use Rattle.std.specs.Str.{IsAscii, chars}
-use Rattle.std.proofs.lemmas.Bool.{eqb-true}
+use Rattle.std.proofs.lemmas.Bool.{eqb-true, and_parts}
 use Rattle.std.proofs.lemmas.Fmt.{IsAscii-decimal}
 use Rattle.std.proofs.lemmas.Str.{IsAscii-append, chars-IsAscii}
 use Rattle.syntax.specs.declared.token.Mark.{Mark}
@@ -16,7 +16,7 @@ use Rattle.syntax.specs.Lexical.{AreTokensOf, is_blank, mark_text, word_text}
 use Rattle.syntax.specs.Spelling.{spelling}
 use Rattle.syntax.specs.Token.{Token, NameToken, NumberToken, WordToken, MarkToken}
 use Rattle.syntax.specs.Tree.{Program}
-use Rattle.syntax.proofs.LayoutLemmas.{IsWritable, AreWritable, both_true, before_blank, canonical_tokens, label_none}
+use Rattle.syntax.proofs.LayoutLemmas.{IsWritable, AreWritable, before_blank, canonical_tokens, label_none}
 use Rattle.syntax.proofs.LayoutLemmas.{line_end_blank, tokens_writable}
 use Rattle.syntax.proofs.LexicalLemmas.{one_is_true, letters_are_ascii}
 use Rattle.syntax.proofs.Pieces.{word_in_name}
@@ -34,8 +34,8 @@ blank_is_ascii c blank =
 
 blanks_are_ascii : (cs : List ℕ) → list_all is_blank cs ≡ true → IsAscii cs
 blanks_are_ascii [] all i = lit< tt
-blanks_are_ascii (c ∷ cs) all zero = blank_is_ascii c (both_true (is_blank c) (list_all is_blank cs) all).0
-blanks_are_ascii (c ∷ cs) all (suc i) = blanks_are_ascii cs (both_true (is_blank c) (list_all is_blank cs) all).1 i
+blanks_are_ascii (c ∷ cs) all zero = blank_is_ascii c (and_parts (is_blank c) (list_all is_blank cs) all).0
+blanks_are_ascii (c ∷ cs) all (suc i) = blanks_are_ascii cs (and_parts (is_blank c) (list_all is_blank cs) all).1 i
 
 one_is_ascii : (c : ℕ) → c < 128 → IsAscii (c ∷ [])
 one_is_ascii c below zero = below

@@ -7,7 +7,7 @@ use Rattle.std.specs.Fmt.{decimal}
 use Rattle.std.specs.List.{list_all, flat_map}
 use Rattle.std.specs.Option.{option_map}
 use Rattle.std.specs.Str.Parse.{AllDigits, digits_value_after}
-use Rattle.std.proofs.lemmas.Bool.{false≢true}
+use Rattle.std.proofs.lemmas.Bool.{false≢true, and_parts}
 use Rattle.std.proofs.lemmas.Bool.Decides.{nat_tests}
 use Rattle.std.proofs.lemmas.List.Folds.{list_all-append}
 use Rattle.std.proofs.lemmas.Fmt.{decimal_is_IsNumeral}
@@ -28,10 +28,6 @@ use Rattle.syntax.specs.Lexical.{MarkPiece, letters, token_of, IsNumber, IsMark,
 use Rattle.syntax.specs.Token.{Token, NameToken, NumberToken, WordToken, MarkToken}
 use Rattle.syntax.specs.Spelling.{spelling}
 use Rattle.syntax.specs.Tree.{Program}
-
-pub both_true : (a b : Bool) → (a && b) ≡ true → (a ≡ true) × (b ≡ true)
-both_true true b e = (refl, e)
-both_true false b e = absurd (false≢true e)
 
 second_false : (a b : Bool) → (a || b) ≡ false → b ≡ false
 second_false true b e = absurd (false≢true (sym e))
@@ -309,7 +305,7 @@ tokens_writable text ts has = subst AreWritable has.tokens (cut_writable has.pie
 with_blanks : (bs text : List ℕ) (ts : List Token) → list_all is_blank bs ≡ true → AreTokensOf text ts → AreTokensOf (bs ++ text) ts
 with_blanks [] text ts e has = has
 with_blanks (b ∷ bs) text ts e has =
-    let all = both_true (is_blank b) (list_all is_blank bs) e in
+    let all = and_parts (is_blank b) (list_all is_blank bs) e in
     let behind = with_blanks bs text ts all.1 has in
     record {
       pieces = BlankPiece b ∷ behind.pieces;

@@ -1,7 +1,8 @@
 -- How many brackets are open.
 use Rattle.std.specs.Prelude.{◌+◌, ◌-◌, ◌≤◌, ℕ, List, [], ◌∷◌}
 use Rattle.syntax.specs.declared.token.Mark.{Mark}
-use Rattle.syntax.specs.declared.token.Mark.TheVariants.{LeftParen, RightParen, LeftBrace, RightBrace, LeftBracket, RightBracket}
+use Rattle.syntax.specs.declared.token.Mark.TheVariants.{LeftParen, RightParen, LeftBrace}
+use Rattle.syntax.specs.declared.token.Mark.TheVariants.{RightBrace, LeftBracket, RightBracket}
 use Rattle.syntax.specs.Token.{Token, NameToken, NumberToken, WordToken, MarkToken}
 
 -- a mark that opens a bracket adds one, and one that closes a bracket takes one away, never below 0

@@ -1,17 +1,21 @@
 -- What an error says of a text.
-use Rattle.std.specs.Prelude.{◌≡◌, ◌≢◌, ◌-◌, ◌<◌, ℕ, false, List, [], ◌∷◌, ◌++◌, Option, Some, None, codes, drop, length}
+use Rattle.std.specs.Prelude.{◌≡◌, ◌≢◌, ◌-◌, ◌<◌, ℕ, false, List, [], ◌∷◌, ◌++◌, Option, Some, None}
+use Rattle.std.specs.Prelude.{codes, drop, length}
 use Rattle.std.specs.Char.{is_ascii_digit}
 use Rattle.std.specs.Str.{chars}
 use Rattle.syntax.specs.declared.error.SyntaxError.{SyntaxError}
-use Rattle.syntax.specs.declared.error.SyntaxError.TheVariants.{NotACharacter, UnexpectedToken, NumberTooLarge, TooDeep}
+use Rattle.syntax.specs.declared.error.SyntaxError.TheVariants.{NotACharacter, UnexpectedToken}
+use Rattle.syntax.specs.declared.error.SyntaxError.TheVariants.{NumberTooLarge, TooDeep}
 use Rattle.syntax.specs.declared.error.SyntaxError.TheVariants.{TooLong, OutOfMemory}
 use Rattle.syntax.specs.declared.lexer.Unread.{Unread}
-use Rattle.syntax.specs.declared.lexer.Unread.TheVariants.{NotACharacter as Unreadable, NumberTooLarge as OverLimit}
+use Rattle.syntax.specs.declared.lexer.Unread.TheVariants.{NotACharacter as Unreadable}
+use Rattle.syntax.specs.declared.lexer.Unread.TheVariants.{NumberTooLarge as OverLimit}
 use Rattle.syntax.specs.declared.lexer.Unread.TheVariants.{OutOfMemory as NoMemory}
 use Rattle.syntax.specs.declared.place.Place.{Place}
 use Rattle.syntax.specs.declared.token.Spanned.{Spanned}
 use Rattle.syntax.specs.Brackets.{AreShallow}
-use Rattle.syntax.specs.Lexical.{starts, HasTokens, AreTokensOf, Reads, BeginsNoPiece, BeginsLargeNumber, StopsAt}
+use Rattle.syntax.specs.Lexical.{starts, HasTokens, AreTokensOf, Reads, BeginsNoPiece}
+use Rattle.syntax.specs.Lexical.{BeginsLargeNumber, StopsAt}
 use Rattle.syntax.specs.Place.{place_at, place_text}
 use Rattle.syntax.specs.Spelling.{spelling}
 use Rattle.syntax.specs.Token.{Token, token, plain}

@@ -1,35 +1,54 @@
 -- The tokens that spell a program: for each production its tokens, with other tokens behind them.
 use Rattle.std.specs.Prelude.{List, [], ◌∷◌, Option, None, Some}
 use Rattle.syntax.specs.declared.tree.ElementType.{ElementType}
-use Rattle.syntax.specs.declared.tree.ElementType.TheVariants.{Int as IntElement, Byte as ByteElement}
+use Rattle.syntax.specs.declared.tree.ElementType.TheVariants.{Int as IntElement}
+use Rattle.syntax.specs.declared.tree.ElementType.TheVariants.{Byte as ByteElement}
 use Rattle.syntax.specs.declared.tree.Relation.{Relation}
-use Rattle.syntax.specs.declared.tree.Relation.TheVariants.{Less as IsLess, AtMost as IsAtMost, Greater as IsGreater}
-use Rattle.syntax.specs.declared.tree.Relation.TheVariants.{AtLeast as IsAtLeast, Equal as IsEqual, Differs as IsOther}
+use Rattle.syntax.specs.declared.tree.Relation.TheVariants.{Less as IsLess, AtMost as IsAtMost}
+use Rattle.syntax.specs.declared.tree.Relation.TheVariants.{Greater as IsGreater}
+use Rattle.syntax.specs.declared.tree.Relation.TheVariants.{AtLeast as IsAtLeast, Equal as IsEqual}
+use Rattle.syntax.specs.declared.tree.Relation.TheVariants.{Differs as IsOther}
 use Rattle.syntax.specs.declared.tree.Sign.{Sign}
 use Rattle.syntax.specs.declared.tree.Sign.TheVariants.{Plus as PlusSign, Minus as MinusSign}
 use Rattle.syntax.specs.declared.tree.Operator.{Operator}
 use Rattle.syntax.specs.declared.tree.Operator.TheVariants.{Times, Over, Modulo}
 use Rattle.syntax.specs.declared.token.Word.{Word}
-use Rattle.syntax.specs.declared.token.Word.TheVariants.{And as WordAnd, Array as WordArray, As as WordAs}
-use Rattle.syntax.specs.declared.token.Word.TheVariants.{Async as WordAsync, At as WordAt, Byte as WordByte}
-use Rattle.syntax.specs.declared.token.Word.TheVariants.{Else as WordElse, False as WordFalse, Fault as WordFault}
-use Rattle.syntax.specs.declared.token.Word.TheVariants.{Finish as WordFinish, If as WordIf, Int as WordInt}
-use Rattle.syntax.specs.declared.token.Word.TheVariants.{Len as WordLen, Main as WordMain, Mut as WordMut}
-use Rattle.syntax.specs.declared.token.Word.TheVariants.{Not as WordNot, Or as WordOr, Print as WordPrint}
-use Rattle.syntax.specs.declared.token.Word.TheVariants.{Proc as WordProc, Read as WordRead, Skip as WordSkip}
-use Rattle.syntax.specs.declared.token.Word.TheVariants.{Split as WordSplit, True as WordTrue, Var as WordVar}
+use Rattle.syntax.specs.declared.token.Word.TheVariants.{And as WordAnd, Array as WordArray}
+use Rattle.syntax.specs.declared.token.Word.TheVariants.{As as WordAs}
+use Rattle.syntax.specs.declared.token.Word.TheVariants.{Async as WordAsync, At as WordAt}
+use Rattle.syntax.specs.declared.token.Word.TheVariants.{Byte as WordByte}
+use Rattle.syntax.specs.declared.token.Word.TheVariants.{Else as WordElse, False as WordFalse}
+use Rattle.syntax.specs.declared.token.Word.TheVariants.{Fault as WordFault}
+use Rattle.syntax.specs.declared.token.Word.TheVariants.{Finish as WordFinish, If as WordIf}
+use Rattle.syntax.specs.declared.token.Word.TheVariants.{Int as WordInt}
+use Rattle.syntax.specs.declared.token.Word.TheVariants.{Len as WordLen, Main as WordMain}
+use Rattle.syntax.specs.declared.token.Word.TheVariants.{Mut as WordMut}
+use Rattle.syntax.specs.declared.token.Word.TheVariants.{Not as WordNot, Or as WordOr}
+use Rattle.syntax.specs.declared.token.Word.TheVariants.{Print as WordPrint}
+use Rattle.syntax.specs.declared.token.Word.TheVariants.{Proc as WordProc, Read as WordRead}
+use Rattle.syntax.specs.declared.token.Word.TheVariants.{Skip as WordSkip}
+use Rattle.syntax.specs.declared.token.Word.TheVariants.{Split as WordSplit, True as WordTrue}
+use Rattle.syntax.specs.declared.token.Word.TheVariants.{Var as WordVar}
 use Rattle.syntax.specs.declared.token.Word.TheVariants.{While as WordWhile}
 use Rattle.syntax.specs.declared.token.Mark.{Mark}
-use Rattle.syntax.specs.declared.token.Mark.TheVariants.{LeftParen, RightParen, LeftBrace, RightBrace, LeftBracket}
-use Rattle.syntax.specs.declared.token.Mark.TheVariants.{RightBracket, Comma, Semicolon, Colon, Becomes, Plus, Minus}
-use Rattle.syntax.specs.declared.token.Mark.TheVariants.{Star, Slash, Percent, Less, AtMost, Greater, AtLeast, Equal}
+use Rattle.syntax.specs.declared.token.Mark.TheVariants.{LeftParen, RightParen, LeftBrace}
+use Rattle.syntax.specs.declared.token.Mark.TheVariants.{RightBrace, LeftBracket}
+use Rattle.syntax.specs.declared.token.Mark.TheVariants.{RightBracket, Comma, Semicolon, Colon}
+use Rattle.syntax.specs.declared.token.Mark.TheVariants.{Becomes, Plus, Minus}
+use Rattle.syntax.specs.declared.token.Mark.TheVariants.{Star, Slash, Percent, Less, AtMost}
+use Rattle.syntax.specs.declared.token.Mark.TheVariants.{Greater, AtLeast, Equal}
 use Rattle.syntax.specs.declared.token.Mark.TheVariants.{Differs}
 use Rattle.syntax.specs.Token.{Token, NameToken, NumberToken, WordToken, MarkToken}
-use Rattle.syntax.specs.Tree.{Expr, Or, Conjs, NoConj, OrConj, Conj, And, Negs, NoNeg, AndNeg, Neg, Plainly, Not, Cmp}
-use Rattle.syntax.specs.Tree.{Alone, Compare, Sum, Add, Terms, NoTerm, AddTerm, Prod, Multiply, Factors, NoFactor}
-use Rattle.syntax.specs.Tree.{MultiplyFactor, Unary, Positive, Negative, Atom, Number, True, False, Name, Element}
-use Rattle.syntax.specs.Tree.{Length, Parens, Stmt, Skip, Var, Assign, Store, Print, Fault, If, IfElse, While, Split}
-use Rattle.syntax.specs.Tree.{Call, Async, Finish, Block, End, Then, Array, Parameter, Written, Read, Scalar, Procedure}
+use Rattle.syntax.specs.Tree.{Expr, Or, Conjs, NoConj, OrConj, Conj, And, Negs, NoNeg, AndNeg, Neg}
+use Rattle.syntax.specs.Tree.{Plainly, Not, Cmp}
+use Rattle.syntax.specs.Tree.{Alone, Compare, Sum, Add, Terms, NoTerm, AddTerm, Prod, Multiply}
+use Rattle.syntax.specs.Tree.{Factors, NoFactor}
+use Rattle.syntax.specs.Tree.{MultiplyFactor, Unary, Positive, Negative, Atom, Number, True, False}
+use Rattle.syntax.specs.Tree.{Name, Element}
+use Rattle.syntax.specs.Tree.{Length, Parens, Stmt, Skip, Var, Assign, Store, Print, Fault, If}
+use Rattle.syntax.specs.Tree.{IfElse, While, Split}
+use Rattle.syntax.specs.Tree.{Call, Async, Finish, Block, End, Then, Array, Parameter, Written}
+use Rattle.syntax.specs.Tree.{Read, Scalar, Procedure}
 use Rattle.syntax.specs.Tree.{Main, Program}
 
 abbrev pub relation_mark : Relation → Mark

@@ -4,7 +4,8 @@ use Rattle.std.specs.String.{string_bytes}
 use Rattle.syntax.specs.declared.token.Word.{Word}
 use Rattle.syntax.specs.declared.token.Mark.{Mark}
 use Rattle.syntax.specs.declared.token.Token.{Token as rToken}
-use Rattle.syntax.specs.declared.token.Token.TheVariants.{Name as rName, Number as rNumber, Word as rWord, Mark as rMark}
+use Rattle.syntax.specs.declared.token.Token.TheVariants.{Name as rName, Number as rNumber}
+use Rattle.syntax.specs.declared.token.Token.TheVariants.{Word as rWord, Mark as rMark}
 use Rattle.syntax.specs.declared.token.Spanned.{Spanned}
 
 pub data Token : Type 0 where

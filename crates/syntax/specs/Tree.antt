@@ -6,26 +6,38 @@ use Rattle.syntax.specs.declared.tree.ElementType.{ElementType}
 use Rattle.syntax.specs.declared.tree.Relation.{Relation}
 use Rattle.syntax.specs.declared.tree.Sign.{Sign}
 use Rattle.syntax.specs.declared.tree.Operator.{Operator}
-use Rattle.syntax.specs.declared.tree.Expr.{Expr as rExpr, Expr' as rOr, Row_of-Conj, end_of-Conj, more_of-Conj}
-use Rattle.syntax.specs.declared.tree.Conj.{Conj as rConj, Conj' as rAnd, Row_of-Neg, end_of-Neg, more_of-Neg}
+use Rattle.syntax.specs.declared.tree.Expr.{Expr as rExpr, Expr' as rOr, Row_of-Conj}
+use Rattle.syntax.specs.declared.tree.Expr.{end_of-Conj, more_of-Conj}
+use Rattle.syntax.specs.declared.tree.Conj.{Conj as rConj, Conj' as rAnd, Row_of-Neg}
+use Rattle.syntax.specs.declared.tree.Conj.{end_of-Neg, more_of-Neg}
 use Rattle.syntax.specs.declared.tree.Neg.{Neg as rNeg, Neg' as rNot}
-use Rattle.syntax.specs.declared.tree.Cmp.{Cmp as rCmp, Cmp' as rCompare, Held-Cmp-right, None' as no_right, Some' as some_right}
+use Rattle.syntax.specs.declared.tree.Cmp.{Cmp as rCmp, Cmp' as rCompare, Held-Cmp-right}
+use Rattle.syntax.specs.declared.tree.Cmp.{None' as no_right, Some' as some_right}
 use Rattle.syntax.specs.declared.tree.Compared.{Compared as rCompared, Compared' as rRight}
-use Rattle.syntax.specs.declared.tree.Sum.{Sum as rSum, Sum' as rAdd, Row_of-Term, end_of-Term, more_of-Term}
+use Rattle.syntax.specs.declared.tree.Sum.{Sum as rSum, Sum' as rAdd, Row_of-Term}
+use Rattle.syntax.specs.declared.tree.Sum.{end_of-Term, more_of-Term}
 use Rattle.syntax.specs.declared.tree.Term.{Term as rTerm, Term' as rSigned}
-use Rattle.syntax.specs.declared.tree.Prod.{Prod as rProd, Prod' as rMultiply, Row_of-Factor, end_of-Factor, more_of-Factor}
+use Rattle.syntax.specs.declared.tree.Prod.{Prod as rProd, Prod' as rMultiply, Row_of-Factor}
+use Rattle.syntax.specs.declared.tree.Prod.{end_of-Factor, more_of-Factor}
 use Rattle.syntax.specs.declared.tree.Factor.{Factor as rFactor}
 use Rattle.syntax.specs.declared.tree.Unary.{Unary as rUnary}
-use Rattle.syntax.specs.declared.tree.Atom.{Atom as rAtom, Number as rNumber, True as rTrue, False as rFalse}
-use Rattle.syntax.specs.declared.tree.Atom.{Name as rName, Element' as rElement, Length as rLength, Parens' as rParens}
-use Rattle.syntax.specs.declared.tree.Stmt.{Stmt as rStmt, Row_of-Stmt, end_of-Stmt, more_of-Stmt, Held-Stmt-If-2}
-use Rattle.syntax.specs.declared.tree.Stmt.{None' as no_else, Some' as some_else, Skip as rSkip, Var as rVar}
-use Rattle.syntax.specs.declared.tree.Stmt.{Assign as rAssign, Store as rStore, Print as rPrint, Fault as rFault}
-use Rattle.syntax.specs.declared.tree.Stmt.{If' as rIf, While' as rWhile, Split' as rSplit, Call as rCall}
+use Rattle.syntax.specs.declared.tree.Atom.{Atom as rAtom, Number as rNumber}
+use Rattle.syntax.specs.declared.tree.Atom.{True as rTrue, False as rFalse}
+use Rattle.syntax.specs.declared.tree.Atom.{Name as rName, Element' as rElement}
+use Rattle.syntax.specs.declared.tree.Atom.{Length as rLength, Parens' as rParens}
+use Rattle.syntax.specs.declared.tree.Stmt.{Stmt as rStmt, Row_of-Stmt, end_of-Stmt}
+use Rattle.syntax.specs.declared.tree.Stmt.{more_of-Stmt, Held-Stmt-If-2}
+use Rattle.syntax.specs.declared.tree.Stmt.{None' as no_else, Some' as some_else}
+use Rattle.syntax.specs.declared.tree.Stmt.{Skip as rSkip, Var as rVar}
+use Rattle.syntax.specs.declared.tree.Stmt.{Assign as rAssign, Store as rStore}
+use Rattle.syntax.specs.declared.tree.Stmt.{Print as rPrint, Fault as rFault}
+use Rattle.syntax.specs.declared.tree.Stmt.{If' as rIf, While' as rWhile}
+use Rattle.syntax.specs.declared.tree.Stmt.{Split' as rSplit, Call as rCall}
 use Rattle.syntax.specs.declared.tree.Stmt.{Async' as rAsync, Finish' as rFinish}
 use Rattle.syntax.specs.declared.tree.Array.{Array as rArray}
 use Rattle.syntax.specs.declared.tree.Parameter.{Parameter as rParameter}
-use Rattle.syntax.specs.declared.tree.Parameter.TheVariants.{Written as rWritten, Read as rRead, Scalar as rScalar}
+use Rattle.syntax.specs.declared.tree.Parameter.TheVariants.{Written as rWritten, Read as rRead}
+use Rattle.syntax.specs.declared.tree.Parameter.TheVariants.{Scalar as rScalar}
 use Rattle.syntax.specs.declared.tree.Procedure.{Procedure as rProcedure}
 use Rattle.syntax.specs.declared.tree.Main.{Main as rMain}
 use Rattle.syntax.specs.declared.tree.Program.{Program as rProgram}
@@ -182,7 +194,8 @@ unfoldable mutual
 
   pub row_factors : {m : _} → Row_of-Factor m → Factors
   row_factors end_of-Factor = NoFactor
-  row_factors (more_of-Factor operator b a rest) = MultiplyFactor operator (negative b (atom a)) (row_factors rest)
+  row_factors (more_of-Factor operator b a rest) =
+      MultiplyFactor operator (negative b (atom a)) (row_factors rest)
 
   pub atom : rAtom → Atom
   atom (rNumber n) = Number n
@@ -254,7 +267,11 @@ parameter (rRead x e) = Read (string_bytes x) e
 parameter (rScalar x) = Scalar (string_bytes x)
 
 abbrev pub procedure : rProcedure → Procedure
-procedure p = record { name = string_bytes p.name; parameters = map parameter p.parameters.items; body = block p.body.items }
+procedure p = record {
+  name = string_bytes p.name;
+  parameters = map parameter p.parameters.items;
+  body = block p.body.items;
+}
 
 abbrev pub main : rMain → Main
 main m = record { arrays = map array m.arrays.items; body = block m.body.items }

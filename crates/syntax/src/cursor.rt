@@ -1,9 +1,11 @@
 //! Reading what stands first among the tokens that are left.
 
-ghost use Rattle.std.specs.Prelude.{◌≡◌, ◌≢◌, ◌<◌, ℕ, List, [], ◌∷◌, length, IfOk, IfErr, IfSome, IfNone, MatchOption};
+ghost use Rattle.std.specs.Prelude.{◌≡◌, ◌≢◌, ◌<◌, ℕ, List, [], ◌∷◌, length, IfOk, IfErr, IfSome};
+ghost use Rattle.std.specs.Prelude.{IfNone, MatchOption};
 ghost use Rattle.std.specs.String.{string_bytes};
 ghost use Rattle.syntax.specs.declared.token.Word.{Word as AnyWord};
-ghost use Rattle.syntax.specs.Token.{Token as PlainToken, NameToken, NumberToken, WordToken, MarkToken, token, plain};
+ghost use Rattle.syntax.specs.Token.{Token as PlainToken, NameToken, NumberToken, WordToken};
+ghost use Rattle.syntax.specs.Token.{MarkToken, token, plain};
 
 use crate::token::{Mark, Spanned, Token, Word};
 use std::alloc::{AllocError, AllocFailed};

@@ -1,28 +1,32 @@
 //! Expressions, one function for each production.
 
-ghost use Rattle.std.specs.Prelude.{◌≡◌, ◌≢◌, ◌<◌, ◌≤◌, ℕ, List, ◌∷◌, length, IfOk, IfErr, IfSome, IfNone};
+ghost use Rattle.std.specs.Prelude.{◌≡◌, ◌≢◌, ◌<◌, ◌≤◌, ℕ, List, ◌∷◌, length, IfOk, IfErr};
+ghost use Rattle.std.specs.Prelude.{IfSome, IfNone};
 ghost use Rattle.syntax.specs.declared.token.Mark.{Mark as AnyMark};
 ghost use Rattle.syntax.specs.declared.tree.Relation.{Relation as AnyRelation};
 ghost use Rattle.syntax.specs.declared.tree.Sign.{Sign as AnySign};
 ghost use Rattle.syntax.specs.declared.tree.Operator.{Operator as AnyOperator};
-ghost use Rattle.syntax.specs.Reading.{AddsExprs, IsRead, Refuses, Leaves, LeavesClosed, SpellsNone};
+ghost use Rattle.syntax.specs.Reading.{AddsExprs, IsRead, Refuses, Leaves};
+ghost use Rattle.syntax.specs.Reading.{LeavesClosed, SpellsNone};
 ghost use Rattle.syntax.specs.Reading.{SpellsNoneClosed};
 ghost use Rattle.syntax.specs.Reading.{mark_binds, list_level, or_level, and_level, relation_level};
 ghost use Rattle.syntax.specs.Reading.{sign_level, operator_level, bracket_level};
-ghost use Rattle.syntax.specs.Spelling.{more_then, expr_then, conj_then, neg_then, cmp_then, sum_then};
+ghost use Rattle.syntax.specs.Spelling.{more_then, expr_then, conj_then, neg_then};
+ghost use Rattle.syntax.specs.Spelling.{cmp_then, sum_then};
 ghost use Rattle.syntax.specs.Spelling.{prod_then, unary_then, atom_then, relation_mark, sign_mark};
 ghost use Rattle.syntax.specs.Spelling.{operator_mark};
 ghost use Rattle.syntax.specs.Token.{Token as PlainToken, NameToken, MarkToken, plain};
-ghost use Rattle.syntax.specs.Tree.{expr as expr_tree, conj as conj_tree, neg as neg_tree, cmp as cmp_tree};
+ghost use Rattle.syntax.specs.Tree.{expr as expr_tree, conj as conj_tree};
+ghost use Rattle.syntax.specs.Tree.{neg as neg_tree, cmp as cmp_tree};
 ghost use Rattle.syntax.specs.Tree.{sum as sum_tree, prod as prod_tree, unary as unary_tree};
 ghost use Rattle.syntax.specs.Tree.{atom as atom_tree};
 
-use crate::cursor;
 use crate::cursor::Stuck;
 use crate::token::{Mark, Spanned, Token, Word};
 use crate::tree::{
     Atom, Cmp, Compared, Conj, Expr, Factor, Neg, Operator, Prod, Relation, Sign, Sum, Term, Unary,
 };
+use crate::{cursor, lists};
 use std::alloc::Global;
 
 /// Reads an expression.
@@ -38,7 +42,7 @@ pub fn expr(alloc: Global, tokens: &[Spanned]) -> Result<(Expr, &[Spanned]), Stu
     let mut rest = Vec::new(alloc);
     while let Some(after) = cursor::after_word(left, Word::Or) {
         let (operand, behind) = conj(alloc, after)?;
-        rest.push(operand)?;
+        lists::push(&mut rest, operand)?;
         left = behind;
     }
     Ok((Expr { first, rest }, left))
@@ -56,7 +60,7 @@ fn conj(alloc: Global, tokens: &[Spanned]) -> Result<(Conj, &[Spanned]), Stuck>
     let mut rest = Vec::new(alloc);
     while let Some(after) = cursor::after_word(left, Word::And) {
         let (operand, behind) = neg(alloc, after)?;
-        rest.push(operand)?;
+        lists::push(&mut rest, operand)?;
         left = behind;
     }
     Ok((Conj { first, rest }, left))
@@ -125,7 +129,7 @@ fn sum(alloc: Global, tokens: &[Spanned]) -> Result<(Sum, &[Spanned]), Stuck>
     let mut rest = Vec::new(alloc);
     while let Some((sign, after)) = sign(left) {
         let (operand, behind) = prod(alloc, after)?;
-        rest.push(Term { sign, operand })?;
+        lists::push(&mut rest, Term { sign, operand })?;
         left = behind;
     }
     Ok((Sum { first, rest }, left))
@@ -143,7 +147,7 @@ fn prod(alloc: Global, tokens: &[Spanned]) -> Result<(Prod, &[Spanned]), Stuck>
     let mut rest = Vec::new(alloc);
     while let Some((operator, after)) = operator(left) {
         let (operand, behind) = unary(alloc, after)?;
-        rest.push(Factor { operator, operand })?;
+        lists::push(&mut rest, Factor { operator, operand })?;
         left = behind;
     }
     Ok((Prod { first, rest }, left))
@@ -361,7 +365,7 @@ pub fn more(
     let mut left = tokens;
     while let Some(after) = cursor::after_mark(left, Mark::Comma) {
         let (next, behind) = expr(alloc, after)?;
-        exprs.push(next)?;
+        lists::push(&mut exprs, next)?;
         left = behind;
     }
     Ok((exprs, left))

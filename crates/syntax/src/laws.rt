@@ -38,8 +38,8 @@ pub fn texts_are_read_in_one_way()
         → StopsAt text at → StopsAt text other → at ≡ other }
 {}
 
-/// All errors that tell of one text have one code, memory aside; so it doesn't matter which is looked for first.
-/// And too many brackets are open for the first time at one place alone.
+/// All errors that tell of one text have one code, memory aside; so it doesn't matter which is
+/// looked for first. And too many brackets are open for the first time at one place alone.
 pub fn texts_are_refused_for_one_reason()
     ensures one { (text : List ℕ) (e f : AnyError) → TellsOf text e → TellsOf text f
         → e ≢ SyntaxError.OutOfMemory → f ≢ SyntaxError.OutOfMemory → error_code e ≡ error_code f }

@@ -9,6 +9,7 @@ pub mod expression_text;
 pub mod expressions;
 pub mod laws;
 pub mod lexer;
+pub mod lists;
 pub mod parser;
 pub mod place;
 pub mod programs;

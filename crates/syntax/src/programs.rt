@@ -4,10 +4,12 @@ ghost use Rattle.std.specs.Prelude.{◌≡◌, ◌≢◌, ◌<◌, ◌≤◌, �
 ghost use Rattle.std.specs.String.{string_bytes};
 ghost use Rattle.syntax.specs.declared.tree.ElementType.{ElementType as AnyElement};
 ghost use Rattle.syntax.specs.Reading.{IsRead, IsReadClosed, Refuses, RefusesClosed, list_level};
-ghost use Rattle.syntax.specs.Spelling.{arrays_then, block_then, element_word, main_tokens, parameter_then};
+ghost use Rattle.syntax.specs.Spelling.{arrays_then, block_then, element_word};
+ghost use Rattle.syntax.specs.Spelling.{main_tokens, parameter_then};
 ghost use Rattle.syntax.specs.Spelling.{parameters_then, procedures_then, spelling};
 ghost use Rattle.syntax.specs.Token.{Token as PlainToken, NameToken, WordToken, MarkToken, plain};
-ghost use Rattle.syntax.specs.Tree.{Main as MainTree, Program as ProgramTree, array as array_tree, block};
+ghost use Rattle.syntax.specs.Tree.{Main as MainTree, Program as ProgramTree};
+ghost use Rattle.syntax.specs.Tree.{array as array_tree, block};
 ghost use Rattle.syntax.specs.Tree.{parameter as parameter_tree, procedure as procedure_tree};
 ghost use Rattle.syntax.specs.Tree.{program as program_tree};
 

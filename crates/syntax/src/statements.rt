@@ -2,7 +2,8 @@
 
 ghost use Rattle.std.specs.Prelude.{◌≡◌, ◌≢◌, ◌<◌, List, ◌∷◌, length, IfOk, IfErr};
 ghost use Rattle.syntax.specs.declared.token.Word.{Word as AnyWord};
-ghost use Rattle.syntax.specs.Reading.{IsRead, IsReadClosed, Refuses, RefusesClosed, SpellsNone, else_level};
+ghost use Rattle.syntax.specs.Reading.{IsRead, IsReadClosed, Refuses, RefusesClosed};
+ghost use Rattle.syntax.specs.Reading.{SpellsNone, else_level};
 ghost use Rattle.syntax.specs.Spelling.{expr_then, exprs_then, stmt_then, block_then};
 ghost use Rattle.syntax.specs.Token.{Token as PlainToken, WordToken, MarkToken, plain};
 ghost use Rattle.syntax.specs.Tree.{expr as expr_tree, exprs, stmt, block as block_tree};
@@ -10,7 +11,7 @@ ghost use Rattle.syntax.specs.Tree.{expr as expr_tree, exprs, stmt, block as blo
 use crate::cursor::Stuck;
 use crate::token::{Mark, Spanned, Word};
 use crate::tree::{Expr, Stmt};
-use crate::{cursor, expressions};
+use crate::{cursor, expressions, lists};
 use std::alloc::Global;
 
 /// Reads statements up to the brace that closes their block, and that brace.
@@ -29,7 +30,7 @@ pub fn statements(alloc: Global, tokens: &[Spanned]) -> Result<(Vec<Stmt>, &[Spa
             return Ok((body, rest));
         }
         let (statement, behind) = statement(alloc, left)?;
-        body.push(statement)?;
+        lists::push(&mut body, statement)?;
         left = behind;
     }
 }
@@ -297,7 +298,7 @@ fn arguments(alloc: Global, tokens: &[Spanned]) -> Result<(Vec<Expr>, &[Spanned]
         return Ok((arguments, rest));
     }
     let (first, rest) = expressions::expr(alloc, tokens)?;
-    arguments.push(first)?;
+    lists::push(&mut arguments, first)?;
     let (arguments, rest) = expressions::more(alloc, rest, arguments)?;
     let rest = cursor::mark(rest, Mark::RightParen)?;
     Ok((arguments, rest))

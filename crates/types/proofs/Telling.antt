@@ -1,5 +1,8 @@
 -- What is told of a part is told of the whole, and a whole whose parts have no errors has none.
 use Rattle.std.proofs.Common.{◌≡◌, ℕ, ◌⊎◌, List, [], ◌∷◌, ◌++◌, map, Result, Ok, Err, OnOk, IfOk, IfErr, refl, sym, ap, ◌∙◌, subst, inl, inr}
+use Rattle.std.proofs.Common.{◌+◌, ◌<◌, drop, length}
+use Rattle.std.proofs.lemmas.List.{at_drop_more}
+use Rattle.std.specs.Prelude.{slice_index_or}
 use Rattle.std.specs.Result.{IsErrAnd}
 use Rattle.types.specs.Told.{Told}
 use Rattle.types.specs.declared.error.TypeError.{TypeError}
@@ -31,10 +34,25 @@ told_left (x ∷ xs) ys e h = told_left_by x xs ys e (told_left xs ys e) h
 pub told_alone : (x : TypeError) → Told (x ∷ []) x
 told_alone x = inl refl
 
+-- by what parts an error is told of a whole
+pub ruleset telling = (told_left, told_right, told_memory, told_alone, none_both)
+
 -- at an exit by `?`, whose error is that of the part
 pub at_exit : {X : Type 0} (P : TypeError → Type 0) (r : Result X TypeError) (e : TypeError) → IsErrAnd r (λ y. y ≡ e) → P e → IfErr r P
 at_exit P (Ok x) e passed h = tt
 at_exit P (Err y) e passed h = subst P (sym passed) h
+
+-- at an exit by `?`, whose error is that of the first part of the whole
+pub exit_left : {X : Type 0} (r : Result X TypeError) (e : TypeError) → IsErrAnd r (λ y. y ≡ e)
+    → {whole : List TypeError} (part more : List TypeError) → whole ≡ part ++ more → Told part e → IfErr r (Told whole)
+exit_left r e passed {whole = whole} part more is h =
+    at_exit (Told whole) r e passed (subst (λ l. Told l e) (sym is) (told_left part more e h))
+
+-- what is left of a row, of which the next is known
+pub at_front : {A B : Type 0} (f : List A → B) (xs : List A) (i : ℕ) (x : A) → i < length xs
+    → x ≡ slice_index_or xs i x → f (drop i xs) ≡ f (x ∷ drop (i + 1) xs)
+at_front f xs i x inside is =
+    at_drop_more f xs i x inside ∙ ap (λ y. f (y ∷ drop (i + 1) xs)) (sym is)
 
 -- the errors of a part are those of what it stands for
 pub same_right : {X : Type 0} (r : Result X TypeError) {xs ys : List TypeError} → xs ≡ ys → OnOk r (ys ≡ []) → OnOk r (xs ≡ [])

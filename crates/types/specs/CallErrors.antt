@@ -4,10 +4,12 @@ use Rattle.std.specs.Prelude.{Some, None, if◌then◌else◌}
 use Rattle.std.specs.List.{list_any}
 use Rattle.syntax.specs.declared.tree.ElementType.{ElementType}
 use Rattle.syntax.specs.declared.tree.ElementType.TheVariants.{Int, Byte}
-use Rattle.syntax.specs.Tree.{Expr, Atom, Number, True, False, Name, Element, Length, Parens, lone_atom}
+use Rattle.syntax.specs.Tree.{Expr, Atom, Number, True, False, Name, Element, Length}
+use Rattle.syntax.specs.Tree.{Parens, lone_atom}
 use Rattle.syntax.specs.Tree.{Parameter as Declared, Written, Read, Scalar}
 use Rattle.types.specs.declared.error.TypeError.{TypeError}
-use Rattle.types.specs.declared.error.TypeError.TheVariants.{NotInScope, WrongArguments, Overlapping}
+use Rattle.types.specs.declared.error.TypeError.TheVariants.{NotInScope, WrongArguments}
+use Rattle.types.specs.declared.error.TypeError.TheVariants.{Overlapping}
 use Rattle.sections.specs.Origins.{Origin}
 use Rattle.types.specs.Code.{Parameter}
 use Rattle.types.specs.ExpressionErrors.{number}

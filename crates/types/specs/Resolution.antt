@@ -8,17 +8,20 @@ use Rattle.syntax.specs.declared.tree.Sign.TheVariants.{Plus as SignPlus, Minus 
 use Rattle.syntax.specs.declared.tree.Operator.{Operator as Factored}
 use Rattle.syntax.specs.declared.tree.Operator.TheVariants.{Times as ByTimes, Over as ByOver}
 use Rattle.syntax.specs.declared.tree.Operator.TheVariants.{Modulo as ByModulo}
-use Rattle.syntax.specs.Tree.{Expr, Or, Conjs, NoConj, OrConj, Conj, And, Negs, NoNeg, AndNeg, Neg, Plainly}
+use Rattle.syntax.specs.Tree.{Expr, Or, Conjs, NoConj, OrConj, Conj, And, Negs, NoNeg, AndNeg}
+use Rattle.syntax.specs.Tree.{Neg, Plainly}
 use Rattle.syntax.specs.Tree.{Not as Denied, Cmp, Alone, Compare as Compared, Sum, Add, Terms}
 use Rattle.syntax.specs.Tree.{NoTerm, AddTerm, Prod}
 use Rattle.syntax.specs.Tree.{Multiply, Factors, NoFactor, MultiplyFactor, Unary, Positive}
 use Rattle.syntax.specs.Tree.{Negative as Minus_of, Atom}
 use Rattle.syntax.specs.Tree.{Number as Numeral, True, False, Name, Element as Element_of}
 use Rattle.syntax.specs.Tree.{Length as Length_of, Parens}
-use Rattle.syntax.specs.Tree.{Stmt, Skip as Skips, Var, Assign as Assigns, Store as Stores, Print as Prints}
+use Rattle.syntax.specs.Tree.{Stmt, Skip as Skips, Var, Assign as Assigns}
+use Rattle.syntax.specs.Tree.{Store as Stores, Print as Prints}
 use Rattle.syntax.specs.Tree.{Fault as Faults, If as Ifs, IfElse, While as Whiles, Split as Splits}
 use Rattle.syntax.specs.Tree.{Call as Calls}
-use Rattle.syntax.specs.Tree.{Async as Asyncs, Finish as Finishes, Block, End as Ends, Then as Thens}
+use Rattle.syntax.specs.Tree.{Async as Asyncs, Finish as Finishes, Block}
+use Rattle.syntax.specs.Tree.{End as Ends, Then as Thens}
 use Rattle.syntax.specs.Tree.{Array as DeclaredArray, Parameter as DeclaredParameter}
 use Rattle.syntax.specs.Tree.{Scalar as ScalarParameter}
 use Rattle.syntax.specs.Tree.{Procedure as DeclaredProcedure, Main, Program as Text, Written, Read}
@@ -29,7 +32,8 @@ use Rattle.types.specs.Code.{Number, Literal, Scalar, Element, Length, Negative,
 use Rattle.types.specs.Code.{Link, Truth}
 use Rattle.types.specs.Code.{Constant, Compare, Not, Both, Either, Truths, NoMore, Also, Skip}
 use Rattle.types.specs.Code.{Assign, Store, Print}
-use Rattle.types.specs.Code.{Raise, Code, Do, If, While, Split, Call, Async, Finish, Codes, End, Then, Array}
+use Rattle.types.specs.Code.{Raise, Code, Do, If, While, Split, Call, Async, Finish, Codes, End}
+use Rattle.types.specs.Code.{Then, Array}
 use Rattle.types.specs.Code.{Procedure, Program}
 use Rattle.types.specs.Scope.{Names, Scope, section_of, slot_of, with_sides, next, inside_async}
 use Rattle.types.specs.Scope.{out_of, behind, after}

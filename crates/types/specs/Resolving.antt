@@ -9,7 +9,8 @@ use Rattle.syntax.specs.Tree as tree
 use Rattle.types.specs.declared.check.calls.Passed.{Passed as rPassed}
 use Rattle.types.specs.declared.check.procedures.Procedures.{Procedures as rProcedures}
 use Rattle.types.specs.declared.check.names.Meaning.{Meaning}
-use Rattle.types.specs.declared.check.names.Meaning.TheVariants.{Section as rSection, Scalar as rScalar}
+use Rattle.types.specs.declared.check.names.Meaning.TheVariants.{Section as rSection}
+use Rattle.types.specs.declared.check.names.Meaning.TheVariants.{Scalar as rScalar}
 use Rattle.types.specs.declared.check.names.Names.{Names as rNames}
 use Rattle.types.specs.declared.check.scope.Scope.{Scope as rScope}
 use Rattle.types.specs.CallErrors.{Passed}

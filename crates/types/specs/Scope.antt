@@ -1,12 +1,14 @@
 -- What is in scope at a place of a text, and how the scope goes on from statement to statement.
-use Rattle.std.specs.Prelude.{ℕ, ◌+◌, List, [], ◌∷◌, ◌++◌, length, Bool, true, false, Option, Some, None}
+use Rattle.std.specs.Prelude.{ℕ, ◌+◌, List, [], ◌∷◌, ◌++◌, length, Bool, true, false, Option}
+use Rattle.std.specs.Prelude.{Some, None}
 use Rattle.std.specs.Prelude.{nat_eq, if◌then◌else◌, slice_index_or}
 use Rattle.std.specs.Cmp.Lexicographic.{pointwise}
 use Rattle.syntax.specs.declared.tree.ElementType.{ElementType}
 use Rattle.syntax.specs.declared.tree.ElementType.TheVariants.{Int}
 use Rattle.syntax.specs.Tree.{Stmt, Skip, Var, Assign, Store, Print, Fault, If, IfElse, While}
 use Rattle.syntax.specs.Tree.{Split, Call, Async}
-use Rattle.syntax.specs.Tree.{Finish, Block, End, Then, Array, Parameter as Declared, Written, Read, Scalar}
+use Rattle.syntax.specs.Tree.{Finish, Block, End, Then, Array, Parameter as Declared, Written}
+use Rattle.syntax.specs.Tree.{Read, Scalar}
 use Rattle.sections.specs.Origins.{Origin, Root, Left, Right}
 use Rattle.types.specs.Code.{Parameter}
 

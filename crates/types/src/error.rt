@@ -15,10 +15,11 @@ use std::fmt;
 pub enum TypeError {
     /// Y1: a name or a procedure that isn't in scope, as `a` in `main { print a[0]; }`.
     NotInScope { label: Label },
-    /// Y2: a name that is declared while the same name is in scope; arrays, parameters and procedures have no
-    /// label.
+    /// Y2: a name that is declared while the same name is in scope; arrays, parameters and
+    /// procedures have no label.
     DeclaredTwice { label: Option<Label> },
-    /// Y3: a number where a truth value is wanted or the other way, or a section for a scalar or the other way.
+    /// Y3: a number where a truth value is wanted or the other way, or a section for a scalar or
+    /// the other way.
     WrongKind { label: Label },
     /// Y4: a call with a wrong number of arguments, or with an argument that isn't the name of a section of
     /// the parameter's element type.

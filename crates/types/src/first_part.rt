@@ -4,7 +4,8 @@ ghost use Rattle.std.specs.Prelude.{◌≡◌, ◌^◌, ◌-◌, ◌&&◌, map, 
 ghost use Rattle.std.specs.List.{list_all};
 ghost use Rattle.types.specs.FirstPart.{index_fits, literal_index_fits, literal_value_fits};
 ghost use Rattle.types.specs.FirstPart.{printed_fits, primitive_fits};
-ghost use Rattle.types.specs.FirstPart.{code_fits, codes_fit, statements_in, statements, is_first_part};
+ghost use Rattle.types.specs.FirstPart.{code_fits, codes_fit, statements_in};
+ghost use Rattle.types.specs.FirstPart.{statements, is_first_part};
 ghost use Rattle.types.specs.Run.{array_of};
 ghost use Rattle.types.specs.Translation.{program, codes, code as plain_code, number};
 ghost use Rattle.types.specs.Translation.{primitive as plain_primitive};

@@ -178,7 +178,8 @@ fn names_array(arrays: &[Array], name: &String) -> bool
 
 /// What the members of a JSON object say of arrays.
 fn lists_of(alloc: Global, arrays: &[Array], object: &Value) -> Result<Vec<Vec<i64>>, InputError>
-    ensures says { IfOk result (λ ls. members_say (λ name. get name (view object.now)) (map array_of arrays.now)
+    ensures says { IfOk result (λ ls.
+        members_say (λ name. get name (view object.now)) (map array_of arrays.now)
         ≡ Ok (map (λ v. v.items) ls.items)) }
     ensures error { IfErr result (λ e. IfSome (told e)
         (λ m. members_say (λ name. get name (view object.now)) (map array_of arrays.now) ≡ Err m)) }

@@ -22,8 +22,8 @@ pub enum InputError {
     WrongNumberOfLists,
     /// N4: an array that is given no list, or one of another length.
     WrongLength { name: String },
-    /// N5: an element that isn't written as a whole number, as `1.0`, or that the element type doesn't hold, as
-    /// 256 in a `byte`.
+    /// N5: an element that isn't written as a whole number, as `1.0`, or that the element type
+    /// doesn't hold, as 256 in a `byte`.
     WrongElement { name: String },
     /// N6: want of memory.
     OutOfMemory,

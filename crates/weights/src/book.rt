@@ -19,7 +19,8 @@ pub enum Back {
     Complete,
 }
 
-/// What a scope has issued, and what came back. Its sums are the replay of its mints, entries and unlisted weight.
+/// What a scope has issued, and what came back. Its sums are the replay of its mints, entries and
+/// unlisted weight.
 #[derive(Drop)]
 pub struct Book {
     /// What it issues at a time.

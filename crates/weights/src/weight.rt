@@ -4,8 +4,8 @@ ghost use Rattle.std.specs.Prelude.{◌≡◌, ℕ, ◌+◌, ◌/◌, ◌≤◌,
 
 use std::marker::Model;
 
-/// A part of a scope's weight, at least 1. It can't be dropped or copied: it is given back to a book, or lost by
-/// `forfeit`.
+/// A part of a scope's weight, at least 1. It can't be dropped or copied: it is given back to a
+/// book, or lost by `forfeit`.
 pub struct Weight {
     pub(crate) units: u64,
 }
@@ -27,7 +27,8 @@ impl Weight {
         self.units
     }
 
-    /// A child's half, rounded down, and the rest for its parent. A weight of 1 can't be divided, and comes back.
+    /// A child's half, rounded down, and the rest for its parent. A weight of 1 can't be divided, and
+    /// comes back.
     pub fn divide(self) -> Result<(Weight, Weight), Weight>
         ensures ok { IfOk result (λ p. (2 ≤ self) × (p.0 ≡ self / 2) × (p.0 + p.1 ≡ self)) }
         ensures err { IfErr result (λ w. (self ≡ 1) × (w ≡ self)) }

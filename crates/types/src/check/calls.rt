@@ -1,6 +1,6 @@
 //! Calls: the procedure of a name, and its arguments.
 
-#![tactic(auto, using(crate::proofs::Telling::told_left, crate::proofs::Telling::told_right, crate::proofs::Telling::told_memory, crate::proofs::Telling::told_alone, crate::proofs::Telling::none_both))]
+#![tactic(auto, using(crate::proofs::Telling::telling))]
 
 ghost use Rattle.std.specs.Prelude.{◌≡◌, [], ◌∷◌, ◌++◌, map, OnOk, IfOk, IfErr, Some};
 ghost use Rattle.std.specs.Prelude.{◌<◌, length, All};

@@ -1,11 +1,12 @@
 //! Expressions: each name is looked up, and each part is of the kind that is wanted.
 
-#![tactic(auto, using(crate::proofs::Telling::told_left, crate::proofs::Telling::told_right, crate::proofs::Telling::told_memory, crate::proofs::Telling::told_alone, crate::proofs::Telling::none_both))]
+#![tactic(auto, using(crate::proofs::Telling::telling))]
 
 ghost use Rattle.std.specs.Prelude.{◌≡◌, [], ◌∷◌, ◌++◌, map, OnOk, IfOk, IfErr, Some, pos};
 ghost use Rattle.std.specs.String.{string_bytes};
 ghost use Rattle.syntax.specs.Tree.{expr as expr_of, conj as conj_of, neg as neg_of, cmp as cmp_of};
-ghost use Rattle.syntax.specs.Tree.{sum as sum_of, prod as prod_of, unary as unary_of, atom as atom_of};
+ghost use Rattle.syntax.specs.Tree.{sum as sum_of, prod as prod_of};
+ghost use Rattle.syntax.specs.Tree.{unary as unary_of, atom as atom_of};
 ghost use Rattle.types.specs.Code.{Literal};
 ghost use Rattle.types.specs.ExpressionErrors as errors;
 ghost use Rattle.types.specs.NameErrors.{naming_section, naming_scalar};

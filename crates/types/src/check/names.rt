@@ -1,6 +1,6 @@
 //! The names in scope.
 
-#![tactic(auto, using(crate::proofs::Telling::told_left, crate::proofs::Telling::told_right, crate::proofs::Telling::told_memory, crate::proofs::Telling::told_alone, crate::proofs::Telling::none_both))]
+#![tactic(auto, using(crate::proofs::Telling::telling))]
 
 ghost use Rattle.indexmap.specs.IndexMap.{IsUnique};
 ghost use Rattle.std.proofs.Props.{props};

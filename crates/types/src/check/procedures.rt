@@ -1,6 +1,6 @@
 //! The procedures of a program by their names.
 
-#![tactic(auto, using(crate::proofs::Telling::told_left, crate::proofs::Telling::told_right, crate::proofs::Telling::told_memory, crate::proofs::Telling::told_alone, crate::proofs::Telling::none_both))]
+#![tactic(auto, using(crate::proofs::Telling::telling))]
 
 ghost use Rattle.std.specs.Prelude.{◌≡◌, map};
 ghost use Rattle.std.specs.String.{string_bytes};

@@ -1,19 +1,23 @@
 //! Procedures and `main`.
 
-#![tactic(auto, using(crate::proofs::Telling::told_left, crate::proofs::Telling::told_right, crate::proofs::Telling::told_memory, crate::proofs::Telling::told_alone, crate::proofs::Telling::none_both))]
+#![tactic(auto, using(crate::proofs::Telling::telling))]
 
 ghost use Rattle.std.specs.Prelude.{◌≡◌, [], ◌∷◌, ◌++◌, ◌≤◌, ◌+◌, map, OnOk, IfOk, IfErr, length};
 ghost use Rattle.std.specs.Prelude.{sum_by, Some, None, codes};
 ghost use Rattle.std.specs.String.{string_bytes};
-ghost use Rattle.syntax.specs.Tree.{block as block_of, procedure as procedure_as, parameter as parameter_of};
+ghost use Rattle.syntax.specs.Tree.{block as block_of, procedure as procedure_as};
+ghost use Rattle.syntax.specs.Tree.{parameter as parameter_of};
 ghost use Rattle.syntax.specs.Tree.{array as array_of, main as main_of};
 ghost use Rattle.types.specs.NameErrors.{declaring};
 ghost use Rattle.types.specs.Resolution.{array as array_at, resolved as resolved_at};
-ghost use Rattle.types.specs.Resolution.{procedures as procedures_at, label_behind, label_behind_all};
+ghost use Rattle.types.specs.Resolution.{procedures as procedures_at, label_behind};
+ghost use Rattle.types.specs.Resolution.{label_behind_all};
 ghost use Rattle.types.specs.Resolving.{scope_of, procedures_of, IsWellScoped};
-ghost use Rattle.types.specs.Rules.{errors, limit as over, parameter_errors, array_errors, procedure_errors};
+ghost use Rattle.types.specs.Rules.{errors, limit as over, parameter_errors};
+ghost use Rattle.types.specs.Rules.{array_errors, procedure_errors};
 ghost use Rattle.types.specs.Rules.{procedures_errors, main_errors, name_of};
-ghost use Rattle.types.specs.Scope.{meant, after, empty_scope, in_procedure, in_main, with_parameter};
+ghost use Rattle.types.specs.Scope.{meant, after, empty_scope, in_procedure};
+ghost use Rattle.types.specs.Scope.{in_main, with_parameter};
 ghost use Rattle.types.specs.Told.{Told};
 ghost use Rattle.types.specs.Translation.{array, procedure};
 

@@ -1,5 +1,5 @@
 use Rattle.std.proofs.Common.{◌≡◌, ◌≢◌, ◌+◌, ◌<◌, ◌≤◌, [], ◌∷◌, ◌++◌, drop, length, sym, ap, ◌∙◌, subst, rules}
-use Rattle.std.proofs.lemmas.List.{at_drop_more, at_drop_all}
+use Rattle.std.proofs.lemmas.List.{at_drop_all}
 use Rattle.std.specs.String.{string_bytes}
 use Rattle.syntax.specs.Tree.{expr, conj, neg, cmp, sum, prod, unary, atom, terms, factors, negated}
 use Rattle.syntax.specs.Tree.{Number as Number_of, Name, Element, Length, Parens}
@@ -25,7 +25,7 @@ use Rattle.types.proofs.Expressions.{number_alone, conj_alone, errors-terms_more
 use Rattle.types.proofs.Expressions.{errors-of_conj_alone, errors-of_conj_chain, errors-of_neg_plain, errors-of_neg_denied}
 use Rattle.types.proofs.Expressions.{errors-of_cmp_alone, errors-of_cmp_compared, errors-of_sum, errors-of_prod, no_terms, no_factors}
 use Rattle.types.proofs.Expressions.{atom_Number, atom_Name, atom_Element, atom_Length, atom_Parens, errors-of_truth_value}
-use Rattle.types.proofs.Telling.{at_exit, told_left, told_right, none_both, same_right, same_code, same_error, wrong}
+use Rattle.types.proofs.Telling.{at_exit, at_front, exit_left, told_left, told_right, none_both, same_right, same_code, same_error, wrong}
 use Rattle.types.proofs.check.expressions.Expressions.+number.Goals as goal
 
 pub number-returns-then-is_empty-clause-right : goal.number-returns-then-is_empty-clause-right
@@ -189,8 +189,8 @@ number_atom-returns-in_err-section-in-Element-clause-error t c =
     let names = names_of c.args.self.now.names.now in
     let is : atom c.args.e.now ≡ Element (string_bytes c.in-Element.section) (expr c.in-Element.index.value) = ap atom c.in-Element.is ∙ atom_Element c.in-Element.section c.in-Element.index in
     let e = c.in_err-section-in-Element.field-0.0 in
-    at_exit (Told (errors.number_atom label names (atom c.args.e.now))) c.from_residual-in_err-section-in-Element.result e c.from_residual-in_err-section-in-Element.ensures.1
-    (subst (λ xs. Told xs e) (sym (ap (errors.number_atom label names) is)) (told_left _ _ e c.in_err-section-in-Element.ensures.error))
+    exit_left c.from_residual-in_err-section-in-Element.result e c.from_residual-in_err-section-in-Element.ensures.1 _ _
+    (ap (errors.number_atom label names) is) c.in_err-section-in-Element.ensures.error
 
 pub number_atom-returns-in_err-index-in-Element-clause-error : goal.number_atom-returns-in_err-index-in-Element-clause-error
 number_atom-returns-in_err-index-in-Element-clause-error t c =
@@ -271,8 +271,8 @@ number_prod-returns-in_err-first-clause-error t c =
     let label = c.args.self.now.label in
     let names = names_of c.args.self.now.names.now in
     let e = c.in_err-first.field-0.0 in
-    at_exit (Told (errors.number_prod label names (prod c.args.e.now))) c.from_residual.result e c.from_residual.ensures.1
-    (subst (λ xs. Told xs e) (sym (errors-of_prod label names c.args.e.now)) (told_left _ _ e c.in_err-first.ensures.error))
+    exit_left c.from_residual.result e c.from_residual.ensures.1 _ _
+    (errors-of_prod label names c.args.e.now) c.in_err-first.ensures.error
 
 pub number_prod-returns-then-is_empty-clause-right : goal.number_prod-returns-then-is_empty-clause-right
 number_prod-returns-then-is_empty-clause-right t c =
@@ -307,11 +307,10 @@ number_prod-returns-in_err-operand-clause-error t c =
     let i = c.loop-factor.factor-index in
     let x = c.factor-item.result in
     let inside : i < length xs = search rules in
-    let front : factors (drop i xs) ≡ factors (x ∷ drop (i + 1) xs) =
-    at_drop_more factors xs i x inside ∙ ap (λ y. factors (y ∷ drop (i + 1) xs)) (sym c.factor-item.is) in
+    let front = at_front factors xs i x inside c.factor-item.is in
     let e = c.in_err-operand.field-0.0 in
-    at_exit (Told (errors.number_prod label names (prod c.args.e.now))) c.from_residual-in_err-operand.result e c.from_residual-in_err-operand.ensures.1
-    (subst (λ xs. Told xs e) (sym (c.loop-factor.invariant.right ∙ ap (errors.factors label names) front)) (told_left _ _ e c.in_err-operand.ensures.error))
+    exit_left c.from_residual-in_err-operand.result e c.from_residual-in_err-operand.ensures.1 _ _
+    (c.loop-factor.invariant.right ∙ ap (errors.factors label names) front) c.in_err-operand.ensures.error
 
 pub number_prod-loop-factor-preserved : goal.number_prod-loop-factor-preserved
 number_prod-loop-factor-preserved t c =
@@ -321,8 +320,7 @@ number_prod-loop-factor-preserved t c =
     let i = c.loop-factor.factor-index in
     let x = c.factor-item.result in
     let inside : i < length xs = search rules in
-    let front : factors (drop i xs) ≡ factors (x ∷ drop (i + 1) xs) =
-    at_drop_more factors xs i x inside ∙ ap (λ y. factors (y ∷ drop (i + 1) xs)) (sym c.factor-item.is) in
+    let front = at_front factors xs i x inside c.factor-item.is in
     let rest = resolution.factors names (factors (drop (i + 1) xs)) in
     let made : rLink = record { operator = c.of_operator-operator.result; operand = c.in_ok-operand.operand } in
     record {
@@ -363,8 +361,8 @@ number_sum-returns-in_err-first-clause-error t c =
     let label = c.args.self.now.label in
     let names = names_of c.args.self.now.names.now in
     let e = c.in_err-first.field-0.0 in
-    at_exit (Told (errors.number_sum label names (sum c.args.e.now))) c.from_residual.result e c.from_residual.ensures.1
-    (subst (λ xs. Told xs e) (sym (errors-of_sum label names c.args.e.now)) (told_left _ _ e c.in_err-first.ensures.error))
+    exit_left c.from_residual.result e c.from_residual.ensures.1 _ _
+    (errors-of_sum label names c.args.e.now) c.in_err-first.ensures.error
 
 pub number_sum-returns-then-is_empty-clause-right : goal.number_sum-returns-then-is_empty-clause-right
 number_sum-returns-then-is_empty-clause-right t c =
@@ -399,11 +397,10 @@ number_sum-returns-in_err-operand-clause-error t c =
     let i = c.loop-term.term-index in
     let x = c.term-item.result in
     let inside : i < length xs = search rules in
-    let front : terms (drop i xs) ≡ terms (x ∷ drop (i + 1) xs) =
-    at_drop_more terms xs i x inside ∙ ap (λ y. terms (y ∷ drop (i + 1) xs)) (sym c.term-item.is) in
+    let front = at_front terms xs i x inside c.term-item.is in
     let e = c.in_err-operand.field-0.0 in
-    at_exit (Told (errors.number_sum label names (sum c.args.e.now))) c.from_residual-in_err-operand.result e c.from_residual-in_err-operand.ensures.1
-    (subst (λ xs. Told xs e) (sym (c.loop-term.invariant.right ∙ ap (errors.terms label names) front ∙ errors-terms_more label names x (drop (i + 1) xs))) (told_left _ _ e c.in_err-operand.ensures.error))
+    exit_left c.from_residual-in_err-operand.result e c.from_residual-in_err-operand.ensures.1 _ _
+    (c.loop-term.invariant.right ∙ ap (errors.terms label names) front ∙ errors-terms_more label names x (drop (i + 1) xs)) c.in_err-operand.ensures.error
 
 pub number_sum-loop-term-preserved : goal.number_sum-loop-term-preserved
 number_sum-loop-term-preserved t c =
@@ -413,8 +410,7 @@ number_sum-loop-term-preserved t c =
     let i = c.loop-term.term-index in
     let x = c.term-item.result in
     let inside : i < length xs = search rules in
-    let front : terms (drop i xs) ≡ terms (x ∷ drop (i + 1) xs) =
-    at_drop_more terms xs i x inside ∙ ap (λ y. terms (y ∷ drop (i + 1) xs)) (sym c.term-item.is) in
+    let front = at_front terms xs i x inside c.term-item.is in
     let rest = resolution.terms names (terms (drop (i + 1) xs)) in
     let made : rLink = record { operator = c.of_sign-operator.result; operand = c.in_ok-operand.operand } in
     record {

@@ -1,5 +1,5 @@
 use Rattle.std.proofs.Common.{◌≡◌, ◌≢◌, ◌+◌, ◌<◌, ◌≤◌, [], ◌∷◌, ◌++◌, drop, length, sym, ap, ◌∙◌, subst, rules}
-use Rattle.std.proofs.lemmas.List.{at_drop_more, at_drop_all}
+use Rattle.std.proofs.lemmas.List.{at_drop_all}
 use Rattle.syntax.specs.Tree.{expr, conj, neg, cmp, sum, prod, unary, atom, conjs, negs, negated, Parens}
 use Rattle.syntax.specs.declared.tree.Expr.{out-Expr}
 use Rattle.syntax.specs.declared.tree.Conj.{out-Conj}
@@ -20,7 +20,7 @@ use Rattle.types.proofs.Expressions.{chosen, chosen_push, chosen_all, either_alo
 use Rattle.types.proofs.Expressions.{truth_sum_alone, truth_prod_alone, errors-sum_alone, errors-sum_chain, errors-prod_alone}
 use Rattle.types.proofs.Expressions.{errors-prod_chain, errors-negated, no_conjs, no_negs, atom_True, atom_False, atom_Parens}
 use Rattle.types.proofs.Expressions.{atom_Number, atom_Name, atom_Element, atom_Length}
-use Rattle.types.proofs.Telling.{at_exit, told_left, told_right, none_both, same_right, same_code, same_error, wrong}
+use Rattle.types.proofs.Telling.{at_exit, at_front, exit_left, told_left, told_right, none_both, same_right, same_code, same_error, wrong}
 use Rattle.types.proofs.check.expressions.Expressions.+truth.Goals as goal
 
 pub truth_sum-returns-then-is_empty-clause-right : goal.truth_sum-returns-then-is_empty-clause-right
@@ -174,8 +174,8 @@ truth_cmp-returns-in_err-left-in-Some-clause-error t c =
     let label = c.args.self.now.label in
     let names = names_of c.args.self.now.names.now in
     let e = c.in_err-left-in-Some.field-0.0 in
-    at_exit (Told (errors.truth_cmp label names (cmp c.args.e.now))) c.from_residual.result e c.from_residual.ensures.1
-    (subst (λ xs. Told xs e) (sym (ap (errors.truth_cmp label names) (cmp_is_compared c.args.e.now c.in-Some.compared c.in-Some.is))) (told_left _ _ e c.in_err-left-in-Some.ensures.error))
+    exit_left c.from_residual.result e c.from_residual.ensures.1 _ _
+    (ap (errors.truth_cmp label names) (cmp_is_compared c.args.e.now c.in-Some.compared c.in-Some.is)) c.in_err-left-in-Some.ensures.error
 
 pub truth_cmp-returns-in_err-right-in-Some-clause-error : goal.truth_cmp-returns-in_err-right-in-Some-clause-error
 truth_cmp-returns-in_err-right-in-Some-clause-error t c =
@@ -237,8 +237,8 @@ truth-returns-in_err-first-clause-error t c =
     let label = c.args.self.now.label in
     let names = names_of c.args.self.now.names.now in
     let e = c.in_err-first.field-0.0 in
-    at_exit (Told (errors.truth label names (expr c.args.e.now))) c.from_residual.result e c.from_residual.ensures.1
-    (subst (λ xs. Told xs e) (sym (ap (errors.truth label names) (expr_is c.args.e.now))) (told_left _ _ e c.in_err-first.ensures.error))
+    exit_left c.from_residual.result e c.from_residual.ensures.1 _ _
+    (ap (errors.truth label names) (expr_is c.args.e.now)) c.in_err-first.ensures.error
 
 pub truth-returns-then-is_empty-clause-right : goal.truth-returns-then-is_empty-clause-right
 truth-returns-then-is_empty-clause-right t c =
@@ -274,11 +274,10 @@ truth-returns-in_err-part-clause-error t c =
     let i = c.loop-conj.conj-index in
     let x = c.conj-item.result in
     let inside : i < length xs = search rules in
-    let front : conjs (drop i xs) ≡ conjs (x ∷ drop (i + 1) xs) =
-    at_drop_more conjs xs i x inside ∙ ap (λ y. conjs (y ∷ drop (i + 1) xs)) (sym c.conj-item.is) in
+    let front = at_front conjs xs i x inside c.conj-item.is in
     let e = c.in_err-part.field-0.0 in
-    at_exit (Told (errors.truth label names (expr c.args.e.now))) c.from_residual-in_err-part.result e c.from_residual-in_err-part.ensures.1
-    (subst (λ xs. Told xs e) (sym (c.loop-conj.invariant.right ∙ ap (errors.conjs label names) front)) (told_left _ _ e c.in_err-part.ensures.error))
+    exit_left c.from_residual-in_err-part.result e c.from_residual-in_err-part.ensures.1 _ _
+    (c.loop-conj.invariant.right ∙ ap (errors.conjs label names) front) c.in_err-part.ensures.error
 
 pub truth-loop-conj-preserved : goal.truth-loop-conj-preserved
 truth-loop-conj-preserved t c =
@@ -288,8 +287,7 @@ truth-loop-conj-preserved t c =
     let i = c.loop-conj.conj-index in
     let x = c.conj-item.result in
     let inside : i < length xs = search rules in
-    let front : conjs (drop i xs) ≡ conjs (x ∷ drop (i + 1) xs) =
-    at_drop_more conjs xs i x inside ∙ ap (λ y. conjs (y ∷ drop (i + 1) xs)) (sym c.conj-item.is) in
+    let front = at_front conjs xs i x inside c.conj-item.is in
     let rest = resolution.conjs names (conjs (drop (i + 1) xs)) in
     record {
       right = c.loop-conj.invariant.right ∙ ap (errors.conjs label names) front ∙ ap (λ l. l ++ errors.conjs label names (conjs (drop (i + 1) xs))) c.in_ok-part.ensures.right;
@@ -326,8 +324,8 @@ truth_conj-returns-in_err-first-clause-error t c =
     let label = c.args.self.now.label in
     let names = names_of c.args.self.now.names.now in
     let e = c.in_err-first.field-0.0 in
-    at_exit (Told (errors.truth_conj label names (conj c.args.e.now))) c.from_residual.result e c.from_residual.ensures.1
-    (subst (λ xs. Told xs e) (sym (ap (errors.truth_conj label names) (conj_is c.args.e.now))) (told_left _ _ e c.in_err-first.ensures.error))
+    exit_left c.from_residual.result e c.from_residual.ensures.1 _ _
+    (ap (errors.truth_conj label names) (conj_is c.args.e.now)) c.in_err-first.ensures.error
 
 pub truth_conj-returns-then-is_empty-clause-right : goal.truth_conj-returns-then-is_empty-clause-right
 truth_conj-returns-then-is_empty-clause-right t c =
@@ -363,11 +361,10 @@ truth_conj-returns-in_err-part-clause-error t c =
     let i = c.loop-neg.neg-index in
     let x = c.neg-item.result in
     let inside : i < length xs = search rules in
-    let front : negs (drop i xs) ≡ negs (x ∷ drop (i + 1) xs) =
-    at_drop_more negs xs i x inside ∙ ap (λ y. negs (y ∷ drop (i + 1) xs)) (sym c.neg-item.is) in
+    let front = at_front negs xs i x inside c.neg-item.is in
     let e = c.in_err-part.field-0.0 in
-    at_exit (Told (errors.truth_conj label names (conj c.args.e.now))) c.from_residual-in_err-part.result e c.from_residual-in_err-part.ensures.1
-    (subst (λ xs. Told xs e) (sym (c.loop-neg.invariant.right ∙ ap (errors.negs label names) front)) (told_left _ _ e c.in_err-part.ensures.error))
+    exit_left c.from_residual-in_err-part.result e c.from_residual-in_err-part.ensures.1 _ _
+    (c.loop-neg.invariant.right ∙ ap (errors.negs label names) front) c.in_err-part.ensures.error
 
 pub truth_conj-loop-neg-preserved : goal.truth_conj-loop-neg-preserved
 truth_conj-loop-neg-preserved t c =
@@ -377,8 +374,7 @@ truth_conj-loop-neg-preserved t c =
     let i = c.loop-neg.neg-index in
     let x = c.neg-item.result in
     let inside : i < length xs = search rules in
-    let front : negs (drop i xs) ≡ negs (x ∷ drop (i + 1) xs) =
-    at_drop_more negs xs i x inside ∙ ap (λ y. negs (y ∷ drop (i + 1) xs)) (sym c.neg-item.is) in
+    let front = at_front negs xs i x inside c.neg-item.is in
     let rest = resolution.negs names (negs (drop (i + 1) xs)) in
     record {
       right = c.loop-neg.invariant.right ∙ ap (errors.negs label names) front ∙ ap (λ l. l ++ errors.negs label names (negs (drop (i + 1) xs))) c.in_ok-part.ensures.right;

@@ -1,5 +1,5 @@
 use Rattle.std.proofs.Common.{◌≡◌, ◌+◌, ◌<◌, ◌≤◌, [], ◌∷◌, ◌++◌, drop, length, map, sym, ap, ◌∙◌, subst, rules, append-nil}
-use Rattle.std.proofs.lemmas.List.{at_drop_more, at_drop_all}
+use Rattle.std.proofs.lemmas.List.{at_drop_all}
 use Rattle.syntax.specs.Tree.{expr}
 use Rattle.types.specs.ExpressionErrors as errors
 use Rattle.types.specs.Resolution as resolution
@@ -7,7 +7,7 @@ use Rattle.types.specs.Resolving.{names_of}
 use Rattle.types.specs.Told.{Told}
 use Rattle.types.specs.Translation.{number}
 use Rattle.types.proofs.Expressions.{one_more_number}
-use Rattle.types.proofs.Telling.{at_exit, told_left}
+use Rattle.types.proofs.Telling.{at_exit, at_front, exit_left, told_left}
 use Rattle.types.proofs.check.expressions.Expressions.numbers.Goals as goal
 
 pub loop-expr-init : goal.loop-expr-init
@@ -30,13 +30,10 @@ returns-in_err-value-2-clause-error c =
     let i = c.loop-expr.expr-index in
     let x = c.expr-item.result in
     let inside : i < length xs = search rules in
-    let front : map expr (drop i xs) ≡ map expr (x ∷ drop (i + 1) xs) =
-    at_drop_more (map expr) xs i x inside ∙ ap (λ y. map expr (y ∷ drop (i + 1) xs)) (sym c.expr-item.is) in
+    let front = at_front (map expr) xs i x inside c.expr-item.is in
     let e = c.in_err-value-2.field-0.0 in
-    at_exit (Told (errors.numbers label names (expr c.args.first.now ∷ map expr xs))) c.from_residual-in_err-value-2.result e
-    c.from_residual-in_err-value-2.ensures.1
-    (subst (λ l. Told l e) (sym (c.loop-expr.invariant.right ∙ ap (errors.numbers label names) front))
-    (told_left _ _ e c.in_err-value-2.ensures.error))
+    exit_left c.from_residual-in_err-value-2.result e c.from_residual-in_err-value-2.ensures.1 _ _
+    (c.loop-expr.invariant.right ∙ ap (errors.numbers label names) front) c.in_err-value-2.ensures.error
 
 pub loop-expr-preserved : goal.loop-expr-preserved
 loop-expr-preserved c =
@@ -46,8 +43,7 @@ loop-expr-preserved c =
     let i = c.loop-expr.expr-index in
     let x = c.expr-item.result in
     let inside : i < length xs = search rules in
-    let front : map expr (drop i xs) ≡ map expr (x ∷ drop (i + 1) xs) =
-    at_drop_more (map expr) xs i x inside ∙ ap (λ y. map expr (y ∷ drop (i + 1) xs)) (sym c.expr-item.is) in
+    let front = at_front (map expr) xs i x inside c.expr-item.is in
     let left = map expr (drop (i + 1) xs) in
     let more = map (resolution.number names) left in
     record {
