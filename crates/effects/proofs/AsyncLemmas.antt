@@ -11,9 +11,14 @@ use Rattle.std.specs.Prelude.{Bool, true, false, Option, None, Some, IsSome, opt
 use Rattle.sections.specs.Member.{Member, first, next}
 use Rattle.types.specs.Code.{Code, Async, Codes, End, Procedure, Program}
 use Rattle.types.specs.Run.{procedure_of, no_procedure}
+use Rattle.types.specs.Translation.{codes, procedure}
+use Rattle.types.specs.declared.code.Procedure.{Procedure as rProcedure}
+use Rattle.effects.specs.Accesses.{Access}
 use Rattle.effects.specs.AsyncNeeds.{needs_at, IsNeedAt, IsOfAsync, Keeps}
-use Rattle.effects.specs.Needs.{Needs}
-use Rattle.effects.specs.Rounds.{needs_of}
+use Rattle.effects.specs.Effects.{accesses, All}
+use Rattle.effects.specs.Firsts.{AreFirsts}
+use Rattle.effects.specs.Needs.{Needs, needs_by}
+use Rattle.effects.specs.Rounds.{needs_of, summaries}
 use Rattle.effects.specs.Sound.{IsSound}
 use Rattle.effects.specs.Statements.{Stands, HasStatement}
 use Rattle.effects.specs.Translation.{needs}
@@ -21,7 +26,9 @@ use Rattle.effects.specs.Visits.{Visit, visit}
 use Rattle.effects.specs.declared.needs.Needs.{Needs as rNeeds}
 use Rattle.effects.specs.declared.visits.Visit.{Visit as rVisit}
 use Rattle.effects.proofs.Members.{false_true, in_parts}
-use Rattle.effects.proofs.StatementLemmas.{first_or_next, one_statement}
+use Rattle.effects.proofs.NeedsOfAsyncs.{needs_of_firsts}
+use Rattle.effects.proofs.StableRounds.{summaries_derived, summaries_stable}
+use Rattle.effects.proofs.StatementLemmas.{IsVisited, first_or_next, one_statement}
 
 pub of_one : {A : Type 0} {x y : A} → Member x (y ∷ []) → x ≡ y
 of_one {A} {x} {y} m = elim (first_or_next m) [ inl e ↦ e | inr n ↦ none n ]
@@ -170,3 +177,31 @@ in_some_procedure p l b (HasStatement.in_procedure f h) = elim (cases_lt f (leng
   where
     nothing : Stands End l (Async b) → ⊥
     nothing h = elim h [ ]
+
+-- ---- in the code
+pub visit_at : (xs : List rVisit) (i : ℕ) (x : rVisit) → i < length xs → x ≡ get_or xs i x → Member (visit x) (map visit xs)
+visit_at xs i x h is = subst (λ (y : rVisit). Member (visit y) (map visit xs)) (sym is) (there xs i x h)
+  where
+    there : (xs : List rVisit) (i : ℕ) (d : rVisit) → i < length xs → Member (visit (get_or xs i d)) (map visit xs)
+    there [] i d h = absurd (omega arith)
+    there (y ∷ ys) zero d h = first
+    there (y ∷ ys) (suc i) d h = next (there ys i d (omega arith))
+
+pub body_at : (fs gs : List rProcedure) (i : ℕ) (x : rProcedure) → fs ≡ gs → i < length fs → x ≡ get_or fs i x
+    → codes x.body.items ≡ (slice_index_or (map procedure gs) i no_procedure).body
+body_at fs gs i x same h is =
+    ap (λ (y : rProcedure). codes y.body.items) is ∙ there fs i x h
+    ∙ ap (λ (hs : List rProcedure). (slice_index_or (map procedure hs) i no_procedure).body) same
+  where
+    there : (fs : List rProcedure) (i : ℕ) (d : rProcedure) → i < length fs
+        → codes (get_or fs i d).body.items ≡ (slice_index_or (map procedure fs) i no_procedure).body
+    there [] i d h = absurd (omega arith)
+    there (y ∷ ys) zero d h = refl
+    there (y ∷ ys) (suc i) d h = there ys i d (omega arith)
+
+pub is_seen : (xs ys : List Visit) (l : ℕ) (b : Codes) → ys ≡ xs → IsVisited ys l (Async b) → IsSeen xs l b
+is_seen xs ys l b e v = record { seen = v.visit; among = subst (Member v.visit) e v.among; label = v.label; async = v.code }
+
+-- the firsts of what a block may do tell what it needs
+pub needs_found : (p : Program) → IsSound p → (b : Codes) (xs : List Access) → AreFirsts (All p accesses b) xs → needs_by xs ≡ needs_of p b
+needs_found p sound = needs_of_firsts p (summaries p) (summaries_derived p) (summaries_stable p sound)

@@ -3,6 +3,7 @@ use Rattle.std.proofs.Common.{◌≡◌, ◌⊎◌, inl, inr, ℕ, zero, suc, �
 use Rattle.std.proofs.Math.Seq.{drop-cons}
 use Rattle.std.proofs.lemmas.Bool.{eqb-true, eqb-false, ltb-true, ltb-false, eq-eqb, ne_eqb, lt-ltb, le-ltb}
 use Rattle.std.proofs.lemmas.List.{drop_all}
+use Rattle.std.proofs.lemmas.List.Edits.{insert_end}
 use Rattle.std.specs.Prelude.{Bool, true, false, nat_eq, nat_lt, if◌then◌else◌, slice_index_or, insert}
 use Rattle.sections.specs.Member.{Member, first, next}
 use Rattle.sections.specs.Translation.{section}
@@ -23,22 +24,25 @@ has_also s (t ∷ ss) = by_test (nat_lt s t) (nat_eq s t) refl (has_also s ss)
     by_test false true same m = subst (λ n. Member s (n ∷ ss)) (eqb-true s t same) first
     by_test false false same m = next m
 
-pub keeps_also : (s x : ℕ) (ss : List ℕ) → Member x ss → Member x (also s ss)
-keeps_also s x (t ∷ ss) m = by_test (nat_lt s t) (nat_eq s t) m
-  where
-    deeper : Member x (t ∷ ss) → Member x (t ∷ also s ss)
-    deeper first = first
-    deeper (next k) = next (keeps_also s x ss k)
-
-    by_test : (b e : Bool) → Member x (t ∷ ss) → Member x (if b then s ∷ t ∷ ss else (if e then t ∷ ss else t ∷ also s ss))
-    by_test true e k = next k
-    by_test false true k = k
-    by_test false false k = deeper k
-keeps_also s x [] m = elim m [ ]
-
 first_or_later : {x t : ℕ} {ss : List ℕ} → Member x (t ∷ ss) → (x ≡ t) ⊎ Member x ss
 first_or_later first = inl refl
 first_or_later (next m) = inr m
+
+pub keeps_also : (s x : ℕ) (ss : List ℕ) → Member x ss → Member x (also s ss)
+keeps_also s x [] m = elim m [ ]
+keeps_also s x (t ∷ ss) m = by_test (nat_lt s t) (nat_eq s t) m (λ k. keeps_also s x ss k)
+  where
+    deeper : Member x (t ∷ ss) → (Member x ss → Member x (also s ss)) → Member x (t ∷ also s ss)
+    deeper k go = elim (first_or_later k) [
+      | inl e ↦ subst (λ n. Member x (n ∷ also s ss)) e first
+      | inr n ↦ next (go n)
+    ]
+
+    by_test : (b e : Bool) → Member x (t ∷ ss) → (Member x ss → Member x (also s ss))
+        → Member x (if b then s ∷ t ∷ ss else (if e then t ∷ ss else t ∷ also s ss))
+    by_test true e k go = next k
+    by_test false true k go = k
+    by_test false false k go = deeper k go
 
 pub from_also : (s x : ℕ) (ss : List ℕ) → Member x (also s ss) → (x ≡ s) ⊎ Member x ss
 from_also s x [] m = first_or_later m
@@ -109,22 +113,31 @@ same_members (x ∷ xs) (y ∷ ys) h g out back =
 
 -- ---- in the code
 -- an access in front
-pub access_before : (xs : List rAccess) (n : ℕ) (x : rAccess) → 0 < n → n ≤ length xs → x ≡ slice_index_or xs (n - 1) x
-    → map access (drop (n - 1) xs) ≡ access x ∷ map access (drop n xs)
-access_before xs n x h g is =
+access_before : (xs : List rAccess) (n : ℕ) (d : rAccess) → 0 < n → n ≤ length xs
+    → map access (drop (n - 1) xs) ≡ access (get_or xs (n - 1) d) ∷ map access (drop n xs)
+access_before xs n d h g =
     let lt : n - 1 < length xs = omega arith in
     let e : suc (n - 1) ≡ n = omega arith in
-    ap (map access) (drop-cons xs (n - 1) x lt)
-    ∙ ap (λ (y : rAccess). access y ∷ map access (drop (suc (n - 1)) xs)) (sym is)
-    ∙ ap (λ m. access x ∷ map access (drop m xs)) e
+    ap (map access) (drop-cons xs (n - 1) d lt) ∙ ap (λ m. access (get_or xs (n - 1) d) ∷ map access (drop m xs)) e
 
-pub written_more : (xs : List Access) (x : Access) (b : Bool) → x.write ≡ b
-    → written_by (x ∷ xs) ≡ (if b then also x.section (written_by xs) else written_by xs)
-written_more xs x b e = ap (λ w. if w then also x.section (written_by xs) else written_by xs) e
+pub written_step : (xs : List rAccess) (n : ℕ) (d : rAccess) (b : Bool) → 0 < n → n ≤ length xs → (get_or xs (n - 1) d).write ≡ b
+    → written_by (map access (drop (n - 1) xs))
+    ≡ (if b then also (get_or xs (n - 1) d).section.number (written_by (map access (drop n xs))) else written_by (map access (drop n xs)))
+written_step xs n d b h g e =
+    let before = written_by (map access (drop n xs)) in
+    ap written_by (access_before xs n d h g)
+    ∙ ap (λ w. if w then also (get_or xs (n - 1) d).section.number before else before) e
 
-pub others_more : (ws : List ℕ) (xs : List Access) (x : Access) (b : Bool) → among ws x.section ≡ b
-    → others_by ws (x ∷ xs) ≡ (if b then others_by ws xs else also x.section (others_by ws xs))
-others_more ws xs x b e = ap (λ w. if w then others_by ws xs else also x.section (others_by ws xs)) e
+pub others_step : (ws : List ℕ) (xs : List rAccess) (n : ℕ) (d : rAccess) (b : Bool) → 0 < n → n ≤ length xs
+    → among ws (get_or xs (n - 1) d).section.number ≡ b → others_by ws (map access (drop (n - 1) xs))
+    ≡ (if b then others_by ws (map access (drop n xs)) else also (get_or xs (n - 1) d).section.number (others_by ws (map access (drop n xs))))
+others_step ws xs n d b h g e =
+    let before = others_by ws (map access (drop n xs)) in
+    ap (others_by ws) (access_before xs n d h g)
+    ∙ ap (λ w. if w then before else also (get_or xs (n - 1) d).section.number before) e
+
+pub nothing_left : (xs : List rAccess) → map access (drop (length xs) xs) ≡ []
+nothing_left xs = ap (map access) (drop_all (length xs) xs (omega arith))
 
 -- a section that stands in its place already, and one that is put there
 module _ (s : SectionId) where
@@ -161,3 +174,43 @@ module _ (s : SectionId) where
       (le-ltb s.number x.number (omega arith))
       ∙ ap (λ b. if b then x.number ∷ map section xs else x.number ∷ also s.number (map section xs))
       (ne_eqb s.number x.number (λ q. omega arith)))
+
+  get_any : (xs : List SectionId) (k : ℕ) (d e : SectionId) → k < length xs → get_or xs k d ≡ get_or xs k e
+  get_any [] k d e h = absurd (omega arith)
+  get_any (x ∷ xs) zero d e h = refl
+  get_any (x ∷ xs) (suc k) d e h = get_any xs k d e (omega arith)
+
+  -- where the list was read twice
+  module _ (xs ys zs : List SectionId) (same : ys ≡ xs) (too : zs ≡ xs) (k : ℕ)
+      (below : (i : ℕ) → i < k → (slice_index_or ys i s).number < s.number) where
+    below_it : (i : ℕ) → i < k → (slice_index_or xs i s).number < s.number
+    below_it i h = subst (λ (vs : List SectionId). (slice_index_or vs i s).number < s.number) same (below i h)
+
+    read_too : (x : SectionId) → k < length zs → x ≡ get_or zs k x → (slice_index_or xs k s) ≡ x
+    read_too x lt at = ap (λ (vs : List SectionId). get_or vs k s) (sym too) ∙ get_any zs k s x lt ∙ sym at
+
+    pub stays_there : (x : SectionId) → k < length zs → x ≡ get_or zs k x → x.number ≡ s.number
+        → map section xs ≡ also s.number (map section xs)
+    stays_there x lt at e =
+        also_there xs k below_it (subst (λ (vs : List SectionId). k < length vs) too lt)
+        (ap (λ (v : SectionId). v.number) (read_too x lt at) ∙ e)
+
+    module _ (within : k ≤ length ys) (behind : s.number ≤ (slice_index_or ys k s).number) where
+      within_it : k ≤ length xs
+      within_it = subst (λ (vs : List SectionId). k ≤ length vs) same within
+
+      pub put_between : (x : SectionId) → k < length zs → x ≡ get_or zs k x → (x.number ≡ s.number → ⊥)
+          → map section (insert xs k s) ≡ also s.number (map section xs)
+      put_between x lt at apart = also_put xs k below_it within_it (λ h.
+          let e : (slice_index_or xs k s).number ≡ x.number = ap (λ (v : SectionId). v.number) (read_too x lt at) in
+          let le : s.number ≤ (slice_index_or xs k s).number =
+              subst (λ (vs : List SectionId). s.number ≤ (slice_index_or vs k s).number) same behind in
+          omega (arith, e, le, apart))
+
+      pub put_behind_all : length zs ≤ k → map section (xs ++ s ∷ []) ≡ also s.number (map section xs)
+      put_behind_all past =
+          let le : length xs ≤ k = subst (λ (vs : List SectionId). length vs ≤ k) too past in
+          let within_here : k ≤ length xs = within_it in
+          let e : k ≡ length xs = omega arith in
+          ap (map section) (sym (insert_end xs s)) ∙ ap (λ n. map section (insert xs n s)) (sym e)
+          ∙ also_put xs k below_it within_it (λ h. absurd (omega arith))

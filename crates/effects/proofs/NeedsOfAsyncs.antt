@@ -97,7 +97,7 @@ not_written ws (y ∷ xs) s m k = by_test (among ws y.section) refl m (λ n. not
         → (Member s (others_by ws xs) → ⊥) → ⊥
     by_test true e n deeper = deeper n
     by_test false e n deeper = elim (from_also y.section s (others_by ws xs) n) [
-      | inl f ↦ true≢false (sym (member_any (nat_eq y.section) ws s k (eq-eqb y.section s (sym f))) ∙ e)
+      | inl f ↦ true≢false (sym (member_any (nat_eq y.section) ws k (eq-eqb y.section s (sym f))) ∙ e)
       | inr o ↦ deeper o
     ]
 

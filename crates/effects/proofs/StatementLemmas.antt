@@ -119,8 +119,9 @@ unfolding keys_of
 keys_joined xs ys = map-append (λ (x : ℕ × Code). x.0) xs ys
 
 mutual
-  keys_inside : (s : Code) → keys_of (listed_inside s) ≡ labels_inside s
   unfolding keys_of
+
+  keys_inside : (s : Code) → keys_of (listed_inside s) ≡ labels_inside s
   keys_inside (Do s) = refl
   keys_inside (If t b c) = keys_joined (listed b) (listed c) ∙ ap (λ ks. ks ++ keys_of (listed c)) (keys_in b) ∙ ap (λ ks. labels_of b ++ ks) (keys_in c)
   keys_inside (While t b) = keys_in b
@@ -130,7 +131,6 @@ mutual
   keys_inside (Finish b) = keys_in b
 
   keys_in : (b : Codes) → keys_of (listed b) ≡ labels_of b
-  unfolding keys_of
   keys_in End = refl
   keys_in (Then l s rest) = ap (λ ks. l ∷ ks) (keys_joined (listed_inside s) (listed rest)
       ∙ ap (λ ks. ks ++ keys_of (listed rest)) (keys_inside s) ∙ ap (λ ks. labels_inside s ++ ks) (keys_in rest))
@@ -251,18 +251,22 @@ pub record IsVisited (vs : List Visit) (l : ℕ) (s : Code) : Type 0 where
 visited_in_more : (xs ys : List Visit) (l : ℕ) (s : Code) → ((v : Visit) → Member v xs → Member v ys) → IsVisited xs l s → IsVisited ys l s
 visited_in_more xs ys l s more v = record { visit = v.visit; among = more v.visit v.among; label = v.label; code = v.code }
 
-pub is_visited : (w : Standing) (b : Codes) (l : ℕ) (s : Code) → Stands b l s → IsVisited (visits_in w b) l s
-is_visited w _ l s (Stands.here {rest = rest}) =
+visited_in_block : (w : Standing) (m : ℕ) (t : Code) {s : Code} {b : Codes} → Block s b
+    → ((u : Standing) → IsVisited (visits_in u b) m t) → IsVisited (visits_inside w s) m t
+visited_in_block w m t (Block.if_body {t = g} {b} {c}) h =
+    visited_in_more (visits_in w b) (visits_in w b ++ visits_in w c) m t (λ v a. in_left (visits_in w c) a) (h w)
+visited_in_block w m t (Block.if_other {t = g} {b} {c}) h =
+    visited_in_more (visits_in w c) (visits_in w b ++ visits_in w c) m t (λ v a. in_right (visits_in w b) a) (h w)
+visited_in_block w m t Block.while h = h w
+visited_in_block w m t Block.split h = h w
+visited_in_block w m t Block.async h = h (in_async w)
+visited_in_block w m t Block.finish h = h (in_finish w)
+
+pub is_visited : (w : Standing) {b : Codes} {m : ℕ} {t : Code} → Stands b m t → IsVisited (visits_in w b) m t
+is_visited w (Stands.here {l} {s} {rest}) =
     record { visit = record { standing = w; label = l; code = s }; among = first; label = refl; code = refl }
-is_visited w _ m t (Stands.inside {l} {m} {s} {t} {b} {rest} k h) =
-    visited_in_more (visits_inside w s) (visits_in w (Then l s rest)) m t (λ v a. next (in_left (visits_in w rest) a)) (by k)
-  where
-    by : Block s b → IsVisited (visits_inside w s) m t
-    by (Block.if_body {c = c}) = visited_in_more (visits_in w b) (visits_in w b ++ visits_in w c) m t (λ v a. in_left (visits_in w c) a) (is_visited w b m t h)
-    by (Block.if_other {b = d}) = visited_in_more (visits_in w b) (visits_in w d ++ visits_in w b) m t (λ v a. in_right (visits_in w d) a) (is_visited w b m t h)
-    by Block.while = is_visited w b m t h
-    by Block.split = is_visited w b m t h
-    by Block.async = is_visited (in_async w) b m t h
-    by Block.finish = is_visited (in_finish w) b m t h
-is_visited w _ m t (Stands.later {l} {m} {s} {t} {rest} h) =
-    visited_in_more (visits_in w rest) (visits_in w (Then l s rest)) m t (λ v a. next (in_right (visits_inside w s) a)) (is_visited w rest m t h)
+is_visited w (Stands.inside {l} {m} {s} {t} {b} {rest} k h) =
+    visited_in_more (visits_inside w s) (visits_in w (Then l s rest)) m t (λ v a. next (in_left (visits_in w rest) a))
+    (visited_in_block w m t k (λ u. is_visited u h))
+is_visited w (Stands.later {l} {m} {s} {t} {rest} h) =
+    visited_in_more (visits_in w rest) (visits_in w (Then l s rest)) m t (λ v a. next (in_right (visits_inside w s) a)) (is_visited w h)

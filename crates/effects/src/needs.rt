@@ -82,11 +82,17 @@ fn add(section: SectionId, into: &mut Vec<SectionId>) -> Result<(), AllocError>
         ≡ also section.number (map section_of into.old.items)) }
 {
     let place = place_of(into, section);
-    if place < into.len() && into[place].number == section.number {
-        return Ok(());
+    match into.get(place) {
+        Some(other) if other.number == section.number => Ok(()),
+        Some(_) => {
+            into.insert(place, section)?;
+            Ok(())
+        }
+        None => {
+            into.push(section)?;
+            Ok(())
+        }
     }
-    into.insert(place, section)?;
-    Ok(())
 }
 
 /// How many sections in front are numbered below another.

@@ -8,4 +8,4 @@ use Rattle.effects.proofs.asyncs.keep_block.Given as goal
 -- what the asyncs so far need is kept
 abbrev pub invariant-loop-visit : goal.invariant-loop-visit
 invariant-loop-visit l =
-    Keeps (program l.code) (IsSeen (map visit (take l.visit-index l.visits))) (needs_at l.initial.kept) (needs_at l.kept)
+    Keeps (program l.code) (IsSeen (map visit (take l.visit-index l.visit-items))) (needs_at l.initial.kept) (needs_at l.kept)
