@@ -204,7 +204,7 @@ module _ (s : SectionId) where
       put_between x lt at apart = also_put xs k below_it within_it (λ h.
           let e : (slice_index_or xs k s).number ≡ x.number = ap (λ (v : SectionId). v.number) (read_too x lt at) in
           let le : s.number ≤ (slice_index_or xs k s).number =
-              subst (λ (vs : List SectionId). s.number ≤ (slice_index_or vs k s).number) same behind in
+          subst (λ (vs : List SectionId). s.number ≤ (slice_index_or vs k s).number) same behind in
           omega (arith, e, le, apart))
 
       pub put_behind_all : length zs ≤ k → map section (xs ++ s ∷ []) ≡ also s.number (map section xs)

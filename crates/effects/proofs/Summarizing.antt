@@ -40,9 +40,9 @@ pub are_of_procedures : (p : Program) → IsSound p → (table : List Summary) (
     → ((f : ℕ) (r : Row) (l : ℕ) → HasIn table f r l ↔ Comes q f r l) → length table ≡ length (numbered q) → AreOfProcedures p table
 are_of_procedures p sound table q same exact number =
     let exact_here : (f : ℕ) (r : Row) (l : ℕ) → HasIn table f r l ↔ Comes p f r l =
-        subst (λ (q : Program). (f : ℕ) (r : Row) (l : ℕ) → HasIn table f r l ↔ Comes q f r l) same exact in
+    subst (λ (q : Program). (f : ℕ) (r : Row) (l : ℕ) → HasIn table f r l ↔ Comes q f r l) same exact in
     let number_here : length table ≡ length p.procedures + 1 =
-        number ∙ ap (λ (q : Program). length (numbered q)) same ∙ length-append p.procedures (p.main ∷ []) in
+    number ∙ ap (λ (q : Program). length (numbered q)) same ∙ length-append p.procedures (p.main ∷ []) in
     record {
       number = number_here;
       each = summary_of p (λ f r l. comes_sound p sound) (λ f r l. comes_complete p sound f r l) table exact_here number_here;

@@ -9,7 +9,6 @@ pub mod closing;
 pub mod doings;
 pub mod firsts;
 pub mod flows;
-pub mod indexed;
 pub mod label_set;
 pub mod laws;
 pub mod needs;
