@@ -28,13 +28,7 @@ use Rattle.effects.specs.declared.visits.Visit.{Visit as rVisit}
 use Rattle.effects.proofs.Members.{false_true, in_parts}
 use Rattle.effects.proofs.NeedsOfAsyncs.{needs_of_firsts}
 use Rattle.effects.proofs.StableRounds.{summaries_derived, summaries_stable}
-use Rattle.effects.proofs.StatementLemmas.{IsVisited, first_or_next, one_statement}
-
-pub of_one : {A : Type 0} {x y : A} → Member x (y ∷ []) → x ≡ y
-of_one {A} {x} {y} m = elim (first_or_next m) [ inl e ↦ e | inr n ↦ none n ]
-  where
-    none : Member x [] → x ≡ y
-    none n = elim n [ ]
+use Rattle.effects.proofs.StatementLemmas.{IsVisited, of_one, one_statement}
 
 body_of_async : Codes → Code → Codes
 body_of_async d (Async b) = b

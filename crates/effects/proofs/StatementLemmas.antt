@@ -19,6 +19,12 @@ pub first_or_next : {A : Type 0} {x y : A} {xs : List A} → Member x (y ∷ xs)
 first_or_next first = inl refl
 first_or_next (next m) = inr m
 
+pub of_one : {A : Type 0} {x y : A} → Member x (y ∷ []) → x ≡ y
+of_one {A} {x} {y} m = elim (first_or_next m) [ inl e ↦ e | inr n ↦ none n ]
+  where
+    none : Member x [] → x ≡ y
+    none n = elim n [ ]
+
 -- ---- statements inside one
 pub stands_through : {c b : Codes} {l m : ℕ} {s t : Code} → Stands c l s → Block s b → Stands b m t → Stands c m t
 stands_through Stands.here k h = Stands.inside k h
