@@ -2,7 +2,7 @@
 
 ghost use Rattle.std.specs.Prelude.{◌≡◌, ℕ, IfOk, OnOk};
 ghost use Rattle.types.specs.Code.{Async};
-ghost use Rattle.types.specs.Translation.{code as code_of, codes as codes_of};
+ghost use Rattle.types.specs.Translation.{code as plain_code, codes as codes_of};
 ghost use Rattle.types.specs.Translation.{program as program_of};
 ghost use Rattle.effects.specs.AsyncNeeds.{IsNeedAt, Keeps, needs_at};
 ghost use Rattle.effects.specs.Sound.{IsSound};
@@ -70,9 +70,9 @@ fn keep(
     requires sound { IsSound (program_of code.now) }
     requires summaries { AreOfProcedures (program_of code.now) table.now }
     requires there { HasStatement (program_of code.now) statement.now.label
-        (code_of statement.now.kind) }
+        (plain_code statement.now.kind) }
     ensures { OnOk result (Keeps (program_of code.now)
-        (λ l b. (statement.now.label ≡ l) × (code_of statement.now.kind ≡ Async b))
+        (λ l b. (statement.now.label ≡ l) × (plain_code statement.now.kind ≡ Async b))
         (needs_at kept.old) (needs_at kept.new)) }
 {
     let StmtKind::Async { body } = &statement.kind else {

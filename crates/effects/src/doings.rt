@@ -3,7 +3,7 @@
 ghost use Rattle.std.specs.Prelude.{◌≡◌, ◌<◌, OnOk, length, map};
 ghost use Rattle.sections.specs.Translation.{section as section_of};
 ghost use Rattle.types.specs.Run.{procedure_of};
-ghost use Rattle.types.specs.Translation.{code as code_of, codes as codes_of};
+ghost use Rattle.types.specs.Translation.{code as plain_code, codes as codes_of};
 ghost use Rattle.types.specs.Translation.{program as program_of};
 ghost use Rattle.effects.specs.Effects.{accesses, All, AllOf, past_call};
 ghost use Rattle.effects.specs.Firsts.{AddsFirsts, kept_in};
@@ -53,9 +53,9 @@ fn add_statement(
     requires sound { IsSound (program_of code.now) }
     requires summaries { AreOfProcedures (program_of code.now) table.now }
     requires there { HasStatement (program_of code.now) statement.now.label
-        (code_of statement.now.kind) }
+        (plain_code statement.now.kind) }
     ensures { OnOk result (AddsFirsts (AllOf (program_of code.now) accesses statement.now.label
-        (code_of statement.now.kind)) (kept_in into.old) (kept_in into.new)) }
+        (plain_code statement.now.kind)) (kept_in into.old) (kept_in into.new)) }
 {
     let own = own_accesses(alloc, statement.label, &statement.kind)?;
     into.add_all(&own)?;
@@ -74,9 +74,9 @@ fn add_inside(
     requires sound { IsSound (program_of code.now) }
     requires summaries { AreOfProcedures (program_of code.now) table.now }
     requires there { HasStatement (program_of code.now) statement.now.label
-        (code_of statement.now.kind) }
+        (plain_code statement.now.kind) }
     ensures { OnOk result (AddsFirsts
-        (AllInside (program_of code.now) accesses (code_of statement.now.kind))
+        (AllInside (program_of code.now) accesses (plain_code statement.now.kind))
         (kept_in into.old) (kept_in into.new)) }
 {
     match &statement.kind {
