@@ -4,6 +4,7 @@ mod budgets;
 mod checks;
 mod command_lines;
 mod drawn_numbers;
+mod effects_of_programs;
 mod held_places;
 mod inputs;
 mod limits;

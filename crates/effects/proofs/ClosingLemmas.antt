@@ -89,7 +89,7 @@ brings_reached flows before table x m n reached f r l b =
 pub got : {X : Type 0} (xs ys : List X) (s : ℕ) (x : X) → xs ≡ ys → s < length xs → x ≡ get_or xs s x → slice_get ys s ≡ Some x
 got {X} xs ys s x e h at = ap (λ (zs : List X). slice_get zs s) (sym e) ∙ slice_get_read xs (length xs) s x refl h at
 
-got_member : {X : Type 0} (xs : List X) (k : ℕ) (x : X) → slice_get xs k ≡ Some x → Member x xs
+pub got_member : {X : Type 0} (xs : List X) (k : ℕ) (x : X) → slice_get xs k ≡ Some x → Member x xs
 got_member [] k x e = cc
 got_member {X} (y ∷ ys) zero x e = let same : y ≡ x = cc in subst (λ z. Member z (y ∷ ys)) same first
 got_member (y ∷ ys) (suc k) x e = next (got_member ys k x e)

@@ -1,6 +1,7 @@
 -- What is reached from what the statements do by themselves is what comes.
-use Rattle.std.proofs.Common.{◌≡◌, ℕ, List, length, sym, subst, arith}
+use Rattle.std.proofs.Common.{◌≡◌, ℕ, List, length, ◌<◌, [], ◌∷◌, ◌++◌, get_or, inl, inr, ◌∙◌, sym, subst, arith}
 use Rattle.std.specs.Prelude.{◌↔◌}
+use Rattle.std.proofs.lemmas.Option.{slice_get-get_or}
 use Rattle.sections.specs.Member.{Member}
 use Rattle.types.specs.Code.{Program}
 use Rattle.effects.specs.Closing.{HasIn, Reached, start, flow}
@@ -9,20 +10,38 @@ use Rattle.effects.specs.Outlines.{StartsAt, flows_in_all, numbered}
 use Rattle.effects.specs.declared.flows.Flow.{Flow}
 use Rattle.effects.specs.declared.summary.Row.{Row}
 use Rattle.effects.specs.declared.summary.Summary.{Summary}
+use Rattle.effects.proofs.StatementLemmas.{of_one}
+use Rattle.effects.proofs.ClosingLemmas.{got_member}
+use Rattle.effects.proofs.Members.{in_left, in_parts}
 
 module _ (p : Program) (flows : List Flow) (table : List Summary) (rows : (f : ℕ) (r : Row) (l : ℕ) → HasIn table f r l ↔ StartsAt (numbered p) f r l)
-    (all : flows ≡ flows_in_all (length p.procedures) 0 (numbered p)) (number : length table ≡ length (numbered p)) where
+    (all : (x : Flow) → Member x flows ↔ Member x (flows_in_all (length p.procedures) 0 (numbered p)))
+    (number : length table ≡ length (numbered p)) where
   reached_comes : {f : ℕ} {r : Row} {l : ℕ} → Reached flows table f r l → Comes p f r l
   reached_comes (start {f = f} {r = r} {l = l} h) = Comes.start ((rows f r l).0 h)
   reached_comes (flow x m there h) =
-      Comes.flow x (subst (λ (xs : List Flow). Member x xs) all m) (omega (arith, there, number)) (reached_comes h)
+      Comes.flow x ((all x).0 m) (omega (arith, there, number)) (reached_comes h)
 
   comes_reached : {f : ℕ} {r : Row} {l : ℕ} → Comes p f r l → Reached flows table f r l
   comes_reached (Comes.start {f = f} {r = r} {l = l} h) = start ((rows f r l).1 h)
   comes_reached (Comes.flow x m there h) =
-      flow x (subst (λ (xs : List Flow). Member x xs) (sym all) m) (omega (arith, there, number)) (comes_reached h)
+      flow x ((all x).1 m) (omega (arith, there, number)) (comes_reached h)
 
   pub comes_exactly : (closed : List Summary)
       → ((f : ℕ) (r : Row) (l : ℕ) → HasIn closed f r l ↔ Reached flows table f r l) → (f : ℕ) (r : Row) (l : ℕ)
       → HasIn closed f r l ↔ Comes p f r l
   comes_exactly closed exact f r l = (λ h. reached_comes ((exact f r l).0 h), λ h. (exact f r l).1 (comes_reached h))
+
+-- what stands in a list, put behind it once more
+pub pushed_again : (xs : List Flow) (k : ℕ) (v : Flow) → k < length xs → v ≡ get_or xs k v → (x : Flow)
+    → Member x (xs ++ v ∷ []) ↔ Member x xs
+pushed_again xs k v h at x = (
+  λ m. elim (in_parts xs m) [
+    | inl a ↦ a
+    | inr b ↦ subst (λ (y : Flow). Member y xs) (at_last ∙ sym (of_one b)) (got_member xs k (get_or xs k v) (slice_get-get_or xs k v h))
+  ],
+  λ m. in_left (v ∷ []) m,
+)
+  where
+    at_last : get_or xs k v ≡ v
+    at_last = sym at

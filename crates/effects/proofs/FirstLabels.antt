@@ -24,7 +24,7 @@ pub as_early_itself : (x : Access) (xs : List Access) → Member x xs → HasAsE
 as_early_itself x xs m = record { item = x; stands = m; section = refl; write = refl; label = omega arith }
 
 -- what is as early as something as early
-as_early_through : (x : Access) (xs ys : List Access) → HasAsEarly ys x
+pub as_early_through : (x : Access) (xs ys : List Access) → HasAsEarly ys x
     → ((y : Access) → Member y ys → HasAsEarly xs y) → HasAsEarly xs x
 as_early_through x xs ys h go =
     let k = go h.item h.stands in

@@ -1,9 +1,11 @@
 pub mod AccessesInScope
 pub mod Appending
+pub mod AsyncLemmas
 pub mod ClosingLemmas
 pub mod ComesSound
 pub mod ComesComplete
 pub mod ComingLemmas
+pub mod DoingLemmas
 pub mod EnvironmentsFit
 pub mod FirstLabels
 pub mod Footprints
@@ -12,6 +14,7 @@ pub mod LabelSetLemmas
 pub mod LeastRows
 pub mod Members
 pub mod Missing
+pub mod NeedsListed
 pub mod NeedsOfAsyncs
 pub mod OutlineLemmas
 pub mod OwnAccesses
@@ -20,6 +23,8 @@ pub mod RootLemmas
 pub mod Stability
 pub mod StableRounds
 pub mod StableTables
+pub mod StatementLemmas
+pub mod Statements
 pub mod Summarizing
 pub mod UseLemmas
 pub mod VisitLemmas

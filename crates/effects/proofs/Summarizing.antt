@@ -1,5 +1,6 @@
 -- A table that has exactly what comes into its rows is the summary of each procedure.
-use Rattle.std.proofs.Common.{◌≡◌, ℕ, List, length, ◌<◌, ◌+◌, arith}
+use Rattle.std.proofs.Common.{◌≡◌, ◌∙◌, ◌∷◌, [], ℕ, List, length, ◌<◌, ◌+◌, ap, subst, arith}
+use Rattle.std.proofs.lemmas.List.{length-append}
 use Rattle.std.specs.Prelude.{◌↔◌, Some, slice_get}
 use Rattle.std.proofs.lemmas.Option.{slice_get_within}
 use Rattle.types.specs.Code.{Program}
@@ -7,11 +8,15 @@ use Rattle.effects.specs.Closing.{HasIn}
 use Rattle.effects.specs.Coming.{Comes}
 use Rattle.effects.specs.Derived.{Derived}
 use Rattle.effects.specs.SummaryRows.{HasRow}
-use Rattle.effects.specs.Summarized.{body_of, IsSummary}
+use Rattle.effects.specs.Outlines.{numbered}
+use Rattle.effects.specs.Sound.{IsSound}
+use Rattle.effects.specs.Summarized.{AreOfProcedures, body_of, IsSummary}
 use Rattle.effects.specs.declared.summary.Row.{Row}
 use Rattle.effects.specs.declared.summary.Row.TheVariants.{All, Pending, Labels, PendingLabels}
 use Rattle.effects.specs.declared.summary.Summary.{Summary}
 use Rattle.effects.proofs.ClosingLemmas.{has_some}
+use Rattle.effects.proofs.ComesComplete.{comes_complete}
+use Rattle.effects.proofs.ComesSound.{comes_sound}
 
 module _ (p : Program)
     (comes_sound : (f : ℕ) (r : Row) (l : ℕ) → Comes p f r l → Derived p (body_of p f) r l)
@@ -30,3 +35,15 @@ module _ (p : Program)
         labels = λ l. row Labels l;
         pending_labels = λ l. row PendingLabels l;
       }
+
+pub are_of_procedures : (p : Program) → IsSound p → (table : List Summary) (q : Program) → q ≡ p
+    → ((f : ℕ) (r : Row) (l : ℕ) → HasIn table f r l ↔ Comes q f r l) → length table ≡ length (numbered q) → AreOfProcedures p table
+are_of_procedures p sound table q same exact number =
+    let exact_here : (f : ℕ) (r : Row) (l : ℕ) → HasIn table f r l ↔ Comes p f r l =
+    subst (λ (q : Program). (f : ℕ) (r : Row) (l : ℕ) → HasIn table f r l ↔ Comes q f r l) same exact in
+    let number_here : length table ≡ length p.procedures + 1 =
+    number ∙ ap (λ (q : Program). length (numbered q)) same ∙ length-append p.procedures (p.main ∷ []) in
+    record {
+      number = number_here;
+      each = summary_of p (λ f r l. comes_sound p sound) (λ f r l. comes_complete p sound f r l) table exact_here number_here;
+    }

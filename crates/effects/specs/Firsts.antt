@@ -1,5 +1,5 @@
 -- Accesses kept by section and kind, each with the first label at which it is made.
-use Rattle.std.specs.Prelude.{ℕ, ◌≡◌, ◌≤◌, ◌<◌, Bool, List, map, length, slice_index_or}
+use Rattle.std.specs.Prelude.{ℕ, ◌≡◌, ◌⊎◌, ◌≤◌, ◌<◌, Bool, List, map, length, slice_index_or}
 use Rattle.sections.specs.Member.{Member}
 use Rattle.effects.specs.Accesses.{Access}
 use Rattle.effects.specs.Translation.{access}
@@ -22,6 +22,10 @@ pub record AreFirsts (those : Access → Type 0) (xs : List Access) : Type 0 whe
 -- the same of the accesses in a list
 abbrev pub AreFirstsIn : (all xs : List Access) → Type 0
 AreFirstsIn all xs = AreFirsts (λ x. Member x all) xs
+
+-- what is kept afterwards are the firsts of what was kept and of more accesses
+abbrev pub AddsFirsts : (more : Access → Type 0) → (before after : List Access) → Type 0
+AddsFirsts more before after = AreFirsts (λ x. more x ⊎ Member x before) after
 
 -- the accesses that are kept
 abbrev pub kept_in : Firsts → List Access

@@ -1,5 +1,6 @@
 pub mod AccessSets
 pub mod Accesses
+pub mod AsyncNeeds
 pub mod Closing
 pub mod Coming
 pub mod Derived
@@ -19,6 +20,7 @@ pub mod Rounds
 pub mod Rows
 pub mod Sound
 pub mod Starts
+pub mod Statements
 pub mod Summarized
 pub mod SummaryRows
 pub mod Tables

@@ -1,5 +1,6 @@
 -- What an async's body needs: the sections that it may write, and those that it may only read.
-use Rattle.std.specs.Prelude.{ℕ, ◌≡◌, List, [], ◌∷◌, ◌++◌, Bool, true, nat_eq, if◌then◌else◌}
+use Rattle.std.specs.Prelude.{ℕ, ◌≡◌, List, [], ◌∷◌, ◌++◌, Bool, true, nat_eq, nat_lt}
+use Rattle.std.specs.Prelude.{if◌then◌else◌}
 use Rattle.std.specs.List.{list_any}
 use Rattle.sections.specs.Member.{Member}
 use Rattle.types.specs.Code.{Code, Do, If, While, Split, Call, Async, Finish, Codes, End, Then}
@@ -9,7 +10,7 @@ use Rattle.effects.specs.Accesses.{Access}
 use Rattle.effects.specs.Effects.{accesses, All}
 use Rattle.effects.specs.Tables.{Table, all_in}
 
--- sections by their names in scope at the async
+-- sections by their names in scope at the async, each once, ascending
 pub record Needs : Type 0 where
   pub writes : List ℕ
   pub reads : List ℕ
@@ -61,9 +62,11 @@ module _ (p : Program) (needs : Codes → Needs) where
 abbrev pub among : List ℕ → ℕ → Bool
 among ss s = list_any (nat_eq s) ss
 
--- these and another, each once
+-- these, which ascend, and another in its place, each once
 abbrev pub also : ℕ → List ℕ → List ℕ
-also s ss = if among ss s then ss else s ∷ ss
+also s [] = s ∷ []
+also s (t ∷ ss) =
+    if nat_lt s t then s ∷ t ∷ ss else (if nat_eq s t then t ∷ ss else t ∷ also s ss)
 
 -- the sections that accesses write
 abbrev pub written_by : List Access → List ℕ

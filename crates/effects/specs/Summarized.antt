@@ -7,6 +7,7 @@ use Rattle.effects.specs.Accesses.{Access}
 use Rattle.effects.specs.Effects.{accesses, labels as by_label, All, Pending}
 use Rattle.effects.specs.LabelSets.{HasLabel}
 use Rattle.effects.specs.AccessSets.{HasAccess}
+use Rattle.effects.specs.AsyncNeeds.{IsNeedAt, needs_at}
 use Rattle.effects.specs.declared.summary.Summary.{Summary}
 use Rattle.effects.specs.declared.summaries.Summaries.{Summaries}
 
@@ -25,8 +26,12 @@ pub record IsSummary (p : Program) (b : Codes) (s : Summary) : Type 0 where
   pub labels : (l : ℕ) → HasLabel s.labels l ↔ All p by_label b l
   pub pending_labels : (l : ℕ) → HasLabel s.pending_labels l ↔ Pending p by_label b l
 
--- there is a summary of each procedure, and of `main`
+-- a list has the summary of each procedure, and of `main`
+pub record AreOfProcedures (p : Program) (table : List Summary) : Type 0 where
+  pub number : length table ≡ length p.procedures + 1
+  pub each : (f : ℕ) (x : Summary) → slice_get table f ≡ Some x → IsSummary p (body_of p f) x
+
+-- there is a summary of each procedure, and what each async needs is there
 pub record AreSummaries (p : Program) (s : Summaries) : Type 0 where
-  pub number : length (summaries_of s) ≡ length p.procedures + 1
-  pub procedures : (f : ℕ) (x : Summary) → slice_get (summaries_of s) f ≡ Some x
-      → IsSummary p (body_of p f) x
+  pub procedures : AreOfProcedures p (summaries_of s)
+  pub asyncs : (l : ℕ) → IsNeedAt p l (needs_at s.asyncs l)

@@ -4,12 +4,14 @@
 
 pub mod access;
 pub mod accesses;
+pub mod asyncs;
 pub mod closing;
+pub mod doings;
 pub mod firsts;
 pub mod flows;
-pub mod indexed;
 pub mod label_set;
 pub mod laws;
+pub mod needs;
 pub mod outlines;
 pub mod own;
 pub mod roots;

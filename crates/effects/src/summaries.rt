@@ -1,36 +1,47 @@
-//! What each procedure of a program may do.
+//! What each procedure of a program may do, and what each async needs.
 
 ghost use Rattle.std.specs.Prelude.{◌≡◌, ◌<◌, length, slice_get, Some, IfOk};
 ghost use Rattle.types.specs.Typed.{code_of};
 ghost use Rattle.types.specs.Code.{Program};
 ghost use Rattle.effects.specs.Summarized.{AreSummaries};
 
+use crate::asyncs::needs_of_asyncs;
 use crate::laws::typed_programs_are_sound;
+use crate::needs::Needs;
 use crate::summary::Summary;
 use crate::tables::table;
 use std::alloc::{AllocError, Global};
+use std::collections::BTreeMap;
+use types::code::Label;
 use types::ids::ProcedureId;
 use types::typed::Typed;
 
-/// The summary of each procedure. `summarize` makes them.
+/// The summary of each procedure, and what each async needs. `summarize` makes them.
 #[derive(Drop)]
 pub struct Summaries {
     /// Those of the procedures in the order of the text, and of `main` behind them.
     procedures: Vec<Summary>,
+    /// What the body of each async needs, by the async's label.
+    asyncs: BTreeMap<Label, Needs>,
 }
 
-/// What each procedure may do and leaves pending.
+/// What each procedure may do and leaves pending, and what each async needs.
 pub fn summarize(alloc: Global, typed: &Typed) -> Result<Summaries, AllocError>
     ensures exact { IfOk result (AreSummaries (code_of typed.now)) }
 {
     typed_programs_are_sound(typed);
     let procedures = table(alloc, typed.code())?;
-    Ok(Summaries { procedures })
+    let asyncs = needs_of_asyncs(alloc, typed.code(), &procedures)?;
+    Ok(Summaries { procedures, asyncs })
 }
 
 impl Summaries {
     ghost use Rattle.effects.specs.Summarized.{summaries_of, body_of};
     ghost use Rattle.effects.specs.Summarized.{IsSummary};
+    ghost use Rattle.std.specs.Prelude.{option_map};
+    ghost use Rattle.std.specs.Option.{option_copied};
+    ghost use Rattle.effects.specs.AsyncNeeds.{IsNeedAt};
+    ghost use Rattle.effects.specs.Translation.{needs as needs_in};
 
     /// That of a procedure; `main` is numbered behind the others.
     pub fn of(&self, procedure: ProcedureId) -> &Summary
@@ -40,5 +51,14 @@ impl Summaries {
             → IsSummary p (body_of p procedure.number) result.now }
     {
         &self.procedures[procedure.number]
+    }
+
+    /// What the body of an async needs, in the names in scope at the async. None for the label of
+    /// another statement, or of none.
+    pub fn needs(&self, label: Label) -> Option<&Needs>
+        ensures { (p : Program) → AreSummaries p self.now
+            → IsNeedAt p label (option_map needs_in (option_copied result)) }
+    {
+        self.asyncs.get(&label)
     }
 }

@@ -1,13 +1,16 @@
 //! The summary of each procedure of a program.
 
-ghost use Rattle.std.specs.Prelude.{◌≡◌, ◌↔◌, ℕ, IfOk, length};
+ghost use Rattle.std.specs.Prelude.{◌≡◌, ◌↔◌, ℕ, IfOk, OnOk, length};
+ghost use Rattle.sections.specs.Member.{Member};
 ghost use Rattle.types.specs.Translation.{program as program_of};
 ghost use Rattle.effects.specs.Closing.{HasIn};
 ghost use Rattle.effects.specs.Coming.{Comes};
 ghost use Rattle.effects.specs.Outlines.{numbered};
+ghost use Rattle.effects.specs.declared.flows.Flow.{Flow as TheFlow};
 ghost use Rattle.effects.specs.declared.summary.Row.{Row as TheRow};
 
 use crate::closing::close;
+use crate::flows::Flow;
 use crate::outlines::outlines;
 use crate::summary::Summary;
 use std::alloc::{AllocError, Global};
@@ -22,6 +25,20 @@ pub fn table(alloc: Global, code: &Program) -> Result<Vec<Summary>, AllocError>
 {
     let mut flows = Vec::new(alloc);
     let mut table = outlines(alloc, code, &mut flows)?;
+    add_reversed(&mut flows)?;
     close(alloc, &flows, &mut table)?;
     Ok(table)
+}
+
+/// Adds the flows once more, the last one first. So one round brings labels along a chain of calls,
+/// whether procedures stand before those that call them or behind.
+fn add_reversed(flows: &mut Vec<Flow>) -> Result<(), AllocError>
+    ensures { OnOk result ((x : TheFlow)
+        → Member x flows.new.items ↔ Member x flows.old.items) }
+{
+    for place in (0..flows.len()).rev() {
+        let flow = flows[place];
+        flows.push(flow)?;
+    }
+    Ok(())
 }

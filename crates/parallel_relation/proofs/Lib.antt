@@ -9,6 +9,5 @@ pub mod Programs
 pub mod RowsLemmas
 pub mod SpreadLemmas
 pub mod StatementParts
-pub mod Statements
 pub mod Sums
 pub mod WalkLemmas

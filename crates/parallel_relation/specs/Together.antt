@@ -1,18 +1,10 @@
 -- Which accesses, and which labels, may run together.
 use Rattle.std.specs.Prelude.{ℕ, ◌⊎◌}
-use Rattle.types.specs.Code.{Number, Truth, Code, If, While, Split, Async, Finish, Codes, Then}
-use Rattle.types.specs.Code.{Program}
+use Rattle.types.specs.Code.{Truth, Code, While, Codes, Then, Program}
 use Rattle.types.specs.Run.{procedure_of}
 use Rattle.effects.specs.Effects.{Subject, labels, AllOf, All, PendingOf}
-
--- the blocks that stand inside a statement; what a call runs is judged in its procedure
-pub data Block : Code → Codes → Type 0 where
-  if_body : {t : Truth} {b c : Codes} → Block (If t b c) b
-  if_other : {t : Truth} {b c : Codes} → Block (If t b c) c
-  while : {t : Truth} {b : Codes} → Block (While t b) b
-  split : {s : ℕ} {e : Number} {l r : ℕ} {b : Codes} → Block (Split s e l r b) b
-  async : {b : Codes} → Block (Async b) b
-  finish : {b : Codes} → Block (Finish b) b
+-- the blocks of a statement are defined with its effects
+pub use Rattle.effects.specs.Statements.{Block}
 
 module _ (p : Program) (subject : Subject) where
   -- x may be pending where y is done: at a later statement of a list, or at a later turn of a loop

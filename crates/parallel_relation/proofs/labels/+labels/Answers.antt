@@ -9,7 +9,7 @@ use Rattle.effects.specs.LabelSets.{HasLabel}
 use Rattle.parallel_relation.specs.Around.{Gains, both, none}
 use Rattle.parallel_relation.proofs.LabelsLemmas.{gains_statement, one_less_left, none_is_left}
 use Rattle.parallel_relation.proofs.StatementParts.{Done}
-use Rattle.parallel_relation.proofs.Statements.{size, size_in, codes_at, is_If, is_While, is_Split, is_Async, is_Finish}
+use Rattle.effects.proofs.Statements.{size, size_in, codes_at, is_If, is_While, is_Split, is_Async, is_Finish}
 use Rattle.parallel_relation.proofs.Sums.{gains_union, gains_joined, gains_nothing, on_ok}
 use Rattle.parallel_relation.proofs.labels.+labels.Goals as goal
 

@@ -3,7 +3,7 @@ use Rattle.types.specs.Translation.{program, code, codes}
 use Rattle.effects.specs.Effects.{labels, All}
 use Rattle.effects.specs.LabelSets.{HasLabel}
 use Rattle.parallel_relation.specs.Around.{Gains, both}
-use Rattle.parallel_relation.proofs.Statements.{size, size_in}
+use Rattle.effects.proofs.Statements.{size, size_in}
 use Rattle.parallel_relation.proofs.labels.+labels.Given as goal
 
 -- with those of the statements that are left, all are there

@@ -8,7 +8,7 @@ use Rattle.effects.specs.LabelSets.{HasLabel}
 use Rattle.parallel_relation.specs.Around.{Adds, Gains, none, one, BlockMeets, InsideMeets}
 use Rattle.parallel_relation.specs.Found.{FoundMeets}
 use Rattle.parallel_relation.proofs.LabelsLemmas.{nothing_behind, one_more}
-use Rattle.parallel_relation.proofs.Statements.{size, size_in, codes_before, smaller, size-drop, is_If, is_While, is_Split, is_Async, is_Finish}
+use Rattle.effects.proofs.Statements.{size, size_in, codes_before, smaller, size-drop, is_If, is_While, is_Split, is_Async, is_Finish}
 use Rattle.parallel_relation.proofs.Sums.{adds_nothing, adds_joined, on_ok}
 use Rattle.parallel_relation.proofs.WalkLemmas.{gains_copied, no_block, adds_inside, adds_while, adds_async, adds_finish, adds_statement, adds_before}
 use Rattle.parallel_relation.proofs.walk.+walk.Goals as goal

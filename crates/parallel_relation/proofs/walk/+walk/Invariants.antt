@@ -4,7 +4,7 @@ use Rattle.effects.specs.Effects.{labels, All}
 use Rattle.effects.specs.LabelSets.{HasLabel}
 use Rattle.parallel_relation.specs.Around.{Adds, Gains, BlockMeets}
 use Rattle.parallel_relation.specs.Found.{FoundMeets}
-use Rattle.parallel_relation.proofs.Statements.{size, size_in}
+use Rattle.effects.proofs.Statements.{size, size_in}
 use Rattle.parallel_relation.proofs.walk.+walk.Given as goal
 
 -- the pairs of the statements behind are found

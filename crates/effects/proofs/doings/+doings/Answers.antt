@@ -1,0 +1,227 @@
+use Rattle.std.proofs.Common.{◌≡◌, ◌⊎◌, ◌<◌, ◌+◌, ◌-◌, ◌∙◌, ◌++◌, inl, inr, length, map, drop, refl, sym, ap, subst, arith}
+use Rattle.std.proofs.lemmas.List.{drop_all, length-map}
+use Rattle.sections.specs.Translation.{section}
+use Rattle.types.specs.Code.{Code, Codes, Call, If}
+use Rattle.types.specs.Run.{procedure_of}
+use Rattle.types.specs.Translation.{program, code, codes, truth, number}
+use Rattle.types.specs.declared.code.Stmt.{Stmt}
+use Rattle.effects.specs.Effects.{accesses, past_call, past_split, renamed, All}
+use Rattle.effects.specs.Firsts.{AddsFirsts, AreFirsts, AreFirstsIn, kept_in}
+use Rattle.effects.specs.Rows.{AllInside, Renamed}
+use Rattle.effects.specs.Statements.{Block}
+use Rattle.effects.specs.Translation.{access}
+use Rattle.effects.proofs.DoingLemmas.{adds_end, adds_firsts, adds_front, adds_then, adds_whole, firsts_added, on_ok}
+use Rattle.effects.proofs.FirstLabels.{firsts_of_firsts, firsts_renamed}
+use Rattle.effects.proofs.StatementLemmas.{is_call, part_at, part_inside}
+use Rattle.effects.proofs.Statements.{size, size_in, codes_before, smaller, size-drop, is_If, is_While, is_Split, is_Async, is_Finish}
+use Rattle.effects.proofs.doings.+doings.Goals as goal
+
+pub add_block-loop-place-init : goal.add_block-loop-place-init
+add_block-loop-place-init t c =
+    adds_end (program c.args.code.now) (codes (drop (length c.args.block.now) c.args.block.now)) (kept_in c.args.into.now)
+    (ap codes (drop_all (length c.args.block.now) c.args.block.now (omega arith)))
+
+pub add_block-add_statement-requires : goal.add_block-add_statement-requires
+add_block-add_statement-requires t c =
+    let p = program c.args.code.now in
+    let xs = c.args.block.now in
+    let k = c.loop-place.place in
+    let x = c.index-block-place.result in
+    let fewer = smaller xs k x c.loop-place-test.true c.loop-place.auto.place c.index-block-place.is in (
+      omega (arith, fewer, size-drop (k - 1) xs),
+      (
+        c.requires.sound,
+        (
+          c.requires.summaries,
+          part_at p xs (k - 1) x (omega arith) c.index-block-place.is c.requires.part,
+        ),
+      ),
+    )
+
+pub add_block-loop-place-preserved : goal.add_block-loop-place-preserved
+add_block-loop-place-preserved t c =
+    let p = program c.args.code.now in
+    let xs = c.args.block.now in
+    let k = c.loop-place.place in
+    let x = c.index-block-place.result in
+    let here = codes_before xs k x c.loop-place-test.true c.loop-place.auto.place c.index-block-place.is in
+    subst (λ (b : Codes). AddsFirsts (All p accesses b) (kept_in c.args.into.now) (kept_in c.add_statement.new.into)) (sym here)
+    (adds_front p x.label (code x.kind) (codes (drop k xs)) (kept_in c.args.into.now) (kept_in c.loop-place.into)
+    (kept_in c.add_statement.new.into) c.loop-place.invariant c.in_ok-add_statement.ensures)
+
+pub add_block-returns : goal.add_block-returns
+add_block-returns t c =
+    let first : c.loop-place.place ≡ 0 = omega arith in
+    subst (λ k. AddsFirsts (All (program c.args.code.now) accesses (codes (drop k c.args.block.now))) (kept_in c.args.into.now)
+    (kept_in c.loop-place.into)) first c.loop-place.invariant
+
+pub add_statement-returns : goal.add_statement-returns
+add_statement-returns t c =
+    let p = program c.args.code.now in
+    let l = c.args.statement.now.label in
+    let k = code c.args.statement.now.kind in
+    on_ok c.add_inside.result
+    (λ h. adds_whole p l k (map access c.deref.result.now) (kept_in c.args.into.now) (kept_in c.add_all.new.self)
+    (kept_in c.add_inside.new.into) (ap (map access) c.deref.ensures.value ∙ c.in_ok-own.ensures) c.in_ok-add_all.ensures h)
+    c.add_inside.ensures
+
+pub add_inside-add_block-requires : goal.add_inside-add_block-requires
+add_inside-add_block-requires t c =
+    let p = program c.args.code.now in
+    let is = is_If _ c.in-If.guard c.in-If.body c.in-If.other c.deref.result.now c.in-If.other.items c.in-If.is c.deref.ensures.value refl in (
+      omega (arith, ap size_in is),
+      (
+        c.requires.sound,
+        (
+          c.requires.summaries,
+          part_inside p c.args.statement.now.label (code c.args.statement.now.kind) _ _ c.requires.there is Block.if_body,
+        ),
+      ),
+    )
+
+pub add_inside-add_block-requires-in-If : goal.add_inside-add_block-requires-in-If
+add_inside-add_block-requires-in-If t c =
+    let p = program c.args.code.now in
+    let is = is_If _ c.in-If.guard c.in-If.body c.in-If.other c.in-If.body.items c.deref-in-If.result.now c.in-If.is refl c.deref-in-If.ensures.value in (
+      omega (arith, ap size_in is),
+      (
+        c.requires.sound,
+        (
+          c.requires.summaries,
+          part_inside p c.args.statement.now.label (code c.args.statement.now.kind) _ _ c.requires.there is Block.if_other,
+        ),
+      ),
+    )
+
+pub add_inside-add_block-requires-in-While : goal.add_inside-add_block-requires-in-While
+add_inside-add_block-requires-in-While t c =
+    let p = program c.args.code.now in
+    let is = is_While _ c.in-While.guard c.in-While.body c.deref-in-While.result.now c.in-While.is c.deref-in-While.ensures.value in (
+      omega (arith, ap size_in is),
+      (
+        c.requires.sound,
+        (
+          c.requires.summaries,
+          part_inside p c.args.statement.now.label (code c.args.statement.now.kind) _ _ c.requires.there is Block.while,
+        ),
+      ),
+    )
+
+pub add_inside-add_block-requires-in-Async : goal.add_inside-add_block-requires-in-Async
+add_inside-add_block-requires-in-Async t c =
+    let p = program c.args.code.now in
+    let is = is_Async _ c.in-Async.body c.deref-in-Async.result.now c.in-Async.is c.deref-in-Async.ensures.value in (
+      omega (arith, ap size_in is),
+      (
+        c.requires.sound,
+        (
+          c.requires.summaries,
+          part_inside p c.args.statement.now.label (code c.args.statement.now.kind) _ _ c.requires.there is Block.async,
+        ),
+      ),
+    )
+
+pub add_inside-add_block-requires-in-Finish : goal.add_inside-add_block-requires-in-Finish
+add_inside-add_block-requires-in-Finish t c =
+    let p = program c.args.code.now in
+    let is = is_Finish _ c.in-Finish.body c.deref-in-Finish.result.now c.in-Finish.is c.deref-in-Finish.ensures.value in (
+      omega (arith, ap size_in is),
+      (
+        c.requires.sound,
+        (
+          c.requires.summaries,
+          part_inside p c.args.statement.now.label (code c.args.statement.now.kind) _ _ c.requires.there is Block.finish,
+        ),
+      ),
+    )
+
+pub add_inside-add_block-requires-in-Split : goal.add_inside-add_block-requires-in-Split
+add_inside-add_block-requires-in-Split t c =
+    let p = program c.args.code.now in
+    let is = is_Split _ c.in-Split.section c.in-Split.at c.in-Split.left c.in-Split.right c.in-Split.body c.deref-in-Split.result.now c.in-Split.is c.deref-in-Split.ensures.value in (
+      omega (arith, ap size_in is),
+      (
+        c.requires.sound,
+        (
+          c.requires.summaries,
+          part_inside p c.args.statement.now.label (code c.args.statement.now.kind) _ _ c.requires.there is Block.split,
+        ),
+      ),
+    )
+
+pub add_inside-returns-in-While : goal.add_inside-returns-in-While
+add_inside-returns-in-While t c =
+    let p = program c.args.code.now in
+    let is = is_While _ c.in-While.guard c.in-While.body c.deref-in-While.result.now c.in-While.is c.deref-in-While.ensures.value in
+    on_ok c.add_block-in-While.result
+    (λ h. subst (λ (k : Code). AddsFirsts (AllInside p accesses k) (kept_in c.args.into.now) (kept_in c.add_block-in-While.new.into)) (sym is) h)
+    c.add_block-in-While.ensures
+
+pub add_inside-returns-in-Async : goal.add_inside-returns-in-Async
+add_inside-returns-in-Async t c =
+    let p = program c.args.code.now in
+    let is = is_Async _ c.in-Async.body c.deref-in-Async.result.now c.in-Async.is c.deref-in-Async.ensures.value in
+    on_ok c.add_block-in-Async.result
+    (λ h. subst (λ (k : Code). AddsFirsts (AllInside p accesses k) (kept_in c.args.into.now) (kept_in c.add_block-in-Async.new.into)) (sym is) h)
+    c.add_block-in-Async.ensures
+
+pub add_inside-returns-in-Finish : goal.add_inside-returns-in-Finish
+add_inside-returns-in-Finish t c =
+    let p = program c.args.code.now in
+    let is = is_Finish _ c.in-Finish.body c.deref-in-Finish.result.now c.in-Finish.is c.deref-in-Finish.ensures.value in
+    on_ok c.add_block-in-Finish.result
+    (λ h. subst (λ (k : Code). AddsFirsts (AllInside p accesses k) (kept_in c.args.into.now) (kept_in c.add_block-in-Finish.new.into)) (sym is) h)
+    c.add_block-in-Finish.ensures
+
+pub add_inside-returns-in_ok-add_block-in-If : goal.add_inside-returns-in_ok-add_block-in-If
+add_inside-returns-in_ok-add_block-in-If t c =
+    let p = program c.args.code.now in
+    let is = is_If _ c.in-If.guard c.in-If.body c.in-If.other c.deref.result.now c.deref-in-If.result.now c.in-If.is c.deref.ensures.value c.deref-in-If.ensures.value in
+    let b = codes c.deref.result.now in
+    let d = codes c.deref-in-If.result.now in
+    on_ok c.add_block-in-If.result
+    (λ h. subst (λ (k : Code). AddsFirsts (AllInside p accesses k) (kept_in c.args.into.now) (kept_in c.add_block-in-If.new.into)) (sym is)
+    (adds_then (All p accesses b) (All p accesses d) (kept_in c.args.into.now) (kept_in c.add_block.new.into)
+    (kept_in c.add_block-in-If.new.into) c.in_ok-add_block-in-If.ensures h))
+    c.add_block-in-If.ensures
+
+pub add_inside-returns-in_ok-outside-in-Split : goal.add_inside-returns-in_ok-outside-in-Split
+add_inside-returns-in_ok-outside-in-Split t c =
+    let p = program c.args.code.now in
+    let out = past_split c.in-Split.section.number c.in-Split.left.number c.in-Split.right.number in
+    let b = codes c.deref-in-Split.result.now in
+    let is = is_Split _ c.in-Split.section c.in-Split.at c.in-Split.left c.in-Split.right c.in-Split.body c.deref-in-Split.result.now c.in-Split.is c.deref-in-Split.ensures.value in
+    let inside = kept_in c.add_block-in-Split.new.into in
+    let outside = kept_in c.in_ok-outside-in-Split.outside in
+    let renamed_firsts : AreFirsts (Renamed p accesses out (All p accesses b)) outside =
+    firsts_of_firsts (Renamed p accesses out (All p accesses b)) (map (renamed out) inside) outside
+    (firsts_renamed p out (All p accesses b) inside
+    (firsts_added (All p accesses b) (kept_in c.new-inside.result) inside c.new-inside.ensures c.in_ok-add_block-in-Split.ensures))
+    c.in_ok-outside-in-Split.ensures in
+    on_ok c.add_all.result
+    (λ h. subst (λ (k : Code). AddsFirsts (AllInside p accesses k) (kept_in c.args.into.now) (kept_in c.add_all.new.self)) (sym is)
+    (adds_firsts (Renamed p accesses out (All p accesses b)) outside (kept_in c.args.into.now) (kept_in c.add_all.new.self) renamed_firsts
+    (subst (λ xs. AreFirstsIn (map access xs ++ kept_in c.args.into.now) (kept_in c.add_all.new.self)) c.items.ensures h)))
+    c.add_all.ensures
+
+pub add_inside-add_call-requires-clause-there : goal.add_inside-add_call-requires-clause-there
+add_inside-add_call-requires-clause-there t c =
+    (is_call (program c.args.code.now) c.requires.sound c.args.statement.now.label (code c.args.statement.now.kind)
+    c.in-Call.procedure.number _ _ c.requires.there (ap code c.in-Call.is)).there
+
+pub add_inside-add_call-requires-clause-number : goal.add_inside-add_call-requires-clause-number
+add_inside-add_call-requires-clause-number t c =
+    ap length c.deref-in-Call.ensures.value ∙ sym (length-map c.in-Call.sections.items section)
+    ∙ (is_call (program c.args.code.now) c.requires.sound c.args.statement.now.label (code c.args.statement.now.kind)
+    c.in-Call.procedure.number _ _ c.requires.there (ap code c.in-Call.is)).number
+
+pub add_inside-returns-in-Call : goal.add_inside-returns-in-Call
+add_inside-returns-in-Call t c =
+    let p = program c.args.code.now in
+    let those = All p accesses (procedure_of p c.in-Call.procedure.number).body in
+    let old = kept_in c.args.into.now in
+    let new = kept_in c.add_call.new.into in
+    on_ok c.add_call.result
+    (λ h. subst (λ (k : Code). AddsFirsts (AllInside p accesses k) old new) (sym (ap code c.in-Call.is))
+    (subst (λ xs. AddsFirsts (Renamed p accesses (past_call (map section xs)) those) old new) c.deref-in-Call.ensures.value h))
+    c.add_call.ensures
