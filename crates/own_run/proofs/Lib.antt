@@ -6,6 +6,7 @@ pub mod ComesBack
 pub mod CompleteResults
 pub mod ExactResults
 pub mod Examples
+pub mod HeldPlaces
 pub mod HoldingTurns
 pub mod KeepingHold
 pub mod Lists

@@ -8,7 +8,9 @@ pub mod Places
 pub mod Reached
 pub mod Ready
 pub mod Results
+pub mod RunTurns
 pub mod Runs
 pub mod Settling
-pub mod Translation
+pub mod Standings
 pub mod Stops
+pub mod Translation
