@@ -1,12 +1,12 @@
 -- What holdings hold, as contents and sets of places.
 use Rattle.std.proofs.Common.{◌≡◌, List, [], ◌∷◌, ◌++◌, refl, sym, ap, ◌∙◌, subst, Option, Some, None, map}
 use Rattle.std.specs.Prelude.{ℤ, Bool, true, false, ◌&&◌, ◌||◌, not, option_map, is_some, if◌then◌else◌}
-use Rattle.sections.specs.Covers.{has}
+use Rattle.sections.specs.Covers.{has, is_in}
 use Rattle.sections.specs.Place.{Place, Window, same_place}
 use Rattle.types.specs.Contents.{write, IsThere}
 use Rattle.holdings.specs.Held.{Held, Map, Owned, Shared, number_of, numbers, owned_number, owned, put, as_owned, as_shared}
 use Rattle.holdings.specs.Held.{only as only_at, without as without_at, over as over_at, IsThere as AreThere, AreApart, first_of}
-use Rattle.own_run.specs.Places.{Places, within, only, without}
+use Rattle.own_run.specs.Places.{Places, covered, within, only, without}
 use Rattle.own_run.proofs.Windows.{places_same}
 
 -- ---- a write
@@ -24,9 +24,13 @@ owned_put : (b : Bool) (v : ℤ) (o : Option Held) → (b ≡ true → is_some (
 owned_put true v o is = sym (is refl)
 owned_put false v o is = refl
 
+-- the places that are owned
+abbrev pub owns : Map Held → Places
+owns m q = is_some (owned m q)
+
 -- a write to an owned place leaves what is owned
 pub owned-put : (q : Place) (v : ℤ) (m : Map Held) → is_some (owned m q) ≡ true
-    → (λ r. is_some (owned (put q (Owned v) m) r)) ≡ (λ r. is_some (owned m r))
+    → owns (put q (Owned v) m) ≡ owns m
 owned-put q v m is =
     λ t r. owned_put (same_place q r) v (m r)
     (λ same. subst (λ (s : Place). is_some (owned m s) ≡ true) (places_same q r same) is) t
@@ -35,7 +39,19 @@ owned-put q v m is =
 
 pub has-within : (ws : List Window) (q : Place) → has ws q ≡ within ws q
 has-within [] q = refl
-has-within (w ∷ ws) q = ap (λ b. _ || b) (has-within ws q)
+has-within (w ∷ ws) q = ap (λ (b : Bool). is_in w q || b) (has-within ws q)
+
+pub has-is-within : (ws : List Window) → has ws ≡ within ws
+has-is-within ws = λ t q. has-within ws q t
+
+pub within-append : (ws vs : List Window) (q : Place) → within (ws ++ vs) q ≡ within ws q || within vs q
+within-append [] vs q = refl
+within-append (w ∷ ws) vs q =
+    ap (λ (b : Bool). covered w q || b) (within-append ws vs q) ∙ or_assoc (covered w q) (within ws q) (within vs q)
+  where
+    or_assoc : (a b c : Bool) → a || (b || c) ≡ (a || b) || c
+    or_assoc true b c = refl
+    or_assoc false b c = refl
 
 -- ---- parts: what is carved and shared
 
@@ -91,7 +107,7 @@ module _ (ws rs : Place → Bool) (m : Map Held) (own : (q : Place) → ws q ≡
   child_is_own false true None is = refl
   child_is_own false false o is = refl
 
-  pub child_owned : (λ q. is_some (owned childs q)) ≡ ws
+  pub child_owned : owns childs ≡ ws
   child_owned = λ t q. child_is_own (ws q) (rs q) (m q) (own q) t
 
   left_number : (w : Bool) (o : Option Held) → option_map number_of (if w then None else o) ≡ (if w then None else option_map number_of o)
@@ -102,6 +118,9 @@ module _ (ws rs : Place → Bool) (m : Map Held) (own : (q : Place) → ws q ≡
   pub left_contents : numbers (without_at ws m) ≡ without ws (numbers m)
   left_contents = λ t q. left_number (ws q) (m q) t
 
+  abbrev outside : Places
+  outside q = is_some (owned m q) && not (ws q)
+
   left_is_own : (w : Bool) (o : Option Held) → is_some (owned_number (if w then None else o)) ≡ is_some (owned_number o) && not w
   left_is_own true (Some (Owned v)) = refl
   left_is_own true (Some (Shared v)) = refl
@@ -110,13 +129,13 @@ module _ (ws rs : Place → Bool) (m : Map Held) (own : (q : Place) → ws q ≡
   left_is_own false (Some (Shared v)) = refl
   left_is_own false None = refl
 
-  pub left_owned : (λ q. is_some (owned (without_at ws m) q)) ≡ (λ q. is_some (owned m q) && not (ws q))
+  pub left_owned : owns (without_at ws m) ≡ outside
   left_owned = λ t q. left_is_own (ws q) (m q) t
 
-  -- copies own nothing
-  copies_own : (o : Option ℤ) → owned_number (option_map Shared o) ≡ None
-  copies_own (Some v) = refl
-  copies_own None = refl
+-- copies own nothing
+copies_own : (o : Option ℤ) → owned_number (option_map Shared o) ≡ None
+copies_own (Some v) = refl
+copies_own None = refl
 
-  pub copies_apart : (other : Map ℤ) → AreApart other (owned (as_shared (only_at rs (numbers m))))
-  copies_apart other q there = copies_own (only_at rs (numbers m) q)
+pub copies_apart : (rs : Place → Bool) (m : Map Held) (other : Map ℤ) → AreApart other (owned (as_shared (only_at rs (numbers m))))
+copies_apart rs m other q there = copies_own (only_at rs (numbers m) q)

@@ -15,6 +15,7 @@ pub mod NextAction
 pub mod OnePath
 pub mod OwnRunSettles
 pub mod ReachedTasks
+pub mod RunSteps
 pub mod SettledResults
 pub mod SideBySide
 pub mod Simulation

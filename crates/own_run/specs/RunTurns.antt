@@ -1,5 +1,5 @@
 -- What a turn of a run in Rust is: the turn of the task that it stands for.
-use Rattle.std.specs.Prelude.{ℕ, ◌≡◌, ◌+◌, ◌<◌, ◌≤◌, ◌⊎◌, ⊥, ⊤, List, [], ◌∷◌, Option, ◌||◌, Bool, true, false}
+use Rattle.std.specs.Prelude.{ℕ, ◌≡◌, ◌+◌, ◌<◌, ◌≤◌, ◌⊎◌, ⊤, List, [], ◌∷◌, Option, ◌||◌, Bool, true, false}
 use Rattle.sections.specs.Place.{Place}
 use Rattle.types.specs.Code.{Code, Do, If, While, Split, Call, Async, Finish, Codes, Then}
 use Rattle.types.specs.Contents.{IsThere}
@@ -49,7 +49,7 @@ DoneAs actions over Exceeded = over ≡ true
 pub record Did (go : Going_on) (actions : State Own → List Action) (over : State Own → Bool)
     (old : Run) (done : Done) (new : Run) : Type 0 where
   pub turns : Turns go old new
-  pub done : (x : Own) →
+  pub noted : (x : Own) →
       let st = with_own x (state_of old.thread) in
       DoneAs (actions st) (over st) done
 

@@ -1,6 +1,6 @@
 //! A task that runs by itself, turn by turn.
 
-ghost use Rattle.std.specs.Prelude.{◌≡◌, ◌+◌, ◌-◌, ◌<◌, ◌++◌, [], ◌∷◌, Bool, IfOk, IfErr, List, OnOk, map};
+ghost use Rattle.std.specs.Prelude.{◌≡◌, ◌+◌, ◌-◌, ◌<◌, ◌≤◌, ◌++◌, [], ◌∷◌, Bool, IfOk, IfErr, List, OnOk, map};
 ghost use Rattle.std.specs.Prelude.{ℕ, if◌then◌else◌};
 ghost use Rattle.sections.specs.Translation.{section as section_of, window as window_of};
 ghost use Rattle.types.specs.Code.{Async, Call, Codes, Finish, If, Split, Then, While};
@@ -14,7 +14,7 @@ ghost use Rattle.effects.specs.Needs.{Needs};
 ghost use Rattle.holdings.specs.declared.error.HoldError.TheVariants.{OutOfMemory};
 ghost use Rattle.serial_run.specs.Standing.{flow as flow_of};
 ghost use Rattle.own_run.specs.Apart.{is_stopped as stops_all};
-ghost use Rattle.own_run.specs.Frames.{Frame, Rest, Again, Standing, handed};
+ghost use Rattle.own_run.specs.Frames.{Frame as Left, Rest, Again, Standing, handed};
 ghost use Rattle.own_run.specs.OwnRun.{Action, Own, result_of};
 ghost use Rattle.own_run.specs.Reached.{begun};
 ghost use Rattle.own_run.specs.RunTurns.{ComesBack, DoneAs, GoesAs, GoesTo, Waits, WaitsAs};
@@ -57,9 +57,9 @@ impl<'p> Run<'p> {
 
     /// A task at its beginning.
     pub fn begin(plan: Plan<'p>, start: Start<'p>) -> Result<Run<'p>, AllocError>
-        ensures begun { IfOk result (λ r. IsAt r (begun plan.entry.budget.steps (start_of start))) }
+        ensures begun { IfOk result (λ r. IsAt r (begun plan.entry.budget.steps (start_of start.entry))) }
         ensures plan { IfOk result (λ r. r.plan ≡ plan.entry) }
-        ensures nest { IfOk result (λ r. r.thread.nest ≡ start.nest) }
+        ensures nest { IfOk result (λ r. r.thread.nest ≡ start.entry.nest) }
     {
         let mut frames = Vec::new(plan.alloc);
         frames.push(Frame::Rest(start.body))?;
@@ -88,7 +88,7 @@ impl<'p> Run<'p> {
     /// One turn: what the top frame says. Only want of memory is in its way.
     pub fn advance<N: Needed>(self, needed: &N) -> Result<Turn<'p>, HoldError>
         requires { CanTurn (N.needs needed.now) (N.IsAsync needed.now) self }
-        ensures turn { IfOk result (IsTurn (N.needs needed.now) self) }
+        ensures turn { IfOk result (IsTurn (N.needs needed.entry.now) self.entry) }
         ensures refused { IfErr result (λ e. e ≡ OutOfMemory) }
     {
         let mut run = self;
@@ -126,7 +126,8 @@ impl<'p> Run<'p> {
         stmt: &'p Stmt,
         rest: &'p [Stmt],
     ) -> Result<Done<'p>, HoldError>
-        requires { CanAct (N.needs needed.now) (N.IsAsync needed.now) stmt.now.label
+        requires few { self.old.thread.spawned + self.old.thread.steps ≤ self.old.plan.budget.steps }
+        requires can { CanAct (N.needs needed.now) (N.IsAsync needed.now) stmt.now.label
             (code_of stmt.now.kind) self.old }
         ensures did { IfOk result (λ d. DidTurn (N.needs needed.now)
             (Rest (Then stmt.entry.now.label (code_of stmt.entry.now.kind) (codes_of rest.entry.now)))
@@ -176,28 +177,42 @@ impl<'p> Run<'p> {
     {
         let label = stmt.label;
         match &stmt.kind {
-            StmtKind::Do(primitive) => self.thread.primitive(self.plan, label, primitive)?,
-            StmtKind::If { guard, body, other } => self.choose(label, guard, body, other)?,
-            StmtKind::While { guard, body } => self.turn_loop(label, guard, body)?,
+            StmtKind::Do(primitive) => {
+                self.thread.primitive(self.plan, label, primitive)?;
+                Ok(Done::Gone)
+            }
+            StmtKind::If { guard, body, other } => {
+                self.choose(label, guard, body, other)?;
+                Ok(Done::Gone)
+            }
+            StmtKind::While { guard, body } => {
+                self.turn_loop(label, guard, body)?;
+                Ok(Done::Gone)
+            }
             StmtKind::Split {
                 section,
                 at,
                 left,
                 right,
                 body,
-            } => self.split(label, *section, at, (*left, *right), body)?,
+            } => {
+                self.split(label, *section, at, (*left, *right), body)?;
+                Ok(Done::Gone)
+            }
             StmtKind::Call {
                 procedure,
                 values,
                 sections,
-            } => self.call(label, *procedure, values, sections)?,
-            StmtKind::Async { body } => return self.spawn(needed, label, body),
+            } => {
+                self.call(label, *procedure, values, sections)?;
+                Ok(Done::Gone)
+            }
+            StmtKind::Async { body } => self.spawn(needed, label, body),
             StmtKind::Finish { body } => {
                 self.enter(body)?;
-                return Ok(Done::Entered);
+                Ok(Done::Entered)
             }
         }
-        Ok(Done::Gone)
     }
 
     /// The one block or the other, as the guard says.
@@ -380,45 +395,75 @@ impl<'p> Run<'p> {
 
     /// What it has made since its innermost open finish began, or since its beginning.
     fn result(self) -> TaskResult
-        ensures { (fs : List (Frame Own)) (x : Own) → Shows self fs x
-            → task_result result ≡ result_of (with_own x (state_of self.thread)) }
+        ensures { (fs : List (Left Own)) (x : Own) → Shows self.entry fs x
+            → task_result result ≡ result_of (with_own x (state_of self.entry.thread)) }
     {
+        let Run {
+            thread, pending, ..
+        } = self;
+        let Thread {
+            flow,
+            store,
+            lines,
+            faults,
+            path,
+            ..
+        } = thread;
+        let TaskMemory { holdings } = store;
         TaskResult {
-            path: self.thread.path,
-            halted: is_stopped(self.thread.flow),
-            holdings: self.thread.store.holdings,
-            lines: self.thread.lines,
-            faults: self.thread.faults,
-            children: self.pending,
+            path,
+            halted: is_stopped(flow),
+            holdings,
+            lines,
+            faults,
+            children: pending,
         }
     }
 
     /// It waits at the end of a finish, apart from what it has made.
     fn pause(self, outer: Outer) -> Result<(Paused<'p>, TaskResult), AllocError>
-        ensures { IfOk result (λ t. (before : State Own) (fs : List (Frame Own)) (x : Own)
-            → IsEnd outer before → Shows self fs x
-            → WaitsAs self fs before (with_own x (state_of self.thread)) (EndsFinish t.0 t.1)) }
+        ensures { IfOk result (λ t. (before : State Own) (fs : List (Left Own)) (x : Own)
+            → IsEnd outer before → Shows self.entry fs x
+            → WaitsAs self.entry fs before (with_own x (state_of self.entry.thread))
+            (EndsFinish t.0 t.1)) }
     {
-        let path = Path {
-            turns: Vec::from_slice(self.plan.alloc, &self.thread.path.turns)?,
-        };
-        let result = TaskResult {
+        let Run {
+            plan,
+            thread,
+            frames,
+            pending,
+        } = self;
+        let Thread {
+            flow,
+            store,
+            lines,
+            faults,
             path,
-            halted: is_stopped(self.thread.flow),
-            holdings: self.thread.store.holdings,
-            lines: self.thread.lines,
-            faults: self.thread.faults,
-            children: self.pending,
+            spawned,
+            environment,
+            steps,
+            nest,
+            spare,
+        } = thread;
+        let TaskMemory { holdings } = store;
+        let turns = Vec::from_slice(plan.alloc, &path.turns)?;
+        let result = TaskResult {
+            path: Path { turns },
+            halted: is_stopped(flow),
+            holdings,
+            lines,
+            faults,
+            children: pending,
         };
         let paused = Paused {
-            plan: self.plan,
-            path: self.thread.path,
-            spawned: self.thread.spawned,
-            environment: self.thread.environment,
-            steps: self.thread.steps,
-            nest: self.thread.nest,
-            spare: self.thread.spare,
-            frames: self.frames,
+            plan,
+            path,
+            spawned,
+            environment,
+            steps,
+            nest,
+            spare,
+            frames,
             outer,
         };
         Ok((paused, result))
@@ -429,11 +474,11 @@ impl<'p> Paused<'p> {
     /// Goes on with what came of the finish: the places that were owned, and those that come back
     /// from the tasks that were listed in it.
     pub fn go_on(self, settled: Settled) -> Result<Run<'p>, AllocError>
-        ensures stands { IfOk result (λ r. (fs : List (Frame Own)) (before st : State Own)
-            → Waits self fs before st → ComesBack settled st
+        ensures stands { IfOk result (λ r. (fs : List (Left Own)) (before st : State Own)
+            → Waits self.entry fs before st → ComesBack settled st
             → IsAt r (record { frames = fs; state = handed before (settled_of settled) st })) }
-        ensures plan { IfOk result (λ r. r.plan ≡ self.plan) }
-        ensures nest { IfOk result (λ r. r.thread.nest ≡ self.nest) }
+        ensures plan { IfOk result (λ r. r.plan ≡ self.entry.plan) }
+        ensures nest { IfOk result (λ r. r.thread.nest ≡ self.entry.nest) }
     {
         let mut settled = settled;
         let mut outer = self.outer;
@@ -466,7 +511,7 @@ impl<'p> Paused<'p> {
 /// The turn of a run that did this.
 fn turned<'p>(run: Run<'p>, done: Done<'p>) -> Turn<'p>
     ensures { (old : Run) (next : Standing Own) (actions : List Action) (over : Bool)
-        → GoesTo old next run → DoneAs actions over done → GoesAs old next actions over result }
+        → GoesTo old next run.entry → DoneAs actions over done.entry → GoesAs old next actions over result }
 {
     match done {
         Done::Gone => Turn::Going(run),
@@ -479,7 +524,7 @@ fn turned<'p>(run: Run<'p>, done: Done<'p>) -> Turn<'p>
 /// The procedure of a number, and its body. One that isn't there does nothing.
 fn procedure_of<'p>(plan: Plan<'p>, procedure: ProcedureId) -> (&'p Procedure, &'p [Stmt])
     ensures { codes_of result.1.now
-        ≡ (numbered (program_of plan.program.now) procedure.number).body }
+        ≡ (numbered (program_of plan.entry.program.now) procedure.number).body }
 {
     match plan.program.procedures.get(procedure.number) {
         Some(procedure) => (procedure, &procedure.body),
