@@ -16,6 +16,7 @@ pub mod OnePath
 pub mod OwnRunSettles
 pub mod ReachedTasks
 pub mod RunSteps
+pub mod RunTops
 pub mod SettledResults
 pub mod SideBySide
 pub mod Simulation

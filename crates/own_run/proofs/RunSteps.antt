@@ -1,5 +1,5 @@
 -- What statements whose step was taken make of a run.
-use Rattle.std.proofs.Common.{◌≡◌, ℕ, zero, suc, ◌+◌, ◌<◌, ◌≤◌, List, [], ◌∷◌, ◌++◌, Ok, Err, refl, sym, ap, ◌∙◌, subst, inl, inr, arith}
+use Rattle.std.proofs.Common.{◌≡◌, ◌≢◌, ℕ, zero, suc, ◌+◌, ◌-◌, ◌<◌, ◌≤◌, List, [], ◌∷◌, ◌++◌, Ok, Err, refl, sym, ap, ◌∙◌, subst, inl, inr, arith}
 use Rattle.std.proofs.Common.{Bor, Global, Vec, map}
 use Rattle.std.specs.Prelude.{ℤ, Bool, true, false, Option}
 use Rattle.sections.specs.Place.{Place, Window}
@@ -15,7 +15,7 @@ use Rattle.serial_run.specs.declared.thread.Flow.TheVariants.{On as rOn}
 use Rattle.serial_run.specs.declared.thread.Thread.{Thread}
 use Rattle.serial_run.specs.Standing.{KeepsTask, flow as flow_of}
 use Rattle.own_run.specs.Frames.{Frame, Rest, Standing, by_flow, by_value, acted, done_at, done_by, done_in, paid, turn}
-use Rattle.own_run.specs.OwnRun.{Own, Action, EnterFinish, Step, notes, own_rules}
+use Rattle.own_run.specs.OwnRun.{Own, Action, EnterFinish, Spawn, Step, begin_own, child_of, list_child, notes, own_rules}
 use Rattle.own_run.specs.Results.{Settled}
 use Rattle.own_run.specs.RunTurns.{Acts, CanAct, DidAct, DidTurn, DoneAs, Going_on, Turns}
 use Rattle.own_run.specs.Standings.{IsAt, Shows, ShowsFrame, Stacked, state_of, with_own}
@@ -314,3 +314,23 @@ module _ (needs : Codes → Needs) (IsAsync : ℕ → Codes → Type 0) (old : R
   can_on (Call f es ss) h = h
   can_on (Async b) h = (record { there = h.0.there; owned = h.0.owned }, h.1)
   can_on (Finish b) h = h
+
+-- ---- the beginning of a task, where nest is left
+
+module _ (needs : Codes → Needs) where
+  pub begin_some : (n : ℕ) → n ≢ 0 → (b : Codes) (st : State Own) → begin_own needs n b st ≡ list_child (needs b) (n - 1) b st
+  begin_some zero some b st = absurd (some refl)
+  begin_some (suc n) some b st =
+      let less : n ≡ suc n - 1 = omega arith in
+      ap (λ (k : ℕ). list_child (needs b) k b st) less
+
+  pub done_some : (n : ℕ) → n ≢ 0 → (b : Codes) (st : State Own)
+      → done_by needs n 1 (Async b) st ≡ Spawn (child_of (needs b) (n - 1) b st).start ∷ []
+  done_some zero some b st = absurd (some refl)
+  done_some (suc n) some b st =
+      let less : n ≡ suc n - 1 = omega arith in
+      ap (λ (k : ℕ). Spawn (child_of (needs b) k b st).start ∷ []) less
+
+pub over_some : (n : ℕ) → n ≢ 0 → (b : Codes) → is_over n 1 (Async b) ≡ false
+over_some zero some b = absurd (some refl)
+over_some (suc n) some b = refl
