@@ -124,3 +124,22 @@ module _ (needs : Codes → Needs) (IsAsync : ℕ → Codes → Type 0) (r : Run
         owned = λ q w. ap (λ (o : Place → Bool). o q) (sym owned) ∙ h.1.owned q w;
       }, known)
   can_first (Finish b) h known = tt
+
+pub none_left : {A : Type 0} (xs : List A) → length xs ≡ 0 → xs ≡ []
+none_left [] e = refl
+none_left (x ∷ xs) e = absurd (omega (arith, e))
+
+-- where the top frame is one that is shown as a given one
+pub on_frame : (gs hs : List rFrame) (g t : rFrame) (fs : List (Frame Own)) → gs ≡ hs ++ g ∷ [] → g ≡ t → Stacked gs fs
+    → (P : List (Frame Own) → Type 0) → ((f : Frame Own) (below : List (Frame Own)) → ShowsFrame t f → Stacked hs below → P (f ∷ below))
+    → P fs
+on_frame gs hs g t fs e is stacked P h =
+    on_top gs hs g fs e stacked P (λ f below shows rest. h f below (subst (λ (u : rFrame). ShowsFrame u f) is shows) rest)
+
+-- where it is this one
+pub on_this : (gs hs : List rFrame) (g t : rFrame) (to : Frame Own) (fs : List (Frame Own)) → gs ≡ hs ++ g ∷ [] → g ≡ t
+    → ((f : Frame Own) → ShowsFrame t f → f ≡ to) → Stacked gs fs
+    → (P : List (Frame Own) → Type 0) → ((below : List (Frame Own)) → Stacked hs below → P (to ∷ below)) → P fs
+on_this gs hs g t to fs e is only stacked P h =
+    on_frame gs hs g t fs e is stacked P
+    (λ f below shows rest. subst (λ (f : Frame Own). P (f ∷ below)) (sym (only f shows)) (h below rest))

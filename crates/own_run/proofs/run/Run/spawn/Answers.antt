@@ -1,4 +1,4 @@
-use Rattle.std.proofs.Common.{◌≡◌, ◌≢◌, ◌+◌, ◌-◌, ap, ◌∙◌, sym, refl, subst, List, [], ◌∷◌, ◌++◌, map, arith, Vec, Global, zero, suc, ℕ}
+use Rattle.std.proofs.Common.{◌≡◌, ◌≢◌, ◌+◌, ◌-◌, ◌≤◌, ap, ◌∙◌, sym, refl, subst, List, [], ◌∷◌, ◌++◌, map, arith, Vec, Global, zero, suc, ℕ}
 use Rattle.std.proofs.lemmas.Bool.{or_right}
 use Rattle.std.proofs.lemmas.List.{map-append}
 use Rattle.std.specs.Prelude.{ℤ, Bool, true, ◌&&◌, not}
@@ -16,6 +16,7 @@ use Rattle.own_run.specs.Results.{Listed}
 use Rattle.own_run.specs.Standings.{IsAt, state_of, with_own}
 use Rattle.own_run.specs.Translation.{contents_of, listed, owned_by, start}
 use Rattle.own_run.specs.declared.result.Listed.{Listed as rListed}
+use Rattle.own_run.specs.declared.run.Run.{Run}
 use Rattle.own_run.proofs.HeldPlaces.{within-append}
 use Rattle.own_run.proofs.RunSteps.{begin_some, done_some, over_some}
 use Rattle.own_run.proofs.run.Run.spawn.Goals as goal
@@ -87,6 +88,16 @@ returns-clause-did g c =
       lines = map numbers (sym c.replace.ensures.value t).items;
       faults = map fault (sym c.replace-2.ensures.value t).items;
     } in
+    let new : Run = record m {
+      thread = record m.thread {
+        store = c.part.new.self;
+        lines = c.replace.new.dest;
+        faults = c.replace-2.new.dest;
+        spawned = m.thread.spawned + 1;
+      };
+      pending = c.push.new.self;
+    } in
+    let few : m.thread.spawned + 1 + m.thread.steps ≤ m.plan.budget.steps = omega (arith, c.requires.room.taken) in
     λ close. record {
       turns = record {
         plan = refl;
@@ -94,7 +105,7 @@ returns-clause-did g c =
         stands = λ fs x shows.
             let st = with_own x (state_of m.thread) in
             let to = list_child n (nest - 1) b st in
-            subst (λ (out : State Own). IsAt _ (record { frames = fs; state = out })) (sym (begin_some needs nest some b st))
+            subst (λ (out : State Own). IsAt new (record { frames = fs; state = out })) (sym (begin_some needs nest some b st))
             (record {
               own = to.extra;
               shows = record {
@@ -105,7 +116,7 @@ returns-clause-did g c =
                     ∙ ap (λ (ls : List Listed). ls ++ (child x).listed ∷ []) shows.pending
                     ∙ ap (λ (y : Listed). map listed m.pending.items ++ y ∷ []) (is_listed x)
                     ∙ sym (map-pushed listed m.pending.items c.push.new.self.items kept c.in_ok-push.ensures.items);
-                few = omega (arith, c.requires.room.taken);
+                few = few;
               };
               is = λ t. record {
                 flow = flow (c.requires.room.on t);
