@@ -17,6 +17,7 @@ pub mod OwnRunSettles
 pub mod ReachedTasks
 pub mod RunSteps
 pub mod RunTops
+pub mod RunsGoOn
 pub mod SettledResults
 pub mod SideBySide
 pub mod Simulation

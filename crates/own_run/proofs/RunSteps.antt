@@ -134,8 +134,8 @@ module _ (needs : Codes → Needs) (l : ℕ) (old new : Run) where
           plan = turns.plan;
           nest = turns.nest;
           stands = λ fs x shows. subst (λ (st : State Own). IsAt new (acted (program old.plan.program.now) r l c fs st))
-          (sym (steps close (with_own x (state_of old.thread))))
-          (turns.stands fs (notes Step x) (shows_noted fs x Step shows));
+              (sym (steps close (with_own x (state_of old.thread))))
+              (turns.stands fs (notes Step x) (shows_noted fs x Step shows));
         };
         noted = done;
       }

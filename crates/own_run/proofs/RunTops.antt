@@ -118,11 +118,13 @@ module _ (needs : Codes → Needs) (IsAsync : ℕ → Codes → Type 0) (r : Run
   can_first (While t b) h known = tt
   can_first (Split s e x y b) h known = tt
   can_first (Call f es ss) h known = tt
-  can_first (Async b) h known =
-      (record {
-        there = h.1.there;
-        owned = λ q w. ap (λ (o : Place → Bool). o q) (sym owned) ∙ h.1.owned q w;
-      }, known)
+  can_first (Async b) h known = (
+    record {
+      there = h.1.there;
+      owned = λ q w. ap (λ (o : Place → Bool). o q) (sym owned) ∙ h.1.owned q w;
+    },
+    known,
+  )
   can_first (Finish b) h known = tt
 
 pub none_left : {A : Type 0} (xs : List A) → length xs ≡ 0 → xs ≡ []

@@ -3,6 +3,7 @@ pub mod Frames
 pub mod Given
 pub mod Holds
 pub mod Lists
+pub mod MayRun
 pub mod OwnRun
 pub mod Places
 pub mod Reached

@@ -19,7 +19,9 @@ pub enum Frame<'p> {
     /// The end of a finish.
     EndFinish(Outer),
     /// The return of a call, to the caller's environment.
-    EndCall { environment: Environment },
+    EndCall {
+        environment: Environment,
+    },
 }
 
 /// What a task had told, and which tasks it had listed, when a finish began.

@@ -399,7 +399,9 @@ impl<'p> Run<'p> {
             → task_result result ≡ result_of (with_own x (state_of self.entry.thread)) }
     {
         let Run {
-            thread, pending, ..
+            thread,
+            pending,
+            ..
         } = self;
         let Thread {
             flow,

@@ -24,8 +24,8 @@ first-requires-clause-can g c =
     let s = c.in-Some-split_first.stmt.now in let k = code s.kind in let rest = codes c.in-Some-split_first.rest.now in
     let x = c.requires.own in
     let P : List (Frame Own) → Type 0 = λ fs.
-        HasNext needs (with_own x (state_of m.thread)) fs → KnowsFirst IsAsync fs
-        → CanAct needs IsAsync s.label k (record m { frames = popped }) in
+    HasNext needs (with_own x (state_of m.thread)) fs → KnowsFirst IsAsync fs
+    → CanAct needs IsAsync s.label k (record m { frames = popped }) in
     on_this m.frames.items popped.items c.in-Some.frame (rRest c.in-Rest.block) (Rest (Then s.label k rest)) c.requires.frames
     c.in-Some.ensures.items c.in-Rest.is
     (λ f shows. shows ∙ ap (λ b. Rest (codes b)) c.in-Some-split_first.ensures.cases.0)
@@ -55,15 +55,18 @@ returns-in-None-split_first-clause-turn g c = λ close fs x shows.
     c.in-Some.ensures.items c.in-Rest.is
     (λ f shows. shows ∙ ap (λ b. Rest (codes b)) (none_left c.in-Rest.block.now c.in-None-split_first.ensures.cases))
     shows.frames (λ (fs : List (Frame Own)). TurnOf needs close m fs (with_own x (state_of m.thread)) (Going (record m { frames = popped })))
-    (λ below stacked. (record {
-      plan = refl;
-      nest = refl;
-      stands = record {
-        own = x;
-        shows = record { frames = stacked; owned = shows.owned; pending = shows.pending; few = shows.few };
-        is = refl;
-      };
-    }, (refl, inl refl)))
+    (λ below stacked. (
+      record {
+        plan = refl;
+        nest = refl;
+        stands = record {
+          own = x;
+          shows = record { frames = stacked; owned = shows.owned; pending = shows.pending; few = shows.few };
+          is = refl;
+        };
+      },
+      (refl, inl refl),
+    ))
 
 pub returns-in_ok-done-in-Some-split_first-clause-turn : goal.returns-in_ok-done-in-Some-split_first-clause-turn
 returns-in_ok-done-in-Some-split_first-clause-turn g c = λ close fs x shows.
@@ -135,12 +138,15 @@ returns-in_ok-push-in-EndCall-clause-turn g c = λ close fs x shows.
     on_this m.frames.items popped.items c.in-Some.frame (rEndCall c.in-EndCall.environment) (Back (environment c.in-EndCall.environment)) fs
     c.in-Some.ensures.items c.in-EndCall.is (λ f shows. shows)
     shows.frames (λ (fs : List (Frame Own)). TurnOf needs close m fs st (Going after))
-    (λ below stacked. (record {
-      plan = refl;
-      nest = refl;
-      stands = record {
-        own = x;
-        shows = record { frames = stacked; owned = shows.owned; pending = shows.pending; few = shows.few };
-        is = ap (λ (e : rEnvironment). record st { environment = environment e }) c.replace-callee.ensures.after;
-      };
-    }, (refl, inl refl)))
+    (λ below stacked. (
+      record {
+        plan = refl;
+        nest = refl;
+        stands = record {
+          own = x;
+          shows = record { frames = stacked; owned = shows.owned; pending = shows.pending; few = shows.few };
+          is = ap (λ (e : rEnvironment). record st { environment = environment e }) c.replace-callee.ensures.after;
+        };
+      },
+      (refl, inl refl),
+    ))

@@ -24,9 +24,16 @@ returns-in-Err c =
     (acted p (own_rules needs m.thread.nest close) l
     (Call c.args.procedure.number (map number c.args.values.now) (map section c.args.sections.now)))
     (λ fs x. value_faults l fs (with_own x (state_of m.thread)) _ k _ (ap listed (sym c.in-Err.is) ∙ c.in_ok-kind.ensures)) state kept in
-    record { plan = turns.plan; nest = turns.nest; stands = λ fs x shows. turns.stands fs x (record {
-      frames = shows.frames; owned = shows.owned; pending = shows.pending; few = shows.few;
-    }) })
+    record {
+      plan = turns.plan;
+      nest = turns.nest;
+      stands = λ fs x shows. turns.stands fs x (record {
+        frames = shows.frames;
+        owned = shows.owned;
+        pending = shows.pending;
+        few = shows.few;
+      });
+    })
     c.fault.ensures.state c.fault.ensures.task
 
 pub returns : goal.returns

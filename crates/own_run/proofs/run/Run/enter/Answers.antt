@@ -38,13 +38,16 @@ returns c =
               frames =
                   stacked-pushed c.push.new.self.items c.push-2.new.self.items (rRest c.args.body) (Rest (codes c.args.body.now))
                   (AtEnd st ∷ fs) c.in_ok-push-2.ensures.items refl
-                  (stacked-pushed m.frames.items c.push.new.self.items (rEndFinish outer) (AtEnd st) fs c.in_ok-push.ensures.items
-                  (st, refl, record {
-                    lines = ap (λ (v : Vec (Vec ℤ Global) Global). map (λ l. l.items) v.items) (sym c.replace.ensures.value);
-                    faults = ap (λ (v : Vec rFault Global). map fault v.items) (sym c.replace-2.ensures.value);
-                    pending = shows.pending
-                        ∙ ap (λ (v : Vec rListed Global). map listed v.items) (sym c.replace-3.ensures.value);
-                  })
+                  (stacked-pushed m.frames.items c.push.new.self.items (rEndFinish outer) (AtEnd st) fs c.in_ok-push.ensures.items (
+                    st,
+                    refl,
+                    record {
+                      lines = ap (λ (v : Vec (Vec ℤ Global) Global). map (λ l. l.items) v.items) (sym c.replace.ensures.value);
+                      faults = ap (λ (v : Vec rFault Global). map fault v.items) (sym c.replace-2.ensures.value);
+                      pending = shows.pending
+                          ∙ ap (λ (v : Vec rListed Global). map listed v.items) (sym c.replace-3.ensures.value);
+                    },
+                  )
                   shows.frames);
               owned = shows.owned;
               pending = sym (ap (λ (v : Vec rListed Global). map listed v.items) c.replace-3.ensures.after

@@ -56,26 +56,26 @@ returns-clause-did g c =
     ∙ sym (map-append env.windows n.writes n.reads) in
     let child : (x : Own) → Child = λ x. child_of n (nest - 1) b (with_own x (state_of m.thread)) in
     let is_start : (x : Own) → (child x).start ≡ s = λ x.
-        let holds : only (within (map env.windows (n.writes ++ n.reads))) store ≡ contents_of c.in_ok-holdings.holdings
-        = sym (c.in_ok-holdings.ensures.contents ∙ ap (λ (ws : List Window). only (within ws) store) both) in
-        let owns : within (map env.windows n.writes) ≡ owned_by c.in_ok-holdings.holdings
-        = sym (c.in_ok-holdings.ensures.owned ∙ ap within writes) in
-        let given : (child x).start ≡ record {
-          body = b;
-          environment = env;
-          contents = contents_of c.in_ok-holdings.holdings;
-          owned = owned_by c.in_ok-holdings.holdings;
-          nest = nest - 1;
-          path = m.thread.path.turns.items ++ (m.thread.spawned + 1) ∷ [];
-        } = (λ t. record {
-          body = b;
-          environment = env;
-          contents = holds t;
-          owned = owns t;
-          nest = nest - 1;
-          path = m.thread.path.turns.items ++ (m.thread.spawned + 1) ∷ [];
-        }) in
-        given ∙ sym c.in_ok-start.ensures in
+    let holds : only (within (map env.windows (n.writes ++ n.reads))) store ≡ contents_of c.in_ok-holdings.holdings
+    = sym (c.in_ok-holdings.ensures.contents ∙ ap (λ (ws : List Window). only (within ws) store) both) in
+    let owns : within (map env.windows n.writes) ≡ owned_by c.in_ok-holdings.holdings
+    = sym (c.in_ok-holdings.ensures.owned ∙ ap within writes) in
+    let given : (child x).start ≡ record {
+      body = b;
+      environment = env;
+      contents = contents_of c.in_ok-holdings.holdings;
+      owned = owned_by c.in_ok-holdings.holdings;
+      nest = nest - 1;
+      path = m.thread.path.turns.items ++ (m.thread.spawned + 1) ∷ [];
+    } = (λ t. record {
+      body = b;
+      environment = env;
+      contents = holds t;
+      owned = owns t;
+      nest = nest - 1;
+      path = m.thread.path.turns.items ++ (m.thread.spawned + 1) ∷ [];
+    }) in
+    given ∙ sym c.in_ok-start.ensures in
     let kept : rListed = record {
       path = c.in_ok-child.field-0;
       windows = c.in_ok-windows.windows;

@@ -18,11 +18,11 @@ returns-in-Err c =
     let m = c.args.self.now in let p = program m.plan.program.now in
     let l = c.args.label in let k = c.in-Err.kind in
     let into : List (Frame Own) → Own → Window × Window → Standing Own = λ fs x ws.
-        let st = with_own x (state_of m.thread) in
-        record {
-          frames = Rest (codes c.args.body.now) ∷ fs;
-          state = record st { environment = with_sides c.args.names.0.number c.args.names.1.number ws st.environment };
-        } in
+    let st = with_own x (state_of m.thread) in
+    record {
+      frames = Rest (codes c.args.body.now) ∷ fs;
+      state = record st { environment = with_sides c.args.names.0.number c.args.names.1.number ws st.environment };
+    } in
     on_ok_both c.fault.result
     (λ state kept needs close. turns_fault m c.fault.new.self l k
     (acted p (own_rules needs m.thread.nest close) l
