@@ -6,6 +6,7 @@ pub mod ComesBack
 pub mod CompleteResults
 pub mod ExactResults
 pub mod Examples
+pub mod HeldPlaces
 pub mod HoldingTurns
 pub mod KeepingHold
 pub mod Lists
@@ -14,6 +15,9 @@ pub mod NextAction
 pub mod OnePath
 pub mod OwnRunSettles
 pub mod ReachedTasks
+pub mod RunSteps
+pub mod RunTops
+pub mod RunsGoOn
 pub mod SettledResults
 pub mod SideBySide
 pub mod Simulation

@@ -3,12 +3,15 @@ pub mod Frames
 pub mod Given
 pub mod Holds
 pub mod Lists
+pub mod MayRun
 pub mod OwnRun
 pub mod Places
 pub mod Reached
 pub mod Ready
 pub mod Results
+pub mod RunTurns
 pub mod Runs
 pub mod Settling
-pub mod Translation
+pub mod Standings
 pub mod Stops
+pub mod Translation

@@ -29,6 +29,11 @@ ghost use Rattle.own_run.specs.Runs.{root, root_result, root_comes_to, all_resul
 ghost use Rattle.own_run.specs.Runs.{MayStand, IsTaskResult, MayGoOn, MayEnd};
 ghost use Rattle.own_run.specs.Settling.{settle, IsParted};
 ghost use Rattle.own_run.specs.Lists.{Each, Shuffled};
+ghost use Rattle.own_run.specs.MayRun.{MayRun, Stays};
+ghost use Rattle.own_run.specs.RunTurns.{IsTurn};
+ghost use Rattle.own_run.specs.Standings.{state_of, with_own};
+ghost use Rattle.own_run.specs.declared.run.Run.{Run};
+ghost use Rattle.own_run.specs.declared.turn.Turn.{Turn};
 
 /// Of a sound and accepted program: tasks apart come to the one-thread outcome; results of own runs
 /// that settle, in whatever order they stand, are told as it; and the results of all tasks, each
@@ -248,4 +253,15 @@ pub fn tasks_stop_over_the_budget()
     ensures finish { (before st : State Own) (rs : List TaskResult) (x : Settled)
         → settle (result_of st) rs ≡ Some x
         → is_stopped (handed before x st).flow ≡ (is_stopped st.flow || some_halted rs) }
+{}
+
+/// A run in Rust of a sound and accepted program has what it does next, and where a turn of it goes
+/// on, that is a run of the program's again: it stands for a task that may come to stand so.
+pub fn runs_stay_tasks()
+    ensures next { (p : Program) → IsSound p → IsAccepted p
+        → (input : List (List ℤ)) (b : Budget) → FitsArrays p.arrays input
+        → (r : Run) (m : MayRun p input b r)
+        → HasNext (needs_of p) (with_own m.own (state_of r.thread)) m.frames }
+    ensures stays { (p : Program) (input : List (List ℤ)) (b : Budget) (r : Run) (t : Turn)
+        → MayRun p input b r → IsTurn (needs_of p) r t → Stays p input b t }
 {}

@@ -2,6 +2,11 @@
 
 #![tactic(auto)]
 
+pub mod frame;
 pub mod laws;
+pub mod memory;
+pub mod needed;
 pub mod result;
+pub mod run;
 pub mod start;
+pub mod turn;

@@ -1,0 +1,141 @@
+-- What holdings hold, as contents and sets of places.
+use Rattle.std.proofs.Common.{◌≡◌, List, [], ◌∷◌, ◌++◌, refl, sym, ap, ◌∙◌, subst, Option, Some, None, map}
+use Rattle.std.specs.Prelude.{ℤ, Bool, true, false, ◌&&◌, ◌||◌, not, option_map, is_some, if◌then◌else◌}
+use Rattle.sections.specs.Covers.{has, is_in}
+use Rattle.sections.specs.Place.{Place, Window, same_place}
+use Rattle.types.specs.Contents.{write, IsThere}
+use Rattle.holdings.specs.Held.{Held, Map, Owned, Shared, number_of, numbers, owned_number, owned, put, as_owned, as_shared}
+use Rattle.holdings.specs.Held.{only as only_at, without as without_at, over as over_at, IsThere as AreThere, AreApart, first_of}
+use Rattle.own_run.specs.Places.{Places, covered, within, only, without}
+use Rattle.own_run.proofs.Windows.{places_same}
+
+-- ---- a write
+
+number_put : (b : Bool) (v : ℤ) (o : Option Held)
+    → option_map number_of (if b then Some (Owned v) else o) ≡ (if b then Some v else option_map number_of o)
+number_put true v o = refl
+number_put false v o = refl
+
+pub numbers-put : (q : Place) (v : ℤ) (m : Map Held) → numbers (put q (Owned v) m) ≡ write q v (numbers m)
+numbers-put q v m = λ t r. number_put (same_place q r) v (m r) t
+
+owned_put : (b : Bool) (v : ℤ) (o : Option Held) → (b ≡ true → is_some (owned_number o) ≡ true)
+    → is_some (owned_number (if b then Some (Owned v) else o)) ≡ is_some (owned_number o)
+owned_put true v o is = sym (is refl)
+owned_put false v o is = refl
+
+-- the places that are owned
+abbrev pub owns : Map Held → Places
+owns m q = is_some (owned m q)
+
+-- a write to an owned place leaves what is owned
+pub owned-put : (q : Place) (v : ℤ) (m : Map Held) → is_some (owned m q) ≡ true
+    → owns (put q (Owned v) m) ≡ owns m
+owned-put q v m is =
+    λ t r. owned_put (same_place q r) v (m r)
+    (λ same. subst (λ (s : Place). is_some (owned m s) ≡ true) (places_same q r same) is) t
+
+-- ---- windows
+
+pub has-within : (ws : List Window) (q : Place) → has ws q ≡ within ws q
+has-within [] q = refl
+has-within (w ∷ ws) q = ap (λ (b : Bool). is_in w q || b) (has-within ws q)
+
+pub has-is-within : (ws : List Window) → has ws ≡ within ws
+has-is-within ws = λ t q. has-within ws q t
+
+pub within-append : (ws vs : List Window) (q : Place) → within (ws ++ vs) q ≡ within ws q || within vs q
+within-append [] vs q = refl
+within-append (w ∷ ws) vs q =
+    ap (λ (b : Bool). covered w q || b) (within-append ws vs q) ∙ or_assoc (covered w q) (within ws q) (within vs q)
+  where
+    or_assoc : (a b c : Bool) → a || (b || c) ≡ (a || b) || c
+    or_assoc true b c = refl
+    or_assoc false b c = refl
+
+-- ---- parts: what is carved and shared
+
+false_none : {A : Type 0} (o : Option A) → is_some o ≡ true → o ≡ None → ⊥
+false_none (Some x) e n = absurd (let bad : ⊥ = cc in bad)
+false_none None e n = absurd (let bad : ⊥ = cc in bad)
+
+there_some : (o : Option ℤ) → IsThere o → o ≡ None → ⊥
+there_some (Some v) h n = absurd (let bad : ⊥ = cc in bad)
+there_some None h n = absurd h
+
+-- a place that is owned is there
+pub all_owned : (set : Place → Bool) (m : Map Held) → ((q : Place) → set q ≡ true → is_some (owned m q) ≡ true)
+    → AreThere set (owned m)
+all_owned set m own q e n = false_none (owned m q) (own q e) n
+
+held_some : (o : Option Held) → IsThere (option_map number_of o) → o ≡ None → ⊥
+held_some (Some v) h n = absurd (let bad : ⊥ = cc in bad)
+held_some None h n = absurd h
+
+pub all_there : (set : Place → Bool) (m : Map Held) → ((q : Place) → set q ≡ true → IsThere (numbers m q))
+    → AreThere set m
+all_there set m there q e n = held_some (m q) (there q e) n
+
+module _ (ws rs : Place → Bool) (m : Map Held) (own : (q : Place) → ws q ≡ true → is_some (owned m q) ≡ true) where
+  -- what a child has: what was carved, over copies
+  abbrev pub childs : Map Held
+  childs = over_at (as_owned (owned (only_at ws m))) (as_shared (only_at rs (numbers m)))
+
+  child_number : (w r : Bool) (o : Option Held) → (w ≡ true → is_some (owned_number o) ≡ true)
+      → option_map number_of (first_of (option_map Owned (owned_number (if w then o else None)))
+      (option_map Shared (if r then option_map number_of o else None)))
+      ≡ (if w || r then option_map number_of o else None)
+  child_number true r (Some (Owned v)) is = refl
+  child_number true r (Some (Shared v)) is = absurd (let bad : false ≡ true = is refl in let worse : ⊥ = cc in worse)
+  child_number true r None is = absurd (let bad : false ≡ true = is refl in let worse : ⊥ = cc in worse)
+  child_number false true (Some (Owned v)) is = refl
+  child_number false true (Some (Shared v)) is = refl
+  child_number false true None is = refl
+  child_number false false o is = refl
+
+  pub child_contents : numbers childs ≡ only (λ q. ws q || rs q) (numbers m)
+  child_contents = λ t q. child_number (ws q) (rs q) (m q) (own q) t
+
+  child_is_own : (w r : Bool) (o : Option Held) → (w ≡ true → is_some (owned_number o) ≡ true)
+      → is_some (owned_number (first_of (option_map Owned (owned_number (if w then o else None)))
+      (option_map Shared (if r then option_map number_of o else None)))) ≡ w
+  child_is_own true r (Some (Owned v)) is = refl
+  child_is_own true r (Some (Shared v)) is = absurd (let bad : false ≡ true = is refl in let worse : ⊥ = cc in worse)
+  child_is_own true r None is = absurd (let bad : false ≡ true = is refl in let worse : ⊥ = cc in worse)
+  child_is_own false true (Some (Owned v)) is = refl
+  child_is_own false true (Some (Shared v)) is = refl
+  child_is_own false true None is = refl
+  child_is_own false false o is = refl
+
+  pub child_owned : owns childs ≡ ws
+  child_owned = λ t q. child_is_own (ws q) (rs q) (m q) (own q) t
+
+  left_number : (w : Bool) (o : Option Held) → option_map number_of (if w then None else o) ≡ (if w then None else option_map number_of o)
+  left_number true o = refl
+  left_number false o = refl
+
+  -- what is left to the parent
+  pub left_contents : numbers (without_at ws m) ≡ without ws (numbers m)
+  left_contents = λ t q. left_number (ws q) (m q) t
+
+  abbrev outside : Places
+  outside q = is_some (owned m q) && not (ws q)
+
+  left_is_own : (w : Bool) (o : Option Held) → is_some (owned_number (if w then None else o)) ≡ is_some (owned_number o) && not w
+  left_is_own true (Some (Owned v)) = refl
+  left_is_own true (Some (Shared v)) = refl
+  left_is_own true None = refl
+  left_is_own false (Some (Owned v)) = refl
+  left_is_own false (Some (Shared v)) = refl
+  left_is_own false None = refl
+
+  pub left_owned : owns (without_at ws m) ≡ outside
+  left_owned = λ t q. left_is_own (ws q) (m q) t
+
+-- copies own nothing
+copies_own : (o : Option ℤ) → owned_number (option_map Shared o) ≡ None
+copies_own (Some v) = refl
+copies_own None = refl
+
+pub copies_apart : (rs : Place → Bool) (m : Map Held) (other : Map ℤ) → AreApart other (owned (as_shared (only_at rs (numbers m))))
+copies_apart rs m other q there = copies_own (only_at rs (numbers m) q)

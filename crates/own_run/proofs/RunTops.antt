@@ -1,0 +1,147 @@
+-- The top frame of a run, and what its statement may touch.
+use Rattle.std.proofs.Common.{◌≡◌, ℕ, zero, suc, ◌+◌, List, [], ◌∷◌, ◌++◌, length, Ok, Err, refl, sym, ap, ◌∙◌, subst, arith}
+use Rattle.std.proofs.Common.{Global, Vec}
+use Rattle.std.proofs.lemmas.List.{length-append}
+use Rattle.std.specs.Prelude.{ℤ, Bool, true, false, ⊤}
+use Rattle.sections.specs.Member.{Member, first}
+use Rattle.sections.specs.Place.{Place, In}
+use Rattle.types.specs.declared.fault.FaultKind.{FaultKind}
+use Rattle.types.specs.Code.{Code, Codes, Then, Number, Program, Primitive, Skip, Assign, Store, Print, Raise, Do, If, While, Split, Call, Async, Finish}
+use Rattle.types.specs.Run.{State, array_of, number_at}
+use Rattle.types.specs.Translation.{program}
+use Rattle.types.specs.Value.{Valued, element_of, holds_number, then_try}
+use Rattle.effects.specs.Needs.{Needs}
+use Rattle.serial_run.specs.Primitive.{CanStore, fitting, target}
+use Rattle.own_run.specs.Frames.{Frame, Rest}
+use Rattle.own_run.specs.Holds.{HasOwn, HasNeeds}
+use Rattle.own_run.specs.OwnRun.{Own}
+use Rattle.own_run.specs.Reached.{HasNext}
+use Rattle.own_run.specs.RunTurns.{CanAct, HasNeeded, KnowsFirst}
+use Rattle.own_run.specs.Standings.{Shows, ShowsFrame, Stacked, state_of, with_own}
+use Rattle.own_run.specs.Translation.{owned_by}
+use Rattle.own_run.specs.declared.frame.Frame.{Frame as rFrame}
+use Rattle.own_run.specs.declared.run.Run.{Run}
+use Rattle.own_run.proofs.Windows.{element_in}
+
+-- ---- the top frame
+
+record SameEnd {A : Type 0} (xs ys : List A) (x y : A) : Type 0 where
+  pub front : xs ≡ ys
+  pub last : x ≡ y
+
+same_end : {A : Type 0} (xs ys : List A) (x y : A) → xs ++ x ∷ [] ≡ ys ++ y ∷ [] → SameEnd xs ys x y
+same_end [] [] x y e = let same : x ≡ y = cc in record { front = refl; last = same }
+same_end [] (z ∷ zs) x y e =
+    let long : 1 ≡ suc (length (zs ++ y ∷ [])) = ap length e in
+    absurd (omega (arith, long, length-append zs (y ∷ [])))
+same_end (z ∷ zs) [] x y e =
+    let long : suc (length (zs ++ x ∷ [])) ≡ 1 = ap length e in
+    absurd (omega (arith, long, length-append zs (x ∷ [])))
+same_end {A} (z ∷ zs) (w ∷ ws) x y e =
+    let head : z ≡ w = cc in
+    let tail : zs ++ x ∷ [] ≡ ws ++ y ∷ [] = cc in
+    let r = same_end zs ws x y tail in
+    record { front = ap (λ (l : List A). z ∷ l) r.front ∙ ap (λ (h : A). h ∷ ws) head; last = r.last }
+
+-- a fact of all frames that a run may stand on, where the top one was taken off
+pub on_top : (gs hs : List rFrame) (g : rFrame) (fs : List (Frame Own)) → gs ≡ hs ++ g ∷ [] → Stacked gs fs
+    → (P : List (Frame Own) → Type 0) → ((f : Frame Own) (below : List (Frame Own)) → ShowsFrame g f → Stacked hs below → P (f ∷ below))
+    → P fs
+on_top gs hs g [] e stacked P h =
+    let long : 0 ≡ length (hs ++ g ∷ []) = ap length (sym stacked ∙ e) in
+    absurd (omega (arith, long, length-append hs (g ∷ [])))
+on_top gs hs g (f ∷ fs) e stacked P h =
+    let same = same_end stacked.0 hs stacked.1 g (sym stacked.2 ∙ e) in
+    h f fs (subst (λ (t : rFrame). ShowsFrame t f) same.last stacked.3) (subst (λ (l : List rFrame). Stacked l fs) same.front stacked.4)
+
+-- no frame is left
+pub none_stacked : (gs : List rFrame) (fs : List (Frame Own)) → gs ≡ [] → Stacked gs fs → fs ≡ []
+none_stacked gs [] e stacked = refl
+none_stacked gs (f ∷ fs) e stacked =
+    let long : length (stacked.0 ++ stacked.1 ∷ []) ≡ 0 = ap length (sym stacked.2 ∙ e) in
+    absurd (omega (arith, long, length-append stacked.0 (stacked.1 ∷ [])))
+
+-- ---- what a statement may touch
+
+module _ (p : Program) where
+  -- a store writes in the window of its section
+  target_in : (st : State (Unit {0})) (s : ℕ) (i e : Number) (q : Place) (v : ℤ) → Ok (q, v) ≡ target p st s i e
+      → In (st.environment.windows s) q
+  target_in st s i e q v is = by_index (number_at st i) is
+    where
+      by_fit : (b : Bool) (r : Place) (x : ℤ) → Ok (q, v) ≡ fitting b r x → q ≡ r
+      by_fit true r x is =
+          let written : Place × ℤ = (q, v) in
+          let given : Place × ℤ = (r, x) in
+          let same : written ≡ given = cc in
+          ap (λ (t : Place × ℤ). t.0) same
+      by_fit false r x is = absurd (let bad : ⊥ = cc in bad)
+
+      by_element : (at x : ℤ) (r : Valued Place) → r ≡ element_of (st.environment.windows s) at
+          → Ok (q, v) ≡ then_try r (λ q. fitting (holds_number (array_of p q.array).element x) q x)
+          → In (st.environment.windows s) q
+      by_element at x (Ok r) from is =
+          let same = by_fit (holds_number (array_of p r.array).element x) r x is in
+          element_in (st.environment.windows s) at q (sym (ap Ok same ∙ from))
+      by_element at x (Err f) from is = absurd (let bad : ⊥ = cc in bad)
+
+      by_number : (at : ℤ) (r : Valued ℤ) → Ok (q, v) ≡ then_try r (λ x. then_try (element_of (st.environment.windows s) at)
+          (λ q. fitting (holds_number (array_of p q.array).element x) q x)) → In (st.environment.windows s) q
+      by_number at (Ok x) is = by_element at x (element_of (st.environment.windows s) at) refl is
+      by_number at (Err f) is = absurd (let bad : ⊥ = cc in bad)
+
+      by_index : (r : Valued ℤ) → Ok (q, v) ≡ then_try r (λ at. then_try (number_at st e) (λ x.
+          then_try (element_of (st.environment.windows s) at)
+          (λ q. fitting (holds_number (array_of p q.array).element x) q x))) → In (st.environment.windows s) q
+      by_index (Ok at) is = by_number at (number_at st e) is
+      by_index (Err f) is = absurd (let bad : ⊥ = cc in bad)
+
+module _ (needs : Codes → Needs) (IsAsync : ℕ → Codes → Type 0) (r : Run) (x : Own) (l : ℕ) (rest : Codes) (fs : List (Frame Own))
+    (owned : x.owned ≡ owned_by r.thread.store.holdings) (hs : Vec rFrame Global) where
+  abbrev st : State Own
+  st = with_own x (state_of r.thread)
+
+  can_store : (s : Primitive) → HasOwn st l (Do s) → CanAct needs IsAsync l (Do s) (record r { frames = hs })
+  can_store Skip h = tt
+  can_store (Assign y e) h = tt
+  can_store (Store s i e) h = λ q v is.
+      ap (λ (o : Place → Bool). o q) (sym owned)
+      ∙ (h _ first q (target_in (program r.plan.program.now) (state_of r.thread) s i e q v is)).1 refl
+  can_store (Print es) h = tt
+  can_store (Raise e) h = tt
+
+  -- the first statement of a block has what it touches
+  pub can_first : (c : Code) → HasNext needs st (Rest (Then l c rest) ∷ fs) → KnowsFirst IsAsync (Rest (Then l c rest) ∷ fs)
+      → CanAct needs IsAsync l c (record r { frames = hs })
+  can_first (Do s) h known = can_store s h.0
+  can_first (If t b c) h known = tt
+  can_first (While t b) h known = tt
+  can_first (Split s e x y b) h known = tt
+  can_first (Call f es ss) h known = tt
+  can_first (Async b) h known = (
+    record {
+      there = h.1.there;
+      owned = λ q w. ap (λ (o : Place → Bool). o q) (sym owned) ∙ h.1.owned q w;
+    },
+    known,
+  )
+  can_first (Finish b) h known = tt
+
+pub none_left : {A : Type 0} (xs : List A) → length xs ≡ 0 → xs ≡ []
+none_left [] e = refl
+none_left (x ∷ xs) e = absurd (omega (arith, e))
+
+-- where the top frame is one that is shown as a given one
+pub on_frame : (gs hs : List rFrame) (g t : rFrame) (fs : List (Frame Own)) → gs ≡ hs ++ g ∷ [] → g ≡ t → Stacked gs fs
+    → (P : List (Frame Own) → Type 0) → ((f : Frame Own) (below : List (Frame Own)) → ShowsFrame t f → Stacked hs below → P (f ∷ below))
+    → P fs
+on_frame gs hs g t fs e is stacked P h =
+    on_top gs hs g fs e stacked P (λ f below shows rest. h f below (subst (λ (u : rFrame). ShowsFrame u f) is shows) rest)
+
+-- where it is this one
+pub on_this : (gs hs : List rFrame) (g t : rFrame) (to : Frame Own) (fs : List (Frame Own)) → gs ≡ hs ++ g ∷ [] → g ≡ t
+    → ((f : Frame Own) → ShowsFrame t f → f ≡ to) → Stacked gs fs
+    → (P : List (Frame Own) → Type 0) → ((below : List (Frame Own)) → Stacked hs below → P (to ∷ below)) → P fs
+on_this gs hs g t to fs e is only stacked P h =
+    on_frame gs hs g t fs e is stacked P
+    (λ f below shows rest. subst (λ (f : Frame Own). P (f ∷ below)) (sym (only f shows)) (h below rest))

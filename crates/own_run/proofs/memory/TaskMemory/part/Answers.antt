@@ -1,0 +1,73 @@
+use Rattle.std.proofs.Common.{◌≡◌, ◌++◌, ap, ◌∙◌, sym, refl, subst, map, List, rules}
+use Rattle.std.proofs.lemmas.List.{map-append}
+use Rattle.std.specs.Prelude.{Bool, true, ◌||◌}
+use Rattle.sections.specs.Covers.{has}
+use Rattle.sections.specs.Place.{Place, Window}
+use Rattle.sections.specs.Translation.{window}
+use Rattle.types.specs.Contents.{Contents}
+use Rattle.holdings.specs.Held.{Held, Map, numbers, owned, only, as_owned, as_shared, over, AreApart, IsThere, without as without_at}
+use Rattle.holdings.specs.Holdings.{held}
+use Rattle.holdings.specs.Errors.{RefusesPlaces, RefusesOwned}
+use Rattle.own_run.specs.Places.{Places, within, only as only_in, without as without_in}
+use Rattle.own_run.proofs.HeldPlaces.{has-is-within, within-append, owns, all_owned, all_there, childs, child_contents}
+use Rattle.own_run.proofs.HeldPlaces.{child_owned, left_contents, left_owned, copies_apart}
+use Rattle.own_run.proofs.memory.TaskMemory.part.Goals as goal
+
+pub returns-in_err-child-clause-refused : goal.returns-in_err-child-clause-refused
+returns-in_err-child-clause-refused c =
+    let m = held c.args.self.now.holdings in
+    let rs = map window c.args.reads.now in
+    let there = subst (λ (s : Places). IsThere s m) (sym (has-is-within rs)) (all_there (within rs) m c.requires.there) in
+    search rules
+
+pub returns-in_err-own-clause-refused : goal.returns-in_err-own-clause-refused
+returns-in_err-own-clause-refused c =
+    let m = held c.args.self.now.holdings in
+    let ws = map window c.args.writes.now in
+    let there = subst (λ (s : Places). IsThere s (owned m)) (sym (has-is-within ws)) (all_owned (within ws) m c.requires.owned) in
+    search rules
+
+pub returns-in-Ok-clause-contents : goal.returns-in-Ok-clause-contents
+returns-in-Ok-clause-contents c =
+    let m = held c.args.self.now.holdings in
+    let ws = map window c.args.writes.now in let rs = map window c.args.reads.now in
+    let together : (λ (q : Place). within ws q || within rs q) ≡ within (map window (c.args.writes.now ++ c.args.reads.now))
+    = (λ t q. sym (within-append ws rs q) t) ∙ ap within (sym (map-append window c.args.writes.now c.args.reads.now)) in
+    ap numbers (c.in-Ok.ensures.pasted
+    ∙ ap (λ (o : Map Held). over (as_owned (owned o)) (held c.in_ok-child.child))
+    (c.in_ok-own.ensures.taken ∙ ap (λ (s : Places). only s m) (has-is-within ws))
+    ∙ ap (over (as_owned (owned (only (within ws) m))))
+    (c.in_ok-child.ensures.shared ∙ ap (λ (s : Places). as_shared (only s (numbers m))) (has-is-within rs)))
+    ∙ child_contents (within ws) (within rs) m c.requires.owned
+    ∙ ap (λ (s : Places). only_in s (numbers m)) together
+
+pub returns-in-Ok-clause-owned : goal.returns-in-Ok-clause-owned
+returns-in-Ok-clause-owned c =
+    let m = held c.args.self.now.holdings in
+    let ws = map window c.args.writes.now in let rs = map window c.args.reads.now in
+    ap owns (c.in-Ok.ensures.pasted
+    ∙ ap (λ (o : Map Held). over (as_owned (owned o)) (held c.in_ok-child.child))
+    (c.in_ok-own.ensures.taken ∙ ap (λ (s : Places). only s m) (has-is-within ws))
+    ∙ ap (over (as_owned (owned (only (within ws) m))))
+    (c.in_ok-child.ensures.shared ∙ ap (λ (s : Places). as_shared (only s (numbers m))) (has-is-within rs)))
+    ∙ child_owned (within ws) (within rs) m c.requires.owned
+
+pub returns-in-Ok-clause-left : goal.returns-in-Ok-clause-left
+returns-in-Ok-clause-left c =
+    let m = held c.args.self.now.holdings in let ws = map window c.args.writes.now in
+    ap numbers (c.in_ok-own.ensures.left ∙ ap (λ (s : Places). without_at s m) (has-is-within ws))
+    ∙ left_contents (within ws) (within ws) m c.requires.owned
+
+pub returns-in-Ok-clause-keeps : goal.returns-in-Ok-clause-keeps
+returns-in-Ok-clause-keeps c =
+    let m = held c.args.self.now.holdings in let ws = map window c.args.writes.now in
+    ap owns (c.in_ok-own.ensures.left ∙ ap (λ (s : Places). without_at s m) (has-is-within ws))
+    ∙ left_owned (within ws) (within ws) m c.requires.owned
+
+pub returns-in-Err-clause-refused : goal.returns-in-Err-clause-refused
+returns-in-Err-clause-refused c =
+    let m = held c.args.self.now.holdings in
+    let apart : AreApart (owned (held c.in_ok-own.own)) (owned (held c.in_ok-child.child))
+    = subst (λ (o : Map Held). AreApart (owned (held c.in_ok-own.own)) (owned o)) (sym c.in_ok-child.ensures.shared)
+    (copies_apart (has (map window c.args.reads.now)) m (owned (held c.in_ok-own.own))) in
+    search rules

@@ -1,0 +1,178 @@
+-- What a turn of a run in Rust is: the turn of the task that it stands for.
+use Rattle.std.specs.Prelude.{ℕ, ◌≡◌, ◌+◌, ◌<◌, ◌≤◌, ◌⊎◌, ⊤, List, [], ◌∷◌, Option, ◌||◌, Bool, true, false}
+use Rattle.sections.specs.Place.{Place}
+use Rattle.types.specs.Code.{Code, Do, If, While, Split, Call, Async, Finish, Codes, Then}
+use Rattle.types.specs.Contents.{IsThere}
+use Rattle.types.specs.Run.{State, counted}
+use Rattle.types.specs.Translation.{environment, program}
+use Rattle.effects.specs.Needs.{Needs}
+use Rattle.serial_run.specs.Primitive.{CanStore}
+use Rattle.serial_run.specs.declared.thread.Flow.TheVariants.{On as rOn}
+use Rattle.own_run.specs.Places.{written, touched}
+use Rattle.own_run.specs.Results.{Settled}
+use Rattle.own_run.specs.OwnRun.{Own, Action, Step, Spawn, EnterFinish, own_rules, result_of}
+use Rattle.own_run.specs.OwnRun.{back_from}
+use Rattle.own_run.specs.Frames.{Frame, Rest, Again, AtEnd, Back, Standing, acted, turn, done_by}
+use Rattle.own_run.specs.Frames.{done_in}
+use Rattle.own_run.specs.Reached.{HasNext}
+use Rattle.own_run.specs.Standings.{Shows, IsAt, IsEnd, Stacked, state_of, with_own}
+use Rattle.own_run.specs.Stops.{is_over, stops}
+use Rattle.own_run.specs.Translation.{contents_of, owned_by, task_result, start}
+use Rattle.own_run.specs.declared.result.Settled.{Settled as rSettled}
+use Rattle.own_run.specs.declared.run.Run.{Run}
+use Rattle.own_run.specs.declared.turn.Done.{Done}
+use Rattle.own_run.specs.declared.turn.Done.TheVariants.{Gone, Spawned, Entered, Exceeded}
+use Rattle.own_run.specs.declared.turn.Paused.{Paused}
+use Rattle.own_run.specs.declared.turn.Turn.{Turn}
+use Rattle.own_run.specs.declared.turn.Turn.TheVariants.{Going, Spawns, EntersFinish, EndsFinish}
+use Rattle.own_run.specs.declared.turn.Turn.TheVariants.{Ended, Over}
+
+-- what becomes of frames and the state on top of them
+abbrev pub Going_on : Type 0
+Going_on = List (Frame Own) → State Own → Standing Own
+
+-- whatever the old run stands for, the new one stands for what becomes of it
+pub record Turns (go : Going_on) (old new : Run) : Type 0 where
+  pub plan : new.plan ≡ old.plan
+  pub nest : new.thread.nest ≡ old.thread.nest
+  pub stands : (fs : List (Frame Own)) (x : Own) → Shows old fs x
+      → IsAt new (go fs (with_own x (state_of old.thread)))
+
+-- these actions were done; `over` where that went over the budget
+abbrev pub DoneAs : List Action → (over : Bool) → Done → Type 0
+DoneAs actions over Gone = (over ≡ false) × ((actions ≡ []) ⊎ (actions ≡ Step ∷ []))
+DoneAs actions over (Spawned s) = (over ≡ false) × (actions ≡ Spawn (start s) ∷ [])
+DoneAs actions over Entered = (over ≡ false) × (actions ≡ EnterFinish ∷ [])
+DoneAs actions over Exceeded = over ≡ true
+
+-- this was done, and the new run stands for what becomes of it
+pub record Did (go : Going_on) (actions : State Own → List Action) (over : State Own → Bool)
+    (old : Run) (done : Done) (new : Run) : Type 0 where
+  pub turns : Turns go old new
+  pub noted : (x : Own) →
+      let st = with_own x (state_of old.thread) in
+      DoneAs (actions st) (over st) done
+
+-- the flow is on, and the step of a statement was taken
+pub record HasRoom (r : Run) : Type 0 where
+  pub on : r.thread.flow ≡ rOn
+  pub taken : r.thread.spawned + r.thread.steps < r.plan.budget.steps
+
+-- a place that the body of an async may touch is held, and one that it may write is owned
+pub record HasNeeded (n : Needs) (r : Run) : Type 0 where
+  pub there : (q : Place) → touched (environment r.thread.environment) n q ≡ true
+      → IsThere (contents_of r.thread.store.holdings q)
+  pub owned : (q : Place) → written (environment r.thread.environment) n q ≡ true
+      → owned_by r.thread.store.holdings q ≡ true
+
+module _ (needs : Codes → Needs) (IsAsync : ℕ → Codes → Type 0) where
+  -- a run has what a statement needs
+  abbrev pub CanAct : (label : ℕ) → Code → Run → Type 0
+  CanAct l (Do s) r =
+      CanStore (program r.plan.program.now)
+      (λ q. owned_by r.thread.store.holdings q ≡ true) (state_of r.thread) s
+  CanAct l (Async b) r = HasNeeded (needs b) r × IsAsync l b
+  CanAct l (If t b c) r = ⊤
+  CanAct l (While t b) r = ⊤
+  CanAct l (Split s e x y b) r = ⊤
+  CanAct l (Call f es ss) r = ⊤
+  CanAct l (Finish b) r = ⊤
+
+-- a statement whose step was taken
+abbrev pub Acts : (label : ℕ) → Code → (old new : Run) → Type 0
+Acts l c old new =
+    (needs : Codes → Needs) (close : State Own → Option Settled)
+    → Turns (acted (program old.plan.program.now) (own_rules needs old.thread.nest close) l c) old new
+
+module _ (needs : Codes → Needs) where
+  -- the same, noted among the actions
+  abbrev pub DidAct : (label : ℕ) → Code → (old : Run) → Done → (new : Run) → Type 0
+  DidAct l c old done new =
+      (close : State Own → Option Settled) →
+      let r = own_rules needs old.thread.nest close in
+      Did (λ fs st. acted (program old.plan.program.now) r l c fs (counted r c st))
+      (done_by needs old.thread.nest 1 c) (λ st. is_over old.thread.nest 1 c) old done new
+
+  -- a turn of a frame that was taken off
+  abbrev pub DidTurn : Frame Own → (old : Run) → Done → (new : Run) → Type 0
+  DidTurn f old done new =
+      (close : State Own → Option Settled) →
+      let r = own_rules needs old.thread.nest close in
+      Did (turn (program old.plan.program.now) r f)
+      (done_in needs old.thread.nest f) (stops old.thread.nest f) old done new
+
+-- a run waits at the end of a finish, above these frames
+pub record Waits (q : Paused) (fs : List (Frame Own)) (before st : State Own) : Type 0 where
+  pub frames : Stacked q.frames.items fs
+  pub outer : IsEnd q.outer before
+  pub environment : environment q.environment ≡ st.environment
+  pub steps : q.steps ≡ st.steps
+  pub path : q.path.turns.items ≡ st.path
+  pub spawned : q.spawned ≡ st.spawned
+  pub few : q.spawned + q.steps ≤ q.plan.budget.steps
+
+-- what was owned at the end of a finish is owned behind it, and what comes back
+abbrev pub ComesBack : rSettled → State Own → Type 0
+ComesBack s st =
+    owned_by s.holdings ≡ (λ q. st.extra.owned q || back_from st.extra.pending q)
+
+-- a run stands so on the same program, with as much nest
+pub record GoesTo (old : Run) (next : Standing Own) (new : Run) : Type 0 where
+  pub plan : new.plan ≡ old.plan
+  pub nest : new.thread.nest ≡ old.thread.nest
+  pub stands : IsAt new next
+
+-- where a turn goes on: so it stands then, with these actions done
+abbrev pub GoesAs : (old : Run) → (next : Standing Own) → List Action → (over : Bool) → Turn → Type 0
+GoesAs old next actions over (Going r) = GoesTo old next r × DoneAs actions over Gone
+GoesAs old next actions over (Spawns r s) = GoesTo old next r × DoneAs actions over (Spawned s)
+GoesAs old next actions over (EntersFinish r) = GoesTo old next r × DoneAs actions over Entered
+GoesAs old next actions over (Over r) = GoesTo old next r × DoneAs actions over Exceeded
+GoesAs old next actions over (EndsFinish q r) = ⊥
+GoesAs old next actions over (Ended r) = ⊥
+
+-- it waits with what it made
+abbrev pub WaitsAs : (old : Run) → List (Frame Own) → (before st : State Own) → Turn → Type 0
+WaitsAs old fs before st (EndsFinish q r) =
+    Waits q fs before st × (q.plan ≡ old.plan) × (q.nest ≡ old.thread.nest)
+    × (task_result r ≡ result_of st)
+WaitsAs old fs before st _ = ⊥
+
+-- it has ended with what it made
+abbrev pub EndsAs : State Own → Turn → Type 0
+EndsAs st (Ended r) = task_result r ≡ result_of st
+EndsAs st _ = ⊥
+
+module _ (needs : Codes → Needs) (close : State Own → Option Settled) (old : Run) where
+  -- the turn of a frame
+  abbrev pub GoesFrom : Frame Own → List (Frame Own) → State Own → Turn → Type 0
+  GoesFrom f fs st =
+      GoesAs old (turn (program old.plan.program.now) (own_rules needs old.thread.nest close) f fs st)
+      (done_in needs old.thread.nest f st) (stops old.thread.nest f st)
+
+  -- the turn of a task on these frames
+  abbrev pub TurnOf : List (Frame Own) → State Own → Turn → Type 0
+  TurnOf [] st = EndsAs st
+  TurnOf (AtEnd before ∷ fs) st = WaitsAs old fs before st
+  TurnOf (Rest b ∷ fs) st = GoesFrom (Rest b) fs st
+  TurnOf (Again l t b ∷ fs) st = GoesFrom (Again l t b) fs st
+  TurnOf (Back env ∷ fs) st = GoesFrom (Back env) fs st
+
+-- whatever the run stands for, that is its turn
+abbrev pub IsTurn : (Codes → Needs) → Run → Turn → Type 0
+IsTurn needs old turn =
+    (close : State Own → Option Settled) (fs : List (Frame Own)) (x : Own) → Shows old fs x
+    → TurnOf needs close old fs (with_own x (state_of old.thread)) turn
+
+-- the first statement of a block, where it is an async, is known
+abbrev pub KnowsFirst : (IsAsync : ℕ → Codes → Type 0) → List (Frame Own) → Type 0
+KnowsFirst IsAsync (Rest (Then l (Async b) rest) ∷ fs) = IsAsync l b
+KnowsFirst IsAsync fs = ⊤
+
+-- a run stands for a task that has what it does next
+pub record CanTurn (needs : Codes → Needs) (IsAsync : ℕ → Codes → Type 0) (r : Run) : Type 0 where
+  pub frames : List (Frame Own)
+  pub own : Own
+  pub shows : Shows r frames own
+  pub next : HasNext needs (with_own own (state_of r.thread)) frames
+  pub known : KnowsFirst IsAsync frames

@@ -1,0 +1,66 @@
+-- What a run in Rust stands for: a task in the making.
+use Rattle.std.specs.Prelude.{ℕ, ◌+◌, ◌≡◌, ◌≤◌, List, [], ◌∷◌, ◌++◌, map}
+use Rattle.types.specs.Run.{State}
+use Rattle.types.specs.Translation.{codes, truth, environment, fault}
+use Rattle.serial_run.specs.Standing.{state_by}
+use Rattle.serial_run.specs.declared.thread.Thread.{Thread}
+use Rattle.own_run.specs.OwnRun.{Own}
+use Rattle.own_run.specs.Frames.{Frame, Rest, Again, AtEnd, Back, Standing}
+use Rattle.own_run.specs.Translation.{contents_of, owned_by, listed}
+use Rattle.own_run.specs.declared.frame.Frame.{Frame as rFrame}
+use Rattle.own_run.specs.declared.frame.Outer.{Outer}
+use Rattle.own_run.specs.declared.frame.Frame.TheVariants.{Rest as rRest, Again as rAgain}
+use Rattle.own_run.specs.declared.frame.Frame.TheVariants.{EndFinish as rEndFinish, EndCall as rEndCall}
+use Rattle.own_run.specs.declared.memory.TaskMemory.{TaskMemory}
+use Rattle.own_run.specs.declared.run.Run.{Run}
+
+-- a state, and what an own run keeps beside
+abbrev pub with_own : Own → State (Unit {0}) → State Own
+with_own x st = record {
+  flow = st.flow;
+  environment = st.environment;
+  store = st.store;
+  lines = st.lines;
+  faults = st.faults;
+  steps = st.steps;
+  path = st.path;
+  spawned = st.spawned;
+  extra = x;
+}
+
+-- where its statements stand
+abbrev pub state_of : Thread TaskMemory → State (Unit {0})
+state_of t = state_by (λ m. contents_of m.holdings) t
+
+-- the end of a finish, and what was told and listed before it
+pub record IsEnd (o : Outer) (before : State Own) : Type 0 where
+  pub lines : before.lines ≡ map (λ v. v.items) o.lines.items
+  pub faults : before.faults ≡ map fault o.faults.items
+  pub pending : map (λ c. c.listed) before.extra.pending ≡ map listed o.pending.items
+
+-- a frame
+abbrev pub ShowsFrame : rFrame → Frame Own → Type 0
+ShowsFrame (rRest b) f = f ≡ Rest (codes b.now)
+ShowsFrame (rAgain l t b) f = f ≡ Again l (truth t.now) (codes b.now)
+ShowsFrame (rEndFinish o) f = (before : State Own) × (f ≡ AtEnd before) × IsEnd o before
+ShowsFrame (rEndCall env) f = f ≡ Back (environment env)
+
+-- frames, of which the last is the top one
+abbrev pub Stacked : List rFrame → List (Frame Own) → Type 0
+Stacked gs [] = gs ≡ []
+Stacked gs (f ∷ fs) =
+    (below : List rFrame) × (top : rFrame)
+    × (gs ≡ below ++ top ∷ []) × ShowsFrame top f × Stacked below fs
+
+-- a run stands on these frames and keeps this beside; it began no child without a step
+pub record Shows (r : Run) (fs : List (Frame Own)) (x : Own) : Type 0 where
+  pub frames : Stacked r.frames.items fs
+  pub owned : x.owned ≡ owned_by r.thread.store.holdings
+  pub pending : map (λ c. c.listed) x.pending ≡ map listed r.pending.items
+  pub few : r.thread.spawned + r.thread.steps ≤ r.plan.budget.steps
+
+-- a run stands so
+pub record IsAt (r : Run) (t : Standing Own) : Type 0 where
+  pub own : Own
+  pub shows : Shows r t.frames own
+  pub is : with_own own (state_of r.thread) ≡ t.state

@@ -1,0 +1,86 @@
+//! What a task reads and writes.
+
+ghost use Rattle.std.specs.Prelude.{◌≡◌, ◌&&◌, ◌++◌, ℤ, true, not, map, IfOk, OnOk};
+ghost use Rattle.sections.specs.Translation.{window as window_of};
+ghost use Rattle.types.specs.Contents.{read as read_of, IsThere};
+ghost use Rattle.own_run.specs.Places.{Places as PlaceSet, within, only, without};
+ghost use Rattle.own_run.specs.Translation.{contents_of, owned_by};
+
+use holdings::error::HoldError;
+use holdings::holdings::Holdings;
+use sections::window::{Place, Window};
+use serial_run::memory::Memory;
+use std::alloc::{AllocError, Global};
+use types::value::Places;
+
+/// What a task holds, as the memory of its statements.
+#[derive(Drop)]
+pub struct TaskMemory {
+    pub holdings: Holdings,
+}
+
+impl Places for TaskMemory {
+    ghost numbers = { λ m. read_of (contents_of m.holdings) };
+
+    fn read(&self, place: Place) -> i64 {
+        match self.holdings.read(place.array, place.index) {
+            Ok(number) => number,
+            Err(_) => 0,
+        }
+    }
+}
+
+impl Memory for TaskMemory {
+    ghost use Rattle.std.specs.Prelude.{refl};
+
+    ghost contents = { λ m. contents_of m.holdings };
+
+    ghost Writable = { λ m q. owned_by m.holdings q ≡ true };
+
+    ghost Shape = { PlaceSet };
+
+    ghost shape = { λ m. owned_by m.holdings };
+
+    fn write(&mut self, place: Place, value: i64) {
+        match self.holdings.write(place.array, place.index, value) {
+            Ok(()) => {}
+            Err(_) => {}
+        }
+    }
+
+    ghost reads = { λ s. refl };
+}
+
+impl TaskMemory {
+    ghost use Rattle.std.specs.Prelude.{IfErr};
+    ghost use Rattle.holdings.specs.declared.error.HoldError.TheVariants.{OutOfMemory};
+
+    /// Takes the places of windows out, and copies of those of others, for a child.
+    pub fn part(
+        &mut self,
+        alloc: Global,
+        writes: &[Window],
+        reads: &[Window],
+    ) -> Result<Holdings, HoldError>
+        requires owned { (q : _) → within (map window_of writes.now) q ≡ true
+            → owned_by self.old.holdings q ≡ true }
+        requires there { (q : _) → within (map window_of reads.now) q ≡ true
+            → IsThere (contents_of self.old.holdings q) }
+        ensures contents { IfOk result (λ c. contents_of c
+            ≡ only (within (map window_of (writes.now ++ reads.now)))
+            (contents_of self.old.holdings)) }
+        ensures owned { IfOk result (λ c. owned_by c ≡ within (map window_of writes.now)) }
+        ensures left { OnOk result (contents_of self.new.holdings
+            ≡ without (within (map window_of writes.now)) (contents_of self.old.holdings)) }
+        ensures keeps { OnOk result (owned_by self.new.holdings
+            ≡ (λ q. owned_by self.old.holdings q && not (within (map window_of writes.now) q))) }
+        ensures refused { IfErr result (λ e. e ≡ OutOfMemory) }
+    {
+        let mut child = self.holdings.share(alloc, reads)?;
+        let own = self.holdings.carve(alloc, writes)?;
+        match child.paste(alloc, own) {
+            Ok(()) => Ok(child),
+            Err((error, _)) => Err(error),
+        }
+    }
+}

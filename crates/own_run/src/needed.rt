@@ -1,0 +1,30 @@
+//! What the asyncs of a program need.
+
+ghost use Rattle.std.specs.Prelude.{◌≡◌, ℕ, map};
+ghost use Rattle.sections.specs.Translation.{section};
+ghost use Rattle.types.specs.Code.{Codes};
+ghost use Rattle.types.specs.Translation.{codes as codes_of};
+
+use sections::id::SectionId;
+use types::code::{Label, Stmt};
+
+/// What tells which sections the body of an async may write, and which others it may read.
+pub trait Needed {
+    ghost use Rattle.effects.specs.Needs.{Needs};
+
+    /// What each body needs.
+    ghost needs: { Self → Codes → Needs };
+
+    /// The async of this label has this body.
+    ghost IsAsync: { Self → ℕ → Codes → Type 0 };
+
+    /// The sections that the async's body may write.
+    fn writes(&self, label: Label, body: &[Stmt]) -> &[SectionId]
+        requires { IsAsync self.now label (codes_of body.now) }
+        ensures { map section result.now ≡ (needs self.now (codes_of body.now)).writes };
+
+    /// The others that it may read.
+    fn reads(&self, label: Label, body: &[Stmt]) -> &[SectionId]
+        requires { IsAsync self.now label (codes_of body.now) }
+        ensures { map section result.now ≡ (needs self.now (codes_of body.now)).reads };
+}
