@@ -223,17 +223,26 @@ module _ (p : Program) where
       (PendingOf p accesses s x × All p accesses b y) ⊎
       ((TogetherInTurn p l s x y ⊎ TogetherInside p s x y) ⊎ Together p accesses b x y)
 
-  fronted_out : (l : ℕ) (s : Code) (b : Codes) (x y : Access) → Fronted l s b x y → Together p accesses (Then l s b) x y
+  pub fronted_out : (l : ℕ) (s : Code) (b : Codes) (x y : Access) → Fronted l s b x y → Together p accesses (Then l s b) x y
   fronted_out l s b x y (inl h) = Together.follows h.0 h.1
   fronted_out l s b x y (inr (inl (inl h))) = in_turn_out l s b x y h
   fronted_out l s b x y (inr (inl (inr h))) = inside_out l s b x y h
   fronted_out l s b x y (inr (inr h)) = Together.later h
 
-  fronted_in : (l : ℕ) (s : Code) (b : Codes) (x y : Access) → Together p accesses (Then l s b) x y → Fronted l s b x y
+  pub fronted_in : (l : ℕ) (s : Code) (b : Codes) (x y : Access) → Together p accesses (Then l s b) x y → Fronted l s b x y
   fronted_in l s b x y (Together.follows h k) = inl (h, k)
   fronted_in l s b x y (Together.turns h k) = inr (inl (inl (h, k)))
   fronted_in l s b x y (Together.inside k h) = inr (inl (inr (inside_in s _ x y k h)))
   fronted_in l s b x y (Together.later h) = inr (inr h)
+
+  pub none_all : (x : Access) → All p accesses End x → ⊥
+  none_all x h = elim h [ ]
+
+  pub none_pending : (x : Access) → Pending p accesses End x → ⊥
+  none_pending x h = elim h [ ]
+
+  pub none_together : (x y : Access) → Together p accesses End x y → ⊥
+  none_together x y h = elim h [ ]
 
   module _ (origins : List Origin) (f : ℕ) where
     -- one statement more in front
@@ -260,15 +269,6 @@ module _ (p : Program) where
           (least_pairs origins f (λ x y. TogetherInTurn p l s x y ⊎ TogetherInside p s x y) (Together p accesses b)
           (race_found here.race) (race_found rest.race) h.least_race g.least_race)));
     }
-
-    none_all : (x : Access) → All p accesses End x → ⊥
-    none_all x h = elim h [ ]
-
-    none_pending : (x : Access) → Pending p accesses End x → ⊥
-    none_pending x h = elim h [ ]
-
-    none_together : (x y : Access) → Together p accesses End x y → ⊥
-    none_together x y h = elim h [ ]
 
     kept_none : (those : Access → Type 0) (xs : List Access) → xs ≡ [] → ((x : Access) → those x → ⊥) → AreFirsts those xs
     kept_none those xs e never =
