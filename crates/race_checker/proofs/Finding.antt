@@ -5,27 +5,27 @@ use Rattle.std.proofs.Math.Seq.{drop-cons}
 use Rattle.std.specs.Prelude.{Bool, true, false, Option, None, nat_eq, slice_index_or, if◌then◌else◌, ◌-◌}
 use Rattle.std.proofs.lemmas.Bool.{eqb-true}
 use Rattle.sections.specs.Member.{Member, first, next}
-use Rattle.sections.specs.Origins.{Origin, Root, Left, Right, origin_of}
+use Rattle.sections.specs.Origins.{Origin, Left, Right, origin_of}
 use Rattle.types.specs.declared.code.Stmt.{Stmt}
 use Rattle.types.specs.Code.{Number, Truth, Code, Do, If, While, Split, Call, Async, Finish, Codes, End, Then, Primitive, Program}
 use Rattle.types.specs.Translation.{code, codes}
 use Rattle.effects.specs.Accesses.{Access, own_accesses}
 use Rattle.effects.specs.Effects.{accesses, past_split, past_call, renamed, AllOf, All, PendingOf, Pending}
-use Rattle.effects.specs.Firsts.{AreFirsts, AreFirstsIn, IsPassed, kept_in}
+use Rattle.effects.specs.Firsts.{AreFirsts, IsPassed, kept_in}
 use Rattle.effects.specs.Rows.{AllInside, LeftBy, Renamed}
 use Rattle.effects.specs.Summarized.{body_of}
 use Rattle.types.specs.Run.{procedure_of}
-use Rattle.effects.specs.Sound.{SplitsWell, IsSound, parameters_of}
+use Rattle.effects.specs.Sound.{IsSound, parameters_of}
 use Rattle.effects.specs.Translation.{access}
 use Rattle.effects.specs.declared.access.Access.{Access as rAccess}
 use Rattle.effects.specs.declared.firsts.Firsts.{Firsts}
 use Rattle.effects.proofs.AccessesInScope.{allowed, allowed_of, pending_of_all, pending_all}
-use Rattle.effects.proofs.FirstLabels.{firsts_same, firsts_of_firsts, firsts_both, firsts_renamed, as_early_itself, nothing_kept}
+use Rattle.effects.proofs.FirstLabels.{firsts_same, firsts_of_firsts, firsts_both, firsts_renamed, as_early_itself}
 use Rattle.effects.proofs.Members.{numbers_from-below}
 use Rattle.effects.proofs.OwnAllowed.{own_allowed}
 use Rattle.effects.proofs.LeastRows.{all_rows, pending_rows, all_lists, pending_lists}
 use Rattle.parallel_relation.specs.Together.{Block, Together}
-use Rattle.race_checker.specs.Found.{Around, Stands, StandsOf, IsFound, TogetherInside, TogetherInTurn, IsFoundIn, IsFoundInside}
+use Rattle.race_checker.specs.Found.{Stands, StandsOf, TogetherInside, TogetherInTurn, IsFoundIn, IsFoundInside}
 use Rattle.race_checker.specs.Found.{IsFoundOf, crossing, IsBoth, IsInFront, IsRenamed, IsWithOwn, IsInTurn}
 use Rattle.race_checker.specs.Races.{Race, Clashes, LeastOf}
 use Rattle.race_checker.specs.Search.{each_with, lesser_of}

@@ -1,12 +1,12 @@
 -- What is found of a list is put together from what is found of its pieces.
-use Rattle.std.proofs.Common.{◌≡◌, ◌⊎◌, inl, inr, ℕ, zero, suc, ◌+◌, ◌<◌, ◌≤◌, ◌*◌, List, [], ◌∷◌, ◌++◌, map, length, refl}
-use Rattle.std.proofs.Common.{sym, ap, ◌∙◌, subst, arith, Result, Ok, Err, IfOk, All as AllOfList, append_assoc, append-nil}
+use Rattle.std.proofs.Common.{◌≡◌, ◌⊎◌, inl, inr, ℕ, zero, suc, ◌<◌, ◌≤◌, List, [], ◌∷◌, ◌++◌, map, length, refl}
+use Rattle.std.proofs.Common.{sym, ◌∙◌, subst, arith, Result, Ok, IfOk, All as AllOfList, append_assoc, append-nil}
 use Rattle.std.specs.Prelude.{flat_map}
 use Rattle.std.specs.List.{AllZip}
 use Rattle.std.specs.Borrow.{Bor}
 use Rattle.sections.specs.Origins.{Origin}
 use Rattle.types.specs.declared.code.Stmt.{Stmt}
-use Rattle.types.specs.Code.{Codes, End, Then, Program, Procedure}
+use Rattle.types.specs.Code.{Program, Procedure}
 use Rattle.types.specs.Translation.{code, codes}
 use Rattle.effects.specs.Accesses.{Access}
 use Rattle.effects.specs.Effects.{accesses, All, Pending}
@@ -23,7 +23,7 @@ use Rattle.race_checker.specs.Search.{lesser_of}
 use Rattle.race_checker.specs.Translation.{found as race_found}
 use Rattle.race_checker.specs.declared.found.Found.{Found}
 use Rattle.race_checker.proofs.Finding.{fronted_in, fronted_out, none_all, none_pending, none_together, least_map, least_pairs}
-use Rattle.race_checker.proofs.Finding.{crossing_least, in_range, below_all, size_of, size_in}
+use Rattle.race_checker.proofs.Finding.{crossing_least, in_range, below_all, size_in}
 
 -- Two lists, one behind the other
 

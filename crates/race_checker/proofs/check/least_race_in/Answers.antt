@@ -10,7 +10,7 @@ use Rattle.race_checker.proofs.Judging.{numbered_stands}
 use Rattle.race_checker.proofs.check.least_race_in.Goals as goal
 
 pub found_in-requires-clause-stands : goal.found_in-requires-clause-stands
-found_in-requires-clause-stands c =
+found_in-requires-clause-stands g c κs within =
     let p = program c.args.code.now in
     let f = c.args.procedure.number in
     let body : codes c.deref.result.now ≡ (numbered p f).body =
@@ -19,7 +19,7 @@ found_in-requires-clause-stands c =
     subst (Stands p (numbered p f).sections) (sym body) (numbered_stands p f c.requires.sound)
 
 pub returns : goal.returns
-returns c =
+returns g c =
     let p = program c.args.code.now in
     let f = c.args.procedure.number in
     let body : codes c.deref.result.now ≡ (numbered p f).body =

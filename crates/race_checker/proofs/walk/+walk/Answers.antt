@@ -1,4 +1,4 @@
-use Rattle.std.proofs.Common.{◌≡◌, ◌<◌, ◌≤◌, ◌-◌, ℕ, ◌+◌, List, All as AllOfList, map, drop, length, refl, sym, ap, ◌∙◌, subst, arith, rules}
+use Rattle.std.proofs.Common.{◌≡◌, ◌<◌, ◌≤◌, ◌-◌, ℕ, List, All as AllOfList, map, drop, length, sym, ap, ◌∙◌, subst, arith}
 use Rattle.sections.specs.Origins.{Origin}
 use Rattle.sections.specs.Translation.{section}
 use Rattle.sections.specs.Tree.{origins_of}
@@ -12,7 +12,7 @@ use Rattle.effects.specs.Firsts.{AreFirsts, kept_in}
 use Rattle.effects.specs.Rows.{Renamed}
 use Rattle.effects.specs.Translation.{access}
 use Rattle.effects.specs.declared.access.Access.{Access as rAccess}
-use Rattle.race_checker.specs.Found.{Stands, StandsOf, IsFoundIn, IsFoundOf, IsInFront, IsInTurn}
+use Rattle.race_checker.specs.Found.{Stands, StandsOf, IsFoundIn, IsInFront, IsInTurn}
 use Rattle.race_checker.specs.Races.{numbered}
 use Rattle.race_checker.specs.Translation.{found as race_found}
 use Rattle.race_checker.proofs.Finding.{in_range, below_all, below_of, below_pending, stands_at, stands_behind}
@@ -21,7 +21,7 @@ use Rattle.race_checker.proofs.Finding.{found_in_front, found_in_none, found_ins
 use Rattle.race_checker.proofs.Finding.{found_inside_async, found_inside_finish, found_of_arm, found_of_loop, all_of_turn}
 use Rattle.race_checker.proofs.Finding.{pending_of_turn, none_behind, codes_from, least_none}
 use Rattle.race_checker.proofs.Finding.{size_of, size_in, size_at, smaller}
-use Rattle.std.proofs.Crossing.{crosses, frees}
+use Rattle.std.proofs.Crossing.{crosses}
 use denote.Param.Send.{sendable}
 use Rattle.std.specs.Prelude.{slice_index_or}
 use Rattle.rayon.specs.Lists.{chunks_of}
