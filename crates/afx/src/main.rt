@@ -6,8 +6,9 @@
 mod tests;
 
 use driver::act::act;
+use driver::emit::append;
 use driver::files::MachineFiles;
-use std::io::IsTerminal;
+use std::io::{BufWriter, IsTerminal, Write};
 use std::process::ExitCode;
 use std::{env, io};
 
@@ -23,8 +24,13 @@ fn main(rt: HostRuntime) -> io::Result<ExitCode> {
         words.push(String::from_str(alloc, "--help")?)?;
     }
     let mut files = MachineFiles::new(&rt);
-    let mut out = rt.stdout();
+    let mut out = BufWriter::new(alloc, rt.stdout())?;
     let mut err = rt.stderr();
-    let status = act(alloc, &words, &mut files, &mut out, &mut err);
+    let status = act(&rt, alloc, &words, &mut files, &mut out, &mut err);
+    // A command that is refused has left nothing to write.
+    if status != 1 && out.flush().is_err() {
+        let _ = append(&mut err, b"cannot write output\n");
+        return Ok(ExitCode::from(1));
+    }
     Ok(ExitCode::from(status))
 }

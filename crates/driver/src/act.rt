@@ -15,9 +15,11 @@ use crate::request::Request;
 use clap::Error;
 use std::alloc::{AllocError, Global};
 use std::io::Write;
+use std::thread::Threads;
 
 /// Does what the words behind the program's name ask, and answers the exit status.
-pub fn act<F: FileSource, O: Write, E: Write>(
+pub fn act<R: Threads + Sync, F: FileSource, O: Write, E: Write>(
+    rt: &R,
     alloc: Global,
     words: &[String],
     files: &mut F,
@@ -33,7 +35,7 @@ pub fn act<F: FileSource, O: Write, E: Write>(
 {
     match request_of(alloc, words) {
         Err(error) => tell_command_line(alloc, &error, out, err),
-        Ok(request) => match perform(alloc, request, files, out) {
+        Ok(request) => match perform(rt, alloc, request, files, out) {
             Ok(status) => status,
             Err(failure) => {
                 let _ = emit_message(err, &failure);
@@ -44,7 +46,8 @@ pub fn act<F: FileSource, O: Write, E: Write>(
 }
 
 /// Does one command.
-fn perform<F: FileSource, O: Write>(
+fn perform<R: Threads + Sync, F: FileSource, O: Write>(
+    rt: &R,
     alloc: Global,
     request: Request<'_>,
     files: &mut F,
@@ -56,7 +59,7 @@ fn perform<F: FileSource, O: Write>(
     let name = request.file;
     let bytes = read_file(alloc, files, name)?;
     match std::str::from_utf8(&bytes) {
-        Ok(text) => commands::perform(alloc, request, text, files, out),
+        Ok(text) => commands::perform(rt, alloc, request, text, files, out),
         Err(_) => Err(Failure::not_utf8(alloc, name)),
     }
 }

@@ -29,6 +29,7 @@ use race_checker::accepted::Accepted;
 use race_checker::check::Refused;
 use std::alloc::{AllocError, Global};
 use std::io::Write;
+use std::thread::Threads;
 use syntax::tree::Program;
 use types::check::type_check;
 use types::code::Array;
@@ -37,7 +38,8 @@ use types::outcome::Outcome;
 use types::typed::Typed;
 
 /// What is asked of the text of a program.
-pub fn perform<F: FileSource, O: Write>(
+pub fn perform<R: Threads + Sync, F: FileSource, O: Write>(
+    rt: &R,
     alloc: Global,
     request: Request<'_>,
     text: &str,
@@ -50,8 +52,8 @@ pub fn perform<F: FileSource, O: Write>(
     match request.command {
         Command::Run => run_as_tasks(alloc, request.settings, text, files, out),
         Command::Serial => run_serially(alloc, request.settings, text, files, out),
-        Command::Check => check(alloc, text, out),
-        Command::Listing => list(alloc, text, out),
+        Command::Check => check(rt, alloc, text, out),
+        Command::Listing => list(rt, alloc, text, out),
         Command::Pairs => pairs(alloc, text, out),
     }
 }
@@ -105,21 +107,31 @@ fn run_serially<F: FileSource, O: Write>(
 }
 
 /// `check`: tells how many procedures and labels an accepted program has.
-fn check<O: Write>(alloc: Global, text: &str, out: &mut O) -> Result<u8, Failure>
+fn check<R: Threads + Sync, O: Write>(
+    rt: &R,
+    alloc: Global,
+    text: &str,
+    out: &mut O,
+) -> Result<u8, Failure>
     ensures { (s : SettingsOf) (held : Held) → Does Command.Check s held text.now
         (O.contents out.old) (O.contents out.new) result }
 {
-    let accepted = accepted_of(alloc, text)?;
+    let accepted = accepted_of(rt, alloc, text)?;
     let line = accepted_line(alloc, accepted.typed().code())?;
     answer(out, line.as_str())
 }
 
 /// `check --list`: writes the listing of an accepted program.
-fn list<O: Write>(alloc: Global, text: &str, out: &mut O) -> Result<u8, Failure>
+fn list<R: Threads + Sync, O: Write>(
+    rt: &R,
+    alloc: Global,
+    text: &str,
+    out: &mut O,
+) -> Result<u8, Failure>
     ensures { (s : SettingsOf) (held : Held) → Does Command.Listing s held text.now
         (O.contents out.old) (O.contents out.new) result }
 {
-    let accepted = accepted_of(alloc, text)?;
+    let accepted = accepted_of(rt, alloc, text)?;
     let Ok(listing) = syntax::listing(alloc, accepted.typed().program()) else {
         return Err(Failure::NoMemory);
     };
@@ -173,13 +185,17 @@ fn answer_pairs<O: Write>(out: &mut O, pairs: PairList<'_>) -> Result<u8, Failur
 }
 
 /// The program of a text, where it breaks no rule and has no race.
-fn accepted_of(alloc: Global, text: &str) -> Result<Accepted, Failure>
+fn accepted_of<R: Threads + Sync>(
+    rt: &R,
+    alloc: Global,
+    text: &str,
+) -> Result<Accepted, Failure>
     ensures spelled { IfOk result (λ a. AreTokensOf (chars text.now) (spelling (program_in a.typed))) }
     ensures why { IfErr result (TellsNotAccepted text.now) }
 {
     let typed = typed_of(alloc, text)?;
     typed_programs_are_sound(&typed);
-    match race_checker::check::check(alloc, typed) {
+    match race_checker::check::check(rt, alloc, typed) {
         Ok(accepted) => Ok(accepted),
         Err(Refused::OutOfMemory) => Err(Failure::NoMemoryInCheck),
         Err(Refused::Race { race, typed }) => Err(Failure::of_race(alloc, typed.code(), race)),

@@ -16,7 +16,7 @@ fn main(rt: HostRuntime) -> io::Result<()> {
         let words = words_of(alloc, &line)?;
         let mut out = rt.stdout();
         let mut err = rt.stdout();
-        let status = act(alloc, &words, &mut files, &mut out, &mut err);
+        let status = act(&rt, alloc, &words, &mut files, &mut out, &mut err);
         if status != 0 {
             println!(rt; "status {status}")?;
         }

@@ -1,7 +1,7 @@
 -- Worked programs: their clashes, and three that are sound, of which two are accepted.
 use Rattle.std.proofs.Common.{◌≡◌, ◌≢◌, ℕ, zero, suc, ◌+◌, ◌-◌, ◌^◌, ◌<◌, ◌≤◌, List, [], ◌∷◌, refl, sym, ap, ◌∙◌, arith}
 use Rattle.std.proofs.Common.{true≢false}
-use Rattle.std.specs.Prelude.{Bool, true, false, filter, slice_get, Some}
+use Rattle.std.specs.Prelude.{true, false, filter, slice_get, Some}
 use Rattle.syntax.specs.declared.tree.ElementType.TheVariants.{Int}
 use Rattle.syntax.specs.declared.tree.Relation.TheVariants.{Equal}
 use Rattle.sections.specs.Origins.{Origin, Root, Left, Right, origin_of, IsNumbered}

@@ -5,27 +5,27 @@ use Rattle.std.proofs.Math.Seq.{drop-cons}
 use Rattle.std.specs.Prelude.{Bool, true, false, Option, None, nat_eq, slice_index_or, if◌then◌else◌, ◌-◌}
 use Rattle.std.proofs.lemmas.Bool.{eqb-true}
 use Rattle.sections.specs.Member.{Member, first, next}
-use Rattle.sections.specs.Origins.{Origin, Root, Left, Right, origin_of}
+use Rattle.sections.specs.Origins.{Origin, Left, Right, origin_of}
 use Rattle.types.specs.declared.code.Stmt.{Stmt}
 use Rattle.types.specs.Code.{Number, Truth, Code, Do, If, While, Split, Call, Async, Finish, Codes, End, Then, Primitive, Program}
 use Rattle.types.specs.Translation.{code, codes}
 use Rattle.effects.specs.Accesses.{Access, own_accesses}
 use Rattle.effects.specs.Effects.{accesses, past_split, past_call, renamed, AllOf, All, PendingOf, Pending}
-use Rattle.effects.specs.Firsts.{AreFirsts, AreFirstsIn, IsPassed, kept_in}
+use Rattle.effects.specs.Firsts.{AreFirsts, IsPassed, kept_in}
 use Rattle.effects.specs.Rows.{AllInside, LeftBy, Renamed}
 use Rattle.effects.specs.Summarized.{body_of}
 use Rattle.types.specs.Run.{procedure_of}
-use Rattle.effects.specs.Sound.{SplitsWell, IsSound, parameters_of}
+use Rattle.effects.specs.Sound.{IsSound, parameters_of}
 use Rattle.effects.specs.Translation.{access}
 use Rattle.effects.specs.declared.access.Access.{Access as rAccess}
 use Rattle.effects.specs.declared.firsts.Firsts.{Firsts}
 use Rattle.effects.proofs.AccessesInScope.{allowed, allowed_of, pending_of_all, pending_all}
-use Rattle.effects.proofs.FirstLabels.{firsts_same, firsts_of_firsts, firsts_both, firsts_renamed, as_early_itself, nothing_kept}
+use Rattle.effects.proofs.FirstLabels.{firsts_same, firsts_of_firsts, firsts_both, firsts_renamed, as_early_itself}
 use Rattle.effects.proofs.Members.{numbers_from-below}
 use Rattle.effects.proofs.OwnAllowed.{own_allowed}
 use Rattle.effects.proofs.LeastRows.{all_rows, pending_rows, all_lists, pending_lists}
 use Rattle.parallel_relation.specs.Together.{Block, Together}
-use Rattle.race_checker.specs.Found.{Around, Stands, StandsOf, IsFound, TogetherInside, TogetherInTurn, IsFoundIn, IsFoundInside}
+use Rattle.race_checker.specs.Found.{Stands, StandsOf, TogetherInside, TogetherInTurn, IsFoundIn, IsFoundInside}
 use Rattle.race_checker.specs.Found.{IsFoundOf, crossing, IsBoth, IsInFront, IsRenamed, IsWithOwn, IsInTurn}
 use Rattle.race_checker.specs.Races.{Race, Clashes, LeastOf}
 use Rattle.race_checker.specs.Search.{each_with, lesser_of}
@@ -223,17 +223,26 @@ module _ (p : Program) where
       (PendingOf p accesses s x × All p accesses b y) ⊎
       ((TogetherInTurn p l s x y ⊎ TogetherInside p s x y) ⊎ Together p accesses b x y)
 
-  fronted_out : (l : ℕ) (s : Code) (b : Codes) (x y : Access) → Fronted l s b x y → Together p accesses (Then l s b) x y
+  pub fronted_out : (l : ℕ) (s : Code) (b : Codes) (x y : Access) → Fronted l s b x y → Together p accesses (Then l s b) x y
   fronted_out l s b x y (inl h) = Together.follows h.0 h.1
   fronted_out l s b x y (inr (inl (inl h))) = in_turn_out l s b x y h
   fronted_out l s b x y (inr (inl (inr h))) = inside_out l s b x y h
   fronted_out l s b x y (inr (inr h)) = Together.later h
 
-  fronted_in : (l : ℕ) (s : Code) (b : Codes) (x y : Access) → Together p accesses (Then l s b) x y → Fronted l s b x y
+  pub fronted_in : (l : ℕ) (s : Code) (b : Codes) (x y : Access) → Together p accesses (Then l s b) x y → Fronted l s b x y
   fronted_in l s b x y (Together.follows h k) = inl (h, k)
   fronted_in l s b x y (Together.turns h k) = inr (inl (inl (h, k)))
   fronted_in l s b x y (Together.inside k h) = inr (inl (inr (inside_in s _ x y k h)))
   fronted_in l s b x y (Together.later h) = inr (inr h)
+
+  pub none_all : (x : Access) → All p accesses End x → ⊥
+  none_all x h = elim h [ ]
+
+  pub none_pending : (x : Access) → Pending p accesses End x → ⊥
+  none_pending x h = elim h [ ]
+
+  pub none_together : (x y : Access) → Together p accesses End x y → ⊥
+  none_together x y h = elim h [ ]
 
   module _ (origins : List Origin) (f : ℕ) where
     -- one statement more in front
@@ -260,15 +269,6 @@ module _ (p : Program) where
           (least_pairs origins f (λ x y. TogetherInTurn p l s x y ⊎ TogetherInside p s x y) (Together p accesses b)
           (race_found here.race) (race_found rest.race) h.least_race g.least_race)));
     }
-
-    none_all : (x : Access) → All p accesses End x → ⊥
-    none_all x h = elim h [ ]
-
-    none_pending : (x : Access) → Pending p accesses End x → ⊥
-    none_pending x h = elim h [ ]
-
-    none_together : (x y : Access) → Together p accesses End x y → ⊥
-    none_together x y h = elim h [ ]
 
     kept_none : (those : Access → Type 0) (xs : List Access) → xs ≡ [] → ((x : Access) → those x → ⊥) → AreFirsts those xs
     kept_none those xs e never =

@@ -3,8 +3,7 @@ use Rattle.std.proofs.Common.{◌≡◌, ◌≢◌, ◌⊎◌, inl, inr, ℕ, ze
 use Rattle.std.proofs.Common.{arith}
 use Rattle.std.proofs.lemmas.Bool.{eq-eqb, ne_eqb, eqb-true, eqb-false, ltb-true, ltb-false}
 use Rattle.std.specs.Prelude.{Bool, true, false, Option, None, Some, nat_eq, nat_lt, slice_get, slice_index_or, if◌then◌else◌}
-use Rattle.sections.specs.Member.{Member}
-use Rattle.sections.specs.Origins.{Origin, Root}
+use Rattle.sections.specs.Origins.{Root}
 use Rattle.types.specs.Code.{Codes, End, Procedure, Program}
 use Rattle.types.specs.Run.{procedure_of, no_procedure}
 use Rattle.effects.specs.Accesses.{Access}
@@ -14,7 +13,7 @@ use Rattle.effects.specs.Rows.{Renamed}
 use Rattle.effects.specs.Sound.{IsSoundIn, IsSound, parameters_of}
 use Rattle.effects.proofs.Members.{numbers_from-below}
 use Rattle.parallel_relation.specs.Together.{Together}
-use Rattle.race_checker.specs.Clash.{Clash, HasNoClash, IsAccepted}
+use Rattle.race_checker.specs.Clash.{HasNoClash, IsAccepted}
 use Rattle.race_checker.specs.Found.{Stands}
 use Rattle.race_checker.specs.Races.{Race, Clashes, IsRaceIn, IsRace, LeastOf, numbered}
 use Rattle.race_checker.specs.Search.{race_of, lesser_of}

@@ -1,5 +1,5 @@
 -- The least of some races, put together from the least of parts.
-use Rattle.std.proofs.Common.{◌≡◌, ◌⊎◌, inl, inr, ℕ, ◌≤◌, Bool, true, false, ◌&&◌, ◌||◌, List, [], ◌∷◌, ◌++◌, map, flat_map, fold}
+use Rattle.std.proofs.Common.{◌≡◌, ◌⊎◌, inl, inr, ℕ, Bool, true, false, ◌&&◌, ◌||◌, List, [], ◌∷◌, map, fold}
 use Rattle.std.proofs.Common.{if◌then◌else◌, refl, sym, ap, ◌∙◌, subst, true≢false}
 use Rattle.std.specs.Prelude.{Option, None, Some}
 use Rattle.std.proofs.lemmas.Bool.{and_parts}
@@ -12,8 +12,8 @@ use Rattle.effects.specs.Firsts.{HasAsEarly, AreFirsts}
 use Rattle.effects.proofs.Members.{in_left, in_right, in_map, in_parts, from_map}
 use Rattle.race_checker.specs.Acceptance.{is_clash}
 use Rattle.race_checker.specs.Clash.{Clash}
-use Rattle.race_checker.specs.Races.{is_less, access_key, Race, race_key, comes_before, Clashes, IsLeast, LeastOf}
-use Rattle.race_checker.specs.Search.{race_of, is_news, tell, each_with, IsRaceAmong, lesser_of}
+use Rattle.race_checker.specs.Races.{is_less, access_key, Race, race_key, comes_before, Clashes, LeastOf}
+use Rattle.race_checker.specs.Search.{race_of, tell, each_with, IsRaceAmong, lesser_of}
 use Rattle.race_checker.proofs.RaceOrder.{not_less_trans, not_both_less, not_less_itself, Earlier, told, earlier_in_order}
 use Rattle.race_checker.proofs.RaceOrder.{earlier_other_order}
 

@@ -5,6 +5,7 @@ pub mod Examples
 pub mod Finding
 pub mod Judging
 pub mod LeastRaces
+pub mod Pieces
 pub mod RaceOrder
 pub mod Scoping
 pub mod ToldExamples

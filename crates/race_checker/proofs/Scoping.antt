@@ -10,7 +10,7 @@ use Rattle.types.specs.Code.{Procedure, Program}
 use Rattle.types.specs.Value.{Environment}
 use Rattle.types.specs.Run.{procedure_of}
 use Rattle.effects.specs.Effects.{past_call}
-use Rattle.effects.specs.Sound.{no_parameter, as_parameter, numbers_from, parameters_of, FollowsOf, Follows}
+use Rattle.effects.specs.Sound.{no_parameter, as_parameter, parameters_of, FollowsOf, Follows}
 use Rattle.effects.specs.Sound.{HasArrays, IsSound}
 use Rattle.effects.specs.Fits.{names_in}
 use Rattle.effects.proofs.Members.{numbers_from-member, numbers_from-below, false_true}

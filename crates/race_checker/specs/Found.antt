@@ -1,5 +1,5 @@
 -- What is found of statements: what they do and leave pending, by first labels, and their races.
-use Rattle.std.specs.Prelude.{ℕ, ◌≡◌, ◌<◌, ◌⊎◌, ◌++◌, List, [], map, length, fold, Option, None}
+use Rattle.std.specs.Prelude.{ℕ, ◌≡◌, ◌<◌, ◌⊎◌, ◌++◌, List, map, length, fold, Option, None}
 use Rattle.sections.specs.Member.{Member}
 use Rattle.sections.specs.Origins.{Origin, IsNumbered}
 use Rattle.types.specs.Code.{Code, Do, If, While, Split, Call, Async, Finish, Codes, Procedure}
@@ -9,7 +9,7 @@ use Rattle.effects.specs.Effects.{accesses, renamed, AllOf, All, PendingOf, Pend
 use Rattle.effects.specs.Firsts.{AreFirsts, AreFirstsIn, kept_in}
 use Rattle.effects.specs.Rows.{AllInside, LeftBy}
 use Rattle.effects.specs.Sound.{Follows, FollowsOf}
-use Rattle.parallel_relation.specs.Together.{Block, Together}
+use Rattle.parallel_relation.specs.Together.{Together}
 use Rattle.race_checker.specs.Races.{Race, Clashes, LeastOf}
 use Rattle.race_checker.specs.Search.{tell, each_with, lesser_of}
 use Rattle.race_checker.specs.Translation.{found as race_found}

@@ -1,6 +1,7 @@
 //! The race check.
 
 ghost use Rattle.std.specs.Prelude.{◌≡◌, ◌<◌, ◌≤◌, IfErr, IfOk, OnOk, length};
+ghost use Rattle.types.specs.Translation.{program as program_as};
 ghost use Rattle.types.specs.Typed.{code_of};
 ghost use Rattle.effects.specs.Sound.{IsSound};
 ghost use Rattle.effects.specs.Summarized.{AreSummaries};
@@ -15,6 +16,8 @@ use crate::walk::{found_in, procedure_of};
 use effects::laws::typed_programs_are_sound;
 use effects::summaries::{Summaries, summarize};
 use std::alloc::{AllocError, Global};
+use std::thread::Threads;
+use types::code::Program;
 use types::ids::ProcedureId;
 use types::typed::Typed;
 
@@ -32,7 +35,11 @@ pub enum Refused {
 }
 
 /// Whether a program has a race: in a procedure, called or not, or in `main`.
-pub fn check(alloc: Global, typed: Typed) -> Result<Accepted, Refused>
+pub fn check<R: Threads + Sync>(
+    rt: &R,
+    alloc: Global,
+    typed: Typed,
+) -> Result<Accepted, Refused>
     ensures accepted { IfOk result (λ accepted. accepted.typed ≡ typed) }
     ensures no_clash { OnOk result (IsAccepted (code_of typed)) }
     ensures refused { IfErr result (IsRefusalOf typed) }
@@ -40,19 +47,24 @@ pub fn check(alloc: Global, typed: Typed) -> Result<Accepted, Refused>
     typed_programs_are_sound(&typed);
     match summarize(alloc, &typed) {
         Err(_) => Err(Refused::OutOfMemory),
-        Ok(summaries) => judge(alloc, typed, summaries),
+        Ok(summaries) => judge(rt, alloc, typed, summaries),
     }
 }
 
 /// The same, with the summaries of the program.
-fn judge(alloc: Global, typed: Typed, summaries: Summaries) -> Result<Accepted, Refused>
+fn judge<R: Threads + Sync>(
+    rt: &R,
+    alloc: Global,
+    typed: Typed,
+    summaries: Summaries,
+) -> Result<Accepted, Refused>
     requires sound { IsSound (code_of typed) }
     requires summaries { AreSummaries (code_of typed) summaries }
     ensures accepted { IfOk result (λ accepted. accepted.typed ≡ typed) }
     ensures no_clash { OnOk result (IsAccepted (code_of typed)) }
     ensures refused { IfErr result (IsRefusalOf typed) }
 {
-    match least_race(alloc, &typed, &summaries) {
+    match least_race(rt, alloc, typed.code(), &summaries) {
         Err(_) => Err(Refused::OutOfMemory),
         Ok(least) => match least {
             Some(race) => Err(Refused::Race { race, typed }),
@@ -62,37 +74,39 @@ fn judge(alloc: Global, typed: Typed, summaries: Summaries) -> Result<Accepted, 
 }
 
 /// The least clash of a program.
-fn least_race(
+fn least_race<R: Threads + Sync>(
+    rt: &R,
     alloc: Global,
-    typed: &Typed,
+    code: &Program,
     summaries: &Summaries,
 ) -> Result<Option<Race>, AllocError>
-    requires sound { IsSound (code_of typed.now) }
-    requires summaries { AreSummaries (code_of typed.now) summaries.now }
-    ensures { IfOk result (λ race. LeastOf (IsRace (code_of typed.now)) (found race)) }
+    requires sound { IsSound (program_as code.now) }
+    requires summaries { AreSummaries (program_as code.now) summaries.now }
+    ensures { IfOk result (λ race. LeastOf (IsRace (program_as code.now)) (found race)) }
 {
     let mut race = None;
-    for number in 0..typed.code().procedures.len() + 1 {
+    for number in 0..code.procedures.len() + 1 {
         let procedure = ProcedureId { number };
-        race = lesser(race, least_race_in(alloc, typed, summaries, procedure)?);
+        race = lesser(race, least_race_in(rt, alloc, code, summaries, procedure)?);
     }
     Ok(race)
 }
 
 /// The least clash of a procedure, or of `main`.
-fn least_race_in(
+fn least_race_in<R: Threads + Sync>(
+    rt: &R,
     alloc: Global,
-    typed: &Typed,
+    code: &Program,
     summaries: &Summaries,
     procedure: ProcedureId,
 ) -> Result<Option<Race>, AllocError>
-    requires sound { IsSound (code_of typed.now) }
-    requires summaries { AreSummaries (code_of typed.now) summaries.now }
-    requires procedure { procedure.number ≤ length (code_of typed.now).procedures }
-    ensures { IfOk result (λ race. LeastOf (IsRaceIn (code_of typed.now) procedure.number)
+    requires sound { IsSound (program_as code.now) }
+    requires summaries { AreSummaries (program_as code.now) summaries.now }
+    requires procedure { procedure.number ≤ length (program_as code.now).procedures }
+    ensures { IfOk result (λ race. LeastOf (IsRaceIn (program_as code.now) procedure.number)
         (found race)) }
 {
-    let body = &procedure_of(typed.code(), procedure).body;
-    let found = found_in(alloc, typed, summaries, procedure, body)?;
+    let body = &procedure_of(code, procedure).body;
+    let found = found_in(rt, alloc, code, summaries, procedure, body)?;
     Ok(found.race)
 }

@@ -1,11 +1,13 @@
 //! What statements do and leave pending, and which of them clash: one pass over a procedure.
 
 ghost use Rattle.std.specs.Prelude.{◌≡◌, ◌≤◌, length, map, IfOk, None};
+ghost use Rattle.std.specs.List.{AllZip};
+ghost use Rattle.rayon.specs.Lists.{chunks_of};
+ghost use denote.Param.Send.{IsSync};
 ghost use Rattle.sections.specs.Tree.{origins_of};
 ghost use Rattle.sections.specs.Translation.{section as section_of};
 ghost use Rattle.types.specs.Translation.{code as plain_code, codes as codes_of, procedure as procedure_as};
 ghost use Rattle.types.specs.Translation.{program as program_as};
-ghost use Rattle.types.specs.Typed.{code_of};
 ghost use Rattle.effects.specs.Sound.{IsSound};
 ghost use Rattle.effects.specs.Summarized.{AreSummaries};
 ghost use Rattle.types.specs.Run.{procedure_of as plain_procedure_of};
@@ -20,11 +22,12 @@ use crate::found::Found;
 use effects::firsts::Firsts;
 use effects::own::own_accesses;
 use effects::summaries::Summaries;
+use rayon::prelude::*;
 use sections::id::SectionId;
 use std::alloc::{AllocError, Global};
+use std::thread::Threads;
 use types::code::{Procedure, Program, Stmt, StmtKind};
 use types::ids::ProcedureId;
-use types::typed::Typed;
 
 /// The procedure of a number; `main` is numbered behind the others.
 pub(crate) fn procedure_of(program: &Program, procedure: ProcedureId) -> &Procedure
@@ -37,63 +40,138 @@ pub(crate) fn procedure_of(program: &Program, procedure: ProcedureId) -> &Proced
     }
 }
 
-/// What is found of a list of statements, from its end to its front.
+/// How many statements of a list are one piece, which one thread goes through.
+const PIECE: usize = 256;
+
+/// What is found of a list of statements: of its pieces, each for itself, put together from the last to the first.
 #[cycle(walk)]
-pub(crate) fn found_in(
+pub(crate) fn found_in<R: Threads + Sync>(
+    rt: &R,
     alloc: Global,
-    typed: &Typed,
+    code: &Program,
     summaries: &Summaries,
     procedure: ProcedureId,
     body: &[Stmt],
 ) -> Result<Found, AllocError>
-    requires sound { IsSound (code_of typed.now) }
-    requires summaries { AreSummaries (code_of typed.now) summaries.now }
-    requires procedure { procedure.number ≤ length (code_of typed.now).procedures }
-    requires stands { Stands (code_of typed.now)
-        (numbered (code_of typed.now) procedure.number).sections (codes_of body.now) }
-    ensures { IfOk result (IsFoundIn (code_of typed.now)
-        (numbered (code_of typed.now) procedure.number).sections procedure.number
+    requires sound { IsSound (program_as code.now) }
+    requires summaries { AreSummaries (program_as code.now) summaries.now }
+    requires procedure { procedure.number ≤ length (program_as code.now).procedures }
+    requires stands { Stands (program_as code.now)
+        (numbered (program_as code.now) procedure.number).sections (codes_of body.now) }
+    ensures { IfOk result (IsFoundIn (program_as code.now)
+        (numbered (program_as code.now) procedure.number).sections procedure.number
         (codes_of body.now)) }
 {
-    let sections = &procedure_of(typed.code(), procedure).sections;
+    if body.len() < 2 * PIECE {
+        return found_in_piece(rt, alloc, code, summaries, procedure, body);
+    }
+    let pieces = body
+        .par_chunks(PIECE)
+        .with_min_len(1)
+        .map(
+            |piece: &[Stmt]| -> Result<Found, AllocError>
+                requires shared { IsSync R.row }
+                requires sound { IsSound (program_as code.now) }
+                requires summaries { AreSummaries (program_as code.now) summaries.now }
+                requires procedure { procedure.number ≤ length (program_as code.now).procedures }
+                requires stands { Stands (program_as code.now)
+                    (numbered (program_as code.now) procedure.number).sections
+                    (codes_of piece.now) }
+                ensures { IfOk result (IsFoundIn (program_as code.entry.now)
+                    (numbered (program_as code.entry.now) procedure.number).sections
+                    procedure.number (codes_of piece.now)) }
+            { found_in_piece(rt, alloc, code, summaries, procedure, piece) },
+        )
+        .collect::<Result<Vec<Found>, AllocError>>(rt, alloc)??;
+    joined(alloc, code, procedure, body, pieces)
+}
+
+/// What is found of a piece of a list, from its end to its front.
+#[cycle(walk)]
+fn found_in_piece<R: Threads + Sync>(
+    rt: &R,
+    alloc: Global,
+    code: &Program,
+    summaries: &Summaries,
+    procedure: ProcedureId,
+    piece: &[Stmt],
+) -> Result<Found, AllocError>
+    requires sound { IsSound (program_as code.now) }
+    requires summaries { AreSummaries (program_as code.now) summaries.now }
+    requires procedure { procedure.number ≤ length (program_as code.now).procedures }
+    requires stands { Stands (program_as code.now)
+        (numbered (program_as code.now) procedure.number).sections (codes_of piece.now) }
+    ensures { IfOk result (IsFoundIn (program_as code.now)
+        (numbered (program_as code.now) procedure.number).sections procedure.number
+        (codes_of piece.now)) }
+{
+    let sections = &procedure_of(code, procedure).sections;
     let mut found = Found::nothing(alloc);
-    for place in (0..body.len()).rev() {
-        let here = found_of(alloc, typed, summaries, procedure, &body[place])?;
+    for place in (0..piece.len()).rev() {
+        let here = found_of(rt, alloc, code, summaries, procedure, &piece[place])?;
         found = found.with_first(sections, procedure, here)?;
+    }
+    Ok(found)
+}
+
+/// What is found of a list of statements, from what is found of its pieces.
+fn joined(
+    alloc: Global,
+    code: &Program,
+    procedure: ProcedureId,
+    body: &[Stmt],
+    pieces: Vec<Found>,
+) -> Result<Found, AllocError>
+    requires sound { IsSound (program_as code.now) }
+    requires procedure { procedure.number ≤ length (program_as code.now).procedures }
+    requires stands { Stands (program_as code.now)
+        (numbered (program_as code.now) procedure.number).sections (codes_of body.now) }
+    requires pieces { AllZip (λ piece found. IsFoundIn (program_as code.now)
+        (numbered (program_as code.now) procedure.number).sections procedure.number
+        (codes_of piece) found) (chunks_of 256 body.now) pieces.items }
+    ensures { IfOk result (IsFoundIn (program_as code.now)
+        (numbered (program_as code.now) procedure.number).sections procedure.number
+        (codes_of body.now)) }
+{
+    let sections = &procedure_of(code, procedure).sections;
+    let mut found = Found::nothing(alloc);
+    for piece in pieces {
+        found = piece.with_first(sections, procedure, found)?;
     }
     Ok(found)
 }
 
 /// What is found of a statement.
 #[cycle(walk)]
-fn found_of(
+fn found_of<R: Threads + Sync>(
+    rt: &R,
     alloc: Global,
-    typed: &Typed,
+    code: &Program,
     summaries: &Summaries,
     procedure: ProcedureId,
     statement: &Stmt,
 ) -> Result<Found, AllocError>
-    requires sound { IsSound (code_of typed.now) }
-    requires summaries { AreSummaries (code_of typed.now) summaries.now }
-    requires procedure { procedure.number ≤ length (code_of typed.now).procedures }
-    requires stands { StandsOf (code_of typed.now)
-        (numbered (code_of typed.now) procedure.number).sections
+    requires sound { IsSound (program_as code.now) }
+    requires summaries { AreSummaries (program_as code.now) summaries.now }
+    requires procedure { procedure.number ≤ length (program_as code.now).procedures }
+    requires stands { StandsOf (program_as code.now)
+        (numbered (program_as code.now) procedure.number).sections
         statement.now.label (plain_code statement.now.kind) }
-    ensures { IfOk result (IsFoundOf (code_of typed.now)
-        (numbered (code_of typed.now) procedure.number).sections procedure.number
+    ensures { IfOk result (IsFoundOf (program_as code.now)
+        (numbered (program_as code.now) procedure.number).sections procedure.number
         statement.now.label (plain_code statement.now.kind)) }
 {
     let own = own_accesses(alloc, statement.label, &statement.kind)?;
     match &statement.kind {
         StmtKind::Do(_) => Found::nothing(alloc).with_own(&own),
         StmtKind::If { body, other, .. } => {
-            let body = found_in(alloc, typed, summaries, procedure, body)?;
-            let other = found_in(alloc, typed, summaries, procedure, other)?;
+            let body = found_in(rt, alloc, code, summaries, procedure, body)?;
+            let other = found_in(rt, alloc, code, summaries, procedure, other)?;
             body.or(other)?.with_own(&own)
         }
         StmtKind::While { body, .. } => {
-            let turn = found_in(alloc, typed, summaries, procedure, body)?.with_own(&own)?;
-            Ok(turn.in_turn(&procedure_of(typed.code(), procedure).sections, procedure))
+            let turn = found_in(rt, alloc, code, summaries, procedure, body)?.with_own(&own)?;
+            Ok(turn.in_turn(&procedure_of(code, procedure).sections, procedure))
         }
         StmtKind::Split {
             section,
@@ -102,7 +180,7 @@ fn found_of(
             body,
             ..
         } => {
-            let found = found_in(alloc, typed, summaries, procedure, body)?;
+            let found = found_in(rt, alloc, code, summaries, procedure, body)?;
             let outside = found.past_split(alloc, *section, *left, *right)?;
             outside.with_own(&own)
         }
@@ -111,15 +189,15 @@ fn found_of(
             sections,
             ..
         } => {
-            let found = found_of_call(alloc, typed, summaries, *callee, sections)?;
+            let found = found_of_call(alloc, code, summaries, *callee, sections)?;
             found.with_own(&own)
         }
         StmtKind::Async { body } => {
-            let found = found_in(alloc, typed, summaries, procedure, body)?;
+            let found = found_in(rt, alloc, code, summaries, procedure, body)?;
             found.in_async(alloc)?.with_own(&own)
         }
         StmtKind::Finish { body } => {
-            let found = found_in(alloc, typed, summaries, procedure, body)?;
+            let found = found_in(rt, alloc, code, summaries, procedure, body)?;
             found.in_finish(alloc).with_own(&own)
         }
     }
@@ -129,29 +207,29 @@ fn found_of(
 /// in there is found in that procedure.
 fn found_of_call(
     alloc: Global,
-    typed: &Typed,
+    code: &Program,
     summaries: &Summaries,
     callee: ProcedureId,
     sections: &[SectionId],
 ) -> Result<Found, AllocError>
-    requires sound { IsSound (code_of typed.now) }
-    requires summaries { AreSummaries (code_of typed.now) summaries.now }
+    requires sound { IsSound (program_as code.now) }
+    requires summaries { AreSummaries (program_as code.now) summaries.now }
     requires number { length sections.now
-        ≡ length (plain_procedure_of (code_of typed.now) callee.number).parameters }
+        ≡ length (plain_procedure_of (program_as code.now) callee.number).parameters }
     ensures all { IfOk result (λ found. AreFirsts
-        (Renamed (code_of typed.now) accesses (past_call (map section_of sections.now))
-        (All (code_of typed.now) accesses
-        (plain_procedure_of (code_of typed.now) callee.number).body))
+        (Renamed (program_as code.now) accesses (past_call (map section_of sections.now))
+        (All (program_as code.now) accesses
+        (plain_procedure_of (program_as code.now) callee.number).body))
         (kept_in found.all)) }
     ensures pending { IfOk result (λ found. AreFirsts
-        (Renamed (code_of typed.now) accesses (past_call (map section_of sections.now))
-        (Pending (code_of typed.now) accesses
-        (plain_procedure_of (code_of typed.now) callee.number).body))
+        (Renamed (program_as code.now) accesses (past_call (map section_of sections.now))
+        (Pending (program_as code.now) accesses
+        (plain_procedure_of (program_as code.now) callee.number).body))
         (kept_in found.pending)) }
     ensures race { IfOk result (λ found. race_found found.race ≡ None) }
 {
     // Typed programs call no other procedure.
-    if callee.number >= typed.code().procedures.len() {
+    if callee.number >= code.procedures.len() {
         return Ok(Found::nothing(alloc));
     }
     let summary = summaries.of(callee);

@@ -195,7 +195,7 @@ pub const ROWS: &[Row] = &[
 
 #[test]
 fn a_file_that_is_not_text_is_told(rt: HostRuntime) -> Result<(), Fail> {
-    let told = answered(rt.alloc(), RUN, b"main { \xff }")?;
+    let told = answered(&rt, rt.alloc(), RUN, b"main { \xff }")?;
     assert_eq!(rt; told.err.as_slice(), b"not UTF-8 program.afx\n".as_slice());
     assert_eq!(rt; told.status, 1);
     Ok(())

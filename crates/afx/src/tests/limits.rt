@@ -1,6 +1,6 @@
 //! Texts of many equal parts: each limit met, and passed by one.
 
-use crate::tests::rows::{RUN, SERIAL, answered};
+use crate::tests::rows::{CHECK, RUN, SERIAL, answered};
 use std::alloc::{AllocError, Global};
 use std::test::Fail;
 use syntax::parse;
@@ -129,6 +129,37 @@ const ROWS: &[Long] = &[
         err: "",
         status: 0,
     },
+    // A list that is checked in pieces: the first statement meets the last, pieces later.
+    Long {
+        words: CHECK,
+        head: "main { array a: int[1]; async { a[0] = 1; } ",
+        count: 600,
+        part: "skip; ",
+        closing: "",
+        tail: "a[0] = 2; }",
+        err: "C1 race in main: 2 write a, 603 write a\n",
+        status: 1,
+    },
+    Long {
+        words: CHECK,
+        head: "main { array a: int[1]; array b: int[1]; async { a[0] = 1; } ",
+        count: 600,
+        part: "skip; ",
+        closing: "",
+        tail: "b[0] = a[0]; }",
+        err: "C1 race in main: 2 write a, 603 read a\n",
+        status: 1,
+    },
+    Long {
+        words: CHECK,
+        head: "main { array a: int[1]; finish { async { a[0] = 1; } } ",
+        count: 600,
+        part: "skip; ",
+        closing: "",
+        tail: "a[0] = 2; }",
+        err: "",
+        status: 0,
+    },
 ];
 
 /// Adds `count` times `part`.
@@ -153,7 +184,7 @@ fn texts_of_many_parts(rt: HostRuntime) -> Result<(), Fail> {
     let alloc = rt.alloc();
     for row in ROWS {
         let text = text_of(alloc, row)?;
-        let told = answered(alloc, row.words, text.as_bytes())?;
+        let told = answered(&rt, alloc, row.words, text.as_bytes())?;
         let Long { count, part, .. } = row;
         assert_eq!(rt;
             told.err.as_slice(),
@@ -180,7 +211,7 @@ fn arrays(alloc: Global, count: u32) -> Result<String, AllocError> {
 fn most_arrays(rt: HostRuntime) -> Result<(), Fail> {
     let alloc = rt.alloc();
     for (count, out, err, status) in [(32, "2\n", "", 0), (33, "", "Y9\n", 1)] {
-        let told = answered(alloc, RUN, arrays(alloc, count)?.as_bytes())?;
+        let told = answered(&rt, alloc, RUN, arrays(alloc, count)?.as_bytes())?;
         assert_eq!(rt;
             told.err.as_slice(),
             err.as_bytes(),

@@ -4,6 +4,7 @@ use driver::act::act;
 use driver::files::{FileError, FileSource};
 use std::alloc::{AllocError, Global};
 use std::process::Abort;
+use std::thread::Threads;
 
 /// A command, the text of `program.afx`, and what the command must write and answer.
 #[derive(Clone, Copy)]
@@ -102,12 +103,18 @@ pub struct Answer {
 }
 
 /// Does what the words ask, where the program has these bytes.
-pub fn answered(alloc: Global, words: &[&str], program: &[u8]) -> Result<Answer, AllocError> {
-    answered_with_input(alloc, words, program, b"{}")
+pub fn answered(
+    rt: &(impl Threads + Sync),
+    alloc: Global,
+    words: &[&str],
+    program: &[u8],
+) -> Result<Answer, AllocError> {
+    answered_with_input(rt, alloc, words, program, b"{}")
 }
 
 /// Does what the words ask, where the program and the file `input.json` have these bytes.
 pub fn answered_with_input(
+    rt: &(impl Threads + Sync),
     alloc: Global,
     words: &[&str],
     program: &[u8],
@@ -121,14 +128,18 @@ pub fn answered_with_input(
     };
     let mut out = Vec::new(alloc);
     let mut err = Vec::new(alloc);
-    let status = act(alloc, &words, &mut files, &mut out, &mut err);
+    let status = act(rt, alloc, &words, &mut files, &mut out, &mut err);
     Ok(Answer { out, err, status })
 }
 
 /// Compares what each row's command does with what the row wants.
-pub fn compare(rt: &impl Abort, alloc: Global, rows: &[Row]) -> Result<(), AllocError> {
+pub fn compare(
+    rt: &(impl Abort + Threads + Sync),
+    alloc: Global,
+    rows: &[Row],
+) -> Result<(), AllocError> {
     for row in rows {
-        let told = answered(alloc, row.words, row.text.as_bytes())?;
+        let told = answered(rt, alloc, row.words, row.text.as_bytes())?;
         let name = row.name;
         assert_eq!(rt; told.err.as_slice(), row.err.as_bytes(), "err of {name}");
         assert_eq!(rt; told.out.as_slice(), row.out.as_bytes(), "out of {name}");

@@ -395,14 +395,14 @@ fn inputs_budgets_and_shown_arrays(rt: HostRuntime) -> Result<(), Fail> {
     for cases in [RUNS, REFUSED] {
         for case in cases {
             let text = case.text.as_bytes();
-            let told = answered_with_input(alloc, case.words, text, case.input.as_bytes())?;
+            let told = answered_with_input(&rt, alloc, case.words, text, case.input.as_bytes())?;
             let name = case.name;
             assert_eq!(rt; told.err.as_slice(), case.err.as_bytes(), "err of {name}");
             assert_eq!(rt; told.out.as_slice(), case.out.as_bytes(), "out of {name}");
             assert_eq!(rt; told.status, case.status, "status of {name}");
         }
     }
-    let told = answered_with_input(alloc, WITH_INPUT, BYTE.as_bytes(), b"{\"\xff\":1}")?;
+    let told = answered_with_input(&rt, alloc, WITH_INPUT, BYTE.as_bytes(), b"{\"\xff\":1}")?;
     assert_eq!(rt; told.err.as_slice(), b"not UTF-8 input.json\n".as_slice());
     assert_eq!(rt; told.status, 1);
     Ok(())
@@ -444,7 +444,7 @@ fn doubling_by_halves_needs_a_nest_of_10(rt: HostRuntime) -> Result<(), Fail> {
             nest,
             "--arrays",
         ];
-        let told = answered_with_input(alloc, &words, DOUBLING.as_bytes(), input.as_bytes())?;
+        let told = answered_with_input(&rt, alloc, &words, DOUBLING.as_bytes(), input.as_bytes())?;
         assert_eq!(rt; told.out.as_slice(), out.as_bytes(), "out at nest {nest}");
         assert!(rt; told.err.is_empty(), "err at nest {nest}");
         assert_eq!(rt; told.status, status, "status at nest {nest}");

@@ -22,7 +22,7 @@ fn an_outcome_or_a_failure_has_its_status(rt: HostRuntime) -> Result<(), Fail> {
             "status {status}"
         );
     }
-    let told = answered(alloc, &["run", "heavy.afx"], b"")?;
+    let told = answered(&rt, alloc, &["run", "heavy.afx"], b"")?;
     assert_eq!(rt; told.err.as_slice(), b"no memory\n".as_slice());
     assert_eq!(rt; told.status, 4);
     let lost = Path {

@@ -88,7 +88,7 @@ fn an_output_or_an_error_output_that_ends(rt: HostRuntime) -> Result<(), Fail> {
                 end,
                 taken: Vec::new(alloc),
             };
-            let status = act(alloc, &words, &mut files, &mut out, &mut err);
+            let status = act(&rt, alloc, &words, &mut files, &mut out, &mut err);
             let text = row.text;
             assert_eq!(rt; status, row.status, "status of {text}");
             assert_eq!(rt; err.taken.as_slice(), row.err.as_bytes(), "err of {text}");

@@ -1,7 +1,6 @@
 use Rattle.std.proofs.Common.{◌≡◌, ◌∙◌, ap, sym, subst}
 use Rattle.types.specs.Code.{Codes, Procedure}
-use Rattle.types.specs.Translation.{codes}
-use Rattle.types.specs.Typed.{code_of}
+use Rattle.types.specs.Translation.{codes, program}
 use Rattle.effects.specs.Effects.{accesses}
 use Rattle.parallel_relation.specs.Together.{Together}
 use Rattle.race_checker.specs.Found.{Stands}
@@ -11,20 +10,20 @@ use Rattle.race_checker.proofs.Judging.{numbered_stands}
 use Rattle.race_checker.proofs.check.least_race_in.Goals as goal
 
 pub found_in-requires-clause-stands : goal.found_in-requires-clause-stands
-found_in-requires-clause-stands c =
-    let p = code_of c.args.typed.now in
+found_in-requires-clause-stands g c κs within =
+    let p = program c.args.code.now in
     let f = c.args.procedure.number in
     let body : codes c.deref.result.now ≡ (numbered p f).body =
     ap codes c.deref.ensures.value
-    ∙ ap (λ (g : Procedure). g.body) (c.procedure_of.ensures ∙ ap (λ q. numbered q f) c.code.ensures.code) in
+    ∙ ap (λ (g : Procedure). g.body) c.procedure_of.ensures in
     subst (Stands p (numbered p f).sections) (sym body) (numbered_stands p f c.requires.sound)
 
 pub returns : goal.returns
-returns c =
-    let p = code_of c.args.typed.now in
+returns g c =
+    let p = program c.args.code.now in
     let f = c.args.procedure.number in
     let body : codes c.deref.result.now ≡ (numbered p f).body =
     ap codes c.deref.ensures.value
-    ∙ ap (λ (g : Procedure). g.body) (c.procedure_of.ensures ∙ ap (λ q. numbered q f) c.code.ensures.code) in
+    ∙ ap (λ (g : Procedure). g.body) c.procedure_of.ensures in
     subst (λ (b : Codes). LeastOf (Clashes (numbered p f).sections f (Together p accesses b)) (found c.in_ok-found.found.race)) body
     c.in_ok-found.ensures.least_race

@@ -1,11 +1,10 @@
-use Rattle.std.proofs.Common.{◌≡◌, ◌<◌, ◌≤◌, ◌-◌, ℕ, ◌+◌, List, All as AllOfList, map, drop, length, refl, sym, ap, ◌∙◌, subst, arith, rules}
+use Rattle.std.proofs.Common.{◌≡◌, ◌<◌, ◌≤◌, ◌-◌, ℕ, List, All as AllOfList, map, drop, length, sym, ap, ◌∙◌, subst, arith}
 use Rattle.sections.specs.Origins.{Origin}
 use Rattle.sections.specs.Translation.{section}
 use Rattle.sections.specs.Tree.{origins_of}
 use Rattle.types.specs.Code.{Codes, Procedure, If, While, Split, Async, Finish}
 use Rattle.types.specs.Run.{procedure_of}
-use Rattle.types.specs.Translation.{code, codes, number, primitive, truth}
-use Rattle.types.specs.Typed.{code_of}
+use Rattle.types.specs.Translation.{code, codes, number, primitive, program, truth}
 use Rattle.types.specs.declared.code.Stmt.{Stmt}
 use Rattle.types.proofs.Blocks.{code_If, code_While, code_Split, code_Async, code_Finish}
 use Rattle.effects.specs.Effects.{accesses, AllOf, All, PendingOf, Pending, past_call}
@@ -13,7 +12,7 @@ use Rattle.effects.specs.Firsts.{AreFirsts, kept_in}
 use Rattle.effects.specs.Rows.{Renamed}
 use Rattle.effects.specs.Translation.{access}
 use Rattle.effects.specs.declared.access.Access.{Access as rAccess}
-use Rattle.race_checker.specs.Found.{Stands, StandsOf, IsFoundIn, IsFoundOf, IsInFront, IsInTurn}
+use Rattle.race_checker.specs.Found.{Stands, StandsOf, IsFoundIn, IsInFront, IsInTurn}
 use Rattle.race_checker.specs.Races.{numbered}
 use Rattle.race_checker.specs.Translation.{found as race_found}
 use Rattle.race_checker.proofs.Finding.{in_range, below_all, below_of, below_pending, stands_at, stands_behind}
@@ -22,81 +21,133 @@ use Rattle.race_checker.proofs.Finding.{found_in_front, found_in_none, found_ins
 use Rattle.race_checker.proofs.Finding.{found_inside_async, found_inside_finish, found_of_arm, found_of_loop, all_of_turn}
 use Rattle.race_checker.proofs.Finding.{pending_of_turn, none_behind, codes_from, least_none}
 use Rattle.race_checker.proofs.Finding.{size_of, size_in, size_at, smaller}
+use Rattle.std.proofs.Crossing.{crosses}
+use denote.Param.Send.{sendable}
+use Rattle.std.specs.Prelude.{slice_index_or}
+use Rattle.rayon.specs.Lists.{chunks_of}
+use Rattle.rayon.proofs.ToStd.{chunks_of-concat}
+use Rattle.std.proofs.Common.{Result, IfOk, Ok, Err, Vec, Global, max}
+use Rattle.std.specs.Prelude.{MatchResult, Contains}
+use Rattle.rayon.specs.Lists.{map_f, min_len_base, chunks_size, chunks_slice}
+use Rattle.types.specs.Code.{Program}
+use Rattle.std.specs.Borrow.{Bor}
+use Rattle.std.specs.List.{AllZip}
+use Rattle.std.specs.declared.alloc.AllocError.{AllocError}
+use Rattle.race_checker.specs.declared.found.Found.{Found}
+use Rattle.race_checker.proofs.Pieces.{pieces_of, pieces_found}
 use Rattle.race_checker.proofs.walk.+walk.Goals as goal
 
-pub found_in-loop-place-init : goal.found_in-loop-place-init
-found_in-loop-place-init t c =
-    let p = code_of c.args.typed.now in
+pub found_in-found_in_piece-requires : goal.found_in-found_in_piece-requires
+found_in-found_in_piece-requires g t c κs within =
+    (omega arith, (within, (search (sendable, crosses) depth 40, (c.requires.sound, (c.requires.summaries, (c.requires.procedure, c.requires.stands))))))
+
+pub found_in-collect-requires-clause-ready : goal.found_in-collect-requires-clause-ready
+found_in-collect-requires-clause-ready g t c κs within =
+    let p = program c.args.code.now in
+    let os = (numbered p c.args.procedure.number).sections in
+    let body = c.args.body.now in
+    let pieces = pieces_of p os (chunks_of 256 body) body (chunks_of-concat 256 body (omega arith)) c.requires.stands in
+    rw (c.map.ensures.f, c.map.ensures.base, c.with_min_len.ensures.base, c.par_chunks.ensures.slice, c.par_chunks.ensures.size)
+    (λ k d lt x e. rw e (let h = pieces k d lt in
+    ((let le : size_in (codes (slice_index_or (chunks_of 256 body) k d)) ≤ size_in (codes body) = h.size in omega arith,
+    (λ a m. m, (search (sendable, crosses) depth 40, (c.requires.sound, (c.requires.summaries, (c.requires.procedure, (h.stands, search (sendable, crosses) depth 40))))))), λ y q. tt)))
+
+pub found_in-joined-requires-clause-pieces : goal.found_in-joined-requires-clause-pieces
+found_in-joined-requires-clause-pieces g t c =
+    let body = c.args.body.now in
+    let asked = map_f c.map.result in
+    let q = program asked.2.now in
+    let n = asked.4.now.number in
+    let IsFoundAt = λ (w : Program × ℕ) (piece : List Stmt) (x : Found). IsFoundIn w.0 (numbered w.0 w.1).sections w.1 (codes piece) x in
+    let IsTold = λ (z : Bor (List Stmt)) (r : Result Found AllocError). IfOk r (IsFoundIn q (numbered q n).sections n (codes z.now)) in
+    let same : (q, n) ≡ (program c.args.code.now, c.args.procedure.number) = ap (λ cl. (program cl.2.now, cl.4.now.number)) c.map.ensures.f in
+    let results = c.in_ok-collect.ensures.0 in
+    let chain = c.in_ok-collect.ensures.1 in
+    let told = subst (λ (r : Result (Vec Found Global) AllocError). MatchResult r
+    (λ v. (ys : List Found) × (results ≡ map Ok ys) × (v.items ≡ ys)) (λ e. Contains results (Err e))) c.in_ok-pieces.was c.in_ok-collect.ensures.2 in
+    let chunks = ap (λ it. chunks_of (max (chunks_size (min_len_base it)) 1) (chunks_slice (min_len_base it))) c.map.ensures.base
+    ∙ ap (λ it. chunks_of (max (chunks_size it) 1) (chunks_slice it)) c.with_min_len.ensures.base
+    ∙ ap (λ k. chunks_of (max k 1) (chunks_slice c.par_chunks.result)) c.par_chunks.ensures.size
+    ∙ ap (λ (ss : List Stmt). chunks_of (max 256 1) ss) c.par_chunks.ensures.slice in
+    let each = pieces_found q (numbered q n).sections n body AllocError chain.0 told.0
+    (subst (λ rs. AllZip IsTold chain.0 rs) told.1 chain.2) in
+    subst (λ found. AllZip (IsFoundAt (program c.args.code.now, c.args.procedure.number)) (chunks_of 256 body) found) (sym told.2)
+    (subst (λ pieces. AllZip (IsFoundAt (program c.args.code.now, c.args.procedure.number)) pieces told.0) (chain.1 ∙ chunks)
+    (subst (λ w. AllZip (IsFoundAt w) (map (λ (z : Bor (List Stmt)). z.now) chain.0) told.0) same each))
+
+pub found_in_piece-loop-place-init : goal.found_in_piece-loop-place-init
+found_in_piece-loop-place-init g t c =
+    let p = program c.args.code.now in
     let f = c.args.procedure.number in
     let os = (numbered p f).sections in
-    subst (λ (b : Codes). IsFoundIn p os f b c.nothing-found.result) (sym (none_behind c.args.body.now))
+    subst (λ (b : Codes). IsFoundIn p os f b c.nothing-found.result) (sym (none_behind c.args.piece.now))
     (found_in_none p os f c.nothing-found.result c.nothing-found.ensures.all c.nothing-found.ensures.pending c.nothing-found.ensures.race)
 
-pub found_in-found_of-requires : goal.found_in-found_of-requires
-found_in-found_of-requires t c =
-    let p = code_of c.args.typed.now in
+pub found_in_piece-found_of-requires : goal.found_in_piece-found_of-requires
+found_in_piece-found_of-requires g t c κs within =
+    let p = program c.args.code.now in
     let f = c.args.procedure.number in
     let os = (numbered p f).sections in
-    let st : StandsOf p os c.index-body-place.result.label (code c.index-body-place.result.kind) =
-    subst (λ (s : Stmt). StandsOf p os s.label (code s.kind)) (sym c.index-body-place.is)
-    (stands_at p os c.args.body.now (c.loop-place.place - 1) c.index-body-place.result (omega arith) c.requires.stands) in
-    let falls : size_of (code c.index-body-place.result.kind) < size_in (codes c.args.body.now) =
-    size_at c.args.body.now (c.loop-place.place - 1) c.index-body-place.result c.index-body-place.result (omega arith) c.index-body-place.is in
-    (omega arith, (c.requires.sound, (c.requires.summaries, (c.requires.procedure, st))))
+    let st : StandsOf p os c.index-piece-place.result.label (code c.index-piece-place.result.kind) =
+    subst (λ (s : Stmt). StandsOf p os s.label (code s.kind)) (sym c.index-piece-place.is)
+    (stands_at p os c.args.piece.now (c.loop-place.place - 1) c.index-piece-place.result (omega arith) c.requires.stands) in
+    let falls : size_of (code c.index-piece-place.result.kind) < size_in (codes c.args.piece.now) =
+    size_at c.args.piece.now (c.loop-place.place - 1) c.index-piece-place.result c.index-piece-place.result (omega arith) c.index-piece-place.is in
+    (omega arith, (within, (search (sendable, crosses) depth 40, (c.requires.sound, (c.requires.summaries, (c.requires.procedure, st))))))
 
-pub found_in-with_first-requires-clause-pending : goal.found_in-with_first-requires-clause-pending
-found_in-with_first-requires-clause-pending t c =
-    let p = code_of c.args.typed.now in
+pub found_in_piece-with_first-requires-clause-pending : goal.found_in_piece-with_first-requires-clause-pending
+found_in_piece-with_first-requires-clause-pending g t c =
+    let p = program c.args.code.now in
     let f = c.args.procedure.number in
     let os = (numbered p f).sections in
     let same : origins_of c.procedure_of.result.now.sections ≡ os =
-    ap (λ (g : Procedure). g.sections) (c.procedure_of.ensures ∙ ap (λ q. numbered q f) c.code.ensures.code) in
-    let st : StandsOf p os c.index-body-place.result.label (code c.index-body-place.result.kind) =
-    subst (λ (s : Stmt). StandsOf p os s.label (code s.kind)) (sym c.index-body-place.is)
-    (stands_at p os c.args.body.now (c.loop-place.place - 1) c.index-body-place.result (omega arith) c.requires.stands) in
+    ap (λ (g : Procedure). g.sections) c.procedure_of.ensures in
+    let st : StandsOf p os c.index-piece-place.result.label (code c.index-piece-place.result.kind) =
+    subst (λ (s : Stmt). StandsOf p os s.label (code s.kind)) (sym c.index-piece-place.is)
+    (stands_at p os c.args.piece.now (c.loop-place.place - 1) c.index-piece-place.result (omega arith) c.requires.stands) in
     subst (λ (o : List Origin). AllOfList (λ (x : rAccess). x.section.number < length o) c.in_ok-here.here.pending.items.items) (sym same)
-    (in_range (PendingOf p accesses (code c.index-body-place.result.kind)) c.in_ok-here.here.pending (length os)
+    (in_range (PendingOf p accesses (code c.index-piece-place.result.kind)) c.in_ok-here.here.pending (length os)
     c.in_ok-here.ensures.pending_firsts
-    (below_pending p c.requires.sound os c.index-body-place.result.label (code c.index-body-place.result.kind) st))
+    (below_pending p c.requires.sound os c.index-piece-place.result.label (code c.index-piece-place.result.kind) st))
 
-pub found_in-with_first-requires-clause-all : goal.found_in-with_first-requires-clause-all
-found_in-with_first-requires-clause-all t c =
-    let p = code_of c.args.typed.now in
+pub found_in_piece-with_first-requires-clause-all : goal.found_in_piece-with_first-requires-clause-all
+found_in_piece-with_first-requires-clause-all g t c =
+    let p = program c.args.code.now in
     let f = c.args.procedure.number in
     let os = (numbered p f).sections in
     let same : origins_of c.procedure_of.result.now.sections ≡ os =
-    ap (λ (g : Procedure). g.sections) (c.procedure_of.ensures ∙ ap (λ q. numbered q f) c.code.ensures.code) in
+    ap (λ (g : Procedure). g.sections) c.procedure_of.ensures in
     subst (λ (o : List Origin). AllOfList (λ (x : rAccess). x.section.number < length o) c.loop-place.found.all.items.items) (sym same)
-    (in_range (All p accesses (codes (drop c.loop-place.place c.args.body.now))) c.loop-place.found.all (length os)
+    (in_range (All p accesses (codes (drop c.loop-place.place c.args.piece.now))) c.loop-place.found.all (length os)
     c.loop-place.invariant.all_firsts
-    (below_all p c.requires.sound os (codes (drop c.loop-place.place c.args.body.now))
-    (stands_behind p os c.args.body.now c.loop-place.place c.requires.stands)))
+    (below_all p c.requires.sound os (codes (drop c.loop-place.place c.args.piece.now))
+    (stands_behind p os c.args.piece.now c.loop-place.place c.requires.stands)))
 
-pub found_in-loop-place-preserved : goal.found_in-loop-place-preserved
-found_in-loop-place-preserved t c =
-    let p = code_of c.args.typed.now in
+pub found_in_piece-loop-place-preserved : goal.found_in_piece-loop-place-preserved
+found_in_piece-loop-place-preserved g t c =
+    let p = program c.args.code.now in
     let f = c.args.procedure.number in
     let os = (numbered p f).sections in
     let same : origins_of c.procedure_of.result.now.sections ≡ os =
-    ap (λ (g : Procedure). g.sections) (c.procedure_of.ensures ∙ ap (λ q. numbered q f) c.code.ensures.code) in
-    let s = c.index-body-place.result in
+    ap (λ (g : Procedure). g.sections) c.procedure_of.ensures in
+    let s = c.index-piece-place.result in
     subst (λ (b : Codes). IsFoundIn p os f b c.in_ok-found.found)
-    (sym (codes_from c.args.body.now c.loop-place.place s (omega arith) (omega arith) c.index-body-place.is))
-    (found_in_front p os f s.label (code s.kind) (codes (drop c.loop-place.place c.args.body.now)) c.in_ok-here.here
+    (sym (codes_from c.args.piece.now c.loop-place.place s (omega arith) (omega arith) c.index-piece-place.is))
+    (found_in_front p os f s.label (code s.kind) (codes (drop c.loop-place.place c.args.piece.now)) c.in_ok-here.here
     c.loop-place.found c.in_ok-found.found c.in_ok-here.ensures c.loop-place.invariant
     (subst (λ (o : List Origin). IsInFront o f c.in_ok-here.here c.loop-place.found c.in_ok-found.found) same c.in_ok-found.ensures))
 
-pub found_in-returns : goal.found_in-returns
-found_in-returns t c =
-    let p = code_of c.args.typed.now in
+pub found_in_piece-returns : goal.found_in_piece-returns
+found_in_piece-returns g t c =
+    let p = program c.args.code.now in
     let f = c.args.procedure.number in
     let os = (numbered p f).sections in
     let e : c.loop-place.place ≡ 0 = omega arith in
-    subst (λ n. IsFoundIn p os f (codes (drop n c.args.body.now)) c.loop-place.found) e c.loop-place.invariant
+    subst (λ n. IsFoundIn p os f (codes (drop n c.args.piece.now)) c.loop-place.found) e c.loop-place.invariant
 
 pub found_of-returns-in-Do : goal.found_of-returns-in-Do
-found_of-returns-in-Do t c =
-    let p = code_of c.args.typed.now in
+found_of-returns-in-Do g t c =
+    let p = program c.args.code.now in
     let f = c.args.procedure.number in
     let os = (numbered p f).sections in
     let l = c.args.statement.now.label in
@@ -106,8 +157,8 @@ found_of-returns-in-Do t c =
     c.with_own.result c.with_own.ensures
 
 pub found_of-found_in-requires : goal.found_of-found_in-requires
-found_of-found_in-requires t c =
-    let p = code_of c.args.typed.now in
+found_of-found_in-requires g t c κs within =
+    let p = program c.args.code.now in
     let f = c.args.procedure.number in
     let os = (numbered p f).sections in
     let l = c.args.statement.now.label in
@@ -117,11 +168,11 @@ found_of-found_in-requires t c =
     let same : codes c.deref-in-If.result.now ≡ codes c.in-If.body.items = ap codes c.deref-in-If.ensures.value in
     let falls : size_in (codes c.deref-in-If.result.now) < size_of k =
     subst (λ (b : Codes). size_in b < size_of k) (sym same) (smaller k _ _ is (omega arith)) in
-    (omega arith, (c.requires.sound, (c.requires.summaries, (c.requires.procedure, subst (Stands p os) (sym same) (stands_if_body p os l k c.requires.stands _ _ _ is)))))
+    (omega arith, (within, (search (sendable, crosses) depth 40, (c.requires.sound, (c.requires.summaries, (c.requires.procedure, subst (Stands p os) (sym same) (stands_if_body p os l k c.requires.stands _ _ _ is)))))))
 
 pub found_of-found_in-requires-in-If : goal.found_of-found_in-requires-in-If
-found_of-found_in-requires-in-If t c =
-    let p = code_of c.args.typed.now in
+found_of-found_in-requires-in-If g t c κs within =
+    let p = program c.args.code.now in
     let f = c.args.procedure.number in
     let os = (numbered p f).sections in
     let l = c.args.statement.now.label in
@@ -131,11 +182,11 @@ found_of-found_in-requires-in-If t c =
     let same : codes c.deref-in-If-2.result.now ≡ codes c.in-If.other.items = ap codes c.deref-in-If-2.ensures.value in
     let falls : size_in (codes c.deref-in-If-2.result.now) < size_of k =
     subst (λ (b : Codes). size_in b < size_of k) (sym same) (smaller k _ _ is (omega arith)) in
-    (omega arith, (c.requires.sound, (c.requires.summaries, (c.requires.procedure, subst (Stands p os) (sym same) (stands_if_other p os l k c.requires.stands _ _ _ is)))))
+    (omega arith, (within, (search (sendable, crosses) depth 40, (c.requires.sound, (c.requires.summaries, (c.requires.procedure, subst (Stands p os) (sym same) (stands_if_other p os l k c.requires.stands _ _ _ is)))))))
 
 pub found_of-returns-in-If : goal.found_of-returns-in-If
-found_of-returns-in-If t c =
-    let p = code_of c.args.typed.now in
+found_of-returns-in-If g t c =
+    let p = program c.args.code.now in
     let f = c.args.procedure.number in
     let os = (numbered p f).sections in
     let l = c.args.statement.now.label in
@@ -151,8 +202,8 @@ found_of-returns-in-If t c =
     c.with_own-in-If.result c.with_own-in-If.ensures
 
 pub found_of-found_in-requires-in-While : goal.found_of-found_in-requires-in-While
-found_of-found_in-requires-in-While t c =
-    let p = code_of c.args.typed.now in
+found_of-found_in-requires-in-While g t c κs within =
+    let p = program c.args.code.now in
     let f = c.args.procedure.number in
     let os = (numbered p f).sections in
     let l = c.args.statement.now.label in
@@ -162,11 +213,11 @@ found_of-found_in-requires-in-While t c =
     let same : codes c.deref-in-While.result.now ≡ codes c.in-While.body.items = ap codes c.deref-in-While.ensures.value in
     let falls : size_in (codes c.deref-in-While.result.now) < size_of k =
     subst (λ (b : Codes). size_in b < size_of k) (sym same) (smaller k _ _ is (omega arith)) in
-    (omega arith, (c.requires.sound, (c.requires.summaries, (c.requires.procedure, subst (Stands p os) (sym same) (stands_while p os l k c.requires.stands _ _ is)))))
+    (omega arith, (within, (search (sendable, crosses) depth 40, (c.requires.sound, (c.requires.summaries, (c.requires.procedure, subst (Stands p os) (sym same) (stands_while p os l k c.requires.stands _ _ is)))))))
 
 pub found_of-in_turn-requires-clause-pending : goal.found_of-in_turn-requires-clause-pending
-found_of-in_turn-requires-clause-pending t c =
-    let p = code_of c.args.typed.now in
+found_of-in_turn-requires-clause-pending g t c =
+    let p = program c.args.code.now in
     let f = c.args.procedure.number in
     let os = (numbered p f).sections in
     let l = c.args.statement.now.label in
@@ -174,7 +225,7 @@ found_of-in_turn-requires-clause-pending t c =
     let is : k ≡ While (truth c.in-While.guard) (codes c.in-While.body.items) =
     ap code c.in-While.is ∙ code_While c.in-While.guard c.in-While.body in
     let same : origins_of c.procedure_of.result.now.sections ≡ os =
-    ap (λ (g : Procedure). g.sections) (c.procedure_of.ensures ∙ ap (λ q. numbered q f) c.code.ensures.code) in
+    ap (λ (g : Procedure). g.sections) c.procedure_of.ensures in
     subst (λ (o : List Origin). AllOfList (λ (x : rAccess). x.section.number < length o) c.in_ok-turn-in-While.turn.pending.items.items) (sym same)
     (in_range (PendingOf p accesses k) c.in_ok-turn-in-While.turn.pending (length os)
     (pending_of_turn p os f l k (truth c.in-While.guard) (codes c.in-While.body.items) is _ (ap (map access) c.deref-in-While-2.ensures.value ∙ c.in_ok-own.ensures)
@@ -184,8 +235,8 @@ found_of-in_turn-requires-clause-pending t c =
     (below_pending p c.requires.sound os l k c.requires.stands))
 
 pub found_of-in_turn-requires-clause-all : goal.found_of-in_turn-requires-clause-all
-found_of-in_turn-requires-clause-all t c =
-    let p = code_of c.args.typed.now in
+found_of-in_turn-requires-clause-all g t c =
+    let p = program c.args.code.now in
     let f = c.args.procedure.number in
     let os = (numbered p f).sections in
     let l = c.args.statement.now.label in
@@ -193,7 +244,7 @@ found_of-in_turn-requires-clause-all t c =
     let is : k ≡ While (truth c.in-While.guard) (codes c.in-While.body.items) =
     ap code c.in-While.is ∙ code_While c.in-While.guard c.in-While.body in
     let same : origins_of c.procedure_of.result.now.sections ≡ os =
-    ap (λ (g : Procedure). g.sections) (c.procedure_of.ensures ∙ ap (λ q. numbered q f) c.code.ensures.code) in
+    ap (λ (g : Procedure). g.sections) c.procedure_of.ensures in
     subst (λ (o : List Origin). AllOfList (λ (x : rAccess). x.section.number < length o) c.in_ok-turn-in-While.turn.all.items.items) (sym same)
     (in_range (AllOf p accesses l k) c.in_ok-turn-in-While.turn.all (length os)
     (all_of_turn p os f l k (truth c.in-While.guard) (codes c.in-While.body.items) is _ (ap (map access) c.deref-in-While-2.ensures.value ∙ c.in_ok-own.ensures)
@@ -203,8 +254,8 @@ found_of-in_turn-requires-clause-all t c =
     (below_of p c.requires.sound os l k c.requires.stands))
 
 pub found_of-returns-in-While : goal.found_of-returns-in-While
-found_of-returns-in-While t c =
-    let p = code_of c.args.typed.now in
+found_of-returns-in-While g t c =
+    let p = program c.args.code.now in
     let f = c.args.procedure.number in
     let os = (numbered p f).sections in
     let l = c.args.statement.now.label in
@@ -212,7 +263,7 @@ found_of-returns-in-While t c =
     let is : k ≡ While (truth c.in-While.guard) (codes c.in-While.body.items) =
     ap code c.in-While.is ∙ code_While c.in-While.guard c.in-While.body in
     let same : origins_of c.procedure_of.result.now.sections ≡ os =
-    ap (λ (g : Procedure). g.sections) (c.procedure_of.ensures ∙ ap (λ q. numbered q f) c.code.ensures.code) in
+    ap (λ (g : Procedure). g.sections) c.procedure_of.ensures in
     found_of_loop p os f l k (truth c.in-While.guard) (codes c.in-While.body.items) is _ (ap (map access) c.deref-in-While-2.ensures.value ∙ c.in_ok-own.ensures)
     c.in_ok-found_in-in-While.field-0 c.in_ok-turn-in-While.turn c.in_turn.result
     (subst (λ (ss : List Stmt). IsFoundIn p os f (codes ss) c.in_ok-found_in-in-While.field-0) c.deref-in-While.ensures.value c.in_ok-found_in-in-While.ensures)
@@ -220,8 +271,8 @@ found_of-returns-in-While t c =
     (subst (λ (o : List Origin). IsInTurn o f c.in_ok-turn-in-While.turn c.in_turn.result) same c.in_turn.ensures)
 
 pub found_of-found_in-requires-in-Split : goal.found_of-found_in-requires-in-Split
-found_of-found_in-requires-in-Split t c =
-    let p = code_of c.args.typed.now in
+found_of-found_in-requires-in-Split g t c κs within =
+    let p = program c.args.code.now in
     let f = c.args.procedure.number in
     let os = (numbered p f).sections in
     let l = c.args.statement.now.label in
@@ -232,11 +283,11 @@ found_of-found_in-requires-in-Split t c =
     let same : codes c.deref-in-Split.result.now ≡ codes c.in-Split.body.items = ap codes c.deref-in-Split.ensures.value in
     let falls : size_in (codes c.deref-in-Split.result.now) < size_of k =
     subst (λ (b : Codes). size_in b < size_of k) (sym same) (smaller k _ _ is (omega arith)) in
-    (omega arith, (c.requires.sound, (c.requires.summaries, (c.requires.procedure, subst (Stands p os) (sym same) (stands_split p os l k c.requires.stands _ _ _ _ _ is)))))
+    (omega arith, (within, (search (sendable, crosses) depth 40, (c.requires.sound, (c.requires.summaries, (c.requires.procedure, subst (Stands p os) (sym same) (stands_split p os l k c.requires.stands _ _ _ _ _ is)))))))
 
 pub found_of-returns-in-Split : goal.found_of-returns-in-Split
-found_of-returns-in-Split t c =
-    let p = code_of c.args.typed.now in
+found_of-returns-in-Split g t c =
+    let p = program c.args.code.now in
     let f = c.args.procedure.number in
     let os = (numbered p f).sections in
     let l = c.args.statement.now.label in
@@ -252,8 +303,8 @@ found_of-returns-in-Split t c =
     c.with_own-in-Split.result c.with_own-in-Split.ensures
 
 pub found_of-returns-in-Call : goal.found_of-returns-in-Call
-found_of-returns-in-Call t c =
-    let p = code_of c.args.typed.now in
+found_of-returns-in-Call g t c =
+    let p = program c.args.code.now in
     let f = c.args.procedure.number in
     let os = (numbered p f).sections in
     let l = c.args.statement.now.label in
@@ -272,8 +323,8 @@ found_of-returns-in-Call t c =
     c.with_own-in-Call.result c.with_own-in-Call.ensures
 
 pub found_of-found_in-requires-in-Async : goal.found_of-found_in-requires-in-Async
-found_of-found_in-requires-in-Async t c =
-    let p = code_of c.args.typed.now in
+found_of-found_in-requires-in-Async g t c κs within =
+    let p = program c.args.code.now in
     let f = c.args.procedure.number in
     let os = (numbered p f).sections in
     let l = c.args.statement.now.label in
@@ -283,11 +334,11 @@ found_of-found_in-requires-in-Async t c =
     let same : codes c.deref-in-Async.result.now ≡ codes c.in-Async.body.items = ap codes c.deref-in-Async.ensures.value in
     let falls : size_in (codes c.deref-in-Async.result.now) < size_of k =
     subst (λ (b : Codes). size_in b < size_of k) (sym same) (smaller k _ _ is (omega arith)) in
-    (omega arith, (c.requires.sound, (c.requires.summaries, (c.requires.procedure, subst (Stands p os) (sym same) (stands_async p os l k c.requires.stands _ is)))))
+    (omega arith, (within, (search (sendable, crosses) depth 40, (c.requires.sound, (c.requires.summaries, (c.requires.procedure, subst (Stands p os) (sym same) (stands_async p os l k c.requires.stands _ is)))))))
 
 pub found_of-returns-in-Async : goal.found_of-returns-in-Async
-found_of-returns-in-Async t c =
-    let p = code_of c.args.typed.now in
+found_of-returns-in-Async g t c =
+    let p = program c.args.code.now in
     let f = c.args.procedure.number in
     let os = (numbered p f).sections in
     let l = c.args.statement.now.label in
@@ -301,8 +352,8 @@ found_of-returns-in-Async t c =
     c.with_own-in-Async.result c.with_own-in-Async.ensures
 
 pub found_of-found_in-requires-in-Finish : goal.found_of-found_in-requires-in-Finish
-found_of-found_in-requires-in-Finish t c =
-    let p = code_of c.args.typed.now in
+found_of-found_in-requires-in-Finish g t c κs within =
+    let p = program c.args.code.now in
     let f = c.args.procedure.number in
     let os = (numbered p f).sections in
     let l = c.args.statement.now.label in
@@ -312,11 +363,11 @@ found_of-found_in-requires-in-Finish t c =
     let same : codes c.deref-in-Finish.result.now ≡ codes c.in-Finish.body.items = ap codes c.deref-in-Finish.ensures.value in
     let falls : size_in (codes c.deref-in-Finish.result.now) < size_of k =
     subst (λ (b : Codes). size_in b < size_of k) (sym same) (smaller k _ _ is (omega arith)) in
-    (omega arith, (c.requires.sound, (c.requires.summaries, (c.requires.procedure, subst (Stands p os) (sym same) (stands_finish p os l k c.requires.stands _ is)))))
+    (omega arith, (within, (search (sendable, crosses) depth 40, (c.requires.sound, (c.requires.summaries, (c.requires.procedure, subst (Stands p os) (sym same) (stands_finish p os l k c.requires.stands _ is)))))))
 
 pub found_of-returns : goal.found_of-returns
-found_of-returns t c =
-    let p = code_of c.args.typed.now in
+found_of-returns g t c =
+    let p = program c.args.code.now in
     let f = c.args.procedure.number in
     let os = (numbered p f).sections in
     let l = c.args.statement.now.label in

@@ -1,10 +1,9 @@
-use Rattle.std.proofs.Common.{◌∙◌, ◌≡◌, ◌<◌, ◌≤◌, ap, map, length, subst, arith}
+use Rattle.std.proofs.Common.{◌∙◌, ◌≡◌, ◌<◌, ◌≤◌, map, length, subst, arith}
 use Rattle.std.proofs.lemmas.List.{length-map}
 use Rattle.sections.specs.Translation.{section}
 use Rattle.types.specs.Code.{Codes}
 use Rattle.types.specs.Run.{procedure_of}
-use Rattle.types.specs.Translation.{procedure}
-use Rattle.types.specs.Typed.{code_of}
+use Rattle.types.specs.Translation.{procedure, program}
 use Rattle.effects.specs.AccessSets.{HasAccess}
 use Rattle.effects.specs.Effects.{accesses, All, Pending, past_call}
 use Rattle.effects.specs.Summarized.{IsSummary}
@@ -15,12 +14,11 @@ use Rattle.race_checker.proofs.walk.found_of_call.Goals as goal
 
 pub returns-clause-all : goal.returns-clause-all
 returns-clause-all c =
-    let p = code_of c.args.typed.now in
+    let p = program c.args.code.now in
     let f = c.args.callee.number in
     let s = c.of-summary.result.now in
-    let items = c.args.typed.now.code.procedures.items in
+    let items = c.args.code.now.procedures.items in
     let number : length (map procedure items) ≡ length items = length-map items procedure in
-    let same : length c.code.result.now.procedures.items ≡ length items = ap (λ q. length q.procedures.items) c.code.ensures.field in
     let below : f < length (map procedure items) = omega (arith, c.if-callee-len.false, c.len.ensures) in
     let exact : IsSummary p (procedure_of p f).body s =
     subst (λ (b : Codes). IsSummary p b s) (body_of_callee p f below) (c.of-summary.ensures.exact p c.requires.summaries) in
@@ -31,12 +29,11 @@ returns-clause-all c =
 
 pub returns-clause-pending : goal.returns-clause-pending
 returns-clause-pending c =
-    let p = code_of c.args.typed.now in
+    let p = program c.args.code.now in
     let f = c.args.callee.number in
     let s = c.of-summary.result.now in
-    let items = c.args.typed.now.code.procedures.items in
+    let items = c.args.code.now.procedures.items in
     let number : length (map procedure items) ≡ length items = length-map items procedure in
-    let same : length c.code.result.now.procedures.items ≡ length items = ap (λ q. length q.procedures.items) c.code.ensures.field in
     let below : f < length (map procedure items) = omega (arith, c.if-callee-len.false, c.len.ensures) in
     let exact : IsSummary p (procedure_of p f).body s =
     subst (λ (b : Codes). IsSummary p b s) (body_of_callee p f below) (c.of-summary.ensures.exact p c.requires.summaries) in
@@ -47,21 +44,19 @@ returns-clause-pending c =
 
 pub returns-then-callee-len-clause-all : goal.returns-then-callee-len-clause-all
 returns-then-callee-len-clause-all c =
-    let p = code_of c.args.typed.now in
+    let p = program c.args.code.now in
     let f = c.args.callee.number in
-    let items = c.args.typed.now.code.procedures.items in
+    let items = c.args.code.now.procedures.items in
     let number : length (map procedure items) ≡ length items = length-map items procedure in
-    let same : length c.code.result.now.procedures.items ≡ length items = ap (λ q. length q.procedures.items) c.code.ensures.field in
     let behind : length (map procedure items) ≤ f = omega (arith, c.if-callee-len.true, c.len.ensures) in
     nothing_behind_all p f (past_call (map section c.args.sections.now)) behind (kept_in c.nothing.result.all) c.nothing.ensures.all
 
 pub returns-then-callee-len-clause-pending : goal.returns-then-callee-len-clause-pending
 returns-then-callee-len-clause-pending c =
-    let p = code_of c.args.typed.now in
+    let p = program c.args.code.now in
     let f = c.args.callee.number in
-    let items = c.args.typed.now.code.procedures.items in
+    let items = c.args.code.now.procedures.items in
     let number : length (map procedure items) ≡ length items = length-map items procedure in
-    let same : length c.code.result.now.procedures.items ≡ length items = ap (λ q. length q.procedures.items) c.code.ensures.field in
     let behind : length (map procedure items) ≤ f = omega (arith, c.if-callee-len.true, c.len.ensures) in
     nothing_behind_pending p f (past_call (map section c.args.sections.now)) behind (kept_in c.nothing.result.pending)
     c.nothing.ensures.pending
