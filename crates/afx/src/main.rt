@@ -5,32 +5,36 @@
 #[cfg(test)]
 mod tests;
 
-use driver::act::act;
-use driver::emit::append;
+use driver::act::{act, refuse_words};
 use driver::files::MachineFiles;
-use std::io::{BufWriter, IsTerminal, Write};
+use std::io::{BufWriter, IsTerminal, Stdout};
 use std::process::ExitCode;
 use std::{env, io};
 
-/// Does what the words behind the program's name ask. No word at a terminal asks for help, since nobody types a program
-/// there.
-fn main(rt: HostRuntime) -> io::Result<ExitCode> {
+/// Does what the words behind the program's name ask.
+fn main(rt: HostRuntime) -> ExitCode {
+    let alloc = rt.alloc();
+    let mut err = rt.stderr();
+    let status = match lent(&rt) {
+        Ok((words, mut out)) => {
+            let mut files = MachineFiles::new(&rt);
+            act(&rt, alloc, &words, &mut files, &mut out, &mut err)
+        }
+        Err(error) => refuse_words(alloc, &error, &mut err),
+    };
+    ExitCode::from(status)
+}
+
+/// The words behind the program's name, and where the answer goes, in large pieces. No word at a terminal asks for
+/// help, since nobody types a program there.
+fn lent(rt: &HostRuntime) -> io::Result<(Vec<String>, BufWriter<Stdout>)> {
     let alloc = rt.alloc();
     let mut words = Vec::new(alloc);
-    for word in env::args(&rt)?.skip(1) {
+    for word in env::args(rt)?.skip(1) {
         words.push(word)?;
     }
     if words.is_empty() && rt.stdin().is_terminal() {
         words.push(String::from_str(alloc, "--help")?)?;
     }
-    let mut files = MachineFiles::new(&rt);
-    let mut out = BufWriter::new(alloc, rt.stdout())?;
-    let mut err = rt.stderr();
-    let status = act(&rt, alloc, &words, &mut files, &mut out, &mut err);
-    // A command that is refused has left nothing to write.
-    if status != 1 && out.flush().is_err() {
-        let _ = append(&mut err, b"cannot write output\n");
-        return Ok(ExitCode::from(1));
-    }
-    Ok(ExitCode::from(status))
+    Ok((words, BufWriter::new(alloc, rt.stdout())?))
 }

@@ -1,23 +1,51 @@
 -- From a file and a command to what the program did.
-use Rattle.std.proofs.Common.{◌≡◌, ℕ, List, [], Option, Result, Ok, Err, sym, subst}
+use Rattle.std.proofs.Common.{◌≡◌, ℕ, List, [], Option, Result, Ok, Err, IfOk, IfErr, sym, subst}
 use Rattle.std.proofs.lemmas.List.{append-nil}
-use Rattle.std.proofs.KnownBytes.{Keeps-refl}
+use Rattle.std.proofs.KnownBytes.{Keeps-refl, Appends-kept}
+use Rattle.std.specs.Io.KnownBytes.{Keeps}
 use Rattle.std.specs.Prelude.{IsErrAnd}
 use Rattle.std.specs.Str.{IsUtf8}
 use Rattle.driver.specs.Acts.{Acts, ReadsAndPerforms, Reports, on_text, without_text}
-use Rattle.driver.specs.Answers.{Does}
+use Rattle.driver.specs.Answers.{Does, Explains, Wrote, Began, Failed}
 use Rattle.driver.specs.Appending.{AppendsBeginning, Writes}
 use Rattle.driver.specs.Failures.{TellsNotUtf8}
 use Rattle.driver.specs.Held.{Held, HasNoText, IsGiven, TellsNoText}
-use Rattle.driver.specs.Requests.{Asked, asked_of}
+use Rattle.driver.specs.Requests.{Asked, Settings, asked_of}
+use Rattle.driver.specs.declared.request.Command.{Command}
 use Rattle.driver.specs.declared.failure.Failure.{Failure}
-use Rattle.driver.specs.declared.failure.Failure.TheVariants.{NotUtf8, NoMemory}
+use Rattle.driver.specs.declared.failure.Failure.TheVariants.{NotUtf8, CannotWriteOutput, NoMemory}
 use Rattle.driver.specs.declared.request.Request.{Request}
 
 -- whether or not all was taken, a beginning was appended
 pub begins : {T E : Type 0} (a b : Option (List ℕ)) (r : Result T E) (t : List ℕ) → Writes a b r t → AppendsBeginning a b t
 begins a b (Ok x) t written = record { begun = t; rest = []; parts = sym (append-nil t); appended = written }
 begins a b (Err e) t begun = begun
+
+-- what was answered is handed on: whole, or a writer that fails has a beginning of it
+pub handed_over : (c : Command) (s : Settings) (held : Held) (text : List ℕ) (old mid new : Option (List ℕ)) (status : ℕ)
+    (r : Result ℕ Failure) → Wrote c s held text old mid status → Keeps mid new → IfOk r (λ n. n ≡ status)
+    → IfErr r (λ f. f ≡ CannotWriteOutput) → Does c s held text old new r
+handed_over c s held text old mid new status (Ok n) wrote keeps is _ =
+    subst (λ m. Wrote c s held text old new m) (sym is) (record {
+      told = wrote.told;
+      answers = wrote.answers;
+      written = Appends-kept old mid new wrote.told wrote.written keeps;
+    })
+handed_over c s held text old mid new status (Err f) wrote keeps _ is = record {
+  why = subst (Explains c s held text) (sym is) tt;
+  silent = λ other. absurd (other is);
+  begun = λ _. record {
+    told = wrote.told;
+    status = status;
+    answers = wrote.answers;
+    begun = record {
+      begun = wrote.told;
+      rest = [];
+      parts = sym (append-nil wrote.told);
+      appended = Appends-kept old mid new wrote.told wrote.written keeps;
+    };
+  };
+}
 
 -- a file whose bytes are no text has none
 pub no_text : (held : Held) (name : List ℕ) (f : Failure) → TellsNotUtf8 name f → HasNoText held name → TellsNoText held name f

@@ -1,6 +1,8 @@
 -- The line that tells a failure.
-use Rattle.std.specs.Prelude.{ℕ, List, ◌++◌, Option, None, Some, codes}
+use Rattle.std.specs.Prelude.{ℕ, ◌+◌, ◌/◌, ◌%◌, List, [], ◌∷◌, ◌++◌, ◌||◌, Option, None, Some, codes}
+use Rattle.std.specs.Prelude.{if◌then◌else◌, nat_eq, nat_lt}
 use Rattle.std.specs.Fmt.{decimal}
+use Rattle.std.specs.List.{flat_map}
 use Rattle.std.specs.String.{string_bytes}
 use Rattle.syntax.specs.Refusals.{error_code as syntax_code, place_of}
 use Rattle.syntax.specs.declared.error.SyntaxError.{SyntaxError}
@@ -26,10 +28,27 @@ abbrev pub race_text : (procedure first second : List ℕ) → List ℕ
 race_text procedure first second =
     (codes "C1 race in " ++ procedure) ++ ((codes ": " ++ first) ++ (codes ", " ++ second))
 
+-- ---- names of files
+
+-- a hexadecimal digit
+abbrev pub digit : ℕ → ℕ
+digit n = if nat_lt n 10 then 48 + n else 87 + n
+
+-- a byte of a name: one that steers a terminal is told by its number, as `\x1b`
+abbrev pub escaped_byte : ℕ → List ℕ
+escaped_byte b =
+    if nat_lt b 32 || nat_eq b 127
+    then codes "\\x" ++ (digit (b / 16) ∷ digit (b % 16) ∷ []) else b ∷ []
+
+abbrev pub escaped : List ℕ → List ℕ
+escaped name = flat_map escaped_byte name
+
+-- ---- the line
+
 -- the line that tells a failure, without its line feed
 abbrev pub failure_text : Failure → List ℕ
-failure_text (CannotRead name) = codes "cannot read " ++ string_bytes name
-failure_text (NotUtf8 name) = codes "not UTF-8 " ++ string_bytes name
+failure_text (CannotRead name) = codes "cannot read " ++ escaped (string_bytes name)
+failure_text (NotUtf8 name) = codes "not UTF-8 " ++ escaped (string_bytes name)
 failure_text (Syntax e) = syntax_text e
 failure_text (Types e) = error_text e
 failure_text NotYet = codes "Z1"

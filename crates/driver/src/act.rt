@@ -1,8 +1,11 @@
 //! The whole program, over files and writers that it is lent.
 
-ghost use Rattle.std.specs.Prelude.{◌≤◌, ◌<◌, map};
+ghost use Rattle.std.specs.Io.KnownBytes.{Keeps};
+ghost use Rattle.std.specs.Prelude.{◌≡◌, ◌≤◌, ◌<◌, codes, map, Err, IfOk, IfErr};
 ghost use Rattle.std.specs.String.{string_bytes};
-ghost use Rattle.driver.specs.Acts.{Acts, ReadsAndPerforms};
+ghost use Rattle.driver.specs.Acts.{Acts, ReadsAndPerforms, Reports};
+ghost use Rattle.driver.specs.Failures.{TellsNotUtf8};
+ghost use Rattle.driver.specs.declared.failure.Failure.{Failure as FailureOf};
 ghost use Rattle.driver.specs.Requests.{Asked, Asks, asked_of};
 
 use crate::command_line::request_of;
@@ -14,7 +17,8 @@ use crate::message::emit_message;
 use crate::request::Request;
 use clap::Error;
 use std::alloc::{AllocError, Global};
-use std::io::Write;
+use std::io;
+use std::io::{ErrorKind, Write};
 use std::thread::Threads;
 
 /// Does what the words behind the program's name ask, and answers the exit status.
@@ -37,12 +41,29 @@ pub fn act<R: Threads + Sync, F: FileSource, O: Write, E: Write>(
         Err(error) => tell_command_line(alloc, &error, out, err),
         Ok(request) => match perform(rt, alloc, request, files, out) {
             Ok(status) => status,
-            Err(failure) => {
-                let _ = emit_message(err, &failure);
-                failure.status()
-            }
+            Err(failure) => report(err, &failure),
         },
     }
+}
+
+/// Tells why the words behind the program's name can't be had: one of them is no text, or memory ran out.
+pub fn refuse_words<E: Write>(alloc: Global, error: &io::Error, err: &mut E) -> u8
+    ensures { (f : FailureOf) × TellsNotUtf8 (codes "command line") f
+        × Reports (E.contents err.old) (E.contents err.new) (Err f) result }
+{
+    let failure = match error.kind() {
+        ErrorKind::OutOfMemory => Failure::NoMemory,
+        _ => Failure::not_utf8(alloc, "command line"),
+    };
+    report(err, &failure)
+}
+
+/// Writes the line of a failure, and answers its status.
+fn report<E: Write>(err: &mut E, failure: &Failure) -> u8
+    ensures { Reports (E.contents err.old) (E.contents err.new) (Err failure.now) result }
+{
+    let _ = emit_message(err, failure);
+    failure.status()
 }
 
 /// Does one command.
@@ -59,8 +80,23 @@ fn perform<R: Threads + Sync, F: FileSource, O: Write>(
     let name = request.file;
     let bytes = read_file(alloc, files, name)?;
     match std::str::from_utf8(&bytes) {
-        Ok(text) => commands::perform(rt, alloc, request, text, files, out),
+        Ok(text) => match commands::perform(rt, alloc, request, text, files, out) {
+            Ok(status) => handed_on(out, status),
+            Err(failure) => Err(failure),
+        },
         Err(_) => Err(Failure::not_utf8(alloc, name)),
+    }
+}
+
+/// Hands on what a writer keeps back of an answer with this status.
+fn handed_on<O: Write>(out: &mut O, status: u8) -> Result<u8, Failure>
+    ensures keeps { Keeps (O.contents out.old) (O.contents out.new) }
+    ensures status { IfOk result (λ s. s ≡ status) }
+    ensures failure { IfErr result (λ f. f ≡ Failure.CannotWriteOutput) }
+{
+    match out.flush() {
+        Ok(()) => Ok(status),
+        Err(_) => Err(Failure::CannotWriteOutput),
     }
 }
 
@@ -81,12 +117,11 @@ fn tell_command_line<O: Write, E: Write>(
         let _ = append(err, text.as_bytes());
         1
     } else {
-        match append(out, text.as_bytes()) {
-            Ok(()) => 0,
-            Err(_) => {
-                let _ = append(err, b"cannot write output\n");
-                1
-            }
+        if append(out, text.as_bytes()).is_ok() && out.flush().is_ok() {
+            0
+        } else {
+            let _ = append(err, b"cannot write output\n");
+            1
         }
     }
 }

@@ -1,10 +1,11 @@
 //! The line that tells a failure, piece by piece, without memory of its own.
 
-ghost use Rattle.std.specs.Prelude.{◌++◌, codes};
+ghost use Rattle.std.specs.Prelude.{◌≡◌, ◌<◌, ◌++◌, codes};
 ghost use Rattle.types.specs.Codes.{error_text, labelled};
 ghost use Rattle.types.specs.InputErrors.{error_text as input_text};
 ghost use Rattle.driver.specs.Appending.{Writes};
 ghost use Rattle.driver.specs.Messages.{at_place, failure_text, race_text, syntax_text};
+ghost use Rattle.driver.specs.Messages.{digit, escaped, escaped_byte};
 
 use crate::emit::{EmitError, append, emit_label};
 use crate::failure::Failure;
@@ -29,8 +30,8 @@ fn emit_failure<W: Write>(err: &mut W, failure: &Failure) -> Result<(), EmitErro
     ensures { Writes (W.contents err.old) (W.contents err.new) result (failure_text failure.now) }
 {
     match failure {
-        Failure::CannotRead { name } => emit_named(err, "cannot read ", name.as_str()),
-        Failure::NotUtf8 { name } => emit_named(err, "not UTF-8 ", name.as_str()),
+        Failure::CannotRead { name } => emit_file(err, "cannot read ", name.as_str()),
+        Failure::NotUtf8 { name } => emit_file(err, "not UTF-8 ", name.as_str()),
         Failure::Syntax(error) => emit_syntax_error(err, error),
         Failure::Types(error) => emit_type_error(err, *error),
         Failure::NotYet => emit_text(err, "Z1"),
@@ -60,6 +61,51 @@ fn emit_named<W: Write>(err: &mut W, told: &str, name: &str) -> Result<(), EmitE
 {
     emit_text(err, told)?;
     emit_text(err, name)
+}
+
+/// What is told, and the name of a file.
+fn emit_file<W: Write>(err: &mut W, told: &str, name: &str) -> Result<(), EmitError>
+    ensures { Writes (W.contents err.old) (W.contents err.new) result
+        (told.now ++ escaped name.now) }
+{
+    emit_text(err, told)?;
+    emit_escaped(err, name.as_bytes())
+}
+
+/// A name, byte by byte.
+fn emit_escaped<W: Write>(err: &mut W, name: &[u8]) -> Result<(), EmitError>
+    ensures { Writes (W.contents err.old) (W.contents err.new) result (escaped name.now) }
+{
+    for byte in name {
+        emit_byte(err, *byte)?;
+    }
+    Ok(())
+}
+
+/// A byte of a name: one that steers a terminal is told by its number.
+fn emit_byte<W: Write>(err: &mut W, byte: u8) -> Result<(), EmitError>
+    ensures { Writes (W.contents err.old) (W.contents err.new) result (escaped_byte byte) }
+{
+    if byte < 32 || byte == 127 {
+        append(
+            err,
+            &[b'\\', b'x', digit_of(byte / 16), digit_of(byte % 16)],
+        )
+    } else {
+        append(err, &[byte])
+    }
+}
+
+/// A hexadecimal digit.
+fn digit_of(number: u8) -> u8
+    requires { number < 16 }
+    ensures { result ≡ digit number }
+{
+    if number < 10 {
+        b'0' + number
+    } else {
+        b'a' + (number - 10)
+    }
 }
 
 /// `S2 at 1:13`

@@ -1,6 +1,6 @@
 use Rattle.std.proofs.Common.{refl}
 use Rattle.std.proofs.KnownBytes.{Keeps-refl}
-use Rattle.driver.proofs.Acting.{acts, begins}
+use Rattle.driver.proofs.Acting.{acts}
 use Rattle.driver.specs.Requests.{asked_of}
 use Rattle.driver.proofs.act.act.Goals as goal
 
@@ -22,11 +22,11 @@ returns-in-Ok-perform-clause-over_one g c large = (
 pub returns-in-Err-perform-clause-asked : goal.returns-in-Err-perform-clause-asked
 returns-in-Err-perform-clause-asked g c a asks =
     acts a c.in-Ok.request (c.in-Ok.ensures a asks) (g.F.FileSource.held c.args.files.now) _ _ _ _ _ _
-    c.in-Err-perform.ensures (c.status.ensures, begins _ _ _ _ c.emit_message.ensures)
+    c.in-Err-perform.ensures c.report.ensures
 
 pub returns-in-Err-perform-clause-over_one : goal.returns-in-Err-perform-clause-over_one
 returns-in-Err-perform-clause-over_one g c large = (
   asked_of c.in-Ok.request,
   acts _ c.in-Ok.request refl (g.F.FileSource.held c.args.files.now) _ _ _ _ _ _ c.in-Err-perform.ensures
-      (c.status.ensures, begins _ _ _ _ c.emit_message.ensures),
+      c.report.ensures,
 )

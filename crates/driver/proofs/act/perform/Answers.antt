@@ -1,18 +1,31 @@
 use Rattle.std.proofs.Common.{List, ℕ, Ok, Err, refl, subst, sym, ◌∙◌}
 use Rattle.std.specs.Str.{IsUtf8}
-use Rattle.driver.proofs.Acting.{no_text, performed_on_text, performed_without_text}
+use Rattle.driver.proofs.Acting.{handed_over, no_text, performed_on_text, performed_without_text}
 use Rattle.driver.specs.Held.{IsGiven}
-use Rattle.driver.specs.Requests.{asked_of}
+use Rattle.driver.specs.Requests.{asked_of, settings as settings_of}
 use Rattle.driver.proofs.act.perform.Goals as goal
+
+pub returns-in-Ok-perform : goal.returns-in-Ok-perform
+returns-in-Ok-perform g c =
+    let held = g.F.FileSource.held c.args.files.now in
+    let text = c.in-Ok.ensures.cases in
+    performed_on_text (asked_of c.args.request) held _ c.in_ok-bytes.ensures.keeps _ _ c.handed_on.result c.in-Ok.text.now
+    (subst (λ (bs : List ℕ). IsGiven (held c.args.request.file.now) (Ok bs)) (sym (text.0 ∙ c.deref.ensures.value))
+    c.in_ok-bytes.ensures.given)
+    (subst IsUtf8 (sym text.0) text.1)
+    (handed_over c.args.request.command (settings_of c.args.request.settings) _ c.in-Ok.text.now _ _ _
+    c.in-Ok-perform.status c.handed_on.result c.in-Ok-perform.ensures c.handed_on.ensures.keeps
+    c.handed_on.ensures.status c.handed_on.ensures.failure)
 
 pub returns-in-Ok : goal.returns-in-Ok
 returns-in-Ok g c =
     let held = g.F.FileSource.held c.args.files.now in
     let text = c.in-Ok.ensures.cases in
-    performed_on_text (asked_of c.args.request) held _ c.in_ok-bytes.ensures.keeps _ _ c.perform.result c.in-Ok.text.now
+    performed_on_text (asked_of c.args.request) held _ c.in_ok-bytes.ensures.keeps _ _ (Err c.in-Err-perform.failure)
+    c.in-Ok.text.now
     (subst (λ (bs : List ℕ). IsGiven (held c.args.request.file.now) (Ok bs)) (sym (text.0 ∙ c.deref.ensures.value))
     c.in_ok-bytes.ensures.given)
-    (subst IsUtf8 (sym text.0) text.1) c.perform.ensures
+    (subst IsUtf8 (sym text.0) text.1) c.in-Err-perform.ensures
 
 pub returns : goal.returns
 returns g c =
