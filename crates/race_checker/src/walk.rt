@@ -6,7 +6,7 @@ ghost use Rattle.rayon.specs.Lists.{chunks_of};
 ghost use denote.Param.Send.{IsSync};
 ghost use Rattle.sections.specs.Tree.{origins_of};
 ghost use Rattle.sections.specs.Translation.{section as section_of};
-ghost use Rattle.types.specs.Translation.{code as code_as, codes as codes_of, procedure as procedure_as};
+ghost use Rattle.types.specs.Translation.{code as plain_code, codes as codes_of, procedure as procedure_as};
 ghost use Rattle.types.specs.Translation.{program as program_as};
 ghost use Rattle.effects.specs.Sound.{IsSound};
 ghost use Rattle.effects.specs.Summarized.{AreSummaries};
@@ -156,10 +156,10 @@ fn found_of<R: Threads + Sync>(
     requires procedure { procedure.number ≤ length (program_as code.now).procedures }
     requires stands { StandsOf (program_as code.now)
         (numbered (program_as code.now) procedure.number).sections
-        statement.now.label (code_as statement.now.kind) }
+        statement.now.label (plain_code statement.now.kind) }
     ensures { IfOk result (IsFoundOf (program_as code.now)
         (numbered (program_as code.now) procedure.number).sections procedure.number
-        statement.now.label (code_as statement.now.kind)) }
+        statement.now.label (plain_code statement.now.kind)) }
 {
     let own = own_accesses(alloc, statement.label, &statement.kind)?;
     match &statement.kind {
