@@ -185,11 +185,7 @@ fn answer_pairs<O: Write>(out: &mut O, pairs: PairList<'_>) -> Result<u8, Failur
 }
 
 /// The program of a text, where it breaks no rule and has no race.
-fn accepted_of<R: Threads + Sync>(
-    rt: &R,
-    alloc: Global,
-    text: &str,
-) -> Result<Accepted, Failure>
+fn accepted_of<R: Threads + Sync>(rt: &R, alloc: Global, text: &str) -> Result<Accepted, Failure>
     ensures spelled { IfOk result (λ a. AreTokensOf (chars text.now) (spelling (program_in a.typed))) }
     ensures why { IfErr result (TellsNotAccepted text.now) }
 {

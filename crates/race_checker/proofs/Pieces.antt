@@ -47,9 +47,9 @@ module _ (p : Program) where
       elim ((all_lists p accesses s.label (code s.kind) (codes (ss ++ ys)) x).0 h) [
         | inl a ↦ inl ((all_lists p accesses s.label (code s.kind) (codes ss) x).1 (inl a))
         | inr b ↦ elim (all_parted ss ys x b) [
-            | inl c ↦ inl ((all_lists p accesses s.label (code s.kind) (codes ss) x).1 (inr c))
-            | inr c ↦ inr c
-          ]
+          | inl c ↦ inl ((all_lists p accesses s.label (code s.kind) (codes ss) x).1 (inr c))
+          | inr c ↦ inr c
+        ]
       ]
 
   pub pending_joined : (xs ys : List Stmt) (x : Access) → Pending p accesses (codes xs) x ⊎ Pending p accesses (codes ys) x
@@ -71,9 +71,9 @@ module _ (p : Program) where
       elim ((pending_lists p accesses s.label (code s.kind) (codes (ss ++ ys)) x).0 h) [
         | inl a ↦ inl ((pending_lists p accesses s.label (code s.kind) (codes ss) x).1 (inl a))
         | inr b ↦ elim (pending_parted ss ys x b) [
-            | inl c ↦ inl ((pending_lists p accesses s.label (code s.kind) (codes ss) x).1 (inr c))
-            | inr c ↦ inr c
-          ]
+          | inl c ↦ inl ((pending_lists p accesses s.label (code s.kind) (codes ss) x).1 (inr c))
+          | inr c ↦ inr c
+        ]
       ]
 
   -- the pairs of a list that stands before another
@@ -104,15 +104,15 @@ module _ (p : Program) where
   together_parted (s ∷ ss) ys x y h =
       elim (fronted_in p s.label (code s.kind) (codes (ss ++ ys)) x y h) [
         | inl a ↦ elim (all_parted ss ys y a.1) [
-            | inl b ↦ inr (inl (Together.follows a.0 b))
-            | inr b ↦ inl ((pending_lists p accesses s.label (code s.kind) (codes ss) x).1 (inl a.0), b)
-          ]
+          | inl b ↦ inr (inl (Together.follows a.0 b))
+          | inr b ↦ inl ((pending_lists p accesses s.label (code s.kind) (codes ss) x).1 (inl a.0), b)
+        ]
         | inr (inl b) ↦ inr (inl (fronted_out p s.label (code s.kind) (codes ss) x y (inr (inl b))))
         | inr (inr b) ↦ elim (together_parted ss ys x y b) [
-            | inl c ↦ inl ((pending_lists p accesses s.label (code s.kind) (codes ss) x).1 (inr c.0), c.1)
-            | inr (inl c) ↦ inr (inl (Together.later c))
-            | inr (inr c) ↦ inr (inr c)
-          ]
+          | inl c ↦ inl ((pending_lists p accesses s.label (code s.kind) (codes ss) x).1 (inr c.0), c.1)
+          | inr (inl c) ↦ inr (inl (Together.later c))
+          | inr (inr c) ↦ inr (inr c)
+        ]
       ]
 
   module _ (origins : List Origin) (f : ℕ) where

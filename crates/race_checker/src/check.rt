@@ -35,11 +35,7 @@ pub enum Refused {
 }
 
 /// Whether a program has a race: in a procedure, called or not, or in `main`.
-pub fn check<R: Threads + Sync>(
-    rt: &R,
-    alloc: Global,
-    typed: Typed,
-) -> Result<Accepted, Refused>
+pub fn check<R: Threads + Sync>(rt: &R, alloc: Global, typed: Typed) -> Result<Accepted, Refused>
     ensures accepted { IfOk result (λ accepted. accepted.typed ≡ typed) }
     ensures no_clash { OnOk result (IsAccepted (code_of typed)) }
     ensures refused { IfErr result (IsRefusalOf typed) }

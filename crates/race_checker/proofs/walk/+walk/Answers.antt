@@ -48,9 +48,13 @@ found_in-collect-requires-clause-ready g t c κs within =
     let body = c.args.body.now in
     let pieces = pieces_of p os (chunks_of 256 body) body (chunks_of-concat 256 body (omega arith)) c.requires.stands in
     rw (c.map.ensures.f, c.map.ensures.base, c.with_min_len.ensures.base, c.par_chunks.ensures.slice, c.par_chunks.ensures.size)
-    (λ k d lt x e. rw e (let h = pieces k d lt in
-    ((let le : size_in (codes (slice_index_or (chunks_of 256 body) k d)) ≤ size_in (codes body) = h.size in omega arith,
-    (λ a m. m, (search (sendable, crosses) depth 40, (c.requires.sound, (c.requires.summaries, (c.requires.procedure, (h.stands, search (sendable, crosses) depth 40))))))), λ y q. tt)))
+    (λ k d lt x e. rw e (let h = pieces k d lt in (
+      (
+        let le : size_in (codes (slice_index_or (chunks_of 256 body) k d)) ≤ size_in (codes body) = h.size in omega arith,
+        (λ a m. m, (search (sendable, crosses) depth 40, (c.requires.sound, (c.requires.summaries, (c.requires.procedure, (h.stands, search (sendable, crosses) depth 40)))))),
+      ),
+      λ y q. tt,
+    )))
 
 pub found_in-joined-requires-clause-pieces : goal.found_in-joined-requires-clause-pieces
 found_in-joined-requires-clause-pieces g t c =
