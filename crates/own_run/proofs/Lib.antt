@@ -2,6 +2,7 @@ pub mod AcceptedPrograms
 pub mod AccessNames
 pub mod ApartOutcome
 pub mod Begun
+pub mod Children
 pub mod ComesBack
 pub mod CompleteResults
 pub mod ExactResults

@@ -1,20 +1,18 @@
 -- What statements whose step was taken make of a run.
-use Rattle.std.proofs.Common.{◌≡◌, ◌≢◌, ℕ, zero, suc, ◌+◌, ◌-◌, ◌<◌, ◌≤◌, List, [], ◌∷◌, ◌++◌, Ok, Err, refl, sym, ap, ◌∙◌, subst, inl, inr, arith}
-use Rattle.std.proofs.Common.{Bor, Global, Vec, map}
+use Rattle.std.proofs.Common.{◌≡◌, ◌≢◌, ℕ, zero, suc, ◌+◌, ◌-◌, List, [], ◌∷◌, ◌++◌, Ok, Err, refl, sym, ap, ◌∙◌, subst, inr, arith}
+use Rattle.std.proofs.Common.{Global, Vec}
 use Rattle.std.specs.Prelude.{ℤ, Bool, true, false, Option}
-use Rattle.sections.specs.Place.{Place, Window}
-use Rattle.types.specs.declared.code.Stmt.{Stmt}
+use Rattle.sections.specs.Place.{Place}
 use Rattle.types.specs.declared.fault.FaultKind.{FaultKind}
 use Rattle.types.specs.Code.{Code, Codes, Number, Truth, Program, Primitive, Skip, Assign, Store, Print, Raise, Do, If, While, Split, Call, Async, Finish}
-use Rattle.types.specs.Contents.{read, write}
 use Rattle.types.specs.Run.{State, Rules, Flow, On, fault, primitive, number_at, numbers_at, window_at, with_value, put, array_of, counted}
-use Rattle.types.specs.Translation.{program, codes}
+use Rattle.types.specs.Translation.{program}
 use Rattle.types.specs.Value.{Valued, element_of, holds_number, then_try}
 use Rattle.effects.specs.Needs.{Needs}
 use Rattle.serial_run.specs.declared.thread.Flow.TheVariants.{On as rOn}
 use Rattle.serial_run.specs.declared.thread.Thread.{Thread}
 use Rattle.serial_run.specs.Standing.{KeepsTask, flow as flow_of}
-use Rattle.own_run.specs.Frames.{Frame, Rest, Standing, by_flow, by_value, acted, done_at, done_by, done_in, paid, turn}
+use Rattle.own_run.specs.Frames.{Frame, Standing, by_flow, by_value, acted, done_at, done_by, done_in, paid, turn}
 use Rattle.own_run.specs.OwnRun.{Own, Action, EnterFinish, Spawn, Step, begin_own, child_of, list_child, notes, own_rules}
 use Rattle.own_run.specs.Results.{Settled}
 use Rattle.own_run.specs.RunTurns.{Acts, CanAct, DidAct, DidTurn, DoneAs, Going_on, Turns}

@@ -1,23 +1,22 @@
 -- The top frame of a run, and what its statement may touch.
-use Rattle.std.proofs.Common.{◌≡◌, ℕ, zero, suc, ◌+◌, List, [], ◌∷◌, ◌++◌, length, Ok, Err, refl, sym, ap, ◌∙◌, subst, arith}
+use Rattle.std.proofs.Common.{◌≡◌, ℕ, suc, List, [], ◌∷◌, ◌++◌, length, Ok, Err, refl, sym, ap, ◌∙◌, subst, arith}
 use Rattle.std.proofs.Common.{Global, Vec}
 use Rattle.std.proofs.lemmas.List.{length-append}
-use Rattle.std.specs.Prelude.{ℤ, Bool, true, false, ⊤}
-use Rattle.sections.specs.Member.{Member, first}
+use Rattle.std.specs.Prelude.{ℤ, Bool, true, false}
+use Rattle.sections.specs.Member.{first}
 use Rattle.sections.specs.Place.{Place, In}
-use Rattle.types.specs.declared.fault.FaultKind.{FaultKind}
 use Rattle.types.specs.Code.{Code, Codes, Then, Number, Program, Primitive, Skip, Assign, Store, Print, Raise, Do, If, While, Split, Call, Async, Finish}
 use Rattle.types.specs.Run.{State, array_of, number_at}
 use Rattle.types.specs.Translation.{program}
 use Rattle.types.specs.Value.{Valued, element_of, holds_number, then_try}
 use Rattle.effects.specs.Needs.{Needs}
-use Rattle.serial_run.specs.Primitive.{CanStore, fitting, target}
+use Rattle.serial_run.specs.Primitive.{fitting, target}
 use Rattle.own_run.specs.Frames.{Frame, Rest}
-use Rattle.own_run.specs.Holds.{HasOwn, HasNeeds}
+use Rattle.own_run.specs.Holds.{HasOwn}
 use Rattle.own_run.specs.OwnRun.{Own}
 use Rattle.own_run.specs.Reached.{HasNext}
-use Rattle.own_run.specs.RunTurns.{CanAct, HasNeeded, KnowsFirst}
-use Rattle.own_run.specs.Standings.{Shows, ShowsFrame, Stacked, state_of, with_own}
+use Rattle.own_run.specs.RunTurns.{CanAct, KnowsFirst}
+use Rattle.own_run.specs.Standings.{ShowsFrame, Stacked, state_of, with_own}
 use Rattle.own_run.specs.Translation.{owned_by}
 use Rattle.own_run.specs.declared.frame.Frame.{Frame as rFrame}
 use Rattle.own_run.specs.declared.run.Run.{Run}

@@ -1,5 +1,5 @@
 -- What a run in Rust stands for: a task in the making.
-use Rattle.std.specs.Prelude.{ℕ, ◌+◌, ◌≡◌, ◌≤◌, List, [], ◌∷◌, ◌++◌, map}
+use Rattle.std.specs.Prelude.{◌+◌, ◌≡◌, ◌≤◌, List, [], ◌∷◌, ◌++◌, map}
 use Rattle.types.specs.Run.{State}
 use Rattle.types.specs.Translation.{codes, truth, environment, fault}
 use Rattle.serial_run.specs.Standing.{state_by}

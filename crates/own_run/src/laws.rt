@@ -6,6 +6,7 @@ ghost use Rattle.types.specs.Code.{Truth, Code, While, Async, Codes, Then, Progr
 ghost use Rattle.types.specs.Contents.{FitsArrays};
 ghost use Rattle.types.specs.Outcome.{Budget, outcome};
 ghost use Rattle.types.specs.Run.{State};
+ghost use Rattle.types.specs.Translation.{program as program_of};
 ghost use Rattle.effects.specs.Sound.{IsSound};
 ghost use Rattle.effects.specs.Needs.{Needs, Provides};
 ghost use Rattle.effects.specs.Rounds.{needs_of};
@@ -24,16 +25,19 @@ ghost use Rattle.own_run.specs.Frames.{HasBegun, HasBegunBelow, IsGivenChild, Is
 ghost use Rattle.own_run.specs.Frames.{done_in};
 ghost use Rattle.own_run.specs.Holds.{MayBegin, Holds, HasOwn, HasNeeds};
 ghost use Rattle.own_run.specs.Stops.{stops, some_halted};
-ghost use Rattle.own_run.specs.Reached.{HasNext};
+ghost use Rattle.own_run.specs.Reached.{HasNext, begun};
 ghost use Rattle.own_run.specs.Runs.{root, root_result, root_comes_to, all_results, IsOwnResult};
 ghost use Rattle.own_run.specs.Runs.{MayStand, IsTaskResult, MayGoOn, MayEnd};
 ghost use Rattle.own_run.specs.Settling.{settle, IsParted};
 ghost use Rattle.own_run.specs.Lists.{Each, Shuffled};
 ghost use Rattle.own_run.specs.MayRun.{MayRun, Stays};
 ghost use Rattle.own_run.specs.RunTurns.{IsTurn};
-ghost use Rattle.own_run.specs.Standings.{state_of, with_own};
+ghost use Rattle.own_run.specs.Standings.{IsAt, state_of, with_own};
+ghost use Rattle.own_run.specs.Translation.{start as start_of};
 ghost use Rattle.own_run.specs.declared.run.Run.{Run};
+ghost use Rattle.own_run.specs.declared.start.Start.{Start as NewTask};
 ghost use Rattle.own_run.specs.declared.turn.Turn.{Turn};
+ghost use Rattle.own_run.specs.declared.turn.Turn.TheVariants.{Spawns};
 
 /// Of a sound and accepted program: tasks apart come to the one-thread outcome; results of own runs
 /// that settle, in whatever order they stand, are told as it; and the results of all tasks, each
@@ -256,7 +260,8 @@ pub fn tasks_stop_over_the_budget()
 {}
 
 /// A run in Rust of a sound and accepted program has what it does next, and where a turn of it goes
-/// on, that is a run of the program's again: it stands for a task that may come to stand so.
+/// on, that is a run of the program's again: it stands for a task that may come to stand so. So is
+/// the run of a task that a turn began, at its beginning.
 pub fn runs_stay_tasks()
     ensures next { (p : Program) → IsSound p → IsAccepted p
         → (input : List (List ℤ)) (b : Budget) → FitsArrays p.arrays input
@@ -264,4 +269,8 @@ pub fn runs_stay_tasks()
         → HasNext (needs_of p) (with_own m.own (state_of r.thread)) m.frames }
     ensures stays { (p : Program) (input : List (List ℤ)) (b : Budget) (r : Run) (t : Turn)
         → MayRun p input b r → IsTurn (needs_of p) r t → Stays p input b t }
+    ensures begins { (p : Program) (input : List (List ℤ)) (b : Budget) (r q child : Run) (s : NewTask)
+        → MayRun p input b r → IsTurn (needs_of p) r (Spawns q s)
+        → program_of child.plan.program.now ≡ p → child.thread.nest ≡ (start_of s).nest
+        → IsAt child (begun b.steps (start_of s)) → MayRun p input b child }
 {}

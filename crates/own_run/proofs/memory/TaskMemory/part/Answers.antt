@@ -1,15 +1,13 @@
-use Rattle.std.proofs.Common.{◌≡◌, ◌++◌, ap, ◌∙◌, sym, refl, subst, map, List, rules}
+use Rattle.std.proofs.Common.{◌≡◌, ◌++◌, ap, ◌∙◌, sym, subst, map, rules}
 use Rattle.std.proofs.lemmas.List.{map-append}
-use Rattle.std.specs.Prelude.{Bool, true, ◌||◌}
+use Rattle.std.specs.Prelude.{◌||◌}
 use Rattle.sections.specs.Covers.{has}
-use Rattle.sections.specs.Place.{Place, Window}
+use Rattle.sections.specs.Place.{Place}
 use Rattle.sections.specs.Translation.{window}
-use Rattle.types.specs.Contents.{Contents}
 use Rattle.holdings.specs.Held.{Held, Map, numbers, owned, only, as_owned, as_shared, over, AreApart, IsThere, without as without_at}
 use Rattle.holdings.specs.Holdings.{held}
-use Rattle.holdings.specs.Errors.{RefusesPlaces, RefusesOwned}
-use Rattle.own_run.specs.Places.{Places, within, only as only_in, without as without_in}
-use Rattle.own_run.proofs.HeldPlaces.{has-is-within, within-append, owns, all_owned, all_there, childs, child_contents}
+use Rattle.own_run.specs.Places.{Places, within, only as only_in}
+use Rattle.own_run.proofs.HeldPlaces.{has-is-within, within-append, owns, all_owned, all_there, child_contents}
 use Rattle.own_run.proofs.HeldPlaces.{child_owned, left_contents, left_owned, copies_apart}
 use Rattle.own_run.proofs.memory.TaskMemory.part.Goals as goal
 

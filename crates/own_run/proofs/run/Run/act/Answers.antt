@@ -1,4 +1,4 @@
-use Rattle.std.proofs.Common.{◌≡◌, ap, ◌∙◌, sym, refl, subst, map}
+use Rattle.std.proofs.Common.{◌≡◌, ap, ◌∙◌, sym, subst, map}
 use Rattle.std.specs.Prelude.{IfOk}
 use Rattle.sections.specs.Translation.{section}
 use Rattle.types.specs.Code.{Code, Do, If, While, Split, Call, Async, Finish}

@@ -1,14 +1,13 @@
 use Rattle.std.proofs.Common.{◌≡◌, ap, ◌∙◌, sym, refl, subst, List, [], ◌∷◌, inl}
 use Rattle.std.proofs.lemmas.List.{append-nil}
-use Rattle.types.specs.Code.{Code, Codes, End, Then}
-use Rattle.types.specs.Run.{State}
+use Rattle.types.specs.Code.{End, Then}
 use Rattle.types.specs.Translation.{code, codes, environment, program, truth}
 use Rattle.types.specs.declared.value.Environment.{Environment as rEnvironment}
-use Rattle.own_run.specs.Frames.{Frame, Rest, Again, AtEnd, Back, done_in, turn}
+use Rattle.own_run.specs.Frames.{Frame, Rest, Again, Back, done_in, turn}
 use Rattle.own_run.specs.OwnRun.{Own, own_rules}
 use Rattle.own_run.specs.Reached.{HasNext}
 use Rattle.own_run.specs.RunTurns.{CanAct, KnowsFirst, TurnOf}
-use Rattle.own_run.specs.Standings.{Shows, Stacked, state_of, with_own}
+use Rattle.own_run.specs.Standings.{Stacked, state_of, with_own}
 use Rattle.own_run.specs.Stops.{stops}
 use Rattle.own_run.specs.declared.frame.Frame.{Frame as rFrame}
 use Rattle.own_run.specs.declared.frame.Frame.TheVariants.{Rest as rRest, Again as rAgain, EndFinish as rEndFinish, EndCall as rEndCall}

@@ -1,4 +1,4 @@
-use Rattle.std.proofs.Common.{◌≡◌, ap, ◌∙◌, sym, refl, subst}
+use Rattle.std.proofs.Common.{refl, subst}
 use Rattle.std.specs.Bool.{OnTrue}
 use Rattle.types.specs.Code.{While}
 use Rattle.types.specs.Translation.{truth, codes}

@@ -1,4 +1,4 @@
-use Rattle.std.proofs.Common.{◌≡◌, ap, ◌∙◌, sym, refl, List, [], ◌∷◌, ◌++◌, map, arith, Vec, Global}
+use Rattle.std.proofs.Common.{ap, ◌∙◌, sym, refl, List, [], ◌∷◌, ◌++◌, map, arith, Vec, Global}
 use Rattle.std.specs.Prelude.{ℤ}
 use Rattle.types.specs.Run.{Fault, On, State}
 use Rattle.types.specs.Translation.{environment, fault}

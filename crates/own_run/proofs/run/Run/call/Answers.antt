@@ -1,13 +1,13 @@
-use Rattle.std.proofs.Common.{◌≡◌, ap, ◌∙◌, sym, refl, subst, List, ◌∷◌, map}
+use Rattle.std.proofs.Common.{ap, ◌∙◌, sym, refl, subst, ◌∷◌, map}
 use Rattle.sections.specs.Translation.{section}
 use Rattle.types.specs.Code.{Call}
-use Rattle.types.specs.Run.{entry, numbers_at, procedure_of, window_at, State}
-use Rattle.types.specs.Translation.{program, number, codes, environment}
+use Rattle.types.specs.Run.{entry, procedure_of, window_at}
+use Rattle.types.specs.Translation.{program, number, environment}
 use Rattle.types.specs.Value.{Environment}
 use Rattle.types.specs.declared.value.Environment.{Environment as rEnvironment}
 use Rattle.serial_run.proofs.Steps.{on_ok_both}
 use Rattle.serial_run.specs.Primitive.{listed}
-use Rattle.own_run.specs.Frames.{Frame, Rest, Back, Standing, acted}
+use Rattle.own_run.specs.Frames.{Rest, Back, Standing, acted}
 use Rattle.own_run.specs.OwnRun.{Own, own_rules}
 use Rattle.own_run.specs.Standings.{IsAt, state_of, with_own}
 use Rattle.own_run.specs.declared.frame.Frame.TheVariants.{Rest as rRest, EndCall as rEndCall}

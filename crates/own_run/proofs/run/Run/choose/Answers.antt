@@ -1,6 +1,6 @@
-use Rattle.std.proofs.Common.{ap, ◌∙◌, sym, refl}
+use Rattle.std.proofs.Common.{◌∙◌, sym}
 use Rattle.types.specs.Code.{If}
-use Rattle.types.specs.Translation.{program, truth, number, codes}
+use Rattle.types.specs.Translation.{program, truth, codes}
 use Rattle.serial_run.proofs.Steps.{on_ok_both}
 use Rattle.own_run.specs.Frames.{acted}
 use Rattle.own_run.specs.OwnRun.{own_rules}

@@ -1,4 +1,4 @@
-use Rattle.std.proofs.Common.{◌≡◌, ap, ◌∙◌, sym, refl, List, [], ◌∷◌, map, Vec, Global}
+use Rattle.std.proofs.Common.{ap, ◌∙◌, sym, refl, List, [], ◌∷◌, map, Vec, Global}
 use Rattle.std.specs.Prelude.{ℤ}
 use Rattle.types.specs.Run.{Fault, State}
 use Rattle.types.specs.Translation.{codes, fault}

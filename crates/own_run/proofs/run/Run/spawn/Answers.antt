@@ -1,16 +1,15 @@
-use Rattle.std.proofs.Common.{◌≡◌, ◌≢◌, ◌+◌, ◌-◌, ◌≤◌, ap, ◌∙◌, sym, refl, subst, List, [], ◌∷◌, ◌++◌, map, arith, Vec, Global, zero, suc, ℕ}
+use Rattle.std.proofs.Common.{◌≡◌, ◌+◌, ◌-◌, ◌≤◌, ap, ◌∙◌, sym, refl, subst, List, [], ◌∷◌, ◌++◌, map, arith, Vec, Global}
 use Rattle.std.proofs.lemmas.Bool.{or_right}
 use Rattle.std.proofs.lemmas.List.{map-append}
-use Rattle.std.specs.Prelude.{ℤ, Bool, true, ◌&&◌, not}
-use Rattle.sections.specs.Place.{Place, Window}
-use Rattle.sections.specs.Translation.{section, window}
-use Rattle.types.specs.Run.{Fault, State}
-use Rattle.types.specs.Translation.{codes, environment, fault, program}
+use Rattle.std.specs.Prelude.{ℤ, ◌&&◌, not}
+use Rattle.sections.specs.Place.{Window}
+use Rattle.sections.specs.Translation.{window}
+use Rattle.types.specs.Run.{State}
+use Rattle.types.specs.Translation.{codes, environment, fault}
 use Rattle.types.specs.declared.fault.Fault.{Fault as rFault}
 use Rattle.serial_run.proofs.Steps.{map-pushed}
 use Rattle.serial_run.specs.Standing.{flow}
-use Rattle.own_run.specs.Frames.{Frame, Standing}
-use Rattle.own_run.specs.OwnRun.{Action, Child, Own, Spawn, Start, child_of, list_child}
+use Rattle.own_run.specs.OwnRun.{Child, Own, Spawn, Start, child_of, list_child}
 use Rattle.own_run.specs.Places.{only, within, without}
 use Rattle.own_run.specs.Results.{Listed}
 use Rattle.own_run.specs.Standings.{IsAt, state_of, with_own}

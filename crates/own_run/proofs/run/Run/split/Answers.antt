@@ -1,10 +1,10 @@
-use Rattle.std.proofs.Common.{ap, ◌∙◌, sym, refl, List, ◌∷◌}
+use Rattle.std.proofs.Common.{ap, ◌∙◌, sym, List, ◌∷◌}
 use Rattle.std.specs.Prelude.{ℤ, ok_or}
 use Rattle.sections.specs.Place.{Window, sides_of}
 use Rattle.types.specs.declared.fault.FaultKind.TheVariants.{SplitPoint}
 use Rattle.types.specs.Run.{number_at, window_at, with_sides}
 use Rattle.types.specs.Code.{Split}
-use Rattle.types.specs.Translation.{program, truth, number, codes}
+use Rattle.types.specs.Translation.{program, number, codes}
 use Rattle.serial_run.proofs.Steps.{on_ok_both}
 use Rattle.serial_run.specs.Primitive.{cut}
 use Rattle.own_run.specs.Frames.{Frame, Rest, Standing, acted}

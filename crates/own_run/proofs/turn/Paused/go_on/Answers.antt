@@ -1,13 +1,13 @@
-use Rattle.std.proofs.Common.{◌≡◌, ap, ◌∙◌, sym, refl, List, ◌++◌, map, Vec, Global}
+use Rattle.std.proofs.Common.{◌≡◌, ap, ◌∙◌, sym, List, ◌++◌, map, Vec, Global}
 use Rattle.std.proofs.lemmas.List.{map-append}
 use Rattle.std.specs.Prelude.{ℤ, if◌then◌else◌}
 use Rattle.types.specs.Meaning.{after_finish}
-use Rattle.types.specs.Run.{Fault, Flow, On, Stopped, State}
+use Rattle.types.specs.Run.{Fault, On, Stopped}
 use Rattle.types.specs.Translation.{fault}
 use Rattle.types.specs.declared.fault.Fault.{Fault as rFault}
 use Rattle.serial_run.specs.Standing.{flow}
 use Rattle.own_run.specs.Frames.{handed}
-use Rattle.own_run.specs.OwnRun.{Own, flow_after}
+use Rattle.own_run.specs.OwnRun.{flow_after}
 use Rattle.own_run.specs.Translation.{contents_of, settled}
 use Rattle.own_run.proofs.turn.Paused.go_on.Goals as goal
 
