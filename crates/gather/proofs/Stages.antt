@@ -1,6 +1,8 @@
 -- Turns of a stage.
 use Rattle.std.proofs.Common.{◌≡◌, ℕ, List, [], ◌∷◌, ◌++◌, map, Option, Some, None, refl, sym, ap, ◌∙◌, subst, length, arith}
-use Rattle.std.specs.Prelude.{false, Result, Ok, Err, IfOk, IfErr}
+use Rattle.std.specs.Prelude.{Bool, false, Result, Ok, Err, IfOk, IfErr}
+use Rattle.std.specs.List.{list_any}
+use Rattle.types.specs.declared.path.Path.{Path}
 use Rattle.sections.specs.Place.{Place}
 use Rattle.own_run.specs.Places.{Places, within}
 use Rattle.own_run.specs.Results.{TaskResult, Settled}
@@ -14,7 +16,7 @@ use Rattle.gather.specs.declared.settle.Stage.{Stage}
 use Rattle.gather.specs.declared.settle.Turn.{Turn}
 use Rattle.gather.specs.declared.settle.Turn.TheVariants.{Going, Over}
 use Rattle.gather.specs.Parts.{Part, Waiting, Gathering, opened, closed, filled, unopened, comes_back_twice, comes_to, IsWhole}
-use Rattle.gather.specs.Refusal.{Refuses, RefusesHole}
+use Rattle.gather.specs.Refusal.{IsLeftOver, Refuses, RefusesHole, is_path}
 use Rattle.gather.specs.Stages.{part, waiting, gathering, Leads, Ends, IsTurnOf, owned_in_end}
 use Rattle.gather.specs.declared.error.GatherError.{GatherError}
 use Rattle.gather.specs.declared.error.GatherError.TheVariants.{Lost, Double, Stranger, OutOfMemory}
@@ -100,6 +102,31 @@ ends-turn (Ok t) left vs f s full none is same h =
     subst (λ (t : Turn). IsTurnOf (record { left = map task_result left; waiting = map waiting vs; part = f }) t) (sym h.0)
     (subst (λ (left : List rTaskResult). Ends (record { left = map task_result left; waiting = map waiting vs; part = f }) s) (sym h.1)
     (subst (λ (vs : List rWaiting). Ends (record { left = []; waiting = map waiting vs; part = f }) s) (sym none) (ends f s full is same)))
+
+left-none : (left rest : List rTaskResult) (task : rTaskResult) (vs : List rWaiting) (f : Part) → f.holes ≡ [] → vs ≡ []
+    → left ≡ task ∷ rest → comes_to (record { left = map task_result left; waiting = map waiting vs; part = f }) ≡ None
+left-none left rest task vs f full none some =
+    ap (λ (left : List rTaskResult). comes_to (record { left = map task_result left; waiting = map waiting vs; part = f })) some
+    ∙ ap (λ (vs : List rWaiting). comes_to (record { left = map task_result (task ∷ rest); waiting = map waiting vs; part = f })) none
+    ∙ comes_to-end f (map task_result (task ∷ rest)) full
+
+-- nothing waits any more, and a result is left over
+pub left-over : (e : GatherError) (left rest : List rTaskResult) (task : rTaskResult) (vs : List rWaiting) (f : Part) (used : Bool)
+    → f.holes ≡ [] → vs ≡ [] → left ≡ task ∷ rest → IsLeftOver used task.path e
+    → Refuses (comes_to (record { left = map task_result left; waiting = map waiting vs; part = f })) e
+left-over OutOfMemory left rest task vs f used full none some h = tt
+left-over (Lost path) left rest task vs f used full none some h = absurd h
+left-over (Double path) left rest task vs f used full none some h = left-none left rest task vs f full none some
+left-over (Stranger path) left rest task vs f used full none some h = left-none left rest task vs f full none some
+
+pub left-over-turn : (r : Result Turn GatherError) (used : List Path) (left : List rTaskResult) (vs : List rWaiting) (f : Part)
+    → f.holes ≡ [] → vs ≡ []
+    → IfErr r (λ e. (task : rTaskResult) × (rest : List rTaskResult) × (left ≡ task ∷ rest)
+    × IsLeftOver (list_any (is_path task.path) used) task.path e)
+    → IfErr r (Refuses (comes_to (record { left = map task_result left; waiting = map waiting vs; part = f })))
+left-over-turn (Ok t) used left vs f full none h = tt
+left-over-turn (Err e) used left vs f full none h =
+    left-over e left h.1 h.0 vs f (list_any (is_path h.0.path) used) full none h.2 h.3
 
 -- the first stage
 pub record Starts (r : TaskResult) (rs : List TaskResult) (g : Gathering) : Type 0 where

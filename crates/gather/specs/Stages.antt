@@ -32,7 +32,7 @@ waiting w = record { part = part w.filling; hole = listed w.hole }
 -- a stage
 abbrev pub gathering : Stage → Gathering
 gathering g = record {
-  left = map task_result g.left.items;
+  left = map task_result g.results.left.items;
   waiting = map waiting g.waiting.items;
   part = part g.filling;
 }
@@ -66,5 +66,5 @@ abbrev pub turns_left : (results waiting : ℕ) → ℕ
 turns_left results waiting = 2 * results + waiting + 1
 
 abbrev pub turns_after : Turn → ℕ
-turns_after (Going g) = turns_left (length g.left.items) (vec_len g.waiting)
+turns_after (Going g) = turns_left (length g.results.left.items) (vec_len g.waiting)
 turns_after (Over s) = 0

@@ -42,9 +42,9 @@ pub struct Waiting {
 }
 
 impl Filling {
-    /// A result, none of whose holes is filled.
-    pub fn of(alloc: Global, task: TaskResult) -> Filling
-        ensures { part_of result ≡ opened (result_of task) }
+    /// A result, none of whose holes is filled, and its path.
+    pub fn of(alloc: Global, task: TaskResult) -> (Filling, Path)
+        ensures { part_of result.0 ≡ opened (result_of task) }
     {
         let so_far = Settled {
             halted: task.halted,
@@ -52,12 +52,13 @@ impl Filling {
             lines: Vec::new(alloc),
             faults: Vec::new(alloc),
         };
-        Filling {
+        let filling = Filling {
             so_far,
             holes: VecDeque::from(task.children),
             lines: task.lines,
             faults: task.faults,
-        }
+        };
+        (filling, task.path)
     }
 
     /// What has come: what was told behind the last hole stands last.

@@ -15,4 +15,4 @@ invariant-loop-next l = record {
 }
 
 abbrev pub decreases-loop-next : goal.decreases-loop-next
-decreases-loop-next l = turns_left (length l.stage.left.items) (vec_len l.stage.waiting)
+decreases-loop-next l = turns_left (length l.stage.results.left.items) (vec_len l.stage.waiting)

@@ -9,7 +9,7 @@ use Rattle.gather.proofs.settle.Stage.turn.Goals as goal
 pub returns-in-Some-clause-turn : goal.returns-in-Some-clause-turn
 returns-in-Some-clause-turn c =
     let at : List rListed → Gathering = λ hs. record {
-      left = map task_result c.args.self.left.items;
+      left = map task_result c.args.self.results.left.items;
       waiting = map waiting c.args.self.waiting.items;
       part = record (part c.args.self.filling) { holes = map listed hs };
     } in
@@ -18,7 +18,7 @@ returns-in-Some-clause-turn c =
 pub returns-in-None-clause-turn : goal.returns-in-None-clause-turn
 returns-in-None-clause-turn c =
     let at : List rListed → Gathering = λ hs. record {
-      left = map task_result c.args.self.left.items;
+      left = map task_result c.args.self.results.left.items;
       waiting = map waiting c.args.self.waiting.items;
       part = record (part c.args.self.filling) { holes = map listed hs };
     } in
