@@ -5,11 +5,11 @@ use Rattle.gather.specs.declared.error.GatherError.{GatherError}
 use Rattle.gather.specs.declared.error.GatherError.TheVariants.{Lost, Double, Stranger, OutOfMemory}
 
 -- the code of an error
-abbrev pub code_of : GatherError → List ℕ
-code_of (Lost path) = codes "G1"
-code_of (Double path) = codes "G2"
-code_of (Stranger path) = codes "G3"
-code_of OutOfMemory = codes "G4"
+abbrev pub error_code : GatherError → List ℕ
+error_code (Lost path) = codes "G1"
+error_code (Double path) = codes "G2"
+error_code (Stranger path) = codes "G3"
+error_code OutOfMemory = codes "G4"
 
 -- `G1 0.1`: the code and the task
 abbrev pub error_text : GatherError → List ℕ

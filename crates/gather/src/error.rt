@@ -1,7 +1,7 @@
 //! Why results can't be put together.
 
 ghost use Rattle.std.specs.Prelude.{◌≡◌, Some};
-ghost use Rattle.gather.specs.Errors.{code_of, error_text};
+ghost use Rattle.gather.specs.Errors.{error_code, error_text};
 ghost use Rattle.gather.specs.declared.error.GatherError.TheVariants.{OutOfMemory};
 
 use std::alloc::{AllocError, AllocFailed};
@@ -25,7 +25,7 @@ pub enum GatherError {
 impl GatherError {
     /// The code of the error.
     pub fn code(&self) -> &'static str
-        ensures { result.now ≡ code_of self.now }
+        ensures { result.now ≡ error_code self.now }
     {
         match self {
             GatherError::Lost(_) => "G1",
