@@ -7,8 +7,8 @@ use Rattle.gather.proofs.settle.settle.Goals as goal
 pub loop-next-init : goal.loop-next-init
 loop-next-init c =
     let h = starts (task_result c.args.start) (map task_result c.args.results.items) (map task_result c.from.result.items)
-    (map waiting c.new-2.result.items) (part c.of.result.0) (ap (map task_result) c.from.ensures.0) (ap (map waiting) c.new-2.ensures.items)
-    c.of.ensures c.requires in
+    (map waiting c.new-2.result.items) (part c.of-filling.result.0) (ap (map task_result) c.from.ensures.0) (ap (map waiting) c.new-2.ensures.items)
+    c.of-filling.ensures c.requires in
     record { comes = h.comes; owned = h.owned; whole = h.whole }
 
 pub loop-next-preserved : goal.loop-next-preserved
