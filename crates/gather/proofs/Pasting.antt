@@ -100,8 +100,8 @@ module _ (before child after : Holdings) (ws : List Window)
       let parts = or_parts (has_one set v.array v.at v.length) (meets set vs) h in
       elim (either_true (covered v q) (within vs q) e) [
         | inl c ↦ (let i = covered_in v q c in
-          ap (λ a. set (record { array = a; index = q.index })) i.array
-          ∙ one_free set v.array v.at v.length parts.0 q.index i.low i.high)
+            ap (λ a. set (record { array = a; index = q.index })) i.array
+            ∙ one_free set v.array v.at v.length parts.0 q.index i.low i.high)
         | inr w ↦ free_unless_met set vs parts.1 q w
       ]
 

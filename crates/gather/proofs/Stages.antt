@@ -56,8 +56,8 @@ pub leads-filled : (rs : List TaskResult) (ws vs : List Waiting) (w : Waiting) (
 leads-filled rs ws vs w f g full popped once is h =
     subst (λ (g : Part). Leads (record { left = rs; waiting = vs; part = f }) (record { left = rs; waiting = ws; part = g })) (sym is)
     (subst (λ (vs : List Waiting). IsWhole (record { left = rs; waiting = vs; part = f })
-        → Leads (record { left = rs; waiting = vs; part = f })
-        (record { left = rs; waiting = ws; part = filled w (closed f f.so_far) })) (sym popped)
+    → Leads (record { left = rs; waiting = vs; part = f })
+    (record { left = rs; waiting = ws; part = filled w (closed f f.so_far) })) (sym popped)
     (λ h. record {
       comes = comes_to-filled f rs full ws w once;
       owned = total-filled ws w f (closed f f.so_far);

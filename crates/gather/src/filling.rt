@@ -85,7 +85,12 @@ impl Waiting {
     {
         let Waiting { filling, hole } = self;
         let mut filling = filling;
-        paste(alloc, &mut filling.so_far.holdings, child.holdings, hole.path)?;
+        paste(
+            alloc,
+            &mut filling.so_far.holdings,
+            child.holdings,
+            hole.path,
+        )?;
         filling.so_far.halted |= child.halted;
         tell(&mut filling.so_far, hole.lines, hole.faults)?;
         tell(&mut filling.so_far, child.lines, child.faults)?;
@@ -116,11 +121,7 @@ fn paste(
 }
 
 /// Tells lines and faults behind what was told.
-fn tell(
-    settled: &mut Settled,
-    lines: Vec<Vec<i64>>,
-    faults: Vec<Fault>,
-) -> Result<(), AllocError>
+fn tell(settled: &mut Settled, lines: Vec<Vec<i64>>, faults: Vec<Fault>) -> Result<(), AllocError>
     ensures told { OnOk result (settled_of settled.new ≡ record (settled_of settled.old) {
       lines = (settled_of settled.old).lines ++ map (λ v. v.items) lines.items;
       faults = (settled_of settled.old).faults ++ map fault_of faults.items;
