@@ -16,7 +16,7 @@ ghost use Rattle.gather.specs.Stages.{turns_after, turns_left, waiting as waitin
 
 use crate::error::GatherError;
 use crate::filling::{Filling, Waiting};
-use own_run::result::{Listed, Settled, TaskResult};
+use own_run::result::{Settled, TaskResult};
 use std::alloc::Global;
 use std::collections::VecDeque;
 use types::path::Path;
