@@ -49,7 +49,7 @@ pub none_in : {A : Type 0} {zs : List A} → Shuffled [] zs → zs ≡ []
 none_in none = refl
 
 -- ---- the one result of a path is taken
-path_same : (p : List ℕ) → pointwise nat_eq p p ≡ true
+pub path_same : (p : List ℕ) → pointwise nat_eq p p ≡ true
 path_same [] = refl
 path_same (k ∷ p) = and_from (nat_eq k k) (pointwise nat_eq p p) (eq-eqb k k refl) (path_same p)
 
@@ -77,7 +77,7 @@ not_one set w h at (suc n) le e =
     (in_covered w (record { array = w.array; index = at }) (record { array = refl; low = le; high = omega (arith, e) })))
     (not_one set w h (at + 1) n (omega (arith, le)) (omega (arith, e)))
 
-not_met : (set : Places) (ws : List Window) → ((q : Place) → within ws q ≡ true → set q ≡ false) → meets set ws ≡ false
+pub not_met : (set : Places) (ws : List Window) → ((q : Place) → within ws q ≡ true → set q ≡ false) → meets set ws ≡ false
 not_met set [] h = refl
 not_met set (w ∷ ws) h =
     or_from (has_one set w.array w.at w.length) (meets set ws)

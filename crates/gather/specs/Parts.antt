@@ -1,0 +1,108 @@
+-- Results with holes, some of which are filled, and what comes of them.
+use Rattle.std.specs.Prelude.{ℕ, ◌+◌, ◌≡◌, List, [], ◌∷◌, ◌++◌, length, ℤ, Bool, ◌||◌}
+use Rattle.std.specs.Prelude.{Option, Some, None, if◌then◌else◌}
+use Rattle.sections.specs.Place.{Place}
+use Rattle.types.specs.Run.{Fault}
+use Rattle.own_run.specs.Places.{Places, within, meets}
+use Rattle.own_run.specs.Results.{Listed, TaskResult, Settled, fill, and_then}
+use Rattle.own_run.specs.Settling.{fill_all, settle_within, none_left}
+use Rattle.own_run.specs.Lists.{Each}
+use Rattle.gather.specs.GivesBack.{returned, AreGivenBack}
+
+-- a result, some of whose holes are filled
+pub record Part : Type 0 where
+  pub owned : Places
+  -- what has come so far, with all that the task has by itself
+  pub so_far : Settled
+  pub holes : List Listed
+  -- what it told behind its last hole
+  pub lines : List (List ℤ)
+  pub faults : List Fault
+
+-- a result that waits for what goes into a hole
+pub record Waiting : Type 0 where
+  pub part : Part
+  pub hole : Listed
+
+-- a result, none of whose holes is filled
+abbrev pub opened : TaskResult → Part
+opened r = record {
+  owned = r.owned;
+  so_far = record { halted = r.halted; contents = r.contents; lines = []; faults = [] };
+  holes = r.children;
+  lines = r.lines;
+  faults = r.faults;
+}
+
+-- what has come, once what it told behind its last hole is told
+abbrev pub closed : Part → (so_far : Settled) → Settled
+closed f s = record s { lines = s.lines ++ f.lines; faults = s.faults ++ f.faults }
+
+-- the next hole is filled
+abbrev pub filled : Waiting → (child : Settled) → Part
+filled w child = record w.part {
+  owned = λ q. w.part.owned q || within w.hole.windows q;
+  so_far = fill w.hole child w.part.so_far;
+}
+
+-- a place comes back that is owned
+abbrev pub comes_back_twice : Waiting → Bool
+comes_back_twice w = meets w.part.owned w.hole.windows
+
+-- results that are settled take others with them, and leave the rest
+abbrev pub Comes : Type 0
+Comes = Option (Settled × List TaskResult)
+
+-- settles a result
+abbrev pub settle_one : TaskResult → List TaskResult → Comes
+settle_one r rs = settle_within (length rs + 1) r rs
+
+-- fills all holes that are left
+abbrev pub finished : Part → List TaskResult → Comes
+finished f rs =
+    and_then (fill_all settle_one f.owned f.holes f.so_far rs) (λ all. Some (closed f all.0, all.1))
+
+-- fills the hole that was waited for, and then the others
+abbrev pub gone_on : Waiting → Settled × List TaskResult → Comes
+gone_on w x =
+    if comes_back_twice w then None else finished (filled w x.0) x.1
+
+-- and so on for all that wait, the last first
+abbrev pub come : List Waiting → Settled × List TaskResult → Comes
+come [] x = Some x
+come (w ∷ ws) x = and_then (come ws x) (gone_on w)
+
+-- all places that a part owns in the end
+abbrev pub owned_in_all : Part → Places
+owned_in_all f q = f.owned q || returned f.holes q
+
+-- so of what was opened first: where one waits, its hole is among those that are left
+abbrev pub total : List Waiting → Part → Places
+total [] f = owned_in_all f
+total (w ∷ ws) f = owned_in_all (record w.part { holes = w.hole ∷ w.part.holes })
+
+-- what goes into a hole owns, in the end, what is listed there
+abbrev pub Fit : List Waiting → Part → Type 0
+Fit [] f = Unit {0}
+Fit (w ∷ ws) f = ((q : Place) → total ws f q ≡ within w.hole.windows q) × Fit ws f
+
+-- how far the gathering of results has come: what is left, what waits, and what is filled now
+pub record Gathering : Type 0 where
+  pub left : List TaskResult
+  pub waiting : List Waiting
+  pub part : Part
+
+-- what comes of it all
+abbrev pub comes_to : Gathering → Option Settled
+comes_to g = and_then (and_then (finished g.part g.left) (come g.waiting)) none_left
+
+-- whatever is listed is given back
+pub record IsWhole (g : Gathering) : Type 0 where
+  pub fit : Fit g.waiting g.part
+  pub holes : AreGivenBack g.left g.part.holes
+  pub waiting : Each (λ w. AreGivenBack g.left w.part.holes) g.waiting
+  pub results : Each (λ x. AreGivenBack g.left x.children) g.left
+
+-- a part before the hole for which it waits
+abbrev pub unopened : Waiting → Part
+unopened w = record w.part { holes = w.hole ∷ w.part.holes }

@@ -1,0 +1,70 @@
+-- Stages of the gathering as they stand in Rust, without what says where they lie in memory.
+use Rattle.std.specs.Prelude.{ℕ, ◌+◌, ◌*◌, ◌≡◌, List, Bool, nat_eq, map, length, Some}
+use Rattle.std.specs.Cmp.Lexicographic.{pointwise}
+use Rattle.std.specs.Vec.{vec_len}
+use Rattle.sections.specs.Place.{Place}
+use Rattle.types.specs.Translation.{fault}
+use Rattle.own_run.specs.Places.{Places}
+use Rattle.own_run.specs.declared.result.Settled.{Settled as rSettled}
+use Rattle.own_run.specs.declared.result.TaskResult.{TaskResult as rTaskResult}
+use Rattle.own_run.specs.Translation.{listed, settled, task_result, owned_by}
+use Rattle.gather.specs.Parts.{Part, Waiting, Gathering, comes_to, total, IsWhole}
+use Rattle.gather.specs.declared.filling.Filling.{Filling}
+use Rattle.gather.specs.declared.filling.Waiting.{Waiting as rWaiting}
+use Rattle.gather.specs.declared.settle.Stage.{Stage}
+use Rattle.gather.specs.declared.settle.Turn.{Turn}
+use Rattle.gather.specs.declared.settle.Turn.TheVariants.{Going, Over}
+
+-- a result that is being filled
+abbrev pub part : Filling → Part
+part f = record {
+  owned = owned_by f.so_far.holdings;
+  so_far = settled f.so_far;
+  holes = map listed f.holes.items;
+  lines = map (λ v. v.items) f.lines.items;
+  faults = map fault f.faults.items;
+}
+
+-- one that waits
+abbrev pub waiting : rWaiting → Waiting
+waiting w = record { part = part w.filling; hole = listed w.hole }
+
+-- a stage
+abbrev pub gathering : Stage → Gathering
+gathering g = record {
+  left = map task_result g.results.left.items;
+  waiting = map waiting g.waiting.items;
+  part = part g.filling;
+}
+
+-- whether a result is that of a path
+abbrev pub is_of : List ℕ → rTaskResult → Bool
+is_of path r = pointwise nat_eq r.path.turns.items path
+
+-- the places that are owned in the end
+abbrev pub owned_in_end : Gathering → Places
+owned_in_end g = total g.waiting g.part
+
+-- a gathering leads to another, of which the same comes
+pub record Leads (g h : Gathering) : Type 0 where
+  pub comes : comes_to h ≡ comes_to g
+  pub owned : (q : Place) → owned_in_end h q ≡ owned_in_end g q
+  pub whole : IsWhole h
+
+-- this is what comes of it
+pub record Ends (g : Gathering) (s : rSettled) : Type 0 where
+  pub comes : Some (settled s) ≡ comes_to g
+  pub owned : (q : Place) → owned_by s.holdings q ≡ owned_in_end g q
+
+-- what a turn makes of a gathering
+abbrev pub IsTurnOf : Gathering → Turn → Type 0
+IsTurnOf g (Going s) = Leads g (gathering s)
+IsTurnOf g (Over s) = Ends g s
+
+-- how many turns are left at most: a result is opened once, and goes on once behind each hole
+abbrev pub turns_left : (results waiting : ℕ) → ℕ
+turns_left results waiting = 2 * results + waiting + 1
+
+abbrev pub turns_after : Turn → ℕ
+turns_after (Going g) = turns_left (length g.results.left.items) (vec_len g.waiting)
+turns_after (Over s) = 0

@@ -1,0 +1,69 @@
+//! Why results can't be put together.
+
+ghost use Rattle.std.specs.Prelude.{◌≡◌, Some};
+ghost use Rattle.gather.specs.Errors.{error_code, error_text};
+ghost use Rattle.gather.specs.declared.error.GatherError.TheVariants.{OutOfMemory};
+
+use std::alloc::{AllocError, AllocFailed};
+use std::error::Error;
+use std::fmt;
+use types::path::Path;
+
+/// Why results don't make a whole.
+#[derive(PartialEq, Eq, Debug, Drop)]
+pub enum GatherError {
+    /// G1: a task that is listed has no result.
+    Lost(Path),
+    /// G2: a path has two results, or a place comes back from it that is owned.
+    Double(Path),
+    /// G3: a result that nobody lists.
+    Stranger(Path),
+    /// G4: want of memory.
+    OutOfMemory,
+}
+
+impl GatherError {
+    /// The code of the error.
+    pub fn code(&self) -> &'static str
+        ensures { result.now ≡ error_code self.now }
+    {
+        match self {
+            GatherError::Lost(_) => "G1",
+            GatherError::Double(_) => "G2",
+            GatherError::Stranger(_) => "G3",
+            GatherError::OutOfMemory => "G4",
+        }
+    }
+}
+
+impl fmt::Display for GatherError {
+    ghost output = { λ e. Some (error_text e) };
+
+    fn fmt<W: fmt::Write>(&self, f: &mut fmt::Formatter<W>) -> fmt::Result {
+        let code = self.code();
+        match self {
+            GatherError::Lost(path) => write!(f, "{code} {path}"),
+            GatherError::Double(path) => write!(f, "{code} {path}"),
+            GatherError::Stranger(path) => write!(f, "{code} {path}"),
+            GatherError::OutOfMemory => write!(f, "{code}"),
+        }
+    }
+}
+
+impl Error for GatherError {}
+
+impl From<AllocError> for GatherError {
+    ghost from_gives = { λ _ e. e ≡ OutOfMemory };
+
+    fn from(_error: AllocError) -> GatherError {
+        GatherError::OutOfMemory
+    }
+}
+
+impl<T: Drop> From<AllocFailed<T>> for GatherError {
+    ghost from_gives = { λ _ e. e ≡ OutOfMemory };
+
+    fn from(_error: AllocFailed<T>) -> GatherError {
+        GatherError::OutOfMemory
+    }
+}
