@@ -7,7 +7,7 @@ use Rattle.types.specs.declared.fault.FaultKind.{FaultKind}
 use Rattle.types.specs.declared.fault.FaultKind.TheVariants.{OutOfElement, Raised}
 use Rattle.types.specs.Code.{Array}
 use Rattle.types.specs.Run.{Fault}
-use Rattle.types.specs.Outcome.{Outcome, Ended, Halted}
+use Rattle.types.specs.Outcome.{Outcome, Ended, Stopped}
 use Rattle.driver.specs.OutcomeText.{outcome_text, status_of}
 
 abbrev fault_at : List ℕ → ℕ → FaultKind → Fault
@@ -58,5 +58,5 @@ full_byte_text : outcome_text (array_named (codes "a") ∷ []) true full_byte �
 unfolding digits
 full_byte_text = refl
 
-stopped_text : outcome_text [] true Halted ≡ codes "stopped\n"
+stopped_text : outcome_text [] true Stopped ≡ codes "stopped\n"
 stopped_text = refl

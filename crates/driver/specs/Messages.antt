@@ -2,12 +2,12 @@
 use Rattle.std.specs.Prelude.{ℕ, List, ◌++◌, Option, None, Some, codes}
 use Rattle.std.specs.Fmt.{decimal}
 use Rattle.std.specs.String.{string_bytes}
-use Rattle.syntax.specs.Refusals.{code_of as syntax_code, place_of}
+use Rattle.syntax.specs.Refusals.{error_code as syntax_code, place_of}
 use Rattle.syntax.specs.declared.error.SyntaxError.{SyntaxError}
 use Rattle.syntax.specs.declared.place.Place.{Place}
 use Rattle.types.specs.Codes.{error_text}
-use Rattle.types.specs.InputErrors.{text_of as input_text}
-use Rattle.workers.specs.Codes.{code_of as run_code}
+use Rattle.types.specs.InputErrors.{error_text as input_text}
+use Rattle.workers.specs.Codes.{error_code as run_code}
 use Rattle.driver.specs.declared.failure.Failure.{Failure}
 use Rattle.driver.specs.declared.failure.Failure.TheVariants.{CannotRead, NotUtf8, Syntax, Types, NotYet}
 use Rattle.driver.specs.declared.failure.Failure.TheVariants.{Race, NoMemoryInCheck, Input, Run, CannotWriteOutput, NoMemory}

@@ -5,7 +5,7 @@ use Rattle.std.specs.List.{concat, flat_map, join_with_byte, zip}
 use Rattle.types.specs.Code.{Array}
 use Rattle.types.specs.Names.{path_text, kind_text}
 use Rattle.types.specs.Run.{Fault}
-use Rattle.types.specs.Outcome.{Outcome, Ended, Halted, Ending}
+use Rattle.types.specs.Outcome.{Outcome, Ended, Stopped, Ending}
 
 -- the code of a space
 abbrev pub space : ℕ
@@ -43,7 +43,7 @@ ending_text declared arrays e =
 -- the text of an outcome
 abbrev pub outcome_text : (declared : List Array) → (arrays : Bool) → Outcome → List ℕ
 outcome_text declared arrays (Ended e) = ending_text declared arrays e
-outcome_text declared arrays Halted = codes "stopped\n"
+outcome_text declared arrays Stopped = codes "stopped\n"
 
 -- 0 without faults, 2 with some
 abbrev pub status_by : List Fault → ℕ
@@ -53,4 +53,4 @@ status_by (f ∷ fs) = 2
 -- the exit status that tells an outcome: 3 where the run was stopped
 abbrev pub status_of : Outcome → ℕ
 status_of (Ended e) = status_by e.faults
-status_of Halted = 3
+status_of Stopped = 3

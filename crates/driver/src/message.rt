@@ -2,7 +2,7 @@
 
 ghost use Rattle.std.specs.Prelude.{◌++◌, codes};
 ghost use Rattle.types.specs.Codes.{error_text, labelled};
-ghost use Rattle.types.specs.InputErrors.{text_of as input_text};
+ghost use Rattle.types.specs.InputErrors.{error_text as input_text};
 ghost use Rattle.driver.specs.Appending.{Writes};
 ghost use Rattle.driver.specs.Messages.{at_place, failure_text, race_text, syntax_text};
 

@@ -4,7 +4,7 @@ ghost use Rattle.std.specs.Prelude.{◌≡◌, ◌++◌, flat_map, map, IfOk, On
 ghost use Rattle.sections.specs.Translation.{section as section_of};
 ghost use Rattle.types.specs.Indexed.{indexed, indexed_links, indexed_truth, indexed_truths};
 ghost use Rattle.types.specs.Rows.{links as links_of, truths as truths_of};
-ghost use Rattle.types.specs.Translation.{code as code_of, number as number_of, truth as truth_of};
+ghost use Rattle.types.specs.Translation.{code as plain_code, number as number_of, truth as truth_of};
 ghost use Rattle.types.specs.Translation.{primitive as primitive_of};
 ghost use Rattle.effects.specs.Accesses.{own_accesses as own_by, own_primitive, reads as reads_of};
 ghost use Rattle.effects.specs.Translation.{access as access_of};
@@ -16,7 +16,7 @@ use types::code::{Label, Link, Number, Primitive, StmtKind, Truth};
 
 /// A statement's own accesses: those of its own expressions, not of its blocks.
 pub fn own_accesses(alloc: Global, label: Label, kind: &StmtKind) -> Result<Vec<Access>, AllocError>
-    ensures { IfOk result (λ found. map access_of found.items ≡ own_by label (code_of kind.now)) }
+    ensures { IfOk result (λ found. map access_of found.items ≡ own_by label (plain_code kind.now)) }
 {
     match kind {
         StmtKind::Do(primitive) => accesses_of(alloc, label, primitive),

@@ -2,7 +2,7 @@
 
 ghost use Rattle.std.specs.Prelude.{◌≡◌, ◌++◌, OnOk, IfOk, map, flat_map};
 ghost use Rattle.sections.specs.Translation.{section as section_of};
-ghost use Rattle.types.specs.Translation.{code as code_of, primitive as primitive_of};
+ghost use Rattle.types.specs.Translation.{code as plain_code, primitive as primitive_of};
 ghost use Rattle.effects.specs.Accesses.{own_accesses as own_of};
 ghost use Rattle.effects.specs.Roots.{root_in};
 ghost use Rattle.effects.specs.Starts.{read_by, read_by_primitive, written_by, written_by_primitive};
@@ -47,7 +47,7 @@ pub fn start_visit(
 /// The accesses of a statement's own expressions.
 pub fn own_accesses(alloc: Global, statement: &Stmt) -> Result<Vec<Access>, AllocError>
     ensures { IfOk result (λ xs. map access_of xs.items
-        ≡ own_of statement.now.label (code_of statement.now.kind)) }
+        ≡ own_of statement.now.label (plain_code statement.now.kind)) }
 {
     let label = statement.label;
     let mut sections = Vec::new(alloc);
@@ -67,7 +67,7 @@ pub fn own_accesses(alloc: Global, statement: &Stmt) -> Result<Vec<Access>, Allo
 /// Adds the write of a store.
 fn write(label: Label, kind: &StmtKind, into: &mut Vec<Access>) -> Result<(), AllocError>
     ensures { OnOk result (map access_of into.new.items
-        ≡ map access_of into.old.items ++ written_by label (code_of kind.now)) }
+        ≡ map access_of into.old.items ++ written_by label (plain_code kind.now)) }
 {
     match kind {
         StmtKind::Do(primitive) => write_of_primitive(label, primitive, into),
@@ -108,7 +108,7 @@ fn write_of_primitive(
 /// Adds the sections that a statement's own expressions read.
 fn read(kind: &StmtKind, into: &mut Vec<SectionId>) -> Result<(), AllocError>
     ensures { OnOk result (map section_of into.new.items
-        ≡ map section_of into.old.items ++ read_by (code_of kind.now)) }
+        ≡ map section_of into.old.items ++ read_by (plain_code kind.now)) }
 {
     match kind {
         StmtKind::Do(primitive) => read_of_primitive(primitive, into),

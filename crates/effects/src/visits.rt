@@ -1,7 +1,7 @@
 //! The statements of a body, at any depth, and where each stands.
 
 ghost use Rattle.std.specs.Prelude.{◌≡◌, ◌++◌, OnOk, map};
-ghost use Rattle.types.specs.Translation.{code as code_of, codes as codes_of};
+ghost use Rattle.types.specs.Translation.{code as plain_code, codes as codes_of};
 ghost use Rattle.effects.specs.Visits.{visits_in, visits_inside, visit as visit_of, in_async, in_finish};
 
 use std::alloc::AllocError;
@@ -77,7 +77,7 @@ fn visit_inside<'p>(
     into: &mut Vec<Visit<'p>>,
 ) -> Result<(), AllocError>
     ensures { OnOk result (map visit_of into.new.items
-        ≡ map visit_of into.old.items ++ visits_inside standing (code_of kind.entry.now)) }
+        ≡ map visit_of into.old.items ++ visits_inside standing (plain_code kind.entry.now)) }
 {
     match kind {
         StmtKind::Do(_) => Ok(()),

@@ -4,10 +4,10 @@ use Rattle.holdings.specs.declared.error.HoldError.{HoldError}
 use Rattle.holdings.specs.declared.error.HoldError.TheVariants.{NotHeld, OutOfMemory, OwnedTwice}
 
 -- the code of an error
-abbrev pub code_of : HoldError → List ℕ
-code_of NotHeld = codes "H1"
-code_of OutOfMemory = codes "H2"
-code_of OwnedTwice = codes "H3"
+abbrev pub error_code : HoldError → List ℕ
+error_code NotHeld = codes "H1"
+error_code OutOfMemory = codes "H2"
+error_code OwnedTwice = codes "H3"
 
 -- a call that asks for places was refused: one is missing, or memory was, though all were there
 abbrev pub RefusesPlaces : HoldError → (all_there : Type 0) → Type 0

@@ -1,7 +1,7 @@
 //! Why holdings refuse a call.
 
 ghost use Rattle.std.specs.Prelude.{◌≡◌, Some};
-ghost use Rattle.holdings.specs.Errors.{code_of};
+ghost use Rattle.holdings.specs.Errors.{error_code};
 ghost use Rattle.holdings.specs.declared.error.HoldError.TheVariants.{OutOfMemory};
 
 use std::alloc::{AllocError, AllocFailed};
@@ -22,7 +22,7 @@ pub enum HoldError {
 impl HoldError {
     /// The code of the error.
     pub fn code(self) -> &'static str
-        ensures { result.now ≡ code_of self }
+        ensures { result.now ≡ error_code self }
     {
         match self {
             HoldError::NotHeld => "H1",
@@ -33,7 +33,7 @@ impl HoldError {
 }
 
 impl fmt::Display for HoldError {
-    ghost output = { λ e. Some (code_of e) };
+    ghost output = { λ e. Some (error_code e) };
 
     fn fmt<W: fmt::Write>(&self, f: &mut fmt::Formatter<W>) -> fmt::Result {
         let code = self.code();

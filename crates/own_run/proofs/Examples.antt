@@ -2,7 +2,7 @@
 use Rattle.std.proofs.Common.{◌≡◌, ℕ, List, [], ◌∷◌, ◌++◌, Option, Some, None, refl, ap, arith}
 use Rattle.std.specs.Prelude.{ℤ, pos, false, replicate}
 use Rattle.types.specs.Code.{Element, Store, Do, Call, End, Then, Program}
-use Rattle.types.specs.Outcome.{Budget, Outcome, Ended, Halted, outcome}
+use Rattle.types.specs.Outcome.{Budget, Outcome, Ended, Stopped, outcome}
 use Rattle.types.specs.declared.fault.FaultKind.TheVariants.{Raised}
 use Rattle.types.proofs.Programs.{lit, two_arrays, doubling, two_readers, three_faults, nested_tasks}
 use Rattle.effects.specs.Rounds.{needs_of}
@@ -41,7 +41,7 @@ doubling_apart : apart_outcome (doubling 4) (needs_of (doubling 4)) ((pos 1 ∷ 
 doubling_apart = refl
 
 doubling_too_deep : apart_outcome (doubling 4) (needs_of (doubling 4)) ((pos 1 ∷ pos 2 ∷ pos 3 ∷ pos 4 ∷ []) ∷ [])
-    (budget 1000 1) ≡ Halted
+    (budget 1000 1) ≡ Stopped
 doubling_too_deep = refl
 
 -- ---- results handed over at the ends of the root's finishes
@@ -145,7 +145,7 @@ first_line (vs ∷ lines) = first_number vs
 
 abbrev first_told : Outcome → ℕ
 first_told (Ended e) = first_line e.lines
-first_told Halted = 0
+first_told Stopped = 0
 
 racy_differs : outcome racy (zeros 1 ∷ []) (budget 100 100) ≡ apart_outcome racy (needs_of racy) (zeros 1 ∷ []) (budget 100 100) → ⊥
 racy_differs e = let h : 7 ≡ 0 = ap first_told e in omega (arith, h)

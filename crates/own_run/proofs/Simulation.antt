@@ -562,9 +562,9 @@ module _ (p : Program) (needs : Codes → Needs) where
       finish_agrees (both_stop e y) = finish_stops e y
 
   -- ---- the two runs, side by side
-  abbrev code_of : Work → Codes
-  code_of (Block b) = b
-  code_of (Turn l t b) = Then l (While t b) End
+  abbrev work_code : Work → Codes
+  work_code (Block b) = b
+  work_code (Turn l t b) = Then l (While t b) End
 
   pub relock : (x : Around) (locked final : Set) (l : ℕ) (s : Code) → ReadyOf p needs x locked final l s
       → ReadyOf p needs x locked (behind x locked s) l s
@@ -593,7 +593,7 @@ module _ (p : Program) (needs : Codes → Needs) where
     r2 = apart_rules_by start
 
     abbrev Sim : (Work → S → S) → (Work → A → A) → Type 1
-    Sim d e = (w : Work) (x : Around) (locked final : Set) → Ready p needs x locked final (code_of w) → (o : S) (a : A) → Same x locked o a
+    Sim d e = (w : Work) (x : Around) (locked final : Set) → Ready p needs x locked final (work_code w) → (o : S) (a : A) → Same x locked o a
         → Agree x final (d w o) (e w a)
 
     module _ (d : Work → S → S) (e : Work → A → A) (e_marks : (w : Work) → Marks (e w)) (sim : Sim d e) where

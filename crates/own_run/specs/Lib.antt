@@ -10,4 +10,5 @@ pub mod Ready
 pub mod Results
 pub mod Runs
 pub mod Settling
+pub mod Translation
 pub mod Stops

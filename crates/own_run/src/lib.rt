@@ -3,3 +3,5 @@
 #![tactic(auto)]
 
 pub mod laws;
+pub mod result;
+pub mod start;

@@ -1,7 +1,7 @@
 //! The walk that finds which labels may run together.
 
 ghost use Rattle.std.specs.Prelude.{◌↔◌, ◌∷◌, [], ℕ, IfOk, OnOk};
-ghost use Rattle.types.specs.Translation.{program, codes, code as code_of};
+ghost use Rattle.types.specs.Translation.{program, codes, code as plain_code};
 ghost use Rattle.effects.specs.LabelSets.{HasLabel};
 ghost use Rattle.effects.specs.Summarized.{AreSummaries};
 ghost use Rattle.parallel_relation.specs.Around.{Adds, BlockMeets, InsideMeets};
@@ -108,7 +108,7 @@ fn walk_inside(
     requires { AreSummaries (program code.now) summaries.now }
     ensures { let p = program code.now in OnOk result (Adds (FoundMeets p found.old)
         (InsideMeets p (HasLabel everything.now) (HasLabel later.now) statement.now.label
-        (code_of statement.now.kind)) (FoundMeets p found.new)) }
+        (plain_code statement.now.kind)) (FoundMeets p found.new)) }
 {
     match &statement.kind {
         StmtKind::Do(_) => Ok(()),

@@ -3,7 +3,7 @@
 ghost use Rattle.std.specs.Prelude.{◌≡◌, ◌≤◌, length, map, IfOk, None};
 ghost use Rattle.sections.specs.Tree.{origins_of};
 ghost use Rattle.sections.specs.Translation.{section as section_of};
-ghost use Rattle.types.specs.Translation.{code as code_as, codes as codes_of, procedure as procedure_as};
+ghost use Rattle.types.specs.Translation.{code as plain_code, codes as codes_of, procedure as procedure_as};
 ghost use Rattle.types.specs.Translation.{program as program_as};
 ghost use Rattle.types.specs.Typed.{code_of};
 ghost use Rattle.effects.specs.Sound.{IsSound};
@@ -78,10 +78,10 @@ fn found_of(
     requires procedure { procedure.number ≤ length (code_of typed.now).procedures }
     requires stands { StandsOf (code_of typed.now)
         (numbered (code_of typed.now) procedure.number).sections
-        statement.now.label (code_as statement.now.kind) }
+        statement.now.label (plain_code statement.now.kind) }
     ensures { IfOk result (IsFoundOf (code_of typed.now)
         (numbered (code_of typed.now) procedure.number).sections procedure.number
-        statement.now.label (code_as statement.now.kind)) }
+        statement.now.label (plain_code statement.now.kind)) }
 {
     let own = own_accesses(alloc, statement.label, &statement.kind)?;
     match &statement.kind {

@@ -3,17 +3,18 @@ use Rattle.std.proofs.Common.{◌≡◌, ℕ, zero, suc, ◌+◌, ◌-◌, ◌<�
 use Rattle.std.proofs.lemmas.Bool.{leb-true, ltb-true}
 use Rattle.std.specs.Prelude.{ℤ, pos, negsuc, Bool, true, false, map, nat_eq, nat_le, nat_lt, slice_index_or, ok_or, if◌then◌else◌}
 use Rattle.types.specs.declared.fault.FaultKind.TheVariants.{Index, SplitPoint}
-use Rattle.types.specs.Code.{Array, Number, Program}
+use Rattle.types.specs.Code.{Array, Number, Primitive, Skip, Assign, Store as StoreTo, Print, Raise, Program}
 use Rattle.types.specs.Contents.{FitsArrays, no_more, also}
 use Rattle.types.specs.Outcome.{whole_arrays}
 use Rattle.sections.specs.Place.{Place, Window, nowhere, sides_of}
 use Rattle.types.specs.Run.{State, array_of, no_array, bind, entry, with_sides, number_at}
 use Rattle.types.specs.Value.{Environment, Valued, then_try, element_of, holds_number}
+use Rattle.serial_run.specs.declared.store.Store.{Store}
 use Rattle.serial_run.specs.declared.thread.Thread.{Thread}
 use Rattle.serial_run.specs.Bounds.{LiesInArray, LiesInArrays, HasPlace, IsInBounds}
-use Rattle.serial_run.specs.Frames.{KeepsTask}
-use Rattle.serial_run.specs.Lists.{lists_of}
-use Rattle.serial_run.specs.Primitive.{fitting, halves, target}
+use Rattle.serial_run.specs.Standing.{KeepsTask, state_of}
+use Rattle.serial_run.specs.Lists.{lengths_of, lists_of}
+use Rattle.serial_run.specs.Primitive.{CanStore, fitting, halves, target}
 use Rattle.serial_run.proofs.Ends.{fits_too}
 
 -- a list that stands for an array has its length
@@ -137,12 +138,21 @@ module _ (p : Program) where
       by_index (Err f) is = absurd (let bad : ⊥ = cc in bad)
 
   -- such a place is one of the store
-  pub store_has_place : (t : Thread) (q : Place) → IsInBounds p t → q.index < (array_of p q.array).length → HasPlace t.store q
+  pub store_has_place : (t : Thread Store) (q : Place) → IsInBounds p t → q.index < (array_of p q.array).length → HasPlace t.store q
   store_has_place t q bounds lies = omega (arith, lies, length-row p.arrays (lists_of t.store) bounds.store q.array)
 
   -- who keeps the windows and the lengths stays in bounds
-  pub bounds_kept : (old new : Thread) → KeepsTask old new → IsInBounds p old → IsInBounds p new
+  pub bounds_kept : (old new : Thread Store) → KeepsTask lengths_of old new → IsInBounds p old → IsInBounds p new
   bounds_kept old new kept bounds = record {
-    store = fits_too p.arrays (lists_of old.store) (lists_of new.store) bounds.store kept.lengths;
+    store = fits_too p.arrays (lists_of old.store) (lists_of new.store) bounds.store kept.memory;
     windows = subst (λ (ws : ℕ → Window). (s : ℕ) → LiesInArray p (ws s)) (sym kept.windows) bounds.windows;
   }
+
+  -- so a statement of one step writes where the store has a place
+  pub can_store : (t : Thread Store) (s : Primitive) → IsInBounds p t → CanStore p (HasPlace t.store) (state_of t) s
+  can_store t Skip bounds = tt
+  can_store t (Assign x e) bounds = tt
+  can_store t (StoreTo s i e) bounds = λ q v is.
+      store_has_place t q bounds (target_lies (state_of t) s i e q v bounds.windows is)
+  can_store t (Print es) bounds = tt
+  can_store t (Raise e) bounds = tt

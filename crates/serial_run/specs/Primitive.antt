@@ -1,11 +1,11 @@
 -- What a statement wants to know before it does anything.
-use Rattle.std.specs.Prelude.{ℕ, ℤ, List, Bool, true, false, Result, Ok, Err, Vec, ok_or}
+use Rattle.std.specs.Prelude.{ℕ, ℤ, ◌≡◌, ⊤, List, Bool, true, false, Result, Ok, Err, Vec, ok_or}
 use Rattle.std.specs.Global.{Global}
 use Rattle.types.specs.declared.fault.FaultKind.{FaultKind}
 use Rattle.types.specs.declared.fault.FaultKind.TheVariants.{OutOfElement, SplitPoint}
 use Rattle.sections.specs.declared.window.Place.{Place as rPlace}
 use Rattle.sections.specs.declared.window.Window.{Window as rWindow}
-use Rattle.types.specs.Code.{Number, Program}
+use Rattle.types.specs.Code.{Number, Primitive, Skip, Assign, Store, Print, Raise, Program}
 use Rattle.sections.specs.Place.{Place, Window, sides_of}
 use Rattle.sections.specs.Translation.{place, window}
 use Rattle.types.specs.Run.{State, number_at, window_at, array_of}
@@ -34,6 +34,15 @@ found (Err f) = Err f
 abbrev pub listed : Result (Vec ℤ Global) FaultKind → Valued (List ℤ)
 listed (Ok vs) = Ok vs.items
 listed (Err f) = Err f
+
+-- where it writes, `Writable` holds
+abbrev pub CanStore : Program → (Writable : Place → Type 0) → State (Unit {0}) → Primitive → Type 0
+CanStore p Writable st (Store s i e) =
+    (q : Place) (v : ℤ) → Ok (q, v) ≡ target p st s i e → Writable q
+CanStore p Writable st Skip = ⊤
+CanStore p Writable st (Assign x e) = ⊤
+CanStore p Writable st (Print es) = ⊤
+CanStore p Writable st (Raise e) = ⊤
 
 -- both sides of a section, split where an expression says
 abbrev pub halves : State (Unit {0}) → (section : ℕ) → Number → Valued (Window × Window)

@@ -7,6 +7,7 @@
 
 pub mod frame;
 pub mod machine;
+pub mod memory;
 pub mod run;
 pub mod store;
 pub mod thread;

@@ -1,7 +1,8 @@
 //! The contents of all arrays.
 
-ghost use Rattle.std.specs.Prelude.{◌≡◌, IfOk};
+ghost use Rattle.std.specs.Prelude.{◌≡◌, IfOk, ℕ, List};
 
+use crate::memory::Memory;
 use sections::window::Place;
 use std::alloc::{AllocError, Global};
 use types::input::Input;
@@ -30,13 +31,30 @@ impl Places for Store {
     }
 }
 
+impl Memory for Store {
+    ghost use Rattle.std.specs.Prelude.{refl};
+    ghost use Rattle.serial_run.specs.Bounds.{HasPlace};
+    ghost use Rattle.serial_run.specs.Lists.{contents_of, lengths_of};
+
+    ghost contents = { contents_of };
+
+    ghost Writable = { HasPlace };
+
+    ghost Shape = { List ℕ };
+
+    ghost shape = { lengths_of };
+
+    fn write(&mut self, place: Place, value: i64) {
+        let contents = &mut self.arrays[place.array.number];
+        contents[place.index] = value;
+    }
+
+    ghost reads = { λ s. refl };
+}
+
 impl Store {
     ghost use Rattle.types.specs.Translation.{input as lists_in};
     ghost use Rattle.serial_run.specs.Lists.{lists_of};
-    ghost use Rattle.serial_run.specs.Bounds.{HasPlace};
-    ghost use Rattle.types.specs.Contents.{write as written};
-    ghost use Rattle.sections.specs.Translation.{place as place_of};
-    ghost use Rattle.serial_run.specs.Lists.{contents_of, lengths_of};
 
     /// The contents as a run begins.
     pub fn of_input(alloc: Global, input: &Input) -> Result<Store, AllocError>
@@ -47,16 +65,5 @@ impl Store {
             arrays.push(Vec::from_slice(alloc, contents)?)?;
         }
         Ok(Store { arrays })
-    }
-
-    /// Writes the number at a place.
-    pub fn write(&mut self, place: Place, value: i64)
-        requires { HasPlace self.old (place_of place) }
-        ensures written { contents_of self.new
-            ≡ written (place_of place) value (contents_of self.old) }
-        ensures lengths { lengths_of self.new ≡ lengths_of self.old }
-    {
-        let contents = &mut self.arrays[place.array.number];
-        contents[place.index] = value;
     }
 }

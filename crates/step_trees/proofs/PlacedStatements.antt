@@ -44,9 +44,9 @@ abbrev label_of : Codes → ℕ
 label_of End = 0
 label_of (Then l s rest) = l
 
-abbrev code_of : Code → Codes → Code
-code_of d End = d
-code_of d (Then l s rest) = s
+abbrev first_code : Code → Codes → Code
+first_code d End = d
+first_code d (Then l s rest) = s
 
 abbrev rest_of : Codes → Codes
 rest_of End = End
@@ -149,7 +149,7 @@ module _ (p : Program) where
       more = c;
       parts = bs;
       stands = subst (λ x. Stands g env keep scope (Then x s c) bs) (sym (ap label_of e))
-          (subst (λ x. Stands g env keep scope (Then m x c) bs) (sym (ap (code_of t) e)) k);
+          (subst (λ x. Stands g env keep scope (Then m x c) bs) (sym (ap (first_code t) e)) k);
       standing = r;
       flat = ap rest_of e;
     }

@@ -10,7 +10,7 @@ use Rattle.syntax.specs.Lexical.{starts, AreTokensOf}
 use Rattle.syntax.specs.declared.tree.Program.{Program as rProgram}
 use Rattle.syntax.specs.Spelling.{spelling}
 use Rattle.syntax.specs.Tree.{Program, program}
-use Rattle.syntax.specs.Refusals.{IsNoCharacter, IsLargeNumber, SpellsNoProgram, IsTooDeep, TellsOf, code_of}
+use Rattle.syntax.specs.Refusals.{IsNoCharacter, IsLargeNumber, SpellsNoProgram, IsTooDeep, TellsOf, error_code}
 use Rattle.syntax.proofs.Pieces.{starts-append, one_reading, no_reading, one_place}
 use Rattle.syntax.proofs.SpellingLemmas.{one_spelling}
 
@@ -26,7 +26,7 @@ deep_or_shallow text at other shallow deep =
     deep.all_deep (subst (AreShallow 0) (one_reading text shallow.tokens deep.tokens shallow.read deep.read) shallow.shallow)
 
 pub one_error : (text : List ℕ) (e f : SyntaxError) → TellsOf text e → TellsOf text f → e ≢ OutOfMemory
-    → f ≢ OutOfMemory → code_of e ≡ code_of f
+    → f ≢ OutOfMemory → error_code e ≡ error_code f
 one_error text (NotACharacter _) (NotACharacter _) told too m n = refl
 one_error text (UnexpectedToken _) (UnexpectedToken _) told too m n = refl
 one_error text (NumberTooLarge _) (NumberTooLarge _) told too m n = refl

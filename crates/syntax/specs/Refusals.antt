@@ -116,13 +116,13 @@ Tells text TooLong = 1048576 < length text
 Tells text OutOfMemory = Unit {0}
 
 -- the code of an error
-abbrev pub code_of : SyntaxError → List ℕ
-code_of (NotACharacter place) = codes "S1"
-code_of (UnexpectedToken place) = codes "S2"
-code_of (NumberTooLarge place) = codes "S3"
-code_of (TooDeep place) = codes "S4"
-code_of TooLong = codes "S5"
-code_of OutOfMemory = codes "S6"
+abbrev pub error_code : SyntaxError → List ℕ
+error_code (NotACharacter place) = codes "S1"
+error_code (UnexpectedToken place) = codes "S2"
+error_code (NumberTooLarge place) = codes "S3"
+error_code (TooDeep place) = codes "S4"
+error_code TooLong = codes "S5"
+error_code OutOfMemory = codes "S6"
 
 -- the place that an error names
 abbrev pub place_of : SyntaxError → Option Place
@@ -140,4 +140,4 @@ at_text (Some place) = codes " at " ++ place_text place
 
 -- the text of an error: its code, and `at` its place where it names one
 abbrev pub error_text : SyntaxError → List ℕ
-error_text e = code_of e ++ at_text (place_of e)
+error_text e = error_code e ++ at_text (place_of e)

@@ -1,7 +1,7 @@
 //! Why a text is no program.
 
 ghost use Rattle.std.specs.Prelude.{◌≡◌};
-ghost use Rattle.syntax.specs.Refusals.{code_of, place_of};
+ghost use Rattle.syntax.specs.Refusals.{error_code, place_of};
 
 use crate::place::Place;
 use std::alloc::{AllocError, AllocFailed};
@@ -27,7 +27,7 @@ pub enum SyntaxError {
 impl SyntaxError {
     /// The code that the program prints.
     pub fn code(&self) -> &'static str
-        ensures { result.now ≡ code_of self.now }
+        ensures { result.now ≡ error_code self.now }
     {
         match self {
             SyntaxError::NotACharacter { .. } => "S1",

@@ -4,7 +4,7 @@ ghost use Rattle.std.specs.Prelude.{◌≡◌, ◌≢◌, ◌≤◌, ℕ, List, 
 ghost use Rattle.syntax.specs.Canonical.{canonical};
 ghost use Rattle.syntax.specs.declared.error.SyntaxError.{SyntaxError as AnyError};
 ghost use Rattle.syntax.specs.Lexical.{AreTokensOf, StopsAt};
-ghost use Rattle.syntax.specs.Refusals.{IsTooDeep, TellsOf, code_of};
+ghost use Rattle.syntax.specs.Refusals.{IsTooDeep, TellsOf, error_code};
 ghost use Rattle.syntax.specs.Spelled.{IsSpelled};
 ghost use Rattle.syntax.specs.Spelling.{spelling};
 ghost use Rattle.syntax.specs.Token.{Token};
@@ -42,7 +42,7 @@ pub fn texts_are_read_in_one_way()
 /// And too many brackets are open for the first time at one place alone.
 pub fn texts_are_refused_for_one_reason()
     ensures one { (text : List ℕ) (e f : AnyError) → TellsOf text e → TellsOf text f
-        → e ≢ SyntaxError.OutOfMemory → f ≢ SyntaxError.OutOfMemory → code_of e ≡ code_of f }
+        → e ≢ SyntaxError.OutOfMemory → f ≢ SyntaxError.OutOfMemory → error_code e ≡ error_code f }
     ensures place { (text : List ℕ) (at other : ℕ)
         → IsTooDeep text at → IsTooDeep text other → at ≡ other }
 {}

@@ -6,7 +6,7 @@ use Rattle.types.specs.declared.fault.FaultKind.TheVariants.{Index, Overflow, Ze
 use Rattle.types.specs.Code.{Chain, Link, Done, Negative}
 use Rattle.types.specs.FirstPart.{is_first_part}
 use Rattle.types.specs.Run.{Fault}
-use Rattle.types.specs.Outcome.{Budget, Outcome, Ended, Halted, outcome}
+use Rattle.types.specs.Outcome.{Budget, Outcome, Ended, Stopped, outcome}
 use Rattle.types.proofs.Programs.{lit, two_arrays, doubling, splits, split_below, two_readers, three_faults}
 use Rattle.types.proofs.Programs.{child_faults, fault_after_async, nested_tasks, nested_faults, byte_store}
 use Rattle.types.proofs.Programs.{past_the_end, endless, signs, least_by, least, by_zero, count_to, scalars, deep_call}
@@ -40,7 +40,7 @@ four_steps_suffice : outcome two_arrays (zeros 1 ∷ zeros 1 ∷ []) (budget 4 1
     ≡ Ended (record { arrays = (z 7 ∷ []) ∷ (z 8 ∷ []) ∷ []; lines = (z 7 ∷ z 8 ∷ []) ∷ []; faults = [] })
 four_steps_suffice = refl
 
-three_steps_stop : outcome two_arrays (zeros 1 ∷ zeros 1 ∷ []) (budget 3 100) ≡ Halted
+three_steps_stop : outcome two_arrays (zeros 1 ∷ zeros 1 ∷ []) (budget 3 100) ≡ Stopped
 three_steps_stop = refl
 
 abbrev upto : ℕ → ℕ → List ℤ
@@ -62,7 +62,7 @@ doubling_16_nest_4 : outcome (doubling 16) (upto 1 16 ∷ [])
     (budget 1000 4) ≡ Ended (record { arrays = doubles 1 16 ∷ []; lines = []; faults = [] })
 doubling_16_nest_4 = refl
 
-doubling_16_nest_3 : outcome (doubling 16) (upto 1 16 ∷ []) (budget 1000 3) ≡ Halted
+doubling_16_nest_3 : outcome (doubling 16) (upto 1 16 ∷ []) (budget 1000 3) ≡ Stopped
 doubling_16_nest_3 = refl
 
 -- at 0, at the length, and beyond it
@@ -114,7 +114,7 @@ past_the_end_faults : outcome past_the_end (zeros 1 ∷ []) usual
     ≡ Ended (record { arrays = zeros 1 ∷ []; lines = []; faults = record { path = []; label = 1; kind = Index } ∷ [] })
 past_the_end_faults = refl
 
-endless_stops : outcome endless [] (budget 100 100) ≡ Halted
+endless_stops : outcome endless [] (budget 100 100) ≡ Stopped
 endless_stops = refl
 
 -- toward zero, and with the sign of the dividend
@@ -139,7 +139,7 @@ by_zero_faults = refl
 counts_to_5 : outcome (count_to 5) [] (budget 13 0) ≡ prints ((z 5 ∷ []) ∷ [])
 counts_to_5 = refl
 
-counts_short : outcome (count_to 5) [] (budget 12 0) ≡ Halted
+counts_short : outcome (count_to 5) [] (budget 12 0) ≡ Stopped
 counts_short = refl
 
 scalars_end : outcome scalars [] usual ≡ prints ((z 3 ∷ []) ∷ (z 3 ∷ []) ∷ [])
@@ -149,7 +149,7 @@ deep_call_end : outcome (deep_call 20)
     (zeros 1 ∷ []) usual ≡ Ended (record { arrays = (z 210 ∷ []) ∷ []; lines = (z 210 ∷ []) ∷ []; faults = [] })
 deep_call_end = refl
 
-no_nest_stops : outcome one_async [] (budget 100 0) ≡ Halted
+no_nest_stops : outcome one_async [] (budget 100 0) ≡ Stopped
 no_nest_stops = refl
 
 one_nest_suffices : outcome one_async [] (budget 100 1) ≡ prints ((z 1 ∷ []) ∷ (z 2 ∷ []) ∷ [])

@@ -3,9 +3,9 @@ use Rattle.std.proofs.Common.{◌≡◌, ℕ, zero, suc, ◌+◌, ◌-◌, ◌�
 use Rattle.std.specs.Prelude.{ℤ, ◌⊎◌}
 use Rattle.types.specs.Code.{Codes, Program}
 use Rattle.types.specs.Contents.{held_by}
-use Rattle.types.specs.Run.{Stopped, State, Rules, Work, Block, at_flow, go_on, spend, with_step, within, run}
+use Rattle.types.specs.Run.{Flow, State, Rules, Work, Block, at_flow, go_on, spend, with_step, within, run}
 use Rattle.types.specs.Meaning.{hushed, joined, child, after_async, after_body, after_finish, begin_one, one_rules, one}
-use Rattle.types.specs.Outcome.{Budget, IsLarger, Ending, Outcome, Ended, Halted, start, outcome_by, ending_of, outcome_of, outcome, Means}
+use Rattle.types.specs.Outcome.{Budget, IsLarger, Ending, Outcome, Ended, Stopped, start, outcome_by, ending_of, outcome_of, outcome, Means}
 use Rattle.types.specs.Laws.{IsThrifty}
 use Rattle.types.proofs.Solutions.{solves}
 use Rattle.types.proofs.Views.{Follows, FollowsAt, IsView, begin_at, work_follows}
@@ -18,7 +18,7 @@ abbrev richer : ℕ → S → S
 richer d st = record st { steps = st.steps + d }
 
 abbrev IsStopped : S → Type 0
-IsStopped st = st.flow ≡ Stopped
+IsStopped st = st.flow ≡ Flow.Stopped
 
 stays_stopped : (st : S) (go : S → S) → IsStopped st → IsStopped (go_on go st)
 stays_stopped st go e = subst (λ f. IsStopped (at_flow f st go)) (sym e) e
@@ -102,12 +102,12 @@ module _ (p : Program) (fresh more : ℕ) where
       left out other (inl e) = inl (ap after_async e)
       left out other (inr e) = inr (ap (after_body (richer d st)) e)
 
-not_halted : (e : Ending) → Halted ≡ Ended e → ⊥
-not_halted e h = subst Is_halted h tt
+not_stopped : (e : Ending) → Stopped ≡ Ended e → ⊥
+not_stopped e h = subst Is_stopped h tt
   where
-    Is_halted : Outcome → Type 0
-    Is_halted Halted = Unit {0}
-    Is_halted (Ended e) = ⊥
+    Is_stopped : Outcome → Type 0
+    Is_stopped Stopped = Unit {0}
+    Is_stopped (Ended e) = ⊥
 
 larger_by : (p : Program) (input : List (List ℤ)) (fresh more n m : ℕ) (e : Ending) → n ≤ m
     → outcome p input (record { steps = fresh; nest = n }) ≡ Ended e → outcome p input (record { steps = fresh + more; nest = m }) ≡ Ended e
@@ -124,7 +124,7 @@ larger_by p input fresh more n m e le ends =
     by_run : (out other : S) → IsStopped out ⊎ (other ≡ richer more out) → at_end out ≡ Ended e
         → outcome_of p ((one_rules p (fresh + more) m).leave (richer more st) other) ≡ Ended e
     by_run out other (inl stops) ends =
-        absurd (not_halted e (sym (ap (λ f. outcome_by (after_finish f out.faults) (ending_of p (joined st out))) stops) ∙ ends))
+        absurd (not_stopped e (sym (ap (λ f. outcome_by (after_finish f out.faults) (ending_of p (joined st out))) stops) ∙ ends))
     by_run out other (inr same) ends = ap (λ o. outcome_of p ((one_rules p (fresh + more) m).leave (richer more st) o)) same ∙ ends
 
 -- an ended outcome stays under a larger budget
@@ -137,7 +137,7 @@ larger_ends p input b larger e is_larger ends =
 
 abbrev ending_or : Ending → Outcome → Ending
 ending_or other (Ended e) = e
-ending_or other Halted = other
+ending_or other Stopped = other
 
 -- a program means one ending at most
 pub one_ending : (p : Program) (input : List (List ℤ)) (e f : Ending) → Means p input e → Means p input f → e ≡ f

@@ -27,7 +27,7 @@ use Rattle.types.specs.Scope.{Scope, ASection, AScalar, meant, section_of, secti
 use Rattle.types.specs.Scope.{out_of, behind, after}
 use Rattle.types.specs.Told.{Told}
 use Rattle.types.specs.CallErrors.{calling}
-use Rattle.types.specs.Translation.{number, truth, codes, code as code_of}
+use Rattle.types.specs.Translation.{number, truth, codes, code as plain_code}
 use Rattle.types.proofs.Blocks.{code_If, code_While, code_Split, code_Async, code_Finish}
 use Rattle.types.proofs.Scopes.{left_next, left_else, left_async, left_sides}
 use Rattle.types.proofs.Telling.{none_both, told_left, told_right}
@@ -185,7 +185,7 @@ module _ (fs : List Procedure) (here there : Scope) where
 
   pub resolves_Call : (x : List ℕ) (es : List Expr) (k : StmtKind)
       → calling here.label here (resolution.procedure_of 0 x fs) es ≡ []
-      → resolution.call fs here.names (resolution.procedure_of 0 x fs) es ≡ code_of k → there ≡ next here → Resolves fs here (Call x es) k there
+      → resolution.call fs here.names (resolution.procedure_of 0 x fs) es ≡ plain_code k → there ≡ next here → Resolves fs here (Call x es) k there
   resolves_Call x es k right same is = record { right = none_both _ _ right refl; kind = same; place = is }
 
 -- another statement that is the same

@@ -9,17 +9,17 @@ use Rattle.types.specs.declared.error.TypeError.TheVariants.{Overlapping, NoMain
 use Rattle.types.specs.declared.error.TypeError.TheVariants.{OverLimit, OutOfMemory}
 
 -- its code
-abbrev pub code_of : TypeError → List ℕ
-code_of (NotInScope label) = codes "Y1"
-code_of (DeclaredTwice label) = codes "Y2"
-code_of (WrongKind label) = codes "Y3"
-code_of (WrongArguments label) = codes "Y4"
-code_of (AssignedOutsideAsync label) = codes "Y5"
-code_of (ReadOnly label) = codes "Y6"
-code_of (Overlapping label) = codes "Y7"
-code_of NoMain = codes "Y8"
-code_of OverLimit = codes "Y9"
-code_of OutOfMemory = codes "Y10"
+abbrev pub error_code : TypeError → List ℕ
+error_code (NotInScope label) = codes "Y1"
+error_code (DeclaredTwice label) = codes "Y2"
+error_code (WrongKind label) = codes "Y3"
+error_code (WrongArguments label) = codes "Y4"
+error_code (AssignedOutsideAsync label) = codes "Y5"
+error_code (ReadOnly label) = codes "Y6"
+error_code (Overlapping label) = codes "Y7"
+error_code NoMain = codes "Y8"
+error_code OverLimit = codes "Y9"
+error_code OutOfMemory = codes "Y10"
 
 -- and the label of a statement that breaks it, where it is broken in one
 abbrev pub label_of : TypeError → Option ℕ
@@ -40,4 +40,4 @@ labelled code None = code
 labelled code (Some label) = code ++ (codes " at label " ++ decimal label)
 
 abbrev pub error_text : TypeError → List ℕ
-error_text e = labelled (code_of e) (label_of e)
+error_text e = labelled (error_code e) (label_of e)

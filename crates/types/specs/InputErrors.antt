@@ -21,24 +21,24 @@ told (WrongElement name) = Some (BadElement (string_bytes name))
 told OutOfMemory = None
 
 -- the code of an error
-abbrev pub code_of : InputError → List ℕ
-code_of NotJson = codes "N1"
-code_of NotAnObject = codes "N2"
-code_of (UnknownArray name) = codes "N3"
-code_of WrongNumberOfLists = codes "N4"
-code_of (WrongLength name) = codes "N4"
-code_of (WrongElement name) = codes "N5"
-code_of OutOfMemory = codes "N6"
+abbrev pub error_code : InputError → List ℕ
+error_code NotJson = codes "N1"
+error_code NotAnObject = codes "N2"
+error_code (UnknownArray name) = codes "N3"
+error_code WrongNumberOfLists = codes "N4"
+error_code (WrongLength name) = codes "N4"
+error_code (WrongElement name) = codes "N5"
+error_code OutOfMemory = codes "N6"
 
 -- the line of an error: its code, and the name where it has one
-abbrev pub text_of : InputError → List ℕ
-text_of NotJson = codes "N1"
-text_of NotAnObject = codes "N2"
-text_of (UnknownArray name) = codes "N3 " ++ string_bytes name
-text_of WrongNumberOfLists = codes "N4"
-text_of (WrongLength name) = codes "N4 " ++ string_bytes name
-text_of (WrongElement name) = codes "N5 " ++ string_bytes name
-text_of OutOfMemory = codes "N6"
+abbrev pub error_text : InputError → List ℕ
+error_text NotJson = codes "N1"
+error_text NotAnObject = codes "N2"
+error_text (UnknownArray name) = codes "N3 " ++ string_bytes name
+error_text WrongNumberOfLists = codes "N4"
+error_text (WrongLength name) = codes "N4 " ++ string_bytes name
+error_text (WrongElement name) = codes "N5 " ++ string_bytes name
+error_text OutOfMemory = codes "N6"
 
 -- the mistake of a list for the array of a name
 abbrev pub mistake_in : (name : List ℕ) → ListFault → Mistake

@@ -6,7 +6,7 @@ use Rattle.types.specs.Contents.{Extends}
 use Rattle.types.specs.Value.{Environment}
 use Rattle.types.specs.Run.{State, Rules, Work, work}
 use Rattle.types.specs.Meaning.{hushed, joined}
-use Rattle.types.specs.Outcome.{Outcome, Ended, Halted}
+use Rattle.types.specs.Outcome.{Outcome, Ended, Stopped}
 
 module _ {X : Type 0} where
   -- the rules spend steps honestly: nothing gives a step back
@@ -31,7 +31,7 @@ module _ {X : Type 0} where
 -- it ended, and no task faulted
 abbrev pub EndsWithoutFault : Outcome → Type 0
 EndsWithoutFault (Ended e) = e.faults ≡ []
-EndsWithoutFault Halted = ⊥
+EndsWithoutFault Stopped = ⊥
 
 module _ {X : Type 0} where
   -- a way in which a state may follow another: by each operation of the rules, by all that changes

@@ -3,7 +3,7 @@ use Rattle.std.specs.Prelude.{ℕ, ◌+◌, ◌≡◌, ◌≤◌, List, [], ◌�
 use Rattle.types.specs.Code.{Array, Program}
 use Rattle.sections.specs.Place.{Window}
 use Rattle.types.specs.Contents.{Contents, held_by, shown}
-use Rattle.types.specs.Run.{Flow, On, Faulted, Stopped, Fault, State, Block, entry}
+use Rattle.types.specs.Run.{Flow, On, Faulted, Fault, State, Block, entry}
 use Rattle.types.specs.Meaning.{one_rules, one}
 
 -- how many steps each task may take, and how many asyncs may stand inside one another
@@ -27,7 +27,7 @@ pub record Ending : Type 0 where
 pub data Outcome : Type 0 where
   Ended : Ending → Outcome
   -- a task was over its budget, and nothing more is told
-  Halted : Outcome
+  Stopped : Outcome
 
 -- all places of each array, the first of which has the number `array`
 abbrev pub whole_arrays : (array : ℕ) → List Array → List Window
@@ -51,7 +51,7 @@ start x p steps input = record {
 
 -- nothing but that it was stopped, or its ending
 abbrev pub outcome_by : Flow → Ending → Outcome
-outcome_by Stopped e = Halted
+outcome_by Flow.Stopped e = Stopped
 outcome_by On e = Ended e
 outcome_by Faulted e = Ended e
 

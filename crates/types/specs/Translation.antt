@@ -12,7 +12,7 @@ use Rattle.types.specs.Code.{Print, Raise, Code, Do, If, While, Split, Call, Asy
 use Rattle.types.specs.Code.{Array, Parameter, Procedure, Program}
 use Rattle.types.specs.Value.{Environment}
 use Rattle.types.specs.Run.{Fault, by_number}
-use Rattle.types.specs.Outcome.{Budget, Outcome, Ended, Halted}
+use Rattle.types.specs.Outcome.{Budget, Outcome, Ended, Stopped}
 use Rattle.types.specs.declared.code.Number.{Number as rNumber, Row_of-Link, end_of-Link, more_of-Link}
 use Rattle.types.specs.declared.code.Number.TheVariants.{Literal as rLiteral, Scalar as rScalar}
 use Rattle.types.specs.declared.code.Number.TheVariants.{Element' as rElement}
@@ -144,7 +144,7 @@ outcome (rEnded arrays lines faults) = Ended (record {
   lines = map (λ v. v.items) lines.items;
   faults = map fault faults.items;
 })
-outcome rStopped = Halted
+outcome rStopped = Stopped
 
 -- what a frame knows
 abbrev pub environment : rEnvironment → Environment

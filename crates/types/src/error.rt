@@ -2,7 +2,7 @@
 
 ghost use Rattle.std.specs.Prelude.{◌≡◌};
 ghost use Rattle.types.specs.declared.error.TypeError.TheVariants.{OutOfMemory};
-ghost use Rattle.types.specs.Codes.{code_of, label_of};
+ghost use Rattle.types.specs.Codes.{error_code, label_of};
 
 use crate::code::Label;
 use std::alloc::{AllocError, AllocFailed};
@@ -40,7 +40,7 @@ pub enum TypeError {
 impl TypeError {
     /// The code that the program prints.
     pub fn code(self) -> &'static str
-        ensures { result.now ≡ code_of self }
+        ensures { result.now ≡ error_code self }
     {
         match self {
             TypeError::NotInScope { .. } => "Y1",

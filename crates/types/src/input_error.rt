@@ -1,7 +1,7 @@
 //! Why an input is refused.
 
 ghost use Rattle.std.specs.Prelude.{◌≡◌, Some};
-ghost use Rattle.types.specs.InputErrors.{code_of, text_of};
+ghost use Rattle.types.specs.InputErrors.{error_code, error_text};
 ghost use Rattle.types.specs.declared.input_error.InputError.TheVariants.{OutOfMemory};
 
 use std::alloc::{AllocError, AllocFailed};
@@ -32,7 +32,7 @@ pub enum InputError {
 impl InputError {
     /// The code that the program prints.
     pub fn code(&self) -> &'static str
-        ensures { result.now ≡ code_of self.now }
+        ensures { result.now ≡ error_code self.now }
     {
         match self {
             InputError::NotJson => "N1",
@@ -47,7 +47,7 @@ impl InputError {
 }
 
 impl fmt::Display for InputError {
-    ghost output = { λ e. Some (text_of e) };
+    ghost output = { λ e. Some (error_text e) };
 
     fn fmt<W: fmt::Write>(&self, f: &mut fmt::Formatter<W>) -> fmt::Result {
         match self {

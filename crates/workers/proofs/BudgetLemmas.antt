@@ -10,7 +10,7 @@ use Rattle.std.specs.Prelude.{ℤ, length}
 use Rattle.std.specs.List.{list_any}
 use Rattle.types.specs.Code.{Primitive, Store, Print}
 use Rattle.types.specs.Code.{Code, Do, Async, Finish, Codes, End, Then, Program}
-use Rattle.types.specs.Outcome.{Budget, Outcome, Halted}
+use Rattle.types.specs.Outcome.{Budget, Outcome, Stopped}
 use Rattle.workers.specs.declared.contents.Trouble.{Trouble}
 use Rattle.workers.specs.declared.contents.Trouble.TheVariants.{Fault, Absent}
 use Rattle.workers.specs.declared.task.Flow.{Flow}
@@ -300,7 +300,7 @@ start-room p input b within = record {
 }
 
 -- what goes on doesn't come to a stop
-going-ends : (g : Gathered) (o : Outcome) → g.stopped ≡ false → Comes g o → o ≢ Halted
+going-ends : (g : Gathered) (o : Outcome) → g.stopped ≡ false → Comes g o → o ≢ Stopped
 going-ends g o going (halted stops) is = true≢false (sym stops ∙ going)
 going-ends g o going (ended goes all) is = cc
 

@@ -3,7 +3,7 @@ use Rattle.std.proofs.Common.{◌≡◌, ℕ, Some, None, Bool, true, false, Lis
 use Rattle.std.specs.Prelude.{ℤ, pos, if◌then◌else◌}
 use Rattle.sections.specs.Origins.{Root}
 use Rattle.types.specs.Code.{Element, Store, Print, Do, Async, Finish, Codes, End, Program}
-use Rattle.types.specs.Outcome.{Budget, Outcome, Ended as IsEnded, Halted, outcome}
+use Rattle.types.specs.Outcome.{Budget, Outcome, Ended as IsEnded, Stopped, outcome}
 use Rattle.types.specs.declared.fault.FaultKind.{FaultKind}
 use Rattle.types.specs.declared.fault.FaultKind.TheVariants.{Index, OutOfElement}
 use Rattle.types.proofs.Programs.{◌⨾◌, lit, ints, main_of, two_arrays, nested_tasks, byte_store, past_the_end}
@@ -264,7 +264,7 @@ stopped_resumes = record {
 }
 
 -- neither store was done, and nothing is told but that it was stopped
-no_nest_halts : IsReached two_arrays zeros (budget 0) Halted
+no_nest_halts : IsReached two_arrays zeros (budget 0) Stopped
 no_nest_halts = record {
   last = over left_stopped (passed (with_owner stopped_waiting no_task));
   reached =
@@ -282,7 +282,7 @@ no_nest_halts = record {
   comes = halted refl;
 }
 
-no_nest_one_thread : outcome two_arrays zeros (budget 0) ≡ Halted
+no_nest_one_thread : outcome two_arrays zeros (budget 0) ≡ Stopped
 no_nest_one_thread = refl
 
 -- Two children read an array that their parent reads too.

@@ -2,7 +2,7 @@
 use Rattle.std.specs.Prelude.{◌≡◌, ℕ, ◌+◌, true, false, ℤ, List, [], ◌∷◌, ◌++◌, map, filter_map, replicate, length, set}
 use Rattle.std.specs.Prelude.{slice_get, Option, None, Some}
 use Rattle.types.specs.Code.{Program}
-use Rattle.types.specs.Outcome.{Budget, Outcome, Ended as IsEnded, Halted}
+use Rattle.types.specs.Outcome.{Budget, Outcome, Ended as IsEnded, Stopped}
 use Rattle.types.specs.Run.{Fault}
 use Rattle.workers.specs.Finishes.{Gathered, Fills, Resumes, nothing_yet, results_of}
 use Rattle.workers.specs.Holdings.{Without, Own}
@@ -108,7 +108,7 @@ fault_of (Failed f) = Some f
 
 -- what was gathered, as an outcome; at the end all arrays are there
 pub data Comes (g : Gathered) : Outcome → Type 0 where
-  halted : g.stopped ≡ true → Comes g Halted
+  halted : g.stopped ≡ true → Comes g Stopped
   ended : {arrays : List (List ℤ)}
       → g.stopped ≡ false
       → g.holdings ≡ map Own arrays

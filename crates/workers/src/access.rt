@@ -2,7 +2,7 @@
 
 ghost use Rattle.std.specs.Prelude.{◌≡◌, IfOk};
 ghost use Rattle.std.specs.Prelude.{filter_map, map};
-ghost use Rattle.types.specs.Translation.{code as code_of, codes as codes_of, number as number_of};
+ghost use Rattle.types.specs.Translation.{code as plain_code, codes as codes_of, number as number_of};
 ghost use Rattle.types.specs.Translation.{primitive as primitive_of};
 ghost use Rattle.workers.specs.Accesses.{accesses as accesses_by, accesses_in as all_in, own_of, read_of};
 
@@ -28,7 +28,7 @@ pub fn accesses_in(alloc: Global, body: &[Stmt]) -> Result<Vec<Access>, AllocErr
 #[cycle(accesses)]
 pub fn accesses_of(alloc: Global, statement: &Stmt) -> Result<Vec<Access>, AllocError>
     ensures { IfOk result (λ found. found.items
-        ≡ accesses_by statement.now.label (code_of statement.now.kind)) }
+        ≡ accesses_by statement.now.label (plain_code statement.now.kind)) }
 {
     match &statement.kind {
         StmtKind::Do(primitive) => own(alloc, statement.label, primitive),

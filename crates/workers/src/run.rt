@@ -4,7 +4,7 @@ ghost use Rattle.std.specs.Prelude.{◌≡◌, ◌+◌, ◌<◌, IfOk, OnOk, [],
 ghost use Rattle.types.specs.Outcome.{Ended as IsEnded};
 ghost use Rattle.types.specs.Translation.{budget as budget_of, input as lists_of};
 ghost use Rattle.types.specs.Translation.{outcome as outcome_of, program as program_of};
-ghost use Rattle.workers.specs.Codes.{code_of};
+ghost use Rattle.workers.specs.Codes.{error_code};
 ghost use Rattle.workers.specs.Holdings.{Own, holding, holdings};
 ghost use Rattle.workers.specs.Left.{left_of, left_in};
 ghost use Rattle.workers.specs.Lengths.{lengths_of, HasLengths};
@@ -48,7 +48,7 @@ impl<T: Drop> From<AllocFailed<T>> for RunError {
 impl RunError {
     /// The code that the program prints.
     pub fn code(&self) -> &'static str
-        ensures { result.now ≡ code_of self.now }
+        ensures { result.now ≡ error_code self.now }
     {
         match self {
             RunError::OutOfMemory => "E1",

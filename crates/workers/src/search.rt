@@ -1,7 +1,7 @@
 //! The search for the least race.
 
 ghost use Rattle.std.specs.Prelude.{◌≡◌, [], IfOk, filter, fold, map};
-ghost use Rattle.types.specs.Translation.{code as code_of, codes as codes_of};
+ghost use Rattle.types.specs.Translation.{code as plain_code, codes as codes_of};
 ghost use Rattle.workers.specs.Accesses.{pairs, pairs_in, each_with};
 ghost use Rattle.workers.specs.Races.{tell, IsLeast};
 
@@ -46,7 +46,7 @@ fn least_race_inside(
     before: Option<Meeting>,
     statement: &Stmt,
 ) -> Result<Option<Meeting>, AllocError>
-    ensures { IfOk result (λ least. least ≡ fold tell before (pairs (code_of statement.now.kind))) }
+    ensures { IfOk result (λ least. least ≡ fold tell before (pairs (plain_code statement.now.kind))) }
 {
     match &statement.kind {
         StmtKind::Async { body } => least_race(alloc, before, body),

@@ -1,7 +1,7 @@
 //! A task: what it has left to do, what it has, and what it told.
 
 ghost use Rattle.std.specs.Prelude.{◌≡◌, ◌+◌, ◌*◌, ◌<◌, IfOk, OnOk, Some, map, if◌then◌else◌};
-ghost use Rattle.types.specs.Translation.{code as code_of, codes as codes_of};
+ghost use Rattle.types.specs.Translation.{code as plain_code, codes as codes_of};
 ghost use Rattle.types.specs.Translation.{number as number_of, primitive as primitive_of};
 ghost use Rattle.types.specs.Translation.{program as program_of};
 ghost use Rattle.workers.specs.Finishes.{Resumes};
@@ -206,7 +206,7 @@ impl<'p> Task<'p> {
     /// A statement, whose step was taken.
     fn act(self, plan: &Plan<'p>, statement: &'p Stmt) -> Result<Turn<'p>, RunError>
         ensures turns { let p = program_of plan.now.program.now in let fresh = plan.now.budget.steps in
-            let label = statement.entry.now.label in let code = code_of statement.entry.now.kind in
+            let label = statement.entry.now.label in let code = plain_code statement.entry.now.kind in
             IfOk result (λ r. act_by p fresh label code (task_of self.entry) ≡ Some (turn_of r)) }
         ensures ends { let fresh = plan.now.budget.steps in
             IfOk result (LeavesLess fresh (left_of fresh self.entry + rate fresh self.entry.nest)) }

@@ -1,13 +1,13 @@
 use Rattle.std.proofs.Common.{◌≡◌, ap, ◌∙◌, List, ℕ, ◌++◌, ◌∷◌, []}
 use Rattle.types.specs.Run.{Fault, State, Faulted}
 use Rattle.types.specs.Translation.{fault as fault_of}
-use Rattle.serial_run.specs.Standing.{state_of}
+use Rattle.serial_run.specs.Standing.{state_by}
 use Rattle.serial_run.proofs.Steps.{map-pushed}
 use Rattle.serial_run.proofs.thread.Thread.fault.Goals as goal
 
 pub returns-clause-state : goal.returns-clause-state
-returns-clause-state c =
-    let st = state_of c.args.self.now in
+returns-clause-state g c =
+    let st = state_by g.S.Memory.contents c.args.self.now in
     let same : c.in_ok-turns.turns.items ≡ c.args.self.now.path.turns.items = c.in_ok-turns.ensures.items ∙ c.deref.ensures.value in
     let with_faults : List Fault → State (Unit {0}) = λ fs. record st { flow = Faulted; faults = fs } in
     let with_path : List ℕ → State (Unit {0}) = λ path. with_faults (st.faults ++ record {

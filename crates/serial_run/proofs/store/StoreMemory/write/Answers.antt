@@ -1,7 +1,7 @@
 use Rattle.std.proofs.Common.{w64}
 use Rattle.std.proofs.lemmas.Int.{to_z-of_z}
 use Rattle.serial_run.proofs.Writes.{held_by-with_item, lengths-with_item, array_is_there, place_is_there}
-use Rattle.serial_run.proofs.store.Store.write.Goals as goal
+use Rattle.serial_run.proofs.store.StoreMemory.write.Goals as goal
 
 pub returns-clause-written : goal.returns-clause-written
 returns-clause-written c =
@@ -13,7 +13,7 @@ returns-clause-written c =
     c.index_mut-contents.ensures.value inside
     (to_z-of_z w64 c.args.value c.ranges.value)
 
-pub returns-clause-lengths : goal.returns-clause-lengths
-returns-clause-lengths c =
+pub returns-clause-shape : goal.returns-clause-shape
+returns-clause-shape c =
     lengths-with_item c.args.self.now.arrays.items c.index_mut-contents.result.now c.args.place.array.number c.args.place.index
     _ c.index_mut-contents.ensures.value
