@@ -1,12 +1,11 @@
 -- The Rust types as the definitions see them.
-use Rattle.std.specs.Prelude.{ℕ, ℤ, ◌≡◌, List, [], ◌∷◌, ◌++◌, map, Option, Some, None}
+use Rattle.std.specs.Prelude.{◌≡◌, List, [], ◌∷◌, ◌++◌, map, Option, Some, None}
 use Rattle.std.proofs.Common.{Bor}
 use Rattle.types.specs.declared.code.Stmt.{Stmt}
 use Rattle.types.specs.Code.{Codes, End, Then}
 use Rattle.types.specs.Trees.{Caller, Leaf, append}
 use Rattle.types.specs.Translation.{code, codes, environment, fault}
 use Rattle.step_trees.specs.declared.rest.Block.{Block}
-use Rattle.step_trees.specs.declared.rest.Rest.{Rest}
 use Rattle.step_trees.specs.declared.leaf.Caller.{Caller as rCaller}
 use Rattle.step_trees.specs.declared.leaf.Leaf.{Leaf as rLeaf}
 
@@ -19,25 +18,23 @@ abbrev pub blocks : List Block → Codes
 blocks [] = End
 blocks (b ∷ bs) = append (blocks bs) (block b)
 
-abbrev pub rest_of : Rest → Codes
-rest_of r = blocks r.blocks.items
-
--- a call's caller
+-- what waits for a call to end
 abbrev pub caller : rCaller → Caller
-caller c = record { environment = environment c.environment; rest = rest_of c.rest }
+caller c = record { environment = environment c.environment; rest = blocks c.rest.items }
 
 -- callers, the last of which is the innermost
 abbrev pub callers : List rCaller → List Caller
 callers [] = []
 callers (c ∷ cs) = callers cs ++ caller c ∷ []
 
+-- a leaf
 abbrev pub leaf_of : rLeaf → Leaf
 leaf_of k = record {
   environment = environment k.environment;
-  rest = rest_of k.rest;
+  rest = blocks k.rest.items;
   callers = callers k.callers.items;
   path = k.path.turns.items;
-  spawned = k.children;
+  spawned = k.spawned;
   lines = map (λ v. v.items) k.lines.items;
   faults = map fault k.faults.items;
 }

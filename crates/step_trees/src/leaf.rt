@@ -1,10 +1,10 @@
 //! A leaf of a step tree.
 
-ghost use Rattle.std.specs.Prelude.{◌≡◌, IfOk};
-ghost use Rattle.types.specs.Trees.{is_done as is_end, returned as back, done as ended};
-ghost use Rattle.step_trees.specs.Translation.{leaf_of, rest_of};
+ghost use Rattle.std.specs.Prelude.{◌≡◌};
+ghost use Rattle.types.specs.Trees.{returned as returned_leaf, done as done_leaf};
+ghost use Rattle.step_trees.specs.Translation.{leaf_of};
 
-use crate::rest::Rest;
+use crate::rest::Block;
 use std::alloc::Global;
 use types::fault::Fault;
 use types::path::Path;
@@ -14,7 +14,7 @@ use types::value::Environment;
 #[derive(Drop)]
 pub struct Caller<'p> {
     pub environment: Environment,
-    pub rest: Rest<'p>,
+    pub rest: Vec<Block<'p>>,
 }
 
 /// A task as it stands.
@@ -22,54 +22,76 @@ pub struct Caller<'p> {
 pub struct Leaf<'p> {
     // What it has left.
     pub environment: Environment,
-    pub rest: Rest<'p>,
+    pub rest: Vec<Block<'p>>,
     /// The calls that it is in, the innermost last.
     pub callers: Vec<Caller<'p>>,
 
     // Its name.
     pub path: Path,
     /// How many children it has begun.
-    pub children: u32,
+    pub spawned: u32,
 
     // What it told.
     pub lines: Vec<Vec<i64>>,
     pub faults: Vec<Fault>,
 }
 
-impl<'p> Leaf<'p> {
-    /// Whether no statement is left.
-    pub fn is_done(&self) -> bool
-        ensures { result ≡ is_end (leaf_of self.now).rest }
-    {
-        self.rest.is_done()
-    }
-
-    /// Back behind the innermost call with statements behind it, where the block is done.
-    pub fn returned(self) -> Leaf<'p>
-        ensures { leaf_of result ≡ back (leaf_of self) }
-    {
-        let mut leaf = self;
-        'calls: while leaf.rest.is_done() {
-            match leaf.callers.pop() {
-                None => break,
-                Some(Caller { environment, rest }) => {
-                    leaf.environment = environment;
-                    leaf.rest = rest;
-                }
+/// At the end of a call's body a leaf is back at its caller, behind the call.
+pub fn returned<'p>(leaf: Leaf<'p>) -> Leaf<'p>
+    ensures { leaf_of result ≡ returned_leaf (leaf_of leaf) }
+{
+    let Leaf {
+        mut environment,
+        mut rest,
+        mut callers,
+        path,
+        spawned,
+        lines,
+        faults,
+    } = leaf;
+    'calls: while rest.is_empty() {
+        match callers.pop() {
+            None => break,
+            Some(caller) => {
+                environment = caller.environment;
+                rest = caller.rest;
             }
         }
-        leaf
     }
+    Leaf {
+        environment,
+        rest,
+        callers,
+        path,
+        spawned,
+        lines,
+        faults,
+    }
+}
 
-    /// Without what it has left.
-    pub fn done(self, alloc: Global) -> Leaf<'p>
-        ensures { leaf_of result ≡ ended (leaf_of self) }
-    {
-        let mut leaf = self;
-        leaf.rest = Rest::nothing(alloc);
-        'calls: while let Some(caller) = leaf.callers.pop() {
-            leaf.environment = caller.environment;
-        }
-        leaf
+/// A leaf that drops what it has left.
+pub fn done<'p>(alloc: Global, leaf: Leaf<'p>) -> Leaf<'p>
+    ensures { leaf_of result ≡ done_leaf (leaf_of leaf) }
+{
+    let Leaf {
+        mut environment,
+        rest: _,
+        mut callers,
+        path,
+        spawned,
+        lines,
+        faults,
+    } = leaf;
+    'calls: while let Some(caller) = callers.pop() {
+        environment = caller.environment;
+    }
+    Leaf {
+        environment,
+        rest: Vec::new(alloc),
+        callers,
+        path,
+        spawned,
+        lines,
+        faults,
     }
 }

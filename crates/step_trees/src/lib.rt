@@ -5,3 +5,4 @@
 pub mod laws;
 pub mod leaf;
 pub mod rest;
+pub mod turn;

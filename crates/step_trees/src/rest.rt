@@ -1,10 +1,10 @@
-//! The statements that a leaf has left.
+//! The statements that a leaf has left: blocks that are done one behind the other, the next one last.
 
 ghost use Rattle.std.specs.Prelude.{◌≡◌, IfOk, OnOk};
-ghost use Rattle.types.specs.Translation.{codes as codes_of};
-ghost use Rattle.types.specs.Code.{End};
-ghost use Rattle.types.specs.Trees.{append, is_done as is_end};
-ghost use Rattle.step_trees.specs.Translation.{rest_of, Takes};
+ghost use Rattle.types.specs.Code.{Then};
+ghost use Rattle.types.specs.Translation.{code as code_of, codes as codes_of};
+ghost use Rattle.types.specs.Trees.{append};
+ghost use Rattle.step_trees.specs.Translation.{blocks as statements_of, Takes};
 
 use std::alloc::{AllocError, Global};
 use types::code::Stmt;
@@ -16,58 +16,48 @@ pub struct Block<'p> {
     pub others: &'p [Stmt],
 }
 
-/// Blocks that are done one behind the other, the next one last.
-#[derive(Drop)]
-pub struct Rest<'p> {
-    pub blocks: Vec<Block<'p>>,
+/// A block and nothing behind it.
+pub fn block_alone<'p>(alloc: Global, block: &'p [Stmt]) -> Result<Vec<Block<'p>>, AllocError>
+    ensures { IfOk result (λ rest. statements_of rest.items ≡ codes_of block.entry.now) }
+{
+    let mut rest = Vec::new(alloc);
+    enter(&mut rest, block)?;
+    Ok(rest)
 }
 
-impl<'p> Rest<'p> {
-    /// A block and nothing behind it.
-    pub fn of_block(alloc: Global, block: &'p [Stmt]) -> Result<Rest<'p>, AllocError>
-        ensures { IfOk result (λ r. rest_of r ≡ codes_of block.entry.now) }
-    {
-        let mut rest = Rest::nothing(alloc);
-        rest.enter(block)?;
-        Ok(rest)
+/// A block that is done first.
+pub fn enter<'p>(rest: &mut Vec<Block<'p>>, block: &'p [Stmt]) -> Result<(), AllocError>
+    ensures { OnOk result (statements_of rest.new.items
+        ≡ append (codes_of block.entry.now) (statements_of rest.old.items)) }
+{
+    if let Some((first, others)) = block.split_first() {
+        rest.push(Block { first, others })?;
     }
+    Ok(())
+}
 
-    /// No statement.
-    pub fn nothing(alloc: Global) -> Rest<'p>
-        ensures { rest_of result ≡ End }
-    {
-        Rest {
-            blocks: Vec::new(alloc),
-        }
-    }
+/// A statement that is done first.
+pub fn begin<'p>(rest: &mut Vec<Block<'p>>, stmt: &'p Stmt) -> Result<(), AllocError>
+    ensures { OnOk result (statements_of rest.new.items
+        ≡ Then stmt.entry.now.label (code_of stmt.entry.now.kind) (statements_of rest.old.items)) }
+{
+    rest.push(Block {
+        first: stmt,
+        others: &[],
+    })?;
+    Ok(())
+}
 
-    /// Whether no statement is left.
-    pub fn is_done(&self) -> bool
-        ensures { result ≡ is_end (rest_of self.now) }
-    {
-        self.blocks.is_empty()
-    }
-
-    /// A block that is done first.
-    pub fn enter(&mut self, block: &'p [Stmt]) -> Result<(), AllocError>
-        ensures { OnOk result (rest_of self.new ≡ append (codes_of block.entry.now) (rest_of self.old)) }
-    {
-        if let Some((first, others)) = block.split_first() {
-            self.blocks.push(Block { first, others })?;
-        }
-        Ok(())
-    }
-
-    /// Takes the next statement off.
-    pub fn next(&mut self) -> Result<Option<&'p Stmt>, AllocError>
-        ensures { IfOk result (λ stmt. Takes stmt (rest_of self.old) (rest_of self.new)) }
-    {
-        match self.blocks.pop() {
-            None => Ok(None),
-            Some(Block { first, others }) => {
-                self.enter(others)?;
-                Ok(Some(first))
-            }
+/// Takes the next statement off.
+pub fn next<'p>(rest: &mut Vec<Block<'p>>) -> Result<Option<&'p Stmt>, AllocError>
+    ensures { IfOk result (λ stmt. Takes stmt (statements_of rest.old.items)
+        (statements_of rest.new.items)) }
+{
+    match rest.pop() {
+        None => Ok(None),
+        Some(Block { first, others }) => {
+            enter(rest, others)?;
+            Ok(Some(first))
         }
     }
 }
