@@ -18,3 +18,4 @@ pub mod Rests
 pub mod Scopes
 pub mod Statements
 pub mod Steps
+pub mod Turns

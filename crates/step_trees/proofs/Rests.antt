@@ -39,6 +39,12 @@ done_is_none (b ∷ bs) =
     let more : nat_eq (length (b ∷ bs)) 0 ≡ false = grind (arith, nat_tests) in
     more ∙ sym (done_behind (blocks bs) b)
 
+pub nothing_left : (bs : List Block) → nat_eq (length bs) 0 ≡ true → blocks bs ≡ End
+nothing_left [] e = refl
+nothing_left (b ∷ bs) e =
+    let more : nat_eq (length (b ∷ bs)) 0 ≡ false = grind (arith, nat_tests) in
+    absurd (let bad : ⊥ = cc in bad)
+
 -- a leaf that has a statement left stays
 returned_open : (c : Codes) (k : Leaf) → is_done c ≡ false → returned_by c k ≡ k
 returned_open End k e = absurd (let bad : ⊥ = cc in bad)
@@ -51,26 +57,26 @@ returned-open k e = returned_open k.rest k e
 pub returned-last : (k : Leaf) → k.rest ≡ End → k.callers ≡ [] → returned k ≡ k
 returned-last k none alone =
     ap (λ c. returned_by c k) none ∙ ap (λ fs. return_to fs k) alone
-    ∙ ap (λ (w : Codes × List Caller). record k { rest = w.0; callers = w.1 }) (pair (sym none) (sym alone))
-  where
-    pair : {c d : Codes} {fs gs : List Caller} → c ≡ d → fs ≡ gs → (c, fs) ≡ (d, gs)
-    pair {c = c} {gs = gs} e f = ap (λ x. (c, x)) f ∙ ap (λ x. (x, gs)) e
+    ∙ ap (λ (c : Codes). let j : Leaf = record k { rest = c; callers = [] } in j) (sym none)
+    ∙ ap (λ (fs : List Caller). let j : Leaf = record k { callers = fs } in j) (sym alone)
 
 -- what is left and the callers are no matter where a leaf returns
 return_same : (fs gs : List Caller) (k : Leaf) (c : Codes)
     → return_to fs (record k { rest = c; callers = gs }) ≡ return_to fs k
 return_same [] gs k c = refl
-return_same (f ∷ fs) gs k c = by f.rest
+return_same (f ∷ fs) gs k c = by f.rest (return_same fs gs (record k { environment = f.environment }) c)
   where
-    by : (d : Codes) → elim d [
-      | End ↦ return_to fs (record k { environment = f.environment; rest = c; callers = gs })
-      | Then l s rest ↦ record k { environment = f.environment; rest = Then l s rest; callers = fs }
-    ] ≡ elim d [
-      | End ↦ return_to fs (record k { environment = f.environment })
-      | Then l s rest ↦ record k { environment = f.environment; rest = Then l s rest; callers = fs }
-    ]
-    by End = return_same fs gs (record k { environment = f.environment }) c
-    by (Then l s rest) = refl
+    by : (d : Codes)
+        → return_to fs (record k { environment = f.environment; rest = c; callers = gs }) ≡ return_to fs (record k { environment = f.environment })
+        → ◌≡◌ {A = Leaf} (elim d [
+          | End ↦ return_to fs (record k { environment = f.environment; rest = c; callers = gs })
+          | Then l s rest ↦ record k { environment = f.environment; rest = Then l s rest; callers = fs }
+        ]) (elim d [
+          | End ↦ return_to fs (record k { environment = f.environment })
+          | Then l s rest ↦ record k { environment = f.environment; rest = Then l s rest; callers = fs }
+        ])
+    by End h = h
+    by (Then l s rest) h = refl
 
 -- a leaf behind a call
 abbrev pub behind : Caller → List Caller → Leaf → Leaf
@@ -82,9 +88,9 @@ pub returned-up : (k : Leaf) (f : Caller) (fs : List Caller) → k.rest ≡ End 
 returned-up k f fs none in_call =
     ap (λ c. returned_by c k) none ∙ ap (λ gs. return_to gs k) in_call ∙ by f.rest
   where
-    by : (d : Codes) → elim d [
+    by : (d : Codes) → ◌≡◌ {A = Leaf} (elim d [
       | End ↦ return_to fs (record k { environment = f.environment })
       | Then l s rest ↦ record k { environment = f.environment; rest = Then l s rest; callers = fs }
-    ] ≡ returned_by d (record k { environment = f.environment; rest = d; callers = fs })
+    ]) (returned_by d (record k { environment = f.environment; rest = d; callers = fs }))
     by End = sym (return_same fs fs (record k { environment = f.environment }) End)
     by (Then l s rest) = refl

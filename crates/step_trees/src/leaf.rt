@@ -38,7 +38,7 @@ pub struct Leaf<'p> {
 
 /// At the end of a call's body a leaf is back at its caller, behind the call.
 pub fn returned<'p>(leaf: Leaf<'p>) -> Leaf<'p>
-    ensures { leaf_of result ≡ returned_leaf (leaf_of leaf) }
+    ensures { leaf_of result ≡ returned_leaf (leaf_of leaf.entry) }
 {
     let Leaf {
         mut environment,
@@ -71,7 +71,7 @@ pub fn returned<'p>(leaf: Leaf<'p>) -> Leaf<'p>
 
 /// A leaf that drops what it has left.
 pub fn done<'p>(alloc: Global, leaf: Leaf<'p>) -> Leaf<'p>
-    ensures { leaf_of result ≡ done_leaf (leaf_of leaf) }
+    ensures { leaf_of result ≡ done_leaf (leaf_of leaf.entry) }
 {
     let Leaf {
         mut environment,

@@ -60,7 +60,7 @@ pub fn step<'p>(
 ) -> Result<(Becomes<'p>, Store), AllocError>
     requires left { is_done (leaf_of leaf).rest ≡ false }
     requires bounds { MayTurn plan store leaf }
-    ensures { IfOk result (Steps plan.entry store leaf) }
+    ensures { IfOk result (Steps plan.entry store leaf.entry) }
 {
     let Leaf {
         environment,
@@ -99,7 +99,7 @@ pub fn step<'p>(
 /// A statement.
 fn statement<'p>(turn: Turn<'p>, stmt: &'p Stmt) -> Result<(Becomes<'p>, Store), AllocError>
     requires { IsReady turn }
-    ensures { IfOk result (After turn stmt.entry.now.label (code_of stmt.entry.now.kind)) }
+    ensures { IfOk result (After turn.entry stmt.entry.now.label (code_of stmt.entry.now.kind)) }
 {
     let label = stmt.label;
     match &stmt.kind {
@@ -130,7 +130,7 @@ fn primitive<'p>(
     primitive: &Primitive,
 ) -> Result<(Becomes<'p>, Store), AllocError>
     requires { IsReady turn }
-    ensures { IfOk result (After turn label (Do (primitive_of primitive.now))) }
+    ensures { IfOk result (After turn.entry label (Do (primitive_of primitive.now))) }
 {
     let Turn {
         plan,
@@ -162,13 +162,13 @@ fn choose<'p>(
     other: &'p [Stmt],
 ) -> Result<(Becomes<'p>, Store), AllocError>
     requires { IsReady turn }
-    ensures { IfOk result (After turn label (If (truth_of guard.now)
+    ensures { IfOk result (After turn.entry label (If (truth_of guard.now)
         (codes_of body.entry.now) (codes_of other.entry.now))) }
 {
     match turn.thread.truth(guard) {
         Err(kind) => failed(turn, label, kind),
-        Ok(true) => before(turn, body),
-        Ok(false) => before(turn, other),
+        Ok(true) => enters(turn, body),
+        Ok(false) => enters(turn, other),
     }
 }
 
@@ -180,8 +180,8 @@ fn turn_loop<'p>(
     body: &'p [Stmt],
 ) -> Result<(Becomes<'p>, Store), AllocError>
     requires ready { IsReady turn }
-    requires loop { code_of stmt.now.kind ≡ While (truth_of guard.now) (codes_of body.now) }
-    ensures { IfOk result (After turn stmt.entry.now.label (code_of stmt.entry.now.kind)) }
+    requires is_loop { code_of stmt.now.kind ≡ While (truth_of guard.now) (codes_of body.now) }
+    ensures { IfOk result (After turn.entry stmt.entry.now.label (code_of stmt.entry.now.kind)) }
 {
     match turn.thread.truth(guard) {
         Err(kind) => failed(turn, stmt.label, kind),
@@ -200,7 +200,7 @@ fn turn_loop<'p>(
                 rest,
                 callers,
             };
-            before(again, body)
+            enters(again, body)
         }
     }
 }
@@ -215,7 +215,7 @@ fn split<'p>(
     body: &'p [Stmt],
 ) -> Result<(Becomes<'p>, Store), AllocError>
     requires { IsReady turn }
-    ensures { IfOk result (After turn label (Split section.number (number_of at.now)
+    ensures { IfOk result (After turn.entry label (Split section.number (number_of at.now)
         names.0.number names.1.number (codes_of body.entry.now))) }
 {
     match sides(&turn.thread, section, at) {
@@ -235,7 +235,7 @@ fn split<'p>(
                 rest,
                 callers,
             };
-            before(inside, body)
+            enters(inside, body)
         }
     }
 }
@@ -249,7 +249,7 @@ fn call<'p>(
     sections: &[SectionId],
 ) -> Result<(Becomes<'p>, Store), AllocError>
     requires { IsReady turn }
-    ensures { IfOk result (After turn label (Call procedure.number (map number_of values.now)
+    ensures { IfOk result (After turn.entry label (Call procedure.number (map number_of values.now)
         (map section_of sections.now))) }
 {
     let plan = turn.plan;
@@ -286,7 +286,7 @@ fn begin_async<'p>(
     turn: Turn<'p>,
     body: &'p [Stmt],
 ) -> Result<(Becomes<'p>, Store), AllocError>
-    ensures { IfOk result (After turn 0 (Async (codes_of body.entry.now))) }
+    ensures { IfOk result (After turn.entry 0 (Async (codes_of body.entry.now))) }
 {
     let plan = turn.plan;
     let Some(spawned) = turn.thread.spawned.checked_add(1) else {
@@ -333,7 +333,7 @@ fn begin_finish<'p>(
     turn: Turn<'p>,
     body: &'p [Stmt],
 ) -> Result<(Becomes<'p>, Store), AllocError>
-    ensures { IfOk result (After turn 0 (Finish (codes_of body.entry.now))) }
+    ensures { IfOk result (After turn.entry 0 (Finish (codes_of body.entry.now))) }
 {
     let plan = turn.plan;
     let environment = turn.thread.environment.copied(plan.alloc)?;
@@ -374,12 +374,12 @@ fn begin_finish<'p>(
 // ---- the end of a step
 
 /// It goes on with a block that is done first.
-fn before<'p>(
+fn enters<'p>(
     turn: Turn<'p>,
     block: &'p [Stmt],
 ) -> Result<(Becomes<'p>, Store), AllocError>
-    ensures { IfOk result (Comes (single (before_rest (codes_of block.entry.now) (leaf_in turn)))
-        (store_in turn) turn) }
+    ensures { IfOk result (Comes (single (before_rest (codes_of block.entry.now) (leaf_in turn.entry)))
+        (store_in turn.entry) turn.entry) }
 {
     let Turn {
         plan,
@@ -398,7 +398,7 @@ fn before<'p>(
 
 /// It goes on.
 fn going<'p>(turn: Turn<'p>) -> (Becomes<'p>, Store)
-    ensures { Comes (single (leaf_in turn)) (store_in turn) turn result }
+    ensures { Comes (single (leaf_in turn.entry)) (store_in turn.entry) turn.entry result }
 {
     let (leaf, store) = apart(turn);
     (Becomes::Single(returned(leaf)), store)
@@ -406,7 +406,7 @@ fn going<'p>(turn: Turn<'p>) -> (Becomes<'p>, Store)
 
 /// It is done.
 fn ended<'p>(turn: Turn<'p>) -> (Becomes<'p>, Store)
-    ensures { Comes (Single (done_leaf (leaf_in turn))) (store_in turn) turn result }
+    ensures { Comes (Single (done_leaf (leaf_in turn.entry))) (store_in turn.entry) turn.entry result }
 {
     let alloc = turn.plan.alloc;
     let (leaf, store) = apart(turn);
@@ -419,8 +419,8 @@ fn failed<'p>(
     label: Label,
     kind: FaultKind,
 ) -> Result<(Becomes<'p>, Store), AllocError>
-    ensures { IfOk result (Comes (Single (failed_leaf label kind (leaf_in turn)))
-        (store_in turn) turn) }
+    ensures { IfOk result (Comes (Single (failed_leaf label kind (leaf_in turn.entry)))
+        (store_in turn.entry) turn.entry) }
 {
     let Turn {
         plan,
@@ -439,8 +439,8 @@ fn failed<'p>(
 
 /// The leaf, and the store.
 fn apart<'p>(turn: Turn<'p>) -> (Leaf<'p>, Store)
-    ensures leaf { leaf_of result.0 ≡ leaf_in turn }
-    ensures store { result.1 ≡ turn.thread.store }
+    ensures leaf { leaf_of result.0 ≡ leaf_in turn.entry }
+    ensures store { result.1 ≡ turn.entry.thread.store }
 {
     let Turn {
         plan: _,

@@ -4,4 +4,4 @@ use Rattle.step_trees.proofs.Rests.{blocks-push}
 use Rattle.step_trees.proofs.rest.begin.Goals as goal
 
 pub returns : goal.returns
-returns c = ?
+returns c = ap blocks c.in_ok-push.ensures.items ∙ blocks-push c.args.rest.now.items _

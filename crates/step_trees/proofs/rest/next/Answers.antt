@@ -9,5 +9,5 @@ pub returns-in_ok-enter-in-Some : goal.returns-in_ok-enter-in-Some
 returns-in_ok-enter-in-Some c =
     let b = c.in-Some.field-0 in
     ap blocks c.in-Some.ensures.items
-    ∙ blocks-push c.pop.new.rest.items b
+    ∙ blocks-push c.pop.new.self.items b
     ∙ ap (Then b.first.now.label (code b.first.now.kind)) (sym c.in_ok-enter-in-Some.ensures)
