@@ -1,6 +1,6 @@
 -- Blocks one behind the other, and callers within one another.
 use Rattle.std.proofs.Common.{◌≡◌, List, [], ◌∷◌, ◌++◌, length, refl, sym, ap, ◌∙◌, arith}
-use Rattle.std.specs.Prelude.{Bool, true, false, nat_eq}
+use Rattle.std.specs.Prelude.{true, false, nat_eq}
 use Rattle.types.specs.Code.{Codes, End, Then}
 use Rattle.std.proofs.lemmas.Bool.Decides.{nat_tests}
 use Rattle.types.specs.Trees.{Caller, Leaf, append, is_done, return_to, returned, returned_by}
@@ -25,7 +25,6 @@ blocks-push (x ∷ bs) b =
 done_behind : (c : Codes) (b : Block) → is_done (append c (block b)) ≡ false
 done_behind End b = refl
 done_behind (Then l s rest) b = refl
-
 
 -- a caller on top is the innermost
 pub callers-push : (cs : List rCaller) (c : rCaller) → callers (cs ++ c ∷ []) ≡ caller c ∷ callers cs

@@ -32,15 +32,9 @@ pub enum Becomes<'p> {
     /// It goes on, or is done.
     Single(Leaf<'p>),
     /// An async's body, beside its parent.
-    Spawned {
-        child: Leaf<'p>,
-        parent: Leaf<'p>,
-    },
+    Spawned { child: Leaf<'p>, parent: Leaf<'p> },
     /// A finish's body, and what waits for its end.
-    Entered {
-        body: Leaf<'p>,
-        behind: Leaf<'p>,
-    },
+    Entered { body: Leaf<'p>, behind: Leaf<'p> },
 }
 
 /// A leaf that has the store for a step.
@@ -282,10 +276,7 @@ fn call<'p>(
 }
 
 /// An async's body, to which all goes that was told so far, beside its parent.
-fn begin_async<'p>(
-    turn: Turn<'p>,
-    body: &'p [Stmt],
-) -> Result<(Becomes<'p>, Store), AllocError>
+fn begin_async<'p>(turn: Turn<'p>, body: &'p [Stmt]) -> Result<(Becomes<'p>, Store), AllocError>
     ensures { IfOk result (After turn.entry 0 (Async (codes_of body.entry.now))) }
 {
     let plan = turn.plan;
@@ -329,10 +320,7 @@ fn begin_async<'p>(
 }
 
 /// A finish's body, to which all goes that was told so far, and what waits for its end.
-fn begin_finish<'p>(
-    turn: Turn<'p>,
-    body: &'p [Stmt],
-) -> Result<(Becomes<'p>, Store), AllocError>
+fn begin_finish<'p>(turn: Turn<'p>, body: &'p [Stmt]) -> Result<(Becomes<'p>, Store), AllocError>
     ensures { IfOk result (After turn.entry 0 (Finish (codes_of body.entry.now))) }
 {
     let plan = turn.plan;
@@ -374,10 +362,7 @@ fn begin_finish<'p>(
 // ---- the end of a step
 
 /// It goes on with a block that is done first.
-fn enters<'p>(
-    turn: Turn<'p>,
-    block: &'p [Stmt],
-) -> Result<(Becomes<'p>, Store), AllocError>
+fn enters<'p>(turn: Turn<'p>, block: &'p [Stmt]) -> Result<(Becomes<'p>, Store), AllocError>
     ensures { IfOk result (Comes (single (before_rest (codes_of block.entry.now) (leaf_in turn.entry)))
         (store_in turn.entry) turn.entry) }
 {

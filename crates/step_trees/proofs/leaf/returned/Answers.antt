@@ -1,9 +1,8 @@
-use Rattle.std.proofs.Common.{◌≡◌, List, [], ap, ◌∙◌, sym, length, rules, arith}
-use Rattle.std.proofs.lemmas.Bool.Decides.{nat_tests}
+use Rattle.std.proofs.Common.{◌≡◌, List, [], ap, ◌∙◌, sym, length, rules}
 use Rattle.std.specs.Prelude.{true, false, nat_eq, Vec}
 use Rattle.std.specs.Global.{Global}
 use Rattle.types.specs.Translation.{environment}
-use Rattle.types.specs.Trees.{Leaf, returned}
+use Rattle.types.specs.Trees.{Leaf}
 use Rattle.step_trees.specs.declared.leaf.Caller.{Caller as rCaller}
 use Rattle.step_trees.specs.Translation.{blocks, caller, callers, leaf_of}
 use Rattle.step_trees.proofs.Rests.{callers-push, done_is_none, nothing_left, returned-open, returned-last, returned-up}

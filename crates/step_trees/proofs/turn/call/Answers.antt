@@ -1,18 +1,18 @@
-use Rattle.std.proofs.Common.{◌≡◌, ◌≤◌, ap, ◌∙◌, sym, refl, map, rules, length, List, ◌∷◌, Ok}
+use Rattle.std.proofs.Common.{◌≡◌, ◌≤◌, ap, ◌∙◌, sym, refl, map, rules, length, List, ◌∷◌}
 use Rattle.std.proofs.lemmas.Option.{slice_get_read, slice_get_past}
 use Rattle.std.specs.Prelude.{ℤ, slice_index_or}
 use Rattle.sections.specs.Translation.{section}
 use Rattle.types.specs.declared.value.Environment.{Environment as rEnvironment}
-use Rattle.types.specs.Code.{Codes, End}
+use Rattle.types.specs.Code.{End}
 use Rattle.types.specs.Run.{entry, no_procedure, procedure_of}
-use Rattle.types.specs.Translation.{program, number, codes, environment, procedure}
+use Rattle.types.specs.Translation.{program, codes, environment, procedure}
 use Rattle.types.specs.Trees.{Caller, Tree, called, single}
 use Rattle.types.specs.TreeSteps.{on_value}
 use Rattle.types.specs.Value.{Valued}
 use Rattle.serial_run.specs.Primitive.{listed}
 use Rattle.serial_run.proofs.Steps.{body_at, no_body_at}
 use Rattle.step_trees.specs.declared.leaf.Caller.{Caller as rCaller}
-use Rattle.step_trees.specs.Translation.{blocks, callers, caller}
+use Rattle.step_trees.specs.Translation.{blocks, callers}
 use Rattle.step_trees.specs.Turns.{leaf_in}
 use Rattle.step_trees.proofs.Rests.{callers-push}
 use Rattle.step_trees.proofs.Turns.{call_of_nothing, called_as, comes_as}

@@ -1,10 +1,10 @@
-use Rattle.std.proofs.Common.{◌≡◌, ap, ◌∙◌, sym, refl, Ok}
+use Rattle.std.proofs.Common.{ap, ◌∙◌, sym, refl, Ok}
 use Rattle.std.specs.Prelude.{Bool, if◌then◌else◌}
-use Rattle.types.specs.Translation.{codes, truth}
+use Rattle.types.specs.Translation.{codes}
 use Rattle.types.specs.Trees.{Tree, before_rest, single}
 use Rattle.types.specs.TreeSteps.{on_value}
 use Rattle.types.specs.Value.{Valued}
-use Rattle.step_trees.specs.Turns.{leaf_in, store_in}
+use Rattle.step_trees.specs.Turns.{leaf_in}
 use Rattle.step_trees.proofs.Turns.{comes_as}
 use Rattle.step_trees.proofs.turn.choose.Goals as goal
 

@@ -1,8 +1,8 @@
-use Rattle.std.proofs.Common.{◌≡◌, ap, ◌∙◌, sym, refl}
+use Rattle.std.proofs.Common.{ap, ◌∙◌, sym, refl}
 use Rattle.sections.specs.Place.{Window}
 use Rattle.sections.specs.Translation.{window}
 use Rattle.types.specs.Run.{bind, with_sides}
-use Rattle.types.specs.Translation.{codes, environment, number}
+use Rattle.types.specs.Translation.{codes}
 use Rattle.types.specs.Trees.{Leaf, Tree, before_rest, single}
 use Rattle.types.specs.TreeSteps.{on_value}
 use Rattle.types.specs.Value.{Environment, Valued}

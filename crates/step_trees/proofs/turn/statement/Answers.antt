@@ -1,11 +1,7 @@
-use Rattle.std.proofs.Common.{◌≡◌, ap, ◌∙◌, sym, refl}
-use Rattle.types.specs.Code.{Code, Do, If, While, Split, Async, Finish}
-use Rattle.types.specs.Contents.{Contents}
-use Rattle.types.specs.Translation.{program, primitive, truth, number, code, codes}
-use Rattle.types.specs.Trees.{Tree}
-use Rattle.types.specs.TreeSteps.{tree_after, store_after}
+use Rattle.std.proofs.Common.{◌≡◌, ap, ◌∙◌, sym}
+use Rattle.types.specs.Code.{Do, If, While, Split, Async, Finish}
+use Rattle.types.specs.Translation.{primitive, truth, number, code, codes}
 use Rattle.types.proofs.Blocks.{code_If, code_While, code_Split, code_Async, code_Finish}
-use Rattle.step_trees.specs.Turns.{leaf_in, store_in}
 use Rattle.step_trees.proofs.Turns.{after_as}
 use Rattle.step_trees.proofs.turn.statement.Goals as goal
 

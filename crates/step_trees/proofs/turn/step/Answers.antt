@@ -1,7 +1,7 @@
 use Rattle.std.proofs.Common.{◌≡◌, ap, ◌∙◌, sym, refl, subst}
 use Rattle.std.proofs.lemmas.Result.{IfOk-weaker}
-use Rattle.std.specs.Prelude.{Bool, true, false}
-use Rattle.types.specs.Code.{End, Then}
+use Rattle.std.specs.Prelude.{true, false}
+use Rattle.types.specs.Code.{Then}
 use Rattle.types.specs.Translation.{program, code}
 use Rattle.types.specs.Trees.{is_done}
 use Rattle.serial_run.specs.Lists.{contents_of}

@@ -1,8 +1,8 @@
-use Rattle.std.proofs.Common.{◌≡◌, ap, ◌∙◌, sym, refl, Ok}
+use Rattle.std.proofs.Common.{ap, ◌∙◌, sym, refl, Ok}
 use Rattle.std.specs.Prelude.{Bool, if◌then◌else◌}
 use Rattle.types.specs.Code.{Code, Codes, While, End, Then}
 use Rattle.types.specs.Contents.{Contents}
-use Rattle.types.specs.Translation.{codes, truth, program, code}
+use Rattle.types.specs.Translation.{codes, truth, program}
 use Rattle.types.specs.Trees.{Leaf, Tree, before_rest, single}
 use Rattle.types.specs.TreeSteps.{on_value, tree_after, store_after}
 use Rattle.types.specs.Value.{Valued}
