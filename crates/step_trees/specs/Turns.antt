@@ -54,7 +54,8 @@ pub record Comes (t : Tree) (a : Contents) (turn : Turn) (r : Becomes × Store) 
 abbrev pub After : Turn → (label : ℕ) → Code → Becomes × Store → Type 0
 After turn l s =
     let p = program turn.plan.program.now in
-    Comes (tree_after p l s (leaf_in turn) (store_in turn)) (store_after p l s (leaf_in turn) (store_in turn)) turn
+    Comes (tree_after p l s (leaf_in turn) (store_in turn))
+    (store_after p l s (leaf_in turn) (store_in turn)) turn
 
 -- the flow is on, steps aren't counted, and all windows lie in their arrays
 pub record IsReady (turn : Turn) : Type 0 where
