@@ -2,7 +2,7 @@
 use Rattle.std.proofs.Common.{◌⊎◌, inl, inr, ℕ, List, sym, subst}
 use Rattle.sections.specs.Place.{Place, In}
 use Rattle.sections.specs.Member.{Member}
-use Rattle.types.specs.Code.{Code, Codes, End, Then, Program}
+use Rattle.types.specs.Code.{Code, Codes, Then, Program}
 use Rattle.types.specs.Value.{Environment}
 use Rattle.types.specs.Trees.{append}
 use Rattle.effects.specs.Accesses.{Access}

@@ -10,7 +10,7 @@ use Rattle.types.specs.Contents.{Contents, read}
 use Rattle.types.specs.Value.{Environment, Valued, then_try, number, numbers, truth}
 use Rattle.types.specs.Run.{Flow, On, Faulted, Stopped, Fault, State, primitive, procedure_of, entry, with_sides}
 use Rattle.types.specs.Outcome.{whole_arrays}
-use Rattle.types.specs.Trees.{Caller, Leaf, Tree, Single, AndThen, Beside, append, single, done, failed, task_environment, owner_environment, outermost, returned_by, return_to, before_rest, all_done, faults_of, lines_of, rightmost, unless_faulted, closed, and_then, called, child, parent, inside}
+use Rattle.types.specs.Trees.{Caller, Leaf, Tree, Single, AndThen, Beside, append, single, done, failed, task_environment, owner_environment, outermost, returned_by, return_to, before_rest, all_done, faults_of, lines_of, rightmost, unless_faulted, closed, and_then, called, child, parent, inside, held_back}
 use Rattle.types.specs.TreeSteps.{on_value, as_state, by_flow, tree_after, first_leaf, first_tree}
 use Rattle.types.specs.TreeRuns.{Runs, here, next as go_next, Reachable}
 use Rattle.effects.specs.Effects.{Inner, AllOf, PendingOf, accesses}
@@ -463,7 +463,7 @@ module _ (p : Program) where
           }
 
       finish_kept : (keep scope : List ℕ) (l : ℕ) (b : Codes) (k : Leaf) → Before l (Finish b) keep scope k
-          → After l (Finish b) keep k (and_then (single (inside b k)) k)
+          → After l (Finish b) keep k (and_then (single (inside b k)) (held_back k))
       finish_kept keep scope l b k st =
           let s = Finish b in
           let env = k.environment in
@@ -475,7 +475,7 @@ module _ (p : Program) where
           (both_within
           (within_trans body.within (both_within (within_trans (among env (λ x h. AllOf.finish h)) (within_trans (statement_all p env l s k.rest) (first_within _ _))) (nothing_within _)))
           m.within)
-          (then_kept keep m.scope (single (inside b k)) k m.stack body.good body.same)
+          (then_kept keep m.scope (single (inside b k)) (held_back k) m.stack body.good body.same)
 
       after_kept : (keep scope : List ℕ) (l : ℕ) (s : Code) (k : Leaf) (a : Contents) → Before l s keep scope k
           → After l s keep k (tree_after p l s k a)

@@ -8,7 +8,7 @@ use Rattle.types.specs.Code.{Number, Truth, Code, Do, If, While, Split, Call, As
 use Rattle.types.specs.Contents.{Contents, read}
 use Rattle.types.specs.Value.{Environment, Valued, then_try, number, numbers, truth}
 use Rattle.types.specs.Run.{Flow, On, Faulted, Stopped, Fault, primitive, procedure_of, entry, with_sides}
-use Rattle.types.specs.Trees.{Caller, Leaf, Tree, Single, AndThen, Beside, append, single, done, returned_by, return_to, before_rest, all_done, faults_of, unless_faulted, closed, and_then, called, child, parent, inside}
+use Rattle.types.specs.Trees.{Caller, Leaf, Tree, Single, AndThen, Beside, append, single, done, returned_by, return_to, before_rest, all_done, faults_of, unless_faulted, closed, and_then, called, child, parent, inside, held_back}
 use Rattle.types.specs.TreeSteps.{on_value, as_state, by_flow, tree_after, first_leaf, first_tree, leaf_at}
 use Rattle.types.specs.TreeRuns.{Runs, here as no_step, next, Reachable}
 use Rattle.types.specs.TreePlaces.{StandsBefore}
@@ -234,14 +234,14 @@ module _ (p : Program) where
       }
 
   finish_known : (l : ℕ) (b : Codes) (k : Leaf) → KnownStack (Then l (Finish b) k.rest) k.callers
-      → KeptKnown (left_in (Then l (Finish b) k.rest) k.callers) (and_then (single (inside b k)) k)
+      → KeptKnown (left_in (Then l (Finish b) k.rest) k.callers) (and_then (single (inside b k)) (held_back k))
   finish_known l b k st =
       let body = one_known (inside b k) (λ x y h. known_of (Then l (Finish b) k.rest) k.callers st x y (Together.inside Block.finish h)) in
       kept_part
       (λ x. from_either
       (λ h. from_either (λ h. inl (All.here (AllOf.finish h))) (λ h. absurd h) (body.part x h))
       (rest_in l (Finish b) k st x))
-      (then_known (single (inside b k)) k (rest_stack l (Finish b) k st) body.known)
+      (then_known (single (inside b k)) (held_back k) (rest_stack l (Finish b) k st) body.known)
 
   after_known : (l : ℕ) (s : Code) (k : Leaf) (a : Contents) → (st : KnownStack (Then l s k.rest) k.callers)
       → KeptKnown (left_in (Then l s k.rest) k.callers) (tree_after p l s k a)

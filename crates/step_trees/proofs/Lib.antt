@@ -14,6 +14,8 @@ pub mod PlacedStatements
 pub mod PlacesRead
 pub mod PlacesTouched
 pub mod ReachedTrees
+pub mod Rests
 pub mod Scopes
 pub mod Statements
 pub mod Steps
+pub mod Turns

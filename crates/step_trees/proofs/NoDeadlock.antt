@@ -5,7 +5,7 @@ use Rattle.types.specs.Code.{Code, Do, If, While, Split, Call, Async, Finish, Co
 use Rattle.types.specs.Contents.{Contents}
 use Rattle.types.specs.Value.{Valued}
 use Rattle.types.specs.Run.{Flow, On, Faulted, Stopped, primitive}
-use Rattle.types.specs.Trees.{Leaf, Tree, Single, AndThen, Beside, single, is_done, all_done, ready, and_then, closed, inside}
+use Rattle.types.specs.Trees.{Leaf, Tree, Single, AndThen, Beside, single, is_done, all_done, ready, and_then, closed, inside, held_back}
 use Rattle.types.specs.TreeSteps.{on_value, by_flow, as_state, tree_after, first_tree}
 use Rattle.types.specs.TreeRuns.{Runs, here, next, Reachable}
 use Rattle.step_trees.proofs.Steps.{Step, step_from}
@@ -55,7 +55,7 @@ module _ (p : Program) where
   awake_after l (Split s e x y b) k a = awake_value l k _ _ (λ v. one_is)
   awake_after l (Call f es ss) k a = awake_value l k _ _ (λ v. one_is)
   awake_after l (Async b) k a = both_are one_is one_is
-  awake_after l (Finish b) k a = awake_then (single (inside b k)) k one_is
+  awake_after l (Finish b) k a = awake_then (single (inside b k)) (held_back k) one_is
 
   pub awake_step : {n : ℕ} {k : Leaf} {t u : Tree} {a b : Contents} → Step p n k t a u b → Awake t → Awake u
   awake_step (Step.here {k = k} {l = l} {s = s} {rest = rest} {a = a} r e f) w = subst Awake (sym e) (awake_after l s (record k { rest = rest }) a)

@@ -14,7 +14,7 @@ use Rattle.types.specs.Outcome.{Budget, IsLarger, Outcome, Ended, start, outcome
 use Rattle.types.proofs.Adds.{only_adds}
 use Rattle.types.proofs.Larger.{one_is_thrifty}
 use Rattle.types.proofs.Solutions.{solves}
-use Rattle.types.specs.Trees.{Caller, Leaf, Tree, Single, Beside, append, single, is_done, done, failed, owner_environment, outermost, returned, returned_by, return_to, before_rest, all_done, faults_of, lines_of, rightmost, unless_faulted, and_then, called, child, parent, inside}
+use Rattle.types.specs.Trees.{Caller, Leaf, Tree, Single, Beside, append, single, is_done, done, failed, owner_environment, outermost, returned, returned_by, return_to, before_rest, all_done, faults_of, lines_of, rightmost, unless_faulted, and_then, called, child, parent, inside, held_back}
 use Rattle.types.specs.TreeSteps.{on_value, as_state, with_state, tree_after, store_after, first_leaf, first_tree}
 use Rattle.types.specs.TreeRuns.{tree_ending}
 use Rattle.step_trees.proofs.Steps.{Step}
@@ -379,12 +379,12 @@ module _ (p : Program) (fresh : ℕ) where
         by zero le = absurd (omega arith)
         by (suc m) le = subst Comes (sym (so m (omega arith))) comes
 
-    finish_comes : (b : Codes) (a : Contents) → LeftRun p n (and_then (single (inside b k)) k) a t z
+    finish_comes : (b : Codes) (a : Contents) → LeftRun p n (and_then (single (inside b k)) (held_back k)) a t z
         → Comes (doing nest l (Finish b) (state_of k a steps))
     finish_comes b a r = subst Comes (sym (finish_is nest l b (state_of k a steps) faultless ∙ ap left_by body.meaning)) (by (faults_of f.tree) refl f.second)
       where
-        f : Finished p n (single (inside b k)) k a t z
-        f = finished p n (single (inside b k)) k (all_done (single (inside b k))) refl a t z r d
+        f : Finished p n (single (inside b k)) (held_back k) a t z
+        f = finished p n (single (inside b k)) (held_back k) (all_done (single (inside b k))) refl a t z r d
 
         first_less : f.first_count ≤ n
         first_less = let c = f.count in omega arith

@@ -1,2 +1,4 @@
 pub mod Laws
 pub mod Still
+pub mod Translation
+pub mod Turns

@@ -3,3 +3,6 @@
 #![tactic(auto)]
 
 pub mod laws;
+pub mod leaf;
+pub mod rest;
+pub mod turn;

@@ -11,7 +11,7 @@ use Rattle.types.specs.Run.{Flow, On, Faulted, Stopped, State, entry, with_sides
 use Rattle.types.specs.Run.{primitive}
 use Rattle.types.specs.Outcome.{whole_arrays}
 use Rattle.types.specs.Trees.{Leaf, Tree, Single, AndThen, Beside, single, done, failed}
-use Rattle.types.specs.Trees.{before_rest, called, child, parent, inside, and_then, ready}
+use Rattle.types.specs.Trees.{before_rest, called, child, parent, inside, held_back, and_then, ready}
 
 -- goes on with a value, or is done with its fault
 abbrev pub on_value : {A : Type 0} → (label : ℕ) → Leaf → Valued A → (A → Tree) → Tree
@@ -67,7 +67,7 @@ module _ (p : Program) where
       on_value l k (numbers k.environment (read a) es) (λ vs.
       single (called (procedure_of p f) (entry vs (map k.environment.windows ss)) k))
   tree_after l (Async b) k a = Beside (single (child b k)) (single (parent k))
-  tree_after l (Finish b) k a = and_then (single (inside b k)) k
+  tree_after l (Finish b) k a = and_then (single (inside b k)) (held_back k)
 
   -- and the store
   abbrev pub store_after : (label : ℕ) → Code → Leaf → Contents → Contents

@@ -110,6 +110,10 @@ parent k = record k { spawned = k.spawned + 1; lines = []; faults = [] }
 abbrev pub inside : Codes → Leaf → Leaf
 inside b k = record k { rest = b; callers = [] }
 
+-- and what waits for its end has told nothing
+abbrev pub held_back : Leaf → Leaf
+held_back k = record k { lines = []; faults = [] }
+
 -- Of a tree
 
 -- whether all leaves are done

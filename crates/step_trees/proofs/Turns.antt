@@ -1,0 +1,144 @@
+-- What a turn of a leaf comes to.
+use Rattle.std.proofs.Common.{◌≡◌, ℕ, ◌+◌, List, [], ◌∷◌, ◌++◌, refl, sym, ap, ◌∙◌, subst, Result, Ok, Err}
+use Rattle.std.specs.Prelude.{IfOk, ℤ}
+use Rattle.std.specs.declared.alloc.AllocError.{AllocError}
+use Rattle.types.specs.Code.{Code, Codes, Primitive, Procedure, Program, Do, End}
+use Rattle.types.specs.Contents.{Contents, read}
+use Rattle.types.specs.Run.{Flow, On, Faulted, Stopped, Fault, State, primitive}
+use Rattle.types.specs.Trees.{Caller, Leaf, Tree, Single, Beside, and_then, single, done, called, child, parent, inside, held_back, returned}
+use Rattle.types.specs.TreeSteps.{as_state, by_flow, with_state, tree_after, store_after}
+use Rattle.types.specs.Value.{Environment}
+use Rattle.serial_run.specs.declared.store.Store.{Store}
+use Rattle.serial_run.specs.declared.thread.Thread.{Thread}
+use Rattle.serial_run.specs.Lists.{lengths_of}
+use Rattle.serial_run.specs.Standing.{flow, state_of}
+use Rattle.step_trees.specs.declared.turn.Becomes.{Becomes}
+use Rattle.step_trees.specs.declared.turn.Turn.{Turn}
+use Rattle.step_trees.specs.Turns.{leaf_at, leaf_in, store_in, Comes, After, IsReady}
+use Rattle.step_trees.proofs.Deeds.{Deed, Nothing, Assigns, Writes, Prints, Fails, deed, did, primitive-did}
+use Rattle.step_trees.proofs.Rests.{returned-up}
+
+-- what comes of one turn comes of another with a store of the same lengths, by equal trees and stores
+pub comes_as : (turn new : Turn) {t u : Tree} {a b : Contents} (r : Result (Becomes × Store) AllocError)
+    → t ≡ u → a ≡ b → lengths_of new.thread.store ≡ lengths_of turn.thread.store
+    → IfOk r (Comes t a new) → IfOk r (Comes u b turn)
+comes_as turn new (Ok x) e f g c = record { tree = c.tree ∙ e; store = c.store ∙ f; lengths = c.lengths ∙ g }
+comes_as turn new (Err x) e f g c = c
+
+-- the state of the thread is that of the leaf
+pub state_in : (turn : Turn) → IsReady turn → state_of turn.thread ≡ as_state (leaf_in turn) (store_in turn)
+state_in turn ready =
+    ap (λ (f : Flow). let st : State (Unit {0}) = record (state_of turn.thread) { flow = f } in st) (ap flow ready.on)
+    ∙ ap (λ (n : ℕ). let st : State (Unit {0}) = record (state_of turn.thread) { flow = On; steps = n } in st) ready.uncounted
+
+-- a statement of one step keeps the task's name
+did_path : (l : ℕ) (d : Deed) (st : State (Unit {0})) → (did l d st).path ≡ st.path
+did_path l Nothing st = refl
+did_path l (Assigns x v) st = refl
+did_path l (Writes q v) st = refl
+did_path l (Prints vs) st = refl
+did_path l (Fails f) st = refl
+
+did_spawned : (l : ℕ) (d : Deed) (st : State (Unit {0})) → (did l d st).spawned ≡ st.spawned
+did_spawned l Nothing st = refl
+did_spawned l (Assigns x v) st = refl
+did_spawned l (Writes q v) st = refl
+did_spawned l (Prints vs) st = refl
+did_spawned l (Fails f) st = refl
+
+module _ (p : Program) (l : ℕ) (s : Primitive) (st : State (Unit {0})) where
+  primitive_path : (primitive p l s st).path ≡ st.path
+  primitive_path =
+      ap (λ (x : State (Unit {0})). x.path) (primitive-did p l s st) ∙ did_path l (deed p st.environment (read st.store) s) st
+
+  primitive_spawned : (primitive p l s st).spawned ≡ st.spawned
+  primitive_spawned =
+      ap (λ (x : State (Unit {0})). x.spawned) (primitive-did p l s st) ∙ did_spawned l (deed p st.environment (read st.store) s) st
+
+-- the leaf at a state with its name
+abbrev told_at : Leaf → State (Unit {0}) → Leaf
+told_at k st = record k { environment = st.environment; lines = st.lines; faults = st.faults }
+
+same_leaf : (k : Leaf) (st : State (Unit {0})) → st.path ≡ k.path → st.spawned ≡ k.spawned
+    → leaf_at st k.rest k.callers ≡ told_at k st
+same_leaf k st e f =
+    ap (λ (q : List ℕ). let j : Leaf = record (told_at k st) { path = q; spawned = st.spawned } in j) e
+    ∙ ap (λ (n : ℕ). let j : Leaf = record (told_at k st) { spawned = n } in j) f
+
+-- behind a statement of one step the leaf goes on, or is done
+module _ (p : Program) (l : ℕ) (s : Primitive) (turn : Turn) (ready : IsReady turn) (new : Thread Store)
+    (is : state_of new ≡ primitive p l s (state_of turn.thread)) where
+  abbrev here : Leaf
+  here = leaf_in turn
+
+  comes_to : state_of new ≡ primitive p l s (as_state here (store_in turn))
+  comes_to = is ∙ ap (primitive p l s) (state_in turn ready)
+
+  stays : leaf_at (state_of new) here.rest here.callers ≡ told_at here (state_of new)
+  stays =
+      same_leaf here (state_of new)
+      (ap (λ (x : State (Unit {0})). x.path) is ∙ primitive_path p l s (state_of turn.thread))
+      (ap (λ (x : State (Unit {0})). x.spawned) is ∙ primitive_spawned p l s (state_of turn.thread))
+
+  pub on-tree : (state_of new).flow ≡ On
+      → single (leaf_at (state_of new) here.rest here.callers) ≡ tree_after p l (Do s) here (store_in turn)
+  on-tree on =
+      ap single stays ∙ ap (λ f. by_flow f (told_at here (state_of new))) (sym on) ∙ ap (with_state here) comes_to
+
+  pub faulted-tree : (state_of new).flow ≡ Faulted
+      → Single (done (leaf_at (state_of new) here.rest here.callers)) ≡ tree_after p l (Do s) here (store_in turn)
+  faulted-tree off =
+      ap (λ k. Single (done k)) stays ∙ ap (λ f. by_flow f (told_at here (state_of new))) (sym off) ∙ ap (with_state here) comes_to
+
+  pub stopped-tree : (state_of new).flow ≡ Stopped
+      → Single (done (leaf_at (state_of new) here.rest here.callers)) ≡ tree_after p l (Do s) here (store_in turn)
+  stopped-tree off =
+      ap (λ k. Single (done k)) stays ∙ ap (λ f. by_flow f (told_at here (state_of new))) (sym off) ∙ ap (with_state here) comes_to
+
+  pub store-after : (state_of new).store ≡ store_after p l (Do s) here (store_in turn)
+  store-after = ap (λ (x : State (Unit {0})). x.store) comes_to
+
+-- a call of a body without statements
+pub call_of_nothing : (f : Procedure) (env : Environment) (k : Leaf) → f.body ≡ End → single k ≡ single (called f env k)
+call_of_nothing f env k none =
+    ap Single (sym (returned-up (called f env k) (record { environment = k.environment; rest = k.rest }) k.callers none refl))
+
+-- an async's body beside its parent, of what stands in the leaf's place
+pub spawned_tree : (b : Codes) (k j : Leaf) (env : Environment) (rest : Codes) (fs : List Caller) (path : List ℕ) (n : ℕ)
+    (ls : List (List ℤ)) (gs : List Fault) (x y : Leaf)
+    → j ≡ k → env ≡ k.environment → rest ≡ b → fs ≡ [] → path ≡ k.path ++ n ∷ [] → n ≡ k.spawned + 1 → ls ≡ [] → gs ≡ []
+    → x ≡ returned (record j { environment = env; rest = rest; callers = fs; path = path; spawned = 0 })
+    → y ≡ returned (record j { spawned = n; lines = ls; faults = gs })
+    → Beside (Single x) (Single y) ≡ Beside (single (child b k)) (single (parent k))
+spawned_tree b k j env rest fs path n ls gs x y same env_is rest_is none path_is n_is ls_none gs_none x_is y_is =
+    let path_too : path ≡ k.path ++ (k.spawned + 1) ∷ [] = path_is ∙ ap (λ (m : ℕ). k.path ++ m ∷ []) n_is in
+    let child_is : returned (record j { environment = env; rest = rest; callers = fs; path = path; spawned = 0 }) ≡ returned (child b k) = cc in
+    let parent_is : returned (record j { spawned = n; lines = ls; faults = gs }) ≡ returned (parent k) = cc in
+    ap (λ (i : Leaf). Beside (Single i) (Single y)) (x_is ∙ child_is)
+    ∙ ap (λ (i : Leaf). Beside (single (child b k)) (Single i)) (y_is ∙ parent_is)
+
+-- a finish's body, and what waits for its end
+pub entered_tree : (b : Codes) (k j : Leaf) (env : Environment) (rest : Codes) (fs : List Caller) (path : List ℕ)
+    (ls : List (List ℤ)) (gs : List Fault) (x : Leaf)
+    → j ≡ k → env ≡ k.environment → rest ≡ b → fs ≡ [] → path ≡ k.path → ls ≡ [] → gs ≡ []
+    → x ≡ returned (record j { environment = env; rest = rest; callers = fs; path = path })
+    → and_then (Single x) (record j { lines = ls; faults = gs }) ≡ and_then (single (inside b k)) (held_back k)
+entered_tree b k j env rest fs path ls gs x same env_is rest_is none path_is ls_none gs_none x_is =
+    let held : Leaf = record j { lines = ls; faults = gs } in
+    let body_is : returned (record j { environment = env; rest = rest; callers = fs; path = path }) ≡ returned (inside b k) = cc in
+    let behind_is : held ≡ held_back k = cc in
+    ap (λ (i : Leaf). and_then (Single i) held) (x_is ∙ body_is) ∙ ap (and_then (single (inside b k))) behind_is
+
+-- the same statement, spelled in another way
+pub after_as : (turn : Turn) (l : ℕ) {s d : Code} (r : Result (Becomes × Store) AllocError) → s ≡ d
+    → IfOk r (After turn l s) → IfOk r (After turn l d)
+after_as turn l r is h = subst (λ (s : Code). IfOk r (After turn l s)) is h
+
+-- a leaf in whose place a procedure begins
+pub called_as : (f : Procedure) (env : Environment) (k : Leaf) (e : Environment) (rest : Codes) (fs : List Caller)
+    → e ≡ env → rest ≡ f.body → fs ≡ record { environment = k.environment; rest = k.rest } ∷ k.callers
+    → single (record k { environment = e; rest = rest; callers = fs }) ≡ single (called f env k)
+called_as f env k e rest fs env_is rest_is callers_is =
+    ap (λ (x : Environment). let j : Leaf = record k { environment = x; rest = rest; callers = fs } in single j) env_is
+    ∙ ap (λ (c : Codes). let j : Leaf = record k { environment = env; rest = c; callers = fs } in single j) rest_is
+    ∙ ap (λ (gs : List Caller). let j : Leaf = record k { environment = env; rest = f.body; callers = gs } in single j) callers_is

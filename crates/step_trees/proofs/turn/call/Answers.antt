@@ -1,0 +1,76 @@
+use Rattle.std.proofs.Common.{◌≡◌, ◌≤◌, ap, ◌∙◌, sym, refl, map, rules, length, List, ◌∷◌}
+use Rattle.std.proofs.lemmas.Option.{slice_get_read, slice_get_past}
+use Rattle.std.specs.Prelude.{ℤ, slice_index_or}
+use Rattle.sections.specs.Translation.{section}
+use Rattle.types.specs.declared.value.Environment.{Environment as rEnvironment}
+use Rattle.types.specs.Code.{End}
+use Rattle.types.specs.Run.{entry, no_procedure, procedure_of}
+use Rattle.types.specs.Translation.{program, codes, environment, procedure}
+use Rattle.types.specs.Trees.{Caller, Tree, called, single}
+use Rattle.types.specs.TreeSteps.{on_value}
+use Rattle.types.specs.Value.{Valued}
+use Rattle.serial_run.specs.Primitive.{listed}
+use Rattle.serial_run.proofs.Steps.{body_at, no_body_at}
+use Rattle.step_trees.specs.declared.leaf.Caller.{Caller as rCaller}
+use Rattle.step_trees.specs.Translation.{blocks, callers}
+use Rattle.step_trees.specs.Turns.{leaf_in}
+use Rattle.step_trees.proofs.Rests.{callers-push}
+use Rattle.step_trees.proofs.Turns.{call_of_nothing, called_as, comes_as}
+use Rattle.step_trees.proofs.turn.call.Goals as goal
+
+pub returns-in-Err : goal.returns-in-Err
+returns-in-Err c =
+    let p = program c.args.turn.plan.program.now in let k = leaf_in c.args.turn in
+    let f = c.args.procedure.number in let ss = map section c.args.sections.now in
+    let go : List ℤ → Tree = λ vs. single (called (procedure_of p f) (entry vs (map k.environment.windows ss)) k) in
+    let on : Valued (List ℤ) → Tree = λ r. on_value c.args.label k r go in
+    comes_as c.args.turn c.args.turn c.failed.result (ap on (ap listed (sym c.in-Err.is) ∙ c.in_ok-kind.ensures)) refl refl c.failed.ensures
+
+pub returns-in-None : goal.returns-in-None
+returns-in-None c =
+    let p = program c.args.turn.plan.program.now in let k = leaf_in c.args.turn in
+    let f = c.args.procedure.number in let ss = map section c.args.sections.now in
+    let go : List ℤ → Tree = λ vs. single (called (procedure_of p f) (entry vs (map k.environment.windows ss)) k) in
+    let on : Valued (List ℤ) → Tree = λ r. on_value c.args.label k r go in
+    let past : length c.deref.result.now ≤ c.args.procedure.number = search rules in
+    let none = slice_get_past c.deref.result.now c.args.procedure.number past in
+    let body : (procedure_of p f).body ≡ End
+    = sym (no_body_at c.deref.result.now f none
+    ∙ ap (λ ps. (slice_index_or (map procedure ps) f no_procedure).body) c.deref.ensures.value) in
+    record {
+      tree =
+          c.going.ensures.tree
+          ∙ call_of_nothing (procedure_of p f) (entry c.in-Ok.values.items (map k.environment.windows ss)) k body
+          ∙ ap on (ap listed (sym c.in-Ok.is) ∙ c.in_ok-kind.ensures);
+      store = c.going.ensures.store;
+      lengths = c.going.ensures.lengths;
+    }
+
+pub returns-in_ok-push-in-Some : goal.returns-in_ok-push-in-Some
+returns-in_ok-push-in-Some c =
+    let t = c.args.turn in
+    let p = program t.plan.program.now in let k = leaf_in t in
+    let f = c.args.procedure.number in let ss = map section c.args.sections.now in
+    let go : List ℤ → Tree = λ vs. single (called (procedure_of p f) (entry vs (map k.environment.windows ss)) k) in
+    let on : Valued (List ℤ) → Tree = λ r. on_value c.args.label k r go in
+    let procedures = c.deref.result.now in
+    let env_is = ap environment c.replace-environment.ensures.after ∙ c.in_ok-entry-in-Some.ensures in
+    let rest_is =
+    c.in_ok-body-in-Some.ensures
+    ∙ ap codes c.deref-in-Some.ensures.value
+    ∙ body_at procedures f c.in-Some.procedure.now
+    (slice_get_read procedures _ f c.in-Some.procedure.now refl c.in-Some.ensures.lookup.3.0 c.in-Some.ensures.lookup.1)
+    ∙ ap (λ ps. (slice_index_or (map procedure ps) f no_procedure).body) c.deref.ensures.value in
+    let frame : rCaller = record { environment = c.replace-environment.result; rest = t.rest } in
+    let frame_of : rEnvironment → Caller = λ e. let x : Caller = record { environment = environment e; rest = blocks t.rest.items } in x in
+    let callers_is =
+    ap callers c.in_ok-push-in-Some.ensures.items ∙ callers-push t.callers.items frame
+    ∙ ap (λ (x : Caller). x ∷ callers t.callers.items) (ap frame_of c.replace-environment.ensures.value) in
+    record {
+      tree =
+          c.going-in-Some.ensures.tree
+          ∙ called_as (procedure_of p f) (entry c.in-Ok.values.items (map k.environment.windows ss)) k _ _ _ env_is rest_is callers_is
+          ∙ ap on (ap listed (sym c.in-Ok.is) ∙ c.in_ok-kind.ensures);
+      store = c.going-in-Some.ensures.store;
+      lengths = c.going-in-Some.ensures.lengths;
+    }
