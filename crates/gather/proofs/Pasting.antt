@@ -1,14 +1,14 @@
 -- What comes back from a task goes into its hole.
 use Rattle.std.proofs.Common.{◌≡◌, ℕ, zero, suc, ◌+◌, ◌≤◌, ◌<◌, List, [], ◌∷◌, ◌++◌, map, Option, Some, None, refl, sym, ap, ◌∙◌, arith, subst, ◌⊎◌, inl, inr}
 use Rattle.std.proofs.Math.Bool.{or-false, or-true}
-use Rattle.std.proofs.lemmas.Bool.{or_parts}
+use Rattle.std.proofs.lemmas.Bool.{or_parts, or_cases}
 use Rattle.std.specs.Prelude.{ℤ, Bool, true, false, ◌||◌, is_some, option_map, if◌then◌else◌, Result, Ok, Err, IfErr}
 use Rattle.std.specs.Result.{IsErr, IsErrAnd}
 use Rattle.sections.specs.Place.{Place, Window}
 use Rattle.sections.specs.Translation.{window}
 use Rattle.types.specs.Translation.{fault}
 use Rattle.types.specs.declared.path.Path.{Path}
-use Rattle.effects.proofs.Members.{either_true, false_true}
+use Rattle.effects.proofs.Members.{false_true}
 use Rattle.holdings.specs.Held.{Map, Held, Owned, Shared, first_of, over, as_owned, owned, owned_number, number_of, AreApart}
 use Rattle.holdings.specs.Holdings.{held}
 use Rattle.holdings.specs.declared.holdings.Holdings.{Holdings}
@@ -98,7 +98,7 @@ module _ (before child after : Holdings) (ws : List Window)
   free_unless_met set [] h q e = absurd (false_true e)
   free_unless_met set (v ∷ vs) h q e =
       let parts = or_parts (has_one set v.array v.at v.length) (meets set vs) h in
-      elim (either_true (covered v q) (within vs q) e) [
+      elim (or_cases (covered v q) (within vs q) e) [
         | inl c ↦ (let i = covered_in v q c in
             ap (λ a. set (record { array = a; index = q.index })) i.array
             ∙ one_free set v.array v.at v.length parts.0 q.index i.low i.high)

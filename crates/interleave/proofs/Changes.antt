@@ -1,9 +1,9 @@
 -- What each legal event changes.
 use Rattle.std.proofs.Common.{◌≡◌, ℕ, ◌+◌, ◌-◌, ◌/◌, ◌≤◌, List, [], ◌∷◌, ◌++◌, Option, Some, None, refl, inl, inr}
-use Rattle.std.proofs.lemmas.Bool.{eqb-true, leb-true, eq-eqb}
+use Rattle.std.proofs.lemmas.Bool.{eqb-true, leb-true, eq-eqb, and_parts}
 use Rattle.std.specs.Prelude.{Bool, true, false, ◌⊎◌, ◌&&◌, not, nat_eq}
 use Rattle.std.proofs.lemmas.Option.{none-some, same_Some}
-use Rattle.effects.proofs.Members.{both_true, false_true}
+use Rattle.effects.proofs.Members.{false_true}
 use Rattle.own_run.specs.Results.{TaskResult, and_then}
 use Rattle.own_run.specs.OwnRun.{Start, Action, Step, Spawn, EnterFinish, EndFinish, EndTask}
 use Rattle.own_run.proofs.SettledResults.{Gives, gives}
@@ -222,7 +222,7 @@ module _ (w0 : ℕ) (actions : Start → List (List TaskResult) → List Action)
         start = refl;
         receipts = refl;
         way = inl refl;
-        was_awake = queue_awake g.one.place w (both_true _ _ h.test).0;
+        was_awake = queue_awake g.one.place w (and_parts _ _ h.test).0;
         awake = refl;
         now = same_Some _ _ h.gives;
       }
@@ -243,7 +243,7 @@ module _ (w0 : ℕ) (actions : Start → List (List TaskResult) → List Action)
         start = refl;
         receipts = refl;
         way = inl refl;
-        was_awake = queue_awake g.one.place f (both_true _ _ h.test).0;
+        was_awake = queue_awake g.one.place f (and_parts _ _ h.test).0;
         awake = refl;
         now = same_Some _ _ h.gives;
       }
@@ -291,7 +291,7 @@ module _ (w0 : ℕ) (actions : Start → List (List TaskResult) → List Action)
       by_action (Spawn c) g =
           let r = gives (scope k.inner.scope a.scopes) _ b g in
           let t = holds _ _ b r.next in
-          record { at = is_at path a b _ _ h k; of = is_in a k.inner r.one r.first; one = eqb-true k.inner.weight 1 (both_true _ _ t.test).0; now = same_Some _ _ t.gives }
+          record { at = is_at path a b _ _ h k; of = is_in a k.inner r.one r.first; one = eqb-true k.inner.weight 1 (and_parts _ _ t.test).0; now = same_Some _ _ t.gives }
       by_action Step g = absurd (none-some _ g)
       by_action EnterFinish g = absurd (none-some _ g)
       by_action EndFinish g = absurd (none-some _ g)
@@ -394,7 +394,7 @@ module _ (w0 : ℕ) (actions : Start → List (List TaskResult) → List Action)
   passes id a b e =
       let g = gives (scope id a.scopes) _ b e in
       let t = holds _ _ b g.next in
-      record { book = g.one; found = g.first; same = scope_id id a.scopes g.one g.first; all_back = eqb-true g.one.issued g.one.returned (both_true _ _ t.test).1; now = same_Some _ _ t.gives }
+      record { book = g.one; found = g.first; same = scope_id id a.scopes g.one g.first; all_back = eqb-true g.one.issued g.one.returned (and_parts _ _ t.test).1; now = same_Some _ _ t.gives }
 
   resumes : (w : ℕ) (path : List ℕ) (a b : World) → nx (Resume w path) a ≡ Some b → IsResume path a b
   resumes w path a b e = by_stakes g.one.stakes refl g.next
@@ -408,7 +408,7 @@ module _ (w0 : ℕ) (actions : Start → List (List TaskResult) → List Action)
       by_stakes (x ∷ y ∷ more) s h =
           let r = gives (scope x.scope a.scopes) _ b h in
           let t = holds _ _ b r.next in
-          let k = both_true _ _ t.test in
+          let k = and_parts _ _ t.test in
           record {
             was = g.one;
             worker = w;
@@ -420,7 +420,7 @@ module _ (w0 : ℕ) (actions : Start → List (List TaskResult) → List Action)
             parked = k.0;
             stakes = s;
             of = is_in a x r.one r.first;
-            passed = (both_true _ _ k.1).0;
+            passed = (and_parts _ _ k.1).0;
             now = same_Some _ _ t.gives;
           }
 

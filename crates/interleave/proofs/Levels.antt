@@ -4,12 +4,13 @@ use Rattle.std.proofs.Common.{arith, append_assoc}
 use Rattle.std.proofs.lemmas.List.{append-nil}
 use Rattle.std.specs.Prelude.{Bool, true, false, take, slice_get, if◌then◌else◌}
 use Rattle.std.proofs.lemmas.Option.{none-some, same_Some}
+use Rattle.std.proofs.lemmas.Bool.{and_parts}
 use Rattle.types.specs.Code.{Codes, Program}
 use Rattle.types.specs.Run.{State, Rules, Work, Block, run}
 use Rattle.types.specs.Laws.{IsKept}
 use Rattle.types.proofs.Keeps.{run_keeps}
 use Rattle.effects.specs.Needs.{Needs}
-use Rattle.effects.proofs.Members.{both_true, false_true}
+use Rattle.effects.proofs.Members.{false_true}
 use Rattle.own_run.specs.Apart.{is_stopped}
 use Rattle.own_run.specs.Results.{Settled}
 use Rattle.own_run.specs.OwnRun.{Start, Action, Step, Spawn, EnterFinish, EndFinish, EndTask, Own, at_first, notes}
@@ -120,7 +121,7 @@ module _ (needs : Codes → Needs) (nest : ℕ) (close : State Own → Option Se
 
       by_waiting : (b : Bool) → is_waiting out ≡ b → Rises st (if b then out else leave_with st (record out { extra = notes EndFinish out.extra }) (close out))
       by_waiting true e =
-          let w = (both_true (is_stopped out.flow) out.extra.waits e).1 in
+          let w = (and_parts (is_stopped out.flow) out.extra.waits e).1 in
           record {
             done = EnterFinish ∷ h.done;
             more = entered;

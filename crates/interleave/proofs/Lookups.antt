@@ -1,9 +1,9 @@
 -- Tasks and scopes by their names, and what changes when one is changed.
 use Rattle.std.proofs.Common.{◌≡◌, ℕ, ◌+◌, ◌≤◌, List, [], ◌∷◌, Option, Some, None, refl, sym, ap, ◌∙◌, subst, arith}
-use Rattle.std.proofs.lemmas.Bool.{eqb-true, eqb-false}
+use Rattle.std.proofs.lemmas.Bool.{eqb-true, eqb-false, and_parts}
 use Rattle.std.specs.Prelude.{Bool, true, false, ◌&&◌, nat_eq, if◌then◌else◌}
 use Rattle.std.proofs.lemmas.Option.{none-some, same_Some}
-use Rattle.effects.proofs.Members.{both_true, false_true}
+use Rattle.effects.proofs.Members.{false_true}
 use Rattle.own_run.specs.Lists.{Each}
 use Rattle.own_run.proofs.SettledResults.{paths_same}
 use Rattle.interleave.specs.World.{same_path, ScopeId, Live, Scope, same_scope, task, put_task, without_task, scope}
@@ -43,7 +43,7 @@ scope_is {a} e = subst (λ c. same_scope a c ≡ true) e (ap (λ x. x && nat_eq 
 
 pub scopes_same : (a b : ScopeId) → same_scope a b ≡ true → a ≡ b
 scopes_same a b e =
-    let h = both_true (same_path a.owner b.owner) (nat_eq a.number b.number) e in
+    let h = and_parts (same_path a.owner b.owner) (nat_eq a.number b.number) e in
     let owners = paths_same a.owner b.owner h.0 in
     let numbers : a.number ≡ b.number = eqb-true a.number b.number h.1 in
     ap (λ o. let i : ScopeId = record { owner = o; number = a.number } in i) owners

@@ -4,6 +4,7 @@ use Rattle.std.proofs.Common.{◌∙◌, subst, inl, inr, append_assoc}
 use Rattle.std.proofs.lemmas.List.{append-nil}
 use Rattle.std.specs.Prelude.{◌⊎◌, Bool, true, false, map, ok_or, slice_get, if◌then◌else◌}
 use Rattle.std.proofs.lemmas.Option.{none-some, same_Some}
+use Rattle.std.proofs.lemmas.Bool.{and_parts}
 use Rattle.sections.specs.Place.{sides_of}
 use Rattle.types.specs.declared.fault.FaultKind.TheVariants.{SplitPoint}
 use Rattle.types.specs.Code.{Code, Do, If, While, Split, Call, Async, Finish, Codes, End, Then, Program}
@@ -13,7 +14,7 @@ use Rattle.types.specs.Run.{spend, with_step, fault, with_value, choose, number_
 use Rattle.types.specs.Run.{entry, with_sides, procedure_of, primitive, counted, act, block, work, within}
 use Rattle.types.proofs.Keeps.{primitive_keeps, counted_keeps}
 use Rattle.effects.specs.Needs.{Needs}
-use Rattle.effects.proofs.Members.{both_true, false_true}
+use Rattle.effects.proofs.Members.{false_true}
 use Rattle.own_run.specs.Apart.{is_stopped}
 use Rattle.own_run.specs.Results.{TaskResult, Settled}
 use Rattle.own_run.specs.Settling.{settle}
@@ -97,7 +98,7 @@ module _ (p : Program) (needs : Codes → Needs) (fresh : ℕ) (root s : Start) 
 
   -- a waiting run does nothing more
   stays : (a : State Own) (f : State Own → State Own) → is_waiting a ≡ true → go_on f a ≡ a
-  stays a f h = by_flow a.flow (both_true (is_stopped a.flow) a.extra.waits h).0
+  stays a f h = by_flow a.flow (and_parts (is_stopped a.flow) a.extra.waits h).0
     where
       by_flow : (w : Flow) → is_stopped w ≡ true → at_flow w a f ≡ a
       by_flow On e = absurd (false_true e)
