@@ -3,6 +3,7 @@
 ghost use Rattle.std.specs.Prelude.{◌≡◌, ◌↔◌, ℕ, List, true, false};
 ghost use Rattle.sections.specs.Placed.{Placed};
 ghost use Rattle.types.specs.Code.{Procedure, Program};
+ghost use Rattle.types.specs.Typed.{code_of};
 ghost use Rattle.types.specs.Value.{Environment};
 ghost use Rattle.effects.specs.Effects.{accesses};
 ghost use Rattle.effects.specs.Tables.{Table, IsDerived, IsStable, IsDerivedPending};
@@ -13,6 +14,8 @@ ghost use Rattle.race_checker.specs.Clash.{HasNoClash, IsAccepted};
 ghost use Rattle.race_checker.specs.Acceptance.{has_clash, is_accepted};
 ghost use Rattle.race_checker.specs.Scope.{Scope, FitsScope, Lists, IsScoped};
 ghost use Rattle.race_checker.specs.Calm.{IsCalm};
+
+use crate::accepted::Accepted;
 
 /// A procedure has a clash exactly where one of the listed pairs clashes, over tables that are the
 /// least solution; and whether a sound program is accepted is computed.
@@ -41,4 +44,9 @@ pub fn sound_programs_are_scoped()
 /// that fits, no place that one of the two may write is one that the other may read or write.
 pub fn accepted_programs_are_calm()
     ensures { (p : Program) → IsSound p → IsAccepted p → IsCalm p }
+{}
+
+/// The same of an accepted program at hand.
+pub fn accepted_is_calm(accepted: &Accepted)
+    ensures { IsCalm (code_of accepted.now.typed) }
 {}
