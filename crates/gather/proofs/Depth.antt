@@ -109,7 +109,7 @@ abbrev more : Places → Listed → Places
 more owned c q = owned q || within c.windows q
 
 shifted : TaskResult → Settled → Settled
-shifted r s = record { halted = r.halted || s.halted; contents = over s.contents r.contents; lines = s.lines; faults = s.faults }
+shifted r s = record { stopped = r.stopped || s.stopped; contents = over s.contents r.contents; lines = s.lines; faults = s.faults }
 
 or_else-assoc : (x y z : Option ℤ) → or_else x (or_else y z) ≡ or_else (or_else x y) z
 or_else-assoc None y z = refl
@@ -118,7 +118,7 @@ or_else-assoc (Some v) y z = refl
 fill-shifted : (r : TaskResult) (c : Listed) (child s : Settled) → fill c child (shifted r s) ≡ shifted r (fill c child s)
 unfolding shifted
 fill-shifted r c child s =
-    ap (λ b. record (fill c child (shifted r s)) { halted = b }) (or_assoc r.halted s.halted child.halted)
+    ap (λ b. record (fill c child (shifted r s)) { stopped = b }) (or_assoc r.stopped s.stopped child.stopped)
     ∙ ap (λ f. record (shifted r (fill c child s)) { contents = f })
     (λ t q. or_else-assoc (only (within c.windows) child.contents q) (s.contents q) (r.contents q) t)
 
@@ -161,7 +161,7 @@ fill_all-shifted d r owned (c ∷ cs) s rs =
 
 opened-shifted : (r : TaskResult) → (opened r).so_far ≡ shifted r none_yet
 unfolding shifted
-opened-shifted r = ap (λ b. record (opened r).so_far { halted = b }) (sym (or-false r.halted))
+opened-shifted r = ap (λ b. record (opened r).so_far { stopped = b }) (sym (or-false r.stopped))
 
 -- a result is settled by filling its holes, from what it has by itself
 pub settle_one-finished : (r : TaskResult) (rs : List TaskResult) → settle_one r rs ≡ finished (opened r) rs

@@ -122,7 +122,7 @@ module _ (before child after : Holdings) (ws : List Window)
 pub filled-is : (f : Filling) (hole : rListed) (child two three : rSettled) (h : Holdings)
     → held h ≡ over (as_owned (owned (held child.holdings))) (held f.so_far.holdings)
     → ((q : Place) → owned_by child.holdings q ≡ within (listed hole).windows q)
-    → settled two ≡ record (settled (record f.so_far { holdings = h; halted = f.so_far.halted || child.halted })) {
+    → settled two ≡ record (settled (record f.so_far { holdings = h; stopped = f.so_far.stopped || child.stopped })) {
       lines = (settled f.so_far).lines ++ (listed hole).lines;
       faults = (settled f.so_far).faults ++ (listed hole).faults;
     }

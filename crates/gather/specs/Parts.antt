@@ -28,7 +28,7 @@ pub record Waiting : Type 0 where
 abbrev pub opened : TaskResult → Part
 opened r = record {
   owned = r.owned;
-  so_far = record { halted = r.halted; contents = r.contents; lines = []; faults = [] };
+  so_far = record { stopped = r.stopped; contents = r.contents; lines = []; faults = [] };
   holes = r.children;
   lines = r.lines;
   faults = r.faults;

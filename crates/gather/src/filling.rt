@@ -47,7 +47,7 @@ impl Filling {
         ensures { part_of result.0 ≡ opened (result_of task) }
     {
         let so_far = Settled {
-            halted: task.halted,
+            stopped: task.stopped,
             holdings: task.holdings,
             lines: Vec::new(alloc),
             faults: Vec::new(alloc),
@@ -91,7 +91,7 @@ impl Waiting {
             child.holdings,
             hole.path,
         )?;
-        filling.so_far.halted |= child.halted;
+        filling.so_far.stopped |= child.stopped;
         tell(&mut filling.so_far, hole.lines, hole.faults)?;
         tell(&mut filling.so_far, child.lines, child.faults)?;
         Ok(filling)

@@ -54,11 +54,11 @@ same_outcome p x final o a all e (same h) =
     ∙ ap (λ fs. outcome_by a.flow (record { arrays = shown p.arrays a.store; lines = a.lines; faults = fs })) h.faults
   where
     over_nothing : Contents → Contents → Place → Option ℤ
-    over_nothing c d q = merged (record a { extra = record { contents = c; halted = false } }) q
+    over_nothing c d q = merged (record a { extra = record { contents = c; stopped = false } }) q
 same_outcome p x final o a all e (both_stop f y) =
     ap (λ g. outcome_by g (ending_of p o)) f
     ∙ sym (ap (λ g. outcome_by g (ending_of p a))
-    (stopped_is a.flow (or_false (is_stopped a.flow) (ap (λ (z : Aside). is_stopped a.flow || z.halted) (sym e) ∙ y))))
+    (stopped_is a.flow (or_false (is_stopped a.flow) (ap (λ (z : Aside). is_stopped a.flow || z.stopped) (sym e) ∙ y))))
 
 module _ (p : Program) (needs : Codes → Needs) (is_scoped : IsScoped p) (is_calm : IsCalm p) (provides : Provides p needs) where
   pub settles : (input : List (List ℤ)) (b : Budget) → outcome p input b ≡ apart_outcome p needs input b

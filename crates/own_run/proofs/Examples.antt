@@ -97,7 +97,7 @@ nested_child_first = refl
 abbrev pending_two : TaskResult
 pending_two = record {
   path = [];
-  halted = false;
+  stopped = false;
   contents = λ q. None;
   owned = λ q. false;
   lines = [];
@@ -110,7 +110,7 @@ pending_two = record {
 abbrev leaf : ℕ → TaskResult
 leaf k = record {
   path = k ∷ [];
-  halted = false;
+  stopped = false;
   contents = λ q. None;
   owned = λ q. false;
   lines = (pos k ∷ []) ∷ [];

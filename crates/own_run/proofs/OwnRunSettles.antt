@@ -10,7 +10,7 @@ use Rattle.types.specs.Meaning.{after_finish}
 use Rattle.types.proofs.Views.{Follows, FollowsAt, IsView, work_follows}
 use Rattle.effects.specs.Needs.{Needs}
 use Rattle.effects.proofs.Members.{false_true}
-use Rattle.own_run.specs.Apart.{Aside, is_stopped, halts, merged, gather, apart_rules, begin_apart, apart}
+use Rattle.own_run.specs.Apart.{Aside, is_stopped, stops_anywhere, merged, gather, apart_rules, begin_apart, apart}
 use Rattle.own_run.specs.Results.{Settled, none_yet, fill, complete}
 use Rattle.own_run.specs.OwnRun.{Start, Child, Own, EndFinish, at_first, notes, is_waiting, result_of, child_of}
 use Rattle.own_run.specs.OwnRun.{list_child, begin_own, go_on_with, leave_with, own_rules, beginning}
@@ -34,7 +34,7 @@ module _ (p : Program) (needs : Codes → Needs) (fresh : ℕ) where
         steps = st.steps;
         path = st.path;
         spawned = st.spawned;
-        extra = record { contents = g.contents; halted = g.halted };
+        extra = record { contents = g.contents; stopped = g.stopped };
       }
 
   abbrev IsLost : State Own → Type 0
@@ -78,8 +78,8 @@ module _ (p : Program) (needs : Codes → Needs) (fresh : ℕ) where
     leave_settled st out =
         let g = filled p needs fresh st.extra.pending none_yet in
         let v = settled tt out in
-        ap {B = A} (λ f. record (gather (settled tt st) v) { flow = f }) (flow_is out.flow v.extra.halted v.faults)
-        ∙ told (record (gather (settled tt st) v) { flow = if halts v then Stopped else after_finish On v.faults }) _ _ _ _
+        ap {B = A} (λ f. record (gather (settled tt st) v) { flow = f }) (flow_is out.flow v.extra.stopped v.faults)
+        ∙ told (record (gather (settled tt st) v) { flow = if stops_anywhere v then Stopped else after_finish On v.faults }) _ _ _ _
         (append_assoc g.lines st.lines v.lines) (append_assoc g.faults st.faults v.faults)
 
     begin_settled : (n : ℕ) (b : Codes) (st : State Own)
@@ -90,7 +90,7 @@ module _ (p : Program) (needs : Codes → Needs) (fresh : ℕ) where
         sym (ap {B = A} (λ g. record (settled tt (list_child (needs b) n b st)) {
           lines = g.lines ++ [];
           faults = g.faults ++ [];
-          extra = record { contents = g.contents; halted = g.halted };
+          extra = record { contents = g.contents; stopped = g.stopped };
         })
         (filled_last st.extra.pending c none_yet)
         ∙ told (begin_apart p needs fresh (suc n) b (settled tt st)) _ _ _ _ (append-nil _) (append-nil _))
@@ -177,5 +177,5 @@ module _ (p : Program) (needs : Codes → Needs) (fresh : ℕ) where
   pub own_settles : (s : Start) → complete (result_of (own p needs fresh s))
       (filled p needs fresh (own p needs fresh s).extra.pending none_yet) ≡ comes_to p needs fresh s
   own_settles s =
-      ap (λ (a : A). let t : Settled = record { halted = halts a; contents = merged a; lines = a.lines; faults = a.faults } in t)
+      ap (λ (a : A). let t : Settled = record { stopped = stops_anywhere a; contents = merged a; lines = a.lines; faults = a.faults } in t)
       (sym (run_settles s.nest (Block s.body) (beginning (at_first s.owned) fresh s) refl))

@@ -190,7 +190,7 @@ module _ (p : Program) (needs : Codes → Needs) (fresh : ℕ) where
       ap (λ n. told_of p (comes_to p needs n (root_of p input b.nest))) e
       ∙ (let out = apart p needs b.steps b.nest (Block p.main.body) (start nothing p b.steps (held_by input)) in
       sym (ap (λ f. outcome_by f (record { arrays = shown p.arrays (merged out); lines = out.lines; faults = out.faults }))
-      (flow_is p needs b.steps out.flow out.extra.halted out.faults)))
+      (flow_is p needs b.steps out.flow out.extra.stopped out.faults)))
 
 -- results of own runs, settled in any order, come to the one-thread outcome
 pub settled_outcome : (p : Program) (needs : Codes → Needs) → IsScoped p → IsCalm p → Provides p needs

@@ -17,7 +17,7 @@ use Rattle.types.proofs.Readings.{number_same, truth_same}
 use Rattle.race_checker.specs.Scope.{InScope}
 use Rattle.own_run.specs.Places.{or_else}
 use Rattle.own_run.specs.Ready.{Around}
-use Rattle.own_run.specs.Apart.{Aside, is_stopped, halts, merged}
+use Rattle.own_run.specs.Apart.{Aside, is_stopped, stops_anywhere, merged}
 use Rattle.own_run.proofs.Windows.{places_same}
 
 abbrev pub S : Type 0
@@ -41,17 +41,17 @@ pub record Same (x : Around) (locked : Place → Type 0) (o : S) (a : A) : Type 
   pub steps : o.steps ≡ a.steps
   pub path : o.path ≡ a.path
   pub spawned : o.spawned ≡ a.spawned
-  pub alive : a.extra.halted ≡ false
+  pub alive : a.extra.stopped ≡ false
   pub out : (q : Place) → (locked q → ⊥) → a.extra.contents q ≡ None
 
 -- or both were stopped
 pub data Agree (x : Around) (locked : Place → Type 0) (o : S) (a : A) : Type 0 where
   same : Same x locked o a → Agree x locked o a
-  both_stop : o.flow ≡ Stopped → halts a ≡ true → Agree x locked o a
+  both_stop : o.flow ≡ Stopped → stops_anywhere a ≡ true → Agree x locked o a
 
 -- once a task was stopped, that stays
 abbrev pub Dies : (A → A) → Type 0
-Dies go = (a : A) → a.extra.halted ≡ true → (go a).extra.halted ≡ true
+Dies go = (a : A) → a.extra.stopped ≡ true → (go a).extra.stopped ≡ true
 
 module _ (x : Around) where
   pub widen : (locked final : Set) (o : S) (a : A) → ((q : Place) → locked q → final q) → Same x locked o a → Same x final o a
@@ -75,9 +75,9 @@ module _ (x : Around) where
   widen_agree locked final o a f (both_stop e y) = both_stop e y
 
   -- ---- going on
-  stops_on : (f : Flow) (a : A) (to : A → A) → f ≡ a.flow → Dies to → halts a ≡ true → halts (at_flow f a to) ≡ true
+  stops_on : (f : Flow) (a : A) (to : A → A) → f ≡ a.flow → Dies to → stops_anywhere a ≡ true → stops_anywhere (at_flow f a to) ≡ true
   stops_on On a to e d y =
-      or_right (is_stopped (to a).flow) (to a).extra.halted (d a (subst (λ f. (is_stopped f || a.extra.halted) ≡ true) (sym e) y))
+      or_right (is_stopped (to a).flow) (to a).extra.stopped (d a (subst (λ f. (is_stopped f || a.extra.stopped) ≡ true) (sym e) y))
   stops_on Faulted a to e d y = y
   stops_on Stopped a to e d y = y
 

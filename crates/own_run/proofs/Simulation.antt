@@ -26,7 +26,7 @@ use Rattle.race_checker.specs.Scope.{Top, Inside, InScope, FitsScope, may_writes
 use Rattle.race_checker.specs.Calm.{Calm, CalmOf, IsCalm}
 use Rattle.race_checker.proofs.Scoping.{length_may_writes}
 use Rattle.own_run.specs.Places.{or_else, written, touched}
-use Rattle.own_run.specs.Apart.{Aside, nothing, is_stopped, halts, merged, child_apart, set_aside, gather}
+use Rattle.own_run.specs.Apart.{Aside, nothing, is_stopped, stops_anywhere, merged, child_apart, set_aside, gather}
 use Rattle.own_run.specs.Apart.{apart_rules_by, begin_apart}
 use Rattle.own_run.specs.Ready.{Around, Ready}
 use Rattle.own_run.proofs.Windows.{named_some, some_named, element_in, sides_some, sides_in, split_in, call_in}
@@ -449,7 +449,7 @@ module _ (p : Program) (needs : Codes → Needs) where
         steps = k.steps;
         path = k.path;
         spawned = ap (λ j. j + 1) k.spawned;
-        alive = or_from a.extra.halted (halts aa) k.alive (or_from (is_stopped aa.flow) aa.extra.halted q h.alive);
+        alive = or_from a.extra.stopped (stops_anywhere aa) k.alive (or_from (is_stopped aa.flow) aa.extra.stopped q h.alive);
         out = λ q m. none_at (written a.environment n q) (merged aa q) (a.extra.contents q)
             (λ w. m (r.added q (overwrites_more x.env _ _ q (λ y h. PendingOf.async h) (written_overwrites q w))))
             (k.out q (λ j. m (r.kept q j)));
@@ -461,11 +461,11 @@ module _ (p : Program) (needs : Codes → Needs) where
       async_same Faulted e h = same (async_ends h (not_stopped oo.flow aa.flow h.flow (ap is_stopped e)) (ap after_async e))
       async_same Stopped e h =
           both_stop (ap after_async e)
-          (or_right a.extra.halted (halts aa) (or_left (is_stopped aa.flow) aa.extra.halted (ap is_stopped (sym h.flow ∙ e))))
+          (or_right a.extra.stopped (stops_anywhere aa) (or_left (is_stopped aa.flow) aa.extra.stopped (ap is_stopped (sym h.flow ∙ e))))
 
       async_agrees : Agree within_async (Overwrites x.env (Pending p accesses b)) oo aa → Agree x final (after_body o oo) (set_aside n a aa)
       async_agrees (same h) = async_same oo.flow refl h
-      async_agrees (both_stop e y) = both_stop (ap after_async e) (or_right a.extra.halted (halts aa) y)
+      async_agrees (both_stop e y) = both_stop (ap after_async e) (or_right a.extra.stopped (stops_anywhere aa) y)
 
   -- ---- a finish
   module _ (x : Around) (locked final : Set) (l : ℕ) (b : Codes) (r : ReadyOf p needs x locked final l (Finish b)) (o : S) (a : A)
@@ -526,8 +526,8 @@ module _ (p : Program) (needs : Codes → Needs) where
       finish_ends : Same within_finish (Overwrites x.env (Pending p accesses b)) oo aa → is_stopped aa.flow ≡ false
           → Same x final left (gather a aa)
       finish_ends h q = record {
-        flow = flow_alive (halts aa) (after_finish oo.flow oo.faults) (after_finish aa.flow aa.faults)
-            (or_from (is_stopped aa.flow) aa.extra.halted q h.alive)
+        flow = flow_alive (stops_anywhere aa) (after_finish oo.flow oo.faults) (after_finish aa.flow aa.faults)
+            (or_from (is_stopped aa.flow) aa.extra.stopped q h.alive)
             (ap (λ f. after_finish f oo.faults) h.flow ∙ ap (after_finish aa.flow) h.faults);
         environment = h.environment;
         windows = h.windows;
@@ -546,16 +546,16 @@ module _ (p : Program) (needs : Codes → Needs) where
       stopped_flow true f e = refl
       stopped_flow false f e = absurd (false_true e)
 
-      finish_stops : oo.flow ≡ Stopped → halts aa ≡ true → Agree x final left (gather a aa)
+      finish_stops : oo.flow ≡ Stopped → stops_anywhere aa ≡ true → Agree x final left (gather a aa)
       finish_stops e y =
           both_stop (ap (λ f. after_finish f oo.faults) e)
-          (or_left (is_stopped (gather a aa).flow) a.extra.halted (stopped_flow (halts aa) (after_finish aa.flow aa.faults) y))
+          (or_left (is_stopped (gather a aa).flow) a.extra.stopped (stopped_flow (stops_anywhere aa) (after_finish aa.flow aa.faults) y))
 
       finish_same : (f : Flow) → oo.flow ≡ f → Same within_finish (Overwrites x.env (Pending p accesses b)) oo aa
           → Agree x final left (gather a aa)
       finish_same On e h = same (finish_ends h (not_stopped oo.flow aa.flow h.flow (ap is_stopped e)))
       finish_same Faulted e h = same (finish_ends h (not_stopped oo.flow aa.flow h.flow (ap is_stopped e)))
-      finish_same Stopped e h = finish_stops e (or_left (is_stopped aa.flow) aa.extra.halted (ap is_stopped (sym h.flow ∙ e)))
+      finish_same Stopped e h = finish_stops e (or_left (is_stopped aa.flow) aa.extra.stopped (ap is_stopped (sym h.flow ∙ e)))
 
       pub finish_agrees : Agree within_finish (Overwrites x.env (Pending p accesses b)) oo aa → Agree x final left (gather a aa)
       finish_agrees (same h) = finish_same oo.flow refl h

@@ -10,7 +10,7 @@ use Rattle.own_run.proofs.SideBySide.{A, Dies}
 
 -- the same, or the same with a task stopped
 abbrev marked : Bool → A → A
-marked b a = record a { extra = record a.extra { halted = b || a.extra.halted } }
+marked b a = record a { extra = record a.extra { stopped = b || a.extra.stopped } }
 
 abbrev Never : A → Type 0
 Never a = ⊥
@@ -24,8 +24,8 @@ surely (inr e) = e
 
 pub dies : (go : A → A) → Marks go → Dies go
 dies go h a e =
-    ap (λ b. (go (record a { extra = record a.extra { halted = b } })).extra.halted) e
-    ∙ ap (λ a. a.extra.halted) (surely (h true a))
+    ap (λ b. (go (record a { extra = record a.extra { stopped = b } })).extra.stopped) e
+    ∙ ap (λ a. a.extra.stopped) (surely (h true a))
 
 module _ (begin : Codes → A → A) (marks : (b : Codes) → Marks (begin b)) where
   view : IsView marked Never (apart_rules_by begin) (apart_rules_by begin)

@@ -19,7 +19,7 @@ use Rattle.own_run.specs.Results.{Listed, TaskResult, Settled, none_yet, fill, c
 use Rattle.own_run.specs.OwnRun.{Own, own_rules, begin_own, result_of}
 use Rattle.own_run.specs.Frames.{Frame, Rest, Again, AtEnd, Back, Standing, by_value, chosen, paid, by_flow, turn}
 use Rattle.own_run.specs.Frames.{handed}
-use Rattle.own_run.specs.Stops.{is_none, is_over, is_next_over, stops, some_halted}
+use Rattle.own_run.specs.Stops.{is_none, is_over, is_next_over, stops, some_stopped}
 use Rattle.std.specs.Cmp.Lexicographic.{pointwise}
 use Rattle.own_run.specs.Settling.{behind, take, fill_all, settle_within, none_left, settle}
 use Rattle.own_run.proofs.SettledResults.{unless_none, gives}
@@ -104,74 +104,74 @@ module _ (p : Program) (needs : Codes → Needs) (nest : ℕ) (close : State Own
   turn_stops (Back env) fs st = sym (or-false (is_stopped st.flow))
 
 -- ---- what is gathered
-take_halted : (path : List ℕ) (rs : List TaskResult) (found : TaskResult × List TaskResult) → take path rs ≡ Some found
-    → some_halted rs ≡ (found.0.halted || some_halted found.1)
-take_halted path [] found e = absurd (none-some _ e)
-take_halted path (r ∷ rs) found e = by_path (take_halted path rs) (pointwise nat_eq r.path path) e
+take_stopped : (path : List ℕ) (rs : List TaskResult) (found : TaskResult × List TaskResult) → take path rs ≡ Some found
+    → some_stopped rs ≡ (found.0.stopped || some_stopped found.1)
+take_stopped path [] found e = absurd (none-some _ e)
+take_stopped path (r ∷ rs) found e = by_path (take_stopped path rs) (pointwise nat_eq r.path path) e
   where
-    later : ((f : TaskResult × List TaskResult) → take path rs ≡ Some f → some_halted rs ≡ (f.0.halted || some_halted f.1))
+    later : ((f : TaskResult × List TaskResult) → take path rs ≡ Some f → some_stopped rs ≡ (f.0.stopped || some_stopped f.1))
         → (o : Option (TaskResult × List TaskResult)) → take path rs ≡ o → behind r o ≡ Some found
-        → (r.halted || some_halted rs) ≡ (found.0.halted || some_halted found.1)
+        → (r.stopped || some_stopped rs) ≡ (found.0.stopped || some_stopped found.1)
     later rec None w q = absurd (none-some _ q)
     later rec (Some f) w q =
         let i : (f.0, r ∷ f.1) ≡ found = same_Some _ _ q in
-        subst (λ (f : TaskResult × List TaskResult). (r.halted || some_halted rs) ≡ (f.0.halted || some_halted f.1)) i
-        (ap (λ h. r.halted || h) (rec f w) ∙ or_turned r.halted f.0.halted (some_halted f.1))
+        subst (λ (f : TaskResult × List TaskResult). (r.stopped || some_stopped rs) ≡ (f.0.stopped || some_stopped f.1)) i
+        (ap (λ h. r.stopped || h) (rec f w) ∙ or_turned r.stopped f.0.stopped (some_stopped f.1))
 
-    by_path : ((f : TaskResult × List TaskResult) → take path rs ≡ Some f → some_halted rs ≡ (f.0.halted || some_halted f.1))
+    by_path : ((f : TaskResult × List TaskResult) → take path rs ≡ Some f → some_stopped rs ≡ (f.0.stopped || some_stopped f.1))
         → (b : Bool) → (if b then Some (r, rs) else behind r (take path rs)) ≡ Some found
-        → (r.halted || some_halted rs) ≡ (found.0.halted || some_halted found.1)
+        → (r.stopped || some_stopped rs) ≡ (found.0.stopped || some_stopped found.1)
     by_path rec true q =
         let i : (r, rs) ≡ found = same_Some _ _ q in
-        subst (λ (f : TaskResult × List TaskResult). (r.halted || some_halted rs) ≡ (f.0.halted || some_halted f.1)) i refl
+        subst (λ (f : TaskResult × List TaskResult). (r.stopped || some_stopped rs) ≡ (f.0.stopped || some_stopped f.1)) i refl
     by_path rec false q = later rec (take path rs) refl q
 
 -- a task was stopped, or one whose result is left
-abbrev either_halted : Settled × List TaskResult → Bool
-either_halted x = x.0.halted || some_halted x.1
+abbrev either_stopped : Settled × List TaskResult → Bool
+either_stopped x = x.0.stopped || some_stopped x.1
 
-fill_halted : (deeper : TaskResult → List TaskResult → Option (Settled × List TaskResult))
+fill_stopped : (deeper : TaskResult → List TaskResult → Option (Settled × List TaskResult))
     → ((r : TaskResult) (rs : List TaskResult) (x : Settled × List TaskResult) → deeper r rs ≡ Some x
-    → either_halted x ≡ (r.halted || some_halted rs))
+    → either_stopped x ≡ (r.stopped || some_stopped rs))
     → (owned : Places) (cs : List Listed) (so_far : Settled) (rs : List TaskResult) (x : Settled × List TaskResult)
-    → fill_all deeper owned cs so_far rs ≡ Some x → either_halted x ≡ (so_far.halted || some_halted rs)
-fill_halted deeper h owned [] so_far rs x e =
+    → fill_all deeper owned cs so_far rs ≡ Some x → either_stopped x ≡ (so_far.stopped || some_stopped rs)
+fill_stopped deeper h owned [] so_far rs x e =
     let i : (so_far, rs) ≡ x = same_Some _ _ e in
-    subst (λ (x : Settled × List TaskResult). either_halted x ≡ (so_far.halted || some_halted rs)) i refl
-fill_halted deeper h owned (c ∷ cs) so_far rs x e =
+    subst (λ (x : Settled × List TaskResult). either_stopped x ≡ (so_far.stopped || some_stopped rs)) i refl
+fill_stopped deeper h owned (c ∷ cs) so_far rs x e =
     let g = gives (take c.path rs) _ x (unless_none (meets owned c.windows) _ e) in
     let f = gives (deeper g.one.0 g.one.1) _ x g.next in
-    fill_halted deeper h (λ q. owned q || within c.windows q) cs (fill c f.one.0 so_far) f.one.1 x f.next
-    ∙ or_assoc so_far.halted f.one.0.halted (some_halted f.one.1)
-    ∙ ap (λ b. so_far.halted || b) (h g.one.0 g.one.1 f.one f.first ∙ sym (take_halted c.path rs g.one g.first))
+    fill_stopped deeper h (λ q. owned q || within c.windows q) cs (fill c f.one.0 so_far) f.one.1 x f.next
+    ∙ or_assoc so_far.stopped f.one.0.stopped (some_stopped f.one.1)
+    ∙ ap (λ b. so_far.stopped || b) (h g.one.0 g.one.1 f.one f.first ∙ sym (take_stopped c.path rs g.one g.first))
 
-within_halted : (k : ℕ) (r : TaskResult) (rs : List TaskResult) (x : Settled × List TaskResult)
-    → settle_within k r rs ≡ Some x → either_halted x ≡ (r.halted || some_halted rs)
-within_halted zero r rs x e = absurd (none-some _ e)
-within_halted (suc k) r rs x e =
+within_stopped : (k : ℕ) (r : TaskResult) (rs : List TaskResult) (x : Settled × List TaskResult)
+    → settle_within k r rs ≡ Some x → either_stopped x ≡ (r.stopped || some_stopped rs)
+within_stopped zero r rs x e = absurd (none-some _ e)
+within_stopped (suc k) r rs x e =
     let g = gives (fill_all (settle_within k) r.owned r.children none_yet rs) _ x e in
     let i : (complete r g.one.0, g.one.1) ≡ x = same_Some _ _ g.next in
-    subst (λ (x : Settled × List TaskResult). either_halted x ≡ (r.halted || some_halted rs)) i
-    (or_assoc r.halted g.one.0.halted (some_halted g.one.1)
-    ∙ ap (λ b. r.halted || b) (fill_halted (settle_within k) (within_halted k) r.owned r.children none_yet rs g.one g.first))
+    subst (λ (x : Settled × List TaskResult). either_stopped x ≡ (r.stopped || some_stopped rs)) i
+    (or_assoc r.stopped g.one.0.stopped (some_stopped g.one.1)
+    ∙ ap (λ b. r.stopped || b) (fill_stopped (settle_within k) (within_stopped k) r.owned r.children none_yet rs g.one g.first))
 
-left_halted : (x : Settled × List TaskResult) (y : Settled) → none_left x ≡ Some y → y.halted ≡ either_halted x
-left_halted (s, []) y e = ap (λ (s : Settled). s.halted) (sym (same_Some _ _ e)) ∙ sym (or-false s.halted)
-left_halted (s, r ∷ rs) y e = absurd (none-some _ e)
+left_stopped : (x : Settled × List TaskResult) (y : Settled) → none_left x ≡ Some y → y.stopped ≡ either_stopped x
+left_stopped (s, []) y e = ap (λ (s : Settled). s.stopped) (sym (same_Some _ _ e)) ∙ sym (or-false s.stopped)
+left_stopped (s, r ∷ rs) y e = absurd (none-some _ e)
 
 -- what comes of results was stopped exactly where one of them was
-pub settle_halted : (r : TaskResult) (rs : List TaskResult) (x : Settled) → settle r rs ≡ Some x
-    → x.halted ≡ (r.halted || some_halted rs)
-settle_halted r rs x e =
+pub settle_stopped : (r : TaskResult) (rs : List TaskResult) (x : Settled) → settle r rs ≡ Some x
+    → x.stopped ≡ (r.stopped || some_stopped rs)
+settle_stopped r rs x e =
     let g = gives (settle_within (length rs + 1) r rs) none_left x e in
-    left_halted g.one x g.next ∙ within_halted (length rs + 1) r rs g.one g.first
+    left_stopped g.one x g.next ∙ within_stopped (length rs + 1) r rs g.one g.first
 
-flow_halted : (h : Bool) (faults : List Fault) → is_stopped (if h then Stopped else after_finish On faults) ≡ h
-flow_halted true faults = refl
-flow_halted false [] = refl
-flow_halted false (f ∷ faults) = refl
+flow_stopped : (h : Bool) (faults : List Fault) → is_stopped (if h then Stopped else after_finish On faults) ≡ h
+flow_stopped true faults = refl
+flow_stopped false [] = refl
+flow_stopped false (f ∷ faults) = refl
 
 -- a finish stops its owner exactly where it was stopped, or one of the tasks that it gathers
 pub finish_stops : (before st : State Own) (rs : List TaskResult) (x : Settled) → settle (result_of st) rs ≡ Some x
-    → is_stopped (handed before x st).flow ≡ (is_stopped st.flow || some_halted rs)
-finish_stops before st rs x e = flow_halted x.halted x.faults ∙ settle_halted (result_of st) rs x e
+    → is_stopped (handed before x st).flow ≡ (is_stopped st.flow || some_stopped rs)
+finish_stops before st rs x e = flow_stopped x.stopped x.faults ∙ settle_stopped (result_of st) rs x e

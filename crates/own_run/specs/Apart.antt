@@ -12,11 +12,11 @@ use Rattle.own_run.specs.Places.{written, touched, empty, only, without, over}
 pub record Aside : Type 0 where
   pub contents : Contents
   -- whether one of them was stopped
-  pub halted : Bool
+  pub stopped : Bool
 
 -- nothing is set aside
 abbrev pub nothing : Aside
-nothing = record { contents = empty; halted = false }
+nothing = record { contents = empty; stopped = false }
 
 -- whether the flow is stopped
 abbrev pub is_stopped : Flow → Bool
@@ -25,8 +25,8 @@ is_stopped On = false
 is_stopped Faulted = false
 
 -- whether it was stopped, or one of its tasks
-abbrev pub halts : State Aside → Bool
-halts st = is_stopped st.flow || st.extra.halted
+abbrev pub stops_anywhere : State Aside → Bool
+stops_anywhere st = is_stopped st.flow || st.extra.stopped
 
 -- what it has, and what its tasks have made
 abbrev pub merged : State Aside → Contents
@@ -49,7 +49,7 @@ set_aside n before out =
       spawned = before.spawned + 1;
       extra = record {
         contents = over (only places (merged out)) before.extra.contents;
-        halted = before.extra.halted || halts out;
+        stopped = before.extra.stopped || stops_anywhere out;
       };
     })
 
@@ -57,7 +57,7 @@ set_aside n before out =
 abbrev pub gather : (before out : State Aside) → State Aside
 gather before out =
     joined before (record out {
-      flow = if halts out then Stopped else after_finish out.flow out.faults;
+      flow = if stops_anywhere out then Stopped else after_finish out.flow out.faults;
       store = merged out;
       extra = before.extra;
     })

@@ -6,7 +6,7 @@ use Rattle.types.specs.Run.{State, Block, entry}
 use Rattle.types.specs.Outcome.{Outcome, outcome_by, whole_arrays}
 use Rattle.effects.specs.Needs.{Needs}
 use Rattle.own_run.specs.Places.{within}
-use Rattle.own_run.specs.Apart.{nothing, halts, merged, apart}
+use Rattle.own_run.specs.Apart.{nothing, stops_anywhere, merged, apart}
 use Rattle.own_run.specs.Results.{TaskResult, Settled, none_yet, fill, complete, and_then}
 use Rattle.own_run.specs.OwnRun.{Start, Child, Own, beginning, result_of, begun_by, kth, flow_after}
 use Rattle.own_run.specs.OwnRun.{own_run}
@@ -16,7 +16,7 @@ module _ (p : Program) (needs : Codes → Needs) (fresh : ℕ) where
   abbrev pub comes_to : Start → Settled
   comes_to s =
       let out = apart p needs fresh s.nest (Block s.body) (beginning nothing fresh s) in
-      record { halted = halts out; contents = merged out; lines = out.lines; faults = out.faults }
+      record { stopped = stops_anywhere out; contents = merged out; lines = out.lines; faults = out.faults }
 
   -- holes filled with what comes of each
   abbrev pub filled : List Child → Settled → Settled

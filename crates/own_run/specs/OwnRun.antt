@@ -64,7 +64,7 @@ is_waiting st = is_stopped st.flow && st.extra.waits
 abbrev pub result_of : State Own → TaskResult
 result_of st = record {
   path = st.path;
-  halted = is_stopped st.flow;
+  stopped = is_stopped st.flow;
   contents = st.store;
   owned = st.extra.owned;
   lines = st.lines;
@@ -119,7 +119,7 @@ back_from (c ∷ cs) q = within c.listed.windows q || back_from cs q
 
 -- whether a task goes on behind a finish
 abbrev pub flow_after : Settled → Flow
-flow_after s = if s.halted then Stopped else after_finish On s.faults
+flow_after s = if s.stopped then Stopped else after_finish On s.faults
 
 -- it goes on behind the finish with what came of it
 abbrev pub go_on_with : (before out : State Own) → Settled → State Own

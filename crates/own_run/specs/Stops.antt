@@ -41,5 +41,5 @@ stops nest (AtEnd before) st = false
 stops nest (Back env) st = false
 
 -- whether one of these results is of a task that was stopped
-abbrev pub some_halted : List TaskResult → Bool
-some_halted rs = list_any (λ r. r.halted) rs
+abbrev pub some_stopped : List TaskResult → Bool
+some_stopped rs = list_any (λ r. r.stopped) rs

@@ -35,7 +35,7 @@ listed c = record {
 abbrev pub task_result : rTaskResult → TaskResult
 task_result r = record {
   path = r.path.turns.items;
-  halted = r.halted;
+  stopped = r.stopped;
   contents = contents_of r.holdings;
   owned = owned_by r.holdings;
   lines = map (λ v. v.items) r.lines.items;
@@ -46,7 +46,7 @@ task_result r = record {
 -- what came of a task
 abbrev pub settled : rSettled → Settled
 settled s = record {
-  halted = s.halted;
+  stopped = s.stopped;
   contents = contents_of s.holdings;
   lines = map (λ v. v.items) s.lines.items;
   faults = map fault s.faults.items;

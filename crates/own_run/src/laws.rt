@@ -24,7 +24,7 @@ ghost use Rattle.own_run.specs.Frames.{Frame, Rest, Again, AtEnd, Standing, turn
 ghost use Rattle.own_run.specs.Frames.{HasBegun, HasBegunBelow, IsGivenChild, IsTask, Follows};
 ghost use Rattle.own_run.specs.Frames.{done_in};
 ghost use Rattle.own_run.specs.Holds.{MayBegin, Holds, HasOwn, HasNeeds};
-ghost use Rattle.own_run.specs.Stops.{stops, some_halted};
+ghost use Rattle.own_run.specs.Stops.{stops, some_stopped};
 ghost use Rattle.own_run.specs.Reached.{HasNext, begun};
 ghost use Rattle.own_run.specs.Runs.{root, root_result, root_comes_to, all_results, IsOwnResult};
 ghost use Rattle.own_run.specs.Runs.{MayStand, IsTaskResult, MayGoOn, MayEnd};
@@ -256,7 +256,7 @@ pub fn tasks_stop_over_the_budget()
         ≡ (is_stopped st.flow || stops nest f st) }
     ensures finish { (before st : State Own) (rs : List TaskResult) (x : Settled)
         → settle (result_of st) rs ≡ Some x
-        → is_stopped (handed before x st).flow ≡ (is_stopped st.flow || some_halted rs) }
+        → is_stopped (handed before x st).flow ≡ (is_stopped st.flow || some_stopped rs) }
 {}
 
 /// A run in Rust of a sound and accepted program has what it does next, and where a turn of it goes

@@ -22,7 +22,7 @@ pub struct Listed {
 pub struct TaskResult {
     pub path: Path,
     /// It was over its budget.
-    pub halted: bool,
+    pub stopped: bool,
     pub holdings: Holdings,
 
     // What it told since the last task that it began.
@@ -37,7 +37,7 @@ pub struct TaskResult {
 #[derive(Drop)]
 pub struct Settled {
     /// It was over its budget, or one of them was.
-    pub halted: bool,
+    pub stopped: bool,
     pub holdings: Holdings,
     pub lines: Vec<Vec<i64>>,
     pub faults: Vec<Fault>,

@@ -414,7 +414,7 @@ impl<'p> Run<'p> {
         let TaskMemory { holdings } = store;
         TaskResult {
             path,
-            halted: is_stopped(flow),
+            stopped: is_stopped(flow),
             holdings,
             lines,
             faults,
@@ -451,7 +451,7 @@ impl<'p> Run<'p> {
         let turns = Vec::from_slice(plan.alloc, &path.turns)?;
         let result = TaskResult {
             path: Path { turns },
-            halted: is_stopped(flow),
+            stopped: is_stopped(flow),
             holdings,
             lines,
             faults,
@@ -484,7 +484,7 @@ impl<'p> Paused<'p> {
     {
         let mut settled = settled;
         let mut outer = self.outer;
-        let flow = flow_behind(settled.halted, &settled.faults);
+        let flow = flow_behind(settled.stopped, &settled.faults);
         outer.lines.append(&mut settled.lines)?;
         outer.faults.append(&mut settled.faults)?;
         let thread = Thread {
@@ -545,11 +545,11 @@ fn is_stopped(flow: Flow) -> bool
 }
 
 /// The flow behind a finish.
-fn flow_behind(halted: bool, faults: &[Fault]) -> Flow
+fn flow_behind(stopped: bool, faults: &[Fault]) -> Flow
     ensures { flow_of result
-        ≡ (if halted then Stopped else after_finish On (map fault_of faults.now)) }
+        ≡ (if stopped then Stopped else after_finish On (map fault_of faults.now)) }
 {
-    if halted {
+    if stopped {
         Flow::Stopped
     } else if faults.is_empty() {
         Flow::On

@@ -18,7 +18,7 @@ returns-clause-stands c = λ fs before st waits back.
     let numbers : Vec ℤ Global → List ℤ = λ v. v.items in
     let is_flow : flow c.flow_behind-flow.result ≡ flow_after (settled x)
     = c.flow_behind-flow.ensures
-    ∙ ap (λ (fs : List rFault). if x.halted then Stopped else after_finish On (map fault fs)) c.deref.ensures.value in
+    ∙ ap (λ (fs : List rFault). if x.stopped then Stopped else after_finish On (map fault fs)) c.deref.ensures.value in
     let is_lines : map numbers c.append.new.self.items ≡ before.lines ++ map numbers x.lines.items
     = ap (map numbers) c.in_ok-append.ensures.items ∙ map-append numbers q.outer.lines.items x.lines.items
     ∙ ap (λ (ls : List (List ℤ)). ls ++ map numbers x.lines.items) (sym waits.outer.lines) in
