@@ -55,7 +55,7 @@ put_less : (l : ℕ) (fits : Bool) (q : Place) (v : ℤ) (st : State Own) → (p
 put_less l true q v st = le_refl st.steps
 put_less l false q v st = le_refl st.steps
 
-primitive_less : (p : Program) (l : ℕ) (s : Primitive) (st : State Own) → (primitive p l s st).steps ≤ st.steps
+pub primitive_less : (p : Program) (l : ℕ) (s : Primitive) (st : State Own) → (primitive p l s st).steps ≤ st.steps
 primitive_less p l Skip st = le_refl st.steps
 primitive_less p l (Assign x e) st = value_less l (number_at st e) (assign x) st (λ v. le_refl st.steps)
 primitive_less p l (Store s i e) st =

@@ -1,15 +1,10 @@
-//! The race check, and the run of an accepted program as tasks.
+//! Runs accepted programs as tasks.
 
 #![tactic(auto)]
 
-pub mod access;
-pub mod check;
-pub mod contents;
-pub mod gather;
-pub mod laws;
-pub mod needs;
-pub mod race;
+mod backlog;
+pub mod error;
+mod job;
+mod outcome;
 pub mod run;
-pub mod scope;
-pub mod search;
-pub mod task;
+mod stage;

@@ -1,0 +1,135 @@
+//! The tasks and scopes around the task that runs.
+
+use crate::error::RunError;
+use crate::job::{Job, Order};
+use crate::stage::{Next, Now, Stage};
+use gather::settle::settle;
+use own_run::result::TaskResult;
+use own_run::run::Run;
+use own_run::start::Start;
+use own_run::turn::{Paused, Turn};
+use std::alloc::{AllocError, Global};
+use std::collections::VecDeque;
+
+/// A task that waits until all tasks of a scope have ended.
+#[derive(Drop)]
+pub enum Owner<'p> {
+    /// The root at its end, with what it has made.
+    Root(TaskResult),
+    /// A task at the end of a finish, with what it has made since that began.
+    Finish(Paused<'p>, TaskResult),
+}
+
+/// What waits in a scope, and what has come to it.
+#[derive(Drop)]
+pub struct Scope<'p> {
+    /// The tasks begun in it that haven't run yet, the oldest first.
+    pub waiting: VecDeque<Start<'p>>,
+    /// The results of those that have ended.
+    pub results: Vec<TaskResult>,
+}
+
+/// All that is around the task that runs.
+#[derive(Drop)]
+pub struct Backlog<'p> {
+    /// The scope in which tasks are begun now.
+    pub scope: Scope<'p>,
+    /// The scopes around it, the innermost first.
+    pub outer: VecDeque<Scope<'p>>,
+    /// The tasks that wait while others of their scopes run, the innermost first.
+    pub owners: VecDeque<Owner<'p>>,
+}
+
+impl<'p> Scope<'p> {
+    /// An empty scope.
+    pub fn new(alloc: Global) -> Scope<'p> {
+        Scope {
+            waiting: VecDeque::new(alloc),
+            results: Vec::new(alloc),
+        }
+    }
+
+    /// Takes the task out that goes first.
+    fn take(&mut self, order: Order) -> Option<Start<'p>> {
+        match order {
+            Order::Oldest => self.waiting.pop_front(),
+            Order::Newest => self.waiting.pop_back(),
+        }
+    }
+}
+
+impl<'p> Backlog<'p> {
+    /// The root's scope, with nothing in it.
+    pub fn new(alloc: Global) -> Backlog<'p> {
+        Backlog {
+            scope: Scope::new(alloc),
+            outer: VecDeque::new(alloc),
+            owners: VecDeque::new(alloc),
+        }
+    }
+
+    /// What a turn of the running task leads to.
+    pub fn after(self, job: Job<'p>, turn: Turn<'p>) -> Result<Stage<'p>, RunError> {
+        let mut backlog = self;
+        let now = match turn {
+            Turn::Going(run) => Now::Runs(run),
+            Turn::Over(run) => Now::Runs(run),
+            Turn::Spawns(run, start) => {
+                backlog.scope.waiting.push_back(start)?;
+                Now::Runs(run)
+            }
+            Turn::EntersFinish(run) => {
+                let outer = std::mem::replace(&mut backlog.scope, Scope::new(job.alloc));
+                backlog.outer.push_front(outer)?;
+                Now::Runs(run)
+            }
+            Turn::EndsFinish(paused, result) => Now::Waits(Owner::Finish(paused, result)),
+            Turn::Ended(result) => Now::Waits(backlog.end(result)?),
+        };
+        Ok(Stage { now, backlog })
+    }
+
+    /// A task has ended: its result goes to its scope, whose owner waits on. The root has none.
+    fn end(&mut self, result: TaskResult) -> Result<Owner<'p>, AllocError> {
+        match self.owners.pop_front() {
+            None => Ok(Owner::Root(result)),
+            Some(owner) => {
+                self.scope.results.push(result)?;
+                Ok(owner)
+            }
+        }
+    }
+
+    /// While a task waits another one of the scope begins; where none is left the scope passes.
+    pub fn wait(self, job: Job<'p>, owner: Owner<'p>) -> Result<Next<'p>, RunError> {
+        let mut backlog = self;
+        match backlog.scope.take(job.order) {
+            None => backlog.pass(job, owner),
+            Some(start) => {
+                backlog.owners.push_front(owner)?;
+                let now = Now::Runs(Run::begin(job.plan(), start)?);
+                Ok(Next::Going(Stage { now, backlog }))
+            }
+        }
+    }
+
+    /// All tasks of the scope have ended: its owner goes on with what came of them.
+    fn pass(self, job: Job<'p>, owner: Owner<'p>) -> Result<Next<'p>, RunError> {
+        let mut backlog = self;
+        match owner {
+            Owner::Root(result) => {
+                Ok(Next::Over(settle(job.alloc, result, backlog.scope.results)?))
+            }
+            Owner::Finish(paused, result) => {
+                let outer = match backlog.outer.pop_front() {
+                    None => Scope::new(job.alloc),
+                    Some(outer) => outer,
+                };
+                let scope = std::mem::replace(&mut backlog.scope, outer);
+                let settled = settle(job.alloc, result, scope.results)?;
+                let now = Now::Runs(paused.go_on(settled)?);
+                Ok(Next::Going(Stage { now, backlog }))
+            }
+        }
+    }
+}

@@ -1,0 +1,69 @@
+//! What a run came to.
+
+ghost use Rattle.std.specs.Prelude.{◌≡◌, ◌+◌, ◌≤◌, IfOk, IfErr, map};
+ghost use Rattle.types.specs.Contents.{row, rows, shown};
+ghost use Rattle.types.specs.Translation.{outcome as outcome_of, program as program_of};
+ghost use Rattle.types.specs.Typed.{code_of};
+ghost use Rattle.own_run.specs.Given.{told_of};
+ghost use Rattle.own_run.specs.Translation.{contents_of, settled as settled_of};
+ghost use Rattle.workers.specs.declared.error.RunError.TheVariants.{OutOfMemory};
+
+use crate::error::RunError;
+use crate::job::Job;
+use holdings::holdings::Holdings;
+use own_run::result::Settled;
+use sections::id::ArrayId;
+use std::alloc::{AllocError, Global};
+use types::code::Array;
+use types::outcome::Outcome;
+
+/// What is told of a run in which all this has come.
+pub fn outcome(job: Job<'_>, settled: Settled) -> Result<Outcome, RunError>
+    ensures told { IfOk result (λ o. outcome_of o
+        ≡ told_of (code_of job.entry.accepted.now.typed) (settled_of settled)) }
+    ensures refused { IfErr result (λ e. e ≡ OutOfMemory) }
+{
+    if settled.stopped {
+        return Ok(Outcome::Stopped);
+    }
+    let declared = &job.plan().program.arrays;
+    Ok(Outcome::Ended {
+        arrays: shown(job.alloc, declared, &settled.holdings)?,
+        lines: settled.lines,
+        faults: settled.faults,
+    })
+}
+
+/// The numbers of all arrays, in the order of declaration.
+fn shown(alloc: Global, declared: &[Array], holdings: &Holdings) -> Result<Vec<Vec<i64>>, AllocError>
+{
+    let mut arrays = Vec::new(alloc);
+    for (number, array) in declared.iter().enumerate() {
+        arrays.push(numbers(alloc, ArrayId { number }, array.length, holdings)?)?;
+    }
+    Ok(arrays)
+}
+
+/// The numbers of an array.
+fn numbers(
+    alloc: Global,
+    array: ArrayId,
+    length: usize,
+    holdings: &Holdings,
+) -> Result<Vec<i64>, AllocError>
+{
+    let mut numbers = Vec::new(alloc);
+    numbers.reserve(length)?;
+    for index in 0..length {
+        numbers.push(number(array, index, holdings))?;
+    }
+    Ok(numbers)
+}
+
+/// The number at a place, 0 where there is none.
+fn number(array: ArrayId, index: usize, holdings: &Holdings) -> i64 {
+    match holdings.read(array, index) {
+        Ok(number) => number,
+        Err(_) => 0,
+    }
+}

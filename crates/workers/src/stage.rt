@@ -1,0 +1,65 @@
+//! How far a run has come, and what it does next.
+
+ghost use Rattle.std.specs.Prelude.{◌≡◌, ◌<◌, IfErr, IfOk};
+ghost use Rattle.own_run.specs.RunTurns.{IsTurn};
+ghost use Rattle.workers.specs.Jobs.{IsJob, needs_in};
+ghost use Rattle.workers.specs.Stages.{IsSound, IsSoundNow, NextIs};
+ghost use Rattle.workers.specs.Stages.{CanEnd, CanWait};
+ghost use Rattle.workers.specs.Left.{left_of, left_after, left_now, left_of_turn};
+
+use crate::backlog::{Backlog, Owner, Scope};
+use crate::error::RunError;
+use crate::job::Job;
+use own_run::result::{Settled, TaskResult};
+use own_run::run::Run;
+use own_run::turn::{Paused, Turn};
+
+/// What goes on now.
+#[derive(Drop)]
+pub enum Now<'p> {
+    /// A task runs.
+    Runs(Run<'p>),
+    /// A task waits at the end of a finish, and so does the innermost scope.
+    Waits(Owner<'p>),
+}
+
+/// A run between two turns.
+#[derive(Drop)]
+pub struct Stage<'p> {
+    pub now: Now<'p>,
+    pub backlog: Backlog<'p>,
+}
+
+/// What a turn comes to.
+#[derive(Drop)]
+pub enum Next<'p> {
+    /// There is more to do.
+    Going(Stage<'p>),
+    /// All tasks have ended.
+    Over(Settled),
+}
+
+impl<'p> Stage<'p> {
+    /// The root at its beginning.
+    pub fn begin(job: Job<'p>) -> Result<Stage<'p>, RunError>
+    {
+        let run = Run::begin(job.plan(), job.root()?)?;
+        Ok(Stage {
+            now: Now::Runs(run),
+            backlog: Backlog::new(job.alloc),
+        })
+    }
+
+    /// A turn of the task that runs, or what comes after a task that waits.
+    pub fn turn(self, job: Job<'p>) -> Result<Next<'p>, RunError>
+    {
+        let Stage { now, backlog } = self;
+        match now {
+            Now::Runs(run) => match run.advance(job.accepted) {
+                Ok(turn) => Ok(Next::Going(backlog.after(job, turn)?)),
+                Err(_) => Err(RunError::OutOfMemory),
+            },
+            Now::Waits(owner) => backlog.wait(job, owner),
+        }
+    }
+}
