@@ -1,5 +1,6 @@
 pub mod AccessExamples
 pub mod AccessLemmas
+pub mod BookLemmas
 pub mod BudgetExamples
 pub mod BudgetLemmas
 pub mod FinishesLemmas

@@ -1,4 +1,5 @@
 pub mod Accesses
+pub mod Books
 pub mod Budgets
 pub mod Codes
 pub mod Counts
