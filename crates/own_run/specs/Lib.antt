@@ -15,3 +15,4 @@ pub mod Settling
 pub mod Standings
 pub mod Stops
 pub mod Translation
+pub mod Worth

@@ -1,0 +1,73 @@
+-- What results are worth by a measure, and which children a task lists at the finishes that it has open.
+use Rattle.std.specs.Prelude.{ℕ, ◌+◌, ◌≡◌, List, [], ◌∷◌, ◌++◌, sum_by}
+use Rattle.types.specs.Code.{Codes, Program}
+use Rattle.types.specs.Outcome.{Budget}
+use Rattle.effects.specs.Needs.{Needs}
+use Rattle.effects.specs.Rounds.{needs_of}
+use Rattle.own_run.specs.Results.{TaskResult}
+use Rattle.own_run.specs.OwnRun.{Start, Child, Action, Step, Spawn, EnterFinish, Own, result_of}
+use Rattle.own_run.specs.Given.{own, below}
+use Rattle.own_run.specs.Frames.{Frame, Rest, Again, AtEnd, Back, Standing}
+
+-- what results come to by a measure
+abbrev pub measured : (TaskResult → ℕ) → List TaskResult → ℕ
+measured f = sum_by f
+
+module _ (p : Program) (needs : Codes → Needs) (fresh : ℕ) (f : TaskResult → ℕ) where
+  -- all results that come of a start: that of its task, and those of all below it
+  abbrev pub worth_by : Start → ℕ
+  worth_by s = f (result_of (own p needs fresh s)) + measured f (below p needs fresh s.nest s)
+
+module _ (p : Program) (b : Budget) (f : TaskResult → ℕ) where
+  -- what a start is worth in a run of the program, with the needs that are computed
+  abbrev pub worth : Start → ℕ
+  worth = worth_by p (needs_of p) b.steps f
+
+  -- what those are worth that a task lists
+  abbrev pub listed_worth : List Child → ℕ
+  listed_worth = sum_by (λ c. worth c.start)
+
+-- ---- the children that a task lists
+pub record Lists : Type 0 where
+  -- at its innermost open finish, or where it has none open
+  pub inner : List Child
+  -- at those around, the innermost first, and outside of all last
+  pub outer : List (List Child)
+
+-- at the open finishes around
+abbrev pub around : List (Frame Own) → List (List Child)
+around [] = []
+around (Rest b ∷ fs) = around fs
+around (Again l t b ∷ fs) = around fs
+around (AtEnd before ∷ fs) = before.extra.pending ∷ around fs
+around (Back env ∷ fs) = around fs
+
+-- all that a task lists where it stands
+abbrev pub lists : Standing Own → Lists
+lists t = record { inner = t.state.extra.pending; outer = around t.frames }
+
+-- nothing, as at its beginning
+abbrev pub no_lists : Lists
+no_lists = record { inner = []; outer = [] }
+
+-- with one child more
+abbrev pub with_child : Child → Lists → Lists
+with_child c ls = record ls { inner = ls.inner ++ c ∷ [] }
+
+-- a finish is entered
+abbrev pub inside : Lists → Lists
+inside ls = record { inner = []; outer = ls.inner ∷ ls.outer }
+
+-- a child with this start is listed
+pub record ListsChild (s : Start) (old new : Lists) : Type 0 where
+  pub child : Child
+  pub start : child.start ≡ s
+  pub lists : new ≡ with_child child old
+
+-- what a turn that does this makes of the lists
+abbrev pub ListsAs : List Action → (old new : Lists) → Type 0
+ListsAs [] old new = new ≡ old
+ListsAs (Step ∷ []) old new = new ≡ old
+ListsAs (Spawn s ∷ []) old new = ListsChild s old new
+ListsAs (EnterFinish ∷ []) old new = new ≡ inside old
+ListsAs _ old new = ⊥
