@@ -8,7 +8,6 @@ use Rattle.syntax.specs.Canonical.{listed}
 use Rattle.syntax.specs.Lexical.{AreTokensOf}
 use Rattle.syntax.specs.Spelling.{spelling}
 use Rattle.types.specs.Code.{Array, Program}
-use Rattle.types.specs.FirstPart.{is_first_part}
 use Rattle.types.specs.Outcome.{Outcome}
 use Rattle.types.specs.Typed.{code_of, program_of}
 use Rattle.types.specs.declared.typed.Typed.{Typed}
@@ -17,22 +16,17 @@ use Rattle.parallel_relation.specs.Together.{LabelsMeet}
 use Rattle.parallel_relation.specs.declared.pairs.Pairs.{Pairs as KeptPairs}
 use Rattle.race_checker.specs.Clash.{IsAccepted}
 use Rattle.race_checker.specs.Races.{IsLeastRace, Race as ProgramRace}
-use Rattle.workers.specs.Refusal.{IsRefusalOf, pairs_of}
-use Rattle.workers.specs.Races.{IsLeastClash}
-use Rattle.workers.specs.declared.race.Meeting.{Meeting}
-use Rattle.workers.specs.declared.check.Refused.{Refused}
-use Rattle.workers.specs.declared.check.Refused.TheVariants.{Race as RaceFound, OutOfMemory as MemoryInCheck}
 use Rattle.driver.specs.Answers.{Answers, AnswersCheck, AnswersList, AnswersPairs}
 use Rattle.driver.specs.Answers.{Does, Explains, Failed, HasRace, IsCodeOf, IsRunBy, LooksForRaces, Shows}
 use Rattle.driver.specs.Answers.{TellsNoCode, TellsNotAccepted, TellsRaceTo}
 use Rattle.driver.specs.Appending.{Writes}
-use Rattle.driver.specs.Failures.{TellsRace, TellsRaceIn, TellsRefusal}
+use Rattle.driver.specs.Failures.{TellsRaceIn}
 use Rattle.driver.specs.Held.{Held, TellsNoInput}
 use Rattle.driver.specs.Labels.{accepted_text, pair_text}
 use Rattle.driver.specs.OutcomeText.{outcome_text, status_of}
 use Rattle.driver.specs.Requests.{Settings}
 use Rattle.driver.specs.declared.failure.Failure.{Failure}
-use Rattle.driver.specs.declared.failure.Failure.TheVariants.{CannotRead, NotUtf8, Syntax, Types, NotYet}
+use Rattle.driver.specs.declared.failure.Failure.TheVariants.{CannotRead, NotUtf8, Syntax, Types}
 use Rattle.driver.specs.declared.failure.Failure.TheVariants.{Race, NoMemoryInCheck, Input, CannotWriteOutput, NoMemory}
 use Rattle.driver.specs.declared.failure.Failure.TheVariants.{Run as RunFailed}
 use Rattle.driver.specs.declared.request.Command.{Command}
@@ -103,38 +97,6 @@ module _ (c : Command) (s : Settings) (held : Held) (text : List ℕ) (b : Optio
         → TellsNoInput s.input held code.arrays f → Does c s held text b b r
     passes_no_input r f is told = passes_on r f is (no_input_explained f told) (other_failure f (no_input_other f told))
 
--- ---- a race that was found by `run`
-
-module _ (s : Settings) (held : Held) (text : List ℕ) (typed : Typed) (is_code : IsCodeOf text (code_of typed))
-    (first_part : IsTrue (is_first_part (code_of typed))) where
-  race_explained : (back : Typed) (race : Meeting) → back ≡ typed → IsLeastClash (pairs_of typed) race → (f : Failure)
-      → TellsRace race back f → Explains Run s held text f
-  race_explained back race same least (Race procedure first second) told = record {
-    typed = back;
-    is_code = subst (λ (t : Typed). IsCodeOf text (code_of t)) (sym same) is_code;
-    first_part = subst (λ (t : Typed). IsTrue (is_first_part (code_of t))) (sym same) first_part;
-    race = race;
-    least = subst (λ (t : Typed). IsLeastClash (pairs_of t) race) (sym same) least;
-    procedure_is = told.0;
-    first_is = told.1;
-    second_is = told.2;
-  }
-  race_explained back race same least NoMemoryInCheck told = tt
-  race_explained back race same least _ told = absurd told
-
-  pub refusal_explained : (refused : Refused) (f : Failure) → IsRefusalOf typed refused → TellsRefusal refused f
-      → Explains Run s held text f
-  refusal_explained (RaceFound race back) f refusal told = race_explained back race refusal.0 refusal.1 f told
-  refusal_explained MemoryInCheck f refusal told = subst (Explains Run s held text) (sym told) tt
-
-race_other : (race : Meeting) (back : Typed) (f : Failure) → TellsRace race back f → IsOther f
-race_other race back CannotWriteOutput told = told
-race_other race back _ told = tt
-
-pub refusal_other : (refused : Refused) (f : Failure) → TellsRefusal refused f → f ≢ CannotWriteOutput
-refusal_other (RaceFound race back) f told = other_failure f (race_other race back f told)
-refusal_other MemoryInCheck f told = λ is. other_failure NoMemoryInCheck tt (sym told ∙ is)
-
 -- ---- a text without an accepted program
 
 pub no_code_not_accepted : (text : List ℕ) (f : Failure) → TellsNoCode text f → TellsNotAccepted text f
@@ -142,7 +104,7 @@ no_code_not_accepted text (Syntax e) told = told
 no_code_not_accepted text (Types e) told = told
 no_code_not_accepted text _ told = absurd told
 
--- a race that `check` tells
+-- a race that is told
 pub told_race : (text : List ℕ) (typed back : Typed) (race : ProgramRace) → IsCodeOf text (code_of typed) → back ≡ typed
     → IsLeastRace (code_of typed) race → (f : Failure) → TellsRaceIn (code_of back) race f → TellsNotAccepted text f
 told_race text typed back race is_code same least (Race procedure first second) told = record {
@@ -155,35 +117,20 @@ told_race text typed back race is_code same least (Race procedure first second) 
 told_race text typed back race is_code same least NoMemoryInCheck told = tt
 told_race text typed back race is_code same least _ told = absurd told
 
--- the commands of `check`
-abbrev pub Checks : Command → Type 0
-Checks Run = ⊥
-Checks Serial = ⊥
-Checks Check = Unit {0}
-Checks Listing = Unit {0}
-Checks Pairs = ⊥
-
-race_told : (c : Command) (text procedure first second : List ℕ) → Checks c → HasRace text procedure first second
+race_told : (c : Command) (text procedure first second : List ℕ) → LooksForRaces c → HasRace text procedure first second
     → TellsRaceTo c text procedure first second
-race_told Run text procedure first second checks race = absurd checks
-race_told Serial text procedure first second checks race = absurd checks
-race_told Check text procedure first second checks race = race
-race_told Listing text procedure first second checks race = race
-race_told Pairs text procedure first second checks race = absurd checks
+race_told Run text procedure first second looks race = race
+race_told Serial text procedure first second looks race = absurd looks
+race_told Check text procedure first second looks race = race
+race_told Listing text procedure first second looks race = race
+race_told Pairs text procedure first second looks race = absurd looks
 
-looks : (c : Command) → Checks c → LooksForRaces c
-looks Run checks = tt
-looks Serial checks = checks
-looks Check checks = tt
-looks Listing checks = tt
-looks Pairs checks = checks
-
-module _ (c : Command) (checks : Checks c) (s : Settings) (held : Held) (text : List ℕ) (b : Option (List ℕ)) where
+module _ (c : Command) (looks : LooksForRaces c) (s : Settings) (held : Held) (text : List ℕ) (b : Option (List ℕ)) where
   not_accepted_explained : (f : Failure) → TellsNotAccepted text f → Explains c s held text f
   not_accepted_explained (Syntax e) told = told
   not_accepted_explained (Types e) told = told
-  not_accepted_explained (Race procedure first second) told = race_told c text _ _ _ checks told
-  not_accepted_explained NoMemoryInCheck told = looks c checks
+  not_accepted_explained (Race procedure first second) told = race_told c text _ _ _ looks told
+  not_accepted_explained NoMemoryInCheck told = looks
   not_accepted_explained _ told = absurd told
 
   not_accepted_other : (f : Failure) → TellsNotAccepted text f → IsOther f

@@ -10,31 +10,25 @@ use Rattle.syntax.specs.Refusals.{Tells as IsErrorOfText}
 use Rattle.syntax.specs.Spelling.{spelling}
 use Rattle.syntax.specs.Tree as tree
 use Rattle.types.specs.Code.{Program}
-use Rattle.types.specs.FirstPart.{is_first_part}
 use Rattle.types.specs.Outcome.{Outcome, outcome}
 use Rattle.types.specs.Resolution.{resolution}
 use Rattle.types.specs.Rules.{BreaksNoRule, errors_of}
 use Rattle.types.specs.Told.{Told}
 use Rattle.types.specs.Typed.{code_of}
 use Rattle.types.specs.declared.error.TypeError.{TypeError}
-use Rattle.types.specs.declared.typed.Typed.{Typed}
 use Rattle.parallel_relation.specs.Pairs.{AreListed}
 use Rattle.parallel_relation.specs.Together.{LabelsMeet}
 use Rattle.race_checker.specs.Clash.{IsAccepted}
 use Rattle.race_checker.specs.Races.{IsLeastRace, Race as ProgramRace}
-use Rattle.workers.specs.Accesses.{pairs_in}
-use Rattle.workers.specs.Races.{IsLeastClash, IsClashFree}
-use Rattle.workers.specs.Refusal.{pairs_of}
-use Rattle.workers.specs.Worlds.{IsReached}
-use Rattle.workers.specs.declared.race.Meeting.{Meeting}
 use Rattle.driver.specs.Appending.{AppendsBeginning}
-use Rattle.driver.specs.Failures.{array_text, told_procedure, IsToldAs}
+use Rattle.workers.specs.declared.error.RunError.TheVariants.{OutOfMemory as NoMemoryInRun}
+use Rattle.driver.specs.Failures.{told_procedure, IsToldAs}
 use Rattle.driver.specs.Held.{Held, BeginsWith, TellsNoInput}
 use Rattle.driver.specs.Labels.{accepted_text, pair_text}
 use Rattle.driver.specs.OutcomeText.{outcome_text, status_of}
 use Rattle.driver.specs.Requests.{Settings}
 use Rattle.driver.specs.declared.failure.Failure.{Failure}
-use Rattle.driver.specs.declared.failure.Failure.TheVariants.{CannotRead, NotUtf8, Syntax, Types, NotYet}
+use Rattle.driver.specs.declared.failure.Failure.TheVariants.{CannotRead, NotUtf8, Syntax, Types}
 use Rattle.driver.specs.declared.failure.Failure.TheVariants.{Race, NoMemoryInCheck, Input, CannotWriteOutput, NoMemory}
 use Rattle.driver.specs.declared.failure.Failure.TheVariants.{Run as RunFailed}
 use Rattle.driver.specs.declared.request.Command.{Command}
@@ -47,14 +41,9 @@ pub record IsCodeOf (text : List ℕ) (code : Program) : Type 0 where
   pub right : BreaksNoRule program
   pub resolved : resolution program ≡ Some code
 
--- the program is of the first part, and has no race
-pub record MayRunAsTasks (code : Program) : Type 0 where
-  pub first_part : IsTrue (is_first_part code)
-  pub clash_free : IsClashFree (pairs_in [] code.main.body)
-
 -- the command runs the program
 abbrev pub IsRunBy : Command → Program → Type 0
-IsRunBy Run code = MayRunAsTasks code
+IsRunBy Run code = IsAccepted code
 IsRunBy Serial code = Unit {0}
 IsRunBy Check code = ⊥
 IsRunBy Listing code = ⊥
@@ -76,16 +65,14 @@ pub record AnswersSerial (s : Settings) (held : Held) (text told : List ℕ) (st
   pub begins : BeginsWith s.input held code.arrays input
   pub shows : Shows s.arrays (outcome code input s.budget) code told status
 
--- `run`: the text's program may run as tasks, which come to the outcome
+-- `run`: the text's program has no race; the same outcome
 pub record AnswersRun (s : Settings) (held : Held) (text told : List ℕ) (status : ℕ) : Type 0 where
   pub code : Program
   pub is_code : IsCodeOf text code
-  pub may_run : MayRunAsTasks code
+  pub accepted : IsAccepted code
   pub input : List (List ℤ)
   pub begins : BeginsWith s.input held code.arrays input
-  pub outcome : Outcome
-  pub reached : IsReached code input s.budget outcome
-  pub shows : Shows s.arrays outcome code told status
+  pub shows : Shows s.arrays (outcome code input s.budget) code told status
 
 -- `check`: the text's program has no race, and the line tells how many procedures and labels it has
 pub record AnswersCheck (text told : List ℕ) (status : ℕ) : Type 0 where
@@ -134,24 +121,7 @@ TellsNoCode text (Syntax e) = IsErrorOfText text e
 TellsNoCode text (Types e) = BreaksRule text e
 TellsNoCode text _ = ⊥
 
--- Z1: the text spells a program that breaks no rule and isn't of the first part
-pub record IsUnserved (text : List ℕ) : Type 0 where
-  pub code : Program
-  pub is_code : IsCodeOf text code
-  pub unserved : is_first_part code ≡ false
-
--- C1 of `run`: `main` of the text's program has a race, and the least one is told
-pub record HasMainRace (text procedure first second : List ℕ) : Type 0 where
-  pub typed : Typed
-  pub is_code : IsCodeOf text (code_of typed)
-  pub first_part : IsTrue (is_first_part (code_of typed))
-  pub race : Meeting
-  pub least : IsLeastClash (pairs_of typed) race
-  pub procedure_is : procedure ≡ codes "main"
-  pub first_is : first ≡ array_text typed.code.arrays.items race.first
-  pub second_is : second ≡ array_text typed.code.arrays.items race.second
-
--- C1 of `check`: the text's program has a race, and the least one is told
+-- C1: the text's program has a race, and the least one is told
 pub record HasRace (text procedure first second : List ℕ) : Type 0 where
   pub code : Program
   pub is_code : IsCodeOf text code
@@ -160,7 +130,7 @@ pub record HasRace (text procedure first second : List ℕ) : Type 0 where
   pub told : IsToldAs (told_procedure code race.procedure) race procedure first second
 
 abbrev pub TellsRaceTo : Command → (text procedure first second : List ℕ) → Type 0
-TellsRaceTo Run text procedure first second = HasMainRace text procedure first second
+TellsRaceTo Run text procedure first second = HasRace text procedure first second
 TellsRaceTo Serial text procedure first second = ⊥
 TellsRaceTo Check text procedure first second = HasRace text procedure first second
 TellsRaceTo Listing text procedure first second = HasRace text procedure first second
@@ -191,26 +161,17 @@ pub record LacksInput (c : Command) (s : Settings) (held : Held) (text : List �
   pub is_run : IsRunBy c code
   pub why : TellsNoInput s.input held code.arrays f
 
--- the text's program may run as tasks, on an input that there is
-pub record IsRun (s : Settings) (held : Held) (text : List ℕ) : Type 0 where
-  pub code : Program
-  pub is_code : IsCodeOf text code
-  pub may_run : MayRunAsTasks code
-  pub input : List (List ℤ)
-  pub begins : BeginsWith s.input held code.arrays input
-
 -- a failure is one of the text, for what was asked; only want of memory is free
 abbrev pub Explains : Command → Settings → Held → (text : List ℕ) → Failure → Type 0
 Explains c s held text (CannotRead name) = LacksInput c s held text (CannotRead name)
 Explains c s held text (NotUtf8 name) = LacksInput c s held text (NotUtf8 name)
 Explains c s held text (Syntax e) = TellsNoCode text (Syntax e)
 Explains c s held text (Types e) = TellsNoCode text (Types e)
-Explains c s held text NotYet = (c ≡ Run) × IsUnserved text
 Explains c s held text (Race procedure first second) =
     TellsRaceTo c text (string_bytes procedure) (string_bytes first) (string_bytes second)
 Explains c s held text NoMemoryInCheck = LooksForRaces c
 Explains c s held text (Input e) = LacksInput c s held text (Input e)
-Explains c s held text (RunFailed e) = (c ≡ Run) × IsRun s held text
+Explains c s held text (RunFailed e) = (c ≡ Run) × (e ≡ NoMemoryInRun)
 Explains c s held text CannotWriteOutput = Unit {0}
 Explains c s held text NoMemory = Unit {0}
 

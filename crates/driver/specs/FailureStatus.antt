@@ -5,7 +5,7 @@ use Rattle.driver.specs.declared.failure.Failure.TheVariants.{Syntax, Types, NoM
 use Rattle.syntax.specs.declared.error.SyntaxError.TheVariants.{OutOfMemory as MemoryInSyntax}
 use Rattle.types.specs.declared.error.TypeError.TheVariants.{OutOfMemory as MemoryInTypes}
 use Rattle.types.specs.declared.input_error.InputError.TheVariants.{OutOfMemory as MemoryInInput}
-use Rattle.workers.specs.declared.run.RunError.TheVariants.{OutOfMemory as MemoryInRun, Gather}
+use Rattle.workers.specs.declared.error.RunError.TheVariants.{OutOfMemory as MemoryInRun, Gather}
 
 -- 4 for want of memory, 5 for a result of a task that is lost or strange, else 1
 abbrev pub failure_status : Failure → ℕ

@@ -1,16 +1,10 @@
 -- What the failures of a command tell.
-use Rattle.std.specs.Prelude.{ℕ, ◌≡◌, Bool, true, false, List, [], ◌++◌, Option, None, Some, codes, slice_get, unwrap_or}
+use Rattle.std.specs.Prelude.{ℕ, ◌≡◌, Bool, true, false, List, [], ◌++◌, codes, slice_get, unwrap_or}
 use Rattle.std.specs.Fmt.{decimal}
 use Rattle.std.specs.String.{string_bytes}
 use Rattle.types.specs.Code.{Procedure, Program}
-use Rattle.types.specs.declared.code.Array.{Array}
 use Rattle.effects.specs.Accesses.{Access as SectionAccess}
 use Rattle.race_checker.specs.Races.{Race as ProgramRace}
-use Rattle.workers.specs.declared.check.Refused.{Refused}
-use Rattle.workers.specs.declared.check.Refused.TheVariants.{Race as RaceFound, OutOfMemory}
-use Rattle.workers.specs.declared.race.Access.{Access}
-use Rattle.workers.specs.declared.race.Meeting.{Meeting}
-use Rattle.types.specs.declared.typed.Typed.{Typed}
 use Rattle.driver.specs.declared.failure.Failure.{Failure}
 use Rattle.driver.specs.declared.failure.Failure.TheVariants.{CannotRead, NotUtf8, Race, NoMemoryInCheck, NoMemory}
 
@@ -35,35 +29,7 @@ abbrev pub access_text : (label : ℕ) → (write : Bool) → (name : List ℕ) 
 access_text label write name =
     decimal label ++ (codes " " ++ (kind_of write ++ (codes " " ++ name)))
 
--- ---- races of `main`, as `run` finds them
-
-abbrev pub name_of : Option Array → List ℕ
-name_of (Some a) = string_bytes a.name
-name_of None = []
-
--- an access of an array
-abbrev pub array_text : List Array → Access → List ℕ
-array_text arrays a = access_text a.label a.write (name_of (slice_get arrays a.array.number))
-
--- a race is told by both its accesses
-abbrev pub IsMainRace : List Array → Meeting → Failure → Type 0
-IsMainRace arrays race (Race procedure first second) =
-    (string_bytes procedure ≡ codes "main") × (string_bytes first ≡ array_text arrays race.first)
-    × (string_bytes second ≡ array_text arrays race.second)
-IsMainRace arrays race _ = ⊥
-
--- so it is, if there is memory for it
-abbrev pub TellsRace : Meeting → Typed → Failure → Type 0
-TellsRace race typed (Race procedure first second) =
-    IsMainRace typed.code.arrays.items race (Race procedure first second)
-TellsRace race typed NoMemoryInCheck = Unit {0}
-TellsRace race typed _ = ⊥
-
-abbrev pub TellsRefusal : Refused → Failure → Type 0
-TellsRefusal (RaceFound race typed) f = TellsRace race typed f
-TellsRefusal OutOfMemory f = f ≡ NoMemoryInCheck
-
--- ---- races of a program, as `check` finds them
+-- ---- races
 
 -- the procedure of a number; `main` stands behind the others
 abbrev pub told_procedure : Program → ℕ → Procedure

@@ -9,9 +9,9 @@ use Rattle.syntax.specs.declared.error.SyntaxError.{SyntaxError}
 use Rattle.syntax.specs.declared.place.Place.{Place}
 use Rattle.types.specs.Codes.{error_text}
 use Rattle.types.specs.InputErrors.{error_text as input_text}
-use Rattle.workers.specs.Codes.{error_code as run_code}
+use Rattle.workers.specs.Errors.{error_code as run_code}
 use Rattle.driver.specs.declared.failure.Failure.{Failure}
-use Rattle.driver.specs.declared.failure.Failure.TheVariants.{CannotRead, NotUtf8, Syntax, Types, NotYet}
+use Rattle.driver.specs.declared.failure.Failure.TheVariants.{CannotRead, NotUtf8, Syntax, Types}
 use Rattle.driver.specs.declared.failure.Failure.TheVariants.{Race, NoMemoryInCheck, Input, Run, CannotWriteOutput, NoMemory}
 
 -- the code of a syntax error, and its place where it names one, line before column: `S2 at 1:13`
@@ -51,7 +51,6 @@ failure_text (CannotRead name) = codes "cannot read " ++ escaped (string_bytes n
 failure_text (NotUtf8 name) = codes "not UTF-8 " ++ escaped (string_bytes name)
 failure_text (Syntax e) = syntax_text e
 failure_text (Types e) = error_text e
-failure_text NotYet = codes "Z1"
 failure_text (Race procedure first second) =
     race_text (string_bytes procedure) (string_bytes first) (string_bytes second)
 failure_text NoMemoryInCheck = codes "C2"

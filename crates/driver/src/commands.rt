@@ -33,7 +33,6 @@ use std::thread::Threads;
 use syntax::tree::Program;
 use types::check::type_check;
 use types::code::Array;
-use types::first_part::first_part;
 use types::outcome::Outcome;
 use types::typed::Typed;
 
@@ -50,7 +49,7 @@ pub fn perform<R: Threads + Sync, F: FileSource, O: Write>(
         (F.held files.old) text.now (O.contents out.old) (O.contents out.new) result }
 {
     match request.command {
-        Command::Run => run_as_tasks(alloc, request.settings, text, files, out),
+        Command::Run => run_as_tasks(rt, alloc, request.settings, text, files, out),
         Command::Serial => run_serially(alloc, request.settings, text, files, out),
         Command::Check => check(rt, alloc, text, out),
         Command::Listing => list(rt, alloc, text, out),
@@ -59,7 +58,8 @@ pub fn perform<R: Threads + Sync, F: FileSource, O: Write>(
 }
 
 /// `run`: runs the program task by task, and writes its outcome; gives the exit status.
-fn run_as_tasks<F: FileSource, O: Write>(
+fn run_as_tasks<R: Threads + Sync, F: FileSource, O: Write>(
+    rt: &R,
     alloc: Global,
     settings: Settings<'_>,
     text: &str,
@@ -69,14 +69,7 @@ fn run_as_tasks<F: FileSource, O: Write>(
     ensures { Does Command.Run (settings_of settings.entry) (F.held files.old) text.now
         (O.contents out.old) (O.contents out.new) result }
 {
-    let typed = typed_of(alloc, text)?;
-    if !first_part(&typed) {
-        return Err(Failure::NotYet);
-    }
-    let accepted = match workers::check::check(alloc, typed) {
-        Ok(accepted) => accepted,
-        Err(refused) => return Err(Failure::of_refused(alloc, refused)),
-    };
+    let accepted = accepted_of(rt, alloc, text)?;
     let input = input_of(alloc, files, accepted.typed(), settings.input)?;
     match workers::run::run(alloc, &accepted, &input, settings.budget) {
         Ok(outcome) => {

@@ -1,26 +1,24 @@
 //! What ends a command, and the line and the exit status that tell it.
 
-ghost use Rattle.std.specs.Prelude.{◌≡◌, IfOk, slice_get};
+ghost use Rattle.std.specs.Prelude.{◌≡◌, IfOk};
 ghost use Rattle.std.specs.String.{string_bytes};
 ghost use Rattle.driver.specs.FailureStatus.{failure_status};
 ghost use Rattle.types.specs.Translation.{procedure as plain_procedure, program};
 ghost use Rattle.effects.specs.Translation.{access as access_of};
 ghost use Rattle.race_checker.specs.Translation.{race as race_of};
-ghost use Rattle.driver.specs.Failures.{IsMainRace, IsRaceOf, TellsNotUtf8, TellsRaceIn, TellsRefusal, TellsUnread};
-ghost use Rattle.driver.specs.Failures.{access_text, array_text, kind_of, name_of, section_text, told_procedure};
+ghost use Rattle.driver.specs.Failures.{IsRaceOf, TellsNotUtf8, TellsRaceIn, TellsUnread};
+ghost use Rattle.driver.specs.Failures.{access_text, kind_of, section_text, told_procedure};
 ghost use Rattle.driver.specs.Failures.{section_name as name_of_section};
 
 use race_checker::race::Race;
-use sections::id::{ArrayId, SectionId};
+use sections::id::SectionId;
 use std::alloc::{AllocError, Global};
 use syntax::error::SyntaxError;
-use types::code::{Array, Label, Procedure, Program};
+use types::code::{Label, Procedure, Program};
 use types::error::TypeError;
 use types::ids::ProcedureId;
 use types::input_error::InputError;
-use workers::check::Refused;
-use workers::race::Meeting;
-use workers::run::RunError;
+use workers::error::RunError;
 
 /// Why a command ended without its answer. `message::emit_message` writes its line.
 #[derive(Debug, Drop)]
@@ -37,8 +35,6 @@ pub enum Failure {
     Syntax(SyntaxError),
     /// `Y1 at label 2`
     Types(TypeError),
-    /// `Z1`: a program that isn't served yet.
-    NotYet,
     /// `C1 race in main: 2 write a, 4 read a`
     Race {
         procedure: String,
@@ -94,22 +90,7 @@ impl Failure {
         }
     }
 
-    /// A program in which `run` finds a race.
-    pub fn of_refused(alloc: Global, refused: Refused) -> Failure
-        ensures { TellsRefusal refused result }
-    {
-        match refused {
-            Refused::OutOfMemory => Failure::NoMemoryInCheck,
-            Refused::Race { race, typed } => {
-                match race_in_main(alloc, &typed.code().arrays, race) {
-                    Ok(failure) => failure,
-                    Err(AllocError) => Failure::NoMemoryInCheck,
-                }
-            }
-        }
-    }
-
-    /// A program in which `check` finds a race.
+    /// A program that has a race.
     pub fn of_race(alloc: Global, code: &Program, race: Race) -> Failure
         ensures { TellsRaceIn (program code.now) (race_of race) result }
     {
@@ -117,43 +98,6 @@ impl Failure {
             Ok(failure) => failure,
             Err(AllocError) => Failure::NoMemoryInCheck,
         }
-    }
-}
-
-/// A race of `main`, told by the names of arrays.
-fn race_in_main(alloc: Global, arrays: &[Array], race: Meeting) -> Result<Failure, AllocError>
-    ensures { IfOk result (IsMainRace arrays.now race) }
-{
-    Ok(Failure::Race {
-        procedure: String::from_str(alloc, "main")?,
-        first: array_told(alloc, arrays, race.first)?,
-        second: array_told(alloc, arrays, race.second)?,
-    })
-}
-
-/// An access of an array.
-fn array_told(
-    alloc: Global,
-    arrays: &[Array],
-    access: workers::race::Access,
-) -> Result<String, AllocError>
-    ensures { IfOk result (λ text. string_bytes text ≡ array_text arrays.now access) }
-{
-    told(
-        alloc,
-        access.label,
-        access.write,
-        array_name(arrays, access.array),
-    )
-}
-
-/// The name of an array.
-fn array_name(arrays: &[Array], array: ArrayId) -> &str
-    ensures { result.now ≡ name_of (slice_get arrays.now array.number) }
-{
-    match arrays.get(array.number) {
-        Some(array) => array.name.as_str(),
-        None => "",
     }
 }
 

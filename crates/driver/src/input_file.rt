@@ -1,7 +1,7 @@
 //! What the arrays hold at first.
 
 ghost use Rattle.std.specs.Prelude.{◌≡◌, IfErr, IfOk, option_map};
-ghost use Rattle.types.specs.Contents.{FitsArrays};
+ghost use Rattle.types.specs.Inputs.{IsInput};
 ghost use Rattle.types.specs.Translation.{input as lists_of};
 ghost use Rattle.types.specs.Typed.{code_of};
 ghost use Rattle.driver.specs.Held.{BeginsWith, HasText, Says, TellsNoInput, TellsNoText, zeros as zeros_of};
@@ -21,7 +21,7 @@ pub fn input_of<F: FileSource>(
 ) -> Result<Input, Failure>
     ensures begins { let named = option_map (λ n. n.now) name.entry in IfOk result
         (λ i. BeginsWith named (F.held files.old) (code_of typed.now).arrays (lists_of i)) }
-    ensures fits { IfOk result (λ i. FitsArrays (code_of typed.now).arrays (lists_of i)) }
+    ensures fits { IfOk result (λ i. IsInput (code_of typed.now).arrays (lists_of i)) }
     ensures why { let named = option_map (λ n. n.now) name.entry in IfErr result
         (TellsNoInput named (F.held files.old) (code_of typed.now).arrays) }
 {
@@ -40,7 +40,7 @@ fn input_in<F: FileSource>(
 ) -> Result<Input, Failure>
     ensures says { IfOk result
         (λ i. Says (F.held files.old) name.now (code_of typed.now).arrays (lists_of i)) }
-    ensures fits { IfOk result (λ i. FitsArrays (code_of typed.now).arrays (lists_of i)) }
+    ensures fits { IfOk result (λ i. IsInput (code_of typed.now).arrays (lists_of i)) }
     ensures why { IfErr result
         (TellsNoInput (Some name.now) (F.held files.old) (code_of typed.now).arrays) }
 {
@@ -57,7 +57,7 @@ fn input_in<F: FileSource>(
 /// An input of zeros.
 fn zeros(alloc: Global, typed: &Typed) -> Result<Input, Failure>
     ensures zeros { IfOk result (λ i. lists_of i ≡ zeros_of (code_of typed.now).arrays) }
-    ensures fits { IfOk result (λ i. FitsArrays (code_of typed.now).arrays (lists_of i)) }
+    ensures fits { IfOk result (λ i. IsInput (code_of typed.now).arrays (lists_of i)) }
     ensures why { IfErr result (λ failure. failure ≡ Failure.NoMemory) }
 {
     match Input::zeros(alloc, typed) {

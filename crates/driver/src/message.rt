@@ -34,7 +34,6 @@ fn emit_failure<W: Write>(err: &mut W, failure: &Failure) -> Result<(), EmitErro
         Failure::NotUtf8 { name } => emit_file(err, "not UTF-8 ", name.as_str()),
         Failure::Syntax(error) => emit_syntax_error(err, error),
         Failure::Types(error) => emit_type_error(err, *error),
-        Failure::NotYet => emit_text(err, "Z1"),
         Failure::Race {
             procedure,
             first,

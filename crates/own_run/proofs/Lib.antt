@@ -29,5 +29,6 @@ pub mod TaskRuns
 pub mod TaskTurns
 pub mod TasksEnd
 pub mod TurnActions
+pub mod TurnsLeft
 pub mod TurnsResume
 pub mod Windows

@@ -2,6 +2,7 @@ pub mod Apart
 pub mod Frames
 pub mod Given
 pub mod Holds
+pub mod Left
 pub mod Lists
 pub mod MayRun
 pub mod OwnRun

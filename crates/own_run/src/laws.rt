@@ -1,6 +1,6 @@
 //! Laws of the definitions, each the contract of a function that does nothing.
 
-ghost use Rattle.std.specs.Prelude.{◌≡◌, ◌||◌, ℕ, ℤ, List, [], ◌∷◌, ◌++◌, Option, Some, true};
+ghost use Rattle.std.specs.Prelude.{◌≡◌, ◌<◌, ◌||◌, ℕ, ℤ, List, [], ◌∷◌, ◌++◌, Option, Some, true};
 ghost use Rattle.std.specs.Prelude.{false, length};
 ghost use Rattle.types.specs.Code.{Truth, Code, While, Async, Codes, Then, Program};
 ghost use Rattle.types.specs.Contents.{FitsArrays};
@@ -29,10 +29,12 @@ ghost use Rattle.own_run.specs.Reached.{HasNext, begun};
 ghost use Rattle.own_run.specs.Runs.{root, root_result, root_comes_to, all_results, IsOwnResult};
 ghost use Rattle.own_run.specs.Runs.{MayStand, IsTaskResult, MayGoOn, MayEnd};
 ghost use Rattle.own_run.specs.Settling.{settle, IsParted};
+ghost use Rattle.own_run.specs.Left.{left_after, left_of, left_of_paused, left_of_start};
 ghost use Rattle.own_run.specs.Lists.{Each, Shuffled};
 ghost use Rattle.own_run.specs.MayRun.{MayRun, Stays};
-ghost use Rattle.own_run.specs.RunTurns.{IsTurn};
-ghost use Rattle.own_run.specs.Standings.{IsAt, state_of, with_own};
+ghost use Rattle.own_run.specs.RunTurns.{IsTurn, Waits};
+ghost use Rattle.own_run.specs.Standings.{IsAt, Shows, state_of, with_own};
+ghost use Rattle.own_run.specs.declared.turn.Paused.{Paused};
 ghost use Rattle.own_run.specs.Translation.{start as start_of};
 ghost use Rattle.own_run.specs.declared.run.Run.{Run};
 ghost use Rattle.own_run.specs.declared.start.Start.{Start as NewTask};
@@ -273,4 +275,18 @@ pub fn runs_stay_tasks()
         → MayRun p input b r → IsTurn (needs_of p) r (Spawns q s)
         → program_of child.plan.program.now ≡ p → child.thread.nest ≡ (start_of s).nest
         → IsAt child (begun b.steps (start_of s)) → MayRun p input b child }
+{}
+
+/// Runs end: a turn leaves fewer turns, counting those of a task that it begins; a task that begins
+/// has no more left than was kept for it, and one that goes on behind a finish less than it had
+/// there.
+pub fn runs_end()
+    ensures turns { (needs : Codes → Needs) (r : Run) (t : Turn) (fs : List (Frame Own)) (x : Own)
+        → Shows r fs x → IsTurn needs r t → left_after r.plan.budget.steps t < left_of r }
+    ensures begins { (fresh : ℕ) (s : Start) (r : Run) → r.plan.budget.steps ≡ fresh
+        → r.thread.nest ≡ s.nest → IsAt r (begun fresh s) → left_of r < left_of_start fresh s.nest }
+    ensures goes_on { (q : Paused) (r : Run) (fs : List (Frame Own)) (before st : State Own)
+        → (x : Settled) → r.plan ≡ q.plan → r.thread.nest ≡ q.nest → Waits q fs before st
+        → IsAt r (record { frames = fs; state = handed before x st })
+        → left_of r < left_of_paused q }
 {}

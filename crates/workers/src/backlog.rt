@@ -1,5 +1,14 @@
 //! The tasks and scopes around the task that runs.
 
+ghost use Rattle.std.specs.Prelude.{◌≡◌, ◌+◌, ◌<◌, ◌≤◌, [], IfErr, IfNone, IfOk, IfSome, OnOk};
+ghost use Rattle.own_run.specs.Left.{left_after as left_of_turn};
+ghost use Rattle.workers.specs.Jobs.{IsJob};
+ghost use Rattle.workers.specs.Left.{left, left_after, left_in, left_of_owner};
+ghost use Rattle.workers.specs.Stages.{IsNext, IsStage};
+ghost use Rattle.workers.specs.Turns.{EndsIn, IsEmpty, IsTaken, IsTurnIn};
+ghost use Rattle.workers.specs.declared.error.RunError.TheVariants.{OutOfMemory};
+ghost use Rattle.workers.specs.declared.stage.Now.TheVariants.{Waits};
+
 use crate::error::RunError;
 use crate::job::{Job, Order};
 use crate::stage::{Next, Now, Stage};
@@ -42,7 +51,10 @@ pub struct Backlog<'p> {
 
 impl<'p> Scope<'p> {
     /// An empty scope.
-    pub fn new(alloc: Global) -> Scope<'p> {
+    pub fn new(alloc: Global) -> Scope<'p>
+        ensures waiting { result.waiting.items ≡ [] }
+        ensures results { result.results.items ≡ [] }
+    {
         Scope {
             waiting: VecDeque::new(alloc),
             results: Vec::new(alloc),
@@ -50,7 +62,10 @@ impl<'p> Scope<'p> {
     }
 
     /// Takes the task out that goes first.
-    fn take(&mut self, order: Order) -> Option<Start<'p>> {
+    fn take(&mut self, order: Order) -> Option<Start<'p>>
+        ensures taken { IfSome result (IsTaken self.old self.new) }
+        ensures none { IfNone result (IsEmpty self.old self.new) }
+    {
         match order {
             Order::Oldest => self.waiting.pop_front(),
             Order::Newest => self.waiting.pop_back(),
@@ -60,7 +75,12 @@ impl<'p> Scope<'p> {
 
 impl<'p> Backlog<'p> {
     /// The root's scope, with nothing in it.
-    pub fn new(alloc: Global) -> Backlog<'p> {
+    pub fn new(alloc: Global) -> Backlog<'p>
+        ensures waiting { result.scope.waiting.items ≡ [] }
+        ensures results { result.scope.results.items ≡ [] }
+        ensures outer { result.outer.items ≡ [] }
+        ensures owners { result.owners.items ≡ [] }
+    {
         Backlog {
             scope: Scope::new(alloc),
             outer: VecDeque::new(alloc),
@@ -69,7 +89,14 @@ impl<'p> Backlog<'p> {
     }
 
     /// What a turn of the running task leads to.
-    pub fn after(self, job: Job<'p>, turn: Turn<'p>) -> Result<Stage<'p>, RunError> {
+    pub fn after(self, job: Job<'p>, turn: Turn<'p>) -> Result<Stage<'p>, RunError>
+        requires job { IsJob job }
+        requires turn { IsTurnIn job self turn }
+        ensures stage { IfOk result (IsStage job.entry) }
+        ensures fewer { IfOk result (λ s. left job.entry s
+            ≤ left_of_turn job.entry.budget.steps turn.entry + left_in job.entry self.entry) }
+        ensures refused { IfErr result (λ e. e ≡ OutOfMemory) }
+    {
         let mut backlog = self;
         let now = match turn {
             Turn::Going(run) => Now::Runs(run),
@@ -90,18 +117,27 @@ impl<'p> Backlog<'p> {
     }
 
     /// A task has ended: its result goes to its scope, whose owner waits on. The root has none.
-    fn end(&mut self, result: TaskResult) -> Result<Owner<'p>, AllocError> {
+    fn end(&mut self, made: TaskResult) -> Result<Owner<'p>, AllocError>
+        ensures { IfOk result (EndsIn self.old self.new made) }
+    {
         match self.owners.pop_front() {
-            None => Ok(Owner::Root(result)),
+            None => Ok(Owner::Root(made)),
             Some(owner) => {
-                self.scope.results.push(result)?;
+                self.scope.results.push(made)?;
                 Ok(owner)
             }
         }
     }
 
     /// While a task waits another one of the scope begins; where none is left the scope passes.
-    pub fn wait(self, job: Job<'p>, owner: Owner<'p>) -> Result<Next<'p>, RunError> {
+    pub fn wait(self, job: Job<'p>, owner: Owner<'p>) -> Result<Next<'p>, RunError>
+        requires job { IsJob job }
+        requires stage { IsStage job (record { now = Waits owner; backlog = self }) }
+        ensures next { IfOk result (IsNext job.entry) }
+        ensures fewer { IfOk result (λ n. left_after job.entry n
+            ≤ left_of_owner owner.entry + left_in job.entry self.entry) }
+        ensures refused { IfErr result (λ e. e ≡ OutOfMemory) }
+    {
         let mut backlog = self;
         match backlog.scope.take(job.order) {
             None => backlog.pass(job, owner),
@@ -114,7 +150,15 @@ impl<'p> Backlog<'p> {
     }
 
     /// All tasks of the scope have ended: its owner goes on with what came of them.
-    fn pass(self, job: Job<'p>, owner: Owner<'p>) -> Result<Next<'p>, RunError> {
+    fn pass(self, job: Job<'p>, owner: Owner<'p>) -> Result<Next<'p>, RunError>
+        requires job { IsJob job }
+        requires stage { IsStage job (record { now = Waits owner; backlog = self }) }
+        requires empty { self.now.scope.waiting.items ≡ [] }
+        ensures next { IfOk result (IsNext job.entry) }
+        ensures fewer { IfOk result (λ n. left_after job.entry n
+            ≤ left_of_owner owner.entry + left_in job.entry self.entry) }
+        ensures refused { IfErr result (λ e. e ≡ OutOfMemory) }
+    {
         let mut backlog = self;
         match owner {
             Owner::Root(result) => {

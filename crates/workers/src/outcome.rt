@@ -1,8 +1,8 @@
 //! What a run came to.
 
-ghost use Rattle.std.specs.Prelude.{◌≡◌, ◌+◌, ◌≤◌, IfOk, IfErr, map};
-ghost use Rattle.types.specs.Contents.{row, rows, shown};
-ghost use Rattle.types.specs.Translation.{outcome as outcome_of, program as program_of};
+ghost use Rattle.std.specs.Prelude.{◌≡◌, IfErr, IfOk, map};
+ghost use Rattle.types.specs.Contents.{read, row, shown as shown_in};
+ghost use Rattle.types.specs.Translation.{array as array_of, outcome as outcome_of};
 ghost use Rattle.types.specs.Typed.{code_of};
 ghost use Rattle.own_run.specs.Given.{told_of};
 ghost use Rattle.own_run.specs.Translation.{contents_of, settled as settled_of};
@@ -35,10 +35,16 @@ pub fn outcome(job: Job<'_>, settled: Settled) -> Result<Outcome, RunError>
 }
 
 /// The numbers of all arrays, in the order of declaration.
-fn shown(alloc: Global, declared: &[Array], holdings: &Holdings) -> Result<Vec<Vec<i64>>, AllocError>
+fn shown(
+    alloc: Global,
+    declared: &[Array],
+    holdings: &Holdings,
+) -> Result<Vec<Vec<i64>>, AllocError>
+    ensures { IfOk result (λ lists. map (λ v. v.items) lists.items
+        ≡ shown_in (map array_of declared.now) (contents_of holdings.now)) }
 {
     let mut arrays = Vec::new(alloc);
-    for (number, array) in declared.iter().enumerate() {
+    'arrays: for (number, array) in declared.iter().enumerate() {
         arrays.push(numbers(alloc, ArrayId { number }, array.length, holdings)?)?;
     }
     Ok(arrays)
@@ -51,17 +57,21 @@ fn numbers(
     length: usize,
     holdings: &Holdings,
 ) -> Result<Vec<i64>, AllocError>
+    ensures { IfOk result (λ v. v.items ≡ row (contents_of holdings.now) array.number 0 length) }
 {
     let mut numbers = Vec::new(alloc);
     numbers.reserve(length)?;
-    for index in 0..length {
+    'places: for index in 0..length {
         numbers.push(number(array, index, holdings))?;
     }
     Ok(numbers)
 }
 
 /// The number at a place, 0 where there is none.
-fn number(array: ArrayId, index: usize, holdings: &Holdings) -> i64 {
+fn number(array: ArrayId, index: usize, holdings: &Holdings) -> i64
+    ensures { result ≡ read (contents_of holdings.now)
+        (record { array = array.number; index = index }) }
+{
     match holdings.read(array, index) {
         Ok(number) => number,
         Err(_) => 0,

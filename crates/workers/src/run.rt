@@ -6,6 +6,7 @@ ghost use Rattle.types.specs.Outcome.{outcome as one_thread_outcome};
 ghost use Rattle.types.specs.Translation.{budget as budget_of, input as lists_in};
 ghost use Rattle.types.specs.Translation.{outcome as outcome_of};
 ghost use Rattle.types.specs.Typed.{code_of};
+ghost use Rattle.workers.specs.declared.error.RunError.TheVariants.{OutOfMemory};
 
 use crate::error::RunError;
 use crate::job::Job;
@@ -30,6 +31,7 @@ pub fn run(
     requires { IsInput (code_of accepted.now.typed).arrays (lists_in input.now) }
     ensures outcome { IfOk result (λ o. outcome_of o
         ≡ one_thread_outcome (code_of accepted.now.typed) (lists_in input.now) (budget_of budget)) }
+    ensures refused { IfErr result (λ e. e ≡ OutOfMemory) }
 {
     run_by(alloc, accepted, input, budget, Order::Oldest)
 }
@@ -45,6 +47,7 @@ pub fn run_by(
     requires { IsInput (code_of accepted.now.typed).arrays (lists_in input.now) }
     ensures outcome { IfOk result (λ o. outcome_of o
         ≡ one_thread_outcome (code_of accepted.now.typed) (lists_in input.now) (budget_of budget)) }
+    ensures refused { IfErr result (λ e. e ≡ OutOfMemory) }
 {
     typed_programs_are_sound(accepted.typed());
     let job = Job {

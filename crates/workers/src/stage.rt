@@ -1,18 +1,16 @@
 //! How far a run has come, and what it does next.
 
-ghost use Rattle.std.specs.Prelude.{◌≡◌, ◌<◌, IfErr, IfOk};
-ghost use Rattle.own_run.specs.RunTurns.{IsTurn};
-ghost use Rattle.workers.specs.Jobs.{IsJob, needs_in};
-ghost use Rattle.workers.specs.Stages.{IsSound, IsSoundNow, NextIs};
-ghost use Rattle.workers.specs.Stages.{CanEnd, CanWait};
-ghost use Rattle.workers.specs.Left.{left_of, left_after, left_now, left_of_turn};
+ghost use Rattle.std.specs.Prelude.{◌≡◌, ◌<◌, ◌≤◌, IfErr, IfOk};
+ghost use Rattle.workers.specs.Jobs.{IsJob};
+ghost use Rattle.workers.specs.Left.{left, left_after};
+ghost use Rattle.workers.specs.Stages.{IsNext, IsStage};
+ghost use Rattle.workers.specs.declared.error.RunError.TheVariants.{OutOfMemory};
 
-use crate::backlog::{Backlog, Owner, Scope};
+use crate::backlog::{Backlog, Owner};
 use crate::error::RunError;
 use crate::job::Job;
-use own_run::result::{Settled, TaskResult};
+use own_run::result::Settled;
 use own_run::run::Run;
-use own_run::turn::{Paused, Turn};
 
 /// What goes on now.
 #[derive(Drop)]
@@ -42,6 +40,9 @@ pub enum Next<'p> {
 impl<'p> Stage<'p> {
     /// The root at its beginning.
     pub fn begin(job: Job<'p>) -> Result<Stage<'p>, RunError>
+        requires job { IsJob job }
+        ensures stage { IfOk result (IsStage job.entry) }
+        ensures refused { IfErr result (λ e. e ≡ OutOfMemory) }
     {
         let run = Run::begin(job.plan(), job.root()?)?;
         Ok(Stage {
@@ -52,6 +53,11 @@ impl<'p> Stage<'p> {
 
     /// A turn of the task that runs, or what comes after a task that waits.
     pub fn turn(self, job: Job<'p>) -> Result<Next<'p>, RunError>
+        requires job { IsJob job }
+        requires stage { IsStage job self }
+        ensures next { IfOk result (IsNext job.entry) }
+        ensures fewer { IfOk result (λ n. left_after job.entry n < left job.entry self.entry) }
+        ensures refused { IfErr result (λ e. e ≡ OutOfMemory) }
     {
         let Stage { now, backlog } = self;
         match now {
