@@ -1,7 +1,9 @@
 pub mod AcceptedPrograms
 pub mod AccessNames
 pub mod ApartOutcome
+pub mod AsyncsFound
 pub mod Begun
+pub mod BelongingTasks
 pub mod Children
 pub mod ComesBack
 pub mod CompleteResults
@@ -29,5 +31,6 @@ pub mod TaskRuns
 pub mod TaskTurns
 pub mod TasksEnd
 pub mod TurnActions
+pub mod TurnsBelong
 pub mod TurnsResume
 pub mod Windows
