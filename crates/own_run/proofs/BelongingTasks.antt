@@ -1,11 +1,10 @@
 -- Of a sound and accepted program: what a task has to do is of the program, and its places come back to it.
 use Rattle.std.proofs.lemmas.Option.{same_Some}
-use Rattle.std.proofs.Common.{◌≡◌, ℕ, List, [], ◌∷◌, Some, refl, sym, ap, ◌∙◌}
+use Rattle.std.proofs.Common.{◌≡◌, ℕ, List, [], ◌∷◌, refl, sym, ap, ◌∙◌}
 use Rattle.std.specs.Prelude.{ℤ, ◌||◌, true, nat_eq}
 use Rattle.std.specs.Cmp.Lexicographic.{pointwise}
-use Rattle.sections.specs.Member.{Member}
 use Rattle.sections.specs.Place.{Place}
-use Rattle.types.specs.Code.{Code, Do, If, While, Split, Call, Async, Finish, Codes, End, Then, Program}
+use Rattle.types.specs.Code.{Do, If, While, Split, Call, Async, Finish, Codes, End, Then, Program}
 use Rattle.types.specs.Contents.{FitsArrays}
 use Rattle.types.specs.Outcome.{Budget}
 use Rattle.types.specs.Run.{State}
@@ -18,8 +17,8 @@ use Rattle.race_checker.specs.Clash.{IsAccepted}
 use Rattle.race_checker.specs.Scope.{IsScoped}
 use Rattle.race_checker.proofs.Calming.{is_calm}
 use Rattle.race_checker.proofs.Scoping.{is_scoped}
-use Rattle.own_run.specs.Places.{Places, within}
-use Rattle.own_run.specs.OwnRun.{Start, Child, Own, back_from, result_of}
+use Rattle.own_run.specs.Places.{within}
+use Rattle.own_run.specs.OwnRun.{Start, Child, Own, back_from}
 use Rattle.own_run.specs.Given.{given, in_truth, root_of}
 use Rattle.own_run.specs.Frames.{Frame, Rest, Again, AtEnd, Back, Standing, IsGivenChild}
 use Rattle.own_run.specs.Holds.{MayBegin}

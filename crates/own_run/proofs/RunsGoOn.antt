@@ -19,7 +19,7 @@ use Rattle.own_run.specs.RunTurns.{GoesAs, GoesTo, IsTurn, TurnOf}
 use Rattle.own_run.specs.Results.{TaskResult, Settled}
 use Rattle.own_run.specs.Settling.{settle}
 use Rattle.own_run.specs.Lists.{Each}
-use Rattle.own_run.specs.Standings.{IsAt, Shows, state_of, with_own}
+use Rattle.own_run.specs.Standings.{IsAt, state_of, with_own}
 use Rattle.own_run.specs.Translation.{start, task_result}
 use Rattle.own_run.specs.declared.result.TaskResult.{TaskResult as rTaskResult}
 use Rattle.own_run.specs.declared.run.Run.{Run}

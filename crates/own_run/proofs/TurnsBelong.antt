@@ -1,14 +1,13 @@
 -- What a turn leaves to do is of the program, and a task's places, with those that come back, stay the same.
 use Rattle.std.proofs.Common.{◌≡◌, ℕ, zero, suc, List, [], ◌∷◌, ◌++◌, Ok, Err, refl, sym, ap, ◌∙◌, subst}
-use Rattle.std.proofs.lemmas.Bool.{or_left}
-use Rattle.std.specs.Prelude.{Bool, true, false, not, ◌&&◌, ◌||◌, Option, map, ok_or}
+use Rattle.std.specs.Prelude.{Bool, true, false, not, ◌&&◌, ◌||◌, Option, ok_or}
 use Rattle.sections.specs.Place.{Place, sides_of}
 use Rattle.types.specs.declared.fault.FaultKind.TheVariants.{SplitPoint}
 use Rattle.types.specs.Code.{Primitive, Skip, Assign, Store, Print, Raise, Code, Do, If, While, Split, Call, Async}
 use Rattle.types.specs.Code.{Finish, Codes, End, Then, Program}
 use Rattle.types.specs.Value.{Valued, element_of, holds_number}
 use Rattle.types.specs.Run.{Flow, On, Faulted, Stopped, State, Rules, with_value, put, print, assign, counted}
-use Rattle.types.specs.Run.{primitive, number_at, numbers_at, truth_at, window_at, array_of, entry, with_sides, procedure_of}
+use Rattle.types.specs.Run.{primitive, number_at, numbers_at, truth_at, window_at, array_of, with_sides}
 use Rattle.effects.specs.Needs.{Needs}
 use Rattle.effects.specs.Statements.{Block, Stands, HasStatement, IsPartOf}
 use Rattle.own_run.specs.Places.{Places, written, within}
