@@ -4,4 +4,5 @@
 
 pub mod error;
 mod filling;
+pub mod laws;
 pub mod settle;

@@ -1,7 +1,9 @@
 pub mod AcceptedPrograms
 pub mod AccessNames
 pub mod ApartOutcome
+pub mod AsyncsFound
 pub mod Begun
+pub mod BelongingTasks
 pub mod Children
 pub mod ComesBack
 pub mod CompleteResults
@@ -30,5 +32,6 @@ pub mod TaskTurns
 pub mod TasksEnd
 pub mod TurnActions
 pub mod TurnsLeft
+pub mod TurnsBelong
 pub mod TurnsResume
 pub mod Windows

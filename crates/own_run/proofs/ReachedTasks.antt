@@ -17,7 +17,7 @@ use Rattle.own_run.specs.Settling.{IsParted}
 use Rattle.own_run.proofs.TaskRuns.{begins_task, turns_task, lists_given, leaves_task, ends_task}
 use Rattle.own_run.proofs.HoldingTurns.{turn_holds, handed_holds, first_has, again_has, async_has, begin_holds}
 
-each_member : {A : Type 0} (P : A → Type 0) (x : A) (xs : List A) → Each P xs → Member x xs → P x
+pub each_member : {A : Type 0} (P : A → Type 0) (x : A) (xs : List A) → Each P xs → Member x xs → P x
 each_member P x (y ∷ xs) all first = all.0
 each_member P x (y ∷ xs) all (next m) = each_member P x xs all.1 m
 each_member P x [] all m = elim m [ ]

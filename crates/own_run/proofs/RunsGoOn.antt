@@ -1,32 +1,41 @@
 -- A turn of a run of a program's leaves a run of the program's.
-use Rattle.std.proofs.Common.{◌≡◌, ℕ, List, [], ◌∷◌, sym, ap, ◌∙◌, subst}
+use Rattle.std.proofs.Common.{◌≡◌, ℕ, List, [], ◌∷◌, Some, refl, sym, ap, ◌∙◌, subst}
 use Rattle.std.specs.Prelude.{ℤ, Bool, Option}
 use Rattle.types.specs.Code.{Program}
+use Rattle.types.specs.Contents.{FitsArrays}
 use Rattle.types.specs.Outcome.{Budget}
 use Rattle.types.specs.Run.{State}
 use Rattle.types.specs.Translation.{program}
 use Rattle.effects.specs.Rounds.{needs_of}
-use Rattle.own_run.specs.Frames.{Frame, Rest, Again, AtEnd, Back, Standing, done_in, turn}
-use Rattle.own_run.specs.Given.{in_truth}
-use Rattle.own_run.specs.MayRun.{MayRun, Stays}
-use Rattle.own_run.specs.OwnRun.{Action, Own, Spawn, Start, own_rules}
-use Rattle.own_run.specs.Reached.{begun, child_begins, turns}
-use Rattle.own_run.specs.Runs.{MayStand}
+use Rattle.effects.specs.Sound.{IsSound}
+use Rattle.race_checker.specs.Clash.{IsAccepted}
+use Rattle.own_run.specs.Frames.{Frame, Rest, Again, AtEnd, Back, Standing, done_in, handed, turn}
+use Rattle.own_run.specs.Given.{in_truth, root_of, IsOwn}
+use Rattle.own_run.specs.MayRun.{MayRun, MayWait, IsRunOf, Stays}
+use Rattle.own_run.specs.OwnRun.{Action, Own, Spawn, Start, own_rules, result_of}
+use Rattle.own_run.specs.Reached.{begun, root_begins, child_begins, turns, leaves}
+use Rattle.own_run.specs.Runs.{root, IsTaskResult, MayStand}
 use Rattle.own_run.specs.RunTurns.{GoesAs, GoesTo, IsTurn, TurnOf}
-use Rattle.own_run.specs.Results.{Settled}
-use Rattle.own_run.specs.Standings.{IsAt, Shows, state_of, with_own}
-use Rattle.own_run.specs.Translation.{start}
+use Rattle.own_run.specs.Results.{TaskResult, Settled}
+use Rattle.own_run.specs.Settling.{settle}
+use Rattle.own_run.specs.Lists.{Each}
+use Rattle.own_run.specs.Standings.{IsAt, state_of, with_own}
+use Rattle.own_run.specs.Translation.{start, task_result}
+use Rattle.own_run.specs.declared.result.TaskResult.{TaskResult as rTaskResult}
 use Rattle.own_run.specs.declared.run.Run.{Run}
 use Rattle.own_run.specs.declared.start.Start.{Start as rStart}
+use Rattle.own_run.specs.declared.turn.Paused.{Paused}
 use Rattle.own_run.specs.declared.turn.Turn.{Turn}
 use Rattle.own_run.specs.declared.turn.Turn.TheVariants.{Going, Spawns, EntersFinish, EndsFinish, Ended, Over}
+use Rattle.own_run.proofs.AcceptedPrograms.{results_own}
 use Rattle.own_run.proofs.Children.{turn_lists}
+use Rattle.own_run.proofs.Lists.{each_more}
 
 module _ (p : Program) (input : List (List ℤ)) (b : Budget) (r : Run) where
   goes_next : (q : Run) (s : Start) (f : Frame Own) (fs : List (Frame Own)) (st : State Own) → program r.plan.program.now ≡ p
       → r.thread.nest ≡ s.nest → MayStand p input b s (record { frames = f ∷ fs; state = st })
       → GoesTo r (turn (program r.plan.program.now)
-      (own_rules (needs_of p) r.thread.nest (in_truth p (needs_of p) b.steps)) f fs st) q → MayRun p input b q
+      (own_rules (needs_of p) r.thread.nest (in_truth p (needs_of p) b.steps)) f fs st) q → IsRunOf p input b s q
   goes_next q s f fs st is nest stands goes =
       let close = in_truth p (needs_of p) b.steps in
       let next : Program → ℕ → Standing Own = λ p n. turn p (own_rules (needs_of p) n close) f fs st in
@@ -35,23 +44,25 @@ module _ (p : Program) (input : List (List ℤ)) (b : Budget) (r : Run) where
       let same : there ≡ to
       = ap (λ (n : ℕ). turn p (own_rules (needs_of p) n close) f fs st) (sym nest)
       ∙ ap (λ (x : Program). turn x (own_rules (needs_of p) r.thread.nest close) f fs st) (sym is) in
-      let reached : MayStand p input b s to = subst (MayStand p input b s) same (turns stands) in
-      record {
-        program = ap (λ plan. program plan.program.now) goes.plan ∙ is;
-        start = s;
-        nest = goes.nest ∙ nest;
-        frames = to.frames;
-        own = goes.stands.own;
-        shows = goes.stands.shows;
-        stands =
-            subst (λ (out : State Own). MayStand p input b s (record { frames = to.frames; state = out })) (sym goes.stands.is) reached;
-      }
+      let reached : MayStand p input b s to = subst (MayStand p input b s) same (turns stands) in (
+        record {
+          program = ap (λ plan. program plan.program.now) goes.plan ∙ is;
+          start = s;
+          nest = goes.nest ∙ nest;
+          frames = to.frames;
+          own = goes.stands.own;
+          shows = goes.stands.shows;
+          stands =
+              subst (λ (out : State Own). MayStand p input b s (record { frames = to.frames; state = out })) (sym goes.stands.is) reached;
+        },
+        refl,
+      )
 
   goes_on : (t : Turn) (actions : List Action) (over : Bool) (s : Start) (f : Frame Own) (fs : List (Frame Own)) (st : State Own)
       → program r.plan.program.now ≡ p → r.thread.nest ≡ s.nest
       → MayStand p input b s (record { frames = f ∷ fs; state = st })
       → GoesAs r (turn (program r.plan.program.now)
-      (own_rules (needs_of p) r.thread.nest (in_truth p (needs_of p) b.steps)) f fs st) actions over t → Stays p input b t
+      (own_rules (needs_of p) r.thread.nest (in_truth p (needs_of p) b.steps)) f fs st) actions over t → Stays p input b s t
   goes_on (Going q) actions over s f fs st is nest stands h = goes_next q s f fs st is nest stands h.0
   goes_on (Spawns q c) actions over s f fs st is nest stands h = goes_next q s f fs st is nest stands h.0
   goes_on (EntersFinish q) actions over s f fs st is nest stands h = goes_next q s f fs st is nest stands h.0
@@ -61,7 +72,7 @@ module _ (p : Program) (input : List (List ℤ)) (b : Budget) (r : Run) where
 
   by_frames : (t : Turn) (s : Start) (fs : List (Frame Own)) (st : State Own) → program r.plan.program.now ≡ p → r.thread.nest ≡ s.nest
       → MayStand p input b s (record { frames = fs; state = st })
-      → TurnOf (needs_of p) (in_truth p (needs_of p) b.steps) r fs st t → Stays p input b t
+      → TurnOf (needs_of p) (in_truth p (needs_of p) b.steps) r fs st t → Stays p input b s t
   by_frames t s (Rest c ∷ fs) st is nest stands h = goes_on t _ _ s (Rest c) fs st is nest stands h
   by_frames t s (Again l g c ∷ fs) st is nest stands h = goes_on t _ _ s (Again l g c) fs st is nest stands h
   by_frames t s (Back env ∷ fs) st is nest stands h = goes_on t _ _ s (Back env) fs st is nest stands h
@@ -69,37 +80,60 @@ module _ (p : Program) (input : List (List ℤ)) (b : Budget) (r : Run) where
   by_frames (Spawns q c) s (AtEnd before ∷ fs) st is nest stands h = absurd h
   by_frames (EntersFinish q) s (AtEnd before ∷ fs) st is nest stands h = absurd h
   by_frames (Over q) s (AtEnd before ∷ fs) st is nest stands h = absurd h
-  by_frames (EndsFinish w x) s (AtEnd before ∷ fs) st is nest stands h = tt
-  by_frames (Ended x) s (AtEnd before ∷ fs) st is nest stands h = tt
+  by_frames (EndsFinish w x) s (AtEnd before ∷ fs) st is nest stands h = (
+    record {
+      program = ap (λ plan. program plan.program.now) h.1 ∙ is;
+      start = s;
+      nest = h.2 ∙ nest;
+      frames = fs;
+      before = before;
+      state = st;
+      waits = h.0;
+      stands = stands;
+      made = h.3;
+    },
+    refl,
+  )
+  by_frames (Ended x) s (AtEnd before ∷ fs) st is nest stands h = absurd h
   by_frames (Going q) s [] st is nest stands h = absurd h
   by_frames (Spawns q c) s [] st is nest stands h = absurd h
   by_frames (EntersFinish q) s [] st is nest stands h = absurd h
   by_frames (Over q) s [] st is nest stands h = absurd h
-  by_frames (EndsFinish w x) s [] st is nest stands h = tt
-  by_frames (Ended x) s [] st is nest stands h = tt
+  by_frames (EndsFinish w x) s [] st is nest stands h = absurd h
+  by_frames (Ended x) s [] st is nest stands h = (st, stands, h)
 
   -- whatever the turn, the run stays one of the program's
-  pub stays : (t : Turn) → MayRun p input b r → IsTurn (needs_of p) r t → Stays p input b t
+  pub stays : (t : Turn) (m : MayRun p input b r) → IsTurn (needs_of p) r t → Stays p input b m.start t
   stays t m is =
       by_frames t m.start m.frames (with_own m.own (state_of r.thread)) m.program m.nest m.stands
       (is (in_truth p (needs_of p) b.steps) m.frames m.own m.shows)
 
+-- the run of a task at its beginning
+module _ (p : Program) (input : List (List ℤ)) (b : Budget) where
+  at_beginning : (k : Run) (s : Start) → MayStand p input b s (begun b.steps s) → program k.plan.program.now ≡ p
+      → k.thread.nest ≡ s.nest → IsAt k (begun b.steps s) → IsRunOf p input b s k
+  at_beginning k s stands is nest at = (
+    record {
+      program = is;
+      start = s;
+      nest = nest;
+      frames = (begun b.steps s).frames;
+      own = at.own;
+      shows = at.shows;
+      stands =
+          subst (λ (out : State Own). MayStand p input b s (record { frames = (begun b.steps s).frames; state = out }))
+          (sym at.is) stands;
+    },
+    refl,
+  )
+
+  -- that of the root is one of the program's
+  pub root_run : (k : Run) → program k.plan.program.now ≡ p → k.thread.nest ≡ b.nest → IsAt k (begun b.steps (root p input b))
+      → IsRunOf p input b (root p input b) k
+  root_run k = at_beginning k (root p input b) root_begins
+
 -- a task that a turn began, as a run at its beginning
 module _ (p : Program) (input : List (List ℤ)) (b : Budget) (r q k : Run) (c : rStart) where
-  at_beginning : MayStand p input b (start c) (begun b.steps (start c)) → program k.plan.program.now ≡ p
-      → k.thread.nest ≡ (start c).nest → IsAt k (begun b.steps (start c)) → MayRun p input b k
-  at_beginning stands is nest at = record {
-    program = is;
-    start = start c;
-    nest = nest;
-    frames = (begun b.steps (start c)).frames;
-    own = at.own;
-    shows = at.shows;
-    stands =
-        subst (λ (out : State Own). MayStand p input b (start c) (record { frames = (begun b.steps (start c)).frames; state = out }))
-        (sym at.is) stands;
-  }
-
   abbrev close : State Own → Option Settled
   close = in_truth p (needs_of p) b.steps
 
@@ -122,8 +156,41 @@ module _ (p : Program) (input : List (List ℤ)) (b : Budget) (r q k : Run) (c :
 
   -- a child's run is one of the program's too
   pub begins : MayRun p input b r → IsTurn (needs_of p) r (Spawns q c) → program k.plan.program.now ≡ p
-      → k.thread.nest ≡ (start c).nest → IsAt k (begun b.steps (start c)) → MayRun p input b k
+      → k.thread.nest ≡ (start c).nest → IsAt k (begun b.steps (start c)) → IsRunOf p input b (start c) k
   begins m is same nest at =
-      at_beginning
+      at_beginning p input b k (start c)
       (spawned m.start m.frames (with_own m.own (state_of r.thread)) m.nest m.stands (is close m.frames m.own m.shows))
       same nest at
+
+-- behind the end of a finish, with what the results of tasks settled to
+module _ (p : Program) (sound : IsSound p) (accepted : IsAccepted p) (input : List (List ℤ)) (b : Budget)
+    (fits : FitsArrays p.arrays input) where
+  behind_finish : (s : Start) (before : State Own) (fs : List (Frame Own)) (st : State Own)
+      → MayStand p input b s (record { frames = AtEnd before ∷ fs; state = st })
+      → (rs : List TaskResult) → Each (IsTaskResult p input b) rs → (x : Settled) → settle (result_of st) rs ≡ Some x
+      → MayStand p input b s (record { frames = fs; state = handed before x st })
+  behind_finish s before fs st stands rs all x e =
+      leaves rs stands
+      (each_more (IsTaskResult p input b) (IsOwn p (needs_of p) b.steps (root_of p input b.nest)) rs
+      (results_own p sound accepted input b fits) all)
+      e
+
+  pub goes_behind : (q : Paused) (so_far : rTaskResult) (w : MayWait p input b q so_far) (rs : List TaskResult)
+      → Each (IsTaskResult p input b) rs → (x : Settled) → settle (task_result so_far) rs ≡ Some x
+      → (r : Run) → r.plan ≡ q.plan → r.thread.nest ≡ q.nest
+      → IsAt r (record { frames = w.frames; state = handed w.before x w.state }) → IsRunOf p input b w.start r
+  goes_behind q so_far w rs all x e r plan nest at =
+      let reached = behind_finish w.start w.before w.frames w.state w.stands rs all x (ap (λ (y : TaskResult). settle y rs) (sym w.made) ∙ e)
+      in (
+        record {
+          program = ap (λ plan. program plan.program.now) plan ∙ w.program;
+          start = w.start;
+          nest = nest ∙ w.nest;
+          frames = w.frames;
+          own = at.own;
+          shows = at.shows;
+          stands = subst (λ (out : State Own). MayStand p input b w.start (record { frames = w.frames; state = out })) (sym at.is)
+              reached;
+        },
+        refl,
+      )

@@ -1,13 +1,18 @@
 -- A run in Rust of a program on an input: it stands for a task that may come to stand so.
-use Rattle.std.specs.Prelude.{◌≡◌, ⊤, ℤ, List}
+use Rattle.std.specs.Prelude.{◌≡◌, ℤ, List, [], ◌∷◌}
 use Rattle.types.specs.Code.{Program}
 use Rattle.types.specs.Outcome.{Budget}
+use Rattle.types.specs.Run.{State}
 use Rattle.types.specs.Translation.{program}
-use Rattle.own_run.specs.Frames.{Frame}
-use Rattle.own_run.specs.OwnRun.{Own, Start}
+use Rattle.own_run.specs.Frames.{Frame, AtEnd}
+use Rattle.own_run.specs.OwnRun.{Own, Start, result_of}
 use Rattle.own_run.specs.Runs.{MayStand}
+use Rattle.own_run.specs.RunTurns.{Waits}
 use Rattle.own_run.specs.Standings.{Shows, state_of, with_own}
+use Rattle.own_run.specs.Translation.{task_result}
+use Rattle.own_run.specs.declared.result.TaskResult.{TaskResult}
 use Rattle.own_run.specs.declared.run.Run.{Run}
+use Rattle.own_run.specs.declared.turn.Paused.{Paused}
 use Rattle.own_run.specs.declared.turn.Turn.{Turn}
 use Rattle.own_run.specs.declared.turn.Turn.TheVariants.{Going, Spawns, EntersFinish, EndsFinish}
 use Rattle.own_run.specs.declared.turn.Turn.TheVariants.{Ended, Over}
@@ -22,11 +27,35 @@ pub record MayRun (p : Program) (input : List (List ℤ)) (b : Budget) (r : Run)
   pub shows : Shows r frames own
   pub stands : MayStand p input b start (record { frames = frames; state = with_own own (state_of r.thread) })
 
--- where a turn goes on, that is a run of the program's again
-abbrev pub Stays : Program → (input : List (List ℤ)) → Budget → Turn → Type 0
-Stays p input b (Going r) = MayRun p input b r
-Stays p input b (Spawns r s) = MayRun p input b r
-Stays p input b (EntersFinish r) = MayRun p input b r
-Stays p input b (Over r) = MayRun p input b r
-Stays p input b (EndsFinish q r) = ⊤
-Stays p input b (Ended r) = ⊤
+-- a run waits at the end of a finish of a task of the program's, with what that has made so far
+pub record MayWait (p : Program) (input : List (List ℤ)) (b : Budget) (q : Paused)
+    (so_far : TaskResult) : Type 0 where
+  pub program : program q.plan.program.now ≡ p
+  pub start : Start
+  pub nest : q.nest ≡ start.nest
+  pub frames : List (Frame Own)
+  pub before : State Own
+  pub state : State Own
+  pub waits : Waits q frames before state
+  pub stands : MayStand p input b start (record { frames = AtEnd before ∷ frames; state = state })
+  pub made : task_result so_far ≡ result_of state
+
+module _ (p : Program) (input : List (List ℤ)) (b : Budget) (s : Start) where
+  -- a run of a task that started so
+  abbrev pub IsRunOf : Run → Type 0
+  IsRunOf r = (m : MayRun p input b r) × (m.start ≡ s)
+
+  -- such a task came to its end with this result
+  abbrev pub IsEndOf : TaskResult → Type 0
+  IsEndOf r =
+      (st : State Own) × MayStand p input b s (record { frames = []; state = st })
+      × (task_result r ≡ result_of st)
+
+  -- whatever a turn gives is of the task that started so
+  abbrev pub Stays : Turn → Type 0
+  Stays (Going r) = IsRunOf r
+  Stays (Spawns r c) = IsRunOf r
+  Stays (EntersFinish r) = IsRunOf r
+  Stays (Over r) = IsRunOf r
+  Stays (EndsFinish q r) = (w : MayWait p input b q r) × (w.start ≡ s)
+  Stays (Ended r) = IsEndOf r

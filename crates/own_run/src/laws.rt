@@ -10,6 +10,7 @@ ghost use Rattle.types.specs.Translation.{program as program_of};
 ghost use Rattle.effects.specs.Sound.{IsSound};
 ghost use Rattle.effects.specs.Needs.{Needs, Provides};
 ghost use Rattle.effects.specs.Rounds.{needs_of};
+ghost use Rattle.effects.specs.Statements.{HasStatement};
 ghost use Rattle.race_checker.specs.Clash.{IsAccepted};
 ghost use Rattle.race_checker.specs.Scope.{IsScoped};
 ghost use Rattle.race_checker.specs.Calm.{IsCalm};
@@ -31,13 +32,14 @@ ghost use Rattle.own_run.specs.Runs.{MayStand, IsTaskResult, MayGoOn, MayEnd};
 ghost use Rattle.own_run.specs.Settling.{settle, IsParted};
 ghost use Rattle.own_run.specs.Left.{left_after, left_of, left_of_paused, left_of_start};
 ghost use Rattle.own_run.specs.Lists.{Each, Shuffled};
-ghost use Rattle.own_run.specs.MayRun.{MayRun, Stays};
-ghost use Rattle.own_run.specs.RunTurns.{IsTurn, Waits};
-ghost use Rattle.own_run.specs.Standings.{IsAt, Shows, state_of, with_own};
-ghost use Rattle.own_run.specs.declared.turn.Paused.{Paused};
-ghost use Rattle.own_run.specs.Translation.{start as start_of};
+ghost use Rattle.own_run.specs.MayRun.{MayRun, MayWait, IsRunOf, Stays};
+ghost use Rattle.own_run.specs.RunTurns.{CanTurn, IsTurn, Waits};
+ghost use Rattle.own_run.specs.Standings.{IsAt, Shows};
+ghost use Rattle.own_run.specs.Translation.{start as start_of, task_result};
+ghost use Rattle.own_run.specs.declared.result.TaskResult.{TaskResult as Made};
 ghost use Rattle.own_run.specs.declared.run.Run.{Run};
 ghost use Rattle.own_run.specs.declared.start.Start.{Start as NewTask};
+ghost use Rattle.own_run.specs.declared.turn.Paused.{Paused};
 ghost use Rattle.own_run.specs.declared.turn.Turn.{Turn};
 ghost use Rattle.own_run.specs.declared.turn.Turn.TheVariants.{Spawns};
 
@@ -261,20 +263,33 @@ pub fn tasks_stop_over_the_budget()
         → is_stopped (handed before x st).flow ≡ (is_stopped st.flow || some_stopped rs) }
 {}
 
-/// A run in Rust of a sound and accepted program has what it does next, and where a turn of it goes
-/// on, that is a run of the program's again: it stands for a task that may come to stand so. So is
-/// the run of a task that a turn began, at its beginning.
+/// A run in Rust of a sound and accepted program can take a turn: it has what it does next, and an
+/// async that is next is one of the program's. Whatever a turn gives is of the task that it was: a
+/// run, a run that waits at the end of a finish, or the task's result. The runs of the root and of a
+/// task that a turn began are the program's too, at their beginning; so is a run behind the end of a
+/// finish, with what results of tasks settled to.
 pub fn runs_stay_tasks()
     ensures next { (p : Program) → IsSound p → IsAccepted p
         → (input : List (List ℤ)) (b : Budget) → FitsArrays p.arrays input
-        → (r : Run) (m : MayRun p input b r)
-        → HasNext (needs_of p) (with_own m.own (state_of r.thread)) m.frames }
+        → (r : Run) → MayRun p input b r
+        → CanTurn (needs_of p) (λ l c. HasStatement p l (Async c)) r }
     ensures stays { (p : Program) (input : List (List ℤ)) (b : Budget) (r : Run) (t : Turn)
-        → MayRun p input b r → IsTurn (needs_of p) r t → Stays p input b t }
+        → (m : MayRun p input b r) → IsTurn (needs_of p) r t → Stays p input b m.start t }
+    ensures root { (p : Program) (input : List (List ℤ)) (b : Budget) (r : Run)
+        → program_of r.plan.program.now ≡ p → r.thread.nest ≡ b.nest
+        → IsAt r (begun b.steps (root p input b)) → IsRunOf p input b (root p input b) r }
     ensures begins { (p : Program) (input : List (List ℤ)) (b : Budget) (r q child : Run) (s : NewTask)
         → MayRun p input b r → IsTurn (needs_of p) r (Spawns q s)
         → program_of child.plan.program.now ≡ p → child.thread.nest ≡ (start_of s).nest
-        → IsAt child (begun b.steps (start_of s)) → MayRun p input b child }
+        → IsAt child (begun b.steps (start_of s)) → IsRunOf p input b (start_of s) child }
+    ensures behind { (p : Program) → IsSound p → IsAccepted p
+        → (input : List (List ℤ)) (b : Budget) → FitsArrays p.arrays input
+        → (q : Paused) (so_far : Made) (w : MayWait p input b q so_far)
+        → (rs : List TaskResult) → Each (IsTaskResult p input b) rs
+        → (x : Settled) → settle (task_result so_far) rs ≡ Some x
+        → (r : Run) → r.plan ≡ q.plan → r.thread.nest ≡ q.nest
+        → IsAt r (record { frames = w.frames; state = handed w.before x w.state })
+        → IsRunOf p input b w.start r }
 {}
 
 /// Runs end: a turn leaves fewer turns, counting those of a task that it begins; a task that begins

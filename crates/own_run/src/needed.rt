@@ -5,6 +5,7 @@ ghost use Rattle.sections.specs.Translation.{section};
 ghost use Rattle.types.specs.Code.{Codes};
 ghost use Rattle.types.specs.Translation.{codes as codes_of};
 
+use race_checker::accepted::Accepted;
 use sections::id::SectionId;
 use types::code::{Label, Stmt};
 
@@ -27,4 +28,30 @@ pub trait Needed {
     fn reads(&self, label: Label, body: &[Stmt]) -> &[SectionId]
         requires { IsAsync self.now label (codes_of body.now) }
         ensures { map section result.now ≡ (needs self.now (codes_of body.now)).reads };
+}
+
+/// An accepted program knows what each of its asyncs needs.
+impl Needed for Accepted {
+    ghost use Rattle.types.specs.Code.{Async};
+    ghost use Rattle.types.specs.Typed.{code_of};
+    ghost use Rattle.effects.specs.Rounds.{needs_of};
+    ghost use Rattle.effects.specs.Statements.{HasStatement};
+
+    ghost needs = { λ a. needs_of (code_of a.typed) };
+
+    ghost IsAsync = { λ a label body. HasStatement (code_of a.typed) label (Async body) };
+
+    fn writes(&self, label: Label, _body: &[Stmt]) -> &[SectionId] {
+        match self.summaries().needs(label) {
+            Some(needs) => &needs.writes,
+            None => &[],
+        }
+    }
+
+    fn reads(&self, label: Label, _body: &[Stmt]) -> &[SectionId] {
+        match self.summaries().needs(label) {
+            Some(needs) => &needs.reads,
+            None => &[],
+        }
+    }
 }

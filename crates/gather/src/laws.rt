@@ -1,0 +1,36 @@
+//! Laws of what comes back, each the contract of a function that does nothing.
+
+ghost use Rattle.std.specs.Prelude.{◌≡◌, ℤ, List};
+ghost use Rattle.sections.specs.Place.{Place};
+ghost use Rattle.types.specs.Code.{Program};
+ghost use Rattle.types.specs.Contents.{FitsArrays};
+ghost use Rattle.types.specs.Outcome.{Budget};
+ghost use Rattle.types.specs.Run.{State};
+ghost use Rattle.effects.specs.Sound.{IsSound};
+ghost use Rattle.race_checker.specs.Clash.{IsAccepted};
+ghost use Rattle.own_run.specs.Frames.{Standing};
+ghost use Rattle.own_run.specs.Lists.{Each};
+ghost use Rattle.own_run.specs.OwnRun.{Start, Own, result_of};
+ghost use Rattle.own_run.specs.Results.{TaskResult};
+ghost use Rattle.own_run.specs.Runs.{IsTaskResult, MayStand};
+ghost use Rattle.own_run.specs.RunTurns.{ComesBack};
+ghost use Rattle.own_run.specs.Translation.{owned_by};
+ghost use Rattle.own_run.specs.declared.result.Settled.{Settled};
+ghost use Rattle.gather.specs.GivesBack.{GiveBack, all_owned};
+
+/// Wherever a task of a sound and accepted program may come to stand: the results of tasks that came
+/// to their ends give back what is listed of them, so that its result may be settled with them.
+pub fn results_of_tasks_give_back()
+    ensures { (p : Program) → IsSound p → IsAccepted p
+        → (input : List (List ℤ)) (b : Budget) → FitsArrays p.arrays input
+        → (s : Start) (t : Standing Own) → MayStand p input b s t
+        → (rs : List TaskResult) → Each (IsTaskResult p input b) rs
+        → GiveBack (result_of t.state) rs }
+{}
+
+/// A task goes on behind a finish with the places that it owned, and those that come back: that is
+/// all that is owned once its result is settled.
+pub fn settled_places_come_back()
+    ensures { (st : State Own) (s : Settled)
+        → ((q : Place) → owned_by s.holdings q ≡ all_owned (result_of st) q) → ComesBack s st }
+{}
