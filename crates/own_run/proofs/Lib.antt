@@ -12,7 +12,9 @@ pub mod Examples
 pub mod HeldPlaces
 pub mod HoldingTurns
 pub mod KeepingHold
+pub mod ListedTurns
 pub mod Lists
+pub mod MeasuredResults
 pub mod NeverStuck
 pub mod NextAction
 pub mod OnePath
@@ -25,6 +27,7 @@ pub mod SettledResults
 pub mod SideBySide
 pub mod Simulation
 pub mod Stacks
+pub mod StartsWorth
 pub mod StaysStopped
 pub mod Stopping
 pub mod TaskRuns

@@ -33,16 +33,16 @@ use Rattle.own_run.proofs.TasksEnd.{own_ends, each_below, below_parted, weight, 
 use Rattle.own_run.proofs.ReachedTasks.{goes}
 
 -- ---- children have different paths, here and at each finish around
-abbrev OnceBelow : List (Frame Own) → Type 0
+abbrev pub OnceBelow : List (Frame Own) → Type 0
 OnceBelow [] = Unit {0}
 OnceBelow (Rest b ∷ fs) = OnceBelow fs
 OnceBelow (Again l t b ∷ fs) = OnceBelow fs
 OnceBelow (AtEnd before ∷ fs) = Once before.extra.pending × OnceBelow fs
 OnceBelow (Back env ∷ fs) = OnceBelow fs
 
-record Distinct (t : Standing Own) : Type 0 where
-  ours : Once t.state.extra.pending
-  around : OnceBelow t.frames
+pub record Distinct (t : Standing Own) : Type 0 where
+  pub ours : Once t.state.extra.pending
+  pub around : OnceBelow t.frames
 
 both : {fs : List (Frame Own)} {st : State Own} → Once st.extra.pending → OnceBelow fs → Distinct (record { frames = fs; state = st })
 both o b = record { ours = o; around = b }
@@ -136,7 +136,7 @@ module _ (p : Program) (needs : Codes → Needs) (fresh : ℕ) where
 
 module _ (p : Program) (needs : Codes → Needs) (scoped : IsScoped p) (calm : IsCalm p) (provided : Provides p needs) (fresh : ℕ) where
   module _ (root : Start) (named : root.path ≡ []) (may_begin : MayBegin p needs root) where
-    distinct : {s : Start} {t : Standing Own} → Reached p needs fresh root s t → Distinct t
+    pub distinct : {s : Start} {t : Standing Own} → Reached p needs fresh root s t → Distinct t
     distinct root_begins = both tt tt
     distinct (child_begins r m) = both tt tt
     distinct (turns {s = s} {f = f} {fs = fs} {st = st} r) =

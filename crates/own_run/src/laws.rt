@@ -1,6 +1,7 @@
 //! Laws of the definitions, each the contract of a function that does nothing.
 
 ghost use Rattle.std.specs.Prelude.{◌≡◌, ◌<◌, ◌||◌, ℕ, ℤ, List, [], ◌∷◌, ◌++◌, Option, Some, true};
+ghost use Rattle.std.specs.Prelude.{◌≡◌, ◌||◌, ◌+◌, ℕ, ℤ, List, [], ◌∷◌, ◌++◌, Option, Some, true};
 ghost use Rattle.std.specs.Prelude.{false, length};
 ghost use Rattle.types.specs.Code.{Truth, Code, While, Async, Codes, Then, Program};
 ghost use Rattle.types.specs.Contents.{FitsArrays};
@@ -37,6 +38,11 @@ ghost use Rattle.own_run.specs.RunTurns.{CanTurn, IsTurn, Waits};
 ghost use Rattle.own_run.specs.Standings.{IsAt, Shows};
 ghost use Rattle.own_run.specs.Translation.{start as start_of, task_result};
 ghost use Rattle.own_run.specs.declared.result.TaskResult.{TaskResult as Made};
+ghost use Rattle.own_run.specs.MayRun.{MayRun, Stays};
+ghost use Rattle.own_run.specs.RunTurns.{IsTurn};
+ghost use Rattle.own_run.specs.Worth.{measured, worth, listed_worth, lists, ListsAs};
+ghost use Rattle.own_run.specs.Standings.{IsAt, state_of, with_own};
+ghost use Rattle.own_run.specs.Translation.{start as start_of};
 ghost use Rattle.own_run.specs.declared.run.Run.{Run};
 ghost use Rattle.own_run.specs.declared.start.Start.{Start as NewTask};
 ghost use Rattle.own_run.specs.declared.turn.Paused.{Paused};
@@ -97,6 +103,28 @@ pub fn tasks_of_accepted_programs_are_never_stuck()
     ensures ends { (p : Program) → IsSound p → IsAccepted p
         → (input : List (List ℤ)) (b : Budget) → FitsArrays p.arrays input
         → (s : Start) (t : Standing Own) → MayStand p input b s t → MayEnd p input b s }
+{}
+
+/// No result is lost, doubled or invented: a turn lists the child that it begins, and no other; at
+/// its end a task has made of its start what that is worth, its result and all that it lists; and
+/// in a sound and accepted program results of tasks settle wherever they are worth, by any measure,
+/// as much as all that is listed there.
+pub fn results_add_up()
+    ensures lists { (p : Program) (needs : Codes → Needs) (close : State Own → Option Settled)
+        → (nest : ℕ) (f : Frame Own) (fs : List (Frame Own)) (st : State Own)
+        → ListsAs (done_in needs nest f st) (lists (record { frames = f ∷ fs; state = st }))
+        (lists (turn p (own_rules needs nest close) f fs st)) }
+    ensures worth { (p : Program) → IsSound p → IsAccepted p
+        → (input : List (List ℤ)) (b : Budget) → FitsArrays p.arrays input
+        → (f : TaskResult → ℕ) (s : Start) (st : State Own)
+        → MayStand p input b s (record { frames = []; state = st })
+        → worth p b f s ≡ f (result_of st) + listed_worth p b f st.extra.pending }
+    ensures settles { (p : Program) → IsSound p → IsAccepted p
+        → (input : List (List ℤ)) (b : Budget) → FitsArrays p.arrays input
+        → (s : Start) (t : Standing Own) → MayStand p input b s t
+        → (rs : List TaskResult) → Each (IsTaskResult p input b) rs
+        → ((f : TaskResult → ℕ) → measured f rs ≡ listed_worth p b f t.state.extra.pending)
+        → (x : Settled) × (settle (result_of t.state) rs ≡ Some x) }
 {}
 
 /// A task that may begin has a result that is settled where the results of all tasks below it are
