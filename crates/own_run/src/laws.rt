@@ -1,7 +1,6 @@
 //! Laws of the definitions, each the contract of a function that does nothing.
 
-ghost use Rattle.std.specs.Prelude.{◌≡◌, ◌<◌, ◌||◌, ℕ, ℤ, List, [], ◌∷◌, ◌++◌, Option, Some, true};
-ghost use Rattle.std.specs.Prelude.{◌≡◌, ◌||◌, ◌+◌, ℕ, ℤ, List, [], ◌∷◌, ◌++◌, Option, Some, true};
+ghost use Rattle.std.specs.Prelude.{◌≡◌, ◌+◌, ◌<◌, ◌||◌, ℕ, ℤ, List, [], ◌∷◌, ◌++◌, Option, Some, true};
 ghost use Rattle.std.specs.Prelude.{false, length};
 ghost use Rattle.types.specs.Code.{Truth, Code, While, Async, Codes, Then, Program};
 ghost use Rattle.types.specs.Contents.{FitsArrays};
@@ -38,11 +37,7 @@ ghost use Rattle.own_run.specs.RunTurns.{CanTurn, IsTurn, Waits};
 ghost use Rattle.own_run.specs.Standings.{IsAt, Shows};
 ghost use Rattle.own_run.specs.Translation.{start as start_of, task_result};
 ghost use Rattle.own_run.specs.declared.result.TaskResult.{TaskResult as Made};
-ghost use Rattle.own_run.specs.MayRun.{MayRun, Stays};
-ghost use Rattle.own_run.specs.RunTurns.{IsTurn};
 ghost use Rattle.own_run.specs.Worth.{measured, worth, listed_worth, lists, ListsAs};
-ghost use Rattle.own_run.specs.Standings.{IsAt, state_of, with_own};
-ghost use Rattle.own_run.specs.Translation.{start as start_of};
 ghost use Rattle.own_run.specs.declared.run.Run.{Run};
 ghost use Rattle.own_run.specs.declared.start.Start.{Start as NewTask};
 ghost use Rattle.own_run.specs.declared.turn.Paused.{Paused};
