@@ -16,7 +16,7 @@ pub record HasFirst {A : Type 0} (xs : List A) : Type 0 where
   pub is : xs ≡ first ∷ others
 
 -- something is due by each task
-some_due : (s : Start) (cs : List Child) (outer : List (List Child)) (ds : List Due) → HasFirst (for_finishes s cs outer ds)
+pub some_due : (s : Start) (cs : List Child) (outer : List (List Child)) (ds : List Due) → HasFirst (for_finishes s cs outer ds)
 some_due s cs [] [] = record { first = record { listed = cs; running = [] }; others = []; is = refl }
 some_due s cs [] (d ∷ ds) = record { first = record { listed = cs ++ d.listed; running = s ∷ d.running }; others = ds; is = refl }
 some_due s cs (c ∷ more) ds = record { first = record { listed = cs; running = [] }; others = for_finishes s c more ds; is = refl }

@@ -1,2 +1,4 @@
 pub mod BookLemmas
 pub mod BookMoves
+pub mod Shown
+pub mod StageTurns

@@ -72,29 +72,29 @@ module _ (j : Job) where
     }) ≡ t.lists
 
   -- the root is at its end
-  pub record IsAtEnd (t : Task) (made : TaskResult) : Type 0 where
+  pub record IsAtEnd (t : Task) (result : TaskResult) : Type 0 where
     pub state : State Own
     pub stands : MayStand (program_of j) (lists_of j) (budget_of j)
         (root (program_of j) (lists_of j) (budget_of j)) (record { frames = []; state = state })
-    pub made : task_result made ≡ result_of state
+    pub made : task_result result ≡ result_of state
     pub start : root (program_of j) (lists_of j) (budget_of j) ≡ t.start
     pub lists : lists (record { frames = []; state = state }) ≡ t.lists
 
-  -- a task waits so
-  abbrev pub IsOwner : Task → Owner → Type 0
-  IsOwner t (Root made) = IsAtEnd t made
-  IsOwner t (Finish q so_far) = IsAtFinish t q so_far
+  -- a task waits so; below the root there is none
+  abbrev pub IsOwner : Task → (below : List Task) → Owner → Type 0
+  IsOwner t below (Root made) = IsAtEnd t made × (below ≡ [])
+  IsOwner t below (Finish q so_far) = IsAtFinish t q so_far
 
   -- these tasks wait so
   abbrev pub AreOwners : List Task → List Owner → Type 0
   AreOwners [] [] = Unit {0}
-  AreOwners (t ∷ ts) (o ∷ os) = IsOwner t o × AreOwners ts os
+  AreOwners (t ∷ ts) (o ∷ os) = IsOwner t ts o × AreOwners ts os
   AreOwners _ _ = ⊥
 
   -- a task runs or waits
-  abbrev pub IsNow : Task → Now → Type 0
-  IsNow t (Runs r) = IsRunOf t r
-  IsNow t (Waits o) = IsOwner t o
+  abbrev pub IsNow : Task → (below : List Task) → Now → Type 0
+  IsNow t below (Runs r) = IsRunOf t r
+  IsNow t below (Waits o) = IsOwner t below o
 
   -- the last task is the root
   abbrev pub EndsAtRoot : Task → List Task → Type 0
@@ -118,7 +118,7 @@ module _ (j : Job) where
   pub record IsStage (s : Stage) : Type 0 where
     pub first : Task
     pub below : List Task
-    pub now : IsNow first s.now
+    pub now : IsNow first below s.now
     pub backlog : IsBacklog first below s.backlog
 
   -- a further stage, or the outcome

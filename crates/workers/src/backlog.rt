@@ -7,7 +7,7 @@ ghost use Rattle.workers.specs.Left.{left, left_after, left_in, left_of_owner};
 ghost use Rattle.workers.specs.Stages.{IsNext, IsStage};
 ghost use Rattle.workers.specs.Turns.{EndsIn, IsEmpty, IsTaken, IsTurnIn};
 ghost use Rattle.workers.specs.declared.error.RunError.TheVariants.{OutOfMemory};
-ghost use Rattle.workers.specs.declared.stage.Now.TheVariants.{Waits};
+ghost use Rattle.workers.specs.declared.stage.Now.TheVariants.{Runs, Waits};
 
 use crate::error::RunError;
 use crate::job::{Job, Order};
@@ -98,22 +98,34 @@ impl<'p> Backlog<'p> {
         ensures refused { IfErr result (λ e. e ≡ OutOfMemory) }
     {
         let mut backlog = self;
-        let now = match turn {
-            Turn::Going(run) => Now::Runs(run),
-            Turn::Over(run) => Now::Runs(run),
+        match turn {
+            Turn::Going(run) | Turn::Over(run) => Ok(backlog.runs(run)),
             Turn::Spawns(run, start) => {
                 backlog.scope.waiting.push_back(start)?;
-                Now::Runs(run)
+                Ok(backlog.runs(run))
             }
             Turn::EntersFinish(run) => {
                 let outer = std::mem::replace(&mut backlog.scope, Scope::new(job.alloc));
                 backlog.outer.push_front(outer)?;
-                Now::Runs(run)
+                Ok(backlog.runs(run))
             }
-            Turn::EndsFinish(paused, result) => Now::Waits(Owner::Finish(paused, result)),
-            Turn::Ended(result) => Now::Waits(backlog.end(result)?),
-        };
-        Ok(Stage { now, backlog })
+            Turn::EndsFinish(paused, result) => {
+                let now = Now::Waits(Owner::Finish(paused, result));
+                Ok(Stage { now, backlog })
+            }
+            Turn::Ended(result) => {
+                let now = Now::Waits(backlog.end(result)?);
+                Ok(Stage { now, backlog })
+            }
+        }
+    }
+
+    /// A stage in which this runs.
+    fn runs(self, run: Run<'p>) -> Stage<'p>
+        ensures { result ≡ record { now = Runs run.entry; backlog = self.entry } }
+    {
+        let now = Now::Runs(run);
+        Stage { now, backlog: self }
     }
 
     /// A task has ended: its result goes to its scope, whose owner waits on. The root has none.
@@ -143,8 +155,8 @@ impl<'p> Backlog<'p> {
             None => backlog.pass(job, owner),
             Some(start) => {
                 backlog.owners.push_front(owner)?;
-                let now = Now::Runs(Run::begin(job.plan(), start)?);
-                Ok(Next::Going(Stage { now, backlog }))
+                let run = Run::begin(job.plan(), start)?;
+                Ok(Next::Going(backlog.runs(run)))
             }
         }
     }
@@ -153,7 +165,7 @@ impl<'p> Backlog<'p> {
     fn pass(self, job: Job<'p>, owner: Owner<'p>) -> Result<Next<'p>, RunError>
         requires job { IsJob job }
         requires stage { IsStage job (record { now = Waits owner; backlog = self }) }
-        requires empty { self.now.scope.waiting.items ≡ [] }
+        requires empty { self.scope.waiting.items ≡ [] }
         ensures next { IfOk result (IsNext job.entry) }
         ensures fewer { IfOk result (λ n. left_after job.entry n
             ≤ left_of_owner owner.entry + left_in job.entry self.entry) }
@@ -171,8 +183,8 @@ impl<'p> Backlog<'p> {
                 };
                 let scope = std::mem::replace(&mut backlog.scope, outer);
                 let settled = settle(job.alloc, result, scope.results)?;
-                let now = Now::Runs(paused.go_on(settled)?);
-                Ok(Next::Going(Stage { now, backlog }))
+                let run = paused.go_on(settled)?;
+                Ok(Next::Going(backlog.runs(run)))
             }
         }
     }

@@ -51,7 +51,7 @@ impl<'p> Job<'p> {
 
     /// What the root starts with: `main`, with all arrays.
     pub fn root(self) -> Result<Start<'p>, AllocError>
-        requires { IsInput (code_of self.now.accepted.now.typed).arrays (lists_in self.now.input.now) }
+        requires { IsInput (code_of self.accepted.now.typed).arrays (lists_in self.input.now) }
         ensures { IfOk result (λ s. start_of s ≡ root_of (code_of self.entry.accepted.now.typed)
             (lists_in self.entry.input.now) (budget_of self.entry.budget)) }
     {

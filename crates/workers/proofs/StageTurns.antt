@@ -1,0 +1,434 @@
+-- What each turn makes of a stage: again a stage of the run.
+use Rattle.std.proofs.Common.{◌≡◌, ℕ, List, [], ◌∷◌, ◌++◌, map, refl, sym, ap, ◌∙◌, subst, inl, inr, Some}
+use Rattle.std.proofs.lemmas.List.{map-append}
+use Rattle.std.specs.Prelude.{ℤ, Bool, ◌⊎◌}
+use Rattle.types.specs.Code.{Codes, Program}
+use Rattle.types.specs.Contents.{FitsArrays}
+use Rattle.types.specs.Outcome.{Budget}
+use Rattle.types.specs.Run.{State}
+use Rattle.types.specs.Translation.{program}
+use Rattle.types.proofs.InputLemmas.{FitsArrays-from_IsInput}
+use Rattle.effects.specs.Needs.{Needs}
+use Rattle.effects.specs.Rounds.{needs_of}
+use Rattle.serial_run.specs.declared.thread.Plan.{Plan}
+use Rattle.own_run.specs.Frames.{Frame, Rest, Again, AtEnd, Back, Standing, done_in, handed, turn}
+use Rattle.own_run.specs.Given.{in_truth}
+use Rattle.own_run.specs.Lists.{Each}
+use Rattle.own_run.specs.MayRun.{MayRun, MayWait}
+use Rattle.own_run.specs.OwnRun.{Action, Own, Spawn, Start, own_rules, result_of}
+use Rattle.own_run.specs.Reached.{begun, child_begins, leaves, turns}
+use Rattle.own_run.specs.Results.{Settled}
+use Rattle.own_run.specs.RunTurns.{DoneAs, EndsAs, GoesAs, GoesTo, IsTurn, TurnOf, Waits, WaitsAs}
+use Rattle.own_run.specs.Runs.{root, MayStand, IsTaskResult, IsOwnResult}
+use Rattle.own_run.specs.Settling.{settle}
+use Rattle.own_run.specs.Standings.{IsAt, state_of, with_own}
+use Rattle.own_run.specs.Stops.{stops}
+use Rattle.own_run.specs.Translation.{start, task_result}
+use Rattle.own_run.specs.Worth.{lists}
+use Rattle.own_run.specs.declared.result.TaskResult.{TaskResult}
+use Rattle.own_run.specs.declared.run.Run.{Run}
+use Rattle.own_run.specs.declared.start.Start.{Start as rStart}
+use Rattle.own_run.specs.declared.turn.Done.TheVariants.{Gone, Spawned, Entered, Exceeded}
+use Rattle.own_run.specs.declared.turn.Paused.{Paused}
+use Rattle.own_run.specs.declared.turn.Turn.{Turn}
+use Rattle.own_run.specs.declared.turn.Turn.TheVariants.{Going, Spawns, EntersFinish, EndsFinish, Ended, Over}
+use Rattle.own_run.proofs.AcceptedPrograms.{results_own}
+use Rattle.own_run.proofs.Children.{turn_lists}
+use Rattle.own_run.proofs.Lists.{each_last, each_map, each_more}
+use Rattle.workers.specs.Books.{Task, task_at, no_results, AreBalanced}
+use Rattle.workers.specs.Books.{Scope as ScopeBook}
+use Rattle.workers.specs.Jobs.{program_of, lists_of, budget_of, IsJob}
+use Rattle.workers.specs.Stages.{IsStage, IsBacklog, IsRunOf, IsAtFinish, IsAtEnd, IsOwner, AreOwners, IsNow, EndsAtRoot}
+use Rattle.workers.specs.Stages.{IsScope, IsBegun, IsResult, book_of, scopes_of}
+use Rattle.workers.specs.Turns.{IsTurnIn, EndsIn, RootEnds, MemberEnds}
+use Rattle.workers.specs.declared.backlog.Backlog.{Backlog}
+use Rattle.workers.specs.declared.backlog.Owner.{Owner}
+use Rattle.workers.specs.declared.backlog.Owner.TheVariants.{Root, Finish}
+use Rattle.workers.specs.declared.backlog.Scope.{Scope}
+use Rattle.workers.specs.declared.job.Job.{Job}
+use Rattle.workers.specs.declared.stage.Now.{Now}
+use Rattle.workers.specs.declared.stage.Now.TheVariants.{Runs}
+use Rattle.workers.specs.declared.stage.Now.TheVariants.{Waits as rWaits}
+use Rattle.workers.proofs.BookMoves.{entered_balanced, exceeded_balanced, gone_balanced, spawned_balanced, ended_balanced}
+
+-- ---- turns that go on
+abbrev Moves : Turn → Type 0
+Moves (Going r) = Unit {0}
+Moves (Spawns r c) = Unit {0}
+Moves (EntersFinish r) = Unit {0}
+Moves (Over r) = Unit {0}
+Moves (EndsFinish q x) = ⊥
+Moves (Ended x) = ⊥
+
+not_ended : (t : Turn) (st : State Own) → Moves t → EndsAs st t → ⊥
+not_ended (Going r) st m e = e
+not_ended (Spawns r c) st m e = e
+not_ended (EntersFinish r) st m e = e
+not_ended (Over r) st m e = e
+not_ended (EndsFinish q x) st m e = m
+not_ended (Ended x) st m e = m
+
+not_waiting : (old : Run) (t : Turn) (fs : List (Frame Own)) (before st : State Own) → Moves t → WaitsAs old fs before st t → ⊥
+not_waiting old (Going r) fs before st m e = e
+not_waiting old (Spawns r c) fs before st m e = e
+not_waiting old (EntersFinish r) fs before st m e = e
+not_waiting old (Over r) fs before st m e = e
+not_waiting old (EndsFinish q x) fs before st m e = m
+not_waiting old (Ended x) fs before st m e = m
+
+-- the last task is the root, whichever task with its start stands first
+same_root : (j : Job) (t u : Task) (ts : List Task) → t.start ≡ u.start → EndsAtRoot j t ts → EndsAtRoot j u ts
+same_root j t u [] e h = sym e ∙ h
+same_root j t u (v ∷ ts) e h = h
+
+module _ (j : Job) (ok : IsJob j) where
+  abbrev p : Program
+  p = program_of j
+
+  abbrev input : List (List ℤ)
+  input = lists_of j
+
+  abbrev b : Budget
+  b = budget_of j
+
+  abbrev needs : Codes → Needs
+  needs = needs_of p
+
+  abbrev close : State Own → _
+  close = in_truth p needs b.steps
+
+  pub fits : FitsArrays p.arrays input
+  fits = FitsArrays-from_IsInput p.arrays input ok.fits
+
+  -- a run that stands so is of the task there
+  pub at_next : (s : Start) (next : Standing Own) (r : Run) → r.plan.budget ≡ j.budget → program r.plan.program.now ≡ p
+      → r.thread.nest ≡ s.nest → MayStand p input b s next → IsAt r next → IsRunOf j (task_at s next) r
+  at_next s next r budget is nest stands at = record {
+    budget = budget;
+    may = record {
+      program = is;
+      start = s;
+      nest = nest;
+      frames = next.frames;
+      own = at.own;
+      shows = at.shows;
+      stands = subst (λ (st : State Own). MayStand p input b s (record { frames = next.frames; state = st })) (sym at.is) stands;
+    };
+    start = refl;
+    lists = ap (λ (st : State Own). lists (record { frames = next.frames; state = st })) at.is;
+  }
+
+  -- ---- a turn of the task that runs
+  module _ (k : Backlog) (r0 : Run) (first : Task) (below : List Task) (runs : IsRunOf j first r0) (around : IsBacklog j first below k) where
+    abbrev s : Start
+    s = runs.may.start
+
+    abbrev st : State Own
+    st = with_own runs.may.own (state_of r0.thread)
+
+    abbrev Books : Task → List ScopeBook → Type 0
+    Books t ks = AreBalanced p b (t ∷ below) ks
+
+    abbrev books : List ScopeBook
+    books = map book_of (scopes_of k)
+
+    first_is : first ≡ task_at s (record { frames = runs.may.frames; state = st })
+    first_is = λ t. record { start = sym runs.start t; lists = sym runs.lists t }
+
+    balanced_first : Books (task_at s (record { frames = runs.may.frames; state = st })) books
+    balanced_first = subst (λ (t : Task). Books t books) first_is around.balanced
+
+    rooted : (t : Standing Own) → EndsAtRoot j (task_at s t) below
+    rooted t = same_root j first (task_at s t) below (sym runs.start) around.root
+
+    -- where it stands after a turn
+    abbrev to : Frame Own → List (Frame Own) → Standing Own
+    to f fs = turn (program r0.plan.program.now) (own_rules needs r0.thread.nest close) f fs st
+
+    abbrev Stands : List (Frame Own) → Type 0
+    Stands fs = MayStand p input b s (record { frames = fs; state = st })
+
+    stands_next : (f : Frame Own) (fs : List (Frame Own)) → Stands (f ∷ fs) → MayStand p input b s (to f fs)
+    stands_next f fs h =
+        let same : turn p (own_rules needs s.nest close) f fs st ≡ to f fs
+        = ap (λ (n : ℕ). turn p (own_rules needs n close) f fs st) (sym runs.may.nest)
+        ∙ ap (λ (q : Program). turn q (own_rules needs r0.thread.nest close) f fs st) (sym runs.may.program) in
+        subst (MayStand p input b s) same (turns h)
+
+    runs_next : (r : Run) (f : Frame Own) (fs : List (Frame Own)) → Stands (f ∷ fs) → GoesTo r0 (to f fs) r → IsRunOf j (task_at s (to f fs)) r
+    runs_next r f fs h g =
+        at_next s (to f fs) r (ap (λ (q : Plan). q.budget) g.plan ∙ runs.budget)
+        (ap (λ (q : Plan). program q.program.now) g.plan ∙ runs.may.program) (g.nest ∙ runs.may.nest) (stands_next f fs h) g.stands
+
+    books_next : (f : Frame Own) (fs : List (Frame Own)) (ks : List ScopeBook)
+        → Books (task_at s (turn p (own_rules needs r0.thread.nest close) f fs st)) ks → Books (task_at s (to f fs)) ks
+    books_next f fs ks h =
+        subst (λ (q : Program). Books (task_at s (turn q (own_rules needs r0.thread.nest close) f fs st)) ks) (sym runs.may.program) h
+
+    -- by the frame that took the turn
+    abbrev Goes : Turn → (f : Frame Own) → (fs : List (Frame Own)) → Type 0
+    Goes t f fs = GoesAs r0 (to f fs) (done_in needs r0.thread.nest f st) (stops r0.thread.nest f st) t
+
+    by_frame : (t : Turn) → Moves t → (P : List (Frame Own) → Type 0)
+        → ((f : Frame Own) (fs : List (Frame Own)) → Goes t f fs → P (f ∷ fs))
+        → (fs : List (Frame Own)) → TurnOf needs close r0 fs st t → P fs
+    by_frame t m P go [] h = absurd (not_ended t st m h)
+    by_frame t m P go (AtEnd before ∷ fs) h = absurd (not_waiting r0 t fs before st m h)
+    by_frame t m P go (Rest c ∷ fs) h = go (Rest c) fs h
+    by_frame t m P go (Again l g c ∷ fs) h = go (Again l g c) fs h
+    by_frame t m P go (Back env ∷ fs) h = go (Back env) fs h
+
+    -- the stage after it, where owners stay
+    stage_next : (r : Run) (to_k : Backlog) (f : Frame Own) (fs : List (Frame Own)) → Stands (f ∷ fs) → GoesTo r0 (to f fs) r
+        → to_k.owners ≡ k.owners → Each (IsScope j) (scopes_of to_k)
+        → Books (task_at s (turn p (own_rules needs r0.thread.nest close) f fs st)) (map book_of (scopes_of to_k))
+        → IsStage j (record { now = Runs r; backlog = to_k })
+    stage_next r to_k f fs h g same scopes balanced = record {
+      first = task_at s (to f fs);
+      below = below;
+      now = runs_next r f fs h g;
+      backlog = record {
+        owners = subst (λ (os : _). AreOwners j below os.items) (sym same) around.owners;
+        root = rooted (to f fs);
+        scopes = scopes;
+        balanced = books_next f fs (map book_of (scopes_of to_k)) balanced;
+      };
+    }
+
+    abbrev Turns : Turn → Type 0
+    Turns t = TurnOf needs close r0 runs.may.frames st t
+
+    going_stage : (r : Run) → Turns (Going r) → IsStage j (record { now = Runs r; backlog = k })
+    going_stage r h =
+        by_frame (Going r) tt
+        (λ fs. Stands fs → Books (task_at s (record { frames = fs; state = st })) books → IsStage j (record { now = Runs r; backlog = k }))
+        (λ f fs g stands bal. stage_next r k f fs stands g.0 refl around.scopes
+        (gone_balanced p b needs close r0.thread.nest f fs st s below books g.1 bal))
+        runs.may.frames h runs.may.stands balanced_first
+
+    over_stage : (r : Run) → Turns (Over r) → IsStage j (record { now = Runs r; backlog = k })
+    over_stage r h =
+        by_frame (Over r) tt
+        (λ fs. Stands fs → Books (task_at s (record { frames = fs; state = st })) books → IsStage j (record { now = Runs r; backlog = k }))
+        (λ f fs g stands bal. stage_next r k f fs stands g.0 refl around.scopes
+        (exceeded_balanced p b needs close r0.thread.nest f fs st s below books g.1 bal))
+        runs.may.frames h runs.may.stands balanced_first
+
+    -- a finish is entered
+    enters_stage : (r : Run) (to_k : Backlog) → to_k.owners ≡ k.owners → to_k.outer.items ≡ scopes_of k
+        → to_k.scope.waiting.items ≡ [] → to_k.scope.results.items ≡ [] → Turns (EntersFinish r)
+        → IsStage j (record { now = Runs r; backlog = to_k })
+    enters_stage r to_k same outer none no_one h =
+        by_frame (EntersFinish r) tt
+        (λ fs. Stands fs → Books (task_at s (record { frames = fs; state = st })) books → IsStage j (record { now = Runs r; backlog = to_k }))
+        (λ f fs g stands bal. stage_next r to_k f fs stands g.0 same
+        (
+          record { waiting = subst (Each (IsBegun j)) (sym none) tt; results = subst (Each (IsResult j)) (sym no_one) tt },
+          subst (Each (IsScope j)) (sym outer) around.scopes,
+        )
+        (subst (Books (task_at s (turn p (own_rules needs r0.thread.nest close) f fs st))) (sym new_books)
+        (entered_balanced p b needs close r0.thread.nest f fs st s below books g.1 bal)))
+        runs.may.frames h runs.may.stands balanced_first
+      where
+        new_books : map book_of (scopes_of to_k) ≡ no_results ∷ books
+        new_books =
+            ap (λ (ks : List ScopeBook). book_of to_k.scope ∷ ks) (ap (map book_of) outer)
+            ∙ (λ t. record { results = ap (map task_result) no_one t; waiting = ap (map start) none t } ∷ books)
+
+    -- a task is begun: it is one of the program's
+    child_begun : (c : rStart) (f : Frame Own) (fs : List (Frame Own)) → Stands (f ∷ fs)
+        → done_in needs r0.thread.nest f st ≡ Spawn (start c) ∷ [] → IsBegun j c
+    child_begun c f fs h e =
+        let l = turn_lists p needs close (start c) s.nest f fs st
+        (ap (λ (n : ℕ). done_in needs n f st) (sym runs.may.nest) ∙ e) in
+        subst (λ (x : Start). MayStand p input b x (begun b.steps x)) l.start (child_begins (turns h) l.member)
+
+    spawns_stage : (r : Run) (c : rStart) (to_k : Backlog) → to_k.owners ≡ k.owners → to_k.outer ≡ k.outer
+        → to_k.scope.waiting.items ≡ k.scope.waiting.items ++ c ∷ [] → to_k.scope.results ≡ k.scope.results → Turns (Spawns r c)
+        → IsStage j (record { now = Runs r; backlog = to_k })
+    spawns_stage r c to_k same outer more results h =
+        by_frame (Spawns r c) tt
+        (λ fs. Stands fs → Books (task_at s (record { frames = fs; state = st })) books → IsStage j (record { now = Runs r; backlog = to_k }))
+        (λ f fs g stands bal. stage_next r to_k f fs stands g.0 same
+        (
+          record {
+            waiting = subst (Each (IsBegun j)) (sym more)
+                (each_last (IsBegun j) k.scope.waiting.items c around.scopes.0.waiting (child_begun c f fs stands g.1.1));
+            results = subst (λ (rs : _). Each (IsResult j) rs.items) (sym results) around.scopes.0.results;
+          },
+          subst (λ (ks : _). Each (IsScope j) ks.items) (sym outer) around.scopes.1,
+        )
+        (subst (Books (task_at s (turn p (own_rules needs r0.thread.nest close) f fs st))) (sym new_books)
+        (spawned_balanced p b needs close r0.thread.nest f fs st s below c (book_of k.scope) (map book_of k.outer.items) g.1 bal)))
+        runs.may.frames h runs.may.stands balanced_first
+      where
+        new_books : map book_of (scopes_of to_k)
+            ≡ record (book_of k.scope) { waiting = map start k.scope.waiting.items ++ start c ∷ [] } ∷ map book_of k.outer.items
+        new_books =
+            ap (λ (ks : _). book_of to_k.scope ∷ map book_of ks.items) outer
+            ∙ (λ t. record {
+              results = ap (λ (rs : _). map task_result rs.items) results t;
+              waiting = (ap (map start) more ∙ map-append start k.scope.waiting.items (c ∷ [])) t;
+            } ∷ map book_of k.outer.items)
+
+    -- the task is at the end of a finish
+    waits_stage : (q : Paused) (x : TaskResult) → Turns (EndsFinish q x) → IsStage j (record { now = rWaits (Finish q x); backlog = k })
+    waits_stage q x h = by_frames runs.may.frames h runs.may.stands balanced_first
+      where
+        by_frames : (fs : List (Frame Own)) → TurnOf needs close r0 fs st (EndsFinish q x) → Stands fs
+            → Books (task_at s (record { frames = fs; state = st })) books → IsStage j (record { now = rWaits (Finish q x); backlog = k })
+        by_frames [] h stands bal = absurd h
+        by_frames (Rest c ∷ fs) h stands bal = absurd h
+        by_frames (Again l g c ∷ fs) h stands bal = absurd h
+        by_frames (Back env ∷ fs) h stands bal = absurd h
+        by_frames (AtEnd before ∷ fs) (waits, plan, nest, made) stands bal = record {
+          first = task_at s (record { frames = AtEnd before ∷ fs; state = st });
+          below = below;
+          now = record {
+            budget = ap (λ (z : Plan). z.budget) plan ∙ runs.budget;
+            may = record {
+              program = ap (λ (z : Plan). program z.program.now) plan ∙ runs.may.program;
+              start = s;
+              nest = nest ∙ runs.may.nest;
+              frames = fs;
+              before = before;
+              state = st;
+              waits = waits;
+              stands = stands;
+              made = made;
+            };
+            start = refl;
+            lists = refl;
+          };
+          backlog = record {
+            owners = around.owners;
+            root = rooted (record { frames = AtEnd before ∷ fs; state = st });
+            scopes = around.scopes;
+            balanced = bal;
+          };
+        }
+
+    -- the task has ended
+    ends_stage : (x : TaskResult) (to_k : Backlog) (o : Owner) → EndsIn k to_k x o → Turns (Ended x)
+        → IsStage j (record { now = rWaits o; backlog = to_k })
+    ends_stage x to_k o ends h = by_frames runs.may.frames h runs.may.stands balanced_first
+      where
+        at_end : Standing Own
+        at_end = record { frames = []; state = st }
+
+        alone : (ts : List Task) → AreOwners j ts [] → ts ≡ []
+        alone [] h = refl
+        alone (t ∷ ts) h = absurd h
+
+        root_ends : RootEnds k to_k x o → task_result x ≡ result_of st → Stands []
+            → Books (task_at s (record { frames = []; state = st })) books → IsStage j (record { now = rWaits o; backlog = to_k })
+        root_ends e made stands bal =
+            let none : below ≡ [] = alone below (subst (AreOwners j below) e.alone around.owners) in
+            let is_root : s ≡ root p input b
+            = subst (λ (ts : List Task). EndsAtRoot j (task_at s (record { frames = []; state = st })) ts) none
+            (rooted (record { frames = []; state = st })) in
+            record {
+              first = task_at s (record { frames = []; state = st });
+              below = below;
+              now = subst (IsOwner j (task_at s (record { frames = []; state = st })) below) (sym e.waits) (
+                record {
+                  state = st;
+                  stands = subst (λ (z : Start). MayStand p input b z (record { frames = []; state = st })) is_root stands;
+                  made = made;
+                  start = sym is_root;
+                  lists = refl;
+                },
+                none,
+              );
+              backlog = record {
+                owners = subst (λ (ts : List Task). AreOwners j ts to_k.owners.items) (sym none)
+                    (subst (AreOwners j []) (sym e.none) tt);
+                root = rooted (record { frames = []; state = st });
+                scopes = subst (λ (z : Scope). Each (IsScope j) (z ∷ to_k.outer.items)) (sym e.scope)
+                    (subst (λ (ks : _). Each (IsScope j) (k.scope ∷ ks.items)) (sym e.outer) around.scopes);
+                balanced = subst (λ (z : Scope). Books (task_at s (record { frames = []; state = st })) (map book_of (z ∷ to_k.outer.items)))
+                    (sym e.scope)
+                    (subst (λ (ks : _). Books (task_at s (record { frames = []; state = st })) (map book_of (k.scope ∷ ks.items))) (sym e.outer) bal);
+              };
+            }
+
+        member_ends : MemberEnds k to_k x o → (ts : List Task) → AreOwners j ts (o ∷ to_k.owners.items)
+            → EndsAtRoot j (task_at s (record { frames = []; state = st })) ts → task_result x ≡ result_of st → Stands []
+            → AreBalanced p b (task_at s (record { frames = []; state = st }) ∷ ts) books
+            → IsStage j (record { now = rWaits o; backlog = to_k })
+        member_ends e [] owners root made stands bal = absurd owners
+        member_ends e (u ∷ ts) owners root made stands bal = record {
+          first = u;
+          below = ts;
+          now = owners.0;
+          backlog = record {
+            owners = owners.1;
+            root = root;
+            scopes = (
+              record {
+                waiting = subst (λ (ws : _). Each (IsBegun j) ws.items) (sym e.waiting) around.scopes.0.waiting;
+                results = subst (Each (IsResult j)) (sym e.results)
+                    (each_last (IsResult j) k.scope.results.items x around.scopes.0.results
+                    (record { start = s; state = st; ended = stands; is = made }));
+              },
+              subst (λ (ks : _). Each (IsScope j) ks.items) (sym e.outer) around.scopes.1,
+            );
+            balanced = subst (AreBalanced p b (u ∷ ts)) (sym new_books)
+                (ended_balanced p ok.sound ok.accepted input b fits s st u ts (book_of k.scope) (map book_of k.outer.items) stands bal);
+          };
+        }
+          where
+            new_books : map book_of (scopes_of to_k)
+                ≡ record (book_of k.scope) { results = map task_result k.scope.results.items ++ result_of st ∷ [] } ∷ map book_of k.outer.items
+            new_books =
+                ap (λ (ks : _). book_of to_k.scope ∷ map book_of ks.items) e.outer
+                ∙ (λ t. record {
+                  results =
+                      (ap (map task_result) e.results ∙ map-append task_result k.scope.results.items (x ∷ [])
+                      ∙ ap (λ r. map task_result k.scope.results.items ++ r ∷ []) made) t;
+                  waiting = ap (λ (ws : _). map start ws.items) e.waiting t;
+                } ∷ map book_of k.outer.items)
+
+        by_way : EndsIn k to_k x o → task_result x ≡ result_of st → Stands []
+            → Books (task_at s (record { frames = []; state = st })) books → IsStage j (record { now = rWaits o; backlog = to_k })
+        by_way (inl e) made stands bal = root_ends e made stands bal
+        by_way (inr e) made stands bal =
+            member_ends e below (subst (AreOwners j below) e.owners around.owners) (rooted (record { frames = []; state = st })) made stands bal
+
+        by_frames : (fs : List (Frame Own)) → TurnOf needs close r0 fs st (Ended x) → Stands fs
+            → Books (task_at s (record { frames = fs; state = st })) books → IsStage j (record { now = rWaits o; backlog = to_k })
+        by_frames [] h stands bal = by_way ends h stands bal
+        by_frames (Rest c ∷ fs) h stands bal = absurd h
+        by_frames (Again l g c ∷ fs) h stands bal = absurd h
+        by_frames (Back env ∷ fs) h stands bal = absurd h
+        by_frames (AtEnd before ∷ fs) h stands bal = absurd h
+
+  -- ---- the same of a turn in a stage
+  module _ (k : Backlog) (t : Turn) (h : IsTurnIn j k t) where
+    pub turn_of : TurnOf needs close h.run h.stage.now.may.frames (with_own h.stage.now.may.own (state_of h.run.thread)) t
+    turn_of = h.turn close h.stage.now.may.frames h.stage.now.may.own h.stage.now.may.shows
+
+  pub going : (k : Backlog) (r : Run) → IsTurnIn j k (Going r) → IsStage j (record { now = Runs r; backlog = k })
+  going k r h = going_stage k h.run h.stage.first h.stage.below h.stage.now h.stage.backlog r (turn_of k (Going r) h)
+
+  pub over : (k : Backlog) (r : Run) → IsTurnIn j k (Over r) → IsStage j (record { now = Runs r; backlog = k })
+  over k r h = over_stage k h.run h.stage.first h.stage.below h.stage.now h.stage.backlog r (turn_of k (Over r) h)
+
+  pub spawns : (k to_k : Backlog) (r : Run) (c : rStart) → IsTurnIn j k (Spawns r c) → to_k.owners ≡ k.owners → to_k.outer ≡ k.outer
+      → to_k.scope.waiting.items ≡ k.scope.waiting.items ++ c ∷ [] → to_k.scope.results ≡ k.scope.results
+      → IsStage j (record { now = Runs r; backlog = to_k })
+  spawns k to_k r c h same outer more results =
+      spawns_stage k h.run h.stage.first h.stage.below h.stage.now h.stage.backlog r c to_k same outer more results (turn_of k (Spawns r c) h)
+
+  pub enters : (k to_k : Backlog) (r : Run) → IsTurnIn j k (EntersFinish r) → to_k.owners ≡ k.owners → to_k.outer.items ≡ scopes_of k
+      → to_k.scope.waiting.items ≡ [] → to_k.scope.results.items ≡ [] → IsStage j (record { now = Runs r; backlog = to_k })
+  enters k to_k r h same outer none no_one =
+      enters_stage k h.run h.stage.first h.stage.below h.stage.now h.stage.backlog r to_k same outer none no_one (turn_of k (EntersFinish r) h)
+
+  pub waits : (k : Backlog) (q : Paused) (x : TaskResult) → IsTurnIn j k (EndsFinish q x)
+      → IsStage j (record { now = rWaits (Finish q x); backlog = k })
+  waits k q x h = waits_stage k h.run h.stage.first h.stage.below h.stage.now h.stage.backlog q x (turn_of k (EndsFinish q x) h)
+
+  pub ends : (k to_k : Backlog) (x : TaskResult) (o : Owner) → IsTurnIn j k (Ended x) → EndsIn k to_k x o
+      → IsStage j (record { now = rWaits o; backlog = to_k })
+  ends k to_k x o h e = ends_stage k h.run h.stage.first h.stage.below h.stage.now h.stage.backlog x to_k o e (turn_of k (Ended x) h)

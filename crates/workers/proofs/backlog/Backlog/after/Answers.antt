@@ -1,0 +1,2 @@
+use Rattle.workers.proofs.StageTurns.{going}
+use Rattle.workers.proofs.backlog.Backlog.after.Goals as goal
