@@ -1,6 +1,7 @@
 pub mod AccessExamples
 pub mod AccessLemmas
 pub mod BookLemmas
+pub mod BookMoves
 pub mod BudgetExamples
 pub mod BudgetLemmas
 pub mod FinishesLemmas

@@ -3,13 +3,18 @@ use Rattle.std.specs.Prelude.{ℕ, ◌+◌, ◌≡◌, List, [], ◌∷◌, ◌+
 use Rattle.types.specs.Code.{Program}
 use Rattle.types.specs.Outcome.{Budget}
 use Rattle.own_run.specs.Results.{TaskResult}
-use Rattle.own_run.specs.OwnRun.{Start, Child}
-use Rattle.own_run.specs.Worth.{measured, worth, Lists}
+use Rattle.own_run.specs.OwnRun.{Start, Child, Own}
+use Rattle.own_run.specs.Frames.{Standing}
+use Rattle.own_run.specs.Worth.{measured, worth, Lists, lists}
 
 -- a task on the stack, with the children that it lists
 pub record Task : Type 0 where
   pub start : Start
   pub lists : Lists
+
+-- a task where it stands
+abbrev pub task_at : Start → Standing Own → Task
+task_at s t = record { start = s; lists = lists t }
 
 -- a finish's scope, or the root's
 pub record Scope : Type 0 where
