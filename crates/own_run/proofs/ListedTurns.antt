@@ -1,5 +1,5 @@
 -- What a turn makes of the lists of a task's children: what it does says it.
-use Rattle.std.proofs.Common.{◌≡◌, ℕ, zero, suc, List, [], ◌∷◌, ◌++◌, Option, Ok, Err, refl, sym, ap, ◌∙◌, subst, inl, inr}
+use Rattle.std.proofs.Common.{◌≡◌, ℕ, zero, suc, List, [], ◌∷◌, Option, Ok, Err, refl, ap, ◌∙◌, subst, inl, inr}
 use Rattle.std.specs.Prelude.{Bool, true, false, ◌⊎◌, ok_or}
 use Rattle.sections.specs.Place.{sides_of}
 use Rattle.types.specs.declared.fault.FaultKind.TheVariants.{SplitPoint}
@@ -12,13 +12,13 @@ use Rattle.types.proofs.Keeps.{primitive_keeps}
 use Rattle.effects.specs.Needs.{Needs}
 use Rattle.effects.proofs.Members.{false_true}
 use Rattle.own_run.specs.Results.{Settled}
-use Rattle.own_run.specs.OwnRun.{Start, Child, Action, Step, Spawn, EnterFinish, Own, notes, own_rules, child_of}
+use Rattle.own_run.specs.OwnRun.{Child, Action, Step, Spawn, EnterFinish, Own, notes, own_rules, child_of}
 use Rattle.own_run.specs.Frames.{Frame, Rest, Again, AtEnd, Back, Standing, by_value, chosen, paid, by_flow, turn}
 use Rattle.own_run.specs.Frames.{done_by, done_at, done_in}
 use Rattle.own_run.specs.Stops.{is_over, is_next_over, stops}
 use Rattle.own_run.specs.RunTurns.{DoneAs}
 use Rattle.own_run.specs.Translation.{start}
-use Rattle.own_run.specs.Worth.{Lists, around, lists, with_child, inside, ListsChild, ListsAs}
+use Rattle.own_run.specs.Worth.{Lists, around, lists, inside, ListsChild, ListsAs}
 use Rattle.own_run.specs.declared.start.Start.{Start as rStart}
 use Rattle.own_run.specs.declared.turn.Done.TheVariants.{Gone, Spawned, Entered, Exceeded}
 

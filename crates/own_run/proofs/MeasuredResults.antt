@@ -1,7 +1,7 @@
 -- Results that measure as all that a task has pending are these, each once: so they settle.
-use Rattle.std.proofs.Common.{◌≡◌, ℕ, zero, suc, ◌+◌, ◌≤◌, List, [], ◌∷◌, ◌++◌, Some, refl, sym, ap, ◌∙◌, subst, arith}
+use Rattle.std.proofs.Common.{◌≡◌, ℕ, zero, suc, ◌+◌, ◌≤◌, List, [], ◌∷◌, Some, refl, sym, ap, ◌∙◌, subst, arith}
 use Rattle.std.proofs.lemmas.List.Sums.{sum_by-cons}
-use Rattle.std.specs.Prelude.{ℤ, Bool, true, false, nat_eq, flat_map, sum_by, if◌then◌else◌}
+use Rattle.std.specs.Prelude.{ℤ, Bool, true, false, nat_eq, sum_by, if◌then◌else◌}
 use Rattle.std.specs.Cmp.Lexicographic.{pointwise}
 use Rattle.types.specs.Code.{Codes, Program}
 use Rattle.types.specs.Contents.{FitsArrays}

@@ -1,4 +1,4 @@
--- What results are worth by a measure, and which children a task lists at the finishes that it has open.
+-- What results are worth by a measure, and the children that a task lists at its open finishes.
 use Rattle.std.specs.Prelude.{ℕ, ◌+◌, ◌≡◌, List, [], ◌∷◌, ◌++◌, sum_by}
 use Rattle.types.specs.Code.{Codes, Program}
 use Rattle.types.specs.Outcome.{Budget}

@@ -1,12 +1,12 @@
 -- Each move of a driver on one thread keeps its books balanced, and what a finish has at its end is all that is listed for it.
-use Rattle.std.proofs.Common.{◌≡◌, ℕ, ◌+◌, List, [], ◌∷◌, ◌++◌, refl, sym, ap, ◌∙◌, subst, arith}
+use Rattle.std.proofs.Common.{◌≡◌, ℕ, ◌+◌, List, [], ◌∷◌, ◌++◌, refl, sym, ap, subst, arith}
 use Rattle.std.proofs.lemmas.List.Sums.{sum_by-cons, sum_by-append, sum_by_push}
 use Rattle.std.specs.Prelude.{sum_by}
 use Rattle.types.specs.Code.{Program}
 use Rattle.types.specs.Outcome.{Budget}
 use Rattle.own_run.specs.Results.{TaskResult}
 use Rattle.own_run.specs.OwnRun.{Start, Child}
-use Rattle.own_run.specs.Worth.{measured, worth, listed_worth, Lists, no_lists, with_child, inside}
+use Rattle.own_run.specs.Worth.{measured, worth, listed_worth, no_lists, with_child, inside}
 use Rattle.workers.specs.Books.{Task, Scope, Due, no_results, for_parent, for_finishes, dues, AllCover, AreBalanced}
 
 -- a stack is not empty

@@ -8,7 +8,7 @@ use Rattle.types.specs.Run.{State}
 use Rattle.effects.specs.Needs.{Needs}
 use Rattle.effects.specs.Sound.{IsSound}
 use Rattle.race_checker.specs.Clash.{IsAccepted}
-use Rattle.own_run.specs.Results.{TaskResult, Settled}
+use Rattle.own_run.specs.Results.{Settled}
 use Rattle.own_run.specs.OwnRun.{Start, Own, result_of, own_rules}
 use Rattle.own_run.specs.Frames.{Frame, AtEnd, Standing, turn, handed, done_in}
 use Rattle.own_run.specs.Lists.{Each}
@@ -18,7 +18,7 @@ use Rattle.own_run.specs.RunTurns.{DoneAs}
 use Rattle.own_run.specs.Settling.{settle}
 use Rattle.own_run.specs.Stops.{stops}
 use Rattle.own_run.specs.Translation.{start}
-use Rattle.own_run.specs.Worth.{Lists, lists, with_child, inside, ListsChild}
+use Rattle.own_run.specs.Worth.{Lists, lists, with_child, inside}
 use Rattle.own_run.specs.declared.start.Start.{Start as rStart}
 use Rattle.own_run.specs.declared.turn.Done.TheVariants.{Gone, Spawned, Entered, Exceeded}
 use Rattle.own_run.proofs.ListedTurns.{gone_lists, spawned_lists, entered_lists, exceeded_lists}

@@ -1,4 +1,5 @@
 pub mod BookLemmas
 pub mod BookMoves
 pub mod Shown
+pub mod StagePasses
 pub mod StageTurns

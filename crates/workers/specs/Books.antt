@@ -41,10 +41,10 @@ for_parent s cs (d ∷ ds) =
     record { listed = cs ++ d.listed; running = s ∷ d.running } ∷ ds
 
 -- each other list is for the scope of its finish
-abbrev pub for_finishes : Start → (inner : List Child) → (outer : List (List Child)) → List Due → List Due
+abbrev pub for_finishes : Start → List Child → (outer : List (List Child)) → List Due → List Due
 for_finishes s cs [] ds = for_parent s cs ds
-for_finishes s cs (outer ∷ more) ds =
-    record { listed = cs; running = [] } ∷ for_finishes s outer more ds
+for_finishes s cs (next ∷ more) ds =
+    record { listed = cs; running = [] } ∷ for_finishes s next more ds
 
 -- what is due to each scope by a stack of tasks, the running one first and the root last
 abbrev pub dues : List Task → List Due
