@@ -1,5 +1,8 @@
 pub mod BookLemmas
 pub mod BookMoves
+pub mod LeftLemmas
+pub mod Roots
 pub mod Shown
+pub mod StageBegins
 pub mod StagePasses
 pub mod StageTurns

@@ -1,6 +1,6 @@
 -- The numbers of arrays, one after the other.
 use Rattle.std.proofs.Common.{◌≡◌, ℕ, zero, suc, ◌+◌, ◌-◌, ◌<◌, ◌≤◌, List, [], ◌∷◌, ◌++◌, length, ap, ◌∙◌, refl, sym, arith, subst}
-use Rattle.std.proofs.lemmas.List.{append-nil, append-assoc}
+use Rattle.std.proofs.lemmas.List.{append-nil, append_assoc}
 use Rattle.std.specs.Prelude.{ℤ, drop, map}
 use Rattle.types.specs.Code.{Array}
 use Rattle.types.specs.Contents.{Contents, read, row, rows}
@@ -15,7 +15,7 @@ pub row_more : (c : Contents) (a i n : ℕ) (ns : List ℤ) (v : ℤ) (all : Lis
     → ns ++ row c a i (n - i) ≡ all → (ns ++ v ∷ []) ++ row c a (i + 1) (n - (i + 1)) ≡ all
 row_more c a i n ns v all lt is h =
     let e : n - i ≡ suc (n - (i + 1)) = omega (arith, lt) in
-    append-assoc ns (v ∷ []) (row c a (i + 1) (n - (i + 1)))
+    append_assoc ns (v ∷ []) (row c a (i + 1) (n - (i + 1)))
     ∙ ap (λ x. ns ++ x ∷ row c a (i + 1) (n - (i + 1))) is
     ∙ ap (λ r. ns ++ r) (sym (row_first c a i (n - i) (n - (i + 1)) e))
     ∙ h
@@ -35,7 +35,7 @@ pub rows_more : (c : Contents) (n : ℕ) (xs rest : List rArray) (x : rArray) (l
     → xs ≡ x ∷ rest → l ≡ row c n 0 x.length → ls ++ rows c n (map array xs) ≡ all
     → (ls ++ l ∷ []) ++ rows c (n + 1) (map array rest) ≡ all
 rows_more c n xs rest x ls all l e is h =
-    append-assoc ls (l ∷ []) (rows c (n + 1) (map array rest))
+    append_assoc ls (l ∷ []) (rows c (n + 1) (map array rest))
     ∙ ap (λ y. ls ++ y ∷ rows c (n + 1) (map array rest)) is
     ∙ ap (λ r. ls ++ r) (sym (rows_first c n x xs rest e))
     ∙ h

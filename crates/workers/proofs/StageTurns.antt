@@ -1,7 +1,7 @@
 -- What each turn makes of a stage: again a stage of the run.
 use Rattle.std.proofs.Common.{◌≡◌, ℕ, List, [], ◌∷◌, ◌++◌, map, refl, sym, ap, ◌∙◌, subst, inl, inr, Some}
 use Rattle.std.proofs.lemmas.List.{map-append}
-use Rattle.std.specs.Prelude.{ℤ, Bool, ◌⊎◌}
+use Rattle.std.specs.Prelude.{ℤ, Bool, Option, ◌⊎◌}
 use Rattle.types.specs.Code.{Codes, Program}
 use Rattle.types.specs.Contents.{FitsArrays}
 use Rattle.types.specs.Outcome.{Budget}
@@ -77,7 +77,7 @@ not_waiting old (EndsFinish q x) fs before st m e = m
 not_waiting old (Ended x) fs before st m e = m
 
 -- the last task is the root, whichever task with its start stands first
-same_root : (j : Job) (t u : Task) (ts : List Task) → t.start ≡ u.start → EndsAtRoot j t ts → EndsAtRoot j u ts
+pub same_root : (j : Job) (t u : Task) (ts : List Task) → t.start ≡ u.start → EndsAtRoot j t ts → EndsAtRoot j u ts
 same_root j t u [] e h = sym e ∙ h
 same_root j t u (v ∷ ts) e h = h
 
@@ -94,7 +94,7 @@ module _ (j : Job) (ok : IsJob j) where
   abbrev needs : Codes → Needs
   needs = needs_of p
 
-  abbrev close : State Own → _
+  abbrev close : State Own → Option Settled
   close = in_truth p needs b.steps
 
   pub fits : FitsArrays p.arrays input
@@ -356,14 +356,14 @@ module _ (j : Job) (ok : IsJob j) where
             → EndsAtRoot j (task_at s (record { frames = []; state = st })) ts → task_result x ≡ result_of st → Stands []
             → AreBalanced p b (task_at s (record { frames = []; state = st }) ∷ ts) books
             → IsStage j (record { now = rWaits o; backlog = to_k })
-        member_ends e [] owners root made stands bal = absurd owners
-        member_ends e (u ∷ ts) owners root made stands bal = record {
+        member_ends e [] owners rooted_so made stands bal = absurd owners
+        member_ends e (u ∷ ts) owners rooted_so made stands bal = record {
           first = u;
           below = ts;
           now = owners.0;
           backlog = record {
             owners = owners.1;
-            root = root;
+            root = rooted_so;
             scopes = (
               record {
                 waiting = subst (λ (ws : _). Each (IsBegun j) ws.items) (sym e.waiting) around.scopes.0.waiting;

@@ -1,5 +1,5 @@
 -- How many turns are left at most.
-use Rattle.std.specs.Prelude.{ℕ, ◌+◌, sum_by}
+use Rattle.std.specs.Prelude.{ℕ, ◌+◌, ◌<◌, sum_by}
 use Rattle.own_run.specs.Left.{left_of, left_of_paused, left_of_start}
 use Rattle.workers.specs.declared.backlog.Backlog.{Backlog}
 use Rattle.workers.specs.declared.backlog.Owner.{Owner}
@@ -36,7 +36,7 @@ left_now (Waits o) = left_of_owner o
 abbrev pub left : Job → Stage → ℕ
 left j s = left_now s.now + left_in j s.backlog
 
--- after a turn
-abbrev pub left_after : Job → Next → ℕ
-left_after j (Going s) = left j s
-left_after j (Over x) = 0
+-- where there is a further stage, less than n is left
+abbrev pub LeavesLess : Job → (n : ℕ) → Next → Type 0
+LeavesLess j n (Going s) = left j s < n
+LeavesLess j n (Over x) = Unit {0}

@@ -3,7 +3,7 @@
 ghost use Rattle.std.specs.Prelude.{◌≡◌, ◌+◌, ◌<◌, ◌≤◌, [], IfErr, IfNone, IfOk, IfSome, OnOk};
 ghost use Rattle.own_run.specs.Left.{left_after as left_of_turn};
 ghost use Rattle.workers.specs.Jobs.{IsJob};
-ghost use Rattle.workers.specs.Left.{left, left_after, left_in, left_of_owner};
+ghost use Rattle.workers.specs.Left.{LeavesLess, left, left_in, left_of_owner};
 ghost use Rattle.workers.specs.Stages.{IsNext, IsStage};
 ghost use Rattle.workers.specs.Turns.{EndsIn, IsEmpty, IsTaken, IsTurnIn};
 ghost use Rattle.workers.specs.declared.error.RunError.TheVariants.{OutOfMemory};
@@ -99,7 +99,8 @@ impl<'p> Backlog<'p> {
     {
         let mut backlog = self;
         match turn {
-            Turn::Going(run) | Turn::Over(run) => Ok(backlog.runs(run)),
+            Turn::Going(run) => Ok(backlog.runs(run)),
+            Turn::Over(run) => Ok(backlog.runs(run)),
             Turn::Spawns(run, start) => {
                 backlog.scope.waiting.push_back(start)?;
                 Ok(backlog.runs(run))
@@ -146,8 +147,8 @@ impl<'p> Backlog<'p> {
         requires job { IsJob job }
         requires stage { IsStage job (record { now = Waits owner; backlog = self }) }
         ensures next { IfOk result (IsNext job.entry) }
-        ensures fewer { IfOk result (λ n. left_after job.entry n
-            ≤ left_of_owner owner.entry + left_in job.entry self.entry) }
+        ensures fewer { IfOk result (LeavesLess job.entry
+            (left_of_owner owner.entry + left_in job.entry self.entry)) }
         ensures refused { IfErr result (λ e. e ≡ OutOfMemory) }
     {
         let mut backlog = self;
@@ -167,23 +168,29 @@ impl<'p> Backlog<'p> {
         requires stage { IsStage job (record { now = Waits owner; backlog = self }) }
         requires empty { self.scope.waiting.items ≡ [] }
         ensures next { IfOk result (IsNext job.entry) }
-        ensures fewer { IfOk result (λ n. left_after job.entry n
-            ≤ left_of_owner owner.entry + left_in job.entry self.entry) }
+        ensures fewer { IfOk result (LeavesLess job.entry
+            (left_of_owner owner.entry + left_in job.entry self.entry)) }
         ensures refused { IfErr result (λ e. e ≡ OutOfMemory) }
     {
-        let mut backlog = self;
+        let Backlog {
+            scope,
+            mut outer,
+            owners,
+        } = self;
+        let Scope { results, .. } = scope;
         match owner {
-            Owner::Root(result) => {
-                Ok(Next::Over(settle(job.alloc, result, backlog.scope.results)?))
-            }
-            Owner::Finish(paused, result) => {
-                let outer = match backlog.outer.pop_front() {
-                    None => Scope::new(job.alloc),
-                    Some(outer) => outer,
+            Owner::Root(made) => Ok(Next::Over(settle(job.alloc, made, results)?)),
+            Owner::Finish(paused, made) => {
+                let Some(scope) = outer.pop_front() else {
+                    unreachable!()
                 };
-                let scope = std::mem::replace(&mut backlog.scope, outer);
-                let settled = settle(job.alloc, result, scope.results)?;
+                let settled = settle(job.alloc, made, results)?;
                 let run = paused.go_on(settled)?;
+                let backlog = Backlog {
+                    scope,
+                    outer,
+                    owners,
+                };
                 Ok(Next::Going(backlog.runs(run)))
             }
         }

@@ -1,8 +1,8 @@
 //! How far a run has come, and what it does next.
 
-ghost use Rattle.std.specs.Prelude.{◌≡◌, ◌<◌, ◌≤◌, IfErr, IfOk};
+ghost use Rattle.std.specs.Prelude.{◌≡◌, IfErr, IfOk};
 ghost use Rattle.workers.specs.Jobs.{IsJob};
-ghost use Rattle.workers.specs.Left.{left, left_after};
+ghost use Rattle.workers.specs.Left.{LeavesLess, left};
 ghost use Rattle.workers.specs.Stages.{IsNext, IsStage};
 ghost use Rattle.workers.specs.declared.error.RunError.TheVariants.{OutOfMemory};
 
@@ -56,7 +56,7 @@ impl<'p> Stage<'p> {
         requires job { IsJob job }
         requires stage { IsStage job self }
         ensures next { IfOk result (IsNext job.entry) }
-        ensures fewer { IfOk result (λ n. left_after job.entry n < left job.entry self.entry) }
+        ensures fewer { IfOk result (LeavesLess job.entry (left job.entry self.entry)) }
         ensures refused { IfErr result (λ e. e ≡ OutOfMemory) }
     {
         let Stage { now, backlog } = self;

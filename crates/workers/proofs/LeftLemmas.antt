@@ -1,0 +1,50 @@
+-- Each turn leaves fewer turns.
+use Rattle.std.proofs.Common.{◌≡◌, ℕ, ◌+◌, ◌<◌, ◌≤◌, List, [], ◌∷◌, ◌++◌, ap, ◌∙◌, sym, arith}
+use Rattle.std.proofs.lemmas.List.Sums.{sum_by-append, sum_by-cons}
+use Rattle.std.specs.Prelude.{sum_by}
+use Rattle.own_run.specs.Left.{left_of, left_of_paused, left_of_start}
+use Rattle.own_run.specs.declared.result.TaskResult.{TaskResult}
+use Rattle.own_run.specs.declared.run.Run.{Run}
+use Rattle.own_run.specs.declared.start.Start.{Start}
+use Rattle.own_run.specs.declared.turn.Paused.{Paused}
+use Rattle.workers.specs.Left.{left, left_in, left_in_scope, left_of_owner}
+use Rattle.workers.specs.Turns.{IsTaken}
+use Rattle.workers.specs.declared.backlog.Backlog.{Backlog}
+use Rattle.workers.specs.declared.backlog.Owner.{Owner}
+use Rattle.workers.specs.declared.backlog.Owner.TheVariants.{Finish}
+use Rattle.workers.specs.declared.backlog.Scope.{Scope}
+use Rattle.workers.specs.declared.job.Job.{Job}
+use Rattle.workers.specs.declared.stage.Now.TheVariants.{Runs}
+
+module _ (j : Job) where
+  abbrev start_left : Start → ℕ
+  start_left c = left_of_start j.budget.steps c.nest
+
+  -- a task is taken out of a scope
+  taken_left : (old new : Scope) (c : Start) → IsTaken old new c → left_in_scope j old ≡ start_left c + left_in_scope j new
+  taken_left old new c t =
+      let a = ap (sum_by start_left) t.was in
+      let b = sum_by-append start_left t.before (c ∷ t.behind) in
+      let d = sum_by-cons start_left c t.behind in
+      let e = ap (sum_by start_left) t.is in
+      let f = sum_by-append start_left t.before t.behind in
+      omega (arith, a, b, d, e, f)
+
+  pub begins_left : (k to_k : Backlog) (o : Owner) (c : Start) (r : Run) → IsTaken k.scope to_k.scope c → to_k.outer ≡ k.outer
+      → to_k.owners.items ≡ o ∷ k.owners.items → left_of r < left_of_start j.budget.steps c.nest
+      → left j (record { now = Runs r; backlog = to_k }) < left_of_owner o + left_in j k
+  begins_left k to_k o c r taken outer owners lt =
+      let a = taken_left k.scope to_k.scope c taken in
+      let b = ap (λ (ks : _). sum_by (left_in_scope j) ks.items) outer in
+      let d = ap (sum_by left_of_owner) owners in
+      let e = sum_by-cons left_of_owner o k.owners.items in
+      omega (arith, a, b, d, e, lt)
+
+  pub passes_left : (k to_k : Backlog) (o : Owner) (r : Run) → to_k.owners ≡ k.owners
+      → k.outer.items ≡ to_k.scope ∷ to_k.outer.items → left_of r < left_of_owner o
+      → left j (record { now = Runs r; backlog = to_k }) < left_of_owner o + left_in j k
+  passes_left k to_k o r owners outer lt =
+      let a = ap (λ (os : _). sum_by left_of_owner os.items) owners in
+      let b = ap (sum_by (left_in_scope j)) outer in
+      let c = sum_by-cons (left_in_scope j) to_k.scope to_k.outer.items in
+      omega (arith, a, b, c, lt)
