@@ -1,6 +1,6 @@
 -- What tasks give back at their ends is what is listed of them.
 use Rattle.std.proofs.Common.{◌≡◌, List, [], ◌∷◌, map, refl, sym, ap, ◌∙◌, subst}
-use Rattle.std.specs.Prelude.{ℤ, Bool, true, ◌||◌, nat_eq}
+use Rattle.std.specs.Prelude.{ℤ, Bool, ◌||◌, nat_eq}
 use Rattle.std.specs.Cmp.Lexicographic.{pointwise}
 use Rattle.sections.specs.Place.{Place}
 use Rattle.types.specs.Code.{Program}

@@ -1,6 +1,6 @@
 -- A turn of a run of a program's leaves a run of the program's.
 use Rattle.std.proofs.Common.{◌≡◌, ℕ, List, [], ◌∷◌, Some, refl, sym, ap, ◌∙◌, subst}
-use Rattle.std.specs.Prelude.{ℤ, Bool, Option}
+use Rattle.std.specs.Prelude.{ℤ, Bool}
 use Rattle.types.specs.Code.{Program}
 use Rattle.types.specs.Contents.{FitsArrays}
 use Rattle.types.specs.Outcome.{Budget}
@@ -11,10 +11,10 @@ use Rattle.effects.specs.Sound.{IsSound}
 use Rattle.race_checker.specs.Clash.{IsAccepted}
 use Rattle.own_run.specs.Frames.{Frame, Rest, Again, AtEnd, Back, Standing, done_in, handed, turn}
 use Rattle.own_run.specs.Given.{in_truth, root_of, IsOwn}
-use Rattle.own_run.specs.MayRun.{MayRun, MayWait, IsRunOf, Stays}
-use Rattle.own_run.specs.OwnRun.{Action, Own, Spawn, Start, own_rules, result_of}
-use Rattle.own_run.specs.Reached.{begun, root_begins, child_begins, turns, leaves}
-use Rattle.own_run.specs.Runs.{root, IsTaskResult, MayStand}
+use Rattle.own_run.specs.MayRun.{MayRun, MayStart, MayWait, IsRunOf, Stays}
+use Rattle.own_run.specs.OwnRun.{Own, Spawn, Start, own_rules, result_of}
+use Rattle.own_run.specs.Reached.{begun, child_begins, turns, leaves}
+use Rattle.own_run.specs.Runs.{IsTaskResult, MayStand}
 use Rattle.own_run.specs.RunTurns.{GoesAs, GoesTo, IsTurn, TurnOf}
 use Rattle.own_run.specs.Results.{TaskResult, Settled}
 use Rattle.own_run.specs.Settling.{settle}
@@ -58,24 +58,35 @@ module _ (p : Program) (input : List (List ℤ)) (b : Budget) (r : Run) where
         refl,
       )
 
-  goes_on : (t : Turn) (actions : List Action) (over : Bool) (s : Start) (f : Frame Own) (fs : List (Frame Own)) (st : State Own)
+  -- a task that a turn began may stand at its beginning
+  child_starts : (c : rStart) (s : Start) (f : Frame Own) (fs : List (Frame Own)) (st : State Own) → r.thread.nest ≡ s.nest
+      → MayStand p input b s (record { frames = f ∷ fs; state = st })
+      → done_in (needs_of p) r.thread.nest f st ≡ Spawn (start c) ∷ [] → MayStart p input b (start c)
+  child_starts c s f fs st nest stands e =
+      let lists = turn_lists p (needs_of p) (in_truth p (needs_of p) b.steps) (start c) s.nest f fs st
+      (ap (λ (n : ℕ). done_in (needs_of p) n f st) (sym nest) ∙ e) in
+      subst (λ (x : Start). MayStand p input b x (begun b.steps x)) lists.start (child_begins (turns stands) lists.member)
+
+  goes_on : (t : Turn) (over : Bool) (s : Start) (f : Frame Own) (fs : List (Frame Own)) (st : State Own)
       → program r.plan.program.now ≡ p → r.thread.nest ≡ s.nest
       → MayStand p input b s (record { frames = f ∷ fs; state = st })
       → GoesAs r (turn (program r.plan.program.now)
-      (own_rules (needs_of p) r.thread.nest (in_truth p (needs_of p) b.steps)) f fs st) actions over t → Stays p input b s t
-  goes_on (Going q) actions over s f fs st is nest stands h = goes_next q s f fs st is nest stands h.0
-  goes_on (Spawns q c) actions over s f fs st is nest stands h = goes_next q s f fs st is nest stands h.0
-  goes_on (EntersFinish q) actions over s f fs st is nest stands h = goes_next q s f fs st is nest stands h.0
-  goes_on (Over q) actions over s f fs st is nest stands h = goes_next q s f fs st is nest stands h.0
-  goes_on (EndsFinish w x) actions over s f fs st is nest stands h = absurd h
-  goes_on (Ended x) actions over s f fs st is nest stands h = absurd h
+      (own_rules (needs_of p) r.thread.nest (in_truth p (needs_of p) b.steps)) f fs st)
+      (done_in (needs_of p) r.thread.nest f st) over t → Stays p input b s t
+  goes_on (Going q) over s f fs st is nest stands h = goes_next q s f fs st is nest stands h.0
+  goes_on (Spawns q c) over s f fs st is nest stands h =
+      (goes_next q s f fs st is nest stands h.0, child_starts c s f fs st nest stands h.1.1)
+  goes_on (EntersFinish q) over s f fs st is nest stands h = goes_next q s f fs st is nest stands h.0
+  goes_on (Over q) over s f fs st is nest stands h = goes_next q s f fs st is nest stands h.0
+  goes_on (EndsFinish w x) over s f fs st is nest stands h = absurd h
+  goes_on (Ended x) over s f fs st is nest stands h = absurd h
 
   by_frames : (t : Turn) (s : Start) (fs : List (Frame Own)) (st : State Own) → program r.plan.program.now ≡ p → r.thread.nest ≡ s.nest
       → MayStand p input b s (record { frames = fs; state = st })
       → TurnOf (needs_of p) (in_truth p (needs_of p) b.steps) r fs st t → Stays p input b s t
-  by_frames t s (Rest c ∷ fs) st is nest stands h = goes_on t _ _ s (Rest c) fs st is nest stands h
-  by_frames t s (Again l g c ∷ fs) st is nest stands h = goes_on t _ _ s (Again l g c) fs st is nest stands h
-  by_frames t s (Back env ∷ fs) st is nest stands h = goes_on t _ _ s (Back env) fs st is nest stands h
+  by_frames t s (Rest c ∷ fs) st is nest stands h = goes_on t _ s (Rest c) fs st is nest stands h
+  by_frames t s (Again l g c ∷ fs) st is nest stands h = goes_on t _ s (Again l g c) fs st is nest stands h
+  by_frames t s (Back env ∷ fs) st is nest stands h = goes_on t _ s (Back env) fs st is nest stands h
   by_frames (Going q) s (AtEnd before ∷ fs) st is nest stands h = absurd h
   by_frames (Spawns q c) s (AtEnd before ∷ fs) st is nest stands h = absurd h
   by_frames (EntersFinish q) s (AtEnd before ∷ fs) st is nest stands h = absurd h
@@ -110,9 +121,9 @@ module _ (p : Program) (input : List (List ℤ)) (b : Budget) (r : Run) where
 
 -- the run of a task at its beginning
 module _ (p : Program) (input : List (List ℤ)) (b : Budget) where
-  at_beginning : (k : Run) (s : Start) → MayStand p input b s (begun b.steps s) → program k.plan.program.now ≡ p
-      → k.thread.nest ≡ s.nest → IsAt k (begun b.steps s) → IsRunOf p input b s k
-  at_beginning k s stands is nest at = (
+  pub begins : (k : Run) (s : Start) → MayStart p input b s → program k.plan.program.now ≡ p → k.thread.nest ≡ s.nest
+      → IsAt k (begun b.steps s) → IsRunOf p input b s k
+  begins k s starts is nest at = (
     record {
       program = is;
       start = s;
@@ -122,45 +133,10 @@ module _ (p : Program) (input : List (List ℤ)) (b : Budget) where
       shows = at.shows;
       stands =
           subst (λ (out : State Own). MayStand p input b s (record { frames = (begun b.steps s).frames; state = out }))
-          (sym at.is) stands;
+          (sym at.is) starts;
     },
     refl,
   )
-
-  -- that of the root is one of the program's
-  pub root_run : (k : Run) → program k.plan.program.now ≡ p → k.thread.nest ≡ b.nest → IsAt k (begun b.steps (root p input b))
-      → IsRunOf p input b (root p input b) k
-  root_run k = at_beginning k (root p input b) root_begins
-
--- a task that a turn began, as a run at its beginning
-module _ (p : Program) (input : List (List ℤ)) (b : Budget) (r q k : Run) (c : rStart) where
-  abbrev close : State Own → Option Settled
-  close = in_truth p (needs_of p) b.steps
-
-  child_stands : (s : Start) (f : Frame Own) (fs : List (Frame Own)) (st : State Own) → r.thread.nest ≡ s.nest
-      → MayStand p input b s (record { frames = f ∷ fs; state = st })
-      → done_in (needs_of p) r.thread.nest f st ≡ Spawn (start c) ∷ [] → MayStand p input b (start c) (begun b.steps (start c))
-  child_stands s f fs st nest stands e =
-      let lists = turn_lists p (needs_of p) close (start c) s.nest f fs st
-      (ap (λ (n : ℕ). done_in (needs_of p) n f st) (sym nest) ∙ e) in
-      subst (λ (x : Start). MayStand p input b x (begun b.steps x)) lists.start (child_begins (turns stands) lists.member)
-
-  spawned : (s : Start) (fs : List (Frame Own)) (st : State Own) → r.thread.nest ≡ s.nest
-      → MayStand p input b s (record { frames = fs; state = st })
-      → TurnOf (needs_of p) close r fs st (Spawns q c) → MayStand p input b (start c) (begun b.steps (start c))
-  spawned s [] st nest stands h = absurd h
-  spawned s (AtEnd before ∷ fs) st nest stands h = absurd h
-  spawned s (Rest x ∷ fs) st nest stands h = child_stands s (Rest x) fs st nest stands h.1.1
-  spawned s (Again l g x ∷ fs) st nest stands h = child_stands s (Again l g x) fs st nest stands h.1.1
-  spawned s (Back env ∷ fs) st nest stands h = child_stands s (Back env) fs st nest stands h.1.1
-
-  -- a child's run is one of the program's too
-  pub begins : MayRun p input b r → IsTurn (needs_of p) r (Spawns q c) → program k.plan.program.now ≡ p
-      → k.thread.nest ≡ (start c).nest → IsAt k (begun b.steps (start c)) → IsRunOf p input b (start c) k
-  begins m is same nest at =
-      at_beginning p input b k (start c)
-      (spawned m.start m.frames (with_own m.own (state_of r.thread)) m.nest m.stands (is close m.frames m.own m.shows))
-      same nest at
 
 -- behind the end of a finish, with what the results of tasks settled to
 module _ (p : Program) (sound : IsSound p) (accepted : IsAccepted p) (input : List (List ℤ)) (b : Budget)

@@ -6,10 +6,11 @@ use Rattle.types.specs.Run.{State}
 use Rattle.types.specs.Translation.{program}
 use Rattle.own_run.specs.Frames.{Frame, AtEnd}
 use Rattle.own_run.specs.OwnRun.{Own, Start, result_of}
+use Rattle.own_run.specs.Reached.{begun}
 use Rattle.own_run.specs.Runs.{MayStand}
 use Rattle.own_run.specs.RunTurns.{Waits}
 use Rattle.own_run.specs.Standings.{Shows, state_of, with_own}
-use Rattle.own_run.specs.Translation.{task_result}
+use Rattle.own_run.specs.Translation.{start, task_result}
 use Rattle.own_run.specs.declared.result.TaskResult.{TaskResult}
 use Rattle.own_run.specs.declared.run.Run.{Run}
 use Rattle.own_run.specs.declared.turn.Paused.{Paused}
@@ -40,22 +41,26 @@ pub record MayWait (p : Program) (input : List (List ℤ)) (b : Budget) (q : Pau
   pub stands : MayStand p input b start (record { frames = AtEnd before ∷ frames; state = state })
   pub made : task_result so_far ≡ result_of state
 
-module _ (p : Program) (input : List (List ℤ)) (b : Budget) (s : Start) where
+module _ (p : Program) (input : List (List ℤ)) (b : Budget) where
+  -- a task of the program's starts so
+  abbrev pub MayStart : Start → Type 0
+  MayStart s = MayStand p input b s (begun b.steps s)
+
   -- a run of a task that started so
-  abbrev pub IsRunOf : Run → Type 0
-  IsRunOf r = (m : MayRun p input b r) × (m.start ≡ s)
+  abbrev pub IsRunOf : Start → Run → Type 0
+  IsRunOf s r = (m : MayRun p input b r) × (m.start ≡ s)
 
   -- such a task came to its end with this result
-  abbrev pub IsEndOf : TaskResult → Type 0
-  IsEndOf r =
+  abbrev pub IsEndOf : Start → TaskResult → Type 0
+  IsEndOf s r =
       (st : State Own) × MayStand p input b s (record { frames = []; state = st })
       × (task_result r ≡ result_of st)
 
-  -- whatever a turn gives is of the task that started so
-  abbrev pub Stays : Turn → Type 0
-  Stays (Going r) = IsRunOf r
-  Stays (Spawns r c) = IsRunOf r
-  Stays (EntersFinish r) = IsRunOf r
-  Stays (Over r) = IsRunOf r
-  Stays (EndsFinish q r) = (w : MayWait p input b q r) × (w.start ≡ s)
-  Stays (Ended r) = IsEndOf r
+  -- whatever a turn gives is of the task that started so, and a task that it began may start
+  abbrev pub Stays : Start → Turn → Type 0
+  Stays s (Going r) = IsRunOf s r
+  Stays s (Spawns r c) = IsRunOf s r × MayStart (start c)
+  Stays s (EntersFinish r) = IsRunOf s r
+  Stays s (Over r) = IsRunOf s r
+  Stays s (EndsFinish q r) = (w : MayWait p input b q r) × (w.start ≡ s)
+  Stays s (Ended r) = IsEndOf s r

@@ -32,17 +32,15 @@ ghost use Rattle.own_run.specs.Runs.{MayStand, IsTaskResult, MayGoOn, MayEnd};
 ghost use Rattle.own_run.specs.Settling.{settle, IsParted};
 ghost use Rattle.own_run.specs.Left.{left_after, left_of, left_of_paused, left_of_start};
 ghost use Rattle.own_run.specs.Lists.{Each, Shuffled};
-ghost use Rattle.own_run.specs.MayRun.{MayRun, MayWait, IsRunOf, Stays};
+ghost use Rattle.own_run.specs.MayRun.{MayRun, MayStart, MayWait, IsRunOf, Stays};
 ghost use Rattle.own_run.specs.RunTurns.{CanTurn, IsTurn, Waits};
 ghost use Rattle.own_run.specs.Standings.{IsAt, Shows};
-ghost use Rattle.own_run.specs.Translation.{start as start_of, task_result};
+ghost use Rattle.own_run.specs.Translation.{task_result};
 ghost use Rattle.own_run.specs.declared.result.TaskResult.{TaskResult as Made};
 ghost use Rattle.own_run.specs.Worth.{measured, worth, listed_worth, lists, ListsAs};
 ghost use Rattle.own_run.specs.declared.run.Run.{Run};
-ghost use Rattle.own_run.specs.declared.start.Start.{Start as NewTask};
 ghost use Rattle.own_run.specs.declared.turn.Paused.{Paused};
 ghost use Rattle.own_run.specs.declared.turn.Turn.{Turn};
-ghost use Rattle.own_run.specs.declared.turn.Turn.TheVariants.{Spawns};
 
 /// Of a sound and accepted program: tasks apart come to the one-thread outcome; results of own runs
 /// that settle, in whatever order they stand, are told as it; and the results of all tasks, each
@@ -288,9 +286,9 @@ pub fn tasks_stop_over_the_budget()
 
 /// A run in Rust of a sound and accepted program can take a turn: it has what it does next, and an
 /// async that is next is one of the program's. Whatever a turn gives is of the task that it was: a
-/// run, a run that waits at the end of a finish, or the task's result. The runs of the root and of a
-/// task that a turn began are the program's too, at their beginning; so is a run behind the end of a
-/// finish, with what results of tasks settled to.
+/// run, a run that waits at the end of a finish, or the task's result. The root, and each task that
+/// a turn began, may start: a run at such a beginning is the program's. So is a run behind the end
+/// of a finish, with what results of tasks settled to.
 pub fn runs_stay_tasks()
     ensures next { (p : Program) → IsSound p → IsAccepted p
         → (input : List (List ℤ)) (b : Budget) → FitsArrays p.arrays input
@@ -298,13 +296,11 @@ pub fn runs_stay_tasks()
         → CanTurn (needs_of p) (λ l c. HasStatement p l (Async c)) r }
     ensures stays { (p : Program) (input : List (List ℤ)) (b : Budget) (r : Run) (t : Turn)
         → (m : MayRun p input b r) → IsTurn (needs_of p) r t → Stays p input b m.start t }
-    ensures root { (p : Program) (input : List (List ℤ)) (b : Budget) (r : Run)
-        → program_of r.plan.program.now ≡ p → r.thread.nest ≡ b.nest
-        → IsAt r (begun b.steps (root p input b)) → IsRunOf p input b (root p input b) r }
-    ensures begins { (p : Program) (input : List (List ℤ)) (b : Budget) (r q child : Run) (s : NewTask)
-        → MayRun p input b r → IsTurn (needs_of p) r (Spawns q s)
-        → program_of child.plan.program.now ≡ p → child.thread.nest ≡ (start_of s).nest
-        → IsAt child (begun b.steps (start_of s)) → IsRunOf p input b (start_of s) child }
+    ensures root { (p : Program) (input : List (List ℤ)) (b : Budget)
+        → MayStart p input b (root p input b) }
+    ensures begins { (p : Program) (input : List (List ℤ)) (b : Budget) (r : Run) (s : Start)
+        → MayStart p input b s → program_of r.plan.program.now ≡ p → r.thread.nest ≡ s.nest
+        → IsAt r (begun b.steps s) → IsRunOf p input b s r }
     ensures behind { (p : Program) → IsSound p → IsAccepted p
         → (input : List (List ℤ)) (b : Budget) → FitsArrays p.arrays input
         → (q : Paused) (so_far : Made) (w : MayWait p input b q so_far)

@@ -1,5 +1,6 @@
+use Rattle.own_run.specs.Reached.{root_begins}
 use Rattle.own_run.proofs.BelongingTasks.{can_turn}
-use Rattle.own_run.proofs.RunsGoOn.{begins, goes_behind, root_run, stays}
+use Rattle.own_run.proofs.RunsGoOn.{begins, goes_behind, stays}
 use Rattle.own_run.proofs.laws.runs_stay_tasks.Goals as goal
 
 pub returns-clause-next : goal.returns-clause-next
@@ -9,10 +10,10 @@ pub returns-clause-stays : goal.returns-clause-stays
 returns-clause-stays c = stays
 
 pub returns-clause-root : goal.returns-clause-root
-returns-clause-root c = root_run
+returns-clause-root c = λ p input b. root_begins
 
 pub returns-clause-begins : goal.returns-clause-begins
-returns-clause-begins c = λ p input b r q child s. begins p input b r q child s
+returns-clause-begins c = begins
 
 pub returns-clause-behind : goal.returns-clause-behind
 returns-clause-behind c = goes_behind
