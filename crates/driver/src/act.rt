@@ -12,7 +12,7 @@ use crate::command_line::request_of;
 use crate::commands;
 use crate::emit::append;
 use crate::failure::Failure;
-use crate::files::{FileSource, read_file};
+use crate::files::{FileSource, read_program};
 use crate::message::emit_message;
 use crate::request::Request;
 use clap::Error;
@@ -78,7 +78,7 @@ fn perform<R: Threads + Sync, F: FileSource, O: Write>(
         (O.contents out.old) (O.contents out.new) result }
 {
     let name = request.file;
-    let bytes = read_file(alloc, files, name)?;
+    let bytes = read_program(alloc, files, name)?;
     match std::str::from_utf8(&bytes) {
         Ok(text) => match commands::perform(rt, alloc, request, text, files, out) {
             Ok(status) => handed_on(out, status),

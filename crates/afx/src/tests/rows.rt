@@ -62,8 +62,8 @@ main { array a: int[1024]; finish { twice(a); } }";
 /// The text of `other.afx`, which is always there.
 const OTHER: &str = "main { print 1; }";
 
-/// A shelf of files: the program, under the names `program.afx` and `-`, `input.json`, `other.afx`, and `heavy.afx`,
-/// for which there is no memory.
+/// A shelf of files: the program, under the names `program.afx` and `-`, `input.json`, `other.afx`, `endless.afx`,
+/// which has as many bytes as are read of it, and `heavy.afx`, for which there is no memory.
 #[derive(Drop)]
 pub struct Shelf<'t> {
     pub alloc: Global,
@@ -71,17 +71,34 @@ pub struct Shelf<'t> {
     pub input: &'t [u8],
 }
 
+impl Shelf<'_> {
+    /// The bytes of a file that ends.
+    fn bytes_of(&self, name: &str) -> Result<&[u8], FileError> {
+        match name {
+            "program.afx" => Ok(self.program),
+            "-" => Ok(self.program),
+            "input.json" => Ok(self.input),
+            "other.afx" => Ok(OTHER.as_bytes()),
+            "heavy.afx" => Err(FileError::NoMemory),
+            _ => Err(FileError::Failed),
+        }
+    }
+}
+
 impl FileSource for Shelf<'_> {
     fn read(&mut self, name: &str) -> Result<Vec<u8>, FileError> {
-        let bytes = match name {
-            "program.afx" => self.program,
-            "-" => self.program,
-            "input.json" => self.input,
-            "other.afx" => OTHER.as_bytes(),
-            "heavy.afx" => return Err(FileError::NoMemory),
-            _ => return Err(FileError::Failed),
-        };
+        let bytes = self.bytes_of(name)?;
         bytes.to_vec(self.alloc).map_err(|_| FileError::NoMemory)
+    }
+
+    fn read_first(&mut self, name: &str, most: usize) -> Result<Vec<u8>, FileError> {
+        let first = if name == "endless.afx" {
+            Vec::from_elem(self.alloc, 0xff, most)
+        } else {
+            let bytes = self.bytes_of(name)?;
+            bytes.get(..most).unwrap_or(bytes).to_vec(self.alloc)
+        };
+        first.map_err(|_| FileError::NoMemory)
     }
 }
 
