@@ -9,7 +9,8 @@ use Rattle.types.specs.InputErrors.{error_text as input_text}
 use Rattle.workers.specs.Codes.{error_code as run_code}
 use Rattle.driver.specs.declared.failure.Failure.{Failure}
 use Rattle.driver.specs.declared.failure.Failure.TheVariants.{CannotRead, NotUtf8, Syntax, Types, NotYet}
-use Rattle.driver.specs.declared.failure.Failure.TheVariants.{Race, NoMemoryInCheck, Input, Run, CannotWriteOutput, NoMemory}
+use Rattle.driver.specs.declared.failure.Failure.TheVariants.{Race, NoMemoryInCheck, Input, Run}
+use Rattle.driver.specs.declared.failure.Failure.TheVariants.{CannotWriteOutput, NoMemory}
 
 -- a race: its procedure, and both its accesses
 abbrev pub race_text : (procedure first second : List ℕ) → List ℕ

@@ -100,7 +100,8 @@ fn handed_on<O: Write>(out: &mut O, status: u8) -> Result<u8, Failure>
     }
 }
 
-/// Prints what `clap` says of a command line: help on the output with status 0, a mistake on the other with 1.
+/// Prints what `clap` says of a command line: help on the output with status 0, a mistake on the other
+/// with 1.
 fn tell_command_line<O: Write, E: Write>(
     alloc: Global,
     error: &Error,

@@ -50,8 +50,7 @@ fn budget(alloc: Global, given: &ArgMatches<'_>) -> Result<Budget, Error> {
 }
 
 /// What stands behind the help of the program.
-const STATUSES: &str =
-    "No word is `run -`: the program is read from the standard input.
+const STATUSES: &str = "No word is `run -`: the program is read from the standard input.
 
 Example: afx serial examples/doubling.afx --input examples/doubling.json --arrays
 

@@ -1,6 +1,7 @@
 //! Where the program finds what its words name.
 
-ghost use Rattle.std.specs.Prelude.{◌≡◌, ◌≤◌, ℕ, List, Option, None, IfOk, IfErr, MatchResult, length, option_map};
+ghost use Rattle.std.specs.Prelude.{◌≡◌, ◌≤◌, ℕ, List, length, Option, None, option_map};
+ghost use Rattle.std.specs.Prelude.{IfOk, IfErr, MatchResult};
 ghost use Rattle.driver.specs.Held.{Held, IsGiven, TellsNoProgram, TellsNoText, first};
 
 use crate::failure::Failure;
@@ -57,8 +58,9 @@ pub fn read_file<F: FileSource>(
     }
 }
 
-/// What the file of a program holds, or the failure that says why it is no text of one. It is read no further than it
-/// can matter: with one byte more than a program may have it is too long, whatever stands behind.
+/// What the file of a program holds, or the failure that says why it is no text of one. It is read no
+/// further than it can matter: with one byte more than a program may have it is too long, whatever stands
+/// behind.
 pub fn read_program<F: FileSource>(
     alloc: Global,
     files: &mut F,

@@ -62,8 +62,8 @@ main { array a: int[1024]; finish { twice(a); } }";
 /// The text of `other.afx`, which is always there.
 const OTHER: &str = "main { print 1; }";
 
-/// A shelf of files: the program, under the names `program.afx` and `-`, `input.json`, `other.afx`, `endless.afx`,
-/// which has as many bytes as are read of it, and `heavy.afx`, for which there is no memory.
+/// A shelf of files: the program, under the names `program.afx` and `-`, `input.json`, `other.afx`,
+/// `endless.afx`, which has as many bytes as are read of it, and `heavy.afx`, for which there is no memory.
 #[derive(Drop)]
 pub struct Shelf<'t> {
     pub alloc: Global,

@@ -1,8 +1,9 @@
 //! Writers that end in the middle, and writers of which one call fails.
 
 use crate::tests::outputs::{End, Ending};
-use crate::tests::rows::{CHECK, LIST, PAIRS, RACE, RUN, SERIAL, Shelf, TWO_ARRAYS};
-use crate::tests::rows::{answered, owned};
+use crate::tests::rows::{
+    CHECK, LIST, PAIRS, RACE, RUN, SERIAL, Shelf, TWO_ARRAYS, answered, owned,
+};
 use driver::act::act;
 use std::alloc::Global;
 use std::io;
@@ -162,8 +163,8 @@ impl io::Write for Failing {
     }
 }
 
-/// Does what the words ask with an output that fails at its first call, then at its second and so on, up to one that
-/// takes all. The last to fail is the flush, behind the whole answer.
+/// Does what the words ask with an output that fails at its first call, then at its second and so on, up to
+/// one that takes all. The last to fail is the flush, behind the whole answer.
 fn sweep(
     rt: &(impl Abort + Threads + Sync),
     alloc: Global,
@@ -187,7 +188,10 @@ fn sweep(
         };
         let mut err = Vec::new(alloc);
         let status = act(rt, alloc, &owned_words, &mut files, &mut out, &mut err);
-        assert!(rt; whole.out.starts_with(&out.taken), "out of {text} after {calls} calls");
+        assert!(rt;
+            whole.out.starts_with(&out.taken),
+            "out of {text} after {calls} calls"
+        );
         if !out.has_failed {
             flushed = true;
             assert_eq!(rt; status, whole.status, "status of {text}");
