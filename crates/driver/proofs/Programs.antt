@@ -46,14 +46,18 @@ same_bytes xs ys is = cc
 was_read : (xs : List ℕ) (e : FileError) → read xs ≡ refused e → ⊥
 was_read xs e is = cc
 
--- a file of which less was read than may be has no more
-pub given_whole : (known : Option Bytes) (n m : ℕ) (xs : List ℕ) → n < m → length xs ≤ n
+whole_of : (known : Option Bytes) (n m : ℕ) (xs : List ℕ) → n < m → length xs ≤ n
     → IsGiven (option_map (first m) known) (Ok xs) → IsGiven known (Ok xs)
-given_whole None n m xs less few given = tt
-given_whole (Some (Ok whole)) n m xs less few given = λ other.
+whole_of None n m xs less few given = tt
+whole_of (Some (Ok whole)) n m xs less few given = λ other.
     let is : xs ≡ take m whole = same_bytes xs (take m whole) (given other) in
     ap read (is ∙ all_taken n m whole less (subst (λ (ys : List ℕ). length ys ≤ n) is few))
-given_whole (Some (Err e)) n m xs less few given = λ other. absurd (was_read xs e (given other))
+whole_of (Some (Err e)) n m xs less few given = λ other. absurd (was_read xs e (given other))
+
+-- a file of which less was read than may be has no more
+pub given_whole : (held : Held) (name : List ℕ) (xs : List ℕ) → length xs ≤ 1048576
+    → IsGiven (option_map (first 1048577) (held name)) (Ok xs) → IsGiven (held name) (Ok xs)
+given_whole held name xs few given = whole_of (held name) 1048576 1048577 xs (omega arith) few given
 
 -- a file may have more bytes than these
 record HasMore (known : Option Bytes) (n : ℕ) : Type 0 where
@@ -74,10 +78,10 @@ has_more (Some (Ok whole)) n m xs more given =
 has_more (Some (Err e)) n m xs more given = absurd (was_read xs e (given (was_read xs NoMemoryInFile)))
 
 -- a file of which too much was read is too long
-pub too_long : (held : Held) (name : List ℕ) (m : ℕ) (xs : List ℕ) → 1048576 < length xs
-    → IsGiven (option_map (first m) (held name)) (Ok xs) → IsTooLong held name
-too_long held name m xs more given =
-    let all = has_more (held name) 1048576 m xs more given in
+pub too_long : (held : Held) (name : List ℕ) (xs : List ℕ) → 1048576 < length xs
+    → IsGiven (option_map (first 1048577) (held name)) (Ok xs) → IsTooLong held name
+too_long held name xs more given =
+    let all = has_more (held name) 1048576 1048577 xs more given in
     record { bytes = all.whole; given = all.given; long = all.more }
 
 -- a file whose first bytes can't be read can't be read
@@ -86,11 +90,11 @@ not_read None m given = tt
 not_read (Some (Ok whole)) m given = λ other. absurd (was_read (take m whole) Unread (sym (given other)))
 not_read (Some (Err e)) m given = given
 
-pub no_program_unread : (held : Held) (name : List ℕ) (m : ℕ) (f : Failure) → TellsUnread name f
-    → IsGiven (option_map (first m) (held name)) (Err Unread) → TellsNoProgram held name f
-no_program_unread held name m (CannotRead told) is given = (is, not_read (held name) m given)
-no_program_unread held name m NoMemory is given = tt
-no_program_unread held name m _ is given = absurd is
+pub no_program_unread : (held : Held) (name : List ℕ) (f : Failure) → TellsUnread name f
+    → IsGiven (option_map (first 1048577) (held name)) (Err Unread) → TellsNoProgram held name f
+no_program_unread held name (CannotRead told) is given = (is, not_read (held name) 1048577 given)
+no_program_unread held name NoMemory is given = tt
+no_program_unread held name _ is given = absurd is
 
 -- a file whose bytes are no text has none
 pub no_program_text : (held : Held) (name : List ℕ) (f : Failure) → TellsNotUtf8 name f → HasNoProgramText held name

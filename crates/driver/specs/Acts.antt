@@ -9,8 +9,8 @@ use Rattle.driver.specs.Messages.{failure_text}
 use Rattle.driver.specs.Requests.{Asked}
 use Rattle.driver.specs.declared.failure.Failure.{Failure}
 
--- the file has a text of at most 1,048,576 bytes, and what is asked was done with it; or it has none, and nothing
--- was written
+-- the file has a text of at most 1,048,576 bytes, and what is asked was done with it; or it has none, and
+-- nothing was written
 pub data ReadsAndPerforms (a : Asked) (held : Held) (old new : Option (List ℕ))
     (r : Result ℕ Failure) : Type 0 where
   on_text : (text : List ℕ) → HasText held a.file text → length text ≤ 1048576

@@ -61,6 +61,7 @@ pub fn read_file<F: FileSource>(
 /// What the file of a program holds, or the failure that says why it is no text of one. It is read no
 /// further than it can matter: with one byte more than a program may have it is too long, whatever stands
 /// behind.
+#[tactic(auto, using(crate::proofs::Programs::given_whole, crate::proofs::Programs::no_program_unread))]
 pub fn read_program<F: FileSource>(
     alloc: Global,
     files: &mut F,

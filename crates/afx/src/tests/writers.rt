@@ -77,7 +77,8 @@ const ROWS: &[Cut] = &[
 #[test]
 fn an_output_or_an_error_output_that_ends(rt: HostRuntime) -> Result<(), Fail> {
     writers_that_end(&rt, rt.alloc())?;
-    for (words, text) in SWEPT {
+    for swept in SWEPT {
+        let (words, text) = *swept;
         sweep(&rt, rt.alloc(), words, text)?;
     }
     Ok(())
@@ -121,14 +122,18 @@ const FAULTED: &str = "main {
   fault 8;
 }";
 
+const SERIAL_WITH_ARRAYS: &[&str] = &["serial", "program.afx", "--arrays"];
+
+const HELP: &[&str] = &["--help"];
+
 /// Commands that answer in several writes, and the texts that they are about.
 const SWEPT: &[(&[&str], &str)] = &[
     (RUN, TWO_ARRAYS),
-    (&["serial", "program.afx", "--arrays"], FAULTED),
+    (SERIAL_WITH_ARRAYS, FAULTED),
     (CHECK, TWO_ARRAYS),
     (LIST, TWO_ARRAYS),
     (PAIRS, TWO_ARRAYS),
-    (&["--help"], ""),
+    (HELP, ""),
 ];
 
 /// A writer that answers so many calls, of `write` and of `flush`, and fails at all others.
@@ -189,7 +194,7 @@ fn sweep(
         let mut err = Vec::new(alloc);
         let status = act(rt, alloc, &owned_words, &mut files, &mut out, &mut err);
         assert!(rt;
-            whole.out.starts_with(&out.taken),
+            whole.out.as_slice().starts_with(&out.taken),
             "out of {text} after {calls} calls"
         );
         if !out.has_failed {
