@@ -71,34 +71,26 @@ pub struct Shelf<'t> {
     pub input: &'t [u8],
 }
 
-impl Shelf<'_> {
-    /// The bytes of a file that ends.
-    fn bytes_of(&self, name: &str) -> Result<&[u8], FileError> {
-        match name {
-            "program.afx" => Ok(self.program),
-            "-" => Ok(self.program),
-            "input.json" => Ok(self.input),
-            "other.afx" => Ok(OTHER.as_bytes()),
-            "heavy.afx" => Err(FileError::NoMemory),
-            _ => Err(FileError::Failed),
-        }
-    }
-}
-
 impl FileSource for Shelf<'_> {
     fn read(&mut self, name: &str) -> Result<Vec<u8>, FileError> {
-        let bytes = self.bytes_of(name)?;
+        let bytes = match name {
+            "program.afx" => self.program,
+            "-" => self.program,
+            "input.json" => self.input,
+            "other.afx" => OTHER.as_bytes(),
+            "heavy.afx" => return Err(FileError::NoMemory),
+            _ => return Err(FileError::Failed),
+        };
         bytes.to_vec(self.alloc).map_err(|_| FileError::NoMemory)
     }
 
     fn read_first(&mut self, name: &str, most: usize) -> Result<Vec<u8>, FileError> {
-        let first = if name == "endless.afx" {
-            Vec::from_elem(self.alloc, 0xff, most)
-        } else {
-            let bytes = self.bytes_of(name)?;
-            bytes.get(..most).unwrap_or(bytes).to_vec(self.alloc)
-        };
-        first.map_err(|_| FileError::NoMemory)
+        if name == "endless.afx" {
+            return Vec::from_elem(self.alloc, 0xff, most).map_err(|_| FileError::NoMemory);
+        }
+        let mut bytes = self.read(name)?;
+        bytes.truncate(most);
+        Ok(bytes)
     }
 }
 
