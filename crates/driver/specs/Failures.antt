@@ -1,12 +1,14 @@
 -- What the failures of a command tell.
-use Rattle.std.specs.Prelude.{ℕ, ◌≡◌, Bool, true, false, List, [], ◌++◌, codes, slice_get, unwrap_or}
+use Rattle.std.specs.Prelude.{ℕ, ◌≡◌, Bool, true, false, List, [], ◌++◌, codes}
+use Rattle.std.specs.Prelude.{slice_get, unwrap_or}
 use Rattle.std.specs.Fmt.{decimal}
 use Rattle.std.specs.String.{string_bytes}
 use Rattle.types.specs.Code.{Procedure, Program}
 use Rattle.effects.specs.Accesses.{Access as SectionAccess}
 use Rattle.race_checker.specs.Races.{Race as ProgramRace}
 use Rattle.driver.specs.declared.failure.Failure.{Failure}
-use Rattle.driver.specs.declared.failure.Failure.TheVariants.{CannotRead, NotUtf8, Race, NoMemoryInCheck, NoMemory}
+use Rattle.driver.specs.declared.failure.Failure.TheVariants.{CannotRead, NotUtf8, Race}
+use Rattle.driver.specs.declared.failure.Failure.TheVariants.{NoMemoryInCheck, NoMemory}
 
 -- the file of this name can't be read, if there is memory to say so
 abbrev pub TellsUnread : (name : List ℕ) → Failure → Type 0
