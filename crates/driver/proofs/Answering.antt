@@ -2,7 +2,7 @@
 use Rattle.std.proofs.Common.{◌≡◌, ◌≢◌, ℕ, List, Option, Some, Result, Ok, Err, ap, ◌∙◌, sym, subst, refl}
 use Rattle.std.proofs.KnownBytes.{Keeps-refl}
 use Rattle.std.specs.List.{flat_map}
-use Rattle.std.specs.Prelude.{◌↔◌, IfErr, IfOk, IsErrAnd, IsTrue, Bool}
+use Rattle.std.specs.Prelude.{◌↔◌, IfErr, IfOk, IsErrAnd, Bool}
 use Rattle.std.specs.Str.{chars}
 use Rattle.syntax.specs.Canonical.{listed}
 use Rattle.syntax.specs.Lexical.{AreTokensOf}

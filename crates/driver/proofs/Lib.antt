@@ -6,3 +6,4 @@ pub mod Inputs
 pub mod OutcomeText
 pub mod Programs
 pub mod Reading
+pub mod Zeros

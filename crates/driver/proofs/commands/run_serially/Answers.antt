@@ -2,6 +2,7 @@ use Rattle.std.proofs.Common.{ap, ◌∙◌, map}
 use Rattle.types.specs.Outcome.{outcome}
 use Rattle.types.specs.Translation.{array, budget, input as lists_of, outcome as outcome_of}
 use Rattle.types.specs.Typed.{code_of}
+use Rattle.types.proofs.InputLemmas.{FitsArrays-from_IsInput}
 use Rattle.driver.specs.Requests.{settings}
 use Rattle.driver.specs.declared.request.Command.TheVariants.{Serial}
 use Rattle.driver.proofs.Answering.{outcome_shown, passes_no_input, shown}
@@ -28,3 +29,6 @@ returns-in-Ok g c =
           (outcome p input (budget c.args.settings.budget)) (map array c.deref.result.now) c.in-Ok.ensures arrays;
     })
     c.show.ensures.text c.show.ensures.status c.show.ensures.failure
+
+pub serial-requires : goal.serial-requires
+serial-requires g c = FitsArrays-from_IsInput _ _ c.in_ok-input.ensures.fits

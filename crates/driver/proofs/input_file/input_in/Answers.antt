@@ -1,5 +1,4 @@
 use Rattle.std.proofs.Common.{List, ℕ, Ok, subst, sym}
-use Rattle.types.proofs.InputLemmas.{FitsArrays-from_IsInput}
 use Rattle.driver.proofs.Inputs.{no_text_no_input}
 use Rattle.driver.specs.Held.{IsGiven}
 use Rattle.driver.proofs.input_file.input_in.Goals as goal
@@ -13,6 +12,3 @@ returns-in_default-clause-why g c =
       given = subst (λ (bs : List ℕ). IsGiven (held c.args.name.now) (Ok bs)) (sym c.deref.ensures.value) c.in_ok-bytes.ensures.given;
       no_text = c.in_default.ensures.cases.0;
     })
-
-pub returns-in-Ok-from_json-clause-fits : goal.returns-in-Ok-from_json-clause-fits
-returns-in-Ok-from_json-clause-fits g c = FitsArrays-from_IsInput _ _ c.in-Ok-from_json.ensures.fits
