@@ -1,5 +1,5 @@
 -- From a file and a command to what the program did.
-use Rattle.std.proofs.Common.{◌≡◌, ℕ, List, [], Option, Result, Ok, Err, IfOk, IfErr, sym, subst}
+use Rattle.std.proofs.Common.{◌≡◌, ℕ, ◌≤◌, length, List, [], Option, Result, Ok, Err, IfOk, IfErr, sym, subst}
 use Rattle.std.proofs.lemmas.List.{append-nil}
 use Rattle.std.proofs.KnownBytes.{Keeps-refl, Appends-kept}
 use Rattle.std.specs.Io.KnownBytes.{Keeps}
@@ -8,12 +8,11 @@ use Rattle.std.specs.Str.{IsUtf8}
 use Rattle.driver.specs.Acts.{Acts, ReadsAndPerforms, Reports, on_text, without_text}
 use Rattle.driver.specs.Answers.{Does, Explains, Wrote, Began, Failed}
 use Rattle.driver.specs.Appending.{AppendsBeginning, Writes}
-use Rattle.driver.specs.Failures.{TellsNotUtf8}
-use Rattle.driver.specs.Held.{Held, HasNoText, IsGiven, TellsNoText}
+use Rattle.driver.specs.Held.{Held, IsGiven, TellsNoProgram}
 use Rattle.driver.specs.Requests.{Asked, Settings, asked_of}
 use Rattle.driver.specs.declared.request.Command.{Command}
 use Rattle.driver.specs.declared.failure.Failure.{Failure}
-use Rattle.driver.specs.declared.failure.Failure.TheVariants.{NotUtf8, CannotWriteOutput, NoMemory}
+use Rattle.driver.specs.declared.failure.Failure.TheVariants.{CannotWriteOutput}
 use Rattle.driver.specs.declared.request.Request.{Request}
 
 -- whether or not all was taken, a beginning was appended
@@ -47,23 +46,18 @@ handed_over c s held text old mid new status (Err f) wrote keeps _ is = record {
   };
 }
 
--- a file whose bytes are no text has none
-pub no_text : (held : Held) (name : List ℕ) (f : Failure) → TellsNotUtf8 name f → HasNoText held name → TellsNoText held name f
-no_text held name (NotUtf8 told) is bytes = (is, bytes)
-no_text held name NoMemory is bytes = tt
-no_text held name _ is bytes = absurd is
-
 module _ (a : Asked) (held later : Held) (keeps : later ≡ held) where
   pub performed_on_text : (old new : Option (List ℕ)) (r : Result ℕ Failure) (text : List ℕ) → IsGiven (held a.file) (Ok text)
-      → IsUtf8 text → Does a.command a.settings later text old new r → ReadsAndPerforms a held old new r
-  performed_on_text old new r text given is_text does =
-      on_text text (record { given = given; is_text = is_text })
+      → IsUtf8 text → length text ≤ 1048576 → Does a.command a.settings later text old new r
+      → ReadsAndPerforms a held old new r
+  performed_on_text old new r text given is_text short does =
+      on_text text (record { given = given; is_text = is_text }) short
       (subst (λ (h : Held). Does a.command a.settings h text old new r) keeps does)
 
 pub performed_without_text : (a : Asked) (held : Held) (b : Option (List ℕ)) (r : Result ℕ Failure) (f : Failure)
-    → IsErrAnd r (λ y. y ≡ f) → TellsNoText held a.file f → ReadsAndPerforms a held b b r
+    → IsErrAnd r (λ y. y ≡ f) → TellsNoProgram held a.file f → ReadsAndPerforms a held b b r
 performed_without_text a held b (Ok x) f is told = absurd is
-performed_without_text a held b (Err y) f is told = without_text (subst (TellsNoText held a.file) (sym is) told) (Keeps-refl b)
+performed_without_text a held b (Err y) f is told = without_text (subst (TellsNoProgram held a.file) (sym is) told) (Keeps-refl b)
 
 -- what was done by a request is what was asked
 pub acts : (a : Asked) (request : Request) → asked_of request ≡ a → (held : Held) (old new err_old err_new : Option (List ℕ))

@@ -4,4 +4,5 @@ pub mod Appending
 pub mod Examples
 pub mod Inputs
 pub mod OutcomeText
+pub mod Programs
 pub mod Reading

@@ -1,20 +1,21 @@
 -- What the program does with the file that its words name, and how it reports.
-use Rattle.std.specs.Prelude.{ℕ, ◌≡◌, List, ◌++◌, Option, Result, Ok, Err, codes, IsErrAnd}
+use Rattle.std.specs.Prelude.{ℕ, ◌≡◌, ◌≤◌, List, ◌++◌, length, Option, Result, Ok, Err, codes, IsErrAnd}
 use Rattle.std.specs.Io.KnownBytes.{Keeps}
 use Rattle.driver.specs.Answers.{Does}
 use Rattle.driver.specs.Appending.{AppendsBeginning}
 use Rattle.driver.specs.FailureStatus.{failure_status}
-use Rattle.driver.specs.Held.{Held, HasText, TellsNoText}
+use Rattle.driver.specs.Held.{Held, HasText, TellsNoProgram}
 use Rattle.driver.specs.Messages.{failure_text}
 use Rattle.driver.specs.Requests.{Asked}
 use Rattle.driver.specs.declared.failure.Failure.{Failure}
 
--- the file has a text, and what is asked was done with it; or it has none, and nothing was written
+-- the file has a text of at most 1,048,576 bytes, and what is asked was done with it; or it has none, and
+-- nothing was written
 pub data ReadsAndPerforms (a : Asked) (held : Held) (old new : Option (List ℕ))
     (r : Result ℕ Failure) : Type 0 where
-  on_text : (text : List ℕ) → HasText held a.file text
+  on_text : (text : List ℕ) → HasText held a.file text → length text ≤ 1048576
       → Does a.command a.settings held text old new r → ReadsAndPerforms a held old new r
-  without_text : IsErrAnd r (TellsNoText held a.file) → Keeps old new
+  without_text : IsErrAnd r (TellsNoProgram held a.file) → Keeps old new
       → ReadsAndPerforms a held old new r
 
 -- the status of what was answered; or that of a failure, whose line was appended as far as it was taken

@@ -1,5 +1,6 @@
 -- What a command answers to the text of a program, and why it fails.
-use Rattle.std.specs.Prelude.{ℕ, ℤ, ◌≡◌, ◌≢◌, List, [], Option, Some, Result, IsTrue, Bool, false, MatchResult, codes}
+use Rattle.std.specs.Prelude.{ℕ, ℤ, ◌≡◌, ◌≢◌, List, [], Bool, false, codes, IsTrue}
+use Rattle.std.specs.Prelude.{Option, Some, Result, MatchResult}
 use Rattle.std.specs.Io.KnownBytes.{Appends, Keeps}
 use Rattle.std.specs.List.{flat_map}
 use Rattle.std.specs.Str.{chars}
@@ -35,7 +36,8 @@ use Rattle.driver.specs.OutcomeText.{outcome_text, status_of}
 use Rattle.driver.specs.Requests.{Settings}
 use Rattle.driver.specs.declared.failure.Failure.{Failure}
 use Rattle.driver.specs.declared.failure.Failure.TheVariants.{CannotRead, NotUtf8, Syntax, Types, NotYet}
-use Rattle.driver.specs.declared.failure.Failure.TheVariants.{Race, NoMemoryInCheck, Input, CannotWriteOutput, NoMemory}
+use Rattle.driver.specs.declared.failure.Failure.TheVariants.{Race, NoMemoryInCheck, Input}
+use Rattle.driver.specs.declared.failure.Failure.TheVariants.{CannotWriteOutput, NoMemory}
 use Rattle.driver.specs.declared.failure.Failure.TheVariants.{Run as RunFailed}
 use Rattle.driver.specs.declared.request.Command.{Command}
 use Rattle.driver.specs.declared.request.Command.TheVariants.{Run, Serial, Check, Listing, Pairs}

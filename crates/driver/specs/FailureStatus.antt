@@ -1,7 +1,8 @@
 -- The exit status that tells a failure.
 use Rattle.std.specs.Prelude.{ℕ}
 use Rattle.driver.specs.declared.failure.Failure.{Failure}
-use Rattle.driver.specs.declared.failure.Failure.TheVariants.{Syntax, Types, NoMemoryInCheck, Input, Run, NoMemory}
+use Rattle.driver.specs.declared.failure.Failure.TheVariants.{Syntax, Types, NoMemoryInCheck}
+use Rattle.driver.specs.declared.failure.Failure.TheVariants.{Input, Run, NoMemory}
 use Rattle.syntax.specs.declared.error.SyntaxError.TheVariants.{OutOfMemory as MemoryInSyntax}
 use Rattle.types.specs.declared.error.TypeError.TheVariants.{OutOfMemory as MemoryInTypes}
 use Rattle.types.specs.declared.input_error.InputError.TheVariants.{OutOfMemory as MemoryInInput}

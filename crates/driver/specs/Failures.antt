@@ -1,5 +1,6 @@
 -- What the failures of a command tell.
-use Rattle.std.specs.Prelude.{ℕ, ◌≡◌, Bool, true, false, List, [], ◌++◌, Option, None, Some, codes, slice_get, unwrap_or}
+use Rattle.std.specs.Prelude.{ℕ, ◌≡◌, Bool, true, false, List, [], ◌++◌, codes}
+use Rattle.std.specs.Prelude.{Option, None, Some, slice_get, unwrap_or}
 use Rattle.std.specs.Fmt.{decimal}
 use Rattle.std.specs.String.{string_bytes}
 use Rattle.types.specs.Code.{Procedure, Program}
@@ -12,7 +13,8 @@ use Rattle.workers.specs.declared.race.Access.{Access}
 use Rattle.workers.specs.declared.race.Meeting.{Meeting}
 use Rattle.types.specs.declared.typed.Typed.{Typed}
 use Rattle.driver.specs.declared.failure.Failure.{Failure}
-use Rattle.driver.specs.declared.failure.Failure.TheVariants.{CannotRead, NotUtf8, Race, NoMemoryInCheck, NoMemory}
+use Rattle.driver.specs.declared.failure.Failure.TheVariants.{CannotRead, NotUtf8, Race}
+use Rattle.driver.specs.declared.failure.Failure.TheVariants.{NoMemoryInCheck, NoMemory}
 
 -- the file of this name can't be read, if there is memory to say so
 abbrev pub TellsUnread : (name : List ℕ) → Failure → Type 0

@@ -1,13 +1,15 @@
 -- What is known of files, and what reading them gives.
-use Rattle.std.specs.Prelude.{ℕ, ℤ, pos, ◌≡◌, ◌≢◌, List, Option, None, Some, Result, Ok, Err, IfSome, map, replicate}
+use Rattle.std.specs.Prelude.{ℕ, ℤ, pos, ◌≡◌, ◌≢◌, ◌<◌, ◌≤◌, List, length, map, replicate, take}
+use Rattle.std.specs.Prelude.{Option, None, Some, Result, Ok, Err, IfSome}
 use Rattle.std.specs.Str.{IsUtf8}
 use Rattle.std.specs.String.{string_bytes}
+use Rattle.syntax.specs.declared.error.SyntaxError.TheVariants.{TooLong}
 use Rattle.types.specs.Code.{Array}
 use Rattle.types.specs.InputErrors.{told}
 use Rattle.types.specs.Inputs.{text_says}
 use Rattle.types.specs.declared.input_error.InputError.{InputError}
 use Rattle.driver.specs.declared.failure.Failure.{Failure}
-use Rattle.driver.specs.declared.failure.Failure.TheVariants.{CannotRead, NotUtf8, Input, NoMemory}
+use Rattle.driver.specs.declared.failure.Failure.TheVariants.{CannotRead, NotUtf8, Syntax, Input, NoMemory}
 use Rattle.driver.specs.declared.files.FileError.{FileError}
 use Rattle.driver.specs.declared.files.FileError.TheVariants.{Failed as Unread, NoMemory as NoMemoryInFile}
 
@@ -23,6 +25,11 @@ Held = List ℕ → Option Bytes
 abbrev pub IsGiven : (known : Option Bytes) → Bytes → Type 0
 IsGiven None given = Unit {0}
 IsGiven (Some known) given = given ≢ Err NoMemoryInFile → given ≡ known
+
+-- what is read of a file that is read no further than its first bytes, so many at most
+abbrev pub first : (most : ℕ) → Bytes → Bytes
+first most (Ok bytes) = Ok (take most bytes)
+first most (Err e) = Err e
 
 -- the file of this name has this text
 pub record HasText (held : Held) (name text : List ℕ) : Type 0 where
@@ -41,6 +48,29 @@ TellsNoText held name (CannotRead told) = (string_bytes told ≡ name) × IsGive
 TellsNoText held name (NotUtf8 told) = (string_bytes told ≡ name) × HasNoText held name
 TellsNoText held name NoMemory = Unit {0}
 TellsNoText held name _ = ⊥
+
+-- ---- programs
+
+-- the file of this name has more bytes than a program may have
+pub record IsTooLong (held : Held) (name : List ℕ) : Type 0 where
+  pub bytes : List ℕ
+  pub given : IsGiven (held name) (Ok bytes)
+  pub long : 1048576 < length bytes
+
+-- the file of this name has bytes that are no text, and not too many for a program
+pub record HasNoProgramText (held : Held) (name : List ℕ) : Type 0 where
+  pub bytes : List ℕ
+  pub given : IsGiven (held name) (Ok bytes)
+  pub short : length bytes ≤ 1048576
+  pub no_text : ¬ IsUtf8 bytes
+
+-- the failure says why a file of this name gives no text of a program, if there is memory to say so
+abbrev pub TellsNoProgram : Held → (name : List ℕ) → Failure → Type 0
+TellsNoProgram held name (CannotRead told) = TellsNoText held name (CannotRead told)
+TellsNoProgram held name (NotUtf8 told) = (string_bytes told ≡ name) × HasNoProgramText held name
+TellsNoProgram held name (Syntax TooLong) = IsTooLong held name
+TellsNoProgram held name NoMemory = Unit {0}
+TellsNoProgram held name _ = ⊥
 
 -- ---- inputs
 

@@ -16,7 +16,8 @@ labels_in p = labels_in_procedures p.procedures + statements p.main.body
 -- so many procedures and labels are accepted
 abbrev pub accepted_by : (procedures labels : ℕ) → List ℕ
 accepted_by procedures labels =
-    codes "accepted: " ++ (decimal procedures ++ (codes " procedures, " ++ (decimal labels ++ codes " labels\n")))
+    codes "accepted: "
+    ++ (decimal procedures ++ (codes " procedures, " ++ (decimal labels ++ codes " labels\n")))
 
 -- the line that tells an accepted program; `main` isn't counted among its procedures
 abbrev pub accepted_text : Program → List ℕ

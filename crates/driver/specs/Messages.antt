@@ -1,27 +1,16 @@
 -- The line that tells a failure.
-use Rattle.std.specs.Prelude.{ℕ, ◌+◌, ◌/◌, ◌%◌, List, [], ◌∷◌, ◌++◌, ◌||◌, Option, None, Some, codes}
+use Rattle.std.specs.Prelude.{ℕ, ◌+◌, ◌/◌, ◌%◌, List, [], ◌∷◌, ◌++◌, ◌||◌, codes}
 use Rattle.std.specs.Prelude.{if◌then◌else◌, nat_eq, nat_lt}
-use Rattle.std.specs.Fmt.{decimal}
 use Rattle.std.specs.List.{flat_map}
 use Rattle.std.specs.String.{string_bytes}
-use Rattle.syntax.specs.Refusals.{error_code as syntax_code, place_of}
-use Rattle.syntax.specs.declared.error.SyntaxError.{SyntaxError}
-use Rattle.syntax.specs.declared.place.Place.{Place}
+use Rattle.syntax.specs.Refusals.{error_text as syntax_text}
 use Rattle.types.specs.Codes.{error_text}
 use Rattle.types.specs.InputErrors.{error_text as input_text}
 use Rattle.workers.specs.Codes.{error_code as run_code}
 use Rattle.driver.specs.declared.failure.Failure.{Failure}
 use Rattle.driver.specs.declared.failure.Failure.TheVariants.{CannotRead, NotUtf8, Syntax, Types, NotYet}
-use Rattle.driver.specs.declared.failure.Failure.TheVariants.{Race, NoMemoryInCheck, Input, Run, CannotWriteOutput, NoMemory}
-
--- the code of a syntax error, and its place where it names one, line before column: `S2 at 1:13`
-abbrev pub at_place : (code : List ℕ) → Option Place → List ℕ
-at_place code None = code
-at_place code (Some place) =
-    code ++ (codes " at " ++ (decimal place.line ++ (codes ":" ++ decimal place.column)))
-
-abbrev pub syntax_text : SyntaxError → List ℕ
-syntax_text e = at_place (syntax_code e) (place_of e)
+use Rattle.driver.specs.declared.failure.Failure.TheVariants.{Race, NoMemoryInCheck, Input, Run}
+use Rattle.driver.specs.declared.failure.Failure.TheVariants.{CannotWriteOutput, NoMemory}
 
 -- a race: its procedure, and both its accesses
 abbrev pub race_text : (procedure first second : List ℕ) → List ℕ

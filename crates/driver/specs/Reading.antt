@@ -1,5 +1,6 @@
 -- How the words of a command line are read that name a command, a file and options behind it.
-use Rattle.std.specs.Prelude.{ℕ, ◌&&◌, List, [], ◌∷◌, Bool, true, false, Option, Some, None, codes, if◌then◌else◌, option_map}
+use Rattle.std.specs.Prelude.{ℕ, ◌&&◌, List, [], ◌∷◌, Bool, true, false, codes, if◌then◌else◌}
+use Rattle.std.specs.Prelude.{Option, Some, None, option_map}
 use Rattle.std.specs.Str.{bytes_eq}
 use Rattle.driver.specs.Requests.{Texts, is_file_name}
 use Rattle.driver.specs.declared.request.Command.{Command}
@@ -51,14 +52,23 @@ read_texts words =
     let input = taken (codes "--input") words in
     let steps = taken (codes "--steps") input.1 in
     let nest = taken (codes "--nest") steps.1 in
-    option_map (λ arrays. let t : Texts = record { input = input.0; steps = steps.0; nest = nest.0; arrays = arrays } in t)
+    option_map (λ arrays. let t : Texts = record {
+      input = input.0;
+      steps = steps.0;
+      nest = nest.0;
+      arrays = arrays;
+    } in t)
     (read_arrays nest.1)
 
 -- the words behind a command that runs
 abbrev pub read_run : Command → (file : List ℕ) → (behind : List (List ℕ)) → Option Line
 read_run command file behind =
     if is_file_name file
-    then option_map (λ texts. let line : Line = record { command = command; file = file; texts = texts } in line)
+    then option_map (λ texts. let line : Line = record {
+      command = command;
+      file = file;
+      texts = texts;
+    } in line)
     (read_texts behind) else None
 
 -- a command with a file alone

@@ -12,7 +12,7 @@ use crate::command_line::request_of;
 use crate::commands;
 use crate::emit::append;
 use crate::failure::Failure;
-use crate::files::{FileSource, read_file};
+use crate::files::{FileSource, read_program};
 use crate::message::emit_message;
 use crate::request::Request;
 use clap::Error;
@@ -78,7 +78,7 @@ fn perform<R: Threads + Sync, F: FileSource, O: Write>(
         (O.contents out.old) (O.contents out.new) result }
 {
     let name = request.file;
-    let bytes = read_file(alloc, files, name)?;
+    let bytes = read_program(alloc, files, name)?;
     match std::str::from_utf8(&bytes) {
         Ok(text) => match commands::perform(rt, alloc, request, text, files, out) {
             Ok(status) => handed_on(out, status),
@@ -100,7 +100,8 @@ fn handed_on<O: Write>(out: &mut O, status: u8) -> Result<u8, Failure>
     }
 }
 
-/// Prints what `clap` says of a command line: help on the output with status 0, a mistake on the other with 1.
+/// Prints what `clap` says of a command line: help on the output with status 0, a mistake on the other
+/// with 1.
 fn tell_command_line<O: Write, E: Write>(
     alloc: Global,
     error: &Error,

@@ -50,8 +50,9 @@ fn budget(alloc: Global, given: &ArgMatches<'_>) -> Result<Budget, Error> {
 }
 
 /// What stands behind the help of the program.
-const STATUSES: &str =
-    "Example: afx serial examples/doubling.afx --input examples/doubling.json --arrays
+const STATUSES: &str = "No word is `run -`: the program is read from the standard input.
+
+Example: afx serial examples/doubling.afx --input examples/doubling.json --arrays
 
 Exit status:
   0  the run ended; the program is accepted; pairs of labels; help

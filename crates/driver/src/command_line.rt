@@ -1,9 +1,11 @@
 //! The words of a command line.
 
-ghost use Rattle.std.specs.Prelude.{◌≡◌, ◌<◌, ◌^◌, ℕ, Option, IfSome, IsOkAnd, IsSomeAnd, Some, map, option_map, true, unwrap_or};
+ghost use Rattle.std.specs.Prelude.{◌≡◌, ◌<◌, ◌^◌, ℕ, Option, IfSome, IsOkAnd, IsSomeAnd, Some};
+ghost use Rattle.std.specs.Prelude.{map, option_map, true, unwrap_or};
 ghost use Rattle.std.specs.Fmt.{decimal};
 ghost use Rattle.std.specs.String.{string_bytes};
-ghost use Rattle.driver.specs.Reading.{bare as bare_line, line_of, read, read_alone, read_arrays, read_behind, read_check};
+ghost use Rattle.driver.specs.Reading.{bare as bare_line, line_of, read, read_alone};
+ghost use Rattle.driver.specs.Reading.{read_arrays, read_behind, read_check};
 ghost use Rattle.driver.specs.Reading.{read_file, read_listing, read_run, read_texts, taken, texts_of};
 ghost use Rattle.driver.specs.Requests.{AreRight, Asked, Asks, Options, asked_of, is_file_name as names_file};
 ghost use Rattle.driver.specs.Requests.{settings as settings_of, settings_by, texts_by};
@@ -14,8 +16,8 @@ use clap::Error;
 use std::alloc::Global;
 use types::budget::Budget;
 
-/// Reads the words behind the program's name. What names a command, a file and options behind it, in their order, is
-/// read here; all else, as other orders, help and mistakes, by `clap`.
+/// Reads the words behind the program's name. What names a command, a file and options behind it, in their
+/// order, is read here; all else, as other orders, help and mistakes, by `clap`.
 pub fn request_of<'w>(alloc: Global, words: &'w [String]) -> Result<Request<'w>, Error>
     ensures { (a : Asked) → Asks (map string_bytes words.now) a
         → IsOkAnd result (λ r. asked_of r ≡ a) }

@@ -222,8 +222,8 @@ fn typed_of(alloc: Global, text: &str) -> Result<Typed, Failure>
     }
 }
 
-/// Writes an outcome, with the arrays if they are asked for, and gives its exit status: 0 ended, 2 ended with faults,
-/// 3 stopped.
+/// Writes an outcome, with the arrays if they are asked for, and gives its exit status: 0 ended, 2 ended with
+/// faults, 3 stopped.
 pub fn show<O: Write>(
     out: &mut O,
     declared: &[Array],

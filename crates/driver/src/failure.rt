@@ -6,8 +6,10 @@ ghost use Rattle.driver.specs.FailureStatus.{failure_status};
 ghost use Rattle.types.specs.Translation.{procedure as plain_procedure, program};
 ghost use Rattle.effects.specs.Translation.{access as access_of};
 ghost use Rattle.race_checker.specs.Translation.{race as race_of};
-ghost use Rattle.driver.specs.Failures.{IsMainRace, IsRaceOf, TellsNotUtf8, TellsRaceIn, TellsRefusal, TellsUnread};
-ghost use Rattle.driver.specs.Failures.{access_text, array_text, kind_of, name_of, section_text, told_procedure};
+ghost use Rattle.driver.specs.Failures.{IsMainRace, IsRaceOf, TellsNotUtf8, TellsRaceIn};
+ghost use Rattle.driver.specs.Failures.{TellsRefusal, TellsUnread};
+ghost use Rattle.driver.specs.Failures.{access_text, array_text, kind_of, name_of};
+ghost use Rattle.driver.specs.Failures.{section_text, told_procedure};
 ghost use Rattle.driver.specs.Failures.{section_name as name_of_section};
 
 use race_checker::race::Race;

@@ -25,7 +25,8 @@ pub fn accepted_line(alloc: Global, code: &Program) -> Result<String, Failure>
     }
 }
 
-/// How many labels a program has: one for each statement. None where 64 bits don't hold it, which no memory holds.
+/// How many labels a program has: one for each statement. None where 64 bits don't hold it, which no memory
+/// holds.
 fn labels(code: &Program) -> Option<u64>
     ensures { IfSome result (λ n. n ≡ labels_in (program code.now)) }
 {

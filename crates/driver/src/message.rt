@@ -1,10 +1,11 @@
 //! The line that tells a failure, piece by piece, without memory of its own.
 
 ghost use Rattle.std.specs.Prelude.{◌≡◌, ◌<◌, ◌++◌, codes};
+ghost use Rattle.syntax.specs.Refusals.{at_text, error_text as syntax_text};
 ghost use Rattle.types.specs.Codes.{error_text, labelled};
 ghost use Rattle.types.specs.InputErrors.{error_text as input_text};
 ghost use Rattle.driver.specs.Appending.{Writes};
-ghost use Rattle.driver.specs.Messages.{at_place, failure_text, race_text, syntax_text};
+ghost use Rattle.driver.specs.Messages.{failure_text, race_text};
 ghost use Rattle.driver.specs.Messages.{digit, escaped, escaped_byte};
 
 use crate::emit::{EmitError, append, emit_label};
@@ -112,18 +113,17 @@ fn digit_of(number: u8) -> u8
 fn emit_syntax_error<W: Write>(err: &mut W, error: &SyntaxError) -> Result<(), EmitError>
     ensures { Writes (W.contents err.old) (W.contents err.new) result (syntax_text error.now) }
 {
+    emit_text(err, error.code())?;
     match error.place() {
-        None => emit_text(err, error.code()),
-        Some(place) => emit_at_place(err, error.code(), place),
+        None => Ok(()),
+        Some(place) => emit_place(err, place),
     }
 }
 
-/// A code, and the line before the column.
-fn emit_at_place<W: Write>(err: &mut W, code: &str, place: Place) -> Result<(), EmitError>
-    ensures { Writes (W.contents err.old) (W.contents err.new) result
-        (at_place code.now (Some place)) }
+/// ` at 1:13`: the line before the column.
+fn emit_place<W: Write>(err: &mut W, place: Place) -> Result<(), EmitError>
+    ensures { Writes (W.contents err.old) (W.contents err.new) result (at_text (Some place)) }
 {
-    emit_text(err, code)?;
     emit_text(err, " at ")?;
     emit_label(err, place.line)?;
     emit_text(err, ":")?;

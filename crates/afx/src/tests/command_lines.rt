@@ -18,6 +18,8 @@ Options:
   -h, --help     Print help
   -V, --version  Print version
 
+No word is `run -`: the program is read from the standard input.
+
 Example: afx serial examples/doubling.afx --input examples/doubling.json --arrays
 
 Exit status:

@@ -2,8 +2,12 @@
 
 use crate::tests::rows::{CHECK, RUN, SERIAL, answered};
 use std::alloc::{AllocError, Global};
+use std::process::Abort;
 use std::test::Fail;
+use std::thread::Threads;
 use syntax::parse;
+
+const ENDLESS: &[&str] = &["run", "endless.afx"];
 
 /// A text of `head`, then `count` times `part`, then `count` times `closing`, then `tail`.
 #[derive(Clone, Copy)]
@@ -236,5 +240,23 @@ fn longest_text(rt: HostRuntime) -> Result<(), Fail> {
         let code = parse(alloc, text.as_str()).err().map(|error| error.code());
         assert_eq!(rt; code, told, "of {bytes} bytes");
     }
+    longest_file(&rt, alloc)
+}
+
+/// Runs a file of the most bytes, one of a byte more, and one without end that is no text either.
+fn longest_file(rt: &(impl Abort + Threads + Sync), alloc: Global) -> Result<(), Fail> {
+    let head = "main { print 1; }//";
+    for (behind, out, err, status) in [(1_048_557, "1\n", "", 0), (1_048_558, "", "S5\n", 1)] {
+        let mut text = String::from_str(alloc, head)?;
+        push_repeated(&mut text, behind, "x")?;
+        let told = answered(rt, alloc, RUN, text.as_bytes())?;
+        let bytes = text.len();
+        assert_eq!(rt; told.err.as_slice(), err.as_bytes(), "err of {bytes} bytes");
+        assert_eq!(rt; told.out.as_slice(), out.as_bytes(), "out of {bytes} bytes");
+        assert_eq!(rt; told.status, status, "status of {bytes} bytes");
+    }
+    let told = answered(rt, alloc, ENDLESS, b"")?;
+    assert_eq!(rt; told.err.as_slice(), b"S5\n".as_slice());
+    assert_eq!(rt; told.status, 1);
     Ok(())
 }

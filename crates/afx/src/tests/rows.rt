@@ -62,8 +62,8 @@ main { array a: int[1024]; finish { twice(a); } }";
 /// The text of `other.afx`, which is always there.
 const OTHER: &str = "main { print 1; }";
 
-/// A shelf of files: the program, under the names `program.afx` and `-`, `input.json`, `other.afx`, and `heavy.afx`,
-/// for which there is no memory.
+/// A shelf of files: the program, under the names `program.afx` and `-`, `input.json`, `other.afx`,
+/// `endless.afx`, which has as many bytes as are read of it, and `heavy.afx`, for which there is no memory.
 #[derive(Drop)]
 pub struct Shelf<'t> {
     pub alloc: Global,
@@ -82,6 +82,15 @@ impl FileSource for Shelf<'_> {
             _ => return Err(FileError::Failed),
         };
         bytes.to_vec(self.alloc).map_err(|_| FileError::NoMemory)
+    }
+
+    fn read_first(&mut self, name: &str, most: usize) -> Result<Vec<u8>, FileError> {
+        if name == "endless.afx" {
+            return Vec::from_elem(self.alloc, 0xff, most).map_err(|_| FileError::NoMemory);
+        }
+        let mut bytes = self.read(name)?;
+        bytes.truncate(most);
+        Ok(bytes)
     }
 }
 
