@@ -1,6 +1,6 @@
 //! Sets of accesses.
 
-ghost use Rattle.std.specs.Prelude.{◌↔◌, ◌⊎◌, ◌≡◌, IsTrue, OnOk, IfOk, false, ℕ};
+ghost use Rattle.std.specs.Prelude.{◌↔◌, ◌⊎◌, ◌≡◌, ◌<◌, IsTrue, OnOk, IfOk, false, ℕ};
 ghost use Rattle.effects.specs.Accesses.{Access as PlainAccess};
 ghost use Rattle.effects.specs.AccessSets.{HasAccess, IsUseOf};
 ghost use Rattle.effects.specs.LabelSets.{HasLabel};
@@ -104,5 +104,12 @@ impl Accesses {
         } else {
             self.reads.copied(alloc, section)
         }
+    }
+
+    /// An end of the sections that are accessed.
+    pub fn end(&self) -> usize
+        ensures { (x : PlainAccess) → HasAccess self.now x → x.section < result }
+    {
+        self.reads.end().max(self.writes.end())
     }
 }

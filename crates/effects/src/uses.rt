@@ -90,6 +90,13 @@ impl Uses {
         }
     }
 
+    /// An end of the sections that are used.
+    pub fn end(&self) -> usize
+        ensures { (s l : ℕ) → HasUse self.now s l → s < result }
+    {
+        self.sets.len()
+    }
+
     /// Makes room for a section. The uses are the same.
     fn reserve(&mut self, alloc: Global, section: usize) -> Result<(), AllocError>
         ensures same { OnOk result ((s l : ℕ) → HasUse self.new s l ↔ HasUse self.old s l) }
