@@ -45,7 +45,7 @@ pub fn meetings(
 }
 
 /// Those pairs that the statement with this label adds, each once and in their order: with what stands behind it in
-/// its list, and with its own next turn. None for the label of no statement.
+/// its list, and with its own next turn. Nothing for the label of no statement.
 pub fn meetings_at(
     alloc: Global,
     typed: &Typed,
