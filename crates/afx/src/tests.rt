@@ -9,6 +9,7 @@ mod held_places;
 mod inputs;
 mod limits;
 mod listings;
+mod meetings_of_programs;
 mod outputs;
 mod programs_that_run;
 mod race_messages;

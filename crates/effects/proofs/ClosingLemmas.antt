@@ -5,8 +5,8 @@ use Rattle.std.proofs.Math.ListN.{set}
 use Rattle.std.specs.Prelude.{◌↔◌, Bool, true, false, ◌||◌, slice_get}
 use Rattle.std.proofs.lemmas.Option.{slice_get_read}
 use Rattle.sections.specs.Member.{Member, first, next}
-use Rattle.effects.specs.Closing.{HasSome, HasIn, Reached, start, flow, Brings, IsClosed}
-use Rattle.effects.specs.LabelSets.{HasLabel}
+use Rattle.effects.specs.Closing.{HasSome, HasIn, Reached, start, flow, Brings, BringsNew, IsClosed}
+use Rattle.effects.specs.LabelSets.{HasLabel, HasNew}
 use Rattle.effects.specs.SummaryRows.{HasRow}
 use Rattle.effects.specs.declared.flows.Flow.{Flow}
 use Rattle.effects.specs.declared.label_set.LabelSet.{LabelSet}
@@ -110,6 +110,7 @@ pub record Rounded (flows : List Flow) (before table : List Summary) (grown : Bo
   pub reached : (f : ℕ) (r : Row) (l : ℕ) → HasIn table f r l → Reached flows before f r l
   pub same : grown ≡ false → (f : ℕ) (r : Row) (l : ℕ) → HasIn table f r l → HasIn before f r l
   pub closed : grown ≡ false → IsClosed (take k flows) before
+  pub new : grown ≡ true → BringsNew flows before table
 
 pub rounded_none : (flows : List Flow) (before : List Summary) → Rounded flows before before false 0
 rounded_none flows before = record {
@@ -118,6 +119,7 @@ rounded_none flows before = record {
   reached = λ f r l h. start h;
   same = λ none f r l h. h;
   closed = λ none x m f r l b. elim m [ ];
+  new = λ some. false_true some;
 }
 
 neither : (a b : Bool) → (a || b) ≡ false → (a ≡ false) × (b ≡ false)
@@ -146,8 +148,9 @@ pub rounded_more : (flows : List Flow) (before table new : List Summary) (grown 
     → Rounded flows before table grown k → slice_get flows k ≡ Some x → length new ≡ length table
     → ((f : ℕ) (r : Row) (l : ℕ) → HasIn new f r l ↔ (HasIn table f r l ⊎ Brings x table f r l))
     → (here ≡ false → (l : ℕ) → Brings x table x.caller.number x.to l → HasIn table x.caller.number x.to l)
+    → (here ≡ true → HasNew (HasIn table x.caller.number x.to) (Brings x table x.caller.number x.to))
     → Rounded flows before new (grown || here) (k + 1)
-rounded_more flows before table new grown here k x so_far at n both has = record {
+rounded_more flows before table new grown here k x so_far at n both has brings = record {
   number = n ∙ so_far.number;
   more = λ f r l h. (both f r l).1 (inl (so_far.more f r l h));
   reached = λ f r l h. elim ((both f r l).0 h) [
@@ -167,7 +170,29 @@ rounded_more flows before table new grown here k x so_far at n both has = record
             (moved x before table so_far.number so_far.more f r l (subst (λ (z : Flow). Brings z before f r l) e b))
             (has none_so_far.1))
       ];
+  new = λ some. by_either grown here refl refl some;
 }
+  where
+    by_either : (g h : Bool) → grown ≡ g → here ≡ h → (g || h) ≡ true → BringsNew flows before new
+    by_either true h e f some =
+        let r = so_far.new e in
+        record {
+          flow = r.flow;
+          member = r.member;
+          label = r.label;
+          now = (both r.flow.caller.number r.flow.to r.label).1 (inl r.now);
+          missing = r.missing;
+        }
+    by_either false true e f some =
+        let r = brings f in
+        record {
+          flow = x;
+          member = got_member flows k x at;
+          label = r.label;
+          now = (both x.caller.number x.to r.label).1 (inr r.among);
+          missing = λ h. r.missing (so_far.more x.caller.number x.to r.label h);
+        }
+    by_either false false e f some = false_true some
 
 pub rounded_all : (flows : List Flow) (before table : List Summary) (grown : Bool) (k : ℕ) → Rounded flows before table grown k
     → length flows ≤ k → grown ≡ false → IsClosed flows before

@@ -29,3 +29,5 @@ pub mod Summarizing
 pub mod UseLemmas
 pub mod VisitLemmas
 pub mod WindowsKept
+pub mod NewLabels
+pub mod StillMissing

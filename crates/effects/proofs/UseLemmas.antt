@@ -105,3 +105,23 @@ pub are_read : (old : Accesses) (new : Uses) (s : ℕ) (w : Bool) (more : ℕ �
     → HasAccess (record old { reads = new }) x ↔ (HasAccess old x ⊎ (IsUseOf s w x × more x.label))
 unfolding HasAccess
 are_read old new s w more e both x = read_case old new s w more e both x.write x.section x.label
+
+-- a set that has a label stands in the list
+pub stands_within : (xs : List LabelSet) (s l : ℕ) → HasIn (slice_get xs s) l → s < length xs
+stands_within [] zero l h = absurd h
+stands_within [] (suc s) l h = absurd h
+stands_within (x ∷ xs) zero l h = omega arith
+stands_within (x ∷ xs) (suc s) l h = let k = stands_within xs s l h in omega (arith, k)
+
+kind_within : (xs : Accesses) (n : ℕ) → ((s l : ℕ) → HasUse xs.reads s l → s < n) → ((s l : ℕ) → HasUse xs.writes s l → s < n)
+    → (w : Bool) (s l : ℕ) → HasUse (uses_of xs w) s l → s < n
+kind_within xs n reads writes true s l h = writes s l h
+kind_within xs n reads writes false s l h = reads s l h
+
+-- sections behind both ends are not accessed
+pub accessed_within : (xs : Accesses) (r w n : ℕ) → ((s l : ℕ) → HasUse xs.reads s l → s < r)
+    → ((s l : ℕ) → HasUse xs.writes s l → s < w) → r ≤ n → w ≤ n → (x : Access) → HasAccess xs x → x.section < n
+unfolding HasAccess
+accessed_within xs r w n reads writes a b x h =
+    kind_within xs n (λ s l k. let i = reads s l k in omega (arith, i, a)) (λ s l k. let i = writes s l k in omega (arith, i, b))
+    x.write x.section x.label h

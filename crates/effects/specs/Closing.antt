@@ -29,6 +29,14 @@ pub record Brings (x : Flow) (table : List Summary) (f : ℕ) (r : Row) (l : ℕ
   pub to : r ≡ x.to
   pub label : HasIn table x.callee.number x.from l
 
+-- a flow has brought a label that wasn't there before
+pub record BringsNew (flows : List Flow) (before after : List Summary) : Type 0 where
+  pub flow : Flow
+  pub member : Member flow flows
+  pub label : ℕ
+  pub now : HasIn after flow.caller.number flow.to label
+  pub missing : HasIn before flow.caller.number flow.to label → ⊥
+
 -- what flows bring is there
 abbrev pub IsClosed : List Flow → List Summary → Type 0
 IsClosed flows table = (x : Flow) → Member x flows → (f : ℕ) (r : Row) (l : ℕ)

@@ -1,9 +1,9 @@
 //! Sets of accesses.
 
-ghost use Rattle.std.specs.Prelude.{◌↔◌, ◌⊎◌, ◌≡◌, IsTrue, OnOk, IfOk, false, ℕ};
+ghost use Rattle.std.specs.Prelude.{◌↔◌, ◌⊎◌, ◌≡◌, ◌<◌, IsTrue, OnOk, IfOk, false, true, ℕ};
 ghost use Rattle.effects.specs.Accesses.{Access as PlainAccess};
 ghost use Rattle.effects.specs.AccessSets.{HasAccess, IsUseOf};
-ghost use Rattle.effects.specs.LabelSets.{HasLabel};
+ghost use Rattle.effects.specs.LabelSets.{HasLabel, HasNew};
 ghost use Rattle.effects.specs.Least.{IsFirst};
 ghost use Rattle.effects.specs.Translation.{access as access_of};
 
@@ -81,6 +81,9 @@ impl Accesses {
         ensures grown { IfOk result (λ grown. grown ≡ false
             → (l : ℕ) → HasLabel labels.now l
             → HasAccess self.old (record { label = l; section = section.number; write = write })) }
+        ensures new { IfOk result (λ grown. grown ≡ true → HasNew
+            (λ l. HasAccess self.old (record { label = l; section = section.number; write = write }))
+            (HasLabel labels.now)) }
     {
         if write {
             self.writes.unite(alloc, section, labels)
@@ -104,5 +107,12 @@ impl Accesses {
         } else {
             self.reads.copied(alloc, section)
         }
+    }
+
+    /// An end of the sections that are accessed.
+    pub fn end(&self) -> usize
+        ensures { (x : PlainAccess) → HasAccess self.now x → x.section < result }
+    {
+        self.reads.end().max(self.writes.end())
     }
 }

@@ -1,26 +1,26 @@
 //! Rows that have what calls bring, and nothing else.
 
-ghost use Rattle.std.specs.Prelude.{◌≡◌, ◌↔◌, ◌⊎◌, ℕ, OnOk, IfOk, false, length};
-ghost use Rattle.effects.specs.Closing.{HasIn, Reached, Brings, IsClosed};
+ghost use Rattle.std.specs.Prelude.{◌≡◌, ◌↔◌, ◌⊎◌, ℕ, OnOk, IfOk, false, true, length};
+ghost use Rattle.effects.specs.Closing.{HasIn, Reached, Brings, BringsNew, IsClosed};
+ghost use Rattle.effects.specs.LabelSets.{HasNew};
 ghost use Rattle.effects.specs.declared.summary.Row.{Row as TheRow};
 
 use crate::flows::Flow;
 use crate::summary::Summary;
 use std::alloc::{AllocError, Global};
 
-/// Brings labels along the flows, until none is new. Each round but the last puts a label in, so
-/// there is memory for less than 2^64 of them.
+/// Brings labels along the flows, until none is new. Each round but the last puts a label in, and a
+/// row has less than 2^32 of them.
 pub fn close(alloc: Global, flows: &[Flow], table: &mut Vec<Summary>) -> Result<(), AllocError>
     ensures exact { OnOk result ((f : ℕ) (r : TheRow) (l : ℕ)
         → HasIn table.new.items f r l ↔ Reached flows.now table.old.items f r l) }
     ensures number { OnOk result (length table.new.items ≡ length table.old.items) }
 {
-    for _ in 0..u64::MAX {
+    loop {
         if !round(alloc, flows, table)? {
             return Ok(());
         }
     }
-    Err(AllocError)
 }
 
 /// Brings labels along each flow once. False if none was new.
@@ -33,6 +33,8 @@ fn round(alloc: Global, flows: &[Flow], table: &mut Vec<Summary>) -> Result<bool
     ensures same { IfOk result (λ grown. grown ≡ false → (f : ℕ) (r : TheRow) (l : ℕ)
         → HasIn table.new.items f r l → HasIn table.old.items f r l) }
     ensures closed { IfOk result (λ grown. grown ≡ false → IsClosed flows.now table.old.items) }
+    ensures new { IfOk result (λ grown. grown ≡ true
+        → BringsNew flows.now table.old.items table.new.items) }
 {
     let mut grown = false;
     for flow in flows {
@@ -49,6 +51,9 @@ fn bring(alloc: Global, flow: Flow, table: &mut Vec<Summary>) -> Result<bool, Al
     ensures grown { IfOk result (λ grown. grown ≡ false → (l : ℕ)
         → Brings flow table.old.items flow.caller.number flow.to l
         → HasIn table.old.items flow.caller.number flow.to l) }
+    ensures new { IfOk result (λ grown. grown ≡ true → HasNew
+        (HasIn table.old.items flow.caller.number flow.to)
+        (Brings flow table.old.items flow.caller.number flow.to)) }
 {
     let labels = match table.get(flow.callee.number) {
         Some(callee) => callee.copied(alloc, flow.from)?,

@@ -147,7 +147,7 @@ impl Firsts {
 }
 
 /// An access in the names around a split.
-fn around(access: Access, section: SectionId, left: SectionId, right: SectionId) -> Access
+pub fn around(access: Access, section: SectionId, left: SectionId, right: SectionId) -> Access
     ensures { access_of result
         ≡ renamed (past_split section.number left.number right.number) (access_of access) }
 {

@@ -1,6 +1,6 @@
 //! Sets of labels.
 
-ghost use Rattle.std.specs.Prelude.{◌↔◌, ◌⊎◌, ◌≡◌, ◌≤◌, ◌/◌, ◌<◌, ◌+◌, ℕ, IsTrue, OnOk, IfOk, false};
+ghost use Rattle.std.specs.Prelude.{◌↔◌, ◌⊎◌, ◌≡◌, ◌≤◌, ◌/◌, ◌<◌, ◌+◌, ℕ, IsTrue, OnOk, IfOk, false, true};
 ghost use Rattle.std.specs.Prelude.{◌^◌, length, vec_len, bit_or};
 ghost use Rattle.types.specs.Run.{bind};
 ghost use Rattle.effects.specs.Least.{IsLeast};
@@ -16,7 +16,7 @@ pub struct LabelSet {
 }
 
 impl LabelSet {
-    ghost use Rattle.effects.specs.LabelSets.{HasLabel, words_of};
+    ghost use Rattle.effects.specs.LabelSets.{HasLabel, HasNew, HasNewBit, words_of};
 
     /// No label yet. It takes no memory.
     pub fn new(alloc: Global) -> LabelSet
@@ -74,6 +74,8 @@ impl LabelSet {
             → HasLabel self.new l ↔ (HasLabel self.old l ⊎ HasLabel other.now l)) }
         ensures grown { IfOk result (λ grown. grown ≡ false
             → (l : ℕ) → HasLabel other.now l → HasLabel self.old l) }
+        ensures new { IfOk result (λ grown. grown ≡ true
+            → HasNew (HasLabel self.old) (HasLabel other.now)) }
     {
         self.reserve(other.words.len())?;
         let mut grown = false;
@@ -109,6 +111,7 @@ impl LabelSet {
         requires { k < vec_len self.old.words }
         ensures word { words_of self.new ≡ bind k (bit_or (words_of self.old k) word) (words_of self.old) }
         ensures grown { result ≡ false → bit_or (words_of self.old k) word ≡ words_of self.old k }
+        ensures new { result ≡ true → HasNewBit (words_of self.old k) word }
         ensures length { vec_len self.new.words ≡ vec_len self.old.words }
     {
         let mine = self.words[k];

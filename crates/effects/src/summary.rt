@@ -1,7 +1,7 @@
 //! What a procedure may do.
 
-ghost use Rattle.std.specs.Prelude.{◌↔◌, ◌⊎◌, ◌≡◌, OnOk, IfOk, false, ℕ};
-ghost use Rattle.effects.specs.LabelSets.{HasLabel};
+ghost use Rattle.std.specs.Prelude.{◌↔◌, ◌⊎◌, ◌≡◌, OnOk, IfOk, false, true, ℕ};
+ghost use Rattle.effects.specs.LabelSets.{HasLabel, HasNew};
 ghost use Rattle.effects.specs.SummaryRows.{HasRow};
 ghost use Rattle.effects.specs.declared.summary.Row.{Row as TheRow};
 
@@ -82,6 +82,8 @@ impl Summary {
             ↔ (HasRow self.old r l ⊎ ((r ≡ row) × HasLabel labels.now l))) }
         ensures grown { IfOk result (λ grown. grown ≡ false
             → (l : ℕ) → HasLabel labels.now l → HasRow self.old row l) }
+        ensures new { IfOk result (λ grown. grown ≡ true
+            → HasNew (HasRow self.old row) (HasLabel labels.now)) }
     {
         match row {
             Row::All { section, write } => self.all.unite(alloc, section, write, labels),

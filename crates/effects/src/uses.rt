@@ -1,8 +1,8 @@
 //! Sets of labels by section.
 
-ghost use Rattle.std.specs.Prelude.{◌↔◌, ◌⊎◌, ◌≡◌, ◌≤◌, ◌<◌, ℕ, IsTrue, OnOk, IfOk, false, vec_len};
+ghost use Rattle.std.specs.Prelude.{◌↔◌, ◌⊎◌, ◌≡◌, ◌≤◌, ◌<◌, ℕ, IsTrue, OnOk, IfOk, false, true, vec_len};
 ghost use Rattle.effects.specs.Least.{IsLeast};
-ghost use Rattle.effects.specs.LabelSets.{HasLabel};
+ghost use Rattle.effects.specs.LabelSets.{HasLabel, HasNew};
 ghost use Rattle.effects.specs.UseSets.{HasUse};
 
 use crate::label_set::LabelSet;
@@ -73,6 +73,8 @@ impl Uses {
             ↔ (HasUse self.old s l ⊎ ((s ≡ section.number) × HasLabel labels.now l))) }
         ensures grown { IfOk result (λ grown. grown ≡ false
             → (l : ℕ) → HasLabel labels.now l → HasUse self.old section.number l) }
+        ensures new { IfOk result (λ grown. grown ≡ true
+            → HasNew (HasUse self.old section.number) (HasLabel labels.now)) }
     {
         self.reserve(alloc, section.number)?;
         let grown = self.sets[section.number].unite(labels)?;
@@ -88,6 +90,13 @@ impl Uses {
             Some(labels) => labels.copied(alloc),
             None => Ok(LabelSet::new(alloc)),
         }
+    }
+
+    /// An end of the sections that are used.
+    pub fn end(&self) -> usize
+        ensures { (s l : ℕ) → HasUse self.now s l → s < result }
+    {
+        self.sets.len()
     }
 
     /// Makes room for a section. The uses are the same.

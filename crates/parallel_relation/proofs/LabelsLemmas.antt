@@ -1,5 +1,5 @@
 -- The labels of statements, added up.
-use Rattle.std.proofs.Common.{◌≡◌, ◌≢◌, ◌⊎◌, inl, inr, ℕ, ◌<◌, ◌≤◌, length, nat_eq, refl, sym, ap, ◌∙◌, subst, arith}
+use Rattle.std.proofs.Common.{◌≡◌, ◌⊎◌, inl, inr, ℕ, ◌<◌, length, nat_eq, refl, sym, subst, arith}
 use Rattle.std.proofs.lemmas.Bool.{ne_eqb}
 use Rattle.std.specs.Prelude.{◌↔◌, Bool, true, false, if◌then◌else◌}
 use Rattle.types.specs.Code.{Code, Codes, End, Then, Program}
@@ -8,7 +8,7 @@ use Rattle.effects.specs.Effects.{labels, All}
 use Rattle.effects.specs.Summarized.{body_of}
 use Rattle.parallel_relation.specs.Around.{Gains, none, both, one}
 use Rattle.parallel_relation.proofs.StatementParts.{Done, all_one, of_label, of_done}
-use Rattle.parallel_relation.proofs.Sums.{gains_joined, gains_nothing}
+use Rattle.parallel_relation.proofs.Sums.{gains_joined}
 
 module _ (p : Program) where
   -- a statement's own label and those inside

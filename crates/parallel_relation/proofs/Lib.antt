@@ -2,7 +2,9 @@ pub mod Examples
 pub mod FoundLemmas
 pub mod LabelsLemmas
 pub mod ListLemmas
-pub mod Meeting
+pub mod ListingLemmas
+pub mod MeetingLemmas
+pub mod MeetingsExact
 pub mod Ordering
 pub mod PairsLemmas
 pub mod Programs

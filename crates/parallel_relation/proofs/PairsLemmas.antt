@@ -1,5 +1,5 @@
 -- Pairs in no order are those that arise in one order or the other.
-use Rattle.std.proofs.Common.{◌≡◌, ◌⊎◌, inl, inr, ℕ, ◌+◌, ◌<◌, ◌≤◌, List, [], ◌∷◌, length, map, refl, sym, ap, subst, arith, zero, suc}
+use Rattle.std.proofs.Common.{◌≡◌, ◌⊎◌, inl, inr, ℕ, ◌+◌, ◌<◌, ◌≤◌, List, [], ◌∷◌, length, map, sym, ap, subst, arith, zero, suc}
 use Rattle.std.proofs.lemmas.Bool.{cases_lt}
 use Rattle.std.specs.Prelude.{◌↔◌, slice_index_or}
 use Rattle.types.specs.Code.{Codes, Program}
@@ -7,12 +7,12 @@ use Rattle.types.specs.Run.{procedure_of, no_procedure}
 use Rattle.types.specs.Translation.{procedure}
 use Rattle.types.specs.declared.code.Procedure.{Procedure as rProcedure}
 use Rattle.effects.specs.Effects.{labels}
-use Rattle.parallel_relation.specs.Around.{Adds, none, BlockMeets}
+use Rattle.parallel_relation.specs.Around.{Adds, BlockMeets}
 use Rattle.parallel_relation.specs.Found.{Arises}
 use Rattle.parallel_relation.specs.Pairs.{HasPair}
 use Rattle.parallel_relation.specs.Rows.{HasAt}
 use Rattle.parallel_relation.specs.Spread.{Turns}
-use Rattle.parallel_relation.specs.Together.{Together, MayMeet, LabelsMeet}
+use Rattle.parallel_relation.specs.Together.{Together, LabelsMeet}
 use Rattle.parallel_relation.specs.declared.pairs.Pairs.{Pairs}
 use Rattle.parallel_relation.proofs.SpreadLemmas.{below_next, no_body}
 use Rattle.parallel_relation.proofs.Sums.{adds_same, adds_joined, adds_nothing}

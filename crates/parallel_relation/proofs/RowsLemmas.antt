@@ -1,9 +1,9 @@
 -- Rows that are made and added to.
-use Rattle.std.proofs.Common.{◌≡◌, ◌⊎◌, inl, inr, ℕ, zero, suc, ◌<◌, List, [], ◌∷◌, ◌++◌, length, refl, ap, arith}
-use Rattle.std.specs.Prelude.{◌↔◌, slice_set, slice_index_or}
+use Rattle.std.proofs.Common.{◌⊎◌, inl, inr, ℕ, zero, suc, ◌<◌, List, [], ◌∷◌, ◌++◌, length, refl, ap, arith}
+use Rattle.std.specs.Prelude.{slice_set, slice_index_or}
 use Rattle.effects.specs.LabelSets.{HasLabel}
 use Rattle.effects.specs.declared.label_set.LabelSet.{LabelSet}
-use Rattle.parallel_relation.specs.Around.{Adds, at}
+use Rattle.parallel_relation.specs.Around.{at}
 use Rattle.parallel_relation.specs.Rows.{HasIn}
 
 -- a row without labels, behind the others

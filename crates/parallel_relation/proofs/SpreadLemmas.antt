@@ -1,16 +1,16 @@
 -- Pairs that are added number by number.
-use Rattle.std.proofs.Common.{◌≡◌, ◌⊎◌, inl, inr, ℕ, ◌+◌, ◌<◌, ◌≤◌, List, length, refl, sym, ap, subst, arith}
+use Rattle.std.proofs.Common.{◌≡◌, ◌⊎◌, inl, inr, ℕ, ◌+◌, ◌<◌, ◌≤◌, List, length, ap, subst, arith}
 use Rattle.std.proofs.lemmas.Bool.{cases_lt}
 use Rattle.std.proofs.lemmas.List.{get_or_past}
 use Rattle.std.proofs.lemmas.Option.{slice_get_past}
-use Rattle.std.specs.Prelude.{◌↔◌, IsSomeAnd, Some, None, slice_get}
-use Rattle.types.specs.Code.{Codes, End, Procedure, Program}
+use Rattle.std.specs.Prelude.{◌↔◌, IsSomeAnd}
+use Rattle.types.specs.Code.{End, Procedure, Program}
 use Rattle.types.specs.Run.{procedure_of, no_procedure}
 use Rattle.effects.specs.Effects.{labels, All, Pending}
 use Rattle.effects.specs.LabelSets.{HasLabel}
 use Rattle.effects.specs.declared.label_set.LabelSet.{LabelSet}
 use Rattle.effects.specs.Summarized.{body_of}
-use Rattle.parallel_relation.specs.Around.{Adds, at, each}
+use Rattle.parallel_relation.specs.Around.{Adds, each}
 use Rattle.parallel_relation.specs.Found.{FoundMeets}
 use Rattle.parallel_relation.specs.Rows.{HasIn, HasAt}
 use Rattle.parallel_relation.specs.Spread.{Turns}

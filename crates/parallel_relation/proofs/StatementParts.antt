@@ -5,7 +5,7 @@ use Rattle.types.specs.Code.{Code, Do, If, While, Split, Call, Async, Finish, Co
 use Rattle.types.specs.Run.{procedure_of}
 use Rattle.effects.specs.Effects.{labels, Inner, AllOf, All, PendingOf, Pending}
 use Rattle.parallel_relation.specs.Together.{Block, Together}
-use Rattle.parallel_relation.specs.Around.{none, both, at, one, BlockMeets, CallMeets, InsideMeets}
+use Rattle.parallel_relation.specs.Around.{both, at, one, BlockMeets, CallMeets, InsideMeets}
 
 only_one : (l x : ℕ) → Member x (l ∷ []) → x ≡ l
 only_one l x first = refl

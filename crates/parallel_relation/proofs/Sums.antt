@@ -1,7 +1,7 @@
 -- Sets and pairs that are added up.
-use Rattle.std.proofs.Common.{◌≡◌, ◌⊎◌, inl, inr, ℕ, Result, Ok, Err, OnOk, IfOk}
+use Rattle.std.proofs.Common.{◌⊎◌, inl, inr, ℕ, Result, Ok, Err, OnOk, IfOk}
 use Rattle.std.specs.Prelude.{◌↔◌}
-use Rattle.parallel_relation.specs.Around.{Adds, Gains, none, both}
+use Rattle.parallel_relation.specs.Around.{Adds, Gains, none}
 
 -- what follows from what holds of an Ok
 pub on_ok : {T E : Type 0} {P Q : Type 0} (r : Result T E) → (P → Q) → OnOk r P → OnOk r Q
@@ -12,16 +12,16 @@ pub if_ok : {T E : Type 0} {P Q : T → Type 0} (r : Result T E) → ((x : T) �
 if_ok (Ok x) f h = f x h
 if_ok (Err e) f h = h
 
-pub gains_union : (before more after : ℕ → Type 0) → ((x : ℕ) → after x ↔ (before x ⊎ more x)) → Gains before more after
+pub gains_union : {A : Type 0} (before more after : A → Type 0) → ((x : A) → after x ↔ (before x ⊎ more x)) → Gains before more after
 gains_union before more after h = record { keeps = λ x k. (h x).1 (inl k); has = λ x k. (h x).1 (inr k); only = λ x k. (h x).0 k }
 
 pub gains_copy : (those after : ℕ → Type 0) → ((x : ℕ) → after x ↔ those x) → Gains none those after
 gains_copy those after h = record { keeps = λ x k. absurd k; has = λ x k. (h x).1 k; only = λ x k. inr ((h x).0 k) }
 
 -- some and then some more, where both together are known
-pub gains_joined : {a b c d e : ℕ → Type 0} (m : ℕ → Type 0) → Gains a b c → Gains c d e
-    → ((x : ℕ) → b x ⊎ d x → m x) → ((x : ℕ) → m x → b x ⊎ d x) → Gains a m e
-gains_joined {a} {b} {c} {d} {e} m g h to from = record {
+pub gains_joined : {A : Type 0} {a b c d e : A → Type 0} (m : A → Type 0) → Gains a b c → Gains c d e
+    → ((x : A) → b x ⊎ d x → m x) → ((x : A) → m x → b x ⊎ d x) → Gains a m e
+gains_joined m g h to from = record {
   keeps = λ x k. h.keeps x (g.keeps x k);
   has = λ x k. elim (from x k) [ inl l ↦ h.keeps x (g.has x l) | inr r ↦ h.has x r ];
   only = λ x k. elim (h.only x k) [
@@ -31,7 +31,7 @@ gains_joined {a} {b} {c} {d} {e} m g h to from = record {
 }
 
 -- nothing is added
-pub gains_nothing : (a m : ℕ → Type 0) → ((x : ℕ) → m x → ⊥) → Gains a m a
+pub gains_nothing : {A : Type 0} (a m : A → Type 0) → ((x : A) → m x → ⊥) → Gains a m a
 gains_nothing a m empty = record { keeps = λ x k. k; has = λ x k. absurd (empty x k); only = λ x k. inl k }
 
 pub adds_nothing : (a m : ℕ → ℕ → Type 0) → ((x y : ℕ) → m x y → ⊥) → Adds a m a

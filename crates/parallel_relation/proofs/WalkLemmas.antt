@@ -1,5 +1,5 @@
 -- The pairs of blocks and statements, added up.
-use Rattle.std.proofs.Common.{◌≡◌, ◌⊎◌, inl, inr, ℕ, sym, subst}
+use Rattle.std.proofs.Common.{◌≡◌, inl, inr, ℕ, sym, subst}
 use Rattle.types.specs.Code.{Truth, Code, While, Async, Finish, Codes, End, Then, Program}
 use Rattle.effects.specs.Effects.{labels, All}
 use Rattle.parallel_relation.specs.Around.{Adds, Gains, none, both, at, one, BlockMeets, InsideMeets}

@@ -12,11 +12,11 @@ pub record Adds (before more after : ℕ → ℕ → Type 0) : Type 0 where
   pub has : (x y : ℕ) → more x y → after x y
   pub only : (x y : ℕ) → after x y → before x y ⊎ more x y
 
--- the labels afterwards are those before and some more
-pub record Gains (before more after : ℕ → Type 0) : Type 0 where
-  pub keeps : (x : ℕ) → before x → after x
-  pub has : (x : ℕ) → more x → after x
-  pub only : (x : ℕ) → after x → before x ⊎ more x
+-- the items afterwards are those before and some more
+pub record Gains {A : Type 0} (before more after : A → Type 0) : Type 0 where
+  pub keeps : (x : A) → before x → after x
+  pub has : (x : A) → more x → after x
+  pub only : (x : A) → after x → before x ⊎ more x
 
 -- no label
 abbrev pub none : ℕ → Type 0

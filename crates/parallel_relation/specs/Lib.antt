@@ -1,7 +1,10 @@
 pub mod Around
 pub mod Found
+pub mod Listing
 pub mod Meetings
+pub mod Order
 pub mod Pairs
 pub mod Rows
 pub mod Spread
 pub mod Together
+pub mod Translation

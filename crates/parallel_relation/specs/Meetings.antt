@@ -1,5 +1,5 @@
 -- The pairs that may run together as lists, over tables of what each procedure's body has.
-use Rattle.std.specs.Prelude.{ℕ, List, [], ◌∷◌, ◌++◌, map}
+use Rattle.std.specs.Prelude.{ℕ, List, [], ◌∷◌, ◌++◌, map, Bool, true, if◌then◌else◌}
 use Rattle.types.specs.Code.{Code, Do, If, While, Split, Call, Async, Finish, Codes, End, Then}
 use Rattle.effects.specs.Effects.{Subject}
 use Rattle.effects.specs.Tables.{Table, all_of, all_in, left_by}
@@ -16,20 +16,31 @@ module _ (subject : Subject) (alls pendings : Table subject) where
       crossed (left_by subject alls pendings (While t b)) (all_of subject alls l (While t b))
   turned l _ = []
 
-  abbrev mutual
-    -- the pairs inside a statement
-    pub met_inside : Code → List (subject.Item × subject.Item)
-    met_inside (Do s) = []
-    met_inside (If t b c) = met_in b ++ met_in c
-    met_inside (While t b) = met_in b
-    met_inside (Split s e l r b) = met_in b
-    met_inside (Call f es ss) = []
-    met_inside (Async b) = met_in b
-    met_inside (Finish b) = met_in b
+  -- the pairs that a statement adds in front of a list: what it leaves pending with all of the list,
+  -- and a loop with its next turn
+  abbrev pub added : (label : ℕ) → Code → (rest : Codes) → List (subject.Item × subject.Item)
+  added l s rest =
+      crossed (left_by subject alls pendings s) (all_in subject alls rest) ++ turned l s
 
-    -- the pairs of a list of statements
-    pub met_in : Codes → List (subject.Item × subject.Item)
-    met_in End = []
-    met_in (Then l s rest) =
-        crossed (left_by subject alls pendings s) (all_in subject alls rest) ++
-        (turned l s ++ (met_inside s ++ met_in rest))
+  -- of the statements whose label is asked for
+  module _ (asked : ℕ → Bool) where
+    abbrev mutual
+      -- the pairs that they add inside a statement
+      pub added_inside : Code → List (subject.Item × subject.Item)
+      added_inside (Do s) = []
+      added_inside (If t b c) = added_in b ++ added_in c
+      added_inside (While t b) = added_in b
+      added_inside (Split s e l r b) = added_in b
+      added_inside (Call f es ss) = []
+      added_inside (Async b) = added_in b
+      added_inside (Finish b) = added_in b
+
+      -- those that they add in a list of statements
+      pub added_in : Codes → List (subject.Item × subject.Item)
+      added_in End = []
+      added_in (Then l s rest) =
+          (if asked l then added l s rest else []) ++ (added_inside s ++ added_in rest)
+
+  -- the pairs of a list of statements
+  abbrev pub met_in : Codes → List (subject.Item × subject.Item)
+  met_in = added_in (λ l. true)

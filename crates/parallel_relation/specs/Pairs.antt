@@ -1,5 +1,5 @@
 -- The pairs of labels that may run together, as they are kept and as they are listed.
-use Rattle.std.specs.Prelude.{ℕ, zero, suc, ◌≡◌, ◌≤◌, ◌<◌, ◌+◌, ◌-◌, ◌^◌, ◌⊎◌, ◌↔◌, Bool, List, [], ◌∷◌, ◌++◌, drop}
+use Rattle.std.specs.Prelude.{ℕ, zero, suc, ◌≡◌, ◌≤◌, ◌<◌, ◌+◌, ◌-◌, ◌^◌, ◌⊎◌, ◌↔◌, List, [], ◌∷◌, ◌++◌, drop}
 use Rattle.std.specs.Prelude.{if◌then◌else◌}
 use Rattle.sections.specs.Member.{Member}
 use Rattle.types.specs.Code.{Program}

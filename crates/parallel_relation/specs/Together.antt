@@ -2,7 +2,9 @@
 use Rattle.std.specs.Prelude.{ℕ, ◌⊎◌}
 use Rattle.types.specs.Code.{Truth, Code, While, Codes, Then, Program}
 use Rattle.types.specs.Run.{procedure_of}
-use Rattle.effects.specs.Effects.{Subject, labels, AllOf, All, PendingOf}
+use Rattle.effects.specs.Accesses.{Access}
+use Rattle.effects.specs.Effects.{Subject, accesses, labels, AllOf, All, PendingOf}
+use Rattle.effects.specs.Summarized.{body_of}
 -- the blocks of a statement are defined with its effects
 pub use Rattle.effects.specs.Statements.{Block}
 
@@ -19,6 +21,18 @@ module _ (p : Program) (subject : Subject) where
     later : {l : ℕ} {s : Code} {rest : Codes} {x y : subject.Item}
         → Together rest x y → Together (Then l s rest) x y
 
+  -- so, and the statement with this label adds the pair: it leaves x pending, or is that loop
+  pub data AddedAt : (at : ℕ) → Codes → (x y : subject.Item) → Type 0 where
+    follows : {l : ℕ} {s : Code} {rest : Codes} {x y : subject.Item}
+        → PendingOf p subject s x → All p subject rest y → AddedAt l (Then l s rest) x y
+    turns : {l : ℕ} {t : Truth} {b rest : Codes} {x y : subject.Item}
+        → PendingOf p subject (While t b) x → AllOf p subject l (While t b) y
+        → AddedAt l (Then l (While t b) rest) x y
+    inside : {at l : ℕ} {s : Code} {b rest : Codes} {x y : subject.Item}
+        → Block s b → AddedAt at b x y → AddedAt at (Then l s rest) x y
+    later : {at l : ℕ} {s : Code} {rest : Codes} {x y : subject.Item}
+        → AddedAt at rest x y → AddedAt at (Then l s rest) x y
+
   -- a pair has no order
   abbrev pub MayMeet : Codes → (x y : subject.Item) → Type 0
   MayMeet b x y = Together b x y ⊎ Together b y x
@@ -27,3 +41,9 @@ module _ (p : Program) (subject : Subject) where
 pub data LabelsMeet (p : Program) (x y : ℕ) : Type 0 where
   in_procedure : (f : ℕ) → MayMeet p labels (procedure_of p f).body x y → LabelsMeet p x y
   in_main : MayMeet p labels p.main.body x y → LabelsMeet p x y
+
+-- two accesses may run together in a procedure, and the statement with this label adds the pair
+pub record AccessesAddedAt (p : Program) (label : ℕ) (x y : Access) : Type 0 where
+  -- the procedure, where `main` is numbered behind the others
+  pub procedure : ℕ
+  pub pair : AddedAt p accesses label (body_of p procedure) x y

@@ -7,7 +7,7 @@ ghost use Rattle.effects.specs.Accesses.{Access};
 ghost use Rattle.effects.specs.Effects.{accesses, labels};
 ghost use Rattle.effects.specs.Tables.{Table, IsDerived, IsDerivedPending, IsStable};
 ghost use Rattle.effects.specs.Tables.{IsStablePending};
-ghost use Rattle.parallel_relation.specs.Together.{Together, MayMeet, LabelsMeet};
+ghost use Rattle.parallel_relation.specs.Together.{AddedAt, Together, MayMeet, LabelsMeet};
 ghost use Rattle.parallel_relation.specs.Meetings.{met_in};
 
 /// Over tables that are the least solution, the listed pairs are those that may run together.
@@ -29,4 +29,10 @@ pub fn pairs_have_no_order()
     ensures accesses { (p : Program) (b : Codes) (x y : Access)
         → MayMeet p accesses b x y → MayMeet p accesses b y x }
     ensures labels { (p : Program) (x y : ℕ) → LabelsMeet p x y → LabelsMeet p y x }
+{}
+
+/// Two accesses may run together exactly where some statement adds the pair.
+pub fn statements_add_the_pairs()
+    ensures { (p : Program) (b : Codes) (x y : Access)
+        → Together p accesses b x y ↔ ((l : ℕ) × AddedAt p accesses l b x y) }
 {}

@@ -8,7 +8,7 @@ use Rattle.types.specs.Code.{Procedure, Program}
 use Rattle.effects.specs.Effects.{accesses}
 use Rattle.effects.specs.Tables.{Table, IsDerived, IsDerivedPending, IsStable, IsStablePending}
 use Rattle.parallel_relation.specs.Meetings.{met_in}
-use Rattle.parallel_relation.proofs.Meeting.{meetings_exact}
+use Rattle.parallel_relation.proofs.MeetingsExact.{meetings_exact}
 use Rattle.race_checker.specs.Clash.{HasNoClash}
 use Rattle.race_checker.specs.Acceptance.{is_clash, has_clash}
 

@@ -1,5 +1,5 @@
 -- Which clash of a program is told: the least one.
-use Rattle.std.specs.Prelude.{ℕ, ◌≡◌, ◌⊎◌, List, [], ◌∷◌, Bool, true, false, nat_eq, nat_lt}
+use Rattle.std.specs.Prelude.{ℕ, ◌≡◌, ◌⊎◌, List, [], ◌∷◌, Bool, false, nat_eq}
 use Rattle.std.specs.Prelude.{if◌then◌else◌, length, Option, MatchOption}
 use Rattle.sections.specs.Origins.{Origin}
 use Rattle.types.specs.Code.{Procedure, Program}
@@ -8,20 +8,8 @@ use Rattle.effects.specs.Accesses.{Access}
 use Rattle.effects.specs.Effects.{accesses}
 use Rattle.parallel_relation.specs.Together.{Together}
 use Rattle.race_checker.specs.Clash.{Clash}
-
--- a read comes before a write
-abbrev pub kind_number : (write : Bool) → ℕ
-kind_number write = if write then 1 else 0
-
--- the first number that differs decides, as in a dictionary
-abbrev pub is_less : List ℕ → List ℕ → Bool
-is_less xs [] = false
-is_less [] (y ∷ ys) = true
-is_less (x ∷ xs) (y ∷ ys) = if nat_eq x y then is_less xs ys else nat_lt x y
-
--- accesses are ordered by label, then section, then kind
-abbrev pub access_key : Access → List ℕ
-access_key x = x.label ∷ x.section ∷ kind_number x.write ∷ []
+-- the order of accesses is defined with the pairs that may run together
+pub use Rattle.parallel_relation.specs.Order.{kind_number, is_less, access_key}
 
 -- a clash as it is told: a procedure, where `main` is numbered behind the others, and two accesses
 pub record Race : Type 0 where

@@ -2,11 +2,12 @@
 
 ghost use Rattle.std.specs.Prelude.{◌≡◌};
 ghost use Rattle.effects.specs.Translation.{access as access_of};
-ghost use Rattle.race_checker.specs.Races.{comes_before, is_less, race_key, access_key};
+ghost use Rattle.race_checker.specs.Races.{comes_before, race_key};
 ghost use Rattle.race_checker.specs.Search.{race_of, lesser_of};
 ghost use Rattle.race_checker.specs.Translation.{race as plain, found};
 
 use effects::access::Access;
+use parallel_relation::meeting::is_before;
 use types::ids::ProcedureId;
 
 /// Two accesses that clash, in the names of the procedure in which they do. The first has the smaller label; with
@@ -59,24 +60,6 @@ impl Race {
             usize::from(self.second.write),
         ]
     }
-}
-
-/// Whether an access stands before another in a race.
-fn is_before(access: Access, other: Access) -> bool
-    ensures { result ≡ is_less (access_key (access_of access)) (access_key (access_of other)) }
-{
-    key_of(access) < key_of(other)
-}
-
-/// What accesses are ordered by.
-fn key_of(access: Access) -> [usize; 3]
-    ensures { result ≡ access_key (access_of access) }
-{
-    [
-        access.label as usize,
-        access.section.number,
-        usize::from(access.write),
-    ]
 }
 
 /// The lesser of two races that were found.

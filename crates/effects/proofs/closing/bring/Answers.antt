@@ -1,7 +1,7 @@
 use Rattle.std.proofs.Common.{◌≡◌, ℕ, refl}
-use Rattle.std.specs.Prelude.{Bool, false}
+use Rattle.std.specs.Prelude.{Bool, false, true}
 use Rattle.effects.specs.Closing.{HasIn, Brings}
-use Rattle.effects.specs.LabelSets.{HasLabel}
+use Rattle.effects.specs.LabelSets.{HasLabel, HasNew}
 use Rattle.effects.specs.SummaryRows.{HasRow}
 use Rattle.effects.proofs.ClosingLemmas.{brought, got, has_some}
 use Rattle.effects.proofs.UseLemmas.{on_ok, if_ok}
@@ -33,3 +33,26 @@ returns-in-Some-get_mut-clause-grown c =
     (λ g h none l b. (has_some _ c.in-Some-get_mut.caller.now x.to l caller).0
     (h none l ((c.in_ok-labels-in-Some.ensures l).1 ((has_some _ c.in-Some.callee.now x.from l callee).1 b.label))))
     c.unite.ensures.grown
+
+pub returns-in-Some-get_mut-clause-new : goal.returns-in-Some-get_mut-clause-new
+returns-in-Some-get_mut-clause-new c =
+    let table = c.args.table.now.items in
+    let x = c.args.flow in
+    let from = c.in-Some.ensures.lookup in
+    let to = c.in-Some-get_mut.ensures.item in
+    let labels = c.in_ok-labels-in-Some.labels in
+    let callee = got _ table x.callee.number c.in-Some.callee.now c.deref.ensures.value from.3.0 from.1 in
+    let caller = got table table x.caller.number c.in-Some-get_mut.caller.now refl to.3.0 to.1 in
+    if_ok (λ (g : Bool). g ≡ true → HasNew (HasRow c.in-Some-get_mut.caller.now x.to) (HasLabel labels))
+    (λ (g : Bool). g ≡ true → HasNew (HasIn table x.caller.number x.to) (Brings x table x.caller.number x.to)) c.unite.result
+    (λ g h new. let r = h new in record {
+      label = r.label;
+      among = record {
+        there = to.3.0;
+        caller = refl;
+        to = refl;
+        label = (has_some _ c.in-Some.callee.now x.from r.label callee).0 ((c.in_ok-labels-in-Some.ensures r.label).0 r.among);
+      };
+      missing = λ k. r.missing ((has_some _ c.in-Some-get_mut.caller.now x.to r.label caller).1 k);
+    })
+    c.unite.ensures.new

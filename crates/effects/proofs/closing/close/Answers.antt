@@ -1,6 +1,7 @@
 use Rattle.std.proofs.Common.{refl, ◌∙◌}
 use Rattle.effects.specs.Closing.{start}
 use Rattle.effects.proofs.ClosingLemmas.{closed_has, reached_through}
+use Rattle.effects.proofs.StillMissing.{less_missing}
 use Rattle.effects.proofs.closing.close.Goals as goal
 
 pub loop-init : goal.loop-init
@@ -26,3 +27,8 @@ returns-then-not-branch-clause-exact c = λ f r l.
       λ h. round.more f r l
           (closed_has c.args.flows.now c.args.table.now.items c.loop.table.items inv.number inv.more (round.closed still) h),
     )
+
+pub loop-smaller : goal.loop-smaller
+loop-smaller c =
+    less_missing c.loop.table.items c.round.new.table.items c.in_ok-round.ensures.more c.args.flows.now
+    (c.in_ok-round.ensures.new c.if-not-branch.false)

@@ -1,6 +1,7 @@
 use Rattle.std.proofs.Common.{◌≡◌, ℕ, length}
 use Rattle.effects.specs.Closing.{HasIn, Reached}
 use Rattle.effects.specs.declared.summary.Row.{Row}
+use Rattle.effects.proofs.StillMissing.{missing}
 use Rattle.effects.proofs.closing.close.Given as goal
 
 -- what was there is there, and what is there is reached
@@ -10,3 +11,7 @@ invariant-loop l = record {
   more : (f : ℕ) (r : Row) (k : ℕ) → HasIn l.initial.table.items f r k → HasIn l.table.items f r k;
   reached : (f : ℕ) (r : Row) (k : ℕ) → HasIn l.table.items f r k → Reached l.flows l.initial.table.items f r k;
 }
+
+-- each further round brings a label
+abbrev pub decreases-loop : goal.decreases-loop
+decreases-loop l = missing l.flows l.table.items

@@ -10,7 +10,7 @@ loop-flow-preserved c =
     rounded_more c.args.flows.now c.args.table.now.items c.loop-flow.table.items c.bring.new.table.items c.loop-flow.grown
     c.in_ok-grown.field-0 c.loop-flow.flow-index _ c.loop-flow.invariant
     (slice_get-get_or c.args.flows.now c.loop-flow.flow-index _ c.loop-flow-test.true)
-    c.in_ok-grown.ensures.number c.in_ok-grown.ensures.both c.in_ok-grown.ensures.grown
+    c.in_ok-grown.ensures.number c.in_ok-grown.ensures.both c.in_ok-grown.ensures.grown c.in_ok-grown.ensures.new
 
 pub returns : goal.returns
 returns c =
@@ -22,4 +22,5 @@ returns c =
       same = inv.same;
       closed = rounded_all c.args.flows.now c.args.table.now.items c.loop-flow.table.items c.loop-flow.grown c.loop-flow.flow-index inv
           c.loop-flow-test.false;
+      new = inv.new;
     }

@@ -1,12 +1,11 @@
-use Rattle.std.proofs.Common.{◌≡◌, ◌≤◌, ◌<◌, ◌+◌, List, length, drop, ap, ◌∙◌, sym, subst, refl, arith, rules}
+use Rattle.std.proofs.Common.{◌≡◌, ◌≤◌, ◌<◌, ◌+◌, List, length, drop, ap, subst, refl, arith, rules}
 use Rattle.std.proofs.lemmas.List.{drop_all}
-use Rattle.types.specs.Code.{Codes, Then, Do, If, While, Call}
-use Rattle.types.specs.Run.{procedure_of}
-use Rattle.types.specs.Translation.{program, code, codes, number, truth, primitive}
+use Rattle.types.specs.Code.{Do, If}
+use Rattle.types.specs.Translation.{program, code, codes, truth, primitive}
 use Rattle.types.specs.declared.code.Stmt.{Stmt}
 use Rattle.effects.specs.Effects.{labels, All}
 use Rattle.effects.specs.LabelSets.{HasLabel}
-use Rattle.parallel_relation.specs.Around.{Gains, both, none}
+use Rattle.parallel_relation.specs.Around.{Gains, both}
 use Rattle.parallel_relation.proofs.LabelsLemmas.{gains_statement, one_less_left, none_is_left}
 use Rattle.parallel_relation.proofs.StatementParts.{Done}
 use Rattle.effects.proofs.Statements.{size, size_in, codes_at, is_If, is_While, is_Split, is_Async, is_Finish}

@@ -1,5 +1,5 @@
 use Rattle.effects.specs.Effects.{accesses, labels}
-use Rattle.parallel_relation.proofs.Meeting.{meetings_exact}
+use Rattle.parallel_relation.proofs.MeetingsExact.{meetings_exact}
 use Rattle.parallel_relation.proofs.laws.listed_meetings_are_exact.Goals as goal
 
 pub returns-clause-accesses : goal.returns-clause-accesses

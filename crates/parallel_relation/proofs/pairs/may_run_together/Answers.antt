@@ -1,4 +1,4 @@
-use Rattle.std.proofs.Common.{◌≡◌, ℕ, subst, sym}
+use Rattle.std.proofs.Common.{ℕ, subst}
 use Rattle.std.specs.Prelude.{◌↔◌}
 use Rattle.types.specs.Code.{Program}
 use Rattle.types.specs.Translation.{program}

@@ -1,14 +1,14 @@
-use Rattle.std.proofs.Common.{◌≡◌, ◌≤◌, ◌<◌, ◌+◌, ◌-◌, ℕ, List, [], length, drop, ap, ◌∙◌, sym, subst, refl, arith, rules}
+use Rattle.std.proofs.Common.{◌≡◌, ◌-◌, List, [], length, drop, ap, sym, subst, refl, arith}
 use Rattle.std.proofs.lemmas.List.{drop_all}
-use Rattle.types.specs.Code.{Code, Codes, End, Then, Do, If}
+use Rattle.types.specs.Code.{End, Do, If}
 use Rattle.types.specs.Translation.{program, code, codes, primitive, truth}
 use Rattle.types.specs.declared.code.Stmt.{Stmt}
 use Rattle.effects.specs.Effects.{labels, All}
 use Rattle.effects.specs.LabelSets.{HasLabel}
-use Rattle.parallel_relation.specs.Around.{Adds, Gains, none, one, BlockMeets, InsideMeets}
+use Rattle.parallel_relation.specs.Around.{Adds, Gains, BlockMeets, InsideMeets}
 use Rattle.parallel_relation.specs.Found.{FoundMeets}
 use Rattle.parallel_relation.proofs.LabelsLemmas.{nothing_behind, one_more}
-use Rattle.effects.proofs.Statements.{size, size_in, codes_before, smaller, size-drop, is_If, is_While, is_Split, is_Async, is_Finish}
+use Rattle.effects.proofs.Statements.{size_in, codes_before, smaller, size-drop, is_If, is_While, is_Split, is_Async, is_Finish}
 use Rattle.parallel_relation.proofs.Sums.{adds_nothing, adds_joined, on_ok}
 use Rattle.parallel_relation.proofs.WalkLemmas.{gains_copied, no_block, adds_inside, adds_while, adds_async, adds_finish, adds_statement, adds_before}
 use Rattle.parallel_relation.proofs.walk.+walk.Goals as goal

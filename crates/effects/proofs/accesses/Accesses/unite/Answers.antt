@@ -1,7 +1,7 @@
 use Rattle.std.proofs.Common.{◌≡◌, ℕ, IfOk, sym, subst}
-use Rattle.std.specs.Prelude.{Bool, false}
+use Rattle.std.specs.Prelude.{Bool, false, true}
 use Rattle.effects.specs.AccessSets.{HasAccess, uses_of}
-use Rattle.effects.specs.LabelSets.{HasLabel}
+use Rattle.effects.specs.LabelSets.{HasLabel, HasNew}
 use Rattle.effects.specs.UseSets.{HasUse}
 use Rattle.effects.proofs.UseLemmas.{on_ok, written, are_read}
 use Rattle.effects.proofs.accesses.Accesses.unite.Goals as goal
@@ -28,3 +28,15 @@ unfolding HasAccess
 returns-else-write-clause-grown c =
     subst (λ (w : Bool). IfOk c.unite-else-write.result (λ grown. grown ≡ false → (l : ℕ) → HasLabel c.args.labels.now l
     → HasUse (uses_of c.args.self.now w) c.args.section.number l)) (sym c.if-write.false) c.unite-else-write.ensures.grown
+
+pub returns-then-write-clause-new : goal.returns-then-write-clause-new
+unfolding HasAccess
+returns-then-write-clause-new c =
+    subst (λ (w : Bool). IfOk c.unite.result (λ grown. grown ≡ true
+    → HasNew (HasUse (uses_of c.args.self.now w) c.args.section.number) (HasLabel c.args.labels.now))) (sym c.if-write.true) c.unite.ensures.new
+
+pub returns-else-write-clause-new : goal.returns-else-write-clause-new
+unfolding HasAccess
+returns-else-write-clause-new c =
+    subst (λ (w : Bool). IfOk c.unite-else-write.result (λ grown. grown ≡ true
+    → HasNew (HasUse (uses_of c.args.self.now w) c.args.section.number) (HasLabel c.args.labels.now))) (sym c.if-write.false) c.unite-else-write.ensures.new

@@ -2,8 +2,9 @@ use Rattle.std.proofs.Common.{◌≡◌, ◌⊎◌, inr, ℕ, ◌≤◌, List, a
 use Rattle.std.specs.Int.{bit_at}
 use Rattle.std.specs.Prelude.{◌↔◌}
 use Rattle.types.specs.Run.{by_number, bind}
-use Rattle.effects.specs.LabelSets.{HasBit, HasLabel, words_of}
+use Rattle.effects.specs.LabelSets.{HasBit, HasLabel, HasNew, HasNewBit, words_of}
 use Rattle.effects.proofs.LabelSetLemmas.{united_more, united_labels, still_unchanged, zeros_behind}
+use Rattle.effects.proofs.NewLabels.{new_so_far}
 use Rattle.effects.proofs.label_set.LabelSet.unite.Goals as goal
 
 pub loop-k-preserved : goal.loop-k-preserved
@@ -19,6 +20,10 @@ loop-k-preserved c =
       room = omega (arith, inv.room, c.unite_word-grown.ensures.length);
       grown = still_unchanged (words_of c.reserve.new.self) now _ k _ c.loop-k.grown c.unite_word-grown.result
           c.unite_word-grown.ensures.word c.unite_word-grown.ensures.grown inv.grown;
+      new = new_so_far (words_of c.reserve.new.self) (words_of c.args.other.now) now k c.loop-k.grown c.unite_word-grown.result inv.united
+          (λ h. subst (λ (xs : List ℕ). HasNewBit (now k) (by_number 0 xs k)) c.deref-word-items.ensures.value
+          (c.unite_word-grown.ensures.new h))
+          inv.new;
     }
 
 pub returns-clause-both : goal.returns-clause-both
@@ -35,3 +40,8 @@ unfolding HasLabel
 returns-clause-grown c = λ none l h.
     let now = (returns-clause-both c l).1 (inr h) in
     subst (λ n. bit_at n (l % 64) ≡ 1) (c.loop-k.invariant.grown none (l / 64) ∙ ap (λ (f : ℕ → ℕ). f (l / 64)) c.in_ok-reserve.ensures.same) now
+
+pub returns-clause-new : goal.returns-clause-new
+unfolding HasLabel
+returns-clause-new c = λ new.
+    subst (λ (f : ℕ → ℕ). HasNew (HasBit f) (HasLabel c.args.other.now)) c.in_ok-reserve.ensures.same (c.loop-k.invariant.new new)

@@ -19,3 +19,16 @@ returns-clause-grown c = λ none l h.
     let room : s < length c.reserve.new.self.sets.items = omega (arith, c.in_ok-reserve.ensures.room) in
     let at = found c.reserve.new.self.sets.items _ s c.index_mut.result.now refl room c.index_mut.ensures.value in
     (c.in_ok-reserve.ensures.same s l).0 ((has_found _ c.index_mut.result.now l at).0 (c.in_ok-grown.ensures.grown none l h))
+
+pub returns-clause-new : goal.returns-clause-new
+unfolding HasUse
+returns-clause-new c = λ new.
+    let s = c.args.section.number in
+    let room : s < length c.reserve.new.self.sets.items = omega (arith, c.in_ok-reserve.ensures.room) in
+    let at = found c.reserve.new.self.sets.items _ s c.index_mut.result.now refl room c.index_mut.ensures.value in
+    let r = c.in_ok-grown.ensures.new new in
+    record {
+      label = r.label;
+      among = r.among;
+      missing = λ h. r.missing ((has_found _ c.index_mut.result.now r.label at).1 ((c.in_ok-reserve.ensures.same s r.label).1 h));
+    }

@@ -1,12 +1,10 @@
-use Rattle.std.proofs.Common.{◌≡◌, ◌∷◌, [], ◌<◌, ◌≤◌, ◌+◌, ◌-◌, ◌^◌, ℕ, List, length, Bor, ap, ◌∙◌, sym, arith, rules}
+use Rattle.std.proofs.Common.{◌≡◌, ◌<◌, ◌≤◌, ◌+◌, ◌-◌, ◌^◌, ℕ, List, length, Bor, ap, ◌∙◌, sym, arith, rules}
 use Rattle.std.proofs.lemmas.Option.{slice_get_within}
 use Rattle.std.specs.Option.{option_copied}
 use Rattle.std.specs.Prelude.{Option, Some, None, slice_get}
 use Rattle.effects.proofs.HasLabels.{label_within}
 use Rattle.effects.specs.declared.label_set.LabelSet.{LabelSet}
-use Rattle.parallel_relation.specs.Pairs.{pairs_left}
 use Rattle.parallel_relation.specs.Rows.{rows_of}
-use Rattle.parallel_relation.specs.declared.pairs.PairList.{PairList}
 use Rattle.parallel_relation.proofs.ListLemmas.{place_next, place_ends, past_rows}
 use Rattle.parallel_relation.proofs.pairs.PairListIterator.next.Goals as goal
 

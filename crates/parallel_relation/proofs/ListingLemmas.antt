@@ -1,0 +1,224 @@
+-- Accesses of summaries as lists.
+use Rattle.std.proofs.Common.{◌≡◌, ◌⊎◌, inl, inr, ℕ, zero, suc, ◌+◌, ◌<◌, List, [], ◌∷◌, ◌++◌, length, refl, sym, ap, subst, ◌∙◌, arith}
+use Rattle.std.proofs.lemmas.Bool.{cases_lt}
+use Rattle.std.proofs.lemmas.Option.{slice_get_past}
+use Rattle.std.specs.Prelude.{◌↔◌, Bool, true, false, Option, Some, None, slice_get}
+use Rattle.sections.specs.Member.{Member, first, next}
+use Rattle.types.specs.Code.{Codes, Program}
+use Rattle.types.specs.Run.{procedure_of}
+use Rattle.effects.specs.Accesses.{Access}
+use Rattle.effects.specs.AccessSets.{HasAccess, IsUseOf}
+use Rattle.effects.specs.Effects.{accesses, All, Pending}
+use Rattle.effects.specs.LabelSets.{HasLabel}
+use Rattle.effects.specs.Summarized.{IsSummary, body_of}
+use Rattle.effects.specs.Tables.{IsDerived, IsDerivedPending, IsStable, IsStablePending}
+use Rattle.effects.specs.Translation.{access}
+use Rattle.effects.specs.declared.access.Access.{Access as rAccess}
+use Rattle.effects.specs.declared.accesses.Accesses.{Accesses}
+use Rattle.effects.specs.declared.label_set.LabelSet.{LabelSet}
+use Rattle.effects.specs.declared.summary.Summary.{Summary}
+use Rattle.effects.proofs.StableTables.{listed, left}
+use Rattle.parallel_relation.specs.Around.{Gains}
+use Rattle.parallel_relation.specs.Listing.{InList, IsUse, all_listed, pending_listed, alls_of, pendings_of, IsListedAt, AreListsOf}
+use Rattle.parallel_relation.specs.declared.listing.Listed.{Listed}
+use Rattle.parallel_relation.proofs.LabelsLemmas.{callee_body}
+use Rattle.parallel_relation.proofs.SpreadLemmas.{below_next, no_body}
+use Rattle.parallel_relation.proofs.Sums.{gains_joined, gains_nothing}
+
+-- the same in other words
+gains_same : {A : Type 0} {f m g : A → Type 0} (n : A → Type 0) → Gains f m g → ((x : A) → m x → n x) → ((x : A) → n x → m x)
+    → Gains f n g
+gains_same n h to from = record {
+  keeps = h.keeps;
+  has = λ x k. h.has x (from x k);
+  only = λ x k. elim (h.only x k) [ inl o ↦ inl o | inr m ↦ inr (to x m) ];
+}
+
+-- those of smaller numbers, and then those of the next
+gains_next : {A : Type 0} {f g h : A → Type 0} (number : A → ℕ) (n : ℕ) (m : A → Type 0)
+    → Gains f (λ x. (number x < n) × m x) g → Gains g (λ x. (number x ≡ n) × m x) h → Gains f (λ x. (number x < n + 1) × m x) h
+gains_next number n m g h = gains_joined (λ x. (number x < n + 1) × m x) g h
+    (λ x k. elim k [
+      | inl a ↦ (let l : number x < n = a.0 in omega arith, a.1)
+      | inr b ↦ (let e : number x ≡ n = b.0 in omega arith, b.1)
+    ])
+    (λ x k. elim (below_next (number x) n k.0) [ inl a ↦ inl (a, k.1) | inr b ↦ inr (b, k.1) ])
+
+-- an access more at the end of a list
+pushed_only : (xs : List rAccess) (y : rAccess) (x : Access) → InList (xs ++ y ∷ []) x → InList xs x ⊎ (x ≡ access y)
+pushed_only [] y x first = inr refl
+pushed_only [] y x (next h) = elim h [ ]
+pushed_only (z ∷ zs) y x first = inl first
+pushed_only (z ∷ zs) y x (next h) = elim (pushed_only zs y x h) [ inl a ↦ inl (next a) | inr e ↦ inr e ]
+
+pushed_keeps : (xs : List rAccess) (y : rAccess) (x : Access) → InList xs x → InList (xs ++ y ∷ []) x
+pushed_keeps [] y x h = elim h [ ]
+pushed_keeps (z ∷ zs) y x first = first
+pushed_keeps (z ∷ zs) y x (next h) = next (pushed_keeps zs y x h)
+
+pushed_has : (xs : List rAccess) (y : rAccess) → InList (xs ++ y ∷ []) (access y)
+pushed_has [] y = first
+pushed_has (z ∷ zs) y = next (pushed_has zs y)
+
+-- an access of a section and kind is known by its label
+same_use : (s : ℕ) (w : Bool) (x : Access) → IsUseOf s w x → record { label = x.label; section = s; write = w } ≡ x
+same_use s w x h =
+    let with_section : ℕ → Access = λ t. record { label = x.label; section = t; write = w } in
+    let with_kind : Bool → Access = λ v. record { label = x.label; section = x.section; write = v } in
+    ap with_section (sym h.0) ∙ ap with_kind (sym h.1)
+
+module _ (labels : LabelSet) (s : ℕ) (w : Bool) where
+  -- the access of a label
+  pub use_pushed : (xs ys : List rAccess) (y : rAccess) (l : ℕ) → ys ≡ xs ++ y ∷ []
+      → access y ≡ record { label = l; section = s; write = w } → HasLabel labels l
+      → Gains (InList xs) (λ x. (x.label ≡ l) × IsUse labels s w x) (InList ys)
+  use_pushed xs ys y l is e h = subst (λ (zs : List rAccess). Gains (InList xs) (λ x. (x.label ≡ l) × IsUse labels s w x) (InList zs)) (sym is)
+      (record {
+        keeps = λ x k. pushed_keeps xs y x k;
+        has = λ x k.
+            let same : x ≡ access y =
+            sym (same_use s w x k.1.0) ∙ ap with_label k.0 ∙ sym e in
+            subst (InList (xs ++ y ∷ [])) (sym same) (pushed_has xs y);
+        only = λ x k. elim (pushed_only xs y x k) [
+          | inl a ↦ inl a
+          | inr b ↦ inr (is_use x (b ∙ e))
+        ];
+      })
+    where
+      with_label : ℕ → Access
+      with_label k = record { label = k; section = s; write = w }
+
+      is_use : (x : Access) → x ≡ with_label l → (x.label ≡ l) × IsUse labels s w x
+      is_use x e = subst (λ (z : Access). (z.label ≡ l) × IsUse labels s w z) (sym e) (refl, ((refl, refl), h))
+
+  -- none, where the label is not there
+  pub no_use : (xs : List rAccess) (l : ℕ) → (HasLabel labels l → ⊥)
+      → Gains (InList xs) (λ x. (x.label ≡ l) × IsUse labels s w x) (InList xs)
+  no_use xs l none = gains_nothing (InList xs) (λ x. (x.label ≡ l) × IsUse labels s w x)
+      (λ x k. none (subst (HasLabel labels) k.0 k.1.1))
+
+  pub uses_next : {f g h : Access → Type 0} (n : ℕ) → Gains f (λ x. (x.label < n) × IsUse labels s w x) g
+      → Gains g (λ x. (x.label ≡ n) × IsUse labels s w x) h → Gains f (λ x. (x.label < n + 1) × IsUse labels s w x) h
+  uses_next n g h = gains_next (λ x. x.label) n (IsUse labels s w) g h
+
+  pub uses_none : (f : Access → Type 0) → Gains f (λ x. (x.label < 0) × IsUse labels s w x) f
+  uses_none f = gains_nothing f (λ x. (x.label < 0) × IsUse labels s w x) (λ x k. let h : x.label < 0 = k.0 in omega arith)
+
+  -- in the end all
+  pub uses_all : {f g : Access → Type 0} (xs : Accesses) (n : ℕ) → ((l : ℕ) → HasLabel labels l → l < n)
+      → ((l : ℕ) → HasLabel labels l ↔ HasAccess xs (record { label = l; section = s; write = w }))
+      → Gains f (λ x. (x.label < n) × IsUse labels s w x) g → Gains f (λ x. IsUseOf s w x × HasAccess xs x) g
+  uses_all xs n within same g = gains_same (λ x. IsUseOf s w x × HasAccess xs x) g
+      (λ x k. (k.1.0, subst (HasAccess xs) (same_use s w x k.1.0) ((same x.label).0 k.1.1)))
+      (λ x k. let h = (same x.label).1 (subst (HasAccess xs) (sym (same_use s w x k.0)) k.1) in (within x.label h, (k.0, h)))
+
+module _ (has : Access → Type 0) where
+  pub sections_none : Gains (λ (x : Access). ⊥) (λ x. (x.section < 0) × has x) (InList [])
+  sections_none = record {
+    keeps = λ x k. absurd k;
+    has = λ x k. let h : x.section < 0 = k.0 in absurd (omega arith);
+    only = λ x k. elim k [ ];
+  }
+
+  -- what is read of a section, and what is written
+  pub sections_next : {f g h k : Access → Type 0} (n : ℕ) → Gains f (λ x. (x.section < n) × has x) g
+      → Gains g (λ x. IsUseOf n false x × has x) h → Gains h (λ x. IsUseOf n true x × has x) k
+      → Gains f (λ x. (x.section < n + 1) × has x) k
+  sections_next n g a b = gains_next (λ x. x.section) n has g
+      (gains_joined (λ x. (x.section ≡ n) × has x) a b
+      (λ x k. elim k [ inl c ↦ (c.0.0, c.1) | inr c ↦ (c.0.0, c.1) ])
+      (λ x k. by_kind x x.write refl k))
+    where
+      by_kind : (x : Access) (w : Bool) → x.write ≡ w → (x.section ≡ n) × has x
+          → (IsUseOf n false x × has x) ⊎ (IsUseOf n true x × has x)
+      by_kind x true e k = inr ((k.0, e), k.1)
+      by_kind x false e k = inl ((k.0, e), k.1)
+
+  pub sections_all : (xs : List rAccess) (n : ℕ) → ((x : Access) → has x → x.section < n)
+      → Gains (λ (x : Access). ⊥) (λ x. (x.section < n) × has x) (InList xs) → (x : Access) → InList xs x ↔ has x
+  sections_all xs n within g x =
+      (λ h. elim (g.only x h) [ inl o ↦ absurd o | inr k ↦ k.1 ], λ h. g.has x (within x h, h))
+
+-- one more element of a list
+get_pushed : {A : Type 0} (xs : List A) (y : A) (f : ℕ) → f < length xs → slice_get (xs ++ y ∷ []) f ≡ slice_get xs f
+get_pushed [] y f h = absurd (omega (arith, h))
+get_pushed (x ∷ xs) y zero h = refl
+get_pushed (x ∷ xs) y (suc f) h = get_pushed xs y f (omega (arith, h))
+
+get_last : {A : Type 0} (xs : List A) (y : A) → slice_get (xs ++ y ∷ []) (length xs) ≡ Some y
+get_last [] y = refl
+get_last (x ∷ xs) y = get_last xs y
+
+both_ways : {A B C : Type 0} → A ↔ B → B ↔ C → A ↔ C
+both_ways f g = (λ a. g.0 (f.0 a), λ c. f.1 (g.1 c))
+
+module _ (p : Program) where
+  at_same : (these those : List Listed) (f : ℕ) → slice_get those f ≡ slice_get these f → IsListedAt p these f → IsListedAt p those f
+  at_same these those f e h = record {
+    all = subst (λ (o : Option Listed). (x : Access) → Member x (all_listed o) ↔ All p accesses (procedure_of p f).body x) (sym e) h.all;
+    pending =
+        subst (λ (o : Option Listed). (x : Access) → Member x (pending_listed o) ↔ Pending p accesses (procedure_of p f).body x) (sym e)
+        h.pending;
+  }
+
+  -- the accesses of one procedure more
+  pub lists_next : (these those : List Listed) (y : Listed) (n : ℕ) (s : Summary) → those ≡ these ++ y ∷ [] → length these ≡ n
+      → n < length p.procedures → IsSummary p (body_of p n) s → ((x : Access) → InList y.all.items x ↔ HasAccess s.all x)
+      → ((x : Access) → InList y.pending.items x ↔ HasAccess s.pending x)
+      → ((f : ℕ) → f < n → IsListedAt p these f) → (f : ℕ) → f < n + 1 → IsListedAt p those f
+  lists_next these those y n s is number within summary all pending before f h = elim (below_next f n h) [
+    | inl l ↦ at_same these those f
+        (ap (λ (xs : List Listed). slice_get xs f) is ∙ get_pushed these y f (omega (arith, l, number))) (before f l)
+    | inr e ↦ subst (IsListedAt p those) (sym e) last
+  ]
+    where
+      exact : IsSummary p (procedure_of p n).body s
+      exact = subst (λ (b : Codes). IsSummary p b s) (callee_body p n within) summary
+
+      got : slice_get those n ≡ Some y
+      got = ap (λ (xs : List Listed). slice_get xs n) is
+          ∙ subst (λ k. slice_get (these ++ y ∷ []) k ≡ Some y) number (get_last these y)
+
+      last : IsListedAt p those n
+      last = record {
+        all = subst (λ (o : Option Listed). (x : Access) → Member x (all_listed o) ↔ All p accesses (procedure_of p n).body x) (sym got)
+            (λ x. both_ways (all x) (exact.all x));
+        pending =
+            subst (λ (o : Option Listed). (x : Access) → Member x (pending_listed o) ↔ Pending p accesses (procedure_of p n).body x)
+            (sym got) (λ x. both_ways (pending x) (exact.pending x));
+      }
+
+  -- of all procedures, and behind them there is none
+  pub lists_all : (lists : List Listed) (n : ℕ) → length lists ≡ n → n ≡ length p.procedures
+      → ((f : ℕ) → f < n → IsListedAt p lists f) → AreListsOf p lists
+  lists_all lists n number end below f = elim (cases_lt f n) [
+    | inl l ↦ below f l
+    | inr past ↦
+        let none : slice_get lists f ≡ None = slice_get_past lists f (omega (arith, past, number)) in
+        let body = no_body p f (omega (arith, past, end)) in
+        record {
+          all = λ x. (
+            λ h. elim (subst (λ (o : Option Listed). Member x (all_listed o)) none h) [ ],
+            λ h. elim (subst (λ (b : Codes). All p accesses b x) body h) [ ],
+          );
+          pending = λ x. (
+            λ h. elim (subst (λ (o : Option Listed). Member x (pending_listed o)) none h) [ ],
+            λ h. elim (subst (λ (b : Codes). Pending p accesses b x) body h) [ ],
+          );
+        }
+  ]
+
+  module _ (lists : List Listed) (are : AreListsOf p lists) where
+    -- what is listed is the least solution
+    pub lists_derived : IsDerived p accesses (alls_of lists)
+    lists_derived f x h = ((are f).all x).0 h
+
+    pub lists_derived_pending : IsDerivedPending p accesses (pendings_of lists)
+    lists_derived_pending f x h = ((are f).pending x).0 h
+
+    pub lists_stable : IsStable p accesses (alls_of lists)
+    lists_stable f x h = ((are f).all x).1 (listed p accesses (alls_of lists) lists_derived (procedure_of p f).body x h)
+
+    pub lists_stable_pending : IsStablePending p accesses (alls_of lists) (pendings_of lists)
+    lists_stable_pending f x h = ((are f).pending x).1
+        (left p accesses (alls_of lists) (pendings_of lists) lists_derived lists_derived_pending (procedure_of p f).body x h)

@@ -1,0 +1,54 @@
+-- What procedures may do and leave pending, as lists.
+use Rattle.std.specs.Prelude.{ℕ, ◌↔◌, Bool, List, [], map, Option, None, Some, slice_get, nat_eq, true}
+use Rattle.sections.specs.Member.{Member}
+use Rattle.types.specs.Code.{Program}
+use Rattle.types.specs.Run.{procedure_of}
+use Rattle.effects.specs.Accesses.{Access}
+use Rattle.effects.specs.AccessSets.{IsUseOf}
+use Rattle.effects.specs.Effects.{accesses, All, Pending}
+use Rattle.effects.specs.LabelSets.{HasLabel}
+use Rattle.effects.specs.Tables.{Table}
+use Rattle.effects.specs.Translation.{access}
+use Rattle.effects.specs.declared.access.Access.{Access as rAccess}
+use Rattle.effects.specs.declared.label_set.LabelSet.{LabelSet}
+use Rattle.parallel_relation.specs.declared.listing.Listed.{Listed}
+
+-- an access is in a list
+abbrev pub InList : List rAccess → Access → Type 0
+InList xs x = Member x (map access xs)
+
+-- statements with these labels write a section, or read it
+abbrev pub IsUse : LabelSet → (section : ℕ) → (write : Bool) → Access → Type 0
+IsUse labels s w x = IsUseOf s w x × HasLabel labels x.label
+
+-- all that is listed of a procedure; of none nothing
+abbrev pub all_listed : Option Listed → List Access
+all_listed None = []
+all_listed (Some x) = map access x.all.items
+
+-- what is listed as pending
+abbrev pub pending_listed : Option Listed → List Access
+pending_listed None = []
+pending_listed (Some x) = map access x.pending.items
+
+-- the tables of what is listed by number
+abbrev pub alls_of : List Listed → Table accesses
+alls_of lists f = all_listed (slice_get lists f)
+
+abbrev pub pendings_of : List Listed → Table accesses
+pendings_of lists f = pending_listed (slice_get lists f)
+
+-- of the procedure of a number its accesses are listed, and those left pending
+pub record IsListedAt (p : Program) (lists : List Listed) (f : ℕ) : Type 0 where
+  pub all : (x : Access) → Member x (alls_of lists f) ↔ All p accesses (procedure_of p f).body x
+  pub pending : (x : Access)
+      → Member x (pendings_of lists f) ↔ Pending p accesses (procedure_of p f).body x
+
+-- so they are of each procedure
+abbrev pub AreListsOf : Program → List Listed → Type 0
+AreListsOf p lists = (f : ℕ) → IsListedAt p lists f
+
+-- whether a label is asked for: where none is named, each is
+abbrev pub is_asked : Option ℕ → (label : ℕ) → Bool
+is_asked None l = true
+is_asked (Some k) l = nat_eq k l

@@ -1,0 +1,233 @@
+//! The pairs of accesses that may run together.
+
+ghost use Rattle.std.specs.Prelude.{◌≡◌, ◌++◌, ◌≤◌, IfOk, OnOk, length, map};
+ghost use Rattle.types.specs.Typed.{code_of};
+ghost use Rattle.types.specs.Translation.{code as plain_code, codes as codes_of, program};
+ghost use Rattle.effects.specs.Effects.{accesses};
+ghost use Rattle.effects.specs.Summarized.{AreSummaries, body_of as plain_body_of};
+ghost use Rattle.effects.specs.Tables.{left_by};
+ghost use Rattle.effects.specs.Translation.{access as access_of};
+ghost use Rattle.parallel_relation.specs.Listing.{alls_of, pendings_of, is_asked as asks};
+ghost use Rattle.parallel_relation.specs.Meetings.{added, added_in, added_inside, crossed, turned};
+ghost use Rattle.parallel_relation.specs.Order.{AreMeetings, meeting_of};
+ghost use Rattle.parallel_relation.specs.Together.{Together, AccessesAddedAt};
+ghost use Rattle.parallel_relation.specs.Translation.{meeting as plain};
+
+use crate::listing::{Listed, list_procedures};
+use crate::meeting::{Meeting, put_in_order};
+use crate::statements::{add_block, add_left_by, add_own};
+use effects::access::Access;
+use effects::summaries::Summaries;
+use std::alloc::{AllocError, Global};
+use types::code::{Label, Program, Stmt, StmtKind};
+use types::ids::ProcedureId;
+use types::typed::Typed;
+
+/// The pairs of accesses of a procedure that may run together, each once and in their order; `main` is numbered
+/// behind the others.
+pub fn meetings(
+    alloc: Global,
+    typed: &Typed,
+    summaries: &Summaries,
+    procedure: ProcedureId,
+) -> Result<Vec<Meeting>, AllocError>
+    requires { AreSummaries (code_of typed.now) summaries.now }
+    ensures { let p = code_of typed.now in IfOk result (λ found.
+        AreMeetings (Together p accesses (plain_body_of p procedure.number))
+        (map plain found.items)) }
+{
+    let code = typed.code();
+    let lists = list_procedures(alloc, code, summaries)?;
+    let mut found = Vec::new(alloc);
+    add_meetings(alloc, &lists, None, body_of(code, procedure), &mut found)?;
+    put_in_order(&mut found);
+    Ok(found)
+}
+
+/// Those pairs that the statement with this label adds, each once and in their order: with what stands behind it in
+/// its list, and with its own next turn. Nothing for the label of no statement.
+pub fn meetings_at(
+    alloc: Global,
+    typed: &Typed,
+    summaries: &Summaries,
+    label: Label,
+) -> Result<Vec<Meeting>, AllocError>
+    requires { AreSummaries (code_of typed.now) summaries.now }
+    ensures { let p = code_of typed.now in IfOk result (λ found.
+        AreMeetings (AccessesAddedAt p label) (map plain found.items)) }
+{
+    let code = typed.code();
+    let lists = list_procedures(alloc, code, summaries)?;
+    let mut found = Vec::new(alloc);
+    for number in 0..code.procedures.len() {
+        let body = body_of(code, ProcedureId { number });
+        add_meetings(alloc, &lists, Some(label), body, &mut found)?;
+    }
+    add_meetings(alloc, &lists, Some(label), &code.main.body, &mut found)?;
+    put_in_order(&mut found);
+    Ok(found)
+}
+
+/// The body of a procedure; `main` is numbered behind the others, and behind it is nothing.
+fn body_of(code: &Program, procedure: ProcedureId) -> &[Stmt]
+    ensures { codes_of result.now ≡ plain_body_of (program code.now) procedure.number }
+{
+    if procedure.number == code.procedures.len() {
+        return &code.main.body;
+    }
+    match code.procedures.get(procedure.number) {
+        Some(procedure) => &procedure.body,
+        None => &[],
+    }
+}
+
+/// Adds the pairs that the statements of a block add, all of them or those with one label.
+#[cycle(meetings)]
+fn add_meetings(
+    alloc: Global,
+    lists: &[Listed],
+    label: Option<Label>,
+    block: &[Stmt],
+    into: &mut Vec<Meeting>,
+) -> Result<(), AllocError>
+    ensures { OnOk result (map plain into.new.items ≡ map plain into.old.items ++ map meeting_of
+        (added_in accesses (alls_of lists.now) (pendings_of lists.now) (asks label)
+        (codes_of block.now))) }
+{
+    for (place, statement) in block.iter().enumerate() {
+        if is_asked(label, statement.label) {
+            add_pairs(alloc, lists, statement, &block[place + 1..], into)?;
+        }
+        add_meetings_inside(alloc, lists, label, &statement.kind, into)?;
+    }
+    Ok(())
+}
+
+/// Adds those that the statements inside a statement add.
+#[cycle(meetings)]
+fn add_meetings_inside(
+    alloc: Global,
+    lists: &[Listed],
+    label: Option<Label>,
+    kind: &StmtKind,
+    into: &mut Vec<Meeting>,
+) -> Result<(), AllocError>
+    ensures { OnOk result (map plain into.new.items ≡ map plain into.old.items ++ map meeting_of
+        (added_inside accesses (alls_of lists.now) (pendings_of lists.now) (asks label)
+        (plain_code kind.now))) }
+{
+    match kind {
+        StmtKind::Do(_) => Ok(()),
+        StmtKind::If { body, other, .. } => {
+            add_meetings(alloc, lists, label, body, into)?;
+            add_meetings(alloc, lists, label, other, into)?;
+            Ok(())
+        }
+        StmtKind::While { body, .. } => {
+            add_meetings(alloc, lists, label, body, into)?;
+            Ok(())
+        }
+        StmtKind::Split { body, .. } => {
+            add_meetings(alloc, lists, label, body, into)?;
+            Ok(())
+        }
+        StmtKind::Call { .. } => Ok(()),
+        StmtKind::Async { body } => {
+            add_meetings(alloc, lists, label, body, into)?;
+            Ok(())
+        }
+        StmtKind::Finish { body } => {
+            add_meetings(alloc, lists, label, body, into)?;
+            Ok(())
+        }
+    }
+}
+
+/// Whether a label is asked for: where none is named, each is.
+fn is_asked(asked: Option<Label>, label: Label) -> bool
+    ensures { result ≡ asks asked label }
+{
+    match asked {
+        None => true,
+        Some(one) => one == label,
+    }
+}
+
+/// Adds the pairs that a statement adds in front of the rest of its list.
+fn add_pairs(
+    alloc: Global,
+    lists: &[Listed],
+    statement: &Stmt,
+    rest: &[Stmt],
+    into: &mut Vec<Meeting>,
+) -> Result<(), AllocError>
+    ensures { OnOk result (map plain into.new.items ≡ map plain into.old.items ++ map meeting_of
+        (added accesses (alls_of lists.now) (pendings_of lists.now) statement.now.label
+        (plain_code statement.now.kind) (codes_of rest.now))) }
+{
+    let mut left = Vec::new(alloc);
+    add_left_by(alloc, lists, &statement.kind, &mut left)?;
+    if left.is_empty() {
+        return Ok(());
+    }
+    let mut later = Vec::new(alloc);
+    add_block(alloc, lists, rest, &mut later)?;
+    add_crossed(&left, &later, into)?;
+    add_turned(alloc, lists, statement, &left, into)
+}
+
+/// Adds those of a loop with its next turn.
+fn add_turned(
+    alloc: Global,
+    lists: &[Listed],
+    statement: &Stmt,
+    left: &[Access],
+    into: &mut Vec<Meeting>,
+) -> Result<(), AllocError>
+    requires { map access_of left.now
+        ≡ left_by accesses (alls_of lists.now) (pendings_of lists.now) (plain_code statement.now.kind) }
+    ensures { OnOk result (map plain into.new.items ≡ map plain into.old.items ++ map meeting_of
+        (turned accesses (alls_of lists.now) (pendings_of lists.now) statement.now.label
+        (plain_code statement.now.kind))) }
+{
+    match &statement.kind {
+        StmtKind::Do(_) => Ok(()),
+        StmtKind::If { .. } => Ok(()),
+        StmtKind::While { body, .. } => {
+            let mut turn = Vec::new(alloc);
+            add_own(alloc, statement.label, &statement.kind, &mut turn)?;
+            add_block(alloc, lists, body, &mut turn)?;
+            add_crossed(left, &turn, into)
+        }
+        StmtKind::Split { .. } => Ok(()),
+        StmtKind::Call { .. } => Ok(()),
+        StmtKind::Async { .. } => Ok(()),
+        StmtKind::Finish { .. } => Ok(()),
+    }
+}
+
+/// Adds each of the first with each of the second.
+fn add_crossed(
+    firsts: &[Access],
+    seconds: &[Access],
+    into: &mut Vec<Meeting>,
+) -> Result<(), AllocError>
+    ensures { OnOk result (map plain into.new.items ≡ map plain into.old.items ++ map meeting_of
+        (crossed (map access_of firsts.now) (map access_of seconds.now))) }
+{
+    for first in firsts {
+        add_each(*first, seconds, into)?;
+    }
+    Ok(())
+}
+
+/// Adds an access with each of these.
+fn add_each(first: Access, seconds: &[Access], into: &mut Vec<Meeting>) -> Result<(), AllocError>
+    ensures { OnOk result (map plain into.new.items ≡ map plain into.old.items ++ map meeting_of
+        (map (λ y. (access_of first, y)) (map access_of seconds.now))) }
+{
+    for second in seconds {
+        into.push(Meeting::of(first, *second))?;
+    }
+    Ok(())
+}
