@@ -1,14 +1,15 @@
 //! Runs by given choices.
 
-ghost use Rattle.std.specs.Prelude.{◌≡◌, ◌<◌, ◌≤◌, IfOk, length};
-ghost use Rattle.types.specs.Contents.{FitsArrays, held_by};
-ghost use Rattle.types.specs.Outcome.{IsLarger, outcome as one_thread_outcome, Budget};
+ghost use Rattle.std.specs.Prelude.{◌≡◌, ◌<◌, ℕ, IfOk, length};
+ghost use Rattle.types.specs.Contents.{FitsArrays};
+ghost use Rattle.types.specs.Outcome.{Budget as BudgetOf, IsLarger, Outcome as OutcomeOf};
+ghost use Rattle.types.specs.Outcome.{outcome as one_thread_outcome};
 ghost use Rattle.types.specs.Translation.{program as program_of, input as lists_in};
 ghost use Rattle.types.specs.TreeRuns.{Ends, Open, told as told_of, explored as explored_by};
 ghost use Rattle.types.specs.TreeSteps.{first_tree};
 ghost use Rattle.types.specs.Trees.{ready as ready_leaves};
 ghost use Rattle.types.specs.Typed.{code_of};
-ghost use Rattle.serial_run.specs.Lists.{contents_of, lists_of};
+ghost use Rattle.serial_run.specs.Lists.{contents_of};
 ghost use Rattle.step_trees.specs.Exploring.{explored_of, IsHeld, StepsTree};
 ghost use Rattle.step_trees.specs.Held.{tree_of, IsCounted};
 ghost use Rattle.step_trees.specs.Turns.{becomes as becomes_tree};
@@ -18,6 +19,7 @@ use crate::rest::block_alone;
 use crate::tree::{Tree, and_then, beside, take_apart};
 use crate::turn::{Becomes, step as leaf_turn};
 use crate::walk::{found, rebuilt};
+use effects::laws::typed_programs_are_sound;
 use race_checker::accepted::Accepted;
 use serial_run::store::Store;
 use serial_run::thread::{Plan, main_environment};
@@ -40,7 +42,29 @@ pub enum Explored {
 
 /// The run of an accepted program by choices, each the number of a leaf that steps next, from the
 /// left and from 0, of those that may. The input has a list for each array, of its length.
+///
+/// What is told to be open has a leaf that may step, and what is told to have ended is the outcome of
+/// one thread, with as many steps and as much nest as there are choices or with more.
 pub fn explore(
+    alloc: Global,
+    accepted: &Accepted,
+    input: &Input,
+    choices: &[u32],
+) -> Result<Explored, AllocError>
+    requires { FitsArrays (code_of accepted.now.typed).arrays (lists_in input.now) }
+    ensures told { IfOk result (λ e. explored_of e
+        ≡ explored_by (code_of accepted.now.typed) (lists_in input.now) choices.now) }
+    ensures open { IfOk result (λ e. (leaves : ℕ) → explored_of e ≡ Open leaves → 0 < leaves) }
+    ensures ended { IfOk result (λ e. (o : OutcomeOf) → explored_of e ≡ Ends o → (b : BudgetOf)
+        → IsLarger b (record { steps = length choices.now; nest = length choices.now })
+        → one_thread_outcome (code_of accepted.now.typed) (lists_in input.now) b ≡ o) }
+{
+    typed_programs_are_sound(accepted.typed());
+    run_by(alloc, accepted, input, choices)
+}
+
+/// The same, choice by choice.
+fn run_by(
     alloc: Global,
     accepted: &Accepted,
     input: &Input,

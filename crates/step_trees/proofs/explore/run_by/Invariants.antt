@@ -4,7 +4,7 @@ use Rattle.types.specs.TreeRuns.{explored_from, explored}
 use Rattle.serial_run.specs.Lists.{contents_of}
 use Rattle.step_trees.specs.Exploring.{IsHeld}
 use Rattle.step_trees.specs.Held.{tree_of}
-use Rattle.step_trees.proofs.explore.explore.Given as goal
+use Rattle.step_trees.proofs.explore.run_by.Given as goal
 
 -- by the choices that are left it is told what is told by all
 abbrev pub invariant-choices : goal.invariant-choices
