@@ -16,6 +16,7 @@ mod race_messages;
 mod refused_programs;
 mod results;
 mod rows;
+mod runs_by_choices;
 mod schedules;
 mod scope_weights;
 mod section_trees;

@@ -2,12 +2,15 @@ pub mod ChosenRuns
 pub mod CommutingSteps
 pub mod Deeds
 pub mod Examples
+pub mod Exploring
 pub mod FirstLeaves
 pub mod Footprints
 pub mod GoodTrees
+pub mod HeldTrees
 pub mod KnownLabels
 pub mod LeavesApart
 pub mod LocalSteps
+pub mod LyingTrees
 pub mod NoDeadlock
 pub mod OneThread
 pub mod PlacedStatements
@@ -19,3 +22,4 @@ pub mod Scopes
 pub mod Statements
 pub mod Steps
 pub mod Turns
+pub mod Walks

@@ -2,7 +2,10 @@
 
 #![tactic(auto)]
 
+pub mod explore;
 pub mod laws;
 pub mod leaf;
 pub mod rest;
+pub mod tree;
 pub mod turn;
+pub mod walk;

@@ -1,0 +1,127 @@
+-- Trees as they are held: the numbers in them, and their ends.
+use Rattle.std.proofs.Common.{◌≡◌, ℕ, suc, ◌+◌, List, [], ◌∷◌, ◌++◌, length, refl, sym, ap, ◌∙◌, arith}
+use Rattle.std.proofs.lemmas.Bool.Decides.{nat_tests}
+use Rattle.std.proofs.lemmas.List.{append_assoc}
+use Rattle.std.specs.Prelude.{ℤ, Bool, true, false, ◌&&◌, nat_eq, map, if◌then◌else◌, Box}
+use Rattle.std.specs.Global.{Global}
+use Rattle.types.specs.declared.fault.Fault.{Fault as rFault}
+use Rattle.types.specs.Run.{Fault}
+use Rattle.types.specs.Translation.{environment, fault}
+use Rattle.types.specs.Trees.{Leaf, Tree, Single, AndThen, Beside, is_done, all_done, ready, lines_of, faults_of, rightmost, done, returned, unless_faulted, closed, task_environment}
+use Rattle.types.specs.Value.{Environment}
+use Rattle.step_trees.specs.declared.leaf.Leaf.{Leaf as rLeaf}
+use Rattle.step_trees.specs.declared.tree.Remains.{Remains}
+use Rattle.step_trees.specs.declared.tree.Tree.{Tree as rTree}
+use Rattle.step_trees.specs.declared.tree.Tree.TheVariants.{Single as rSingle, AndThen' as rAndThen, Beside' as rBeside}
+use Rattle.step_trees.specs.Held.{tree_of, IsLeftOf}
+use Rattle.step_trees.specs.Translation.{leaf_of}
+use Rattle.step_trees.proofs.Rests.{done_is_none}
+
+-- a leaf is done where no block is left
+pub done_by : (k : rLeaf) (b : Bool) → nat_eq (length k.rest.items) 0 ≡ b → is_done (leaf_of k).rest ≡ b
+done_by k b e = sym (done_is_none k.rest.items) ∙ e
+
+pub ready_by : (k : rLeaf) (b : Bool) → nat_eq (length k.rest.items) 0 ≡ b → ready (Single (leaf_of k)) ≡ (if b then 0 else 1)
+ready_by k b e = ap (λ (z : Bool). let n : ℕ = if z then 0 else 1 in n) (done_by k b e)
+
+-- how many trees and leaves a tree has
+abbrev pub weight : rTree → ℕ
+weight (rSingle k) = 1
+weight (rAndThen p t k n) = suc (weight t)
+weight (rBeside p t q u n d) = suc (weight t + weight u)
+
+abbrev pub weights : List (Box rTree Global) → ℕ
+weights [] = 0
+weights (b ∷ bs) = weight b.value + weights bs
+
+pub weights-push : (bs : List (Box rTree Global)) (b : Box rTree Global) → weights (bs ++ b ∷ []) ≡ weights bs + weight b.value
+weights-push [] b = omega arith
+weights-push (x ∷ bs) b = let more = weights-push bs b in omega (arith, more)
+
+-- a tree with others right of it, the nearest of which is last
+abbrev pub with_rights : List (Box rTree Global) → Tree → Tree
+with_rights [] t = t
+with_rights (b ∷ bs) t = Beside (with_rights bs t) (tree_of b.value)
+
+pub with_rights-push : (bs : List (Box rTree Global)) (b : Box rTree Global) (t : Tree)
+    → with_rights (bs ++ b ∷ []) t ≡ with_rights bs (Beside t (tree_of b.value))
+with_rights-push [] b t = refl
+with_rights-push (x ∷ bs) b t = ap (λ u. Beside u (tree_of x.value)) (with_rights-push bs b t)
+
+pub lines-beside : (bs : List (Box rTree Global)) (t u : Tree)
+    → lines_of (with_rights bs (Beside t u)) ≡ lines_of t ++ lines_of (with_rights bs u)
+lines-beside [] t u = refl
+lines-beside (x ∷ bs) t u =
+    ap (λ l. l ++ lines_of (tree_of x.value)) (lines-beside bs t u)
+    ∙ append_assoc (lines_of t) (lines_of (with_rights bs u)) (lines_of (tree_of x.value))
+
+pub faults-beside : (bs : List (Box rTree Global)) (t u : Tree)
+    → faults_of (with_rights bs (Beside t u)) ≡ faults_of t ++ faults_of (with_rights bs u)
+faults-beside [] t u = refl
+faults-beside (x ∷ bs) t u =
+    ap (λ l. l ++ faults_of (tree_of x.value)) (faults-beside bs t u)
+    ∙ append_assoc (faults_of t) (faults_of (with_rights bs u)) (faults_of (tree_of x.value))
+
+pub rightmost-beside : (bs : List (Box rTree Global)) (t u : Tree)
+    → rightmost (with_rights bs (Beside t u)) ≡ rightmost (with_rights bs u)
+rightmost-beside [] t u = refl
+rightmost-beside (x ∷ bs) t u = refl
+
+first_of : (a b : Bool) → (a && b) ≡ true → a ≡ true
+first_of true b e = refl
+first_of false b e = absurd (let bad : ⊥ = cc in bad)
+
+second_of : (a b : Bool) → (a && b) ≡ true → b ≡ true
+second_of true b e = e
+second_of false b e = absurd (let bad : ⊥ = cc in bad)
+
+both_of : (a b : Bool) → a ≡ true → b ≡ true → (a && b) ≡ true
+both_of a b e f = ap (λ (x : Bool). x && b) e ∙ f
+
+-- where all is done, so is the first
+pub done-first : (bs : List (Box rTree Global)) (t : Tree) → all_done (with_rights bs t) ≡ true → all_done t ≡ true
+done-first [] t e = e
+done-first (x ∷ bs) t e = done-first bs t (first_of (all_done (with_rights bs t)) (all_done (tree_of x.value)) e)
+
+pub no_then : (bs : List (Box rTree Global)) (t : Tree) (k : Leaf) → all_done (with_rights bs (AndThen t k)) ≡ true → ⊥
+no_then bs t k e = let bad : false ≡ true = done-first bs (AndThen t k) e in cc
+
+-- and what stands right of it
+pub done-rights : (bs : List (Box rTree Global)) (t u : Tree) → all_done (with_rights bs (Beside t u)) ≡ true → all_done (with_rights bs u) ≡ true
+done-rights [] t u e = second_of (all_done t) (all_done u) e
+done-rights (x ∷ bs) t u e =
+    let c = all_done (with_rights bs (Beside t u)) in let d = all_done (tree_of x.value) in
+    both_of (all_done (with_rights bs u)) d (done-rights bs t u (first_of c d e)) (second_of c d e)
+
+-- what waited for the end of a tree of which this is left
+module _ (t : Tree) (k : Leaf) (r : Remains) (left : IsLeftOf t r) where
+  abbrev with : Environment → ℕ → List (List ℤ) → List Fault → Leaf
+  with e n ls fs = record k { environment = e; spawned = n; lines = ls; faults = fs }
+
+  abbrev pub going_on : Leaf
+  going_on = with (environment r.environment) r.spawned (map (λ v. v.items) r.lines.items) (map fault r.faults.items)
+
+  goes_on : unless_faulted (map fault r.faults.items) going_on ≡ closed t k
+  goes_on =
+      let ls = map (λ v. v.items) r.lines.items in let fs = map fault r.faults.items in
+      let env = task_environment (rightmost t) in let n = (rightmost t).spawned in
+      ap (λ (e : Environment). unless_faulted fs (with e r.spawned ls fs)) left.owner
+      ∙ ap (λ (n : ℕ). unless_faulted fs (with env n ls fs)) left.spawned
+      ∙ ap (λ (ls : List (List ℤ)). unless_faulted fs (with env n ls fs)) left.lines
+      ∙ ap (λ (fs : List Fault). unless_faulted fs (with env n (lines_of t) fs)) left.faults
+
+  faulted_by : (fs : List rFault) (j : Leaf) → nat_eq (length fs) 0 ≡ false → done j ≡ unless_faulted (map fault fs) j
+  faulted_by [] j e = absurd (let bad : ⊥ = cc in bad)
+  faulted_by (x ∷ fs) j e = refl
+
+  going_by : (fs : List rFault) (j : Leaf) → nat_eq (length fs) 0 ≡ true → returned j ≡ unless_faulted (map fault fs) j
+  going_by [] j e = refl
+  going_by (x ∷ fs) j e =
+      let more : nat_eq (length (x ∷ fs)) 0 ≡ false = grind (arith, nat_tests) in
+      absurd (let bad : ⊥ = cc in bad)
+
+  pub closed-faulted : nat_eq (length r.faults.items) 0 ≡ false → done going_on ≡ closed t k
+  closed-faulted e = faulted_by r.faults.items going_on e ∙ goes_on
+
+  pub closed-going : nat_eq (length r.faults.items) 0 ≡ true → returned going_on ≡ closed t k
+  closed-going e = going_by r.faults.items going_on e ∙ goes_on

@@ -1,0 +1,32 @@
+use Rattle.std.proofs.Common.{◌≡◌, sym, ap, ◌∙◌, rules, List, map}
+use Rattle.std.specs.Prelude.{ℤ, true, false}
+use Rattle.types.proofs.Lists.{shown-held_by}
+use Rattle.types.specs.Run.{Fault}
+use Rattle.types.specs.Outcome.{Ending}
+use Rattle.types.specs.Translation.{program, fault}
+use Rattle.types.specs.Contents.{shown}
+use Rattle.types.specs.Trees.{all_done, lines_of}
+use Rattle.serial_run.specs.Lists.{lists_of, contents_of}
+use Rattle.step_trees.specs.Held.{tree_of}
+use Rattle.step_trees.proofs.Exploring.{told-open, told-ends}
+use Rattle.step_trees.proofs.explore.told.Goals as goal
+
+pub returns-then-not-is_done : goal.returns-then-not-is_done
+returns-then-not-is_done c =
+    let unfinished : all_done (tree_of c.args.tree) ≡ false = search rules in
+    told-open (program c.args.plan.program.now) (tree_of c.args.tree) (contents_of c.args.store) c.ready-leaves.result unfinished c.ready-leaves.ensures
+
+pub returns : goal.returns
+returns c =
+    let p = program c.args.plan.program.now in let t = tree_of c.args.tree in
+    let ended : all_done t ≡ true = search rules in
+    let left = c.in_ok-remains.ensures in
+    let end : List (List ℤ) → List (List ℤ) → List Fault → Ending = λ arrays lines faults. record { arrays = arrays; lines = lines; faults = faults } in
+    let arrays = lists_of c.args.store in let shown_is = sym (shown-held_by p.arrays arrays c.requires.store) in
+    let lines = map (λ v. v.items) c.in_ok-remains.remains.lines.items in
+    let faults = map fault c.in_ok-remains.remains.faults.items in
+    let all = shown p.arrays (contents_of c.args.store) in
+    told-ends p t (contents_of c.args.store) (end arrays lines faults) ended
+    (ap (λ (xs : List (List ℤ)). end xs lines faults) shown_is
+    ∙ ap (λ (ls : List (List ℤ)). end all ls faults) left.lines
+    ∙ ap (λ (fs : List Fault). end all (lines_of t) fs) left.faults)

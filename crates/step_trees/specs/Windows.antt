@@ -1,0 +1,21 @@
+-- Windows of trees that lie in their arrays.
+use Rattle.std.specs.Prelude.{List, [], ◌∷◌}
+use Rattle.types.specs.Code.{Program}
+use Rattle.types.specs.Trees.{Caller, Leaf, Tree, Single, AndThen, Beside}
+use Rattle.serial_run.specs.Bounds.{LiesInArrays}
+
+module _ (p : Program) where
+  -- those of what waits for calls to end
+  abbrev pub CallersLie : List Caller → Type 0
+  CallersLie [] = Unit {0}
+  CallersLie (f ∷ fs) = LiesInArrays p f.environment × CallersLie fs
+
+  -- those of a leaf, and of its callers
+  abbrev pub LeafLies : Leaf → Type 0
+  LeafLies k = LiesInArrays p k.environment × CallersLie k.callers
+
+  -- those of all leaves of a tree, and of what waits behind a `then`
+  abbrev pub TreeLies : Tree → Type 0
+  TreeLies (Single k) = LeafLies k
+  TreeLies (AndThen t k) = TreeLies t × LeafLies k
+  TreeLies (Beside t u) = TreeLies t × TreeLies u

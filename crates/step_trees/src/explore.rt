@@ -1,0 +1,168 @@
+//! Runs by given choices.
+
+ghost use Rattle.std.specs.Prelude.{◌≡◌, ◌<◌, ℕ, IfOk, length};
+ghost use Rattle.types.specs.Contents.{FitsArrays};
+ghost use Rattle.types.specs.Outcome.{Budget as BudgetOf, IsLarger, Outcome as OutcomeOf};
+ghost use Rattle.types.specs.Outcome.{outcome as one_thread_outcome};
+ghost use Rattle.types.specs.Translation.{program as program_of, input as lists_in};
+ghost use Rattle.types.specs.TreeRuns.{Ends, Open, told as told_of, explored as explored_by};
+ghost use Rattle.types.specs.TreeSteps.{first_tree};
+ghost use Rattle.types.specs.Trees.{ready as ready_leaves};
+ghost use Rattle.types.specs.Typed.{code_of};
+ghost use Rattle.serial_run.specs.Lists.{contents_of};
+ghost use Rattle.step_trees.specs.Exploring.{explored_of, IsHeld, StepsTree};
+ghost use Rattle.step_trees.specs.Held.{tree_of, IsCounted};
+ghost use Rattle.step_trees.specs.Turns.{becomes as becomes_tree};
+
+use crate::leaf::{Leaf, returned};
+use crate::rest::block_alone;
+use crate::tree::{Tree, and_then, beside, take_apart};
+use crate::turn::{Becomes, step as leaf_turn};
+use crate::walk::{found, rebuilt};
+use effects::laws::typed_programs_are_sound;
+use race_checker::accepted::Accepted;
+use serial_run::store::Store;
+use serial_run::thread::{Plan, main_environment};
+use std::alloc::{AllocError, Global};
+use types::budget::Budget;
+use types::input::Input;
+use types::outcome::Outcome;
+use types::path::Path;
+
+/// What is told of a run by given choices.
+#[derive(PartialEq, Eq, Debug, Drop)]
+pub enum Explored {
+    /// It has ended.
+    Ended(Outcome),
+    /// It hasn't, and so many leaves may step.
+    Open { leaves: u32 },
+    /// The first choice that names no leaf, numbered from 0.
+    NoSuchChoice(usize),
+}
+
+/// The run of an accepted program by choices, each the number of a leaf that steps next, from the
+/// left and from 0, of those that may. The input has a list for each array, of its length.
+///
+/// What is told to be open has a leaf that may step, and what is told to have ended is the outcome of
+/// one thread, with as many steps and as much nest as there are choices or with more.
+pub fn explore(
+    alloc: Global,
+    accepted: &Accepted,
+    input: &Input,
+    choices: &[u32],
+) -> Result<Explored, AllocError>
+    requires { FitsArrays (code_of accepted.now.typed).arrays (lists_in input.now) }
+    ensures told { IfOk result (λ e. explored_of e
+        ≡ explored_by (code_of accepted.now.typed) (lists_in input.now) choices.now) }
+    ensures open { IfOk result (λ e. (leaves : ℕ) → explored_of e ≡ Open leaves → 0 < leaves) }
+    ensures ended { IfOk result (λ e. (o : OutcomeOf) → explored_of e ≡ Ends o → (b : BudgetOf)
+        → IsLarger b (record { steps = length choices.now; nest = length choices.now })
+        → one_thread_outcome (code_of accepted.now.typed) (lists_in input.now) b ≡ o) }
+{
+    typed_programs_are_sound(accepted.typed());
+    run_by(alloc, accepted, input, choices)
+}
+
+/// The same, choice by choice.
+fn run_by(
+    alloc: Global,
+    accepted: &Accepted,
+    input: &Input,
+    choices: &[u32],
+) -> Result<Explored, AllocError>
+    requires { FitsArrays (code_of accepted.now.typed).arrays (lists_in input.now) }
+    ensures { IfOk result (λ e. explored_of e
+        ≡ explored_by (code_of accepted.now.typed) (lists_in input.now) choices.now) }
+{
+    let plan = Plan {
+        alloc,
+        program: accepted.typed().code(),
+        budget: Budget::usual(),
+    };
+    let mut tree = first(plan)?;
+    let mut store = Store::of_input(alloc, input)?;
+    let mut left = choices;
+    'choices: while let Some((choice, later)) = left.split_first() {
+        if *choice >= tree.ready() {
+            return Ok(Explored::NoSuchChoice(choices.len() - left.len()));
+        }
+        let (next, after) = step(plan, store, tree, *choice)?;
+        tree = next;
+        store = after;
+        left = later;
+    }
+    told(plan, store, tree)
+}
+
+/// `main` at its beginning.
+fn first<'p>(plan: Plan<'p>) -> Result<Tree<'p>, AllocError>
+    ensures tree { IfOk result (λ t. tree_of t ≡ first_tree (program_of plan.entry.program.now)) }
+    ensures counted { IfOk result IsCounted }
+{
+    let environment = main_environment(plan)?;
+    let rest = block_alone(plan.alloc, &plan.program.main.body)?;
+    let leaf = Leaf {
+        environment,
+        rest,
+        callers: Vec::new(plan.alloc),
+        path: Path {
+            turns: Vec::new(plan.alloc),
+        },
+        spawned: 0,
+        lines: Vec::new(plan.alloc),
+        faults: Vec::new(plan.alloc),
+    };
+    Ok(Tree::Single(returned(leaf)))
+}
+
+/// One step of the leaf with a number, of those that may step.
+fn step<'p>(
+    plan: Plan<'p>,
+    store: Store,
+    tree: Tree<'p>,
+    choice: u32,
+) -> Result<(Tree<'p>, Store), AllocError>
+    requires held { IsHeld plan store tree }
+    requires choice { choice < ready_leaves (tree_of tree) }
+    ensures { IfOk result (StepsTree plan.entry store tree.entry choice) }
+{
+    let (around, leaf) = found(plan.alloc, tree, choice)?;
+    let (becomes, store) = leaf_turn(plan, store, leaf)?;
+    let tree = grown(plan.alloc, becomes)?;
+    let tree = rebuilt(plan.alloc, around, tree)?;
+    Ok((tree, store))
+}
+
+/// The tree that a leaf becomes by a step.
+fn grown<'p>(alloc: Global, becomes: Becomes<'p>) -> Result<Tree<'p>, AllocError>
+    ensures tree { IfOk result (λ t. tree_of t ≡ becomes_tree becomes.entry) }
+    ensures counted { IfOk result IsCounted }
+{
+    match becomes {
+        Becomes::Single(leaf) => Ok(Tree::Single(leaf)),
+        Becomes::Spawned { child, parent } => {
+            let left = Box::new(alloc, Tree::Single(child))?;
+            let right = Box::new(alloc, Tree::Single(parent))?;
+            beside(left, right)
+        }
+        Becomes::Entered { body, behind } => and_then(alloc, Tree::Single(body), behind),
+    }
+}
+
+/// What is told of a tree once all choices are used.
+fn told<'p>(plan: Plan<'p>, store: Store, tree: Tree<'p>) -> Result<Explored, AllocError>
+    requires { IsHeld plan store tree }
+    ensures { IfOk result (λ e. explored_of e ≡ told_of (program_of plan.entry.program.now)
+        (tree_of tree.entry) (contents_of store)) }
+{
+    if !tree.is_done() {
+        let leaves = tree.ready();
+        return Ok(Explored::Open { leaves });
+    }
+    let remains = take_apart(plan.alloc, tree)?;
+    Ok(Explored::Ended(Outcome::Ended {
+        arrays: store.arrays,
+        lines: remains.lines,
+        faults: remains.faults,
+    }))
+}
