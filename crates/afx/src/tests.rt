@@ -14,7 +14,6 @@ mod outputs;
 mod programs_that_run;
 mod race_messages;
 mod refused_programs;
-mod results;
 mod rows;
 mod runs_by_choices;
 mod schedules;

@@ -6,6 +6,7 @@ use std::process::Abort;
 use std::test::Fail;
 use types::budget::Budget;
 use types::outcome::Outcome;
+use workers::run::Order;
 
 /// A program, its steps, its nest, and whether its run is stopped.
 const ROWS: &[(&str, u32, u32, bool)] = &[
@@ -31,7 +32,8 @@ fn budget(rt: &impl Abort, steps: u32, nest: u32) -> Budget {
 #[test]
 fn stops_over_the_budget(rt: HostRuntime) -> Result<(), Fail> {
     for (text, steps, nest, stopped) in ROWS {
-        let outcome = outcome(&rt, rt.alloc(), text, budget(&rt, *steps, *nest));
+        let budget = budget(&rt, *steps, *nest);
+        let outcome = outcome(&rt, rt.alloc(), text, budget, Order::Newest);
         assert_eq!(rt;
             matches!(outcome, Outcome::Stopped),
             *stopped,

@@ -24,7 +24,7 @@ Example: afx serial examples/doubling.afx --input examples/doubling.json --array
 
 Exit status:
   0  the run ended; the program is accepted; pairs of labels; help
-  1  refused: the command line, a file, the text, a rule, Z1, a race, the input, the output
+  1  refused: the command line, a file, the text, a rule, a race, the input, the output
   2  the run ended with faults
   3  the run was stopped over its budget
   4  no memory

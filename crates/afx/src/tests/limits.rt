@@ -56,12 +56,12 @@ const ROWS: &[Long] = &[
     Long {
         words: RUN,
         head: "main { ",
-        count: 10_001,
+        count: 65_535,
         part: "skip; ",
         closing: "",
         tail: "}",
-        err: "Z1\n",
-        status: 1,
+        err: "",
+        status: 0,
     },
     Long {
         words: SERIAL,

@@ -119,39 +119,7 @@ pub const ROWS: &[Row] = &[
         err: "Y9\n",
         status: 1,
     },
-    // ---- what isn't served
-    Row {
-        name: "an index at the length",
-        words: RUN,
-        text: "main { array a: int[2]; a[2] = 1; }",
-        out: "",
-        err: "Z1\n",
-        status: 1,
-    },
-    Row {
-        name: "a byte too large",
-        words: RUN,
-        text: "main { array a: byte[1]; a[0] = 256; }",
-        out: "",
-        err: "Z1\n",
-        status: 1,
-    },
-    Row {
-        name: "a choice",
-        words: RUN,
-        text: CHOICE,
-        out: "",
-        err: "Z1\n",
-        status: 1,
-    },
-    Row {
-        name: "a choice on one thread",
-        words: SERIAL,
-        text: CHOICE,
-        out: "",
-        err: "",
-        status: 0,
-    },
+    // ---- what runs alone tell
     Row {
         name: "a choice, checked",
         words: &["check", "-"],

@@ -4,11 +4,11 @@ use crate::tests::outputs::faulted;
 use crate::tests::rows::answered;
 use driver::commands::show;
 use driver::failure::Failure;
+use gather::error::GatherError;
 use std::test::Fail;
 use types::outcome::Outcome;
 use types::path::Path;
-use workers::gather::GatherError;
-use workers::run::RunError;
+use workers::error::RunError;
 
 #[test]
 fn an_outcome_or_a_failure_has_its_status(rt: HostRuntime) -> Result<(), Fail> {
