@@ -176,3 +176,15 @@ pub record CanTurn (needs : Codes → Needs) (IsAsync : ℕ → Codes → Type 0
   pub shows : Shows r frames own
   pub next : HasNext needs (with_own own (state_of r.thread)) frames
   pub known : KnowsFirst IsAsync frames
+
+-- a run becomes another by turns that go on
+pub data GoesOn (needs : Codes → Needs) : (old new : Run) → Type 0 where
+  here : {r : Run} → GoesOn needs r r
+  further : {old mid new : Run} → GoesOn needs old mid → IsTurn needs mid (Going new)
+      → GoesOn needs old new
+
+-- so, and then takes this turn
+pub record GoesUpTo (needs : Codes → Needs) (old : Run) (t : Turn) : Type 0 where
+  pub last : Run
+  pub reached : GoesOn needs old last
+  pub turn : IsTurn needs last t

@@ -4,5 +4,6 @@ pub mod LeftLemmas
 pub mod Roots
 pub mod Shown
 pub mod StageBegins
+pub mod StageGoes
 pub mod StagePasses
 pub mod StageTurns

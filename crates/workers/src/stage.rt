@@ -51,7 +51,8 @@ impl<'p> Stage<'p> {
         })
     }
 
-    /// A turn of the task that runs, or what comes after a task that waits.
+    /// The task that runs goes on, up to a turn that is more than a step; or what comes after a task
+    /// that waits.
     pub fn turn(self, job: Job<'p>) -> Result<Next<'p>, RunError>
         requires job { IsJob job }
         requires stage { IsStage job self }
@@ -61,7 +62,7 @@ impl<'p> Stage<'p> {
     {
         let Stage { now, backlog } = self;
         match now {
-            Now::Runs(run) => match run.advance(job.accepted) {
+            Now::Runs(run) => match run.go(job.accepted) {
                 Ok(turn) => Ok(Next::Going(backlog.after(job, turn)?)),
                 Err(_) => Err(RunError::OutOfMemory),
             },

@@ -1,0 +1,10 @@
+use Rattle.own_run.specs.Left.{left_of}
+use Rattle.own_run.specs.RunTurns.{GoesOn}
+use Rattle.own_run.proofs.run.Run.go.Given as goal
+
+-- the run was reached by turns that go on
+abbrev pub invariant-turns : goal.invariant-turns
+invariant-turns g l = GoesOn (g.N.Needed.needs l.needed) l.initial.run l.run
+
+abbrev pub decreases-turns : goal.decreases-turns
+decreases-turns g l = left_of l.run
