@@ -110,3 +110,5 @@ sweep '1
 sweep 'accepted: 1 procedures, 9 labels' check "$folder/doubling.afx"
 sweep 'array a 2 4 6 8 10 12 14 16 18 20 22 24 26 28 30 32' \
     serial "$folder/doubling.afx" --input "$folder/doubling.json" --arrays
+sweep 'array a 2 4 6 8 10 12 14 16 18 20 22 24 26 28 30 32' \
+    run "$folder/doubling.afx" --input "$folder/doubling.json" --arrays

@@ -1,4 +1,4 @@
-//! Texts that are no programs, programs that break a rule, and programs that aren't served yet.
+//! Texts that are no programs, and programs that break a rule.
 
 use crate::tests::rows::{CHECK, LIST, RUN, Row, SERIAL};
 
@@ -119,7 +119,7 @@ pub const ROWS: &[Row] = &[
         err: "Y9\n",
         status: 1,
     },
-    // ---- what runs alone tell
+    // ---- a fault of a run is none of the program
     Row {
         name: "a choice, checked",
         words: &["check", "-"],
