@@ -190,3 +190,13 @@ module _ (p : Program) (b : Budget) where
       → AreBalanced p b (record { start = s; lists = record { inner = cs; outer = [] } } ∷ []) (k ∷ ks) → ks ≡ []
   root_scope_alone s cs k ks h =
       no_others (worth p b (λ r. 0)) (λ r. 0) (record { listed = cs; running = [] }) k ks (h (λ r. 0))
+
+-- those that wait in another order
+pub reordered : (p : Program) (b : Budget) (ts : List Task) (k to : Scope) (ks : List Scope) → to.results ≡ k.results
+    → ((g : Start → ℕ) → sum_by g to.waiting ≡ sum_by g k.waiting) → AreBalanced p b ts (k ∷ ks) → AreBalanced p b ts (to ∷ ks)
+reordered p b ts k to ks results waiting h = λ f. cover (worth p b f) f (dues ts) (h f)
+  where
+    cover : (w : Start → ℕ) (f : TaskResult → ℕ) (ds : List Due) → AllCover w f ds (k ∷ ks) → AllCover w f ds (to ∷ ks)
+    cover w f [] c = absurd c
+    cover w f (d ∷ ds) c =
+        let a = ap (measured f) results in let e = waiting w in let i = c.0 in (omega (arith, a, e, i), c.1)

@@ -7,3 +7,4 @@ pub mod StageBegins
 pub mod StageGoes
 pub mod StagePasses
 pub mod StageTurns
+pub mod Takes

@@ -10,7 +10,7 @@ use Rattle.own_run.specs.declared.run.Run.{Run}
 use Rattle.workers.specs.Books.{task_at, no_results, AreBalanced}
 use Rattle.workers.specs.Books.{Scope as ScopeBook}
 use Rattle.workers.specs.Jobs.{program_of, lists_of, budget_of, IsJob}
-use Rattle.workers.specs.Stages.{IsStage, AreOwners, IsBegun, IsResult, IsScope, book_of, scopes_of}
+use Rattle.workers.specs.Stages.{IsStage, AreOwners, IsBegun, IsResult, IsScope, book_of, scopes_of, tasks_of}
 use Rattle.workers.specs.declared.backlog.Backlog.{Backlog}
 use Rattle.workers.specs.declared.job.Job.{Job}
 use Rattle.workers.specs.declared.stage.Now.TheVariants.{Runs}
@@ -20,7 +20,7 @@ use Rattle.workers.proofs.StageTurns.{at_next}
 pub stage_begins : (j : Job) (ok : IsJob j) (r : Run) (k : Backlog) → r.plan.budget ≡ j.budget
     → program r.plan.program.now ≡ program_of j → r.thread.nest ≡ (root (program_of j) (lists_of j) (budget_of j)).nest
     → IsAt r (begun (budget_of j).steps (root (program_of j) (lists_of j) (budget_of j)))
-    → k.scope.waiting.items ≡ [] → k.scope.results.items ≡ [] → k.outer.items ≡ [] → k.owners.items ≡ []
+    → tasks_of k.scope ≡ [] → k.scope.results.items ≡ [] → k.outer.items ≡ [] → k.owners.items ≡ []
     → IsStage j (record { now = Runs r; backlog = k })
 stage_begins j ok r k budget is nest at none no_one alone no_owner =
     let p = program_of j in

@@ -42,7 +42,7 @@ use Rattle.workers.specs.Books.{Scope as ScopeBook}
 use Rattle.workers.specs.Errors.{refused_by}
 use Rattle.workers.specs.Jobs.{program_of, lists_of, budget_of, outcome_of, IsJob}
 use Rattle.workers.specs.Stages.{IsStage, IsAtFinish, IsAtEnd, AreOwners, IsNow, EndsAtRoot, IsScope, IsBegun, IsResult}
-use Rattle.workers.specs.Stages.{book_of, scopes_of}
+use Rattle.workers.specs.Stages.{book_of, scopes_of, tasks_of}
 use Rattle.workers.specs.Turns.{IsEmpty, IsTaken}
 use Rattle.workers.specs.declared.backlog.Backlog.{Backlog}
 use Rattle.workers.specs.declared.backlog.Owner.{Owner}
@@ -141,7 +141,7 @@ module _ (j : Job) (ok : IsJob j) where
 
   -- ---- a finish passes
   module _ (k : Backlog) (q : Paused) (x : TaskResult) (h : IsStage j (record { now = Waits (Finish q x); backlog = k }))
-      (none : k.scope.waiting.items ≡ []) where
+      (none : tasks_of k.scope ≡ []) where
     abbrev s : Start
     s = h.now.may.start
 
@@ -216,7 +216,7 @@ module _ (j : Job) (ok : IsJob j) where
 
   -- ---- the root's scope passes
   module _ (k : Backlog) (x : TaskResult) (h : IsStage j (record { now = Waits (Root x); backlog = k }))
-      (none : k.scope.waiting.items ≡ []) where
+      (none : tasks_of k.scope ≡ []) where
     abbrev root_end : Standing Own
     root_end = record { frames = []; state = h.now.0.state }
 

@@ -1,5 +1,7 @@
 -- What each turn makes of a stage: again a stage of the run.
-use Rattle.std.proofs.Common.{◌≡◌, ℕ, List, [], ◌∷◌, ◌++◌, map, refl, sym, ap, ◌∙◌, subst, inl, inr, Some}
+use Rattle.std.proofs.Common.{◌≡◌, ℕ, ◌+◌, List, [], ◌∷◌, ◌++◌, map, refl, sym, ap, ◌∙◌, subst, inl, inr, Some, arith}
+use Rattle.std.proofs.lemmas.List.Sums.{sum_by-cons, sum_by_push}
+use Rattle.std.specs.Prelude.{sum_by}
 use Rattle.std.proofs.lemmas.List.{map-append}
 use Rattle.std.specs.Prelude.{ℤ, Bool, Option, ◌⊎◌}
 use Rattle.types.specs.Code.{Codes, Program}
@@ -34,12 +36,12 @@ use Rattle.own_run.specs.declared.turn.Turn.{Turn}
 use Rattle.own_run.specs.declared.turn.Turn.TheVariants.{Going, Spawns, EntersFinish, EndsFinish, Ended, Over}
 use Rattle.own_run.proofs.AcceptedPrograms.{results_own}
 use Rattle.own_run.proofs.Children.{turn_lists}
-use Rattle.own_run.proofs.Lists.{each_last, each_map, each_more}
+use Rattle.own_run.proofs.Lists.{each_last}
 use Rattle.workers.specs.Books.{Task, task_at, no_results, AreBalanced}
 use Rattle.workers.specs.Books.{Scope as ScopeBook}
 use Rattle.workers.specs.Jobs.{program_of, lists_of, budget_of, IsJob}
 use Rattle.workers.specs.Stages.{IsStage, IsBacklog, IsRunOf, IsAtFinish, IsAtEnd, IsOwner, AreOwners, IsNow, EndsAtRoot}
-use Rattle.workers.specs.Stages.{IsScope, IsBegun, IsResult, book_of, scopes_of}
+use Rattle.workers.specs.Stages.{IsScope, IsBegun, IsResult, book_of, scopes_of, tasks_of}
 use Rattle.workers.specs.Turns.{IsTurnIn, EndsIn, RootEnds, MemberEnds}
 use Rattle.workers.specs.declared.backlog.Backlog.{Backlog}
 use Rattle.workers.specs.declared.backlog.Owner.{Owner}
@@ -49,6 +51,7 @@ use Rattle.workers.specs.declared.job.Job.{Job}
 use Rattle.workers.specs.declared.stage.Now.{Now}
 use Rattle.workers.specs.declared.stage.Now.TheVariants.{Runs}
 use Rattle.workers.specs.declared.stage.Now.TheVariants.{Waits as rWaits}
+use Rattle.workers.proofs.BookLemmas.{reordered}
 use Rattle.workers.proofs.BookMoves.{entered_balanced, exceeded_balanced, gone_balanced, spawned_balanced, ended_balanced}
 
 -- ---- turns that go on
@@ -75,6 +78,22 @@ not_waiting old (EntersFinish r) fs before st m e = e
 not_waiting old (Over r) fs before st m e = e
 not_waiting old (EndsFinish q x) fs before st m e = m
 not_waiting old (Ended x) fs before st m e = m
+
+-- one more, anywhere among those of which it is known
+each_put : {A : Type 0} (P : A → Type 0) (xs : List A) (x : A) (ys : List A) → Each P (xs ++ ys) → P x → Each P ((xs ++ x ∷ []) ++ ys)
+each_put P [] x ys h k = (k, h)
+each_put P (y ∷ xs) x ys h k = (h.0, each_put P xs x ys h.1 k)
+
+-- where a task stands among those that wait makes no difference to sums
+put_anywhere : (c : rStart) (xs ys : List rStart) (g : Start → ℕ)
+    → sum_by g (map start ((xs ++ c ∷ []) ++ ys)) ≡ sum_by g (map start (xs ++ ys) ++ start c ∷ [])
+put_anywhere c [] ys g =
+    let a = sum_by-cons g (start c) (map start ys) in let b = sum_by_push g (map start ys) (start c) in omega (arith, a, b)
+put_anywhere c (x ∷ xs) ys g =
+    let a = put_anywhere c xs ys g in
+    let b = sum_by-cons g (start x) (map start ((xs ++ c ∷ []) ++ ys)) in
+    let d = sum_by-cons g (start x) (map start (xs ++ ys) ++ start c ∷ []) in
+    omega (arith, a, b, d)
 
 -- the last task is the root, whichever task with its start stands first
 pub same_root : (j : Job) (t u : Task) (ts : List Task) → t.start ≡ u.start → EndsAtRoot j t ts → EndsAtRoot j u ts
@@ -216,13 +235,12 @@ module _ (j : Job) (ok : IsJob j) where
 
     -- a finish is entered
     enters_stage : (r : Run) (to_k : Backlog) → to_k.owners ≡ k.owners → to_k.outer.items ≡ scopes_of k
-        → to_k.scope.waiting.items ≡ [] → to_k.scope.results.items ≡ [] → Turns (EntersFinish r)
+        → tasks_of to_k.scope ≡ [] → to_k.scope.results.items ≡ [] → Turns (EntersFinish r)
         → IsStage j (record { now = Runs r; backlog = to_k })
     enters_stage r to_k same outer none no_one h =
         by_frame (EntersFinish r) tt
         (λ fs. Stands fs → Books (task_at s (record { frames = fs; state = st })) books → IsStage j (record { now = Runs r; backlog = to_k }))
-        (λ f fs g stands bal. stage_next r to_k f fs stands g.0 same
-        (
+        (λ f fs g stands bal. stage_next r to_k f fs stands g.0 same (
           record { waiting = subst (Each (IsBegun j)) (sym none) tt; results = subst (Each (IsResult j)) (sym no_one) tt },
           subst (Each (IsScope j)) (sym outer) around.scopes,
         )
@@ -244,31 +262,39 @@ module _ (j : Job) (ok : IsJob j) where
         subst (λ (x : Start). MayStand p input b x (begun b.steps x)) l.start (child_begins (turns h) l.member)
 
     spawns_stage : (r : Run) (c : rStart) (to_k : Backlog) → to_k.owners ≡ k.owners → to_k.outer ≡ k.outer
-        → to_k.scope.waiting.items ≡ k.scope.waiting.items ++ c ∷ [] → to_k.scope.results ≡ k.scope.results → Turns (Spawns r c)
+        → to_k.scope.begun.items ≡ k.scope.begun.items ++ c ∷ [] → to_k.scope.waiting ≡ k.scope.waiting
+        → to_k.scope.results ≡ k.scope.results → Turns (Spawns r c)
         → IsStage j (record { now = Runs r; backlog = to_k })
-    spawns_stage r c to_k same outer more results h =
+    spawns_stage r c to_k same outer more waiting results h =
         by_frame (Spawns r c) tt
         (λ fs. Stands fs → Books (task_at s (record { frames = fs; state = st })) books → IsStage j (record { now = Runs r; backlog = to_k }))
-        (λ f fs g stands bal. stage_next r to_k f fs stands g.0 same
-        (
+        (λ f fs g stands bal. stage_next r to_k f fs stands g.0 same (
           record {
-            waiting = subst (Each (IsBegun j)) (sym more)
-                (each_last (IsBegun j) k.scope.waiting.items c around.scopes.0.waiting (child_begun c f fs stands g.1.1));
+            waiting = subst (Each (IsBegun j)) (sym lined) (each_put (IsBegun j) k.scope.begun.items c k.scope.waiting.items
+                around.scopes.0.waiting (child_begun c f fs stands g.1.1));
             results = subst (λ (rs : _). Each (IsResult j) rs.items) (sym results) around.scopes.0.results;
           },
           subst (λ (ks : _). Each (IsScope j) ks.items) (sym outer) around.scopes.1,
         )
         (subst (Books (task_at s (turn p (own_rules needs r0.thread.nest close) f fs st))) (sym new_books)
-        (spawned_balanced p b needs close r0.thread.nest f fs st s below c (book_of k.scope) (map book_of k.outer.items) g.1 bal)))
+        (reordered p b (task_at s (turn p (own_rules needs r0.thread.nest close) f fs st) ∷ below)
+        (record (book_of k.scope) { waiting = map start (tasks_of k.scope) ++ start c ∷ [] })
+        (record (book_of k.scope) { waiting = map start ((k.scope.begun.items ++ c ∷ []) ++ k.scope.waiting.items) })
+        (map book_of k.outer.items) refl (put_anywhere c k.scope.begun.items k.scope.waiting.items)
+        (spawned_balanced p b needs close r0.thread.nest f fs st s below c (book_of k.scope) (map book_of k.outer.items) g.1 bal))))
         runs.may.frames h runs.may.stands balanced_first
       where
+        lined : tasks_of to_k.scope ≡ (k.scope.begun.items ++ c ∷ []) ++ k.scope.waiting.items
+        lined = ap (λ (bs : List rStart). bs ++ to_k.scope.waiting.items) more
+            ∙ ap (λ (ws : _). (k.scope.begun.items ++ c ∷ []) ++ ws.items) waiting
+
         new_books : map book_of (scopes_of to_k)
-            ≡ record (book_of k.scope) { waiting = map start k.scope.waiting.items ++ start c ∷ [] } ∷ map book_of k.outer.items
+            ≡ record (book_of k.scope) { waiting = map start ((k.scope.begun.items ++ c ∷ []) ++ k.scope.waiting.items) } ∷ map book_of k.outer.items
         new_books =
             ap (λ (ks : _). book_of to_k.scope ∷ map book_of ks.items) outer
             ∙ (λ t. record {
               results = ap (λ (rs : _). map task_result rs.items) results t;
-              waiting = (ap (map start) more ∙ map-append start k.scope.waiting.items (c ∷ [])) t;
+              waiting = ap (map start) lined t;
             } ∷ map book_of k.outer.items)
 
     -- the task is at the end of a finish
@@ -366,7 +392,7 @@ module _ (j : Job) (ok : IsJob j) where
             root = rooted_so;
             scopes = (
               record {
-                waiting = subst (λ (ws : _). Each (IsBegun j) ws.items) (sym e.waiting) around.scopes.0.waiting;
+                waiting = subst (Each (IsBegun j)) (sym same_tasks) around.scopes.0.waiting;
                 results = subst (Each (IsResult j)) (sym e.results)
                     (each_last (IsResult j) k.scope.results.items x around.scopes.0.results
                     (record { start = s; state = st; ended = stands; is = made }));
@@ -378,6 +404,9 @@ module _ (j : Job) (ok : IsJob j) where
           };
         }
           where
+            same_tasks : tasks_of to_k.scope ≡ tasks_of k.scope
+            same_tasks = ap (λ (bs : _). bs.items ++ to_k.scope.waiting.items) e.begun ∙ ap (λ (ws : _). k.scope.begun.items ++ ws.items) e.waiting
+
             new_books : map book_of (scopes_of to_k)
                 ≡ record (book_of k.scope) { results = map task_result k.scope.results.items ++ result_of st ∷ [] } ∷ map book_of k.outer.items
             new_books =
@@ -386,7 +415,7 @@ module _ (j : Job) (ok : IsJob j) where
                   results =
                       (ap (map task_result) e.results ∙ map-append task_result k.scope.results.items (x ∷ [])
                       ∙ ap (λ r. map task_result k.scope.results.items ++ r ∷ []) made) t;
-                  waiting = ap (λ (ws : _). map start ws.items) e.waiting t;
+                  waiting = ap (map start) same_tasks t;
                 } ∷ map book_of k.outer.items)
 
         by_way : EndsIn k to_k x o → task_result x ≡ result_of st → Stands []
@@ -415,13 +444,14 @@ module _ (j : Job) (ok : IsJob j) where
   over k r h = over_stage k h.run h.stage.first h.stage.below h.stage.now h.stage.backlog r (turn_of k (Over r) h)
 
   pub spawns : (k to_k : Backlog) (r : Run) (c : rStart) → IsTurnIn j k (Spawns r c) → to_k.owners ≡ k.owners → to_k.outer ≡ k.outer
-      → to_k.scope.waiting.items ≡ k.scope.waiting.items ++ c ∷ [] → to_k.scope.results ≡ k.scope.results
-      → IsStage j (record { now = Runs r; backlog = to_k })
-  spawns k to_k r c h same outer more results =
-      spawns_stage k h.run h.stage.first h.stage.below h.stage.now h.stage.backlog r c to_k same outer more results (turn_of k (Spawns r c) h)
+      → to_k.scope.begun.items ≡ k.scope.begun.items ++ c ∷ [] → to_k.scope.waiting ≡ k.scope.waiting
+      → to_k.scope.results ≡ k.scope.results → IsStage j (record { now = Runs r; backlog = to_k })
+  spawns k to_k r c h same outer more waiting results =
+      spawns_stage k h.run h.stage.first h.stage.below h.stage.now h.stage.backlog r c to_k same outer more waiting results
+      (turn_of k (Spawns r c) h)
 
   pub enters : (k to_k : Backlog) (r : Run) → IsTurnIn j k (EntersFinish r) → to_k.owners ≡ k.owners → to_k.outer.items ≡ scopes_of k
-      → to_k.scope.waiting.items ≡ [] → to_k.scope.results.items ≡ [] → IsStage j (record { now = Runs r; backlog = to_k })
+      → tasks_of to_k.scope ≡ [] → to_k.scope.results.items ≡ [] → IsStage j (record { now = Runs r; backlog = to_k })
   enters k to_k r h same outer none no_one =
       enters_stage k h.run h.stage.first h.stage.below h.stage.now h.stage.backlog r to_k same outer none no_one (turn_of k (EntersFinish r) h)
 

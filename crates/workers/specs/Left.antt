@@ -19,7 +19,9 @@ left_of_owner (Finish q so_far) = left_of_paused q
 
 -- of those that wait in a scope
 abbrev pub left_in_scope : Job → Scope → ℕ
-left_in_scope j s = sum_by (λ c. left_of_start j.budget.steps c.nest) s.waiting.items
+left_in_scope j s =
+    sum_by (λ c. left_of_start j.budget.steps c.nest) s.begun.items
+    + sum_by (λ c. left_of_start j.budget.steps c.nest) s.waiting.items
 
 -- of all around the task that runs
 abbrev pub left_in : Job → Backlog → ℕ

@@ -1,5 +1,5 @@
 -- How far a run has come: what stands where is of the program's tasks, and no result is lost.
-use Rattle.std.specs.Prelude.{◌≡◌, List, [], ◌∷◌, map}
+use Rattle.std.specs.Prelude.{◌≡◌, List, [], ◌∷◌, ◌++◌, map}
 use Rattle.types.specs.Run.{State}
 use Rattle.own_run.specs.Frames.{AtEnd}
 use Rattle.own_run.specs.Given.{told_of}
@@ -29,11 +29,15 @@ use Rattle.workers.specs.declared.stage.Now.{Now}
 use Rattle.workers.specs.declared.stage.Now.TheVariants.{Runs, Waits}
 use Rattle.workers.specs.declared.stage.Stage.{Stage}
 
+-- the tasks that wait in a scope
+abbrev pub tasks_of : Scope → List Start
+tasks_of s = s.begun.items ++ s.waiting.items
+
 -- what a scope's book says
 abbrev pub book_of : Scope → ScopeBook
 book_of s = record {
   results = map task_result s.results.items;
-  waiting = map start s.waiting.items;
+  waiting = map start (tasks_of s);
 }
 
 -- the scopes, the innermost first
@@ -103,7 +107,7 @@ module _ (j : Job) where
 
   -- what waits in a scope was begun, and what has come to it are results
   pub record IsScope (s : Scope) : Type 0 where
-    pub waiting : Each IsBegun s.waiting.items
+    pub waiting : Each IsBegun (tasks_of s)
     pub results : Each IsResult s.results.items
 
   -- these tasks wait around the one that runs, which is this

@@ -7,7 +7,7 @@ use Rattle.own_run.specs.declared.run.Run.{Run}
 use Rattle.own_run.specs.declared.start.Start.{Start}
 use Rattle.own_run.specs.declared.turn.Turn.{Turn}
 use Rattle.workers.specs.Jobs.{program_of}
-use Rattle.workers.specs.Stages.{IsStage}
+use Rattle.workers.specs.Stages.{IsStage, tasks_of}
 use Rattle.workers.specs.declared.backlog.Backlog.{Backlog}
 use Rattle.workers.specs.declared.backlog.Owner.{Owner}
 use Rattle.workers.specs.declared.backlog.Owner.TheVariants.{Root}
@@ -25,14 +25,14 @@ pub record IsTurnIn (j : Job) (k : Backlog) (t : Turn) : Type 0 where
 pub record IsTaken (old new : Scope) (s : Start) : Type 0 where
   pub before : List Start
   pub behind : List Start
-  pub was : old.waiting.items ≡ before ++ s ∷ behind
-  pub is : new.waiting.items ≡ before ++ behind
+  pub was : tasks_of old ≡ before ++ s ∷ behind
+  pub is : tasks_of new ≡ before ++ behind
   pub results : new.results ≡ old.results
 
 -- no task waits in it
 pub record IsEmpty (old new : Scope) : Type 0 where
-  pub none : old.waiting.items ≡ []
-  pub same : new.waiting.items ≡ []
+  pub none : tasks_of old ≡ []
+  pub same : tasks_of new ≡ []
   pub results : new.results ≡ old.results
 
 -- the root has ended: there was no other owner
@@ -47,6 +47,7 @@ pub record RootEnds (old new : Backlog) (made : TaskResult) (o : Owner) : Type 0
 pub record MemberEnds (old new : Backlog) (made : TaskResult) (o : Owner) : Type 0 where
   pub owners : old.owners.items ≡ o ∷ new.owners.items
   pub results : new.scope.results.items ≡ old.scope.results.items ++ made ∷ []
+  pub begun : new.scope.begun ≡ old.scope.begun
   pub waiting : new.scope.waiting ≡ old.scope.waiting
   pub outer : new.outer ≡ old.outer
 

@@ -4,7 +4,7 @@ ghost use Rattle.std.specs.Prelude.{◌≡◌, ◌+◌, ◌<◌, ◌≤◌, [], 
 ghost use Rattle.own_run.specs.Left.{left_after as left_of_turn};
 ghost use Rattle.workers.specs.Jobs.{IsJob};
 ghost use Rattle.workers.specs.Left.{LeavesLess, left, left_in, left_of_owner};
-ghost use Rattle.workers.specs.Stages.{IsNext, IsStage};
+ghost use Rattle.workers.specs.Stages.{IsNext, IsStage, tasks_of};
 ghost use Rattle.workers.specs.Turns.{EndsIn, IsEmpty, IsTaken, IsTurnIn};
 ghost use Rattle.workers.specs.declared.error.RunError.TheVariants.{OutOfMemory};
 ghost use Rattle.workers.specs.declared.stage.Now.TheVariants.{Runs, Waits};
@@ -32,8 +32,10 @@ pub enum Owner<'p> {
 /// What waits in a scope, and what has come to it.
 #[derive(Drop)]
 pub struct Scope<'p> {
-    /// The tasks begun in it that haven't run yet, the oldest first.
+    /// The tasks begun in it that haven't run yet, and of which it is settled which goes first.
     pub waiting: VecDeque<Start<'p>>,
+    /// The others, the oldest first.
+    pub begun: Vec<Start<'p>>,
     /// The results of those that have ended.
     pub results: Vec<TaskResult>,
 }
@@ -53,23 +55,53 @@ impl<'p> Scope<'p> {
     /// An empty scope.
     pub fn new(alloc: Global) -> Scope<'p>
         ensures waiting { result.waiting.items ≡ [] }
+        ensures begun { result.begun.items ≡ [] }
         ensures results { result.results.items ≡ [] }
     {
         Scope {
             waiting: VecDeque::new(alloc),
+            begun: Vec::new(alloc),
             results: Vec::new(alloc),
         }
     }
 
     /// Takes the task out that goes first.
-    fn take(&mut self, order: Order) -> Option<Start<'p>>
-        ensures taken { IfSome result (IsTaken self.old self.new) }
-        ensures none { IfNone result (IsEmpty self.old self.new) }
+    fn take(&mut self, order: Order) -> Result<Option<Start<'p>>, AllocError>
+        ensures taken { IfOk result (λ next. IfSome next (IsTaken self.old self.new)) }
+        ensures none { IfOk result (λ next. IfNone next (IsEmpty self.old self.new)) }
     {
         match order {
-            Order::Oldest => self.waiting.pop_front(),
-            Order::Newest => self.waiting.pop_back(),
+            Order::InTurn => self.next(),
+            Order::Oldest => match self.waiting.pop_front() {
+                Some(start) => Ok(Some(start)),
+                None => self.next(),
+            },
+            Order::Newest => match self.begun.pop() {
+                Some(start) => Ok(Some(start)),
+                None => Ok(self.waiting.pop_back()),
+            },
         }
+    }
+
+    /// The first of those that were begun, else of those that wait.
+    fn next(&mut self) -> Result<Option<Start<'p>>, AllocError>
+        ensures taken { IfOk result (λ next. IfSome next (IsTaken self.old self.new)) }
+        ensures none { IfOk result (λ next. IfNone next (IsEmpty self.old self.new)) }
+    {
+        self.line_up()?;
+        Ok(self.waiting.pop_front())
+    }
+
+    /// Those that were begun go before those that wait.
+    fn line_up(&mut self) -> Result<(), AllocError>
+        ensures none { OnOk result (self.new.begun.items ≡ []) }
+        ensures waiting { OnOk result (self.new.waiting.items ≡ tasks_of self.old) }
+        ensures results { self.new.results ≡ self.old.results }
+    {
+        'tasks: while let Some(start) = self.begun.pop() {
+            self.waiting.push_front(start)?;
+        }
+        Ok(())
     }
 }
 
@@ -77,6 +109,7 @@ impl<'p> Backlog<'p> {
     /// The root's scope, with nothing in it.
     pub fn new(alloc: Global) -> Backlog<'p>
         ensures waiting { result.scope.waiting.items ≡ [] }
+        ensures begun { result.scope.begun.items ≡ [] }
         ensures results { result.scope.results.items ≡ [] }
         ensures outer { result.outer.items ≡ [] }
         ensures owners { result.owners.items ≡ [] }
@@ -102,7 +135,7 @@ impl<'p> Backlog<'p> {
             Turn::Going(run) => Ok(backlog.runs(run)),
             Turn::Over(run) => Ok(backlog.runs(run)),
             Turn::Spawns(run, start) => {
-                backlog.scope.waiting.push_back(start)?;
+                backlog.scope.begun.push(start)?;
                 Ok(backlog.runs(run))
             }
             Turn::EntersFinish(run) => {
@@ -152,7 +185,8 @@ impl<'p> Backlog<'p> {
         ensures refused { IfErr result (λ e. e ≡ OutOfMemory) }
     {
         let mut backlog = self;
-        match backlog.scope.take(job.order) {
+        let next = backlog.scope.take(job.order)?;
+        match next {
             None => backlog.pass(job, owner),
             Some(start) => {
                 backlog.owners.push_front(owner)?;
@@ -166,7 +200,7 @@ impl<'p> Backlog<'p> {
     fn pass(self, job: Job<'p>, owner: Owner<'p>) -> Result<Next<'p>, RunError>
         requires job { IsJob job }
         requires stage { IsStage job (record { now = Waits owner; backlog = self }) }
-        requires empty { self.scope.waiting.items ≡ [] }
+        requires empty { tasks_of self.scope ≡ [] }
         ensures next { IfOk result (IsNext job.entry) }
         ensures fewer { IfOk result (LeavesLess job.entry
             (left_of_owner owner.entry + left_in job.entry self.entry)) }

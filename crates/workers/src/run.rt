@@ -10,6 +10,7 @@ ghost use Rattle.workers.specs.declared.error.RunError.TheVariants.{OutOfMemory}
 
 use crate::error::RunError;
 use crate::job::Job;
+pub use crate::job::Order;
 use crate::outcome::outcome;
 use crate::stage::{Next, Stage};
 use effects::laws::typed_programs_are_sound;
@@ -19,9 +20,7 @@ use types::budget::Budget;
 use types::input::Input;
 use types::outcome::Outcome;
 
-pub use crate::job::Order;
-
-/// Runs a program on an input. Each async is a task of its own, and the oldest that waits goes first.
+/// Runs a program on an input. Each async is a task of its own, and the tasks of a finish run in turn.
 pub fn run(
     alloc: Global,
     accepted: &Accepted,
@@ -33,7 +32,7 @@ pub fn run(
         ≡ one_thread_outcome (code_of accepted.now.typed) (lists_in input.now) (budget_of budget)) }
     ensures refused { IfErr result (λ e. e ≡ OutOfMemory) }
 {
-    run_by(alloc, accepted, input, budget, Order::Oldest)
+    run_by(alloc, accepted, input, budget, Order::InTurn)
 }
 
 /// The same, in a given order.

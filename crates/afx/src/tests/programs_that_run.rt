@@ -78,7 +78,8 @@ const PARTS: &str = "main { array a: int[3];
 const THREE_FAULTS: &str =
     "main { finish { async { fault 1; } async { fault 2; } fault 3; } print 9; }";
 
-const FAULT_AFTER_A_PRINT: &str = "main { finish { async { print 1; fault 7; } print 2; } print 3; }";
+const FAULT_AFTER_A_PRINT: &str =
+    "main { finish { async { print 1; fault 7; } print 2; } print 3; }";
 
 const LOOP: &str = "main { var i = 0; array m: int[4];
   while i < 10 { m[i % 4] = m[i % 4] + i; i = i + 1; }
@@ -246,7 +247,7 @@ pub const ROWS: &[Row] = &[
         words: RUN,
         text: HALVES,
         out: "",
-        err: "C1 race in main: 5 write s, 11 write a\n",
+        err: "C1 race in main: 3 read a, 3 write a\n",
         status: 1,
     },
     Row {

@@ -44,8 +44,8 @@ const READERS: &str = "main { array a: byte[2]; a[1] = 4;
 const OWNER: &str = "main { array a: int[1]; array b: int[1];
   async { finish { async { a[0] = 1; } } print a[0]; async { b[0] = 2; } } print 9; }";
 
-const FAULTS: &str = "main { array a: int[2];
-  finish { async { a[0] = 1; fault 4; } async { finish { async { a[1] = 2; fault 5; } } print 1; } }
+const FAULTS: &str = "main { array a: int[1]; array b: int[1];
+  finish { async { a[0] = 1; fault 4; } async { finish { async { b[0] = 2; fault 5; } } print 1; } }
   print 2; }";
 
 /// A program, its lines, its arrays and how many faults it has.
@@ -60,13 +60,13 @@ const ROWS: &[(&str, &str, &str, usize)] = &[
     ),
     (READERS, "[[4], [4], [4], [5, 4]]", "[[5, 4]]", 0),
     (OWNER, "[[1], [9]]", "[[1], [2]]", 0),
-    (FAULTS, "[]", "[[1, 2]]", 2),
+    (FAULTS, "[]", "[[1], [2]]", 2),
 ];
 
 #[test]
 fn tasks_leave_lines_and_arrays(rt: HostRuntime) -> Result<(), Fail> {
     let alloc = rt.alloc();
-    for order in [Order::Oldest, Order::Newest] {
+    for order in [Order::InTurn, Order::Oldest, Order::Newest] {
         for (text, want_lines, want_arrays, want_faults) in ROWS {
             let Outcome::Ended {
                 arrays,
@@ -94,7 +94,7 @@ fn tasks_in_either_order_leave_what_one_thread_does(rt: HostRuntime) -> Result<(
         let input = Input::zeros(alloc, accepted.typed())?;
         let serial = serial_run::serial(alloc, accepted.typed(), &input, Budget::usual())?;
         let serial = format!(in alloc; "{serial:?}")?;
-        for order in [Order::Oldest, Order::Newest] {
+        for order in [Order::InTurn, Order::Oldest, Order::Newest] {
             let tasks = outcome(&rt, alloc, text, Budget::usual(), order);
             let tasks = format!(in alloc; "{tasks:?}")?;
             assert_eq!(rt; tasks.as_str(), serial.as_str(), "{order:?} of {text}");

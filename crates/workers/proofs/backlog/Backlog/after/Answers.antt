@@ -1,18 +1,20 @@
-use Rattle.std.proofs.Common.{◌≡◌, ◌∙◌, ◌∷◌, ap, refl, subst, sym}
-use Rattle.workers.specs.Stages.{IsStage}
+use Rattle.std.proofs.Common.{◌≡◌, ◌∙◌, ◌∷◌, ◌++◌, List, ap, arith, refl, subst, sym}
+use Rattle.own_run.specs.declared.start.Start.{Start}
+use Rattle.workers.specs.Stages.{IsStage, tasks_of}
 use Rattle.workers.specs.Turns.{IsTurnIn}
 use Rattle.workers.specs.declared.backlog.Scope.{Scope}
+use Rattle.workers.proofs.LeftLemmas.{ends_left}
 use Rattle.workers.proofs.StageTurns.{ends, enters, going, over, spawns, waits}
 use Rattle.workers.proofs.backlog.Backlog.after.Goals as goal
 
-pub returns-in_ok-push_back-in-Spawns-clause-stage :
-    goal.returns-in_ok-push_back-in-Spawns-clause-stage
-returns-in_ok-push_back-in-Spawns-clause-stage c =
+pub returns-in_ok-push-in-Spawns-clause-stage :
+    goal.returns-in_ok-push-in-Spawns-clause-stage
+returns-in_ok-push-in-Spawns-clause-stage c =
     let j = c.args.job in
     let k = c.args.self in
     subst (IsStage j) (sym c.runs-in-Spawns.ensures)
     (spawns j c.requires.job k _ c.in-Spawns.run' c.in-Spawns.start (subst (IsTurnIn j k) c.in-Spawns.is c.requires.turn)
-    refl refl c.in_ok-push_back-in-Spawns.ensures.items refl)
+    refl refl c.in_ok-push-in-Spawns.ensures.items refl refl)
 
 pub returns-in_ok-push_front-in-EntersFinish-clause-stage :
     goal.returns-in_ok-push_front-in-EntersFinish-clause-stage
@@ -22,7 +24,8 @@ returns-in_ok-push_front-in-EntersFinish-clause-stage c =
     subst (IsStage j) (sym c.runs-in-EntersFinish.ensures)
     (enters j c.requires.job k _ c.in-EntersFinish.run' (subst (IsTurnIn j k) c.in-EntersFinish.is c.requires.turn) refl
     (c.in_ok-push_front-in-EntersFinish.ensures.items ∙ ap (λ (s : Scope). s ∷ k.outer.items) c.replace-outer.ensures.value)
-    (ap (λ (s : Scope). s.waiting.items) c.replace-outer.ensures.after ∙ c.new.ensures.waiting)
+    (ap tasks_of c.replace-outer.ensures.after ∙ ap (λ (bs : List Start). bs ++ c.new.result.waiting.items) c.new.ensures.begun
+    ∙ c.new.ensures.waiting)
     (ap (λ (s : Scope). s.results.items) c.replace-outer.ensures.after ∙ c.new.ensures.results))
 
 pub returns-in-EndsFinish-clause-stage : goal.returns-in-EndsFinish-clause-stage
@@ -51,3 +54,8 @@ returns-in-Over-clause-stage c =
     let k = c.args.self in
     subst (IsStage j) (sym c.runs-in-Over.ensures)
     (over j c.requires.job k c.in-Over.run' (subst (IsTurnIn j k) c.in-Over.is c.requires.turn))
+
+pub returns-in_ok-end-in-Ended-clause-fewer : goal.returns-in_ok-end-in-Ended-clause-fewer
+returns-in_ok-end-in-Ended-clause-fewer c =
+    let less = ends_left c.args.job c.args.self c.end.new.self c.in-Ended.result c.in_ok-end-in-Ended.field-0 c.in_ok-end-in-Ended.ensures in
+    omega (arith, less)

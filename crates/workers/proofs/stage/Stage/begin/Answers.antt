@@ -1,4 +1,4 @@
-use Rattle.std.proofs.Common.{◌≡◌, ◌∙◌, ap, sym, subst, [], refl, ◌∷◌, List}
+use Rattle.std.proofs.Common.{◌≡◌, ◌∙◌, ap, sym, subst, ◌++◌}
 use Rattle.types.specs.Translation.{program}
 use Rattle.own_run.specs.OwnRun.{Start}
 use Rattle.own_run.specs.Reached.{begun}
@@ -19,4 +19,4 @@ returns-clause-stage c =
     (c.in_ok-run.ensures.nest ∙ ap (λ (z : Start). z.nest) c.in_ok-root.ensures)
     (subst (λ (n : _). IsAt run (begun n s)) (ap (λ (z : _). z.steps) c.plan.ensures.budget)
     (subst (λ (z : Start). IsAt run (begun c.plan.result.budget.steps z)) c.in_ok-root.ensures c.in_ok-run.ensures.begun))
-    c.new.ensures.waiting c.new.ensures.results c.new.ensures.outer c.new.ensures.owners
+    (ap (λ (s : _). s ++ c.new.result.scope.waiting.items) c.new.ensures.begun ∙ c.new.ensures.waiting) c.new.ensures.results c.new.ensures.outer c.new.ensures.owners

@@ -1,0 +1,25 @@
+use Rattle.std.proofs.Common.{◌≡◌, ◌++◌, List, Some, ap, refl, sym}
+use Rattle.own_run.specs.declared.start.Start.{Start}
+use Rattle.workers.proofs.Takes.{empty_on, taken_first, taken_last, taken_on}
+use Rattle.workers.proofs.backlog.Scope.take.Goals as goal
+
+pub returns-in-Some-pop-clause-taken : goal.returns-in-Some-pop-clause-taken
+returns-in-Some-pop-clause-taken c = taken_last c.args.self.now _ c.in-Some-pop.start c.in-Some-pop.ensures.items refl refl
+
+pub returns-in-Some-clause-taken : goal.returns-in-Some-clause-taken
+returns-in-Some-clause-taken c =
+    let begun = c.args.self.now.begun.items in
+    taken_first c.args.self.now _ begun c.pop_front.new.self.items (Some c.in-Some.start)
+    (ap (λ (ws : List Start). begun ++ ws) c.in-Some.ensures.items) refl refl
+
+pub returns-in-None-clause-taken : goal.returns-in-None-clause-taken
+returns-in-None-clause-taken c =
+    let begun = c.args.self.now.begun.items in
+    taken_on c.args.self.now _ _ c.next-in-None.result (ap (λ (ws : List Start). begun ++ ws) (sym c.in-None.ensures.items)) refl
+    c.next-in-None.ensures.taken
+
+pub returns-in-None-clause-none : goal.returns-in-None-clause-none
+returns-in-None-clause-none c =
+    let begun = c.args.self.now.begun.items in
+    empty_on c.args.self.now _ _ c.next-in-None.result (ap (λ (ws : List Start). begun ++ ws) (sym c.in-None.ensures.items)) refl
+    c.next-in-None.ensures.none
