@@ -5,6 +5,7 @@ mod checks;
 mod command_lines;
 mod drawn_numbers;
 mod effects_of_programs;
+mod explored_programs;
 mod held_places;
 mod inputs;
 mod limits;
@@ -34,6 +35,7 @@ fn commands_answer_as_their_rows_say(rt: HostRuntime) -> Result<(), Fail> {
     let areas = [
         checks::ROWS,
         command_lines::ROWS,
+        explored_programs::ROWS,
         listings::ROWS,
         programs_that_run::ROWS,
         race_messages::ROWS,

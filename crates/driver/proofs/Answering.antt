@@ -9,6 +9,7 @@ use Rattle.syntax.specs.Lexical.{AreTokensOf}
 use Rattle.syntax.specs.Spelling.{spelling}
 use Rattle.types.specs.Code.{Array, Program}
 use Rattle.types.specs.Outcome.{Outcome}
+use Rattle.types.specs.TreeRuns.{Explored, Ends, Open, NoSuchChoice, explored}
 use Rattle.types.specs.Typed.{code_of, program_of}
 use Rattle.types.specs.declared.typed.Typed.{Typed}
 use Rattle.parallel_relation.specs.Pairs.{ArePairs, AreListed, HasPair}
@@ -16,10 +17,13 @@ use Rattle.parallel_relation.specs.Together.{LabelsMeet}
 use Rattle.parallel_relation.specs.declared.pairs.Pairs.{Pairs as KeptPairs}
 use Rattle.race_checker.specs.Clash.{IsAccepted}
 use Rattle.race_checker.specs.Races.{IsLeastRace, Race as ProgramRace}
-use Rattle.driver.specs.Answers.{Answers, AnswersCheck, AnswersList, AnswersPairs}
+use Rattle.driver.specs.Answers.{Answers, AnswersCheck, AnswersExplore, AnswersList, AnswersPairs}
+use Rattle.driver.specs.Answers.{Explores, IsExplored, TellsNoChoices}
 use Rattle.driver.specs.Answers.{Does, Explains, Failed, HasRace, IsCodeOf, IsRunBy, LooksForRaces, Shows}
 use Rattle.driver.specs.Answers.{TellsNoCode, TellsNotAccepted, TellsRaceTo}
 use Rattle.driver.specs.Appending.{Writes}
+use Rattle.driver.specs.Choices.{choices_in}
+use Rattle.driver.specs.ExploredText.{open_text}
 use Rattle.driver.specs.Failures.{TellsRaceIn}
 use Rattle.driver.specs.Held.{Held, TellsNoInput}
 use Rattle.driver.specs.Labels.{accepted_text, pair_text}
@@ -28,9 +32,9 @@ use Rattle.driver.specs.Requests.{Settings}
 use Rattle.driver.specs.declared.failure.Failure.{Failure}
 use Rattle.driver.specs.declared.failure.Failure.TheVariants.{CannotRead, NotUtf8, Syntax, Types}
 use Rattle.driver.specs.declared.failure.Failure.TheVariants.{Race, NoMemoryInCheck, Input, CannotWriteOutput, NoMemory}
-use Rattle.driver.specs.declared.failure.Failure.TheVariants.{Run as RunFailed}
+use Rattle.driver.specs.declared.failure.Failure.TheVariants.{Run as RunFailed, ChoicesNotUnderstood, NoLeaf}
 use Rattle.driver.specs.declared.request.Command.{Command}
-use Rattle.driver.specs.declared.request.Command.TheVariants.{Run, Serial, Check, Listing, Pairs}
+use Rattle.driver.specs.declared.request.Command.TheVariants.{Run, Serial, Check, Listing, Pairs, Explore}
 
 -- ---- failures
 
@@ -124,6 +128,7 @@ race_told Serial text procedure first second looks race = absurd looks
 race_told Check text procedure first second looks race = race
 race_told Listing text procedure first second looks race = race
 race_told Pairs text procedure first second looks race = absurd looks
+race_told Explore text procedure first second looks race = race
 
 module _ (c : Command) (looks : LooksForRaces c) (s : Settings) (held : Held) (text : List ℕ) (b : Option (List ℕ)) where
   not_accepted_explained : (f : Failure) → TellsNotAccepted text f → Explains c s held text f
@@ -229,3 +234,52 @@ outcome_shown arrays code o p declared same are = record {
   told_is = ap (λ (d : List Array). outcome_text d arrays o) are ∙ ap (outcome_text code.arrays arrays) same;
   status_is = ap status_of same;
 }
+
+-- ---- runs by choices
+
+-- what a run by choices comes to
+pub explores : (s : Settings) (held : Held) (text : List ℕ) (e : Explored) (run : IsExplored s held text) (choices : List ℕ)
+    → choices_in s.choices ≡ Some choices → e ≡ explored run.code run.input choices → Explores s held text e
+explores s held text e run choices given comes =
+    record { run = run; choices = choices; given = given; comes_to = comes }
+
+-- the outcome to which it comes
+pub outcome_explored : (s : Settings) (held : Held) (text : List ℕ) (o : Outcome) (declared : List Array)
+    (by : Explores s held text (Ends o)) → declared ≡ by.run.code.arrays
+    → AnswersExplore s held text (outcome_text declared s.arrays o) (status_of o)
+outcome_explored s held text o declared by are = record {
+  comes_to = Ends o;
+  explores = by;
+  told_is = ap (λ (d : List Array). Some (outcome_text d s.arrays o)) (sym are);
+  status_is = refl;
+}
+
+-- the leaves that may step
+pub open_explored : (s : Settings) (held : Held) (text : List ℕ) (leaves : ℕ) (by : Explores s held text (Open leaves))
+    → AnswersExplore s held text (open_text leaves) 3
+open_explored s held text leaves by = record { comes_to = Open leaves; explores = by; told_is = refl; status_is = refl }
+
+-- a choice that names no leaf
+pub no_leaf : (s : Settings) (held : Held) (text : List ℕ) (b : Option (List ℕ)) (n : ℕ)
+    → Explores s held text (NoSuchChoice n) → Failed Explore s held text b b (NoLeaf n)
+no_leaf s held text b n by =
+    refuses Explore s held text b (NoLeaf n) (record { by_choices = refl; explores = by }) (other_failure (NoLeaf n) tt)
+
+-- choices that aren't understood
+no_choices_explained : (s : Settings) (held : Held) (text : List ℕ) → IsExplored s held text → (f : Failure)
+    → TellsNoChoices s.choices f → Explains Explore s held text f
+no_choices_explained s held text run ChoicesNotUnderstood told =
+    record { by_choices = refl; run = run; not_understood = told }
+no_choices_explained s held text run NoMemory told = tt
+no_choices_explained s held text run _ told = absurd told
+
+no_choices_other : (text : Option (List ℕ)) (f : Failure) → TellsNoChoices text f → IsOther f
+no_choices_other text CannotWriteOutput told = told
+no_choices_other text _ told = tt
+
+pub passes_no_choices : (s : Settings) (held : Held) (text : List ℕ) (b : Option (List ℕ)) → IsExplored s held text
+    → (r : Result ℕ Failure) (f : Failure) → IsErrAnd r (λ y. y ≡ f) → TellsNoChoices s.choices f
+    → Does Explore s held text b b r
+passes_no_choices s held text b run r f is told =
+    passes_on Explore s held text b r f is (no_choices_explained s held text run f told)
+    (other_failure f (no_choices_other s.choices f told))

@@ -5,5 +5,6 @@ pub mod Examples
 pub mod Inputs
 pub mod OutcomeText
 pub mod Programs
+pub mod ReadChoices
 pub mod Reading
 pub mod Zeros

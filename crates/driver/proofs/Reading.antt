@@ -10,12 +10,12 @@ use Rattle.std.proofs.lemmas.Fmt.{parse-decimal}
 use Rattle.std.proofs.Math.Bool.{and-false}
 use Rattle.driver.specs.declared.command_line.Line.{Line as rLine}
 use Rattle.driver.specs.declared.request.Command.{Command}
-use Rattle.driver.specs.declared.request.Command.TheVariants.{Run, Serial, Check, Listing, Pairs}
+use Rattle.driver.specs.declared.request.Command.TheVariants.{Run, Serial, Check, Listing, Pairs, Explore}
 use Rattle.driver.specs.declared.request.Settings.{Settings as rSettings}
-use Rattle.driver.specs.Reading.{Line, bare, line_of, read, read_file, read_run, read_texts}
+use Rattle.driver.specs.Reading.{Line, bare, line_of, read, read_choosing, read_explore, read_file, read_run, read_texts}
 use Rattle.driver.specs.Requests.{AreRight, Asked, Asks, Options, Settings, Texts, is_file_name, optioned, plain, settings_by}
-use Rattle.driver.specs.Requests.{texts_by, words_of}
-use Rattle.driver.specs.Requests.{by_no_word, to_run, to_run_on_one_thread, to_check, to_list, to_list_behind, to_pair}
+use Rattle.driver.specs.Requests.{choosing_words_of, texts_by, words_of}
+use Rattle.driver.specs.Requests.{by_no_word, to_run, to_run_on_one_thread, to_check, to_list, to_list_behind, to_pair, to_explore}
 
 if_true : {A : Type 0} (b : Bool) (x y : A) → b ≡ true → (if b then x else y) ≡ x
 if_true b x y e = ap (λ (c : Bool). if c then x else y) e
@@ -23,12 +23,13 @@ if_true b x y e = ap (λ (c : Bool). if c then x else y) e
 if_false : {A : Type 0} (b : Bool) (x y : A) → b ≡ false → (if b then x else y) ≡ y
 if_false b x y e = ap (λ (c : Bool). if c then x else y) e
 
-abbrev texts_with : (input steps nest : Option (List ℕ)) (arrays : Bool) → Texts
-texts_with input steps nest arrays = record { input = input; steps = steps; nest = nest; arrays = arrays }
+abbrev texts_with : (input steps nest choices : Option (List ℕ)) (arrays : Bool) → Texts
+texts_with input steps nest choices arrays =
+    record { input = input; steps = steps; nest = nest; choices = choices; arrays = arrays }
 
 -- the words of options are read as these options
 read_words : (input steps nest : Option (List ℕ)) (arrays : Bool)
-    → read_texts (words_of (texts_with input steps nest arrays)) ≡ Some (texts_with input steps nest arrays)
+    → read_texts (words_of (texts_with input steps nest None arrays)) ≡ Some (texts_with input steps nest None arrays)
 read_words (Some i) (Some s) (Some n) true = refl
 read_words (Some i) (Some s) (Some n) false = refl
 read_words (Some i) (Some s) None true = refl
@@ -46,16 +47,44 @@ read_words None None (Some n) false = refl
 read_words None None None true = refl
 read_words None None None false = refl
 
-read_option_words : (t : Texts) → read_texts (words_of t) ≡ Some t
-read_option_words t = read_words t.input t.steps t.nest t.arrays
+read_option_words : (t : Texts) → t.choices ≡ None → read_texts (words_of t) ≡ Some t
+read_option_words t none =
+    read_words t.input t.steps t.nest t.arrays
+    ∙ ap (λ (c : Option (List ℕ)). Some (texts_with t.input t.steps t.nest c t.arrays)) (sym none)
+
+-- and those of a run by choices
+read_choosing_words : (input choices : Option (List ℕ)) (arrays : Bool)
+    → read_choosing (choosing_words_of (texts_with input None None choices arrays))
+    ≡ Some (texts_with input None None choices arrays)
+read_choosing_words (Some i) (Some c) true = refl
+read_choosing_words (Some i) (Some c) false = refl
+read_choosing_words (Some i) None true = refl
+read_choosing_words (Some i) None false = refl
+read_choosing_words None (Some c) true = refl
+read_choosing_words None (Some c) false = refl
+read_choosing_words None None true = refl
+read_choosing_words None None false = refl
+
+read_choosing_option_words : (t : Texts) → t.steps ≡ None → t.nest ≡ None
+    → read_choosing (choosing_words_of t) ≡ Some t
+read_choosing_option_words t no_steps no_nest =
+    read_choosing_words t.input t.choices t.arrays
+    ∙ ap (λ (s : Option (List ℕ)). Some (texts_with t.input s None t.choices t.arrays)) (sym no_steps)
+    ∙ ap (λ (n : Option (List ℕ)). Some (texts_with t.input t.steps n t.choices t.arrays)) (sym no_nest)
 
 abbrev line : Command → (file : List ℕ) → Texts → Line
 line command file texts = record { command = command; file = file; texts = texts }
 
-read_running : (command : Command) (file : List ℕ) (t : Texts) → IsTrue (is_file_name file)
+read_running : (command : Command) (file : List ℕ) (t : Texts) → IsTrue (is_file_name file) → t.choices ≡ None
     → read_run command file (words_of t) ≡ Some (line command file t)
-read_running command file t named =
-    if_true (is_file_name file) _ _ named ∙ ap (option_map (line command file)) (read_option_words t)
+read_running command file t named none =
+    if_true (is_file_name file) _ _ named ∙ ap (option_map (line command file)) (read_option_words t none)
+
+read_exploring : (file : List ℕ) (t : Texts) → IsTrue (is_file_name file) → t.steps ≡ None → t.nest ≡ None
+    → read_explore file (choosing_words_of t) ≡ Some (line Explore file t)
+read_exploring file t named no_steps no_nest =
+    if_true (is_file_name file) _ _ named
+    ∙ ap (option_map (line Explore file)) (read_choosing_option_words t no_steps no_nest)
 
 read_named : (command : Command) (file : List ℕ) → IsTrue (is_file_name file)
     → read_file command file ≡ Some (bare command file)
@@ -78,7 +107,7 @@ pub record IsLineOf (words : List (List ℕ)) (a : Asked) : Type 0 where
   pub asked : a ≡ optioned command file options
 
 abbrev no_options : Options
-no_options = record { input = None; steps = None; nest = None; arrays = false }
+no_options = record { input = None; steps = None; nest = None; choices = None; arrays = false }
 
 bare_line : (words : List (List ℕ)) (a : Asked) (command : Command) (file : List ℕ) → read words ≡ Some (bare command file)
     → a ≡ plain command file → IsLineOf words a
@@ -93,20 +122,29 @@ bare_line words a command file is_read asked = record {
 
 pub asks_line : (words : List (List ℕ)) (a : Asked) → Asks words a → IsLineOf words a
 asks_line words a (by_no_word is asked) = bare_line words a Run (codes "-") (ap read is) asked
-asks_line words a (to_run file o named right is asked) = record {
+asks_line words a (to_run file o named right none is asked) = record {
   command = Run;
   file = file;
   options = o;
   right = right;
-  is_read = ap read is ∙ read_running Run file (texts_by o) named;
+  is_read = ap read is ∙ read_running Run file (texts_by o) named none;
   asked = asked;
 }
-asks_line words a (to_run_on_one_thread file o named right is asked) = record {
+asks_line words a (to_run_on_one_thread file o named right none is asked) = record {
   command = Serial;
   file = file;
   options = o;
   right = right;
-  is_read = ap read is ∙ read_running Serial file (texts_by o) named;
+  is_read = ap read is ∙ read_running Serial file (texts_by o) named none;
+  asked = asked;
+}
+asks_line words a (to_explore file o named right spare is asked) = record {
+  command = Explore;
+  file = file;
+  options = o;
+  right = right;
+  is_read = ap read is
+      ∙ read_exploring file (texts_by o) named (ap (option_map decimal) spare.steps) (ap (option_map decimal) spare.nest);
   asked = asked;
 }
 asks_line words a (to_check file named is asked) = bare_line words a Check file (ap read is ∙ read_named Check file named) asked

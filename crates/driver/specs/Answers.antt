@@ -1,6 +1,6 @@
 -- What a command answers to the text of a program, and why it fails.
 use Rattle.std.specs.Prelude.{ℕ, ℤ, ◌≡◌, ◌≢◌, List, [], Bool, false, codes, IsTrue}
-use Rattle.std.specs.Prelude.{Option, Some, Result, MatchResult}
+use Rattle.std.specs.Prelude.{Option, Some, None, Result, MatchResult}
 use Rattle.std.specs.Io.KnownBytes.{Appends, Keeps}
 use Rattle.std.specs.List.{flat_map}
 use Rattle.std.specs.Str.{chars}
@@ -15,6 +15,7 @@ use Rattle.types.specs.Outcome.{Outcome, outcome}
 use Rattle.types.specs.Resolution.{resolution}
 use Rattle.types.specs.Rules.{BreaksNoRule, errors_of}
 use Rattle.types.specs.Told.{Told}
+use Rattle.types.specs.TreeRuns.{Explored, NoSuchChoice, explored}
 use Rattle.types.specs.Typed.{code_of}
 use Rattle.types.specs.declared.error.TypeError.{TypeError}
 use Rattle.parallel_relation.specs.Pairs.{AreListed}
@@ -23,6 +24,8 @@ use Rattle.race_checker.specs.Clash.{IsAccepted}
 use Rattle.race_checker.specs.Races.{IsLeastRace, Race as ProgramRace}
 use Rattle.driver.specs.Appending.{AppendsBeginning}
 use Rattle.workers.specs.declared.error.RunError.TheVariants.{OutOfMemory as NoMemoryInRun}
+use Rattle.driver.specs.Choices.{choices_in}
+use Rattle.driver.specs.ExploredText.{explored_text, explored_status}
 use Rattle.driver.specs.Failures.{told_procedure, IsToldAs}
 use Rattle.driver.specs.Held.{Held, BeginsWith, TellsNoInput}
 use Rattle.driver.specs.Labels.{accepted_text, pair_text}
@@ -32,9 +35,10 @@ use Rattle.driver.specs.declared.failure.Failure.{Failure}
 use Rattle.driver.specs.declared.failure.Failure.TheVariants.{CannotRead, NotUtf8, Syntax, Types}
 use Rattle.driver.specs.declared.failure.Failure.TheVariants.{Race, NoMemoryInCheck, Input}
 use Rattle.driver.specs.declared.failure.Failure.TheVariants.{CannotWriteOutput, NoMemory}
+use Rattle.driver.specs.declared.failure.Failure.TheVariants.{ChoicesNotUnderstood, NoLeaf}
 use Rattle.driver.specs.declared.failure.Failure.TheVariants.{Run as RunFailed}
 use Rattle.driver.specs.declared.request.Command.{Command}
-use Rattle.driver.specs.declared.request.Command.TheVariants.{Run, Serial, Check, Listing, Pairs}
+use Rattle.driver.specs.declared.request.Command.TheVariants.{Run, Serial, Check, Listing, Pairs, Explore}
 
 -- the text spells a program that breaks no rule, of which this is the code
 pub record IsCodeOf (text : List ℕ) (code : Program) : Type 0 where
@@ -50,6 +54,7 @@ IsRunBy Serial code = Unit {0}
 IsRunBy Check code = ⊥
 IsRunBy Listing code = ⊥
 IsRunBy Pairs code = ⊥
+IsRunBy Explore code = IsAccepted code
 
 -- ---- answers
 
@@ -101,6 +106,29 @@ pub record AnswersPairs (text told : List ℕ) (status : ℕ) : Type 0 where
   pub told_is : told ≡ flat_map pair_text pairs
   pub status_is : status ≡ 0
 
+-- the text's program has no race, and this is its input
+pub record IsExplored (s : Settings) (held : Held) (text : List ℕ) : Type 0 where
+  pub code : Program
+  pub is_code : IsCodeOf text code
+  pub accepted : IsAccepted code
+  pub input : List (List ℤ)
+  pub begins : BeginsWith s.input held code.arrays input
+
+-- what its run comes to by the choices that are given
+pub record Explores (s : Settings) (held : Held) (text : List ℕ) (e : Explored) : Type 0 where
+  pub run : IsExplored s held text
+  pub choices : List ℕ
+  pub given : choices_in s.choices ≡ Some choices
+  pub comes_to : e ≡ explored run.code run.input choices
+
+-- `explore`: the text of what the run by choices comes to
+pub record AnswersExplore (s : Settings) (held : Held) (text told : List ℕ) (status : ℕ)
+    : Type 0 where
+  pub comes_to : Explored
+  pub explores : Explores s held text comes_to
+  pub told_is : explored_text explores.run.code.arrays s.arrays comes_to ≡ Some told
+  pub status_is : status ≡ explored_status comes_to
+
 -- the text told, with its status, answers what is asked of a program's text
 abbrev pub Answers : Command → Settings → Held → (text told : List ℕ) → (status : ℕ) → Type 0
 Answers Run s held text told status = AnswersRun s held text told status
@@ -108,6 +136,7 @@ Answers Serial s held text told status = AnswersSerial s held text told status
 Answers Check s held text told status = AnswersCheck text told status
 Answers Listing s held text told status = AnswersList text told status
 Answers Pairs s held text told status = AnswersPairs text told status
+Answers Explore s held text told status = AnswersExplore s held text told status
 
 -- ---- failures
 
@@ -137,6 +166,7 @@ TellsRaceTo Serial text procedure first second = ⊥
 TellsRaceTo Check text procedure first second = HasRace text procedure first second
 TellsRaceTo Listing text procedure first second = HasRace text procedure first second
 TellsRaceTo Pairs text procedure first second = ⊥
+TellsRaceTo Explore text procedure first second = HasRace text procedure first second
 
 -- the command looks for races
 abbrev pub LooksForRaces : Command → Type 0
@@ -145,6 +175,7 @@ LooksForRaces Serial = ⊥
 LooksForRaces Check = Unit {0}
 LooksForRaces Listing = Unit {0}
 LooksForRaces Pairs = ⊥
+LooksForRaces Explore = Unit {0}
 
 -- why a text has no accepted program, memory aside
 abbrev pub TellsNotAccepted : (text : List ℕ) → Failure → Type 0
@@ -163,6 +194,24 @@ pub record LacksInput (c : Command) (s : Settings) (held : Held) (text : List �
   pub is_run : IsRunBy c code
   pub why : TellsNoInput s.input held code.arrays f
 
+-- why there are no choices, memory aside
+abbrev pub TellsNoChoices : (text : Option (List ℕ)) → Failure → Type 0
+TellsNoChoices text ChoicesNotUnderstood = choices_in text ≡ None
+TellsNoChoices text NoMemory = Unit {0}
+TellsNoChoices text _ = ⊥
+
+-- the text's program is run by choices, but these aren't understood
+pub record LacksChoices (c : Command) (s : Settings) (held : Held) (text : List ℕ) : Type 0 where
+  pub by_choices : c ≡ Explore
+  pub run : IsExplored s held text
+  pub not_understood : choices_in s.choices ≡ None
+
+-- the text's program is run by choices, and the one with this number is the first that names no leaf
+pub record LacksLeaf (c : Command) (s : Settings) (held : Held) (text : List ℕ) (n : ℕ)
+    : Type 0 where
+  pub by_choices : c ≡ Explore
+  pub explores : Explores s held text (NoSuchChoice n)
+
 -- a failure is one of the text, for what was asked; only want of memory is free
 abbrev pub Explains : Command → Settings → Held → (text : List ℕ) → Failure → Type 0
 Explains c s held text (CannotRead name) = LacksInput c s held text (CannotRead name)
@@ -174,6 +223,8 @@ Explains c s held text (Race procedure first second) =
 Explains c s held text NoMemoryInCheck = LooksForRaces c
 Explains c s held text (Input e) = LacksInput c s held text (Input e)
 Explains c s held text (RunFailed e) = (c ≡ Run) × (e ≡ NoMemoryInRun)
+Explains c s held text ChoicesNotUnderstood = LacksChoices c s held text
+Explains c s held text (NoLeaf n) = LacksLeaf c s held text n
 Explains c s held text CannotWriteOutput = Unit {0}
 Explains c s held text NoMemory = Unit {0}
 

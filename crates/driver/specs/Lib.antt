@@ -1,6 +1,8 @@
 pub mod Acts
 pub mod Answers
 pub mod Appending
+pub mod Choices
+pub mod ExploredText
 pub mod FailureStatus
 pub mod Failures
 pub mod Held

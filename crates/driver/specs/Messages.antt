@@ -1,6 +1,7 @@
 -- The line that tells a failure.
 use Rattle.std.specs.Prelude.{ℕ, ◌+◌, ◌/◌, ◌%◌, List, [], ◌∷◌, ◌++◌, ◌||◌, codes}
 use Rattle.std.specs.Prelude.{if◌then◌else◌, nat_eq, nat_lt}
+use Rattle.std.specs.Fmt.{decimal}
 use Rattle.std.specs.List.{flat_map}
 use Rattle.std.specs.String.{string_bytes}
 use Rattle.syntax.specs.Refusals.{error_text as syntax_text}
@@ -11,6 +12,7 @@ use Rattle.driver.specs.declared.failure.Failure.{Failure}
 use Rattle.driver.specs.declared.failure.Failure.TheVariants.{CannotRead, NotUtf8, Syntax, Types}
 use Rattle.driver.specs.declared.failure.Failure.TheVariants.{Race, NoMemoryInCheck, Input, Run}
 use Rattle.driver.specs.declared.failure.Failure.TheVariants.{CannotWriteOutput, NoMemory}
+use Rattle.driver.specs.declared.failure.Failure.TheVariants.{ChoicesNotUnderstood, NoLeaf}
 
 -- a race: its procedure, and both its accesses
 abbrev pub race_text : (procedure first second : List ℕ) → List ℕ
@@ -45,5 +47,7 @@ failure_text (Race procedure first second) =
 failure_text NoMemoryInCheck = codes "C2"
 failure_text (Input e) = input_text e
 failure_text (Run e) = run_code e
+failure_text ChoicesNotUnderstood = codes "choices not understood"
+failure_text (NoLeaf n) = codes "no leaf at choice " ++ decimal n
 failure_text CannotWriteOutput = codes "cannot write output"
 failure_text NoMemory = codes "no memory"

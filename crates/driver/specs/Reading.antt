@@ -4,7 +4,7 @@ use Rattle.std.specs.Prelude.{Option, Some, None, option_map}
 use Rattle.std.specs.Str.{bytes_eq}
 use Rattle.driver.specs.Requests.{Texts, is_file_name}
 use Rattle.driver.specs.declared.request.Command.{Command}
-use Rattle.driver.specs.declared.request.Command.TheVariants.{Run, Serial, Check, Listing, Pairs}
+use Rattle.driver.specs.declared.request.Command.TheVariants.{Run, Serial, Check, Listing, Pairs, Explore}
 use Rattle.driver.specs.declared.command_line.Line.{Line as rLine}
 use Rattle.driver.specs.declared.command_line.Texts.{Texts as rTexts}
 
@@ -19,6 +19,7 @@ texts_of t = record {
   input = option_map (λ s. s.now) t.input;
   steps = option_map (λ s. s.now) t.steps;
   nest = option_map (λ s. s.now) t.nest;
+  choices = option_map (λ s. s.now) t.choices;
   arrays = t.arrays;
 }
 
@@ -30,7 +31,7 @@ abbrev pub bare : Command → (file : List ℕ) → Line
 bare command file = record {
   command = command;
   file = file;
-  texts = record { input = None; steps = None; nest = None; arrays = false };
+  texts = record { input = None; steps = None; nest = None; choices = None; arrays = false };
 }
 
 -- the value behind an option that stands first, and the words behind both
@@ -56,9 +57,24 @@ read_texts words =
       input = input.0;
       steps = steps.0;
       nest = nest.0;
+      choices = None;
       arrays = arrays;
     } in t)
     (read_arrays nest.1)
+
+-- the options of a run by choices
+abbrev pub read_choosing : List (List ℕ) → Option Texts
+read_choosing words =
+    let input = taken (codes "--input") words in
+    let choices = taken (codes "--choices") input.1 in
+    option_map (λ arrays. let t : Texts = record {
+      input = input.0;
+      steps = None;
+      nest = None;
+      choices = choices.0;
+      arrays = arrays;
+    } in t)
+    (read_arrays choices.1)
 
 -- the words behind a command that runs
 abbrev pub read_run : Command → (file : List ℕ) → (behind : List (List ℕ)) → Option Line
@@ -70,6 +86,17 @@ read_run command file behind =
       texts = texts;
     } in line)
     (read_texts behind) else None
+
+-- the words behind `explore`
+abbrev pub read_explore : (file : List ℕ) → (behind : List (List ℕ)) → Option Line
+read_explore file behind =
+    if is_file_name file
+    then option_map (λ texts. let line : Line = record {
+      command = Explore;
+      file = file;
+      texts = texts;
+    } in line)
+    (read_choosing behind) else None
 
 -- a command with a file alone
 abbrev pub read_file : Command → (file : List ℕ) → Option Line
@@ -99,7 +126,8 @@ read_behind command file behind =
     if bytes_eq command (codes "run") then read_run Run file behind else
     (if bytes_eq command (codes "serial") then read_run Serial file behind else
     (if bytes_eq command (codes "check") then read_check file behind else
-    (if bytes_eq command (codes "mhp") then read_alone Pairs file behind else None)))
+    (if bytes_eq command (codes "mhp") then read_alone Pairs file behind else
+    (if bytes_eq command (codes "explore") then read_explore file behind else None))))
 
 -- the words of a command line
 abbrev pub read : List (List ℕ) → Option Line

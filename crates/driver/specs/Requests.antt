@@ -5,15 +5,16 @@ use Rattle.std.specs.Fmt.{decimal}
 use Rattle.types.specs.Outcome.{Budget}
 use Rattle.types.specs.Translation.{budget as budget_of}
 use Rattle.driver.specs.declared.request.Command.{Command}
-use Rattle.driver.specs.declared.request.Command.TheVariants.{Run, Serial, Check, Listing, Pairs}
+use Rattle.driver.specs.declared.request.Command.TheVariants.{Run, Serial, Check, Listing, Pairs, Explore}
 use Rattle.driver.specs.declared.request.Settings.{Settings as rSettings}
 use Rattle.driver.specs.declared.request.Request.{Request}
 
 -- how a program is to be run: the file of what its arrays hold at first, where one is named; its
--- budget; whether the arrays are shown
+-- budget; the text of its choices, where there is one; whether the arrays are shown
 pub record Settings : Type 0 where
   pub input : Option (List ℕ)
   pub budget : Budget
+  pub choices : Option (List ℕ)
   pub arrays : Bool
 
 -- what is to be done with the program of a file
@@ -26,6 +27,7 @@ abbrev pub settings : rSettings → Settings
 settings s = record {
   input = option_map (λ name. name.now) s.input;
   budget = budget_of s.budget;
+  choices = option_map (λ text. text.now) s.choices;
   arrays = s.arrays;
 }
 
@@ -39,7 +41,7 @@ usual_budget = record { steps = 1000000; nest = 100 }
 
 -- the settings of a command line that names none
 abbrev pub usual : Settings
-usual = record { input = None; budget = usual_budget; arrays = false }
+usual = record { input = None; budget = usual_budget; choices = None; arrays = false }
 
 -- ---- words
 
@@ -54,6 +56,7 @@ pub record Options : Type 0 where
   pub input : Option (List ℕ)
   pub steps : Option ℕ
   pub nest : Option ℕ
+  pub choices : Option (List ℕ)
   pub arrays : Bool
 
 -- an input file has a file's name, and numbers are in their ranges
@@ -67,6 +70,7 @@ pub record Texts : Type 0 where
   pub input : Option (List ℕ)
   pub steps : Option (List ℕ)
   pub nest : Option (List ℕ)
+  pub choices : Option (List ℕ)
   pub arrays : Bool
 
 -- numbers in decimal
@@ -75,6 +79,7 @@ texts_by o = record {
   input = o.input;
   steps = option_map decimal o.steps;
   nest = option_map decimal o.nest;
+  choices = o.choices;
   arrays = o.arrays;
 }
 
@@ -93,11 +98,23 @@ words_of t =
     valued (codes "--input") t.input (valued (codes "--steps") t.steps
     (valued (codes "--nest") t.nest (flagged (codes "--arrays") t.arrays)))
 
+-- the words of options of a run by choices, in this order: `--input FILE --choices LIST --arrays`
+abbrev pub choosing_words_of : Texts → List (List ℕ)
+choosing_words_of t =
+    valued (codes "--input") t.input
+    (valued (codes "--choices") t.choices (flagged (codes "--arrays") t.arrays))
+
+-- a run by choices has no budget
+pub record HasNoBudget (o : Options) : Type 0 where
+  pub steps : o.steps ≡ None
+  pub nest : o.nest ≡ None
+
 -- what they set; what isn't named is as usual
 abbrev pub settings_by : Options → Settings
 settings_by o = record {
   input = o.input;
   budget = record { steps = unwrap_or o.steps 1000000; nest = unwrap_or o.nest 100 };
+  choices = o.choices;
   arrays = o.arrays;
 }
 
@@ -112,9 +129,10 @@ optioned command file o = record { command = command; file = file; settings = se
 -- the words ask this; no word is `run -`
 pub data Asks (words : List (List ℕ)) (a : Asked) : Type 0 where
   by_no_word : words ≡ [] → a ≡ plain Run (codes "-") → Asks words a
-  to_run : (file : List ℕ) (o : Options) → IsTrue (is_file_name file) → AreRight o
+  to_run : (file : List ℕ) (o : Options) → IsTrue (is_file_name file) → AreRight o → o.choices ≡ None
       → words ≡ codes "run" ∷ file ∷ words_of (texts_by o) → a ≡ optioned Run file o → Asks words a
   to_run_on_one_thread : (file : List ℕ) (o : Options) → IsTrue (is_file_name file) → AreRight o
+      → o.choices ≡ None
       → words ≡ codes "serial" ∷ file ∷ words_of (texts_by o) → a ≡ optioned Serial file o → Asks words a
   to_check : (file : List ℕ) → IsTrue (is_file_name file)
       → words ≡ codes "check" ∷ file ∷ [] → a ≡ plain Check file → Asks words a
@@ -124,3 +142,6 @@ pub data Asks (words : List (List ℕ)) (a : Asked) : Type 0 where
       → words ≡ codes "check" ∷ file ∷ codes "--list" ∷ [] → a ≡ plain Listing file → Asks words a
   to_pair : (file : List ℕ) → IsTrue (is_file_name file)
       → words ≡ codes "mhp" ∷ file ∷ [] → a ≡ plain Pairs file → Asks words a
+  to_explore : (file : List ℕ) (o : Options) → IsTrue (is_file_name file) → AreRight o → HasNoBudget o
+      → words ≡ codes "explore" ∷ file ∷ choosing_words_of (texts_by o) → a ≡ optioned Explore file o
+      → Asks words a

@@ -17,6 +17,7 @@ pub fn request_by_clap<'w>(alloc: Global, words: &'w [String]) -> Result<Request
         }
         Some(("check", given)) => request(alloc, Command::Check, given),
         Some(("mhp", given)) => request(alloc, Command::Pairs, given),
+        Some(("explore", given)) => request(alloc, Command::Explore, given),
         _ => Err(commands(alloc)?.error(ErrorKind::MissingSubcommand, "no command")?),
     }
 }
@@ -33,6 +34,7 @@ fn request<'w>(
         settings: Settings {
             input: given.get_str("input"),
             budget: budget(alloc, given)?,
+            choices: given.get_str("choices"),
             arrays: given.get_flag("arrays"),
         },
     })
@@ -56,9 +58,9 @@ Example: afx serial examples/doubling.afx --input examples/doubling.json --array
 
 Exit status:
   0  the run ended; the program is accepted; pairs of labels; help
-  1  refused: the command line, a file, the text, a rule, a race, the input, the output
+  1  refused: the command line, a file, the text, a rule, a race, the input, the choices, the output
   2  the run ended with faults
-  3  the run was stopped over its budget
+  3  the run was stopped over its budget; it has not ended by its choices
   4  no memory
   5  the result of a task was lost";
 
@@ -68,6 +70,12 @@ const RUN_EXAMPLE: &str = "Example: afx run examples/two_arrays.afx --steps 1000
 /// The same of the run on one thread.
 const SERIAL_EXAMPLE: &str =
     "Example: afx serial examples/doubling.afx --input examples/doubling.json --arrays";
+
+/// The same of the run by choices.
+const EXPLORE_EXAMPLE: &str =
+    "A choice is the number of a part that steps next, of those that may, from the left and from 0.
+
+Example: afx explore examples/two_arrays.afx --choices 0,0,1";
 
 /// The commands and their arguments.
 fn commands<'w>(alloc: Global) -> Result<clap::Command<'w>, AllocError> {
@@ -80,6 +88,13 @@ fn commands<'w>(alloc: Global) -> Result<clap::Command<'w>, AllocError> {
         .about("Tells which labels of a program may run together")
         .after_help("Example: afx mhp examples/two_arrays.afx")
         .arg(file(alloc))?;
+    let explore = clap::Command::new(alloc, "explore")
+        .about("Runs a program step by step, by given choices")
+        .after_help(EXPLORE_EXAMPLE)
+        .arg(file(alloc))?
+        .arg(input(alloc))?
+        .arg(choices(alloc))?
+        .arg(arrays(alloc))?;
     clap::Command::new(alloc, "afx")
         .bin_name("afx")?
         .about("Checks and runs programs of tasks")
@@ -95,7 +110,8 @@ fn commands<'w>(alloc: Global) -> Result<clap::Command<'w>, AllocError> {
             SERIAL_EXAMPLE,
         )?)?
         .subcommand(check)?
-        .subcommand(pairs)
+        .subcommand(pairs)?
+        .subcommand(explore)
 }
 
 /// A command that runs a program.
@@ -154,6 +170,14 @@ fn nest<'w>(alloc: Global) -> Arg<'w> {
         .value_name("N")
         .help("How many asyncs may stand inside one another; without it 100")
         .value_parser(value_parser!(u64).range(0..=1_000))
+}
+
+/// Which leaf steps, step by step.
+fn choices<'w>(alloc: Global) -> Arg<'w> {
+    Arg::new(alloc, "choices")
+        .long("choices")
+        .value_name("LIST")
+        .help("Which part steps next, step by step: numbers joined by commas; without it none does")
 }
 
 /// Whether the arrays are shown.

@@ -5,7 +5,7 @@ ghost use Rattle.std.specs.Prelude.{map, option_map, true, unwrap_or};
 ghost use Rattle.std.specs.Fmt.{decimal};
 ghost use Rattle.std.specs.String.{string_bytes};
 ghost use Rattle.driver.specs.Reading.{bare as bare_line, line_of, read, read_alone};
-ghost use Rattle.driver.specs.Reading.{read_arrays, read_behind, read_check};
+ghost use Rattle.driver.specs.Reading.{read_arrays, read_behind, read_check, read_choosing, read_explore};
 ghost use Rattle.driver.specs.Reading.{read_file, read_listing, read_run, read_texts, taken, texts_of};
 ghost use Rattle.driver.specs.Requests.{AreRight, Asked, Asks, Options, asked_of, is_file_name as names_file};
 ghost use Rattle.driver.specs.Requests.{settings as settings_of, settings_by, texts_by};
@@ -50,6 +50,7 @@ pub struct Texts<'w> {
     pub input: Option<&'w str>,
     pub steps: Option<&'w str>,
     pub nest: Option<&'w str>,
+    pub choices: Option<&'w str>,
     pub arrays: bool,
 }
 
@@ -65,6 +66,7 @@ fn settings_in<'w>(texts: Texts<'w>) -> Option<Settings<'w>>
     Some(Settings {
         input,
         budget,
+        choices: texts.choices,
         arrays: texts.arrays,
     })
 }
@@ -126,6 +128,8 @@ fn line_behind<'w>(command: &str, file: &'w str, behind: &'w [String]) -> Option
         check_line(file, behind)
     } else if command == "mhp" {
         alone_line(Command::Pairs, file, behind)
+    } else if command == "explore" {
+        explore_line(file, behind)
     } else {
         None
     }
@@ -160,6 +164,39 @@ fn texts_in<'w>(words: &'w [String]) -> Option<Texts<'w>>
         input,
         steps,
         nest,
+        choices: None,
+        arrays,
+    })
+}
+
+/// A line of `explore`.
+fn explore_line<'w>(file: &'w str, behind: &'w [String]) -> Option<Line<'w>>
+    ensures { option_map line_of result ≡ read_explore file.now (map string_bytes behind.now) }
+{
+    if is_file_name(file) {
+        let texts = choosing_texts_in(behind)?;
+        Some(Line {
+            command: Command::Explore,
+            file,
+            texts,
+        })
+    } else {
+        None
+    }
+}
+
+/// The texts behind options: `--input FILE --choices LIST --arrays`, each of which may be left out.
+fn choosing_texts_in<'w>(words: &'w [String]) -> Option<Texts<'w>>
+    ensures { option_map texts_of result ≡ read_choosing (map string_bytes words.now) }
+{
+    let (input, words) = take("--input", words);
+    let (choices, words) = take("--choices", words);
+    let arrays = arrays_in(words)?;
+    Some(Texts {
+        input,
+        steps: None,
+        nest: None,
+        choices,
         arrays,
     })
 }
@@ -258,6 +295,7 @@ fn bare<'w>(command: Command, file: &'w str) -> Line<'w>
             input: None,
             steps: None,
             nest: None,
+            choices: None,
             arrays: false,
         },
     }

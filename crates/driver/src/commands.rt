@@ -11,12 +11,14 @@ ghost use Rattle.types.specs.Typed.{code_of, program_of as program_in};
 ghost use Rattle.parallel_relation.specs.Pairs.{ArePairs, pairs_left};
 ghost use Rattle.driver.specs.Answers.{Does, IsCodeOf, TellsNoCode, TellsNotAccepted};
 ghost use Rattle.driver.specs.Appending.{Writes};
+ghost use Rattle.driver.specs.ExploredText.{open_text};
 ghost use Rattle.driver.specs.Held.{Held};
 ghost use Rattle.driver.specs.Labels.{pair_text};
 ghost use Rattle.driver.specs.OutcomeText.{outcome_text, status_of};
 ghost use Rattle.driver.specs.Requests.{Settings as SettingsOf, settings as settings_of};
 
-use crate::emit::{append, emit, emit_pairs};
+use crate::choices::choices_of;
+use crate::emit::{append, emit, emit_open, emit_pairs};
 use crate::failure::Failure;
 use crate::files::FileSource;
 use crate::input_file::input_of;
@@ -30,6 +32,7 @@ use race_checker::check::Refused;
 use std::alloc::{AllocError, Global};
 use std::io::Write;
 use std::thread::Threads;
+use step_trees::explore::{Explored, explore};
 use syntax::tree::Program;
 use types::check::type_check;
 use types::code::Array;
@@ -54,6 +57,7 @@ pub fn perform<R: Threads + Sync, F: FileSource, O: Write>(
         Command::Check => check(rt, alloc, text, out),
         Command::Listing => list(rt, alloc, text, out),
         Command::Pairs => pairs(alloc, text, out),
+        Command::Explore => run_by_choices(rt, alloc, request.settings, text, files, out),
     }
 }
 
@@ -95,6 +99,32 @@ fn run_serially<F: FileSource, O: Write>(
     let input = input_of(alloc, files, &typed, settings.input)?;
     match serial_run::serial(alloc, &typed, &input, settings.budget) {
         Ok(outcome) => show(out, &typed.code().arrays, &outcome, settings.arrays),
+        Err(_) => Err(Failure::NoMemory),
+    }
+}
+
+/// `explore`: runs the program by choices, and writes what it comes to; gives the exit status.
+fn run_by_choices<R: Threads + Sync, F: FileSource, O: Write>(
+    rt: &R,
+    alloc: Global,
+    settings: Settings<'_>,
+    text: &str,
+    files: &mut F,
+    out: &mut O,
+) -> Result<u8, Failure>
+    ensures { Does Command.Explore (settings_of settings.entry) (F.held files.old) text.now
+        (O.contents out.old) (O.contents out.new) result }
+{
+    let accepted = accepted_of(rt, alloc, text)?;
+    let input = input_of(alloc, files, accepted.typed(), settings.input)?;
+    let choices = choices_of(alloc, settings.choices)?;
+    match explore(alloc, &accepted, &input, &choices) {
+        Ok(Explored::Ended(outcome)) => {
+            let arrays = &accepted.typed().code().arrays;
+            show(out, arrays, &outcome, settings.arrays)
+        }
+        Ok(Explored::Open { leaves }) => show_open(out, leaves),
+        Ok(Explored::NoSuchChoice(choice)) => Err(Failure::NoLeaf(choice)),
         Err(_) => Err(Failure::NoMemory),
     }
 }
@@ -234,5 +264,17 @@ pub fn show<O: Write>(
     match outcome {
         Outcome::Stopped => Ok(3),
         Outcome::Ended { faults, .. } => Ok(if faults.is_empty() { 0 } else { 2 }),
+    }
+}
+
+/// Writes how many leaves may step; the status is 3.
+fn show_open<O: Write>(out: &mut O, leaves: u32) -> Result<u8, Failure>
+    ensures text { Writes (O.contents out.old) (O.contents out.new) result (open_text leaves) }
+    ensures status { IfOk result (λ status. status ≡ 3) }
+    ensures failure { IfErr result (λ failure. failure ≡ Failure.CannotWriteOutput) }
+{
+    match emit_open(out, leaves) {
+        Ok(()) => Ok(3),
+        Err(_) => Err(Failure::CannotWriteOutput),
     }
 }

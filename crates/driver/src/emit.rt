@@ -7,6 +7,7 @@ ghost use Rattle.types.specs.Translation.{array, fault as fault_of, outcome as o
 ghost use Rattle.driver.specs.Appending.{Writes};
 ghost use Rattle.driver.specs.OutcomeText.{outcome_text, line_text, joined_text, spaced_text, fault_text};
 ghost use Rattle.driver.specs.OutcomeText.{array_text};
+ghost use Rattle.driver.specs.ExploredText.{open_text};
 ghost use Rattle.driver.specs.Labels.{pair_text};
 ghost use Rattle.parallel_relation.specs.Pairs.{pairs_left};
 ghost use Rattle.types.specs.Names.{path_text, kind_text};
@@ -228,12 +229,29 @@ fn emit_pair<W: Write>(out: &mut W, one: Label, other: Label) -> Result<(), Emit
     append(out, b"\n")
 }
 
-/// A label, a part of a path, or a part of a place, in decimal.
+/// A label, a part of a path or of a place, or how many leaves may step, in decimal.
 pub fn emit_label<W: Write>(out: &mut W, number: Label) -> Result<(), EmitError>
     ensures { Writes (W.contents out.old) (W.contents out.new) result (decimal number) }
 {
     let mut buffer = Buffer::new();
     append(out, buffer.format(number).as_bytes())
+}
+
+/// The number of a choice, in decimal.
+pub fn emit_count<W: Write>(out: &mut W, number: usize) -> Result<(), EmitError>
+    ensures { Writes (W.contents out.old) (W.contents out.new) result (decimal number) }
+{
+    let mut buffer = Buffer::new();
+    append(out, buffer.format(number).as_bytes())
+}
+
+/// `open 2`: so many leaves may step.
+pub fn emit_open<W: Write>(out: &mut W, leaves: u32) -> Result<(), EmitError>
+    ensures { Writes (W.contents out.old) (W.contents out.new) result (open_text leaves) }
+{
+    append(out, b"open ")?;
+    emit_label(out, leaves)?;
+    append(out, b"\n")
 }
 
 /// All of the bytes, in as many calls as the writer wants.

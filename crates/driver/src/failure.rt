@@ -47,6 +47,10 @@ pub enum Failure {
     Input(InputError),
     /// `E1` or `E3`
     Run(RunError),
+    /// `choices not understood`
+    ChoicesNotUnderstood,
+    /// `no leaf at choice 2`: the first choice that names none, numbered from 0
+    NoLeaf(usize),
     /// `cannot write output`
     CannotWriteOutput,
     /// `no memory`

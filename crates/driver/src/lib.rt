@@ -4,6 +4,7 @@
 
 pub mod act;
 pub mod by_clap;
+pub mod choices;
 pub mod command_line;
 pub mod commands;
 pub mod emit;

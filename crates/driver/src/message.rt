@@ -1,6 +1,7 @@
 //! The line that tells a failure, piece by piece, without memory of its own.
 
 ghost use Rattle.std.specs.Prelude.{◌≡◌, ◌<◌, ◌++◌, codes};
+ghost use Rattle.std.specs.Fmt.{decimal};
 ghost use Rattle.syntax.specs.Refusals.{at_text, error_text as syntax_text};
 ghost use Rattle.types.specs.Codes.{error_text, labelled};
 ghost use Rattle.types.specs.InputErrors.{error_text as input_text};
@@ -8,7 +9,7 @@ ghost use Rattle.driver.specs.Appending.{Writes};
 ghost use Rattle.driver.specs.Messages.{failure_text, race_text};
 ghost use Rattle.driver.specs.Messages.{digit, escaped, escaped_byte};
 
-use crate::emit::{EmitError, append, emit_label};
+use crate::emit::{EmitError, append, emit_count, emit_label};
 use crate::failure::Failure;
 use std::io::Write;
 use syntax::Place;
@@ -43,6 +44,8 @@ fn emit_failure<W: Write>(err: &mut W, failure: &Failure) -> Result<(), EmitErro
         Failure::NoMemoryInCheck => emit_text(err, "C2"),
         Failure::Input(error) => emit_input_error(err, error),
         Failure::Run(error) => emit_text(err, error.code()),
+        Failure::ChoicesNotUnderstood => emit_text(err, "choices not understood"),
+        Failure::NoLeaf(choice) => emit_no_leaf(err, *choice),
         Failure::CannotWriteOutput => emit_text(err, "cannot write output"),
         Failure::NoMemory => emit_text(err, "no memory"),
     }
@@ -177,4 +180,13 @@ fn emit_input_error<W: Write>(err: &mut W, error: &InputError) -> Result<(), Emi
         InputError::WrongElement { name } => emit_named(err, "N5 ", name.as_str()),
         InputError::OutOfMemory => emit_text(err, "N6"),
     }
+}
+
+/// `no leaf at choice 2`
+fn emit_no_leaf<W: Write>(err: &mut W, choice: usize) -> Result<(), EmitError>
+    ensures { Writes (W.contents err.old) (W.contents err.new) result
+        (codes "no leaf at choice " ++ decimal choice) }
+{
+    emit_text(err, "no leaf at choice ")?;
+    emit_count(err, choice)
 }

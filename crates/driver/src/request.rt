@@ -18,6 +18,8 @@ pub enum Command {
     Listing,
     /// `mhp`: write the pairs of its labels that may run together.
     Pairs,
+    /// `explore`: run it over one shared store by given choices.
+    Explore,
 }
 
 /// How a program is to be run.
@@ -27,6 +29,8 @@ pub struct Settings<'w> {
     pub input: Option<&'w str>,
     /// `--steps N` and `--nest N`
     pub budget: Budget,
+    /// `--choices LIST`: the numbers of the leaves that step, joined by commas. Without it none does.
+    pub choices: Option<&'w str>,
     /// `--arrays`: the arrays are shown behind the outcome.
     pub arrays: bool,
 }
@@ -41,6 +45,7 @@ impl<'w> Settings<'w> {
         Settings {
             input: None,
             budget: Budget::usual(),
+            choices: None,
             arrays: false,
         }
     }

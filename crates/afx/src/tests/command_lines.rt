@@ -8,11 +8,12 @@ const HELP: &str = "Checks and runs programs of tasks
 Usage: afx <COMMAND>
 
 Commands:
-  run     Runs a program as tasks
-  serial  Runs a program on one thread
-  check   Tells whether a program would be run
-  mhp     Tells which labels of a program may run together
-  help    Print this message or the help of the given subcommand(s)
+  run      Runs a program as tasks
+  serial   Runs a program on one thread
+  check    Tells whether a program would be run
+  mhp      Tells which labels of a program may run together
+  explore  Runs a program step by step, by given choices
+  help     Print this message or the help of the given subcommand(s)
 
 Options:
   -h, --help     Print help
@@ -24,9 +25,9 @@ Example: afx serial examples/doubling.afx --input examples/doubling.json --array
 
 Exit status:
   0  the run ended; the program is accepted; pairs of labels; help
-  1  refused: the command line, a file, the text, a rule, a race, the input, the output
+  1  refused: the command line, a file, the text, a rule, a race, the input, the choices, the output
   2  the run ended with faults
-  3  the run was stopped over its budget
+  3  the run was stopped over its budget; it has not ended by its choices
   4  no memory
   5  the result of a task was lost
 ";
