@@ -81,13 +81,13 @@ const THREE_FAULTS: &str =
 const FAULT_AFTER_A_PRINT: &str =
     "main { finish { async { print 1; fault 7; } print 2; } print 3; }";
 
-const LOOP: &str = "main { var i = 0; array m: int[4];
+const LOOP: &str = "main { array m: int[4]; var i = 0;
   while i < 10 { m[i % 4] = m[i % 4] + i; i = i + 1; }
   print m[0], m[1], m[2], m[3]; }";
 
 const ENDLESS: &str = "main { finish { async { while true { skip; } } print 1; } }";
 
-const SUM: &str = "proc sum(s: int, mut to: int, n: int) {
+const SUM: &str = "proc sum(read s: int, mut to: int, n: int) {
   var i = 0;
   while i < len(s) { to[0] = to[0] + s[i] * n; i = i + 1; }
 }
