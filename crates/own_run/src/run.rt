@@ -55,7 +55,7 @@ pub struct Run<'p> {
 impl<'p> Run<'p> {
     ghost use Rattle.own_run.specs.RunTurns.{Acts, CanAct, CanTurn, DidAct, DidTurn, GoesOn};
     ghost use Rattle.own_run.specs.RunTurns.{GoesUpTo, HasRoom, IsTurn};
-    ghost use Rattle.own_run.specs.declared.run.Run.{Run as Any};
+    ghost use Rattle.own_run.specs.declared.run.Run.{Run as AnyRun};
 
     /// A task at its beginning.
     pub fn begin(plan: Plan<'p>, start: Start<'p>) -> Result<Run<'p>, AllocError>
@@ -89,7 +89,7 @@ impl<'p> Run<'p> {
 
     /// Turns on, as long as a turn is no more than a step; gives the first that is.
     pub fn go<N: Needed>(self, needed: &N) -> Result<Turn<'p>, HoldError>
-        requires { (r : Any) → GoesOn (N.needs needed.now) self r
+        requires { (r : AnyRun) → GoesOn (N.needs needed.now) self r
             → CanTurn (N.needs needed.now) (N.IsAsync needed.now) r }
         ensures turn { IfOk result (GoesUpTo (N.needs needed.entry.now) self.entry) }
         ensures refused { IfErr result (λ e. e ≡ OutOfMemory) }
