@@ -103,7 +103,7 @@ neg_alone e plain none =
     sym (ap atom_of_neg (neg_is e ∙ ap (λ b. negated b (cmp (out-Neg e).comparison)) plain ∙ ap (negated false) (cmp_is_alone _ none)))
 
 pub cmp_is_compared : (e : rCmp) (r : rCompared) → (out-Cmp e).right ≡ Some r
-    → cmp e ≡ Compare (sum (out-Cmp e).left) (out-Compared r).relation (sum (out-Compared r).right)
+    → cmp e ≡ Compare (sum (out-Cmp e).left) (out-Compared r).relation (sum (out-Compared r).right.value)
 cmp_is_compared e r some =
     ap cmp (sym (roll-out-Cmp e) ∙ ap (λ r. roll-Cmp (record { left = (out-Cmp e).left; right = r }))
     (some ∙ ap Some (sym (roll-out-Compared r))))

@@ -1,5 +1,5 @@
 -- What spells a chain, with one more operand behind it.
-use Rattle.std.proofs.Common.{◌≡◌, List, [], ◌∷◌, ◌++◌, Some, None, true, false, Vec, Global, refl, ap, sym, ◌∙◌, append_assoc, append-nil}
+use Rattle.std.proofs.Common.{◌≡◌, List, [], ◌∷◌, ◌++◌, Some, None, true, false, Box, Vec, Global, refl, ap, sym, ◌∙◌, append_assoc, append-nil}
 use Rattle.syntax.specs.declared.tree.Expr.{Expr as rExpr, roll-Expr}
 use Rattle.syntax.specs.declared.tree.Conj.{Conj as rConj, roll-Conj}
 use Rattle.syntax.specs.declared.tree.Neg.{Neg as rNeg, roll-Neg}
@@ -94,8 +94,8 @@ pub cmp_then_alone : (s : rSum) (r : List Token) → sum_then (sum s) r ≡ cmp_
 unfolding cmp_then
 cmp_then_alone s r = ap (λ e. cmp_then e r) (sym (cmp_alone s))
 
-pub cmp_then_compared : (s : rSum) (relation : Relation) (t : rSum) (r : List Token)
-    → sum_then (sum s) (MarkToken (relation_mark relation) ∷ sum_then (sum t) r)
+pub cmp_then_compared : (s : rSum) (relation : Relation) (t : Box rSum Global) (u : rSum) (r : List Token) → t.value ≡ u
+    → sum_then (sum s) (MarkToken (relation_mark relation) ∷ sum_then (sum u) r)
     ≡ cmp_then (cmp (roll-Cmp (record {
       left = s;
       right = Some (roll-Compared (record {
@@ -105,7 +105,9 @@ pub cmp_then_compared : (s : rSum) (relation : Relation) (t : rSum) (r : List To
       }));
     }))) r
 unfolding cmp_then
-cmp_then_compared s relation t r = ap (λ e. cmp_then e r) (sym (cmp_compared s relation t))
+cmp_then_compared s relation t u r is =
+    ap (λ v. sum_then (sum s) (MarkToken (relation_mark relation) ∷ sum_then (sum v) r)) (sym is)
+    ∙ ap (λ e. cmp_then e r) (sym (cmp_compared s relation t))
 
 pub sum_then_built : (p : rProd) (v : Vec rTerm Global) (r : List Token)
     → prod_then (prod p) (terms_then (terms v.items) r) ≡ sum_then (sum (roll-Sum (record { first = p; rest = v }))) r

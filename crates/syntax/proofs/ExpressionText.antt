@@ -144,13 +144,13 @@ cmp_text_alone e none = ap (λ x. in_line (cmp_then x [])) (cmp_is_alone e none)
 
 pub cmp_text_compared : (e : rCmp) (r : rCompared) → (out-Cmp e).right ≡ Some r → in_line (cmp_then (cmp e) [])
     ≡ in_line (sum_then (sum (out-Cmp e).left) []) ++ ((32 ∷ (mark_text (relation_mark
-    (out-Compared r).relation) ++ 32 ∷ [])) ++ in_line (sum_then (sum (out-Compared r).right) []))
+    (out-Compared r).relation) ++ 32 ∷ [])) ++ in_line (sum_then (sum (out-Compared r).right.value) []))
 unfolding cmp_then
 cmp_text_compared e r some =
-    let left = sum (out-Cmp e).left in let o = (out-Compared r).relation in let right = sum_then (sum (out-Compared r).right) [] in
+    let left = sum (out-Cmp e).left in let o = (out-Compared r).relation in let right = sum_then (sum (out-Compared r).right.value) [] in
     ap (λ x. in_line (cmp_then x [])) (cmp_is_compared e r some)
     ∙ sum_laid line left (MarkToken (relation_mark o) ∷ right) (relation_follows line o right)
-    ∙ ap (λ l. in_line (sum_then left []) ++ l) (relation_laid line o right right (sum_apart line (sum (out-Compared r).right) []))
+    ∙ ap (λ l. in_line (sum_then left []) ++ l) (relation_laid line o right right (sum_apart line (sum (out-Compared r).right.value) []))
 
 pub sum_text : (e : rSum) → in_line (sum_then (sum e) [])
     ≡ in_line (prod_then (prod (out-Sum e).first) []) ++ terms_text (out-Sum e).rest.items

@@ -1,5 +1,5 @@
 -- The tree of a value is that of its parts.
-use Rattle.std.proofs.Common.{◌≡◌, Some, None, Bool, Vec, String, Global, refl, ap, ◌∙◌}
+use Rattle.std.proofs.Common.{◌≡◌, Some, None, Bool, Box, Vec, String, Global, refl, ap, ◌∙◌}
 use Rattle.std.specs.String.{string_bytes}
 use mathlib.Core.Former.{Count}
 use Rattle.syntax.specs.Tree.{Or, And, Add, Terms, Multiply, OrConj, AndNeg, AddTerm, MultiplyFactor, Alone, Compare}
@@ -98,9 +98,9 @@ pub cmp_alone : (s : rSum) → cmp (roll-Cmp (record { left = s; right = None })
 unfolding cmp compared roll-Cmp denote.Hole.Carrier.roll
 cmp_alone s = refl
 
-pub cmp_compared : (s : rSum) (relation : Relation) (t : rSum)
+pub cmp_compared : (s : rSum) (relation : Relation) (t : Box rSum Global)
     → cmp (roll-Cmp (record { left = s; right = Some (roll-Compared (record { relation = relation; right = t })) }))
-    ≡ Compare (sum s) relation (sum t)
+    ≡ Compare (sum s) relation (sum t.value)
 unfolding cmp compared compared_to roll-Cmp denote.Hole.Carrier.roll roll-Compared
 cmp_compared s relation t = refl
 

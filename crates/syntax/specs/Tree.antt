@@ -177,7 +177,7 @@ unfoldable mutual
   compared left (some_right right) = compared_to left right
 
   pub compared_to : Sum → rCompared → Cmp
-  compared_to left (rRight relation right) = Compare left relation (sum right)
+  compared_to left (rRight relation _ right) = Compare left relation (sum right)
 
   pub sum : rSum → Sum
   sum (rAdd first _ rest) = Add (prod first) (row_terms rest)

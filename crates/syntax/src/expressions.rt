@@ -111,7 +111,11 @@ fn cmp(alloc: Global, tokens: &[Spanned]) -> Result<(Cmp, &[Spanned]), Stuck>
         None => Ok((Cmp { left, right: None }, rest)),
         Some((relation, after)) => {
             let (right, rest) = sum(alloc, after)?;
-            let right = Some(Compared { relation, right });
+            let operand = Box::new(alloc, right)?;
+            let right = Some(Compared {
+                relation,
+                right: operand,
+            });
             Ok((Cmp { left, right }, rest))
         }
     }

@@ -200,12 +200,12 @@ pub struct Cmp {
     pub right: Option<Compared>,
 }
 
-/// The relation of a comparison and what stands behind it.
+/// The relation of a comparison and what stands behind it; boxed, since few expressions compare.
 #[derive(Drop)]
 #[cycle(expr)]
 pub struct Compared {
     pub relation: Relation,
-    pub right: Sum,
+    pub right: Box<Sum>,
 }
 
 /// `a + 1 - b`: the first operand and those behind a sign.

@@ -7,8 +7,8 @@ use Rattle.syntax.specs.declared.tree.Neg.{out-Neg}
 use Rattle.syntax.specs.declared.tree.Sum.{out-Sum}
 use Rattle.syntax.specs.declared.tree.Prod.{out-Prod}
 use Rattle.syntax.specs.Canonical.{in_line}
-use Rattle.syntax.specs.Spelling.{expr_then, conj_then, neg_then, prod_then, unary_then, atom_then}
-use Rattle.syntax.specs.Tree.{expr, conj, neg, prod, unary, atom}
+use Rattle.syntax.specs.Spelling.{expr_then, conj_then, neg_then, sum_then, prod_then, unary_then, atom_then}
+use Rattle.syntax.specs.Tree.{expr, conj, neg, sum, prod, unary, atom}
 use Rattle.syntax.proofs.ExpressionText.{then_adds, adds_part, adds_all, pushed, then_ok, ok_adds_equal, conjs_text}
 use Rattle.syntax.proofs.ExpressionText.{conjs_text_more, conjs_text_none, negs_text, negs_text_more, negs_text_none}
 use Rattle.syntax.proofs.ExpressionText.{terms_text, terms_text_more, terms_text_none, factors_text, factors_text_more}
@@ -90,7 +90,9 @@ cmp-returns-in_ok-push_str-in-Some t c =
     let between = string_bytes c.sum.new.out in
     let mark = ◌∙◌ {b = between ++ c.relation.result.now} c.in_ok-push_str-in-Some.ensures.bytes
     (ap (λ l. between ++ l) c.relation.ensures) in
-    ok_adds_equal _ old _ (then_ok _ old _ _ _ c.in_ok-sum.ensures (then_ok _ between _ _ _ mark c.sum-in-Some.ensures)) (cmp_text_compared
+    let marked = string_bytes c.push_str.new.self in
+    let right = ok_adds_equal _ marked _ c.sum-in-Some.ensures (sym (ap (λ e. in_line (sum_then (sum e) [])) c.deref.ensures)) in
+    ok_adds_equal _ old _ (then_ok _ old _ _ _ c.in_ok-sum.ensures (then_ok _ between _ _ _ mark right)) (cmp_text_compared
     c.args.e.now c.in-Some.compared c.in-Some.is)
 
 pub sum-loop-term-init : goal.sum-loop-term-init

@@ -82,11 +82,11 @@ cmp-returns-in-None-clause-read t c = record {
       cmp_alone sides _ c.in-None.ensures.absent (c.in_ok-left.ensures.read.whole sides.left sides.after sides.ends sides.spelled);
 }
 
-pub cmp-returns-in_ok-right-in-Some-clause-read : goal.cmp-returns-in_ok-right-in-Some-clause-read
-cmp-returns-in_ok-right-in-Some-clause-read t c = record {
+pub cmp-returns-in_ok-operand-in-Some-clause-read : goal.cmp-returns-in_ok-operand-in-Some-clause-read
+cmp-returns-in_ok-operand-in-Some-clause-read t c = record {
   spelled = c.in_ok-left.ensures.read.spelled
       ∙ ap (sum_then (sum c.in_ok-left.left)) (c.in-Some.ensures.found ∙ behind c.in_ok-right-in-Some.ensures.read.spelled)
-      ∙ cmp_then_compared _ _ _ _;
+      ∙ cmp_then_compared _ _ _ _ _ c.in_ok-operand-in-Some.ensures.ok;
   whole = λ x r ends spelled.
       let sides = cmp_opened x _ r ends spelled in
       let after = c.in_ok-left.ensures.read.whole sides.left sides.after sides.ends sides.spelled in

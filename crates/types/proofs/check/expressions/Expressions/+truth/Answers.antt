@@ -183,13 +183,13 @@ truth_cmp-returns-in_err-right-in-Some-clause-error t c =
     let names = names_of c.args.self.now.names.now in
     let e = c.in_err-right-in-Some.field-0.0 in
     at_exit (Told (errors.truth_cmp label names (cmp c.args.e.now))) c.from_residual-in_err-right-in-Some.result e c.from_residual-in_err-right-in-Some.ensures.1
-    (subst (λ xs. Told xs e) (sym (ap (errors.truth_cmp label names) (cmp_is_compared c.args.e.now c.in-Some.compared c.in-Some.is))) (told_right (errors.number_sum label names (sum (out-Cmp c.args.e.now).left)) _ e c.in_err-right-in-Some.ensures.error))
+    (subst (λ xs. Told xs e) (sym (ap (errors.truth_cmp label names) (cmp_is_compared c.args.e.now c.in-Some.compared c.in-Some.is))) (told_right (errors.number_sum label names (sum (out-Cmp c.args.e.now).left)) _ e (subst (λ s. Told (errors.number_sum label names (sum s)) e) c.deref.ensures c.in_err-right-in-Some.ensures.error)))
 
 pub truth_cmp-returns-in_ok-right-in-Some-clause-right : goal.truth_cmp-returns-in_ok-right-in-Some-clause-right
 truth_cmp-returns-in_ok-right-in-Some-clause-right t c =
     let label = c.args.self.now.label in
     let names = names_of c.args.self.now.names.now in
-    ap (errors.truth_cmp label names) (cmp_is_compared c.args.e.now c.in-Some.compared c.in-Some.is) ∙ none_both _ _ c.in_ok-left-in-Some.ensures.right c.in_ok-right-in-Some.ensures.right
+    ap (errors.truth_cmp label names) (cmp_is_compared c.args.e.now c.in-Some.compared c.in-Some.is) ∙ none_both _ _ c.in_ok-left-in-Some.ensures.right (ap (λ s. errors.number_sum label names (sum s)) (sym c.deref.ensures) ∙ c.in_ok-right-in-Some.ensures.right)
 
 pub truth_cmp-returns-in_ok-right-in-Some-clause-code : goal.truth_cmp-returns-in_ok-right-in-Some-clause-code
 truth_cmp-returns-in_ok-right-in-Some-clause-code t c =
@@ -197,8 +197,8 @@ truth_cmp-returns-in_ok-right-in-Some-clause-code t c =
     let names = names_of c.args.self.now.names.now in
     let relation = (out-Compared c.in-Some.compared).relation in
     ap (resolution.truth_cmp names) (cmp_is_compared c.args.e.now c.in-Some.compared c.in-Some.is)
-    ∙ ap (λ n. Compare relation n (resolution.number_sum names (sum (out-Compared c.in-Some.compared).right))) c.in_ok-left-in-Some.ensures.code
-    ∙ ap (Compare relation (number c.in_ok-left-in-Some.left)) c.in_ok-right-in-Some.ensures.code
+    ∙ ap (λ n. Compare relation n (resolution.number_sum names (sum (out-Compared c.in-Some.compared).right.value))) c.in_ok-left-in-Some.ensures.code
+    ∙ ap (Compare relation (number c.in_ok-left-in-Some.left)) (ap (λ s. resolution.number_sum names (sum s)) (sym c.deref.ensures) ∙ c.in_ok-right-in-Some.ensures.code)
 
 pub truth_neg-returns-in_err-value-clause-error : goal.truth_neg-returns-in_err-value-clause-error
 truth_neg-returns-in_err-value-clause-error t c =
