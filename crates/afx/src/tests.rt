@@ -24,6 +24,7 @@ mod settings;
 mod statuses;
 mod texts;
 mod typing_rules;
+mod worlds;
 mod writers;
 
 use crate::tests::rows::compare;

@@ -15,7 +15,7 @@ use types::outcome::Outcome;
 use workers::run::{Order, run_by};
 
 /// A program without a race.
-fn accepted(rt: &(impl Abort + Threads + Sync), alloc: Global, text: &str) -> Accepted {
+pub fn accepted(rt: &(impl Abort + Threads + Sync), alloc: Global, text: &str) -> Accepted {
     let program = parse(alloc, text).expect(rt, "a text of the language");
     let typed = type_check(alloc, program).expect(rt, "a program");
     match check(rt, alloc, typed) {
@@ -34,7 +34,6 @@ pub fn outcome(
 ) -> Outcome {
     let accepted = accepted(rt, alloc, text);
     let input = Input::zeros(alloc, accepted.typed()).expect(rt, "memory");
-    assert!(rt; input.fits(accepted.typed()));
     run_by(alloc, &accepted, &input, budget, order).expect(rt, "an outcome")
 }
 
