@@ -1,8 +1,10 @@
 -- The races of a program are those of its procedures and of `main`.
 use Rattle.std.proofs.Common.{◌≡◌, ◌≢◌, ◌⊎◌, inl, inr, ℕ, zero, suc, ◌+◌, ◌<◌, ◌≤◌, List, [], ◌∷◌, length, refl, sym, ap, ◌∙◌, subst}
 use Rattle.std.proofs.Common.{arith}
+use Rattle.std.proofs.lemmas.List.{get_or_past}
+use Rattle.std.proofs.lemmas.Option.{slice_get_within}
 use Rattle.std.proofs.lemmas.Bool.{eq-eqb, ne_eqb, eqb-true, eqb-false, ltb-true, ltb-false}
-use Rattle.std.specs.Prelude.{Bool, true, false, Option, None, Some, nat_eq, nat_lt, slice_get, slice_index_or, if◌then◌else◌}
+use Rattle.std.specs.Prelude.{Bool, true, false, Option, None, nat_eq, nat_lt, if◌then◌else◌}
 use Rattle.sections.specs.Origins.{Root}
 use Rattle.types.specs.Code.{Codes, End, Procedure, Program}
 use Rattle.types.specs.Run.{procedure_of, no_procedure}
@@ -18,16 +20,6 @@ use Rattle.race_checker.specs.Found.{Stands}
 use Rattle.race_checker.specs.Races.{Race, Clashes, IsRaceIn, IsRace, LeastOf, numbered}
 use Rattle.race_checker.specs.Search.{race_of, lesser_of}
 use Rattle.race_checker.proofs.LeastRaces.{least_same, least_of_both, race_of-clashes}
-
-get_below : {A : Type 0} (xs : List A) (k : ℕ) (x : A) → slice_get xs k ≡ Some x → k < length xs
-get_below [] k x e = cc
-get_below (y ∷ ys) zero x e = omega arith
-get_below (y ∷ ys) (suc k) x e = let h : k < length ys = get_below ys k x e in omega arith
-
-index_behind : {A : Type 0} (xs : List A) (k : ℕ) (d : A) → length xs ≤ k → slice_index_or xs k d ≡ d
-index_behind [] k d h = refl
-index_behind (x ∷ xs) zero d h = absurd (omega arith)
-index_behind (x ∷ xs) (suc k) d h = index_behind xs k d (omega arith)
 
 -- The procedure of a number
 
@@ -49,7 +41,7 @@ stands_in p g h sound e d =
         numbered = sound.numbered;
         below = λ s m.
             let k : s < length g.sections =
-            get_below g.sections s Root (sound.first s (numbers_from-below (length g.parameters) s m)) in
+            slice_get_within g.sections s Root (sound.first s (numbers_from-below (length g.parameters) s m)) in
             let l : length g.sections ≡ length h.sections = ap length e in
             omega arith;
       };
@@ -119,7 +111,7 @@ race_is_numbered p r c = by (nat_lt (length p.procedures) r.procedure) refl
         let h : length p.procedures < r.procedure = ltb-true (length p.procedures) r.procedure e in
         let ne : r.procedure ≢ length p.procedures = omega arith in
         let is : numbered p r.procedure ≡ no_procedure =
-        numbered_other p r.procedure ne ∙ index_behind p.procedures r.procedure no_procedure (omega arith) in
+        numbered_other p r.procedure ne ∙ get_or_past p.procedures r.procedure no_procedure (omega arith) in
         absurd (elim c.pair [
           | inl a ↦ none_together p (numbered p r.procedure) r.first r.second is a
           | inr b ↦ none_together p (numbered p r.procedure) r.second r.first is b
@@ -154,7 +146,7 @@ accepted_from p never = record {
         no_clash_in p f (procedure_of p f) (numbered_other p f (omega arith)) never
     by f false e = λ x y t c.
         let h : length p.procedures ≤ f = ltb-false f (length p.procedures) e in
-        none_together p (procedure_of p f) x y (index_behind p.procedures f no_procedure h) t
+        none_together p (procedure_of p f) x y (get_or_past p.procedures f no_procedure h) t
 
 -- A call of no procedure
 
@@ -170,9 +162,9 @@ firsts_of_none those xs e none = subst (AreFirsts those) (sym e) (record { among
 pub nothing_behind_all : (p : Program) (f : ℕ) (out : ℕ → ℕ) → length p.procedures ≤ f → (xs : List Access) → xs ≡ []
     → AreFirsts (Renamed p accesses out (All p accesses (procedure_of p f).body)) xs
 nothing_behind_all p f out h xs e =
-    firsts_of_none _ xs e (λ x r. no_items p (procedure_of p f) r.item (index_behind p.procedures f no_procedure h) r.among)
+    firsts_of_none _ xs e (λ x r. no_items p (procedure_of p f) r.item (get_or_past p.procedures f no_procedure h) r.among)
 
 pub nothing_behind_pending : (p : Program) (f : ℕ) (out : ℕ → ℕ) → length p.procedures ≤ f → (xs : List Access) → xs ≡ []
     → AreFirsts (Renamed p accesses out (Pending p accesses (procedure_of p f).body)) xs
 nothing_behind_pending p f out h xs e =
-    firsts_of_none _ xs e (λ x r. none_pending p (procedure_of p f) r.item (index_behind p.procedures f no_procedure h) r.among)
+    firsts_of_none _ xs e (λ x r. none_pending p (procedure_of p f) r.item (get_or_past p.procedures f no_procedure h) r.among)
