@@ -1,10 +1,11 @@
 -- The races of a program are those of its procedures and of `main`.
 use Rattle.std.proofs.Common.{◌≡◌, ◌≢◌, ◌⊎◌, inl, inr, ℕ, zero, suc, ◌+◌, ◌<◌, ◌≤◌, List, [], ◌∷◌, length, refl, sym, ap, ◌∙◌, subst}
-use Rattle.std.proofs.Common.{arith}
+use Rattle.std.proofs.Common.{arith, map, fold, Result, Ok, IfOk}
 use Rattle.std.proofs.lemmas.List.{get_or_past}
 use Rattle.std.proofs.lemmas.Option.{slice_get_within}
 use Rattle.std.proofs.lemmas.Bool.{eq-eqb, ne_eqb, eqb-true, eqb-false, ltb-true, ltb-false}
 use Rattle.std.specs.Prelude.{Bool, true, false, Option, None, nat_eq, nat_lt, if◌then◌else◌}
+use Rattle.std.specs.List.{AllZip, range_with_len}
 use Rattle.sections.specs.Origins.{Root}
 use Rattle.types.specs.Code.{Codes, End, Procedure, Program}
 use Rattle.types.specs.Run.{procedure_of, no_procedure}
@@ -19,6 +20,8 @@ use Rattle.race_checker.specs.Clash.{HasNoClash, IsAccepted}
 use Rattle.race_checker.specs.Found.{Stands}
 use Rattle.race_checker.specs.Races.{Race, Clashes, IsRaceIn, IsRace, LeastOf, numbered}
 use Rattle.race_checker.specs.Search.{race_of, lesser_of}
+use Rattle.race_checker.specs.Translation.{found as race_found}
+use Rattle.race_checker.specs.declared.race.Race.{Race as rRace}
 use Rattle.race_checker.proofs.LeastRaces.{least_same, least_of_both, race_of-clashes}
 
 -- The procedure of a number
@@ -94,6 +97,23 @@ least_below_more p n r s whole h g e =
             let k : x.procedure < n + 1 = c.below in
             let ne : x.procedure ≢ n = eqb-false x.procedure n d in
             inl (record { below = omega arith; race = c.race })
+
+-- what was found of each procedure from this one on, with what was found before
+pub least_of_more : (p : Program) (E : Type 0) (n k : ℕ) (before : Option Race) (races : List (Option rRace))
+    → LeastOf (IsRaceBelow p n) before
+    → AllZip (λ f (r : Result (Option rRace) E). IfOk r (λ race. LeastOf (IsRaceIn p f) (race_found race))) (range_with_len n k)
+    (map Ok races)
+    → LeastOf (IsRaceBelow p (n + k)) (fold lesser_of before (map race_found races))
+least_of_more p E n zero before [] least h =
+    let same : n ≡ n + 0 = omega arith in
+    subst (λ m. LeastOf (IsRaceBelow p m) before) same least
+least_of_more p E n zero before (r ∷ races) least h = absurd h
+least_of_more p E n (suc k) before [] least h = absurd h
+least_of_more p E n (suc k) before (r ∷ races) least h =
+    let same : n + 1 + k ≡ n + suc k = omega arith in
+    subst (λ m. LeastOf (IsRaceBelow p m) (fold lesser_of (lesser_of before (race_found r)) (map race_found races))) same
+    (least_of_more p E (n + 1) k (lesser_of before (race_found r)) races
+    (least_below_more p n before (race_found r) (lesser_of before (race_found r)) least h.0 refl) h.1)
 
 none_together : (p : Program) (g : Procedure) (x y : Access) → g ≡ no_procedure → Together p accesses g.body x y → ⊥
 none_together p g x y e h = ended (subst (λ (q : Procedure). Together p accesses q.body x y) e h)
