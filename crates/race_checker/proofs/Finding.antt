@@ -1,27 +1,26 @@
 -- What is found of statements is put together from what is found of their parts.
 use Rattle.std.proofs.Common.{◌≡◌, ◌⊎◌, inl, inr, ℕ, zero, suc, ◌+◌, ◌<◌, ◌≤◌, List, [], ◌∷◌, ◌++◌, map, length, drop, get_or, refl}
-use Rattle.std.proofs.Common.{sym, ap, ◌∙◌, subst, arith, Result, Ok, Err, IfOk, All as AllOfList}
+use Rattle.std.proofs.Common.{sym, ap, ◌∙◌, subst, arith, Result, IfOk, All as AllOfList}
 use Rattle.std.proofs.Math.Seq.{drop-cons}
-use Rattle.std.specs.Prelude.{Bool, true, false, Option, None, nat_eq, slice_index_or, if◌then◌else◌, ◌-◌}
-use Rattle.std.proofs.lemmas.Bool.{eqb-true}
+use Rattle.std.specs.Prelude.{Option, None, slice_index_or, ◌-◌}
+use Rattle.rayon.proofs.ListFacts.{IfOk-then}
 use Rattle.sections.specs.Member.{Member, first, next}
 use Rattle.sections.specs.Origins.{Origin, Left, Right, origin_of}
 use Rattle.types.specs.declared.code.Stmt.{Stmt}
 use Rattle.types.specs.Code.{Number, Truth, Code, Do, If, While, Split, Call, Async, Finish, Codes, End, Then, Primitive, Program}
 use Rattle.types.specs.Translation.{code, codes}
 use Rattle.effects.specs.Accesses.{Access, own_accesses}
-use Rattle.effects.specs.Effects.{accesses, past_split, past_call, renamed, AllOf, All, PendingOf, Pending}
-use Rattle.effects.specs.Firsts.{AreFirsts, IsPassed, kept_in}
-use Rattle.effects.specs.Rows.{AllInside, LeftBy, Renamed}
-use Rattle.effects.specs.Summarized.{body_of}
+use Rattle.effects.specs.Effects.{accesses, past_split, renamed, AllOf, All, PendingOf, Pending}
+use Rattle.effects.specs.Firsts.{AreFirsts, kept_in}
+use Rattle.effects.specs.Rows.{AllInside, LeftBy}
 use Rattle.types.specs.Run.{procedure_of}
-use Rattle.effects.specs.Sound.{IsSound, parameters_of}
+use Rattle.effects.specs.Sound.{IsSound}
 use Rattle.effects.specs.Translation.{access}
 use Rattle.effects.specs.declared.access.Access.{Access as rAccess}
 use Rattle.effects.specs.declared.firsts.Firsts.{Firsts}
 use Rattle.effects.proofs.AccessesInScope.{allowed, allowed_of, pending_of_all, pending_all}
+use Rattle.effects.proofs.DoingLemmas.{all_in_callee}
 use Rattle.effects.proofs.FirstLabels.{firsts_same, firsts_of_firsts, firsts_both, firsts_renamed, as_early_itself}
-use Rattle.effects.proofs.Members.{numbers_from-below}
 use Rattle.effects.proofs.OwnAllowed.{own_allowed}
 use Rattle.effects.proofs.LeastRows.{all_rows, pending_rows, all_lists, pending_lists}
 use Rattle.parallel_relation.specs.Together.{Block, Together}
@@ -32,10 +31,6 @@ use Rattle.race_checker.specs.Search.{each_with, lesser_of}
 use Rattle.race_checker.specs.Translation.{found as race_found}
 use Rattle.race_checker.specs.declared.found.Found.{Found}
 use Rattle.race_checker.proofs.LeastRaces.{least_same, least_of_both, least_among, least_of_firsts}
-
-pub if_ok_from : {A E : Type 0} (P Q : A → Type 0) (r : Result A E) → ((x : A) → P x → Q x) → IfOk r P → IfOk r Q
-if_ok_from P Q (Ok x) f h = f x h
-if_ok_from P Q (Err e) f h = tt
 
 -- Sections in range
 
@@ -370,9 +365,9 @@ module _ (p : Program) where
         → IfOk r (IsWithOwn own inside) → IfOk r (IsFoundOf p origins f l k)
     found_of_arm l k s e never own is inside h r w =
         subst (λ (c : Code). IfOk r (IsFoundOf p origins f l c)) (sym e)
-        (if_ok_from (IsWithOwn own inside) (IsFoundOf p origins f l s) r
+        (IfOk-then r (IsWithOwn own inside) (IsFoundOf p origins f l s) w
         (λ whole o. found_with_own l s inside whole h
-        (subst (λ (xs : List Access). IsWithOwn xs inside whole) (is ∙ ap (own_accesses l) e) o) never) w)
+        (subst (λ (xs : List Access). IsWithOwn xs inside whole) (is ∙ ap (own_accesses l) e) o) never))
 
     -- a loop
     pub found_of_loop : (l : ℕ) (k : Code) (t : Truth) (b : Codes) → k ≡ While t b → (own : List Access) → own ≡ own_accesses l k
@@ -435,48 +430,9 @@ codes_from ss n s h g is =
 
 -- Calls
 
-module _ (p : Program) (ss : List ℕ) (those done : Access → Type 0) where
-  passed_out : ((x : Access) → those x → done x) → (y : Access) → IsPassed those ss y → Renamed p accesses (past_call ss) done y
-  passed_out out y h = record {
-    item = record y { section = h.parameter };
-    among = out (record y { section = h.parameter }) h.among;
-    same = ap (λ n. record y { section = n }) h.named;
-  }
-
-  passed_back : ((x : Access) → done x → those x) → ((x : Access) → done x → x.section < length ss) → (y : Access)
-      → Renamed p accesses (past_call ss) done y → IsPassed those ss y
-  passed_back back below y h = record {
-    parameter = h.item.section;
-    below = below h.item h.among;
-    among = subst those (ap (λ (z : Access). record z { section = h.item.section }) (sym h.same)) (back h.item h.among);
-    named = ap (λ (z : Access). z.section) h.same;
-  }
-
-  -- what is passed is what the callee does, in the names around the call
-  pub passed_renamed : ((x : Access) → those x → done x) → ((x : Access) → done x → those x)
-      → ((x : Access) → done x → x.section < length ss) → (xs : List Access) → AreFirsts (IsPassed those ss) xs
-      → AreFirsts (Renamed p accesses (past_call ss) done) xs
-  passed_renamed out back below xs h =
-      firsts_same (IsPassed those ss) (Renamed p accesses (past_call ss) done) xs (passed_out out) (passed_back back below) h
-
-module _ (p : Program) (sound : IsSound p) (f n : ℕ) (e : n ≡ length (procedure_of p f).parameters) where
-  pub all_in_callee : (x : Access) → All p accesses (procedure_of p f).body x → x.section < n
-  all_in_callee x h =
-      let g = sound.procedures f in
-      let k : x.section < length (procedure_of p f).parameters =
-      numbers_from-below (length (procedure_of p f).parameters) x.section
-      (allowed p sound h (procedure_of p f) (parameters_of (procedure_of p f)) g.numbered g.body).in_scope in
-      omega arith
-
-  pub pending_in_callee : (x : Access) → Pending p accesses (procedure_of p f).body x → x.section < n
-  pending_in_callee x h = all_in_callee x (pending_all p h)
-
-pub body_of_callee : (p : Program) (f : ℕ) → f < length p.procedures → body_of p f ≡ (procedure_of p f).body
-body_of_callee p f h = by (nat_eq f (length p.procedures)) refl
-  where
-    by : (b : Bool) → nat_eq f (length p.procedures) ≡ b → (if b then p.main.body else (procedure_of p f).body) ≡ (procedure_of p f).body
-    by true e = let k : f ≡ length p.procedures = eqb-true f (length p.procedures) e in absurd (omega arith)
-    by false e = refl
+pub pending_in_callee : (p : Program) (sound : IsSound p) (f n : ℕ) → n ≡ length (procedure_of p f).parameters → (x : Access)
+    → Pending p accesses (procedure_of p f).body x → x.section < n
+pending_in_callee p sound f n e x h = all_in_callee p sound f n e x (pending_all p h)
 
 -- How large code is, as the walk goes down it
 

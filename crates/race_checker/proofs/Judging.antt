@@ -1,8 +1,11 @@
 -- The races of a program are those of its procedures and of `main`.
 use Rattle.std.proofs.Common.{◌≡◌, ◌≢◌, ◌⊎◌, inl, inr, ℕ, zero, suc, ◌+◌, ◌<◌, ◌≤◌, List, [], ◌∷◌, length, refl, sym, ap, ◌∙◌, subst}
-use Rattle.std.proofs.Common.{arith}
+use Rattle.std.proofs.Common.{arith, map, fold, Result, Ok, IfOk}
+use Rattle.std.proofs.lemmas.List.{get_or_past}
+use Rattle.std.proofs.lemmas.Option.{slice_get_within}
 use Rattle.std.proofs.lemmas.Bool.{eq-eqb, ne_eqb, eqb-true, eqb-false, ltb-true, ltb-false}
-use Rattle.std.specs.Prelude.{Bool, true, false, Option, None, Some, nat_eq, nat_lt, slice_get, slice_index_or, if◌then◌else◌}
+use Rattle.std.specs.Prelude.{Bool, true, false, Option, None, nat_eq, nat_lt, if◌then◌else◌}
+use Rattle.std.specs.List.{AllZip, range_with_len}
 use Rattle.sections.specs.Origins.{Root}
 use Rattle.types.specs.Code.{Codes, End, Procedure, Program}
 use Rattle.types.specs.Run.{procedure_of, no_procedure}
@@ -17,17 +20,9 @@ use Rattle.race_checker.specs.Clash.{HasNoClash, IsAccepted}
 use Rattle.race_checker.specs.Found.{Stands}
 use Rattle.race_checker.specs.Races.{Race, Clashes, IsRaceIn, IsRace, LeastOf, numbered}
 use Rattle.race_checker.specs.Search.{race_of, lesser_of}
+use Rattle.race_checker.specs.Translation.{found as race_found}
+use Rattle.race_checker.specs.declared.race.Race.{Race as rRace}
 use Rattle.race_checker.proofs.LeastRaces.{least_same, least_of_both, race_of-clashes}
-
-get_below : {A : Type 0} (xs : List A) (k : ℕ) (x : A) → slice_get xs k ≡ Some x → k < length xs
-get_below [] k x e = cc
-get_below (y ∷ ys) zero x e = omega arith
-get_below (y ∷ ys) (suc k) x e = let h : k < length ys = get_below ys k x e in omega arith
-
-index_behind : {A : Type 0} (xs : List A) (k : ℕ) (d : A) → length xs ≤ k → slice_index_or xs k d ≡ d
-index_behind [] k d h = refl
-index_behind (x ∷ xs) zero d h = absurd (omega arith)
-index_behind (x ∷ xs) (suc k) d h = index_behind xs k d (omega arith)
 
 -- The procedure of a number
 
@@ -49,7 +44,7 @@ stands_in p g h sound e d =
         numbered = sound.numbered;
         below = λ s m.
             let k : s < length g.sections =
-            get_below g.sections s Root (sound.first s (numbers_from-below (length g.parameters) s m)) in
+            slice_get_within g.sections s Root (sound.first s (numbers_from-below (length g.parameters) s m)) in
             let l : length g.sections ≡ length h.sections = ap length e in
             omega arith;
       };
@@ -103,6 +98,23 @@ least_below_more p n r s whole h g e =
             let ne : x.procedure ≢ n = eqb-false x.procedure n d in
             inl (record { below = omega arith; race = c.race })
 
+-- what was found of each procedure from this one on, with what was found before
+pub least_of_more : (p : Program) (E : Type 0) (n k : ℕ) (before : Option Race) (races : List (Option rRace))
+    → LeastOf (IsRaceBelow p n) before
+    → AllZip (λ f (r : Result (Option rRace) E). IfOk r (λ race. LeastOf (IsRaceIn p f) (race_found race))) (range_with_len n k)
+    (map Ok races)
+    → LeastOf (IsRaceBelow p (n + k)) (fold lesser_of before (map race_found races))
+least_of_more p E n zero before [] least h =
+    let same : n ≡ n + 0 = omega arith in
+    subst (λ m. LeastOf (IsRaceBelow p m) before) same least
+least_of_more p E n zero before (r ∷ races) least h = absurd h
+least_of_more p E n (suc k) before [] least h = absurd h
+least_of_more p E n (suc k) before (r ∷ races) least h =
+    let same : n + 1 + k ≡ n + suc k = omega arith in
+    subst (λ m. LeastOf (IsRaceBelow p m) (fold lesser_of (lesser_of before (race_found r)) (map race_found races))) same
+    (least_of_more p E (n + 1) k (lesser_of before (race_found r)) races
+    (least_below_more p n before (race_found r) (lesser_of before (race_found r)) least h.0 refl) h.1)
+
 none_together : (p : Program) (g : Procedure) (x y : Access) → g ≡ no_procedure → Together p accesses g.body x y → ⊥
 none_together p g x y e h = ended (subst (λ (q : Procedure). Together p accesses q.body x y) e h)
   where
@@ -119,7 +131,7 @@ race_is_numbered p r c = by (nat_lt (length p.procedures) r.procedure) refl
         let h : length p.procedures < r.procedure = ltb-true (length p.procedures) r.procedure e in
         let ne : r.procedure ≢ length p.procedures = omega arith in
         let is : numbered p r.procedure ≡ no_procedure =
-        numbered_other p r.procedure ne ∙ index_behind p.procedures r.procedure no_procedure (omega arith) in
+        numbered_other p r.procedure ne ∙ get_or_past p.procedures r.procedure no_procedure (omega arith) in
         absurd (elim c.pair [
           | inl a ↦ none_together p (numbered p r.procedure) r.first r.second is a
           | inr b ↦ none_together p (numbered p r.procedure) r.second r.first is b
@@ -154,7 +166,7 @@ accepted_from p never = record {
         no_clash_in p f (procedure_of p f) (numbered_other p f (omega arith)) never
     by f false e = λ x y t c.
         let h : length p.procedures ≤ f = ltb-false f (length p.procedures) e in
-        none_together p (procedure_of p f) x y (index_behind p.procedures f no_procedure h) t
+        none_together p (procedure_of p f) x y (get_or_past p.procedures f no_procedure h) t
 
 -- A call of no procedure
 
@@ -170,9 +182,9 @@ firsts_of_none those xs e none = subst (AreFirsts those) (sym e) (record { among
 pub nothing_behind_all : (p : Program) (f : ℕ) (out : ℕ → ℕ) → length p.procedures ≤ f → (xs : List Access) → xs ≡ []
     → AreFirsts (Renamed p accesses out (All p accesses (procedure_of p f).body)) xs
 nothing_behind_all p f out h xs e =
-    firsts_of_none _ xs e (λ x r. no_items p (procedure_of p f) r.item (index_behind p.procedures f no_procedure h) r.among)
+    firsts_of_none _ xs e (λ x r. no_items p (procedure_of p f) r.item (get_or_past p.procedures f no_procedure h) r.among)
 
 pub nothing_behind_pending : (p : Program) (f : ℕ) (out : ℕ → ℕ) → length p.procedures ≤ f → (xs : List Access) → xs ≡ []
     → AreFirsts (Renamed p accesses out (Pending p accesses (procedure_of p f).body)) xs
 nothing_behind_pending p f out h xs e =
-    firsts_of_none _ xs e (λ x r. none_pending p (procedure_of p f) r.item (index_behind p.procedures f no_procedure h) r.among)
+    firsts_of_none _ xs e (λ x r. none_pending p (procedure_of p f) r.item (get_or_past p.procedures f no_procedure h) r.among)

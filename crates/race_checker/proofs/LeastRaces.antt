@@ -2,7 +2,8 @@
 use Rattle.std.proofs.Common.{◌≡◌, ◌⊎◌, inl, inr, ℕ, Bool, true, false, ◌&&◌, ◌||◌, List, [], ◌∷◌, map, fold}
 use Rattle.std.proofs.Common.{if◌then◌else◌, refl, sym, ap, ◌∙◌, subst, true≢false}
 use Rattle.std.specs.Prelude.{Option, None, Some}
-use Rattle.std.proofs.lemmas.Bool.{and_parts}
+use Rattle.std.proofs.Math.Bool.{or_comm}
+use Rattle.std.proofs.lemmas.Bool.{and_from, and_parts}
 use Rattle.sections.specs.Member.{Member, first, next}
 use Rattle.sections.specs.Origins.{Origin}
 use Rattle.sections.specs.Overlap.{overlap}
@@ -168,23 +169,12 @@ clash_from origins x y h =
     let parts = and_parts (x.write || y.write) (overlap origins x.section y.section) h in
     record { writes = parts.0; overlap = parts.1 }
 
-and_of : (a b : Bool) → a ≡ true → b ≡ true → (a && b) ≡ true
-and_of true true h g = refl
-and_of true false h g = g
-and_of false b h g = h
-
 clash_test : (origins : List Origin) (x y : Access) → Clash origins x y → is_clash origins (x, y) ≡ true
-clash_test origins x y h = and_of (x.write || y.write) (overlap origins x.section y.section) h.writes h.overlap
-
-or_turned : (a b : Bool) → (a || b) ≡ (b || a)
-or_turned true true = refl
-or_turned true false = refl
-or_turned false true = refl
-or_turned false false = refl
+clash_test origins x y h = and_from (x.write || y.write) (overlap origins x.section y.section) h.writes h.overlap
 
 pub clash_turned : (origins : List Origin) (x y : Access) → Clash origins x y → Clash origins y x
 clash_turned origins x y h = record {
-  writes = or_turned y.write x.write ∙ h.writes;
+  writes = or_comm y.write x.write ∙ h.writes;
   overlap = overlap-sym origins y.section x.section ∙ h.overlap;
 }
 

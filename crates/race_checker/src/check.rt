@@ -1,6 +1,7 @@
 //! The race check.
 
-ghost use Rattle.std.specs.Prelude.{◌≡◌, ◌<◌, ◌≤◌, IfErr, IfOk, OnOk, length};
+ghost use Rattle.std.specs.Prelude.{◌≡◌, ◌≤◌, IfErr, IfOk, None, OnOk, fold, length, map};
+ghost use denote.Param.Send.{IsSync};
 ghost use Rattle.types.specs.Translation.{program as program_as};
 ghost use Rattle.types.specs.Typed.{code_of};
 ghost use Rattle.effects.specs.Sound.{IsSound};
@@ -8,6 +9,7 @@ ghost use Rattle.effects.specs.Summarized.{AreSummaries};
 ghost use Rattle.race_checker.specs.Clash.{IsAccepted};
 ghost use Rattle.race_checker.specs.Races.{IsRace, IsRaceIn, LeastOf};
 ghost use Rattle.race_checker.specs.Refusal.{IsRefusalOf};
+ghost use Rattle.race_checker.specs.Search.{lesser_of};
 ghost use Rattle.race_checker.specs.Translation.{found};
 
 use crate::accepted::Accepted;
@@ -15,6 +17,7 @@ use crate::race::{Race, lesser};
 use crate::walk::{found_in, procedure_of};
 use effects::laws::typed_programs_are_sound;
 use effects::summaries::{Summaries, summarize};
+use rayon::prelude::*;
 use std::alloc::{AllocError, Global};
 use std::thread::Threads;
 use types::code::Program;
@@ -69,7 +72,10 @@ fn judge<R: Threads + Sync>(
     }
 }
 
-/// The least clash of a program.
+/// How many procedures one thread goes through at the least: small ones aren't worth a thread.
+const FEW: usize = 16;
+
+/// The least clash of a program: that of its procedures and `main`, which threads share.
 fn least_race<R: Threads + Sync>(
     rt: &R,
     alloc: Global,
@@ -80,12 +86,32 @@ fn least_race<R: Threads + Sync>(
     requires summaries { AreSummaries (program_as code.now) summaries.now }
     ensures { IfOk result (λ race. LeastOf (IsRace (program_as code.now)) (found race)) }
 {
-    let mut race = None;
-    for number in 0..code.procedures.len() + 1 {
-        let procedure = ProcedureId { number };
-        race = lesser(race, least_race_in(rt, alloc, code, summaries, procedure)?);
+    let races = (0..code.procedures.len() + 1)
+        .into_par_iter()
+        .with_min_len(FEW)
+        .map(
+            |number: usize| -> Result<Option<Race>, AllocError>
+                requires shared { IsSync R.row }
+                requires sound { IsSound (program_as code.now) }
+                requires summaries { AreSummaries (program_as code.now) summaries.now }
+                requires procedure { number ≤ length (program_as code.now).procedures }
+                ensures { IfOk result (λ race. LeastOf (IsRaceIn (program_as code.entry.now) number)
+                    (found race)) }
+            { least_race_in(rt, alloc, code, summaries, ProcedureId { number }) },
+        )
+        .collect::<Result<Vec<Option<Race>>, AllocError>>(rt, alloc)??;
+    Ok(least_of(&races))
+}
+
+/// The least of the clashes that were found.
+fn least_of(races: &[Option<Race>]) -> Option<Race>
+    ensures { found result ≡ fold lesser_of None (map found races.now) }
+{
+    let mut least = None;
+    for race in races {
+        least = lesser(least, *race);
     }
-    Ok(race)
+    least
 }
 
 /// The least clash of a procedure, or of `main`.

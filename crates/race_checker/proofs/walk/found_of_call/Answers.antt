@@ -8,8 +8,9 @@ use Rattle.effects.specs.AccessSets.{HasAccess}
 use Rattle.effects.specs.Effects.{accesses, All, Pending, past_call}
 use Rattle.effects.specs.Summarized.{IsSummary}
 use Rattle.effects.specs.Firsts.{kept_in}
+use Rattle.effects.proofs.DoingLemmas.{passed_renamed, all_in_callee, body_of_callee}
 use Rattle.race_checker.proofs.Judging.{nothing_behind_all, nothing_behind_pending}
-use Rattle.race_checker.proofs.Finding.{passed_renamed, all_in_callee, pending_in_callee, body_of_callee}
+use Rattle.race_checker.proofs.Finding.{pending_in_callee}
 use Rattle.race_checker.proofs.walk.found_of_call.Goals as goal
 
 pub returns-clause-all : goal.returns-clause-all

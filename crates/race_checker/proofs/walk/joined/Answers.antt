@@ -1,4 +1,5 @@
-use Rattle.std.proofs.Common.{◌≡◌, ◌<◌, List, [], ◌∷◌, All as AllOfList, length, sym, ap, subst, arith, refl}
+use Rattle.std.proofs.Common.{◌≡◌, ◌<◌, List, [], All as AllOfList, length, sym, ap, subst, arith}
+use Rattle.std.proofs.lemmas.List.{nil_from_length}
 use Rattle.rayon.proofs.ToStd.{chunks_of-concat}
 use Rattle.rayon.specs.Lists.{chunks_of}
 use Rattle.sections.specs.Origins.{Origin}
@@ -59,10 +60,6 @@ loop-piece-preserved c =
     (subst (λ (left : List Found). PutTogether p os f c.args.body.now c.loop-piece.found left) c.in-Some.ensures.steps.0 c.loop-piece.invariant)
     (subst (λ (o : List Origin). IsInFront o f c.loop-piece.found c.in-Some.piece c.in_ok-found.found) same c.in_ok-found.ensures)
 
-nothing_left : (left : List Found) → length left ≡ 0 → left ≡ []
-nothing_left [] e = refl
-nothing_left (x ∷ xs) e = absurd (omega arith)
-
 pub returns : goal.returns
 returns c =
     let p = program c.args.code.now in
@@ -70,5 +67,5 @@ returns c =
     let os = (numbered p f).sections in
     all_pieces p os f c.args.body.now c.loop-piece.found
     (subst (λ (left : List Found). PutTogether p os f c.args.body.now c.loop-piece.found left)
-    (nothing_left c.loop-piece.piece-iterator.rest.items (omega (arith, c.in-None.ensures.steps.0, c.loop-piece.piece-iterator.rest.ok)))
+    (nil_from_length c.loop-piece.piece-iterator.rest.items (omega (arith, c.in-None.ensures.steps.0, c.loop-piece.piece-iterator.rest.ok)))
     c.loop-piece.invariant)
