@@ -20,7 +20,7 @@ use Rattle.own_run.specs.declared.result.Settled.{Settled as rSettled}
 use Rattle.own_run.proofs.CompleteResults.{not_met}
 use Rattle.own_run.proofs.Windows.{covered_in}
 use Rattle.gather.specs.Parts.{Part, Waiting, filled, comes_back_twice}
-use Rattle.gather.specs.Refusal.{RefusesHole, RefusesPaste}
+use Rattle.gather.specs.PartRefusal.{RefusesHole, RefusesPaste}
 use Rattle.gather.specs.Stages.{part, waiting}
 use Rattle.gather.specs.declared.error.GatherError.{GatherError}
 use Rattle.gather.specs.declared.error.GatherError.TheVariants.{Lost, Double, Stranger, OutOfMemory}

@@ -14,7 +14,7 @@ use Rattle.own_run.proofs.CompleteResults.{path_same}
 use Rattle.gather.specs.GivesBack.{returned, all_owned, GivesBack, AreGivenBack}
 use Rattle.gather.specs.Parts.{Part, Waiting, Gathering, opened, filled, unopened, owned_in_all, total, Fit, IsWhole}
 
-each_end : {A : Type 0} (P : A → Type 0) (xs : List A) (x : A) → Each P (xs ++ x ∷ []) → Each P xs × P x
+pub each_end : {A : Type 0} (P : A → Type 0) (xs : List A) (x : A) → Each P (xs ++ x ∷ []) → Each P xs × P x
 each_end P [] x h = (tt, h.0)
 each_end P (y ∷ xs) x h = let k = each_end P xs x h.1 in ((h.0, k.0), k.1)
 
