@@ -44,5 +44,6 @@ fn commands_answer_as_their_rows_say(rt: HostRuntime) -> Result<(), Fail> {
     for rows in areas {
         compare(&rt, rt.alloc(), rows)?;
     }
+    explored_programs::compare_random_runs(&rt, rt.alloc())?;
     Ok(())
 }

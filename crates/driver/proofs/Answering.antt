@@ -1,15 +1,15 @@
 -- From what a command wrote, or why it wrote nothing, to what was done.
-use Rattle.std.proofs.Common.{◌≡◌, ◌≢◌, ℕ, List, Option, Some, Result, Ok, Err, ap, ◌∙◌, sym, subst, refl}
+use Rattle.std.proofs.Common.{◌≡◌, ◌≢◌, ◌<◌, inl, inr, ℕ, List, Option, Some, Result, Ok, Err, ap, ◌∙◌, sym, subst, refl}
 use Rattle.std.proofs.KnownBytes.{Keeps-refl}
 use Rattle.std.specs.List.{flat_map}
-use Rattle.std.specs.Prelude.{◌↔◌, IfErr, IfOk, IsErrAnd, Bool}
+use Rattle.std.specs.Prelude.{◌↔◌, ℤ, IfErr, IfOk, IsErrAnd, Bool}
 use Rattle.std.specs.Str.{chars}
 use Rattle.syntax.specs.Canonical.{listed}
 use Rattle.syntax.specs.Lexical.{AreTokensOf}
 use Rattle.syntax.specs.Spelling.{spelling}
 use Rattle.types.specs.Code.{Array, Program}
 use Rattle.types.specs.Outcome.{Outcome}
-use Rattle.types.specs.TreeRuns.{Explored, Ends, Open, NoSuchChoice, explored}
+use Rattle.types.specs.TreeRuns.{Explored, Ends, Open, NoSuchChoice}
 use Rattle.types.specs.Typed.{code_of, program_of}
 use Rattle.types.specs.declared.typed.Typed.{Typed}
 use Rattle.parallel_relation.specs.Pairs.{ArePairs, AreListed, HasPair}
@@ -18,14 +18,14 @@ use Rattle.parallel_relation.specs.declared.pairs.Pairs.{Pairs as KeptPairs}
 use Rattle.race_checker.specs.Clash.{IsAccepted}
 use Rattle.race_checker.specs.Races.{IsLeastRace, Race as ProgramRace}
 use Rattle.driver.specs.Answers.{Answers, AnswersCheck, AnswersExplore, AnswersList, AnswersPairs}
-use Rattle.driver.specs.Answers.{Explores, IsExplored, TellsNoChoices}
+use Rattle.driver.specs.Answers.{Explores, IsExplored}
 use Rattle.driver.specs.Answers.{Does, Explains, Failed, HasRace, IsCodeOf, IsRunBy, LooksForRaces, Shows}
 use Rattle.driver.specs.Answers.{TellsNoCode, TellsNotAccepted, TellsRaceTo}
 use Rattle.driver.specs.Appending.{Writes}
-use Rattle.driver.specs.Choices.{choices_in}
+use Rattle.driver.specs.Choosing.{ComesTo, TellsNoChoices}
 use Rattle.driver.specs.ExploredText.{open_text}
 use Rattle.driver.specs.Failures.{TellsRaceIn}
-use Rattle.driver.specs.Held.{Held, TellsNoInput}
+use Rattle.driver.specs.Held.{Held, BeginsWith, TellsNoInput}
 use Rattle.driver.specs.Labels.{accepted_text, pair_text}
 use Rattle.driver.specs.OutcomeText.{outcome_text, status_of}
 use Rattle.driver.specs.Requests.{Settings}
@@ -87,7 +87,7 @@ module _ (c : Command) (s : Settings) (held : Held) (text : List ℕ) (b : Optio
 
   module _ (code : Program) (is_code : IsCodeOf text code) (is_run : IsRunBy c code) where
     no_input_explained : (f : Failure) → TellsNoInput s.input held code.arrays f → Explains c s held text f
-    no_input_explained (CannotRead name) told = record { code = code; is_code = is_code; is_run = is_run; why = told }
+    no_input_explained (CannotRead name) told = inl (record { code = code; is_code = is_code; is_run = is_run; why = told })
     no_input_explained (NotUtf8 name) told = record { code = code; is_code = is_code; is_run = is_run; why = told }
     no_input_explained (Input e) told = record { code = code; is_code = is_code; is_run = is_run; why = told }
     no_input_explained NoMemory told = tt
@@ -237,11 +237,8 @@ outcome_shown arrays code o p declared same are = record {
 
 -- ---- runs by choices
 
--- what a run by choices comes to
-pub explores : (s : Settings) (held : Held) (text : List ℕ) (e : Explored) (run : IsExplored s held text) (choices : List ℕ)
-    → choices_in s.choices ≡ Some choices → e ≡ explored run.code run.input choices → Explores s held text e
-explores s held text e run choices given comes =
-    record { run = run; choices = choices; given = given; comes_to = comes }
+ends_not_open : (o : Outcome) (leaves : ℕ) → Ends o ≡ Open leaves → ⊥
+ends_not_open o leaves is = cc
 
 -- the outcome to which it comes
 pub outcome_explored : (s : Settings) (held : Held) (text : List ℕ) (o : Outcome) (declared : List Array)
@@ -250,14 +247,16 @@ pub outcome_explored : (s : Settings) (held : Held) (text : List ℕ) (o : Outco
 outcome_explored s held text o declared by are = record {
   comes_to = Ends o;
   explores = by;
+  open_yet = λ leaves is. absurd (ends_not_open o leaves is);
   told_is = ap (λ (d : List Array). Some (outcome_text d s.arrays o)) (sym are);
   status_is = refl;
 }
 
 -- the leaves that may step
 pub open_explored : (s : Settings) (held : Held) (text : List ℕ) (leaves : ℕ) (by : Explores s held text (Open leaves))
-    → AnswersExplore s held text (open_text leaves) 3
-open_explored s held text leaves by = record { comes_to = Open leaves; explores = by; told_is = refl; status_is = refl }
+    → ((n : ℕ) → Open leaves ≡ Open n → 0 < n) → AnswersExplore s held text (open_text leaves) 3
+open_explored s held text leaves by some =
+    record { comes_to = Open leaves; explores = by; open_yet = some; told_is = refl; status_is = refl }
 
 -- a choice that names no leaf
 pub no_leaf : (s : Settings) (held : Held) (text : List ℕ) (b : Option (List ℕ)) (n : ℕ)
@@ -265,21 +264,43 @@ pub no_leaf : (s : Settings) (held : Held) (text : List ℕ) (b : Option (List �
 no_leaf s held text b n by =
     refuses Explore s held text b (NoLeaf n) (record { by_choices = refl; explores = by }) (other_failure (NoLeaf n) tt)
 
--- choices that aren't understood
-no_choices_explained : (s : Settings) (held : Held) (text : List ℕ) → IsExplored s held text → (f : Failure)
-    → TellsNoChoices s.choices f → Explains Explore s held text f
-no_choices_explained s held text run ChoicesNotUnderstood told =
-    record { by_choices = refl; run = run; not_understood = told }
-no_choices_explained s held text run NoMemory told = tt
-no_choices_explained s held text run _ told = absurd told
+-- ---- a run without choices
 
-no_choices_other : (text : Option (List ℕ)) (f : Failure) → TellsNoChoices text f → IsOther f
-no_choices_other text CannotWriteOutput told = told
-no_choices_other text _ told = tt
+module _ (s : Settings) (held : Held) (text : List ℕ) (run : IsExplored s held text) where
+  no_choices_explained : (f : Failure) → TellsNoChoices s.choices held f → Explains Explore s held text f
+  no_choices_explained ChoicesNotUnderstood told = record { by_choices = refl; run = run; why = told }
+  no_choices_explained (CannotRead name) told = inr (record { by_choices = refl; run = run; why = told })
+  no_choices_explained NoMemory told = tt
+  no_choices_explained _ told = absurd told
 
-pub passes_no_choices : (s : Settings) (held : Held) (text : List ℕ) (b : Option (List ℕ)) → IsExplored s held text
-    → (r : Result ℕ Failure) (f : Failure) → IsErrAnd r (λ y. y ≡ f) → TellsNoChoices s.choices f
-    → Does Explore s held text b b r
-passes_no_choices s held text b run r f is told =
-    passes_on Explore s held text b r f is (no_choices_explained s held text run f told)
-    (other_failure f (no_choices_other s.choices f told))
+  no_choices_other : (f : Failure) → TellsNoChoices s.choices held f → IsOther f
+  no_choices_other CannotWriteOutput told = told
+  no_choices_other _ told = tt
+
+  pub passes_no_choices : (later : Held) → later ≡ held → (b : Option (List ℕ)) (r : Result ℕ Failure) (f : Failure)
+      → IsErrAnd r (λ y. y ≡ f) → TellsNoChoices s.choices later f → Does Explore s held text b b r
+  passes_no_choices later keeps b r f is tells =
+      let told = subst (λ (h : Held). TellsNoChoices s.choices h f) keeps tells in
+      passes_on Explore s held text b r f is (no_choices_explained f told) (other_failure f (no_choices_other f told))
+
+-- what was explored of a program that was accepted
+module _ (s : Settings) (held : Held) (text : List ℕ) (kept typed : Typed) (same : typed ≡ kept)
+    (spelled : AreTokensOf (chars text) (spelling (program_of kept))) (accepted : IsAccepted (code_of typed))
+    (input : List (List ℤ)) (begins : BeginsWith s.input held (code_of typed).arrays input) where
+  abbrev pub is_explored : IsExplored s held text
+  is_explored = record {
+    code = code_of typed;
+    is_code = code_of_text text typed
+        (subst (λ (t : Typed). AreTokensOf (chars text) (spelling (program_of t))) (sym same) spelled);
+    accepted = accepted;
+    input = input;
+    begins = begins;
+  }
+
+  abbrev pub explores : (later : Held) → later ≡ held → (e : Explored) → ComesTo s.choices later (code_of kept) input e
+      → Explores s held text e
+  explores later keeps e by = record {
+    run = is_explored;
+    by_choices = subst (λ (h : Held). ComesTo s.choices h (code_of typed) input e) keeps
+        (subst (λ (t : Typed). ComesTo s.choices later (code_of t) input e) (sym same) by);
+  }

@@ -2,7 +2,9 @@
 use Rattle.std.proofs.Common.{◌≡◌, ◌⊎◌, inl, inr, ℕ, ◌<◌, ◌≤◌, List, length, take, sym, ap, ◌∙◌, subst, refl, arith}
 use Rattle.std.proofs.lemmas.Bool.{cases_lt}
 use Rattle.std.proofs.lemmas.List.{length-take-le, take_all}
-use Rattle.std.specs.Prelude.{Option, None, Some, Result, Ok, Err, option_map}
+use Rattle.std.proofs.lemmas.Bool.Decides.{nat_tests}
+use Rattle.std.specs.Prelude.{Bool, true, if◌then◌else◌, nat_lt, Option, None, Some, Result, Ok, Err, option_map}
+use Rattle.driver.specs.Choices.{filed_within, nothing_read, read_of_file}
 use Rattle.driver.specs.Failures.{TellsNotUtf8, TellsUnread}
 use Rattle.driver.specs.Held.{Bytes, Held, HasNoProgramText, IsGiven, IsTooLong, TellsNoProgram, first}
 use Rattle.driver.specs.declared.failure.Failure.{Failure}
@@ -84,8 +86,40 @@ too_long held name xs more given =
     let all = has_more (held name) 1048576 1048577 xs more given in
     record { bytes = all.whole; given = all.given; long = all.more }
 
+-- ---- choices
+
+longer_says_none : (n : ℕ) (xs : List ℕ) → n < length xs → filed_within n xs ≡ None
+longer_says_none n xs more =
+    let long : nat_lt n (length xs) ≡ true = grind (arith, nat_tests) in
+    ap (λ (z : Bool). if z then None else read_of_file nothing_read xs) long
+
+-- a beginning says what the whole says, where one byte more than may be was read
+filed_begun : (n m : ℕ) (xs : List ℕ) → n < m → filed_within n (take m xs) ≡ filed_within n xs
+filed_begun n m xs less = elim (cases_lt n (length (take m xs))) [
+  | inl more ↦ longer_says_none n (take m xs) more ∙ sym (longer_says_none n xs (no_longer n m xs more))
+  | inr few ↦ ap (filed_within n) (all_taken n m xs less few)
+]
+
+-- all of a file that says what its first bytes say
+pub record SaysAsMuch (known : Option Bytes) (n : ℕ) (xs : List ℕ) : Type 0 where
+  pub whole : List ℕ
+  pub given : IsGiven known (Ok whole)
+  pub same : filed_within n whole ≡ filed_within n xs
+
+pub filed_whole : (known : Option Bytes) (n m : ℕ) (xs : List ℕ) → n < m → IsGiven (option_map (first m) known) (Ok xs)
+    → SaysAsMuch known n xs
+filed_whole None n m xs less given = record { whole = xs; given = tt; same = refl }
+filed_whole (Some (Ok whole)) n m xs less given =
+    let is : xs ≡ take m whole = same_bytes xs (take m whole) (given (was_read xs NoMemoryInFile)) in
+    record {
+      whole = whole;
+      given = λ other. refl;
+      same = sym (filed_begun n m whole less) ∙ ap (filed_within n) (sym is);
+    }
+filed_whole (Some (Err e)) n m xs less given = absurd (was_read xs e (given (was_read xs NoMemoryInFile)))
+
 -- a file whose first bytes can't be read can't be read
-not_read : (known : Option Bytes) (m : ℕ) → IsGiven (option_map (first m) known) (Err Unread) → IsGiven known (Err Unread)
+pub not_read : (known : Option Bytes) (m : ℕ) → IsGiven (option_map (first m) known) (Err Unread) → IsGiven known (Err Unread)
 not_read None m given = tt
 not_read (Some (Ok whole)) m given = λ other. absurd (was_read (take m whole) Unread (sym (given other)))
 not_read (Some (Err e)) m given = given

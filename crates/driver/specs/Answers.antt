@@ -1,5 +1,5 @@
 -- What a command answers to the text of a program, and why it fails.
-use Rattle.std.specs.Prelude.{ℕ, ℤ, ◌≡◌, ◌≢◌, List, [], Bool, false, codes, IsTrue}
+use Rattle.std.specs.Prelude.{ℕ, ℤ, ◌≡◌, ◌≢◌, ◌<◌, ◌⊎◌, List, [], Bool, false, codes, IsTrue}
 use Rattle.std.specs.Prelude.{Option, Some, None, Result, MatchResult}
 use Rattle.std.specs.Io.KnownBytes.{Appends, Keeps}
 use Rattle.std.specs.List.{flat_map}
@@ -15,7 +15,7 @@ use Rattle.types.specs.Outcome.{Outcome, outcome}
 use Rattle.types.specs.Resolution.{resolution}
 use Rattle.types.specs.Rules.{BreaksNoRule, errors_of}
 use Rattle.types.specs.Told.{Told}
-use Rattle.types.specs.TreeRuns.{Explored, NoSuchChoice, explored}
+use Rattle.types.specs.TreeRuns.{Explored, Open, NoSuchChoice}
 use Rattle.types.specs.Typed.{code_of}
 use Rattle.types.specs.declared.error.TypeError.{TypeError}
 use Rattle.parallel_relation.specs.Pairs.{AreListed}
@@ -24,7 +24,7 @@ use Rattle.race_checker.specs.Clash.{IsAccepted}
 use Rattle.race_checker.specs.Races.{IsLeastRace, Race as ProgramRace}
 use Rattle.driver.specs.Appending.{AppendsBeginning}
 use Rattle.workers.specs.declared.error.RunError.TheVariants.{OutOfMemory as NoMemoryInRun}
-use Rattle.driver.specs.Choices.{choices_in}
+use Rattle.driver.specs.Choosing.{ComesTo, TellsNoChoices}
 use Rattle.driver.specs.ExploredText.{explored_text, explored_status}
 use Rattle.driver.specs.Failures.{told_procedure, IsToldAs}
 use Rattle.driver.specs.Held.{Held, BeginsWith, TellsNoInput}
@@ -117,15 +117,14 @@ pub record IsExplored (s : Settings) (held : Held) (text : List ℕ) : Type 0 wh
 -- what its run comes to by the choices that are given
 pub record Explores (s : Settings) (held : Held) (text : List ℕ) (e : Explored) : Type 0 where
   pub run : IsExplored s held text
-  pub choices : List ℕ
-  pub given : choices_in s.choices ≡ Some choices
-  pub comes_to : e ≡ explored run.code run.input choices
+  pub by_choices : ComesTo s.choices held run.code run.input e
 
--- `explore`: the text of what the run by choices comes to
+-- `explore`: the text of what the run by choices comes to; where it is open, a leaf may step
 pub record AnswersExplore (s : Settings) (held : Held) (text told : List ℕ) (status : ℕ)
     : Type 0 where
   pub comes_to : Explored
   pub explores : Explores s held text comes_to
+  pub open_yet : (leaves : ℕ) → comes_to ≡ Open leaves → 0 < leaves
   pub told_is : explored_text explores.run.code.arrays s.arrays comes_to ≡ Some told
   pub status_is : status ≡ explored_status comes_to
 
@@ -194,17 +193,12 @@ pub record LacksInput (c : Command) (s : Settings) (held : Held) (text : List �
   pub is_run : IsRunBy c code
   pub why : TellsNoInput s.input held code.arrays f
 
--- why there are no choices, memory aside
-abbrev pub TellsNoChoices : (text : Option (List ℕ)) → Failure → Type 0
-TellsNoChoices text ChoicesNotUnderstood = choices_in text ≡ None
-TellsNoChoices text NoMemory = Unit {0}
-TellsNoChoices text _ = ⊥
-
--- the text's program is run by choices, but these aren't understood
-pub record LacksChoices (c : Command) (s : Settings) (held : Held) (text : List ℕ) : Type 0 where
+-- the text's program is run by choices, but there are none, as the failure says
+pub record LacksChoices (c : Command) (s : Settings) (held : Held) (text : List ℕ) (f : Failure)
+    : Type 0 where
   pub by_choices : c ≡ Explore
   pub run : IsExplored s held text
-  pub not_understood : choices_in s.choices ≡ None
+  pub why : TellsNoChoices s.choices held f
 
 -- the text's program is run by choices, and the one with this number is the first that names no leaf
 pub record LacksLeaf (c : Command) (s : Settings) (held : Held) (text : List ℕ) (n : ℕ)
@@ -214,7 +208,8 @@ pub record LacksLeaf (c : Command) (s : Settings) (held : Held) (text : List ℕ
 
 -- a failure is one of the text, for what was asked; only want of memory is free
 abbrev pub Explains : Command → Settings → Held → (text : List ℕ) → Failure → Type 0
-Explains c s held text (CannotRead name) = LacksInput c s held text (CannotRead name)
+Explains c s held text (CannotRead name) =
+    (LacksInput c s held text (CannotRead name)) ⊎ (LacksChoices c s held text (CannotRead name))
 Explains c s held text (NotUtf8 name) = LacksInput c s held text (NotUtf8 name)
 Explains c s held text (Syntax e) = TellsNoCode text (Syntax e)
 Explains c s held text (Types e) = TellsNoCode text (Types e)
@@ -223,7 +218,7 @@ Explains c s held text (Race procedure first second) =
 Explains c s held text NoMemoryInCheck = LooksForRaces c
 Explains c s held text (Input e) = LacksInput c s held text (Input e)
 Explains c s held text (RunFailed e) = (c ≡ Run) × (e ≡ NoMemoryInRun)
-Explains c s held text ChoicesNotUnderstood = LacksChoices c s held text
+Explains c s held text ChoicesNotUnderstood = LacksChoices c s held text ChoicesNotUnderstood
 Explains c s held text (NoLeaf n) = LacksLeaf c s held text n
 Explains c s held text CannotWriteOutput = Unit {0}
 Explains c s held text NoMemory = Unit {0}

@@ -1,6 +1,7 @@
--- What a list of choices says: numbers in decimal, joined by commas.
-use Rattle.std.specs.Prelude.{ℕ, ◌+◌, ◌-◌, ◌*◌, List, [], ◌∷◌, ◌++◌, ◌||◌, if◌then◌else◌, nat_eq, nat_lt}
-use Rattle.std.specs.Prelude.{Option, Some, None, option_map, unwrap_or}
+-- What a list of choices says: numbers in decimal, joined by commas, or, in a file, with commas or
+-- white space between them.
+use Rattle.std.specs.Prelude.{ℕ, ◌+◌, ◌-◌, ◌*◌, List, [], ◌∷◌, ◌++◌, length, Bool, ◌||◌, if◌then◌else◌}
+use Rattle.std.specs.Prelude.{nat_eq, nat_lt, Option, Some, None, option_map, unwrap_or}
 use Rattle.driver.specs.declared.choices.Reading.{Reading as rReading}
 
 -- what was read: the numbers before the last comma, and the one behind it, where it is begun
@@ -57,7 +58,34 @@ abbrev pub said_by : List ℕ → Option (List ℕ)
 said_by [] = Some []
 said_by (byte ∷ behind) = read_from nothing_read (byte ∷ behind)
 
--- the choices that are given: none without a text
-abbrev pub choices_in : Option (List ℕ) → Option (List ℕ)
-choices_in None = Some []
-choices_in (Some text) = said_by text
+-- ---- in a file
+
+-- a tab, an end of a line, a space or a comma
+abbrev pub separates : (byte : ℕ) → Bool
+separates byte =
+    nat_eq byte 9 || (nat_eq byte 10 || (nat_eq byte 13 || (nat_eq byte 32 || nat_eq byte 44)))
+
+-- the numbers before, and the one that is begun
+abbrev pub with_begun : (before : List ℕ) → (number : Option ℕ) → List ℕ
+with_begun before None = before
+with_begun before (Some n) = before ++ n ∷ []
+
+-- one byte more: what separates, or a digit
+abbrev pub with_byte_of_file : Reading → (byte : ℕ) → Option Reading
+with_byte_of_file r byte =
+    if separates byte then Some (behind_comma (with_begun r.before r.number))
+    else option_map (renumbered r) (with_digit r.number byte)
+
+-- the numbers that were read, with those of the bytes behind them
+abbrev pub read_of_file : Reading → List ℕ → Option (List ℕ)
+read_of_file r [] = Some (with_begun r.before r.number)
+read_of_file r (byte ∷ behind) = goes_on (λ s. read_of_file s behind) (with_byte_of_file r byte)
+
+-- the choices that the bytes of a file say, where they are so many at most
+abbrev pub filed_within : (most : ℕ) → List ℕ → Option (List ℕ)
+filed_within most bytes =
+    if nat_lt most (length bytes) then None else read_of_file nothing_read bytes
+
+-- the choices that the bytes of a file say
+abbrev pub filed_by : List ℕ → Option (List ℕ)
+filed_by bytes = filed_within 16777216 bytes

@@ -2,6 +2,7 @@ pub mod Acts
 pub mod Answers
 pub mod Appending
 pub mod Choices
+pub mod Choosing
 pub mod ExploredText
 pub mod FailureStatus
 pub mod Failures

@@ -20,6 +20,8 @@ texts_of t = record {
   steps = option_map (λ s. s.now) t.steps;
   nest = option_map (λ s. s.now) t.nest;
   choices = option_map (λ s. s.now) t.choices;
+  choices_from = option_map (λ s. s.now) t.choices_from;
+  random = option_map (λ s. s.now) t.random;
   arrays = t.arrays;
 }
 
@@ -31,7 +33,15 @@ abbrev pub bare : Command → (file : List ℕ) → Line
 bare command file = record {
   command = command;
   file = file;
-  texts = record { input = None; steps = None; nest = None; choices = None; arrays = false };
+  texts = record {
+    input = None;
+    steps = None;
+    nest = None;
+    choices = None;
+    choices_from = None;
+    random = None;
+    arrays = false;
+  };
 }
 
 -- the value behind an option that stands first, and the words behind both
@@ -58,6 +68,8 @@ read_texts words =
       steps = steps.0;
       nest = nest.0;
       choices = None;
+      choices_from = None;
+      random = None;
       arrays = arrays;
     } in t)
     (read_arrays nest.1)
@@ -67,14 +79,18 @@ abbrev pub read_choosing : List (List ℕ) → Option Texts
 read_choosing words =
     let input = taken (codes "--input") words in
     let choices = taken (codes "--choices") input.1 in
+    let choices_from = taken (codes "--choices-from") choices.1 in
+    let random = taken (codes "--random") choices_from.1 in
     option_map (λ arrays. let t : Texts = record {
       input = input.0;
       steps = None;
       nest = None;
       choices = choices.0;
+      choices_from = choices_from.0;
+      random = random.0;
       arrays = arrays;
     } in t)
-    (read_arrays choices.1)
+    (read_arrays random.1)
 
 -- the words behind a command that runs
 abbrev pub read_run : Command → (file : List ℕ) → (behind : List (List ℕ)) → Option Line

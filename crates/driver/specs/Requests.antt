@@ -1,20 +1,35 @@
 -- What the words of a command line ask.
-use Rattle.std.specs.Prelude.{ℕ, ◌≡◌, ◌≤◌, List, [], ◌∷◌, Bool, true, false, not, codes, Option, None, Some}
+use Rattle.std.specs.Prelude.{ℕ, ◌≡◌, ◌<◌, ◌≤◌, ◌^◌, List, [], ◌∷◌, Bool, true, false, not, codes, Option, None, Some}
 use Rattle.std.specs.Prelude.{nat_eq, IsTrue, IfSome, option_map, unwrap_or}
 use Rattle.std.specs.Fmt.{decimal}
 use Rattle.types.specs.Outcome.{Budget}
 use Rattle.types.specs.Translation.{budget as budget_of}
 use Rattle.driver.specs.declared.request.Command.{Command}
 use Rattle.driver.specs.declared.request.Command.TheVariants.{Run, Serial, Check, Listing, Pairs, Explore}
+use Rattle.driver.specs.declared.request.Choosing.{Choosing as rChoosing}
+use Rattle.driver.specs.declared.request.Choosing.TheVariants.{Listed as rListed, InFile as rInFile}
+use Rattle.driver.specs.declared.request.Choosing.TheVariants.{Random as rRandom}
 use Rattle.driver.specs.declared.request.Settings.{Settings as rSettings}
 use Rattle.driver.specs.declared.request.Request.{Request}
 
+-- how the leaves that step are chosen: by the text of a list, by a file of this name, or by a
+-- generator from this number on
+pub data Choosing : Type 0 where
+  Listed : (text : List ℕ) → Choosing
+  InFile : (name : List ℕ) → Choosing
+  Random : (seed : ℕ) → Choosing
+
+abbrev pub choosing : rChoosing → Choosing
+choosing (rListed text) = Listed text.now
+choosing (rInFile name) = InFile name.now
+choosing (rRandom seed) = Random seed
+
 -- how a program is to be run: the file of what its arrays hold at first, where one is named; its
--- budget; the text of its choices, where there is one; whether the arrays are shown
+-- budget; how its choices are given, where they are; whether the arrays are shown
 pub record Settings : Type 0 where
   pub input : Option (List ℕ)
   pub budget : Budget
-  pub choices : Option (List ℕ)
+  pub choices : Option Choosing
   pub arrays : Bool
 
 -- what is to be done with the program of a file
@@ -27,7 +42,7 @@ abbrev pub settings : rSettings → Settings
 settings s = record {
   input = option_map (λ name. name.now) s.input;
   budget = budget_of s.budget;
-  choices = option_map (λ text. text.now) s.choices;
+  choices = option_map choosing s.choices;
   arrays = s.arrays;
 }
 
@@ -56,14 +71,21 @@ pub record Options : Type 0 where
   pub input : Option (List ℕ)
   pub steps : Option ℕ
   pub nest : Option ℕ
-  pub choices : Option (List ℕ)
+  pub choices : Option Choosing
   pub arrays : Bool
+
+-- a file of choices has a file's name, and a seed is a number of 64 bits
+abbrev pub IsRightChoosing : Choosing → Type 0
+IsRightChoosing (Listed text) = Unit {0}
+IsRightChoosing (InFile name) = IsTrue (is_file_name name)
+IsRightChoosing (Random seed) = seed < 2 ^ 64
 
 -- an input file has a file's name, and numbers are in their ranges
 pub record AreRight (o : Options) : Type 0 where
   pub input : IfSome o.input (λ name. IsTrue (is_file_name name))
   pub steps : IfSome o.steps (λ n. (1 ≤ n) × (n ≤ 1000000000))
   pub nest : IfSome o.nest (λ n. n ≤ 1000)
+  pub choices : IfSome o.choices IsRightChoosing
 
 -- the texts that stand behind options
 pub record Texts : Type 0 where
@@ -71,7 +93,28 @@ pub record Texts : Type 0 where
   pub steps : Option (List ℕ)
   pub nest : Option (List ℕ)
   pub choices : Option (List ℕ)
+  pub choices_from : Option (List ℕ)
+  pub random : Option (List ℕ)
   pub arrays : Bool
+
+-- the list, the file or the seed by which is chosen
+abbrev pub list_of : Option Choosing → Option (List ℕ)
+list_of None = None
+list_of (Some (Listed text)) = Some text
+list_of (Some (InFile name)) = None
+list_of (Some (Random seed)) = None
+
+abbrev pub file_of : Option Choosing → Option (List ℕ)
+file_of None = None
+file_of (Some (Listed text)) = None
+file_of (Some (InFile name)) = Some name
+file_of (Some (Random seed)) = None
+
+abbrev pub seed_of : Option Choosing → Option ℕ
+seed_of None = None
+seed_of (Some (Listed text)) = None
+seed_of (Some (InFile name)) = None
+seed_of (Some (Random seed)) = Some seed
 
 -- numbers in decimal
 abbrev pub texts_by : Options → Texts
@@ -79,7 +122,9 @@ texts_by o = record {
   input = o.input;
   steps = option_map decimal o.steps;
   nest = option_map decimal o.nest;
-  choices = o.choices;
+  choices = list_of o.choices;
+  choices_from = file_of o.choices;
+  random = option_map decimal (seed_of o.choices);
   arrays = o.arrays;
 }
 
@@ -98,11 +143,13 @@ words_of t =
     valued (codes "--input") t.input (valued (codes "--steps") t.steps
     (valued (codes "--nest") t.nest (flagged (codes "--arrays") t.arrays)))
 
--- the words of options of a run by choices, in this order: `--input FILE --choices LIST --arrays`
+-- the words of options of a run by choices, in this order: `--input FILE`, one of `--choices LIST`,
+-- `--choices-from FILE` and `--random SEED`, and `--arrays`
 abbrev pub choosing_words_of : Texts → List (List ℕ)
 choosing_words_of t =
     valued (codes "--input") t.input
-    (valued (codes "--choices") t.choices (flagged (codes "--arrays") t.arrays))
+    (valued (codes "--choices") t.choices (valued (codes "--choices-from") t.choices_from
+    (valued (codes "--random") t.random (flagged (codes "--arrays") t.arrays))))
 
 -- a run by choices has no budget
 pub record HasNoBudget (o : Options) : Type 0 where

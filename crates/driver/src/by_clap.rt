@@ -1,6 +1,6 @@
 //! The words of a command line that `clap` reads.
 
-use crate::request::{Command, Request, Settings};
+use crate::request::{Choosing, Command, Request, Settings};
 use clap::error::ErrorKind;
 use clap::{Arg, ArgAction, ArgMatches, Error, value_parser};
 use std::alloc::{AllocError, Global};
@@ -34,10 +34,21 @@ fn request<'w>(
         settings: Settings {
             input: given.get_str("input"),
             budget: budget(alloc, given)?,
-            choices: given.get_str("choices"),
+            choices: choosing(given),
             arrays: given.get_flag("arrays"),
         },
     })
+}
+
+/// How is chosen; `clap` has seen that at most one option says it.
+fn choosing<'w>(given: &ArgMatches<'w>) -> Option<Choosing<'w>> {
+    if let Some(list) = given.get_str("choices") {
+        return Some(Choosing::Listed(list));
+    }
+    if let Some(file) = given.get_str("choices-from") {
+        return Some(Choosing::InFile(file));
+    }
+    given.get_one("random").map(|seed| Choosing::Random(seed))
 }
 
 /// The budget that is given; `clap` has seen that its numbers are in their ranges.
@@ -93,7 +104,9 @@ fn commands<'w>(alloc: Global) -> Result<clap::Command<'w>, AllocError> {
         .after_help(EXPLORE_EXAMPLE)
         .arg(file(alloc))?
         .arg(input(alloc))?
-        .arg(choices(alloc))?
+        .arg(choices(alloc)?)?
+        .arg(choices_from(alloc)?)?
+        .arg(random(alloc))?
         .arg(arrays(alloc))?;
     clap::Command::new(alloc, "afx")
         .bin_name("afx")?
@@ -173,11 +186,31 @@ fn nest<'w>(alloc: Global) -> Arg<'w> {
 }
 
 /// Which leaf steps, step by step.
-fn choices<'w>(alloc: Global) -> Arg<'w> {
+fn choices<'w>(alloc: Global) -> Result<Arg<'w>, AllocError> {
     Arg::new(alloc, "choices")
         .long("choices")
         .value_name("LIST")
         .help("Which part steps next, step by step: numbers joined by commas; without it none does")
+        .conflicts_with("choices-from")?
+        .conflicts_with("random")
+}
+
+/// The same in a file.
+fn choices_from<'w>(alloc: Global) -> Result<Arg<'w>, AllocError> {
+    Arg::new(alloc, "choices-from")
+        .long("choices-from")
+        .value_name("FILE")
+        .help("The same in a file: numbers with commas or white space between them")
+        .conflicts_with("random")
+}
+
+/// A generator that draws them.
+fn random<'w>(alloc: Global) -> Arg<'w> {
+    Arg::new(alloc, "random")
+        .long("random")
+        .value_name("SEED")
+        .help("Draws them by a generator from this number on, to the end or 1000000 of them")
+        .value_parser(value_parser!(u64))
 }
 
 /// Whether the arrays are shown.

@@ -1,22 +1,57 @@
-//! The choices of a command line.
+//! The choices of a command line, and of a file.
 
 ghost use Rattle.std.specs.Prelude.{◌≡◌, IfErr, IfOk, Some, option_map};
-ghost use Rattle.driver.specs.Answers.{TellsNoChoices};
-ghost use Rattle.driver.specs.Choices.{behind_comma, choices_in, nothing_read, numbers_of, read_from};
-ghost use Rattle.driver.specs.Choices.{reading_of, renumbered, said_by, with_byte, with_digit};
+ghost use Rattle.driver.specs.Choices.{behind_comma, filed_by, nothing_read, numbers_of, read_from};
+ghost use Rattle.driver.specs.Choices.{read_of_file, reading_of, renumbered, said_by};
+ghost use Rattle.driver.specs.Choices.{separates as may_separate, with_begun, with_byte, with_byte_of_file, with_digit};
+ghost use Rattle.driver.specs.Choosing.{SaysChoices, TellsNoChoices, TellsNone};
+ghost use Rattle.driver.specs.Requests.{InFile};
 
 use crate::failure::Failure;
+use crate::files::{FileError, FileSource};
 use std::alloc::{AllocError, Global};
 
-/// The choices that a text says: numbers in decimal, joined by commas; none where there is no text.
-pub fn choices_of(alloc: Global, text: Option<&str>) -> Result<Vec<u32>, Failure>
-    ensures read { IfOk result
-        (λ numbers. choices_in (option_map (λ t. t.now) text.entry) ≡ Some numbers.items) }
-    ensures why { IfErr result (TellsNoChoices (option_map (λ t. t.now) text.entry)) }
+/// The most bytes of a file of choices.
+const MOST_BYTES: usize = 16_777_216;
+
+/// The choices that the file of this name says. It is read no further than it can matter.
+#[tactic(auto, using(crate::proofs::ReadChoices::file_unread))]
+pub fn choices_in_file<F: FileSource>(
+    alloc: Global,
+    files: &mut F,
+    name: &str,
+) -> Result<Vec<u32>, Failure>
+    ensures says { IfOk result
+        (λ numbers. SaysChoices (F.held files.old) name.now (Some numbers.items)) }
+    ensures why { IfErr result (TellsNoChoices (Some (InFile name.now)) (F.held files.old)) }
 {
-    let Some(text) = text else {
-        return Ok(Vec::new(alloc));
-    };
+    match files.read_first(name, MOST_BYTES + 1) {
+        Ok(bytes) => choices_filed(alloc, &bytes),
+        Err(FileError::NoMemory) => Err(Failure::NoMemory),
+        Err(FileError::Failed) => Err(Failure::cannot_read(alloc, name)),
+    }
+}
+
+/// The choices that the bytes of a file say.
+fn choices_filed(alloc: Global, bytes: &[u8]) -> Result<Vec<u32>, Failure>
+    ensures says { IfOk result (λ numbers. filed_by bytes.now ≡ Some numbers.items) }
+    ensures why { IfErr result (TellsNone (filed_by bytes.now)) }
+{
+    if bytes.len() > MOST_BYTES {
+        return Err(Failure::ChoicesNotUnderstood);
+    }
+    match filed(alloc, bytes) {
+        Ok(Some(numbers)) => Ok(numbers),
+        Ok(None) => Err(Failure::ChoicesNotUnderstood),
+        Err(_) => Err(Failure::NoMemory),
+    }
+}
+
+/// The choices that a list says: numbers in decimal, joined by commas.
+pub fn choices_said(alloc: Global, text: &str) -> Result<Vec<u32>, Failure>
+    ensures says { IfOk result (λ numbers. said_by text.now ≡ Some numbers.items) }
+    ensures why { IfErr result (TellsNone (said_by text.now)) }
+{
     match said(alloc, text.as_bytes()) {
         Ok(Some(numbers)) => Ok(numbers),
         Ok(None) => Err(Failure::ChoicesNotUnderstood),
@@ -129,4 +164,62 @@ fn digit_behind(number: Option<u32>, byte: u8) -> Option<u32>
     } else {
         Some(value as u32)
     }
+}
+
+// ---- in a file
+
+/// The numbers of a file, with commas or white space between them.
+fn filed(alloc: Global, bytes: &[u8]) -> Result<Option<Vec<u32>>, AllocError>
+    ensures { IfOk result
+        (λ r. option_map (λ numbers. numbers.items) r ≡ read_of_file nothing_read bytes.now) }
+{
+    let mut reading = Reading {
+        before: Vec::new(alloc),
+        number: None,
+    };
+    let mut left = bytes;
+    'bytes: while let Some((byte, behind)) = left.split_first() {
+        let Some(next) = byte_of_file_read(reading, *byte)? else {
+            return Ok(None);
+        };
+        reading = next;
+        left = behind;
+    }
+    let numbers = all_begun(reading)?;
+    Ok(Some(numbers))
+}
+
+/// One byte of a file more.
+fn byte_of_file_read(reading: Reading, byte: u8) -> Result<Option<Reading>, AllocError>
+    ensures { IfOk result
+        (λ r. option_map reading_of r ≡ with_byte_of_file (reading_of reading) byte) }
+{
+    if separates(byte) {
+        let before = all_begun(reading)?;
+        Ok(Some(Reading {
+            before,
+            number: None,
+        }))
+    } else {
+        Ok(digit_read(reading, byte))
+    }
+}
+
+/// All numbers, the last one with them, where it is begun.
+fn all_begun(reading: Reading) -> Result<Vec<u32>, AllocError>
+    ensures { IfOk result
+        (λ numbers. numbers.items ≡ with_begun reading.before.items reading.number) }
+{
+    let Reading { mut before, number } = reading;
+    if let Some(number) = number {
+        before.push(number)?;
+    }
+    Ok(before)
+}
+
+/// Whether a byte may stand between two numbers of a file.
+fn separates(byte: u8) -> bool
+    ensures { result ≡ may_separate byte }
+{
+    byte == b'\t' || byte == b'\n' || byte == b'\r' || byte == b' ' || byte == b','
 }

@@ -8,10 +8,12 @@ ghost use Rattle.driver.specs.Reading.{bare as bare_line, line_of, read, read_al
 ghost use Rattle.driver.specs.Reading.{read_arrays, read_behind, read_check, read_choosing, read_explore};
 ghost use Rattle.driver.specs.Reading.{read_file, read_listing, read_run, read_texts, taken, texts_of};
 ghost use Rattle.driver.specs.Requests.{AreRight, Asked, Asks, Options, asked_of, is_file_name as names_file};
+ghost use Rattle.driver.specs.Requests.{Choosing as ChoosingOf, IsRightChoosing, file_of, list_of};
+ghost use Rattle.driver.specs.Requests.{choosing as choosing_of, seed_of};
 ghost use Rattle.driver.specs.Requests.{settings as settings_of, settings_by, texts_by};
 
 use crate::by_clap::request_by_clap;
-use crate::request::{Command, Request, Settings};
+use crate::request::{Choosing, Command, Request, Settings};
 use clap::Error;
 use std::alloc::Global;
 use types::budget::Budget;
@@ -51,6 +53,8 @@ pub struct Texts<'w> {
     pub steps: Option<&'w str>,
     pub nest: Option<&'w str>,
     pub choices: Option<&'w str>,
+    pub choices_from: Option<&'w str>,
+    pub random: Option<&'w str>,
     pub arrays: bool,
 }
 
@@ -63,12 +67,37 @@ fn settings_in<'w>(texts: Texts<'w>) -> Option<Settings<'w>>
     let steps = number_or(texts.steps, 1_000_000)?;
     let nest = number_or(texts.nest, 100)?;
     let budget = Budget::new(steps, nest)?;
+    let choices = choosing_in(texts.choices, texts.choices_from, texts.random)?;
     Some(Settings {
         input,
         budget,
-        choices: texts.choices,
+        choices,
         arrays: texts.arrays,
     })
+}
+
+/// How is chosen, where at most one of these texts says it.
+fn choosing_in<'w>(
+    list: Option<&'w str>,
+    file: Option<&'w str>,
+    seed: Option<&'w str>,
+) -> Option<Option<Choosing<'w>>>
+    ensures { (c : Option ChoosingOf) → IfSome c IsRightChoosing
+        → option_map (λ t. t.now) list.entry ≡ list_of c
+        → option_map (λ t. t.now) file.entry ≡ file_of c
+        → option_map (λ t. t.now) seed.entry ≡ option_map decimal (seed_of c)
+        → option_map (option_map choosing_of) result ≡ Some c }
+{
+    match (list, file, seed) {
+        (None, None, None) => Some(None),
+        (Some(list), None, None) => Some(Some(Choosing::Listed(list))),
+        (None, Some(file), None) if is_file_name(file) => Some(Some(Choosing::InFile(file))),
+        (None, None, Some(seed)) => match u64::from_str_radix(seed, 10) {
+            Ok(seed) => Some(Some(Choosing::Random(seed))),
+            Err(_) => None,
+        },
+        _ => None,
+    }
 }
 
 /// The name of a file, if it is one; or that none is named.
@@ -165,6 +194,8 @@ fn texts_in<'w>(words: &'w [String]) -> Option<Texts<'w>>
         steps,
         nest,
         choices: None,
+        choices_from: None,
+        random: None,
         arrays,
     })
 }
@@ -185,18 +216,23 @@ fn explore_line<'w>(file: &'w str, behind: &'w [String]) -> Option<Line<'w>>
     }
 }
 
-/// The texts behind options: `--input FILE --choices LIST --arrays`, each of which may be left out.
+/// The texts behind options: `--input FILE --choices LIST --choices-from FILE --random SEED --arrays`,
+/// each of which may be left out.
 fn choosing_texts_in<'w>(words: &'w [String]) -> Option<Texts<'w>>
     ensures { option_map texts_of result ≡ read_choosing (map string_bytes words.now) }
 {
     let (input, words) = take("--input", words);
     let (choices, words) = take("--choices", words);
+    let (choices_from, words) = take("--choices-from", words);
+    let (random, words) = take("--random", words);
     let arrays = arrays_in(words)?;
     Some(Texts {
         input,
         steps: None,
         nest: None,
         choices,
+        choices_from,
+        random,
         arrays,
     })
 }
@@ -296,6 +332,8 @@ fn bare<'w>(command: Command, file: &'w str) -> Line<'w>
             steps: None,
             nest: None,
             choices: None,
+            choices_from: None,
+            random: None,
             arrays: false,
         },
     }

@@ -17,8 +17,8 @@ ghost use Rattle.driver.specs.Labels.{pair_text};
 ghost use Rattle.driver.specs.OutcomeText.{outcome_text, status_of};
 ghost use Rattle.driver.specs.Requests.{Settings as SettingsOf, settings as settings_of};
 
-use crate::choices::choices_of;
 use crate::emit::{append, emit, emit_open, emit_pairs};
+use crate::exploring::explored_by;
 use crate::failure::Failure;
 use crate::files::FileSource;
 use crate::input_file::input_of;
@@ -32,7 +32,7 @@ use race_checker::check::Refused;
 use std::alloc::{AllocError, Global};
 use std::io::Write;
 use std::thread::Threads;
-use step_trees::explore::{Explored, explore};
+use step_trees::explore::Explored;
 use syntax::tree::Program;
 use types::check::type_check;
 use types::code::Array;
@@ -117,15 +117,14 @@ fn run_by_choices<R: Threads + Sync, F: FileSource, O: Write>(
 {
     let accepted = accepted_of(rt, alloc, text)?;
     let input = input_of(alloc, files, accepted.typed(), settings.input)?;
-    let choices = choices_of(alloc, settings.choices)?;
-    match explore(alloc, &accepted, &input, &choices) {
-        Ok(Explored::Ended(outcome)) => {
+    let explored = explored_by(alloc, files, &accepted, &input, settings.choices)?;
+    match explored {
+        Explored::Ended(outcome) => {
             let arrays = &accepted.typed().code().arrays;
             show(out, arrays, &outcome, settings.arrays)
         }
-        Ok(Explored::Open { leaves }) => show_open(out, leaves),
-        Ok(Explored::NoSuchChoice(choice)) => Err(Failure::NoLeaf(choice)),
-        Err(_) => Err(Failure::NoMemory),
+        Explored::Open { leaves } => show_open(out, leaves),
+        Explored::NoSuchChoice(choice) => Err(Failure::NoLeaf(choice)),
     }
 }
 

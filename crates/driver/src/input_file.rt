@@ -24,6 +24,7 @@ pub fn input_of<F: FileSource>(
     ensures fits { IfOk result (λ i. IsInput (code_of typed.now).arrays (lists_of i)) }
     ensures why { let named = option_map (λ n. n.now) name.entry in IfErr result
         (TellsNoInput named (F.held files.old) (code_of typed.now).arrays) }
+    ensures keeps { F.held files.new ≡ F.held files.old }
 {
     match name {
         Some(name) => input_in(alloc, files, typed, name),
@@ -43,6 +44,7 @@ fn input_in<F: FileSource>(
     ensures fits { IfOk result (λ i. IsInput (code_of typed.now).arrays (lists_of i)) }
     ensures why { IfErr result
         (TellsNoInput (Some name.now) (F.held files.old) (code_of typed.now).arrays) }
+    ensures keeps { F.held files.new ≡ F.held files.old }
 {
     let bytes = read_file(alloc, files, name)?;
     let Ok(text) = std::str::from_utf8(&bytes) else {

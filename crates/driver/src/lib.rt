@@ -8,6 +8,7 @@ pub mod choices;
 pub mod command_line;
 pub mod commands;
 pub mod emit;
+pub mod exploring;
 pub mod failure;
 pub mod files;
 pub mod input_file;

@@ -22,6 +22,17 @@ pub enum Command {
     Explore,
 }
 
+/// How the leaves that step are chosen.
+#[derive(Clone, Copy, PartialEq, Eq, Debug)]
+pub enum Choosing<'w> {
+    /// `--choices LIST`: their numbers, joined by commas.
+    Listed(&'w str),
+    /// `--choices-from FILE`: the same in a file, with commas or white space between them.
+    InFile(&'w str),
+    /// `--random SEED`: a generator draws them, from this number on.
+    Random(u64),
+}
+
 /// How a program is to be run.
 #[derive(Clone, Copy, PartialEq, Eq, Debug)]
 pub struct Settings<'w> {
@@ -29,8 +40,8 @@ pub struct Settings<'w> {
     pub input: Option<&'w str>,
     /// `--steps N` and `--nest N`
     pub budget: Budget,
-    /// `--choices LIST`: the numbers of the leaves that step, joined by commas. Without it none does.
-    pub choices: Option<&'w str>,
+    /// `--choices LIST`, `--choices-from FILE` or `--random SEED`. Without any of them none steps.
+    pub choices: Option<Choosing<'w>>,
     /// `--arrays`: the arrays are shown behind the outcome.
     pub arrays: bool,
 }

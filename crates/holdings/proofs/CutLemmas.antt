@@ -1,16 +1,16 @@
 -- Fragments cut at windows.
-use Rattle.std.proofs.Common.{◌≡◌, ℕ, zero, suc, ◌+◌, ◌-◌, ◌<◌, ◌≤◌, min, max, List, [], ◌∷◌, ◌++◌, length, get_or, take, map}
+use Rattle.std.proofs.Common.{◌≡◌, ℕ, zero, suc, ◌+◌, ◌-◌, ◌<◌, ◌≤◌, min, List, [], ◌∷◌, ◌++◌, length, get_or, take, map}
 use Rattle.std.proofs.Common.{Option, Some, None, Bool, true, false, refl, sym, ap, ◌∙◌, arith, rules, subst}
 use Rattle.std.proofs.lemmas.Bool.{eqb-true, eqb-false, leb-true, ltb-true, and_parts}
 use Rattle.std.proofs.lemmas.List.{take_more}
-use Rattle.std.specs.List.{list_any, list_all}
-use Rattle.std.specs.Prelude.{ℤ, ◌&&◌, ◌||◌, nat_eq, nat_le, nat_lt, slice_get, slice_range, if◌then◌else◌, ◌⊎◌}
+use Rattle.std.specs.List.{list_all}
+use Rattle.std.specs.Prelude.{ℤ, ◌&&◌, ◌||◌, nat_eq, nat_le, nat_lt, slice_range, if◌then◌else◌, ◌⊎◌}
 use Rattle.std.proofs.Common.{inl, inr}
 use Rattle.sections.specs.Place.{Place, Window}
 use Rattle.sections.specs.Covers.{is_in, has, is_cover, ends_before}
 use Rattle.sections.specs.Translation.{window as window_of}
 use Rattle.sections.specs.declared.window.Window.{Window as rWindow}
-use Rattle.holdings.specs.Fragments.{row_at, numbers_of, numbers_in, reach}
+use Rattle.holdings.specs.Fragments.{row_at, numbers_of, reach}
 use Rattle.holdings.specs.Held.{Map, first_of, only, over, AreApart}
 use Rattle.holdings.specs.declared.fragment.Fragment.{Fragment}
 use Rattle.holdings.proofs.FragmentLemmas.{first_of-none}

@@ -1,51 +1,51 @@
 -- Fragments of which no two have a place together.
-use Rattle.std.proofs.Common.{◌≡◌, ℕ, zero, suc, ◌+◌, ◌-◌, ◌<◌, ◌≤◌, min, max, List, [], ◌∷◌, ◌++◌, length, get_or, take, set, map}
-use Rattle.std.proofs.Common.{Option, Some, None, Bool, true, false, refl, sym, ap, ◌∙◌, arith, rules, subst}
-use Rattle.std.proofs.lemmas.Bool.{eqb-true, eq-eqb, ltb-true, lt-ltb, leb-true, le-leb, and_parts}
+use Rattle.std.proofs.Common.{◌≡◌, ℕ, zero, suc, ◌+◌, ◌-◌, ◌<◌, min, max, List, [], ◌∷◌, ◌++◌, length, get_or, take, set, map}
+use Rattle.std.proofs.Common.{Option, Some, None, Bool, true, false, refl, sym, ap, ◌∙◌, arith}
+use Rattle.std.proofs.lemmas.Bool.{eqb-true, eq-eqb, ltb-true, lt-ltb, and_parts}
 use Rattle.std.proofs.lemmas.List.{take_more}
 use Rattle.std.proofs.lemmas.List.Elements.{filter-append}
-use Rattle.std.specs.Prelude.{ℤ, ◌&&◌, ◌||◌, not, nat_eq, nat_le, nat_lt, slice_get, slice_set, MatchOption, IfSome, is_some, is_none, cond, if◌then◌else◌}
-use Rattle.std.specs.List.{filter, list_any}
+use Rattle.std.specs.Prelude.{ℤ, ◌&&◌, ◌||◌, not, nat_eq, nat_lt, MatchOption, IfSome, is_some, is_none, cond, if◌then◌else◌}
+use Rattle.std.specs.List.{filter}
 use Rattle.sections.specs.Covers.{is_in, has}
 use Rattle.sections.specs.Place.{Place, Window, In}
 use Rattle.sections.specs.Translation.{window as window_of}
 use Rattle.sections.specs.declared.window.Window.{Window as rWindow}
 use Rattle.sections.proofs.Covering.{in_window, is_in-from}
-use Rattle.holdings.specs.Fragments.{row_at, numbers_of, numbers_in, one_at_most, AreDisjoint, IsAt, IsFirst, places, meets, meets_any}
-use Rattle.holdings.specs.Held.{Map, first_of, over, only, without, AreApart, IsFree, IsRun, IsThere}
+use Rattle.holdings.specs.Fragments.{numbers_of, numbers_in, one_at_most, AreDisjoint, IsAt, IsFirst, places, meets, meets_any}
+use Rattle.holdings.specs.Held.{Map, first_of, over, only, without, AreApart, IsFree, IsRun}
 use Rattle.holdings.specs.declared.fragment.Fragment.{Fragment}
 use Rattle.holdings.proofs.CutLemmas.{has-behind}
 use Rattle.holdings.proofs.FragmentLemmas.{append_at, first_none, first_of-none, held_in_list, get_within, numbers_of-at}
 use Rattle.holdings.proofs.FragmentLemmas.{IsFirst-from_IsAt, place_of_fragment, numbers_in-take_more, numbers_in-append}
-use Rattle.holdings.proofs.RowLemmas.{row_at-here, row_at-some}
+use Rattle.holdings.proofs.RowLemmas.{row_at-here}
 
 none_is_some : {A : Type 0} {x : A} → None ≡ Some x → ⊥
 none_is_some e = cc
 
 -- what isn't something is nothing
-none_from : (o : Option ℤ) → ((o ≡ None → ⊥) → ⊥) → o ≡ None
+pub none_from : (o : Option ℤ) → ((o ≡ None → ⊥) → ⊥) → o ≡ None
 none_from None h = refl
 none_from (Some v) h = absurd (h (λ e. none_is_some (sym e)))
 
 -- ---- at one place
 
-once_parts : (a b : Option ℤ) (r : Bool) → ((is_none a || is_none b) && r) ≡ true → ((a ≡ None → ⊥) → b ≡ None) × (r ≡ true)
+pub once_parts : (a b : Option ℤ) (r : Bool) → ((is_none a || is_none b) && r) ≡ true → ((a ≡ None → ⊥) → b ≡ None) × (r ≡ true)
 once_parts None b true e = (λ some. absurd (some refl), refl)
 once_parts None b false e = cc
 once_parts (Some x) None true e = (λ some. refl, refl)
 once_parts (Some x) None false e = cc
 once_parts (Some x) (Some y) r e = cc
 
-once_from : (a b : Option ℤ) (r : Bool) → ((a ≡ None → ⊥) → b ≡ None) → r ≡ true → ((is_none a || is_none b) && r) ≡ true
+pub once_from : (a b : Option ℤ) (r : Bool) → ((a ≡ None → ⊥) → b ≡ None) → r ≡ true → ((is_none a || is_none b) && r) ≡ true
 once_from None b r h e = e
 once_from (Some x) None r h e = e
 once_from (Some x) (Some y) r h e = absurd (none_is_some (sym (h (λ k. none_is_some (sym k)))))
 
-both_none : (a b : Option ℤ) → a ≡ None → b ≡ None → first_of a b ≡ None
+pub both_none : (a b : Option ℤ) → a ≡ None → b ≡ None → first_of a b ≡ None
 both_none a b x y = ap (λ o. first_of o b) x ∙ y
 
 -- one of two that exclude each other
-first_if_none : (a b : Option ℤ) → ((a ≡ None → ⊥) → b ≡ None) → (b ≡ None → ⊥) → a ≡ None
+pub first_if_none : (a b : Option ℤ) → ((a ≡ None → ⊥) → b ≡ None) → (b ≡ None → ⊥) → a ≡ None
 first_if_none None b h some = refl
 first_if_none (Some x) b h some = absurd (some (h (λ e. none_is_some (sym e))))
 
@@ -75,7 +75,7 @@ AreDisjoint-pushed xs f h apart =
     (λ q. once_from (numbers_of f q) None true (λ some. refl) refl)
     (λ q some. apart q (λ none. some (both_none (numbers_of f q) None none refl)))
 
-first_before : (fs : List Fragment) (n : ℕ) (f : Fragment) (q : Place) → one_at_most fs q ≡ true → n < length fs → f ≡ get_or fs n f
+pub first_before : (fs : List Fragment) (n : ℕ) (f : Fragment) (q : Place) → one_at_most fs q ≡ true → n < length fs → f ≡ get_or fs n f
     → (numbers_of f q ≡ None → ⊥) → numbers_in (take n fs) q ≡ None
 first_before [] n f q h lt is some = absurd (omega (arith, lt))
 first_before (g ∷ gs) zero f q h lt is some = refl

@@ -1,17 +1,16 @@
 -- Lists of fragments.
 use Rattle.std.proofs.Common.{◌≡◌, ℕ, zero, suc, ◌+◌, ◌-◌, ◌<◌, ◌≤◌, List, [], ◌∷◌, ◌++◌, length, get_or, take, set}
-use Rattle.std.proofs.Common.{Option, Some, None, Bool, true, false, refl, sym, ap, ◌∙◌, arith, rules, subst}
+use Rattle.std.proofs.Common.{Option, Some, None, Bool, true, false, refl, sym, ap, ◌∙◌, arith, subst}
 use Rattle.std.proofs.lemmas.Bool.{eqb-true, eqb-false, leb-true}
 use Rattle.std.proofs.lemmas.List.{take_more}
-use Rattle.std.proofs.lemmas.Option.{slice_get_past}
 use Rattle.std.specs.Prelude.{ℤ, ◌&&◌, nat_eq, nat_le, slice_get, slice_set, if◌then◌else◌, is_some}
 use Rattle.sections.specs.Place.{Place, same_place}
 use Rattle.holdings.specs.Fragments.{row_at, numbers_of, numbers_in, IsAt, IsFirst}
 use Rattle.holdings.specs.Held.{Map, first_of, over, put, AreApart}
 use Rattle.holdings.specs.declared.fragment.Fragment.{Fragment}
-use Rattle.holdings.proofs.RowLemmas.{row_at-here, row_at-elsewhere, row_at-before, row_at-behind, row_at-some}
+use Rattle.holdings.proofs.RowLemmas.{row_at-here, row_at-elsewhere, row_at-some}
 
-first_of-assoc : (a b c : Option ℤ) → first_of a (first_of b c) ≡ first_of (first_of a b) c
+pub first_of-assoc : (a b c : Option ℤ) → first_of a (first_of b c) ≡ first_of (first_of a b) c
 first_of-assoc (Some x) b c = refl
 first_of-assoc None b c = refl
 
@@ -210,16 +209,16 @@ pub place_of_fragment : (f : Fragment) (q : Place) → (numbers_of f q ≡ None 
     → (q.array ≡ f.array.number) × (f.first ≤ q.index) × (q.index < f.first + length f.numbers.items)
 place_of_fragment f q some = row_at-some f.array.number f.first f.numbers.items q some
 
-both_none : (x y z : Option ℤ) → ((x ≡ None → ⊥) → z ≡ None) → ((y ≡ None → ⊥) → z ≡ None) → (first_of x y ≡ None → ⊥) → z ≡ None
-both_none (Some v) y z h k some = h (λ e. cc)
-both_none None y z h k some = k some
+pub none_of_both : (x y z : Option ℤ) → ((x ≡ None → ⊥) → z ≡ None) → ((y ≡ None → ⊥) → z ≡ None) → (first_of x y ≡ None → ⊥) → z ≡ None
+none_of_both (Some v) y z h k some = h (λ e. cc)
+none_of_both None y z h k some = k some
 
 pub AreApart-take_more : (fs : List Fragment) (i : ℕ) (f : Fragment) (m : Map ℤ) → i < length fs → f ≡ get_or fs i f
     → AreApart (numbers_in (take i fs)) m → AreApart (numbers_of f) m → AreApart (numbers_in (take (i + 1) fs)) m
 AreApart-take_more fs i f m lt is so_far here =
     let P : Map ℤ → Type 0 = λ n. AreApart n m in
     subst P (sym (numbers_in-take_more fs i f lt is))
-    (λ q. both_none (numbers_in (take i fs) q) (numbers_of f q) (m q) (so_far q) (here q))
+    (λ q. none_of_both (numbers_in (take i fs) q) (numbers_of f q) (m q) (so_far q) (here q))
 
 -- what a fragment of a list holds, the list holds
 pub held_in_list : (fs : List Fragment) (i : ℕ) (f : Fragment) (q : Place) → i < length fs → f ≡ get_or fs i f

@@ -3,14 +3,13 @@ use Rattle.std.proofs.Common.{◌≡◌, ℕ, zero, suc, ◌<◌, ◌≤◌, Lis
 use Rattle.std.proofs.Common.{Option, Some, None, Bool, true, false, refl, sym, ap, ◌∙◌, arith, subst}
 use Rattle.std.specs.Prelude.{ℤ, Result, Ok, Err, OnOk, OnErr, IfSome, IsTrue, is_some, is_ok, if◌then◌else◌, option_map}
 use Rattle.sections.specs.Place.{Place, same_place}
-use Rattle.types.specs.Code.{Array}
-use Rattle.types.specs.Inputs.{IsInput, also}
+use Rattle.types.specs.Contents.{FitsArrays, also}
 use Rattle.types.specs.Translation.{array as array_of}
 use Rattle.types.specs.declared.code.Array.{Array as rArray}
 use Rattle.holdings.specs.Fragments.{numbers_in, AreDisjoint}
-use Rattle.holdings.specs.Held.{Map, Held, Owned, Shared, first_of, over, only, without, put, as_owned, held_by, AreApart, IsThere}
+use Rattle.holdings.specs.Held.{Map, Owned, Shared, first_of, over, only, without, put, as_owned, held_by, AreApart, IsThere}
 use Rattle.holdings.specs.declared.fragment.Fragment.{Fragment}
-use Rattle.holdings.proofs.FragmentLemmas.{first_none, numbers_in-append, same_place-true}
+use Rattle.holdings.proofs.FragmentLemmas.{numbers_in-append, same_place-true}
 
 some_is_none : {A : Type 0} {x : A} → Some x ≡ None → ⊥
 some_is_none e = cc
@@ -132,14 +131,13 @@ written_apart false p v fs new copies found put same apart q some = apart q (λ 
 -- ---- rows of an input
 
 pub short_row : (xs : List rArray) (vs : List (Vec ℤ Global)) (i : ℕ) (v : Vec ℤ Global)
-    → IsInput (map array_of xs) (map (λ v. v.items) vs) → i < length vs → v ≡ get_or vs i v → length v.items ≤ 4194304
+    → FitsArrays (map array_of xs) (map (λ v. v.items) vs) → i < length vs → v ≡ get_or vs i v → length v.items ≤ 4194304
 short_row xs [] i v h lt is = absurd (omega (arith, lt))
 short_row [] (w ∷ ws) i v h lt is = elim h [ ]
-short_row (x ∷ xs) (w ∷ ws) zero v (also row rest) lt is =
-    let long : length w.items ≡ x.length = row.long in
+short_row (x ∷ xs) (w ∷ ws) zero v (also long rest) lt is =
     let P : Vec ℤ Global → Type 0 = λ u. length u.items ≤ 4194304 in
     subst P (sym is) (omega (arith, long, x.within))
-short_row (x ∷ xs) (w ∷ ws) (suc i) v (also row rest) lt is = short_row xs ws i v rest (omega (arith, lt)) is
+short_row (x ∷ xs) (w ∷ ws) (suc i) v (also long rest) lt is = short_row xs ws i v rest (omega (arith, lt)) is
 
 pub if_some_is : {A : Type 0} (o m : Option A) → o ≡ m → IfSome o (λ v. m ≡ Some v)
 if_some_is (Some v) m e = sym e

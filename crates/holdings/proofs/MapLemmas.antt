@@ -1,9 +1,9 @@
 -- Maps of held places.
-use Rattle.std.proofs.Common.{◌≡◌, ℕ, ◌+◌, ◌<◌, ◌≤◌, List, [], ◌∷◌, ◌++◌, Option, Some, None, Bool, true, false, refl, sym, ap, ◌∙◌}
-use Rattle.std.specs.Prelude.{ℤ, ◌||◌, option_map, ok_or, is_some, if◌then◌else◌, map, Result, Ok, Err}
-use Rattle.sections.specs.Place.{Place, Window, same_place}
-use Rattle.holdings.specs.Held.{Map, Held, Owned, Shared, first_of, only, without, over, put, IsThere, AreApart}
-use Rattle.holdings.specs.Held.{number_of, numbers, owned_number, owned, as_owned, as_shared, held_by}
+use Rattle.std.proofs.Common.{◌≡◌, Option, Some, None, Bool, true, false, refl, sym, ap}
+use Rattle.std.specs.Prelude.{ℤ, option_map, if◌then◌else◌}
+use Rattle.sections.specs.Place.{Place, same_place}
+use Rattle.holdings.specs.Held.{Map, Owned, Shared, first_of, only, over, put, IsThere}
+use Rattle.holdings.specs.Held.{number_of, numbers, owned_number, owned, as_shared, held_by}
 
 -- ---- at one place
 

@@ -1,13 +1,11 @@
 -- Rows of numbers, their parts, and lists of fragments.
-use Rattle.std.proofs.Common.{◌≡◌, ℕ, zero, suc, ◌+◌, ◌-◌, ◌<◌, ◌≤◌, min, max, List, [], ◌∷◌, ◌++◌, length, get_or, take, drop}
-use Rattle.std.proofs.Common.{Option, Some, None, Bool, true, false, refl, sym, ap, ◌∙◌, arith, rules, subst}
+use Rattle.std.proofs.Common.{◌≡◌, ℕ, zero, suc, ◌+◌, ◌-◌, ◌<◌, ◌≤◌, List, [], ◌∷◌, length, take, drop}
+use Rattle.std.proofs.Common.{Option, Some, None, Bool, true, false, refl, sym, ap, ◌∙◌, arith, rules}
 use Rattle.std.proofs.lemmas.Bool.{eqb-true, eqb-false, leb-true, ltb-true}
 use Rattle.std.proofs.lemmas.Option.{slice_get_past}
-use Rattle.std.specs.Prelude.{ℤ, ◌&&◌, ◌||◌, not, nat_eq, nat_le, nat_lt, slice_get, slice_range, slice_set, if◌then◌else◌}
-use Rattle.sections.specs.Place.{Place, Window, same_place}
-use Rattle.holdings.specs.Fragments.{row_at, numbers_of, numbers_in, IsAt, reach}
-use Rattle.holdings.specs.Held.{Map, first_of}
-use Rattle.holdings.specs.declared.fragment.Fragment.{Fragment}
+use Rattle.std.specs.Prelude.{ℤ, ◌&&◌, nat_eq, nat_le, nat_lt, slice_get, slice_range, if◌then◌else◌}
+use Rattle.sections.specs.Place.{Place}
+use Rattle.holdings.specs.Fragments.{row_at}
 
 none_is_some : {A : Type 0} {x : A} → None ≡ Some x → ⊥
 none_is_some e = cc

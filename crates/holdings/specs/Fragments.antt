@@ -1,6 +1,6 @@
 -- The numbers that fragments hold, and which fragments stand apart.
 use Rattle.std.specs.Prelude.{ℕ, ◌+◌, ◌-◌, ◌<◌, ◌≡◌, length, min, max, List, [], ◌∷◌, Bool, true}
-use Rattle.std.specs.Prelude.{◌&&◌, ◌||◌, nat_eq, nat_le, nat_lt, ℤ, Option, None, is_none}
+use Rattle.std.specs.Prelude.{◌&&◌, ◌||◌, nat_eq, nat_le, nat_lt, ℤ, pos, None, is_none, unwrap_or}
 use Rattle.std.specs.Prelude.{slice_get, take, get_or, if◌then◌else◌}
 use Rattle.std.specs.List.{list_any}
 use Rattle.sections.specs.Place.{Place, Window}
@@ -62,3 +62,20 @@ pub record IsFirst (fs : List Fragment) (q : Place) (number i : ℕ) : Type 0 wh
   pub inside : number < length fs
   pub none : numbers_in (take number fs) q ≡ None
   pub at : (f : Fragment) → f ≡ get_or fs number f → IsAt f q i
+
+-- the first numbers of an array in one list, where a map has them; all others as in another list
+abbrev pub IsLaidOver : Map ℤ → (array : ℕ) → (old new : List ℤ) → Type 0
+IsLaidOver m array old new = (k : ℕ) → k < length old → get_or new k (pos 0)
+    ≡ unwrap_or (m (record { array = array; index = k })) (get_or old k (pos 0))
+
+-- another fragment begins where one ends
+pub record EndsBefore (f g : Fragment) : Type 0 where
+  pub array : f.array.number ≡ g.array.number
+  pub end : f.first + length f.numbers.items ≡ g.first
+
+-- of some fragments, that of the second number begins where that of the first one ends
+pub record Adjoins (fs : List Fragment) (number behind : ℕ) : Type 0 where
+  pub inside : number < length fs
+  pub inside_too : behind < length fs
+  pub apart : behind ≡ number → ⊥
+  pub at : (f g : Fragment) → f ≡ get_or fs number f → g ≡ get_or fs behind g → EndsBefore f g

@@ -15,8 +15,9 @@ pub struct Fragment {
 }
 
 impl Fragment {
-    ghost use Rattle.std.specs.Prelude.{◌≡◌, MatchOption, None, map, slice_get};
-    ghost use Rattle.holdings.specs.Fragments.{numbers_of, IsAt, places, reach};
+    ghost use Rattle.std.specs.Prelude.{◌≡◌, ◌↔◌, IsTrue, MatchOption, None, map, slice_get};
+    ghost use Rattle.holdings.specs.Fragments.{EndsBefore, IsAt, IsLaidOver, numbers_of, places};
+    ghost use Rattle.holdings.specs.Fragments.{reach};
     ghost use Rattle.holdings.specs.Fragments.{meets as meets_as, meets_any as meets_any_as};
     ghost use Rattle.sections.specs.Translation.{place as place_of, window as window_of};
 
@@ -47,6 +48,23 @@ impl Fragment {
         ensures { result ≡ self.now.first + length self.now.numbers.items }
     {
         self.first + self.numbers.len()
+    }
+
+    /// Whether another begins where it ends.
+    pub fn ends_before(&self, other: &Fragment) -> bool
+        ensures { IsTrue result ↔ EndsBefore self.now other.now }
+    {
+        self.array.number == other.array.number && self.end() == other.first
+    }
+
+    /// Copies the numbers to their places in a list of the first numbers of the array.
+    pub fn copy_to(&self, numbers: &mut [i64])
+        ensures { IsLaidOver (numbers_of self.now) self.now.array.number numbers.old numbers.new }
+    {
+        let end = self.end().min(numbers.len());
+        if self.first < end {
+            numbers[self.first..end].copy_from_slice(&self.numbers.as_slice()[..end - self.first]);
+        }
     }
 
     /// The places of the fragment.

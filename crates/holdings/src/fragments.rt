@@ -2,13 +2,15 @@
 
 ghost use Rattle.std.specs.Prelude.{◌≡◌, IfSome, IsTrue, MatchOption, None, OnErr, OnOk, Some};
 ghost use Rattle.std.specs.Prelude.{[], false};
-ghost use Rattle.std.specs.Prelude.{◌+◌, ◌≤◌, IsOk, is_some};
+ghost use Rattle.std.specs.Prelude.{◌+◌, ◌<◌, ◌≤◌, IfOk, IsOk, is_some, length};
 ghost use Rattle.std.specs.Vec.{vec_capacity, vec_len};
 ghost use Rattle.sections.specs.Translation.{place as place_of};
-ghost use Rattle.holdings.specs.Fragments.{AreDisjoint, IsFirst, numbers_in, numbers_of};
+ghost use Rattle.holdings.specs.Fragments.{Adjoins, AreDisjoint, IsFirst, IsLaidOver};
+ghost use Rattle.holdings.specs.Fragments.{numbers_in, numbers_of};
 ghost use Rattle.holdings.specs.Held.{AreApart, IsRun, over, put};
 
 use crate::fragment::Fragment;
+use sections::id::ArrayId;
 use sections::window::Place;
 use std::alloc::{AllocError, Global};
 use std::cell::Cell;
@@ -122,6 +124,101 @@ impl Fragments {
         match self.find(place) {
             None => None,
             Some((number, _)) => Some(self.list[number].end()),
+        }
+    }
+
+    /// Joins those from a number on with the neighbours that they have, where memory is there.
+    pub fn join_from(&mut self, kept: usize)
+        ensures { numbers_in self.new.list.items ≡ numbers_in self.old.list.items }
+    {
+        let mut number = self.list.len();
+        // Later ones go first: what is taken out then stands behind those that are left to join.
+        while number > kept {
+            number -= 1;
+            if number < self.list.len() && self.join(number).is_err() {
+                return;
+            }
+        }
+    }
+
+    /// Joins a fragment with the one before it, and then with those behind it.
+    fn join(&mut self, number: usize) -> Result<(), AllocError>
+        requires { number < length self.old.list.items }
+        ensures { numbers_in self.new.list.items ≡ numbers_in self.old.list.items }
+    {
+        let mut joined = match self.left_of(number) {
+            Some(before) => self.attach(before, number)?,
+            None => number,
+        };
+        'joins: while let Some(behind) = self.right_of(joined) {
+            joined = self.attach(joined, behind)?;
+        }
+        Ok(())
+    }
+
+    /// A fragment that begins where one ends, by its number. One that is more than twice as long
+    /// isn't named: so a number moves seldom, however many fragments come.
+    fn right_of(&self, number: usize) -> Option<usize>
+        requires { number < length self.now.list.items }
+        ensures { IfSome result (Adjoins self.now.list.items number) }
+    {
+        let fragment = &self.list[number];
+        for (behind, other) in self.list.iter().enumerate() {
+            if behind != number
+                && fragment.ends_before(other)
+                && other.numbers.len() / 2 <= fragment.numbers.len()
+            {
+                return Some(behind);
+            }
+        }
+        None
+    }
+
+    /// A fragment that ends where one begins, by its number, where that one isn't more than twice as
+    /// long.
+    fn left_of(&self, number: usize) -> Option<usize>
+        requires { number < length self.now.list.items }
+        ensures { IfSome result (λ before. Adjoins self.now.list.items before number) }
+    {
+        let fragment = &self.list[number];
+        for (before, other) in self.list.iter().enumerate() {
+            if before != number
+                && other.ends_before(fragment)
+                && fragment.numbers.len() / 2 <= other.numbers.len()
+            {
+                return Some(before);
+            }
+        }
+        None
+    }
+
+    /// Puts the numbers of a fragment behind those of the one that ends where it begins. The number
+    /// of that one then.
+    fn attach(&mut self, number: usize, behind: usize) -> Result<usize, AllocError>
+        requires { Adjoins self.old.list.items number behind }
+        ensures same { numbers_in self.new.list.items ≡ numbers_in self.old.list.items }
+        ensures inside { IfOk result (λ joined. joined < length self.new.list.items) }
+        ensures fewer { OnOk result (length self.new.list.items < length self.old.list.items) }
+    {
+        let more = self.list[behind].numbers.len();
+        // Room comes first: where it is missing nothing has changed, and the rest needs none.
+        let fragment = &mut self.list[number];
+        fragment.numbers.reserve(more)?;
+        let mut taken = self.list.remove(behind);
+        let joined = if behind < number { number - 1 } else { number };
+        let fragment = &mut self.list[joined];
+        fragment.numbers.append(&mut taken.numbers)?;
+        Ok(joined)
+    }
+
+    /// Copies the numbers of an array to their places in a list of its first numbers.
+    pub fn copy_to(&self, array: ArrayId, numbers: &mut [i64])
+        ensures { IsLaidOver (numbers_in self.now.list.items) array.number numbers.old numbers.new }
+    {
+        for fragment in &self.list {
+            if fragment.array.number == array.number {
+                fragment.copy_to(numbers);
+            }
         }
     }
 

@@ -35,13 +35,13 @@ impl Holdings {
     ghost use Rattle.holdings.specs.Held.{over, owned, put, without};
     ghost use Rattle.holdings.specs.Holdings.{held, listed};
     ghost use Rattle.holdings.specs.Errors.{RefusesPlaces, RefusesOwned};
-    ghost use Rattle.types.specs.Inputs.{IsInput};
+    ghost use Rattle.types.specs.Contents.{FitsArrays, row as row_of};
     ghost use Rattle.types.specs.Translation.{input as lists_in};
     ghost use Rattle.types.specs.Typed.{code_of};
 
-    /// All places of the arrays, owned, with the numbers of an input that fits the program.
+    /// All places of the arrays, owned, with the numbers of lists that fit them.
     pub fn of_input(alloc: Global, _typed: &Typed, input: &Input) -> Result<Holdings, AllocError>
-        requires { IsInput (code_of _typed.now).arrays (lists_in input.now) }
+        requires { FitsArrays (code_of _typed.now).arrays (lists_in input.now) }
         ensures { IfOk result (λ h. held h ≡ as_owned (listed (lists_in input.now))) }
     {
         let mut owned = Fragments::new(alloc);
@@ -91,6 +91,17 @@ impl Holdings {
             Some(number) => Some(number),
             None => self.shared.number_at(place),
         }
+    }
+
+    /// The first numbers of an array, 0 where nothing is held.
+    pub fn row(&self, alloc: Global, array: ArrayId, length: usize) -> Result<Vec<i64>, AllocError>
+        ensures { IfOk result (λ v. v.items
+            ≡ row_of (numbers (held self.now)) array.number 0 length) }
+    {
+        let mut row = vec![in alloc; 0; length]?;
+        self.shared.copy_to(array, &mut row);
+        self.owned.copy_to(array, &mut row);
+        Ok(row)
     }
 
     /// Writes the number at an owned place.
@@ -164,8 +175,12 @@ impl Holdings {
         if !are_apart(&other.owned, &self.owned) {
             return Err((HoldError::OwnedTwice, other));
         }
+        let kept = self.owned.list.len();
         match self.take(alloc, &mut other.owned) {
-            Ok(()) => Ok(()),
+            Ok(()) => {
+                self.owned.join_from(kept);
+                Ok(())
+            }
             Err(_) => Err((HoldError::OutOfMemory, other)),
         }
     }

@@ -43,7 +43,7 @@ pub record DoesOne (acts : List Action) : Type 0 where
   pub moves : IsMove action
   pub is : acts ≡ action ∷ []
 
-abbrev DoesLittle : List Action → Type 0
+abbrev pub DoesLittle : List Action → Type 0
 DoesLittle acts = (acts ≡ []) ⊎ DoesOne acts
 
 one_does : (a : Action) → IsMove a → DoesLittle (a ∷ [])
@@ -72,7 +72,7 @@ module _ (needs : Codes → Needs) where
   done_at_little nest Faulted c st = inl refl
   done_at_little nest Stopped c st = inl refl
 
-  done_in_little : (nest : ℕ) (f : Frame Own) (st : State Own) → DoesLittle (done_in needs nest f st)
+  pub done_in_little : (nest : ℕ) (f : Frame Own) (st : State Own) → DoesLittle (done_in needs nest f st)
   done_in_little nest (Rest End) st = inl refl
   done_in_little nest (Rest (Then l s rest)) st = done_at_little nest st.flow s st
   done_in_little nest (Again l t b) st = done_at_little nest st.flow (While t b) st

@@ -1,6 +1,9 @@
+pub mod Courses
 pub mod Events
 pub mod History
+pub mod Jobs
 pub mod Replay
+pub mod Shown
 pub mod Weights
 pub mod World
 pub mod Worlds

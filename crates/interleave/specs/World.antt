@@ -131,6 +131,24 @@ abbrev pub held : ScopeId → List Live → ℕ
 held id [] = 0
 held id (t ∷ ts) = weight_in id t.stakes + held id ts
 
+-- in the innermost of some scopes
+abbrev pub first_weight : List Stake → Option ℕ
+first_weight [] = None
+first_weight (s ∷ outer) = Some s.weight
+
+-- whether a scope that is there has passed
+abbrev pub is_passed : Option Scope → Bool
+is_passed None = false
+is_passed (Some s) = s.passed
+
 -- what a scope has issued and what came back
 abbrev pub book : ScopeId → World → Option (ℕ × ℕ)
 book id world = and_then (scope id world.scopes) (λ s. Some (s.issued, s.returned))
+
+-- whether a scope has passed
+abbrev pub has_passed : ScopeId → World → Bool
+has_passed id world = is_passed (scope id world.scopes)
+
+-- what a live task weighs in its innermost scope
+abbrev pub weight_of : List ℕ → World → Option ℕ
+weight_of path world = and_then (task path world.live) (λ t. first_weight t.stakes)

@@ -29,6 +29,7 @@ pub mod Simulation
 pub mod Stacks
 pub mod StartsWorth
 pub mod StaysStopped
+pub mod StepsInPlace
 pub mod Stopping
 pub mod TaskRuns
 pub mod TaskTurns

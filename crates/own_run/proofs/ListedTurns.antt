@@ -16,11 +16,11 @@ use Rattle.own_run.specs.OwnRun.{Child, Action, Step, Spawn, EnterFinish, Own, n
 use Rattle.own_run.specs.Frames.{Frame, Rest, Again, AtEnd, Back, Standing, by_value, chosen, paid, by_flow, turn}
 use Rattle.own_run.specs.Frames.{done_by, done_at, done_in}
 use Rattle.own_run.specs.Stops.{is_over, is_next_over, stops}
-use Rattle.own_run.specs.RunTurns.{DoneAs}
+use Rattle.own_run.specs.RunTurns.{BeginsAs, DoneAs}
 use Rattle.own_run.specs.Translation.{start}
 use Rattle.own_run.specs.Worth.{Lists, around, lists, inside, ListsChild, ListsAs}
 use Rattle.own_run.specs.declared.start.Start.{Start as rStart}
-use Rattle.own_run.specs.declared.turn.Done.TheVariants.{Gone, Spawned, Entered, Exceeded}
+use Rattle.own_run.specs.declared.turn.Done.TheVariants.{Gone, Entered, Exceeded}
 
 abbrev listing : List Child → List (List Child) → Lists
 listing cs css = record { inner = cs; outer = css }
@@ -158,7 +158,7 @@ module _ (p : Program) (needs : Codes → Needs) (close : State Own → Option S
         by_step (inr e) = does (Step ∷ []) e
 
     -- it began a task
-    pub spawned_lists : (s : rStart) → DoneAs (done_in needs nest f st) (stops nest f st) (Spawned s) → ListsChild (start s) before behind
+    pub spawned_lists : (s : rStart) → BeginsAs (done_in needs nest f st) (stops nest f st) s → ListsChild (start s) before behind
     spawned_lists s h = does (Spawn (start s) ∷ []) h.1
 
     -- it entered a finish

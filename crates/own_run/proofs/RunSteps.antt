@@ -1,6 +1,5 @@
 -- What statements whose step was taken make of a run.
 use Rattle.std.proofs.Common.{◌≡◌, ◌≢◌, ℕ, zero, suc, ◌+◌, ◌-◌, List, [], ◌∷◌, ◌++◌, Ok, Err, refl, sym, ap, ◌∙◌, subst, inr, arith}
-use Rattle.std.proofs.Common.{Global, Vec}
 use Rattle.std.specs.Prelude.{ℤ, Bool, true, false, Option}
 use Rattle.sections.specs.Place.{Place}
 use Rattle.types.specs.declared.fault.FaultKind.{FaultKind}
@@ -12,12 +11,12 @@ use Rattle.effects.specs.Needs.{Needs}
 use Rattle.serial_run.specs.declared.thread.Flow.TheVariants.{On as rOn}
 use Rattle.serial_run.specs.declared.thread.Thread.{Thread}
 use Rattle.serial_run.specs.Standing.{KeepsTask, flow as flow_of}
-use Rattle.own_run.specs.Frames.{Frame, Standing, by_flow, by_value, acted, done_at, done_by, done_in, paid, turn}
+use Rattle.own_run.specs.Frames.{Frame, Standing, by_flow, by_value, acted, done_at, done_by, paid}
 use Rattle.own_run.specs.OwnRun.{Own, Action, EnterFinish, Spawn, Step, begin_own, child_of, list_child, notes, own_rules}
 use Rattle.own_run.specs.Results.{Settled}
-use Rattle.own_run.specs.RunTurns.{Acts, CanAct, DidAct, DidTurn, DoneAs, Going_on, Turns}
+use Rattle.own_run.specs.RunTurns.{Acts, CanAct, DidAct, DidNext, DoneAs, Going_on, Turns}
 use Rattle.own_run.specs.Standings.{IsAt, Shows, ShowsFrame, Stacked, state_of, with_own}
-use Rattle.own_run.specs.Stops.{is_next_over, is_over, stops}
+use Rattle.own_run.specs.Stops.{is_next_over, is_over}
 use Rattle.own_run.specs.Translation.{owned_by}
 use Rattle.own_run.specs.declared.frame.Frame.{Frame as rFrame}
 use Rattle.own_run.specs.declared.memory.TaskMemory.{TaskMemory}
@@ -247,22 +246,17 @@ over_more nest zero m c e = absurd (omega (arith, e))
 over_more nest (suc n) m c e = refl
 
 module _ (needs : Codes → Needs) (old : Run) (m : ℕ) (on : old.thread.flow ≡ rOn) (less : m + 1 ≡ old.thread.steps)
-    (l : ℕ) (c : Code) (hs : Vec rFrame Global) (d : Done) (new : Run) where
-  -- a step less is left, and these frames
+    (l : ℕ) (c : Code) (d : Done) (new : Run) where
+  -- a step less is left
   abbrev pub paid_run : Run
-  paid_run = record old { thread = record old.thread { steps = m }; frames = hs }
+  paid_run = record old { thread = record old.thread { steps = m } }
 
   is_on : flow_of old.thread.flow ≡ On
   is_on = ap flow_of on
 
-  pub stepped : (f : Frame Own) (above : List (Frame Own) → List (Frame Own))
-      → ((r : Rules Own) (fs : List (Frame Own)) (st : State Own)
-      → turn (program old.plan.program.now) r f fs st ≡ by_flow (program old.plan.program.now) r st.flow l c (above fs) fs st)
-      → ((st : State Own) → done_in needs old.thread.nest f st ≡ done_at needs old.thread.nest st.flow c st)
-      → ((st : State Own) → stops old.thread.nest f st ≡ is_next_over old.thread.nest st.flow st.steps c)
-      → ((fs : List (Frame Own)) → Stacked old.frames.items fs → Stacked hs.items (above fs))
-      → DidAct needs l c paid_run d new → DidTurn needs f old d new
-  stepped f above is_turn is_done is_over_here stacked did = λ close.
+  -- a statement whose step is taken here is done next
+  pub stepped : (rest : List (Frame Own) → List (Frame Own)) → DidAct needs l c paid_run d new → DidNext needs rest l c old d new
+  stepped rest did = λ close.
       let p = program old.plan.program.now in
       let r = own_rules needs old.thread.nest close in
       let act = did close in
@@ -273,10 +267,9 @@ module _ (needs : Codes → Needs) (old : Run) (m : ℕ) (on : old.thread.flow �
           stands = λ fs x shows.
               let st = with_own x (state_of old.thread) in
               subst (IsAt new)
-              (sym (is_turn r fs st ∙ ap (λ (g : Flow). by_flow p r g l c (above fs) fs st) is_on
-              ∙ paid_step p r l c (above fs) old.thread.steps m st less))
-              (act.turns.stands (above fs) x (record {
-                frames = stacked fs shows.frames;
+              (sym (ap (λ (g : Flow). by_flow p r g l c fs (rest fs) st) is_on ∙ paid_step p r l c fs old.thread.steps m st less))
+              (act.turns.stands fs x (record {
+                frames = shows.frames;
                 owned = shows.owned;
                 pending = shows.pending;
                 few = omega (arith, shows.few, less);
@@ -284,19 +277,19 @@ module _ (needs : Codes → Needs) (old : Run) (m : ℕ) (on : old.thread.flow �
         };
         noted = λ x.
             let st = with_own x (state_of old.thread) in
-            let same_done = is_done st ∙ ap (λ (g : Flow). done_at needs old.thread.nest g c st) is_on
+            let same_done = ap (λ (g : Flow). done_at needs old.thread.nest g c st) is_on
             ∙ done_more needs old.thread.nest old.thread.steps m c st less in
-            let same_over = is_over_here st ∙ ap (λ (g : Flow). is_next_over old.thread.nest g st.steps c) is_on
+            let same_over = ap (λ (g : Flow). is_next_over old.thread.nest g st.steps c) is_on
             ∙ over_more old.thread.nest old.thread.steps m c less in
-            subst (λ (o : Bool). DoneAs (done_in needs old.thread.nest f st) o d) (sym same_over)
+            subst (λ (o : Bool). DoneAs (done_at needs old.thread.nest st.flow c st) o d) (sym same_over)
             (subst (λ (a : List Action). DoneAs a (is_over old.thread.nest 1 c) d) (sym same_done) (act.noted x));
       }
 
 -- ---- what a statement needs is there once its step was taken
 
-module _ (needs : Codes → Needs) (IsAsync : ℕ → Codes → Type 0) (old : Run) (m : ℕ) (hs : Vec rFrame Global) (l : ℕ) where
+module _ (needs : Codes → Needs) (IsAsync : ℕ → Codes → Type 0) (old : Run) (m : ℕ) (l : ℕ) where
   can_store_on : (s : Primitive) → CanAct needs IsAsync l (Do s) old
-      → CanAct needs IsAsync l (Do s) (record old { thread = record old.thread { steps = m }; frames = hs })
+      → CanAct needs IsAsync l (Do s) (record old { thread = record old.thread { steps = m } })
   can_store_on Skip h = h
   can_store_on (Assign y e) h = h
   can_store_on (Store s i e) h = h
@@ -304,7 +297,7 @@ module _ (needs : Codes → Needs) (IsAsync : ℕ → Codes → Type 0) (old : R
   can_store_on (Raise e) h = h
 
   pub can_on : (c : Code) → CanAct needs IsAsync l c old
-      → CanAct needs IsAsync l c (record old { thread = record old.thread { steps = m }; frames = hs })
+      → CanAct needs IsAsync l c (record old { thread = record old.thread { steps = m } })
   can_on (Do s) h = can_store_on s h
   can_on (If t b c) h = h
   can_on (While t b) h = h

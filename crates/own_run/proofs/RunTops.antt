@@ -1,8 +1,10 @@
 -- The top frame of a run, and what its statement may touch.
-use Rattle.std.proofs.Common.{◌≡◌, ℕ, suc, List, [], ◌∷◌, ◌++◌, length, Ok, Err, refl, sym, ap, ◌∙◌, subst, arith}
-use Rattle.std.proofs.Common.{Global, Vec}
-use Rattle.std.proofs.lemmas.List.{length-append}
-use Rattle.std.specs.Prelude.{ℤ, Bool, true, false}
+use Rattle.std.proofs.Common.{◌≡◌, ℕ, zero, suc, ◌+◌, List, [], ◌∷◌, ◌++◌, length, Ok, Err, refl, sym, ap, ◌∙◌, subst, arith}
+use Rattle.std.proofs.Common.{Global, Vec, take}
+use Rattle.std.proofs.Math.Nat.{ℕ_set}
+use Rattle.std.proofs.lemmas.List.{length-append, set-get_or}
+use Rattle.std.specs.Prelude.{ℤ, Bool, true, false, slice_index_or, slice_set}
+use Rattle.std.specs.Vec.{with_item}
 use Rattle.sections.specs.Member.{first}
 use Rattle.sections.specs.Place.{Place, In}
 use Rattle.types.specs.Code.{Code, Codes, Then, Number, Program, Primitive, Skip, Assign, Store, Print, Raise, Do, If, While, Split, Call, Async, Finish}
@@ -59,6 +61,43 @@ none_stacked gs [] e stacked = refl
 none_stacked gs (f ∷ fs) e stacked =
     let long : length (stacked.0 ++ stacked.1 ∷ []) ≡ 0 = ap length (sym stacked.2 ∙ e) in
     absurd (omega (arith, long, length-append stacked.0 (stacked.1 ∷ [])))
+
+-- ---- a list by its last
+
+-- it ends in what stands last
+pub ends_in_last : {A : Type 0} (xs : List A) (x : A) (n : ℕ) → n + 1 ≡ length xs → x ≡ slice_index_or xs n x → xs ≡ take n xs ++ x ∷ []
+ends_in_last [] x n count is = absurd (omega (arith, count))
+ends_in_last (y ∷ []) x zero count is = ap (λ z. z ∷ []) (sym is)
+ends_in_last (y ∷ z ∷ ys) x zero count is = absurd (omega (arith, count))
+ends_in_last (y ∷ ys) x (suc n) count is = ap (λ l. y ∷ l) (ends_in_last ys x n (omega (arith, count)) is)
+
+-- another one stands there
+pub ends_in_set : {A : Type 0} (xs : List A) (x : A) (n : ℕ) → n + 1 ≡ length xs → slice_set xs n x ≡ take n xs ++ x ∷ []
+ends_in_set [] x n count = absurd (omega (arith, count))
+ends_in_set (y ∷ []) x zero count = refl
+ends_in_set (y ∷ z ∷ ys) x zero count = absurd (omega (arith, count))
+ends_in_set (y ∷ ys) x (suc n) count = ap (λ l. y ∷ l) (ends_in_set ys x n (omega (arith, count)))
+
+-- a vector is told by its elements
+vec_of_items : {A : Type 0} (v : Vec A Global) (xs : List A) → v.items ≡ xs → (ok : v.len ≡ length xs)
+    → (record { ptr = v.ptr; len = v.len; cap = v.cap; alloc = v.alloc; items = xs; ok = (ok, v.ok.1); small = v.small }) ≡ v
+vec_of_items {A} v xs e =
+    subst (λ (xs : List A). (ok : v.len ≡ length xs)
+    → (record { ptr = v.ptr; len = v.len; cap = v.cap; alloc = v.alloc; items = xs; ok = (ok, v.ok.1); small = v.small }) ≡ v)
+    e
+    (λ ok t. record {
+      ptr = v.ptr;
+      len = v.len;
+      cap = v.cap;
+      alloc = v.alloc;
+      items = v.items;
+      ok = (ℕ_set v.len (length v.items) ok v.ok.0 t, v.ok.1);
+      small = v.small;
+    })
+
+-- an element put where it stands changes nothing
+pub with_own_item : {A : Type 0} (v : Vec A Global) (n : ℕ) (x : A) → x ≡ slice_index_or v.items n x → with_item v n x ≡ v
+with_own_item v n x is = vec_of_items v (slice_set v.items n x) (sym (ap (slice_set v.items n) is ∙ set-get_or v.items n x)) _
 
 -- ---- what a statement may touch
 

@@ -1,5 +1,6 @@
 -- What a turn of a run in Rust is: the turn of the task that it stands for.
-use Rattle.std.specs.Prelude.{ℕ, ◌≡◌, ◌+◌, ◌<◌, ◌≤◌, ◌⊎◌, ⊤, List, [], ◌∷◌, Option, ◌||◌, Bool, true, false}
+use Rattle.std.specs.Prelude.{ℕ, ◌≡◌, ◌+◌, ◌<◌, ◌≤◌, ◌⊎◌, ⊤, List, [], ◌∷◌, ◌++◌, Option, ◌||◌, Bool, true}
+use Rattle.std.specs.Prelude.{false}
 use Rattle.sections.specs.Place.{Place}
 use Rattle.types.specs.Code.{Code, Do, If, While, Split, Call, Async, Finish, Codes, Then}
 use Rattle.types.specs.Contents.{IsThere}
@@ -12,17 +13,23 @@ use Rattle.own_run.specs.Places.{written, touched}
 use Rattle.own_run.specs.Results.{Settled}
 use Rattle.own_run.specs.OwnRun.{Own, Action, Step, Spawn, EnterFinish, own_rules, result_of}
 use Rattle.own_run.specs.OwnRun.{back_from}
-use Rattle.own_run.specs.Frames.{Frame, Rest, Again, AtEnd, Back, Standing, acted, turn, done_by}
-use Rattle.own_run.specs.Frames.{done_in}
+use Rattle.own_run.specs.Frames.{Frame, Rest, Again, AtEnd, Back, Standing, acted, by_flow, turn, done_by}
+use Rattle.own_run.specs.Frames.{done_at, done_in}
 use Rattle.own_run.specs.Reached.{HasNext}
 use Rattle.own_run.specs.Standings.{Shows, IsAt, IsEnd, Stacked, state_of, with_own}
-use Rattle.own_run.specs.Stops.{is_over, stops}
+use Rattle.own_run.specs.Stops.{is_over, is_next_over, stops}
 use Rattle.own_run.specs.Translation.{contents_of, owned_by, task_result, start}
+use Rattle.own_run.specs.declared.frame.Frame.{Frame as rFrame}
+use Rattle.own_run.specs.declared.frame.Frame.TheVariants.{EndFinish as rEndFinish}
+use Rattle.own_run.specs.declared.frame.Outer.{Outer}
 use Rattle.own_run.specs.declared.result.Settled.{Settled as rSettled}
 use Rattle.own_run.specs.declared.run.Run.{Run}
+use Rattle.own_run.specs.declared.start.Start.{Start as rStart}
 use Rattle.own_run.specs.declared.turn.Done.{Done}
 use Rattle.own_run.specs.declared.turn.Done.TheVariants.{Gone, Spawned, Entered, Exceeded}
 use Rattle.own_run.specs.declared.turn.Paused.{Paused}
+use Rattle.own_run.specs.declared.turn.Step.{Step as rStep}
+use Rattle.own_run.specs.declared.turn.Step.TheVariants.{Did as rDid, AtEnd as rAtEnd}
 use Rattle.own_run.specs.declared.turn.Turn.{Turn}
 use Rattle.own_run.specs.declared.turn.Turn.TheVariants.{Going, Spawns, EntersFinish, EndsFinish}
 use Rattle.own_run.specs.declared.turn.Turn.TheVariants.{Ended, Over}
@@ -38,10 +45,14 @@ pub record Turns (go : Going_on) (old new : Run) : Type 0 where
   pub stands : (fs : List (Frame Own)) (x : Own) → Shows old fs x
       → IsAt new (go fs (with_own x (state_of old.thread)))
 
+-- this task was begun
+abbrev pub BeginsAs : List Action → (over : Bool) → rStart → Type 0
+BeginsAs actions over s = (over ≡ false) × (actions ≡ Spawn (start s) ∷ [])
+
 -- these actions were done; `over` where that went over the budget
 abbrev pub DoneAs : List Action → (over : Bool) → Done → Type 0
 DoneAs actions over Gone = (over ≡ false) × ((actions ≡ []) ⊎ (actions ≡ Step ∷ []))
-DoneAs actions over (Spawned s) = (over ≡ false) × (actions ≡ Spawn (start s) ∷ [])
+DoneAs actions over (Spawned s) = BeginsAs actions over s.value
 DoneAs actions over Entered = (over ≡ false) × (actions ≡ EnterFinish ∷ [])
 DoneAs actions over Exceeded = over ≡ true
 
@@ -93,13 +104,28 @@ module _ (needs : Codes → Needs) where
       Did (λ fs st. acted (program old.plan.program.now) r l c fs (counted r c st))
       (done_by needs old.thread.nest 1 c) (λ st. is_over old.thread.nest 1 c) old done new
 
-  -- a turn of a frame that was taken off
-  abbrev pub DidTurn : Frame Own → (old : Run) → Done → (new : Run) → Type 0
-  DidTurn f old done new =
+  -- the same before its step is taken; where the flow is off, what of the frames is left then
+  abbrev pub DidNext : (List (Frame Own) → List (Frame Own)) → (label : ℕ) → Code → (old : Run) → Done
+      → (new : Run) → Type 0
+  DidNext rest l c old done new =
       (close : State Own → Option Settled) →
       let r = own_rules needs old.thread.nest close in
-      Did (turn (program old.plan.program.now) r f)
-      (done_in needs old.thread.nest f) (stops old.thread.nest f) old done new
+      Did (λ fs st. by_flow (program old.plan.program.now) r st.flow l c fs (rest fs) st)
+      (λ st. done_at needs old.thread.nest st.flow c st)
+      (λ st. is_next_over old.thread.nest st.flow st.steps c) old done new
+
+-- the frames below the top one
+abbrev pub below_top : List (Frame Own) → List (Frame Own)
+below_top [] = []
+below_top (f ∷ fs) = fs
+
+-- the top frame is taken off; at the end of a call its environment comes back
+abbrev pub taken_off : Going_on
+taken_off [] st = record { frames = []; state = st }
+taken_off (Rest b ∷ fs) st = record { frames = fs; state = st }
+taken_off (Again l t b ∷ fs) st = record { frames = fs; state = st }
+taken_off (AtEnd before ∷ fs) st = record { frames = fs; state = st }
+taken_off (Back env ∷ fs) st = record { frames = fs; state = record st { environment = env } }
 
 -- a run waits at the end of a finish, above these frames
 pub record Waits (q : Paused) (fs : List (Frame Own)) (before st : State Own) : Type 0 where
@@ -125,7 +151,7 @@ pub record GoesTo (old : Run) (next : Standing Own) (new : Run) : Type 0 where
 -- where a turn goes on: so it stands then, with these actions done
 abbrev pub GoesAs : (old : Run) → (next : Standing Own) → List Action → (over : Bool) → Turn → Type 0
 GoesAs old next actions over (Going r) = GoesTo old next r × DoneAs actions over Gone
-GoesAs old next actions over (Spawns r s) = GoesTo old next r × DoneAs actions over (Spawned s)
+GoesAs old next actions over (Spawns r s) = GoesTo old next r × BeginsAs actions over s
 GoesAs old next actions over (EntersFinish r) = GoesTo old next r × DoneAs actions over Entered
 GoesAs old next actions over (Over r) = GoesTo old next r × DoneAs actions over Exceeded
 GoesAs old next actions over (EndsFinish q r) = ⊥
@@ -163,6 +189,25 @@ abbrev pub IsTurn : (Codes → Needs) → Run → Turn → Type 0
 IsTurn needs old turn =
     (close : State Own → Option Settled) (fs : List (Frame Own)) (x : Own) → Shows old fs x
     → TurnOf needs close old fs (with_own x (state_of old.thread)) turn
+
+-- the turn of a run that did this
+abbrev pub turn_of : Run → Done → Turn
+turn_of r Gone = Going r
+turn_of r (Spawned s) = Spawns r s.value
+turn_of r Entered = EntersFinish r
+turn_of r Exceeded = Over r
+
+-- no frame is left, or the top one is the end of a finish
+abbrev pub IsAtEnd : Run → Type 0
+IsAtEnd r =
+    (r.frames.items ≡ [])
+    ⊎ ((below : List rFrame) × (o : Outer) × (r.frames.items ≡ below ++ rEndFinish o ∷ []))
+
+-- a turn in place: where it goes on, that is its turn; at the end of a finish, or at its own, the
+-- run stays as it is
+abbrev pub IsStep : (Codes → Needs) → (old : Run) → rStep → (new : Run) → Type 0
+IsStep needs old (rDid done) new = IsTurn needs old (turn_of new done)
+IsStep needs old rAtEnd new = (new ≡ old) × IsAtEnd old
 
 -- the first statement of a block, where it is an async, is known
 abbrev pub KnowsFirst : (IsAsync : ℕ → Codes → Type 0) → List (Frame Own) → Type 0

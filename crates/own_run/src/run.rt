@@ -14,10 +14,10 @@ ghost use Rattle.effects.specs.Needs.{Needs};
 ghost use Rattle.holdings.specs.declared.error.HoldError.TheVariants.{OutOfMemory};
 ghost use Rattle.serial_run.specs.Standing.{flow as flow_of};
 ghost use Rattle.own_run.specs.Apart.{is_stopped as stops_all};
-ghost use Rattle.own_run.specs.Frames.{Frame as Left, Rest, Again, Standing, handed};
-ghost use Rattle.own_run.specs.OwnRun.{Action, Own, result_of};
+ghost use Rattle.own_run.specs.Frames.{Frame as Left, handed};
+ghost use Rattle.own_run.specs.OwnRun.{Own, result_of};
 ghost use Rattle.own_run.specs.Reached.{begun};
-ghost use Rattle.own_run.specs.RunTurns.{ComesBack, DoneAs, GoesAs, GoesTo, Waits, WaitsAs};
+ghost use Rattle.own_run.specs.RunTurns.{ComesBack, Waits, WaitsAs, turn_of};
 ghost use Rattle.own_run.specs.Standings.{IsAt, IsEnd, Shows, state_of, with_own};
 ghost use Rattle.own_run.specs.Translation.{contents_of, owned_by, settled as settled_of};
 ghost use Rattle.own_run.specs.Translation.{start as start_of, task_result};
@@ -28,7 +28,7 @@ use crate::memory::TaskMemory;
 use crate::needed::Needed;
 use crate::result::{Listed, Settled, TaskResult};
 use crate::start::Start;
-use crate::turn::{Done, Paused, Turn};
+use crate::turn::{Done, Paused, Step, Turn};
 use holdings::error::HoldError;
 use holdings::holdings::Holdings;
 use sections::id::SectionId;
@@ -53,8 +53,9 @@ pub struct Run<'p> {
 }
 
 impl<'p> Run<'p> {
-    ghost use Rattle.own_run.specs.RunTurns.{Acts, CanAct, CanTurn, DidAct, DidTurn, GoesOn};
-    ghost use Rattle.own_run.specs.RunTurns.{GoesUpTo, HasRoom, IsTurn};
+    ghost use Rattle.own_run.specs.RunTurns.{Acts, CanAct, CanTurn, DidAct, DidNext, GoesOn};
+    ghost use Rattle.own_run.specs.RunTurns.{GoesUpTo, HasRoom, IsAtEnd, IsStep, IsTurn, Turns};
+    ghost use Rattle.own_run.specs.RunTurns.{below_top, taken_off};
     ghost use Rattle.own_run.specs.declared.run.Run.{Run as AnyRun};
 
     /// A task at its beginning.
@@ -96,9 +97,12 @@ impl<'p> Run<'p> {
     {
         let mut run = self;
         'turns: loop {
-            match run.advance(needed)? {
-                Turn::Going(next) => run = next,
-                turn => return Ok(turn),
+            match run.step(needed)? {
+                Step::Did(done) => match done {
+                    Done::Gone => {}
+                    done => return Ok(turned(run, done)),
+                },
+                Step::AtEnd => return Ok(run.end()?),
             }
         }
     }
@@ -110,52 +114,61 @@ impl<'p> Run<'p> {
         ensures refused { IfErr result (λ e. e ≡ OutOfMemory) }
     {
         let mut run = self;
-        match run.frames.pop() {
-            None => Ok(Turn::Ended(run.result())),
-            Some(frame) => match frame {
+        match run.step(needed)? {
+            Step::Did(done) => Ok(turned(run, done)),
+            Step::AtEnd => Ok(run.end()?),
+        }
+    }
+
+    /// One turn in place. At the end of a finish, or at its own, the run is left as it is.
+    pub fn step<N: Needed>(&mut self, needed: &N) -> Result<Step<'p>, HoldError>
+        requires { CanTurn (N.needs needed.now) (N.IsAsync needed.now) self.old }
+        ensures step { IfOk result (λ s. IsStep (N.needs needed.entry.now) self.old s self.new) }
+        ensures refused { IfErr result (λ e. e ≡ OutOfMemory) }
+    {
+        match self.frames.last_mut() {
+            None => Ok(Step::AtEnd),
+            Some(top) => match top {
                 Frame::Rest(block) => match block.split_first() {
-                    None => Ok(Turn::Going(run)),
+                    None => {
+                        self.take_off()?;
+                        Ok(Step::Did(Done::Gone))
+                    }
                     Some((stmt, rest)) => {
-                        let done = run.first(needed, stmt, rest)?;
-                        Ok(turned(run, done))
+                        *block = rest;
+                        let done = self.first(needed, stmt)?;
+                        Ok(Step::Did(done))
                     }
                 },
                 Frame::Again { label, guard, body } => {
-                    let done = run.again(label, guard, body)?;
-                    Ok(turned(run, done))
+                    let (label, guard, body) = (*label, *guard, *body);
+                    self.frames.pop();
+                    let done = self.again(label, guard, body)?;
+                    Ok(Step::Did(done))
                 }
-                Frame::EndFinish(outer) => {
-                    let (paused, result) = run.pause(outer)?;
-                    Ok(Turn::EndsFinish(paused, result))
-                }
-                Frame::EndCall { environment } => {
-                    let callee = std::mem::replace(&mut run.thread.environment, environment);
-                    run.thread.spare.push(callee)?;
-                    Ok(Turn::Going(run))
+                Frame::EndFinish(_) => Ok(Step::AtEnd),
+                Frame::EndCall { .. } => {
+                    self.take_off()?;
+                    Ok(Step::Did(Done::Gone))
                 }
             },
         }
     }
 
-    /// The first statement of a block, where the flow is on and a step is left.
-    fn first<N: Needed>(
-        &mut self,
-        needed: &N,
-        stmt: &'p Stmt,
-        rest: &'p [Stmt],
-    ) -> Result<Done<'p>, HoldError>
+    /// The first statement of a block, whose rest is the top frame, where the flow is on and a step is
+    /// left.
+    fn first<N: Needed>(&mut self, needed: &N, stmt: &'p Stmt) -> Result<Done<'p>, HoldError>
         requires few { self.old.thread.spawned + self.old.thread.steps ≤ self.old.plan.budget.steps }
         requires can { CanAct (N.needs needed.now) (N.IsAsync needed.now) stmt.now.label
             (code_of stmt.now.kind) self.old }
-        ensures did { IfOk result (λ d. DidTurn (N.needs needed.now)
-            (Rest (Then stmt.entry.now.label (code_of stmt.entry.now.kind) (codes_of rest.entry.now)))
-            self.old d self.new) }
+        ensures did { IfOk result (λ d. DidNext (N.needs needed.now) below_top
+            stmt.entry.now.label (code_of stmt.entry.now.kind) self.old d self.new) }
         ensures refused { IfErr result (λ e. e ≡ OutOfMemory) }
     {
         if self.thread.flow != Flow::On {
+            self.frames.pop();
             return Ok(Done::Gone);
         }
-        self.frames.push(Frame::Rest(rest))?;
         if self.thread.takes_step() {
             self.act(needed, stmt)
         } else {
@@ -170,8 +183,8 @@ impl<'p> Run<'p> {
         guard: &'p Truth,
         body: &'p [Stmt],
     ) -> Result<Done<'p>, AllocError>
-        ensures { IfOk result (λ d. (needs : Codes → Needs) → DidTurn needs
-            (Again label (truth_of guard.entry.now) (codes_of body.entry.now)) self.old d self.new) }
+        ensures { IfOk result (λ d. (needs : Codes → Needs) → DidNext needs (λ fs. fs) label
+            (While (truth_of guard.entry.now) (codes_of body.entry.now)) self.old d self.new) }
     {
         if self.thread.flow != Flow::On {
             return Ok(Done::Gone);
@@ -181,6 +194,23 @@ impl<'p> Run<'p> {
             Ok(Done::Gone)
         } else {
             Ok(Done::Exceeded)
+        }
+    }
+
+    /// Takes the top frame off, which has nothing left to do but to bring back a caller's environment.
+    fn take_off(&mut self) -> Result<(), AllocError>
+        ensures { OnOk result (Turns taken_off self.old self.new) }
+    {
+        match self.frames.pop() {
+            None => Ok(()),
+            Some(frame) => match frame {
+                Frame::EndCall { environment } => {
+                    let callee = std::mem::replace(&mut self.thread.environment, environment);
+                    self.thread.spare.push(callee)?;
+                    Ok(())
+                }
+                Frame::Rest(_) | Frame::Again { .. } | Frame::EndFinish(_) => Ok(()),
+            },
         }
     }
 
@@ -348,6 +378,7 @@ impl<'p> Run<'p> {
         let reads = self.windows(needed.reads(label, body))?;
         let holdings = self.thread.store.part(self.plan.alloc, &windows, &reads)?;
         let start = self.start(body, holdings)?;
+        let start = Box::new(self.plan.alloc, start)?;
         let listed = Listed {
             path: self.thread.path.child(self.thread.spawned + 1)?,
             windows,
@@ -409,6 +440,24 @@ impl<'p> Run<'p> {
         self.frames.push(Frame::EndFinish(outer))?;
         self.frames.push(Frame::Rest(body))?;
         Ok(())
+    }
+
+    /// The turn of a run at the end of a finish, or at its own.
+    fn end(self) -> Result<Turn<'p>, AllocError>
+        requires { IsAtEnd self }
+        ensures { IfOk result (λ t. (needs : Codes → Needs) → IsTurn needs self.entry t) }
+    {
+        let mut run = self;
+        match run.frames.pop() {
+            None => Ok(Turn::Ended(run.result())),
+            Some(frame) => match frame {
+                Frame::EndFinish(outer) => {
+                    let (paused, result) = run.pause(outer)?;
+                    Ok(Turn::EndsFinish(paused, result))
+                }
+                Frame::Rest(_) | Frame::Again { .. } | Frame::EndCall { .. } => unreachable!(),
+            },
+        }
     }
 
     /// What it has made since its innermost open finish began, or since its beginning.
@@ -530,12 +579,11 @@ impl<'p> Paused<'p> {
 
 /// The turn of a run that did this.
 fn turned<'p>(run: Run<'p>, done: Done<'p>) -> Turn<'p>
-    ensures { (old : Run) (next : Standing Own) (actions : List Action) (over : Bool)
-        → GoesTo old next run.entry → DoneAs actions over done.entry → GoesAs old next actions over result }
+    ensures { result ≡ turn_of run.entry done.entry }
 {
     match done {
         Done::Gone => Turn::Going(run),
-        Done::Spawned(start) => Turn::Spawns(run, start),
+        Done::Spawned(start) => Turn::Spawns(run, Box::into_inner(start)),
         Done::Entered => Turn::EntersFinish(run),
         Done::Exceeded => Turn::Over(run),
     }

@@ -40,13 +40,22 @@ pub struct Paused<'p> {
     pub outer: Outer,
 }
 
-/// What a run did in a turn that goes on.
+/// What a step in place came to.
+#[derive(Drop)]
+pub enum Step<'p> {
+    /// The run did this, and goes on.
+    Did(Done<'p>),
+    /// It is at the end of a finish, or at its own, and did nothing.
+    AtEnd,
+}
+
+/// What a run did in a turn that goes on. It is small, so that a step hands it on at no cost.
 #[derive(Drop)]
 pub enum Done<'p> {
     /// A step, or nothing.
     Gone,
     /// A task that starts so was begun.
-    Spawned(Start<'p>),
+    Spawned(Box<Start<'p>>),
     /// A finish was begun.
     Entered,
     /// It went over its budget.

@@ -8,6 +8,7 @@
 pub mod frame;
 pub mod machine;
 pub mod memory;
+pub mod quick;
 pub mod run;
 pub mod store;
 pub mod thread;

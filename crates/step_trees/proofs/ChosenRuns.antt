@@ -51,7 +51,7 @@ module _ (p : Program) where
           let r = f x.0 x.1 e in
           record { tree = r.tree; store = r.store; runs = next c h r.runs; done = r.done; same = r.same }
 
-  told_open : (t : Tree) (a : Contents) (m : ℕ) (z : Bool) → all_done t ≡ z
+  pub told_open : (t : Tree) (a : Contents) (m : ℕ) (z : Bool) → all_done t ≡ z
       → (if z then Ends (Ended (tree_ending p t a)) else Open (ready t)) ≡ Open m → (all_done t ≡ false) × (ready t ≡ m)
   told_open t a m true h e = cc
   told_open t a m false h e = (h, ap (leaves_or m) e)
@@ -70,7 +70,7 @@ module _ (p : Program) where
           let r = f x.0 x.1 e in
           record { tree = r.tree; store = r.store; runs = next c h r.runs; open_yet = r.open_yet; same = r.same }
 
-  told_misses : (t : Tree) (a : Contents) (n : ℕ) (z : Bool) {A : Type 0}
+  pub told_misses : (t : Tree) (a : Contents) (n : ℕ) (z : Bool) {A : Type 0}
       → (if z then Ends (Ended (tree_ending p t a)) else Open (ready t)) ≡ NoSuchChoice n → A
   told_misses t a n true e = cc
   told_misses t a n false e = cc

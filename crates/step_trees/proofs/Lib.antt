@@ -1,6 +1,7 @@
 pub mod ChosenRuns
 pub mod CommutingSteps
 pub mod Deeds
+pub mod Drawing
 pub mod Examples
 pub mod Exploring
 pub mod FirstLeaves

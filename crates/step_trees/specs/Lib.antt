@@ -1,3 +1,4 @@
+pub mod Drawing
 pub mod Exploring
 pub mod Found
 pub mod Held

@@ -1,15 +1,17 @@
-//! Runs by given choices.
+//! Runs by given choices, and by those that a generator draws.
 
-ghost use Rattle.std.specs.Prelude.{◌≡◌, ◌<◌, ℕ, IfOk, length};
+ghost use Rattle.std.specs.Prelude.{◌≡◌, ◌≢◌, ◌<◌, ℕ, IfOk, length};
 ghost use Rattle.types.specs.Contents.{FitsArrays};
 ghost use Rattle.types.specs.Outcome.{Budget as BudgetOf, IsLarger, Outcome as OutcomeOf};
 ghost use Rattle.types.specs.Outcome.{outcome as one_thread_outcome};
 ghost use Rattle.types.specs.Translation.{program as program_of, input as lists_in};
-ghost use Rattle.types.specs.TreeRuns.{Ends, Open, told as told_of, explored as explored_by};
+ghost use Rattle.types.specs.TreeRuns.{Ends, Open, NoSuchChoice, told as told_of, explored as explored_by};
 ghost use Rattle.types.specs.TreeSteps.{first_tree};
 ghost use Rattle.types.specs.Trees.{ready as ready_leaves};
 ghost use Rattle.types.specs.Typed.{code_of};
 ghost use Rattle.serial_run.specs.Lists.{contents_of};
+ghost use Rattle.step_trees.specs.Drawing.{drawn_choices, next_number as number_behind};
+ghost use Rattle.step_trees.specs.Drawing.{picked as picked_by};
 ghost use Rattle.step_trees.specs.Exploring.{explored_of, IsHeld, StepsTree};
 ghost use Rattle.step_trees.specs.Held.{tree_of, IsCounted};
 ghost use Rattle.step_trees.specs.Turns.{becomes as becomes_tree};
@@ -92,6 +94,87 @@ fn run_by(
         left = later;
     }
     told(plan, store, tree)
+}
+
+/// The most choices that are drawn.
+const MOST_DRAWN: u32 = 1_000_000;
+
+/// The run of an accepted program by choices that a generator draws, from a seed on, until no leaf may
+/// step or 1,000,000 leaves have. The input has a list for each array, of its length.
+///
+/// Each choice names a leaf, so what is told is the outcome of one thread, with 1,000,000 steps and as
+/// much nest or with more, or how many leaves may step behind 1,000,000 choices.
+pub fn explore_random(
+    alloc: Global,
+    accepted: &Accepted,
+    input: &Input,
+    seed: u64,
+) -> Result<Explored, AllocError>
+    requires { FitsArrays (code_of accepted.now.typed).arrays (lists_in input.now) }
+    ensures told { let p = code_of accepted.now.typed in let i = lists_in input.now in
+        IfOk result (λ e. explored_of e ≡ explored_by p i (drawn_choices p i seed)) }
+    ensures named { IfOk result (λ e. (n : ℕ) → explored_of e ≢ NoSuchChoice n) }
+    ensures open { IfOk result (λ e. (leaves : ℕ) → explored_of e ≡ Open leaves → 0 < leaves) }
+    ensures used { let p = code_of accepted.now.typed in let i = lists_in input.now in
+        IfOk result (λ e. (leaves : ℕ) → explored_of e ≡ Open leaves
+        → length (drawn_choices p i seed) ≡ 1000000) }
+    ensures ended { IfOk result (λ e. (o : OutcomeOf) → explored_of e ≡ Ends o → (b : BudgetOf)
+        → IsLarger b (record { steps = 1000000; nest = 1000000 })
+        → one_thread_outcome (code_of accepted.now.typed) (lists_in input.now) b ≡ o) }
+{
+    typed_programs_are_sound(accepted.typed());
+    run_drawn(alloc, accepted, input, seed)
+}
+
+/// The same, choice by choice.
+fn run_drawn(
+    alloc: Global,
+    accepted: &Accepted,
+    input: &Input,
+    seed: u64,
+) -> Result<Explored, AllocError>
+    requires { FitsArrays (code_of accepted.now.typed).arrays (lists_in input.now) }
+    ensures { let p = code_of accepted.now.typed in let i = lists_in input.now in
+        IfOk result (λ e. explored_of e ≡ explored_by p i (drawn_choices p i seed)) }
+{
+    let plan = Plan {
+        alloc,
+        program: accepted.typed().code(),
+        budget: Budget::usual(),
+    };
+    let mut tree = first(plan)?;
+    let mut store = Store::of_input(alloc, input)?;
+    let mut number = seed;
+    let mut left = MOST_DRAWN;
+    'choices: while let Some(later) = left.checked_sub(1) {
+        let leaves = tree.ready();
+        if leaves == 0 {
+            return told(plan, store, tree);
+        }
+        number = next_number(number);
+        let (next, after) = step(plan, store, tree, picked(number, leaves))?;
+        tree = next;
+        store = after;
+        left = later;
+    }
+    told(plan, store, tree)
+}
+
+/// The generator's number behind this one.
+fn next_number(number: u64) -> u64
+    ensures { result ≡ number_behind number }
+{
+    let product = u128::from(number) * 6_364_136_223_846_793_005;
+    ((product + 1_442_695_040_888_963_407) % 18_446_744_073_709_551_616) as u64
+}
+
+/// The leaf that a number names, of so many: by its upper half.
+fn picked(number: u64, leaves: u32) -> u32
+    requires { 0 < leaves }
+    ensures named { result < leaves }
+    ensures picked { result ≡ picked_by number leaves }
+{
+    (number / 4_294_967_296 % u64::from(leaves)) as u32
 }
 
 /// `main` at its beginning.

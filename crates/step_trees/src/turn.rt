@@ -8,8 +8,6 @@ ghost use Rattle.types.specs.Translation.{number as number_of, primitive as prim
 ghost use Rattle.types.specs.Translation.{truth as truth_of};
 ghost use Rattle.types.specs.Trees.{before_rest, done as done_leaf, failed as failed_leaf};
 ghost use Rattle.types.specs.Trees.{is_done, single, Single};
-ghost use Rattle.serial_run.specs.Primitive.{cut, halves};
-ghost use Rattle.serial_run.specs.Standing.{state_of};
 ghost use Rattle.step_trees.specs.Translation.{leaf_of};
 ghost use Rattle.step_trees.specs.Turns.{becomes, leaf_in, store_in, Comes, After, IsReady, Steps};
 ghost use Rattle.step_trees.specs.Turns.{MayTurn};
@@ -17,7 +15,6 @@ ghost use Rattle.step_trees.specs.Turns.{MayTurn};
 use crate::leaf::{Caller, Leaf, done, returned};
 use crate::rest::{Block, begin, block_alone, enter, next};
 use sections::id::SectionId;
-use sections::window::Window;
 use serial_run::store::Store;
 use serial_run::thread::{Flow, Plan, Thread};
 use std::alloc::AllocError;
@@ -212,7 +209,7 @@ fn split<'p>(
     ensures { IfOk result (After turn.entry label (Split section.number (number_of at.now)
         names.0.number names.1.number (codes_of body.entry.now))) }
 {
-    match sides(&turn.thread, section, at) {
+    match turn.thread.sides(section, at) {
         Err(kind) => failed(turn, label, kind),
         Ok((left, right)) => {
             let Turn {
@@ -455,18 +452,4 @@ fn apart<'p>(turn: Turn<'p>) -> (Leaf<'p>, Store)
         faults,
     };
     (leaf, store)
-}
-
-/// Both sides of a section, or F5 where it has no such place.
-fn sides(
-    thread: &Thread<Store>,
-    section: SectionId,
-    at: &Number,
-) -> Result<(Window, Window), FaultKind>
-    ensures { cut result ≡ halves (state_of thread.now) section.number (number_of at.now) }
-{
-    let at = thread.number(at)?;
-    let at = u64::try_from(at).map_err(|_| FaultKind::SplitPoint)?;
-    let window = thread.environment.window(section);
-    window.split(at).ok_or(FaultKind::SplitPoint)
 }

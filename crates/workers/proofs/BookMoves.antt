@@ -14,13 +14,13 @@ use Rattle.own_run.specs.Frames.{Frame, AtEnd, Standing, turn, handed, done_in}
 use Rattle.own_run.specs.Lists.{Each}
 use Rattle.own_run.specs.Reached.{begun}
 use Rattle.own_run.specs.Runs.{root, MayStand, IsTaskResult}
-use Rattle.own_run.specs.RunTurns.{DoneAs}
+use Rattle.own_run.specs.RunTurns.{BeginsAs, DoneAs}
 use Rattle.own_run.specs.Settling.{settle}
 use Rattle.own_run.specs.Stops.{stops}
 use Rattle.own_run.specs.Translation.{start}
 use Rattle.own_run.specs.Worth.{Lists, lists, with_child, inside}
 use Rattle.own_run.specs.declared.start.Start.{Start as rStart}
-use Rattle.own_run.specs.declared.turn.Done.TheVariants.{Gone, Spawned, Entered, Exceeded}
+use Rattle.own_run.specs.declared.turn.Done.TheVariants.{Gone, Entered, Exceeded}
 use Rattle.own_run.proofs.ListedTurns.{gone_lists, spawned_lists, entered_lists, exceeded_lists}
 use Rattle.own_run.proofs.MeasuredResults.{ended_worth, measured_settles}
 use Rattle.workers.specs.Books.{Task, task_at, Scope, no_results, AreBalanced}
@@ -73,7 +73,7 @@ module _ (p : Program) (b : Budget) where
         (enter_balanced p b (task_at s old) ts ks h)
 
     -- the new task waits behind the others of the first scope
-    pub spawned_balanced : (c : rStart) (k : Scope) (ks : List Scope) → DoneAs (done_in needs nest f st) (stops nest f st) (Spawned c)
+    pub spawned_balanced : (c : rStart) (k : Scope) (ks : List Scope) → BeginsAs (done_in needs nest f st) (stops nest f st) c
         → AreBalanced p b (task_at s old ∷ ts) (k ∷ ks)
         → AreBalanced p b (task_at s new ∷ ts) (record k { waiting = k.waiting ++ start c ∷ [] } ∷ ks)
     spawned_balanced c k ks d h =
@@ -85,7 +85,7 @@ module _ (p : Program) (b : Budget) where
 
     -- or before them
     pub spawned_first_balanced : (c : rStart) (k : Scope) (ks : List Scope)
-        → DoneAs (done_in needs nest f st) (stops nest f st) (Spawned c)
+        → BeginsAs (done_in needs nest f st) (stops nest f st) c
         → AreBalanced p b (task_at s old ∷ ts) (k ∷ ks)
         → AreBalanced p b (task_at s new ∷ ts) (record k { waiting = start c ∷ k.waiting } ∷ ks)
     spawned_first_balanced c k ks d h =

@@ -2,7 +2,6 @@ pub mod BookLemmas
 pub mod BookMoves
 pub mod LeftLemmas
 pub mod Roots
-pub mod Shown
 pub mod StageBegins
 pub mod StageGoes
 pub mod StagePasses

@@ -1,28 +1,25 @@
 -- What each turn makes of a stage: again a stage of the run.
-use Rattle.std.proofs.Common.{◌≡◌, ℕ, ◌+◌, List, [], ◌∷◌, ◌++◌, map, refl, sym, ap, ◌∙◌, subst, inl, inr, Some, arith}
+use Rattle.std.proofs.Common.{◌≡◌, ℕ, List, [], ◌∷◌, ◌++◌, map, refl, sym, ap, ◌∙◌, subst, inl, inr, arith}
 use Rattle.std.proofs.lemmas.List.Sums.{sum_by-cons, sum_by_push}
 use Rattle.std.specs.Prelude.{sum_by}
 use Rattle.std.proofs.lemmas.List.{map-append}
-use Rattle.std.specs.Prelude.{ℤ, Bool, Option, ◌⊎◌}
+use Rattle.std.specs.Prelude.{ℤ, Option}
 use Rattle.types.specs.Code.{Codes, Program}
 use Rattle.types.specs.Contents.{FitsArrays}
 use Rattle.types.specs.Outcome.{Budget}
 use Rattle.types.specs.Run.{State}
 use Rattle.types.specs.Translation.{program}
-use Rattle.types.proofs.InputLemmas.{FitsArrays-from_IsInput}
 use Rattle.effects.specs.Needs.{Needs}
 use Rattle.effects.specs.Rounds.{needs_of}
 use Rattle.serial_run.specs.declared.thread.Plan.{Plan}
-use Rattle.own_run.specs.Frames.{Frame, Rest, Again, AtEnd, Back, Standing, done_in, handed, turn}
+use Rattle.own_run.specs.Frames.{Frame, Rest, Again, AtEnd, Back, Standing, done_in, turn}
 use Rattle.own_run.specs.Given.{in_truth}
 use Rattle.own_run.specs.Lists.{Each}
-use Rattle.own_run.specs.MayRun.{MayRun, MayWait}
-use Rattle.own_run.specs.OwnRun.{Action, Own, Spawn, Start, own_rules, result_of}
-use Rattle.own_run.specs.Reached.{begun, child_begins, leaves, turns}
+use Rattle.own_run.specs.OwnRun.{Own, Spawn, Start, own_rules, result_of}
+use Rattle.own_run.specs.Reached.{begun, child_begins, turns}
 use Rattle.own_run.specs.Results.{Settled}
-use Rattle.own_run.specs.RunTurns.{DoneAs, EndsAs, GoesAs, GoesTo, IsTurn, TurnOf, Waits, WaitsAs}
-use Rattle.own_run.specs.Runs.{root, MayStand, IsTaskResult, IsOwnResult}
-use Rattle.own_run.specs.Settling.{settle}
+use Rattle.own_run.specs.RunTurns.{EndsAs, GoesAs, GoesTo, TurnOf, WaitsAs}
+use Rattle.own_run.specs.Runs.{root, MayStand}
 use Rattle.own_run.specs.Standings.{IsAt, state_of, with_own}
 use Rattle.own_run.specs.Stops.{stops}
 use Rattle.own_run.specs.Translation.{start, task_result}
@@ -30,25 +27,22 @@ use Rattle.own_run.specs.Worth.{lists}
 use Rattle.own_run.specs.declared.result.TaskResult.{TaskResult}
 use Rattle.own_run.specs.declared.run.Run.{Run}
 use Rattle.own_run.specs.declared.start.Start.{Start as rStart}
-use Rattle.own_run.specs.declared.turn.Done.TheVariants.{Gone, Spawned, Entered, Exceeded}
 use Rattle.own_run.specs.declared.turn.Paused.{Paused}
 use Rattle.own_run.specs.declared.turn.Turn.{Turn}
 use Rattle.own_run.specs.declared.turn.Turn.TheVariants.{Going, Spawns, EntersFinish, EndsFinish, Ended, Over}
-use Rattle.own_run.proofs.AcceptedPrograms.{results_own}
 use Rattle.own_run.proofs.Children.{turn_lists}
 use Rattle.own_run.proofs.Lists.{each_last}
 use Rattle.workers.specs.Books.{Task, task_at, no_results, AreBalanced}
 use Rattle.workers.specs.Books.{Scope as ScopeBook}
 use Rattle.workers.specs.Jobs.{program_of, lists_of, budget_of, IsJob}
-use Rattle.workers.specs.Stages.{IsStage, IsBacklog, IsRunOf, IsAtFinish, IsAtEnd, IsOwner, AreOwners, IsNow, EndsAtRoot}
+use Rattle.workers.specs.Stages.{IsStage, IsBacklog, IsRunOf, IsOwner, AreOwners, EndsAtRoot}
 use Rattle.workers.specs.Stages.{IsScope, IsBegun, IsResult, book_of, scopes_of, tasks_of}
 use Rattle.workers.specs.Turns.{IsTurnIn, EndsIn, RootEnds, MemberEnds}
 use Rattle.workers.specs.declared.backlog.Backlog.{Backlog}
 use Rattle.workers.specs.declared.backlog.Owner.{Owner}
-use Rattle.workers.specs.declared.backlog.Owner.TheVariants.{Root, Finish}
+use Rattle.workers.specs.declared.backlog.Owner.TheVariants.{Finish}
 use Rattle.workers.specs.declared.backlog.Scope.{Scope}
 use Rattle.workers.specs.declared.job.Job.{Job}
-use Rattle.workers.specs.declared.stage.Now.{Now}
 use Rattle.workers.specs.declared.stage.Now.TheVariants.{Runs}
 use Rattle.workers.specs.declared.stage.Now.TheVariants.{Waits as rWaits}
 use Rattle.workers.proofs.BookLemmas.{reordered}
@@ -117,7 +111,7 @@ module _ (j : Job) (ok : IsJob j) where
   close = in_truth p needs b.steps
 
   pub fits : FitsArrays p.arrays input
-  fits = FitsArrays-from_IsInput p.arrays input ok.fits
+  fits = ok.fits
 
   -- a run that stands so is of the task there
   pub at_next : (s : Start) (next : Standing Own) (r : Run) → r.plan.budget ≡ j.budget → program r.plan.program.now ≡ p

@@ -1,7 +1,7 @@
 -- What a run goes by, in the words of the definitions.
-use Rattle.std.specs.Prelude.{◌≡◌, List, ℤ}
+use Rattle.std.specs.Prelude.{List, ℤ}
 use Rattle.types.specs.Code.{Program}
-use Rattle.types.specs.Inputs.{IsInput}
+use Rattle.types.specs.Contents.{FitsArrays}
 use Rattle.types.specs.Outcome.{Budget, Outcome, outcome}
 use Rattle.types.specs.Translation.{budget, input}
 use Rattle.types.specs.Typed.{code_of}
@@ -25,8 +25,8 @@ module _ (j : Job) where
   abbrev pub outcome_of : Outcome
   outcome_of = outcome program_of lists_of budget_of
 
-  -- the program is right and has no race, and the input is one of its own
+  -- the program is right and has no race, and the input fits its arrays
   pub record IsJob : Type 0 where
     pub sound : IsSound program_of
     pub accepted : IsAccepted program_of
-    pub fits : IsInput program_of.arrays lists_of
+    pub fits : FitsArrays program_of.arrays lists_of

@@ -1,7 +1,7 @@
 //! What a run goes by.
 
 ghost use Rattle.std.specs.Prelude.{◌≡◌, IfOk};
-ghost use Rattle.types.specs.Inputs.{IsInput};
+ghost use Rattle.types.specs.Contents.{FitsArrays};
 ghost use Rattle.types.specs.Translation.{budget as budget_of, input as lists_in};
 ghost use Rattle.types.specs.Translation.{program as program_of};
 ghost use Rattle.types.specs.Typed.{code_of};
@@ -54,7 +54,7 @@ impl<'p> Job<'p> {
 
     /// What the root starts with: `main`, with all arrays.
     pub fn root(self) -> Result<Start<'p>, AllocError>
-        requires { IsInput (code_of self.accepted.now.typed).arrays (lists_in self.input.now) }
+        requires { FitsArrays (code_of self.accepted.now.typed).arrays (lists_in self.input.now) }
         ensures { IfOk result (λ s. start_of s ≡ root_of (code_of self.entry.accepted.now.typed)
             (lists_in self.entry.input.now) (budget_of self.entry.budget)) }
     {

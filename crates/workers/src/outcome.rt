@@ -1,7 +1,7 @@
 //! What a run came to.
 
 ghost use Rattle.std.specs.Prelude.{◌≡◌, IfErr, IfOk, map};
-ghost use Rattle.types.specs.Contents.{read, row, shown as shown_in};
+ghost use Rattle.types.specs.Contents.{shown as shown_in};
 ghost use Rattle.types.specs.Translation.{array as array_of, outcome as outcome_of};
 ghost use Rattle.types.specs.Typed.{code_of};
 ghost use Rattle.own_run.specs.Given.{told_of};
@@ -45,35 +45,7 @@ fn shown(
 {
     let mut arrays = Vec::new(alloc);
     'arrays: for (number, array) in declared.iter().enumerate() {
-        arrays.push(numbers(alloc, ArrayId { number }, array.length, holdings)?)?;
+        arrays.push(holdings.row(alloc, ArrayId { number }, array.length)?)?;
     }
     Ok(arrays)
-}
-
-/// The numbers of an array.
-fn numbers(
-    alloc: Global,
-    array: ArrayId,
-    length: usize,
-    holdings: &Holdings,
-) -> Result<Vec<i64>, AllocError>
-    ensures { IfOk result (λ v. v.items ≡ row (contents_of holdings.now) array.number 0 length) }
-{
-    let mut numbers = Vec::new(alloc);
-    numbers.reserve(length)?;
-    'places: for index in 0..length {
-        numbers.push(number(array, index, holdings))?;
-    }
-    Ok(numbers)
-}
-
-/// The number at a place, 0 where there is none.
-fn number(array: ArrayId, index: usize, holdings: &Holdings) -> i64
-    ensures { result ≡ read (contents_of holdings.now)
-        (record { array = array.number; index = index }) }
-{
-    match holdings.read(array, index) {
-        Ok(number) => number,
-        Err(_) => 0,
-    }
 }

@@ -1,7 +1,7 @@
 //! The run of an accepted program, task by task.
 
 ghost use Rattle.std.specs.Prelude.{◌≡◌, IfErr, IfOk};
-ghost use Rattle.types.specs.Inputs.{IsInput};
+ghost use Rattle.types.specs.Contents.{FitsArrays};
 ghost use Rattle.types.specs.Outcome.{outcome as one_thread_outcome};
 ghost use Rattle.types.specs.Translation.{budget as budget_of, input as lists_in};
 ghost use Rattle.types.specs.Translation.{outcome as outcome_of};
@@ -27,7 +27,7 @@ pub fn run(
     input: &Input,
     budget: Budget,
 ) -> Result<Outcome, RunError>
-    requires { IsInput (code_of accepted.now.typed).arrays (lists_in input.now) }
+    requires { FitsArrays (code_of accepted.now.typed).arrays (lists_in input.now) }
     ensures outcome { IfOk result (λ o. outcome_of o
         ≡ one_thread_outcome (code_of accepted.now.typed) (lists_in input.now) (budget_of budget)) }
     ensures refused { IfErr result (λ e. e ≡ OutOfMemory) }
@@ -43,7 +43,7 @@ pub fn run_by(
     budget: Budget,
     order: Order,
 ) -> Result<Outcome, RunError>
-    requires { IsInput (code_of accepted.now.typed).arrays (lists_in input.now) }
+    requires { FitsArrays (code_of accepted.now.typed).arrays (lists_in input.now) }
     ensures outcome { IfOk result (λ o. outcome_of o
         ≡ one_thread_outcome (code_of accepted.now.typed) (lists_in input.now) (budget_of budget)) }
     ensures refused { IfErr result (λ e. e ≡ OutOfMemory) }

@@ -1,6 +1,6 @@
 //! Places that are carved out, shared, written and pasted.
 
-use crate::tests::inputs::{lists, typed};
+use crate::tests::inputs::typed;
 use crate::tests::section_trees::windows;
 use holdings::error::HoldError;
 use holdings::holdings::Holdings;
@@ -15,9 +15,12 @@ const ARRAY: ArrayId = ArrayId { number: 0 };
 /// The places of an array that holds 10, 11, 12 and 13.
 fn four(rt: &impl Abort, alloc: Global) -> Holdings {
     let typed = typed(rt, alloc, "main { array a: int[4]; }");
-    let rows = lists(alloc, &[&[10, 11, 12, 13]]).expect(rt, "memory");
-    let input = Input::new(alloc, &typed, rows).expect(rt, "an input of the program");
-    Holdings::of_input(alloc, &typed, &input).expect(rt, "memory")
+    let input = Input::zeros(alloc, &typed).expect(rt, "memory");
+    let mut own = Holdings::of_input(alloc, &typed, &input).expect(rt, "memory");
+    for (index, number) in [10, 11, 12, 13].into_iter().enumerate() {
+        own.write(ARRAY, index, number).expect(rt, "an owned place");
+    }
+    own
 }
 
 /// Compares the number at each place with what is wanted there; none where the place isn't held.

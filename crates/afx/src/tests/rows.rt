@@ -62,8 +62,19 @@ main { array a: int[1024]; finish { twice(a); } }";
 /// The text of `other.afx`, which is always there.
 const OTHER: &str = "main { print 1; }";
 
-/// A shelf of files: the program, under the names `program.afx` and `-`, `input.json`, `other.afx`,
-/// `endless.afx`, which has as many bytes as are read of it, and `heavy.afx`, for which there is no memory.
+/// Files of choices: for the two arrays with either side first, with a third one that names no leaf, with
+/// none, and with what is no number.
+const CHOICES: &[(&str, &str)] = &[
+    ("left.txt", "0,0,0,0,0"),
+    ("right.txt", "\t0 0\r\n1, 0\n,0\n"),
+    ("missing.txt", "0 0 2\n"),
+    ("none.txt", " \n"),
+    ("words.txt", "0 one\n"),
+];
+
+/// A shelf of files: the program, under the names `program.afx` and `-`, `input.json`, `other.afx`, files of
+/// choices, `endless.afx`, which has as many bytes as are read of it, and `heavy.afx`, for which there is no
+/// memory.
 #[derive(Drop)]
 pub struct Shelf<'t> {
     pub alloc: Global,
@@ -79,7 +90,7 @@ impl FileSource for Shelf<'_> {
             "input.json" => self.input,
             "other.afx" => OTHER.as_bytes(),
             "heavy.afx" => return Err(FileError::NoMemory),
-            _ => return Err(FileError::Failed),
+            _ => choices_of(name)?,
         };
         bytes.to_vec(self.alloc).map_err(|_| FileError::NoMemory)
     }
@@ -92,6 +103,16 @@ impl FileSource for Shelf<'_> {
         bytes.truncate(most);
         Ok(bytes)
     }
+}
+
+/// The text of a file of choices.
+fn choices_of(name: &str) -> Result<&'static [u8], FileError> {
+    for (file, text) in CHOICES {
+        if *file == name {
+            return Ok(text.as_bytes());
+        }
+    }
+    Err(FileError::Failed)
 }
 
 /// The words as strings.

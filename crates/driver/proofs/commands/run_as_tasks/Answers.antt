@@ -2,11 +2,12 @@ use Rattle.std.proofs.Common.{ap, ◌∙◌, map, subst, sym}
 use Rattle.std.specs.Str.{chars}
 use Rattle.syntax.specs.Lexical.{AreTokensOf}
 use Rattle.syntax.specs.Spelling.{spelling}
-use Rattle.types.specs.Inputs.{IsInput}
+use Rattle.types.specs.Contents.{FitsArrays}
 use Rattle.types.specs.Outcome.{outcome}
 use Rattle.types.specs.Translation.{array, budget, input as lists_of, outcome as outcome_of}
 use Rattle.types.specs.Typed.{code_of, program_of}
 use Rattle.types.specs.declared.typed.Typed.{Typed}
+use Rattle.types.proofs.InputLemmas.{FitsArrays-from_IsInput}
 use Rattle.driver.specs.Requests.{settings}
 use Rattle.driver.specs.declared.request.Command.TheVariants.{Run}
 use Rattle.driver.proofs.Answering.{code_of_text, outcome_shown, passes_no_input, shown}
@@ -23,7 +24,8 @@ returns-in_err-input g c =
 
 pub run-requires : goal.run-requires
 run-requires g c =
-    subst (λ (t : Typed). IsInput (code_of t).arrays (lists_of c.in_ok-input.input)) c.typed.ensures.field c.in_ok-input.ensures.fits
+    subst (λ (t : Typed). FitsArrays (code_of t).arrays (lists_of c.in_ok-input.input)) c.typed.ensures.field
+    (FitsArrays-from_IsInput _ _ c.in_ok-input.ensures.fits)
 
 pub returns-in-Ok : goal.returns-in-Ok
 returns-in-Ok g c =

@@ -1,11 +1,11 @@
 use Rattle.std.proofs.Common.{◌≡◌, ◌∙◌, ap, sym, Bool, map, subst, rules}
 use Rattle.std.proofs.lemmas.Fn.{filter_same}
-use Rattle.std.specs.Prelude.{ℤ, not}
+use Rattle.std.specs.Prelude.{not}
 use Rattle.std.specs.List.{filter}
 use Rattle.sections.specs.Covers.{has}
 use Rattle.sections.specs.Translation.{window as window_of}
 use Rattle.holdings.specs.Fragments.{AreDisjoint, meets_any, numbers_in}
-use Rattle.holdings.specs.Held.{Map, over}
+use Rattle.holdings.specs.Held.{over}
 use Rattle.holdings.specs.declared.fragment.Fragment.{Fragment}
 use Rattle.holdings.proofs.DisjointLemmas.{AreDisjoint-filter, cleared, rests_apart}
 use Rattle.syntax.proofs.ExpressionText.{ok_map}

@@ -1,8 +1,7 @@
-use Rattle.std.proofs.Common.{◌≡◌, sym, ap, refl, w64}
+use Rattle.std.proofs.Common.{sym, ap, refl, w64}
 use Rattle.std.proofs.lemmas.Int.{to_z-of_z}
 use Rattle.std.proofs.lemmas.List.{length-set}
 use Rattle.std.specs.Prelude.{slice_set}
-use Rattle.sections.specs.Place.{Window}
 use Rattle.sections.specs.Translation.{place as place_of}
 use Rattle.holdings.specs.Fragments.{IsFirst}
 use Rattle.holdings.proofs.DisjointLemmas.{AreDisjoint-set}

@@ -1,4 +1,4 @@
-use Rattle.std.proofs.Common.{◌≡◌, ◌∙◌, ap, sym, map, subst, []}
+use Rattle.std.proofs.Common.{◌≡◌, ◌∙◌, ap, map, subst}
 use Rattle.std.specs.Prelude.{ℤ, Bool}
 use Rattle.sections.specs.Covers.{has}
 use Rattle.sections.specs.Place.{Place}

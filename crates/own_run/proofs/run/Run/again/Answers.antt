@@ -1,10 +1,9 @@
-use Rattle.std.proofs.Common.{refl, subst}
+use Rattle.std.proofs.Common.{subst}
 use Rattle.std.specs.Bool.{OnTrue}
 use Rattle.types.specs.Code.{While}
 use Rattle.types.specs.Translation.{truth, codes}
 use Rattle.serial_run.specs.Standing.{TakesStep}
 use Rattle.serial_run.specs.declared.thread.Thread.{Thread}
-use Rattle.own_run.specs.Frames.{Again}
 use Rattle.own_run.specs.RunTurns.{Acts}
 use Rattle.own_run.specs.declared.memory.TaskMemory.{TaskMemory}
 use Rattle.own_run.specs.declared.turn.Done.TheVariants.{Gone}
@@ -20,6 +19,5 @@ returns-in_ok-turn_loop c =
     let acts = subst (λ (t : Thread TaskMemory). Acts c.args.label (While guard body) (record m { thread = t }) c.turn_loop.new.self)
     step.same c.in_ok-turn_loop.ensures in
     λ needs.
-    stepped needs m t.steps step.on step.less c.args.label (While guard body) m.frames Gone c.turn_loop.new.self
-    (Again c.args.label guard body) (λ fs. fs) (λ r fs st. refl) (λ st. refl) (λ st. refl) (λ fs stacked. stacked)
+    stepped needs m t.steps step.on step.less c.args.label (While guard body) Gone c.turn_loop.new.self (λ fs. fs)
     (did_While needs c.args.label (record m { thread = record m.thread { steps = t.steps } }) c.turn_loop.new.self guard body acts)

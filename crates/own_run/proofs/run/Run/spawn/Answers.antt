@@ -40,7 +40,7 @@ returns-clause-did g c =
     let nest = m.thread.nest in let some = c.if-self-eq0.false in
     let env = environment m.thread.environment in
     let store = contents_of m.thread.store.holdings in
-    let s = start c.in_ok-start.start in
+    let s = start c.in_ok-start-2.start.value in
     let numbers : Vec ℤ Global → List ℤ = λ v. v.items in
     let listed_writes : map window c.in_ok-windows.windows.items ≡ map env.windows n.writes
     = c.in_ok-windows.ensures ∙ ap (map env.windows) c.writes.ensures in
@@ -74,7 +74,7 @@ returns-clause-did g c =
       nest = nest - 1;
       path = m.thread.path.turns.items ++ (m.thread.spawned + 1) ∷ [];
     }) in
-    given ∙ sym c.in_ok-start.ensures in
+    given ∙ sym c.in_ok-start.ensures ∙ ap start (sym c.in_ok-start-2.ensures.ok) in
     let kept : rListed = record {
       path = c.in_ok-child.field-0;
       windows = c.in_ok-windows.windows;
@@ -122,9 +122,9 @@ returns-clause-did g c =
                 environment = env;
                 store = (c.in_ok-holdings.ensures.left ∙ ap (λ (ws : List Window). without (within ws) store) writes) t;
                 lines = (ap (λ (v : Vec (Vec ℤ Global) Global). map numbers v.items) c.replace.ensures.after
-                    ∙ ap (map numbers) c.new.ensures.items) t;
+                    ∙ ap (map numbers) c.new-2.ensures.items) t;
                 faults = (ap (λ (v : Vec rFault Global). map fault v.items) c.replace-2.ensures.after
-                    ∙ ap (map fault) c.new-2.ensures.items) t;
+                    ∙ ap (map fault) c.new-3.ensures.items) t;
                 steps = m.thread.steps;
                 path = m.thread.path.turns.items;
                 spawned = m.thread.spawned + 1;

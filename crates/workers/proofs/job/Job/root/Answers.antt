@@ -1,11 +1,9 @@
-use Rattle.std.proofs.Common.{◌≡◌, ◌∙◌, ap, [], ℕ, List}
-use Rattle.types.specs.Code.{Codes, Program}
+use Rattle.std.proofs.Common.{◌∙◌, ap, []}
+use Rattle.types.specs.Code.{Program}
 use Rattle.types.specs.Outcome.{whole_arrays}
 use Rattle.types.specs.Run.{entry}
-use Rattle.types.specs.Translation.{codes, input as lists_in, program as program_of}
+use Rattle.types.specs.Translation.{codes, input as lists_in}
 use Rattle.types.specs.Typed.{code_of}
-use Rattle.types.proofs.InputLemmas.{FitsArrays-from_IsInput}
-use Rattle.own_run.specs.OwnRun.{Start}
 use Rattle.workers.proofs.Roots.{root_holds, root_owns}
 use Rattle.workers.proofs.job.Job.root.Goals as goal
 
@@ -18,7 +16,7 @@ returns c =
     let body = ap codes c.deref.ensures.value ∙ ap (λ (q : Program). q.main.body) same in
     let environment = c.in_ok-environment.ensures ∙ ap (λ (q : Program). entry [] (whole_arrays 0 q.arrays)) same in
     let contents = root_holds h lists c.in_ok-holdings.ensures in
-    let owns = root_owns h p.arrays lists (FitsArrays-from_IsInput p.arrays lists c.requires) c.in_ok-holdings.ensures in
+    let owns = root_owns h p.arrays lists c.requires c.in_ok-holdings.ensures in
     λ t. record {
       body = body t;
       environment = environment t;

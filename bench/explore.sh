@@ -1,0 +1,29 @@
+#!/bin/sh
+# Times runs step by step over 13 doublings of 1,024 numbers: by 100,000 choices from a file, each of which names the
+# first leaf, and by the choices that a generator draws, to the end. The least of three times each, in milliseconds. No
+# test and no part of the gate.
+#
+#     sh bench/explore.sh      AFX='../afx' names another program to time
+set -u
+cd "$(dirname -- "$0")" || exit 1
+afx=${AFX:-../afx}
+choices=$(mktemp) && trap 'rm -f "$choices"' EXIT
+yes 0 | head -n 100000 >"$choices"
+
+# least STATUS CMD..: its least time of three in milliseconds, where it ends with this status
+least() {
+    wanted=$1
+    shift
+    best=
+    for turn in 1 2 3; do
+        from=$(date +%s%N)
+        "$@" >/dev/null 2>&1
+        [ $? = "$wanted" ] || { echo failed; return; }
+        took=$(( ($(date +%s%N) - from) / 1000000 ))
+        if [ -z "$best" ] || [ "$took" -lt "$best" ]; then best=$took; fi
+    done
+    echo "$best"
+}
+
+printf '%-28s %8s\n' "100,000 choices from a file" "$(least 3 $afx explore doublings.afx --choices-from "$choices")"
+printf '%-28s %8s\n' "at random, to the end" "$(least 0 $afx explore doublings.afx --random 1)"

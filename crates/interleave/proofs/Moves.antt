@@ -1,0 +1,242 @@
+-- Events by which a task changes its place, and a scope passes: as the tables in Rust show them.
+use Rattle.std.proofs.Common.{◌≡◌, ℕ, List, [], ◌∷◌, ◌++◌, Option, Some, None, refl, sym, ap, ◌∙◌, subst}
+use Rattle.std.proofs.lemmas.Bool.{ne_eqb, not-false, not-true}
+use Rattle.std.specs.Prelude.{Bool, true, false, ◌&&◌, not, nat_eq, if◌then◌else◌}
+use Rattle.std.specs.HashMap.{HashMap, get}
+use Rattle.std.specs.HashSet.{HashSet, contains}
+use Rattle.types.specs.declared.path.Path.{Path}
+use Rattle.effects.proofs.Members.{false_true}
+use Rattle.effects.specs.Rounds.{needs_of}
+use Rattle.own_run.specs.Results.{and_then}
+use Rattle.interleave.specs.Courses.{Course, course_of, IsDoing}
+use Rattle.interleave.specs.Events.{Event, Take, Steal, Pass, only_if, moved, by_pass}
+use Rattle.interleave.specs.Replay.{does, hands_on}
+use Rattle.interleave.specs.Jobs.{program_of, lists_of, budget_of}
+use Rattle.interleave.specs.Shown.{AreBoth, IsTaskOf, IsBookOf, IsDoingThere, is_path, is_scope, scope_id, whereabouts}
+use Rattle.interleave.specs.Shown.{Shows, next_world}
+use Rattle.interleave.specs.World.{Live, Scope, World, Whereabouts, Queue, Hand, Parked, task, put_task, scope, put_scope}
+use Rattle.interleave.specs.World.{in_queue, in_hand, hand_is_free}
+use Rattle.interleave.specs.declared.doing.Doing.{Doing}
+use Rattle.interleave.specs.declared.event.ScopeId.{ScopeId as rScopeId}
+use Rattle.interleave.specs.declared.job.Job.{Job}
+use Rattle.interleave.specs.declared.scope.Scope.{Scope as rScope}
+use Rattle.interleave.specs.declared.task.Task.{Task as rTask}
+use Rattle.interleave.specs.declared.task.Whereabouts.{Whereabouts as rWhereabouts}
+use Rattle.interleave.specs.declared.task.Whereabouts.TheVariants.{Queue as rQueue, Hand as rHand}
+use Rattle.interleave.specs.declared.world.World.{World as rWorld}
+use Rattle.interleave.proofs.Lookups.{task_path, scope_id as named_so}
+use Rattle.interleave.proofs.Tables.{there, not_there, tasks_put, scopes_put, free_put, led_on}
+
+queued_doing : (j : Job) (q : Whereabouts) (w : ℕ) (c : Course) (d : Doing) → in_queue q w ≡ true → IsDoingThere j q c d → IsDoing j c d
+queued_doing j (Queue v) w c d e h = h
+queued_doing j (Hand v) w c d e h = h
+queued_doing j Parked w c d e h = false_true e
+
+queued_out : (q : Whereabouts) (w v : ℕ) → in_queue q w ≡ true → in_hand q v ≡ false
+queued_out (Queue u) w v e = refl
+queued_out (Hand u) w v e = false_true e
+queued_out Parked w v e = refl
+
+taken_hand : (b f : Bool) → (if b then true else not f) ≡ not (not b && f)
+taken_hand true f = refl
+taken_hand false f = refl
+
+-- where a task of a path is in a queue, it is so in the definition
+pub record Found (old : rWorld) (w : World) (path : Path) (worker : ℕ) (k : rTask) : Type 0 where
+  pub its : Live
+  pub lives : task path.turns.items w.live ≡ Some its
+  pub is : IsTaskOf old.job k its
+  pub queued : in_queue its.place worker ≡ true
+
+module _ (old : rWorld) (w : World) (h : Shows old w) (path : Path) where
+  pub found : (worker : ℕ) (k : rTask) → get is_path old.tasks path ≡ Some k → in_queue (whereabouts k.place) worker ≡ true
+      → Found old w path worker k
+  found worker k at queued =
+      let t = there (IsTaskOf old.job) k (get is_path old.tasks path) (task path.turns.items w.live) (h.tasks path) at in
+      record { its = t.0; lives = t.1; is = t.2; queued = ap (λ q. in_queue q worker) (sym t.2.place) ∙ queued }
+
+  -- where no task of the path is in that queue, none is in the definition
+  not_queued : (worker : ℕ) (P : Live → Option World)
+      → ((k : rTask) → get is_path old.tasks path ≡ Some k → in_queue (whereabouts k.place) worker ≡ false)
+      → ((t : Live) → in_queue t.place worker ≡ false → P t ≡ None) → and_then (task path.turns.items w.live) P ≡ None
+  not_queued worker P none go = by_table (get is_path old.tasks path) (h.tasks path) none
+    where
+      by_table : (o : Option rTask) → AreBoth (IsTaskOf old.job) o (task path.turns.items w.live)
+          → ((k : rTask) → o ≡ Some k → in_queue (whereabouts k.place) worker ≡ false) → and_then (task path.turns.items w.live) P ≡ None
+      by_table None both out = ap (λ o. and_then o P) (not_there (IsTaskOf old.job) None (task path.turns.items w.live) both refl)
+      by_table (Some k) both out =
+          let t = there (IsTaskOf old.job) k (Some k) (task path.turns.items w.live) both refl in
+          ap (λ o. and_then o P) t.1 ∙ go t.0 (ap (λ q. in_queue q worker) (sym t.2.place) ∙ out k refl)
+
+  -- a task that is in a queue is somewhere else
+  module _ (from : ℕ) (k : rTask) (at : get is_path old.tasks path ≡ Some k) (queued : in_queue (whereabouts k.place) from ≡ true)
+      (place : rWhereabouts) (new : rWorld)
+      (each : (q : Path) → get is_path new.tasks q ≡ (if is_path path q then Some (record k { place = place }) else get is_path old.tasks q)) where
+    abbrev its : Live
+    its = (found from k at queued).its
+
+    abbrev to : World
+    to = moved (whereabouts place) its w
+
+    shows_moved : (e : Event) → ((c : Course) (d : Doing) → IsDoing old.job c d → IsDoingThere old.job (whereabouts place) c d)
+        → next_world old.job e w ≡ Some to
+        → ((v : ℕ) → contains nat_eq new.hands v ≡ not (not (in_hand (whereabouts place) v) && hand_is_free v w.live))
+        → Shows (record old { tasks = new.tasks; hands = new.hands }) to
+    shows_moved e so legal hand =
+        let f = found from k at queued in
+        let named = task_path path.turns.items w.live its f.lives in
+        record {
+          events = h.events ++ e ∷ [];
+          led = led_on (program_of old.job) old.job.w0 (lists_of old.job) (budget_of old.job) e h.events w to h.led legal;
+          tasks = tasks_put old.job (get is_path old.tasks) (get is_path new.tasks) path (record k { place = place }) its
+              (record its { place = whereabouts place }) w.live h.tasks f.lives named
+              (record {
+                place = refl;
+                stakes = f.is.stakes;
+                opened = f.is.opened;
+                doing = so (course_of its) k.doing (queued_doing old.job its.place from (course_of its) k.doing f.queued f.is.doing);
+              })
+              each;
+          scopes = h.scopes;
+          hands = λ v. hand v
+              ∙ ap not (sym (free_put v (record its { place = whereabouts place }) its w.live (ap (λ p. task p w.live) named ∙ f.lives)
+              (queued_out its.place from v f.queued)));
+        }
+
+    -- into a hand that was free
+    pub taken : (worker : ℕ) → place ≡ rHand worker → worker ≡ from → contains nat_eq old.hands worker ≡ false
+        → ((v : ℕ) → contains nat_eq new.hands v ≡ (if nat_eq worker v then true else contains nat_eq old.hands v))
+        → (next : World) × (next_world old.job (Take worker path.turns.items) w ≡ Some next)
+        × Shows (record old { tasks = new.tasks; hands = new.hands }) next
+    taken worker put same free hand = (to, legal, shows_moved (Take worker path.turns.items) so legal hands_so)
+      where
+        f : Found old w path from k
+        f = found from k at queued
+
+        so : (c : Course) (d : Doing) → IsDoing old.job c d → IsDoingThere old.job (whereabouts place) c d
+        so c d x = subst (λ (q : rWhereabouts). IsDoingThere old.job (whereabouts q) c d) (sym put) x
+
+        room : hand_is_free worker w.live ≡ true
+        room = not-false (hand_is_free worker w.live) (sym (h.hands worker) ∙ free)
+
+        legal : next_world old.job (Take worker path.turns.items) w ≡ Some to
+        legal =
+            ap (λ o. and_then o (λ (t : Live). only_if (in_queue t.place worker && hand_is_free worker w.live)
+            (Some (moved (Hand worker) t w)))) f.lives
+            ∙ ap (λ b. only_if (b && hand_is_free worker w.live) (Some (moved (Hand worker) its w)))
+            (ap (λ v. in_queue its.place v) same ∙ f.queued)
+            ∙ ap (λ b. only_if b (Some (moved (Hand worker) its w))) room
+            ∙ ap (λ (q : rWhereabouts). Some (moved (whereabouts q) its w)) (sym put)
+
+        hands_so : (v : ℕ) → contains nat_eq new.hands v ≡ not (not (in_hand (whereabouts place) v) && hand_is_free v w.live)
+        hands_so v =
+            hand v ∙ ap (λ b. if nat_eq worker v then true else b) (h.hands v)
+            ∙ taken_hand (nat_eq worker v) (hand_is_free v w.live)
+            ∙ ap (λ (q : rWhereabouts). not (not (in_hand (whereabouts q) v) && hand_is_free v w.live)) (sym put)
+
+    -- into another's queue
+    pub stolen : (worker : ℕ) → place ≡ rQueue worker → (from ≡ worker → ⊥) → new.hands ≡ old.hands
+        → (next : World) × (next_world old.job (Steal worker from path.turns.items) w ≡ Some next)
+        × Shows (record old { tasks = new.tasks; hands = new.hands }) next
+    stolen worker put other same = (to, legal, shows_moved (Steal worker from path.turns.items) so legal hands_so)
+      where
+        f : Found old w path from k
+        f = found from k at queued
+
+        so : (c : Course) (d : Doing) → IsDoing old.job c d → IsDoingThere old.job (whereabouts place) c d
+        so c d x = subst (λ (q : rWhereabouts). IsDoingThere old.job (whereabouts q) c d) (sym put) x
+
+        legal : next_world old.job (Steal worker from path.turns.items) w ≡ Some to
+        legal =
+            ap (λ o. and_then o (λ (t : Live). only_if (in_queue t.place from && not (nat_eq from worker))
+            (Some (moved (Queue worker) t w)))) f.lives
+            ∙ ap (λ b. only_if (b && not (nat_eq from worker)) (Some (moved (Queue worker) its w))) f.queued
+            ∙ ap (λ b. only_if (not b) (Some (moved (Queue worker) its w))) (ne_eqb from worker other)
+            ∙ ap (λ (q : rWhereabouts). Some (moved (whereabouts q) its w)) (sym put)
+
+        hands_so : (v : ℕ) → contains nat_eq new.hands v ≡ not (not (in_hand (whereabouts place) v) && hand_is_free v w.live)
+        hands_so v =
+            ap (λ s. contains nat_eq s v) same ∙ h.hands v
+            ∙ ap (λ (q : rWhereabouts). not (not (in_hand (whereabouts q) v) && hand_is_free v w.live)) (sym put)
+
+  -- what isn't legal
+  pub not_taken : (worker : ℕ)
+      → ((k : rTask) → get is_path old.tasks path ≡ Some k → in_queue (whereabouts k.place) worker ≡ false)
+      → next_world old.job (Take worker path.turns.items) w ≡ None
+  not_taken worker none = not_queued worker _ none
+      (λ t e. ap (λ b. only_if (b && hand_is_free worker w.live) (Some (moved (Hand worker) t w))) e)
+
+  pub hand_full : (worker : ℕ) → contains nat_eq old.hands worker ≡ true → next_world old.job (Take worker path.turns.items) w ≡ None
+  hand_full worker full = by_live (task path.turns.items w.live)
+    where
+      kept : hand_is_free worker w.live ≡ false
+      kept = not-true (hand_is_free worker w.live) (sym (h.hands worker) ∙ full)
+
+      by_place : (b : Bool) (t : Live) → only_if (b && hand_is_free worker w.live) (Some (moved (Hand worker) t w)) ≡ None
+      by_place true t = ap (λ b. only_if b (Some (moved (Hand worker) t w))) kept
+      by_place false t = refl
+
+      by_live : (o : Option Live)
+          → and_then o (λ (t : Live). only_if (in_queue t.place worker && hand_is_free worker w.live) (Some (moved (Hand worker) t w))) ≡ None
+      by_live None = refl
+      by_live (Some t) = by_place (in_queue t.place worker) t
+
+  pub not_stolen : (worker from : ℕ)
+      → ((k : rTask) → get is_path old.tasks path ≡ Some k → in_queue (whereabouts k.place) from ≡ false)
+      → next_world old.job (Steal worker from path.turns.items) w ≡ None
+  not_stolen worker from none = not_queued from _ none
+      (λ t e. ap (λ b. only_if (b && not (nat_eq from worker)) (Some (moved (Queue worker) t w))) e)
+
+-- ---- a scope passes
+abbrev passing : rWorld → World → Scope → Option World
+passing old w =
+    let p = program_of old.job in
+    by_pass old.job.w0 (does p (needs_of p) (budget_of old.job).steps old.job.w0) (hands_on p (needs_of p) (budget_of old.job).steps old.job.w0) w
+
+same_test : (s : rScope) (book : Scope) → IsBookOf s book
+    → (not s.passed && nat_eq s.issued s.returned) ≡ (not book.passed && nat_eq book.issued book.returned)
+same_test s book h =
+    ap (λ x. not x && nat_eq s.issued s.returned) h.passed
+    ∙ ap (λ n. not book.passed && nat_eq n s.returned) h.issued
+    ∙ ap (λ n. not book.passed && nat_eq book.issued n) h.returned
+
+module _ (old : rWorld) (w : World) (h : Shows old w) (id : rScopeId) where
+  pub passes : (s : rScope) (scopes : _) → get is_scope old.scopes id ≡ Some s
+      → (not s.passed && nat_eq s.issued s.returned) ≡ true
+      → ((q : rScopeId) → get is_scope scopes q ≡ (if is_scope id q then Some (record s { passed = true }) else get is_scope old.scopes q))
+      → (next : World) × (next_world old.job (Pass (scope_id id)) w ≡ Some next) × Shows (record old { scopes = scopes }) next
+  passes s scopes at complete each = (
+    to,
+    legal,
+    record {
+      events = h.events ++ Pass (scope_id id) ∷ [];
+      led = led_on (program_of old.job) old.job.w0 (lists_of old.job) (budget_of old.job) (Pass (scope_id id)) h.events w to h.led legal;
+      tasks = h.tasks;
+      scopes = scopes_put (get is_scope old.scopes) (get is_scope scopes) id (record s { passed = true }) b.0 (record b.0 { passed = true }) w.scopes
+          h.scopes b.1 (named_so (scope_id id) w.scopes b.0 b.1)
+          (record { issued = b.2.issued; returned = b.2.returned; passed = refl; results = b.2.results }) each;
+      hands = h.hands;
+    },
+  )
+    where
+      b : (x : Scope) × (scope (scope_id id) w.scopes ≡ Some x) × IsBookOf s x
+      b = there IsBookOf s (get is_scope old.scopes id) (scope (scope_id id) w.scopes) (h.scopes id) at
+
+      to : World
+      to = record w { scopes = put_scope (record b.0 { passed = true }) w.scopes }
+
+      legal : next_world old.job (Pass (scope_id id)) w ≡ Some to
+      legal = ap (λ o. and_then o (passing old w)) b.1 ∙ ap (λ x. only_if x (Some to)) (sym (same_test s b.0 b.2) ∙ complete)
+
+  pub passes_not : ((s : rScope) → get is_scope old.scopes id ≡ Some s → (not s.passed && nat_eq s.issued s.returned) ≡ false)
+      → next_world old.job (Pass (scope_id id)) w ≡ None
+  passes_not none = by_table (get is_scope old.scopes id) (h.scopes id) none
+    where
+      by_table : (o : Option rScope) → AreBoth IsBookOf o (scope (scope_id id) w.scopes)
+          → ((s : rScope) → o ≡ Some s → (not s.passed && nat_eq s.issued s.returned) ≡ false)
+          → next_world old.job (Pass (scope_id id)) w ≡ None
+      by_table None both out = ap (λ o. and_then o (passing old w)) (not_there IsBookOf None (scope (scope_id id) w.scopes) both refl)
+      by_table (Some s) both out =
+          let b = there IsBookOf s (Some s) (scope (scope_id id) w.scopes) both refl in
+          ap (λ o. and_then o (passing old w)) b.1 ∙ ap (λ x. only_if x (Some (record w { scopes = put_scope (record b.0 { passed = true }) w.scopes })))
+          (sym (same_test s b.0 b.2) ∙ out s refl)

@@ -1,0 +1,105 @@
+-- A world in Rust after an event: its tables, the hands, and the events that led to it.
+use Rattle.std.proofs.Common.{◌≡◌, ℕ, List, [], ◌∷◌, ◌++◌, Option, Some, None, refl, sym, ap, ◌∙◌, subst}
+use Rattle.std.proofs.lemmas.Option.{none-some, same_Some}
+use Rattle.std.specs.Prelude.{Bool, true, false, ◌&&◌, ◌||◌, not, nat_eq, ℤ, if◌then◌else◌}
+use Rattle.types.specs.Code.{Program}
+use Rattle.types.specs.Outcome.{Budget}
+use Rattle.types.specs.declared.path.Path.{Path}
+use Rattle.effects.specs.Rounds.{needs_of}
+use Rattle.own_run.specs.Results.{and_then}
+use Rattle.own_run.proofs.SettledResults.{gives}
+use Rattle.interleave.specs.Events.{Event, next, after}
+use Rattle.interleave.specs.Replay.{does, hands_on, start_of}
+use Rattle.interleave.specs.Shown.{AreBoth, IsTaskOf, IsBookOf, is_path, is_scope, scope_id}
+use Rattle.interleave.specs.World.{Live, Scope, World, same_path, task, put_task, scope, put_scope, in_hand, hand_is_free}
+use Rattle.interleave.specs.Worlds.{LeadsTo, event_of}
+use Rattle.interleave.specs.declared.event.ScopeId.{ScopeId as rScopeId}
+use Rattle.interleave.specs.declared.job.Job.{Job}
+use Rattle.interleave.specs.declared.scope.Scope.{Scope as rScope}
+use Rattle.interleave.specs.declared.task.Task.{Task as rTask}
+use Rattle.interleave.proofs.Lookups.{by_test, task-put_task, scope-put_scope}
+use Rattle.interleave.proofs.Outcomes.{replays_are_worlds, worlds_are_replays}
+
+pick : {A B : Type 0} (Are : A → B → Type 0) (b : Bool) (x u : Option A) (y v : Option B) → AreBoth Are x y → AreBoth Are u v
+    → AreBoth Are (if b then x else u) (if b then y else v)
+pick Are true x u y v h k = h
+pick Are false x u y v h k = k
+
+-- what a table has at a key, by what the definition has there
+pub there : {A B : Type 0} (Are : A → B → Type 0) (a : A) (o : Option A) (q : Option B) → AreBoth Are o q → o ≡ Some a
+    → (b : B) × (q ≡ Some b) × Are a b
+there Are a (Some x) (Some b) h e = (b, refl, subst (λ z. Are z b) (same_Some x a e) h)
+there Are a (Some x) None h e = absurd h
+there Are a None q h e = absurd (none-some a e)
+
+pub not_there : {A B : Type 0} (Are : A → B → Type 0) (o : Option A) (q : Option B) → AreBoth Are o q → o ≡ None → q ≡ None
+not_there Are None None h e = refl
+not_there Are None (Some b) h e = absurd h
+not_there Are (Some x) q h e = absurd (none-some x (sym e))
+
+module _ (j : Job) where
+  -- a task is put in its place
+  pub tasks_put : (at to_at : Path → Option rTask) (k : Path) (new : rTask) (was to : Live) (live : List Live)
+      → ((q : Path) → AreBoth (IsTaskOf j) (at q) (task q.turns.items live)) → task k.turns.items live ≡ Some was
+      → to.path ≡ k.turns.items → IsTaskOf j new to
+      → ((q : Path) → to_at q ≡ (if is_path k q then Some new else at q))
+      → (q : Path) → AreBoth (IsTaskOf j) (to_at q) (task q.turns.items (put_task to live))
+  tasks_put at to_at k new was to live h lives named is each q =
+      subst (λ o. AreBoth (IsTaskOf j) o (task q.turns.items (put_task to live))) (sym (each q))
+      (subst (λ o. AreBoth (IsTaskOf j) (if is_path k q then Some new else at q) o)
+      (sym (task-put_task to was q.turns.items live (ap (λ p. task p live) named ∙ lives)
+      ∙ ap (λ p. if same_path p q.turns.items then Some to else task q.turns.items live) named))
+      (pick (IsTaskOf j) (is_path k q) (Some new) (at q) (Some to) (task q.turns.items live) is (h q)))
+
+-- a scope is put in its place
+pub scopes_put : (at to_at : rScopeId → Option rScope) (k : rScopeId) (new : rScope) (was to : Scope) (ss : List Scope)
+    → ((q : rScopeId) → AreBoth IsBookOf (at q) (scope (scope_id q) ss)) → scope (scope_id k) ss ≡ Some was
+    → to.id ≡ scope_id k → IsBookOf new to
+    → ((q : rScopeId) → to_at q ≡ (if is_scope k q then Some new else at q))
+    → (q : rScopeId) → AreBoth IsBookOf (to_at q) (scope (scope_id q) (put_scope to ss))
+scopes_put at to_at k new was to ss h there named is each q =
+    subst (λ o. AreBoth IsBookOf o (scope (scope_id q) (put_scope to ss))) (sym (each q))
+    (subst (λ o. AreBoth IsBookOf (if is_scope k q then Some new else at q) o)
+    (sym (scope-put_scope to was (scope_id q) ss (ap (λ i. scope i ss) named ∙ there)
+    ∙ ap (λ i. if Rattle.interleave.specs.World.same_scope i (scope_id q) then Some to else scope (scope_id q) ss) named))
+    (pick IsBookOf (is_scope k q) (Some new) (at q) (Some to) (scope (scope_id q) ss) is (h q)))
+
+-- ---- hands
+swap : (a b c : Bool) → (a && (b && c)) ≡ (b && (a && c))
+swap true b c = refl
+swap false true c = refl
+swap false false c = refl
+
+-- a task that wasn't in this hand is put in its place
+pub free_put : (v : ℕ) (to was : Live) (ts : List Live) → task to.path ts ≡ Some was → in_hand was.place v ≡ false
+    → hand_is_free v (put_task to ts) ≡ (not (in_hand to.place v) && hand_is_free v ts)
+free_put v to was [] lives out = absurd (none-some _ lives)
+free_put v to was (t ∷ ts) lives out =
+    by_test
+    (λ b. (if b then Some t else task to.path ts) ≡ Some was
+    → hand_is_free v (if b then to ∷ ts else t ∷ put_task to ts) ≡ (not (in_hand to.place v) && (not (in_hand t.place v) && hand_is_free v ts)))
+    (same_path t.path to.path)
+    (λ e l. ap (λ b. not (in_hand to.place v) && (not b && hand_is_free v ts))
+    (sym (ap (λ (t : Live). in_hand t.place v) (same_Some t was l) ∙ out)))
+    (λ e l. ap (λ b. not (in_hand t.place v) && b) (free_put v to was ts l out)
+    ∙ swap (not (in_hand t.place v)) (not (in_hand to.place v)) (hand_is_free v ts))
+    lives
+
+-- ---- events
+after_last : (p : Program) (w0 : ℕ) (b : Budget) (e : Event) (es : List Event) (a w to : World)
+    → after w0 (does p (needs_of p) b.steps w0) (hands_on p (needs_of p) b.steps w0) es a ≡ Some w → event_of p w0 b e w ≡ Some to
+    → after w0 (does p (needs_of p) b.steps w0) (hands_on p (needs_of p) b.steps w0) (es ++ e ∷ []) a ≡ Some to
+after_last p w0 b e [] a w to h k =
+    ap (λ o. and_then o (after w0 (does p (needs_of p) b.steps w0) (hands_on p (needs_of p) b.steps w0) []))
+    (ap (event_of p w0 b e) (same_Some a w h) ∙ k)
+after_last p w0 b e (x ∷ es) a w to h k =
+    let g = gives (event_of p w0 b x a) _ w h in
+    ap (λ o. and_then o (after w0 (does p (needs_of p) b.steps w0) (hands_on p (needs_of p) b.steps w0) (es ++ e ∷ []))) g.first
+    ∙ after_last p w0 b e es g.one w to g.next k
+
+-- one event more leads on
+pub led_on : (p : Program) (w0 : ℕ) (input : List (List ℤ)) (b : Budget) (e : Event) (es : List Event) (w to : World)
+    → LeadsTo p w0 input b es w → event_of p w0 b e w ≡ Some to → LeadsTo p w0 input b (es ++ e ∷ []) to
+led_on p w0 input b e es w to h k =
+    worlds_are_replays p (needs_of p) w0 input b (es ++ e ∷ []) to
+    (after_last p w0 b e es (start_of p w0 input b) w to (replays_are_worlds p (needs_of p) w0 input b es w h) k)

@@ -1,0 +1,293 @@
+-- What a turn shows of a task that was to run.
+use Rattle.std.proofs.Common.{◌≡◌, ℕ, zero, suc, ◌+◌, ◌≤◌, List, [], ◌∷◌, ◌++◌, length, Some, refl, sym, ap, ◌∙◌, subst}
+use Rattle.std.proofs.Common.{inl, inr, arith}
+use Rattle.std.specs.Prelude.{Bool, true, false, ◌⊎◌}
+use Rattle.std.proofs.lemmas.List.{length-append}
+use Rattle.types.specs.Code.{Program}
+use Rattle.types.specs.Run.{State}
+use Rattle.types.specs.Translation.{program}
+use Rattle.effects.specs.Rounds.{needs_of}
+use Rattle.own_run.specs.Frames.{Frame, Rest, Again, AtEnd, Back, Standing, done_in, turn, IsTask, Follows}
+use Rattle.own_run.specs.Given.{in_truth}
+use Rattle.own_run.specs.MayRun.{MayRun, MayStart, Stays}
+use Rattle.own_run.specs.OwnRun.{Own, Start, Action, Step, Spawn, EnterFinish, begun_by, own_rules, last_action}
+use Rattle.own_run.specs.OwnRun.{next_action}
+use Rattle.own_run.specs.Reached.{begun, turns}
+use Rattle.own_run.specs.Runs.{root, MayStand}
+use Rattle.own_run.specs.RunTurns.{GoesAs, GoesTo, IsTurn, TurnOf}
+use Rattle.own_run.specs.Standings.{IsAt, state_of, with_own}
+use Rattle.own_run.specs.Stops.{stops}
+use Rattle.own_run.specs.Translation.{start, task_result}
+use Rattle.own_run.specs.declared.run.Run.{Run}
+use Rattle.own_run.specs.declared.start.Start.{Start as rStart}
+use Rattle.own_run.specs.declared.turn.Turn.{Turn}
+use Rattle.own_run.specs.declared.turn.Turn.TheVariants.{Going, Spawns, EntersFinish, EndsFinish, Ended, Over}
+use Rattle.own_run.proofs.AcceptedPrograms.{provides_needs}
+use Rattle.own_run.proofs.Begun.{begun_by-append}
+use Rattle.own_run.proofs.HoldingTurns.{root_begins}
+use Rattle.own_run.proofs.NextAction.{next_is_done, next_is_end, next_is_last}
+use Rattle.own_run.proofs.ReachedTasks.{goes}
+use Rattle.own_run.proofs.RunsGoOn.{stays}
+use Rattle.own_run.proofs.TaskRuns.{begins_follow, turns_follow}
+use Rattle.own_run.proofs.TurnActions.{turn_does}
+use Rattle.race_checker.proofs.Calming.{is_calm}
+use Rattle.race_checker.proofs.Scoping.{is_scoped}
+use Rattle.interleave.specs.Courses.{Course, further, with_child, with_finish, IsNext, HasCome}
+use Rattle.interleave.specs.Courses.{IsFresh, IsRunOf, IsShown}
+use Rattle.interleave.specs.Jobs.{IsJob, program_of, lists_of, budget_of}
+use Rattle.interleave.specs.World.{child_path}
+use Rattle.interleave.specs.declared.job.Job.{Job}
+use Rattle.interleave.proofs.Histories.{nil_cons}
+use Rattle.interleave.proofs.Paying.{turn_pays, turn_idle, over_idle, turn_names, Named}
+use Rattle.interleave.proofs.Jobs.{fits}
+
+module _ (j : Job) (ok : IsJob j) where
+  abbrev p : Program
+  p = program_of j
+
+  abbrev At : List (Frame Own) → State Own → Standing Own
+  At fs st = record { frames = fs; state = st }
+
+  -- wherever a task stands, it is its own run
+  its_task : (s : Start) (u : Standing Own) → MayStand p (lists_of j) (budget_of j) s u
+      → IsTask p (needs_of p) (budget_of j).steps (root p (lists_of j) (budget_of j)) s u
+  its_task s u h =
+      (goes p (needs_of p) (is_scoped p ok.sound) (is_calm p ok.sound ok.accepted) (provides_needs p ok.sound) (budget_of j).steps
+      (root p (lists_of j) (budget_of j)) refl
+      (root_begins p (needs_of p) (is_scoped p ok.sound) (is_calm p ok.sound ok.accepted) (provides_needs p ok.sound) (lists_of j)
+      (budget_of j).nest (fits j ok)) h).task
+
+  -- where it comes to by a turn
+  abbrev next_of : Start → Frame Own → List (Frame Own) → State Own → Standing Own
+  next_of s f fs st = turn p (own_rules (needs_of p) s.nest (in_truth p (needs_of p) (budget_of j).steps)) f fs st
+
+  abbrev root_start : Start
+  root_start = root p (lists_of j) (budget_of j)
+
+  -- what it does next is what its turn does
+  next_is : (c : Course) (f : Frame Own) (fs : List (Frame Own)) (st : State Own) (a : Action)
+      → HasCome j c (At (f ∷ fs) st) → done_in (needs_of p) c.start.nest f st ≡ a ∷ [] → IsNext j c a
+  next_is c f fs st a h e =
+      let task = its_task c.start (At (f ∷ fs) st) h.stands in
+      ap (λ n. next_action p (needs_of p) (budget_of j).steps c.receipts n c.start) (sym h.after)
+      ∙ next_is_done p (needs_of p) (budget_of j).steps root_start c.start c.receipts f fs st a task.fine task.below h.follows e
+
+  -- a turn that does this
+  come_on : (c : Course) (done spawned opened : ℕ) (f : Frame Own) (fs : List (Frame Own)) (st : State Own) (xs : List Action)
+      → HasCome j c (At (f ∷ fs) st) → done_in (needs_of p) c.start.nest f st ≡ xs
+      → done ≡ c.done + length xs → spawned ≡ c.spawned + length (begun_by xs)
+      → opened + (next_of c.start f fs st).state.steps ≤ c.opened + st.steps
+      → HasCome j (record c { done = done; spawned = spawned; opened = opened }) (next_of c.start f fs st)
+  come_on c done spawned opened f fs st xs h e is_done is_spawned is_opened =
+      let task = its_task c.start (At (f ∷ fs) st) h.stands in
+      let to = next_of c.start f fs st in
+      let close = in_truth p (needs_of p) (budget_of j).steps in
+      let does : to.state.extra.actions ≡ st.extra.actions ++ xs
+      = turn_does p (needs_of p) c.start.nest close f fs st ∙ ap (λ l. st.extra.actions ++ l) e in
+      let reached = turns h.stands in
+      let now = its_task c.start to reached in
+      let count = ap length does ∙ length-append st.extra.actions xs in
+      let was = h.after in
+      let kids = sym now.fine.counted ∙ ap (λ l. length (begun_by l)) does
+      ∙ ap length (begun_by-append st.extra.actions xs) ∙ length-append (begun_by st.extra.actions) (begun_by xs) in
+      let old = task.fine.counted in
+      let had = h.children in
+      let least = h.few in
+      record {
+        stands = reached;
+        follows = turns_follow p (needs_of p) (budget_of j).steps root_start c.start c.receipts f fs st task.fine task.below h.follows;
+        after = omega (arith, count, was, is_done);
+        children = omega (arith, kids, old, had, is_spawned);
+        few = omega (arith, least, is_opened);
+      }
+
+  -- it takes a step
+  pays_one : (c : Course) (f : Frame Own) (fs : List (Frame Own)) (st : State Own) (a : Action)
+      → done_in (needs_of p) c.start.nest f st ≡ a ∷ [] → (next_of c.start f fs st).state.steps + 1 ≤ st.steps
+  pays_one c f fs st a e = by_pay (turn_pays p (needs_of p) c.start.nest (in_truth p (needs_of p) (budget_of j).steps) f fs st).1
+    where
+      by_pay : (done_in (needs_of p) c.start.nest f st ≡ []) ⊎ ((next_of c.start f fs st).state.steps + 1 ≤ st.steps)
+          → (next_of c.start f fs st).state.steps + 1 ≤ st.steps
+      by_pay (inl none) = absurd (nil_cons (sym none ∙ e))
+      by_pay (inr pays) = pays
+
+  pays_none : (c : Course) (f : Frame Own) (fs : List (Frame Own)) (st : State Own)
+      → (next_of c.start f fs st).state.steps ≤ st.steps
+  pays_none c f fs st = (turn_pays p (needs_of p) c.start.nest (in_truth p (needs_of p) (budget_of j).steps) f fs st).0
+
+  module _ (r : Run) (c : Course) (f : Frame Own) (fs : List (Frame Own)) (st : State Own)
+      (is : program r.plan.program.now ≡ p) (nest : r.thread.nest ≡ c.start.nest) (steps : st.steps ≡ r.thread.steps)
+      (come : HasCome j c (At (f ∷ fs) st)) where
+    abbrev reached_by : Standing Own
+    reached_by =
+        turn (program r.plan.program.now) (own_rules (needs_of p) r.thread.nest (in_truth p (needs_of p) (budget_of j).steps)) f fs st
+
+    same_turn : next_of c.start f fs st ≡ reached_by
+    same_turn =
+        ap (λ (n : ℕ). turn p (own_rules (needs_of p) n (in_truth p (needs_of p) (budget_of j).steps)) f fs st) (sym nest)
+        ∙ ap (λ (x : Program). turn x (own_rules (needs_of p) r.thread.nest (in_truth p (needs_of p) (budget_of j).steps)) f fs st) (sym is)
+
+    does_so : (xs : List Action) → done_in (needs_of p) r.thread.nest f st ≡ xs → done_in (needs_of p) c.start.nest f st ≡ xs
+    does_so xs e = ap (λ (n : ℕ). done_in (needs_of p) n f st) (sym nest) ∙ e
+
+    -- the run after it stands there
+    runs_on : (d : Course) (q : Run) → d.start ≡ c.start → GoesTo r reached_by q → HasCome j d (next_of c.start f fs st) → IsRunOf j d q
+    runs_on d q starts goes there = record {
+      program = ap (λ plan. program plan.program.now) goes.plan ∙ is;
+      nest = goes.nest ∙ nest ∙ ap (λ (x : Start). x.nest) (sym starts);
+      frames = reached_by.frames;
+      own = goes.stands.own;
+      shows = goes.stands.shows;
+      come = subst (λ (out : State Own). HasCome j d (record { frames = reached_by.frames; state = out })) (sym goes.stands.is)
+          (subst (HasCome j d) same_turn there);
+    }
+
+    left : (q : Run) → GoesTo r reached_by q → (next_of c.start f fs st).state.steps ≡ q.thread.steps
+    left q goes = ap (λ (u : Standing Own). u.state.steps) same_turn ∙ ap (λ (out : State Own). out.steps) (sym goes.stands.is)
+
+    silent : (q : Run) → GoesTo r reached_by q → done_in (needs_of p) r.thread.nest f st ≡ [] → IsRunOf j c q
+    silent q goes e =
+        let le = pays_none c f fs st in
+        let k = come_on c c.done c.spawned c.opened f fs st [] come (does_so [] e) (omega arith) (omega arith) (omega (arith, le)) in
+        runs_on c q refl goes (record { stands = k.stands; follows = k.follows; after = k.after; children = k.children; few = k.few })
+
+    stepped : (q : Run) → GoesTo r reached_by q → done_in (needs_of p) r.thread.nest f st ≡ Step ∷ [] → IsRunOf j (further c) q
+    stepped q goes e =
+        let le = pays_none c f fs st in
+        runs_on (further c) q refl goes
+        (come_on c (c.done + 1) c.spawned c.opened f fs st (Step ∷ []) come (does_so (Step ∷ []) e) refl (omega arith) (omega (arith, le)))
+
+    spawned_one : (q : Run) (x : Start) → GoesTo r reached_by q → done_in (needs_of p) r.thread.nest f st ≡ Spawn x ∷ []
+        → IsRunOf j (with_child c) q
+    spawned_one q x goes e =
+        let le = pays_none c f fs st in
+        runs_on (with_child c) q refl goes
+        (come_on c (c.done + 1) (c.spawned + 1) c.opened f fs st (Spawn x ∷ []) come (does_so (Spawn x ∷ []) e) refl refl (omega (arith, le)))
+
+    opened_one : (q : Run) → GoesTo r reached_by q → done_in (needs_of p) r.thread.nest f st ≡ EnterFinish ∷ []
+        → IsRunOf j (with_finish c) q
+    opened_one q goes e =
+        let le = pays_one c f fs st EnterFinish (does_so (EnterFinish ∷ []) e) in
+        runs_on (with_finish c) q refl goes
+        (come_on c (c.done + 1) c.spawned (c.opened + 1) f fs st (EnterFinish ∷ []) come (does_so (EnterFinish ∷ []) e) refl (omega arith)
+        (omega (arith, le)))
+
+    -- a turn that goes on took a step, or did nothing
+    going : (q : Run) → GoesTo r reached_by q → stops r.thread.nest f st ≡ false
+        → (done_in (needs_of p) r.thread.nest f st ≡ []) ⊎ (done_in (needs_of p) r.thread.nest f st ≡ Step ∷ [])
+        → IsShown j c r.thread.steps (Going q)
+    going q goes within (inl none) =
+        let le = turn_idle p (needs_of p) c.start.nest (in_truth p (needs_of p) (budget_of j).steps) f fs st (does_so [] none)
+        (ap (λ (n : ℕ). stops n f st) (sym nest) ∙ within) in
+        let at = left q goes in
+        (λ less. absurd (omega (arith, le, at, steps, less)), λ more. silent q goes none)
+    going q goes within (inr one) =
+        let lt = pays_one c f fs st Step (does_so (Step ∷ []) one) in
+        let at = left q goes in
+        (λ less. (next_is c f fs st Step come (does_so (Step ∷ []) one), stepped q goes one), λ more. absurd (omega (arith, lt, at, steps, more)))
+
+    named : (x : Start) → done_in (needs_of p) r.thread.nest f st ≡ Spawn x ∷ [] → x.path ≡ child_path c.start.path (c.spawned + 1)
+    named x e =
+        let close = in_truth p (needs_of p) (budget_of j).steps in
+        subst (Named p (needs_of p) c.start.nest close (st.path ++ (st.spawned + 1) ∷ [])) (does_so (Spawn x ∷ []) e)
+        (turn_names p (needs_of p) c.start.nest close f st)
+        ∙ ap (λ l. l ++ (st.spawned + 1) ∷ []) (its_task c.start (At (f ∷ fs) st) come.stands).path
+        ∙ ap (λ n. c.start.path ++ (n + 1) ∷ []) come.children
+
+    by_turn : (t : Turn) → Stays p (lists_of j) (budget_of j) c.start t
+        → GoesAs r reached_by (done_in (needs_of p) r.thread.nest f st) (stops r.thread.nest f st) t → IsShown j c r.thread.steps t
+    by_turn (Going q) stay h = going q h.0 h.1.0 h.1.1
+    by_turn (Spawns q x) stay h = (
+      next_is c f fs st (Spawn (start x)) come (does_so (Spawn (start x) ∷ []) h.1.1),
+      spawned_one q (start x) h.0 h.1.1,
+      stay.1,
+      named (start x) h.1.1,
+    )
+    by_turn (EntersFinish q) stay h =
+        (next_is c f fs st EnterFinish come (does_so (EnterFinish ∷ []) h.1.1), opened_one q h.0 h.1.1)
+    by_turn (Over q) stay h = silent q h.0 (over_idle p (needs_of p) r.thread.nest (in_truth p (needs_of p) (budget_of j).steps) f st h.1)
+    by_turn (EndsFinish w x) stay h = absurd h
+    by_turn (Ended x) stay h = absurd h
+
+  module _ (r : Run) (c : Course) (is : program r.plan.program.now ≡ p) (nest : r.thread.nest ≡ c.start.nest) where
+    by_frames : (t : Turn) (fs : List (Frame Own)) (st : State Own) → st.steps ≡ r.thread.steps → HasCome j c (At fs st)
+        → Stays p (lists_of j) (budget_of j) c.start t
+        → TurnOf (needs_of p) (in_truth p (needs_of p) (budget_of j).steps) r fs st t → IsShown j c r.thread.steps t
+    by_frames t (Rest b ∷ fs) st steps come stay h = by_turn r c (Rest b) fs st is nest steps come t stay h
+    by_frames t (Again l g b ∷ fs) st steps come stay h = by_turn r c (Again l g b) fs st is nest steps come t stay h
+    by_frames t (Back env ∷ fs) st steps come stay h = by_turn r c (Back env) fs st is nest steps come t stay h
+    by_frames (Going q) (AtEnd before ∷ fs) st steps come stay h = absurd h
+    by_frames (Spawns q x) (AtEnd before ∷ fs) st steps come stay h = absurd h
+    by_frames (EntersFinish q) (AtEnd before ∷ fs) st steps come stay h = absurd h
+    by_frames (Over q) (AtEnd before ∷ fs) st steps come stay h = absurd h
+    by_frames (EndsFinish w x) (AtEnd before ∷ fs) st steps come stay h =
+        let task = its_task c.start (At (AtEnd before ∷ fs) st) come.stands in (
+          ap (λ n. next_action p (needs_of p) (budget_of j).steps c.receipts n c.start) (sym come.after)
+              ∙ next_is_end p (needs_of p) (budget_of j).steps root_start c.start c.receipts before fs st task.awake come.follows,
+          record {
+            program = ap (λ plan. program plan.program.now) h.1 ∙ is;
+            nest = h.2 ∙ nest;
+            frames = fs;
+            before = before;
+            state = st;
+            waits = h.0;
+            come = come;
+            made = h.3;
+          },
+        )
+    by_frames (Ended x) (AtEnd before ∷ fs) st steps come stay h = absurd h
+    by_frames (Going q) [] st steps come stay h = absurd h
+    by_frames (Spawns q x) [] st steps come stay h = absurd h
+    by_frames (EntersFinish q) [] st steps come stay h = absurd h
+    by_frames (Over q) [] st steps come stay h = absurd h
+    by_frames (EndsFinish w x) [] st steps come stay h = absurd h
+    by_frames (Ended x) [] st steps come stay h =
+        let task = its_task c.start (At [] st) come.stands in (
+          ap (λ n. next_action p (needs_of p) (budget_of j).steps c.receipts n c.start) (sym come.after)
+              ∙ next_is_last p (needs_of p) (budget_of j).steps root_start c.start c.receipts st task.awake come.follows
+              ∙ ap (λ q. Some (last_action q)) task.path,
+          record { state = st; come = come; is = h },
+        )
+
+  -- a run of the program's on this input
+  pub may_run : (c : Course) (r : Run) → IsRunOf j c r → MayRun p (lists_of j) (budget_of j) r
+  may_run c r m = record {
+    program = m.program;
+    start = c.start;
+    nest = m.nest;
+    frames = m.frames;
+    own = m.own;
+    shows = m.shows;
+    stands = m.come.stands;
+  }
+
+  -- whatever turn a run takes, that is what its task is about to do
+  pub shown : (c : Course) (r : Run) (t : Turn) → IsRunOf j c r → IsTurn (needs_of p) r t → IsShown j c r.thread.steps t
+  unfolding may_run
+  shown c r t m turns_so =
+      by_frames r c m.program m.nest t m.frames (with_own m.own (state_of r.thread)) refl m.come
+      (stays p (lists_of j) (budget_of j) r t (may_run c r m) turns_so)
+      (turns_so (in_truth p (needs_of p) (budget_of j).steps) m.frames m.own m.shows)
+
+  -- a task that has begun stands at its beginning
+  pub begins : (c : Course) (s : rStart) (r : Run) → IsFresh j c s → program r.plan.program.now ≡ p → r.thread.nest ≡ s.nest
+      → IsAt r (begun (budget_of j).steps (start s)) → IsRunOf j c r
+  begins c s r fresh is nest at = record {
+    program = is;
+    nest = nest ∙ ap (λ (x : Start). x.nest) fresh.is;
+    frames = (begun (budget_of j).steps (start s)).frames;
+    own = at.own;
+    shows = at.shows;
+    come = subst (λ (out : State Own). HasCome j c (record { frames = (begun (budget_of j).steps (start s)).frames; state = out }))
+        (sym at.is) (subst (λ (x : Start). HasCome j c (begun (budget_of j).steps x)) (sym fresh.is) here);
+  }
+    where
+      here : HasCome j c (begun (budget_of j).steps c.start)
+      here = record {
+        stands = fresh.may;
+        follows = subst (λ rs. Follows p (needs_of p) (budget_of j).steps root_start c.start rs (begun (budget_of j).steps c.start))
+            (sym fresh.receipts) (begins_follow p (needs_of p) (budget_of j).steps root_start c.start);
+        after = sym fresh.done;
+        children = sym fresh.spawned;
+        few = let none = fresh.opened in omega (arith, none);
+      }

@@ -1,0 +1,16 @@
+use Rattle.std.proofs.Common.{◌≡◌, sym, subst, Some}
+use Rattle.interleave.specs.Events.{Pass}
+use Rattle.interleave.specs.Shown.{Shows, next_world, scope_id}
+use Rattle.interleave.specs.World.{World}
+use Rattle.interleave.specs.declared.world.World.{World as rWorld}
+use Rattle.interleave.proofs.Moves.{passes, passes_not}
+use Rattle.interleave.proofs.world.World.pass.Goals as goal
+
+pub returns-clause-passed : goal.returns-clause-passed
+returns-clause-passed c = λ w h.
+    let old : rWorld = c.args.self.now in
+    let id = c.args.scope.now in
+    let there = c.if-not-is_complete.ensures.there in
+    subst (λ (r : rWorld). (next : World) × (next_world old.job (Pass (scope_id id)) w ≡ Some next) × Shows r next)
+    (sym c.mark_passed.ensures.others)
+    (passes old w h id there.0 c.mark_passed.new.self.scopes there.1 there.2 (c.mark_passed.ensures.marked there.0 there.1))

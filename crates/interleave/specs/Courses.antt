@@ -1,0 +1,142 @@
+-- How far a live task has come in its own run, and what a run in Rust stands for there.
+use Rattle.std.specs.Prelude.{ℕ, ◌+◌, ◌≡◌, ◌≤◌, List, [], ◌∷◌, ◌++◌, length, Some}
+use Rattle.types.specs.Run.{State}
+use Rattle.types.specs.Translation.{program}
+use Rattle.effects.specs.Rounds.{needs_of}
+use Rattle.own_run.specs.Frames.{Frame, AtEnd, Standing, Follows}
+use Rattle.own_run.specs.MayRun.{MayStart}
+use Rattle.own_run.specs.OwnRun.{Start, Action, Step, Spawn, EnterFinish, EndFinish, Own}
+use Rattle.own_run.specs.OwnRun.{last_action, next_action, result_of}
+use Rattle.own_run.specs.Results.{TaskResult}
+use Rattle.own_run.specs.Runs.{root, MayStand}
+use Rattle.own_run.specs.RunTurns.{Waits}
+use Rattle.own_run.specs.Standings.{Shows, state_of, with_own}
+use Rattle.own_run.specs.Translation.{start, task_result}
+use Rattle.own_run.specs.declared.result.TaskResult.{TaskResult as rTaskResult}
+use Rattle.own_run.specs.declared.run.Run.{Run}
+use Rattle.own_run.specs.declared.start.Start.{Start as rStart}
+use Rattle.own_run.specs.declared.turn.Paused.{Paused}
+use Rattle.own_run.specs.declared.turn.Turn.{Turn}
+use Rattle.own_run.specs.declared.turn.Turn.TheVariants.{Going, Spawns, EntersFinish, EndsFinish}
+use Rattle.own_run.specs.declared.turn.Turn.TheVariants.{Ended, Over}
+use Rattle.interleave.specs.World.{Live, child_path}
+use Rattle.interleave.specs.Jobs.{program_of, lists_of, budget_of}
+use Rattle.interleave.specs.declared.doing.Doing.{Doing}
+use Rattle.interleave.specs.declared.doing.Doing.TheVariants.{Starts, Runs, Steps, Spawns as rSpawns, Opens}
+use Rattle.interleave.specs.declared.doing.Doing.TheVariants.{AtFinish, AtEnd as rAtEnd, Lost}
+use Rattle.interleave.specs.declared.job.Job.{Job}
+
+-- what a live task has started with, gone on with and done
+pub record Course : Type 0 where
+  pub start : Start
+  pub receipts : List (List TaskResult)
+  pub done : ℕ
+  pub spawned : ℕ
+  pub opened : ℕ
+
+abbrev pub course_of : Live → Course
+course_of t = record {
+  start = t.start;
+  receipts = t.receipts;
+  done = t.done;
+  spawned = t.spawned;
+  opened = t.opened;
+}
+
+-- with one action more
+abbrev pub further : Course → Course
+further c = record c { done = c.done + 1 }
+
+-- which began a task
+abbrev pub with_child : Course → Course
+with_child c = record (further c) { spawned = c.spawned + 1 }
+
+-- which began a finish
+abbrev pub with_finish : Course → Course
+with_finish c = record (further c) { opened = c.opened + 1 }
+
+module _ (j : Job) where
+  -- the next action
+  abbrev pub IsNext : Course → Action → Type 0
+  IsNext c a =
+      next_action (program_of j) (needs_of (program_of j)) (budget_of j).steps c.receipts c.done c.start
+      ≡ Some a
+
+  -- a task has come to stand so; each finish that it began has cost a step
+  pub record HasCome (c : Course) (u : Standing Own) : Type 0 where
+    pub stands : MayStand (program_of j) (lists_of j) (budget_of j) c.start u
+    pub follows : Follows (program_of j) (needs_of (program_of j)) (budget_of j).steps
+        (root (program_of j) (lists_of j) (budget_of j)) c.start c.receipts u
+    pub after : length u.state.extra.actions ≡ c.done
+    pub children : u.state.spawned ≡ c.spawned
+    pub few : c.opened + u.state.steps ≤ (budget_of j).steps
+
+  -- a task has yet to begin
+  pub record IsFresh (c : Course) (s : rStart) : Type 0 where
+    pub is : start s ≡ c.start
+    pub may : MayStart (program_of j) (lists_of j) (budget_of j) c.start
+    pub receipts : c.receipts ≡ []
+    pub done : c.done ≡ 0
+    pub spawned : c.spawned ≡ 0
+    pub opened : c.opened ≡ 0
+
+  -- a run stands so
+  pub record IsRunOf (c : Course) (r : Run) : Type 0 where
+    pub program : program r.plan.program.now ≡ program_of j
+    pub nest : r.thread.nest ≡ c.start.nest
+    pub frames : List (Frame Own)
+    pub own : Own
+    pub shows : Shows r frames own
+    pub come : HasCome c (record { frames = frames; state = with_own own (state_of r.thread) })
+
+  -- a run waits so at the end of a finish, with this so far
+  pub record IsPausedOf (c : Course) (q : Paused) (so_far : rTaskResult) : Type 0 where
+    pub program : program q.plan.program.now ≡ program_of j
+    pub nest : q.nest ≡ c.start.nest
+    pub frames : List (Frame Own)
+    pub before : State Own
+    pub state : State Own
+    pub waits : Waits q frames before state
+    pub come : HasCome c (record { frames = AtEnd before ∷ frames; state = state })
+    pub made : task_result so_far ≡ result_of state
+
+  -- a task is at its end with this result
+  pub record IsEndOf (c : Course) (made : rTaskResult) : Type 0 where
+    pub state : State Own
+    pub come : HasCome c (record { frames = []; state = state })
+    pub is : task_result made ≡ result_of state
+
+  -- what a live task is about to do
+  abbrev pub IsDoing : Course → Doing → Type 0
+  IsDoing c (Starts s) = IsFresh c s
+  IsDoing c (Runs r) = IsRunOf c r
+  IsDoing c (Steps r) = IsNext c Step × IsRunOf (further c) r
+  IsDoing c (rSpawns r s) =
+      IsNext c (Spawn (start s)) × IsRunOf (with_child c) r
+      × MayStart (program_of j) (lists_of j) (budget_of j) (start s)
+      × (s.path.turns.items ≡ child_path c.start.path (c.spawned + 1))
+  IsDoing c (Opens r) = IsNext c EnterFinish × IsRunOf (with_finish c) r
+  IsDoing c (AtFinish q made) = IsNext c EndFinish × IsPausedOf c q made
+  IsDoing c (rAtEnd made) = IsNext c (last_action c.start.path) × IsEndOf c made
+  IsDoing c Lost = Unit {0}
+
+  -- what a turn shows of a task that was to run; `less` where steps are fewer after it
+  abbrev pub IsShown : Course → (before : ℕ) → Turn → Type 0
+  IsShown c n (Going r) =
+      (r.thread.steps + 1 ≤ n → IsDoing c (Steps r)) × (n ≤ r.thread.steps → IsRunOf c r)
+  IsShown c n (Over r) = IsRunOf c r
+  IsShown c n (Spawns r s) = IsDoing c (rSpawns r s)
+  IsShown c n (EntersFinish r) = IsDoing c (Opens r)
+  IsShown c n (EndsFinish q made) = IsDoing c (AtFinish q made)
+  IsShown c n (Ended made) = IsDoing c (rAtEnd made)
+
+-- the next action is known, or was lost
+abbrev pub IsAhead : Doing → Type 0
+IsAhead (Starts s) = ⊥
+IsAhead (Runs r) = ⊥
+IsAhead (Steps r) = Unit {0}
+IsAhead (rSpawns r s) = Unit {0}
+IsAhead (Opens r) = Unit {0}
+IsAhead (AtFinish q made) = Unit {0}
+IsAhead (rAtEnd made) = Unit {0}
+IsAhead Lost = Unit {0}

@@ -1,0 +1,105 @@
+-- What a world in Rust stands for: live tasks by their paths, scopes by their names.
+use Rattle.std.specs.Prelude.{ℕ, ◌≡◌, List, Bool, true, false, ◌&&◌, not, nat_eq, map, Option, Some, None}
+use Rattle.std.specs.Cmp.Lexicographic.{pointwise}
+use Rattle.std.specs.HashMap.{get}
+use Rattle.std.specs.HashSet.{contains}
+use Rattle.types.specs.declared.path.Path.{Path}
+use Rattle.own_run.specs.Translation.{task_result}
+use Rattle.own_run.specs.declared.result.TaskResult.{TaskResult}
+use Rattle.interleave.specs.Courses.{Course, course_of, further, IsDoing}
+use Rattle.interleave.specs.Events.{Event}
+use Rattle.interleave.specs.Jobs.{program_of, lists_of, budget_of}
+use Rattle.interleave.specs.World.{ScopeId, Stake, Live, Scope, World, Whereabouts, Queue, Hand, Parked}
+use Rattle.interleave.specs.World.{task, scope, hand_is_free}
+use Rattle.interleave.specs.Worlds.{LeadsTo, event_of}
+use Rattle.interleave.specs.declared.doing.Doing.{Doing}
+use Rattle.interleave.specs.declared.error.EventError.{EventError}
+use Rattle.interleave.specs.declared.error.EventError.TheVariants.{Illegal, NoMemory}
+use Rattle.interleave.specs.declared.event.ScopeId.{ScopeId as rScopeId}
+use Rattle.interleave.specs.declared.job.Job.{Job}
+use Rattle.interleave.specs.declared.scope.Scope.{Scope as rScope}
+use Rattle.interleave.specs.declared.task.Stake.{Stake as rStake}
+use Rattle.interleave.specs.declared.task.Task.{Task as rTask}
+use Rattle.interleave.specs.declared.task.Whereabouts.{Whereabouts as rWhereabouts}
+use Rattle.interleave.specs.declared.task.Whereabouts.TheVariants.{Queue as rQueue, Hand as rHand}
+use Rattle.interleave.specs.declared.task.Whereabouts.TheVariants.{Parked as rParked}
+use Rattle.interleave.specs.declared.world.World.{World as rWorld}
+
+-- ---- names and places
+abbrev pub scope_id : rScopeId → ScopeId
+scope_id i = record { owner = i.owner.turns.items; number = i.number }
+
+abbrev pub stake : rStake → Stake
+stake s = record { scope = scope_id s.scope; weight = s.weight }
+
+abbrev pub whereabouts : rWhereabouts → Whereabouts
+whereabouts (rQueue w) = Queue w
+whereabouts (rHand w) = Hand w
+whereabouts rParked = Parked
+
+-- whether two keys of a table are the same
+abbrev pub is_path : (path other : Path) → Bool
+is_path path other = pointwise nat_eq path.turns.items other.turns.items
+
+abbrev pub is_scope : (id other : rScopeId) → Bool
+is_scope id other = is_path id.owner other.owner && nat_eq id.number other.number
+
+-- both are there and belong together, or neither is there
+abbrev pub AreBoth : {A B : Type 0} → (A → B → Type 0) → Option A → Option B → Type 0
+AreBoth Are None None = Unit {0}
+AreBoth Are (Some a) (Some b) = Are a b
+AreBoth Are None (Some b) = ⊥
+AreBoth Are (Some a) None = ⊥
+
+-- ---- scopes
+-- a scope's numbers, and its results until its owner has them
+pub record IsBookOf (s : rScope) (book : Scope) : Type 0 where
+  pub issued : s.issued ≡ book.issued
+  pub returned : s.returned ≡ book.returned
+  pub passed : s.passed ≡ book.passed
+  pub results : map task_result s.results.items ≡ book.results
+
+module _ (j : Job) where
+  -- ---- tasks
+  -- a parked task did the end of a finish last, or of its own
+  pub record IsParked (c : Course) (doing : Doing) : Type 0 where
+    pub before : Course
+    pub last : further before ≡ c
+    pub at : IsDoing j before doing
+
+  -- what it is about to do; or where it is parked
+  abbrev pub IsDoingThere : Whereabouts → Course → Doing → Type 0
+  IsDoingThere Parked c doing = IsParked c doing
+  IsDoingThere (Queue w) c doing = IsDoing j c doing
+  IsDoingThere (Hand w) c doing = IsDoing j c doing
+
+  pub record IsTaskOf (k : rTask) (t : Live) : Type 0 where
+    pub place : whereabouts k.place ≡ t.place
+    pub stakes : map stake k.stakes.items ≡ t.stakes
+    pub opened : k.opened ≡ t.opened
+    pub doing : IsDoingThere t.place (course_of t) k.doing
+
+-- ---- worlds
+-- a world is shown by its tables, and was led to by events
+pub record Shows (r : rWorld) (w : World) : Type 0 where
+  pub events : List Event
+  pub led : LeadsTo (program_of r.job) r.job.w0 (lists_of r.job) (budget_of r.job) events w
+  pub tasks : (path : Path)
+      → AreBoth (IsTaskOf r.job) (get is_path r.tasks path) (task path.turns.items w.live)
+  pub scopes : (id : rScopeId)
+      → AreBoth IsBookOf (get is_scope r.scopes id) (scope (scope_id id) w.scopes)
+  pub hands : (worker : ℕ) → contains nat_eq r.hands worker ≡ not (hand_is_free worker w.live)
+
+-- the world after an event of a job, where it is legal
+abbrev pub next_world : Job → Event → World → Option World
+next_world j e w = event_of (program_of j) j.w0 (budget_of j) e w
+
+-- whatever world was shown, the event was legal there, and the world after it is shown
+abbrev pub Becomes : Event → (old new : rWorld) → Type 0
+Becomes e old new = (w : World) → Shows old w
+    → (to : World) × (next_world old.job e w ≡ Some to) × Shows new to
+
+-- whatever world was shown is shown still; where the event is called illegal it was
+abbrev pub Refuses : Event → (old new : rWorld) → EventError → Type 0
+Refuses e old new Illegal = (w : World) → Shows old w → Shows new w × (next_world old.job e w ≡ None)
+Refuses e old new NoMemory = (w : World) → Shows old w → Shows new w

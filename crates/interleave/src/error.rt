@@ -1,0 +1,40 @@
+//! Why an event or a list of events leads to no world.
+
+ghost use Rattle.std.specs.Prelude.{◌≡◌};
+ghost use Rattle.interleave.specs.declared.error.EventError.TheVariants.{NoMemory};
+
+use std::alloc::{AllocError, AllocFailed};
+
+/// Why an event leads to no world. The world stays as it was.
+#[derive(Clone, Copy, PartialEq, Eq, Debug)]
+pub enum EventError {
+    /// The event isn't legal in that world.
+    Illegal,
+    /// Want of memory.
+    NoMemory,
+}
+
+impl From<AllocError> for EventError {
+    ghost from_gives = { λ _ e. e ≡ NoMemory };
+
+    fn from(_error: AllocError) -> EventError {
+        EventError::NoMemory
+    }
+}
+
+impl<T: Drop> From<AllocFailed<T>> for EventError {
+    ghost from_gives = { λ _ e. e ≡ NoMemory };
+
+    fn from(_error: AllocFailed<T>) -> EventError {
+        EventError::NoMemory
+    }
+}
+
+/// Why a list of events leads to no world.
+#[derive(Clone, Copy, PartialEq, Eq, Debug)]
+pub enum ReplayError {
+    /// The event of this number, from 0, is the first that isn't legal.
+    IllegalAt(usize),
+    /// Want of memory.
+    NoMemory,
+}

@@ -1,0 +1,85 @@
+//! A finish's scope: what it has issued, what came back, and what was handed on in it.
+
+ghost use Rattle.std.specs.Prelude.{◌≡◌, ◌+◌, ◌*◌, ◌<◌, ◌≤◌, ◌&&◌, [], ◌∷◌, not, nat_eq};
+ghost use Rattle.std.specs.Prelude.{OnOk, OnErr};
+ghost use Rattle.own_run.specs.Translation.{task_result};
+ghost use Rattle.interleave.specs.Events.{give_back, issue, may_issue, new_scope};
+ghost use Rattle.interleave.specs.World.{Scope as Book};
+ghost use Rattle.interleave.specs.Shown.{IsBookOf};
+
+use crate::event::ScopeId;
+use own_run::result::TaskResult;
+use std::alloc::{AllocError, Global};
+
+/// How often a scope issues weight, at most.
+pub const MOST_ISSUES: u64 = 2_147_483_648;
+
+/// What a scope has issued and what came back, and the results of those that ended in it.
+#[derive(Drop)]
+pub struct Scope {
+    pub issued: u64,
+    pub returned: u64,
+    pub passed: bool,
+    /// Until they are handed to the owner.
+    pub results: Vec<TaskResult>,
+}
+
+impl Scope {
+    /// A scope whose owner has all its weight.
+    pub fn new(alloc: Global, w0: u64) -> Scope
+        ensures { (id : _) → IsBookOf result (new_scope id w0) }
+    {
+        Scope {
+            issued: w0,
+            returned: 0,
+            passed: false,
+            results: Vec::new(alloc),
+        }
+    }
+
+    /// Whether it may issue w0 once more.
+    pub fn may_issue(&self, w0: u64) -> bool
+        requires { w0 ≤ 4294967296 }
+        ensures { (book : Book) → IsBookOf self.now book → result ≡ may_issue w0 book }
+    {
+        self.issued < MOST_ISSUES * w0
+    }
+
+    /// Issues w0 once more.
+    pub fn issue(&mut self, w0: u64)
+        requires few { w0 ≤ 4294967296 }
+        requires may { self.old.issued < 2147483648 * w0 }
+        ensures { (book : Book) → IsBookOf self.old book → IsBookOf self.new (issue w0 book) }
+    {
+        self.issued += w0;
+    }
+
+    /// Weight comes back.
+    pub fn give_back(&mut self, weight: u64)
+        requires { self.old.returned + weight ≤ self.old.issued }
+        ensures { (book : Book) → IsBookOf self.old book
+            → IsBookOf self.new (give_back weight [] book) }
+    {
+        self.returned += weight;
+    }
+
+    /// Weight comes back, and a result with it.
+    pub fn end(&mut self, weight: u64, made: TaskResult) -> Result<(), AllocError>
+        requires { self.old.returned + weight ≤ self.old.issued }
+        ensures ended { OnOk result ((book : Book) → IsBookOf self.old book
+            → IsBookOf self.new (give_back weight (task_result made ∷ []) book)) }
+        ensures refused { OnErr result ((book : Book) → IsBookOf self.old book
+            → IsBookOf self.new book) }
+    {
+        self.results.push(made)?;
+        self.returned += weight;
+        Ok(())
+    }
+
+    /// Whether all its weight came back, and it hasn't passed yet.
+    pub fn is_complete(&self) -> bool
+        ensures { result ≡ not self.now.passed && nat_eq self.now.issued self.now.returned }
+    {
+        !self.passed && self.issued == self.returned
+    }
+}

@@ -1,0 +1,60 @@
+//! Live tasks: where they are, what they weigh where, and how far they have come.
+
+ghost use Rattle.std.specs.Prelude.{◌≡◌};
+ghost use Rattle.interleave.specs.Shown.{whereabouts};
+ghost use Rattle.interleave.specs.World.{hand_of, in_queue};
+
+use crate::doing::Doing;
+use crate::event::ScopeId;
+use std::collections::VecDeque;
+
+/// Where a task is.
+#[derive(Clone, Copy, PartialEq, Eq, Debug)]
+pub enum Whereabouts {
+    /// In a worker's queue.
+    Queue(u32),
+    /// In a worker's hand.
+    Hand(u32),
+    /// At the end of a finish of its own.
+    Parked,
+}
+
+impl Whereabouts {
+    /// Whether it is in this worker's queue.
+    pub fn is_in_queue(self, worker: u32) -> bool
+        ensures { result ≡ in_queue (whereabouts self) worker }
+    {
+        match self {
+            Whereabouts::Queue(other) => other == worker,
+            Whereabouts::Hand(_) | Whereabouts::Parked => false,
+        }
+    }
+
+    /// The worker whose hand it is in.
+    pub fn hand(self) -> Option<u32>
+        ensures { result ≡ hand_of (whereabouts self) }
+    {
+        match self {
+            Whereabouts::Hand(worker) => Some(worker),
+            Whereabouts::Queue(_) | Whereabouts::Parked => None,
+        }
+    }
+}
+
+/// A scope that a task stands in, and its weight there.
+#[derive(Drop)]
+pub struct Stake {
+    pub scope: ScopeId,
+    pub weight: u64,
+}
+
+/// A task that has begun and has not ended.
+#[derive(Drop)]
+pub struct Task<'p> {
+    pub doing: Doing<'p>,
+    /// How many finishes it has begun.
+    pub opened: u32,
+    /// The innermost scope first.
+    pub stakes: VecDeque<Stake>,
+    pub place: Whereabouts,
+}

@@ -1,0 +1,219 @@
+//! A world of tasks and scopes, and the events that touch no task's run.
+
+ghost use Rattle.std.specs.Prelude.{◌≡◌, ◌&&◌, IfErr, IfOk, OnOk, Some, true, false, not, nat_eq};
+ghost use Rattle.std.specs.Prelude.{[], if◌then◌else◌};
+ghost use Rattle.std.specs.Bool.{OnTrue, OnFalse};
+ghost use Rattle.std.specs.HashMap.{get};
+ghost use Rattle.types.specs.declared.path.Path.{Path as AnyPath};
+ghost use Rattle.interleave.specs.Events.{Pass as IsPass, Steal as IsSteal, Take as IsTake};
+ghost use Rattle.interleave.specs.Shown.{Becomes, Refuses, Shows, is_path, is_scope, scope_id};
+ghost use Rattle.interleave.specs.Shown.{whereabouts};
+ghost use Rattle.interleave.specs.World.{World as AnyWorld, book, has_passed, in_queue, weight_of};
+ghost use Rattle.interleave.specs.World.{root_scope as the_root_scope};
+ghost use Rattle.interleave.specs.Jobs.{program_of, lists_of, budget_of};
+ghost use Rattle.interleave.specs.Replay.{start_of as first_of};
+ghost use Rattle.own_run.specs.Runs.{root as root_of};
+ghost use Rattle.own_run.specs.Translation.{start as start_of};
+ghost use Rattle.interleave.specs.declared.error.EventError.TheVariants.{NoMemory};
+ghost use Rattle.interleave.specs.declared.event.ScopeId.{ScopeId as AnyScopeId};
+ghost use Rattle.interleave.specs.declared.scope.Scope.{Scope as AnyScope};
+ghost use Rattle.interleave.specs.declared.task.Task.{Task as AnyTask};
+
+use crate::doing::Doing;
+use crate::error::EventError;
+use crate::event::ScopeId;
+use crate::job::Job;
+use crate::scope::Scope;
+use crate::task::{Stake, Task, Whereabouts};
+use own_run::start::Start;
+use std::alloc::Global;
+use std::collections::{HashMap, HashSet, VecDeque};
+use types::path::Path;
+
+/// The live tasks by their paths and the scopes by their names.
+#[derive(Drop)]
+pub struct World<'p> {
+    pub job: Job<'p>,
+    pub tasks: HashMap<Path, Task<'p>>,
+    pub scopes: HashMap<ScopeId, Scope>,
+    /// The workers that have a task in their hands.
+    pub hands: HashSet<u32>,
+}
+
+impl<'p> World<'p> {
+    /// The world at the start: the root in the first worker's queue, with the weight of its scope.
+    pub fn start(job: Job<'p>, root: Start<'p>) -> Result<World<'p>, EventError>
+        requires { start_of root ≡ root_of (program_of job) (lists_of job) (budget_of job) }
+        ensures shows { IfOk result (λ r. Shows r (first_of (program_of job.entry) job.entry.w0
+            (lists_of job.entry) (budget_of job.entry))) }
+        ensures refused { IfErr result (λ e. e ≡ NoMemory) }
+    {
+        let mut stakes = VecDeque::new(job.alloc);
+        let scope = root_scope(job.alloc);
+        stakes.push_front(Stake {
+            scope,
+            weight: job.w0,
+        })?;
+        let task = Task {
+            doing: Doing::Starts(root),
+            opened: 0,
+            stakes,
+            place: Whereabouts::Queue(0),
+        };
+        let mut tasks = HashMap::new(job.alloc);
+        tasks.insert(root_path(job.alloc), task)?;
+        let mut scopes = HashMap::new(job.alloc);
+        scopes.insert(root_scope(job.alloc), Scope::new(job.alloc, job.w0))?;
+        Ok(World {
+            job,
+            tasks,
+            scopes,
+            hands: HashSet::new(job.alloc),
+        })
+    }
+
+    /// A worker takes a task from its queue into its hand.
+    pub fn take(&mut self, worker: u32, path: &Path) -> Result<(), EventError>
+        ensures taken { OnOk result
+            (Becomes (IsTake worker path.now.turns.items) self.old self.new) }
+        ensures refused { IfErr result
+            (Refuses (IsTake worker path.now.turns.items) self.old self.new) }
+    {
+        if !self.is_in_queue(path, worker) || self.hands.contains(&worker) {
+            return Err(EventError::Illegal);
+        }
+        self.hands.insert(worker)?;
+        self.move_to(path, Whereabouts::Hand(worker));
+        Ok(())
+    }
+
+    /// A worker takes a task from another's queue into its own.
+    pub fn steal(&mut self, worker: u32, from: u32, path: &Path) -> Result<(), EventError>
+        ensures stolen { OnOk result
+            (Becomes (IsSteal worker from path.now.turns.items) self.old self.new) }
+        ensures refused { IfErr result
+            (Refuses (IsSteal worker from path.now.turns.items) self.old self.new) }
+    {
+        if from == worker || !self.is_in_queue(path, from) {
+            return Err(EventError::Illegal);
+        }
+        self.move_to(path, Whereabouts::Queue(worker));
+        Ok(())
+    }
+
+    /// A scope passes, since all its weight came back.
+    pub fn pass(&mut self, scope: &ScopeId) -> Result<(), EventError>
+        ensures passed { OnOk result (Becomes (IsPass (scope_id scope.now)) self.old self.new) }
+        ensures refused { IfErr result (Refuses (IsPass (scope_id scope.now)) self.old self.new) }
+    {
+        if !self.is_complete(scope) {
+            return Err(EventError::Illegal);
+        }
+        self.mark_passed(scope);
+        Ok(())
+    }
+
+    /// Whether a scope has passed.
+    pub fn passed(&self, scope: &ScopeId) -> bool
+        ensures { (w : AnyWorld) → Shows self.now w → result ≡ has_passed (scope_id scope.now) w }
+    {
+        match self.scopes.get(scope) {
+            Some(book) => book.passed,
+            None => false,
+        }
+    }
+
+    /// What a scope has issued, and what came back.
+    pub fn book(&self, scope: &ScopeId) -> Option<(u64, u64)>
+        ensures { (w : AnyWorld) → Shows self.now w → result ≡ book (scope_id scope.now) w }
+    {
+        match self.scopes.get(scope) {
+            Some(book) => Some((book.issued, book.returned)),
+            None => None,
+        }
+    }
+
+    /// What a live task weighs in its innermost scope.
+    pub fn weight(&self, path: &Path) -> Option<u64>
+        ensures { (w : AnyWorld) → Shows self.now w → result ≡ weight_of path.now.turns.items w }
+    {
+        match self.tasks.get(path)?.stakes.front() {
+            Some(stake) => Some(stake.weight),
+            None => None,
+        }
+    }
+
+    /// Whether a task lives and is in this worker's queue.
+    fn is_in_queue(&self, path: &Path, worker: u32) -> bool
+        ensures there { OnTrue result ((k : AnyTask)
+            × (get is_path self.now.tasks path.now ≡ Some k)
+            × (in_queue (whereabouts k.place) worker ≡ true)) }
+        ensures other { OnFalse result ((k : AnyTask) → get is_path self.now.tasks path.now ≡ Some k
+            → in_queue (whereabouts k.place) worker ≡ false) }
+    {
+        match self.tasks.get(path) {
+            Some(task) => task.place.is_in_queue(worker),
+            None => false,
+        }
+    }
+
+    /// A live task is somewhere else.
+    fn move_to(&mut self, path: &Path, place: Whereabouts)
+        ensures others { self.new ≡ record self.old { tasks = self.new.tasks } }
+        ensures moved { (k : AnyTask) → get is_path self.old.tasks path.now ≡ Some k
+            → (q : AnyPath) → get is_path self.new.tasks q
+            ≡ (if is_path path.now q then Some (record k { place = place })
+            else get is_path self.old.tasks q) }
+    {
+        if let Some(task) = self.tasks.get_mut(path) {
+            task.place = place;
+        }
+    }
+
+    /// Whether all weight of a scope came back, and it hasn't passed yet.
+    fn is_complete(&self, scope: &ScopeId) -> bool
+        ensures there { OnTrue result ((s : AnyScope)
+            × (get is_scope self.now.scopes scope.now ≡ Some s)
+            × ((not s.passed && nat_eq s.issued s.returned) ≡ true)) }
+        ensures other { OnFalse result ((s : AnyScope)
+            → get is_scope self.now.scopes scope.now ≡ Some s
+            → (not s.passed && nat_eq s.issued s.returned) ≡ false) }
+    {
+        match self.scopes.get(scope) {
+            Some(book) => book.is_complete(),
+            None => false,
+        }
+    }
+
+    /// A scope has passed.
+    fn mark_passed(&mut self, scope: &ScopeId)
+        ensures others { self.new ≡ record self.old { scopes = self.new.scopes } }
+        ensures marked { (s : AnyScope) → get is_scope self.old.scopes scope.now ≡ Some s
+            → (q : AnyScopeId) → get is_scope self.new.scopes q
+            ≡ (if is_scope scope.now q then Some (record s { passed = true })
+            else get is_scope self.old.scopes q) }
+    {
+        if let Some(book) = self.scopes.get_mut(scope) {
+            book.passed = true;
+        }
+    }
+}
+
+/// The path of the root.
+fn root_path(alloc: Global) -> Path
+    ensures { result.turns.items ≡ [] }
+{
+    Path {
+        turns: Vec::new(alloc),
+    }
+}
+
+/// The name of the scope that `main` stands in.
+fn root_scope(alloc: Global) -> ScopeId
+    ensures { scope_id result ≡ the_root_scope }
+{
+    ScopeId {
+        owner: root_path(alloc),
+        number: 0,
+    }
+}

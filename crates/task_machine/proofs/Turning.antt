@@ -1,0 +1,85 @@
+-- What a turn gives, once the weights are where they go.
+use Rattle.std.proofs.Common.{◌≡◌, ℕ, List, [], ◌∷◌, length, Some, refl, sym, ap, subst, ◌∙◌, arith}
+use Rattle.std.proofs.lemmas.List.{length_push}
+use Rattle.effects.specs.Rounds.{needs_of}
+use Rattle.own_run.specs.MayRun.{MayStart}
+use Rattle.own_run.specs.RunTurns.{IsTurn}
+use Rattle.own_run.specs.Translation.{start}
+use Rattle.own_run.specs.declared.result.TaskResult.{TaskResult as Made}
+use Rattle.own_run.specs.declared.run.Run.{Run}
+use Rattle.own_run.specs.declared.start.Start.{Start}
+use Rattle.own_run.specs.declared.turn.Turn.TheVariants.{EntersFinish as RunEntersFinish}
+use Rattle.task_machine.specs.Ends.{IsAtEnd}
+use Rattle.task_machine.specs.Jobs.{program_of, lists_of, budget_of, IsJob}
+use Rattle.task_machine.specs.Tasks.{GoesBy, IsBody}
+use Rattle.task_machine.specs.Turns.{AreTasks, IsEndOf, Opens, Parts}
+use Rattle.task_machine.specs.Units.{held}
+use Rattle.task_machine.specs.declared.finish.Ending.{Ending}
+use Rattle.task_machine.specs.declared.finish.Owner.{Owner}
+use Rattle.task_machine.specs.declared.job.Job.{Job}
+use Rattle.task_machine.specs.declared.stake.Stake.{Stake}
+use Rattle.task_machine.specs.declared.task.Body.{Body}
+use Rattle.task_machine.specs.declared.turn.Turn.{Turn}
+use Rattle.task_machine.specs.declared.turn.Turn.TheVariants.{Going, Spawns, WantsWeight, EntersFinish}
+use Rattle.task_machine.specs.declared.turn.Turn.TheVariants.{EndsFinish, Ended, Over}
+use Rattle.task_machine.proofs.Staying.{entering}
+
+-- a body with the run that it goes by
+pub body_runs : (b d : Body) (r : Run) → d ≡ b → GoesBy b.job b.outer.items b.opened r → IsBody (record d { run = Some r })
+body_runs b d r e g = record {
+  run = r;
+  has = refl;
+  goes = subst (λ (x : Body). GoesBy x.job x.outer.items x.opened r) (sym e) g;
+}
+
+-- a task that began another, and that one
+pub parts_tasks : (b : Body) (u : ℕ) (s : Start) (t : Turn) → Parts b u s t → IsBody b
+    → MayStart (program_of b.job) (lists_of b.job) (budget_of b.job) (start s) → AreTasks t
+parts_tasks b u s (Spawns t c) h is may = (
+  subst IsBody (sym h.body) is,
+  record {
+    job = subst IsJob (sym h.job) is.goes.job;
+    may =
+        subst (λ (k : Job). MayStart (program_of k) (lists_of k) (budget_of k) (start c.start)) (sym h.job)
+        (subst (λ (x : Start). MayStart (program_of b.job) (lists_of b.job) (budget_of b.job) (start x)) (sym h.start) may);
+  },
+)
+parts_tasks b u s (WantsWeight w) h is may = record {
+  body = subst IsBody (sym h.body) is;
+  may =
+      subst (λ (x : Body). MayStart (program_of x.job) (lists_of x.job) (budget_of x.job) (start w.start)) (sym h.body)
+      (subst (λ (x : Start). MayStart (program_of b.job) (lists_of b.job) (budget_of b.job) (start x)) (sym h.start) may);
+}
+parts_tasks b u s (Going t) h is may = absurd h
+parts_tasks b u s (EntersFinish e) h is may = absurd h
+parts_tasks b u s (EndsFinish e) h is may = absurd h
+parts_tasks b u s (Ended r) h is may = absurd h
+parts_tasks b u s (Over t) h is may = absurd h
+
+-- a task that began a finish
+pub opens_task : (b : Body) (u : ℕ) (r : Run) (new : Body) → Opens b u r new → (old : Run)
+    → GoesBy b.job b.outer.items b.opened old → IsTurn (needs_of (program_of b.job)) old (RunEntersFinish r) → IsBody new
+opens_task b u r new o old g is = record {
+  run = r;
+  has = o.run;
+  goes =
+      subst (λ (k : Job). GoesBy k new.outer.items new.opened r) (sym o.job)
+      (subst (λ (n : ℕ). GoesBy b.job new.outer.items n r) (sym o.opened)
+      (entering b.job b.outer.items b.opened old g r is new.outer.items
+      (ap length o.outer ∙ length_push b.outer.items o.stake)));
+}
+
+-- a task at an end
+pub ends_task : (b : Body) (u : ℕ) (o : Owner) (x : Made) (e : Ending) → IsEndOf b u o x e
+    → IsAtEnd b.job o x b.outer.items b.opened → IsAtEnd e.job e.owner e.made e.outer.items e.opened
+ends_task b u o x e h at =
+    subst (λ (k : Job). IsAtEnd k e.owner e.made e.outer.items e.opened) (sym h.job)
+    (subst (λ (q : Owner). IsAtEnd b.job q e.made e.outer.items e.opened) (sym h.owner)
+    (subst (λ (m : Made). IsAtEnd b.job o m e.outer.items e.opened) (sym h.made)
+    (subst (λ (ss : List Stake). IsAtEnd b.job o x ss e.opened) (sym (ap (λ (v : _). v.items) h.outer))
+    (subst (λ (n : ℕ). IsAtEnd b.job o x b.outer.items n) (sym h.opened) at))))
+
+-- where no finish is open there is no weight beside that of the innermost scope
+pub none_held : (stakes : List Stake) → length stakes ≡ 0 → held stakes ≡ 0
+none_held [] e = refl
+none_held (s ∷ stakes) e = absurd (omega (arith, e))

@@ -1,0 +1,33 @@
+use Rattle.std.proofs.Common.{◌∙◌, ap, refl, subst}
+use Rattle.types.specs.Translation.{program}
+use Rattle.own_run.specs.Reached.{begun}
+use Rattle.own_run.specs.Standings.{IsAt}
+use Rattle.own_run.specs.Translation.{start}
+use Rattle.task_machine.proofs.Staying.{first_goes}
+use Rattle.task_machine.proofs.task.Child.begin.Goals as goal
+
+pub returns : goal.returns
+returns c =
+    let child = c.args.self in
+    let run = c.in_ok-run.run' in
+    let first = c.in_ok-body.ensures in
+    let ok = c.requires.child in
+    let begins = c.in_ok-run.ensures in
+    let at =
+    subst (λ (n : _). IsAt run (begun n (start child.start))) (ap (λ (z : _). z.steps) c.plan.ensures.budget) begins.begun in
+    record {
+      task = record {
+        run = run;
+        first = first;
+        begun = at;
+        weight = refl;
+        task = record {
+          run = run;
+          has = first.run;
+          goes =
+              first_goes child.job ok.job (start child.start) run c.in_ok-body.body.value child.scope ok.may
+              (ap (λ (q : _). q.budget) begins.plan ∙ c.plan.ensures.budget)
+              (ap (λ (q : _). program q.program.now) begins.plan ∙ c.plan.ensures.program) begins.nest at first;
+        };
+      };
+    }

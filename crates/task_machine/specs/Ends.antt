@@ -1,0 +1,84 @@
+-- Tasks at the ends of finishes, and what comes of these.
+use Rattle.std.specs.Prelude.{ℕ, ◌≡◌, ◌+◌, ◌≤◌, length, List, [], ◌∷◌, ◌++◌, Some}
+use Rattle.sections.specs.Place.{Place}
+use Rattle.types.specs.Run.{State}
+use Rattle.own_run.specs.Frames.{Frame, handed}
+use Rattle.own_run.specs.Lists.{Each}
+use Rattle.own_run.specs.MayRun.{MayWait}
+use Rattle.own_run.specs.OwnRun.{Own, result_of}
+use Rattle.own_run.specs.Results.{TaskResult}
+use Rattle.own_run.specs.Runs.{root, MayStand, IsTaskResult}
+use Rattle.own_run.specs.RunTurns.{ComesBack, Waits}
+use Rattle.own_run.specs.Settling.{settle}
+use Rattle.own_run.specs.Standings.{IsAt}
+use Rattle.own_run.specs.Translation.{owned_by, settled, task_result}
+use Rattle.own_run.specs.declared.result.Settled.{Settled}
+use Rattle.own_run.specs.declared.result.TaskResult.{TaskResult as Made}
+use Rattle.own_run.specs.declared.run.Run.{Run}
+use Rattle.own_run.specs.declared.turn.Paused.{Paused}
+use Rattle.gather.specs.GivesBack.{all_owned}
+use Rattle.task_machine.specs.Finishes.{open_finishes}
+use Rattle.task_machine.specs.Jobs.{program_of, lists_of, budget_of, IsJob}
+use Rattle.task_machine.specs.declared.finish.Owner.{Owner}
+use Rattle.task_machine.specs.declared.finish.Owner.TheVariants.{Main, Finish}
+use Rattle.task_machine.specs.declared.finish.Waiting.{Waiting}
+use Rattle.task_machine.specs.declared.job.Job.{Job}
+use Rattle.task_machine.specs.declared.stake.Stake.{Stake}
+use Rattle.task_machine.specs.declared.task.Task.{Task}
+
+-- the root is at the end of `main`, with what it has made
+pub record EndsMain (j : Job) (made : Made) : Type 0 where
+  pub state : State Own
+  pub stands : MayStand (program_of j) (lists_of j) (budget_of j)
+      (root (program_of j) (lists_of j) (budget_of j)) (record { frames = []; state = state })
+  pub is : task_result made ≡ result_of state
+
+-- a task of the job's is at the end of a finish, with what it has made since that began; it holds a
+-- weight in the scope that it was begun in, and in each finish that is open around
+pub record EndsFinish (j : Job) (q : Paused) (made : Made) (outer : List Stake)
+    (count : ℕ) : Type 0 where
+  pub may : MayWait (program_of j) (lists_of j) (budget_of j) q made
+  pub budget : q.plan.budget ≡ j.budget
+  pub scopes : length outer ≡ open_finishes q.frames.items + 1
+  pub opened : count + q.steps ≤ j.budget.steps
+
+-- the one or the other
+abbrev pub EndsSo : Job → Owner → Made → List Stake → (count : ℕ) → Type 0
+EndsSo j Main made outer count = EndsMain j made
+EndsSo j (Finish q) made outer count = EndsFinish j q made outer count
+
+abbrev pub IsAtEnd : Job → Owner → Made → List Stake → (count : ℕ) → Type 0
+IsAtEnd j o made outer count = IsJob j × EndsSo j o made outer count
+
+-- a task waits at the end of a finish
+abbrev pub IsAtFinish : Waiting → Type 0
+IsAtFinish w = (q : Paused) × (w.owner ≡ Finish q)
+
+-- the root waits at the end of `main`
+abbrev pub IsAtMain : Waiting → Type 0
+IsAtMain w = w.owner ≡ Main
+
+-- this is what came of what it had made, with results of tasks of its job
+pub record Comes (w : Waiting) (s : Settled) : Type 0 where
+  pub made : Made
+  pub waits : IsAtEnd w.job w.owner made w.outer.items w.opened
+  pub results : List TaskResult
+  pub tasks : Each (IsTaskResult (program_of w.job) (lists_of w.job) (budget_of w.job)) results
+  pub settles : Some (settled s) ≡ settle (task_result made) results
+  pub owned : (q : Place) → owned_by s.holdings q ≡ all_owned (task_result made) q
+
+-- a task goes on behind the finish, in the scope around it, with its weight there
+pub record GoesBehind (w : Waiting) (s : Settled) (t : Task) : Type 0 where
+  pub paused : Paused
+  pub run : Run
+  pub was : w.owner ≡ Finish paused
+  pub is : t.body.value.run ≡ Some run
+  pub stands : (fs : List (Frame Own)) (before st : State Own)
+      → Waits paused fs before st → ComesBack s st
+      → IsAt run (record { frames = fs; state = handed before (settled s) st })
+  pub plan : run.plan ≡ paused.plan
+  pub nest : run.thread.nest ≡ paused.nest
+  pub job : t.body.value.job ≡ w.job
+  pub opened : t.body.value.opened ≡ w.opened
+  pub scopes : w.outer.items
+      ≡ t.body.value.outer.items ++ record { scope = t.body.value.scope; share = t.share } ∷ []

@@ -1,0 +1,16 @@
+-- The finishes that are open in a task.
+use Rattle.std.specs.Prelude.{ℕ, ◌+◌, List, [], ◌∷◌}
+use Rattle.own_run.specs.declared.frame.Frame.{Frame}
+use Rattle.own_run.specs.declared.frame.Frame.TheVariants.{Rest, Again, EndFinish, EndCall}
+
+-- whether a frame is the end of a finish
+abbrev pub ends_finish : Frame → ℕ
+ends_finish (Rest b) = 0
+ends_finish (Again l t b) = 0
+ends_finish (EndFinish outer) = 1
+ends_finish (EndCall env) = 0
+
+-- how many of them are
+abbrev pub open_finishes : List Frame → ℕ
+open_finishes [] = 0
+open_finishes (f ∷ fs) = ends_finish f + open_finishes fs

@@ -1,0 +1,139 @@
+-- The turns of tasks: those of their runs, with the weights that go with them.
+use Rattle.std.specs.Prelude.{ℕ, ◌≡◌, ◌≢◌, ◌+◌, ◌/◌, ◌≤◌, [], ◌∷◌, ◌++◌, length, Some, None}
+use Rattle.effects.specs.Rounds.{needs_of}
+use Rattle.own_run.specs.MayRun.{MayStart}
+use Rattle.own_run.specs.RunTurns.{GoesUpTo, IsTurn}
+use Rattle.own_run.specs.Translation.{start}
+use Rattle.own_run.specs.declared.result.TaskResult.{TaskResult as Made}
+use Rattle.own_run.specs.declared.run.Run.{Run}
+use Rattle.own_run.specs.declared.start.Start.{Start}
+use Rattle.own_run.specs.declared.turn.Turn.{Turn as RunTurn}
+use Rattle.own_run.specs.declared.turn.Turn.TheVariants.{Going as RunGoing, Spawns as RunSpawns}
+use Rattle.own_run.specs.declared.turn.Turn.TheVariants.{EntersFinish as RunEntersFinish}
+use Rattle.own_run.specs.declared.turn.Turn.TheVariants.{EndsFinish as RunEndsFinish}
+use Rattle.own_run.specs.declared.turn.Turn.TheVariants.{Ended as RunEnded, Over as RunOver}
+use Rattle.task_machine.specs.Ends.{IsAtEnd}
+use Rattle.task_machine.specs.Jobs.{program_of, lists_of, budget_of, IsJob}
+use Rattle.task_machine.specs.Tasks.{GoesBy, IsBody, IsTask, IsChild, IsResultOf}
+use Rattle.task_machine.specs.declared.finish.Ending.{Ending}
+use Rattle.task_machine.specs.declared.finish.Owner.{Owner}
+use Rattle.task_machine.specs.declared.finish.Owner.TheVariants.{Main, Finish}
+use Rattle.task_machine.specs.declared.stake.Stake.{Stake}
+use Rattle.task_machine.specs.declared.task.Body.{Body}
+use Rattle.task_machine.specs.declared.task.Child.{Child}
+use Rattle.task_machine.specs.declared.task.Task.{Task}
+use Rattle.task_machine.specs.declared.turn.TaskResult.{TaskResult}
+use Rattle.task_machine.specs.declared.turn.Turn.{Turn}
+use Rattle.task_machine.specs.declared.turn.Turn.TheVariants.{Going, Spawns, WantsWeight}
+use Rattle.task_machine.specs.declared.turn.Turn.TheVariants.{EntersFinish, EndsFinish}
+use Rattle.task_machine.specs.declared.turn.Turn.TheVariants.{Ended, Over}
+use Rattle.task_machine.specs.declared.turn.Wanting.{Wanting}
+
+-- a task keeps its scopes and what it holds there
+pub record Keeps (b : Body) (units : ℕ) (r : Run) (t : Task) : Type 0 where
+  pub body : t.body.value ≡ record b { run = Some r }
+  pub weight : t.share.weight ≡ units
+
+-- a task that holds this much begins another: that has half of it, rounded down, and stands in the
+-- same scope
+pub record Divides (b : Body) (units : ℕ) (s : Start) (t : Task) (c : Child) : Type 0 where
+  pub enough : 2 ≤ units
+  pub body : t.body.value ≡ b
+  pub half : c.share.weight ≡ units / 2
+  pub rest : c.share.weight + t.share.weight ≡ units
+  pub job : c.job ≡ b.job
+  pub start : c.start ≡ s
+  pub scope : c.scope ≡ b.scope
+
+-- it holds 1, and has begun another
+pub record Wants (b : Body) (units : ℕ) (s : Start) (w : Wanting) : Type 0 where
+  pub one : units ≡ 1
+  pub body : w.body.value ≡ b
+  pub weight : w.share.weight ≡ 1
+  pub start : w.start ≡ s
+
+-- the one or the other
+abbrev pub Parts : Body → (units : ℕ) → Start → Turn → Type 0
+Parts b units s (Spawns t c) = Divides b units s t c
+Parts b units s (WantsWeight w) = Wants b units s w
+Parts b units s _ = ⊥
+
+-- it stands in the scope of one more finish, and keeps what it holds in the others
+pub record Opens (b : Body) (units : ℕ) (r : Run) (new : Body) : Type 0 where
+  pub run : new.run ≡ Some r
+  pub job : new.job ≡ b.job
+  pub opened : new.opened ≡ b.opened + 1
+  pub number : new.scope.number ≡ b.opened + 1
+  pub depth : new.scope.depth ≡ length r.thread.path.turns.items
+  pub stake : Stake
+  pub outer : new.outer.items ≡ b.outer.items ++ stake ∷ []
+  pub scope : stake.scope ≡ b.scope
+  pub weight : stake.share.weight ≡ units
+
+-- it is at an end, with all that it holds
+pub record IsEndOf (b : Body) (units : ℕ) (o : Owner) (x : Made) (e : Ending) : Type 0 where
+  pub job : e.job ≡ b.job
+  pub owner : e.owner ≡ o
+  pub made : e.made ≡ x
+  pub scope : e.scope ≡ b.scope
+  pub outer : e.outer ≡ b.outer
+  pub opened : e.opened ≡ b.opened
+  pub weight : e.share.weight ≡ units
+
+-- it has ended, and isn't the root
+pub record EndsWith (b : Body) (units : ℕ) (x : Made) (r : TaskResult) : Type 0 where
+  pub below : x.path.turns.items ≢ []
+  pub job : r.job ≡ b.job
+  pub made : r.made ≡ x
+  pub scope : r.scope ≡ b.scope
+  pub weight : r.share.weight ≡ units
+
+-- what a turn of its run makes of a task that holds this much in its innermost scope
+abbrev pub Becomes : Body → (units : ℕ) → RunTurn → Turn → Type 0
+Becomes b units (RunGoing r) (Going t) = Keeps b units r t
+Becomes b units (RunOver r) (Over t) = Keeps b units r t
+Becomes b units (RunSpawns r s) (Spawns t c) = Divides (record b { run = Some r }) units s t c
+Becomes b units (RunSpawns r s) (WantsWeight w) = Wants (record b { run = Some r }) units s w
+Becomes b units (RunEntersFinish r) (EntersFinish e) = Opens b units r e.body.value
+Becomes b units (RunEndsFinish q made) (EndsFinish e) = IsEndOf b units (Finish q) made e
+Becomes b units (RunEnded made) (EndsFinish e) =
+    (made.path.turns.items ≡ []) × IsEndOf b units Main made e
+Becomes b units (RunEnded made) (Ended r) = EndsWith b units made r
+Becomes b units _ _ = ⊥
+
+-- a turn of the run of a task
+pub record IsTurnIn (b : Body) (t : RunTurn) : Type 0 where
+  pub run : Run
+  pub goes : GoesBy b.job b.outer.items b.opened run
+  pub turn : IsTurn (needs_of (program_of b.job)) run t
+
+-- the run of a task went on up to a turn, and this became of the task, whose run was taken out
+pub record TakesTurn (old : Task) (new : Turn) : Type 0 where
+  pub run : Run
+  pub has : old.body.value.run ≡ Some run
+  pub turn : RunTurn
+  pub goes : GoesUpTo (needs_of (program_of old.body.value.job)) run turn
+  pub becomes : Becomes (record old.body.value { run = None }) old.share.weight turn new
+
+-- the same, where the run took one turn
+pub record TakesOneTurn (old : Task) (new : Turn) : Type 0 where
+  pub run : Run
+  pub has : old.body.value.run ≡ Some run
+  pub turn : RunTurn
+  pub is : IsTurn (needs_of (program_of old.body.value.job)) run turn
+  pub becomes : Becomes (record old.body.value { run = None }) old.share.weight turn new
+
+-- a task wants weight for one that it began, and that starts so
+pub record IsWanting (b : Body) (s : Start) : Type 0 where
+  pub body : IsBody b
+  pub may : MayStart (program_of b.job) (lists_of b.job) (budget_of b.job) (start s)
+
+-- what a turn gives is of the job's tasks
+abbrev pub AreTasks : Turn → Type 0
+AreTasks (Going t) = IsTask t
+AreTasks (Spawns t c) = IsTask t × IsChild c
+AreTasks (WantsWeight w) = IsWanting w.body.value w.start
+AreTasks (EntersFinish e) = IsBody e.body.value
+AreTasks (EndsFinish e) = IsAtEnd e.job e.owner e.made e.outer.items e.opened
+AreTasks (Ended r) = IsJob r.job × IsResultOf r.job r.made
+AreTasks (Over t) = IsTask t

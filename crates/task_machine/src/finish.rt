@@ -1,0 +1,194 @@
+//! Tasks at the beginnings and the ends of finishes.
+
+ghost use Rattle.std.specs.Prelude.{◌≡◌, IfOk};
+ghost use Rattle.types.specs.Translation.{outcome as outcome_in};
+ghost use Rattle.task_machine.specs.Ends.{Comes, GoesBehind, IsAtFinish, IsAtMain};
+ghost use Rattle.task_machine.specs.Jobs.{outcome_of};
+ghost use Rattle.task_machine.specs.Tasks.{IsTask};
+ghost use Rattle.task_machine.specs.Units.{held, units_of};
+
+use crate::error::NoMemory;
+use crate::job::Job;
+use crate::outcome::outcome;
+use crate::stake::{ScopeMark, Share, Stake};
+use crate::task::{Body, Task};
+use own_run::result::{Settled, TaskResult as RunResult};
+use own_run::turn::Paused as RunPaused;
+use types::outcome::Outcome;
+use types::path::Path;
+use weights::weight::Weight;
+
+/// A task that began a finish, and has no weight of its scope yet.
+#[derive(Drop)]
+pub struct Entering<'p> {
+    pub body: Box<Body<'p>>,
+}
+
+/// Who waits until all tasks of a scope have ended.
+#[derive(Drop)]
+pub enum Owner<'p> {
+    /// The root, at the end of `main`.
+    Main,
+    /// A task, at the end of a finish.
+    Finish(RunPaused<'p>),
+}
+
+/// A task at the end of a finish, or of `main`, with its weight in that scope.
+#[derive(Drop)]
+pub struct Ending<'p> {
+    pub job: Job<'p>,
+    pub owner: Owner<'p>,
+    /// What it has made since the finish began.
+    pub made: RunResult,
+    pub scope: ScopeMark,
+    pub outer: Vec<Stake>,
+    pub opened: u32,
+    pub share: Share,
+}
+
+/// A task that is parked at its scope.
+#[derive(Drop)]
+pub struct Parked<'p> {
+    pub job: Job<'p>,
+    pub owner: Owner<'p>,
+    pub made: RunResult,
+    pub outer: Vec<Stake>,
+    pub opened: u32,
+}
+
+/// A task that waits for what its scope comes to.
+#[derive(Drop)]
+pub struct Waiting<'p> {
+    pub job: Job<'p>,
+    pub owner: Owner<'p>,
+    pub outer: Vec<Stake>,
+    pub opened: u32,
+}
+
+impl<'p> Entering<'p> {
+    /// The task, with the weight that the scope issued.
+    pub fn enter(self, weight: Weight) -> Task<'p>
+        ensures body { result.body ≡ self.entry.body }
+        ensures weight { result.share.weight ≡ weight }
+    {
+        Task {
+            body: self.body,
+            share: Share { weight },
+        }
+    }
+}
+
+impl<'p> Ending<'p> {
+    /// Its weight in the scope, which goes back, and the task that is to be parked there.
+    pub fn set_down(self) -> (Weight, Parked<'p>)
+        ensures weight { result.0 ≡ self.entry.share.weight }
+        ensures job { result.1.job ≡ self.entry.job }
+        ensures owner { result.1.owner ≡ self.entry.owner }
+        ensures made { result.1.made ≡ self.entry.made }
+        ensures outer { result.1.outer ≡ self.entry.outer }
+        ensures opened { result.1.opened ≡ self.entry.opened }
+    {
+        let Ending {
+            job,
+            owner,
+            made,
+            outer,
+            opened,
+            share,
+            ..
+        } = self;
+        let parked = Parked {
+            job,
+            owner,
+            made,
+            outer,
+            opened,
+        };
+        (share.into_weight(), parked)
+    }
+}
+
+impl<'p> Parked<'p> {
+    /// Whose it is.
+    pub fn path(&self) -> &Path
+        ensures { result.now ≡ self.now.made.path }
+    {
+        &self.made.path
+    }
+
+    /// The task, and what is to be settled with the results of the scope.
+    pub fn open(self) -> (Waiting<'p>, RunResult)
+        ensures made { result.1 ≡ self.entry.made }
+        ensures job { result.0.job ≡ self.entry.job }
+        ensures owner { result.0.owner ≡ self.entry.owner }
+        ensures outer { result.0.outer ≡ self.entry.outer }
+        ensures opened { result.0.opened ≡ self.entry.opened }
+    {
+        let Parked {
+            job,
+            owner,
+            made,
+            outer,
+            opened,
+        } = self;
+        let waiting = Waiting {
+            job,
+            owner,
+            outer,
+            opened,
+        };
+        (waiting, made)
+    }
+}
+
+impl<'p> Waiting<'p> {
+    /// Goes on behind the finish, with what came of it.
+    pub fn go_on(self, settled: Settled) -> Result<Task<'p>, NoMemory>
+        requires finish { IsAtFinish self }
+        requires comes { Comes self settled }
+        ensures behind { IfOk result (GoesBehind self.entry settled) }
+        ensures task { IfOk result IsTask }
+        ensures units { IfOk result (λ t. units_of t ≡ held self.entry.outer.items) }
+    {
+        let Waiting {
+            job,
+            owner,
+            mut outer,
+            opened,
+        } = self;
+        let Owner::Finish(paused) = owner else {
+            unreachable!()
+        };
+        let Some(Stake { scope, share }) = outer.pop() else {
+            unreachable!()
+        };
+        let run = paused.go_on(settled)?;
+        let body = Body {
+            job,
+            run: Some(run),
+            scope,
+            outer,
+            opened,
+        };
+        Ok(Task {
+            body: Box::new(job.alloc, body)?,
+            share,
+        })
+    }
+
+    /// The task goes no further: what it holds in the scopes around the finish is to go back.
+    pub fn give_up(self) -> Vec<Stake>
+        ensures { result ≡ self.entry.outer }
+    {
+        self.outer
+    }
+
+    /// What the run came to: the root goes no further.
+    pub fn outcome(self, settled: Settled) -> Result<Outcome, NoMemory>
+        requires main { IsAtMain self }
+        requires comes { Comes self settled }
+        ensures told { IfOk result (λ o. outcome_in o ≡ outcome_of self.entry.job) }
+    {
+        outcome(self.job, settled)
+    }
+}

@@ -1,0 +1,61 @@
+//! What tasks are run for.
+
+ghost use Rattle.std.specs.Prelude.{◌≡◌, IfOk};
+ghost use Rattle.types.specs.Contents.{FitsArrays};
+ghost use Rattle.types.specs.Translation.{budget as budget_of, input as lists_in};
+ghost use Rattle.types.specs.Translation.{program as program_of};
+ghost use Rattle.types.specs.Typed.{code_of};
+ghost use Rattle.own_run.specs.Runs.{root as root_of};
+ghost use Rattle.own_run.specs.Translation.{start as start_of};
+
+use holdings::holdings::Holdings;
+use own_run::start::Start;
+use race_checker::accepted::Accepted;
+use serial_run::thread::{Plan, main_environment};
+use std::alloc::{AllocError, Global};
+use types::budget::Budget;
+use types::input::Input;
+use types::path::Path;
+
+/// A program, an input and a budget: what names a run.
+#[derive(Clone, Copy)]
+pub struct Job<'p> {
+    pub alloc: Global,
+    pub accepted: &'p Accepted,
+    pub input: &'p Input,
+    pub budget: Budget,
+}
+
+impl<'p> Job<'p> {
+    /// What its tasks go by.
+    pub fn plan(self) -> Plan<'p>
+        ensures program { program_of result.program.now ≡ code_of self.entry.accepted.now.typed }
+        ensures budget { result.budget ≡ self.entry.budget }
+    {
+        Plan {
+            alloc: self.alloc,
+            program: self.accepted.typed().code(),
+            budget: self.budget,
+        }
+    }
+
+    /// What the root starts with: `main`, with all arrays.
+    pub fn root(self) -> Result<Start<'p>, AllocError>
+        requires { FitsArrays (code_of self.accepted.now.typed).arrays (lists_in self.input.now) }
+        ensures { IfOk result (λ s. start_of s ≡ root_of (code_of self.entry.accepted.now.typed)
+            (lists_in self.entry.input.now) (budget_of self.entry.budget)) }
+    {
+        let plan = self.plan();
+        let environment = main_environment(plan)?;
+        let holdings = Holdings::of_input(self.alloc, self.accepted.typed(), self.input)?;
+        Ok(Start {
+            body: &plan.program.main.body,
+            environment,
+            holdings,
+            nest: self.budget.nest,
+            path: Path {
+                turns: Vec::new(self.alloc),
+            },
+        })
+    }
+}

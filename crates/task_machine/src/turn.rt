@@ -1,0 +1,102 @@
+//! What a turn of a task gives.
+
+ghost use Rattle.std.specs.Prelude.{◌≡◌, ◌≤◌};
+ghost use Rattle.task_machine.specs.Turns.{Parts};
+ghost use Rattle.task_machine.specs.declared.turn.Turn.TheVariants.{Spawns};
+
+use crate::finish::{Ending, Entering};
+use crate::job::Job;
+use crate::stake::{ScopeMark, Share};
+use crate::task::{Body, Child, Task};
+use own_run::result::TaskResult as RunResult;
+use own_run::start::Start;
+use weights::weight::Weight;
+
+/// What a task did, and where it stands after it. Each state of a task is a type of its own.
+#[derive(Drop)]
+pub enum Turn<'p> {
+    /// It took a step, or none where a block was at its end or was left out.
+    Going(Task<'p>),
+    /// It began a task, which has half of its weight.
+    Spawns(Task<'p>, Child<'p>),
+    /// It began a task, and has a weight of 1: the scope is to issue more.
+    WantsWeight(Wanting<'p>),
+    /// It began a finish, and wants a weight of its scope.
+    EntersFinish(Entering<'p>),
+    /// It is at the end of a finish; the root also at that of `main`.
+    EndsFinish(Ending<'p>),
+    /// It has ended, with what it has made.
+    Ended(TaskResult<'p>),
+    /// It went over its budget, and is stopped.
+    Over(Task<'p>),
+}
+
+/// A task that has too little weight for the one that it began.
+#[derive(Drop)]
+pub struct Wanting<'p> {
+    pub body: Box<Body<'p>>,
+    /// What the task that it began starts with.
+    pub start: Start<'p>,
+    pub share: Share,
+}
+
+/// The same while its weight is with the scope.
+#[derive(Drop)]
+pub struct Paused<'p> {
+    pub body: Box<Body<'p>>,
+    pub start: Start<'p>,
+}
+
+/// What a task has made, with its weight in the scope that it was begun in.
+#[derive(Drop)]
+pub struct TaskResult<'p> {
+    pub job: Job<'p>,
+    pub made: RunResult,
+    pub scope: ScopeMark,
+    pub share: Share,
+}
+
+impl<'p> Wanting<'p> {
+    /// Its weight, to which the scope adds.
+    pub fn take_weight(self) -> (Weight, Paused<'p>)
+        ensures weight { result.0 ≡ self.entry.share.weight }
+        ensures body { result.1.body ≡ self.entry.body }
+        ensures start { result.1.start ≡ self.entry.start }
+    {
+        let Wanting { body, start, share } = self;
+        (share.into_weight(), Paused { body, start })
+    }
+}
+
+impl<'p> Paused<'p> {
+    /// The task with more weight, and the one that it began with half of it.
+    pub fn with_weight(self, weight: Weight) -> (Task<'p>, Child<'p>)
+        requires enough { 2 ≤ weight }
+        ensures parts { Parts self.entry.body.value weight self.entry.start
+            (Spawns result.0 result.1) }
+    {
+        let Paused { body, start } = self;
+        let share = Share { weight };
+        let Ok((half, share)) = share.divide() else {
+            unreachable!()
+        };
+        let child = Child {
+            job: body.job,
+            start,
+            scope: body.scope,
+            share: half,
+        };
+        (Task { body, share }, child)
+    }
+}
+
+impl<'p> TaskResult<'p> {
+    /// The weight that goes back to its scope, and the result.
+    pub fn take_weight(self) -> (Weight, RunResult)
+        ensures weight { result.0 ≡ self.entry.share.weight }
+        ensures made { result.1 ≡ self.entry.made }
+    {
+        let TaskResult { made, share, .. } = self;
+        (share.into_weight(), made)
+    }
+}
