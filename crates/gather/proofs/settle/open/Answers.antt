@@ -23,12 +23,12 @@ returns-in_ok-push-in-Some-2-clause-turn c =
 
 pub returns-in_ok-push-in-Some-2-clause-goes_on : goal.returns-in_ok-push-in-Some-2-clause-goes_on
 returns-in_ok-push-in-Some-2-clause-goes_on c = λ start rs k.
-    opened_reached start rs (used_by c.args.results) (map (λ p. p.turns.items) c.push-2.new.self.items)
+    opened_reached start rs (used_by c.args.results) (map (λ p. p.turns.items) c.push-in-Some.new.self.items)
     (map task_result c.args.results.left.items) (map task_result c.take.new.left.items)
     (map waiting c.args.waiting.items) (map waiting c.push.new.self.items) (waiting c.args.next) (task_result c.in-Some.task)
     (part c.of-filling.result.0) c.in-Some.ensures.found
     (map-last waiting c.args.waiting.items c.push.new.self.items c.args.next c.in_ok-push-in-Some.ensures.items)
     c.of-filling.ensures.opened
-    (map-last (λ (p : Path). p.turns.items) c.args.results.used.items c.push-2.new.self.items c.of-filling.result.1
+    (map-last (λ (p : Path). p.turns.items) c.args.results.used.items c.push-in-Some.new.self.items c.of-filling.result.1
     c.in_ok-push-in-Some-2.ensures.items
     ∙ ap (λ (p : Path). used_by c.args.results ++ p.turns.items ∷ []) c.of-filling.ensures.path) k

@@ -26,8 +26,8 @@ loop-next-init c =
 pub loop-next-preserved : goal.loop-next-preserved
 loop-next-preserved c =
     let h = going (gathering c.loop-next.stage) c.in_ok-next.field-0 c.in-Going.next c.in-Going.is c.in_ok-next.ensures.turn in
-    let start = task_result c.loop-next.fn.start in
-    let rs = map task_result c.loop-next.fn.results.items in
+    let start = task_result c.args.start in
+    let rs = map task_result c.args.results.items in
     record {
       comes = h.comes ∙ c.loop-next.invariant.comes;
       owned = λ q. h.owned q ∙ c.loop-next.invariant.owned q;
@@ -36,3 +36,10 @@ loop-next-preserved c =
           going_reached start rs c.in_ok-next.field-0 c.in-Going.next c.in-Going.is
           (c.in_ok-next.ensures.goes_on start rs c.loop-next.invariant.reached);
     }
+
+pub returns-in_err-next-clause-own_case : goal.returns-in_err-next-clause-own_case
+returns-in_err-next-clause-own_case c =
+    let start = task_result c.args.start in
+    let rs = map task_result c.args.results.items in
+    passed_on c.from_residual.result c.in_err-next.field-0.0 (IsCaseOf start rs) c.from_residual.ensures
+    (c.in_err-next.ensures.own_case start rs c.loop-next.invariant.reached)
