@@ -1,6 +1,6 @@
 -- Results that are opened one after the other, and which error is told where that ends.
-use Rattle.std.proofs.Common.{◌≡◌, ℕ, zero, suc, ◌+◌, ◌<◌, List, [], ◌∷◌, ◌++◌, map, Option, Some, None, refl, sym, ap, ◌∙◌, subst, arith}
-use Rattle.std.proofs.Common.{◌⊎◌, inl, inr, append_assoc}
+use Rattle.std.proofs.Common.{◌≡◌, ℕ, ◌+◌, ◌<◌, List, [], ◌∷◌, ◌++◌, map, Option, Some, None, refl, sym, ap, ◌∙◌, subst, arith}
+use Rattle.std.proofs.Common.{append_assoc}
 use Rattle.std.proofs.lemmas.Option.{none-some}
 use Rattle.std.proofs.lemmas.List.{append-nil}
 use Rattle.std.proofs.Math.Bool.{or_assoc, or-false}
@@ -15,14 +15,14 @@ use Rattle.own_run.specs.Results.{Listed, TaskResult, Settled}
 use Rattle.own_run.specs.Settling.{behind, take}
 use Rattle.own_run.specs.Lists.{Each, Inserted, here, later}
 use Rattle.own_run.proofs.Lists.{each_more, each_last}
-use Rattle.own_run.proofs.SettledResults.{taken, paths_same}
+use Rattle.own_run.proofs.SettledResults.{taken}
 use Rattle.own_run.proofs.CompleteResults.{path_same}
 use Rattle.gather.proofs.Wholes.{each_end}
 use Rattle.gather.specs.GivesBack.{returned}
 use Rattle.gather.specs.PartRefusal.{is_path}
-use Rattle.gather.specs.Parts.{Part, Waiting, Gathering, opened as opened_of, filled, unopened, comes_back_twice}
+use Rattle.gather.specs.Parts.{Part, Waiting, opened as opened_of, filled, unopened, comes_back_twice}
 use Rattle.gather.specs.Reached.{IsPartOf, IsReached, outstanding}
-use Rattle.gather.specs.Refusal.{times, paths_of, listed, listed_by, IsDue, Opening, begun, further, IsLost, IsLeftOver, ComesBackTwice}
+use Rattle.gather.specs.Refusal.{times, paths_of, listed, listed_by, IsDue, begun, further, IsLost, IsLeftOver, ComesBackTwice}
 use Rattle.gather.specs.Refusal.{IsStranger, HasOneMore}
 
 -- ---- how often

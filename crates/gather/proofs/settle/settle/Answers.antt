@@ -1,4 +1,4 @@
-use Rattle.std.proofs.Common.{◌≡◌, ◌∙◌, ap, map}
+use Rattle.std.proofs.Common.{◌∙◌, ap, map}
 use Rattle.own_run.specs.Translation.{task_result}
 use Rattle.gather.specs.Refusal.{IsCaseOf}
 use Rattle.gather.specs.Stages.{gathering, part, waiting}

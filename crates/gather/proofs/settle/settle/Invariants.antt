@@ -3,7 +3,7 @@ use Rattle.sections.specs.Place.{Place}
 use Rattle.own_run.specs.Settling.{settle}
 use Rattle.own_run.specs.Translation.{task_result}
 use Rattle.gather.specs.GivesBack.{all_owned}
-use Rattle.gather.specs.Parts.{Gathering, comes_to, IsWhole}
+use Rattle.gather.specs.Parts.{comes_to, IsWhole}
 use Rattle.gather.specs.Reached.{IsReached, used_by}
 use Rattle.gather.specs.Stages.{gathering, owned_in_end, turns_left}
 use Rattle.gather.proofs.settle.settle.Given as goal
