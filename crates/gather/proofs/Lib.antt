@@ -1,5 +1,7 @@
 pub mod Depth
+pub mod Openings
 pub mod Pasting
+pub mod ReachedTurns
 pub mod Stages
 pub mod Taking
 pub mod TasksGiveBack

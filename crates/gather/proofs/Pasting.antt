@@ -1,12 +1,10 @@
 -- What comes back from a task goes into its hole.
-use Rattle.std.proofs.Common.{◌≡◌, ℕ, zero, suc, ◌+◌, ◌≤◌, ◌<◌, List, [], ◌∷◌, ◌++◌, map, Option, Some, None, refl, sym, ap, ◌∙◌, arith, subst, ◌⊎◌, inl, inr}
+use Rattle.std.proofs.Common.{◌≡◌, ℕ, zero, suc, ◌+◌, ◌≤◌, ◌<◌, List, [], ◌∷◌, ◌++◌, Option, Some, None, refl, sym, ap, ◌∙◌, arith, subst, ◌⊎◌, inl, inr}
 use Rattle.std.proofs.Math.Bool.{or-false, or-true}
 use Rattle.std.proofs.lemmas.Bool.{or_parts, or_cases}
 use Rattle.std.specs.Prelude.{ℤ, Bool, true, false, ◌||◌, is_some, option_map, if◌then◌else◌, Result, Ok, Err, IfErr}
 use Rattle.std.specs.Result.{IsErr, IsErrAnd}
 use Rattle.sections.specs.Place.{Place, Window}
-use Rattle.sections.specs.Translation.{window}
-use Rattle.types.specs.Translation.{fault}
 use Rattle.types.specs.declared.path.Path.{Path}
 use Rattle.effects.proofs.Members.{false_true}
 use Rattle.holdings.specs.Held.{Map, Held, Owned, Shared, first_of, over, as_owned, owned, owned_number, number_of, AreApart}
@@ -19,13 +17,12 @@ use Rattle.own_run.specs.declared.result.Listed.{Listed as rListed}
 use Rattle.own_run.specs.declared.result.Settled.{Settled as rSettled}
 use Rattle.own_run.proofs.CompleteResults.{not_met}
 use Rattle.own_run.proofs.Windows.{covered_in}
-use Rattle.gather.specs.Parts.{Part, Waiting, filled, comes_back_twice}
-use Rattle.gather.specs.Refusal.{RefusesHole, RefusesPaste}
+use Rattle.gather.specs.Parts.{Waiting, filled, comes_back_twice}
+use Rattle.gather.specs.PartRefusal.{RefusesHole, RefusesPaste}
 use Rattle.gather.specs.Stages.{part, waiting}
 use Rattle.gather.specs.declared.error.GatherError.{GatherError}
 use Rattle.gather.specs.declared.error.GatherError.TheVariants.{Lost, Double, Stranger, OutOfMemory}
 use Rattle.gather.specs.declared.filling.Filling.{Filling}
-use Rattle.gather.specs.declared.filling.Waiting.{Waiting as rWaiting}
 
 -- ---- at one place
 number_at : (w : Bool) (c p : Option Held) → is_some (owned_number c) ≡ w

@@ -1,26 +1,25 @@
 -- Turns of a stage.
-use Rattle.std.proofs.Common.{◌≡◌, ℕ, List, [], ◌∷◌, ◌++◌, map, Option, Some, None, refl, sym, ap, ◌∙◌, subst, length, arith}
+use Rattle.std.proofs.Common.{◌≡◌, ℕ, List, [], ◌∷◌, ◌++◌, map, Some, None, refl, sym, ap, ◌∙◌, subst, length, arith}
 use Rattle.std.specs.Prelude.{Bool, false, Result, Ok, Err, IfOk, IfErr}
 use Rattle.std.specs.List.{list_any}
 use Rattle.types.specs.declared.path.Path.{Path}
 use Rattle.sections.specs.Place.{Place}
 use Rattle.own_run.specs.Places.{Places, within}
-use Rattle.own_run.specs.Results.{TaskResult, Settled}
-use Rattle.own_run.specs.Settling.{take, none_left, settle}
-use Rattle.own_run.specs.Translation.{listed, settled, task_result, owned_by}
+use Rattle.own_run.specs.Results.{TaskResult}
+use Rattle.own_run.specs.Settling.{take, settle}
+use Rattle.own_run.specs.Translation.{settled, task_result, owned_by}
 use Rattle.own_run.specs.declared.result.Settled.{Settled as rSettled}
 use Rattle.own_run.specs.declared.result.TaskResult.{TaskResult as rTaskResult}
-use Rattle.holdings.specs.declared.holdings.Holdings.{Holdings}
 use Rattle.gather.specs.GivesBack.{GiveBack, all_owned}
 use Rattle.gather.specs.declared.settle.Stage.{Stage}
 use Rattle.gather.specs.declared.settle.Turn.{Turn}
 use Rattle.gather.specs.declared.settle.Turn.TheVariants.{Going, Over}
 use Rattle.gather.specs.Parts.{Part, Waiting, Gathering, opened, closed, filled, unopened, comes_back_twice, comes_to, IsWhole}
-use Rattle.gather.specs.Refusal.{IsLeftOver, Refuses, RefusesHole, is_path}
-use Rattle.gather.specs.Stages.{part, waiting, gathering, Leads, Ends, IsTurnOf, owned_in_end}
+use Rattle.gather.specs.PartRefusal.{TellsLeftOver, RefusesHole, is_path}
+use Rattle.gather.specs.Refusal.{Refuses}
+use Rattle.gather.specs.Stages.{waiting, gathering, Leads, Ends, IsTurnOf, owned_in_end}
 use Rattle.gather.specs.declared.error.GatherError.{GatherError}
 use Rattle.gather.specs.declared.error.GatherError.TheVariants.{Lost, Double, Stranger, OutOfMemory}
-use Rattle.gather.specs.declared.filling.Filling.{Filling}
 use Rattle.gather.specs.declared.filling.Waiting.{Waiting as rWaiting}
 use Rattle.gather.proofs.Turns.{settle-opened, comes_to-end, comes_to-opened, comes_to-filled, comes_to-twice}
 use Rattle.gather.proofs.Wholes.{total-push, total-filled, owned-full, Fit-last, whole-opened, whole-filled}
@@ -112,7 +111,7 @@ left-none left rest task vs f full none some =
 
 -- nothing waits any more, and a result is left over
 pub left-over : (e : GatherError) (left rest : List rTaskResult) (task : rTaskResult) (vs : List rWaiting) (f : Part) (used : Bool)
-    → f.holes ≡ [] → vs ≡ [] → left ≡ task ∷ rest → IsLeftOver used task.path e
+    → f.holes ≡ [] → vs ≡ [] → left ≡ task ∷ rest → TellsLeftOver used task.path e
     → Refuses (comes_to (record { left = map task_result left; waiting = map waiting vs; part = f })) e
 left-over OutOfMemory left rest task vs f used full none some h = tt
 left-over (Lost path) left rest task vs f used full none some h = absurd h
@@ -122,7 +121,7 @@ left-over (Stranger path) left rest task vs f used full none some h = left-none 
 pub left-over-turn : (r : Result Turn GatherError) (used : List Path) (left : List rTaskResult) (vs : List rWaiting) (f : Part)
     → f.holes ≡ [] → vs ≡ []
     → IfErr r (λ e. (task : rTaskResult) × (rest : List rTaskResult) × (left ≡ task ∷ rest)
-    × IsLeftOver (list_any (is_path task.path) used) task.path e)
+    × TellsLeftOver (list_any (is_path task.path) used) task.path e)
     → IfErr r (Refuses (comes_to (record { left = map task_result left; waiting = map waiting vs; part = f })))
 left-over-turn (Ok t) used left vs f full none h = tt
 left-over-turn (Err e) used left vs f full none h =

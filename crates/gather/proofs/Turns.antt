@@ -1,10 +1,10 @@
 -- What comes of a gathering stays the same when a hole is opened, and when one is filled.
-use Rattle.std.proofs.Common.{◌≡◌, ℕ, List, [], ◌∷◌, ◌++◌, Option, Some, None, refl, sym, ap, ◌∙◌}
+use Rattle.std.proofs.Common.{◌≡◌, List, [], ◌∷◌, ◌++◌, Option, Some, None, refl, sym, ap, ◌∙◌}
 use Rattle.std.specs.Prelude.{Bool, true, false, ◌||◌, if◌then◌else◌}
 use Rattle.own_run.specs.Places.{Places, within}
-use Rattle.own_run.specs.Results.{Listed, TaskResult, Settled, fill, and_then}
+use Rattle.own_run.specs.Results.{TaskResult, Settled, fill, and_then}
 use Rattle.own_run.specs.Settling.{take, fill_all, none_left, settle}
-use Rattle.gather.specs.Parts.{Part, Waiting, Gathering, Comes, opened, closed, filled, comes_back_twice, settle_one, finished}
+use Rattle.gather.specs.Parts.{Part, Waiting, Comes, opened, closed, filled, comes_back_twice, settle_one, finished}
 use Rattle.gather.specs.Parts.{gone_on, come, comes_to, unopened}
 use Rattle.gather.proofs.Depth.{and_then-assoc, and_then-none, settle_one-finished}
 

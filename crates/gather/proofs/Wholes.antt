@@ -1,7 +1,7 @@
 -- Whatever is listed stays given back.
-use Rattle.std.proofs.Common.{◌≡◌, ℕ, List, [], ◌∷◌, ◌++◌, Option, Some, None, refl, sym, ap, ◌∙◌, subst}
+use Rattle.std.proofs.Common.{◌≡◌, ℕ, List, [], ◌∷◌, ◌++◌, Some, refl, sym, ap, ◌∙◌}
 use Rattle.std.proofs.Math.Bool.{or_assoc, or-false}
-use Rattle.std.specs.Prelude.{Bool, true, false, ◌||◌, nat_eq}
+use Rattle.std.specs.Prelude.{◌||◌, nat_eq}
 use Rattle.std.specs.Cmp.Lexicographic.{pointwise}
 use Rattle.sections.specs.Place.{Place}
 use Rattle.own_run.specs.Places.{Places, within}
@@ -12,9 +12,9 @@ use Rattle.own_run.proofs.Lists.{each_more, each_last}
 use Rattle.own_run.proofs.SettledResults.{taken}
 use Rattle.own_run.proofs.CompleteResults.{path_same}
 use Rattle.gather.specs.GivesBack.{returned, all_owned, GivesBack, AreGivenBack}
-use Rattle.gather.specs.Parts.{Part, Waiting, Gathering, opened, filled, unopened, owned_in_all, total, Fit, IsWhole}
+use Rattle.gather.specs.Parts.{Part, Waiting, opened, filled, unopened, owned_in_all, total, Fit, IsWhole}
 
-each_end : {A : Type 0} (P : A → Type 0) (xs : List A) (x : A) → Each P (xs ++ x ∷ []) → Each P xs × P x
+pub each_end : {A : Type 0} (P : A → Type 0) (xs : List A) (x : A) → Each P (xs ++ x ∷ []) → Each P xs × P x
 each_end P [] x h = (tt, h.0)
 each_end P (y ∷ xs) x h = let k = each_end P xs x h.1 in ((h.0, k.0), k.1)
 

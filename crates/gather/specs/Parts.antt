@@ -1,5 +1,5 @@
 -- Results with holes, some of which are filled, and what comes of them.
-use Rattle.std.specs.Prelude.{ℕ, ◌+◌, ◌≡◌, List, [], ◌∷◌, ◌++◌, length, ℤ, Bool, ◌||◌}
+use Rattle.std.specs.Prelude.{◌+◌, ◌≡◌, List, [], ◌∷◌, ◌++◌, length, ℤ, Bool, ◌||◌}
 use Rattle.std.specs.Prelude.{Option, Some, None, if◌then◌else◌}
 use Rattle.sections.specs.Place.{Place}
 use Rattle.types.specs.Run.{Fault}

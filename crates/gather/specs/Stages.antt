@@ -29,13 +29,13 @@ part f = record {
 abbrev pub waiting : rWaiting → Waiting
 waiting w = record { part = part w.filling; hole = listed w.hole }
 
+-- results that are left, those that wait, and a part
+abbrev pub gathered : List rTaskResult → List rWaiting → Part → Gathering
+gathered left ws f = record { left = map task_result left; waiting = map waiting ws; part = f }
+
 -- a stage
 abbrev pub gathering : Stage → Gathering
-gathering g = record {
-  left = map task_result g.results.left.items;
-  waiting = map waiting g.waiting.items;
-  part = part g.filling;
-}
+gathering g = gathered g.results.left.items g.waiting.items (part g.filling)
 
 -- whether a result is that of a path
 abbrev pub is_of : List ℕ → rTaskResult → Bool

@@ -10,7 +10,7 @@ ghost use Rattle.own_run.specs.Translation.{owned_by, settled as settled_of};
 ghost use Rattle.own_run.specs.Translation.{task_result as result_of};
 ghost use Rattle.gather.specs.Parts.{closed, comes_back_twice, filled, opened};
 ghost use Rattle.gather.specs.Stages.{part as part_of, waiting as waiting_of};
-ghost use Rattle.gather.specs.Refusal.{RefusesHole, RefusesPaste};
+ghost use Rattle.gather.specs.PartRefusal.{RefusesHole, RefusesPaste};
 
 use crate::error::GatherError;
 use holdings::error::HoldError;
@@ -44,7 +44,8 @@ pub struct Waiting {
 impl Filling {
     /// A result, none of whose holes is filled, and its path.
     pub fn of(alloc: Global, task: TaskResult) -> (Filling, Path)
-        ensures { part_of result.0 ≡ opened (result_of task) }
+        ensures opened { part_of result.0 ≡ opened (result_of task) }
+        ensures path { result.1 ≡ task.path }
     {
         let so_far = Settled {
             stopped: task.stopped,

@@ -9,10 +9,13 @@ ghost use Rattle.own_run.specs.Settling.{settle as settle_of, take as take_of};
 ghost use Rattle.own_run.specs.Translation.{owned_by, settled as settled_of};
 ghost use Rattle.own_run.specs.Translation.{task_result as result_of};
 ghost use Rattle.gather.specs.GivesBack.{GiveBack, all_owned};
-ghost use Rattle.gather.specs.Refusal.{IsLeftOver, Refuses, is_path};
+ghost use Rattle.gather.specs.PartRefusal.{TellsLeftOver, is_path};
 ghost use Rattle.gather.specs.Parts.{IsWhole, comes_to, unopened};
-ghost use Rattle.gather.specs.Stages.{IsTurnOf, gathering as stage_of, is_of, part as part_of};
-ghost use Rattle.gather.specs.Stages.{turns_after, turns_left, waiting as waiting_of};
+ghost use Rattle.gather.specs.Reached.{GoesOn, IsOwnCase, used_by};
+ghost use Rattle.gather.specs.Refusal.{IsCaseOf, Refuses};
+ghost use Rattle.gather.specs.Stages.{IsTurnOf, gathered, gathering as stage_of, is_of};
+ghost use Rattle.gather.specs.Stages.{part as part_of, turns_after, turns_left};
+ghost use Rattle.gather.specs.Stages.{waiting as waiting_of};
 
 use crate::error::GatherError;
 use crate::filling::{Filling, Waiting};
@@ -62,6 +65,8 @@ pub fn settle(
         → owned_by s.holdings q ≡ all_owned (result_of start) q) }
     ensures refused { IfErr result
         (Refuses (settle_of (result_of start) (map result_of results.items))) }
+    ensures own_case { IfErr result
+        (IsCaseOf (result_of start) (map result_of results.items)) }
 {
     let (filling, _) = Filling::of(alloc, start);
     let results = Results {
@@ -89,7 +94,9 @@ impl Stage {
         ensures turn { IfOk result (IsTurnOf (stage_of self)) }
         ensures fewer { IfOk result (λ t.
             turns_after t < turns_left (length self.results.left.items) (vec_len self.waiting)) }
+        ensures goes_on { IfOk result (GoesOn (used_by self.results) (stage_of self)) }
         ensures refused { IfErr result (Refuses (comes_to (stage_of self))) }
+        ensures own_case { IfErr result (IsOwnCase (used_by self.results) (stage_of self)) }
     {
         let Stage {
             results,
@@ -111,23 +118,17 @@ fn open(
     waiting: Vec<Waiting>,
     next: Waiting,
 ) -> Result<Turn, GatherError>
-    requires { IsWhole (record {
-      left = map result_of results.left.items;
-      waiting = map waiting_of waiting.items;
-      part = unopened (waiting_of next);
-    }) }
-    ensures turn { IfOk result (IsTurnOf (record {
-      left = map result_of results.left.items;
-      waiting = map waiting_of waiting.items;
-      part = unopened (waiting_of next);
-    })) }
+    requires { IsWhole (gathered results.left.items waiting.items (unopened (waiting_of next))) }
+    ensures turn { IfOk result (IsTurnOf
+        (gathered results.left.items waiting.items (unopened (waiting_of next)))) }
     ensures fewer { IfOk result (λ t.
         turns_after t < turns_left (length results.left.items) (vec_len waiting)) }
-    ensures refused { IfErr result (Refuses (comes_to (record {
-      left = map result_of results.left.items;
-      waiting = map waiting_of waiting.items;
-      part = unopened (waiting_of next);
-    }))) }
+    ensures goes_on { IfOk result (GoesOn (used_by results)
+        (gathered results.left.items waiting.items (unopened (waiting_of next)))) }
+    ensures refused { IfErr result (Refuses (comes_to
+        (gathered results.left.items waiting.items (unopened (waiting_of next))))) }
+    ensures own_case { IfErr result (IsOwnCase (used_by results)
+        (gathered results.left.items waiting.items (unopened (waiting_of next)))) }
 {
     let mut results = results;
     let mut waiting = waiting;
@@ -156,24 +157,18 @@ fn go_on(
     waiting: Vec<Waiting>,
     filling: Filling,
 ) -> Result<Turn, GatherError>
-    requires whole { IsWhole (record {
-      left = map result_of results.left.items;
-      waiting = map waiting_of waiting.items;
-      part = part_of filling;
-    }) }
+    requires whole { IsWhole (gathered results.left.items waiting.items (part_of filling)) }
     requires full { filling.holes.items ≡ [] }
-    ensures turn { IfOk result (IsTurnOf (record {
-      left = map result_of results.left.items;
-      waiting = map waiting_of waiting.items;
-      part = part_of filling;
-    })) }
+    ensures turn { IfOk result (IsTurnOf
+        (gathered results.left.items waiting.items (part_of filling))) }
     ensures fewer { IfOk result (λ t.
         turns_after t < turns_left (length results.left.items) (vec_len waiting)) }
-    ensures refused { IfErr result (Refuses (comes_to (record {
-      left = map result_of results.left.items;
-      waiting = map waiting_of waiting.items;
-      part = part_of filling;
-    }))) }
+    ensures goes_on { IfOk result (GoesOn (used_by results)
+        (gathered results.left.items waiting.items (part_of filling))) }
+    ensures refused { IfErr result (Refuses (comes_to
+        (gathered results.left.items waiting.items (part_of filling)))) }
+    ensures own_case { IfErr result (IsOwnCase (used_by results)
+        (gathered results.left.items waiting.items (part_of filling))) }
 {
     let mut waiting = waiting;
     let child = filling.close()?;
@@ -195,7 +190,7 @@ fn end(results: Results, settled: Settled) -> Result<Turn, GatherError>
     ensures over { IfOk result (λ t. (t ≡ Turn.Over settled) × (results.left.items ≡ [])) }
     ensures refused { IfErr result (λ e. (task : TaskResult) × (rest : List TaskResult)
         × (results.left.items ≡ task ∷ rest)
-        × IsLeftOver (list_any (is_path task.path) results.used.items) task.path e) }
+        × TellsLeftOver (list_any (is_path task.path) results.used.items) task.path e) }
 {
     let Results { left, used } = results;
     let mut left = left;
@@ -207,7 +202,7 @@ fn end(results: Results, settled: Settled) -> Result<Turn, GatherError>
 
 /// A result of a path is left over, where those of some paths were used.
 fn left_over(used: &[Path], path: Path) -> GatherError
-    ensures { IsLeftOver (list_any (is_path path) used.now) path result }
+    ensures { TellsLeftOver (list_any (is_path path) used.now) path result }
 {
     if has_path(used, &path) {
         GatherError::Double(path)

@@ -1,6 +1,6 @@
 use Rattle.std.proofs.Common.{refl}
 use Rattle.own_run.specs.Translation.{listed}
-use Rattle.gather.specs.Refusal.{RefusesHole}
+use Rattle.gather.specs.PartRefusal.{RefusesHole}
 use Rattle.gather.specs.Stages.{waiting}
 use Rattle.gather.proofs.Pasting.{apart_is_once, once_is_apart, filled-is, passed_on, refuses_hole}
 use Rattle.gather.proofs.filling.Waiting.fill.Goals as goal

@@ -1,0 +1,32 @@
+-- When a part of the gathering is refused.
+use Rattle.std.specs.Prelude.{◌≡◌, Bool, true, false, nat_eq}
+use Rattle.std.specs.Cmp.Lexicographic.{pointwise}
+use Rattle.types.specs.declared.path.Path.{Path}
+use Rattle.gather.specs.Parts.{Waiting, comes_back_twice}
+use Rattle.gather.specs.declared.error.GatherError.{GatherError}
+use Rattle.gather.specs.declared.error.GatherError.TheVariants.{Lost, Double, Stranger, OutOfMemory}
+
+-- whether two paths are the same
+abbrev pub is_path : (path other : Path) → Bool
+is_path path other = pointwise nat_eq other.turns.items path.turns.items
+
+-- a result of a path is left over: another one was used, or nobody listed it
+abbrev pub TellsLeftOver : (was_used : Bool) → Path → GatherError → Type 0
+TellsLeftOver used path OutOfMemory = ⊥
+TellsLeftOver used path (Lost other) = ⊥
+TellsLeftOver used path (Double other) = (other ≡ path) × (used ≡ true)
+TellsLeftOver used path (Stranger other) = (other ≡ path) × (used ≡ false)
+
+-- places come back to one that waits, and one of them is owned already
+abbrev pub RefusesHole : Waiting → GatherError → Type 0
+RefusesHole w OutOfMemory = Unit {0}
+RefusesHole w (Lost path) = ⊥
+RefusesHole w (Double path) = (path.turns.items ≡ w.hole.path) × (comes_back_twice w ≡ true)
+RefusesHole w (Stranger path) = ⊥
+
+-- the same, of what holds the places
+abbrev pub RefusesPaste : Path → (apart : Type 0) → GatherError → Type 0
+RefusesPaste path apart OutOfMemory = Unit {0}
+RefusesPaste path apart (Lost other) = ⊥
+RefusesPaste path apart (Double other) = (other ≡ path) × (apart → ⊥)
+RefusesPaste path apart (Stranger other) = ⊥

@@ -1,0 +1,57 @@
+-- How a stage of the gathering was reached.
+use Rattle.std.specs.Prelude.{ℕ, ◌+◌, ◌≡◌, List, [], ◌∷◌, ◌++◌, map, ◌||◌}
+use Rattle.sections.specs.Place.{Place}
+use Rattle.own_run.specs.Results.{Listed, TaskResult}
+use Rattle.own_run.specs.Lists.{Each, Inserted}
+use Rattle.gather.specs.GivesBack.{returned}
+use Rattle.gather.specs.Parts.{Part, Waiting, Gathering, unopened}
+use Rattle.gather.specs.Refusal.{IsCaseOf, Opening, listed, listed_by, paths_of, times}
+use Rattle.gather.specs.Stages.{gathering}
+use Rattle.gather.specs.declared.error.GatherError.{GatherError}
+use Rattle.gather.specs.declared.settle.Results.{Results}
+use Rattle.gather.specs.declared.settle.Turn.{Turn}
+use Rattle.gather.specs.declared.settle.Turn.TheVariants.{Going, Over}
+
+-- a part of one of some results: the first of its holes are filled, and what they own is owned
+pub record IsPartOf (rs : List TaskResult) (f : Part) : Type 0 where
+  pub whole : TaskResult
+  pub others : List TaskResult
+  pub among : Inserted whole others rs
+  pub before : List Listed
+  pub lists : whole.children ≡ before ++ f.holes
+  pub owned : (q : Place) → f.owned q ≡ (whole.owned q || returned before q)
+
+-- the paths that are listed, and of which nothing is opened for it
+abbrev pub outstanding : List Waiting → Part → List (List ℕ)
+outstanding [] f = listed f.holes
+outstanding (w ∷ ws) f = listed w.part.holes ++ outstanding ws f
+
+-- results of these paths were opened one after the other, and the parts are theirs
+pub record IsReached (start : TaskResult) (rs : List TaskResult) (used : List (List ℕ))
+    (g : Gathering) : Type 0 where
+  pub opened : List TaskResult
+  pub opening : Opening start rs opened g.left
+  pub counted : (p : List ℕ) → times p used ≡ times p (paths_of opened)
+  pub listed : (p : List ℕ) → times p (listed_by (start ∷ opened))
+      ≡ times p (paths_of opened) + times p (outstanding g.waiting g.part)
+  pub part : IsPartOf (start ∷ opened) g.part
+  pub waiting : Each (λ w. IsPartOf (start ∷ opened) (unopened w)) g.waiting
+
+-- the paths of the results that were used
+abbrev pub used_by : Results → List (List ℕ)
+used_by r = map (λ p. p.turns.items) r.used.items
+
+-- what a turn reaches
+abbrev pub Reaches : (start : TaskResult) (rs : List TaskResult) → Turn → Type 0
+Reaches start rs (Going s) = IsReached start rs (used_by s.results) (gathering s)
+Reaches start rs (Over s) = Unit {0}
+
+-- a turn goes on, from whatever a gathering was reached
+abbrev pub GoesOn : (used : List (List ℕ)) → Gathering → Turn → Type 0
+GoesOn used g t =
+    (start : TaskResult) (rs : List TaskResult) → IsReached start rs used g → Reaches start rs t
+
+-- an error is in its own case, from whatever a gathering was reached
+abbrev pub IsOwnCase : (used : List (List ℕ)) → Gathering → GatherError → Type 0
+IsOwnCase used g e =
+    (start : TaskResult) (rs : List TaskResult) → IsReached start rs used g → IsCaseOf start rs e
