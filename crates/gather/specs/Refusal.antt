@@ -89,7 +89,7 @@ pub record IsStranger (start : TaskResult) (rs : List TaskResult) (path : List �
   pub is : IsLeftOver start rs path
   pub unlisted : times path (listed_by (start ∷ is.opened)) ≡ 0
 
--- one result more than the path is listed
+-- the path is listed, and a result of it is left over
 pub record HasOneMore (start : TaskResult) (rs : List TaskResult) (path : List ℕ) : Type 0 where
   pub is : IsLeftOver start rs path
   pub listed : 0 < times path (listed_by (start ∷ is.opened))

@@ -220,9 +220,11 @@ fn has_path(paths: &[Path], path: &Path) -> bool
 
 /// Takes the first result of a path out.
 fn take(left: &mut VecDeque<TaskResult>, path: &Path) -> Option<TaskResult>
-    ensures found { IfSome result (λ task. take_of path.now.turns.items (map result_of left.old.items)
+    ensures found { IfSome result (λ task.
+        take_of path.now.turns.items (map result_of left.old.items)
         ≡ Some (result_of task, map result_of left.new.items)) }
-    ensures none { IfNone result (take_of path.now.turns.items (map result_of left.old.items) ≡ None) }
+    ensures none { IfNone result
+        (take_of path.now.turns.items (map result_of left.old.items) ≡ None) }
     ensures fewer { IfSome result (λ _. length left.new.items + 1 ≡ length left.old.items) }
 {
     match index_of(left, path) {
