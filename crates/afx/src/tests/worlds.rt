@@ -7,11 +7,10 @@ use interleave::event::ScopeId;
 use interleave::job::Job;
 use interleave::world::World;
 use std::test::Fail;
+use task_machine::job::Job as TaskJob;
 use types::budget::Budget;
 use types::input::Input;
 use types::path::Path;
-use workers::job::Job as RunJob;
-use workers::run::Order;
 
 #[test]
 fn the_root_is_stolen_and_taken(rt: HostRuntime) -> Result<(), Fail> {
@@ -19,12 +18,11 @@ fn the_root_is_stolen_and_taken(rt: HostRuntime) -> Result<(), Fail> {
     let accepted = accepted(&rt, alloc, TWO_ARRAYS);
     let input = Input::zeros(alloc, accepted.typed()).expect(&rt, "memory");
     let budget = Budget::usual();
-    let run = RunJob {
+    let tasks = TaskJob {
         alloc,
         accepted: &accepted,
         input: &input,
         budget,
-        order: Order::InTurn,
     };
     let job = Job {
         alloc,
@@ -33,7 +31,7 @@ fn the_root_is_stolen_and_taken(rt: HostRuntime) -> Result<(), Fail> {
         budget,
         w0: 8,
     };
-    let mut world = World::start(job, run.root()?).expect(&rt, "memory");
+    let mut world = World::start(job, tasks.root()?).expect(&rt, "memory");
     let root = Path {
         turns: Vec::new(alloc),
     };
