@@ -24,7 +24,6 @@ mod settings;
 mod statuses;
 mod texts;
 mod typing_rules;
-mod worlds;
 mod writers;
 
 use crate::tests::rows::compare;

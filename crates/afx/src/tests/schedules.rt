@@ -15,7 +15,7 @@ use types::outcome::Outcome;
 use workers::run::{Order, run_by};
 
 /// A program without a race.
-pub fn accepted(rt: &(impl Abort + Threads + Sync), alloc: Global, text: &str) -> Accepted {
+fn accepted(rt: &(impl Abort + Threads + Sync), alloc: Global, text: &str) -> Accepted {
     let program = parse(alloc, text).expect(rt, "a text of the language");
     let typed = type_check(alloc, program).expect(rt, "a program");
     match check(rt, alloc, typed) {
