@@ -21,6 +21,7 @@ mod schedules;
 mod scope_weights;
 mod section_trees;
 mod settings;
+mod settled_results;
 mod statuses;
 mod texts;
 mod typing_rules;
