@@ -77,6 +77,17 @@ module _ (j : Job) where
       let f = ap (λ (ws : _). sum_by child_left ws.items) waiting in
       omega (arith, a, b, d, e, f)
 
+  -- a scope was opened
+  pub opens_left : (k to_k : Backlog) → to_k.owners ≡ k.owners → to_k.outer.items ≡ k.scope ∷ k.outer.items
+      → to_k.scope.begun.items ≡ [] → to_k.scope.waiting.items ≡ [] → left_in j to_k ≡ left_in j k
+  opens_left k to_k owners outer begun waiting =
+      let a = ap (λ (os : _). sum_by left_of_parked os.items) owners in
+      let b = ap (sum_by (left_in_scope j)) outer in
+      let c = sum_by-cons (left_in_scope j) k.scope k.outer.items in
+      let d = ap (sum_by child_left) begun in
+      let e = ap (sum_by child_left) waiting in
+      omega (arith, a, b, c, d, e)
+
   -- what waits in the innermost scope stays
   pub same_left : (k : Backlog) (to : Scope) → to.begun ≡ k.scope.begun → to.waiting ≡ k.scope.waiting
       → left_in j (record k { scope = to }) ≡ left_in j k

@@ -1,4 +1,4 @@
--- How far a run has come: what stands where is of the program's tasks, no result is lost, and no weight.
+-- How far a run has come: whose is what stands where, and that no result and no weight is lost.
 use Rattle.std.specs.Prelude.{◌≡◌, ◌≢◌, ◌≤◌, List, [], ◌∷◌, map, Some}
 use Rattle.types.specs.Run.{State}
 use Rattle.types.specs.Translation.{outcome}

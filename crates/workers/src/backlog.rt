@@ -108,8 +108,8 @@ impl<'p> Backlog<'p> {
         Ok(owner)
     }
 
-    /// While a task waits another one of the scope begins. Where the book of the scope is even none is
-    /// left, and it passes.
+    /// While a task waits another one of the scope begins. Where the book of the scope is even none
+    /// is left, and it passes.
     pub fn wait(self, job: Job<'p>, order: Order, owner: Parked<'p>) -> Result<Next<'p>, RunError>
         requires job { IsJob job }
         requires stage { IsStage job (record { now = Waits owner; backlog = self }) }

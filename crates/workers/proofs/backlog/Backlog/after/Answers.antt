@@ -1,11 +1,15 @@
-use Rattle.std.proofs.Common.{◌∙◌, ◌∷◌, ◌++◌, List, ap, refl, subst, sym}
+use Rattle.std.proofs.Common.{◌∙◌, ◌∷◌, ◌++◌, List, ap, arith, refl, subst, sym}
+use Rattle.own_run.specs.Left.{left_of_start}
+use Rattle.own_run.specs.declared.start.Start.{Start}
 use Rattle.task_machine.specs.declared.task.Child.{Child}
+use Rattle.workers.specs.Left.{left, left_after, left_of_body, left_of_owner}
 use Rattle.workers.specs.Stages.{IsStage}
 use Rattle.workers.specs.Turns.{IsTurnIn}
 use Rattle.workers.specs.Weights.{tasks_of}
 use Rattle.workers.specs.declared.scope.Scope.{Scope}
-use Rattle.workers.proofs.TaskStages.{begins_child, begins_with_more, ended_owned, enters_finish, goes}
-use Rattle.workers.proofs.TaskStages.{member_ends, parks, stops}
+use Rattle.workers.proofs.LeftLemmas.{ends_left, opens_left, same_left, spawns_left}
+use Rattle.workers.proofs.TaskStages.{begins_child, begins_with_more, ended_out, ended_owned, ending_out, enters_finish}
+use Rattle.workers.proofs.TaskStages.{goes, member_ends, parks, stops, wanting_out, wants_one}
 use Rattle.workers.proofs.backlog.Backlog.after.Goals as goal
 
 pub returns-in-Going-clause-stage : goal.returns-in-Going-clause-stage
@@ -79,3 +83,90 @@ returns-in_ok-end-in-Ended-clause-stage c =
     let k = c.args.self in
     member_ends j c.requires.job k c.in-Ended.ended c.in_ok-end-in-Ended.field-0 c.end.new.self
     (subst (IsTurnIn j k) c.in-Ended.is c.requires.turn) c.in_ok-end-in-Ended.ensures
+
+pub replenish-requires-clause-one : goal.replenish-requires-clause-one
+replenish-requires-clause-one c =
+    let j = c.args.job in
+    let k = c.args.self in
+    wants_one j c.requires.job k c.in-WantsWeight.wanting (subst (IsTurnIn j k) c.in-WantsWeight.is c.requires.turn)
+
+pub replenish-requires-clause-out : goal.replenish-requires-clause-out
+replenish-requires-clause-out c =
+    let j = c.args.job in
+    let k = c.args.self in
+    wanting_out j c.requires.job k c.in-WantsWeight.wanting (subst (IsTurnIn j k) c.in-WantsWeight.is c.requires.turn)
+
+pub park-requires : goal.park-requires
+park-requires c =
+    let j = c.args.job in
+    let k = c.args.self in
+    record { out = ending_out j c.requires.job k c.in-EndsFinish.ending (subst (IsTurnIn j k) c.in-EndsFinish.is c.requires.turn) }
+
+pub end-requires-clause-out : goal.end-requires-clause-out
+end-requires-clause-out c =
+    let j = c.args.job in
+    let k = c.args.self in
+    ended_out j c.requires.job k c.in-Ended.ended (subst (IsTurnIn j k) c.in-Ended.is c.requires.turn)
+
+pub returns-in_ok-push-in-Spawns-clause-fewer :
+    goal.returns-in_ok-push-in-Spawns-clause-fewer
+returns-in_ok-push-in-Spawns-clause-fewer c =
+    let j = c.args.job in
+    let k = c.args.self in
+    let turn = ap (left_after j.budget.steps) c.in-Spawns.is in
+    let now = ap (left j) c.runs-in-Spawns.ensures in
+    let more =
+    spawns_left j k (record k { scope = record k.scope { begun = c.push.new.self } }) c.in-Spawns.child refl refl
+    c.in_ok-push-in-Spawns.ensures.items refl in
+    omega (arith, turn, now, more)
+
+pub returns-in_ok-push-in-WantsWeight-clause-fewer :
+    goal.returns-in_ok-push-in-WantsWeight-clause-fewer
+returns-in_ok-push-in-WantsWeight-clause-fewer c =
+    let j = c.args.job in
+    let k = c.args.self in
+    let mid = c.replenish.new.self in
+    let with_more = c.in_ok-task-in-WantsWeight in
+    let turn = ap (left_after j.budget.steps) c.in-WantsWeight.is in
+    let now = ap (left j) c.runs-in-WantsWeight.ensures in
+    let same = same_left j k mid with_more.ensures.begun with_more.ensures.waiting in
+    let more =
+    spawns_left j (record k { scope = mid }) (record k { scope = record mid { begun = c.push-in-WantsWeight.new.self } }) with_more.child
+    refl refl c.in_ok-push-in-WantsWeight.ensures.items refl in
+    let body = ap left_of_body with_more.ensures.parts.body in
+    let starts = ap (λ (s : Start). left_of_start j.budget.steps s.nest) with_more.ensures.parts.start in
+    omega (arith, turn, now, same, more, body, starts)
+
+pub returns-in_ok-park-in-EndsFinish-clause-fewer :
+    goal.returns-in_ok-park-in-EndsFinish-clause-fewer
+returns-in_ok-park-in-EndsFinish-clause-fewer c =
+    let j = c.args.job in
+    let k = c.args.self in
+    let down = c.in_ok-park-in-EndsFinish in
+    let turn = ap (left_after j.budget.steps) c.in-EndsFinish.is in
+    let same = same_left j k c.park.new.self down.ensures.begun down.ensures.waiting in
+    let owner = ap left_of_owner down.ensures.parked.owner in
+    omega (arith, turn, same, owner)
+
+pub returns-in_ok-push_front-in-EntersFinish-clause-fewer :
+    goal.returns-in_ok-push_front-in-EntersFinish-clause-fewer
+returns-in_ok-push_front-in-EntersFinish-clause-fewer c =
+    let j = c.args.job in
+    let k = c.args.self in
+    let opened = c.open-scope.ensures in
+    let after = c.replace-outer.ensures.after in
+    let turn = ap (left_after j.budget.steps) c.in-EntersFinish.is in
+    let now = ap (left j) c.runs-in-EntersFinish.ensures in
+    let body = ap (λ (b : _). left_of_body b.value) c.enter-task.ensures.body in
+    let same =
+    opens_left j k (record { scope = c.replace-outer.new.dest; outer = c.push_front.new.self; owners = k.owners }) refl
+    (c.in_ok-push_front-in-EntersFinish.ensures.items ∙ ap (λ (s : Scope). s ∷ k.outer.items) c.replace-outer.ensures.value)
+    (ap (λ (s : Scope). s.begun.items) after ∙ opened.begun) (ap (λ (s : Scope). s.waiting.items) after ∙ opened.waiting) in
+    omega (arith, turn, now, body, same)
+
+pub returns-in_ok-end-in-Ended-clause-fewer : goal.returns-in_ok-end-in-Ended-clause-fewer
+returns-in_ok-end-in-Ended-clause-fewer c =
+    let turn = ap (left_after c.args.job.budget.steps) c.in-Ended.is in
+    let less =
+    ends_left c.args.job c.args.self c.end.new.self c.in-Ended.ended c.in_ok-end-in-Ended.field-0 c.in_ok-end-in-Ended.ensures in
+    omega (arith, turn, less)
