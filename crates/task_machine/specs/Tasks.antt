@@ -56,6 +56,7 @@ pub record IsRootBody (j : Job) (b : Body) : Type 0 where
   pub run : Run
   pub first : IsFirst j run (record { depth = 0; number = 0 }) b
   pub begun : IsAt run (begun j.budget.steps (root (program_of j) (lists_of j) (budget_of j)))
+  pub nest : run.thread.nest ≡ j.budget.nest
   pub task : IsBody b
 
 abbrev pub IsRoot : Job → Task → Type 0
@@ -66,5 +67,6 @@ pub record IsBegun (c : Child) (t : Task) : Type 0 where
   pub run : Run
   pub first : IsFirst c.job run c.scope t.body.value
   pub begun : IsAt run (begun c.job.budget.steps (start c.start))
+  pub nest : run.thread.nest ≡ c.start.nest
   pub weight : t.share.weight ≡ c.share.weight
   pub task : IsTask t

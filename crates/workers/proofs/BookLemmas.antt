@@ -86,10 +86,6 @@ module _ (w : Start → ℕ) (f : TaskResult → ℕ) where
   first_scope (d ∷ ds) [] e h = absurd h
   first_scope (d ∷ ds) (k ∷ ks) e h = record { first = k; others = ks; is = refl }
 
-  pub no_others : (d : Due) (k : Scope) (ks : List Scope) → AllCover w f (d ∷ []) (k ∷ ks) → ks ≡ []
-  no_others d k [] h = refl
-  no_others d k (l ∷ ks) h = absurd h.1
-
 module _ (p : Program) (b : Budget) where
   -- ---- each move
   -- at the start
@@ -105,13 +101,6 @@ module _ (p : Program) (b : Budget) where
     where
       added : (w : Start → ℕ) (ss : List Start) (s : Start) → sum_by w (ss ++ s ∷ []) ≡ w s + sum_by w ss
       added w ss s = let a = sum_by_push w ss s in omega (arith, a)
-
-  -- or before them
-  pub spawn_first_balanced : (t : Task) (ts : List Task) (c : Child) (k : Scope) (ks : List Scope) → AreBalanced p b (t ∷ ts) (k ∷ ks)
-      → AreBalanced p b (record t { lists = with_child c t.lists } ∷ ts) (record k { waiting = c.start ∷ k.waiting } ∷ ks)
-  spawn_first_balanced t ts c k ks h f =
-      spawn_covers (worth p b f) f t.start t.lists.inner t.lists.outer c (dues ts) k ks (c.start ∷ k.waiting)
-      (sum_by-cons (worth p b f) c.start k.waiting) (h f)
 
   -- a finish is entered
   pub enter_balanced : (t : Task) (ts : List Task) (ks : List Scope) → AreBalanced p b (t ∷ ts) ks
@@ -132,19 +121,6 @@ module _ (p : Program) (b : Budget) where
           let c = sum_by-cons w s after in
           let d = sum_by-append w before after in
           omega (arith, a, b, c, d)
-
-  -- the last of them
-  pub begin_last_balanced : (s : Start) (ts : List Task) (k : Scope) (ks : List Scope) (before : List Start)
-      → k.waiting ≡ before ++ s ∷ [] → AreBalanced p b ts (k ∷ ks)
-      → AreBalanced p b (record { start = s; lists = no_lists } ∷ ts) (record k { waiting = before } ∷ ks)
-  begin_last_balanced s ts k ks before e h f =
-      begin_covers (worth p b f) f s (dues ts) k ks before (taken (worth p b f)) (h f)
-    where
-      taken : (w : Start → ℕ) → sum_by w k.waiting ≡ w s + sum_by w before
-      taken w =
-          let a : sum_by w k.waiting ≡ sum_by w (before ++ s ∷ []) = ap (sum_by w) e in
-          let b = sum_by_push w before s in
-          omega (arith, a, b)
 
   -- the task on top ends, and its result goes to the first scope
   pub end_balanced : (s : Start) (cs : List Child) (r : TaskResult) (o : Task) (ts : List Task) (k : Scope) (ks : List Scope)
@@ -184,12 +160,6 @@ module _ (p : Program) (b : Budget) where
   second_scope t ts next more k ks e h =
       some_scope (record { start = t.start; lists = record { inner = next; outer = more } }) ts ks
       (λ f. (subst (λ outer. AllCover (worth p b f) f (for_finishes t.start t.lists.inner outer (dues ts)) (k ∷ ks)) e (h f)).1)
-
-  -- the root alone, outside of its finishes, has but one
-  pub root_scope_alone : (s : Start) (cs : List Child) (k : Scope) (ks : List Scope)
-      → AreBalanced p b (record { start = s; lists = record { inner = cs; outer = [] } } ∷ []) (k ∷ ks) → ks ≡ []
-  root_scope_alone s cs k ks h =
-      no_others (worth p b (λ r. 0)) (λ r. 0) (record { listed = cs; running = [] }) k ks (h (λ r. 0))
 
 -- those that wait in another order
 pub reordered : (p : Program) (b : Budget) (ts : List Task) (k to : Scope) (ks : List Scope) → to.results ≡ k.results

@@ -24,8 +24,8 @@ use Rattle.own_run.specs.declared.turn.Done.TheVariants.{Gone, Entered, Exceeded
 use Rattle.own_run.proofs.ListedTurns.{gone_lists, spawned_lists, entered_lists, exceeded_lists}
 use Rattle.own_run.proofs.MeasuredResults.{ended_worth, measured_settles}
 use Rattle.workers.specs.Books.{Task, task_at, Scope, no_results, AreBalanced}
-use Rattle.workers.proofs.BookLemmas.{root_balanced, spawn_balanced, spawn_first_balanced, enter_balanced, begin_balanced}
-use Rattle.workers.proofs.BookLemmas.{begin_last_balanced, end_balanced, pass_balanced, root_full}
+use Rattle.workers.proofs.BookLemmas.{root_balanced, spawn_balanced, enter_balanced, begin_balanced}
+use Rattle.workers.proofs.BookLemmas.{end_balanced, pass_balanced, root_full}
 
 module _ (p : Program) (b : Budget) where
   -- other lists in the place of the same
@@ -42,12 +42,6 @@ module _ (p : Program) (b : Budget) where
       → k.waiting ≡ before ++ s ∷ after → AreBalanced p b ts (k ∷ ks)
       → AreBalanced p b (task_at s (begun fresh s) ∷ ts) (record k { waiting = before ++ after } ∷ ks)
   begun_at_first fresh s ts k ks before after e h = begin_balanced p b s ts k ks before after e h
-
-  -- the last that waited
-  pub last_at_first : (fresh : ℕ) (s : Start) (ts : List Task) (k : Scope) (ks : List Scope) (before : List Start)
-      → k.waiting ≡ before ++ s ∷ [] → AreBalanced p b ts (k ∷ ks)
-      → AreBalanced p b (task_at s (begun fresh s) ∷ ts) (record k { waiting = before } ∷ ks)
-  last_at_first fresh s ts k ks before e h = begin_last_balanced p b s ts k ks before e h
 
   -- ---- a turn, as a run in Rust tells it
   module _ (needs : Codes → Needs) (close : State Own → Option Settled) (nest : ℕ) (f : Frame Own) (fs : List (Frame Own)) (st : State Own)
@@ -82,18 +76,6 @@ module _ (p : Program) (b : Budget) where
         (subst
         (λ x. AreBalanced p b (record { start = s; lists = with_child l.child (lists old) } ∷ ts) (record k { waiting = k.waiting ++ x ∷ [] } ∷ ks))
         l.start (spawn_balanced p b (task_at s old) ts l.child k ks h))
-
-    -- or before them
-    pub spawned_first_balanced : (c : rStart) (k : Scope) (ks : List Scope)
-        → BeginsAs (done_in needs nest f st) (stops nest f st) c
-        → AreBalanced p b (task_at s old ∷ ts) (k ∷ ks)
-        → AreBalanced p b (task_at s new ∷ ts) (record k { waiting = start c ∷ k.waiting } ∷ ks)
-    spawned_first_balanced c k ks d h =
-        let l = spawned_lists p needs close nest f fs st c d in
-        listed_so s (with_child l.child (lists old)) (lists new) ts (record k { waiting = start c ∷ k.waiting } ∷ ks) l.lists
-        (subst
-        (λ x. AreBalanced p b (record { start = s; lists = with_child l.child (lists old) } ∷ ts) (record k { waiting = x ∷ k.waiting } ∷ ks))
-        l.start (spawn_first_balanced p b (task_at s old) ts l.child k ks h))
 
 -- ---- ends, in a sound and accepted program whose input fits
 module _ (p : Program) (sound : IsSound p) (accepted : IsAccepted p) (input : List (List ℤ)) (b : Budget)

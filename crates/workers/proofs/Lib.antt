@@ -1,9 +1,12 @@
 pub mod BookLemmas
 pub mod BookMoves
 pub mod LeftLemmas
-pub mod Roots
 pub mod StageBegins
 pub mod StageGoes
 pub mod StagePasses
 pub mod StageTurns
+pub mod StageWaits
 pub mod Takes
+pub mod TaskPaths
+pub mod TaskStages
+pub mod WeightMoves

@@ -1,5 +1,5 @@
 -- What each turn makes of a stage: again a stage of the run.
-use Rattle.std.proofs.Common.{◌≡◌, ℕ, List, [], ◌∷◌, ◌++◌, map, refl, sym, ap, ◌∙◌, subst, inl, inr, arith}
+use Rattle.std.proofs.Common.{◌≡◌, ℕ, ◌≤◌, List, [], ◌∷◌, ◌++◌, map, refl, sym, ap, ◌∙◌, subst, arith}
 use Rattle.std.proofs.lemmas.List.Sums.{sum_by-cons, sum_by_push}
 use Rattle.std.specs.Prelude.{sum_by}
 use Rattle.std.proofs.lemmas.List.{map-append}
@@ -18,7 +18,8 @@ use Rattle.own_run.specs.Lists.{Each}
 use Rattle.own_run.specs.OwnRun.{Own, Spawn, Start, own_rules, result_of}
 use Rattle.own_run.specs.Reached.{begun, child_begins, turns}
 use Rattle.own_run.specs.Results.{Settled}
-use Rattle.own_run.specs.RunTurns.{EndsAs, GoesAs, GoesTo, TurnOf, WaitsAs}
+use Rattle.own_run.specs.Results.{TaskResult as Results}
+use Rattle.own_run.specs.RunTurns.{EndsAs, GoesAs, GoesTo, IsTurn, TurnOf, WaitsAs}
 use Rattle.own_run.specs.Runs.{root, MayStand}
 use Rattle.own_run.specs.Standings.{IsAt, state_of, with_own}
 use Rattle.own_run.specs.Stops.{stops}
@@ -34,19 +35,18 @@ use Rattle.own_run.proofs.Children.{turn_lists}
 use Rattle.own_run.proofs.Lists.{each_last}
 use Rattle.workers.specs.Books.{Task, task_at, no_results, AreBalanced}
 use Rattle.workers.specs.Books.{Scope as ScopeBook}
-use Rattle.workers.specs.Jobs.{program_of, lists_of, budget_of, IsJob}
-use Rattle.workers.specs.Stages.{IsStage, IsBacklog, IsRunOf, IsOwner, AreOwners, EndsAtRoot}
-use Rattle.workers.specs.Stages.{IsScope, IsBegun, IsResult, book_of, scopes_of, tasks_of}
-use Rattle.workers.specs.Turns.{IsTurnIn, EndsIn, RootEnds, MemberEnds}
+use Rattle.task_machine.specs.Jobs.{program_of, lists_of, budget_of, IsJob}
+use Rattle.task_machine.specs.declared.finish.Owner.TheVariants.{Main, Finish}
+use Rattle.task_machine.specs.declared.finish.Parked.{Parked}
+use Rattle.task_machine.specs.declared.job.Job.{Job}
+use Rattle.task_machine.specs.declared.task.Child.{Child}
+use Rattle.workers.specs.Stages.{IsBacklog, IsEnding, IsOwner, IsRunOf, IsRunning, AreOwners, EndsAtRoot}
+use Rattle.workers.specs.Stages.{IsScope, IsBegun, IsResult, IsWaiting, book_of, scopes_of, start_of}
+use Rattle.workers.specs.Weights.{tasks_of}
 use Rattle.workers.specs.declared.backlog.Backlog.{Backlog}
-use Rattle.workers.specs.declared.backlog.Owner.{Owner}
-use Rattle.workers.specs.declared.backlog.Owner.TheVariants.{Finish}
-use Rattle.workers.specs.declared.backlog.Scope.{Scope}
-use Rattle.workers.specs.declared.job.Job.{Job}
-use Rattle.workers.specs.declared.stage.Now.TheVariants.{Runs}
-use Rattle.workers.specs.declared.stage.Now.TheVariants.{Waits as rWaits}
 use Rattle.workers.proofs.BookLemmas.{reordered}
 use Rattle.workers.proofs.BookMoves.{entered_balanced, exceeded_balanced, gone_balanced, spawned_balanced, ended_balanced}
+use Rattle.workers.proofs.TaskPaths.{child_below, own_path}
 
 -- ---- turns that go on
 abbrev Moves : Turn → Type 0
@@ -79,20 +79,22 @@ each_put P [] x ys h k = (k, h)
 each_put P (y ∷ xs) x ys h k = (h.0, each_put P xs x ys h.1 k)
 
 -- where a task stands among those that wait makes no difference to sums
-put_anywhere : (c : rStart) (xs ys : List rStart) (g : Start → ℕ)
-    → sum_by g (map start ((xs ++ c ∷ []) ++ ys)) ≡ sum_by g (map start (xs ++ ys) ++ start c ∷ [])
+put_anywhere : (c : Child) (xs ys : List Child) (g : Start → ℕ)
+    → sum_by g (map start_of ((xs ++ c ∷ []) ++ ys)) ≡ sum_by g (map start_of (xs ++ ys) ++ start_of c ∷ [])
 put_anywhere c [] ys g =
-    let a = sum_by-cons g (start c) (map start ys) in let b = sum_by_push g (map start ys) (start c) in omega (arith, a, b)
+    let a = sum_by-cons g (start_of c) (map start_of ys) in
+    let b = sum_by_push g (map start_of ys) (start_of c) in
+    omega (arith, a, b)
 put_anywhere c (x ∷ xs) ys g =
     let a = put_anywhere c xs ys g in
-    let b = sum_by-cons g (start x) (map start ((xs ++ c ∷ []) ++ ys)) in
-    let d = sum_by-cons g (start x) (map start (xs ++ ys) ++ start c ∷ []) in
+    let b = sum_by-cons g (start_of x) (map start_of ((xs ++ c ∷ []) ++ ys)) in
+    let d = sum_by-cons g (start_of x) (map start_of (xs ++ ys) ++ start_of c ∷ []) in
     omega (arith, a, b, d)
 
 -- the last task is the root, whichever task with its start stands first
 pub same_root : (j : Job) (t u : Task) (ts : List Task) → t.start ≡ u.start → EndsAtRoot j t ts → EndsAtRoot j u ts
 same_root j t u [] e h = sym e ∙ h
-same_root j t u (v ∷ ts) e h = h
+same_root j t u (v ∷ ts) e h = (subst (λ (s : Start). s.path ≡ [] → ⊥) e h.0, h.1)
 
 module _ (j : Job) (ok : IsJob j) where
   abbrev p : Program
@@ -191,16 +193,16 @@ module _ (j : Job) (ok : IsJob j) where
     by_frame t m P go (Again l g c ∷ fs) h = go (Again l g c) fs h
     by_frame t m P go (Back env ∷ fs) h = go (Back env) fs h
 
-    -- the stage after it, where owners stay
+    -- what stands after it, where owners stay
     stage_next : (r : Run) (to_k : Backlog) (f : Frame Own) (fs : List (Frame Own)) → Stands (f ∷ fs) → GoesTo r0 (to f fs) r
         → to_k.owners ≡ k.owners → Each (IsScope j) (scopes_of to_k)
         → Books (task_at s (turn p (own_rules needs r0.thread.nest close) f fs st)) (map book_of (scopes_of to_k))
-        → IsStage j (record { now = Runs r; backlog = to_k })
+        → IsRunning j r to_k
     stage_next r to_k f fs h g same scopes balanced = record {
       first = task_at s (to f fs);
       below = below;
-      now = runs_next r f fs h g;
-      backlog = record {
+      of = runs_next r f fs h g;
+      around = record {
         owners = subst (λ (os : _). AreOwners j below os.items) (sym same) around.owners;
         root = rooted (to f fs);
         scopes = scopes;
@@ -211,18 +213,18 @@ module _ (j : Job) (ok : IsJob j) where
     abbrev Turns : Turn → Type 0
     Turns t = TurnOf needs close r0 runs.may.frames st t
 
-    going_stage : (r : Run) → Turns (Going r) → IsStage j (record { now = Runs r; backlog = k })
+    going_stage : (r : Run) → Turns (Going r) → IsRunning j r k
     going_stage r h =
         by_frame (Going r) tt
-        (λ fs. Stands fs → Books (task_at s (record { frames = fs; state = st })) books → IsStage j (record { now = Runs r; backlog = k }))
+        (λ fs. Stands fs → Books (task_at s (record { frames = fs; state = st })) books → IsRunning j r k)
         (λ f fs g stands bal. stage_next r k f fs stands g.0 refl around.scopes
         (gone_balanced p b needs close r0.thread.nest f fs st s below books g.1 bal))
         runs.may.frames h runs.may.stands balanced_first
 
-    over_stage : (r : Run) → Turns (Over r) → IsStage j (record { now = Runs r; backlog = k })
+    over_stage : (r : Run) → Turns (Over r) → IsRunning j r k
     over_stage r h =
         by_frame (Over r) tt
-        (λ fs. Stands fs → Books (task_at s (record { frames = fs; state = st })) books → IsStage j (record { now = Runs r; backlog = k }))
+        (λ fs. Stands fs → Books (task_at s (record { frames = fs; state = st })) books → IsRunning j r k)
         (λ f fs g stands bal. stage_next r k f fs stands g.0 refl around.scopes
         (exceeded_balanced p b needs close r0.thread.nest f fs st s below books g.1 bal))
         runs.may.frames h runs.may.stands balanced_first
@@ -230,12 +232,12 @@ module _ (j : Job) (ok : IsJob j) where
     -- a finish is entered
     enters_stage : (r : Run) (to_k : Backlog) → to_k.owners ≡ k.owners → to_k.outer.items ≡ scopes_of k
         → tasks_of to_k.scope ≡ [] → to_k.scope.results.items ≡ [] → Turns (EntersFinish r)
-        → IsStage j (record { now = Runs r; backlog = to_k })
+        → IsRunning j r to_k
     enters_stage r to_k same outer none no_one h =
         by_frame (EntersFinish r) tt
-        (λ fs. Stands fs → Books (task_at s (record { frames = fs; state = st })) books → IsStage j (record { now = Runs r; backlog = to_k }))
+        (λ fs. Stands fs → Books (task_at s (record { frames = fs; state = st })) books → IsRunning j r to_k)
         (λ f fs g stands bal. stage_next r to_k f fs stands g.0 same (
-          record { waiting = subst (Each (IsBegun j)) (sym none) tt; results = subst (Each (IsResult j)) (sym no_one) tt },
+          record { waiting = subst (Each (IsWaiting j)) (sym none) tt; results = subst (Each (IsResult j)) (sym no_one) tt },
           subst (Each (IsScope j)) (sym outer) around.scopes,
         )
         (subst (Books (task_at s (turn p (own_rules needs r0.thread.nest close) f fs st))) (sym new_books)
@@ -245,7 +247,7 @@ module _ (j : Job) (ok : IsJob j) where
         new_books : map book_of (scopes_of to_k) ≡ no_results ∷ books
         new_books =
             ap (λ (ks : List ScopeBook). book_of to_k.scope ∷ ks) (ap (map book_of) outer)
-            ∙ (λ t. record { results = ap (map task_result) no_one t; waiting = ap (map start) none t } ∷ books)
+            ∙ (λ t. record { results = ap (map task_result) no_one t; waiting = ap (map start_of) none t } ∷ books)
 
     -- a task is begun: it is one of the program's
     child_begun : (c : rStart) (f : Frame Own) (fs : List (Frame Own)) → Stands (f ∷ fs)
@@ -255,48 +257,64 @@ module _ (j : Job) (ok : IsJob j) where
         (ap (λ (n : ℕ). done_in needs n f st) (sym runs.may.nest) ∙ e) in
         subst (λ (x : Start). MayStand p input b x (begun b.steps x)) l.start (child_begins (turns h) l.member)
 
-    spawns_stage : (r : Run) (c : rStart) (to_k : Backlog) → to_k.owners ≡ k.owners → to_k.outer ≡ k.outer
+    -- and isn't the root
+    is_below : (c : rStart) (f : Frame Own) (fs : List (Frame Own)) → Stands (f ∷ fs)
+        → done_in needs r0.thread.nest f st ≡ Spawn (start c) ∷ [] → c.path.turns.items ≡ [] → ⊥
+    is_below c f fs h e none =
+        let l = turn_lists p needs close (start c) s.nest f fs st
+        (ap (λ (n : ℕ). done_in needs n f st) (sym runs.may.nest) ∙ e) in
+        child_below j ok s (turn p (own_rules needs s.nest close) f fs st) (turns h) l.child l.member
+        (ap (λ (x : Start). x.path) l.start ∙ none)
+
+    spawns_stage : (r : Run) (c : Child) (to_k : Backlog) → c.job ≡ j → 1 ≤ c.share.weight
+        → to_k.owners ≡ k.owners → to_k.outer ≡ k.outer
         → to_k.scope.begun.items ≡ k.scope.begun.items ++ c ∷ [] → to_k.scope.waiting ≡ k.scope.waiting
-        → to_k.scope.results ≡ k.scope.results → Turns (Spawns r c)
-        → IsStage j (record { now = Runs r; backlog = to_k })
-    spawns_stage r c to_k same outer more waiting results h =
-        by_frame (Spawns r c) tt
-        (λ fs. Stands fs → Books (task_at s (record { frames = fs; state = st })) books → IsStage j (record { now = Runs r; backlog = to_k }))
+        → to_k.scope.results ≡ k.scope.results → Turns (Spawns r c.start)
+        → IsRunning j r to_k
+    spawns_stage r c to_k job some same outer more waiting results h =
+        by_frame (Spawns r c.start) tt
+        (λ fs. Stands fs → Books (task_at s (record { frames = fs; state = st })) books → IsRunning j r to_k)
         (λ f fs g stands bal. stage_next r to_k f fs stands g.0 same (
           record {
-            waiting = subst (Each (IsBegun j)) (sym lined) (each_put (IsBegun j) k.scope.begun.items c k.scope.waiting.items
-                around.scopes.0.waiting (child_begun c f fs stands g.1.1));
+            waiting = subst (Each (IsWaiting j)) (sym lined) (each_put (IsWaiting j) k.scope.begun.items c k.scope.waiting.items
+                around.scopes.0.waiting
+                (record {
+                  job = job;
+                  begun = child_begun c.start f fs stands g.1.1;
+                  below = is_below c.start f fs stands g.1.1;
+                  weight = some;
+                }));
             results = subst (λ (rs : _). Each (IsResult j) rs.items) (sym results) around.scopes.0.results;
           },
           subst (λ (ks : _). Each (IsScope j) ks.items) (sym outer) around.scopes.1,
         )
         (subst (Books (task_at s (turn p (own_rules needs r0.thread.nest close) f fs st))) (sym new_books)
         (reordered p b (task_at s (turn p (own_rules needs r0.thread.nest close) f fs st) ∷ below)
-        (record (book_of k.scope) { waiting = map start (tasks_of k.scope) ++ start c ∷ [] })
-        (record (book_of k.scope) { waiting = map start ((k.scope.begun.items ++ c ∷ []) ++ k.scope.waiting.items) })
+        (record (book_of k.scope) { waiting = map start_of (tasks_of k.scope) ++ start_of c ∷ [] })
+        (record (book_of k.scope) { waiting = map start_of ((k.scope.begun.items ++ c ∷ []) ++ k.scope.waiting.items) })
         (map book_of k.outer.items) refl (put_anywhere c k.scope.begun.items k.scope.waiting.items)
-        (spawned_balanced p b needs close r0.thread.nest f fs st s below c (book_of k.scope) (map book_of k.outer.items) g.1 bal))))
+        (spawned_balanced p b needs close r0.thread.nest f fs st s below c.start (book_of k.scope) (map book_of k.outer.items) g.1 bal))))
         runs.may.frames h runs.may.stands balanced_first
       where
         lined : tasks_of to_k.scope ≡ (k.scope.begun.items ++ c ∷ []) ++ k.scope.waiting.items
-        lined = ap (λ (bs : List rStart). bs ++ to_k.scope.waiting.items) more
+        lined = ap (λ (bs : List Child). bs ++ to_k.scope.waiting.items) more
             ∙ ap (λ (ws : _). (k.scope.begun.items ++ c ∷ []) ++ ws.items) waiting
 
         new_books : map book_of (scopes_of to_k)
-            ≡ record (book_of k.scope) { waiting = map start ((k.scope.begun.items ++ c ∷ []) ++ k.scope.waiting.items) } ∷ map book_of k.outer.items
+            ≡ record (book_of k.scope) { waiting = map start_of ((k.scope.begun.items ++ c ∷ []) ++ k.scope.waiting.items) } ∷ map book_of k.outer.items
         new_books =
             ap (λ (ks : _). book_of to_k.scope ∷ map book_of ks.items) outer
             ∙ (λ t. record {
               results = ap (λ (rs : _). map task_result rs.items) results t;
-              waiting = ap (map start) lined t;
+              waiting = ap (map start_of) lined t;
             } ∷ map book_of k.outer.items)
 
     -- the task is at the end of a finish
-    waits_stage : (q : Paused) (x : TaskResult) → Turns (EndsFinish q x) → IsStage j (record { now = rWaits (Finish q x); backlog = k })
+    waits_stage : (q : Paused) (x : TaskResult) → Turns (EndsFinish q x) → IsEnding j (Finish q) x k
     waits_stage q x h = by_frames runs.may.frames h runs.may.stands balanced_first
       where
         by_frames : (fs : List (Frame Own)) → TurnOf needs close r0 fs st (EndsFinish q x) → Stands fs
-            → Books (task_at s (record { frames = fs; state = st })) books → IsStage j (record { now = rWaits (Finish q x); backlog = k })
+            → Books (task_at s (record { frames = fs; state = st })) books → IsEnding j (Finish q) x k
         by_frames [] h stands bal = absurd h
         by_frames (Rest c ∷ fs) h stands bal = absurd h
         by_frames (Again l g c ∷ fs) h stands bal = absurd h
@@ -304,7 +322,7 @@ module _ (j : Job) (ok : IsJob j) where
         by_frames (AtEnd before ∷ fs) (waits, plan, nest, made) stands bal = record {
           first = task_at s (record { frames = AtEnd before ∷ fs; state = st });
           below = below;
-          now = record {
+          waits = record {
             budget = ap (λ (z : Plan). z.budget) plan ∙ runs.budget;
             may = record {
               program = ap (λ (z : Plan). program z.program.now) plan ∙ runs.may.program;
@@ -320,7 +338,7 @@ module _ (j : Job) (ok : IsJob j) where
             start = refl;
             lists = refl;
           };
-          backlog = record {
+          around = record {
             owners = around.owners;
             root = rooted (record { frames = AtEnd before ∷ fs; state = st });
             scopes = around.scopes;
@@ -328,131 +346,161 @@ module _ (j : Job) (ok : IsJob j) where
           };
         }
 
-    -- the task has ended
-    ends_stage : (x : TaskResult) (to_k : Backlog) (o : Owner) → EndsIn k to_k x o → Turns (Ended x)
-        → IsStage j (record { now = rWaits o; backlog = to_k })
-    ends_stage x to_k o ends h = by_frames runs.may.frames h runs.may.stands balanced_first
+    -- the root has ended: nobody waits below it
+    abbrev at_end : Standing Own
+    at_end = record { frames = []; state = st }
+
+    main_stage : (x : TaskResult) → x.path.turns.items ≡ [] → Turns (Ended x) → IsEnding j Main x k
+    main_stage x none h = by_frames runs.may.frames h runs.may.stands balanced_first
       where
-        at_end : Standing Own
-        at_end = record { frames = []; state = st }
+        alone : (ts : List Task) → EndsAtRoot j (task_at s at_end) ts → s.path ≡ [] → ts ≡ []
+        alone [] h e = refl
+        alone (t ∷ ts) h e = absurd (h.0 e)
 
-        alone : (ts : List Task) → AreOwners j ts [] → ts ≡ []
-        alone [] h = refl
-        alone (t ∷ ts) h = absurd h
-
-        root_ends : RootEnds k to_k x o → task_result x ≡ result_of st → Stands []
-            → Books (task_at s (record { frames = []; state = st })) books → IsStage j (record { now = rWaits o; backlog = to_k })
-        root_ends e made stands bal =
-            let none : below ≡ [] = alone below (subst (AreOwners j below) e.alone around.owners) in
+        by_frames : (fs : List (Frame Own)) → TurnOf needs close r0 fs st (Ended x) → Stands fs
+            → Books (task_at s (record { frames = fs; state = st })) books → IsEnding j Main x k
+        by_frames (Rest c ∷ fs) h stands bal = absurd h
+        by_frames (Again l g c ∷ fs) h stands bal = absurd h
+        by_frames (Back env ∷ fs) h stands bal = absurd h
+        by_frames (AtEnd before ∷ fs) h stands bal = absurd h
+        by_frames [] h stands bal =
+            let path : s.path ≡ [] = sym (own_path j ok s at_end stands) ∙ ap (λ (r : Results). r.path) (sym h) ∙ none in
+            let no_other : below ≡ [] = alone below (rooted at_end) path in
             let is_root : s ≡ root p input b
-            = subst (λ (ts : List Task). EndsAtRoot j (task_at s (record { frames = []; state = st })) ts) none
-            (rooted (record { frames = []; state = st })) in
+            = subst (λ (ts : List Task). EndsAtRoot j (task_at s at_end) ts) no_other (rooted at_end) in
             record {
-              first = task_at s (record { frames = []; state = st });
+              first = task_at s at_end;
               below = below;
-              now = subst (IsOwner j (task_at s (record { frames = []; state = st })) below) (sym e.waits) (
+              waits = (
                 record {
                   state = st;
-                  stands = subst (λ (z : Start). MayStand p input b z (record { frames = []; state = st })) is_root stands;
-                  made = made;
+                  stands = subst (λ (z : Start). MayStand p input b z at_end) is_root stands;
+                  made = h;
                   start = sym is_root;
                   lists = refl;
                 },
-                none,
+                no_other,
               );
-              backlog = record {
-                owners = subst (λ (ts : List Task). AreOwners j ts to_k.owners.items) (sym none)
-                    (subst (AreOwners j []) (sym e.none) tt);
-                root = rooted (record { frames = []; state = st });
-                scopes = subst (λ (z : Scope). Each (IsScope j) (z ∷ to_k.outer.items)) (sym e.scope)
-                    (subst (λ (ks : _). Each (IsScope j) (k.scope ∷ ks.items)) (sym e.outer) around.scopes);
-                balanced = subst (λ (z : Scope). Books (task_at s (record { frames = []; state = st })) (map book_of (z ∷ to_k.outer.items)))
-                    (sym e.scope)
-                    (subst (λ (ks : _). Books (task_at s (record { frames = []; state = st })) (map book_of (k.scope ∷ ks.items))) (sym e.outer) bal);
+              around = record {
+                owners = around.owners;
+                root = rooted at_end;
+                scopes = around.scopes;
+                balanced = bal;
               };
             }
 
-        member_ends : MemberEnds k to_k x o → (ts : List Task) → AreOwners j ts (o ∷ to_k.owners.items)
-            → EndsAtRoot j (task_at s (record { frames = []; state = st })) ts → task_result x ≡ result_of st → Stands []
-            → AreBalanced p b (task_at s (record { frames = []; state = st }) ∷ ts) books
-            → IsStage j (record { now = rWaits o; backlog = to_k })
-        member_ends e [] owners rooted_so made stands bal = absurd owners
-        member_ends e (u ∷ ts) owners rooted_so made stands bal = record {
-          first = u;
-          below = ts;
-          now = owners.0;
-          backlog = record {
+    -- another task has ended: its owner waits on
+    abbrev Owns : Parked → Backlog → Type 0
+    Owns o to_k = (u : Task) × (ts : List Task) × IsOwner j u ts o × IsBacklog j u ts to_k
+
+    ends_stage : (x : TaskResult) (to_k : Backlog) (o : Parked) → k.owners.items ≡ o ∷ to_k.owners.items
+        → to_k.scope.results.items ≡ k.scope.results.items ++ x ∷ [] → to_k.scope.begun ≡ k.scope.begun
+        → to_k.scope.waiting ≡ k.scope.waiting → to_k.outer ≡ k.outer → Turns (Ended x) → Owns o to_k
+    ends_stage x to_k o same more begun_same waiting outer h = by_frames runs.may.frames h runs.may.stands balanced_first
+      where
+        same_tasks : tasks_of to_k.scope ≡ tasks_of k.scope
+        same_tasks = ap (λ (bs : _). bs.items ++ to_k.scope.waiting.items) begun_same ∙ ap (λ (ws : _). k.scope.begun.items ++ ws.items) waiting
+
+        member_ends : (ts : List Task) → AreOwners j ts (o ∷ to_k.owners.items)
+            → EndsAtRoot j (task_at s at_end) ts → task_result x ≡ result_of st → Stands []
+            → AreBalanced p b (task_at s at_end ∷ ts) books → Owns o to_k
+        member_ends [] owners rooted_so made stands bal = absurd owners
+        member_ends (u ∷ ts) owners rooted_so made stands bal = (
+          u,
+          ts,
+          owners.0,
+          record {
             owners = owners.1;
-            root = rooted_so;
+            root = rooted_so.1;
             scopes = (
               record {
-                waiting = subst (Each (IsBegun j)) (sym same_tasks) around.scopes.0.waiting;
-                results = subst (Each (IsResult j)) (sym e.results)
+                waiting = subst (Each (IsWaiting j)) (sym same_tasks) around.scopes.0.waiting;
+                results = subst (Each (IsResult j)) (sym more)
                     (each_last (IsResult j) k.scope.results.items x around.scopes.0.results
                     (record { start = s; state = st; ended = stands; is = made }));
               },
-              subst (λ (ks : _). Each (IsScope j) ks.items) (sym e.outer) around.scopes.1,
+              subst (λ (ks : _). Each (IsScope j) ks.items) (sym outer) around.scopes.1,
             );
             balanced = subst (AreBalanced p b (u ∷ ts)) (sym new_books)
                 (ended_balanced p ok.sound ok.accepted input b fits s st u ts (book_of k.scope) (map book_of k.outer.items) stands bal);
-          };
-        }
+          },
+        )
           where
-            same_tasks : tasks_of to_k.scope ≡ tasks_of k.scope
-            same_tasks = ap (λ (bs : _). bs.items ++ to_k.scope.waiting.items) e.begun ∙ ap (λ (ws : _). k.scope.begun.items ++ ws.items) e.waiting
-
             new_books : map book_of (scopes_of to_k)
                 ≡ record (book_of k.scope) { results = map task_result k.scope.results.items ++ result_of st ∷ [] } ∷ map book_of k.outer.items
             new_books =
-                ap (λ (ks : _). book_of to_k.scope ∷ map book_of ks.items) e.outer
+                ap (λ (ks : _). book_of to_k.scope ∷ map book_of ks.items) outer
                 ∙ (λ t. record {
                   results =
-                      (ap (map task_result) e.results ∙ map-append task_result k.scope.results.items (x ∷ [])
+                      (ap (map task_result) more ∙ map-append task_result k.scope.results.items (x ∷ [])
                       ∙ ap (λ r. map task_result k.scope.results.items ++ r ∷ []) made) t;
-                  waiting = ap (map start) same_tasks t;
+                  waiting = ap (map start_of) same_tasks t;
                 } ∷ map book_of k.outer.items)
 
-        by_way : EndsIn k to_k x o → task_result x ≡ result_of st → Stands []
-            → Books (task_at s (record { frames = []; state = st })) books → IsStage j (record { now = rWaits o; backlog = to_k })
-        by_way (inl e) made stands bal = root_ends e made stands bal
-        by_way (inr e) made stands bal =
-            member_ends e below (subst (AreOwners j below) e.owners around.owners) (rooted (record { frames = []; state = st })) made stands bal
-
         by_frames : (fs : List (Frame Own)) → TurnOf needs close r0 fs st (Ended x) → Stands fs
-            → Books (task_at s (record { frames = fs; state = st })) books → IsStage j (record { now = rWaits o; backlog = to_k })
-        by_frames [] h stands bal = by_way ends h stands bal
+            → Books (task_at s (record { frames = fs; state = st })) books → Owns o to_k
+        by_frames [] h stands bal =
+            member_ends below (subst (AreOwners j below) same around.owners) (rooted at_end) h stands bal
         by_frames (Rest c ∷ fs) h stands bal = absurd h
         by_frames (Again l g c ∷ fs) h stands bal = absurd h
         by_frames (Back env ∷ fs) h stands bal = absurd h
         by_frames (AtEnd before ∷ fs) h stands bal = absurd h
 
-  -- ---- the same of a turn in a stage
-  module _ (k : Backlog) (t : Turn) (h : IsTurnIn j k t) where
-    pub turn_of : TurnOf needs close h.run h.stage.now.may.frames (with_own h.stage.now.may.own (state_of h.run.thread)) t
-    turn_of = h.turn close h.stage.now.may.frames h.stage.now.may.own h.stage.now.may.shows
+    -- for there is an owner
+    some_owner : (x : TaskResult) → (x.path.turns.items ≡ [] → ⊥) → Turns (Ended x) → k.owners.items ≡ [] → ⊥
+    some_owner x some h none = by_frames runs.may.frames h runs.may.stands
+      where
+        alone : (ts : List Task) → AreOwners j ts [] → ts ≡ []
+        alone [] h = refl
+        alone (t ∷ ts) h = absurd h
 
-  pub going : (k : Backlog) (r : Run) → IsTurnIn j k (Going r) → IsStage j (record { now = Runs r; backlog = k })
-  going k r h = going_stage k h.run h.stage.first h.stage.below h.stage.now h.stage.backlog r (turn_of k (Going r) h)
+        by_frames : (fs : List (Frame Own)) → TurnOf needs close r0 fs st (Ended x) → Stands fs → ⊥
+        by_frames [] h stands =
+            let no_other = alone below (subst (AreOwners j below) none around.owners) in
+            let is_root = subst (λ (ts : List Task). EndsAtRoot j (task_at s at_end) ts) no_other (rooted at_end) in
+            some (ap (λ (r : Results). r.path) h ∙ own_path j ok s at_end stands ∙ ap (λ (z : Start). z.path) is_root)
+        by_frames (Rest c ∷ fs) h stands = absurd h
+        by_frames (Again l g c ∷ fs) h stands = absurd h
+        by_frames (Back env ∷ fs) h stands = absurd h
+        by_frames (AtEnd before ∷ fs) h stands = absurd h
 
-  pub over : (k : Backlog) (r : Run) → IsTurnIn j k (Over r) → IsStage j (record { now = Runs r; backlog = k })
-  over k r h = over_stage k h.run h.stage.first h.stage.below h.stage.now h.stage.backlog r (turn_of k (Over r) h)
+  -- ---- the same of a run that stands on top of the others
+  module _ (k : Backlog) (r0 : Run) (h : IsRunning j r0 k) where
+    abbrev Taken : Turn → Type 0
+    Taken t = IsTurn needs r0 t
 
-  pub spawns : (k to_k : Backlog) (r : Run) (c : rStart) → IsTurnIn j k (Spawns r c) → to_k.owners ≡ k.owners → to_k.outer ≡ k.outer
-      → to_k.scope.begun.items ≡ k.scope.begun.items ++ c ∷ [] → to_k.scope.waiting ≡ k.scope.waiting
-      → to_k.scope.results ≡ k.scope.results → IsStage j (record { now = Runs r; backlog = to_k })
-  spawns k to_k r c h same outer more waiting results =
-      spawns_stage k h.run h.stage.first h.stage.below h.stage.now h.stage.backlog r c to_k same outer more waiting results
-      (turn_of k (Spawns r c) h)
+    turn_of : (t : Turn) → Taken t → TurnOf needs close r0 h.of.may.frames (with_own h.of.may.own (state_of r0.thread)) t
+    turn_of t is = is close h.of.may.frames h.of.may.own h.of.may.shows
 
-  pub enters : (k to_k : Backlog) (r : Run) → IsTurnIn j k (EntersFinish r) → to_k.owners ≡ k.owners → to_k.outer.items ≡ scopes_of k
-      → tasks_of to_k.scope ≡ [] → to_k.scope.results.items ≡ [] → IsStage j (record { now = Runs r; backlog = to_k })
-  enters k to_k r h same outer none no_one =
-      enters_stage k h.run h.stage.first h.stage.below h.stage.now h.stage.backlog r to_k same outer none no_one (turn_of k (EntersFinish r) h)
+    pub going : (r : Run) → Taken (Going r) → IsRunning j r k
+    going r is = going_stage k r0 h.first h.below h.of h.around r (turn_of (Going r) is)
 
-  pub waits : (k : Backlog) (q : Paused) (x : TaskResult) → IsTurnIn j k (EndsFinish q x)
-      → IsStage j (record { now = rWaits (Finish q x); backlog = k })
-  waits k q x h = waits_stage k h.run h.stage.first h.stage.below h.stage.now h.stage.backlog q x (turn_of k (EndsFinish q x) h)
+    pub over : (r : Run) → Taken (Over r) → IsRunning j r k
+    over r is = over_stage k r0 h.first h.below h.of h.around r (turn_of (Over r) is)
 
-  pub ends : (k to_k : Backlog) (x : TaskResult) (o : Owner) → IsTurnIn j k (Ended x) → EndsIn k to_k x o
-      → IsStage j (record { now = rWaits o; backlog = to_k })
-  ends k to_k x o h e = ends_stage k h.run h.stage.first h.stage.below h.stage.now h.stage.backlog x to_k o e (turn_of k (Ended x) h)
+    pub spawns : (r : Run) (c : Child) (to_k : Backlog) → c.job ≡ j → 1 ≤ c.share.weight → to_k.owners ≡ k.owners
+        → to_k.outer ≡ k.outer → to_k.scope.begun.items ≡ k.scope.begun.items ++ c ∷ [] → to_k.scope.waiting ≡ k.scope.waiting
+        → to_k.scope.results ≡ k.scope.results → Taken (Spawns r c.start) → IsRunning j r to_k
+    spawns r c to_k job some same outer more waiting results is =
+        spawns_stage k r0 h.first h.below h.of h.around r c to_k job some same outer more waiting results (turn_of (Spawns r c.start) is)
+
+    pub enters : (r : Run) (to_k : Backlog) → to_k.owners ≡ k.owners → to_k.outer.items ≡ scopes_of k
+        → tasks_of to_k.scope ≡ [] → to_k.scope.results.items ≡ [] → Taken (EntersFinish r) → IsRunning j r to_k
+    enters r to_k same outer none no_one is =
+        enters_stage k r0 h.first h.below h.of h.around r to_k same outer none no_one (turn_of (EntersFinish r) is)
+
+    pub waits : (q : Paused) (x : TaskResult) → Taken (EndsFinish q x) → IsEnding j (Finish q) x k
+    waits q x is = waits_stage k r0 h.first h.below h.of h.around q x (turn_of (EndsFinish q x) is)
+
+    pub root_ends : (x : TaskResult) → x.path.turns.items ≡ [] → Taken (Ended x) → IsEnding j Main x k
+    root_ends x none is = main_stage k r0 h.first h.below h.of h.around x none (turn_of (Ended x) is)
+
+    pub ends : (x : TaskResult) (to_k : Backlog) (o : Parked) → k.owners.items ≡ o ∷ to_k.owners.items
+        → to_k.scope.results.items ≡ k.scope.results.items ++ x ∷ [] → to_k.scope.begun ≡ k.scope.begun
+        → to_k.scope.waiting ≡ k.scope.waiting → to_k.outer ≡ k.outer → Taken (Ended x)
+        → (u : Task) × (ts : List Task) × IsOwner j u ts o × IsBacklog j u ts to_k
+    ends x to_k o same more begun_same waiting outer is =
+        ends_stage k r0 h.first h.below h.of h.around x to_k o same more begun_same waiting outer (turn_of (Ended x) is)
+
+    pub has_owner : (x : TaskResult) → (x.path.turns.items ≡ [] → ⊥) → Taken (Ended x) → k.owners.items ≡ [] → ⊥
+    has_owner x some is = some_owner k r0 h.first h.below h.of h.around x some (turn_of (Ended x) is)

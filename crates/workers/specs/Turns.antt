@@ -1,55 +1,66 @@
 -- What the turns of a run lead to.
-use Rattle.std.specs.Prelude.{◌≡◌, ◌⊎◌, List, [], ◌∷◌, ◌++◌}
+use Rattle.std.specs.Prelude.{ℕ, ◌≡◌, List, ◌∷◌, [], ◌++◌}
 use Rattle.effects.specs.Rounds.{needs_of}
 use Rattle.own_run.specs.RunTurns.{IsTurn}
-use Rattle.own_run.specs.declared.result.TaskResult.{TaskResult}
+use Rattle.own_run.specs.declared.result.TaskResult.{TaskResult as Made}
 use Rattle.own_run.specs.declared.run.Run.{Run}
-use Rattle.own_run.specs.declared.start.Start.{Start}
-use Rattle.own_run.specs.declared.turn.Turn.{Turn}
-use Rattle.workers.specs.Jobs.{program_of}
-use Rattle.workers.specs.Stages.{IsStage, tasks_of}
+use Rattle.own_run.specs.declared.turn.Turn.{Turn as RunTurn}
+use Rattle.task_machine.specs.Jobs.{program_of}
+use Rattle.task_machine.specs.Tasks.{GoesBy}
+use Rattle.task_machine.specs.Turns.{AreTasks, Becomes}
+use Rattle.task_machine.specs.declared.finish.Ending.{Ending}
+use Rattle.task_machine.specs.declared.finish.Parked.{Parked}
+use Rattle.task_machine.specs.declared.job.Job.{Job}
+use Rattle.task_machine.specs.declared.task.Body.{Body}
+use Rattle.task_machine.specs.declared.task.Child.{Child}
+use Rattle.task_machine.specs.declared.turn.TaskResult.{TaskResult}
+use Rattle.task_machine.specs.declared.turn.Turn.{Turn}
+use Rattle.weights.specs.Ledger.{GivesBack, Returned}
+use Rattle.workers.specs.Stages.{IsRunning, scopes_of}
+use Rattle.workers.specs.Weights.{AddUp, held_by, stacked, tasks_of}
 use Rattle.workers.specs.declared.backlog.Backlog.{Backlog}
-use Rattle.workers.specs.declared.backlog.Owner.{Owner}
-use Rattle.workers.specs.declared.backlog.Owner.TheVariants.{Root}
-use Rattle.workers.specs.declared.backlog.Scope.{Scope}
-use Rattle.workers.specs.declared.job.Job.{Job}
-use Rattle.workers.specs.declared.stage.Now.TheVariants.{Runs}
+use Rattle.workers.specs.declared.scope.Scope.{Scope}
 
--- a turn of the task that ran in a stage
+-- a turn of the task that ran in a stage, which held this much in its innermost scope
 pub record IsTurnIn (j : Job) (k : Backlog) (t : Turn) : Type 0 where
+  pub body : Body
+  pub units : ℕ
   pub run : Run
-  pub stage : IsStage j (record { now = Runs run; backlog = k })
-  pub turn : IsTurn (needs_of (program_of j)) run t
+  pub goes : GoesBy body.job body.outer.items body.opened run
+  pub job : body.job ≡ j
+  pub runs : IsRunning j run k
+  pub weights : AddUp (units ∷ stacked body.outer.items (held_by k.owners.items)) (scopes_of k)
+  pub turn : RunTurn
+  pub is : IsTurn (needs_of (program_of j)) run turn
+  pub becomes : Becomes body units turn t
+  pub tasks : AreTasks t
 
 -- a task was taken out of those that wait in a scope, from wherever it stood
-pub record IsTaken (old new : Scope) (s : Start) : Type 0 where
-  pub before : List Start
-  pub behind : List Start
-  pub was : tasks_of old ≡ before ++ s ∷ behind
+pub record IsTaken (old new : Scope) (c : Child) : Type 0 where
+  pub before : List Child
+  pub behind : List Child
+  pub was : tasks_of old ≡ before ++ c ∷ behind
   pub is : tasks_of new ≡ before ++ behind
   pub results : new.results ≡ old.results
+  pub book : new.book ≡ old.book
 
--- no task waits in it
-pub record IsEmpty (old new : Scope) : Type 0 where
-  pub none : tasks_of old ≡ []
-  pub same : tasks_of new ≡ []
-  pub results : new.results ≡ old.results
+-- what a book lists of a weight that a task gave back
+abbrev pub given_by : Made → (units : ℕ) → Returned
+given_by made units = record { path = made.path.turns.items; weight = units }
 
--- the root has ended: there was no other owner
-pub record RootEnds (old new : Backlog) (made : TaskResult) (o : Owner) : Type 0 where
-  pub alone : old.owners.items ≡ []
-  pub none : new.owners.items ≡ []
-  pub scope : new.scope ≡ old.scope
-  pub outer : new.outer ≡ old.outer
-  pub waits : o ≡ Root made
+-- a task at an end gave its weight back, and is parked
+pub record IsSetDown (e : Ending) (o : Parked) : Type 0 where
+  pub job : o.job ≡ e.job
+  pub owner : o.owner ≡ e.owner
+  pub made : o.made ≡ e.made
+  pub outer : o.outer ≡ e.outer
+  pub opened : o.opened ≡ e.opened
 
--- a task has ended: its result goes to the scope, whose owner is this
-pub record MemberEnds (old new : Backlog) (made : TaskResult) (o : Owner) : Type 0 where
+-- a task below the root has ended: its result and its weight go to the scope, whose owner is this
+pub record EndsIn (old new : Backlog) (ended : TaskResult) (o : Parked) : Type 0 where
   pub owners : old.owners.items ≡ o ∷ new.owners.items
-  pub results : new.scope.results.items ≡ old.scope.results.items ++ made ∷ []
+  pub results : new.scope.results.items ≡ old.scope.results.items ++ ended.made ∷ []
   pub begun : new.scope.begun ≡ old.scope.begun
   pub waiting : new.scope.waiting ≡ old.scope.waiting
+  pub book : GivesBack old.scope.book new.scope.book (given_by ended.made ended.share.weight)
   pub outer : new.outer ≡ old.outer
-
-abbrev pub EndsIn : (old new : Backlog) → (made : TaskResult) → Owner → Type 0
-EndsIn old new made o = RootEnds old new made o ⊎ MemberEnds old new made o

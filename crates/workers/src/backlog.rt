@@ -1,44 +1,25 @@
 //! The tasks and scopes around the task that runs.
 
-ghost use Rattle.std.specs.Prelude.{◌≡◌, ◌+◌, ◌<◌, ◌≤◌, [], IfErr, IfNone, IfOk, IfSome, OnOk};
-ghost use Rattle.own_run.specs.Left.{left_after as left_of_turn};
-ghost use Rattle.workers.specs.Jobs.{IsJob};
-ghost use Rattle.workers.specs.Left.{LeavesLess, left, left_in, left_of_owner};
-ghost use Rattle.workers.specs.Stages.{IsNext, IsStage, tasks_of};
-ghost use Rattle.workers.specs.Turns.{EndsIn, IsEmpty, IsTaken, IsTurnIn};
+ghost use Rattle.std.specs.Prelude.{◌≡◌, ◌≢◌, ◌+◌, ◌-◌, ◌<◌, ◌≤◌, [], IfErr, IfOk};
+ghost use Rattle.task_machine.specs.Jobs.{IsJob};
+ghost use Rattle.weights.specs.Ledger.{issued_of, returned_of};
+ghost use Rattle.workers.specs.Left.{LeavesLess, left, left_after, left_in, left_of_parked};
+ghost use Rattle.workers.specs.Stages.{IsNext, IsStage};
+ghost use Rattle.workers.specs.Turns.{EndsIn, IsTurnIn};
 ghost use Rattle.workers.specs.declared.error.RunError.TheVariants.{OutOfMemory};
 ghost use Rattle.workers.specs.declared.stage.Now.TheVariants.{Runs, Waits};
 
 use crate::error::RunError;
-use crate::job::{Job, Order};
+use crate::order::Order;
+use crate::scope::Scope;
 use crate::stage::{Next, Now, Stage};
 use gather::settle::settle;
-use own_run::result::TaskResult;
-use own_run::run::Run;
-use own_run::start::Start;
-use own_run::turn::{Paused, Turn};
 use std::alloc::{AllocError, Global};
 use std::collections::VecDeque;
-
-/// A task that waits until all tasks of a scope have ended.
-#[derive(Drop)]
-pub enum Owner<'p> {
-    /// The root at its end, with what it has made.
-    Root(TaskResult),
-    /// A task at the end of a finish, with what it has made since that began.
-    Finish(Paused<'p>, TaskResult),
-}
-
-/// What waits in a scope, and what has come to it.
-#[derive(Drop)]
-pub struct Scope<'p> {
-    /// The tasks begun in it that haven't run yet, and of which it is settled which goes first.
-    pub waiting: VecDeque<Start<'p>>,
-    /// The others, the oldest first.
-    pub begun: Vec<Start<'p>>,
-    /// The results of those that have ended.
-    pub results: Vec<TaskResult>,
-}
+use task_machine::finish::{Owner, Parked};
+use task_machine::job::Job;
+use task_machine::task::Task;
+use task_machine::turn::{TaskResult as Ended, Turn};
 
 /// All that is around the task that runs.
 #[derive(Drop)]
@@ -48,74 +29,18 @@ pub struct Backlog<'p> {
     /// The scopes around it, the innermost first.
     pub outer: VecDeque<Scope<'p>>,
     /// The tasks that wait while others of their scopes run, the innermost first.
-    pub owners: VecDeque<Owner<'p>>,
-}
-
-impl<'p> Scope<'p> {
-    /// An empty scope.
-    pub fn new(alloc: Global) -> Scope<'p>
-        ensures waiting { result.waiting.items ≡ [] }
-        ensures begun { result.begun.items ≡ [] }
-        ensures results { result.results.items ≡ [] }
-    {
-        Scope {
-            waiting: VecDeque::new(alloc),
-            begun: Vec::new(alloc),
-            results: Vec::new(alloc),
-        }
-    }
-
-    /// Takes the task out that goes first.
-    fn take(&mut self, order: Order) -> Result<Option<Start<'p>>, AllocError>
-        ensures taken { IfOk result (λ next. IfSome next (IsTaken self.old self.new)) }
-        ensures none { IfOk result (λ next. IfNone next (IsEmpty self.old self.new)) }
-    {
-        match order {
-            Order::InTurn => self.next(),
-            Order::Oldest => match self.waiting.pop_front() {
-                Some(start) => Ok(Some(start)),
-                None => self.next(),
-            },
-            Order::Newest => match self.begun.pop() {
-                Some(start) => Ok(Some(start)),
-                None => Ok(self.waiting.pop_back()),
-            },
-        }
-    }
-
-    /// The first of those that were begun, else of those that wait.
-    fn next(&mut self) -> Result<Option<Start<'p>>, AllocError>
-        ensures taken { IfOk result (λ next. IfSome next (IsTaken self.old self.new)) }
-        ensures none { IfOk result (λ next. IfNone next (IsEmpty self.old self.new)) }
-    {
-        self.line_up()?;
-        Ok(self.waiting.pop_front())
-    }
-
-    /// Those that were begun go before those that wait.
-    fn line_up(&mut self) -> Result<(), AllocError>
-        ensures none { OnOk result (self.new.begun.items ≡ []) }
-        ensures waiting { OnOk result (self.new.waiting.items ≡ tasks_of self.old) }
-        ensures results { self.new.results ≡ self.old.results }
-    {
-        'tasks: while let Some(start) = self.begun.pop() {
-            self.waiting.push_front(start)?;
-        }
-        Ok(())
-    }
+    pub owners: VecDeque<Parked<'p>>,
 }
 
 impl<'p> Backlog<'p> {
-    /// The root's scope, with nothing in it.
-    pub fn new(alloc: Global) -> Backlog<'p>
-        ensures waiting { result.scope.waiting.items ≡ [] }
-        ensures begun { result.scope.begun.items ≡ [] }
-        ensures results { result.scope.results.items ≡ [] }
+    /// This scope alone.
+    pub fn new(alloc: Global, scope: Scope<'p>) -> Backlog<'p>
+        ensures scope { result.scope ≡ scope.entry }
         ensures outer { result.outer.items ≡ [] }
         ensures owners { result.owners.items ≡ [] }
     {
         Backlog {
-            scope: Scope::new(alloc),
+            scope,
             outer: VecDeque::new(alloc),
             owners: VecDeque::new(alloc),
         }
@@ -127,83 +52,92 @@ impl<'p> Backlog<'p> {
         requires turn { IsTurnIn job self turn }
         ensures stage { IfOk result (IsStage job.entry) }
         ensures fewer { IfOk result (λ s. left job.entry s
-            ≤ left_of_turn job.entry.budget.steps turn.entry + left_in job.entry self.entry) }
+            ≤ left_after job.entry.budget.steps turn.entry + left_in job.entry self.entry) }
         ensures refused { IfErr result (λ e. e ≡ OutOfMemory) }
     {
         let mut backlog = self;
         match turn {
-            Turn::Going(run) => Ok(backlog.runs(run)),
-            Turn::Over(run) => Ok(backlog.runs(run)),
-            Turn::Spawns(run, start) => {
-                backlog.scope.begun.push(start)?;
-                Ok(backlog.runs(run))
+            Turn::Going(task) => Ok(backlog.runs(task)),
+            Turn::Over(task) => Ok(backlog.runs(task)),
+            Turn::Spawns(task, child) => {
+                backlog.scope.begun.push(child)?;
+                Ok(backlog.runs(task))
             }
-            Turn::EntersFinish(run) => {
-                let outer = std::mem::replace(&mut backlog.scope, Scope::new(job.alloc));
+            Turn::WantsWeight(wanting) => {
+                let (task, child) = backlog.scope.replenish(wanting)?;
+                backlog.scope.begun.push(child)?;
+                Ok(backlog.runs(task))
+            }
+            Turn::EntersFinish(entering) => {
+                let (scope, weight) = Scope::open(job.alloc);
+                let task = entering.enter(weight);
+                let outer = std::mem::replace(&mut backlog.scope, scope);
                 backlog.outer.push_front(outer)?;
-                Ok(backlog.runs(run))
+                Ok(backlog.runs(task))
             }
-            Turn::EndsFinish(paused, result) => {
-                let now = Now::Waits(Owner::Finish(paused, result));
+            Turn::EndsFinish(ending) => {
+                let now = Now::Waits(backlog.scope.park(ending)?);
                 Ok(Stage { now, backlog })
             }
-            Turn::Ended(result) => {
-                let now = Now::Waits(backlog.end(result)?);
+            Turn::Ended(ended) => {
+                let now = Now::Waits(backlog.end(ended)?);
                 Ok(Stage { now, backlog })
             }
         }
     }
 
     /// A stage in which this runs.
-    fn runs(self, run: Run<'p>) -> Stage<'p>
-        ensures { result ≡ record { now = Runs run.entry; backlog = self.entry } }
+    fn runs(self, task: Task<'p>) -> Stage<'p>
+        ensures { result ≡ record { now = Runs task.entry; backlog = self.entry } }
     {
-        let now = Now::Runs(run);
+        let now = Now::Runs(task);
         Stage { now, backlog: self }
     }
 
-    /// A task has ended: its result goes to its scope, whose owner waits on. The root has none.
-    fn end(&mut self, made: TaskResult) -> Result<Owner<'p>, AllocError>
-        ensures { IfOk result (EndsIn self.old self.new made) }
+    /// A task below the root has ended: its result goes to its scope, whose owner waits on.
+    fn end(&mut self, ended: Ended<'p>) -> Result<Parked<'p>, AllocError>
+        requires owned { self.old.owners.items ≢ [] }
+        requires out { ended.share.weight
+            ≤ issued_of self.old.scope.book - returned_of self.old.scope.book }
+        ensures { IfOk result (EndsIn self.old self.new ended.entry) }
     {
-        match self.owners.pop_front() {
-            None => Ok(Owner::Root(made)),
-            Some(owner) => {
-                self.scope.results.push(made)?;
-                Ok(owner)
-            }
-        }
+        let Some(owner) = self.owners.pop_front() else {
+            unreachable!()
+        };
+        self.scope.end(ended)?;
+        Ok(owner)
     }
 
-    /// While a task waits another one of the scope begins; where none is left the scope passes.
-    pub fn wait(self, job: Job<'p>, owner: Owner<'p>) -> Result<Next<'p>, RunError>
+    /// While a task waits another one of the scope begins. Where the book of the scope is even none
+    /// is left, and it passes.
+    pub fn wait(self, job: Job<'p>, order: Order, owner: Parked<'p>) -> Result<Next<'p>, RunError>
         requires job { IsJob job }
         requires stage { IsStage job (record { now = Waits owner; backlog = self }) }
         ensures next { IfOk result (IsNext job.entry) }
         ensures fewer { IfOk result (LeavesLess job.entry
-            (left_of_owner owner.entry + left_in job.entry self.entry)) }
+            (left_of_parked owner.entry + left_in job.entry self.entry)) }
         ensures refused { IfErr result (λ e. e ≡ OutOfMemory) }
     {
         let mut backlog = self;
-        let next = backlog.scope.take(job.order)?;
-        match next {
-            None => backlog.pass(job, owner),
-            Some(start) => {
-                backlog.owners.push_front(owner)?;
-                let run = Run::begin(job.plan(), start)?;
-                Ok(Next::Going(backlog.runs(run)))
-            }
+        if backlog.scope.is_even() {
+            return backlog.pass(job, owner);
         }
+        let Some(child) = backlog.scope.take(order)? else {
+            unreachable!()
+        };
+        backlog.owners.push_front(owner)?;
+        let task = child.begin()?;
+        Ok(Next::Going(backlog.runs(task)))
     }
 
     /// All tasks of the scope have ended: its owner goes on with what came of them.
-    fn pass(self, job: Job<'p>, owner: Owner<'p>) -> Result<Next<'p>, RunError>
+    fn pass(self, job: Job<'p>, owner: Parked<'p>) -> Result<Next<'p>, RunError>
         requires job { IsJob job }
         requires stage { IsStage job (record { now = Waits owner; backlog = self }) }
-        requires empty { tasks_of self.scope ≡ [] }
+        requires even { returned_of self.scope.book ≡ issued_of self.scope.book }
         ensures next { IfOk result (IsNext job.entry) }
         ensures fewer { IfOk result (LeavesLess job.entry
-            (left_of_owner owner.entry + left_in job.entry self.entry)) }
+            (left_of_parked owner.entry + left_in job.entry self.entry)) }
         ensures refused { IfErr result (λ e. e ≡ OutOfMemory) }
     {
         let Backlog {
@@ -212,20 +146,21 @@ impl<'p> Backlog<'p> {
             owners,
         } = self;
         let Scope { results, .. } = scope;
-        match owner {
-            Owner::Root(made) => Ok(Next::Over(settle(job.alloc, made, results)?)),
-            Owner::Finish(paused, made) => {
+        let (waiting, made) = owner.open();
+        let settled = settle(job.alloc, made, results)?;
+        match &waiting.owner {
+            Owner::Main => Ok(Next::Over(waiting.outcome(settled)?)),
+            Owner::Finish(_) => {
                 let Some(scope) = outer.pop_front() else {
                     unreachable!()
                 };
-                let settled = settle(job.alloc, made, results)?;
-                let run = paused.go_on(settled)?;
+                let task = waiting.go_on(settled)?;
                 let backlog = Backlog {
                     scope,
                     outer,
                     owners,
                 };
-                Ok(Next::Going(backlog.runs(run)))
+                Ok(Next::Going(backlog.runs(task)))
             }
         }
     }

@@ -6,11 +6,12 @@ ghost use Rattle.workers.specs.declared.error.RunError.TheVariants.{OutOfMemory}
 
 use gather::error::GatherError;
 use std::alloc::{AllocError, AllocFailed};
+use task_machine::error::NoMemory;
 
 /// Why a run has no outcome.
 #[derive(PartialEq, Eq, Debug, Drop)]
 pub enum RunError {
-    /// E1: memory.
+    /// E1: memory. It is told too where a scope has issued weight as often as its book counts.
     OutOfMemory,
     /// E3: the results of tasks don't make a whole.
     Gather(GatherError),
@@ -40,6 +41,14 @@ impl<T: Drop> From<AllocFailed<T>> for RunError {
     ghost from_gives = { λ _ e. e ≡ OutOfMemory };
 
     fn from(_error: AllocFailed<T>) -> RunError {
+        RunError::OutOfMemory
+    }
+}
+
+impl From<NoMemory> for RunError {
+    ghost from_gives = { λ _ e. e ≡ OutOfMemory };
+
+    fn from(_error: NoMemory) -> RunError {
         RunError::OutOfMemory
     }
 }

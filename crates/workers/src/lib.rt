@@ -4,7 +4,7 @@
 
 mod backlog;
 pub mod error;
-mod job;
-mod outcome;
+mod order;
 pub mod run;
+mod scope;
 mod stage;

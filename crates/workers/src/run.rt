@@ -9,13 +9,12 @@ ghost use Rattle.types.specs.Typed.{code_of};
 ghost use Rattle.workers.specs.declared.error.RunError.TheVariants.{OutOfMemory};
 
 use crate::error::RunError;
-use crate::job::Job;
-pub use crate::job::Order;
-use crate::outcome::outcome;
+pub use crate::order::Order;
 use crate::stage::{Next, Stage};
 use effects::laws::typed_programs_are_sound;
 use race_checker::accepted::Accepted;
 use std::alloc::Global;
+use task_machine::job::Job;
 use types::budget::Budget;
 use types::input::Input;
 use types::outcome::Outcome;
@@ -54,13 +53,12 @@ pub fn run_by(
         accepted,
         input,
         budget,
-        order,
     };
     let mut stage = Stage::begin(job)?;
     'turns: loop {
-        match stage.turn(job)? {
+        match stage.turn(job, order)? {
             Next::Going(next) => stage = next,
-            Next::Over(settled) => return outcome(job, settled),
+            Next::Over(outcome) => return Ok(outcome),
         }
     }
 }

@@ -1,24 +1,27 @@
 //! How far a run has come, and what it does next.
 
 ghost use Rattle.std.specs.Prelude.{◌≡◌, IfErr, IfOk};
-ghost use Rattle.workers.specs.Jobs.{IsJob};
+ghost use Rattle.task_machine.specs.Jobs.{IsJob};
 ghost use Rattle.workers.specs.Left.{LeavesLess, left};
 ghost use Rattle.workers.specs.Stages.{IsNext, IsStage};
 ghost use Rattle.workers.specs.declared.error.RunError.TheVariants.{OutOfMemory};
 
-use crate::backlog::{Backlog, Owner};
+use crate::backlog::Backlog;
 use crate::error::RunError;
-use crate::job::Job;
-use own_run::result::Settled;
-use own_run::run::Run;
+use crate::order::Order;
+use crate::scope::Scope;
+use task_machine::finish::Parked;
+use task_machine::job::Job;
+use task_machine::task::Task;
+use types::outcome::Outcome;
 
 /// What goes on now.
 #[derive(Drop)]
 pub enum Now<'p> {
     /// A task runs.
-    Runs(Run<'p>),
+    Runs(Task<'p>),
     /// A task waits at the end of a finish, and so does the innermost scope.
-    Waits(Owner<'p>),
+    Waits(Parked<'p>),
 }
 
 /// A run between two turns.
@@ -34,7 +37,7 @@ pub enum Next<'p> {
     /// There is more to do.
     Going(Stage<'p>),
     /// All tasks have ended.
-    Over(Settled),
+    Over(Outcome),
 }
 
 impl<'p> Stage<'p> {
@@ -44,16 +47,22 @@ impl<'p> Stage<'p> {
         ensures stage { IfOk result (IsStage job.entry) }
         ensures refused { IfErr result (λ e. e ≡ OutOfMemory) }
     {
-        let run = Run::begin(job.plan(), job.root()?)?;
-        Ok(Stage {
-            now: Now::Runs(run),
-            backlog: Backlog::new(job.alloc),
-        })
+        let (scope, weight) = Scope::open(job.alloc);
+        match Task::root(job, weight) {
+            Ok(task) => Ok(Stage {
+                now: Now::Runs(task),
+                backlog: Backlog::new(job.alloc, scope),
+            }),
+            Err(weight) => {
+                weight.forfeit();
+                Err(RunError::OutOfMemory)
+            }
+        }
     }
 
     /// The task that runs goes on, up to a turn that is more than a step; or what comes after a task
     /// that waits.
-    pub fn turn(self, job: Job<'p>) -> Result<Next<'p>, RunError>
+    pub fn turn(self, job: Job<'p>, order: Order) -> Result<Next<'p>, RunError>
         requires job { IsJob job }
         requires stage { IsStage job self }
         ensures next { IfOk result (IsNext job.entry) }
@@ -62,11 +71,11 @@ impl<'p> Stage<'p> {
     {
         let Stage { now, backlog } = self;
         match now {
-            Now::Runs(run) => match run.go(job.accepted) {
-                Ok(turn) => Ok(Next::Going(backlog.after(job, turn)?)),
-                Err(_) => Err(RunError::OutOfMemory),
-            },
-            Now::Waits(owner) => backlog.wait(job, owner),
+            Now::Runs(task) => {
+                let turn = task.go()?;
+                Ok(Next::Going(backlog.after(job, turn)?))
+            }
+            Now::Waits(owner) => backlog.wait(job, order, owner),
         }
     }
 }

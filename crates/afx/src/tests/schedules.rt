@@ -47,6 +47,10 @@ const FAULTS: &str = "main { array a: int[1]; array b: int[1];
   finish { async { a[0] = 1; fault 4; } async { finish { async { b[0] = 2; fault 5; } } print 1; } }
   print 2; }";
 
+/// More tasks in one scope than its first weight can be divided among.
+const MANY: &str = "main { var k = 0;
+  finish { while k < 80 { async { print k; async { print k + 100; } } k = k + 1; } } print k; }";
+
 /// A program, its lines, its arrays and how many faults it has.
 const ROWS: &[(&str, &str, &str, usize)] = &[
     ("main { }", "[]", "[]", 0),
@@ -88,7 +92,7 @@ fn tasks_leave_lines_and_arrays(rt: HostRuntime) -> Result<(), Fail> {
 #[test]
 fn tasks_in_either_order_leave_what_one_thread_does(rt: HostRuntime) -> Result<(), Fail> {
     let alloc = rt.alloc();
-    for text in [DOUBLING, FAULTS, OWNER] {
+    for text in [DOUBLING, FAULTS, OWNER, MANY] {
         let accepted = accepted(&rt, alloc, text);
         let input = Input::zeros(alloc, accepted.typed())?;
         let serial = serial_run::serial(alloc, accepted.typed(), &input, Budget::usual())?;

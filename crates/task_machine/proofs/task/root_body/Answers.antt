@@ -24,6 +24,7 @@ returns c =
       run = run;
       first = first;
       begun = at;
+      nest = begins.nest ∙ ap (λ (z : Start). z.nest) c.in_ok-root.ensures;
       task = record {
         run = run;
         has = first.run;

@@ -1,5 +1,5 @@
 use Rattle.std.proofs.Common.{◌≡◌}
-use Rattle.workers.specs.Jobs.{IsJob}
+use Rattle.task_machine.specs.Jobs.{IsJob}
 use Rattle.workers.specs.Left.{left}
 use Rattle.workers.specs.Stages.{IsStage}
 use Rattle.workers.proofs.run.run_by.Given as goal

@@ -20,6 +20,7 @@ returns c =
         run = run;
         first = first;
         begun = at;
+        nest = begins.nest;
         weight = refl;
         task = record {
           run = run;
