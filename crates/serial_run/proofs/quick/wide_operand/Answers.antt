@@ -4,7 +4,7 @@ use Rattle.std.proofs.lemmas.Option.{IfSome_then}
 use Rattle.types.specs.Translation.{environment, number as number_of}
 use Rattle.types.specs.Value.{number, operate}
 use Rattle.serial_run.proofs.Pairs.{pair}
-use Rattle.serial_run.proofs.quick.term.Goals as goal
+use Rattle.serial_run.proofs.quick.wide_operand.Goals as goal
 
 pub returns-in_ok-right-in-Chain : goal.returns-in_ok-right-in-Chain
 returns-in_ok-right-in-Chain g c =
