@@ -13,7 +13,7 @@ returns-in_ok-right-in-Chain g c =
     let left = c.in_ok-left-in-Chain.left in let right = c.in_ok-right-in-Chain.right in
     let left_fits : FitsSigned w64 left = search rules in
     let right_fits : FitsSigned w64 right = search rules in
-    IfSome_then c.applied.result c.applied.ensures (λ v is.
+    IfSome_then c.multiplied.result c.multiplied.ensures (λ v is.
     ap (λ n. number env read (number_of n)) c.in-Chain.is
     ∙ pair env read c.in-Chain.first c.in-Chain.rest link left right v
     (sym c.as_slice.ensures.value ∙ c.in_ok-link-in-Chain.ensures)
