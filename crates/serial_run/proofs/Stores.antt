@@ -1,5 +1,5 @@
 -- A store that faults.
-use Rattle.std.proofs.Common.{◌≡◌, ℕ, Ok, Err, ap}
+use Rattle.std.proofs.Common.{◌≡◌, ℕ, Ok, Err, ap, sym, ◌∙◌}
 use Rattle.std.specs.Prelude.{ℤ, Bool, true, false}
 use Rattle.types.specs.declared.fault.FaultKind.{FaultKind}
 use Rattle.types.specs.declared.fault.FaultKind.TheVariants.{OutOfElement}
@@ -38,3 +38,16 @@ module _ (p : Program) (l : ℕ) (f : FaultKind) (st : State (Unit {0})) where
           (λ q. put l (holds_number (array_of p q.array).element v) q v))) st
       by_index (Ok at) is = by_value at (number_at st e) is
       by_index (Err k) is = let same : f ≡ k = cc in ap (λ k. fault l k st) same
+
+module _ (p : Program) (st : State (Unit {0})) where
+  -- the index and the value were found, the place is there, and its array holds the value
+  pub store_found : (s : ℕ) (i e : Number) (at v : ℤ) (q : Place) → number_at st i ≡ Ok at → number_at st e ≡ Ok v
+      → element_of (st.environment.windows s) at ≡ Ok q → true ≡ holds_number (array_of p q.array).element v
+      → target p st s i e ≡ Ok (q, v)
+  store_found s i e at v q is_index is_value is_place fits =
+      ap (λ r. then_try r (λ at. then_try (number_at st e) (λ v. then_try (element_of (st.environment.windows s) at)
+      (λ q. fitting (holds_number (array_of p q.array).element v) q v)))) is_index
+      ∙ ap (λ r. then_try r (λ v. then_try (element_of (st.environment.windows s) at)
+      (λ q. fitting (holds_number (array_of p q.array).element v) q v))) is_value
+      ∙ ap (λ r. then_try r (λ q. fitting (holds_number (array_of p q.array).element v) q v)) is_place
+      ∙ ap (λ b. fitting b q v) (sym fits)

@@ -6,18 +6,18 @@ use Rattle.types.specs.Value.{number, operate}
 use Rattle.serial_run.proofs.Pairs.{pair}
 use Rattle.serial_run.proofs.quick.quick_number.Goals as goal
 
-pub returns-in_ok-right-in-Chain : goal.returns-in_ok-right-in-Chain
-returns-in_ok-right-in-Chain g c =
+pub returns : goal.returns
+returns g c =
     let env = environment c.args.environment.now in let read = g.P.Places.numbers c.args.places.now in
-    let link = c.in_ok-link-in-Chain.link.now in
-    let left = c.in_ok-left-in-Chain.left in let right = c.in_ok-right-in-Chain.right in
+    let link = c.in_ok-link.link.now in
+    let left = c.in_ok-left.left in let right = c.in_ok-right.right in
     let left_fits : FitsSigned w64 left = search rules in
     let right_fits : FitsSigned w64 right = search rules in
     IfSome_then c.applied.result c.applied.ensures (λ v is.
     ap (λ n. number env read (number_of n)) c.in-Chain.is
     ∙ pair env read c.in-Chain.first c.in-Chain.rest link left right v
-    (sym c.as_slice.ensures.value ∙ c.in_ok-link-in-Chain.ensures)
-    (ap (λ n. number env read (number_of n)) (sym c.deref.ensures) ∙ c.in_ok-left-in-Chain.ensures)
-    c.in_ok-right-in-Chain.ensures
+    (sym c.as_slice.ensures.value ∙ c.in_ok-link.ensures)
+    (ap (λ n. number env read (number_of n)) (sym c.deref.ensures) ∙ c.in_ok-left.ensures)
+    c.in_ok-right.ensures
     (ap (λ x. operate link.operator x right) (sym (to_z-of_z w64 left left_fits))
     ∙ ap (operate link.operator _) (sym (to_z-of_z w64 right right_fits)) ∙ is))

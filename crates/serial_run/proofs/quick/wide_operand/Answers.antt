@@ -4,7 +4,7 @@ use Rattle.std.proofs.lemmas.Option.{IfSome_then}
 use Rattle.types.specs.Translation.{environment, number as number_of}
 use Rattle.types.specs.Value.{number, operate}
 use Rattle.serial_run.proofs.Pairs.{pair}
-use Rattle.serial_run.proofs.quick.product.Goals as goal
+use Rattle.serial_run.proofs.quick.wide_operand.Goals as goal
 
 pub returns-in_ok-right-in-Chain : goal.returns-in_ok-right-in-Chain
 returns-in_ok-right-in-Chain g c =
@@ -13,7 +13,7 @@ returns-in_ok-right-in-Chain g c =
     let left = c.in_ok-left-in-Chain.left in let right = c.in_ok-right-in-Chain.right in
     let left_fits : FitsSigned w64 left = search rules in
     let right_fits : FitsSigned w64 right = search rules in
-    IfSome_then c.applied.result c.applied.ensures (λ v is.
+    IfSome_then c.multiplied.result c.multiplied.ensures (λ v is.
     ap (λ n. number env read (number_of n)) c.in-Chain.is
     ∙ pair env read c.in-Chain.first c.in-Chain.rest link left right v
     (sym c.as_slice.ensures.value ∙ c.in_ok-link-in-Chain.ensures)
