@@ -1,3 +1,4 @@
+pub mod Acting
 pub mod Courses
 pub mod Events
 pub mod History

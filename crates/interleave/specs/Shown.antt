@@ -8,7 +8,7 @@ use Rattle.own_run.specs.Translation.{task_result}
 use Rattle.own_run.specs.declared.result.TaskResult.{TaskResult}
 use Rattle.interleave.specs.Courses.{Course, course_of, further, IsDoing}
 use Rattle.interleave.specs.Events.{Event}
-use Rattle.interleave.specs.Jobs.{program_of, lists_of, budget_of}
+use Rattle.interleave.specs.Jobs.{IsJob, program_of, lists_of, budget_of}
 use Rattle.interleave.specs.World.{ScopeId, Stake, Live, Scope, World, Whereabouts, Queue, Hand, Parked}
 use Rattle.interleave.specs.World.{task, scope, hand_is_free}
 use Rattle.interleave.specs.Worlds.{LeadsTo, event_of}
@@ -103,3 +103,9 @@ Becomes e old new = (w : World) → Shows old w
 abbrev pub Refuses : Event → (old new : rWorld) → EventError → Type 0
 Refuses e old new Illegal = (w : World) → Shows old w → Shows new w × (next_world old.job e w ≡ None)
 Refuses e old new NoMemory = (w : World) → Shows old w → Shows new w
+
+-- a right job, and a world that is shown
+pub record IsWorld (r : rWorld) : Type 0 where
+  pub job : IsJob r.job
+  pub world : World
+  pub shows : Shows r world

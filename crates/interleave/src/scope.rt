@@ -1,7 +1,7 @@
 //! A finish's scope: what it has issued, what came back, and what was handed on in it.
 
 ghost use Rattle.std.specs.Prelude.{◌≡◌, ◌+◌, ◌*◌, ◌<◌, ◌≤◌, ◌&&◌, [], ◌∷◌, not, nat_eq};
-ghost use Rattle.std.specs.Prelude.{OnOk, OnErr};
+ghost use Rattle.std.specs.Prelude.{◌↔◌, IsTrue, OnOk, OnErr};
 ghost use Rattle.own_run.specs.Translation.{task_result};
 ghost use Rattle.interleave.specs.Events.{give_back, issue, may_issue, new_scope};
 ghost use Rattle.interleave.specs.World.{Scope as Book};
@@ -40,7 +40,8 @@ impl Scope {
     /// Whether it may issue w0 once more.
     pub fn may_issue(&self, w0: u64) -> bool
         requires { w0 ≤ 4294967296 }
-        ensures { (book : Book) → IsBookOf self.now book → result ≡ may_issue w0 book }
+        ensures same { (book : Book) → IsBookOf self.now book → result ≡ may_issue w0 book }
+        ensures few { IsTrue result ↔ (self.now.issued < 2147483648 * w0) }
     {
         self.issued < MOST_ISSUES * w0
     }
