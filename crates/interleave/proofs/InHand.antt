@@ -1,10 +1,9 @@
 -- The events of a task in a hand, as the tables in Rust show them.
-use Rattle.std.proofs.Common.{◌≡◌, ℕ, ◌+◌, ◌-◌, ◌*◌, ◌/◌, ◌≤◌, ◌<◌, List, [], ◌∷◌, ◌++◌, Option, Some, None, refl, sym, ap, ◌∙◌, subst, inl, inr, arith}
-use Rattle.std.proofs.lemmas.Bool.{and_parts, le-leb, lt-ltb, leb-true, ltb-true, eqb-true, eq-eqb, not-true}
+use Rattle.std.proofs.Common.{◌≡◌, ℕ, ◌+◌, ◌-◌, ◌*◌, ◌/◌, ◌≤◌, ◌<◌, List, [], ◌∷◌, ◌++◌, Option, Some, None, refl, sym, ap, ◌∙◌, subst, arith}
+use Rattle.std.proofs.lemmas.Bool.{and_parts, le-leb, lt-ltb, leb-true, ltb-true, eqb-true}
 use Rattle.std.proofs.lemmas.Option.{none-some, same_Some}
-use Rattle.std.specs.Prelude.{Bool, true, false, ◌&&◌, ◌⊎◌, length, slice_index_or, not, nat_eq, nat_le, nat_lt, map, if◌then◌else◌}
-use Rattle.std.specs.HashMap.{HashMap, get}
-use Rattle.std.specs.HashSet.{contains}
+use Rattle.std.specs.Prelude.{Bool, true, false, ◌&&◌, length, slice_index_or, not, nat_eq, nat_le, map, if◌then◌else◌}
+use Rattle.std.specs.HashMap.{get}
 use Rattle.std.specs.List.{AllZip}
 use Rattle.std.proofs.lemmas.Slice.Zip.{AllZip-map}
 use Rattle.std.specs.Prelude.{Result, Ok, Err}
@@ -18,8 +17,8 @@ use Rattle.own_run.specs.Translation.{start}
 use Rattle.own_run.specs.declared.run.Run.{Run}
 use Rattle.own_run.specs.declared.start.Start.{Start as rStart}
 use Rattle.own_run.proofs.SettledResults.{paths_same}
-use Rattle.interleave.specs.Acting.{IsKnown, IsReady, IsSame, DidStep, IsToSpawn, IsWanting, IsShort, DidIssue, DidSpawn, IsHeavy, DidOpen}
-use Rattle.interleave.specs.Courses.{Course, IsAhead, course_of, further, with_child, with_finish, IsDoing, IsNext}
+use Rattle.interleave.specs.Acting.{IsKnown, IsReady, IsSame, DidStep, IsToSpawn, IsShort, DidIssue, DidSpawn, IsHeavy, DidOpen}
+use Rattle.interleave.specs.Courses.{Course, IsAhead, course_of, IsDoing, IsNext}
 use Rattle.interleave.specs.Events.{Event, Steps, Replenish, Spawns, Opens, did, issue, may_issue, only_if, new_scope, new_task}
 use Rattle.interleave.specs.Events.{with_next, in_innermost, by_step, by_replenish, by_spawn, by_open, next_action}
 use Rattle.interleave.specs.Jobs.{program_of, lists_of, budget_of}

@@ -1,11 +1,12 @@
 -- What the events of a task in a hand make of it, in Rust.
-use Rattle.std.specs.Prelude.{ℕ, ◌+◌, ◌*◌, ◌-◌, ◌/◌, ◌≡◌, ◌≤◌, ◌<◌, List, [], ◌∷◌, map, Some, if◌then◌else◌}
+use Rattle.std.specs.Prelude.{ℕ, ◌+◌, ◌*◌, ◌-◌, ◌/◌, ◌≡◌, ◌≤◌, ◌<◌, List, [], ◌∷◌, map, Some}
+use Rattle.std.specs.Prelude.{if◌then◌else◌}
 use Rattle.std.specs.HashMap.{get}
 use Rattle.types.specs.declared.path.Path.{Path}
 use Rattle.own_run.specs.declared.run.Run.{Run}
 use Rattle.own_run.specs.declared.start.Start.{Start}
 use Rattle.interleave.specs.Events.{issue}
-use Rattle.interleave.specs.World.{Stake, Whereabouts, hand_of, Scope as Book}
+use Rattle.interleave.specs.World.{Stake, hand_of, Scope as Book}
 use Rattle.interleave.specs.Shown.{IsBookOf, is_path, is_scope, scope_id, stake, whereabouts}
 use Rattle.interleave.specs.declared.doing.Doing.{Doing}
 use Rattle.interleave.specs.declared.doing.Doing.TheVariants.{Starts, Runs, Steps, Spawns, Opens}

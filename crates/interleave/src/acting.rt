@@ -1,7 +1,7 @@
 //! The events by which a task in a hand takes a step, begins another or begins a finish.
 
-ghost use Rattle.std.specs.Prelude.{◌≡◌, ◌≤◌, ◌<◌, ◌-◌, ◌/◌, ◌∷◌, [], List, IfErr, IfOk, OnOk, OnErr};
-ghost use Rattle.std.specs.Prelude.{None, Some, MatchOption, map};
+ghost use Rattle.std.specs.Prelude.{◌≡◌, ◌≤◌, ◌<◌, ◌-◌, ◌/◌, ◌∷◌, [], List, None, Some, map};
+ghost use Rattle.std.specs.Prelude.{IfErr, IfOk, MatchOption, OnErr, OnOk};
 ghost use Rattle.std.specs.Bool.{OnFalse, OnTrue};
 ghost use Rattle.std.specs.HashMap.{get};
 ghost use Rattle.own_run.specs.declared.run.Run.{Run as AnyRun};
@@ -97,7 +97,7 @@ impl<'p> World<'p> {
         Ok(())
     }
 
-    /// The next action of the task of a path, if it is in a hand, becomes known; whose hand that is.
+    /// The worker in whose hand the task of a path is, once its next action is known.
     fn look_at(&mut self, path: &Path) -> Result<u32, EventError>
         requires { IsWorld self.old }
         ensures others { self.new ≡ record self.old { tasks = self.new.tasks } }

@@ -1,6 +1,5 @@
 use Rattle.std.proofs.Common.{◌≡◌, ◌∙◌, refl, sym, ap, map}
 use Rattle.own_run.specs.declared.start.Start.{Start}
-use Rattle.interleave.specs.Acting.{IsShare}
 use Rattle.interleave.specs.Shown.{stake}
 use Rattle.interleave.specs.declared.doing.Doing.TheVariants.{Spawns}
 use Rattle.interleave.specs.declared.task.Task.{Task}

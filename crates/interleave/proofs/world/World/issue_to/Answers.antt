@@ -1,11 +1,9 @@
-use Rattle.std.proofs.Common.{◌≡◌, ◌+◌, ◌∷◌, ◌∙◌, List, Some, None, refl, sym, ap, subst, arith}
-use Rattle.std.proofs.lemmas.Option.{none-some, same_Some}
+use Rattle.std.proofs.Common.{◌≡◌, ◌+◌, ◌∷◌, ◌∙◌, Some, sym, ap, subst, arith}
+use Rattle.std.proofs.lemmas.Option.{none-some}
 use Rattle.std.specs.HashMap.{get}
 use Rattle.std.specs.Prelude.{is_some, slice_set, if◌then◌else◌}
 use Rattle.std.specs.VecDeque.{deque_with_item}
-use Rattle.interleave.specs.Acting.{IsShort}
 use Rattle.interleave.specs.Shown.{IsBookOf, is_scope}
-use Rattle.interleave.specs.declared.event.ScopeId.{ScopeId}
 use Rattle.interleave.specs.declared.scope.Scope.{Scope}
 use Rattle.interleave.specs.declared.task.Stake.{Stake}
 use Rattle.interleave.specs.declared.task.Task.{Task}

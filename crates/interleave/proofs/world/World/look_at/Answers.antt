@@ -1,7 +1,6 @@
-use Rattle.std.proofs.Common.{◌≡◌, refl, sym, ap, Some}
+use Rattle.std.proofs.Common.{refl, sym, ap}
 use Rattle.std.specs.Prelude.{is_some}
-use Rattle.interleave.specs.Shown.{IsTaskOf, is_path}
-use Rattle.interleave.specs.World.{task}
+use Rattle.interleave.specs.Shown.{IsTaskOf}
 use Rattle.interleave.proofs.InHand.{ready_by, shows_same}
 use Rattle.interleave.proofs.Tables.{there}
 use Rattle.interleave.proofs.world.World.look_at.Goals as goal

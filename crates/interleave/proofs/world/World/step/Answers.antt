@@ -1,7 +1,5 @@
-use Rattle.std.proofs.Common.{◌≡◌, ◌∙◌, refl, sym, ap, Some}
+use Rattle.std.proofs.Common.{sym, ap}
 use Rattle.std.specs.Prelude.{is_some}
-use Rattle.interleave.specs.Acting.{IsReady}
-use Rattle.interleave.specs.Events.{Steps}
 use Rattle.interleave.specs.declared.world.World.{World as rWorld}
 use Rattle.interleave.proofs.InHand.{steps, steps_not}
 use Rattle.interleave.proofs.world.World.step.Goals as goal
