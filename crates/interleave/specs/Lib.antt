@@ -1,4 +1,5 @@
 pub mod Courses
+pub mod Ending
 pub mod Events
 pub mod History
 pub mod Jobs
