@@ -78,7 +78,10 @@ impl<'p> World<'p> {
             (Refuses (IsResume worker path.now.turns.items) self.old self.new) }
         ensures job { self.new.job ≡ self.old.job }
     {
-        if self.hands.contains(&worker) || !self.may_leave(path) {
+        if self.hands.contains(&worker) {
+            return Err(EventError::Illegal);
+        }
+        if !self.may_leave(path) {
             return Err(EventError::Illegal);
         }
         self.hands.reserve(1)?;
@@ -215,10 +218,13 @@ impl<'p> World<'p> {
         let Some(task) = self.tasks.get(path) else {
             return false;
         };
-        // The root's scope is left by nobody.
-        if task.place != Whereabouts::Parked || task.stakes.len() < 2 {
+        if task.place != Whereabouts::Parked {
             return false;
         }
+        // The root's scope is left by nobody.
+        let Some(_around) = task.stakes.get(1) else {
+            return false;
+        };
         let Some(stake) = task.stakes.front() else {
             return false;
         };
