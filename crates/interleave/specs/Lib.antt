@@ -4,6 +4,7 @@ pub mod Events
 pub mod History
 pub mod Jobs
 pub mod Replay
+pub mod Replaying
 pub mod Shown
 pub mod Weights
 pub mod World

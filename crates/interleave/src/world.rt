@@ -47,6 +47,7 @@ impl<'p> World<'p> {
         ensures shows { IfOk result (λ r. Shows r (first_of (program_of job.entry) job.entry.w0
             (lists_of job.entry) (budget_of job.entry))) }
         ensures refused { IfErr result (λ e. e ≡ NoMemory) }
+        ensures job { IfOk result (λ r. r.job ≡ job.entry) }
     {
         let mut stakes = VecDeque::new(job.alloc);
         let scope = root_scope(job.alloc);
@@ -78,6 +79,7 @@ impl<'p> World<'p> {
             (Becomes (IsTake worker path.now.turns.items) self.old self.new) }
         ensures refused { IfErr result
             (Refuses (IsTake worker path.now.turns.items) self.old self.new) }
+        ensures job { self.new.job ≡ self.old.job }
     {
         if !self.is_in_queue(path, worker) || self.hands.contains(&worker) {
             return Err(EventError::Illegal);
@@ -93,6 +95,7 @@ impl<'p> World<'p> {
             (Becomes (IsSteal worker from path.now.turns.items) self.old self.new) }
         ensures refused { IfErr result
             (Refuses (IsSteal worker from path.now.turns.items) self.old self.new) }
+        ensures job { self.new.job ≡ self.old.job }
     {
         if from == worker || !self.is_in_queue(path, from) {
             return Err(EventError::Illegal);
@@ -105,6 +108,7 @@ impl<'p> World<'p> {
     pub fn pass(&mut self, scope: &ScopeId) -> Result<(), EventError>
         ensures passed { OnOk result (Becomes (IsPass (scope_id scope.now)) self.old self.new) }
         ensures refused { IfErr result (Refuses (IsPass (scope_id scope.now)) self.old self.new) }
+        ensures job { self.new.job ≡ self.old.job }
     {
         if !self.is_complete(scope) {
             return Err(EventError::Illegal);
