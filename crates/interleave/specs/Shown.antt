@@ -1,5 +1,6 @@
 -- What a world in Rust stands for: live tasks by their paths, scopes by their names.
-use Rattle.std.specs.Prelude.{ℕ, ◌≡◌, List, Bool, true, false, ◌&&◌, not, nat_eq, map, Option, Some, None}
+use Rattle.std.specs.Prelude.{ℕ, ◌≡◌, List, Bool, true, false, ◌&&◌, not, nat_eq, map, Option, Some, None, Vec}
+use Rattle.std.specs.Global.{Global}
 use Rattle.std.specs.Cmp.Lexicographic.{pointwise}
 use Rattle.std.specs.HashMap.{get}
 use Rattle.std.specs.HashSet.{contains}
@@ -52,12 +53,17 @@ AreBoth Are None (Some b) = ⊥
 AreBoth Are (Some a) None = ⊥
 
 -- ---- scopes
+-- the results that a scope keeps; they are handed over only once it has passed
+abbrev pub AreResultsOf : Option (Vec TaskResult Global) → Scope → Type 0
+AreResultsOf None book = book.passed ≡ true
+AreResultsOf (Some rs) book = map task_result rs.items ≡ book.results
+
 -- a scope's numbers, and its results until its owner has them
 pub record IsBookOf (s : rScope) (book : Scope) : Type 0 where
   pub issued : s.issued ≡ book.issued
   pub returned : s.returned ≡ book.returned
   pub passed : s.passed ≡ book.passed
-  pub results : map task_result s.results.items ≡ book.results
+  pub results : AreResultsOf s.results book
 
 module _ (j : Job) where
   -- ---- tasks

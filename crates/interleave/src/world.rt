@@ -43,10 +43,10 @@ impl<'p> World<'p> {
     /// The world at the start: the root in the first worker's queue, with the weight of its scope.
     pub fn start(job: Job<'p>) -> Result<World<'p>, EventError>
         requires { FitsArrays (program_of job).arrays (lists_of job) }
-        ensures job { IfOk result (λ r. r.job ≡ job.entry) }
         ensures shows { IfOk result (λ r. Shows r (first_of (program_of job.entry) job.entry.w0
             (lists_of job.entry) (budget_of job.entry))) }
         ensures refused { IfErr result (λ e. e ≡ NoMemory) }
+        ensures job { IfOk result (λ r. r.job ≡ job.entry) }
     {
         let root = Start::root(job.plan(), job.accepted.typed(), job.input)?;
         let mut stakes = VecDeque::new(job.alloc);
@@ -75,11 +75,11 @@ impl<'p> World<'p> {
 
     /// A worker takes a task from its queue into its hand.
     pub fn take(&mut self, worker: u32, path: &Path) -> Result<(), EventError>
-        ensures job { self.new.job ≡ self.old.job }
         ensures taken { OnOk result
             (Becomes (IsTake worker path.now.turns.items) self.old self.new) }
         ensures refused { IfErr result
             (Refuses (IsTake worker path.now.turns.items) self.old self.new) }
+        ensures job { self.new.job ≡ self.old.job }
     {
         if !self.is_in_queue(path, worker) || self.hands.contains(&worker) {
             return Err(EventError::Illegal);
@@ -91,11 +91,11 @@ impl<'p> World<'p> {
 
     /// A worker takes a task from another's queue into its own.
     pub fn steal(&mut self, worker: u32, from: u32, path: &Path) -> Result<(), EventError>
-        ensures job { self.new.job ≡ self.old.job }
         ensures stolen { OnOk result
             (Becomes (IsSteal worker from path.now.turns.items) self.old self.new) }
         ensures refused { IfErr result
             (Refuses (IsSteal worker from path.now.turns.items) self.old self.new) }
+        ensures job { self.new.job ≡ self.old.job }
     {
         if from == worker || !self.is_in_queue(path, from) {
             return Err(EventError::Illegal);
@@ -106,9 +106,9 @@ impl<'p> World<'p> {
 
     /// A scope passes, since all its weight came back.
     pub fn pass(&mut self, scope: &ScopeId) -> Result<(), EventError>
-        ensures job { self.new.job ≡ self.old.job }
         ensures passed { OnOk result (Becomes (IsPass (scope_id scope.now)) self.old self.new) }
         ensures refused { IfErr result (Refuses (IsPass (scope_id scope.now)) self.old self.new) }
+        ensures job { self.new.job ≡ self.old.job }
     {
         if !self.is_complete(scope) {
             return Err(EventError::Illegal);
