@@ -204,7 +204,7 @@ impl<'p> World<'p> {
 }
 
 /// The path of the root.
-fn root_path(alloc: Global) -> Path
+pub(crate) fn root_path(alloc: Global) -> Path
     ensures { result.turns.items ≡ [] }
 {
     Path {
@@ -213,7 +213,7 @@ fn root_path(alloc: Global) -> Path
 }
 
 /// The name of the scope that `main` stands in.
-fn root_scope(alloc: Global) -> ScopeId
+pub(crate) fn root_scope(alloc: Global) -> ScopeId
     ensures { scope_id result ≡ the_root_scope }
 {
     ScopeId {
