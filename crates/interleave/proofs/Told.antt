@@ -3,7 +3,7 @@ use Rattle.std.proofs.Common.{◌≡◌, ℕ, List, [], ◌∷◌, Option, Some,
 use Rattle.std.proofs.lemmas.Option.{none-some, same_Some}
 use Rattle.std.specs.Prelude.{Bool, true, false, map}
 use Rattle.std.specs.HashMap.{get}
-use Rattle.types.specs.Outcome.{Outcome}
+use Rattle.types.specs.Outcome.{Outcome, outcome}
 use Rattle.types.specs.declared.path.Path.{Path}
 use Rattle.effects.proofs.Members.{false_true}
 use Rattle.effects.specs.Rounds.{needs_of}
@@ -33,6 +33,7 @@ use Rattle.interleave.specs.declared.world.World.{World as rWorld}
 use Rattle.interleave.proofs.Behind.{results_of}
 use Rattle.interleave.proofs.Came.{ends_with, results_came}
 use Rattle.interleave.proofs.Jobs.{fits}
+use Rattle.interleave.proofs.NeverStuck.{outcome_told}
 use Rattle.interleave.proofs.Tables.{there, not_there}
 
 -- wherever it is, it has come to its end with the same start and receipts
@@ -127,3 +128,11 @@ module _ (r : rWorld) (ok : IsJob r.job) (w : World) (h : Shows r w) (id : rScop
             ∙ ap (λ y. and_then (settle y book.0.results) (λ x. Some (told_of (program_of r.job) x))) handed
             ∙ ap (λ rs. and_then (settle (task_result made) rs) (λ x. Some (told_of (program_of r.job) x))) (sym are)
             ∙ ap (λ o. and_then o (λ x. Some (told_of (program_of r.job) x))) (sym e)
+
+        -- and that is the one-thread outcome
+        pub one_thread_so : (x : Settled) → Some x ≡ settle (task_result made) (map task_result results.items)
+            → told_of (program_of r.job) x ≡ outcome (program_of r.job) (lists_of r.job) (budget_of r.job)
+        one_thread_so x e =
+            same_Some _ _ (sym (told_so x e)
+            ∙ outcome_told (program_of r.job) ok.sound ok.accepted r.job.w0 ok.least (lists_of r.job) (budget_of r.job) (fits r.job ok)
+            h.events w h.led book.0 (ap (λ i. scope i w.scopes) (sym named) ∙ book.1) (sym book.2.passed ∙ passed))

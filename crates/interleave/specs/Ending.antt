@@ -1,7 +1,6 @@
 -- What the events at the ends of finishes and of tasks find in the tables, and leave there.
-use Rattle.std.specs.Prelude.{ℕ, ◌≡◌, ◌+◌, ◌≤◌, List, [], ◌∷◌, Bool, true, false, not, map, drop, Some, None, Vec}
-use Rattle.std.specs.Prelude.{if◌then◌else◌}
-use Rattle.std.specs.Global.{Global}
+use Rattle.std.specs.Prelude.{ℕ, ◌≡◌, ◌+◌, ◌≤◌, List, [], ◌∷◌, Bool, true, false, not, map, drop}
+use Rattle.std.specs.Prelude.{Some, None, if◌then◌else◌}
 use Rattle.std.specs.HashMap.{get}
 use Rattle.sections.specs.Place.{Place}
 use Rattle.types.specs.Run.{State}
@@ -18,10 +17,9 @@ use Rattle.own_run.specs.declared.result.TaskResult.{TaskResult as Made}
 use Rattle.own_run.specs.declared.run.Run.{Run}
 use Rattle.own_run.specs.declared.turn.Paused.{Paused}
 use Rattle.gather.specs.GivesBack.{GiveBack, all_owned}
-use Rattle.interleave.specs.Events.{Event, Resume, give_back}
-use Rattle.interleave.specs.Jobs.{IsJob}
-use Rattle.interleave.specs.Shown.{IsTaskOf, IsBookOf, Shows, is_path, is_scope, next_world, stake, whereabouts}
-use Rattle.interleave.specs.World.{Live, Scope, World, hand_of}
+use Rattle.interleave.specs.Events.{give_back}
+use Rattle.interleave.specs.Shown.{IsBookOf, Shows, is_path, is_scope, stake, whereabouts}
+use Rattle.interleave.specs.World.{Scope, World, hand_of}
 use Rattle.interleave.specs.declared.doing.Doing.{Doing}
 use Rattle.interleave.specs.declared.doing.Doing.TheVariants.{Starts, Runs, Steps, Spawns, Opens}
 use Rattle.interleave.specs.declared.doing.Doing.TheVariants.{AtFinish, AtEnd, Lost}
@@ -108,13 +106,14 @@ pub record HasMade (r : rWorld) (path : Path) : Type 0 where
 
 -- no task weighs more in its innermost scope than what is out there
 abbrev pub NoneIsLate : rWorld → Type 0
-NoneIsLate r = (path : Path) (a : StandsAt r path) → a.book.returned + a.inner.weight ≤ a.book.issued
+NoneIsLate r =
+    (path : Path) (a : StandsAt r path) → a.book.returned + a.inner.weight ≤ a.book.issued
 
 -- what a task at the end of a finish made is given back what it listed
 abbrev pub MayGoOn : rWorld → Path → List Made → Type 0
 MayGoOn r path results =
-    (k : rTask) (q : Paused) (made : Made) → get is_path r.tasks path ≡ Some k → k.doing ≡ AtFinish q made
-    → GiveBack (task_result made) (map task_result results)
+    (k : rTask) (q : Paused) (made : Made) → get is_path r.tasks path ≡ Some k
+    → k.doing ≡ AtFinish q made → GiveBack (task_result made) (map task_result results)
 
 -- ---- what changes
 -- whatever world was shown is shown still
@@ -152,11 +151,13 @@ pub record IsSetDown (old new : rTask) : Type 0 where
       → map stake new.stakes.items ≡ record (stake s) { weight = 0 } ∷ map stake outer
 
 -- a run goes on behind a finish, with what its results settled to
-pub record GoesBehind (q : Paused) (made : Made) (results : List TaskResult) (run : Run) : Type 0 where
+pub record GoesBehind (q : Paused) (made : Made) (results : List TaskResult)
+    (run : Run) : Type 0 where
   pub settled : Settled
   pub comes : Some (settled_of settled) ≡ settle (task_result made) results
   pub owned : (p : Place) → owned_by settled.holdings p ≡ all_owned (task_result made) p
-  pub stands : (fs : List (Frame Own)) (before st : State Own) → Waits q fs before st → ComesBack settled st
+  pub stands : (fs : List (Frame Own)) (before st : State Own)
+      → Waits q fs before st → ComesBack settled st
       → IsAt run (record { frames = fs; state = handed before (settled_of settled) st })
   pub plan : run.plan ≡ q.plan
   pub nest : run.thread.nest ≡ q.nest

@@ -1,17 +1,22 @@
 -- Events in Rust, and what lists of them lead to.
 use Rattle.std.specs.Prelude.{◌≡◌, List, map}
-use Rattle.interleave.specs.Events.{Event, Take, Steal, Steps, Replenish, Spawns, Opens, Parks, Ends, Pass, Resume}
+use Rattle.interleave.specs.Events.{Event, Take, Steal, Steps, Replenish, Spawns, Opens, Parks}
+use Rattle.interleave.specs.Events.{Ends, Pass, Resume}
 use Rattle.interleave.specs.Jobs.{program_of, lists_of, budget_of}
 use Rattle.interleave.specs.Replay.{Replayed, Legal, IllegalAt}
 use Rattle.interleave.specs.Shown.{Shows, scope_id}
 use Rattle.interleave.specs.World.{World}
 use Rattle.interleave.specs.Worlds.{replayed}
 use Rattle.interleave.specs.declared.error.ReplayError.{ReplayError}
-use Rattle.interleave.specs.declared.error.ReplayError.TheVariants.{IllegalAt as rIllegalAt, NoMemory}
+use Rattle.interleave.specs.declared.error.ReplayError.TheVariants.{IllegalAt as rIllegalAt}
+use Rattle.interleave.specs.declared.error.ReplayError.TheVariants.{NoMemory}
 use Rattle.interleave.specs.declared.event.Event.{Event as rEvent}
-use Rattle.interleave.specs.declared.event.Event.TheVariants.{Take as rTake, Steal as rSteal, Step as rStep}
-use Rattle.interleave.specs.declared.event.Event.TheVariants.{Replenish as rReplenish, Spawn as rSpawn}
-use Rattle.interleave.specs.declared.event.Event.TheVariants.{Open as rOpen, Park as rPark, End as rEnd}
+use Rattle.interleave.specs.declared.event.Event.TheVariants.{Take as rTake, Steal as rSteal}
+use Rattle.interleave.specs.declared.event.Event.TheVariants.{Step as rStep}
+use Rattle.interleave.specs.declared.event.Event.TheVariants.{Replenish as rReplenish}
+use Rattle.interleave.specs.declared.event.Event.TheVariants.{Spawn as rSpawn}
+use Rattle.interleave.specs.declared.event.Event.TheVariants.{Open as rOpen, Park as rPark}
+use Rattle.interleave.specs.declared.event.Event.TheVariants.{End as rEnd}
 use Rattle.interleave.specs.declared.event.Event.TheVariants.{Pass as rPass, Resume as rResume}
 use Rattle.interleave.specs.declared.job.Job.{Job}
 use Rattle.interleave.specs.declared.world.World.{World as rWorld}

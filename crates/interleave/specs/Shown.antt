@@ -1,5 +1,6 @@
 -- What a world in Rust stands for: live tasks by their paths, scopes by their names.
-use Rattle.std.specs.Prelude.{ℕ, ◌≡◌, List, Bool, true, false, ◌&&◌, not, nat_eq, map, Option, Some, None, Vec}
+use Rattle.std.specs.Prelude.{ℕ, ◌≡◌, List, Bool, true, false, ◌&&◌}
+use Rattle.std.specs.Prelude.{not, nat_eq, map, Option, Some, None, Vec}
 use Rattle.std.specs.Global.{Global}
 use Rattle.std.specs.Cmp.Lexicographic.{pointwise}
 use Rattle.std.specs.HashMap.{get}
@@ -9,8 +10,9 @@ use Rattle.own_run.specs.Translation.{task_result}
 use Rattle.own_run.specs.declared.result.TaskResult.{TaskResult}
 use Rattle.interleave.specs.Courses.{Course, course_of, further, IsDoing}
 use Rattle.interleave.specs.Events.{Event}
-use Rattle.interleave.specs.Jobs.{IsJob, program_of, lists_of, budget_of}
-use Rattle.interleave.specs.World.{ScopeId, Stake, Live, Scope, World, Whereabouts, Queue, Hand, Parked}
+use Rattle.interleave.specs.Jobs.{program_of, lists_of, budget_of, IsJob}
+use Rattle.interleave.specs.World.{ScopeId, Stake, Live, Scope, World}
+use Rattle.interleave.specs.World.{Whereabouts, Queue, Hand, Parked}
 use Rattle.interleave.specs.World.{task, scope, hand_is_free}
 use Rattle.interleave.specs.Worlds.{LeadsTo, event_of}
 use Rattle.interleave.specs.declared.doing.Doing.{Doing}

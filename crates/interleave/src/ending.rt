@@ -5,7 +5,8 @@ ghost use Rattle.std.specs.Bool.{OnTrue, OnFalse};
 ghost use Rattle.std.specs.HashMap.{get};
 ghost use Rattle.own_run.specs.Translation.{task_result};
 ghost use Rattle.gather.specs.GivesBack.{GiveBack};
-ghost use Rattle.interleave.specs.Ending.{GivesBack, HasMade, IsBehind, IsInNoHand, IsKnown, IsSeen};
+ghost use Rattle.interleave.specs.Ending.{GivesBack, HasMade, IsBehind, IsInNoHand, IsKnown};
+ghost use Rattle.interleave.specs.Ending.{IsSeen};
 ghost use Rattle.interleave.specs.Ending.{IsSetDown, IsStill, IsUnseen, Keeps, MayGoOn, MayLeave};
 ghost use Rattle.interleave.specs.Ending.{NoneIsLate, ScopeBecomes, StandsAt, TaskBecomes};
 ghost use Rattle.interleave.specs.Ending.{has_ended, is_waiting};
@@ -14,7 +15,8 @@ ghost use Rattle.interleave.specs.Jobs.{IsJob};
 ghost use Rattle.interleave.specs.Shown.{Becomes, IsTaskOf, IsWorld, Refuses, Shows, is_path};
 ghost use Rattle.interleave.specs.Shown.{next_world};
 ghost use Rattle.interleave.specs.World.{Live, World as AnyWorld};
-ghost use Rattle.interleave.specs.declared.doing.Doing.TheVariants.{AtEnd as IsAtEnd, AtFinish as IsAtFinish};
+ghost use Rattle.interleave.specs.declared.doing.Doing.TheVariants.{AtEnd as IsAtEnd};
+ghost use Rattle.interleave.specs.declared.doing.Doing.TheVariants.{AtFinish as IsAtFinish};
 ghost use Rattle.interleave.specs.declared.doing.Doing.TheVariants.{Lost as IsLost};
 ghost use Rattle.interleave.specs.declared.error.EventError.TheVariants.{NoMemory};
 ghost use Rattle.interleave.specs.declared.task.Task.{Task as AnyTask};
@@ -240,7 +242,8 @@ impl<'p> World<'p> {
         ensures others { self.new ≡ record self.old { scopes = self.new.scopes } }
         ensures results { (a : StandsAt self.old path.now) → result ≡ a.book.results }
         ensures taken { (a : StandsAt self.old path.now)
-            → ScopeBecomes self.old self.new a.inner.scope (λ to. to ≡ record a.book { results = None }) }
+            → ScopeBecomes self.old self.new a.inner.scope
+            (λ to. to ≡ record a.book { results = None }) }
     {
         let Some(task) = self.tasks.get(path) else {
             unreachable!()

@@ -1,12 +1,13 @@
 //! What is told once the root's scope has passed.
 
-ghost use Rattle.std.specs.Prelude.{◌≡◌, IfErr, IfOk, Some, map, option_map};
-ghost use Rattle.interleave.specs.Jobs.{budget_of, program_of};
+ghost use Rattle.std.specs.Prelude.{◌≡◌, IfErr, IfOk, IfSome, Some, map, option_map};
+ghost use Rattle.interleave.specs.Jobs.{budget_of, lists_of, program_of};
 ghost use Rattle.interleave.specs.Shown.{IsWorld, Shows};
 ghost use Rattle.interleave.specs.World.{World as AnyWorld};
 ghost use Rattle.interleave.specs.Worlds.{outcome_of as outcome_in};
 ghost use Rattle.interleave.specs.declared.error.EventError.TheVariants.{NoMemory};
 ghost use Rattle.types.specs.Contents.{shown as shown_in};
+ghost use Rattle.types.specs.Outcome.{outcome as one_thread};
 ghost use Rattle.types.specs.Translation.{array as array_of, outcome as outcome_of};
 ghost use Rattle.types.specs.Typed.{code_of};
 ghost use Rattle.own_run.specs.Given.{told_of};
@@ -30,7 +31,10 @@ impl<'p> World<'p> {
         requires { IsWorld self }
         ensures told { IfOk result (λ o. (w : AnyWorld) → Shows self.entry w
             → option_map outcome_of o
-            ≡ outcome_in (program_of self.entry.job) self.entry.job.w0 (budget_of self.entry.job) w) }
+            ≡ outcome_in (program_of self.entry.job) self.entry.job.w0
+            (budget_of self.entry.job) w) }
+        ensures one_thread { IfOk result (λ o. IfSome o (λ x. outcome_of x ≡ one_thread
+            (program_of self.entry.job) (lists_of self.entry.job) (budget_of self.entry.job))) }
         ensures refused { IfErr result (λ e. e ≡ NoMemory) }
     {
         let World {
