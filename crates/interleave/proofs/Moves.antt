@@ -13,7 +13,7 @@ use Rattle.interleave.specs.Events.{Event, Take, Steal, Pass, only_if, moved, by
 use Rattle.interleave.specs.Replay.{does, hands_on}
 use Rattle.interleave.specs.Jobs.{program_of, lists_of, budget_of}
 use Rattle.interleave.specs.Shown.{AreBoth, IsTaskOf, IsBookOf, IsDoingThere, is_path, is_scope, scope_id, whereabouts}
-use Rattle.interleave.specs.Shown.{Shows, next_world}
+use Rattle.interleave.specs.Shown.{AreResultsOf, Shows, next_world}
 use Rattle.interleave.specs.World.{Live, Scope, World, Whereabouts, Queue, Hand, Parked, task, put_task, scope, put_scope}
 use Rattle.interleave.specs.World.{in_queue, in_hand, hand_is_free}
 use Rattle.interleave.specs.declared.doing.Doing.{Doing}
@@ -200,6 +200,11 @@ same_test s book h =
     ∙ ap (λ n. not book.passed && nat_eq n s.returned) h.issued
     ∙ ap (λ n. not book.passed && nat_eq book.issued n) h.returned
 
+-- it keeps its results
+still_results : (rs : _) (book : Scope) → AreResultsOf rs book → AreResultsOf rs (record book { passed = true })
+still_results None book h = refl
+still_results (Some rs) book h = h
+
 module _ (old : rWorld) (w : World) (h : Shows old w) (id : rScopeId) where
   pub passes : (s : rScope) (scopes : _) → get is_scope old.scopes id ≡ Some s
       → (not s.passed && nat_eq s.issued s.returned) ≡ true
@@ -214,7 +219,7 @@ module _ (old : rWorld) (w : World) (h : Shows old w) (id : rScopeId) where
       tasks = h.tasks;
       scopes = scopes_put (get is_scope old.scopes) (get is_scope scopes) id (record s { passed = true }) b.0 (record b.0 { passed = true }) w.scopes
           h.scopes b.1 (named_so (scope_id id) w.scopes b.0 b.1)
-          (record { issued = b.2.issued; returned = b.2.returned; passed = refl; results = b.2.results }) each;
+          (record { issued = b.2.issued; returned = b.2.returned; passed = refl; results = still_results s.results b.0 b.2.results }) each;
       hands = h.hands;
     },
   )

@@ -43,11 +43,11 @@ module _ (p : Program) (needs : Codes → Needs) (scoped : IsScoped p) (calm : I
   go = after w0 (does p needs fresh w0) (hands_on p needs fresh w0)
 
   -- each task has its place, and each scope what it should
-  record Goes (w : World) : Type 0 where
-    placed : AllPlaced p needs scoped calm provided fresh w0 root nameless may_begin w.live
-    even : AllEvenBy p needs scoped calm provided fresh w0 root nameless may_begin w.live w.scopes
+  pub record Goes (w : World) : Type 0 where
+    pub placed : AllPlaced p needs scoped calm provided fresh w0 root nameless may_begin w.live
+    pub even : AllEvenBy p needs scoped calm provided fresh w0 root nameless may_begin w.live w.scopes
 
-  first_goes : Goes (first_world w0 root)
+  pub first_goes : Goes (first_world w0 root)
   first_goes = record {
     placed = placed;
     even = λ f. first_even p needs fresh w0 root nameless (worth p needs fresh w0 root nameless f) f (worth_lists p needs fresh w0 root nameless f);
@@ -60,7 +60,7 @@ module _ (p : Program) (needs : Codes → Needs) (scoped : IsScoped p) (calm : I
           (begun fresh root, record { reached = root_stands; follows = begins_follow p needs fresh root root; after = refl })
       placed (j ∷ q) t e = absurd (none-some _ e)
 
-  list_goes : (before es : List Event) (a b : World) → IsSound p needs fresh w0 least root nameless before a → Goes a → go es a ≡ Some b → Goes b
+  pub list_goes : (before es : List Event) (a b : World) → IsSound p needs fresh w0 least root nameless before a → Goes a → go es a ≡ Some b → Goes b
   list_goes before [] a b h k e = subst Goes (same_Some _ _ e) k
   list_goes before (x ∷ es) a b h k e =
       let g = gives (next w0 (does p needs fresh w0) (hands_on p needs fresh w0) x a) _ b e in

@@ -49,7 +49,7 @@ module _ (j : Job) (ok : IsJob j) where
   At fs st = record { frames = fs; state = st }
 
   -- wherever a task stands, it is its own run
-  its_task : (s : Start) (u : Standing Own) → MayStand p (lists_of j) (budget_of j) s u
+  pub its_task : (s : Start) (u : Standing Own) → MayStand p (lists_of j) (budget_of j) s u
       → IsTask p (needs_of p) (budget_of j).steps (root p (lists_of j) (budget_of j)) s u
   its_task s u h =
       (goes p (needs_of p) (is_scoped p ok.sound) (is_calm p ok.sound ok.accepted) (provides_needs p ok.sound) (budget_of j).steps

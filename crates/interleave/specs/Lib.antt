@@ -1,8 +1,11 @@
+pub mod Acting
 pub mod Courses
+pub mod Ending
 pub mod Events
 pub mod History
 pub mod Jobs
 pub mod Replay
+pub mod Replaying
 pub mod Shown
 pub mod Weights
 pub mod World

@@ -1,5 +1,7 @@
 -- What a world in Rust stands for: live tasks by their paths, scopes by their names.
-use Rattle.std.specs.Prelude.{ℕ, ◌≡◌, List, Bool, true, false, ◌&&◌, not, nat_eq, map, Option, Some, None}
+use Rattle.std.specs.Prelude.{ℕ, ◌≡◌, List, Bool, true, false, ◌&&◌}
+use Rattle.std.specs.Prelude.{not, nat_eq, map, Option, Some, None, Vec}
+use Rattle.std.specs.Global.{Global}
 use Rattle.std.specs.Cmp.Lexicographic.{pointwise}
 use Rattle.std.specs.HashMap.{get}
 use Rattle.std.specs.HashSet.{contains}
@@ -8,8 +10,9 @@ use Rattle.own_run.specs.Translation.{task_result}
 use Rattle.own_run.specs.declared.result.TaskResult.{TaskResult}
 use Rattle.interleave.specs.Courses.{Course, course_of, further, IsDoing}
 use Rattle.interleave.specs.Events.{Event}
-use Rattle.interleave.specs.Jobs.{program_of, lists_of, budget_of}
-use Rattle.interleave.specs.World.{ScopeId, Stake, Live, Scope, World, Whereabouts, Queue, Hand, Parked}
+use Rattle.interleave.specs.Jobs.{program_of, lists_of, budget_of, IsJob}
+use Rattle.interleave.specs.World.{ScopeId, Stake, Live, Scope, World}
+use Rattle.interleave.specs.World.{Whereabouts, Queue, Hand, Parked}
 use Rattle.interleave.specs.World.{task, scope, hand_is_free}
 use Rattle.interleave.specs.Worlds.{LeadsTo, event_of}
 use Rattle.interleave.specs.declared.doing.Doing.{Doing}
@@ -52,12 +55,17 @@ AreBoth Are None (Some b) = ⊥
 AreBoth Are (Some a) None = ⊥
 
 -- ---- scopes
+-- the results that a scope keeps; they are handed over only once it has passed
+abbrev pub AreResultsOf : Option (Vec TaskResult Global) → Scope → Type 0
+AreResultsOf None book = book.passed ≡ true
+AreResultsOf (Some rs) book = map task_result rs.items ≡ book.results
+
 -- a scope's numbers, and its results until its owner has them
 pub record IsBookOf (s : rScope) (book : Scope) : Type 0 where
   pub issued : s.issued ≡ book.issued
   pub returned : s.returned ≡ book.returned
   pub passed : s.passed ≡ book.passed
-  pub results : map task_result s.results.items ≡ book.results
+  pub results : AreResultsOf s.results book
 
 module _ (j : Job) where
   -- ---- tasks
@@ -103,3 +111,9 @@ Becomes e old new = (w : World) → Shows old w
 abbrev pub Refuses : Event → (old new : rWorld) → EventError → Type 0
 Refuses e old new Illegal = (w : World) → Shows old w → Shows new w × (next_world old.job e w ≡ None)
 Refuses e old new NoMemory = (w : World) → Shows old w → Shows new w
+
+-- a right job, and a world that is shown
+pub record IsWorld (r : rWorld) : Type 0 where
+  pub job : IsJob r.job
+  pub world : World
+  pub shows : Shows r world

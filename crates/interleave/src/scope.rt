@@ -1,15 +1,16 @@
 //! A finish's scope: what it has issued, what came back, and what was handed on in it.
 
 ghost use Rattle.std.specs.Prelude.{◌≡◌, ◌+◌, ◌*◌, ◌<◌, ◌≤◌, ◌&&◌, [], ◌∷◌, not, nat_eq};
-ghost use Rattle.std.specs.Prelude.{OnOk, OnErr};
+ghost use Rattle.std.specs.Prelude.{◌↔◌, IfErr, IsTrue, OnOk};
 ghost use Rattle.own_run.specs.Translation.{task_result};
 ghost use Rattle.interleave.specs.Events.{give_back, issue, may_issue, new_scope};
 ghost use Rattle.interleave.specs.World.{Scope as Book};
 ghost use Rattle.interleave.specs.Shown.{IsBookOf};
+ghost use Rattle.interleave.specs.declared.error.EventError.TheVariants.{NoMemory};
 
-use crate::event::ScopeId;
+use crate::error::EventError;
 use own_run::result::TaskResult;
-use std::alloc::{AllocError, Global};
+use std::alloc::Global;
 
 /// How often a scope issues weight, at most.
 pub const MOST_ISSUES: u64 = 2_147_483_648;
@@ -20,8 +21,8 @@ pub struct Scope {
     pub issued: u64,
     pub returned: u64,
     pub passed: bool,
-    /// Until they are handed to the owner.
-    pub results: Vec<TaskResult>,
+    /// None once they were handed to the owner.
+    pub results: Option<Vec<TaskResult>>,
 }
 
 impl Scope {
@@ -33,14 +34,15 @@ impl Scope {
             issued: w0,
             returned: 0,
             passed: false,
-            results: Vec::new(alloc),
+            results: Some(Vec::new(alloc)),
         }
     }
 
     /// Whether it may issue w0 once more.
     pub fn may_issue(&self, w0: u64) -> bool
         requires { w0 ≤ 4294967296 }
-        ensures { (book : Book) → IsBookOf self.now book → result ≡ may_issue w0 book }
+        ensures same { (book : Book) → IsBookOf self.now book → result ≡ may_issue w0 book }
+        ensures few { IsTrue result ↔ (self.now.issued < 2147483648 * w0) }
     {
         self.issued < MOST_ISSUES * w0
     }
@@ -63,15 +65,18 @@ impl Scope {
         self.returned += weight;
     }
 
-    /// Weight comes back, and a result with it.
-    pub fn end(&mut self, weight: u64, made: TaskResult) -> Result<(), AllocError>
+    /// Weight comes back, and a result with it. Where memory is wanting the result is lost.
+    pub fn end(&mut self, weight: u64, made: TaskResult) -> Result<(), EventError>
         requires { self.old.returned + weight ≤ self.old.issued }
         ensures ended { OnOk result ((book : Book) → IsBookOf self.old book
             → IsBookOf self.new (give_back weight (task_result made ∷ []) book)) }
-        ensures refused { OnErr result ((book : Book) → IsBookOf self.old book
-            → IsBookOf self.new book) }
+        ensures refused { IfErr result (λ e. (e ≡ NoMemory)
+            × ((book : Book) → IsBookOf self.old book → IsBookOf self.new book)) }
     {
-        self.results.push(made)?;
+        let Some(results) = &mut self.results else {
+            return Err(EventError::NoMemory);
+        };
+        results.push(made)?;
         self.returned += weight;
         Ok(())
     }

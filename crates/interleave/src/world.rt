@@ -4,6 +4,7 @@ ghost use Rattle.std.specs.Prelude.{◌≡◌, ◌&&◌, IfErr, IfOk, OnOk, Some
 ghost use Rattle.std.specs.Prelude.{[], if◌then◌else◌};
 ghost use Rattle.std.specs.Bool.{OnTrue, OnFalse};
 ghost use Rattle.std.specs.HashMap.{get};
+ghost use Rattle.types.specs.Contents.{FitsArrays};
 ghost use Rattle.types.specs.declared.path.Path.{Path as AnyPath};
 ghost use Rattle.interleave.specs.Events.{Pass as IsPass, Steal as IsSteal, Take as IsTake};
 ghost use Rattle.interleave.specs.Shown.{Becomes, Refuses, Shows, is_path, is_scope, scope_id};
@@ -12,8 +13,6 @@ ghost use Rattle.interleave.specs.World.{World as AnyWorld, book, has_passed, in
 ghost use Rattle.interleave.specs.World.{root_scope as the_root_scope};
 ghost use Rattle.interleave.specs.Jobs.{program_of, lists_of, budget_of};
 ghost use Rattle.interleave.specs.Replay.{start_of as first_of};
-ghost use Rattle.own_run.specs.Runs.{root as root_of};
-ghost use Rattle.own_run.specs.Translation.{start as start_of};
 ghost use Rattle.interleave.specs.declared.error.EventError.TheVariants.{NoMemory};
 ghost use Rattle.interleave.specs.declared.event.ScopeId.{ScopeId as AnyScopeId};
 ghost use Rattle.interleave.specs.declared.scope.Scope.{Scope as AnyScope};
@@ -42,12 +41,14 @@ pub struct World<'p> {
 
 impl<'p> World<'p> {
     /// The world at the start: the root in the first worker's queue, with the weight of its scope.
-    pub fn start(job: Job<'p>, root: Start<'p>) -> Result<World<'p>, EventError>
-        requires { start_of root ≡ root_of (program_of job) (lists_of job) (budget_of job) }
+    pub fn start(job: Job<'p>) -> Result<World<'p>, EventError>
+        requires { FitsArrays (program_of job).arrays (lists_of job) }
         ensures shows { IfOk result (λ r. Shows r (first_of (program_of job.entry) job.entry.w0
             (lists_of job.entry) (budget_of job.entry))) }
         ensures refused { IfErr result (λ e. e ≡ NoMemory) }
+        ensures job { IfOk result (λ r. r.job ≡ job.entry) }
     {
+        let root = Start::root(job.plan(), job.accepted.typed(), job.input)?;
         let mut stakes = VecDeque::new(job.alloc);
         let scope = root_scope(job.alloc);
         stakes.push_front(Stake {
@@ -78,6 +79,7 @@ impl<'p> World<'p> {
             (Becomes (IsTake worker path.now.turns.items) self.old self.new) }
         ensures refused { IfErr result
             (Refuses (IsTake worker path.now.turns.items) self.old self.new) }
+        ensures job { self.new.job ≡ self.old.job }
     {
         if !self.is_in_queue(path, worker) || self.hands.contains(&worker) {
             return Err(EventError::Illegal);
@@ -93,6 +95,7 @@ impl<'p> World<'p> {
             (Becomes (IsSteal worker from path.now.turns.items) self.old self.new) }
         ensures refused { IfErr result
             (Refuses (IsSteal worker from path.now.turns.items) self.old self.new) }
+        ensures job { self.new.job ≡ self.old.job }
     {
         if from == worker || !self.is_in_queue(path, from) {
             return Err(EventError::Illegal);
@@ -105,6 +108,7 @@ impl<'p> World<'p> {
     pub fn pass(&mut self, scope: &ScopeId) -> Result<(), EventError>
         ensures passed { OnOk result (Becomes (IsPass (scope_id scope.now)) self.old self.new) }
         ensures refused { IfErr result (Refuses (IsPass (scope_id scope.now)) self.old self.new) }
+        ensures job { self.new.job ≡ self.old.job }
     {
         if !self.is_complete(scope) {
             return Err(EventError::Illegal);
@@ -200,7 +204,7 @@ impl<'p> World<'p> {
 }
 
 /// The path of the root.
-fn root_path(alloc: Global) -> Path
+pub(crate) fn root_path(alloc: Global) -> Path
     ensures { result.turns.items ≡ [] }
 {
     Path {
@@ -209,7 +213,7 @@ fn root_path(alloc: Global) -> Path
 }
 
 /// The name of the scope that `main` stands in.
-fn root_scope(alloc: Global) -> ScopeId
+pub(crate) fn root_scope(alloc: Global) -> ScopeId
     ensures { scope_id result ≡ the_root_scope }
 {
     ScopeId {

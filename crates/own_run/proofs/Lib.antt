@@ -20,6 +20,7 @@ pub mod NextAction
 pub mod OnePath
 pub mod OwnRunSettles
 pub mod ReachedTasks
+pub mod Roots
 pub mod RunSteps
 pub mod RunTops
 pub mod RunsGoOn

@@ -1,8 +1,20 @@
 //! What a task starts with.
 
+ghost use Rattle.std.specs.Prelude.{◌≡◌, IfOk};
+ghost use Rattle.types.specs.Contents.{FitsArrays};
+ghost use Rattle.types.specs.Translation.{budget as budget_of, input as lists_in};
+ghost use Rattle.types.specs.Translation.{program as program_of};
+ghost use Rattle.types.specs.Typed.{code_of};
+ghost use Rattle.own_run.specs.Runs.{root as root_of};
+ghost use Rattle.own_run.specs.Translation.{start as start_of};
+
 use holdings::holdings::Holdings;
+use serial_run::thread::{Plan, main_environment};
+use std::alloc::AllocError;
 use types::code::Stmt;
+use types::input::Input;
 use types::path::Path;
+use types::typed::Typed;
 use types::value::Environment;
 
 /// What a task starts with, but for its steps.
@@ -15,4 +27,26 @@ pub struct Start<'p> {
     /// How many asyncs may stand inside one another in it.
     pub nest: u32,
     pub path: Path,
+}
+
+impl<'p> Start<'p> {
+    /// What the root starts with: `main`, with all arrays.
+    pub fn root(plan: Plan<'p>, typed: &Typed, input: &Input) -> Result<Start<'p>, AllocError>
+        requires program { program_of plan.program.now ≡ code_of typed.now }
+        requires fits { FitsArrays (code_of typed.now).arrays (lists_in input.now) }
+        ensures { IfOk result (λ s. start_of s ≡ root_of (code_of typed.now)
+            (lists_in input.now) (budget_of plan.entry.budget)) }
+    {
+        let environment = main_environment(plan)?;
+        let holdings = Holdings::of_input(plan.alloc, typed, input)?;
+        Ok(Start {
+            body: &plan.program.main.body,
+            environment,
+            holdings,
+            nest: plan.budget.nest,
+            path: Path {
+                turns: Vec::new(plan.alloc),
+            },
+        })
+    }
 }

@@ -1,0 +1,730 @@
+-- The events at the ends of finishes and of tasks, as the tables in Rust show them.
+use Rattle.std.proofs.Common.{◌≡◌, ℕ, ◌+◌, ◌≤◌, List, [], ◌∷◌, ◌++◌, Option, Some, None, refl, sym, ap, ◌∙◌, subst, arith}
+use Rattle.std.proofs.lemmas.Option.{none-some, same_Some}
+use Rattle.std.specs.Prelude.{Bool, true, false, ◌||◌, not, nat_eq, map, if◌then◌else◌, Contains, slice_index_or}
+use Rattle.std.specs.Prelude.{Result, Ok, Err, IfErr}
+use Rattle.std.specs.Result.{IsErrAnd}
+use Rattle.std.specs.HashMap.{get}
+use Rattle.std.specs.HashSet.{contains}
+use Rattle.types.specs.Code.{Program}
+use Rattle.types.specs.declared.path.Path.{Path}
+use Rattle.effects.proofs.Members.{false_true}
+use Rattle.effects.specs.Rounds.{needs_of}
+use Rattle.own_run.specs.Given.{root_of}
+use Rattle.own_run.specs.Lists.{Each}
+use Rattle.own_run.specs.OwnRun.{Action, Start, Step, Spawn, EnterFinish, EndFinish, EndTask, last_action}
+use Rattle.own_run.specs.Results.{TaskResult, and_then}
+use Rattle.own_run.specs.Runs.{root}
+use Rattle.own_run.specs.Translation.{start, task_result}
+use Rattle.own_run.specs.declared.result.TaskResult.{TaskResult as Made}
+use Rattle.interleave.specs.Courses.{Course, course_of, further, IsAhead, IsDoing, IsNext}
+use Rattle.interleave.specs.Ending.{GivesBack, HasMade, IsKnown, IsSeen, IsSetDown, IsStill, IsUnseen, IsInNoHand, Keeps}
+use Rattle.interleave.specs.Ending.{NoneIsLate, ScopeBecomes, StandsAt, TaskBecomes, has_ended, is_root, is_waiting}
+use Rattle.interleave.specs.Events.{Event, Ends, Parks, only_if, did, give_back, owns, with_next, in_innermost, next_action, by_end, by_park}
+use Rattle.interleave.specs.Jobs.{IsJob, program_of, lists_of, budget_of}
+use Rattle.interleave.specs.Replay.{does, hands_on}
+use Rattle.interleave.specs.Shown.{AreBoth, IsTaskOf, IsBookOf, IsDoingThere, Becomes, Refuses, Shows, is_path, is_scope, next_world}
+use Rattle.interleave.specs.Shown.{scope_id, stake, whereabouts}
+use Rattle.interleave.specs.World.{ScopeId, Stake, Live, Scope, World, Whereabouts, Queue, Hand, Parked, task, put_task}
+use Rattle.interleave.specs.World.{without_task, scope, put_scope, same_path, hand_of, in_hand, hand_is_free}
+use Rattle.interleave.specs.Worlds.{next_of}
+use Rattle.interleave.specs.declared.doing.Doing.{Doing}
+use Rattle.interleave.specs.declared.doing.Doing.TheVariants.{Starts, Runs, Steps, Spawns, Opens, AtFinish, AtEnd, Lost}
+use Rattle.interleave.specs.declared.error.EventError.{EventError}
+use Rattle.interleave.specs.declared.error.EventError.TheVariants.{Illegal, NoMemory}
+use Rattle.interleave.specs.declared.event.ScopeId.{ScopeId as rScopeId}
+use Rattle.interleave.specs.declared.job.Job.{Job}
+use Rattle.interleave.specs.declared.scope.Scope.{Scope as rScope}
+use Rattle.interleave.specs.declared.task.Stake.{Stake as rStake}
+use Rattle.interleave.specs.declared.task.Task.{Task as rTask}
+use Rattle.interleave.specs.declared.task.Whereabouts.{Whereabouts as rWhereabouts}
+use Rattle.interleave.specs.declared.task.Whereabouts.TheVariants.{Queue as rQueue, Hand as rHand, Parked as rParked}
+use Rattle.interleave.specs.declared.world.World.{World as rWorld}
+use Rattle.interleave.proofs.Came.{ends_with}
+use Rattle.interleave.proofs.GoingOn.{ends_are_own}
+use Rattle.interleave.proofs.Hands.{hands_are_apart, free_without, free_parked}
+use Rattle.interleave.proofs.LateWeights.{none_is_late}
+use Rattle.interleave.proofs.Histories.{contains_here}
+use Rattle.interleave.proofs.Lookups.{by_test, other_path, path_refl, task_path, task-without_task, gone-without_task, Unique}
+use Rattle.interleave.proofs.Lookups.{scopes_same, scope_id as named_so}
+use Rattle.interleave.proofs.Outcomes.{IsSound, replays_are_worlds, sound}
+use Rattle.interleave.proofs.OwnTasks.{IsAtLevel, start_path}
+use Rattle.interleave.proofs.Present.{IsThere}
+use Rattle.interleave.proofs.Tables.{there, not_there, tasks_put, scopes_put, led_on}
+use Rattle.own_run.proofs.SettledResults.{paths_same}
+
+-- ---- the next action
+-- by what a task of a path is about to do
+abbrev action_of : List ℕ → Doing → Option Action
+action_of path (Starts s) = None
+action_of path (Runs r) = None
+action_of path (Steps r) = Some Step
+action_of path (Spawns r s) = Some (Spawn (start s))
+action_of path (Opens r) = Some EnterFinish
+action_of path (AtFinish q made) = Some EndFinish
+action_of path (AtEnd made) = Some (last_action path)
+action_of path Lost = None
+
+next_is : (j : Job) (c : Course) (d : Doing) → IsDoing j c d → IsKnown d
+    → (a : Action) × (action_of c.start.path d ≡ Some a) × IsNext j c a
+next_is j c (Starts s) h k = absurd k
+next_is j c (Runs r) h k = absurd k
+next_is j c (Steps r) h k = (Step, refl, h.0)
+next_is j c (Spawns r s) h k = (Spawn (start s), refl, h.0)
+next_is j c (Opens r) h k = (EnterFinish, refl, h.0)
+next_is j c (AtFinish q made) h k = (EndFinish, refl, h.0)
+next_is j c (AtEnd made) h k = (last_action c.start.path, refl, h.0)
+next_is j c Lost h k = absurd k
+
+abbrev is_end : Action → Bool
+is_end EndTask = true
+is_end _ = false
+
+abbrev is_finish : Action → Bool
+is_finish EndFinish = true
+is_finish _ = false
+
+ends_so : (a : Action) → is_end a ≡ true → a ≡ EndTask
+ends_so EndTask e = refl
+ends_so Step e = false_true e
+ends_so (Spawn c) e = false_true e
+ends_so EnterFinish e = false_true e
+ends_so EndFinish e = false_true e
+
+finishes_so : (a : Action) → is_finish a ≡ true → a ≡ EndFinish
+finishes_so EndFinish e = refl
+finishes_so Step e = false_true e
+finishes_so (Spawn c) e = false_true e
+finishes_so EnterFinish e = false_true e
+finishes_so EndTask e = false_true e
+
+last_end : (path : List ℕ) → is_end (last_action path) ≡ not (is_root path)
+last_end [] = refl
+last_end (k ∷ path) = refl
+
+last_finish : (path : List ℕ) → is_finish (last_action path) ≡ is_root path
+last_finish [] = refl
+last_finish (k ∷ path) = refl
+
+ends_as : (path : List ℕ) (d : Doing) (a : Action) → action_of path d ≡ Some a → is_end a ≡ has_ended path d
+ends_as path (Starts s) a e = absurd (none-some _ e)
+ends_as path (Runs r) a e = absurd (none-some _ e)
+ends_as path (Steps r) a e = ap is_end (sym (same_Some _ _ e))
+ends_as path (Spawns r s) a e = ap is_end (sym (same_Some _ _ e))
+ends_as path (Opens r) a e = ap is_end (sym (same_Some _ _ e))
+ends_as path (AtFinish q made) a e = ap is_end (sym (same_Some _ _ e))
+ends_as path (AtEnd made) a e = ap is_end (sym (same_Some _ _ e)) ∙ last_end path
+ends_as path Lost a e = absurd (none-some _ e)
+
+finishes_as : (path : List ℕ) (d : Doing) (a : Action) → action_of path d ≡ Some a → is_finish a ≡ is_waiting path d
+finishes_as path (Starts s) a e = absurd (none-some _ e)
+finishes_as path (Runs r) a e = absurd (none-some _ e)
+finishes_as path (Steps r) a e = ap is_finish (sym (same_Some _ _ e))
+finishes_as path (Spawns r s) a e = ap is_finish (sym (same_Some _ _ e))
+finishes_as path (Opens r) a e = ap is_finish (sym (same_Some _ _ e))
+finishes_as path (AtFinish q made) a e = ap is_finish (sym (same_Some _ _ e))
+finishes_as path (AtEnd made) a e = ap is_finish (sym (same_Some _ _ e)) ∙ last_finish path
+finishes_as path Lost a e = absurd (none-some _ e)
+
+-- a task at its end has made something
+pub has_made : (path : List ℕ) (d : Doing) → has_ended path d ≡ true → (made : Made) × (d ≡ AtEnd made)
+has_made path (AtEnd made) e = (made, refl)
+has_made path (Starts s) e = false_true e
+has_made path (Runs r) e = false_true e
+has_made path (Steps r) e = false_true e
+has_made path (Spawns r s) e = false_true e
+has_made path (Opens r) e = false_true e
+has_made path (AtFinish q made) e = false_true e
+has_made path Lost e = false_true e
+
+-- ---- a world that is shown
+module _ (r : rWorld) (ok : IsJob r.job) (w : World) (h : Shows r w) where
+  abbrev p : Program
+  p = program_of r.job
+
+  abbrev acts : Start → List (List TaskResult) → List Action
+  acts = does p (needs_of p) (budget_of r.job).steps r.job.w0
+
+  abbrev hands_on_so : Start → List (List TaskResult) → TaskResult
+  hands_on_so = hands_on p (needs_of p) (budget_of r.job).steps r.job.w0
+
+  -- no task weighs more than what is out
+  pub none_late : NoneIsLate r
+  none_late path a =
+      let t = there (IsTaskOf r.job) a.its (get is_path r.tasks path) (task path.turns.items w.live) (h.tasks path) a.at in
+      let b = there IsBookOf a.book (get is_scope r.scopes a.inner.scope) (scope (scope_id a.inner.scope) w.scopes) (h.scopes a.inner.scope)
+      a.there in
+      let among : Contains t.0.stakes (stake a.inner)
+      = subst (λ ss. Contains ss (stake a.inner)) (ap (map stake) (sym a.stakes) ∙ t.2.stakes)
+      (contains_here (stake a.inner) (map stake a.outer)) in
+      let late = none_is_late r.job.w0 acts hands_on_so ok.least
+      (root_of p (lists_of r.job) (budget_of r.job).nest) h.events w
+      (replays_are_worlds p (needs_of p) r.job.w0 (lists_of r.job) (budget_of r.job) h.events w h.led) path.turns.items t.0
+      (stake a.inner) b.0 t.1 among b.1 in
+      let issued = b.2.issued in
+      let returned = b.2.returned in
+      omega (arith, late, issued, returned)
+
+  -- a live task stands in a scope that is there
+  pub stands_at : (path : Path) (k : rTask) → get is_path r.tasks path ≡ Some k → StandsAt r path
+  stands_at path k at = by_items k.stakes.items refl
+    where
+      t : (x : Live) × (task path.turns.items w.live ≡ Some x) × IsTaskOf r.job k x
+      t = there (IsTaskOf r.job) k (get is_path r.tasks path) (task path.turns.items w.live) (h.tasks path) at
+
+      all : IsSound p (needs_of p) (budget_of r.job).steps r.job.w0 ok.least
+          (root_of p (lists_of r.job) (budget_of r.job).nest) refl h.events w
+      all = sound p (needs_of p) r.job.w0 ok.least (lists_of r.job) (budget_of r.job) h.events w h.led
+
+      level : (q : Whereabouts) (ss : List Stake) → ss ≡ [] → IsAtLevel p (needs_of p) (budget_of r.job).steps r.job.w0
+          (root_of p (lists_of r.job) (budget_of r.job).nest) refl q ss t.0 → ⊥
+      level q ss e l = subst (λ s. IsAtLevel p (needs_of p) (budget_of r.job).steps r.job.w0
+          (root_of p (lists_of r.job) (budget_of r.job).nest) refl q s t.0) e l
+
+      in_table : (id : rScopeId) (o : Option rScope) → get is_scope r.scopes id ≡ o
+          → (b : Scope) × (scope (scope_id id) w.scopes ≡ Some b) → (s : rScope) × (o ≡ Some s)
+      in_table id None e b =
+          absurd (none-some _ (sym (not_there IsBookOf (get is_scope r.scopes id) (scope (scope_id id) w.scopes) (h.scopes id) e) ∙ b.1))
+      in_table id (Some s) e b = (s, refl)
+
+      by_items : (ss : List rStake) → k.stakes.items ≡ ss → StandsAt r path
+      by_items [] e =
+          absurd (level t.0.place t.0.stakes (sym t.2.stakes ∙ ap (map stake) e) (all.own.tasks path.turns.items t.0 t.1).level)
+      by_items (s ∷ outer) e =
+          let all_there = subst (Each (IsThere w.scopes)) (sym t.2.stakes ∙ ap (map stake) e) (all.there path.turns.items t.0 t.1) in
+          let book = in_table s.scope (get is_scope r.scopes s.scope) refl all_there.0 in
+          record { its = k; at = at; inner = s; outer = outer; stakes = e; book = book.0; there = book.1 }
+
+  -- no task in a hand, no event of one
+  not_in_hand : (path : Path) (go : Live → Action → Option World) → IsUnseen r path Illegal
+      → with_next r.job.w0 acts hands_on_so path.turns.items w go ≡ None
+  not_in_hand path go none = by_table (get is_path r.tasks path) (h.tasks path) none
+    where
+      rest : Live → Option World
+      rest t = and_then (hand_of t.place) (λ v. and_then (next_action r.job.w0 acts hands_on_so t) (go t))
+
+      by_table : (o : Option rTask) → AreBoth (IsTaskOf r.job) o (task path.turns.items w.live)
+          → ((k : rTask) → o ≡ Some k → IsInNoHand k.place Illegal)
+          → with_next r.job.w0 acts hands_on_so path.turns.items w go ≡ None
+      by_table None both out =
+          ap (λ o. and_then o (λ t. and_then (hand_of t.place) (λ v. and_then (next_action r.job.w0 acts hands_on_so t) (go t))))
+          (not_there (IsTaskOf r.job) None (task path.turns.items w.live) both refl)
+      by_table (Some k) both out =
+          let t = there (IsTaskOf r.job) k (Some k) (task path.turns.items w.live) both refl in
+          ap (λ o. and_then o (λ t. and_then (hand_of t.place) (λ v. and_then (next_action r.job.w0 acts hands_on_so t) (go t)))) t.1
+          ∙ ap (λ o. and_then o (λ v. and_then (next_action r.job.w0 acts hands_on_so t.0) (go t.0)))
+          (ap hand_of (sym t.2.place) ∙ out k refl)
+
+  pub unseen_ends : (path : Path) → IsUnseen r path Illegal → next_world r.job (Ends path.turns.items) w ≡ None
+  unseen_ends path =
+      not_in_hand path (λ t a. in_innermost r.job.w0 acts hands_on_so t.stakes (λ s outer. by_end r.job.w0 acts hands_on_so t s outer w a))
+
+  pub unseen_parks : (path : Path) → IsUnseen r path Illegal → next_world r.job (Parks path.turns.items) w ≡ None
+  unseen_parks path =
+      not_in_hand path (λ t a. in_innermost r.job.w0 acts hands_on_so t.stakes (λ s outer. by_park r.job.w0 acts hands_on_so t s outer w a))
+
+  -- ---- a task in a hand, whose next action is known
+  module _ (path : Path) (worker : ℕ) (seen : IsSeen r path worker) where
+    record Found : Type 0 where
+      its : Live
+      lives : task path.turns.items w.live ≡ Some its
+      is : IsTaskOf r.job seen.its its
+      named : its.path ≡ path.turns.items
+      hand : hand_of its.place ≡ Some worker
+      doing : IsDoing r.job (course_of its) seen.its.doing
+      action : Action
+      does_so : action_of path.turns.items seen.its.doing ≡ Some action
+      next : next_action r.job.w0 acts hands_on_so its ≡ Some action
+
+    found : Found
+    found =
+        let t = there (IsTaskOf r.job) seen.its (get is_path r.tasks path) (task path.turns.items w.live) (h.tasks path) seen.at in
+        let placed : t.0.place ≡ Hand worker = sym t.2.place ∙ ap whereabouts seen.place in
+        let doing = subst (λ q. IsDoingThere r.job q (course_of t.0) seen.its.doing) placed t.2.doing in
+        let next = next_is r.job (course_of t.0) seen.its.doing doing seen.known in
+        let named = task_path path.turns.items w.live t.0 t.1 in
+        let own = (sound p (needs_of p) r.job.w0 ok.least (lists_of r.job) (budget_of r.job) h.events w h.led).own.tasks path.turns.items t.0 t.1
+        in
+        let started = start_path p (needs_of p) (budget_of r.job).steps r.job.w0
+        (root_of p (lists_of r.job) (budget_of r.job).nest) refl t.0 own in
+        record {
+          its = t.0;
+          lives = t.1;
+          is = t.2;
+          named = named;
+          hand = ap hand_of placed;
+          doing = doing;
+          action = next.0;
+          does_so = ap (λ q. action_of q seen.its.doing) (sym (started ∙ named)) ∙ next.1;
+          next = next.2;
+        }
+
+    goes : (go : Live → Action → Option World)
+        → with_next r.job.w0 acts hands_on_so path.turns.items w go ≡ go found.its found.action
+    goes go =
+        ap (λ o. and_then o (λ t. and_then (hand_of t.place) (λ v. and_then (next_action r.job.w0 acts hands_on_so t) (go t)))) found.lives
+        ∙ ap (λ o. and_then o (λ v. and_then (next_action r.job.w0 acts hands_on_so found.its) (go found.its))) found.hand
+        ∙ ap (λ o. and_then o (go found.its)) found.next
+
+    none_inside : (ss : List Stake) (go : Stake → List Stake → Option World) → ((s : Stake) (outer : List Stake) → go s outer ≡ None)
+        → in_innermost r.job.w0 acts hands_on_so ss go ≡ None
+    none_inside [] go none = refl
+    none_inside (s ∷ outer) go none = none s outer
+
+    pub not_ended : has_ended path.turns.items seen.its.doing ≡ false → next_world r.job (Ends path.turns.items) w ≡ None
+    not_ended e =
+        goes (λ t a. in_innermost r.job.w0 acts hands_on_so t.stakes (λ s outer. by_end r.job.w0 acts hands_on_so t s outer w a))
+        ∙ none_inside found.its.stakes _
+        (λ s outer. by_action found.action s outer (ends_as path.turns.items seen.its.doing found.action found.does_so ∙ e))
+      where
+        by_action : (a : Action) (s : Stake) (outer : List Stake) → is_end a ≡ false
+            → by_end r.job.w0 acts hands_on_so found.its s outer w a ≡ None
+        by_action Step s outer e = refl
+        by_action (Spawn c) s outer e = refl
+        by_action EnterFinish s outer e = refl
+        by_action EndFinish s outer e = refl
+        by_action EndTask s outer e = false_true (sym e)
+
+    pub not_waiting : is_waiting path.turns.items seen.its.doing ≡ false → next_world r.job (Parks path.turns.items) w ≡ None
+    not_waiting e =
+        goes (λ t a. in_innermost r.job.w0 acts hands_on_so t.stakes (λ s outer. by_park r.job.w0 acts hands_on_so t s outer w a))
+        ∙ none_inside found.its.stakes _
+        (λ s outer. by_action found.action s outer (finishes_as path.turns.items seen.its.doing found.action found.does_so ∙ e))
+      where
+        by_action : (a : Action) (s : Stake) (outer : List Stake) → is_finish a ≡ false
+            → by_park r.job.w0 acts hands_on_so found.its s outer w a ≡ None
+        by_action Step s outer e = refl
+        by_action (Spawn c) s outer e = refl
+        by_action EnterFinish s outer e = refl
+        by_action EndFinish s outer e = false_true (sym e)
+        by_action EndTask s outer e = refl
+
+    module _ (inner : rStake) (outer : List rStake) (stakes : seen.its.stakes.items ≡ inner ∷ outer) (book : rScope)
+        (kept : get is_scope r.scopes inner.scope ≡ Some book) (to_book : rScope) (new : rWorld)
+        (hand : (v : ℕ) → contains nat_eq new.hands v ≡ (if nat_eq worker v then false else contains nat_eq r.hands v))
+        (each_scope : (q : rScopeId) → get is_scope new.scopes q ≡ (if is_scope inner.scope q then Some to_book else get is_scope r.scopes q)) where
+      are : found.its.stakes ≡ stake inner ∷ map stake outer
+      are = sym found.is.stakes ∙ ap (map stake) stakes
+
+      its_book : (b : Scope) × (scope (scope_id inner.scope) w.scopes ≡ Some b) × IsBookOf book b
+      its_book = there IsBookOf book (get is_scope r.scopes inner.scope) (scope (scope_id inner.scope) w.scopes) (h.scopes inner.scope) kept
+
+      freed_hand : (x f : Bool) → (if x then false else not f) ≡ not (x || f)
+      freed_hand true f = refl
+      freed_hand false f = refl
+
+      hands_so : (live : List Live) → ((v : ℕ) → hand_is_free v live ≡ (nat_eq worker v || hand_is_free v w.live))
+          → (v : ℕ) → contains nat_eq new.hands v ≡ not (hand_is_free v live)
+      hands_so live free v =
+          hand v ∙ ap (λ b. if nat_eq worker v then false else b) (h.hands v) ∙ freed_hand (nat_eq worker v) (hand_is_free v w.live)
+          ∙ ap not (sym (free v))
+
+      own_so : (next_of p r.job.w0 (budget_of r.job) found.its ≡ Some EndFinish
+          → owns found.its (scope_id inner.scope) ≡ true)
+          × (next_of p r.job.w0 (budget_of r.job) found.its ≡ Some EndTask
+          → owns found.its (scope_id inner.scope) ≡ false)
+      own_so =
+          ends_are_own p (needs_of p) r.job.w0 ok.least (lists_of r.job) (budget_of r.job) h.events w h.led path.turns.items found.its worker
+          (stake inner) (map stake outer) found.lives found.hand are
+
+      -- ---- a task ends
+      module _ (made : Made) (at_end : seen.its.doing ≡ AtEnd made) (ended : has_ended path.turns.items seen.its.doing ≡ true)
+          (gives : GivesBack inner.weight (task_result made ∷ []) book to_book)
+          (each : (q : Path) → get is_path new.tasks q ≡ (if is_path path q then None else get is_path r.tasks q)) where
+        abbrev handed : TaskResult
+        handed = hands_on_so found.its.start found.its.receipts
+
+        abbrev without : World
+        without = record {
+          live = without_task found.its.path w.live;
+          scopes = put_scope (give_back inner.weight (handed ∷ []) its_book.0) w.scopes;
+        }
+
+        made_so : task_result made ≡ handed
+        made_so =
+            let d = subst (IsDoing r.job (course_of found.its)) at_end found.doing in
+            d.1.is ∙ sym (ends_with p (needs_of p) (budget_of r.job).steps
+            (root p (lists_of r.job) (budget_of r.job)) found.its.start found.its.receipts d.1.state
+            d.1.come.follows)
+
+        end_next : found.action ≡ EndTask
+        end_next = ends_so found.action (ends_as path.turns.items seen.its.doing found.action found.does_so ∙ ended)
+
+        end_legal : next_world r.job (Ends path.turns.items) w ≡ Some without
+        end_legal =
+            goes (λ t a. in_innermost r.job.w0 acts hands_on_so t.stakes (λ s outer. by_end r.job.w0 acts hands_on_so t s outer w a))
+            ∙ ap (λ a. in_innermost r.job.w0 acts hands_on_so found.its.stakes
+            (λ s outer. by_end r.job.w0 acts hands_on_so found.its s outer w a)) end_next
+            ∙ ap (λ ss. in_innermost r.job.w0 acts hands_on_so ss
+            (λ s outer. by_end r.job.w0 acts hands_on_so found.its s outer w EndTask)) are
+            ∙ ap (λ o. and_then o (λ (b : Scope). only_if (not (owns found.its (scope_id inner.scope))) (Some (with_book b)))) its_book.1
+            ∙ ap (λ x. only_if (not x) (Some without)) (own_so.1 (found.next ∙ ap Some end_next))
+          where
+            with_book : Scope → World
+            with_book b = record {
+              live = without_task found.its.path w.live;
+              scopes = put_scope (give_back inner.weight (handed ∷ []) b) w.scopes;
+            }
+
+        unique : Unique w.live
+        unique = (sound p (needs_of p) r.job.w0 ok.least (lists_of r.job) (budget_of r.job) h.events w h.led).kept.unique
+
+        tasks_so : (q : Path) → AreBoth (IsTaskOf r.job) (get is_path new.tasks q) (task q.turns.items (without_task found.its.path w.live))
+        tasks_so q =
+            subst (λ o. AreBoth (IsTaskOf r.job) o (task q.turns.items (without_task found.its.path w.live))) (sym (each q))
+            (by_test (λ b. AreBoth (IsTaskOf r.job) (if b then None else get is_path r.tasks q)
+            (task q.turns.items (without_task found.its.path w.live))) (is_path path q)
+            (λ e. subst (λ o. AreBoth (IsTaskOf r.job) None o)
+            (sym (ap (λ x. task x (without_task found.its.path w.live)) (sym (found.named ∙ paths_same path.turns.items q.turns.items e))
+            ∙ gone-without_task found.its.path w.live unique)) tt)
+            (λ e. subst (λ o. AreBoth (IsTaskOf r.job) (get is_path r.tasks q) o)
+            (sym (task-without_task found.its.path q.turns.items w.live (λ same. other_path e (sym found.named ∙ same)))) (h.tasks q)))
+
+        pub ended_shown : (to : World) × (next_world r.job (Ends path.turns.items) w ≡ Some to)
+            × Shows (record r { tasks = new.tasks; scopes = new.scopes; hands = new.hands }) to
+        ended_shown = (
+          without,
+          end_legal,
+          record {
+            events = h.events ++ Ends path.turns.items ∷ [];
+            led = led_on p r.job.w0 (lists_of r.job) (budget_of r.job) (Ends path.turns.items) h.events w without h.led end_legal;
+            tasks = tasks_so;
+            scopes = scopes_put (get is_scope r.scopes) (get is_scope new.scopes) inner.scope to_book its_book.0
+                (give_back inner.weight (handed ∷ []) its_book.0) w.scopes h.scopes its_book.1
+                (named_so (scope_id inner.scope) w.scopes its_book.0 its_book.1)
+                (subst (λ x. IsBookOf to_book (give_back inner.weight (x ∷ []) its_book.0)) made_so (gives its_book.0 its_book.2)) each_scope;
+            hands = hands_so (without_task found.its.path w.live)
+                (λ v. free_without found.its w.live (hands_are_apart p r.job.w0 (lists_of r.job) (budget_of r.job) h.events w h.led) worker v
+                found.hand found.its.path (ap (λ x. task x w.live) found.named ∙ found.lives));
+          },
+        )
+
+      -- ---- a task is parked
+      module _ (waits : is_waiting path.turns.items seen.its.doing ≡ true) (gives : GivesBack inner.weight [] book to_book)
+          (to_task : rTask) (down : IsSetDown seen.its to_task)
+          (each : (q : Path) → get is_path new.tasks q ≡ (if is_path path q then Some to_task else get is_path r.tasks q)) where
+        abbrev parked : Live
+        parked = record (did found.its (record (stake inner) { weight = 0 } ∷ map stake outer)) { place = Parked }
+
+        abbrev with_parked : World
+        with_parked = record {
+          live = put_task parked w.live;
+          scopes = put_scope (give_back inner.weight [] its_book.0) w.scopes;
+        }
+
+        park_next : found.action ≡ EndFinish
+        park_next = finishes_so found.action (finishes_as path.turns.items seen.its.doing found.action found.does_so ∙ waits)
+
+        park_legal : next_world r.job (Parks path.turns.items) w ≡ Some with_parked
+        park_legal =
+            goes (λ t a. in_innermost r.job.w0 acts hands_on_so t.stakes (λ s outer. by_park r.job.w0 acts hands_on_so t s outer w a))
+            ∙ ap (λ a. in_innermost r.job.w0 acts hands_on_so found.its.stakes
+            (λ s outer. by_park r.job.w0 acts hands_on_so found.its s outer w a)) park_next
+            ∙ ap (λ ss. in_innermost r.job.w0 acts hands_on_so ss
+            (λ s outer. by_park r.job.w0 acts hands_on_so found.its s outer w EndFinish)) are
+            ∙ ap (λ o. and_then o (λ (b : Scope). only_if (owns found.its (scope_id inner.scope)) (Some (with_book b)))) its_book.1
+            ∙ ap (λ x. only_if x (Some with_parked)) (own_so.0 (found.next ∙ ap Some park_next))
+          where
+            with_book : Scope → World
+            with_book b = record {
+              live = put_task parked w.live;
+              scopes = put_scope (give_back inner.weight [] b) w.scopes;
+            }
+
+        pub parked_shown : (to : World) × (next_world r.job (Parks path.turns.items) w ≡ Some to)
+            × Shows (record r { tasks = new.tasks; scopes = new.scopes; hands = new.hands }) to
+        parked_shown = (
+          with_parked,
+          park_legal,
+          record {
+            events = h.events ++ Parks path.turns.items ∷ [];
+            led = led_on p r.job.w0 (lists_of r.job) (budget_of r.job) (Parks path.turns.items) h.events w with_parked h.led park_legal;
+            tasks = tasks_put r.job (get is_path r.tasks) (get is_path new.tasks) path to_task found.its parked w.live h.tasks found.lives
+                found.named
+                (record {
+                  place = ap whereabouts down.place;
+                  stakes = down.stakes inner outer stakes;
+                  opened = down.opened ∙ found.is.opened;
+                  doing = record {
+                    before = course_of found.its;
+                    last = refl;
+                    at = subst (IsDoing r.job (course_of found.its)) (sym down.doing) found.doing;
+                  };
+                })
+                each;
+            scopes = scopes_put (get is_scope r.scopes) (get is_scope new.scopes) inner.scope to_book its_book.0
+                (give_back inner.weight [] its_book.0) w.scopes h.scopes its_book.1
+                (named_so (scope_id inner.scope) w.scopes its_book.0 its_book.1) (gives its_book.0 its_book.2) each_scope;
+            hands = hands_so (put_task parked w.live)
+                (λ v. free_parked found.its w.live (hands_are_apart p r.job.w0 (lists_of r.job) (budget_of r.job) h.events w h.led) worker v
+                found.hand parked refl (ap (λ x. task x w.live) found.named ∙ found.lives));
+          },
+        )
+
+-- ---- what keeps what is shown
+both_still : {A B : Type 0} (Are : A → B → Type 0) (b : Bool) (to was : A) (o : Option A) (q : Option B)
+    → ((x : B) → Are was x → Are to x) → (b ≡ true → AreBoth Are (Some was) q) → AreBoth Are o q
+    → AreBoth Are (if b then Some to else o) q
+both_still Are true to was o (Some x) still here other = still x (here refl)
+both_still Are true to was o None still here other = here refl
+both_still Are false to was o q still here other = other
+
+module _ (r : rWorld) (w : World) (h : Shows r w) where
+  pub task_keeps : (path : Path) (k to : rTask) (new : rWorld) → get is_path r.tasks path ≡ Some k
+      → ((t : Live) → IsTaskOf r.job k t → IsTaskOf r.job to t)
+      → ((q : Path) → get is_path new.tasks q ≡ (if is_path path q then Some to else get is_path r.tasks q))
+      → Shows (record r { tasks = new.tasks }) w
+  task_keeps path k to new at still each = record {
+    events = h.events;
+    led = h.led;
+    tasks = λ q. subst (λ o. AreBoth (IsTaskOf r.job) o (task q.turns.items w.live)) (sym (each q))
+        (both_still (IsTaskOf r.job) (is_path path q) to k (get is_path r.tasks q) (task q.turns.items w.live) still
+        (λ e. subst (λ x. AreBoth (IsTaskOf r.job) (Some k) (task x w.live)) (paths_same path.turns.items q.turns.items e)
+        (subst (λ o. AreBoth (IsTaskOf r.job) o (task path.turns.items w.live)) at (h.tasks path))) (h.tasks q));
+    scopes = h.scopes;
+    hands = h.hands;
+  }
+
+  pub scope_keeps : (id : rScopeId) (s to : rScope) (new : rWorld) → get is_scope r.scopes id ≡ Some s → IsStill s to
+      → ((q : rScopeId) → get is_scope new.scopes q ≡ (if is_scope id q then Some to else get is_scope r.scopes q))
+      → Shows (record r { scopes = new.scopes }) w
+  scope_keeps id s to new at still each = record {
+    events = h.events;
+    led = h.led;
+    tasks = h.tasks;
+    scopes = λ q. subst (λ o. AreBoth IsBookOf o (scope (scope_id q) w.scopes)) (sym (each q))
+        (both_still IsBookOf (is_scope id q) to s (get is_scope r.scopes q) (scope (scope_id q) w.scopes) still
+        (λ e. subst (λ x. AreBoth IsBookOf (Some s) (scope x w.scopes)) (scopes_same (scope_id id) (scope_id q) e)
+        (subst (λ o. AreBoth IsBookOf o (scope (scope_id id) w.scopes)) at (h.scopes id))) (h.scopes q));
+    hands = h.hands;
+  }
+
+-- a task of which nothing more is known
+lost_there : (j : Job) (q : Whereabouts) (c : Course) (d : Doing) → IsDoingThere j q c d → IsDoingThere j q c Lost
+lost_there j (Queue v) c d h = tt
+lost_there j (Hand v) c d h = tt
+lost_there j Parked c d h = record { before = h.before; last = h.last; at = tt }
+
+pub lost_still : (j : Job) (k : rTask) (t : Live) → IsTaskOf j k t → IsTaskOf j (record k { doing = Lost }) t
+lost_still j k t h = record {
+  place = h.place;
+  stakes = h.stakes;
+  opened = h.opened;
+  doing = lost_there j t.place (course_of t) k.doing h.doing;
+}
+
+-- ---- for the functions of tasks
+hand_doing : (j : Job) (q : Whereabouts) (v : ℕ) (c : Course) (d : Doing) → hand_of q ≡ Some v → IsDoingThere j q c d → IsDoing j c d
+hand_doing j (Queue u) v c d e h = h
+hand_doing j (Hand u) v c d e h = h
+hand_doing j Parked v c d e h = absurd (none-some _ e)
+
+doing_hand : (j : Job) (q : Whereabouts) (v : ℕ) (c : Course) (d : Doing) → hand_of q ≡ Some v → IsDoing j c d → IsDoingThere j q c d
+doing_hand j (Queue u) v c d e h = h
+doing_hand j (Hand u) v c d e h = h
+doing_hand j Parked v c d e h = absurd (none-some _ e)
+
+pub hand_place : (q : rWhereabouts) (v : ℕ) → hand_of (whereabouts q) ≡ Some v → q ≡ rHand v
+hand_place (rQueue u) v e = absurd (none-some _ e)
+hand_place (rHand u) v e = ap rHand (same_Some _ _ e)
+hand_place rParked v e = absurd (none-some _ e)
+
+module _ (j : Job) (k : rTask) (v : ℕ) (hand : hand_of (whereabouts k.place) ≡ Some v) where
+  pub in_hand_does : (t : Live) → IsTaskOf j k t → IsDoing j (course_of t) k.doing
+  in_hand_does t h = hand_doing j t.place v (course_of t) k.doing (ap hand_of (sym h.place) ∙ hand) h.doing
+
+  -- it does something else that stands for the same
+  pub in_hand_still : (d : Doing) → ((c : Course) → IsDoing j c k.doing → IsDoing j c d) → (t : Live) → IsTaskOf j k t
+      → IsTaskOf j (record k { doing = d }) t
+  in_hand_still d same t h = record {
+    place = h.place;
+    stakes = h.stakes;
+    opened = h.opened;
+    doing = doing_hand j t.place v (course_of t) d (ap hand_of (sym h.place) ∙ hand) (same (course_of t) (in_hand_does t h));
+  }
+
+pub known_is : (d : Doing) → IsAhead d → (d ≡ Lost → ⊥) → IsKnown d
+known_is (Starts s) h n = h
+known_is (Runs r) h n = h
+known_is (Steps r) h n = tt
+known_is (Spawns r s) h n = tt
+known_is (Opens r) h n = tt
+known_is (AtFinish q made) h n = tt
+known_is (AtEnd made) h n = tt
+known_is Lost h n = n refl
+
+-- ---- for the functions of worlds
+-- what was found is where the task stands
+pub found_here : (r : rWorld) (path : Path) (a : StandsAt r path) (k : rTask) (s : rStake) (b : rScope)
+    → get is_path r.tasks path ≡ Some k → s ≡ slice_index_or k.stakes.items 0 s → get is_scope r.scopes s.scope ≡ Some b
+    → (s ≡ a.inner) × (b ≡ a.book)
+found_here r path a k s b at front there =
+    let task = same_Some _ _ (sym at ∙ a.at) in
+    let stake_is = front ∙ ap (λ xs. slice_index_or xs 0 s) (ap (λ (k : rTask). k.stakes.items) task ∙ a.stakes) in (
+      stake_is,
+      same_Some _ _ (sym there ∙ ap (λ (x : rStake). get is_scope r.scopes x.scope) stake_is ∙ a.there),
+    )
+
+hidden : {A : Type 0} (b : Bool) (x y z : Option A) → (if b then x else (if b then y else z)) ≡ (if b then x else z)
+hidden true x y z = refl
+hidden false x y z = refl
+
+-- at an exit by `?`
+pub at_exit : {X : Type 0} (P : EventError → Type 0) (r : Result X EventError) (e : EventError) → IsErrAnd r (λ y. y ≡ e) → P e
+    → IfErr r P
+at_exit P (Ok x) e passed h = tt
+at_exit P (Err y) e passed h = subst P (sym passed) h
+
+-- a hand was asked for
+module _ (old : rWorld) (ok : IsJob old.job) (path : Path) (r1 : rWorld) (others1 : r1 ≡ record old { tasks = r1.tasks })
+    (keeps1 : Keeps old r1) where
+  -- no task is in one
+  unseen_there : IsUnseen old path Illegal → (w : World) → Shows old w
+      → (next_world old.job (Ends path.turns.items) w ≡ None) × (next_world old.job (Parks path.turns.items) w ≡ None)
+  unseen_there none w h = (unseen_ends old ok w h path none, unseen_parks old ok w h path none)
+
+  pub end_unseen : (e : EventError) → IsUnseen old path e → Refuses (Ends path.turns.items) old r1 e
+  end_unseen Illegal none = λ w h. (keeps1 w h, (unseen_there none w h).0)
+  end_unseen NoMemory none = keeps1
+
+  pub park_unseen : (e : EventError) → IsUnseen old path e → Refuses (Parks path.turns.items) old r1 e
+  park_unseen Illegal none = λ w h. (keeps1 w h, (unseen_there none w h).1)
+  park_unseen NoMemory none = keeps1
+
+  module _ (worker : ℕ) (seen1 : IsSeen r1 path worker) where
+    abbrev looked : rWorld
+    looked = record old { tasks = r1.tasks }
+
+    abbrev seen : IsSeen looked path worker
+    seen = record { its = seen1.its; at = seen1.at; place = seen1.place; known = seen1.known }
+
+    shown : (w : World) → Shows old w → Shows looked w
+    shown w h = subst (λ r. Shows r w) others1 (keeps1 w h)
+
+    pub end_refused : has_ended path.turns.items seen1.its.doing ≡ false → (w : World) → Shows old w
+        → Shows r1 w × (next_world old.job (Ends path.turns.items) w ≡ None)
+    end_refused e w h = (keeps1 w h, not_ended looked ok w (shown w h) path worker seen e)
+
+    pub park_refused : is_waiting path.turns.items seen1.its.doing ≡ false → (w : World) → Shows old w
+        → Shows r1 w × (next_world old.job (Parks path.turns.items) w ≡ None)
+    park_refused e w h = (keeps1 w h, not_waiting looked ok w (shown w h) path worker seen e)
+
+    -- ---- a task is parked
+    module _ (w0 : World) (h0 : Shows old w0) where
+      pub park_stands : StandsAt r1 path
+      park_stands =
+          subst (λ r. StandsAt r path) (sym others1) (stands_at looked ok w0 (shown w0 h0) path seen1.its seen1.at)
+
+      pub park_late : NoneIsLate r1
+      park_late = subst NoneIsLate (sym others1) (none_late looked ok w0 (shown w0 h0))
+
+    module _ (waits : is_waiting path.turns.items seen1.its.doing ≡ true) (a : StandsAt r1 path) (r2 : rWorld)
+        (others2 : r2 ≡ record r1 { scopes = r2.scopes })
+        (given : ScopeBecomes r1 r2 a.inner.scope (GivesBack a.inner.weight [] a.book)) (r3 : rWorld)
+        (others3 : r3 ≡ record r2 { tasks = r3.tasks })
+        (down : (k : rTask) → get is_path r2.tasks path ≡ Some k → TaskBecomes r2 r3 path (IsSetDown k)) (last : rWorld)
+        (hand : (v : ℕ) → contains nat_eq last.hands v ≡ (if nat_eq worker v then false else contains nat_eq r3.hands v)) where
+      same_tasks : r2.tasks ≡ r1.tasks
+      same_tasks = ap (λ (r : rWorld). r.tasks) others2
+
+      same_hands : r3.hands ≡ old.hands
+      same_hands =
+          ap (λ (r : rWorld). r.hands) others3 ∙ ap (λ (r : rWorld). r.hands) others2 ∙ ap (λ (r : rWorld). r.hands) others1
+
+      downed : TaskBecomes r2 r3 path (IsSetDown seen1.its)
+      downed = down seen1.its (ap (λ ts. get is_path ts path) same_tasks ∙ seen1.at)
+
+      its_is : a.its ≡ seen1.its
+      its_is = same_Some _ _ (sym a.at ∙ seen1.at)
+
+      same_scopes : r1.scopes ≡ old.scopes
+      same_scopes = ap (λ (r : rWorld). r.scopes) others1
+
+      together : record old { tasks = r3.tasks; scopes = r2.scopes; hands = last.hands } ≡ record r3 { hands = last.hands }
+      together =
+          sym (ap (λ (r : rWorld). record r { hands = last.hands }) others3
+          ∙ ap (λ (r : rWorld). record r { tasks = r3.tasks; hands = last.hands }) others2
+          ∙ ap (λ (r : rWorld). record r { tasks = r3.tasks; scopes = r2.scopes; hands = last.hands }) others1)
+
+      pub park_done : Becomes (Parks path.turns.items) old (record r3 { hands = last.hands })
+      park_done w h =
+          let s = parked_shown looked ok w (shown w h) path worker seen a.inner a.outer
+          (ap (λ (k : rTask). k.stakes.items) (sym its_is) ∙ a.stakes) a.book
+          (ap (λ ss. get is_scope ss a.inner.scope) (sym same_scopes) ∙ a.there) given.to (record old { tasks = r3.tasks; scopes = r2.scopes; hands = last.hands })
+          (λ v. hand v ∙ ap (λ hs. if nat_eq worker v then false else contains nat_eq hs v) same_hands)
+          (λ q. given.each q ∙ ap (λ ss. if is_scope a.inner.scope q then Some given.to else get is_scope ss q) same_scopes) waits
+          given.fits downed.to downed.fits
+          (λ q. downed.each q ∙ ap (λ ts. if is_path path q then Some downed.to else get is_path ts q) same_tasks) in
+          (s.0, s.1, subst (λ r. Shows r s.0) together s.2)
+
+    -- ---- a task ends
+    module _ (r2 : rWorld) (others2 : r2 ≡ record r1 { tasks = r2.tasks })
+        (lost : TaskBecomes r1 r2 path (λ to. to ≡ record seen1.its { doing = Lost })) where
+      abbrev forgotten : rWorld
+      forgotten = record old { tasks = r2.tasks }
+
+      both_others : r2 ≡ forgotten
+      both_others = others2 ∙ ap (λ (r : rWorld). record r { tasks = r2.tasks }) others1
+
+      pub forgets : (w : World) → Shows old w → Shows forgotten w
+      forgets w h =
+          task_keeps looked w (shown w h) path seen1.its lost.to r2 seen1.at
+          (λ t k. subst (λ x. IsTaskOf old.job x t) (sym lost.fits) (lost_still old.job seen1.its t k)) lost.each
+
+      lost_at : get is_path r2.tasks path ≡ Some lost.to
+      lost_at =
+          lost.each path ∙ ap (λ b. if b then Some lost.to else get is_path r1.tasks path) (path_refl path.turns.items)
+
+      module _ (w0 : World) (h0 : Shows old w0) where
+        pub end_stands : StandsAt r2 path
+        end_stands =
+            subst (λ r. StandsAt r path) (sym both_others) (stands_at forgotten ok w0 (forgets w0 h0) path lost.to lost_at)
+
+        pub end_late : NoneIsLate r2
+        end_late = subst NoneIsLate (sym both_others) (none_late forgotten ok w0 (forgets w0 h0))
+
+      module _ (a : StandsAt r2 path) (r3 : rWorld) (others3 : r3 ≡ record r2 { scopes = r3.scopes }) where
+        kept_scopes : r2.scopes ≡ old.scopes
+        kept_scopes = ap (λ (r : rWorld). r.scopes) both_others
+
+        end_there : get is_scope old.scopes a.inner.scope ≡ Some a.book
+        end_there = ap (λ ss. get is_scope ss a.inner.scope) (sym kept_scopes) ∙ a.there
+
+        pub end_lost : ScopeBecomes r2 r3 a.inner.scope (IsStill a.book) → Keeps old r3
+        end_lost still w h =
+            subst (λ r. Shows r w)
+            (sym (others3 ∙ ap (λ (r : rWorld). record r { scopes = r3.scopes }) both_others))
+            (scope_keeps forgotten w (forgets w h) a.inner.scope a.book still.to r3 end_there still.fits
+            (λ q. still.each q ∙ ap (λ ss. if is_scope a.inner.scope q then Some still.to else get is_scope ss q) kept_scopes))
+
+        module _ (made : Made) (at_end : seen1.its.doing ≡ AtEnd made) (ended : has_ended path.turns.items seen1.its.doing ≡ true)
+            (given : ScopeBecomes r2 r3 a.inner.scope (GivesBack a.inner.weight (task_result made ∷ []) a.book)) (last : rWorld)
+            (without : (q : Path) → get is_path last.tasks q ≡ (if is_path path q then None else get is_path r3.tasks q))
+            (hand : (v : ℕ) → contains nat_eq last.hands v ≡ (if nat_eq worker v then false else contains nat_eq r3.hands v)) where
+          lost_is : a.its ≡ lost.to
+          lost_is = same_Some _ _ (sym a.at ∙ lost_at)
+
+          stakes : seen1.its.stakes.items ≡ a.inner ∷ a.outer
+          stakes = sym (ap (λ (k : rTask). k.stakes.items) (lost_is ∙ lost.fits)) ∙ a.stakes
+
+          all_others : r3 ≡ record old { tasks = r2.tasks; scopes = r3.scopes }
+          all_others = others3 ∙ ap (λ (r : rWorld). record r { scopes = r3.scopes }) both_others
+
+          each : (q : Path) → get is_path last.tasks q ≡ (if is_path path q then None else get is_path r1.tasks q)
+          each q =
+              without q
+              ∙ ap (λ (r : rWorld). if is_path path q then None else get is_path r.tasks q) all_others
+              ∙ ap (λ o. if is_path path q then None else o) (lost.each q)
+              ∙ hidden (is_path path q) None (Some lost.to) (get is_path r1.tasks q)
+
+          pub end_done : Becomes (Ends path.turns.items) old (record r3 { tasks = last.tasks; hands = last.hands })
+          end_done w h =
+              let s = ended_shown looked ok w (shown w h) path worker seen a.inner a.outer stakes a.book end_there given.to
+              (record old { tasks = last.tasks; scopes = r3.scopes; hands = last.hands })
+              (λ v. hand v ∙ ap (λ (r : rWorld). if nat_eq worker v then false else contains nat_eq r.hands v) all_others)
+              (λ q. given.each q ∙ ap (λ ss. if is_scope a.inner.scope q then Some given.to else get is_scope ss q) kept_scopes) made at_end
+              ended given.fits each in (
+                s.0,
+                s.1,
+                subst (λ r. Shows r s.0) (sym (ap (λ (r : rWorld). record r { tasks = last.tasks; hands = last.hands }) all_others)) s.2,
+              )

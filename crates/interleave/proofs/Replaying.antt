@@ -1,0 +1,39 @@
+-- Lists of events, one after the other.
+use Rattle.std.proofs.Common.{◌≡◌, ℕ, ◌+◌, List, [], ◌∷◌, Option, Some, None, refl, sym, ap, ◌∙◌, subst, map, arith}
+use Rattle.effects.specs.Rounds.{needs_of}
+use Rattle.interleave.specs.Events.{Event}
+use Rattle.interleave.specs.Jobs.{IsJob, program_of, lists_of, budget_of}
+use Rattle.interleave.specs.Replay.{Replayed, Legal, IllegalAt, go_or, replay_from}
+use Rattle.interleave.specs.Replaying.{event}
+use Rattle.interleave.specs.Shown.{Becomes, Refuses, Shows, next_world}
+use Rattle.interleave.specs.World.{World}
+use Rattle.interleave.specs.declared.error.EventError.{EventError}
+use Rattle.interleave.specs.declared.error.EventError.TheVariants.{Illegal}
+use Rattle.interleave.specs.declared.event.Event.{Event as rEvent}
+use Rattle.interleave.specs.declared.job.Job.{Job}
+use Rattle.interleave.specs.declared.world.World.{World as rWorld}
+
+-- what is left of a list comes to this
+abbrev pub left_comes : Job → ℕ → List rEvent → World → Replayed
+left_comes j n es w =
+    replay_from (program_of j) (needs_of (program_of j)) (budget_of j).steps j.w0 n (map event es) w
+
+module _ (j : Job) (old : rWorld) (same : old.job ≡ j) (w : World) (h : Shows old w) (n : ℕ) (e : rEvent) (es : List rEvent)
+    (new : rWorld) where
+  -- an event that is legal leads on
+  pub goes_on : (b : Becomes (event e) old new)
+      → (to : World) × (left_comes j n (e ∷ es) w ≡ left_comes j (n + 1) es to) × Shows new to
+  goes_on b =
+      let s = b w h in (
+        s.0,
+        ap (go_or n (replay_from (program_of j) (needs_of (program_of j)) (budget_of j).steps j.w0 (n + 1) (map event es)))
+            (ap (λ i. next_world i (event e) w) (sym same) ∙ s.1),
+        s.2,
+      )
+
+  -- one that isn't is the first of those that are left
+  pub stops_at : (x : EventError) → x ≡ Illegal → Refuses (event e) old new x → left_comes j n (e ∷ es) w ≡ IllegalAt n
+  stops_at x is r =
+      let s = subst (Refuses (event e) old new) is r w h in
+      ap (go_or n (replay_from (program_of j) (needs_of (program_of j)) (budget_of j).steps j.w0 (n + 1) (map event es)))
+      (ap (λ i. next_world i (event e) w) (sym same) ∙ s.1)

@@ -1,0 +1,20 @@
+use Rattle.std.proofs.Common.{◌≡◌, drop, map}
+use Rattle.effects.specs.Rounds.{needs_of}
+use Rattle.interleave.specs.Jobs.{IsJob, program_of, budget_of}
+use Rattle.interleave.specs.Replay.{replay_from}
+use Rattle.interleave.specs.Replaying.{comes, event}
+use Rattle.interleave.specs.Shown.{Shows}
+use Rattle.interleave.specs.World.{World}
+use Rattle.interleave.proofs.replay.replay.Given as goal
+
+-- a world is shown from which what is left comes to the same
+abbrev pub invariant-events : goal.invariant-events
+invariant-events l = record {
+  ok : IsJob l.job;
+  job : l.world.job ≡ l.job;
+  at : World;
+  shows : Shows l.world at;
+  same : comes l.job l.events
+      ≡ replay_from (program_of l.job) (needs_of (program_of l.job)) (budget_of l.job).steps l.job.w0 l.number
+      (map event (drop l.number l.events)) at;
+}

@@ -1,0 +1,138 @@
+-- What the events of a task in a hand make of it, in Rust.
+use Rattle.std.specs.Prelude.{ℕ, ◌+◌, ◌*◌, ◌-◌, ◌/◌, ◌≡◌, ◌≤◌, ◌<◌, List, [], ◌∷◌, map, Some}
+use Rattle.std.specs.Prelude.{if◌then◌else◌}
+use Rattle.std.specs.HashMap.{get}
+use Rattle.types.specs.declared.path.Path.{Path}
+use Rattle.own_run.specs.declared.run.Run.{Run}
+use Rattle.own_run.specs.declared.start.Start.{Start}
+use Rattle.interleave.specs.Events.{issue}
+use Rattle.interleave.specs.World.{Stake, hand_of, Scope as Book}
+use Rattle.interleave.specs.Shown.{IsBookOf, is_path, is_scope, scope_id, stake, whereabouts}
+use Rattle.interleave.specs.declared.doing.Doing.{Doing}
+use Rattle.interleave.specs.declared.doing.Doing.TheVariants.{Starts, Runs, Steps, Spawns, Opens}
+use Rattle.interleave.specs.declared.doing.Doing.TheVariants.{AtFinish, AtEnd, Lost}
+use Rattle.interleave.specs.declared.event.ScopeId.{ScopeId}
+use Rattle.interleave.specs.declared.scope.Scope.{Scope}
+use Rattle.interleave.specs.declared.task.Stake.{Stake as rStake}
+use Rattle.interleave.specs.declared.task.Task.{Task}
+use Rattle.interleave.specs.declared.task.Whereabouts.TheVariants.{Queue}
+use Rattle.interleave.specs.declared.world.World.{World}
+
+-- the next action is known
+abbrev pub IsKnown : Doing → Type 0
+IsKnown (Starts s) = ⊥
+IsKnown (Runs r) = ⊥
+IsKnown (Steps r) = Unit {0}
+IsKnown (Spawns r s) = Unit {0}
+IsKnown (Opens r) = Unit {0}
+IsKnown (AtFinish q made) = Unit {0}
+IsKnown (AtEnd made) = Unit {0}
+IsKnown Lost = ⊥
+
+-- a task of this path is in this worker's hand, and its next action is known
+pub record IsReady (r : World) (path : Path) (worker : ℕ) : Type 0 where
+  pub task : Task
+  pub at : get is_path r.tasks path ≡ Some task
+  pub hand : hand_of (whereabouts task.place) ≡ Some worker
+  pub known : IsKnown task.doing
+
+-- the same task, wherever its stakes lie
+pub record IsSame (old new : Task) : Type 0 where
+  pub doing : new.doing ≡ old.doing
+  pub opened : new.opened ≡ old.opened
+  pub place : new.place ≡ old.place
+  pub stakes : new.stakes.items ≡ old.stakes.items
+
+-- it did a step
+pub record DidStep (old new : Task) : Type 0 where
+  pub run : Run
+  pub was : old.doing ≡ Steps run
+  pub now : new ≡ record old { doing = Runs run }
+
+-- it is to begin a task
+pub record IsToSpawn (k : Task) : Type 0 where
+  pub run : Run
+  pub start : Start
+  pub is : k.doing ≡ Spawns run start
+
+-- it is to begin a task, and weighs 1 in its innermost scope, which is this
+pub record IsWanting (k : Task) (id : ScopeId) : Type 0 where
+  pub spawns : IsToSpawn k
+  pub inner : rStake
+  pub outer : List rStake
+  pub stakes : k.stakes.items ≡ inner ∷ outer
+  pub one : inner.weight ≡ 1
+  pub named : inner.scope ≡ id
+
+-- it is to begin a task and weighs 1, and its innermost scope may issue w0 more
+pub record IsShort (r : World) (path : Path) : Type 0 where
+  pub task : Task
+  pub at : get is_path r.tasks path ≡ Some task
+  pub id : ScopeId
+  pub wants : IsWanting task id
+  pub book : Scope
+  pub found : get is_scope r.scopes id ≡ Some book
+  pub few : book.issued < 2147483648 * r.job.w0
+
+-- its innermost scope issued w0 more, and it has that
+pub record DidIssue (old new : World) (path : Path) (s : IsShort old path) : Type 0 where
+  pub task : Task
+  pub doing : task.doing ≡ s.task.doing
+  pub opened : task.opened ≡ s.task.opened
+  pub place : task.place ≡ s.task.place
+  pub stakes : task.stakes.items ≡ record s.wants.inner { weight = 1 + old.job.w0 } ∷ s.wants.outer
+  pub tasks : (q : Path) → get is_path new.tasks q
+      ≡ (if is_path path q then Some task else get is_path old.tasks q)
+  pub book : Scope
+  pub issued : (b : Book) → IsBookOf s.book b → IsBookOf book (issue old.job.w0 b)
+  pub scopes : (q : ScopeId) → get is_scope new.scopes q
+      ≡ (if is_scope s.id q then Some book else get is_scope old.scopes q)
+
+-- it begins a task, which gets half of its weight, rounded down, and is in this worker's queue
+pub record DidSpawn (old new child : Task) (path : Path) (worker : ℕ) : Type 0 where
+  pub run : Run
+  pub start : Start
+  pub was : old.doing ≡ Spawns run start
+  pub now : new.doing ≡ Runs run
+  pub opened : new.opened ≡ old.opened
+  pub place : new.place ≡ old.place
+  pub inner : Stake
+  pub outer : List Stake
+  pub stakes : map stake old.stakes.items ≡ inner ∷ outer
+  pub two : 2 ≤ inner.weight
+  pub kept : map stake new.stakes.items
+      ≡ record inner { weight = inner.weight - inner.weight / 2 } ∷ outer
+  pub named : path.turns.items ≡ start.path.turns.items
+  pub begins : child.doing ≡ Starts start
+  pub opened_none : child.opened ≡ 0
+  pub given : map stake child.stakes.items ≡ record inner { weight = inner.weight / 2 } ∷ []
+  pub queued : child.place ≡ Queue worker
+
+-- what a child is called, and half of its parent's weight, rounded down
+pub record IsShare (k : Task) (path : Path) (stakes : List rStake) : Type 0 where
+  pub spawns : IsToSpawn k
+  pub inner : rStake
+  pub outer : List rStake
+  pub are : k.stakes.items ≡ inner ∷ outer
+  pub two : 2 ≤ inner.weight
+  pub named : path.turns.items ≡ spawns.start.path.turns.items
+  pub given : map stake stakes ≡ record (stake inner) { weight = inner.weight / 2 } ∷ []
+
+-- it weighs 2 at least in its innermost scope
+pub record IsHeavy (k : Task) : Type 0 where
+  pub inner : rStake
+  pub outer : List rStake
+  pub stakes : k.stakes.items ≡ inner ∷ outer
+  pub two : 2 ≤ inner.weight
+
+-- it began a finish, in whose scope it weighs w0
+pub record DidOpen (old new : Task) (path : Path) (id : ScopeId) (w0 : ℕ) : Type 0 where
+  pub run : Run
+  pub was : old.doing ≡ Opens run
+  pub now : new.doing ≡ Runs run
+  pub opened : new.opened ≡ old.opened + 1
+  pub place : new.place ≡ old.place
+  pub owner : id.owner.turns.items ≡ path.turns.items
+  pub number : id.number ≡ old.opened + 1
+  pub stakes : map stake new.stakes.items
+      ≡ record { scope = scope_id id; weight = w0 } ∷ map stake old.stakes.items

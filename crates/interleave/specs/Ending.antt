@@ -1,0 +1,175 @@
+-- What the events at the ends of finishes and of tasks find in the tables, and leave there.
+use Rattle.std.specs.Prelude.{ℕ, ◌≡◌, ◌+◌, ◌≤◌, List, [], ◌∷◌, Bool, true, false, not, map, drop}
+use Rattle.std.specs.Prelude.{Some, None, if◌then◌else◌}
+use Rattle.std.specs.HashMap.{get}
+use Rattle.sections.specs.Place.{Place}
+use Rattle.types.specs.Run.{State}
+use Rattle.types.specs.declared.path.Path.{Path}
+use Rattle.own_run.specs.Frames.{Frame, handed}
+use Rattle.own_run.specs.OwnRun.{Own}
+use Rattle.own_run.specs.Results.{TaskResult}
+use Rattle.own_run.specs.RunTurns.{ComesBack, Waits}
+use Rattle.own_run.specs.Settling.{settle}
+use Rattle.own_run.specs.Standings.{IsAt}
+use Rattle.own_run.specs.Translation.{owned_by, settled as settled_of, task_result}
+use Rattle.own_run.specs.declared.result.Settled.{Settled}
+use Rattle.own_run.specs.declared.result.TaskResult.{TaskResult as Made}
+use Rattle.own_run.specs.declared.run.Run.{Run}
+use Rattle.own_run.specs.declared.turn.Paused.{Paused}
+use Rattle.gather.specs.GivesBack.{GiveBack, all_owned}
+use Rattle.interleave.specs.Events.{give_back}
+use Rattle.interleave.specs.Shown.{IsBookOf, Shows, is_path, is_scope, stake, whereabouts}
+use Rattle.interleave.specs.World.{Scope, World, hand_of}
+use Rattle.interleave.specs.declared.doing.Doing.{Doing}
+use Rattle.interleave.specs.declared.doing.Doing.TheVariants.{Starts, Runs, Steps, Spawns, Opens}
+use Rattle.interleave.specs.declared.doing.Doing.TheVariants.{AtFinish, AtEnd, Lost}
+use Rattle.interleave.specs.declared.error.EventError.{EventError}
+use Rattle.interleave.specs.declared.error.EventError.TheVariants.{Illegal, NoMemory}
+use Rattle.interleave.specs.declared.event.ScopeId.{ScopeId as rScopeId}
+use Rattle.interleave.specs.declared.scope.Scope.{Scope as rScope}
+use Rattle.interleave.specs.declared.task.Stake.{Stake as rStake}
+use Rattle.interleave.specs.declared.task.Task.{Task as rTask}
+use Rattle.interleave.specs.declared.task.Whereabouts.{Whereabouts as rWhereabouts}
+use Rattle.interleave.specs.declared.task.Whereabouts.TheVariants.{Hand as rHand, Parked as rParked}
+use Rattle.interleave.specs.declared.world.World.{World as rWorld}
+
+-- ---- what a task is about to do
+-- the next action is known
+abbrev pub IsKnown : Doing → Type 0
+IsKnown (Starts s) = ⊥
+IsKnown (Runs r) = ⊥
+IsKnown (Steps r) = Unit {0}
+IsKnown (Spawns r s) = Unit {0}
+IsKnown (Opens r) = Unit {0}
+IsKnown (AtFinish q made) = Unit {0}
+IsKnown (AtEnd made) = Unit {0}
+IsKnown Lost = ⊥
+
+-- the root's path
+abbrev pub is_root : List ℕ → Bool
+is_root [] = true
+is_root (k ∷ path) = false
+
+-- the task of a path is at the end of a finish; the root's own end is that of one too
+abbrev pub is_waiting : (path : List ℕ) → Doing → Bool
+is_waiting path (AtFinish q made) = true
+is_waiting path (AtEnd made) = is_root path
+is_waiting path _ = false
+
+-- the task of a path is at its end, and isn't the root
+abbrev pub has_ended : (path : List ℕ) → Doing → Bool
+has_ended path (AtEnd made) = not (is_root path)
+has_ended path _ = false
+
+-- no hand is told of a task that is in none; or memory was missing
+abbrev pub IsInNoHand : rWhereabouts → EventError → Type 0
+IsInNoHand place Illegal = hand_of (whereabouts place) ≡ None
+IsInNoHand place NoMemory = Unit {0}
+
+-- ---- what is found
+-- a live task in a worker's hand, whose next action is known
+pub record IsSeen (r : rWorld) (path : Path) (worker : ℕ) : Type 0 where
+  pub its : rTask
+  pub at : get is_path r.tasks path ≡ Some its
+  pub place : its.place ≡ rHand worker
+  pub known : IsKnown its.doing
+
+-- the task of a path is in no hand; or memory was missing
+abbrev pub IsUnseen : rWorld → Path → EventError → Type 0
+IsUnseen r path e = (k : rTask) → get is_path r.tasks path ≡ Some k → IsInNoHand k.place e
+
+-- a live task, its innermost scope, and its weight there
+pub record StandsAt (r : rWorld) (path : Path) : Type 0 where
+  pub its : rTask
+  pub at : get is_path r.tasks path ≡ Some its
+  pub inner : rStake
+  pub outer : List rStake
+  pub stakes : its.stakes.items ≡ inner ∷ outer
+  pub book : rScope
+  pub there : get is_scope r.scopes inner.scope ≡ Some book
+
+-- a parked task whose scope has passed, and which stands in another around it
+pub record MayLeave (r : rWorld) (path : Path) : Type 0 where
+  pub at : StandsAt r path
+  pub place : at.its.place ≡ rParked
+  pub next : rStake
+  pub outer : List rStake
+  pub around : at.outer ≡ next ∷ outer
+  pub passed : at.book.passed ≡ true
+
+-- a task at its end, with what it has made
+pub record HasMade (r : rWorld) (path : Path) : Type 0 where
+  pub its : rTask
+  pub at : get is_path r.tasks path ≡ Some its
+  pub made : Made
+  pub is : its.doing ≡ AtEnd made
+
+-- no task weighs more in its innermost scope than what is out there
+abbrev pub NoneIsLate : rWorld → Type 0
+NoneIsLate r =
+    (path : Path) (a : StandsAt r path) → a.book.returned + a.inner.weight ≤ a.book.issued
+
+-- what a task at the end of a finish made is given back what it listed
+abbrev pub MayGoOn : rWorld → Path → List Made → Type 0
+MayGoOn r path results =
+    (k : rTask) (q : Paused) (made : Made) → get is_path r.tasks path ≡ Some k
+    → k.doing ≡ AtFinish q made → GiveBack (task_result made) (map task_result results)
+
+-- ---- what changes
+-- whatever world was shown is shown still
+abbrev pub Keeps : (old new : rWorld) → Type 0
+Keeps old new = (w : World) → Shows old w → Shows new w
+
+-- the task of a path became another, and no other did
+pub record TaskBecomes (old new : rWorld) (path : Path) (Fits : rTask → Type 0) : Type 0 where
+  pub to : rTask
+  pub fits : Fits to
+  pub each : (q : Path) → get is_path new.tasks q
+      ≡ (if is_path path q then Some to else get is_path old.tasks q)
+
+-- the scope of a name became another, and no other did
+pub record ScopeBecomes (old new : rWorld) (id : rScopeId) (Fits : rScope → Type 0) : Type 0 where
+  pub to : rScope
+  pub fits : Fits to
+  pub each : (q : rScopeId) → get is_scope new.scopes q
+      ≡ (if is_scope id q then Some to else get is_scope old.scopes q)
+
+-- weight comes back to a scope, and results with it
+abbrev pub GivesBack : ℕ → List TaskResult → (old new : rScope) → Type 0
+GivesBack w rs old new = (b : Scope) → IsBookOf old b → IsBookOf new (give_back w rs b)
+
+-- a scope stands for the same
+abbrev pub IsStill : (old new : rScope) → Type 0
+IsStill old new = (b : Scope) → IsBookOf old b → IsBookOf new b
+
+-- a task is parked, and weighs nothing in its innermost scope
+pub record IsSetDown (old new : rTask) : Type 0 where
+  pub place : new.place ≡ rParked
+  pub doing : new.doing ≡ old.doing
+  pub opened : new.opened ≡ old.opened
+  pub stakes : (s : rStake) (outer : List rStake) → old.stakes.items ≡ s ∷ outer
+      → map stake new.stakes.items ≡ record (stake s) { weight = 0 } ∷ map stake outer
+
+-- a run goes on behind a finish, with what its results settled to
+pub record GoesBehind (q : Paused) (made : Made) (results : List TaskResult)
+    (run : Run) : Type 0 where
+  pub settled : Settled
+  pub comes : Some (settled_of settled) ≡ settle (task_result made) results
+  pub owned : (p : Place) → owned_by settled.holdings p ≡ all_owned (task_result made) p
+  pub stands : (fs : List (Frame Own)) (before st : State Own)
+      → Waits q fs before st → ComesBack settled st
+      → IsAt run (record { frames = fs; state = handed before (settled_of settled) st })
+  pub plan : run.plan ≡ q.plan
+  pub nest : run.thread.nest ≡ q.nest
+
+-- a task goes on in a hand, in the scope around the finish
+pub record IsBehind (worker : ℕ) (results : List TaskResult) (old new : rTask) : Type 0 where
+  pub paused : Paused
+  pub made : Made
+  pub was : old.doing ≡ AtFinish paused made
+  pub run : Run
+  pub is : new.doing ≡ Runs run
+  pub goes : GoesBehind paused made results run
+  pub place : new.place ≡ rHand worker
+  pub opened : new.opened ≡ old.opened
+  pub stakes : new.stakes.items ≡ drop 1 old.stakes.items

@@ -1,0 +1,303 @@
+//! The events by which a task in a hand takes a step, begins another or begins a finish.
+
+ghost use Rattle.std.specs.Prelude.{◌≡◌, ◌≤◌, ◌<◌, ◌-◌, ◌/◌, ◌∷◌, [], List, None, Some, map};
+ghost use Rattle.std.specs.Prelude.{IfErr, IfOk, MatchOption, OnErr, OnOk};
+ghost use Rattle.std.specs.Bool.{OnFalse, OnTrue};
+ghost use Rattle.std.specs.HashMap.{get};
+ghost use Rattle.own_run.specs.declared.run.Run.{Run as AnyRun};
+ghost use Rattle.interleave.specs.Acting.{DidIssue, DidOpen, DidSpawn, DidStep, IsHeavy, IsKnown};
+ghost use Rattle.interleave.specs.Acting.{IsReady, IsSame, IsShare, IsShort, IsToSpawn, IsWanting};
+ghost use Rattle.interleave.specs.Events.{Opens as IsOpen, Replenish as IsReplenish};
+ghost use Rattle.interleave.specs.Events.{Spawns as IsSpawn, Steps as IsStep};
+ghost use Rattle.interleave.specs.Jobs.{IsJob};
+ghost use Rattle.interleave.specs.Shown.{Becomes, IsTaskOf, IsWorld, Refuses, Shows, is_path};
+ghost use Rattle.interleave.specs.Shown.{scope_id, stake, whereabouts};
+ghost use Rattle.interleave.specs.World.{Live, World as AnyWorld, hand_of};
+ghost use Rattle.interleave.specs.declared.error.EventError.TheVariants.{Illegal};
+ghost use Rattle.interleave.specs.declared.event.ScopeId.{ScopeId as AnyScopeId};
+ghost use Rattle.interleave.specs.declared.task.Stake.{Stake as AnyStake};
+ghost use Rattle.interleave.specs.declared.task.Task.{Task as AnyTask};
+
+use crate::doing::Doing;
+use crate::error::EventError;
+use crate::event::ScopeId;
+use crate::job::Job;
+use crate::scope::Scope;
+use crate::task::{Stake, Task, Whereabouts};
+use crate::world::World;
+use std::alloc::{AllocError, Global};
+use std::collections::VecDeque;
+use types::path::Path;
+
+impl<'p> World<'p> {
+    /// A task does one step, of a statement other than async and finish.
+    pub fn step(&mut self, path: &Path) -> Result<(), EventError>
+        requires { IsWorld self.old }
+        ensures job { self.new.job ≡ self.old.job }
+        ensures stepped { OnOk result (Becomes (IsStep path.now.turns.items) self.old self.new) }
+        ensures refused { IfErr result (Refuses (IsStep path.now.turns.items) self.old self.new) }
+    {
+        self.look_at(path)?;
+        match self.tasks.get_mut(path) {
+            Some(task) => task.step(),
+            None => Err(EventError::Illegal),
+        }
+    }
+
+    /// A task that is to begin another, and weighs 1, is given more by its innermost scope.
+    pub fn replenish(&mut self, path: &Path) -> Result<(), EventError>
+        requires { IsWorld self.old }
+        ensures job { self.new.job ≡ self.old.job }
+        ensures given { OnOk result (Becomes (IsReplenish path.now.turns.items) self.old self.new) }
+        ensures refused { IfErr result
+            (Refuses (IsReplenish path.now.turns.items) self.old self.new) }
+    {
+        self.look_at(path)?;
+        if !self.is_short(path) {
+            return Err(EventError::Illegal);
+        }
+        self.issue_to(path);
+        Ok(())
+    }
+
+    /// A task begins another, and shares its weight with it.
+    pub fn spawn(&mut self, path: &Path) -> Result<(), EventError>
+        requires { IsWorld self.old }
+        ensures job { self.new.job ≡ self.old.job }
+        ensures spawned { OnOk result (Becomes (IsSpawn path.now.turns.items) self.old self.new) }
+        ensures refused { IfErr result (Refuses (IsSpawn path.now.turns.items) self.old self.new) }
+    {
+        let worker = self.look_at(path)?;
+        self.tasks.reserve(1)?;
+        let Some(task) = self.tasks.get_mut(path) else {
+            return Err(EventError::Illegal);
+        };
+        let (child, begun) = task.spawn(self.job.alloc, worker)?;
+        // There is room for it.
+        self.tasks.insert(child, begun)?;
+        Ok(())
+    }
+
+    /// A task begins a finish, whose scope issues its first weight to it.
+    pub fn open(&mut self, path: &Path) -> Result<(), EventError>
+        requires { IsWorld self.old }
+        ensures job { self.new.job ≡ self.old.job }
+        ensures opened { OnOk result (Becomes (IsOpen path.now.turns.items) self.old self.new) }
+        ensures refused { IfErr result (Refuses (IsOpen path.now.turns.items) self.old self.new) }
+    {
+        self.look_at(path)?;
+        let job = self.job;
+        self.scopes.reserve(1)?;
+        let Some(task) = self.tasks.get_mut(path) else {
+            return Err(EventError::Illegal);
+        };
+        let scope = task.open(path, job)?;
+        // There is room for it.
+        self.scopes.insert(scope, Scope::new(job.alloc, job.w0))?;
+        Ok(())
+    }
+
+    /// The worker in whose hand the task of a path is, once its next action is known.
+    fn look_at(&mut self, path: &Path) -> Result<u32, EventError>
+        requires { IsWorld self.old }
+        ensures others { self.new ≡ record self.old { tasks = self.new.tasks } }
+        ensures shows { (w : AnyWorld) → Shows self.old w → Shows self.new w }
+        ensures ready { IfOk result (IsReady self.new path.now) }
+        ensures nowhere { IfErr result (λ e. e ≡ Illegal → (k : AnyTask)
+            → get is_path self.old.tasks path.now ≡ Some k
+            → hand_of (whereabouts k.place) ≡ None) }
+    {
+        match self.tasks.get_mut(path) {
+            Some(task) => task.in_hand(self.job),
+            None => Err(EventError::Illegal),
+        }
+    }
+
+    /// Whether a task is to begin another and weighs 1, and its innermost scope may issue.
+    fn is_short(&self, path: &Path) -> bool
+        requires { self.now.job.w0 ≤ 4294967296 }
+        ensures is { OnTrue result (IsShort self.now path.now) }
+        ensures not { OnFalse result (IsShort self.now path.now → ⊥) }
+    {
+        let Some(task) = self.tasks.get(path) else {
+            return false;
+        };
+        let Some(scope) = task.wants() else {
+            return false;
+        };
+        match self.scopes.get(scope) {
+            Some(book) => book.may_issue(self.job.w0),
+            None => false,
+        }
+    }
+
+    /// The innermost scope of such a task issues more to it.
+    fn issue_to(&mut self, path: &Path)
+        requires few { self.old.job.w0 ≤ 4294967296 }
+        requires short { IsShort self.old path.now }
+        ensures job { self.new.job ≡ self.old.job }
+        ensures hands { self.new.hands ≡ self.old.hands }
+        ensures issued { (s : IsShort self.old path.now) → DidIssue self.old self.new path.now s }
+    {
+        let w0 = self.job.w0;
+        let Some(task) = self.tasks.get_mut(path) else {
+            return;
+        };
+        let Some(stake) = task.stakes.front_mut() else {
+            return;
+        };
+        let Some(book) = self.scopes.get_mut(&stake.scope) else {
+            return;
+        };
+        book.issue(w0);
+        stake.weight += w0;
+    }
+}
+
+impl<'p> Task<'p> {
+    /// The worker in whose hand it is, once its next action is known.
+    fn in_hand(&mut self, job: Job<'p>) -> Result<u32, EventError>
+        requires job { IsJob job }
+        requires task { (t : Live) × IsTaskOf job self.old t }
+        ensures same { (t : Live) → IsTaskOf job.entry self.old t → IsTaskOf job.entry self.new t }
+        ensures hand { IfOk result (λ worker. hand_of (whereabouts self.new.place) ≡ Some worker) }
+        ensures known { OnOk result (IsKnown self.new.doing) }
+        ensures nowhere { IfErr result (λ e. e ≡ Illegal
+            → hand_of (whereabouts self.old.place) ≡ None) }
+    {
+        let Some(worker) = self.place.hand() else {
+            return Err(EventError::Illegal);
+        };
+        let doing = std::mem::replace(&mut self.doing, Doing::Lost);
+        self.doing = doing.look(job);
+        match &self.doing {
+            Doing::Lost => Err(EventError::NoMemory),
+            _ => Ok(worker),
+        }
+    }
+
+    /// It does a step.
+    fn step(&mut self) -> Result<(), EventError>
+        ensures stepped { OnOk result (DidStep self.old self.new) }
+        ensures same { OnErr result (self.new ≡ self.old) }
+        ensures refused { IfErr result (λ e. e ≡ Illegal) }
+        ensures other { OnErr result ((r : AnyRun) → self.old.doing ≡ Doing.Steps r → ⊥) }
+    {
+        match std::mem::replace(&mut self.doing, Doing::Lost) {
+            Doing::Steps(run) => {
+                self.doing = Doing::Runs(run);
+                Ok(())
+            }
+            other => {
+                self.doing = other;
+                Err(EventError::Illegal)
+            }
+        }
+    }
+
+    /// The innermost scope, where it weighs 1 in that and is to begin a task.
+    fn wants(&self) -> Option<&ScopeId>
+        ensures { MatchOption result ((id : AnyScopeId) → IsWanting self.now id → ⊥)
+            (λ id. IsWanting self.now id.now) }
+    {
+        let Doing::Spawns(_, _) = &self.doing else {
+            return None;
+        };
+        match self.stakes.front() {
+            Some(stake) if stake.weight == 1 => Some(&stake.scope),
+            _ => None,
+        }
+    }
+
+    /// It begins a task, to which half of its weight goes, and which is in the same worker's queue.
+    fn spawn(&mut self, alloc: Global, worker: u32) -> Result<(Path, Task<'p>), EventError>
+        ensures spawned { IfOk result (λ r. DidSpawn self.old self.new r.1 r.0 worker) }
+        ensures same { OnErr result (IsSame self.old self.new) }
+        ensures light { IfErr result (λ e. e ≡ Illegal
+            → IsToSpawn self.old → IsHeavy self.old → ⊥) }
+    {
+        let (path, stakes) = self.share(alloc)?;
+        let Doing::Spawns(run, start) = std::mem::replace(&mut self.doing, Doing::Lost) else {
+            unreachable!()
+        };
+        self.doing = Doing::Runs(run);
+        self.halve();
+        let child = Task {
+            doing: Doing::Starts(start),
+            opened: 0,
+            stakes,
+            place: Whereabouts::Queue(worker),
+        };
+        Ok((path, child))
+    }
+
+    /// The path of the task that it is to begin, and the half of its weight that goes there.
+    fn share(&self, alloc: Global) -> Result<(Path, VecDeque<Stake>), EventError>
+        ensures share { IfOk result (λ r. IsShare self.now r.0 r.1.items) }
+        ensures light { IfErr result (λ e. e ≡ Illegal
+            → IsToSpawn self.now → IsHeavy self.now → ⊥) }
+    {
+        let Doing::Spawns(_, start) = &self.doing else {
+            return Err(EventError::Illegal);
+        };
+        let Some(stake) = self.stakes.front() else {
+            return Err(EventError::Illegal);
+        };
+        if stake.weight < 2 {
+            return Err(EventError::Illegal);
+        }
+        let path = start.path.clone()?;
+        let stakes = only(alloc, &stake.scope, stake.weight / 2)?;
+        Ok((path, stakes))
+    }
+
+    /// Half of its weight in its innermost scope, rounded down, goes.
+    fn halve(&mut self)
+        ensures others { self.new ≡ record self.old { stakes = self.new.stakes } }
+        ensures halved { (inner : AnyStake) (outer : List AnyStake)
+            → self.old.stakes.items ≡ inner ∷ outer → self.new.stakes.items
+            ≡ record inner { weight = inner.weight - inner.weight / 2 } ∷ outer }
+    {
+        if let Some(stake) = self.stakes.front_mut() {
+            stake.weight -= stake.weight / 2;
+        }
+    }
+
+    /// It begins a finish, in whose scope it weighs w0; the name of that.
+    fn open(&mut self, path: &Path, job: Job<'p>) -> Result<ScopeId, EventError>
+        requires { (r : AnyRun) → self.old.doing ≡ Doing.Opens r
+            → self.old.opened < job.budget.steps }
+        ensures opened { IfOk result
+            (λ id. DidOpen self.old self.new path.now id job.entry.w0) }
+        ensures same { OnErr result (IsSame self.old self.new) }
+        ensures other { IfErr result (λ e. e ≡ Illegal
+            → (r : AnyRun) → self.old.doing ≡ Doing.Opens r → ⊥) }
+    {
+        let Doing::Opens(_) = &self.doing else {
+            return Err(EventError::Illegal);
+        };
+        let number = self.opened + 1;
+        let owner = path.clone()?;
+        let name = ScopeId { owner, number };
+        let scope = name.clone()?;
+        let weight = job.w0;
+        self.stakes.push_front(Stake { scope, weight })?;
+        self.opened = number;
+        let Doing::Opens(run) = std::mem::replace(&mut self.doing, Doing::Lost) else {
+            unreachable!()
+        };
+        self.doing = Doing::Runs(run);
+        Ok(name)
+    }
+}
+
+/// One stake alone.
+fn only(alloc: Global, scope: &ScopeId, weight: u64) -> Result<VecDeque<Stake>, AllocError>
+    ensures { IfOk result (λ d. map stake d.items
+        ≡ record { scope = scope_id scope.now; weight = weight } ∷ []) }
+{
+    let mut stakes = VecDeque::new(alloc);
+    let scope = scope.clone()?;
+    stakes.push_front(Stake { scope, weight })?;
+    Ok(stakes)
+}

@@ -1,0 +1,54 @@
+//! Events of any kind, and lists of them from the start.
+
+ghost use Rattle.std.specs.Prelude.{◌≡◌, IfErr, IfOk, OnOk};
+ghost use Rattle.interleave.specs.Jobs.{IsJob};
+ghost use Rattle.interleave.specs.Replaying.{IsRefused, IsReplayed, event as event_of};
+ghost use Rattle.interleave.specs.Shown.{Becomes, IsWorld, Refuses};
+
+use crate::error::{EventError, ReplayError};
+use crate::event::Event;
+use crate::job::Job;
+use crate::world::World;
+
+impl<'p> World<'p> {
+    /// What happens next. Where it isn't legal the world shows what it showed.
+    pub fn event(&mut self, event: &Event) -> Result<(), EventError>
+        requires { IsWorld self.old }
+        ensures legal { OnOk result (Becomes (event_of event.now) self.old self.new) }
+        ensures refused { IfErr result (Refuses (event_of event.now) self.old self.new) }
+        ensures job { self.new.job ≡ self.old.job }
+    {
+        match event {
+            Event::Take { worker, path } => self.take(*worker, path),
+            Event::Steal { worker, from, path } => self.steal(*worker, *from, path),
+            Event::Step { path } => self.step(path),
+            Event::Replenish { path } => self.replenish(path),
+            Event::Spawn { path } => self.spawn(path),
+            Event::Open { path } => self.open(path),
+            Event::Park { path } => self.park(path),
+            Event::End { path } => self.end(path),
+            Event::Pass { scope } => self.pass(scope),
+            Event::Resume { worker, path } => self.resume(*worker, path),
+        }
+    }
+}
+
+/// The world that events lead to from the start, one after the other.
+pub fn replay<'p>(job: Job<'p>, events: &[Event]) -> Result<World<'p>, ReplayError>
+    requires { IsJob job }
+    ensures legal { IfOk result (IsReplayed job.entry events.now) }
+    ensures refused { IfErr result (IsRefused job.entry events.now) }
+{
+    let Ok(start) = World::start(job) else {
+        return Err(ReplayError::NoMemory);
+    };
+    let mut world = start;
+    'events: for (number, event) in events.iter().enumerate() {
+        match world.event(event) {
+            Ok(()) => {}
+            Err(EventError::Illegal) => return Err(ReplayError::IllegalAt(number)),
+            Err(EventError::NoMemory) => return Err(ReplayError::NoMemory),
+        }
+    }
+    Ok(world)
+}
