@@ -6,3 +6,4 @@ pub mod error;
 mod filling;
 pub mod laws;
 pub mod settle;
+mod unused;
