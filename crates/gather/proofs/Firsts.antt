@@ -15,7 +15,7 @@ use Rattle.own_run.specs.Translation.{task_result}
 use Rattle.own_run.proofs.SettledResults.{paths_same}
 use Rattle.own_run.proofs.CompleteResults.{path_same}
 use Rattle.gather.specs.Unused.{is_of, left_in, first_of, said_next, next_in, AreChained}
-use Rattle.gather.specs.declared.unused.Entry.{Entry}
+use Rattle.gather.specs.declared.table.Entry.{Entry}
 use Rattle.gather.proofs.Taking.{taken_here, passed}
 
 -- ---- lists

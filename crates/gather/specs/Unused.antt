@@ -6,7 +6,7 @@ use Rattle.std.specs.Option.{option_flatten}
 use Rattle.indexmap.specs.IndexMap.{IndexMap, get}
 use Rattle.types.specs.declared.path.Path.{Path}
 use Rattle.own_run.specs.declared.result.TaskResult.{TaskResult}
-use Rattle.gather.specs.declared.unused.Entry.{Entry}
+use Rattle.gather.specs.declared.table.Entry.{Entry}
 
 -- whether a result is that of a path
 abbrev pub is_of : List ℕ → TaskResult → Bool

@@ -5,7 +5,7 @@ use Rattle.std.specs.Cmp.Lexicographic.{pointwise}
 use Rattle.indexmap.specs.IndexMap.{get}
 use Rattle.gather.specs.Unused.{first_of, is_same, left_in, said_of}
 use Rattle.gather.proofs.Firsts.{chained_with, cloned_is, firsts_with, in_front, said_by}
-use Rattle.gather.proofs.unused.put_first.Goals as goal
+use Rattle.gather.proofs.table.put_first.Goals as goal
 
 pub returns-clause-left : goal.returns-clause-left
 returns-clause-left c =

@@ -1,6 +1,6 @@
 use Rattle.std.proofs.Common.{◌≡◌, ◌++◌, reverse, vec_len}
 use Rattle.gather.specs.Unused.{AreChained, FindsFirsts, left_in}
-use Rattle.gather.proofs.unused.Unused.of.Given as goal
+use Rattle.gather.proofs.table.Table.of.Given as goal
 
 abbrev pub invariant-loop-task : goal.invariant-loop-task
 invariant-loop-task l = record {

@@ -2,12 +2,12 @@ use Rattle.std.proofs.Common.{◌≡◌, ◌∙◌, Option, Some, IsSome, refl, 
 use Rattle.std.specs.Prelude.{ℕ, if◌then◌else◌}
 use Rattle.types.specs.declared.path.Path.{Path}
 use Rattle.gather.specs.Unused.{first_of, is_same, said_of}
-use Rattle.gather.specs.declared.unused.Unused.{Unused}
+use Rattle.gather.specs.declared.table.Table.{Table}
 use Rattle.gather.proofs.Firsts.{nowhere, stands, taken_out, one_fewer, firsts_after, chained_after, if_none}
-use Rattle.gather.proofs.unused.Unused.take.Goals as goal
+use Rattle.gather.proofs.table.Table.take.Goals as goal
 
 -- the table is right
-says : (u : Unused) (path : Path) (place : Option ℕ) → place ≡ said_of u.first path
+says : (u : Table) (path : Path) (place : Option ℕ) → place ≡ said_of u.first path
     → first_of path.turns.items (reverse u.places.items) ≡ place
 says u path place e = sym (u.finds path) ∙ sym e
 
