@@ -1,4 +1,5 @@
 pub mod Depth
+pub mod Firsts
 pub mod Openings
 pub mod Pasting
 pub mod ReachedTurns

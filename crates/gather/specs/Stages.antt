@@ -1,6 +1,5 @@
 -- Stages of the gathering as they stand in Rust, without what says where they lie in memory.
-use Rattle.std.specs.Prelude.{ℕ, ◌+◌, ◌*◌, ◌≡◌, List, Bool, nat_eq, map, length, Some}
-use Rattle.std.specs.Cmp.Lexicographic.{pointwise}
+use Rattle.std.specs.Prelude.{ℕ, ◌+◌, ◌*◌, ◌≡◌, List, map, length, Some}
 use Rattle.std.specs.Vec.{vec_len}
 use Rattle.sections.specs.Place.{Place}
 use Rattle.types.specs.Translation.{fault}
@@ -8,6 +7,7 @@ use Rattle.own_run.specs.Places.{Places}
 use Rattle.own_run.specs.declared.result.Settled.{Settled as rSettled}
 use Rattle.own_run.specs.declared.result.TaskResult.{TaskResult as rTaskResult}
 use Rattle.own_run.specs.Translation.{listed, settled, task_result, owned_by}
+use Rattle.gather.specs.Left.{left}
 use Rattle.gather.specs.Parts.{Part, Waiting, Gathering, comes_to, total, IsWhole}
 use Rattle.gather.specs.declared.filling.Filling.{Filling}
 use Rattle.gather.specs.declared.filling.Waiting.{Waiting as rWaiting}
@@ -35,11 +35,7 @@ gathered left ws f = record { left = map task_result left; waiting = map waiting
 
 -- a stage
 abbrev pub gathering : Stage → Gathering
-gathering g = gathered g.results.left.items g.waiting.items (part g.filling)
-
--- whether a result is that of a path
-abbrev pub is_of : List ℕ → rTaskResult → Bool
-is_of path r = pointwise nat_eq r.path.turns.items path
+gathering g = gathered (left g.results.unused) g.waiting.items (part g.filling)
 
 -- the places that are owned in the end
 abbrev pub owned_in_end : Gathering → Places
@@ -66,5 +62,5 @@ abbrev pub turns_left : (results waiting : ℕ) → ℕ
 turns_left results waiting = 2 * results + waiting + 1
 
 abbrev pub turns_after : Turn → ℕ
-turns_after (Going g) = turns_left (length g.results.left.items) (vec_len g.waiting)
+turns_after (Going g) = turns_left (length (left g.results.unused)) (vec_len g.waiting)
 turns_after (Over s) = 0

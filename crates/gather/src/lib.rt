@@ -6,3 +6,5 @@ pub mod error;
 mod filling;
 pub mod laws;
 pub mod settle;
+mod table;
+mod unused;

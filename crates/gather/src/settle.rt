@@ -1,27 +1,27 @@
 //! Results put together by path.
 
-ghost use Rattle.std.specs.Prelude.{◌≡◌, ◌<◌, ◌+◌, [], ◌∷◌, IfErr, IfOk, IfNone, IfSome, List};
-ghost use Rattle.std.specs.Prelude.{None, Some, length, map};
-ghost use Rattle.std.specs.List.{list_any, position};
+ghost use Rattle.std.specs.Prelude.{◌≡◌, ◌<◌, [], ◌∷◌, IfErr, IfOk, List, Some, length, map};
+ghost use Rattle.std.specs.List.{list_any};
 ghost use Rattle.std.specs.Vec.{vec_len};
 ghost use Rattle.sections.specs.Place.{Place};
-ghost use Rattle.own_run.specs.Settling.{settle as settle_of, take as take_of};
+ghost use Rattle.own_run.specs.Settling.{settle as settle_of};
 ghost use Rattle.own_run.specs.Translation.{owned_by, settled as settled_of};
 ghost use Rattle.own_run.specs.Translation.{task_result as result_of};
 ghost use Rattle.gather.specs.GivesBack.{GiveBack, all_owned};
+ghost use Rattle.gather.specs.Left.{left};
 ghost use Rattle.gather.specs.PartRefusal.{TellsLeftOver, is_path};
 ghost use Rattle.gather.specs.Parts.{IsWhole, comes_to, unopened};
 ghost use Rattle.gather.specs.Reached.{GoesOn, IsOwnCase, used_by};
 ghost use Rattle.gather.specs.Refusal.{IsCaseOf, Refuses};
-ghost use Rattle.gather.specs.Stages.{IsTurnOf, gathered, gathering as stage_of, is_of};
+ghost use Rattle.gather.specs.Stages.{IsTurnOf, gathered, gathering as stage_of};
 ghost use Rattle.gather.specs.Stages.{part as part_of, turns_after, turns_left};
 ghost use Rattle.gather.specs.Stages.{waiting as waiting_of};
 
 use crate::error::GatherError;
 use crate::filling::{Filling, Waiting};
+use crate::unused::Unused;
 use own_run::result::{Settled, TaskResult};
 use std::alloc::Global;
-use std::collections::VecDeque;
 use types::path::Path;
 
 /// How far the gathering has come.
@@ -37,7 +37,7 @@ pub struct Stage {
 #[derive(Drop)]
 pub struct Results {
     /// Those that aren't used yet.
-    pub left: VecDeque<TaskResult>,
+    pub unused: Unused,
     /// The paths of the others.
     pub used: Vec<Path>,
 }
@@ -69,8 +69,9 @@ pub fn settle(
         (IsCaseOf (result_of start) (map result_of results.items)) }
 {
     let (filling, _) = Filling::of(alloc, start);
+    let unused = Unused::of(alloc, results)?;
     let results = Results {
-        left: VecDeque::from(results),
+        unused,
         used: Vec::new(alloc),
     };
     let mut stage = Stage {
@@ -93,7 +94,7 @@ impl Stage {
         requires { IsWhole (stage_of self) }
         ensures turn { IfOk result (IsTurnOf (stage_of self)) }
         ensures fewer { IfOk result (λ t.
-            turns_after t < turns_left (length self.results.left.items) (vec_len self.waiting)) }
+            turns_after t < turns_left (length (left self.results.unused)) (vec_len self.waiting)) }
         ensures goes_on { IfOk result (GoesOn (used_by self.results) (stage_of self)) }
         ensures refused { IfErr result (Refuses (comes_to (stage_of self))) }
         ensures own_case { IfErr result (IsOwnCase (used_by self.results) (stage_of self)) }
@@ -118,21 +119,21 @@ fn open(
     waiting: Vec<Waiting>,
     next: Waiting,
 ) -> Result<Turn, GatherError>
-    requires { IsWhole (gathered results.left.items waiting.items (unopened (waiting_of next))) }
+    requires { IsWhole (gathered (left results.unused) waiting.items (unopened (waiting_of next))) }
     ensures turn { IfOk result (IsTurnOf
-        (gathered results.left.items waiting.items (unopened (waiting_of next)))) }
+        (gathered (left results.unused) waiting.items (unopened (waiting_of next)))) }
     ensures fewer { IfOk result (λ t.
-        turns_after t < turns_left (length results.left.items) (vec_len waiting)) }
+        turns_after t < turns_left (length (left results.unused)) (vec_len waiting)) }
     ensures goes_on { IfOk result (GoesOn (used_by results)
-        (gathered results.left.items waiting.items (unopened (waiting_of next)))) }
+        (gathered (left results.unused) waiting.items (unopened (waiting_of next)))) }
     ensures refused { IfErr result (Refuses (comes_to
-        (gathered results.left.items waiting.items (unopened (waiting_of next))))) }
+        (gathered (left results.unused) waiting.items (unopened (waiting_of next))))) }
     ensures own_case { IfErr result (IsOwnCase (used_by results)
-        (gathered results.left.items waiting.items (unopened (waiting_of next)))) }
+        (gathered (left results.unused) waiting.items (unopened (waiting_of next)))) }
 {
     let mut results = results;
     let mut waiting = waiting;
-    match take(&mut results.left, &next.hole.path) {
+    match results.unused.take(&next.hole.path) {
         None => {
             let hole = next.hole;
             Err(GatherError::Lost(hole.path))
@@ -157,18 +158,18 @@ fn go_on(
     waiting: Vec<Waiting>,
     filling: Filling,
 ) -> Result<Turn, GatherError>
-    requires whole { IsWhole (gathered results.left.items waiting.items (part_of filling)) }
+    requires whole { IsWhole (gathered (left results.unused) waiting.items (part_of filling)) }
     requires full { filling.holes.items ≡ [] }
     ensures turn { IfOk result (IsTurnOf
-        (gathered results.left.items waiting.items (part_of filling))) }
+        (gathered (left results.unused) waiting.items (part_of filling))) }
     ensures fewer { IfOk result (λ t.
-        turns_after t < turns_left (length results.left.items) (vec_len waiting)) }
+        turns_after t < turns_left (length (left results.unused)) (vec_len waiting)) }
     ensures goes_on { IfOk result (GoesOn (used_by results)
-        (gathered results.left.items waiting.items (part_of filling))) }
+        (gathered (left results.unused) waiting.items (part_of filling))) }
     ensures refused { IfErr result (Refuses (comes_to
-        (gathered results.left.items waiting.items (part_of filling)))) }
+        (gathered (left results.unused) waiting.items (part_of filling)))) }
     ensures own_case { IfErr result (IsOwnCase (used_by results)
-        (gathered results.left.items waiting.items (part_of filling))) }
+        (gathered (left results.unused) waiting.items (part_of filling))) }
 {
     let mut waiting = waiting;
     let child = filling.close()?;
@@ -187,14 +188,13 @@ fn go_on(
 
 /// Nothing waits any more: no result is left.
 fn end(results: Results, settled: Settled) -> Result<Turn, GatherError>
-    ensures over { IfOk result (λ t. (t ≡ Turn.Over settled) × (results.left.items ≡ [])) }
+    ensures over { IfOk result (λ t. (t ≡ Turn.Over settled) × (left results.unused ≡ [])) }
     ensures refused { IfErr result (λ e. (task : TaskResult) × (rest : List TaskResult)
-        × (results.left.items ≡ task ∷ rest)
+        × (left results.unused ≡ task ∷ rest)
         × TellsLeftOver (list_any (is_path task.path) results.used.items) task.path e) }
 {
-    let Results { left, used } = results;
-    let mut left = left;
-    match left.pop_front() {
+    let Results { unused, used } = results;
+    match unused.into_first() {
         None => Ok(Turn::Over(settled)),
         Some(task) => Err(left_over(&used, task.path)),
     }
@@ -216,26 +216,4 @@ fn has_path(paths: &[Path], path: &Path) -> bool
     ensures { result ≡ list_any (is_path path.now) paths.now }
 {
     paths.iter().any(|other| *other == *path)
-}
-
-/// Takes the first result of a path out.
-fn take(left: &mut VecDeque<TaskResult>, path: &Path) -> Option<TaskResult>
-    ensures found { IfSome result (λ task.
-        take_of path.now.turns.items (map result_of left.old.items)
-        ≡ Some (result_of task, map result_of left.new.items)) }
-    ensures none { IfNone result
-        (take_of path.now.turns.items (map result_of left.old.items) ≡ None) }
-    ensures fewer { IfSome result (λ _. length left.new.items + 1 ≡ length left.old.items) }
-{
-    match index_of(left, path) {
-        None => None,
-        Some(index) => left.remove(index),
-    }
-}
-
-/// Where the first result of a path stands.
-fn index_of(results: &VecDeque<TaskResult>, path: &Path) -> Option<usize>
-    ensures { result ≡ position (is_of path.now.turns.items) results.now.items }
-{
-    results.iter().position(|task| task.path == *path)
 }

@@ -9,4 +9,4 @@ returns-in-Some-clause-refused c =
     let path = c.in-Some.task.path in
     let told = subst (λ (paths : List Path). TellsLeftOver (list_any (is_path path) paths) path c.left_over.result)
     c.deref.ensures.value c.left_over.ensures in
-    (c.in-Some.task, c.pop_front.new.self.items, c.in-Some.ensures.items, told)
+    (c.in-Some.task, c.in-Some.ensures.0, c.in-Some.ensures.1, told)

@@ -3,6 +3,7 @@ use Rattle.sections.specs.Place.{Place}
 use Rattle.own_run.specs.Settling.{settle}
 use Rattle.own_run.specs.Translation.{task_result}
 use Rattle.gather.specs.GivesBack.{all_owned}
+use Rattle.gather.specs.Left.{left}
 use Rattle.gather.specs.Parts.{comes_to, IsWhole}
 use Rattle.gather.specs.Reached.{IsReached, used_by}
 use Rattle.gather.specs.Stages.{gathering, owned_in_end, turns_left}
@@ -17,4 +18,4 @@ invariant-loop-next l = record {
 }
 
 abbrev pub decreases-loop-next : goal.decreases-loop-next
-decreases-loop-next l = turns_left (length l.stage.results.left.items) (vec_len l.stage.waiting)
+decreases-loop-next l = turns_left (length (left l.stage.results.unused)) (vec_len l.stage.waiting)

@@ -2,6 +2,7 @@ use Rattle.std.proofs.Common.{List, map, subst, sym}
 use Rattle.std.specs.Prelude.{IfErr, IfOk}
 use Rattle.own_run.specs.Translation.{listed}
 use Rattle.own_run.specs.declared.result.Listed.{Listed as rListed}
+use Rattle.gather.specs.Left.{left}
 use Rattle.gather.specs.Parts.{Gathering}
 use Rattle.gather.specs.Reached.{GoesOn, IsOwnCase, used_by}
 use Rattle.gather.specs.Stages.{gathered, part, IsTurnOf}
@@ -10,7 +11,7 @@ use Rattle.gather.proofs.settle.Stage.turn.Goals as goal
 
 -- a stage with these holes
 abbrev with_holes : Stage → List rListed → Gathering
-with_holes s hs = gathered s.results.left.items s.waiting.items (record (part s.filling) { holes = map listed hs })
+with_holes s hs = gathered (left s.results.unused) s.waiting.items (record (part s.filling) { holes = map listed hs })
 
 pub returns-in-Some-clause-turn : goal.returns-in-Some-clause-turn
 returns-in-Some-clause-turn c =

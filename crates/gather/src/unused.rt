@@ -1,0 +1,93 @@
+//! Results that aren't used yet, each found by its path.
+
+ghost use Rattle.std.specs.Prelude.{◌≡◌, ◌∷◌, ◌+◌, [], IfNone, IfOk, IfSome, List, MatchOption};
+ghost use Rattle.std.specs.Prelude.{None, Some, length, map};
+ghost use Rattle.std.specs.List.{position};
+ghost use Rattle.gather.specs.Unused.{is_of};
+ghost use Rattle.own_run.specs.Settling.{take as take_of};
+ghost use Rattle.own_run.specs.Translation.{task_result as result_of};
+
+use crate::table::Table;
+use own_run::result::TaskResult;
+use std::alloc::{AllocError, Global};
+use std::collections::VecDeque;
+use types::path::Path;
+
+/// So many results are looked through sooner than a table of them is filled.
+const FEW: usize = 16;
+
+/// Results that aren't used yet, in turn.
+#[derive(Drop)]
+pub enum Unused {
+    /// Looked through from the front.
+    Few(VecDeque<TaskResult>),
+    /// Found by a look-up, however many there are.
+    Many(Table),
+}
+
+impl Unused {
+    ghost use Rattle.gather.specs.Left.{left};
+
+    /// All of some results.
+    pub fn of(alloc: Global, results: Vec<TaskResult>) -> Result<Unused, AllocError>
+        ensures { IfOk result (λ unused. left unused ≡ results.items) }
+    {
+        if results.len() <= FEW {
+            return Ok(Unused::Few(VecDeque::from(results)));
+        }
+        let table = Table::of(alloc, results)?;
+        Ok(Unused::Many(table))
+    }
+
+    /// Takes the first result of a path out.
+    pub fn take(&mut self, path: &Path) -> Option<TaskResult>
+        ensures found { IfSome result (λ task.
+            take_of path.now.turns.items (map result_of (left self.old))
+            ≡ Some (result_of task, map result_of (left self.new))) }
+        ensures none { IfNone result
+            (take_of path.now.turns.items (map result_of (left self.old)) ≡ None) }
+        ensures fewer { IfSome result (λ _.
+            length (left self.new) + 1 ≡ length (left self.old)) }
+    {
+        match self {
+            Unused::Few(few) => take_first(few, path),
+            Unused::Many(table) => table.take(path),
+        }
+    }
+
+    /// The first of all that are left.
+    pub fn into_first(self) -> Option<TaskResult>
+        ensures { MatchOption result (left self ≡ [])
+            (λ task. (rest : List TaskResult) × (left self ≡ task ∷ rest)) }
+    {
+        match self {
+            Unused::Few(few) => {
+                let mut few = few;
+                few.pop_front()
+            }
+            Unused::Many(table) => table.into_first(),
+        }
+    }
+}
+
+/// Takes the first result of a path out of a few.
+fn take_first(few: &mut VecDeque<TaskResult>, path: &Path) -> Option<TaskResult>
+    ensures found { IfSome result (λ task.
+        take_of path.now.turns.items (map result_of few.old.items)
+        ≡ Some (result_of task, map result_of few.new.items)) }
+    ensures none { IfNone result
+        (take_of path.now.turns.items (map result_of few.old.items) ≡ None) }
+    ensures fewer { IfSome result (λ _. length few.new.items + 1 ≡ length few.old.items) }
+{
+    match index_of(few, path) {
+        None => None,
+        Some(index) => few.remove(index),
+    }
+}
+
+/// Where the first result of a path stands.
+fn index_of(results: &VecDeque<TaskResult>, path: &Path) -> Option<usize>
+    ensures { result ≡ position (is_of path.now.turns.items) results.now.items }
+{
+    results.iter().position(|task| task.path == *path)
+}
