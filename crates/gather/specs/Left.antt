@@ -11,5 +11,5 @@ left_of table = left_in (reverse table.places.items)
 
 -- the results that aren't used yet, in turn
 abbrev pub left : Unused → List TaskResult
-left (Unused.Few few) = few.items
-left (Unused.Many table) = left_of table
+left (Unused.InTurn tasks) = tasks.items
+left (Unused.Tabled table) = left_of table

@@ -19,10 +19,10 @@ const FEW: usize = 16;
 /// Results that aren't used yet, in turn.
 #[derive(Drop)]
 pub enum Unused {
-    /// Looked through from the front.
-    Few(VecDeque<TaskResult>),
-    /// Found by a look-up, however many there are.
-    Many(Table),
+    /// A few, or in the order of their paths: looked through from the front.
+    InTurn(VecDeque<TaskResult>),
+    /// Many in whatever order: each found by a look-up.
+    Tabled(Table),
 }
 
 impl Unused {
@@ -32,11 +32,11 @@ impl Unused {
     pub fn of(alloc: Global, results: Vec<TaskResult>) -> Result<Unused, AllocError>
         ensures { IfOk result (λ unused. left unused ≡ results.items) }
     {
-        if results.len() <= FEW {
-            return Ok(Unused::Few(VecDeque::from(results)));
+        if results.len() <= FEW || are_in_order(&results) {
+            return Ok(Unused::InTurn(VecDeque::from(results)));
         }
         let table = Table::of(alloc, results)?;
-        Ok(Unused::Many(table))
+        Ok(Unused::Tabled(table))
     }
 
     /// Takes the first result of a path out.
@@ -50,8 +50,8 @@ impl Unused {
             length (left self.new) + 1 ≡ length (left self.old)) }
     {
         match self {
-            Unused::Few(few) => take_first(few, path),
-            Unused::Many(table) => table.take(path),
+            Unused::InTurn(tasks) => take_first(tasks, path),
+            Unused::Tabled(table) => table.take(path),
         }
     }
 
@@ -61,27 +61,32 @@ impl Unused {
             (λ task. (rest : List TaskResult) × (left self ≡ task ∷ rest)) }
     {
         match self {
-            Unused::Few(few) => {
-                let mut few = few;
-                few.pop_front()
+            Unused::InTurn(tasks) => {
+                let mut tasks = tasks;
+                tasks.pop_front()
             }
-            Unused::Many(table) => table.into_first(),
+            Unused::Tabled(table) => table.into_first(),
         }
     }
 }
 
-/// Takes the first result of a path out of a few.
-fn take_first(few: &mut VecDeque<TaskResult>, path: &Path) -> Option<TaskResult>
+/// Whether results come in the order of their paths. A hole's result is then the first that is left.
+fn are_in_order(results: &[TaskResult]) -> bool {
+    results.is_sorted_by(|one, next| one.path.turns <= next.path.turns)
+}
+
+/// Takes the first result of a path out, looked for from the front.
+fn take_first(tasks: &mut VecDeque<TaskResult>, path: &Path) -> Option<TaskResult>
     ensures found { IfSome result (λ task.
-        take_of path.now.turns.items (map result_of few.old.items)
-        ≡ Some (result_of task, map result_of few.new.items)) }
+        take_of path.now.turns.items (map result_of tasks.old.items)
+        ≡ Some (result_of task, map result_of tasks.new.items)) }
     ensures none { IfNone result
-        (take_of path.now.turns.items (map result_of few.old.items) ≡ None) }
-    ensures fewer { IfSome result (λ _. length few.new.items + 1 ≡ length few.old.items) }
+        (take_of path.now.turns.items (map result_of tasks.old.items) ≡ None) }
+    ensures fewer { IfSome result (λ _. length tasks.new.items + 1 ≡ length tasks.old.items) }
 {
-    match index_of(few, path) {
+    match index_of(tasks, path) {
         None => None,
-        Some(index) => few.remove(index),
+        Some(index) => tasks.remove(index),
     }
 }
 
