@@ -2,7 +2,9 @@
 
 ghost use Rattle.std.specs.Prelude.{◌≡◌, ◌∷◌, ◌+◌, [], IfNone, IfOk, IfSome, List, MatchOption};
 ghost use Rattle.std.specs.Prelude.{None, Some, length, map};
-ghost use Rattle.std.specs.List.{position};
+ghost use Rattle.std.specs.List.{IsAllAdjacentAnswer, position};
+ghost use Rattle.std.specs.Ordering.{nat_cmp, partial_le};
+ghost use Rattle.std.specs.Cmp.Lexicographic.{slice_partial_cmp};
 ghost use Rattle.gather.specs.Unused.{is_of};
 ghost use Rattle.own_run.specs.Settling.{take as take_of};
 ghost use Rattle.own_run.specs.Translation.{task_result as result_of};
@@ -71,7 +73,11 @@ impl Unused {
 }
 
 /// Whether results come in the order of their paths. A hole's result is then the first that is left.
-fn are_in_order(results: &[TaskResult]) -> bool {
+fn are_in_order(results: &[TaskResult]) -> bool
+    ensures { IsAllAdjacentAnswer (λ one next b. b ≡ partial_le
+        (slice_partial_cmp (λ x y. Some (nat_cmp x y)))
+        one.path.turns.items next.path.turns.items) results.now result }
+{
     results.is_sorted_by(|one, next| one.path.turns <= next.path.turns)
 }
 
