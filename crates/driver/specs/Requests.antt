@@ -1,5 +1,6 @@
 -- What the words of a command line ask.
-use Rattle.std.specs.Prelude.{ℕ, ◌≡◌, ◌<◌, ◌≤◌, ◌^◌, List, [], ◌∷◌, Bool, true, false, not, codes, Option, None, Some}
+use Rattle.std.specs.Prelude.{ℕ, ◌≡◌, ◌<◌, ◌≤◌, ◌^◌, List, [], ◌∷◌, codes}
+use Rattle.std.specs.Prelude.{Bool, true, false, not, Option, None, Some}
 use Rattle.std.specs.Prelude.{nat_eq, IsTrue, IfSome, option_map, unwrap_or}
 use Rattle.std.specs.Fmt.{decimal}
 use Rattle.types.specs.Outcome.{Budget}

@@ -3,7 +3,8 @@
 ghost use Rattle.std.specs.Prelude.{◌≡◌, IfErr, IfOk, Some, option_map};
 ghost use Rattle.driver.specs.Choices.{behind_comma, filed_by, nothing_read, numbers_of, read_from};
 ghost use Rattle.driver.specs.Choices.{read_of_file, reading_of, renumbered, said_by};
-ghost use Rattle.driver.specs.Choices.{separates as may_separate, with_begun, with_byte, with_byte_of_file, with_digit};
+ghost use Rattle.driver.specs.Choices.{separates as may_separate, with_begun, with_byte};
+ghost use Rattle.driver.specs.Choices.{with_byte_of_file, with_digit};
 ghost use Rattle.driver.specs.Choosing.{SaysChoices, TellsNoChoices, TellsNone};
 ghost use Rattle.driver.specs.Requests.{InFile};
 
