@@ -8,14 +8,12 @@ ghost use Rattle.types.specs.Typed.{code_of};
 ghost use Rattle.own_run.specs.Runs.{root as root_of};
 ghost use Rattle.own_run.specs.Translation.{start as start_of};
 
-use holdings::holdings::Holdings;
 use own_run::start::Start;
 use race_checker::accepted::Accepted;
-use serial_run::thread::{Plan, main_environment};
+use serial_run::thread::Plan;
 use std::alloc::{AllocError, Global};
 use types::budget::Budget;
 use types::input::Input;
-use types::path::Path;
 
 /// A program, an input and a budget: what names a run.
 #[derive(Clone, Copy)]
@@ -45,17 +43,6 @@ impl<'p> Job<'p> {
         ensures { IfOk result (λ s. start_of s ≡ root_of (code_of self.entry.accepted.now.typed)
             (lists_in self.entry.input.now) (budget_of self.entry.budget)) }
     {
-        let plan = self.plan();
-        let environment = main_environment(plan)?;
-        let holdings = Holdings::of_input(self.alloc, self.accepted.typed(), self.input)?;
-        Ok(Start {
-            body: &plan.program.main.body,
-            environment,
-            holdings,
-            nest: self.budget.nest,
-            path: Path {
-                turns: Vec::new(self.alloc),
-            },
-        })
+        Start::root(self.plan(), self.accepted.typed(), self.input)
     }
 }
