@@ -1,5 +1,5 @@
 -- The events at the ends of finishes and of tasks, as the tables in Rust show them.
-use Rattle.std.proofs.Common.{◌≡◌, ℕ, ◌+◌, ◌≤◌, List, [], ◌∷◌, ◌++◌, Option, Some, None, refl, sym, ap, ◌∙◌, subst, arith}
+use Rattle.std.proofs.Common.{◌≡◌, ℕ, List, [], ◌∷◌, ◌++◌, Option, Some, None, refl, sym, ap, ◌∙◌, subst, arith}
 use Rattle.std.proofs.lemmas.Option.{none-some, same_Some}
 use Rattle.std.specs.Prelude.{Bool, true, false, ◌||◌, not, nat_eq, map, if◌then◌else◌, Contains, slice_index_or}
 use Rattle.std.specs.Prelude.{Result, Ok, Err, IfErr}
@@ -17,16 +17,16 @@ use Rattle.own_run.specs.Results.{TaskResult, and_then}
 use Rattle.own_run.specs.Runs.{root}
 use Rattle.own_run.specs.Translation.{start, task_result}
 use Rattle.own_run.specs.declared.result.TaskResult.{TaskResult as Made}
-use Rattle.interleave.specs.Courses.{Course, course_of, further, IsAhead, IsDoing, IsNext}
-use Rattle.interleave.specs.Ending.{GivesBack, HasMade, IsKnown, IsSeen, IsSetDown, IsStill, IsUnseen, IsInNoHand, Keeps}
+use Rattle.interleave.specs.Courses.{Course, course_of, IsAhead, IsDoing, IsNext}
+use Rattle.interleave.specs.Ending.{GivesBack, IsKnown, IsSeen, IsSetDown, IsStill, IsUnseen, IsInNoHand, Keeps}
 use Rattle.interleave.specs.Ending.{NoneIsLate, ScopeBecomes, StandsAt, TaskBecomes, has_ended, is_root, is_waiting}
-use Rattle.interleave.specs.Events.{Event, Ends, Parks, only_if, did, give_back, owns, with_next, in_innermost, next_action, by_end, by_park}
+use Rattle.interleave.specs.Events.{Ends, Parks, only_if, did, give_back, owns, with_next, in_innermost, next_action, by_end, by_park}
 use Rattle.interleave.specs.Jobs.{IsJob, program_of, lists_of, budget_of}
 use Rattle.interleave.specs.Replay.{does, hands_on}
 use Rattle.interleave.specs.Shown.{AreBoth, IsTaskOf, IsBookOf, IsDoingThere, Becomes, Refuses, Shows, is_path, is_scope, next_world}
 use Rattle.interleave.specs.Shown.{scope_id, stake, whereabouts}
-use Rattle.interleave.specs.World.{ScopeId, Stake, Live, Scope, World, Whereabouts, Queue, Hand, Parked, task, put_task}
-use Rattle.interleave.specs.World.{without_task, scope, put_scope, same_path, hand_of, in_hand, hand_is_free}
+use Rattle.interleave.specs.World.{Stake, Live, Scope, World, Whereabouts, Queue, Hand, Parked, task, put_task}
+use Rattle.interleave.specs.World.{without_task, scope, put_scope, hand_of, hand_is_free}
 use Rattle.interleave.specs.Worlds.{next_of}
 use Rattle.interleave.specs.declared.doing.Doing.{Doing}
 use Rattle.interleave.specs.declared.doing.Doing.TheVariants.{Starts, Runs, Steps, Spawns, Opens, AtFinish, AtEnd, Lost}

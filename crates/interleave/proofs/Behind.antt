@@ -1,28 +1,26 @@
 -- A task goes on behind a finish, as the tables in Rust show it.
-use Rattle.std.proofs.Common.{◌≡◌, ℕ, ◌+◌, ◌≤◌, List, [], ◌∷◌, ◌++◌, length, Option, Some, None, refl, sym, ap, ◌∙◌, subst, arith}
+use Rattle.std.proofs.Common.{◌≡◌, ℕ, ◌≤◌, List, [], ◌∷◌, ◌++◌, length, Option, Some, None, refl, sym, ap, ◌∙◌, subst, arith}
 use Rattle.std.proofs.lemmas.List.{length_push}
 use Rattle.std.proofs.lemmas.Option.{none-some, same_Some}
 use Rattle.std.proofs.lemmas.Bool.{not-false, not-true}
 use Rattle.std.specs.Prelude.{Bool, true, false, ◌&&◌, ◌<◌, not, nat_eq, map, drop, slice_index_or, if◌then◌else◌}
 use Rattle.std.specs.HashMap.{get}
 use Rattle.std.specs.HashSet.{contains}
-use Rattle.sections.specs.Place.{Place}
 use Rattle.types.specs.Code.{Program}
 use Rattle.types.specs.Run.{State}
 use Rattle.types.specs.Translation.{program}
 use Rattle.types.specs.declared.path.Path.{Path}
 use Rattle.effects.proofs.Members.{false_true}
 use Rattle.effects.specs.Rounds.{needs_of}
-use Rattle.own_run.specs.Frames.{Frame, AtEnd, handed}
-use Rattle.own_run.specs.Given.{IsOwn, root_of}
+use Rattle.own_run.specs.Frames.{AtEnd, handed}
+use Rattle.own_run.specs.Given.{IsOwn}
 use Rattle.own_run.specs.Lists.{Each}
 use Rattle.own_run.specs.OwnRun.{Action, Own, Start, EndFinish, result_of}
 use Rattle.own_run.specs.Reached.{leaves}
 use Rattle.own_run.specs.Results.{TaskResult, Settled, and_then}
-use Rattle.own_run.specs.Runs.{root, IsTaskResult}
+use Rattle.own_run.specs.Runs.{root}
 use Rattle.own_run.specs.RunTurns.{ComesBack}
 use Rattle.own_run.specs.Settling.{settle}
-use Rattle.own_run.specs.Standings.{IsAt}
 use Rattle.own_run.specs.Translation.{settled as settled_of, task_result}
 use Rattle.own_run.specs.declared.result.TaskResult.{TaskResult as Made}
 use Rattle.own_run.specs.declared.run.Run.{Run}
@@ -32,16 +30,15 @@ use Rattle.gather.specs.GivesBack.{GiveBack, all_owned}
 use Rattle.gather.proofs.TasksGiveBack.{comes_back, give_back}
 use Rattle.interleave.specs.Courses.{Course, course_of, further, HasCome, IsDoing, IsPausedOf, IsRunOf}
 use Rattle.interleave.specs.Ending.{GoesBehind, IsBehind, IsStill, Keeps, MayGoOn, MayLeave, ScopeBecomes, StandsAt, TaskBecomes}
-use Rattle.interleave.specs.Events.{Event, Resume, only_if, by_resume, next}
+use Rattle.interleave.specs.Events.{Resume, only_if, by_resume}
 use Rattle.interleave.specs.Jobs.{IsJob, program_of, lists_of, budget_of}
 use Rattle.interleave.specs.Replay.{does, hands_on}
-use Rattle.interleave.specs.Shown.{AreBoth, AreResultsOf, Becomes, IsTaskOf, IsBookOf, IsDoingThere, Shows, is_path, is_scope, next_world}
+use Rattle.interleave.specs.Shown.{AreResultsOf, Becomes, IsTaskOf, IsBookOf, IsDoingThere, Shows, is_path, is_scope, next_world}
 use Rattle.interleave.specs.Shown.{scope_id, stake, whereabouts}
 use Rattle.interleave.specs.World.{Stake, Live, Scope, World, Whereabouts, Queue, Hand, Parked, task, put_task, scope, is_parked}
-use Rattle.interleave.specs.World.{in_hand, hand_is_free, is_passed}
+use Rattle.interleave.specs.World.{in_hand, hand_is_free}
 use Rattle.interleave.specs.declared.doing.Doing.{Doing}
-use Rattle.interleave.specs.declared.doing.Doing.TheVariants.{Runs, AtFinish, Lost}
-use Rattle.interleave.specs.declared.event.ScopeId.{ScopeId as rScopeId}
+use Rattle.interleave.specs.declared.doing.Doing.TheVariants.{Lost}
 use Rattle.interleave.specs.declared.job.Job.{Job}
 use Rattle.interleave.specs.declared.scope.Scope.{Scope as rScope}
 use Rattle.interleave.specs.declared.task.Stake.{Stake as rStake}
@@ -52,8 +49,7 @@ use Rattle.interleave.specs.declared.world.World.{World as rWorld}
 use Rattle.interleave.proofs.AtEnds.{lost_still, scope_keeps, task_keeps}
 use Rattle.interleave.proofs.Came.{results_came}
 use Rattle.interleave.proofs.Histories.{cons_head, nil_cons}
-use Rattle.interleave.proofs.Jobs.{fits}
-use Rattle.interleave.proofs.Lookups.{task_path, path_refl}
+use Rattle.interleave.proofs.Lookups.{task_path}
 use Rattle.interleave.proofs.Outcomes.{results_are_own}
 use Rattle.interleave.proofs.Tables.{there, not_there, tasks_put, free_put, led_on}
 use Rattle.interleave.proofs.Turning.{its_task}
@@ -333,10 +329,10 @@ module _ (old : rWorld) (ok : IsJob old.job) (path : Path) (m : MayLeave old pat
           let same : m.at.its ≡ k = same_Some _ _ (sym same_at ∙ at) in
           let paused = subst (IsDoing old.job x.before) (ap (λ (k : rTask). k.doing) same ∙ is) x.doing in
           let came = results_came (program_of old.job) ok.sound ok.accepted old.job.w0 ok.least (lists_of old.job) (budget_of old.job)
-          (fits old.job ok) h0.events w0 h0.led (scope_id m.at.inner.scope) x.book x.found in
+          ok.fits h0.events w0 h0.led (scope_id m.at.inner.scope) x.book x.found in
           subst (λ rs. GiveBack (task_result made) rs) (sym x.are)
           (subst (λ y. GiveBack y x.book.results) (sym paused.1.made)
-          (give_back (program_of old.job) ok.sound ok.accepted (lists_of old.job) (budget_of old.job) (fits old.job ok) x.before.start
+          (give_back (program_of old.job) ok.sound ok.accepted (lists_of old.job) (budget_of old.job) ok.fits x.before.start
           (record { frames = AtEnd paused.1.before ∷ paused.1.frames; state = paused.1.state }) paused.1.come.stands x.book.results came))
 
       module _ (r3 : rWorld) (others3 : r3 ≡ record r2 { tasks = r3.tasks }) where

@@ -3,7 +3,7 @@ use Rattle.std.proofs.Common.{◌≡◌, ℕ, ◌+◌, ◌≤◌, List, [], ◌�
 use Rattle.std.proofs.Common.{inr}
 use Rattle.std.proofs.lemmas.List.{append-nil}
 use Rattle.std.proofs.lemmas.Option.{none-some, same_Some}
-use Rattle.std.specs.Prelude.{ℤ, Bool, true, false, ◌⊎◌, if◌then◌else◌}
+use Rattle.std.specs.Prelude.{ℤ, true, false, ◌⊎◌, if◌then◌else◌}
 use Rattle.types.specs.Code.{Codes, Program}
 use Rattle.types.specs.Contents.{FitsArrays}
 use Rattle.types.specs.Outcome.{Budget}
@@ -20,20 +20,20 @@ use Rattle.own_run.specs.Frames.{Follows}
 use Rattle.own_run.specs.Given.{root_of}
 use Rattle.own_run.specs.Holds.{MayBegin}
 use Rattle.own_run.specs.Lists.{Each}
-use Rattle.own_run.specs.OwnRun.{Start, Own, Action, EndTask, result_of, run_by}
+use Rattle.own_run.specs.OwnRun.{Start, Own, Action, result_of, run_by}
 use Rattle.own_run.specs.Reached.{IsResult}
 use Rattle.own_run.specs.Results.{TaskResult, and_then}
 use Rattle.own_run.specs.Runs.{IsTaskResult}
 use Rattle.own_run.proofs.AcceptedPrograms.{provides_needs}
 use Rattle.own_run.proofs.HoldingTurns.{root_begins}
 use Rattle.own_run.proofs.SettledResults.{gives}
-use Rattle.interleave.specs.World.{ScopeId, Live, Scope, World, root_scope, same_scope, task, scope, put_scope}
+use Rattle.interleave.specs.World.{ScopeId, Live, Scope, World, root_scope, same_scope, scope, put_scope}
 use Rattle.interleave.specs.Events.{Event, Take, Steal, Steps, Replenish, Spawns, Opens, Parks, Ends, Pass, Resume}
 use Rattle.interleave.specs.Events.{issue, give_back, new_scope, next, first_world, after}
 use Rattle.interleave.specs.Replay.{does, hands_on}
 use Rattle.interleave.specs.Worlds.{LeadsTo}
 use Rattle.interleave.proofs.Lookups.{by_test}
-use Rattle.interleave.proofs.Changes.{IsQuiet, IsReplenish, IsSpawn, IsOpen, IsPark, IsEnd, IsPass, IsResume, Becomes}
+use Rattle.interleave.proofs.Changes.{IsOpen, IsEnd, Becomes}
 use Rattle.interleave.proofs.Changes.{becomes}
 use Rattle.interleave.proofs.Events.{rebooked}
 use Rattle.interleave.proofs.OwnTasks.{nexts, hands}

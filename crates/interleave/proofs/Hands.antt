@@ -1,5 +1,5 @@
 -- At most one live task is in a worker's hand.
-use Rattle.std.proofs.Common.{◌≡◌, ℕ, ◌+◌, ◌-◌, ◌/◌, ◌≤◌, List, [], ◌∷◌, ◌++◌, Option, Some, None, refl, sym, ap, ◌∙◌, subst, arith}
+use Rattle.std.proofs.Common.{◌≡◌, ℕ, ◌+◌, ◌-◌, ◌/◌, ◌≤◌, List, [], ◌∷◌, ◌++◌, Option, Some, refl, sym, ap, ◌∙◌, subst, arith}
 use Rattle.std.proofs.lemmas.Bool.{ne_eqb, eqb-true, and_parts}
 use Rattle.std.proofs.lemmas.Option.{none-some, same_Some}
 use Rattle.std.specs.Prelude.{ℤ, Bool, true, false, ◌&&◌, ◌||◌, not, nat_eq, if◌then◌else◌}
@@ -7,17 +7,17 @@ use Rattle.types.specs.Code.{Program}
 use Rattle.types.specs.Outcome.{Budget}
 use Rattle.effects.proofs.Members.{false_true}
 use Rattle.effects.specs.Rounds.{needs_of}
-use Rattle.own_run.specs.Results.{TaskResult, and_then}
+use Rattle.own_run.specs.Results.{TaskResult}
 use Rattle.own_run.specs.OwnRun.{Start, Action, Step, Spawn, EnterFinish, EndFinish, EndTask}
 use Rattle.own_run.specs.Given.{root_of}
 use Rattle.own_run.proofs.SettledResults.{Gives, gives}
-use Rattle.interleave.specs.World.{Stake, Live, Scope, World, Whereabouts, Queue, Hand, Parked, task, put_task}
+use Rattle.interleave.specs.World.{Stake, Live, World, Whereabouts, Queue, Hand, Parked, task, put_task}
 use Rattle.interleave.specs.World.{without_task, root_scope, child_path, scope, is_parked, in_queue, in_hand, hand_of, hand_is_free}
 use Rattle.interleave.specs.Events.{Event, Take, Steal, Steps, Replenish, Spawns, Opens, Parks, Ends, Pass, Resume}
 use Rattle.interleave.specs.Events.{did, new_task, first_world, by_step, by_resume, next, after}
 use Rattle.interleave.specs.Replay.{does, hands_on, start_of}
 use Rattle.interleave.specs.Worlds.{LeadsTo}
-use Rattle.interleave.proofs.Lookups.{by_test, holds, eq_refl, task_path}
+use Rattle.interleave.proofs.Lookups.{holds, task_path}
 use Rattle.interleave.proofs.Changes.{InHand, in_hand as hand_event, IsAt, IsReplenish, IsSpawn, IsOpen, IsPark, IsEnd}
 use Rattle.interleave.proofs.Changes.{IsPass, becomes}
 use Rattle.interleave.proofs.Outcomes.{replays_are_worlds}

@@ -1,9 +1,9 @@
 -- Events by which a task changes its place, and a scope passes: as the tables in Rust show them.
-use Rattle.std.proofs.Common.{◌≡◌, ℕ, List, [], ◌∷◌, ◌++◌, Option, Some, None, refl, sym, ap, ◌∙◌, subst}
+use Rattle.std.proofs.Common.{◌≡◌, ℕ, [], ◌∷◌, ◌++◌, Option, Some, None, refl, sym, ap, ◌∙◌, subst}
 use Rattle.std.proofs.lemmas.Bool.{ne_eqb, not-false, not-true}
 use Rattle.std.specs.Prelude.{Bool, true, false, ◌&&◌, not, nat_eq, if◌then◌else◌}
-use Rattle.std.specs.HashMap.{HashMap, get}
-use Rattle.std.specs.HashSet.{HashSet, contains}
+use Rattle.std.specs.HashMap.{get}
+use Rattle.std.specs.HashSet.{contains}
 use Rattle.types.specs.declared.path.Path.{Path}
 use Rattle.effects.proofs.Members.{false_true}
 use Rattle.effects.specs.Rounds.{needs_of}
@@ -14,7 +14,7 @@ use Rattle.interleave.specs.Replay.{does, hands_on}
 use Rattle.interleave.specs.Jobs.{program_of, lists_of, budget_of}
 use Rattle.interleave.specs.Shown.{AreBoth, IsTaskOf, IsBookOf, IsDoingThere, is_path, is_scope, scope_id, whereabouts}
 use Rattle.interleave.specs.Shown.{AreResultsOf, Shows, next_world}
-use Rattle.interleave.specs.World.{Live, Scope, World, Whereabouts, Queue, Hand, Parked, task, put_task, scope, put_scope}
+use Rattle.interleave.specs.World.{Live, Scope, World, Whereabouts, Queue, Hand, Parked, task, scope, put_scope}
 use Rattle.interleave.specs.World.{in_queue, in_hand, hand_is_free}
 use Rattle.interleave.specs.declared.doing.Doing.{Doing}
 use Rattle.interleave.specs.declared.event.ScopeId.{ScopeId as rScopeId}

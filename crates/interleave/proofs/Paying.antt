@@ -1,5 +1,5 @@
 -- A turn that does something takes a step, and one that takes a step does something or is stopped.
-use Rattle.std.proofs.Common.{◌≡◌, ℕ, zero, suc, ◌+◌, ◌<◌, ◌≤◌, List, [], ◌∷◌, ◌++◌, length, refl, sym, ap, ◌∙◌, inl}
+use Rattle.std.proofs.Common.{◌≡◌, ℕ, zero, suc, ◌+◌, ◌≤◌, List, [], ◌∷◌, ◌++◌, refl, sym, inl}
 use Rattle.std.proofs.Common.{inr, arith, le_refl}
 use Rattle.std.specs.Prelude.{◌⊎◌, Bool, true, false, Ok, Err, ok_or, Option}
 use Rattle.effects.proofs.Members.{false_true}

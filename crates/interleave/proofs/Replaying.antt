@@ -1,9 +1,8 @@
 -- Lists of events, one after the other.
-use Rattle.std.proofs.Common.{◌≡◌, ℕ, ◌+◌, List, [], ◌∷◌, Option, Some, None, refl, sym, ap, ◌∙◌, subst, map, arith}
+use Rattle.std.proofs.Common.{◌≡◌, ℕ, ◌+◌, List, ◌∷◌, sym, ap, ◌∙◌, subst, map}
 use Rattle.effects.specs.Rounds.{needs_of}
-use Rattle.interleave.specs.Events.{Event}
-use Rattle.interleave.specs.Jobs.{IsJob, program_of, lists_of, budget_of}
-use Rattle.interleave.specs.Replay.{Replayed, Legal, IllegalAt, go_or, replay_from}
+use Rattle.interleave.specs.Jobs.{program_of, budget_of}
+use Rattle.interleave.specs.Replay.{Replayed, IllegalAt, go_or, replay_from}
 use Rattle.interleave.specs.Replaying.{event}
 use Rattle.interleave.specs.Shown.{Becomes, Refuses, Shows, next_world}
 use Rattle.interleave.specs.World.{World}

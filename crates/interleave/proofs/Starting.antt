@@ -1,5 +1,5 @@
 -- The world at the start, as the tables in Rust show it.
-use Rattle.std.proofs.Common.{◌≡◌, ℕ, List, [], ◌∷◌, Option, Some, None, refl, sym, ap, ◌∙◌, subst}
+use Rattle.std.proofs.Common.{◌≡◌, ℕ, [], ◌∷◌, Some, None, refl, sym, subst}
 use Rattle.std.specs.Prelude.{Bool, true, false, nat_eq, map, if◌then◌else◌}
 use Rattle.std.specs.HashMap.{get}
 use Rattle.std.specs.HashSet.{contains}
@@ -12,7 +12,7 @@ use Rattle.interleave.specs.Events.{new_task, new_scope}
 use Rattle.interleave.specs.Jobs.{program_of, lists_of, budget_of}
 use Rattle.interleave.specs.Replay.{start_of}
 use Rattle.interleave.specs.Shown.{AreBoth, IsTaskOf, IsBookOf, Shows, is_path, is_scope, scope_id, stake}
-use Rattle.interleave.specs.World.{Live, Stake, Scope, same_path, same_scope, root_scope, scope}
+use Rattle.interleave.specs.World.{Live, Stake, same_path, same_scope, root_scope, scope}
 use Rattle.interleave.specs.declared.doing.Doing.TheVariants.{Starts}
 use Rattle.interleave.specs.declared.event.ScopeId.{ScopeId as rScopeId}
 use Rattle.interleave.specs.declared.scope.Scope.{Scope as rScope}

@@ -1,14 +1,14 @@
 -- A world in Rust after an event: its tables, the hands, and the events that led to it.
 use Rattle.std.proofs.Common.{◌≡◌, ℕ, List, [], ◌∷◌, ◌++◌, Option, Some, None, refl, sym, ap, ◌∙◌, subst}
 use Rattle.std.proofs.lemmas.Option.{none-some, same_Some}
-use Rattle.std.specs.Prelude.{Bool, true, false, ◌&&◌, ◌||◌, not, nat_eq, ℤ, if◌then◌else◌}
+use Rattle.std.specs.Prelude.{Bool, true, false, ◌&&◌, not, ℤ, if◌then◌else◌}
 use Rattle.types.specs.Code.{Program}
 use Rattle.types.specs.Outcome.{Budget}
 use Rattle.types.specs.declared.path.Path.{Path}
 use Rattle.effects.specs.Rounds.{needs_of}
 use Rattle.own_run.specs.Results.{and_then}
 use Rattle.own_run.proofs.SettledResults.{gives}
-use Rattle.interleave.specs.Events.{Event, next, after}
+use Rattle.interleave.specs.Events.{Event, after}
 use Rattle.interleave.specs.Replay.{does, hands_on, start_of}
 use Rattle.interleave.specs.Shown.{AreBoth, IsTaskOf, IsBookOf, is_path, is_scope, scope_id}
 use Rattle.interleave.specs.World.{Live, Scope, World, same_path, task, put_task, scope, put_scope, in_hand, hand_is_free}

@@ -1,11 +1,10 @@
 -- What is told of a world, by what the root has made and what its scope keeps.
-use Rattle.std.proofs.Common.{◌≡◌, ℕ, List, [], ◌∷◌, Option, Some, None, refl, sym, ap, ◌∙◌, subst}
-use Rattle.std.proofs.lemmas.Option.{none-some, same_Some}
-use Rattle.std.specs.Prelude.{Bool, true, false, map}
+use Rattle.std.proofs.Common.{◌≡◌, List, [], Option, Some, None, refl, sym, ap, ◌∙◌, subst}
+use Rattle.std.proofs.lemmas.Option.{same_Some}
+use Rattle.std.specs.Prelude.{true, false, map}
 use Rattle.std.specs.HashMap.{get}
 use Rattle.types.specs.Outcome.{Outcome, outcome}
 use Rattle.types.specs.declared.path.Path.{Path}
-use Rattle.effects.proofs.Members.{false_true}
 use Rattle.effects.specs.Rounds.{needs_of}
 use Rattle.own_run.specs.Given.{told_of}
 use Rattle.own_run.specs.OwnRun.{Start}
@@ -16,14 +15,13 @@ use Rattle.own_run.specs.Translation.{task_result}
 use Rattle.own_run.specs.declared.result.TaskResult.{TaskResult as Made}
 use Rattle.gather.specs.GivesBack.{GiveBack}
 use Rattle.gather.proofs.TasksGiveBack.{give_back}
-use Rattle.interleave.specs.Courses.{Course, course_of, further, IsDoing, IsEndOf}
+use Rattle.interleave.specs.Courses.{Course, course_of, IsEndOf}
 use Rattle.interleave.specs.Events.{only_if}
 use Rattle.interleave.specs.Jobs.{IsJob, program_of, lists_of, budget_of}
 use Rattle.interleave.specs.Replay.{hands_on}
-use Rattle.interleave.specs.Shown.{AreResultsOf, IsTaskOf, IsBookOf, IsDoingThere, Shows, is_path, is_scope, scope_id}
+use Rattle.interleave.specs.Shown.{IsTaskOf, IsBookOf, IsDoingThere, Shows, is_path, is_scope, scope_id}
 use Rattle.interleave.specs.World.{Live, Scope, World, Whereabouts, Queue, Hand, Parked, task, scope, root_scope}
 use Rattle.interleave.specs.Worlds.{outcome_of}
-use Rattle.interleave.specs.declared.doing.Doing.{Doing}
 use Rattle.interleave.specs.declared.doing.Doing.TheVariants.{AtEnd}
 use Rattle.interleave.specs.declared.event.ScopeId.{ScopeId as rScopeId}
 use Rattle.interleave.specs.declared.job.Job.{Job}
@@ -32,7 +30,6 @@ use Rattle.interleave.specs.declared.task.Task.{Task as rTask}
 use Rattle.interleave.specs.declared.world.World.{World as rWorld}
 use Rattle.interleave.proofs.Behind.{results_of}
 use Rattle.interleave.proofs.Came.{ends_with, results_came}
-use Rattle.interleave.proofs.Jobs.{fits}
 use Rattle.interleave.proofs.NeverStuck.{outcome_told}
 use Rattle.interleave.proofs.Tables.{there, not_there}
 
@@ -108,9 +105,9 @@ module _ (r : rWorld) (ok : IsJob r.job) (w : World) (h : Shows r w) (id : rScop
         gives_back =
             subst (λ rs. GiveBack (task_result made) rs) (sym are)
             (subst (λ y. GiveBack y book.0.results) (sym last.ended.is)
-            (give_back (program_of r.job) ok.sound ok.accepted (lists_of r.job) (budget_of r.job) (fits r.job ok) last.before.start
+            (give_back (program_of r.job) ok.sound ok.accepted (lists_of r.job) (budget_of r.job) ok.fits last.before.start
             (record { frames = []; state = last.ended.state }) last.ended.come.stands book.0.results
-            (results_came (program_of r.job) ok.sound ok.accepted r.job.w0 ok.least (lists_of r.job) (budget_of r.job) (fits r.job ok)
+            (results_came (program_of r.job) ok.sound ok.accepted r.job.w0 ok.least (lists_of r.job) (budget_of r.job) ok.fits
             h.events w h.led (scope_id id) book.0 book.1)))
 
         handed : hands_on_so live.0.start live.0.receipts ≡ task_result made
@@ -134,5 +131,5 @@ module _ (r : rWorld) (ok : IsJob r.job) (w : World) (h : Shows r w) (id : rScop
             → told_of (program_of r.job) x ≡ outcome (program_of r.job) (lists_of r.job) (budget_of r.job)
         one_thread_so x e =
             same_Some _ _ (sym (told_so x e)
-            ∙ outcome_told (program_of r.job) ok.sound ok.accepted r.job.w0 ok.least (lists_of r.job) (budget_of r.job) (fits r.job ok)
+            ∙ outcome_told (program_of r.job) ok.sound ok.accepted r.job.w0 ok.least (lists_of r.job) (budget_of r.job) ok.fits
             h.events w h.led book.0 (ap (λ i. scope i w.scopes) (sym named) ∙ book.1) (sym book.2.passed ∙ passed))

@@ -1,7 +1,7 @@
 -- What a turn shows of a task that was to run.
-use Rattle.std.proofs.Common.{◌≡◌, ℕ, zero, suc, ◌+◌, ◌≤◌, List, [], ◌∷◌, ◌++◌, length, Some, refl, sym, ap, ◌∙◌, subst}
+use Rattle.std.proofs.Common.{◌≡◌, ℕ, ◌+◌, ◌≤◌, List, [], ◌∷◌, ◌++◌, length, Some, refl, sym, ap, ◌∙◌, subst}
 use Rattle.std.proofs.Common.{inl, inr, arith}
-use Rattle.std.specs.Prelude.{Bool, true, false, ◌⊎◌}
+use Rattle.std.specs.Prelude.{false, ◌⊎◌}
 use Rattle.std.proofs.lemmas.List.{length-append}
 use Rattle.types.specs.Code.{Program}
 use Rattle.types.specs.Run.{State}
@@ -9,7 +9,7 @@ use Rattle.types.specs.Translation.{program}
 use Rattle.effects.specs.Rounds.{needs_of}
 use Rattle.own_run.specs.Frames.{Frame, Rest, Again, AtEnd, Back, Standing, done_in, turn, IsTask, Follows}
 use Rattle.own_run.specs.Given.{in_truth}
-use Rattle.own_run.specs.MayRun.{MayRun, MayStart, Stays}
+use Rattle.own_run.specs.MayRun.{MayRun, Stays}
 use Rattle.own_run.specs.OwnRun.{Own, Start, Action, Step, Spawn, EnterFinish, begun_by, own_rules, last_action}
 use Rattle.own_run.specs.OwnRun.{next_action}
 use Rattle.own_run.specs.Reached.{begun, turns}
@@ -17,7 +17,7 @@ use Rattle.own_run.specs.Runs.{root, MayStand}
 use Rattle.own_run.specs.RunTurns.{GoesAs, GoesTo, IsTurn, TurnOf}
 use Rattle.own_run.specs.Standings.{IsAt, state_of, with_own}
 use Rattle.own_run.specs.Stops.{stops}
-use Rattle.own_run.specs.Translation.{start, task_result}
+use Rattle.own_run.specs.Translation.{start}
 use Rattle.own_run.specs.declared.run.Run.{Run}
 use Rattle.own_run.specs.declared.start.Start.{Start as rStart}
 use Rattle.own_run.specs.declared.turn.Turn.{Turn}
@@ -39,7 +39,6 @@ use Rattle.interleave.specs.World.{child_path}
 use Rattle.interleave.specs.declared.job.Job.{Job}
 use Rattle.interleave.proofs.Histories.{nil_cons}
 use Rattle.interleave.proofs.Paying.{turn_pays, turn_idle, over_idle, turn_names, Named}
-use Rattle.interleave.proofs.Jobs.{fits}
 
 module _ (j : Job) (ok : IsJob j) where
   abbrev p : Program
@@ -55,7 +54,7 @@ module _ (j : Job) (ok : IsJob j) where
       (goes p (needs_of p) (is_scoped p ok.sound) (is_calm p ok.sound ok.accepted) (provides_needs p ok.sound) (budget_of j).steps
       (root p (lists_of j) (budget_of j)) refl
       (root_begins p (needs_of p) (is_scoped p ok.sound) (is_calm p ok.sound ok.accepted) (provides_needs p ok.sound) (lists_of j)
-      (budget_of j).nest (fits j ok)) h).task
+      (budget_of j).nest ok.fits) h).task
 
   -- where it comes to by a turn
   abbrev next_of : Start → Frame Own → List (Frame Own) → State Own → Standing Own

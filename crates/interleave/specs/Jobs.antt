@@ -1,7 +1,7 @@
 -- What a world goes by, in the words of the definitions.
-use Rattle.std.specs.Prelude.{◌≡◌, ◌≤◌, List, ℤ}
+use Rattle.std.specs.Prelude.{◌≤◌, List, ℤ}
 use Rattle.types.specs.Code.{Program}
-use Rattle.types.specs.Inputs.{IsInput}
+use Rattle.types.specs.Contents.{FitsArrays}
 use Rattle.types.specs.Outcome.{Budget}
 use Rattle.types.specs.Translation.{budget, input}
 use Rattle.types.specs.Typed.{code_of}
@@ -25,6 +25,6 @@ module _ (j : Job) where
   pub record IsJob : Type 0 where
     pub sound : IsSound program_of
     pub accepted : IsAccepted program_of
-    pub fits : IsInput program_of.arrays lists_of
+    pub fits : FitsArrays program_of.arrays lists_of
     pub least : 1 ≤ j.w0
     pub most : j.w0 ≤ 4294967296

@@ -7,6 +7,7 @@ pub mod Jobs
 pub mod Replay
 pub mod Replaying
 pub mod Shown
+pub mod Walks
 pub mod Weights
 pub mod World
 pub mod Worlds

@@ -1,5 +1,5 @@
 -- What a world in Rust stands for: live tasks by their paths, scopes by their names.
-use Rattle.std.specs.Prelude.{ℕ, ◌≡◌, List, Bool, true, false, ◌&&◌}
+use Rattle.std.specs.Prelude.{ℕ, ◌≡◌, List, Bool, true, ◌&&◌}
 use Rattle.std.specs.Prelude.{not, nat_eq, map, Option, Some, None, Vec}
 use Rattle.std.specs.Global.{Global}
 use Rattle.std.specs.Cmp.Lexicographic.{pointwise}

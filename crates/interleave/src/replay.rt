@@ -37,6 +37,7 @@ impl<'p> World<'p> {
 pub fn replay<'p>(job: Job<'p>, events: &[Event]) -> Result<World<'p>, ReplayError>
     requires { IsJob job }
     ensures legal { IfOk result (IsReplayed job.entry events.now) }
+    ensures world { IfOk result IsWorld }
     ensures refused { IfErr result (IsRefused job.entry events.now) }
 {
     let Ok(start) = World::start(job) else {

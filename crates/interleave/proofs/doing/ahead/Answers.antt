@@ -1,10 +1,9 @@
-use Rattle.std.proofs.Common.{◌≡◌, ap, arith, subst}
+use Rattle.std.proofs.Common.{arith, subst}
 use Rattle.effects.specs.Rounds.{needs_of}
 use Rattle.own_run.specs.RunTurns.{IsTurn}
 use Rattle.own_run.proofs.BelongingTasks.{can_turn}
 use Rattle.own_run.proofs.TurnsLeft.{leaves_fewer}
 use Rattle.interleave.specs.Jobs.{program_of, lists_of, budget_of}
-use Rattle.interleave.proofs.Jobs.{fits}
 use Rattle.interleave.proofs.Turning.{may_run, shown}
 use Rattle.interleave.proofs.doing.ahead.Goals as goal
 
@@ -15,7 +14,7 @@ pub advance-requires : goal.advance-requires
 advance-requires c =
     let j = c.args.job in
     let i = c.turns.invariant in
-    can_turn (program_of j) i.job.sound i.job.accepted (lists_of j) (budget_of j) (fits j i.job) c.turns.run
+    can_turn (program_of j) i.job.sound i.job.accepted (lists_of j) (budget_of j) i.job.fits c.turns.run
     (may_run j i.job i.there.0 c.turns.run i.there.1)
 
 pub returns-then-next-steps-clause-same : goal.returns-then-next-steps-clause-same

@@ -1,11 +1,10 @@
-use Rattle.std.proofs.Common.{◌≡◌, ◌∙◌, ◌∷◌, ◌+◌, ap, drop, map, subst, sym}
+use Rattle.std.proofs.Common.{◌∙◌, ◌∷◌, ◌+◌, ap, drop, sym}
 use Rattle.std.proofs.lemmas.List.{drop_all, drop_more}
-use Rattle.interleave.proofs.Jobs.{fits}
 use Rattle.interleave.proofs.Replaying.{goes_on, left_comes, stops_at}
 use Rattle.interleave.proofs.replay.replay.Goals as goal
 
 pub start-requires : goal.start-requires
-start-requires c = fits c.args.job c.requires
+start-requires c = c.requires.fits
 
 pub returns-in-Err-Illegal-clause-refused : goal.returns-in-Err-Illegal-clause-refused
 returns-in-Err-Illegal-clause-refused c =

@@ -1,10 +1,9 @@
-use Rattle.std.proofs.Common.{◌≡◌, ◌∙◌, ap, subst}
+use Rattle.std.proofs.Common.{◌∙◌, ap, subst}
 use Rattle.types.specs.Translation.{program}
 use Rattle.own_run.specs.Reached.{begun}
 use Rattle.own_run.specs.Standings.{IsAt}
 use Rattle.own_run.specs.Translation.{start}
-use Rattle.interleave.specs.Courses.{Course, IsDoing}
-use Rattle.interleave.specs.declared.doing.Doing.{Doing}
+use Rattle.interleave.specs.Courses.{IsDoing}
 use Rattle.interleave.proofs.Turning.{begins}
 use Rattle.interleave.proofs.doing.Doing.look.Goals as goal
 

@@ -1,6 +1,4 @@
-use Rattle.std.proofs.Common.{◌≡◌, ◌∙◌, ap, refl, sym, subst, rules, Some}
-use Rattle.std.specs.Prelude.{true}
-use Rattle.interleave.specs.Ending.{has_ended}
+use Rattle.std.proofs.Common.{◌∙◌, ap, sym, subst}
 use Rattle.interleave.specs.Shown.{Refuses}
 use Rattle.interleave.specs.Events.{Ends}
 use Rattle.interleave.specs.declared.doing.Doing.TheVariants.{AtEnd}

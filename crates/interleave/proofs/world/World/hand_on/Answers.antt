@@ -1,4 +1,4 @@
-use Rattle.std.proofs.Common.{◌≡◌, ◌∙◌, ◌∷◌, [], ap, arith, rules, sym, subst, Some}
+use Rattle.std.proofs.Common.{◌∙◌, ◌∷◌, [], ap, arith, rules, sym, subst, Some}
 use Rattle.std.specs.Prelude.{if◌then◌else◌}
 use Rattle.std.proofs.lemmas.Result.{on_ok_weaker, IfErr-weaker}
 use Rattle.std.specs.HashMap.{get}

@@ -1,4 +1,4 @@
-use Rattle.std.proofs.Common.{◌≡◌, ◌∙◌, ap, sym, Some}
+use Rattle.std.proofs.Common.{◌∙◌, ap, sym, Some}
 use Rattle.interleave.proofs.Told.{gives_back, one_thread_so, told_so}
 use Rattle.interleave.proofs.world.World.outcome.Goals as goal
 

@@ -1,4 +1,4 @@
-use Rattle.std.proofs.Common.{◌≡◌, ◌∙◌, sym}
+use Rattle.std.proofs.Common.{◌∙◌, sym}
 use Rattle.interleave.specs.declared.world.World.{World as rWorld}
 use Rattle.interleave.proofs.AtEnds.{park_done, park_late, park_refused, park_stands}
 use Rattle.interleave.proofs.world.World.park.Goals as goal

@@ -3,7 +3,7 @@ use Rattle.interleave.specs.Events.{Pass}
 use Rattle.interleave.specs.Shown.{Shows, next_world, scope_id}
 use Rattle.interleave.specs.World.{World}
 use Rattle.interleave.specs.declared.world.World.{World as rWorld}
-use Rattle.interleave.proofs.Moves.{passes, passes_not}
+use Rattle.interleave.proofs.Moves.{passes}
 use Rattle.interleave.proofs.world.World.pass.Goals as goal
 
 pub returns-clause-passed : goal.returns-clause-passed

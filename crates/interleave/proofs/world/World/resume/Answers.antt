@@ -1,11 +1,9 @@
-use Rattle.std.proofs.Common.{◌≡◌, ◌∙◌, map, sym, subst}
-use Rattle.own_run.specs.Translation.{task_result}
+use Rattle.std.proofs.Common.{◌∙◌, sym, subst}
 use Rattle.interleave.specs.Events.{Resume}
-use Rattle.interleave.specs.Shown.{AreResultsOf, Refuses}
-use Rattle.interleave.specs.World.{Scope}
+use Rattle.interleave.specs.Shown.{Refuses}
 use Rattle.interleave.specs.declared.world.World.{World as rWorld}
 use Rattle.interleave.proofs.AtEnds.{at_exit}
-use Rattle.interleave.proofs.Behind.{full_stays, lost_keeps, may_go, results_of, resumed, roomy_stands, same_at, taken_keeps}
+use Rattle.interleave.proofs.Behind.{lost_keeps, may_go, results_of, resumed, roomy_stands, same_at, taken_keeps}
 use Rattle.interleave.proofs.world.World.resume.Goals as goal
 
 pub returns-then-not-may_leave-clause-refused : goal.returns-then-not-may_leave-clause-refused

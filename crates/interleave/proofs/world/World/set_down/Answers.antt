@@ -1,4 +1,4 @@
-use Rattle.std.proofs.Common.{◌≡◌, ◌∙◌, rules, subst}
+use Rattle.std.proofs.Common.{◌∙◌, rules, subst}
 use Rattle.std.proofs.lemmas.Option.{same_Some}
 use Rattle.interleave.specs.Ending.{IsSetDown}
 use Rattle.interleave.proofs.world.World.set_down.Goals as goal

@@ -4,7 +4,7 @@ use Rattle.interleave.specs.Shown.{Shows, next_world}
 use Rattle.interleave.specs.World.{World}
 use Rattle.interleave.specs.declared.task.Whereabouts.TheVariants.{Queue}
 use Rattle.interleave.specs.declared.world.World.{World as rWorld}
-use Rattle.interleave.proofs.Moves.{stolen, not_stolen}
+use Rattle.interleave.proofs.Moves.{stolen}
 use Rattle.interleave.proofs.world.World.steal.Goals as goal
 
 pub returns-clause-stolen : goal.returns-clause-stolen

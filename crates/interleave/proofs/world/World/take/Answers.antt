@@ -4,7 +4,7 @@ use Rattle.interleave.specs.Shown.{Shows, next_world}
 use Rattle.interleave.specs.World.{World}
 use Rattle.interleave.specs.declared.task.Whereabouts.TheVariants.{Hand}
 use Rattle.interleave.specs.declared.world.World.{World as rWorld}
-use Rattle.interleave.proofs.Moves.{taken, not_taken, hand_full}
+use Rattle.interleave.proofs.Moves.{taken}
 use Rattle.interleave.proofs.world.World.take.Goals as goal
 
 pub returns-clause-taken : goal.returns-clause-taken

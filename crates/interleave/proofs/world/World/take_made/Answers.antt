@@ -1,4 +1,4 @@
-use Rattle.std.proofs.Common.{◌≡◌, ◌∙◌, ap, rules, sym, Some}
+use Rattle.std.proofs.Common.{◌≡◌, ◌∙◌, ap, rules}
 use Rattle.std.proofs.lemmas.Option.{same_Some}
 use Rattle.interleave.specs.declared.doing.Doing.TheVariants.{Lost}
 use Rattle.interleave.specs.declared.task.Task.{Task as rTask}
