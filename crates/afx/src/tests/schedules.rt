@@ -15,7 +15,7 @@ use types::outcome::Outcome;
 use workers::run::{Order, run_by};
 
 /// A program without a race.
-fn accepted(rt: &(impl Abort + Threads + Sync), alloc: Global, text: &str) -> Accepted {
+pub fn accepted(rt: &(impl Abort + Threads + Sync), alloc: Global, text: &str) -> Accepted {
     let program = parse(alloc, text).expect(rt, "a text of the language");
     let typed = type_check(alloc, program).expect(rt, "a program");
     match check(rt, alloc, typed) {
@@ -43,7 +43,7 @@ const READERS: &str = "main { array a: byte[2]; a[1] = 4;
 const OWNER: &str = "main { array a: int[1]; array b: int[1];
   async { finish { async { a[0] = 1; } } print a[0]; async { b[0] = 2; } } print 9; }";
 
-const FAULTS: &str = "main { array a: int[1]; array b: int[1];
+pub const FAULTS: &str = "main { array a: int[1]; array b: int[1];
   finish { async { a[0] = 1; fault 4; } async { finish { async { b[0] = 2; fault 5; } } print 1; } }
   print 2; }";
 

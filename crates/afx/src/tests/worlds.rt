@@ -1,0 +1,324 @@
+//! Worlds that lists of events lead to, and walks at random.
+
+use crate::tests::rows::TWO_ARRAYS;
+use crate::tests::schedules::{FAULTS, accepted};
+use interleave::event::{Event, ScopeId};
+use interleave::job::Job;
+use interleave::replay::replay;
+use interleave::walk::random_walk;
+use std::alloc::{AllocError, Global};
+use std::process::Abort;
+use std::test::Fail;
+use std::thread::Threads;
+use types::budget::Budget;
+use types::input::Input;
+use types::outcome::Outcome;
+use types::path::Path;
+
+/// The turns of a task's path.
+type Turns = &'static [u32];
+
+/// An event, with the path of its task or of its scope's owner, whose number comes last.
+#[derive(Clone, Copy)]
+enum Happens {
+    Take(u32, Turns),
+    Steal(u32, u32, Turns),
+    Step(Turns),
+    Replenish(Turns),
+    Spawn(Turns),
+    Open(Turns),
+    Park(Turns),
+    End(Turns),
+    Pass(Turns, u32),
+    Resume(u32, Turns),
+}
+
+use Happens::{End, Open, Park, Pass, Replenish, Resume, Spawn, Steal, Step, Take};
+
+/// A path.
+fn path(alloc: Global, turns: Turns) -> Result<Path, AllocError> {
+    let turns = Vec::from_slice(alloc, turns)?;
+    Ok(Path { turns })
+}
+
+/// The name of a scope.
+fn scope(alloc: Global, owner: Turns, number: u32) -> Result<ScopeId, AllocError> {
+    let owner = path(alloc, owner)?;
+    Ok(ScopeId { owner, number })
+}
+
+/// The event of a row.
+fn event(alloc: Global, happens: Happens) -> Result<Event, AllocError> {
+    let event = match happens {
+        Take(worker, turns) => Event::Take {
+            worker,
+            path: path(alloc, turns)?,
+        },
+        Steal(worker, from, turns) => Event::Steal {
+            worker,
+            from,
+            path: path(alloc, turns)?,
+        },
+        Step(turns) => Event::Step {
+            path: path(alloc, turns)?,
+        },
+        Replenish(turns) => Event::Replenish {
+            path: path(alloc, turns)?,
+        },
+        Spawn(turns) => Event::Spawn {
+            path: path(alloc, turns)?,
+        },
+        Open(turns) => Event::Open {
+            path: path(alloc, turns)?,
+        },
+        Park(turns) => Event::Park {
+            path: path(alloc, turns)?,
+        },
+        End(turns) => Event::End {
+            path: path(alloc, turns)?,
+        },
+        Pass(owner, number) => Event::Pass {
+            scope: scope(alloc, owner, number)?,
+        },
+        Resume(worker, turns) => Event::Resume {
+            worker,
+            path: path(alloc, turns)?,
+        },
+    };
+    Ok(event)
+}
+
+/// The events of several pieces of a row.
+fn events(alloc: Global, pieces: &[&[Happens]]) -> Result<Vec<Event>, AllocError> {
+    let mut events = Vec::new(alloc);
+    for piece in pieces {
+        for happens in *piece {
+            events.push(event(alloc, *happens)?)?;
+        }
+    }
+    Ok(events)
+}
+
+const ROOT: Turns = &[];
+
+const FIRST: Turns = &[1];
+
+const SECOND: Turns = &[2];
+
+const THIRD: Turns = &[3];
+
+const FOURTH: Turns = &[4];
+
+/// One worker over the two arrays, up to the spawn of the task that writes the first.
+const BEGIN: &[Happens] = &[Take(0, ROOT), Open(ROOT), Spawn(ROOT)];
+
+/// The root and then the task go on in the first worker's hand, and the finish ends.
+const GO_ON: &[Happens] = &[
+    Step(ROOT),
+    Park(ROOT),
+    Take(0, FIRST),
+    Step(FIRST),
+    End(FIRST),
+    Pass(ROOT, 1),
+    Resume(0, ROOT),
+];
+
+/// Behind the finish.
+const END: &[Happens] = &[Step(ROOT), Park(ROOT), Pass(ROOT, 0)];
+
+const THREE: &str = "main { finish { async { skip; } async { skip; } async { skip; } } }";
+
+const FOUR: &str =
+    "main { finish { async { skip; } async { skip; } async { skip; } async { skip; } } }";
+
+/// With weight 1 each async needs more.
+const SPAWN_THREE: &[Happens] = &[
+    Take(0, ROOT),
+    Open(ROOT),
+    Replenish(ROOT),
+    Spawn(ROOT),
+    Replenish(ROOT),
+    Spawn(ROOT),
+    Replenish(ROOT),
+    Spawn(ROOT),
+];
+
+/// With weight 8 the fourth does.
+const SPAWN_FOUR: &[Happens] = &[
+    Take(0, ROOT),
+    Open(ROOT),
+    Spawn(ROOT),
+    Spawn(ROOT),
+    Spawn(ROOT),
+    Replenish(ROOT),
+    Spawn(ROOT),
+];
+
+/// Three tasks end behind their parent.
+const END_THREE: &[Happens] = &[
+    Park(ROOT),
+    Take(0, FIRST),
+    Step(FIRST),
+    End(FIRST),
+    Take(0, SECOND),
+    Step(SECOND),
+    End(SECOND),
+    Take(0, THIRD),
+    Step(THIRD),
+    End(THIRD),
+];
+
+const END_FOURTH: &[Happens] = &[Take(0, FOURTH), Step(FOURTH), End(FOURTH)];
+
+const PASS_FIRST: &[Happens] = &[Pass(ROOT, 1)];
+
+/// A program on zeros, the weight that a scope issues at a time, events in pieces, and what is told behind
+/// them: the book of the root's first finish and the printed lines, or which event isn't legal.
+type Row = (
+    &'static str,
+    u64,
+    &'static [&'static [Happens]],
+    &'static str,
+);
+
+const ROWS: &[Row] = &[
+    (TWO_ARRAYS, 8, &[BEGIN, GO_ON, END], "8 8 [[7, 8]]"),
+    (TWO_ARRAYS, 8, &[BEGIN, GO_ON], "8 8 none"),
+    (TWO_ARRAYS, 8, &[BEGIN], "8 0 none"),
+    (
+        TWO_ARRAYS,
+        8,
+        &[&[Take(0, ROOT), Open(ROOT), Park(ROOT)]],
+        "IllegalAt(2)",
+    ),
+    (
+        TWO_ARRAYS,
+        8,
+        &[&[Take(0, ROOT), Open(ROOT), Pass(ROOT, 1)]],
+        "IllegalAt(2)",
+    ),
+    (
+        TWO_ARRAYS,
+        8,
+        &[BEGIN, &[Steal(1, 0, FIRST), Take(1, FIRST)]],
+        "8 0 none",
+    ),
+    (
+        TWO_ARRAYS,
+        8,
+        &[BEGIN, &[Steal(1, 1, FIRST)]],
+        "IllegalAt(3)",
+    ),
+    (
+        TWO_ARRAYS,
+        8,
+        &[BEGIN, &[Steal(0, 0, FIRST)]],
+        "IllegalAt(3)",
+    ),
+    (TWO_ARRAYS, 8, &[BEGIN, &[Take(0, FIRST)]], "IllegalAt(3)"),
+    (TWO_ARRAYS, 8, &[BEGIN, GO_ON, END, END], "IllegalAt(13)"),
+    (TWO_ARRAYS, 8, &[&[Take(0, FIRST)]], "IllegalAt(0)"),
+    (THREE, 1, &[SPAWN_THREE], "4 0 none"),
+    (THREE, 1, &[SPAWN_THREE, END_THREE, PASS_FIRST], "4 4 none"),
+    (THREE, 1, &[SPAWN_THREE, PASS_FIRST], "IllegalAt(8)"),
+    (FOUR, 8, &[SPAWN_FOUR], "16 0 none"),
+    (
+        FOUR,
+        8,
+        &[SPAWN_FOUR, END_THREE, PASS_FIRST],
+        "IllegalAt(17)",
+    ),
+    (
+        FOUR,
+        8,
+        &[SPAWN_FOUR, END_THREE, END_FOURTH, PASS_FIRST],
+        "16 16 none",
+    ),
+];
+
+/// What is told behind the events of a row.
+fn told(rt: &(impl Abort + Threads + Sync), alloc: Global, row: Row) -> Result<String, Fail> {
+    let (text, w0, pieces, _) = row;
+    let accepted = accepted(rt, alloc, text);
+    let input = Input::zeros(alloc, accepted.typed())?;
+    let job = Job::new(alloc, &accepted, &input, Budget::usual(), w0).expect(rt, "a weight");
+    let events = events(alloc, pieces)?;
+    let world = match replay(job, &events) {
+        Ok(world) => world,
+        Err(error) => return Ok(format!(in alloc; "{error:?}")?),
+    };
+    let (issued, returned) = world.book(&scope(alloc, ROOT, 1)?).expect(rt, "a finish");
+    let outcome = world.outcome().expect(rt, "memory");
+    let lines = match &outcome {
+        Some(Outcome::Ended { lines, .. }) => format!(in alloc; "{lines:?}")?,
+        Some(Outcome::Stopped) => format!(in alloc; "stopped")?,
+        None => format!(in alloc; "none")?,
+    };
+    Ok(format!(in alloc; "{issued} {returned} {lines}")?)
+}
+
+#[test]
+fn events_are_legal_or_the_first_that_is_not_is_told(rt: HostRuntime) -> Result<(), Fail> {
+    let alloc = rt.alloc();
+    for row in ROWS {
+        let (text, _, _, want) = *row;
+        let told = told(&rt, alloc, *row)?;
+        assert_eq!(rt; told.as_str(), want, "events of {text}");
+    }
+    Ok(())
+}
+
+#[test]
+fn weights_are_halved_and_issued(rt: HostRuntime) -> Result<(), Fail> {
+    let alloc = rt.alloc();
+    let accepted = accepted(&rt, alloc, FOUR);
+    let input = Input::zeros(alloc, accepted.typed())?;
+    let job = Job::new(alloc, &accepted, &input, Budget::usual(), 8).expect(&rt, "a weight");
+    let events = events(alloc, &[SPAWN_FOUR])?;
+    let world = replay(job, &events).expect(&rt, "legal events");
+    for (turns, want) in [(FIRST, 4), (SECOND, 2), (THIRD, 1), (FOURTH, 4), (ROOT, 5)] {
+        let weight = world.weight(&path(alloc, turns)?);
+        assert_eq!(rt; weight, Some(want), "the weight of {turns:?}");
+    }
+    Ok(())
+}
+
+/// Doubles each of 16 elements, half by half, each left half as a task.
+const HALVES: &str = "proc twice(mut s: int) {
+  if len(s) <= 1 { s[0] = s[0] * 2 + 1; }
+  else { split s at len(s) / 2 as l, r { async { twice(l); } twice(r); } }
+}
+main { array a: int[16]; finish { twice(a); } print a[0], a[15]; }";
+
+const NESTED: &str = "main { array a: int[2]; array b: int[1];
+  async { finish { async { a[0] = 1; async { b[0] = 3; } } } print a[0]; async { a[1] = 2; } }
+  finish { finish { async { print 4; } } async { print 5; } } print 9; }";
+
+const STOPPING: &str =
+    "main { finish { async { while true { skip; } } async { print 1; } } print 2; }";
+
+#[test]
+fn walks_come_to_the_one_thread_outcome(rt: HostRuntime) -> Result<(), Fail> {
+    let alloc = rt.alloc();
+    let budget = Budget::new(60, 100).expect(&rt, "a budget");
+    for text in [HALVES, FAULTS, NESTED, STOPPING] {
+        let accepted = accepted(&rt, alloc, text);
+        let input = Input::zeros(alloc, accepted.typed())?;
+        let serial = serial_run::serial(alloc, accepted.typed(), &input, budget)?;
+        let serial = format!(in alloc; "{serial:?}")?;
+        for seed in 0..50u32 {
+            let workers = seed * 9 % 64 + 1;
+            let job = Job::new(alloc, &accepted, &input, budget, u64::from(seed % 9 + 1));
+            let job = job.expect(&rt, "a weight");
+            let walk = random_walk(job, workers, u64::from(seed), 1_000_000).expect(&rt, "memory");
+            let outcome = walk
+                .world
+                .outcome()
+                .expect(&rt, "memory")
+                .expect(&rt, "an end");
+            let outcome = format!(in alloc; "{outcome:?}")?;
+            assert_eq!(rt; outcome.as_str(), serial.as_str(), "walk {seed} of {text}");
+        }
+    }
+    Ok(())
+}
