@@ -50,7 +50,7 @@ use Rattle.interleave.proofs.Lookups.{scopes_same, scope_id as named_so}
 use Rattle.interleave.proofs.Outcomes.{IsSound, replays_are_worlds, sound}
 use Rattle.interleave.proofs.OwnTasks.{IsAtLevel, start_path}
 use Rattle.interleave.proofs.Present.{IsThere}
-use Rattle.interleave.proofs.Tables.{there, not_there, tasks_put, scopes_put, led_on}
+use Rattle.interleave.proofs.Tables.{there, not_there, tasks_put, paths_put, paths_without, scopes_put, led_on}
 use Rattle.own_run.proofs.SettledResults.{paths_same}
 
 -- ---- the next action
@@ -389,6 +389,7 @@ module _ (r : rWorld) (ok : IsJob r.job) (w : World) (h : Shows r w) where
             events = h.events ++ Ends path.turns.items ∷ [];
             led = led_on p r.job.w0 (lists_of r.job) (budget_of r.job) (Ends path.turns.items) h.events w without h.led end_legal;
             tasks = tasks_so;
+            paths = paths_without found.its.path found.its w.live (ap (λ x. task x w.live) found.named ∙ found.lives) h.paths;
             scopes = scopes_put (get is_scope r.scopes) (get is_scope new.scopes) inner.scope to_book its_book.0
                 (give_back inner.weight (handed ∷ []) its_book.0) w.scopes h.scopes its_book.1
                 (named_so (scope_id inner.scope) w.scopes its_book.0 its_book.1)
@@ -452,6 +453,7 @@ module _ (r : rWorld) (ok : IsJob r.job) (w : World) (h : Shows r w) where
                   };
                 })
                 each;
+            paths = paths_put parked found.its w.live (ap (λ x. task x w.live) found.named ∙ found.lives) h.paths;
             scopes = scopes_put (get is_scope r.scopes) (get is_scope new.scopes) inner.scope to_book its_book.0
                 (give_back inner.weight [] its_book.0) w.scopes h.scopes its_book.1
                 (named_so (scope_id inner.scope) w.scopes its_book.0 its_book.1) (gives its_book.0 its_book.2) each_scope;
@@ -481,6 +483,7 @@ module _ (r : rWorld) (w : World) (h : Shows r w) where
         (both_still (IsTaskOf r.job) (is_path path q) to k (get is_path r.tasks q) (task q.turns.items w.live) still
         (λ e. subst (λ x. AreBoth (IsTaskOf r.job) (Some k) (task x w.live)) (paths_same path.turns.items q.turns.items e)
         (subst (λ o. AreBoth (IsTaskOf r.job) o (task path.turns.items w.live)) at (h.tasks path))) (h.tasks q));
+    paths = h.paths;
     scopes = h.scopes;
     hands = h.hands;
   }
@@ -492,6 +495,7 @@ module _ (r : rWorld) (w : World) (h : Shows r w) where
     events = h.events;
     led = h.led;
     tasks = h.tasks;
+    paths = h.paths;
     scopes = λ q. subst (λ o. AreBoth IsBookOf o (scope (scope_id q) w.scopes)) (sym (each q))
         (both_still IsBookOf (is_scope id q) to s (get is_scope r.scopes q) (scope (scope_id q) w.scopes) still
         (λ e. subst (λ x. AreBoth IsBookOf (Some s) (scope x w.scopes)) (scopes_same (scope_id id) (scope_id q) e)

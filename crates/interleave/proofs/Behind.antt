@@ -51,7 +51,7 @@ use Rattle.interleave.proofs.Came.{results_came}
 use Rattle.interleave.proofs.Histories.{cons_head, nil_cons}
 use Rattle.interleave.proofs.Lookups.{task_path}
 use Rattle.interleave.proofs.Outcomes.{results_are_own}
-use Rattle.interleave.proofs.Tables.{there, not_there, tasks_put, free_put, led_on}
+use Rattle.interleave.proofs.Tables.{there, not_there, tasks_put, paths_put, free_put, led_on}
 use Rattle.interleave.proofs.Turning.{its_task}
 
 -- ---- a run behind a finish
@@ -259,6 +259,7 @@ module _ (old : rWorld) (ok : IsJob old.job) (path : Path) (m : MayLeave old pat
     events = h.events;
     led = h.led;
     tasks = h.tasks;
+    paths = h.paths;
     scopes = h.scopes;
     hands = λ v. same_hands v ∙ h.hands v;
   }
@@ -427,6 +428,7 @@ module _ (old : rWorld) (ok : IsJob old.job) (path : Path) (m : MayLeave old pat
                   to h.led legal;
               tasks = tasks_put old.job (get is_path old.tasks) (get is_path r3.tasks) path behind.to it.its left w.live h.tasks it.lives named
                   its_new (each_task behind.to behind.each);
+              paths = paths_put left it.its w.live (ap (λ x. task x w.live) named ∙ it.lives) h.paths;
               scopes = (taken_shown w h).scopes;
               hands = λ v. hand v
                   ∙ ap (λ (r : rWorld). if nat_eq worker v then true else contains nat_eq r.hands v) both_others

@@ -17,6 +17,7 @@ use Rattle.own_run.specs.OwnRun.{EndTask, last_action, at_first, beginning}
 use Rattle.own_run.specs.Given.{in_truth, own, root_of}
 use Rattle.own_run.proofs.SettledResults.{paths_same}
 use Rattle.own_run.proofs.Begun.{run_tells}
+use Rattle.interleave.specs.Candidates.{candidates, in_hand as hand_events, when_parked}
 use Rattle.interleave.specs.World.{same_path, ScopeId, Stake, Live, Scope, World, Whereabouts, Queue, Hand, Parked}
 use Rattle.interleave.specs.World.{same_scope, root_scope, task, scope, in_queue, in_hand, is_parked, hand_of}
 use Rattle.interleave.specs.World.{hand_is_free, weight_in, held}
@@ -191,6 +192,11 @@ no_more : (ss : List Stake) → 0 ≡ length ss → ss ≡ []
 no_more [] e = refl
 no_more (s ∷ ss) e = absurd (omega (arith, e))
 
+hand_place : (x : Whereabouts) (v : ℕ) → hand_of x ≡ Some v → x ≡ Hand v
+hand_place (Hand u) v e = ap Hand (same_Some _ _ e)
+hand_place (Queue u) v e = absurd (none-some _ e)
+hand_place Parked v e = absurd (none-some _ e)
+
 found_goes : {A : Type 0} (o : Option A) (r : A) (go : A → Option World) → o ≡ Some r → and_then o go ≡ go r
 found_goes o r go e = ap (λ o. and_then o go) e
 
@@ -204,13 +210,18 @@ module _ (p : Program) (needs : Codes → Needs) (fresh w0 : ℕ) (least : 1 ≤
   abbrev Goes : Type 0
   Goes = IsFree p needs fresh w0 w ⊎ IsSpent p needs fresh w0 w ⊎ IsUnsettled p needs fresh w0 w
 
-  free : (e : Event) (b : World) → event p needs fresh w0 e w ≡ Some b → Goes
-  free e b f = inl (record { first = e; to = b; legal = f })
+  free : (q : List ℕ) (t : Live) → task q w.live ≡ Some t → (e : Event) → Contains (candidates 0 q t.place t.stakes) e
+      → (b : World) → event p needs fresh w0 e w ≡ Some b → Goes
+  free q t lives e c b f = inl (record { first = e; to = b; legal = f; path = q; its = t; lives = lives; among = c })
 
   -- ---- a task in a hand
   module _ (q : List ℕ) (t : Live) (lives : task q w.live ≡ Some t) (v : ℕ) (hand : hand_of t.place ≡ Some v) where
     awake : is_parked t.place ≡ false
     awake = hand_awake t.place v hand
+
+    -- an event of a task in a hand
+    free_at : (e : Event) → Contains (hand_events q) e → (b : World) → event p needs fresh w0 e w ≡ Some b → Goes
+    free_at e c = free q t lives e (subst (λ x. Contains (candidates 0 q x t.stakes) e) (sym (hand_place t.place v hand)) c)
 
     its : IsOwnTask p needs fresh w0 root nameless t
     its = h.own.tasks q t lives
@@ -343,7 +354,7 @@ module _ (p : Program) (needs : Codes → Needs) (fresh w0 : ℕ) (least : 1 ≤
 
     replenishes : (s : Stake) (outer : List Stake) → t.stakes ≡ s ∷ outer → (c : Start) → does_next t ≡ Some (Spawn c) → (r : Scope) → scope s.scope w.scopes ≡ Some r → s.weight ≡ 1 → may_issue w0 r ≡ true → Goes
     replenishes s outer are c e r found one may =
-        free (Replenish q) _
+        free_at (Replenish q) (3, omega arith, refl) _
         (next_is (Spawn c) (λ t a. in_innermost w0 (does p needs fresh w0) (hands_on p needs fresh w0) t.stakes (λ s outer. by_replenish w0 (does p needs fresh w0) (hands_on p needs fresh w0) t s outer w a)) e
         ∙ inner_is s outer are (λ s outer. by_replenish w0 (does p needs fresh w0) (hands_on p needs fresh w0) t s outer w (Spawn c))
         ∙ found_goes _ r _ found
@@ -352,25 +363,25 @@ module _ (p : Program) (needs : Codes → Needs) (fresh w0 : ℕ) (least : 1 ≤
     -- ---- what it does next is legal
     by_action : (s : Stake) (outer : List Stake) → t.stakes ≡ s ∷ outer → (o : Option Action) → does_next t ≡ o → Goes
     by_action s outer are None e = inr (inr (record { path = q; its = t; lives = lives; awake = awake; nothing = e; waits = still_waits s outer are e }))
-    by_action s outer are (Some Step) e = free (Steps q) _ (next_is Step (λ t. by_step w0 (does p needs fresh w0) (hands_on p needs fresh w0) t w) e)
-    by_action s outer are (Some EnterFinish) e = free (Opens q) _ (next_is EnterFinish (λ t. by_open w0 (does p needs fresh w0) (hands_on p needs fresh w0) t w) e)
+    by_action s outer are (Some Step) e = free_at (Steps q) (5, omega arith, refl) _ (next_is Step (λ t. by_step w0 (does p needs fresh w0) (hands_on p needs fresh w0) t w) e)
+    by_action s outer are (Some EnterFinish) e = free_at (Opens q) (2, omega arith, refl) _ (next_is EnterFinish (λ t. by_open w0 (does p needs fresh w0) (hands_on p needs fresh w0) t w) e)
     by_action s outer are (Some EndFinish) e =
         let r = (subst (Each (IsThere w.scopes)) are (h.there q t lives)).0 in
-        free (Parks q) _
+        free_at (Parks q) (1, omega arith, refl) _
         (next_is EndFinish (λ t a. in_innermost w0 (does p needs fresh w0) (hands_on p needs fresh w0) t.stakes (λ s outer. by_park w0 (does p needs fresh w0) (hands_on p needs fresh w0) t s outer w a)) e
         ∙ inner_is s outer are (λ s outer. by_park w0 (does p needs fresh w0) (hands_on p needs fresh w0) t s outer w EndFinish)
         ∙ found_goes _ r.0 _ r.1
         ∙ only_true _ _ (park_owned s outer are e))
     by_action s outer are (Some EndTask) e =
         let r = (subst (Each (IsThere w.scopes)) are (h.there q t lives)).0 in
-        free (Ends q) _
+        free_at (Ends q) (0, omega arith, refl) _
         (next_is EndTask (λ t a. in_innermost w0 (does p needs fresh w0) (hands_on p needs fresh w0) t.stakes (λ s outer. by_end w0 (does p needs fresh w0) (hands_on p needs fresh w0) t s outer w a)) e
         ∙ inner_is s outer are (λ s outer. by_end w0 (does p needs fresh w0) (hands_on p needs fresh w0) t s outer w EndTask)
         ∙ found_goes _ r.0 _ r.1
         ∙ only_true _ _ (ap not (end_alone s outer are e)))
     by_action s outer are (Some (Spawn c)) e =
         by_test (λ b. nat_le 2 s.weight ≡ b → Goes) (nat_le 2 s.weight)
-        (λ f g. free (Spawns q) _
+        (λ f g. free_at (Spawns q) (4, omega arith, refl) _
         (next_is (Spawn c) (λ t a. in_innermost w0 (does p needs fresh w0) (hands_on p needs fresh w0) t.stakes (λ s outer. by_spawn w0 (does p needs fresh w0) (hands_on p needs fresh w0) t s outer w a)) e
         ∙ inner_is s outer are (λ s outer. by_spawn w0 (does p needs fresh w0) (hands_on p needs fresh w0) t s outer w (Spawn c))
         ∙ found_goes _ v _ hand
@@ -414,7 +425,7 @@ module _ (p : Program) (needs : Codes → Needs) (fresh w0 : ℕ) (least : 1 ≤
   -- ---- a task in a queue, where all hands are free
   in_queue_goes : (q : List ℕ) (t : Live) → task q w.live ≡ Some t → (v : ℕ) → t.place ≡ Queue v → hand_is_free v w.live ≡ true → Goes
   in_queue_goes q t lives v at open_hand =
-      free (Take v q) _
+      free q t lives (Take v q) (subst (λ x. Contains (candidates 0 q x t.stakes) (Take v q)) (sym at) (contains_here (Take v q) [])) _
       (found_goes _ t _ lives ∙ only_true _ _ (and_from (in_queue t.place v) (hand_is_free v w.live) (ap (λ x. in_queue x v) at ∙ eq-eqb v v refl) open_hand))
 
   -- ---- all are parked: the one with the longest path goes on
@@ -536,14 +547,19 @@ module _ (p : Program) (needs : Codes → Needs) (fresh w0 : ℕ) (least : 1 ≤
               by_above [] e = inner.same ∙ ap (λ n. own_scope q n) (cons_head e) ∙ ap (λ r. own_scope r 0) g
               by_above (n ∷ above) e = absurd (nil_snoc above 0 [] (sym (low_none inner.low none_there) ∙ cons_tail e))
 
+      parked_among : (e : Event) → Contains (when_parked 0 q (s ∷ outer)) e → Contains (candidates 0 q t.place t.stakes) e
+      parked_among e c =
+          subst (λ x. Contains (candidates 0 q x t.stakes) e) (sym (parked q t l.lives))
+          (subst (λ ss. Contains (when_parked 0 q ss) e) (sym are) c)
+
       passes_now : (r : Scope) → scope s.scope w.scopes ≡ Some r → r.passed ≡ false → Goes
       passes_now r f g =
-          free (Pass s.scope) _
+          free q t l.lives (Pass s.scope) (parked_among (Pass s.scope) (0, omega arith, refl)) _
           (found_goes _ r _ f ∙ only_true _ _ (and_from (not r.passed) (nat_eq r.issued r.returned) (ap not g) (eq-eqb r.issued r.returned (all_back r f))))
 
       resumes_now : (o : Stake) (more : List Stake) → outer ≡ o ∷ more → (r : Scope) → scope s.scope w.scopes ≡ Some r → r.passed ≡ true → Goes
       resumes_now o more e r f g =
-          free (Resume 0 q) _
+          free q t l.lives (Resume 0 q) (parked_among (Resume 0 q) (1, omega arith, refl)) _
           (found_goes _ t _ l.lives
           ∙ ap (λ ss. by_resume w0 (does p needs fresh w0) (hands_on p needs fresh w0) 0 t w ss) (are ∙ ap (λ ss. s ∷ ss) e)
           ∙ found_goes _ r _ f

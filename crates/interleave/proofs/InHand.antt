@@ -41,7 +41,7 @@ use Rattle.interleave.specs.declared.world.World.{World as rWorld}
 use Rattle.interleave.proofs.Lookups.{by_test, task_path, scope_id as named_so}
 use Rattle.interleave.proofs.Numbered.{given_path}
 use Rattle.interleave.proofs.Outcomes.{starts_are_given}
-use Rattle.interleave.proofs.Tables.{there, not_there, tasks_put, scopes_put, led_on}
+use Rattle.interleave.proofs.Tables.{there, not_there, tasks_put, paths_put, paths_more, scopes_put, led_on}
 
 -- ---- in a hand
 doing_there : (j : Job) (q : Whereabouts) (v : ℕ) (c : Course) (d : Doing) → hand_of q ≡ Some v → IsDoingThere j q c d → IsDoing j c d
@@ -109,6 +109,7 @@ shows_same r w h path k new at same tasks scopes each kept = record {
   events = h.events;
   led = h.led;
   tasks = tasks_same r.job (get is_path r.tasks) (get is_path tasks) path k new w.live h.tasks at same each;
+  paths = h.paths;
   scopes = λ q. subst (λ o. AreBoth IsBookOf o (scope (scope_id q) w.scopes)) (sym (kept q)) (h.scopes q);
   hands = h.hands;
 }
@@ -119,6 +120,7 @@ shows_scopes r w h scopes kept = record {
   events = h.events;
   led = h.led;
   tasks = h.tasks;
+  paths = h.paths;
   scopes = λ q. subst (λ o. AreBoth IsBookOf o (scope (scope_id q) w.scopes)) (sym (kept q)) (h.scopes q);
   hands = h.hands;
 }
@@ -129,6 +131,7 @@ shows_tasks r w h tasks kept = record {
   events = h.events;
   led = h.led;
   tasks = λ q. subst (λ o. AreBoth (IsTaskOf r.job) o (task q.turns.items w.live)) (sym (kept q)) (h.tasks q);
+  paths = h.paths;
   scopes = h.scopes;
   hands = h.hands;
 }
@@ -331,6 +334,7 @@ module _ (old mid : rWorld) (path : Path) (worker : ℕ) (g : IsReady mid path w
         led = led_on (program_of mid.job) mid.job.w0 (lists_of mid.job) (budget_of mid.job) e h.events w
             (record { live = put_task to w.live; scopes = ss }) h.led legal;
         tasks = tasks_put mid.job (get is_path mid.tasks) (get is_path tasks) path new x.its to w.live h.tasks x.lives named is each;
+        paths = paths_put to x.its w.live (ap (λ p. task p w.live) named ∙ x.lives) h.paths;
         scopes = kept;
         hands = λ v. h.hands v ∙ ap not (sym (free_same v to x.its w.live (ap (λ p. task p w.live) named ∙ x.lives) placed));
       }
@@ -551,6 +555,8 @@ module _ (old mid : rWorld) (path : Path) (worker : ℕ) (g : IsReady mid path w
           events = h.events ++ Spawns path.turns.items ∷ [];
           led = led_on (program_of mid.job) mid.job.w0 (lists_of mid.job) (budget_of mid.job) (Spawns path.turns.items) h.events w to h.led legal;
           tasks = tasks_now;
+          paths = paths_more kid cpath (put_task its_new w.live) called
+              (paths_put its_new x.its w.live (ap (λ p. task p w.live) x.named ∙ x.lives) h.paths);
           scopes = h.scopes;
           hands = λ v. h.hands v ∙ ap not (sym (free_same v its_new x.its w.live (ap (λ p. task p w.live) x.named ∙ x.lives) refl));
         },

@@ -25,7 +25,7 @@ use Rattle.interleave.specs.declared.task.Whereabouts.{Whereabouts as rWhereabou
 use Rattle.interleave.specs.declared.task.Whereabouts.TheVariants.{Queue as rQueue, Hand as rHand}
 use Rattle.interleave.specs.declared.world.World.{World as rWorld}
 use Rattle.interleave.proofs.Lookups.{task_path, scope_id as named_so}
-use Rattle.interleave.proofs.Tables.{there, not_there, tasks_put, scopes_put, free_put, led_on}
+use Rattle.interleave.proofs.Tables.{there, not_there, tasks_put, paths_put, scopes_put, free_put, led_on}
 
 queued_doing : (j : Job) (q : Whereabouts) (w : ℕ) (c : Course) (d : Doing) → in_queue q w ≡ true → IsDoingThere j q c d → IsDoing j c d
 queued_doing j (Queue v) w c d e h = h
@@ -97,6 +97,7 @@ module _ (old : rWorld) (w : World) (h : Shows old w) (path : Path) where
                 doing = so (course_of its) k.doing (queued_doing old.job its.place from (course_of its) k.doing f.queued f.is.doing);
               })
               each;
+          paths = paths_put (record its { place = whereabouts place }) its w.live (ap (λ p. task p w.live) named ∙ f.lives) h.paths;
           scopes = h.scopes;
           hands = λ v. hand v
               ∙ ap not (sym (free_put v (record its { place = whereabouts place }) its w.live (ap (λ p. task p w.live) named ∙ f.lives)
@@ -217,6 +218,7 @@ module _ (old : rWorld) (w : World) (h : Shows old w) (id : rScopeId) where
       events = h.events ++ Pass (scope_id id) ∷ [];
       led = led_on (program_of old.job) old.job.w0 (lists_of old.job) (budget_of old.job) (Pass (scope_id id)) h.events w to h.led legal;
       tasks = h.tasks;
+      paths = h.paths;
       scopes = scopes_put (get is_scope old.scopes) (get is_scope scopes) id (record s { passed = true }) b.0 (record b.0 { passed = true }) w.scopes
           h.scopes b.1 (named_so (scope_id id) w.scopes b.0 b.1)
           (record { issued = b.2.issued; returned = b.2.returned; passed = refl; results = still_results s.results b.0 b.2.results }) each;

@@ -1,8 +1,8 @@
 -- No world of a sound and accepted program is stuck, and at the end its outcome is told.
-use Rattle.std.proofs.Common.{◌≡◌, ℕ, ◌≤◌, List, [], ◌∷◌, ◌++◌, Option, Some, refl, sym, ap, ◌∙◌, subst, inl}
+use Rattle.std.proofs.Common.{◌≡◌, ℕ, ◌≤◌, List, [], ◌∷◌, ◌++◌, Option, Some, None, refl, sym, ap, ◌∙◌, subst, inl}
 use Rattle.std.proofs.Common.{inr}
 use Rattle.std.proofs.lemmas.Option.{none-some, same_Some}
-use Rattle.std.specs.Prelude.{ℤ, true, false, ◌⊎◌}
+use Rattle.std.specs.Prelude.{Bool, Contains, ℤ, map, true, false, ◌⊎◌}
 use Rattle.types.specs.Code.{Codes, Program}
 use Rattle.types.specs.Contents.{FitsArrays}
 use Rattle.types.specs.Outcome.{Budget, outcome}
@@ -17,19 +17,25 @@ use Rattle.race_checker.proofs.Calming.{is_calm}
 use Rattle.own_run.specs.Results.{and_then}
 use Rattle.own_run.specs.OwnRun.{Start, Action}
 use Rattle.own_run.specs.Given.{root_of}
+use Rattle.own_run.specs.Lists.{Each}
 use Rattle.own_run.specs.Holds.{MayBegin}
 use Rattle.own_run.specs.Reached.{root_begins as root_stands, begun}
 use Rattle.own_run.proofs.AcceptedPrograms.{provides_needs, complete, root_told}
 use Rattle.own_run.proofs.HoldingTurns.{root_begins}
 use Rattle.own_run.proofs.SettledResults.{gives}
 use Rattle.own_run.proofs.TaskRuns.{begins_follow}
-use Rattle.interleave.specs.World.{Live, Scope, World, root_scope, task, scope, is_parked}
+use Rattle.interleave.specs.Candidates.{candidates}
+use Rattle.interleave.specs.World.{ScopeId, Stake, Live, Scope, World, root_scope, task, scope, is_parked, is_passed, has_passed}
 use Rattle.interleave.specs.Events.{Event, next_action, next, first_world, after}
 use Rattle.interleave.specs.Replay.{does, hands_on}
-use Rattle.interleave.specs.Worlds.{IsFree, IsSpent, LeadsTo, next_of, outcome_of}
-use Rattle.interleave.proofs.ReplayLaws.{IsUnsettled}
+use Rattle.interleave.specs.Worlds.{IsFree, IsSpent, LeadsTo, event_of, next_of, outcome_of}
+use Rattle.interleave.proofs.ReplayLaws.{IsFree as IsFreeBy, IsSpent as IsSpentBy, IsUnsettled}
 use Rattle.interleave.proofs.Changes.{becomes}
-use Rattle.interleave.proofs.Outcomes.{IsSound, first_sound, list_sound, replays_are_worlds}
+use Rattle.interleave.proofs.Outcomes.{IsSound, first_sound, list_sound, replays_are_worlds, sound as is_sound}
+use Rattle.interleave.proofs.Rooted.{its_stakes}
+use Rattle.interleave.proofs.Stakes.{scope_of, own as own_scope}
+use Rattle.interleave.proofs.Present.{IsThere}
+use Rattle.interleave.proofs.Histories.{contains_nil, contains_here, contains_later, contains_cons}
 use Rattle.interleave.proofs.GoingOn.{goes_on}
 use Rattle.interleave.proofs.Measured.{worth, worth_lists}
 use Rattle.interleave.proofs.There.{root_has_all, told_once_settled}
@@ -81,6 +87,29 @@ module _ (p : Program) (needs : Codes → Needs) (scoped : IsScoped p) (calm : I
       has_next_action p needs scoped calm provided fresh root nameless may_begin t.start t.receipts t.done
       (poise p needs scoped calm provided fresh root nameless may_begin t.start t.receipts t.done s.0 s.1)
 
+-- what holds of each holds of those among them
+pub each_has : {A : Type 0} (P : A → Type 0) (xs : List A) (x : A) → Each P xs → Contains xs x → P x
+each_has P [] x h c = absurd (contains_nil x c)
+each_has P (y ∷ xs) x h c = by_place (contains_cons y xs x c) (each_has P xs x h.1)
+  where
+    by_place : (y ≡ x) ⊎ Contains xs x → (Contains xs x → P x) → P x
+    by_place (inl e) rest = subst P e h.0
+    by_place (inr d) rest = rest d
+
+scope_there : (ss : List Stake) (scopes : List Scope) (id : ScopeId) → Each (IsThere scopes) ss → Contains (map scope_of ss) id
+    → (s : Scope) × (scope id scopes ≡ Some s)
+scope_there [] scopes id h c = absurd (contains_nil id c)
+scope_there (k ∷ ss) scopes id h c = by_place (contains_cons (scope_of k) (map scope_of ss) id c) (scope_there ss scopes id h.1)
+  where
+    by_place : (scope_of k ≡ id) ⊎ Contains (map scope_of ss) id → (Contains (map scope_of ss) id → (s : Scope) × (scope id scopes ≡ Some s))
+        → (s : Scope) × (scope id scopes ≡ Some s)
+    by_place (inl e) rest = subst (λ i. (s : Scope) × (scope i scopes ≡ Some s)) e h.0
+    by_place (inr d) rest = rest d
+
+root_last : (above : List ℕ) → Contains (map (own_scope []) (above ++ 0 ∷ [])) root_scope
+root_last [] = contains_here root_scope []
+root_last (n ∷ above) = contains_later (own_scope [] n) (map (own_scope []) (above ++ 0 ∷ [])) root_scope (root_last above)
+
 module _ (p : Program) (sound : IsSoundProgram p) (accepted : IsAccepted p) (w0 : ℕ) (least : 1 ≤ w0) (input : List (List ℤ)) (b : Budget)
     (fits : FitsArrays p.arrays input) (es : List Event) (w : World) (leads : LeadsTo p w0 input b es w) where
   pub next_there : (path : List ℕ) (t : Live) → task path w.live ≡ Some t → is_parked t.place ≡ false
@@ -90,31 +119,59 @@ module _ (p : Program) (sound : IsSoundProgram p) (accepted : IsAccepted p) (w0 
       (root_begins p (needs_of p) (is_scoped p sound) (is_calm p sound accepted) (provides_needs p sound) input b.nest fits) es w
       (replays_are_worlds p (needs_of p) w0 input b es w leads)
 
+  never : IsUnsettled p (needs_of p) b.steps w0 w → ⊥
+  never u = let a = next_there u.path u.its u.lives u.awake in none-some _ (sym u.nothing ∙ a.1)
+
+  spent : IsSpentBy p (needs_of p) b.steps w0 w → IsSpent p w0 b w
+  spent x = record {
+    path = x.path;
+    its = x.its;
+    lives = x.lives;
+    child = x.child;
+    wants = x.wants;
+    inner = x.inner;
+    outer = x.outer;
+    stakes = x.stakes;
+    one = x.one;
+    book = x.book;
+    found = x.found;
+    spent = x.spent;
+  }
+
   pub goes : (s : Scope) → scope root_scope w.scopes ≡ Some s → s.passed ≡ false → IsFree p w0 b w ⊎ IsSpent p w0 b w
   goes s there open_yet = by_case (goes_on p (needs_of p) w0 least input b es w leads s there open_yet)
     where
-      never : IsUnsettled p (needs_of p) b.steps w0 w → ⊥
-      never u = let a = next_there u.path u.its u.lives u.awake in none-some _ (sym u.nothing ∙ a.1)
-
-      by_case : Rattle.interleave.proofs.ReplayLaws.IsFree p (needs_of p) b.steps w0 w
-          ⊎ Rattle.interleave.proofs.ReplayLaws.IsSpent p (needs_of p) b.steps w0 w ⊎ IsUnsettled p (needs_of p) b.steps w0 w
-          → IsFree p w0 b w ⊎ IsSpent p w0 b w
+      by_case : IsFreeBy p (needs_of p) b.steps w0 w ⊎ IsSpentBy p (needs_of p) b.steps w0 w
+          ⊎ IsUnsettled p (needs_of p) b.steps w0 w → IsFree p w0 b w ⊎ IsSpent p w0 b w
       by_case (inl x) = inl (record { first = x.first; to = x.to; legal = x.legal })
-      by_case (inr (inl x)) = inr (record {
-        path = x.path;
-        its = x.its;
-        lives = x.lives;
-        child = x.child;
-        wants = x.wants;
-        inner = x.inner;
-        outer = x.outer;
-        stakes = x.stakes;
-        one = x.one;
-        book = x.book;
-        found = x.found;
-        spent = x.spent;
-      })
+      by_case (inr (inl x)) = inr (spent x)
       by_case (inr (inr x)) = absurd (never x)
+
+  -- the root's scope is there, since the root stands in it
+  root_there : (s : Scope) × (scope root_scope w.scopes ≡ Some s)
+  root_there =
+      let h = is_sound p (needs_of p) w0 least input b es w leads in
+      scope_there h.rooted.its.stakes w.scopes root_scope (h.there [] h.rooted.its h.rooted.lives)
+      (subst (λ l. Contains l root_scope) (sym (its_stakes es w h.kept h.rooted ∙ ap (map (own_scope [])) h.rooted.inside))
+      (root_last h.rooted.above))
+
+  -- where no candidate of a live task is legal
+  pub stuck : ((q : List ℕ) (t : Live) → task q w.live ≡ Some t
+      → Each (λ e. event_of p w0 b e w ≡ None) (candidates 0 q t.place t.stakes))
+      → (has_passed root_scope w ≡ true) ⊎ IsSpent p w0 b w
+  stuck none = by_passed root_there.0.passed refl
+    where
+      by_case : IsFreeBy p (needs_of p) b.steps w0 w ⊎ IsSpentBy p (needs_of p) b.steps w0 w
+          ⊎ IsUnsettled p (needs_of p) b.steps w0 w → (has_passed root_scope w ≡ true) ⊎ IsSpent p w0 b w
+      by_case (inl x) =
+          absurd (none-some _ (sym (each_has (λ e. event_of p w0 b e w ≡ None) (candidates 0 x.path x.its.place x.its.stakes)
+          x.first (none x.path x.its x.lives) x.among) ∙ x.legal))
+      by_case (inr (inl x)) = inr (spent x)
+      by_case (inr (inr x)) = absurd (never x)
+
+      by_passed : (passed : Bool) → root_there.0.passed ≡ passed → (has_passed root_scope w ≡ true) ⊎ IsSpent p w0 b w
+      by_passed true e = inl (ap is_passed root_there.1 ∙ e)
+      by_passed false e = by_case (goes_on p (needs_of p) w0 least input b es w leads root_there.0 root_there.1 e)
 
   pub outcome_told : (s : Scope) → scope root_scope w.scopes ≡ Some s → s.passed ≡ true → outcome_of p w0 b w ≡ Some (outcome p input b)
   outcome_told s there passed =

@@ -9,6 +9,7 @@ use Rattle.own_run.specs.Lists.{Each}
 use Rattle.own_run.specs.Settling.{NoTwice}
 use Rattle.own_run.specs.OwnRun.{Start, Spawn, EndFinish, EndTask, is_waiting, run_by}
 use Rattle.own_run.specs.Given.{below, given, IsOwn, root_of}
+use Rattle.interleave.specs.Candidates.{candidates}
 use Rattle.interleave.specs.World.{ScopeId, Stake, Live, Scope, World, is_parked, hand_of, root_scope, task, scope}
 use Rattle.interleave.specs.Events.{Event, Ends, owns, next_action, after}
 use Rattle.interleave.specs.History.{Begun, BegunIn, Ended}
@@ -20,11 +21,15 @@ measured f [] = 0
 measured f (r ∷ rs) = f r + measured f rs
 
 module _ (p : Program) (needs : Codes → Needs) (fresh w0 : ℕ) (w : World) where
-  -- some event is legal
+  -- some event of a live task's is legal
   pub record IsFree : Type 0 where
     pub first : Event
     pub to : World
     pub legal : event p needs fresh w0 first w ≡ Some to
+    pub path : List ℕ
+    pub its : Live
+    pub lives : task path w.live ≡ Some its
+    pub among : Contains (candidates 0 path its.place its.stakes) first
 
   -- a task wants weight from a scope that has issued 2^31 times
   pub record IsSpent : Type 0 where

@@ -19,6 +19,7 @@ use Rattle.interleave.specs.declared.scope.Scope.{Scope as rScope}
 use Rattle.interleave.specs.declared.task.Task.{Task as rTask}
 use Rattle.interleave.specs.declared.task.Whereabouts.TheVariants.{Queue as rQueue}
 use Rattle.interleave.specs.declared.world.World.{World as rWorld}
+use Rattle.interleave.proofs.Tables.{paths_more, paths_none}
 
 one : {A B : Type 0} (Are : A → B → Type 0) (b : Bool) (x : A) (y : B) → Are x y
     → AreBoth Are (if b then Some x else None) (if b then Some y else None)
@@ -55,6 +56,7 @@ module _ (r : rWorld) (root : rStart) (is : start root ≡ root_of (program_of r
               opened = refl;
               doing = record { is = is; may = root_begins; receipts = refl; done = refl; spawned = refl; opened = refl };
             })));
+        paths = paths_more first_task path [] named paths_none;
         scopes = λ q.
             subst (λ o. AreBoth IsBookOf o (scope (scope_id q) (new_scope root_scope r.job.w0 ∷ []))) (sym (scopes q))
             (subst (λ i. AreBoth IsBookOf (if same_scope i (scope_id q) then Some s else None)

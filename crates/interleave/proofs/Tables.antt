@@ -2,22 +2,23 @@
 use Rattle.std.proofs.Common.{◌≡◌, ℕ, List, [], ◌∷◌, ◌++◌, Option, Some, None, refl, sym, ap, ◌∙◌, subst}
 use Rattle.std.proofs.lemmas.Option.{none-some, same_Some}
 use Rattle.std.specs.Prelude.{Bool, true, false, ◌&&◌, not, ℤ, if◌then◌else◌}
+use Rattle.std.specs.Prelude.{is_some}
 use Rattle.types.specs.Code.{Program}
 use Rattle.types.specs.Outcome.{Budget}
 use Rattle.types.specs.declared.path.Path.{Path}
 use Rattle.effects.specs.Rounds.{needs_of}
 use Rattle.own_run.specs.Results.{and_then}
-use Rattle.own_run.proofs.SettledResults.{gives}
+use Rattle.own_run.proofs.SettledResults.{gives, paths_same}
 use Rattle.interleave.specs.Events.{Event, after}
 use Rattle.interleave.specs.Replay.{does, hands_on, start_of}
-use Rattle.interleave.specs.Shown.{AreBoth, IsTaskOf, IsBookOf, is_path, is_scope, scope_id}
-use Rattle.interleave.specs.World.{Live, Scope, World, same_path, task, put_task, scope, put_scope, in_hand, hand_is_free}
+use Rattle.interleave.specs.Shown.{ArePaths, AreBoth, IsTaskOf, IsBookOf, is_path, is_scope, scope_id}
+use Rattle.interleave.specs.World.{Live, Scope, World, same_path, task, put_task, without_task, scope, put_scope, in_hand, hand_is_free}
 use Rattle.interleave.specs.Worlds.{LeadsTo, event_of}
 use Rattle.interleave.specs.declared.event.ScopeId.{ScopeId as rScopeId}
 use Rattle.interleave.specs.declared.job.Job.{Job}
 use Rattle.interleave.specs.declared.scope.Scope.{Scope as rScope}
 use Rattle.interleave.specs.declared.task.Task.{Task as rTask}
-use Rattle.interleave.proofs.Lookups.{by_test, task-put_task, scope-put_scope}
+use Rattle.interleave.proofs.Lookups.{by_test, other_path, task-put_task, task-without_task, scope-put_scope}
 use Rattle.interleave.proofs.Outcomes.{replays_are_worlds, worlds_are_replays}
 
 pick : {A B : Type 0} (Are : A → B → Type 0) (b : Bool) (x u : Option A) (y v : Option B) → AreBoth Are x y → AreBoth Are u v
@@ -37,6 +38,12 @@ not_there Are None None h e = refl
 not_there Are None (Some b) h e = absurd h
 not_there Are (Some x) q h e = absurd (none-some x (sym e))
 
+-- and the other way round
+pub is_there : {A B : Type 0} (Are : A → B → Type 0) (b : B) (o : Option A) (q : Option B) → AreBoth Are o q → q ≡ Some b → is_some o ≡ true
+is_there Are b (Some x) q h e = refl
+is_there Are b None (Some y) h e = absurd h
+is_there Are b None None h e = absurd (none-some b e)
+
 module _ (j : Job) where
   -- a task is put in its place
   pub tasks_put : (at to_at : Path → Option rTask) (k : Path) (new : rTask) (was to : Live) (live : List Live)
@@ -50,6 +57,31 @@ module _ (j : Job) where
       (sym (task-put_task to was q.turns.items live (ap (λ p. task p live) named ∙ lives)
       ∙ ap (λ p. if same_path p q.turns.items then Some to else task q.turns.items live) named))
       (pick (IsTaskOf j) (is_path k q) (Some new) (at q) (Some to) (task q.turns.items live) is (h q)))
+
+-- ---- the paths of live tasks
+-- with a task put in its place
+pub paths_put : (to was : Live) (ts : List Live) → task to.path ts ≡ Some was → ArePaths ts → ArePaths (put_task to ts)
+paths_put to was ts lives h q t e =
+    by_test (λ b. (if b then Some to else task q ts) ≡ Some t → (path : Path) × (path.turns.items ≡ q)) (same_path to.path q)
+    (λ same f. h q was (ap (λ p. task p ts) (sym (paths_same to.path q same)) ∙ lives))
+    (λ other f. h q t f)
+    (sym (task-put_task to was q ts lives) ∙ e)
+
+-- without one that was there
+pub paths_without : (path : List ℕ) (was : Live) (ts : List Live) → task path ts ≡ Some was → ArePaths ts → ArePaths (without_task path ts)
+paths_without path was ts lives h q t e =
+    by_test (λ b. same_path path q ≡ b → (path : Path) × (path.turns.items ≡ q)) (same_path path q)
+    (λ same f. h q was (ap (λ p. task p ts) (sym (paths_same path q same)) ∙ lives))
+    (λ other f. h q t (sym (task-without_task path q ts (other_path other)) ∙ e)) refl
+
+-- with one more
+pub paths_more : (new : Live) (path : Path) (ts : List Live) → path.turns.items ≡ new.path → ArePaths ts → ArePaths (new ∷ ts)
+paths_more new path ts named h q t e =
+    by_test (λ b. (if b then Some new else task q ts) ≡ Some t → (path : Path) × (path.turns.items ≡ q)) (same_path new.path q)
+    (λ same f. (path, named ∙ paths_same new.path q same)) (λ other f. h q t f) e
+
+pub paths_none : ArePaths []
+paths_none q t e = absurd (none-some _ e)
 
 -- a scope is put in its place
 pub scopes_put : (at to_at : rScopeId → Option rScope) (k : rScopeId) (new : rScope) (was to : Scope) (ss : List Scope)

@@ -1,19 +1,36 @@
--- Walks, and one event more of them.
-use Rattle.std.proofs.Common.{◌≡◌, List, [], ◌∷◌, ◌++◌, sym, ap, ◌∙◌, subst, map}
-use Rattle.std.proofs.lemmas.List.{map-append}
+-- Walks: an event more, a candidate that isn't legal, and what it means that none is.
+use Rattle.std.proofs.Common.{◌≡◌, ℕ, ◌+◌, ◌≤◌, ◌<◌, List, [], ◌∷◌, ◌++◌, length, Some, None, Result, Ok, Err, sym, ap, ◌∙◌, subst}
+use Rattle.std.proofs.Common.{map, refl, arith, inl, inr, take}
+use Rattle.std.proofs.lemmas.List.{map-append, length-append, take_more}
+use Rattle.std.proofs.lemmas.List.Elements.{Contains-append_left, Contains-append_right}
+use Rattle.std.specs.Prelude.{Bool, Contains, true, false, ◌||◌, IfOk, ◌⊎◌, slice_index_or}
+use Rattle.std.specs.Set.{is_member}
+use Rattle.std.specs.HashMap.{get}
+use Rattle.types.specs.declared.path.Path.{Path}
+use Rattle.own_run.specs.Lists.{Each}
+use Rattle.own_run.proofs.SettledResults.{paths_same}
+use Rattle.interleave.specs.Candidates.{candidates}
+use Rattle.interleave.specs.Events.{Event}
 use Rattle.interleave.specs.Jobs.{IsJob, program_of, lists_of, budget_of}
-use Rattle.interleave.specs.Replaying.{IsReplayed, event}
-use Rattle.interleave.specs.Shown.{Becomes, Refuses, next_world}
-use Rattle.interleave.specs.Walks.{IsFurther, IsWalk}
-use Rattle.interleave.specs.Worlds.{LeadsTo}
+use Rattle.interleave.specs.Replay.{Legal}
+use Rattle.interleave.specs.Replaying.{IsReplayed, comes, event}
+use Rattle.interleave.specs.Shown.{Becomes, IsTaskOf, Refuses, Shows, is_path, next_world, turns_of}
+use Rattle.interleave.specs.Walks.{AreCandidates, AreTasks, HasGoneOn, HasOneMore, HasStopped, Happened, IsAsBefore, IsIdle}
+use Rattle.interleave.specs.Walks.{IsIllegal, IsWalk, WentRound}
+use Rattle.interleave.specs.World.{Live, World, has_passed, root_scope, task}
+use Rattle.interleave.specs.Worlds.{IsSpent, LeadsTo}
 use Rattle.interleave.specs.declared.error.EventError.{EventError}
 use Rattle.interleave.specs.declared.error.EventError.TheVariants.{Illegal}
 use Rattle.interleave.specs.declared.event.Event.{Event as rEvent}
 use Rattle.interleave.specs.declared.job.Job.{Job}
+use Rattle.interleave.specs.declared.task.Task.{Task as rTask}
 use Rattle.interleave.specs.declared.walk.Walk.{Walk}
 use Rattle.interleave.specs.declared.world.World.{World as rWorld}
-use Rattle.interleave.proofs.Tables.{led_on}
+use Rattle.interleave.proofs.Histories.{contains_here}
+use Rattle.interleave.proofs.NeverStuck.{each_has, stuck}
+use Rattle.interleave.proofs.Tables.{is_there, led_on}
 
+-- ---- events that were legal
 -- a legal event behind those of a replay
 pub replayed_on : (j : Job) (es : List rEvent) (e : rEvent) (old new : rWorld) → IsReplayed j es old → Becomes (event e) old new
     → new.job ≡ old.job → IsReplayed j (es ++ e ∷ []) new
@@ -34,7 +51,7 @@ of_job w j i is = subst (λ k. IsReplayed k w.events.items w.world) is i.replaye
 
 module _ (old new : Walk) (e : rEvent) (i : IsWalk old) (same : new.world.job ≡ old.world.job) where
   -- after an event that was legal
-  pub happened : Becomes (event e) old.world new.world → new.events.items ≡ old.events.items ++ e ∷ [] → IsFurther old new
+  pub happened : Becomes (event e) old.world new.world → new.events.items ≡ old.events.items ++ e ∷ [] → HasOneMore old new
   happened b items = record {
     walk = record {
       job = subst IsJob (sym same) i.job;
@@ -43,11 +60,12 @@ module _ (old new : Walk) (e : rEvent) (i : IsWalk old) (same : new.world.job �
           (replayed_on old.world.job old.events.items e old.world new.world i.replayed b same));
     };
     job = same;
+    more = ap length items ∙ length-append old.events.items (e ∷ []);
   }
 
   -- after one that wasn't
   pub did_not_happen : (x : EventError) → x ≡ Illegal → Refuses (event e) old.world new.world x
-      → new.events.items ≡ old.events.items → IsFurther old new
+      → new.events.items ≡ old.events.items → IsAsBefore old new
   did_not_happen x is r items = record {
     walk = record {
       job = subst IsJob (sym same) i.job;
@@ -60,4 +78,144 @@ module _ (old new : Walk) (e : rEvent) (i : IsWalk old) (same : new.world.job �
           }));
     };
     job = same;
+    same = items;
+    shows = λ w s. (subst (Refuses (event e) old.world new.world) is r w s).0;
   }
+
+pub was_illegal : (old new : rWorld) (e : Event) (x : EventError) → x ≡ Illegal → Refuses e old new x → IsIllegal old e
+was_illegal old new e x is r w s = (subst (Refuses e old new) is r w s).1
+
+-- ---- one behind the other
+pub still_so : (a : Walk) → IsWalk a → IsAsBefore a a
+still_so a i = record { walk = i; job = refl; same = refl; shows = λ w s. s }
+
+pub still_on : (a b c : Walk) → IsAsBefore a b → IsAsBefore b c → IsAsBefore a c
+still_on a b c h k = record { walk = k.walk; job = k.job ∙ h.job; same = k.same ∙ h.same; shows = λ w s. k.shows w (h.shows w s) }
+
+pub then_more : (a b c : Walk) → IsAsBefore a b → HasOneMore b c → HasOneMore a c
+then_more a b c h k = record { walk = k.walk; job = k.job ∙ h.job; more = k.more ∙ ap (λ (es : List rEvent). length es + 1) h.same }
+
+-- what happened behind what left all as it was
+pub then_happened : (a b c : Walk) → IsAsBefore a b → (x : Bool) → Happened x b c → Happened x a c
+then_happened a b c h true k = then_more a b c h k
+then_happened a b c h false k = still_on a b c h k
+
+pub idle_before : (a b : Walk) → IsAsBefore a b → (worker : ℕ) (path : List ℕ) → IsIdle b.world worker path → IsIdle a.world worker path
+idle_before a b h worker path i w s t lives =
+    subst (λ j. Each (λ e. next_world j e w ≡ None) (candidates worker path t.place t.stakes)) h.job (i w (h.shows w s) t lives)
+
+pub illegal_before : (a b : Walk) → IsAsBefore a b → (e : Event) → IsIllegal b.world e → IsIllegal a.world e
+illegal_before a b h e i w s = subst (λ j. next_world j e w ≡ None) h.job (i w (h.shows w s))
+
+-- ---- candidates
+each_there : (r : rWorld) (w : World) → Shows r w → (es : List Event) → Each (IsIllegal r) es → Each (λ e. next_world r.job e w ≡ None) es
+each_there r w s [] h = tt
+each_there r w s (e ∷ es) h = (h.0 w s, each_there r w s es h.1)
+
+pub idle : (r : rWorld) (worker : ℕ) (path : List ℕ) (es : List Event) → AreCandidates r worker path es → Each (IsIllegal r) es
+    → IsIdle r worker path
+idle r worker path es are h w s t lives = subst (Each (λ e. next_world r.job e w ≡ None)) (are w s t lives) (each_there r w s es h)
+
+-- ---- a walk that has stopped
+legal_same : (a b : World) → Legal a ≡ Legal b → a ≡ b
+legal_same a b e = cc e
+
+-- none of its tasks has a candidate that is legal
+pub stopped : (old new : Walk) → IsWalk old → IsAsBefore old new → (paths : List (List ℕ)) → AreTasks old.world paths
+    → Each (IsIdle old.world 0) paths → HasStopped new
+stopped old new i h paths all none to e =
+    subst (λ j. (has_passed root_scope to ≡ true) ⊎ IsSpent (program_of j) j.w0 (budget_of j) to) (sym h.job)
+    (stuck (program_of j) i.job.sound i.job.accepted j.w0 i.job.least (lists_of j) (budget_of j) i.job.fits (map event old.events.items) to leads
+    no_candidate)
+  where
+    j : Job
+    j = old.world.job
+
+    leads : comes j old.events.items ≡ Legal to
+    leads = ap (comes j) (sym h.same) ∙ ap (λ k. comes k new.events.items) (sym h.job) ∙ e
+
+    shows : Shows old.world to
+    shows = subst (Shows old.world) (legal_same i.replayed.world to (sym i.replayed.legal ∙ leads)) i.replayed.shows
+
+    no_candidate : (q : List ℕ) (t : Live) → task q to.live ≡ Some t
+        → Each (λ e. next_world j e to ≡ None) (candidates 0 q t.place t.stakes)
+    no_candidate q t lives =
+        let p = shows.paths q t lives in
+        let lives_so : task p.0.turns.items to.live ≡ Some t = ap (λ x. task x to.live) p.1 ∙ lives in
+        let here = is_there (IsTaskOf j) t (get is_path old.world.tasks p.0) (task p.0.turns.items to.live) (shows.tasks p.0) lives_so in
+        let idle_here = each_has (IsIdle old.world 0) paths p.0.turns.items none (all p.0 here) in
+        subst (λ x. Each (λ e. next_world j e to ≡ None) (candidates 0 x t.place t.stakes)) p.1 (idle_here to shows t lives_so)
+
+-- at the end of a walk whose world has passed
+pub passed_over : (walk : Walk) → IsWalk walk → ((w : World) → Shows walk.world w → has_passed root_scope w ≡ true) → HasStopped walk
+passed_over walk i passed to e =
+    inl (passed to (subst (Shows walk.world) (legal_same i.replayed.world to (sym i.replayed.legal ∙ e)) i.replayed.shows))
+
+-- ---- rounds
+module _ (most : ℕ) (a b c : Walk) (h : HasGoneOn most a b) where
+  -- a pick more, where there are fewer events than wanted
+  pub picked : length b.events.items < most → (x : Bool) → Happened x b c → HasGoneOn most a c
+  picked lt true k = record {
+    walk = k.walk;
+    job = k.job ∙ h.job;
+    grown = let g = h.grown in let m = k.more in omega (arith, g, m);
+    few = let m = k.more in omega (arith, lt, m);
+  }
+  picked lt false k = record {
+    walk = k.walk;
+    job = k.job ∙ h.job;
+    grown = subst (λ (es : List rEvent). length a.events.items ≤ length es) (sym k.same) h.grown;
+    few = subst (λ (es : List rEvent). length es ≤ most) (sym k.same) h.few;
+  }
+
+  -- nothing happened at the picks, and then something or nothing
+  pub went_round : length a.events.items < most → length b.events.items ≤ length a.events.items → (x : Bool) → Happened x b c
+      → (x ≡ false → HasStopped c) → WentRound most x a c
+  went_round lt none true k stop =
+      let g = h.grown in let m = k.more in (picked (omega (arith, lt, none)) true k, omega (arith, g, m))
+  went_round lt none false k stop = (picked (omega (arith, lt, none)) false k, stop refl)
+
+-- what follows of an Ok's value
+pub if_ok : {A E : Type 0} {P Q : A → Type 0} (o : Result A E) → IfOk o P → ((x : A) → P x → Q x) → IfOk o Q
+if_ok (Ok x) h f = f x h
+if_ok (Err e) h f = tt
+
+-- ---- the tasks of a table
+-- with one that was still to come
+pub named_more : (p new q : Path) (old_left left : List Path) (old_paths paths : List Path) → old_left ≡ p ∷ left
+    → new.turns.items ≡ p.turns.items → paths ≡ old_paths ++ new ∷ []
+    → Contains (map turns_of old_paths) q.turns.items ⊎ (is_member is_path old_left q ≡ true)
+    → Contains (map turns_of paths) q.turns.items ⊎ (is_member is_path left q ≡ true)
+named_more p new q old_left left old_paths paths is same are h = by_case h
+  where
+    appended : map turns_of paths ≡ map turns_of old_paths ++ new.turns.items ∷ []
+    appended = ap (map turns_of) are ∙ map-append turns_of old_paths (new ∷ [])
+
+    here : is_path q p ≡ true → Contains (map turns_of paths) q.turns.items
+    here e =
+        subst (λ xs. Contains xs q.turns.items) (sym appended)
+        (Contains-append_right (map turns_of old_paths) (new.turns.items ∷ []) q.turns.items
+        (subst (λ x. Contains (x ∷ []) q.turns.items) (paths_same q.turns.items p.turns.items e ∙ sym same) (contains_here q.turns.items [])))
+
+    by_head : (b : Bool) → is_path q p ≡ b → (b || is_member is_path left q) ≡ true
+        → Contains (map turns_of paths) q.turns.items ⊎ (is_member is_path left q ≡ true)
+    by_head true e f = inl (here e)
+    by_head false e f = inr f
+
+    by_case : Contains (map turns_of old_paths) q.turns.items ⊎ (is_member is_path old_left q ≡ true)
+        → Contains (map turns_of paths) q.turns.items ⊎ (is_member is_path left q ≡ true)
+    by_case (inl c) =
+        inl (subst (λ xs. Contains xs q.turns.items) (sym appended)
+        (Contains-append_left (map turns_of old_paths) (new.turns.items ∷ []) q.turns.items c))
+    by_case (inr m) = by_head (is_path q p) refl (subst (λ ps. is_member is_path ps q ≡ true) is m)
+
+each_last : {A : Type 0} (P : A → Type 0) (xs : List A) (x : A) → Each P xs → P x → Each P (xs ++ x ∷ [])
+each_last P [] x h i = (i, tt)
+each_last P (y ∷ xs) x h i = (h.0, each_last P xs x h.1 i)
+
+-- one more of them is idle
+pub each_further : (r : rWorld) (ps : List Path) (n : ℕ) (p : Path) → n < length ps → p ≡ slice_index_or ps n p
+    → Each (IsIdle r 0) (map turns_of (take n ps)) → IsIdle r 0 p.turns.items → Each (IsIdle r 0) (map turns_of (take (n + 1) ps))
+each_further r ps n p lt is h i =
+    subst (λ xs. Each (IsIdle r 0) (map turns_of xs)) (sym (take_more ps n p lt ∙ ap (λ x. take n ps ++ x ∷ []) (sym is)))
+    (subst (Each (IsIdle r 0)) (sym (map-append turns_of (take n ps) (p ∷ []))) (each_last (IsIdle r 0) (map turns_of (take n ps)) p.turns.items h i))

@@ -1,4 +1,5 @@
 pub mod Acting
+pub mod Candidates
 pub mod Courses
 pub mod Ending
 pub mod Events

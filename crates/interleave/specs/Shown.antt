@@ -40,6 +40,9 @@ whereabouts (rQueue w) = Queue w
 whereabouts (rHand w) = Hand w
 whereabouts rParked = Parked
 
+abbrev pub turns_of : Path → List ℕ
+turns_of path = path.turns.items
+
 -- whether two keys of a table are the same
 abbrev pub is_path : (path other : Path) → Bool
 is_path path other = pointwise nat_eq path.turns.items other.turns.items
@@ -88,12 +91,17 @@ module _ (j : Job) where
     pub doing : IsDoingThere t.place (course_of t) k.doing
 
 -- ---- worlds
+-- each live task has a path that a table can be asked for
+abbrev pub ArePaths : List Live → Type 0
+ArePaths ts = (q : List ℕ) (t : Live) → task q ts ≡ Some t → (path : Path) × (path.turns.items ≡ q)
+
 -- a world is shown by its tables, and was led to by events
 pub record Shows (r : rWorld) (w : World) : Type 0 where
   pub events : List Event
   pub led : LeadsTo (program_of r.job) r.job.w0 (lists_of r.job) (budget_of r.job) events w
   pub tasks : (path : Path)
       → AreBoth (IsTaskOf r.job) (get is_path r.tasks path) (task path.turns.items w.live)
+  pub paths : ArePaths w.live
   pub scopes : (id : rScopeId)
       → AreBoth IsBookOf (get is_scope r.scopes id) (scope (scope_id id) w.scopes)
   pub hands : (worker : ℕ) → contains nat_eq r.hands worker ≡ not (hand_is_free worker w.live)

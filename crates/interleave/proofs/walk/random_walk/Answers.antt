@@ -1,12 +1,10 @@
-use Rattle.interleave.proofs.Walking.{of_job}
+use Rattle.std.proofs.Common.{◌≡◌, ◌∙◌, ap, inl, subst, sym}
+use Rattle.std.specs.Prelude.{true}
+use Rattle.interleave.specs.World.{has_passed, root_scope}
+use Rattle.interleave.proofs.Walking.{passed_over}
 use Rattle.interleave.proofs.walk.random_walk.Goals as goal
 
-pub returns-then-live-eq0-clause-legal : goal.returns-then-live-eq0-clause-legal
-returns-then-live-eq0-clause-legal c = of_job c.picks.walk c.args.job c.picks.invariant.walk c.picks.invariant.job
-
-pub returns-then-live-eq0-clause-world : goal.returns-then-live-eq0-clause-world
-returns-then-live-eq0-clause-world c = record {
-  job = c.picks.invariant.walk.job;
-  world = c.picks.invariant.walk.replayed.world;
-  shows = c.picks.invariant.walk.replayed.shows;
-}
+pub returns-then-passed-clause-over : goal.returns-then-passed-clause-over
+returns-then-passed-clause-over c =
+    inl (passed_over c.rounds.walk c.rounds.invariant.walk
+    (λ w s. ap (λ id. has_passed id w) (sym c.root_scope-outermost.ensures) ∙ sym (c.passed.ensures w s) ∙ c.if-passed.true))

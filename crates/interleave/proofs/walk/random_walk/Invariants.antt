@@ -1,10 +1,14 @@
-use Rattle.std.proofs.Common.{◌≡◌}
+use Rattle.std.proofs.Common.{◌≡◌, ◌≤◌, ◌-◌, length}
 use Rattle.interleave.specs.Walks.{IsWalk}
 use Rattle.interleave.proofs.walk.random_walk.Given as goal
 
--- it is a walk of the job
-abbrev pub invariant-picks : goal.invariant-picks
-invariant-picks l = record {
+-- it is a walk of the job, of so many events at most
+abbrev pub invariant-rounds : goal.invariant-rounds
+invariant-rounds l = record {
   walk : IsWalk l.walk;
   job : l.walk.world.job ≡ l.job;
+  few : length l.walk.events.items ≤ l.most;
 }
+
+abbrev pub decreases-rounds : goal.decreases-rounds
+decreases-rounds l = l.most - length l.walk.events.items

@@ -1,0 +1,18 @@
+use Rattle.std.proofs.Common.{◌≡◌, ◌++◌, List, map, vec_len}
+use Rattle.own_run.specs.Lists.{Each}
+use Rattle.interleave.specs.Replaying.{event}
+use Rattle.interleave.specs.Walks.{IsAsBefore, IsIllegal}
+use Rattle.interleave.specs.declared.event.Event.{Event}
+use Rattle.interleave.proofs.walk.Walk.one_of.Given as goal
+
+-- none of those that were tried is legal
+abbrev pub invariant-events : goal.invariant-events
+invariant-events l = record {
+  before : IsAsBefore l.fn.self l.self;
+  tried : List Event;
+  are : l.fn.events.items ≡ l.events.items ++ tried;
+  none : Each (IsIllegal l.fn.self.world) (map event tried);
+}
+
+abbrev pub decreases-events : goal.decreases-events
+decreases-events l = vec_len l.events
