@@ -1,3 +1,0 @@
-pub mod Execution
-pub mod Tests
-pub mod Compiled
