@@ -25,7 +25,6 @@ mod settled_results;
 mod statuses;
 mod texts;
 mod typing_rules;
-mod watched_runs;
 mod worlds;
 mod writers;
 

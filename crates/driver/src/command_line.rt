@@ -73,7 +73,6 @@ fn settings_in<'w>(texts: Texts<'w>) -> Option<Settings<'w>>
         budget,
         choices,
         arrays: texts.arrays,
-        progress: false,
     })
 }
 

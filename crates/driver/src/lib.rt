@@ -14,5 +14,4 @@ pub mod files;
 pub mod input_file;
 pub mod labels;
 pub mod message;
-pub mod progress;
 pub mod request;

@@ -44,8 +44,6 @@ pub struct Settings<'w> {
     pub choices: Option<Choosing<'w>>,
     /// `--arrays`: the arrays are shown behind the outcome.
     pub arrays: bool,
-    /// `--progress`: how far a run on one thread has come is told while it runs.
-    pub progress: bool,
 }
 
 impl<'w> Settings<'w> {
@@ -60,7 +58,6 @@ impl<'w> Settings<'w> {
             budget: Budget::usual(),
             choices: None,
             arrays: false,
-            progress: false,
         }
     }
 }

@@ -12,6 +12,5 @@ pub mod quick;
 pub mod run;
 pub mod store;
 pub mod thread;
-pub mod watch;
 
-pub use run::{serial, serial_watched};
+pub use run::serial;
