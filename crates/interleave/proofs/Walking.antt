@@ -23,7 +23,6 @@ use Rattle.interleave.specs.declared.error.EventError.{EventError}
 use Rattle.interleave.specs.declared.error.EventError.TheVariants.{Illegal}
 use Rattle.interleave.specs.declared.event.Event.{Event as rEvent}
 use Rattle.interleave.specs.declared.job.Job.{Job}
-use Rattle.interleave.specs.declared.task.Task.{Task as rTask}
 use Rattle.interleave.specs.declared.walk.Walk.{Walk}
 use Rattle.interleave.specs.declared.world.World.{World as rWorld}
 use Rattle.interleave.proofs.Histories.{contains_here}

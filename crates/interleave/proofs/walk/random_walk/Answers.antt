@@ -1,6 +1,5 @@
-use Rattle.std.proofs.Common.{◌≡◌, ◌∙◌, ap, inl, subst, sym}
-use Rattle.std.specs.Prelude.{true}
-use Rattle.interleave.specs.World.{has_passed, root_scope}
+use Rattle.std.proofs.Common.{◌∙◌, ap, inl, sym}
+use Rattle.interleave.specs.World.{has_passed}
 use Rattle.interleave.proofs.Walking.{passed_over}
 use Rattle.interleave.proofs.walk.random_walk.Goals as goal
 

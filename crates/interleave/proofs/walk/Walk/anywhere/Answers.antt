@@ -1,4 +1,4 @@
-use Rattle.std.proofs.Common.{◌+◌, ◌∙◌, ap, map, subst, sym, take}
+use Rattle.std.proofs.Common.{map, subst, sym}
 use Rattle.std.proofs.lemmas.List.{take_all}
 use Rattle.own_run.specs.Lists.{Each}
 use Rattle.interleave.specs.Shown.{turns_of}

@@ -1,4 +1,4 @@
-use Rattle.std.proofs.Common.{[], ◌++◌, ◌∷◌, ◌∙◌, List, ap, subst, sym}
+use Rattle.std.proofs.Common.{[], ◌++◌, ◌∷◌, ◌∙◌, List, ap, subst}
 use Rattle.std.proofs.lemmas.List.{append_assoc}
 use Rattle.interleave.specs.Replaying.{event}
 use Rattle.interleave.specs.Walks.{Happened}

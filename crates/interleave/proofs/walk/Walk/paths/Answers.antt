@@ -1,4 +1,4 @@
-use Rattle.std.proofs.Common.{◌≡◌, ◌∙◌, inl, inr, sym, subst}
+use Rattle.std.proofs.Common.{◌≡◌, ◌∙◌, inr, sym, subst}
 use Rattle.std.specs.Set.{is_member}
 use Rattle.std.specs.Prelude.{true}
 use Rattle.interleave.specs.Shown.{is_path}
