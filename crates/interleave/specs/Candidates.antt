@@ -1,7 +1,9 @@
--- What a live task may do next, by where it is. Until the root's scope has passed one of these, of some task, is legal.
+-- What a live task may do next, by where it is. Until the root's scope has passed one of these, of
+-- some task, is legal, or a task wants weight from a scope that has issued 2^31 times.
 use Rattle.std.specs.Prelude.{ℕ, List, [], ◌∷◌}
 use Rattle.interleave.specs.World.{Stake, Whereabouts, Queue, Hand, Parked}
-use Rattle.interleave.specs.Events.{Event, Take, Steps, Replenish, Spawns, Opens, Parks, Ends, Pass, Resume}
+use Rattle.interleave.specs.Events.{Event, Take, Steps, Replenish, Spawns, Opens, Parks, Ends}
+use Rattle.interleave.specs.Events.{Pass, Resume}
 
 -- in a hand
 abbrev pub in_hand : (path : List ℕ) → List Event

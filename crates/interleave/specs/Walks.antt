@@ -1,6 +1,7 @@
--- Legal events together with the world that they lead to: how such a walk goes on, and when it can't.
-use Rattle.std.specs.Prelude.{ℕ, ◌≡◌, ◌+◌, ◌≤◌, ◌<◌, ◌⊎◌, List, length, Bool, true, false, Some, None, Contains}
-use Rattle.std.specs.Prelude.{is_some}
+-- Legal events together with the world that they lead to: how such a walk goes on, and when it
+-- can't.
+use Rattle.std.specs.Prelude.{ℕ, ◌≡◌, ◌+◌, ◌≤◌, ◌<◌, ◌⊎◌, List, length, Bool, true, false}
+use Rattle.std.specs.Prelude.{Some, None, Contains, is_some}
 use Rattle.std.specs.HashMap.{get}
 use Rattle.types.specs.declared.path.Path.{Path}
 use Rattle.own_run.specs.Lists.{Each}
@@ -64,7 +65,8 @@ module _ (r : rWorld) where
 
   -- all tasks of the table are among these
   abbrev pub AreTasks : (paths : List (List ℕ)) → Type 0
-  AreTasks paths = (q : Path) → is_some (get is_path r.tasks q) ≡ true → Contains paths q.turns.items
+  AreTasks paths = (q : Path) → is_some (get is_path r.tasks q) ≡ true
+      → Contains paths q.turns.items
 
 -- the root's scope has passed, or a task wants weight from a scope that has issued 2^31 times
 abbrev pub HasStopped : Walk → Type 0
@@ -79,5 +81,6 @@ IsOver most walk = HasStopped walk ⊎ (length walk.events.items ≡ most)
 
 -- a round of picks: some events came; or none, and it has stopped
 abbrev pub WentRound : (most : ℕ) → Bool → (old new : Walk) → Type 0
-WentRound most true old new = HasGoneOn most old new × (length old.events.items < length new.events.items)
+WentRound most true old new =
+    HasGoneOn most old new × (length old.events.items < length new.events.items)
 WentRound most false old new = HasGoneOn most old new × HasStopped new

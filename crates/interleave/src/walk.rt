@@ -57,9 +57,10 @@ impl Chance {
     }
 }
 
-/// A walk of so many workers, up to the event at which the root's scope has passed, or of so many events. A
-/// generator picks live tasks and workers from a seed on, and what can happen to these happens. It ends
-/// earlier only where a task wants weight from a scope that has issued 2^31 times.
+/// A walk of so many workers until the root's scope has passed, or of so many events; no worker
+/// counts as one. A generator picks live tasks and workers from a seed on, and what can happen to
+/// these happens. It ends earlier only where a task wants weight from a scope that has issued 2^31
+/// times.
 pub fn random_walk<'p>(
     job: Job<'p>,
     workers: u32,
