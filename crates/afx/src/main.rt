@@ -7,7 +7,8 @@ mod tests;
 
 use driver::act::{act, refuse_words};
 use driver::files::MachineFiles;
-use std::io::{BufWriter, IsTerminal, Stdout};
+use driver::progress::Progress;
+use std::io::{BufWriter, IsTerminal, Stderr, Stdout};
 use std::process::ExitCode;
 use std::{env, io};
 
@@ -18,11 +19,26 @@ fn main(rt: HostRuntime) -> ExitCode {
     let status = match lent(&rt) {
         Ok((words, mut out)) => {
             let mut files = MachineFiles::new(&rt);
-            act(&rt, alloc, &words, &mut files, &mut out, &mut err)
+            let mut progress = Progress::new(alloc, &rt, terminal(&rt));
+            act(
+                &rt,
+                alloc,
+                &words,
+                &mut files,
+                &mut out,
+                &mut err,
+                &mut progress,
+            )
         }
         Err(error) => refuse_words(alloc, &error, &mut err),
     };
     ExitCode::from(status)
+}
+
+/// The standard error, where it is a terminal.
+fn terminal(rt: &HostRuntime) -> Option<Stderr> {
+    let err = rt.stderr();
+    if err.is_terminal() { Some(err) } else { None }
 }
 
 /// The words behind the program's name, and where the answer goes, in large pieces. No word at a terminal asks for

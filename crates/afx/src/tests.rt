@@ -25,6 +25,7 @@ mod settled_results;
 mod statuses;
 mod texts;
 mod typing_rules;
+mod watched_runs;
 mod worlds;
 mod writers;
 

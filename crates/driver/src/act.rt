@@ -16,19 +16,22 @@ use crate::files::{FileSource, read_program};
 use crate::message::emit_message;
 use crate::request::Request;
 use clap::Error;
+use serial_run::watch::Watch;
 use std::alloc::{AllocError, Global};
 use std::io;
 use std::io::{ErrorKind, Write};
 use std::thread::Threads;
 
-/// Does what the words behind the program's name ask, and answers the exit status.
-pub fn act<R: Threads + Sync, F: FileSource, O: Write, E: Write>(
+/// Does what the words behind the program's name ask, and answers the exit status. `--progress` has
+/// `watch` told how far a run has come.
+pub fn act<R: Threads + Sync, F: FileSource, O: Write, E: Write, W: Watch>(
     rt: &R,
     alloc: Global,
     words: &[String],
     files: &mut F,
     out: &mut O,
     err: &mut E,
+    watch: &mut W,
 ) -> u8
     ensures asked { (a : Asked) → Asks (map string_bytes words.now) a
         → Acts a (F.held files.old) (O.contents out.old) (O.contents out.new)
@@ -39,7 +42,7 @@ pub fn act<R: Threads + Sync, F: FileSource, O: Write, E: Write>(
 {
     match request_of(alloc, words) {
         Err(error) => tell_command_line(alloc, &error, out, err),
-        Ok(request) => match perform(rt, alloc, request, files, out) {
+        Ok(request) => match perform(rt, alloc, request, files, out, watch) {
             Ok(status) => status,
             Err(failure) => report(err, &failure),
         },
@@ -67,12 +70,13 @@ fn report<E: Write>(err: &mut E, failure: &Failure) -> u8
 }
 
 /// Does one command.
-fn perform<R: Threads + Sync, F: FileSource, O: Write>(
+fn perform<R: Threads + Sync, F: FileSource, O: Write, W: Watch>(
     rt: &R,
     alloc: Global,
     request: Request<'_>,
     files: &mut F,
     out: &mut O,
+    watch: &mut W,
 ) -> Result<u8, Failure>
     ensures { ReadsAndPerforms (asked_of request.entry) (F.held files.old)
         (O.contents out.old) (O.contents out.new) result }
@@ -80,7 +84,7 @@ fn perform<R: Threads + Sync, F: FileSource, O: Write>(
     let name = request.file;
     let bytes = read_program(alloc, files, name)?;
     match std::str::from_utf8(&bytes) {
-        Ok(text) => match commands::perform(rt, alloc, request, text, files, out) {
+        Ok(text) => match commands::perform(rt, alloc, request, text, files, out, watch) {
             Ok(status) => handed_on(out, status),
             Err(failure) => Err(failure),
         },

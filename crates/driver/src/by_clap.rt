@@ -36,6 +36,7 @@ fn request<'w>(
             budget: budget(alloc, given)?,
             choices: choosing(given),
             arrays: given.get_flag("arrays"),
+            progress: given.get_flag("progress"),
         },
     })
 }
@@ -108,6 +109,12 @@ fn commands<'w>(alloc: Global) -> Result<clap::Command<'w>, AllocError> {
         .arg(choices_from(alloc)?)?
         .arg(random(alloc))?
         .arg(arrays(alloc))?;
+    let serial = run(
+        alloc,
+        "serial",
+        "Runs a program on one thread",
+        SERIAL_EXAMPLE,
+    )?;
     clap::Command::new(alloc, "afx")
         .bin_name("afx")?
         .about("Checks and runs programs of tasks")
@@ -116,12 +123,7 @@ fn commands<'w>(alloc: Global) -> Result<clap::Command<'w>, AllocError> {
         .no_binary_name(true)
         .subcommand_required(true)
         .subcommand(run(alloc, "run", "Runs a program as tasks", RUN_EXAMPLE)?)?
-        .subcommand(run(
-            alloc,
-            "serial",
-            "Runs a program on one thread",
-            SERIAL_EXAMPLE,
-        )?)?
+        .subcommand(serial.arg(progress(alloc))?)?
         .subcommand(check)?
         .subcommand(pairs)?
         .subcommand(explore)
@@ -218,5 +220,13 @@ fn arrays<'w>(alloc: Global) -> Arg<'w> {
     Arg::new(alloc, "arrays")
         .long("arrays")
         .help("Shows the arrays behind the outcome")
+        .action(ArgAction::SetTrue)
+}
+
+/// Whether a run tells how far it has come.
+fn progress<'w>(alloc: Global) -> Arg<'w> {
+    Arg::new(alloc, "progress")
+        .long("progress")
+        .help("Tells at the terminal, twice a second, how many steps are done")
         .action(ArgAction::SetTrue)
 }

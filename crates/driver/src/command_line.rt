@@ -73,6 +73,7 @@ fn settings_in<'w>(texts: Texts<'w>) -> Option<Settings<'w>>
         budget,
         choices,
         arrays: texts.arrays,
+        progress: false,
     })
 }
 

@@ -6,7 +6,10 @@ ghost use Rattle.std.specs.Str.{chars};
 ghost use Rattle.syntax.specs.Lexical.{AreTokensOf};
 ghost use Rattle.syntax.specs.Spelling.{spelling};
 ghost use Rattle.syntax.specs.Tree.{program as tree_of};
-ghost use Rattle.types.specs.Translation.{array, outcome as outcome_of};
+ghost use Rattle.types.specs.Contents.{FitsArrays};
+ghost use Rattle.types.specs.Outcome.{outcome as one_thread_outcome};
+ghost use Rattle.types.specs.Translation.{array, input as lists_in, outcome as outcome_of};
+ghost use Rattle.types.specs.Translation.{budget as budget_of};
 ghost use Rattle.types.specs.Typed.{code_of, program_of as program_in};
 ghost use Rattle.parallel_relation.specs.Pairs.{ArePairs, pairs_left};
 ghost use Rattle.driver.specs.Answers.{Does, IsCodeOf, TellsNoCode, TellsNotAccepted};
@@ -29,6 +32,8 @@ use effects::summaries::summarize;
 use parallel_relation::pairs::{PairList, Pairs, may_run_together};
 use race_checker::accepted::Accepted;
 use race_checker::check::Refused;
+use serial_run::watch::Watch;
+use serial_run::{serial, serial_watched};
 use std::alloc::{AllocError, Global};
 use std::io::Write;
 use std::thread::Threads;
@@ -36,24 +41,26 @@ use step_trees::explore::Explored;
 use syntax::tree::Program;
 use types::check::type_check;
 use types::code::Array;
+use types::input::Input;
 use types::outcome::Outcome;
 use types::typed::Typed;
 
 /// What is asked of the text of a program.
-pub fn perform<R: Threads + Sync, F: FileSource, O: Write>(
+pub fn perform<R: Threads + Sync, F: FileSource, O: Write, W: Watch>(
     rt: &R,
     alloc: Global,
     request: Request<'_>,
     text: &str,
     files: &mut F,
     out: &mut O,
+    watch: &mut W,
 ) -> Result<u8, Failure>
     ensures { Does request.entry.command (settings_of request.entry.settings)
         (F.held files.old) text.now (O.contents out.old) (O.contents out.new) result }
 {
     match request.command {
         Command::Run => run_as_tasks(rt, alloc, request.settings, text, files, out),
-        Command::Serial => run_serially(alloc, request.settings, text, files, out),
+        Command::Serial => run_serially(alloc, request.settings, text, files, out, watch),
         Command::Check => check(rt, alloc, text, out),
         Command::Listing => list(rt, alloc, text, out),
         Command::Pairs => pairs(alloc, text, out),
@@ -85,21 +92,41 @@ fn run_as_tasks<R: Threads + Sync, F: FileSource, O: Write>(
 }
 
 /// `serial`: runs the program on one thread, and writes its outcome; gives the exit status.
-fn run_serially<F: FileSource, O: Write>(
+fn run_serially<F: FileSource, O: Write, W: Watch>(
     alloc: Global,
     settings: Settings<'_>,
     text: &str,
     files: &mut F,
     out: &mut O,
+    watch: &mut W,
 ) -> Result<u8, Failure>
     ensures { Does Command.Serial (settings_of settings.entry) (F.held files.old) text.now
         (O.contents out.old) (O.contents out.new) result }
 {
     let typed = typed_of(alloc, text)?;
     let input = input_of(alloc, files, &typed, settings.input)?;
-    match serial_run::serial(alloc, &typed, &input, settings.budget) {
+    match on_one_thread(alloc, &typed, &input, settings, watch) {
         Ok(outcome) => show(out, &typed.code().arrays, &outcome, settings.arrays),
         Err(_) => Err(Failure::NoMemory),
+    }
+}
+
+/// The run on one thread. Where that is asked for, `watch` is told how far it has come.
+fn on_one_thread<W: Watch>(
+    alloc: Global,
+    typed: &Typed,
+    input: &Input,
+    settings: Settings<'_>,
+    watch: &mut W,
+) -> Result<Outcome, AllocError>
+    requires { FitsArrays (code_of typed.now).arrays (lists_in input.now) }
+    ensures { IfOk result (λ o. outcome_of o
+        ≡ one_thread_outcome (code_of typed.now) (lists_in input.now) (budget_of settings.entry.budget)) }
+{
+    if settings.progress {
+        serial_watched(alloc, typed, input, settings.budget, watch)
+    } else {
+        serial(alloc, typed, input, settings.budget)
     }
 }
 

@@ -14,4 +14,5 @@ pub mod files;
 pub mod input_file;
 pub mod labels;
 pub mod message;
+pub mod progress;
 pub mod request;

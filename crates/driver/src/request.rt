@@ -44,6 +44,8 @@ pub struct Settings<'w> {
     pub choices: Option<Choosing<'w>>,
     /// `--arrays`: the arrays are shown behind the outcome.
     pub arrays: bool,
+    /// `--progress`: how far a run on one thread has come is told while it runs.
+    pub progress: bool,
 }
 
 impl<'w> Settings<'w> {
@@ -58,6 +60,7 @@ impl<'w> Settings<'w> {
             budget: Budget::usual(),
             choices: None,
             arrays: false,
+            progress: false,
         }
     }
 }

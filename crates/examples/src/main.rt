@@ -4,6 +4,7 @@
 
 use driver::act::act;
 use driver::files::MachineFiles;
+use serial_run::watch::Unwatched;
 use std::alloc::{AllocError, Global};
 use std::{env, io};
 
@@ -16,7 +17,15 @@ fn main(rt: HostRuntime) -> io::Result<()> {
         let words = words_of(alloc, &line)?;
         let mut out = rt.stdout();
         let mut err = rt.stdout();
-        let status = act(&rt, alloc, &words, &mut files, &mut out, &mut err);
+        let status = act(
+            &rt,
+            alloc,
+            &words,
+            &mut files,
+            &mut out,
+            &mut err,
+            &mut Unwatched,
+        );
         if status != 0 {
             println!(rt; "status {status}")?;
         }

@@ -12,5 +12,6 @@ pub mod quick;
 pub mod run;
 pub mod store;
 pub mod thread;
+pub mod watch;
 
-pub use run::serial;
+pub use run::{serial, serial_watched};

@@ -44,6 +44,7 @@ Options:
       --steps <N>     How many steps each task may take; without it 1000000
       --nest <N>      How many asyncs may stand inside one another; without it 100
       --arrays        Shows the arrays behind the outcome
+      --progress      Tells at the terminal, twice a second, how many steps are done
   -h, --help          Print help
 
 Example: afx serial examples/doubling.afx --input examples/doubling.json --arrays
@@ -85,6 +86,14 @@ pub const ROWS: &[Row] = &[
     Row {
         name: "standard input",
         words: &["serial", "-"],
+        text: TWO_ARRAYS,
+        out: "7 8\n",
+        err: "",
+        status: 0,
+    },
+    Row {
+        name: "how far a run has come",
+        words: &["serial", "program.afx", "--progress"],
         text: TWO_ARRAYS,
         out: "7 8\n",
         err: "",

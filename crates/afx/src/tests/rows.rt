@@ -2,6 +2,7 @@
 
 use driver::act::act;
 use driver::files::{FileError, FileSource};
+use serial_run::watch::Unwatched;
 use std::alloc::{AllocError, Global};
 use std::process::Abort;
 use std::thread::Threads;
@@ -158,7 +159,15 @@ pub fn answered_with_input(
     };
     let mut out = Vec::new(alloc);
     let mut err = Vec::new(alloc);
-    let status = act(rt, alloc, &words, &mut files, &mut out, &mut err);
+    let status = act(
+        rt,
+        alloc,
+        &words,
+        &mut files,
+        &mut out,
+        &mut err,
+        &mut Unwatched,
+    );
     Ok(Answer { out, err, status })
 }
 

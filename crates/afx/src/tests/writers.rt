@@ -5,6 +5,7 @@ use crate::tests::rows::{
     CHECK, LIST, PAIRS, RACE, RUN, SERIAL, Shelf, TWO_ARRAYS, answered, owned,
 };
 use driver::act::act;
+use serial_run::watch::Unwatched;
 use std::alloc::Global;
 use std::io;
 use std::io::ErrorKind;
@@ -104,7 +105,15 @@ fn writers_that_end(rt: &(impl Abort + Threads + Sync), alloc: Global) -> Result
                 end,
                 taken: Vec::new(alloc),
             };
-            let status = act(rt, alloc, &words, &mut files, &mut out, &mut err);
+            let status = act(
+                rt,
+                alloc,
+                &words,
+                &mut files,
+                &mut out,
+                &mut err,
+                &mut Unwatched,
+            );
             let text = row.text;
             assert_eq!(rt; status, row.status, "status of {text}");
             assert_eq!(rt; err.taken.as_slice(), row.err.as_bytes(), "err of {text}");
@@ -192,7 +201,15 @@ fn sweep(
             taken: Vec::new(alloc),
         };
         let mut err = Vec::new(alloc);
-        let status = act(rt, alloc, &owned_words, &mut files, &mut out, &mut err);
+        let status = act(
+            rt,
+            alloc,
+            &owned_words,
+            &mut files,
+            &mut out,
+            &mut err,
+            &mut Unwatched,
+        );
         assert!(rt;
             whole.out.as_slice().starts_with(&out.taken),
             "out of {text} after {calls} calls"

@@ -30,5 +30,5 @@ returns-in-Ok g c =
     })
     c.show.ensures.text c.show.ensures.status c.show.ensures.failure
 
-pub serial-requires : goal.serial-requires
-serial-requires g c = FitsArrays-from_IsInput _ _ c.in_ok-input.ensures.fits
+pub on_one_thread-requires : goal.on_one_thread-requires
+on_one_thread-requires g c = FitsArrays-from_IsInput _ _ c.in_ok-input.ensures.fits
