@@ -1,0 +1,10 @@
+pub mod Computed
+pub mod Emitted
+pub mod Lines
+pub mod Flat
+pub mod Written
+pub mod Grown
+pub mod Safe
+pub mod Runs
+pub mod Frames
+pub mod Machines

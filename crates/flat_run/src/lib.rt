@@ -1,0 +1,17 @@
+//! Runs a program on one thread by flat code.
+#![tactic(auto)]
+
+pub mod blocks;
+pub mod code;
+pub mod environment;
+pub mod frame;
+pub mod guards;
+pub mod machine;
+pub mod numbers;
+pub mod procedures;
+pub mod programs;
+pub mod run;
+pub mod safe;
+pub mod writer;
+
+pub use programs::{serial, serial_watched};
