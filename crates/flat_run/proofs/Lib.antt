@@ -15,6 +15,7 @@ pub mod Unfolding
 pub mod Registers
 pub mod Stepping
 pub mod Straight
+pub mod Fusing
 pub mod Measures
 pub mod Machining
 pub mod Starting

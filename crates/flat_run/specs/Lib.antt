@@ -5,6 +5,7 @@ pub mod Flat
 pub mod Written
 pub mod Grown
 pub mod Safe
+pub mod Fused
 pub mod Runs
 pub mod Frames
 pub mod Machines

@@ -5,6 +5,7 @@ pub mod blocks;
 pub mod code;
 pub mod environment;
 pub mod frame;
+pub mod fused;
 pub mod guards;
 pub mod machine;
 pub mod numbers;
