@@ -4,7 +4,7 @@ ghost use Rattle.std.specs.Prelude.{IfOk, IfErr};
 ghost use Rattle.std.specs.Str.{chars};
 ghost use Rattle.syntax.specs.Lexical.{AreTokensOf};
 ghost use Rattle.syntax.specs.Spelling.{spelling};
-ghost use Rattle.syntax.specs.Tree.{program as tree_of};
+ghost use Rattle.syntax_tree.specs.Tree.{program as tree_of};
 ghost use Rattle.types.specs.Typed.{code_of, program_of as program_in};
 ghost use Rattle.answers.specs.Answers.{IsCodeOf, TellsNoCode, TellsNotAccepted};
 
@@ -14,7 +14,7 @@ use race_checker::accepted::Accepted;
 use race_checker::check::Refused;
 use std::alloc::Global;
 use std::thread::Threads;
-use syntax::tree::Program;
+use syntax_tree::tree::Program;
 use types::check::type_check;
 use types::typed::Typed;
 
