@@ -19,7 +19,11 @@ use types::check::type_check;
 use types::typed::Typed;
 
 /// The program of a text, where it breaks no rule and has no race.
-pub fn accepted_of<R: Threads + Sync>(rt: &R, alloc: Global, text: &str) -> Result<Accepted, Failure>
+pub fn accepted_of<R: Threads + Sync>(
+    rt: &R,
+    alloc: Global,
+    text: &str,
+) -> Result<Accepted, Failure>
     ensures spelled { IfOk result (λ a. AreTokensOf (chars text.now) (spelling (program_in a.typed))) }
     ensures why { IfErr result (TellsNotAccepted text.now) }
 {

@@ -4,5 +4,6 @@
 
 pub mod act;
 pub mod commands;
+
 pub use intake::files;
 pub use texts::progress;

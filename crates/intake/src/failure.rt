@@ -10,6 +10,7 @@ ghost use Rattle.intake.specs.Failures.{IsRaceOf, TellsNotUtf8, TellsRaceIn, Tel
 ghost use Rattle.intake.specs.Failures.{access_text, kind_of, section_text, told_procedure};
 ghost use Rattle.intake.specs.Failures.{section_name as name_of_section};
 
+use gather::run_error::RunError;
 use race_checker::race::Race;
 use sections::id::SectionId;
 use std::alloc::{AllocError, Global};
@@ -18,7 +19,6 @@ use types::code::{Label, Procedure, Program};
 use types::error::TypeError;
 use types::ids::ProcedureId;
 use types::input_error::InputError;
-use gather::run_error::RunError;
 
 /// Why a command ended without its answer. `message::emit_message` writes its line.
 #[derive(Debug, Drop)]

@@ -7,8 +7,10 @@ ghost use Rattle.intake.specs.Messages.{failure_text};
 use crate::failure::Failure;
 use std::io::Write;
 use texts::emit::{EmitError, append};
-use texts::reasons::{emit_file, emit_input_error, emit_no_leaf, emit_race};
-use texts::reasons::{emit_syntax_error, emit_text, emit_type_error};
+use texts::reasons::{
+    emit_file, emit_input_error, emit_no_leaf, emit_race, emit_syntax_error, emit_text,
+    emit_type_error,
+};
 
 /// Writes the line of a failure, with its line feed.
 pub fn emit_message<W: Write>(err: &mut W, failure: &Failure) -> Result<(), EmitError>
