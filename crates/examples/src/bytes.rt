@@ -58,7 +58,7 @@ fn push_quoted(alloc: Global, bytes: &mut Vec<u8>, spelled: &str) -> io::Result<
         bytes.extend_from_slice(piece.as_bytes())?;
         return Ok(());
     }
-    let turns = turns_of(alloc, head)?;
+    let turns = turns_of(head)?;
     push_turns(alloc, bytes, &turns, piece)
 }
 
@@ -78,14 +78,12 @@ struct Turns {
 }
 
 /// The turns that a head says: `* 99 `, `* 99 from 1 ` or `* 99 from 2 by 2 `.
-fn turns_of(alloc: Global, head: &str) -> io::Result<Turns> {
-    let words: Vec<&str> = head.split(' ').collect(alloc)?;
-    let (count, first, step) = match words.as_slice() {
-        ["*", count, ""] => (*count, "0", "1"),
-        ["*", count, "from", first, ""] => (*count, *first, "1"),
-        ["*", count, "from", first, "by", step, ""] => (*count, *first, *step),
-        _ => return Err(not_understood()),
+fn turns_of(head: &str) -> io::Result<Turns> {
+    let Some(said) = head.trim_end().strip_prefix("* ") else {
+        return Err(not_understood());
     };
+    let (said, step) = said.split_once(" by ").unwrap_or((said, "1"));
+    let (count, first) = said.split_once(" from ").unwrap_or((said, "0"));
     Ok(Turns {
         count: number_in(count)?,
         first: number_in(first)?,

@@ -32,16 +32,11 @@ pub fn show<R: Machine>(rt: &R, line: &str) -> io::Result<()> {
     Ok(())
 }
 
-/// The words of a command behind `$ afx`.
+/// The words of a command behind `$ afx`. Quotes round a word are dropped, so `""` is the empty one.
 pub fn words_of(alloc: Global, command: &str) -> Result<Vec<String>, AllocError> {
     let mut words = Vec::new(alloc);
     for word in command.split(' ').skip(2) {
-        words.push(String::from_str(alloc, meant(word))?)?;
+        words.push(String::from_str(alloc, word.trim_matches('"'))?)?;
     }
     Ok(words)
-}
-
-/// The word that is written so: `""` is the empty one.
-fn meant(word: &str) -> &str {
-    if word == "\"\"" { "" } else { word }
 }
