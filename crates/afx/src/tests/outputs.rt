@@ -1,11 +1,11 @@
 //! Outcomes as text, and writers that end.
 
-use driver::emit::{EmitError, emit};
 use std::alloc::{AllocError, Global};
 use std::io;
 use std::io::ErrorKind;
 use std::test::Fail;
 use syntax_tree::tree::ElementType;
+use texts::emit::{EmitError, emit};
 use types::code::Array;
 use types::fault::{Fault, FaultKind};
 use types::outcome::Outcome;

@@ -2,13 +2,13 @@
 
 use crate::tests::outputs::faulted;
 use crate::tests::rows::answered;
-use driver::commands::show;
-use driver::failure::Failure;
+use answers::showing::show;
 use gather::error::GatherError;
+use gather::run_error::RunError;
+use intake::failure::Failure;
 use std::test::Fail;
 use types::outcome::Outcome;
 use types::path::Path;
-use workers::error::RunError;
 
 #[test]
 fn an_outcome_or_a_failure_has_its_status(rt: HostRuntime) -> Result<(), Fail> {
