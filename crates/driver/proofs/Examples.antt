@@ -2,7 +2,7 @@
 use Rattle.std.proofs.Common.{◌≡◌, List, [], ◌∷◌, refl, codes}
 use Rattle.std.specs.Prelude.{ℕ, pos, negsuc, true, false}
 use Rattle.std.specs.Fmt.{digits}
-use Rattle.syntax.specs.declared.tree.ElementType.TheVariants.{Byte}
+use Rattle.syntax_tree.specs.declared.tree.ElementType.TheVariants.{Byte}
 use Rattle.types.specs.declared.fault.FaultKind.{FaultKind}
 use Rattle.types.specs.declared.fault.FaultKind.TheVariants.{OutOfElement, Raised}
 use Rattle.types.specs.Code.{Array}

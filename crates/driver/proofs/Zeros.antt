@@ -3,8 +3,8 @@ use Rattle.std.proofs.Common.{◌≡◌, ℕ, zero, suc, List, [], ◌∷◌, ma
 use Rattle.std.proofs.lemmas.List.{length-replicate}
 use Rattle.std.specs.List.{list_all}
 use Rattle.std.specs.Prelude.{ℤ, pos, replicate, true}
-use Rattle.syntax.specs.declared.tree.ElementType.{ElementType}
-use Rattle.syntax.specs.declared.tree.ElementType.TheVariants.{Int, Byte}
+use Rattle.syntax_tree.specs.declared.tree.ElementType.{ElementType}
+use Rattle.syntax_tree.specs.declared.tree.ElementType.TheVariants.{Int, Byte}
 use Rattle.types.specs.Code.{Array}
 use Rattle.types.specs.Inputs.{IsInput, no_more, also}
 use Rattle.types.specs.Value.{holds_number}

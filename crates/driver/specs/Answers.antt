@@ -9,7 +9,7 @@ use Rattle.syntax.specs.Canonical.{listed}
 use Rattle.syntax.specs.Lexical.{AreTokensOf}
 use Rattle.syntax.specs.Refusals.{Tells as IsErrorOfText}
 use Rattle.syntax.specs.Spelling.{spelling}
-use Rattle.syntax.specs.Tree as tree
+use Rattle.syntax_tree.specs.Tree as tree
 use Rattle.types.specs.Code.{Program}
 use Rattle.types.specs.Outcome.{Outcome, outcome}
 use Rattle.types.specs.Resolution.{resolution}

@@ -2,7 +2,7 @@
 use Rattle.std.specs.Prelude.{ℕ, ◌+◌, List, [], ◌∷◌, ◌++◌, codes, length}
 use Rattle.std.specs.Fmt.{decimal}
 use Rattle.types.specs.Code.{Procedure, Program}
-use Rattle.types.specs.FirstPart.{statements}
+use Rattle.types.specs.Statements.{statements}
 
 -- a label for each statement
 abbrev pub labels_in_procedures : List Procedure → ℕ

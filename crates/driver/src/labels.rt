@@ -2,7 +2,7 @@
 
 ghost use Rattle.std.specs.Prelude.{◌≡◌, ◌-◌, ◌^◌, IfErr, IfOk, IfSome, map, min};
 ghost use Rattle.std.specs.String.{string_bytes};
-ghost use Rattle.types.specs.FirstPart.{statements, statements_in};
+ghost use Rattle.types.specs.Statements.{statements, statements_in};
 ghost use Rattle.types.specs.Translation.{code as plain_code, codes, procedure as plain, program};
 ghost use Rattle.driver.specs.Labels.{accepted_text, labels_in, labels_in_procedures};
 

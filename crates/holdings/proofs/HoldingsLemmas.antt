@@ -26,6 +26,10 @@ pub on_appended : {A E : Type 0} (r : Result A E) (xs ys new : List Fragment)
 on_appended (Ok x) xs ys new e = ap numbers_in e ∙ numbers_in-append xs ys
 on_appended (Err x) xs ys new e = tt
 
+pub ok_map : {A E P Q : Type 0} (r : Result A E) → (P → Q) → OnOk r P → OnOk r Q
+ok_map (Ok x) f p = f p
+ok_map (Err x) f p = tt
+
 pub err_map : {A E P Q : Type 0} (r : Result A E) → (P → Q) → OnErr r P → OnErr r Q
 err_map (Ok x) f p = tt
 err_map (Err x) f p = f p

@@ -1,8 +1,8 @@
 -- Programs whose statements meet.
 use Rattle.std.proofs.Common.{[], ◌∷◌}
 use Rattle.std.specs.Prelude.{codes, true, false}
-use Rattle.syntax.specs.declared.tree.ElementType.TheVariants.{Int}
-use Rattle.syntax.specs.declared.tree.Relation.TheVariants.{Less}
+use Rattle.syntax_tree.specs.declared.tree.ElementType.TheVariants.{Int}
+use Rattle.syntax_tree.specs.declared.tree.Relation.TheVariants.{Less}
 use Rattle.sections.specs.Origins.{Root, Left, Right}
 use Rattle.types.specs.declared.code.Operator.TheVariants.{Plus}
 use Rattle.types.specs.Code.{Scalar, Element, Chain, Link, Done, Compare, Assign, Store, Print, Do, While, Split}

@@ -2,8 +2,8 @@
 use Rattle.std.proofs.Common.{◌≡◌, ◌≢◌, ℕ, zero, suc, ◌+◌, ◌-◌, ◌^◌, ◌<◌, ◌≤◌, List, [], ◌∷◌, refl, sym, ap, ◌∙◌, arith}
 use Rattle.std.proofs.Common.{true≢false}
 use Rattle.std.specs.Prelude.{true, false, filter, slice_get, Some}
-use Rattle.syntax.specs.declared.tree.ElementType.TheVariants.{Int}
-use Rattle.syntax.specs.declared.tree.Relation.TheVariants.{Equal}
+use Rattle.syntax_tree.specs.declared.tree.ElementType.TheVariants.{Int}
+use Rattle.syntax_tree.specs.declared.tree.Relation.TheVariants.{Equal}
 use Rattle.sections.specs.Origins.{Origin, Root, Left, Right, origin_of, IsNumbered}
 use Rattle.sections.specs.Member.{Member, first, next}
 use Rattle.sections.specs.Overlap.{overlap}

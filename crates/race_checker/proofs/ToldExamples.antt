@@ -1,7 +1,7 @@
 -- Worked programs: the race that is told of each.
 use Rattle.std.proofs.Common.{◌≡◌, ℕ, ◌+◌, [], ◌∷◌, refl, fold}
 use Rattle.std.specs.Prelude.{codes, Option, None, Some, true, false}
-use Rattle.syntax.specs.declared.tree.ElementType.TheVariants.{Int}
+use Rattle.syntax_tree.specs.declared.tree.ElementType.TheVariants.{Int}
 use Rattle.sections.specs.Origins.{Root}
 use Rattle.types.specs.Code.{Async, Do, Store, End, Procedure, Program}
 use Rattle.types.proofs.Programs.{◌⨾◌, lit}

@@ -15,7 +15,7 @@ use Rattle.syntax.specs.Canonical.{Left, Margin, Place, canonical, laid, next, b
 use Rattle.syntax.specs.Lexical.{AreTokensOf, is_blank, mark_text, word_text}
 use Rattle.syntax.specs.Spelling.{spelling}
 use Rattle.syntax.specs.Token.{Token, NameToken, NumberToken, WordToken, MarkToken}
-use Rattle.syntax.specs.Tree.{Program}
+use Rattle.syntax_tree.specs.Tree.{Program}
 use Rattle.syntax.proofs.LayoutLemmas.{IsWritable, AreWritable, before_blank, canonical_tokens, label_none}
 use Rattle.syntax.proofs.LayoutLemmas.{line_end_blank, tokens_writable}
 use Rattle.syntax.proofs.LexicalLemmas.{one_is_true, letters_are_ascii}

@@ -1,17 +1,17 @@
 -- What spells statements and blocks.
 use Rattle.std.proofs.Common.{◌≡◌, List, [], ◌∷◌, ◌++◌, Some, None, Vec, String, Global, refl, ap, sym, ◌∙◌}
 use Rattle.std.specs.String.{string_bytes}
-use Rattle.syntax.specs.declared.tree.Expr.{Expr as rExpr}
-use Rattle.syntax.specs.declared.tree.Stmt.{Stmt as rStmt}
-use Rattle.syntax.specs.declared.tree.Stmt.TheVariants.{If as rIf, While as rWhile, Split as rSplit, Async as rAsync, Finish as rFinish}
+use Rattle.syntax_tree.specs.declared.tree.Expr.{Expr as rExpr}
+use Rattle.syntax_tree.specs.declared.tree.Stmt.{Stmt as rStmt}
+use Rattle.syntax_tree.specs.declared.tree.Stmt.TheVariants.{If as rIf, While as rWhile, Split as rSplit, Async as rAsync, Finish as rFinish}
 use Rattle.syntax.specs.declared.token.Word.TheVariants.{As as WordAs, Async as WordAsync, At as WordAt}
 use Rattle.syntax.specs.declared.token.Word.TheVariants.{Else as WordElse, Finish as WordFinish, If as WordIf}
 use Rattle.syntax.specs.declared.token.Word.TheVariants.{Split as WordSplit, While as WordWhile}
 use Rattle.syntax.specs.declared.token.Mark.TheVariants.{LeftBrace, RightBrace, Comma}
 use Rattle.syntax.specs.Token.{Token, NameToken, WordToken, MarkToken}
-use Rattle.syntax.specs.Tree.{expr, stmt, block}
+use Rattle.syntax_tree.specs.Tree.{expr, stmt, block}
 use Rattle.syntax.specs.Spelling.{expr_then, stmt_then, block_then}
-use Rattle.syntax.proofs.RowLemmas.{stmt_While, stmt_Async, stmt_Finish, stmt_Split, stmt_If, stmt_IfElse}
+use Rattle.syntax_tree.proofs.RowLemmas.{stmt_While, stmt_Async, stmt_Finish, stmt_Split, stmt_If, stmt_IfElse}
 
 -- statements without the brace that closes their block
 unfoldable pub stmts_then : List rStmt → List Token → List Token

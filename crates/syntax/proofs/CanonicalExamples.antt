@@ -1,14 +1,14 @@
 -- The canonical text and the listing of programs, computed.
 use Rattle.std.proofs.Common.{◌≡◌, ℕ, List, [], ◌∷◌, codes, Some, None, refl}
 use Rattle.std.specs.Fmt.{digits}
-use Rattle.syntax.specs.declared.tree.ElementType.TheVariants.{Int as IntElement}
-use Rattle.syntax.specs.declared.tree.Relation.TheVariants.{Less as IsLess}
-use Rattle.syntax.specs.declared.tree.Sign.TheVariants.{Minus as MinusSign}
-use Rattle.syntax.specs.declared.tree.Operator.TheVariants.{Times}
-use Rattle.syntax.specs.Tree.{Expr, Or, NoConj, And, NoNeg, Plainly, Alone, Compare, Sum, Add, NoTerm, AddTerm}
-use Rattle.syntax.specs.Tree.{Multiply, NoFactor, MultiplyFactor, Unary, Positive, Negative, Number, Name, Element}
-use Rattle.syntax.specs.Tree.{Length, Parens, Store, Print, IfElse, Call, Async, Finish, Block, End, Then, Array}
-use Rattle.syntax.specs.Tree.{Parameter, Written, Scalar, Procedure, Main, Program}
+use Rattle.syntax_tree.specs.declared.tree.ElementType.TheVariants.{Int as IntElement}
+use Rattle.syntax_tree.specs.declared.tree.Relation.TheVariants.{Less as IsLess}
+use Rattle.syntax_tree.specs.declared.tree.Sign.TheVariants.{Minus as MinusSign}
+use Rattle.syntax_tree.specs.declared.tree.Operator.TheVariants.{Times}
+use Rattle.syntax_tree.specs.Tree.{Expr, Or, NoConj, And, NoNeg, Plainly, Alone, Compare, Sum, Add, NoTerm, AddTerm}
+use Rattle.syntax_tree.specs.Tree.{Multiply, NoFactor, MultiplyFactor, Unary, Positive, Negative, Number, Name, Element}
+use Rattle.syntax_tree.specs.Tree.{Length, Parens, Store, Print, IfElse, Call, Async, Finish, Block, End, Then, Array}
+use Rattle.syntax_tree.specs.Tree.{Parameter, Written, Scalar, Procedure, Main, Program}
 use Rattle.syntax.specs.Spelling.{spelling, procedures_then, main_tokens, arrays_then, parameters_then}
 use Rattle.syntax.specs.Spelling.{more_parameters_then, parameter_then, stmt_then, expr_then, exprs_then, more_then}
 use Rattle.syntax.specs.Canonical.{laid, canonical, listed}

@@ -1,26 +1,26 @@
 -- What spells a chain, with one more operand behind it.
 use Rattle.std.proofs.Common.{◌≡◌, List, [], ◌∷◌, ◌++◌, Some, None, true, false, Box, Vec, Global, refl, ap, sym, ◌∙◌, append_assoc, append-nil}
-use Rattle.syntax.specs.declared.tree.Expr.{Expr as rExpr, roll-Expr}
-use Rattle.syntax.specs.declared.tree.Conj.{Conj as rConj, roll-Conj}
-use Rattle.syntax.specs.declared.tree.Neg.{Neg as rNeg, roll-Neg}
-use Rattle.syntax.specs.declared.tree.Cmp.{Cmp as rCmp, roll-Cmp}
-use Rattle.syntax.specs.declared.tree.Compared.{roll-Compared}
-use Rattle.syntax.specs.declared.tree.Sum.{Sum as rSum, roll-Sum}
-use Rattle.syntax.specs.declared.tree.Relation.{Relation}
-use Rattle.syntax.specs.declared.tree.Prod.{Prod as rProd, roll-Prod}
-use Rattle.syntax.specs.declared.tree.Unary.{Unary as rUnary}
-use Rattle.syntax.specs.declared.tree.Sign.{Sign}
-use Rattle.syntax.specs.declared.tree.Term.{Term as rTerm, Term' as rSigned, roll-Term}
-use Rattle.syntax.specs.declared.tree.Factor.{Factor as rFactor}
+use Rattle.syntax_tree.specs.declared.tree.Expr.{Expr as rExpr, roll-Expr}
+use Rattle.syntax_tree.specs.declared.tree.Conj.{Conj as rConj, roll-Conj}
+use Rattle.syntax_tree.specs.declared.tree.Neg.{Neg as rNeg, roll-Neg}
+use Rattle.syntax_tree.specs.declared.tree.Cmp.{Cmp as rCmp, roll-Cmp}
+use Rattle.syntax_tree.specs.declared.tree.Compared.{roll-Compared}
+use Rattle.syntax_tree.specs.declared.tree.Sum.{Sum as rSum, roll-Sum}
+use Rattle.syntax_tree.specs.declared.tree.Relation.{Relation}
+use Rattle.syntax_tree.specs.declared.tree.Prod.{Prod as rProd, roll-Prod}
+use Rattle.syntax_tree.specs.declared.tree.Unary.{Unary as rUnary}
+use Rattle.syntax_tree.specs.declared.tree.Sign.{Sign}
+use Rattle.syntax_tree.specs.declared.tree.Term.{Term as rTerm, Term' as rSigned, roll-Term}
+use Rattle.syntax_tree.specs.declared.tree.Factor.{Factor as rFactor}
 use Rattle.syntax.specs.declared.token.Word.TheVariants.{And as WordAnd, Not as WordNot, Or as WordOr}
 use Rattle.syntax.specs.declared.token.Mark.TheVariants.{Comma}
 use Rattle.syntax.specs.Token.{Token, WordToken, MarkToken}
-use Rattle.syntax.specs.Tree.{Terms, NoTerm, expr, conj, neg, cmp, sum, prod, unary, term, conjs, negs, terms, factors, exprs}
+use Rattle.syntax_tree.specs.Tree.{Terms, NoTerm, expr, conj, neg, cmp, sum, prod, unary, term, conjs, negs, terms, factors, exprs}
 use Rattle.syntax.specs.Reading.{AddsExprs}
 use Rattle.syntax.specs.Spelling.{expr_then, conj_then, conjs_then, neg_then, negs_then, cmp_then, sum_then}
 use Rattle.syntax.specs.Spelling.{relation_mark, prod_then, terms_then, unary_then, factors_then, more_then, exprs_then}
 use Rattle.syntax.specs.Spelling.{sign_mark, operator_mark}
-use Rattle.syntax.proofs.RowLemmas.{expr_built, conj_built, neg_built, cmp_alone, cmp_compared, sum_built, term_built, prod_built}
+use Rattle.syntax_tree.proofs.RowLemmas.{expr_built, conj_built, neg_built, cmp_alone, cmp_compared, sum_built, term_built, prod_built}
 
 -- tokens that are equal are equal behind one token
 pub behind : {t : Token} {ts us : List Token} → ts ≡ us → t ∷ ts ≡ t ∷ us

@@ -4,18 +4,18 @@ use Rattle.std.proofs.Common.{OnOk, is_ok, Some, None, Box, String, Global, refl
 use Rattle.std.proofs.Common.{append-nil}
 use Rattle.std.specs.Fmt.{decimal}
 use Rattle.std.specs.String.{string_bytes}
-use Rattle.syntax.specs.declared.tree.Expr.{Expr as rExpr, out-Expr}
-use Rattle.syntax.specs.declared.tree.Conj.{Conj as rConj, out-Conj}
-use Rattle.syntax.specs.declared.tree.Neg.{Neg as rNeg, out-Neg}
-use Rattle.syntax.specs.declared.tree.Cmp.{Cmp as rCmp, out-Cmp}
-use Rattle.syntax.specs.declared.tree.Compared.{Compared as rCompared, out-Compared}
-use Rattle.syntax.specs.declared.tree.Sum.{Sum as rSum, out-Sum}
-use Rattle.syntax.specs.declared.tree.Term.{Term as rTerm, out-Term, roll-out-Term}
-use Rattle.syntax.specs.declared.tree.Prod.{Prod as rProd, out-Prod}
-use Rattle.syntax.specs.declared.tree.Factor.{Factor as rFactor}
-use Rattle.syntax.specs.declared.tree.Atom.TheVariants.{Number as rNumber, True as rTrue, False as rFalse}
-use Rattle.syntax.specs.declared.tree.Atom.TheVariants.{Name as rName, Element as rElement, Length as rLength}
-use Rattle.syntax.specs.declared.tree.Atom.TheVariants.{Parens as rParens}
+use Rattle.syntax_tree.specs.declared.tree.Expr.{Expr as rExpr, out-Expr}
+use Rattle.syntax_tree.specs.declared.tree.Conj.{Conj as rConj, out-Conj}
+use Rattle.syntax_tree.specs.declared.tree.Neg.{Neg as rNeg, out-Neg}
+use Rattle.syntax_tree.specs.declared.tree.Cmp.{Cmp as rCmp, out-Cmp}
+use Rattle.syntax_tree.specs.declared.tree.Compared.{Compared as rCompared, out-Compared}
+use Rattle.syntax_tree.specs.declared.tree.Sum.{Sum as rSum, out-Sum}
+use Rattle.syntax_tree.specs.declared.tree.Term.{Term as rTerm, out-Term, roll-out-Term}
+use Rattle.syntax_tree.specs.declared.tree.Prod.{Prod as rProd, out-Prod}
+use Rattle.syntax_tree.specs.declared.tree.Factor.{Factor as rFactor}
+use Rattle.syntax_tree.specs.declared.tree.Atom.TheVariants.{Number as rNumber, True as rTrue, False as rFalse}
+use Rattle.syntax_tree.specs.declared.tree.Atom.TheVariants.{Name as rName, Element as rElement, Length as rLength}
+use Rattle.syntax_tree.specs.declared.tree.Atom.TheVariants.{Parens as rParens}
 use Rattle.syntax.specs.declared.token.Mark.TheVariants.{RightParen, RightBracket}
 use Rattle.syntax.specs.Canonical.{Operand, laid, in_line}
 use Rattle.syntax.specs.Lexical.{mark_text}
@@ -23,14 +23,14 @@ use Rattle.syntax.specs.Spelling.{expr_then, conj_then, conjs_then, neg_then, ne
 use Rattle.syntax.specs.Spelling.{terms_then, unary_then, factors_then, atom_then, more_then, exprs_then, relation_mark}
 use Rattle.syntax.specs.Spelling.{sign_mark, operator_mark}
 use Rattle.syntax.specs.Token.{MarkToken}
-use Rattle.syntax.specs.Tree.{Atom, Cmp, expr, conj, neg, cmp, sum, prod, term, unary, atom, negated, negative, conjs}
-use Rattle.syntax.specs.Tree.{negs, terms, factors, exprs}
-use Rattle.syntax.proofs.Atoms.{expr_is, conj_is, neg_is, cmp_is_alone, cmp_is_compared, sum_is, prod_is}
+use Rattle.syntax_tree.specs.Tree.{Atom, Cmp, expr, conj, neg, cmp, sum, prod, term, unary, atom, negated, negative, conjs}
+use Rattle.syntax_tree.specs.Tree.{negs, terms, factors, exprs}
+use Rattle.syntax_tree.proofs.Atoms.{expr_is, conj_is, neg_is, cmp_is_alone, cmp_is_compared, sum_is, prod_is}
 use Rattle.syntax.proofs.LaidLemmas.{at_left, line, end_follows, conjs_follow, negs_follow, terms_follow}
 use Rattle.syntax.proofs.LaidLemmas.{factors_follow, more_follow, relation_follows, expr_apart, neg_apart, conj_apart}
 use Rattle.syntax.proofs.LaidLemmas.{cmp_apart, sum_apart, prod_apart, unary_apart, relation_laid, sign_laid}
 use Rattle.syntax.proofs.LaidLemmas.{operator_laid, expr_laid, conj_laid, neg_laid, sum_laid, prod_laid, unary_laid}
-use Rattle.syntax.proofs.RowLemmas.{term_built}
+use Rattle.syntax_tree.proofs.RowLemmas.{term_built}
 
 -- what is added in two steps
 pub then_adds : (before first second : List ℕ) {between behind : List ℕ} → between ≡ before ++ first → behind ≡ between ++ second

@@ -1,13 +1,13 @@
 -- A layout inside a line goes production by production.
 use Rattle.std.proofs.Common.{◌≡◌, ℕ, List, [], ◌∷◌, ◌++◌, None, refl, ap, sym, ◌∙◌, append_assoc, append-nil}
 use Rattle.std.specs.Fmt.{decimal}
-use Rattle.syntax.specs.declared.tree.Relation.{Relation}
-use Rattle.syntax.specs.declared.tree.Relation.TheVariants.{Less as IsLess, AtMost as IsAtMost, Greater as IsGreater}
-use Rattle.syntax.specs.declared.tree.Relation.TheVariants.{AtLeast as IsAtLeast, Equal as IsEqual, Differs as IsOther}
-use Rattle.syntax.specs.declared.tree.Sign.{Sign}
-use Rattle.syntax.specs.declared.tree.Sign.TheVariants.{Plus as PlusSign, Minus as MinusSign}
-use Rattle.syntax.specs.declared.tree.Operator.{Operator}
-use Rattle.syntax.specs.declared.tree.Operator.TheVariants.{Times, Over, Modulo}
+use Rattle.syntax_tree.specs.declared.tree.Relation.{Relation}
+use Rattle.syntax_tree.specs.declared.tree.Relation.TheVariants.{Less as IsLess, AtMost as IsAtMost, Greater as IsGreater}
+use Rattle.syntax_tree.specs.declared.tree.Relation.TheVariants.{AtLeast as IsAtLeast, Equal as IsEqual, Differs as IsOther}
+use Rattle.syntax_tree.specs.declared.tree.Sign.{Sign}
+use Rattle.syntax_tree.specs.declared.tree.Sign.TheVariants.{Plus as PlusSign, Minus as MinusSign}
+use Rattle.syntax_tree.specs.declared.tree.Operator.{Operator}
+use Rattle.syntax_tree.specs.declared.tree.Operator.TheVariants.{Times, Over, Modulo}
 use Rattle.syntax.specs.declared.token.Mark.TheVariants.{RightParen, RightBracket}
 use Rattle.syntax.specs.Canonical.{Left, Opening, Called, Operand, Other, Place, laid, in_line}
 use Rattle.syntax.specs.Lexical.{mark_text}
@@ -15,10 +15,10 @@ use Rattle.syntax.specs.Spelling.{expr_then, conj_then, conjs_then, neg_then, ne
 use Rattle.syntax.specs.Spelling.{terms_then, unary_then, factors_then, atom_then, more_then, relation_mark, sign_mark}
 use Rattle.syntax.specs.Spelling.{operator_mark}
 use Rattle.syntax.specs.Token.{Token, MarkToken}
-use Rattle.syntax.specs.Tree.{Expr, Or, Conjs, NoConj, OrConj, Conj, And, Negs, NoNeg, AndNeg, Neg, Plainly, Not, Cmp}
-use Rattle.syntax.specs.Tree.{Alone, Compare, Sum, Add, Terms, NoTerm, AddTerm, Prod, Multiply, Factors, NoFactor}
-use Rattle.syntax.specs.Tree.{MultiplyFactor, Unary, Positive, Negative, Atom, Number, True, False, Name, Element}
-use Rattle.syntax.specs.Tree.{Length, Parens}
+use Rattle.syntax_tree.specs.Tree.{Expr, Or, Conjs, NoConj, OrConj, Conj, And, Negs, NoNeg, AndNeg, Neg, Plainly, Not, Cmp}
+use Rattle.syntax_tree.specs.Tree.{Alone, Compare, Sum, Add, Terms, NoTerm, AddTerm, Prod, Multiply, Factors, NoFactor}
+use Rattle.syntax_tree.specs.Tree.{MultiplyFactor, Unary, Positive, Negative, Atom, Number, True, False, Name, Element}
+use Rattle.syntax_tree.specs.Tree.{Length, Parens}
 
 -- the same place with something else to the left
 abbrev pub at_left : Place → Left → Place

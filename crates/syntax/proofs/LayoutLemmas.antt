@@ -27,7 +27,7 @@ use Rattle.syntax.specs.Lexical.{number_of, Piece, BlankPiece, CommentPiece, Nam
 use Rattle.syntax.specs.Lexical.{MarkPiece, letters, token_of, IsNumber, IsMark, MayStand, AreCut, AreTokensOf}
 use Rattle.syntax.specs.Token.{Token, NameToken, NumberToken, WordToken, MarkToken}
 use Rattle.syntax.specs.Spelling.{spelling}
-use Rattle.syntax.specs.Tree.{Program}
+use Rattle.syntax_tree.specs.Tree.{Program}
 
 second_false : (a b : Bool) → (a || b) ≡ false → b ≡ false
 second_false true b e = absurd (false≢true (sym e))

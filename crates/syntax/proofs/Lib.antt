@@ -1,5 +1,4 @@
 pub mod AsciiLemmas
-pub mod Atoms
 pub mod BlockLemmas
 pub mod CanonicalExamples
 pub mod ChainLemmas
@@ -17,7 +16,6 @@ pub mod ProgramLemmas
 pub mod ProgramRefusals
 pub mod RefusalLemmas
 pub mod Refused
-pub mod RowLemmas
 pub mod Shallow
 pub mod SpellingLemmas
 pub mod StatementKinds

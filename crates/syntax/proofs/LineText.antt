@@ -7,9 +7,9 @@ use Rattle.std.specs.List.{repeat}
 use Rattle.std.specs.Option.{option_map}
 use Rattle.std.specs.String.{string_bytes}
 use Rattle.syntax.specs.declared.canonical.Lines.{Lines}
-use Rattle.syntax.specs.declared.tree.ElementType.{ElementType}
-use Rattle.syntax.specs.declared.tree.ElementType.TheVariants.{Int as IntElement, Byte as ByteElement}
-use Rattle.syntax.specs.declared.tree.Parameter.{Parameter as rParameter}
+use Rattle.syntax_tree.specs.declared.tree.ElementType.{ElementType}
+use Rattle.syntax_tree.specs.declared.tree.ElementType.TheVariants.{Int as IntElement, Byte as ByteElement}
+use Rattle.syntax_tree.specs.declared.tree.Parameter.{Parameter as rParameter}
 use Rattle.syntax.specs.declared.token.Word.TheVariants.{Array as WordArray, As as WordAs, At as WordAt}
 use Rattle.syntax.specs.declared.token.Word.TheVariants.{Else as WordElse, Main as WordMain, Print as WordPrint, Proc as WordProc}
 use Rattle.syntax.specs.declared.token.Word.TheVariants.{Split as WordSplit}
@@ -21,9 +21,9 @@ use Rattle.syntax.specs.Lexical.{word_text}
 use Rattle.syntax.specs.Spelling.{expr_then, more_then, exprs_then, stmt_then, block_then, arrays_then, parameter_then}
 use Rattle.syntax.specs.Spelling.{parameters_then, more_parameters_then, procedures_then, main_tokens, element_word}
 use Rattle.syntax.specs.Token.{Token, NameToken, NumberToken, WordToken, MarkToken}
-use Rattle.syntax.specs.Tree.{Expr, Stmt, Skip, Var, Assign, Store, Print, Fault, If, IfElse, While, Split, Call, Async}
-use Rattle.syntax.specs.Tree.{Finish, Block, End, Then, Array, Parameter, Written, Read, Scalar, Procedure, Main}
-use Rattle.syntax.specs.Tree.{parameter}
+use Rattle.syntax_tree.specs.Tree.{Expr, Stmt, Skip, Var, Assign, Store, Print, Fault, If, IfElse, While, Split, Call, Async}
+use Rattle.syntax_tree.specs.Tree.{Finish, Block, End, Then, Array, Parameter, Written, Read, Scalar, Procedure, Main}
+use Rattle.syntax_tree.specs.Tree.{parameter}
 use Rattle.syntax.specs.Writing.{place, with_rest, Adds, IsCounted}
 use Rattle.syntax.proofs.LaidLemmas.{at_left, line, Follows, append_joined, append_under, before_nil, end_follows, more_follow}
 use Rattle.syntax.proofs.LaidLemmas.{expr_apart, expr_laid, more_laid}

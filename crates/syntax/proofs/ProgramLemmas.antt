@@ -1,13 +1,13 @@
 -- What spells lists of arrays, parameters and procedures, with one more behind them.
 use Rattle.std.proofs.Common.{◌≡◌, ◌<◌, List, [], ◌∷◌, ◌++◌, length, map, refl, ap, sym, ◌∙◌, arith}
-use Rattle.syntax.specs.declared.tree.Array.{Array as rArray}
-use Rattle.syntax.specs.declared.tree.Parameter.{Parameter as rParameter}
-use Rattle.syntax.specs.declared.tree.Procedure.{Procedure as rProcedure}
+use Rattle.syntax_tree.specs.declared.tree.Array.{Array as rArray}
+use Rattle.syntax_tree.specs.declared.tree.Parameter.{Parameter as rParameter}
+use Rattle.syntax_tree.specs.declared.tree.Procedure.{Procedure as rProcedure}
 use Rattle.syntax.specs.declared.token.Spanned.{Spanned}
 use Rattle.syntax.specs.declared.token.Word.TheVariants.{Array as WordArray, Proc as WordProc}
 use Rattle.syntax.specs.declared.token.Mark.TheVariants.{Comma}
 use Rattle.syntax.specs.Token.{Token, WordToken, MarkToken, plain}
-use Rattle.syntax.specs.Tree.{array, parameter, procedure}
+use Rattle.syntax_tree.specs.Tree.{array, parameter, procedure}
 use Rattle.syntax.specs.Spelling.{arrays_then, parameter_then, parameters_then, more_parameters_then, procedures_then}
 use Rattle.syntax.proofs.ChainLemmas.{behind}
 

@@ -1,14 +1,14 @@
 -- What the first tokens of a list of arrays, parameters or procedures say of what the tokens spell.
 use Rattle.std.proofs.Common.{◌≡◌, ◌≢◌, ◌<◌, ℕ, List, [], ◌∷◌, Option, Some, None, length, refl, ap, arith}
 use Rattle.syntax.specs.declared.token.Spanned.{Spanned}
-use Rattle.syntax.specs.declared.tree.ElementType.{ElementType}
-use Rattle.syntax.specs.declared.tree.ElementType.TheVariants.{Int as IntElement, Byte as ByteElement}
+use Rattle.syntax_tree.specs.declared.tree.ElementType.{ElementType}
+use Rattle.syntax_tree.specs.declared.tree.ElementType.TheVariants.{Int as IntElement, Byte as ByteElement}
 use Rattle.syntax.specs.declared.token.Word.TheVariants.{Array as WordArray, Byte as WordByte, Int as WordInt}
 use Rattle.syntax.specs.declared.token.Word.TheVariants.{Main as WordMain, Mut as WordMut, Proc as WordProc}
 use Rattle.syntax.specs.declared.token.Word.TheVariants.{Read as WordRead}
 use Rattle.syntax.specs.declared.token.Mark.TheVariants.{RightParen, LeftBrace, Comma, Colon}
 use Rattle.syntax.specs.Token.{Token, NameToken, WordToken, MarkToken, plain}
-use Rattle.syntax.specs.Tree.{Array, Parameter, Written, Read, Scalar, Procedure, Main}
+use Rattle.syntax_tree.specs.Tree.{Array, Parameter, Written, Read, Scalar, Procedure, Main}
 use Rattle.syntax.specs.Spelling.{element_word, block_then, arrays_then, parameter_then, more_parameters_then}
 use Rattle.syntax.specs.Spelling.{parameters_then, procedures_then, main_tokens}
 use Rattle.syntax.specs.Reading.{binds, list_level}

@@ -8,14 +8,14 @@ use Rattle.syntax.specs.declared.token.Word.TheVariants.{And as WordAnd, False a
 use Rattle.syntax.specs.declared.token.Word.TheVariants.{Not as WordNot, Or as WordOr, True as WordTrue}
 use Rattle.syntax.specs.declared.token.Mark.{Mark}
 use Rattle.syntax.specs.declared.token.Mark.TheVariants.{LeftParen, RightParen, LeftBracket, RightBracket, Comma, Minus}
-use Rattle.syntax.specs.declared.tree.Relation.{Relation}
-use Rattle.syntax.specs.declared.tree.Sign.{Sign}
-use Rattle.syntax.specs.declared.tree.Operator.{Operator}
+use Rattle.syntax_tree.specs.declared.tree.Relation.{Relation}
+use Rattle.syntax_tree.specs.declared.tree.Sign.{Sign}
+use Rattle.syntax_tree.specs.declared.tree.Operator.{Operator}
 use Rattle.syntax.specs.Token.{Token, NameToken, NumberToken, WordToken, MarkToken}
-use Rattle.syntax.specs.Tree.{Expr, Or, Conjs, NoConj, OrConj, Conj, And, Negs, NoNeg, AndNeg, Neg, Plainly, Not, Cmp}
-use Rattle.syntax.specs.Tree.{Alone, Compare, Sum, Add, Terms, NoTerm, AddTerm, Prod, Multiply, Factors, NoFactor}
-use Rattle.syntax.specs.Tree.{MultiplyFactor, Unary, Positive, Negative, Atom, Number, True, False, Name, Element}
-use Rattle.syntax.specs.Tree.{Length, Parens}
+use Rattle.syntax_tree.specs.Tree.{Expr, Or, Conjs, NoConj, OrConj, Conj, And, Negs, NoNeg, AndNeg, Neg, Plainly, Not, Cmp}
+use Rattle.syntax_tree.specs.Tree.{Alone, Compare, Sum, Add, Terms, NoTerm, AddTerm, Prod, Multiply, Factors, NoFactor}
+use Rattle.syntax_tree.specs.Tree.{MultiplyFactor, Unary, Positive, Negative, Atom, Number, True, False, Name, Element}
+use Rattle.syntax_tree.specs.Tree.{Length, Parens}
 use Rattle.syntax.specs.Spelling.{relation_mark, sign_mark, operator_mark, expr_then, conjs_then, conj_then, negs_then}
 use Rattle.syntax.specs.Spelling.{neg_then, cmp_then, sum_then, terms_then, prod_then, factors_then, unary_then}
 use Rattle.syntax.specs.Spelling.{atom_then, more_then}

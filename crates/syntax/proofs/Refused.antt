@@ -7,9 +7,9 @@ use Rattle.syntax.specs.declared.error.SyntaxError.TheVariants.{NotACharacter, U
 use Rattle.syntax.specs.declared.error.SyntaxError.TheVariants.{TooLong, OutOfMemory}
 use Rattle.syntax.specs.Brackets.{AreShallow}
 use Rattle.syntax.specs.Lexical.{starts, AreTokensOf}
-use Rattle.syntax.specs.declared.tree.Program.{Program as rProgram}
+use Rattle.syntax_tree.specs.declared.tree.Program.{Program as rProgram}
 use Rattle.syntax.specs.Spelling.{spelling}
-use Rattle.syntax.specs.Tree.{Program, program}
+use Rattle.syntax_tree.specs.Tree.{Program, program}
 use Rattle.syntax.specs.Refusals.{IsNoCharacter, IsLargeNumber, SpellsNoProgram, IsTooDeep, TellsOf, error_code}
 use Rattle.syntax.proofs.Pieces.{starts-append, one_reading, no_reading, one_place}
 use Rattle.syntax.proofs.SpellingLemmas.{one_spelling}

@@ -1,10 +1,10 @@
 -- No two programs are spelled alike.
 use Rattle.std.proofs.Common.{◌≡◌, ◌≢◌, ◌<◌, List, [], ◌∷◌, Option, Some, None, refl, ap, sym, arith}
-use Rattle.syntax.specs.declared.tree.ElementType.{ElementType}
-use Rattle.syntax.specs.declared.tree.ElementType.TheVariants.{Int as IntElement, Byte as ByteElement}
+use Rattle.syntax_tree.specs.declared.tree.ElementType.{ElementType}
+use Rattle.syntax_tree.specs.declared.tree.ElementType.TheVariants.{Int as IntElement, Byte as ByteElement}
 use Rattle.syntax.specs.declared.token.Mark.TheVariants.{RightParen, LeftBrace}
 use Rattle.syntax.specs.Token.{Token, MarkToken}
-use Rattle.syntax.specs.Tree.{Array, Parameter, Written, Read, Scalar, Procedure, Main, Program}
+use Rattle.syntax_tree.specs.Tree.{Array, Parameter, Written, Read, Scalar, Procedure, Main, Program}
 use Rattle.syntax.specs.Spelling.{element_word, block_then, arrays_then, parameter_then, more_parameters_then}
 use Rattle.syntax.specs.Spelling.{parameters_then, procedures_then, main_tokens, spelling}
 use Rattle.syntax.specs.Reading.{binds, list_level}

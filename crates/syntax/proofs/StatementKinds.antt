@@ -2,14 +2,14 @@
 use Rattle.std.proofs.Common.{◌≡◌, ◌⊎◌, inl, inr, true, false, Option, Some, None, Vec, String, Global, refl, ap}
 use Rattle.std.proofs.Common.{◌∙◌}
 use Rattle.std.specs.String.{string_bytes}
-use Rattle.syntax.specs.declared.tree.Expr.{Expr as rExpr}
-use Rattle.syntax.specs.declared.tree.Stmt.{Stmt as rStmt, Skip as rSkip, Var as rVar, Assign as rAssign, Store as rStore}
-use Rattle.syntax.specs.declared.tree.Stmt.{Print as rPrint, Fault as rFault, Call as rCall}
-use Rattle.syntax.specs.declared.tree.Stmt.TheVariants.{If as rIf, While as rWhile, Split as rSplit, Async as rAsync}
-use Rattle.syntax.specs.declared.tree.Stmt.TheVariants.{Finish as rFinish}
-use Rattle.syntax.specs.Tree.{Skip, Var, Assign, Store, Print, Fault, Call, expr, exprs, stmt}
+use Rattle.syntax_tree.specs.declared.tree.Expr.{Expr as rExpr}
+use Rattle.syntax_tree.specs.declared.tree.Stmt.{Stmt as rStmt, Skip as rSkip, Var as rVar, Assign as rAssign, Store as rStore}
+use Rattle.syntax_tree.specs.declared.tree.Stmt.{Print as rPrint, Fault as rFault, Call as rCall}
+use Rattle.syntax_tree.specs.declared.tree.Stmt.TheVariants.{If as rIf, While as rWhile, Split as rSplit, Async as rAsync}
+use Rattle.syntax_tree.specs.declared.tree.Stmt.TheVariants.{Finish as rFinish}
+use Rattle.syntax_tree.specs.Tree.{Skip, Var, Assign, Store, Print, Fault, Call, expr, exprs, stmt}
 use Rattle.syntax.specs.Writing.{is_simple}
-use Rattle.syntax.proofs.RowLemmas.{stmt_If, stmt_IfElse, stmt_While, stmt_Split, stmt_Async, stmt_Finish}
+use Rattle.syntax_tree.proofs.RowLemmas.{stmt_If, stmt_IfElse, stmt_While, stmt_Split, stmt_Async, stmt_Finish}
 
 pub stmt_Skip : stmt rSkip ≡ Skip
 unfolding stmt

@@ -8,8 +8,8 @@ use Rattle.syntax.specs.declared.token.Word.TheVariants.{Split as WordSplit, Var
 use Rattle.syntax.specs.declared.token.Mark.TheVariants.{LeftParen, RightParen, LeftBrace, RightBrace, LeftBracket}
 use Rattle.syntax.specs.declared.token.Mark.TheVariants.{RightBracket, Comma, Semicolon, Becomes}
 use Rattle.syntax.specs.Token.{Token, NameToken, WordToken, MarkToken}
-use Rattle.syntax.specs.Tree.{Expr, Stmt, Skip, Var, Assign, Store, Print, Fault, If, IfElse, While, Split, Call, Async}
-use Rattle.syntax.specs.Tree.{Finish, Block, End, Then}
+use Rattle.syntax_tree.specs.Tree.{Expr, Stmt, Skip, Var, Assign, Store, Print, Fault, If, IfElse, While, Split, Call, Async}
+use Rattle.syntax_tree.specs.Tree.{Finish, Block, End, Then}
 use Rattle.syntax.specs.Spelling.{expr_then, more_then, exprs_then, stmt_then, block_then}
 use Rattle.syntax.specs.Reading.{binds, list_level, or_level, else_level}
 use Rattle.syntax.proofs.ExprSpellings.{begins, expr_begins}

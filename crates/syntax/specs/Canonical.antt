@@ -20,7 +20,7 @@ use Rattle.syntax.specs.declared.token.Mark.TheVariants.{Colon, Minus}
 use Rattle.syntax.specs.Lexical.{word_text, mark_text}
 use Rattle.syntax.specs.Spelling.{spelling}
 use Rattle.syntax.specs.Token.{Token, NameToken, NumberToken, WordToken, MarkToken}
-use Rattle.syntax.specs.Tree.{Program}
+use Rattle.syntax_tree.specs.Tree.{Program}
 
 -- what stands to the left of a token
 pub data Left : Type 0 where

@@ -7,5 +7,4 @@ pub mod Refusals
 pub mod Spelled
 pub mod Spelling
 pub mod Token
-pub mod Tree
 pub mod Writing

@@ -10,10 +10,10 @@ use Rattle.syntax.specs.declared.token.Mark.{Mark}
 use Rattle.syntax.specs.declared.token.Mark.TheVariants.{LeftBracket, Comma, Plus, Minus, Star}
 use Rattle.syntax.specs.declared.token.Mark.TheVariants.{Slash, Percent, Less}
 use Rattle.syntax.specs.declared.token.Mark.TheVariants.{AtMost, Greater, AtLeast, Equal, Differs}
-use Rattle.syntax.specs.declared.tree.Expr.{Expr}
+use Rattle.syntax_tree.specs.declared.tree.Expr.{Expr}
 use Rattle.syntax.specs.Spelling.{more_then}
 use Rattle.syntax.specs.Token.{Token, NameToken, NumberToken, WordToken, MarkToken}
-use Rattle.syntax.specs.Tree.{exprs}
+use Rattle.syntax_tree.specs.Tree.{exprs}
 
 -- behind the earlier expressions stand others, which are spelled with a comma before each
 pub record AddsExprs (earlier all : List Expr) (before rest : List Token) : Type 0 where

@@ -19,7 +19,7 @@ use Rattle.syntax.specs.Lexical.{BeginsLargeNumber, StopsAt}
 use Rattle.syntax.specs.Place.{place_at, place_text}
 use Rattle.syntax.specs.Spelling.{spelling}
 use Rattle.syntax.specs.Token.{Token, token, plain}
-use Rattle.syntax.specs.Tree.{Program}
+use Rattle.syntax_tree.specs.Tree.{Program}
 
 -- S1: a text can be read up to this character, which begins no piece and is no digit
 pub record IsNoCharacter (text : List ℕ) (at : ℕ) : Type 0 where

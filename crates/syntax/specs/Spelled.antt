@@ -3,7 +3,7 @@ use Rattle.std.specs.Prelude.{ℕ, List}
 use Rattle.syntax.specs.Brackets.{AreShallow}
 use Rattle.syntax.specs.Lexical.{AreTokensOf}
 use Rattle.syntax.specs.Spelling.{spelling}
-use Rattle.syntax.specs.Tree.{Program}
+use Rattle.syntax_tree.specs.Tree.{Program}
 
 -- some text has the tokens of this program, by which at most 100 brackets are open
 pub record IsSpelled (p : Program) : Type 0 where

@@ -1,17 +1,17 @@
 -- The tokens that spell a program: for each production its tokens, with other tokens behind them.
 use Rattle.std.specs.Prelude.{List, [], ◌∷◌, Option, None, Some}
-use Rattle.syntax.specs.declared.tree.ElementType.{ElementType}
-use Rattle.syntax.specs.declared.tree.ElementType.TheVariants.{Int as IntElement}
-use Rattle.syntax.specs.declared.tree.ElementType.TheVariants.{Byte as ByteElement}
-use Rattle.syntax.specs.declared.tree.Relation.{Relation}
-use Rattle.syntax.specs.declared.tree.Relation.TheVariants.{Less as IsLess, AtMost as IsAtMost}
-use Rattle.syntax.specs.declared.tree.Relation.TheVariants.{Greater as IsGreater}
-use Rattle.syntax.specs.declared.tree.Relation.TheVariants.{AtLeast as IsAtLeast, Equal as IsEqual}
-use Rattle.syntax.specs.declared.tree.Relation.TheVariants.{Differs as IsOther}
-use Rattle.syntax.specs.declared.tree.Sign.{Sign}
-use Rattle.syntax.specs.declared.tree.Sign.TheVariants.{Plus as PlusSign, Minus as MinusSign}
-use Rattle.syntax.specs.declared.tree.Operator.{Operator}
-use Rattle.syntax.specs.declared.tree.Operator.TheVariants.{Times, Over, Modulo}
+use Rattle.syntax_tree.specs.declared.tree.ElementType.{ElementType}
+use Rattle.syntax_tree.specs.declared.tree.ElementType.TheVariants.{Int as IntElement}
+use Rattle.syntax_tree.specs.declared.tree.ElementType.TheVariants.{Byte as ByteElement}
+use Rattle.syntax_tree.specs.declared.tree.Relation.{Relation}
+use Rattle.syntax_tree.specs.declared.tree.Relation.TheVariants.{Less as IsLess, AtMost as IsAtMost}
+use Rattle.syntax_tree.specs.declared.tree.Relation.TheVariants.{Greater as IsGreater}
+use Rattle.syntax_tree.specs.declared.tree.Relation.TheVariants.{AtLeast as IsAtLeast, Equal as IsEqual}
+use Rattle.syntax_tree.specs.declared.tree.Relation.TheVariants.{Differs as IsOther}
+use Rattle.syntax_tree.specs.declared.tree.Sign.{Sign}
+use Rattle.syntax_tree.specs.declared.tree.Sign.TheVariants.{Plus as PlusSign, Minus as MinusSign}
+use Rattle.syntax_tree.specs.declared.tree.Operator.{Operator}
+use Rattle.syntax_tree.specs.declared.tree.Operator.TheVariants.{Times, Over, Modulo}
 use Rattle.syntax.specs.declared.token.Word.{Word}
 use Rattle.syntax.specs.declared.token.Word.TheVariants.{And as WordAnd, Array as WordArray}
 use Rattle.syntax.specs.declared.token.Word.TheVariants.{As as WordAs}
@@ -39,17 +39,17 @@ use Rattle.syntax.specs.declared.token.Mark.TheVariants.{Star, Slash, Percent, L
 use Rattle.syntax.specs.declared.token.Mark.TheVariants.{Greater, AtLeast, Equal}
 use Rattle.syntax.specs.declared.token.Mark.TheVariants.{Differs}
 use Rattle.syntax.specs.Token.{Token, NameToken, NumberToken, WordToken, MarkToken}
-use Rattle.syntax.specs.Tree.{Expr, Or, Conjs, NoConj, OrConj, Conj, And, Negs, NoNeg, AndNeg, Neg}
-use Rattle.syntax.specs.Tree.{Plainly, Not, Cmp}
-use Rattle.syntax.specs.Tree.{Alone, Compare, Sum, Add, Terms, NoTerm, AddTerm, Prod, Multiply}
-use Rattle.syntax.specs.Tree.{Factors, NoFactor}
-use Rattle.syntax.specs.Tree.{MultiplyFactor, Unary, Positive, Negative, Atom, Number, True, False}
-use Rattle.syntax.specs.Tree.{Name, Element}
-use Rattle.syntax.specs.Tree.{Length, Parens, Stmt, Skip, Var, Assign, Store, Print, Fault, If}
-use Rattle.syntax.specs.Tree.{IfElse, While, Split}
-use Rattle.syntax.specs.Tree.{Call, Async, Finish, Block, End, Then, Array, Parameter, Written}
-use Rattle.syntax.specs.Tree.{Read, Scalar, Procedure}
-use Rattle.syntax.specs.Tree.{Main, Program}
+use Rattle.syntax_tree.specs.Tree.{Expr, Or, Conjs, NoConj, OrConj, Conj, And, Negs, NoNeg, AndNeg, Neg}
+use Rattle.syntax_tree.specs.Tree.{Plainly, Not, Cmp}
+use Rattle.syntax_tree.specs.Tree.{Alone, Compare, Sum, Add, Terms, NoTerm, AddTerm, Prod, Multiply}
+use Rattle.syntax_tree.specs.Tree.{Factors, NoFactor}
+use Rattle.syntax_tree.specs.Tree.{MultiplyFactor, Unary, Positive, Negative, Atom, Number, True, False}
+use Rattle.syntax_tree.specs.Tree.{Name, Element}
+use Rattle.syntax_tree.specs.Tree.{Length, Parens, Stmt, Skip, Var, Assign, Store, Print, Fault, If}
+use Rattle.syntax_tree.specs.Tree.{IfElse, While, Split}
+use Rattle.syntax_tree.specs.Tree.{Call, Async, Finish, Block, End, Then, Array, Parameter, Written}
+use Rattle.syntax_tree.specs.Tree.{Read, Scalar, Procedure}
+use Rattle.syntax_tree.specs.Tree.{Main, Program}
 
 abbrev pub relation_mark : Relation → Mark
 relation_mark IsLess = Less

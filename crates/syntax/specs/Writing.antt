@@ -4,9 +4,9 @@ use Rattle.std.specs.String.{string_bytes}
 use Rattle.syntax.specs.declared.canonical.Lines.{Lines}
 use Rattle.syntax.specs.Canonical.{Left, Place, laid}
 use Rattle.syntax.specs.Token.{Token}
-use Rattle.syntax.specs.Tree.{Stmt, Skip, Var, Assign, Store, Print, Fault, If, IfElse, While}
-use Rattle.syntax.specs.Tree.{Split, Call, Async}
-use Rattle.syntax.specs.Tree.{Finish}
+use Rattle.syntax_tree.specs.Tree.{Stmt, Skip, Var, Assign, Store, Print, Fault, If, IfElse, While}
+use Rattle.syntax_tree.specs.Tree.{Split, Call, Async}
+use Rattle.syntax_tree.specs.Tree.{Finish}
 
 -- where the writer stands, with this to the left
 abbrev pub place : Lines → Left → Place

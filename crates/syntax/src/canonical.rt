@@ -16,12 +16,12 @@ ghost use Rattle.syntax.specs.Spelling.{parameters_then, arrays_then, procedures
 ghost use Rattle.syntax.specs.Spelling.{main_tokens, spelling};
 ghost use Rattle.syntax.specs.Spelling.{element_word};
 ghost use Rattle.syntax.specs.Token.{Token, NameToken, WordToken, MarkToken};
-ghost use Rattle.syntax.specs.Tree.{Array as ArrayTree, Block as BlockTree};
-ghost use Rattle.syntax.specs.Tree.{Procedure as ProcedureTree};
-ghost use Rattle.syntax.specs.Tree.{Main as MainTree, expr as expr_tree, stmt as stmt_tree};
-ghost use Rattle.syntax.specs.Tree.{block as block_tree, array as array_tree};
-ghost use Rattle.syntax.specs.Tree.{parameter as parameter_tree};
-ghost use Rattle.syntax.specs.Tree.{procedure as procedure_tree, program as program_tree};
+ghost use Rattle.syntax_tree.specs.Tree.{Array as ArrayTree, Block as BlockTree};
+ghost use Rattle.syntax_tree.specs.Tree.{Procedure as ProcedureTree};
+ghost use Rattle.syntax_tree.specs.Tree.{Main as MainTree, expr as expr_tree, stmt as stmt_tree};
+ghost use Rattle.syntax_tree.specs.Tree.{block as block_tree, array as array_tree};
+ghost use Rattle.syntax_tree.specs.Tree.{parameter as parameter_tree};
+ghost use Rattle.syntax_tree.specs.Tree.{procedure as procedure_tree, program as program_tree};
 ghost use Rattle.syntax.specs.Writing.{with_rest, Adds, IsCounted, is_simple};
 ghost use Rattle.syntax.specs.declared.token.Mark.TheVariants.{Becomes, Comma};
 ghost use Rattle.syntax.specs.declared.token.Mark.TheVariants.{LeftBrace, LeftBracket};
@@ -29,8 +29,8 @@ ghost use Rattle.syntax.specs.declared.token.Mark.TheVariants.{RightBrace, Right
 ghost use Rattle.syntax.specs.declared.token.Word.TheVariants.{As, At, Print, Split};
 
 use crate::expression_text as expressions;
-use crate::tree::{Array, ElementType, Expr, Parameter, Procedure, Program, Stmt};
 use std::alloc::{AllocError, Global};
+use syntax_tree::tree::{Array, ElementType, Expr, Parameter, Procedure, Program, Stmt};
 
 /// The canonical text of a program, whose tokens are those of any text that spells the program.
 pub fn format(alloc: Global, program: &Program) -> Result<String, AllocError>

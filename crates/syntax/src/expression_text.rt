@@ -8,14 +8,14 @@ ghost use Rattle.syntax.specs.Spelling.{sum_then, prod_then};
 ghost use Rattle.syntax.specs.Spelling.{unary_then, atom_then, exprs_then};
 ghost use Rattle.syntax.specs.Spelling.{relation_mark, sign_mark};
 ghost use Rattle.syntax.specs.Spelling.{operator_mark};
-ghost use Rattle.syntax.specs.Tree.{expr as expr_tree, conj as conj_tree};
-ghost use Rattle.syntax.specs.Tree.{neg as neg_tree, cmp as cmp_tree};
-ghost use Rattle.syntax.specs.Tree.{sum as sum_tree, prod as prod_tree, unary as unary_tree};
-ghost use Rattle.syntax.specs.Tree.{atom as atom_tree, exprs as expr_trees};
+ghost use Rattle.syntax_tree.specs.Tree.{expr as expr_tree, conj as conj_tree};
+ghost use Rattle.syntax_tree.specs.Tree.{neg as neg_tree, cmp as cmp_tree};
+ghost use Rattle.syntax_tree.specs.Tree.{sum as sum_tree, prod as prod_tree, unary as unary_tree};
+ghost use Rattle.syntax_tree.specs.Tree.{atom as atom_tree, exprs as expr_trees};
 ghost use Rattle.syntax.specs.Lexical.{mark_text};
 
-use crate::tree::{Atom, Cmp, Conj, Expr, Neg, Operator, Prod, Relation, Sign, Sum, Unary};
 use std::alloc::AllocError;
+use syntax_tree::tree::{Atom, Cmp, Conj, Expr, Neg, Operator, Prod, Relation, Sign, Sum, Unary};
 
 /// Writes an expression.
 #[cycle(expr)]

@@ -3,9 +3,9 @@
 ghost use Rattle.std.specs.Prelude.{◌≡◌, ◌≢◌, ◌<◌, ◌≤◌, ℕ, List, ◌∷◌, length, IfOk, IfErr};
 ghost use Rattle.std.specs.Prelude.{IfSome, IfNone};
 ghost use Rattle.syntax.specs.declared.token.Mark.{Mark as AnyMark};
-ghost use Rattle.syntax.specs.declared.tree.Relation.{Relation as AnyRelation};
-ghost use Rattle.syntax.specs.declared.tree.Sign.{Sign as AnySign};
-ghost use Rattle.syntax.specs.declared.tree.Operator.{Operator as AnyOperator};
+ghost use Rattle.syntax_tree.specs.declared.tree.Relation.{Relation as AnyRelation};
+ghost use Rattle.syntax_tree.specs.declared.tree.Sign.{Sign as AnySign};
+ghost use Rattle.syntax_tree.specs.declared.tree.Operator.{Operator as AnyOperator};
 ghost use Rattle.syntax.specs.Reading.{AddsExprs, IsRead, Refuses, Leaves};
 ghost use Rattle.syntax.specs.Reading.{LeavesClosed, SpellsNone};
 ghost use Rattle.syntax.specs.Reading.{SpellsNoneClosed};
@@ -16,18 +16,18 @@ ghost use Rattle.syntax.specs.Spelling.{cmp_then, sum_then};
 ghost use Rattle.syntax.specs.Spelling.{prod_then, unary_then, atom_then, relation_mark, sign_mark};
 ghost use Rattle.syntax.specs.Spelling.{operator_mark};
 ghost use Rattle.syntax.specs.Token.{Token as PlainToken, NameToken, MarkToken, plain};
-ghost use Rattle.syntax.specs.Tree.{expr as expr_tree, conj as conj_tree};
-ghost use Rattle.syntax.specs.Tree.{neg as neg_tree, cmp as cmp_tree};
-ghost use Rattle.syntax.specs.Tree.{sum as sum_tree, prod as prod_tree, unary as unary_tree};
-ghost use Rattle.syntax.specs.Tree.{atom as atom_tree};
+ghost use Rattle.syntax_tree.specs.Tree.{expr as expr_tree, conj as conj_tree};
+ghost use Rattle.syntax_tree.specs.Tree.{neg as neg_tree, cmp as cmp_tree};
+ghost use Rattle.syntax_tree.specs.Tree.{sum as sum_tree, prod as prod_tree, unary as unary_tree};
+ghost use Rattle.syntax_tree.specs.Tree.{atom as atom_tree};
 
 use crate::cursor::Stuck;
 use crate::token::{Mark, Spanned, Token, Word};
-use crate::tree::{
-    Atom, Cmp, Compared, Conj, Expr, Factor, Neg, Operator, Prod, Relation, Sign, Sum, Term, Unary,
-};
 use crate::{cursor, lists};
 use std::alloc::Global;
+use syntax_tree::tree::{
+    Atom, Cmp, Compared, Conj, Expr, Factor, Neg, Operator, Prod, Relation, Sign, Sum, Term, Unary,
+};
 
 /// Reads an expression.
 #[cycle(expr)]

@@ -8,12 +8,12 @@ ghost use Rattle.syntax.specs.Refusals.{IsTooDeep, TellsOf, error_code};
 ghost use Rattle.syntax.specs.Spelled.{IsSpelled};
 ghost use Rattle.syntax.specs.Spelling.{spelling};
 ghost use Rattle.syntax.specs.Token.{Token};
-ghost use Rattle.syntax.specs.Tree.{Program as ProgramTree, program as program_tree};
+ghost use Rattle.syntax_tree.specs.Tree.{Program as ProgramTree, program as program_tree};
 
 use crate::error::SyntaxError;
-use crate::tree::Program;
 use crate::{canonical, parser};
 use std::alloc::Global;
+use syntax_tree::tree::Program;
 
 /// What is written is read as what it was: this reads the canonical text of a program. A `Program`
 /// that is made by hand may hold a name that is none; no text spells it, and the law is silent.

@@ -15,7 +15,6 @@ pub mod place;
 pub mod programs;
 pub mod statements;
 pub mod token;
-pub mod tree;
 
 pub use canonical::{format, listing};
 pub use error::SyntaxError;

@@ -10,16 +10,16 @@ ghost use Rattle.syntax.specs.Refusals.{ArePlaced, BeginsToken, OpensTooMany, Te
 ghost use Rattle.syntax.specs.Refusals.{TellsOf, TellsUnread};
 ghost use Rattle.syntax.specs.Spelling.{spelling};
 ghost use Rattle.syntax.specs.Token.{plain, token as token_tree};
-ghost use Rattle.syntax.specs.Tree.{Program as ProgramTree, program as program_tree};
+ghost use Rattle.syntax_tree.specs.Tree.{Program as ProgramTree, program as program_tree};
 
 use crate::cursor::Stuck;
 use crate::error::SyntaxError;
 use crate::lexer::Unread;
 use crate::place::Place;
 use crate::token::{Mark, Spanned, Token};
-use crate::tree::Program;
 use crate::{lexer, programs};
 use std::alloc::{AllocError, Global};
+use syntax_tree::tree::Program;
 
 /// The most bytes of a text.
 const MOST_BYTES: usize = 1_048_576;

@@ -2,22 +2,22 @@
 
 ghost use Rattle.std.specs.Prelude.{◌≡◌, ◌≢◌, ◌<◌, ◌≤◌, ℕ, List, ◌∷◌, [], length, map, IfOk, IfErr};
 ghost use Rattle.std.specs.String.{string_bytes};
-ghost use Rattle.syntax.specs.declared.tree.ElementType.{ElementType as AnyElement};
+ghost use Rattle.syntax_tree.specs.declared.tree.ElementType.{ElementType as AnyElement};
 ghost use Rattle.syntax.specs.Reading.{IsRead, IsReadClosed, Refuses, RefusesClosed, list_level};
 ghost use Rattle.syntax.specs.Spelling.{arrays_then, block_then, element_word};
 ghost use Rattle.syntax.specs.Spelling.{main_tokens, parameter_then};
 ghost use Rattle.syntax.specs.Spelling.{parameters_then, procedures_then, spelling};
 ghost use Rattle.syntax.specs.Token.{Token as PlainToken, NameToken, WordToken, MarkToken, plain};
-ghost use Rattle.syntax.specs.Tree.{Main as MainTree, Program as ProgramTree};
-ghost use Rattle.syntax.specs.Tree.{array as array_tree, block};
-ghost use Rattle.syntax.specs.Tree.{parameter as parameter_tree, procedure as procedure_tree};
-ghost use Rattle.syntax.specs.Tree.{program as program_tree};
+ghost use Rattle.syntax_tree.specs.Tree.{Main as MainTree, Program as ProgramTree};
+ghost use Rattle.syntax_tree.specs.Tree.{array as array_tree, block};
+ghost use Rattle.syntax_tree.specs.Tree.{parameter as parameter_tree, procedure as procedure_tree};
+ghost use Rattle.syntax_tree.specs.Tree.{program as program_tree};
 
 use crate::cursor::Stuck;
 use crate::token::{Mark, Spanned, Word};
-use crate::tree::{Array, ElementType, Main, Parameter, Procedure, Program};
 use crate::{cursor, statements};
 use std::alloc::Global;
+use syntax_tree::tree::{Array, ElementType, Main, Parameter, Procedure, Program};
 
 /// Reads a whole program.
 pub fn program(alloc: Global, tokens: &[Spanned]) -> Result<Program, Stuck>

@@ -6,13 +6,13 @@ ghost use Rattle.syntax.specs.Reading.{IsRead, IsReadClosed, Refuses, RefusesClo
 ghost use Rattle.syntax.specs.Reading.{SpellsNone, else_level};
 ghost use Rattle.syntax.specs.Spelling.{expr_then, exprs_then, stmt_then, block_then};
 ghost use Rattle.syntax.specs.Token.{Token as PlainToken, WordToken, MarkToken, plain};
-ghost use Rattle.syntax.specs.Tree.{expr as expr_tree, exprs, stmt, block as block_tree};
+ghost use Rattle.syntax_tree.specs.Tree.{expr as expr_tree, exprs, stmt, block as block_tree};
 
 use crate::cursor::Stuck;
 use crate::token::{Mark, Spanned, Word};
-use crate::tree::{Expr, Stmt};
 use crate::{cursor, expressions, lists};
 use std::alloc::Global;
+use syntax_tree::tree::{Expr, Stmt};
 
 /// Reads statements up to the brace that closes their block, and that brace.
 #[cycle(stmt)]

@@ -9,9 +9,9 @@ use Rattle.std.specs.List.{position_or_len, list_any}
 use Rattle.indexmap.specs.IndexSet.{insert_key}
 use Rattle.std.specs.String.{string_bytes, string_eq}
 use Rattle.std.proofs.lemmas.List.Elements.{All-nil, All-cons}
-use Rattle.syntax.specs.Tree.{Expr, Atom, Number, True, False, Name, Element, Length, Parens, lone_atom, procedure, parameter}
-use Rattle.syntax.specs.Tree.{Parameter as Declared, Written, Read, Scalar}
-use Rattle.syntax.specs.declared.tree.Procedure.{Procedure as rProcedure}
+use Rattle.syntax_tree.specs.Tree.{Expr, Atom, Number, True, False, Name, Element, Length, Parens, lone_atom, procedure, parameter}
+use Rattle.syntax_tree.specs.Tree.{Parameter as Declared, Written, Read, Scalar}
+use Rattle.syntax_tree.specs.declared.tree.Procedure.{Procedure as rProcedure}
 use Rattle.types.specs.CallErrors.{Passed, and_passed, and_named, passed}
 use Rattle.types.specs.Resolving.{passed_by}
 use Rattle.types.specs.declared.check.calls.Passed.{Passed as rPassed}

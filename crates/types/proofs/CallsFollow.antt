@@ -8,10 +8,10 @@ use Rattle.sections.specs.Member.{Member}
 use Rattle.sections.specs.Origins.{Origin}
 use Rattle.sections.specs.Overlap.{root_of, overlap}
 use Rattle.sections.proofs.Overlapping.{overlap-sym}
-use Rattle.syntax.specs.declared.tree.ElementType.{ElementType}
-use Rattle.syntax.specs.declared.tree.ElementType.TheVariants.{Int, Byte}
-use Rattle.syntax.specs.Tree.{Expr, Atom, Number, True, False, Name, Element, Length, Parens, lone_atom}
-use Rattle.syntax.specs.Tree.{Parameter as Declared, Written, Read, Scalar, Procedure as DeclaredProcedure}
+use Rattle.syntax_tree.specs.declared.tree.ElementType.{ElementType}
+use Rattle.syntax_tree.specs.declared.tree.ElementType.TheVariants.{Int, Byte}
+use Rattle.syntax_tree.specs.Tree.{Expr, Atom, Number, True, False, Name, Element, Length, Parens, lone_atom}
+use Rattle.syntax_tree.specs.Tree.{Parameter as Declared, Written, Read, Scalar, Procedure as DeclaredProcedure}
 use Rattle.types.specs.CallErrors.{Passed, and_passed, and_named, passed, same_element, clash, overlapping, wrong_arguments}
 use Rattle.types.specs.CallErrors.{passing, passing_named, passing_atom, argument, arguments, calling}
 use Rattle.types.specs.Code.{Parameter, Procedure, Program}

@@ -4,7 +4,6 @@ use Rattle.std.specs.Prelude.{ℤ, pos, negsuc, replicate, true, false}
 use Rattle.types.specs.declared.code.Operator.TheVariants.{Over, Modulo}
 use Rattle.types.specs.declared.fault.FaultKind.TheVariants.{Index, Overflow, ZeroDivisor, OutOfElement, SplitPoint, Raised}
 use Rattle.types.specs.Code.{Chain, Link, Done, Negative}
-use Rattle.types.specs.FirstPart.{is_first_part}
 use Rattle.types.specs.Run.{Fault}
 use Rattle.types.specs.Outcome.{Budget, Outcome, Ended, Stopped, outcome}
 use Rattle.types.proofs.Programs.{lit, two_arrays, doubling, splits, split_below, two_readers, three_faults}
@@ -158,15 +157,3 @@ one_nest_suffices = refl
 -- a child begins with all steps, whatever its parent has left
 late_async_ends : outcome late_async [] (budget 3 1) ≡ prints []
 late_async_ends = refl
-
-two_arrays_is_first_part : is_first_part two_arrays ≡ true
-two_arrays_is_first_part = refl
-
-past_the_end_is_not : is_first_part past_the_end ≡ false
-past_the_end_is_not = refl
-
-byte_store_is_not : is_first_part byte_store ≡ false
-byte_store_is_not = refl
-
-endless_is_not : is_first_part endless ≡ false
-endless_is_not = refl

@@ -1,24 +1,24 @@
 -- Expressions as chains of their operands: what is found so far, and what is left.
 use Rattle.std.proofs.Common.{◌≡◌, ◌≢◌, ◌⊎◌, inl, inr, ℕ, Bool, List, [], ◌∷◌, ◌++◌, length, map, refl, sym, ap, ◌∙◌, arith, true, false, Some, None, String, Box, Global}
 use Rattle.std.specs.String.{string_bytes}
-use Rattle.syntax.specs.Tree.{Or, And, Add, Multiply, Alone, Compare, Positive, Negative as Minus_of, Cmp, Conj, Conjs, NoConj, OrConj}
-use Rattle.syntax.specs.Tree.{Neg, Negs, NoNeg, AndNeg, Prod, Terms, NoTerm, AddTerm, Unary, Factors, NoFactor, MultiplyFactor}
-use Rattle.syntax.specs.Tree.{expr, conj, neg, cmp, sum, prod, unary, atom, conjs, negs, terms, factors, term, negated}
-use Rattle.syntax.specs.Tree.{Number as Number_of, True, False, Name, Element, Length, Parens}
-use Rattle.syntax.specs.declared.tree.Atom.TheVariants.{Number as rNumber, True as rTrue, False as rFalse, Name as rName}
-use Rattle.syntax.specs.declared.tree.Atom.TheVariants.{Element as rElement, Length as rLength, Parens as rParens}
-use Rattle.syntax.specs.declared.tree.Atom.{Atom as rAtom}
-use Rattle.syntax.specs.declared.tree.Expr.{Expr as rExpr, out-Expr}
-use Rattle.syntax.specs.declared.tree.Cmp.{Cmp as rCmp, out-Cmp}
-use Rattle.syntax.specs.declared.tree.Compared.{Compared as rCompared}
-use Rattle.syntax.specs.declared.tree.Sum.{Sum as rSum, out-Sum}
-use Rattle.syntax.specs.declared.tree.Prod.{Prod as rProd, out-Prod}
-use Rattle.syntax.proofs.Atoms.{expr_is, conj_is, neg_is, cmp_is_alone, cmp_is_compared, sum_is, prod_is}
-use Rattle.syntax.specs.declared.tree.Conj.{Conj as rConj, out-Conj}
-use Rattle.syntax.specs.declared.tree.Neg.{Neg as rNeg, out-Neg}
-use Rattle.syntax.specs.declared.tree.Term.{Term as rTerm, out-Term, roll-out-Term}
-use Rattle.syntax.specs.declared.tree.Factor.{Factor as rFactor}
-use Rattle.syntax.proofs.RowLemmas.{term_built}
+use Rattle.syntax_tree.specs.Tree.{Or, And, Add, Multiply, Alone, Compare, Positive, Negative as Minus_of, Cmp, Conj, Conjs, NoConj, OrConj}
+use Rattle.syntax_tree.specs.Tree.{Neg, Negs, NoNeg, AndNeg, Prod, Terms, NoTerm, AddTerm, Unary, Factors, NoFactor, MultiplyFactor}
+use Rattle.syntax_tree.specs.Tree.{expr, conj, neg, cmp, sum, prod, unary, atom, conjs, negs, terms, factors, term, negated}
+use Rattle.syntax_tree.specs.Tree.{Number as Number_of, True, False, Name, Element, Length, Parens}
+use Rattle.syntax_tree.specs.declared.tree.Atom.TheVariants.{Number as rNumber, True as rTrue, False as rFalse, Name as rName}
+use Rattle.syntax_tree.specs.declared.tree.Atom.TheVariants.{Element as rElement, Length as rLength, Parens as rParens}
+use Rattle.syntax_tree.specs.declared.tree.Atom.{Atom as rAtom}
+use Rattle.syntax_tree.specs.declared.tree.Expr.{Expr as rExpr, out-Expr}
+use Rattle.syntax_tree.specs.declared.tree.Cmp.{Cmp as rCmp, out-Cmp}
+use Rattle.syntax_tree.specs.declared.tree.Compared.{Compared as rCompared}
+use Rattle.syntax_tree.specs.declared.tree.Sum.{Sum as rSum, out-Sum}
+use Rattle.syntax_tree.specs.declared.tree.Prod.{Prod as rProd, out-Prod}
+use Rattle.syntax_tree.proofs.Atoms.{expr_is, conj_is, neg_is, cmp_is_alone, cmp_is_compared, sum_is, prod_is}
+use Rattle.syntax_tree.specs.declared.tree.Conj.{Conj as rConj, out-Conj}
+use Rattle.syntax_tree.specs.declared.tree.Neg.{Neg as rNeg, out-Neg}
+use Rattle.syntax_tree.specs.declared.tree.Term.{Term as rTerm, out-Term, roll-out-Term}
+use Rattle.syntax_tree.specs.declared.tree.Factor.{Factor as rFactor}
+use Rattle.syntax_tree.proofs.RowLemmas.{term_built}
 use Rattle.types.specs.Code.{Number, Chain, Links, Done, Link, Truth, Both, Either, Truths, NoMore, Also}
 use Rattle.types.specs.declared.code.Link.{Link as rLink}
 use Rattle.types.specs.declared.code.Number.{Number as CodeNumber}

@@ -4,10 +4,10 @@ use Rattle.std.proofs.lemmas.Bool.{ltb-true}
 use Rattle.std.specs.Prelude.{nat_lt}
 use Rattle.std.specs.List.{AllByRecursion}
 use Rattle.sections.specs.Member.{Member}
-use Rattle.syntax.specs.Tree.{Expr, Or, Conjs, NoConj, OrConj, Conj, And, Negs, NoNeg, AndNeg, Neg, Plainly, Not, Cmp}
-use Rattle.syntax.specs.Tree.{Alone, Compare, Sum, Add, Terms, NoTerm, AddTerm, Prod, Multiply, Factors, NoFactor}
-use Rattle.syntax.specs.Tree.{MultiplyFactor, Unary, Positive, Negative, Atom, Number, True, False, Name, Element}
-use Rattle.syntax.specs.Tree.{Length, Parens}
+use Rattle.syntax_tree.specs.Tree.{Expr, Or, Conjs, NoConj, OrConj, Conj, And, Negs, NoNeg, AndNeg, Neg, Plainly, Not, Cmp}
+use Rattle.syntax_tree.specs.Tree.{Alone, Compare, Sum, Add, Terms, NoTerm, AddTerm, Prod, Multiply, Factors, NoFactor}
+use Rattle.syntax_tree.specs.Tree.{MultiplyFactor, Unary, Positive, Negative, Atom, Number, True, False, Name, Element}
+use Rattle.syntax_tree.specs.Tree.{Length, Parens}
 use Rattle.types.specs.Code.{Procedure}
 use Rattle.types.specs.NameErrors.{naming_section, naming_scalar}
 use Rattle.types.specs.ExpressionErrors as errors

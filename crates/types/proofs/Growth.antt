@@ -1,8 +1,8 @@
 -- Along a text sections and slots are only added.
 use Rattle.std.proofs.Common.{◌≡◌, ℕ, ◌+◌, ◌≤◌, List, [], ◌∷◌, ◌++◌, length, refl, sym, ap, ◌∙◌, arith, append_assoc, append-nil}
 use Rattle.std.proofs.lemmas.List.{length-append}
-use Rattle.syntax.specs.Tree.{Stmt, Skip, Var, Assign, Store, Print, Fault, If, IfElse, While, Split, Call, Async, Finish}
-use Rattle.syntax.specs.Tree.{Block, End, Then}
+use Rattle.syntax_tree.specs.Tree.{Stmt, Skip, Var, Assign, Store, Print, Fault, If, IfElse, While, Split, Call, Async, Finish}
+use Rattle.syntax_tree.specs.Tree.{Block, End, Then}
 use Rattle.sections.specs.Origins.{Origin, Left, Right}
 use Rattle.types.specs.Scope.{Scope, section_of, next, inside_async, with_sides, out_of, behind, after}
 

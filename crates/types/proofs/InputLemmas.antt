@@ -18,8 +18,8 @@ use Rattle.serde_json.specs.Find.{as_object, as_array, as_i64, as_number, get, g
 use Rattle.serde_json.specs.Read.{read}
 use Rattle.serde_json.specs.View.{items_view, members_view, view}
 use Rattle.serde_json.specs.declared.value.Value.{Value}
-use Rattle.syntax.specs.declared.tree.ElementType.{ElementType}
-use Rattle.syntax.specs.declared.tree.ElementType.TheVariants.{Int, Byte}
+use Rattle.syntax_tree.specs.declared.tree.ElementType.{ElementType}
+use Rattle.syntax_tree.specs.declared.tree.ElementType.TheVariants.{Int, Byte}
 use Rattle.types.specs.Code.{Array}
 use Rattle.types.specs.Contents.{FitsArrays, no_more, also}
 use Rattle.types.specs.InputErrors.{mistake_in, told}

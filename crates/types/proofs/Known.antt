@@ -11,8 +11,8 @@ use Rattle.sections.specs.Origins.{Origin, Left, Right, origin_of, IsNumbered, I
 use Rattle.sections.specs.Overlap.{root_of}
 use Rattle.sections.proofs.Lines.{root_of-side}
 use Rattle.sections.proofs.Numbered.{continued, sides_continue}
-use Rattle.syntax.specs.Tree.{Stmt, Skip, Var, Assign, Store, Print, Fault, If, IfElse, While, Split, Call, Async, Finish}
-use Rattle.syntax.specs.Tree.{Block, End, Then, Procedure as Declared}
+use Rattle.syntax_tree.specs.Tree.{Stmt, Skip, Var, Assign, Store, Print, Fault, If, IfElse, While, Split, Call, Async, Finish}
+use Rattle.syntax_tree.specs.Tree.{Block, End, Then, Procedure as Declared}
 use Rattle.types.specs.Code.{Parameter}
 use Rattle.types.specs.NameErrors.{naming_section}
 use Rattle.types.specs.Rules.{limit, own_errors, errors_in, errors}

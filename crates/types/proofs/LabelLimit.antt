@@ -4,8 +4,8 @@ use Rattle.std.specs.Prelude.{nat_lt}
 use Rattle.std.proofs.Common.{inl}
 use Rattle.types.specs.Told.{Told}
 use Rattle.std.proofs.lemmas.Bool.Decides.{nat_tests}
-use Rattle.syntax.specs.Tree.{Stmt, Skip, Var, Assign, Store, Print, Fault, If, IfElse, While, Split, Call, Async, Finish}
-use Rattle.syntax.specs.Tree.{Block, End, Then, Procedure}
+use Rattle.syntax_tree.specs.Tree.{Stmt, Skip, Var, Assign, Store, Print, Fault, If, IfElse, While, Split, Call, Async, Finish}
+use Rattle.syntax_tree.specs.Tree.{Block, End, Then, Procedure}
 use Rattle.types.specs.Rules.{limit, own_errors, inner_errors, errors}
 use Rattle.types.specs.Scope.{Scope, section_of, next, inside_async, with_sides, out_of, behind, after}
 use Rattle.types.specs.declared.error.TypeError.{TypeError}

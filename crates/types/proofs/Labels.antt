@@ -4,8 +4,8 @@ use Rattle.std.proofs.Common.{refl, sym, ap, ◌∙◌, subst, arith}
 use Rattle.std.proofs.lemmas.Option.{none-some}
 use Rattle.std.proofs.lemmas.List.{length-append}
 use Rattle.std.specs.List.{range_with_len}
-use Rattle.syntax.specs.Tree.{Stmt, Skip, Var, Assign, Store, Print, Fault, If, IfElse, While, Split, Call, Async}
-use Rattle.syntax.specs.Tree.{Finish, Block, End, Then, Expr, Parameter, Procedure, Main, Program}
+use Rattle.syntax_tree.specs.Tree.{Stmt, Skip, Var, Assign, Store, Print, Fault, If, IfElse, While, Split, Call, Async}
+use Rattle.syntax_tree.specs.Tree.{Finish, Block, End, Then, Expr, Parameter, Procedure, Main, Program}
 use Rattle.types.proofs.Lists.{some_same}
 use Rattle.types.proofs.Scopes.{label_with_parameters, label_with_arrays}
 use Rattle.types.specs.Code as resolved

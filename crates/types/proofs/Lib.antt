@@ -21,7 +21,6 @@ pub mod Statements
 pub mod LabelLimit
 pub mod Labels
 pub mod Sizes
-pub mod FirstParts
 pub mod InputLemmas
 pub mod Refused
 pub mod Prefixes
@@ -32,4 +31,3 @@ pub mod CallsFollow
 pub mod StatementsFollow
 pub mod NumbersFrom
 pub mod ProgramsSound
-pub mod OpenBrackets

@@ -1,8 +1,8 @@
 -- Worked programs, resolved.
 use Rattle.std.specs.Prelude.{ℕ, List, [], ◌∷◌, map, codes, pos, true}
 use Rattle.sections.specs.Origins.{Origin, Root, Left, Right}
-use Rattle.syntax.specs.declared.tree.ElementType.TheVariants.{Int, Byte}
-use Rattle.syntax.specs.declared.tree.Relation.TheVariants.{Less, AtMost, Equal}
+use Rattle.syntax_tree.specs.declared.tree.ElementType.TheVariants.{Int, Byte}
+use Rattle.syntax_tree.specs.declared.tree.Relation.TheVariants.{Less, AtMost, Equal}
 use Rattle.types.specs.declared.code.Operator.TheVariants.{Plus, Minus, Times, Over, Modulo}
 use Rattle.types.specs.Code.{Number, Literal, Scalar, Element, Length, Negative, Chain, Done, Link, Constant, Compare}
 use Rattle.types.specs.Code.{Skip, Assign, Store, Print, Raise, Code, Do, If, While, Split, Call, Async, Finish, Codes}

@@ -8,8 +8,8 @@ use Rattle.std.specs.Prelude.{nat_eq, slice_get, slice_index_or}
 use Rattle.std.specs.Cmp.Lexicographic.{pointwise}
 use Rattle.sections.specs.Origins.{Origin, Root, Left, Right, origin_of, IsNumbered}
 use Rattle.sections.proofs.Lines.{root_of-root}
-use Rattle.syntax.specs.Tree.{Block, Array as DeclaredArray, Parameter as Declared, Written, Read, Scalar}
-use Rattle.syntax.specs.Tree.{Procedure as DeclaredProcedure, Main, Program as Text}
+use Rattle.syntax_tree.specs.Tree.{Block, Array as DeclaredArray, Parameter as Declared, Written, Read, Scalar}
+use Rattle.syntax_tree.specs.Tree.{Procedure as DeclaredProcedure, Main, Program as Text}
 use Rattle.types.specs.Code.{Parameter, Procedure, Program}
 use Rattle.types.specs.Resolution.{array, label_behind, label_behind_all, procedure_of, resolved, procedures, with_main, resolution}
 use Rattle.types.specs.Rules.{limit, errors, parameter_errors, array_errors, name_errors, procedure_errors, procedures_errors}

@@ -1,14 +1,14 @@
 -- What worked texts resolve to, computed.
 use Rattle.std.proofs.Common.{◌≡◌, ℕ, List, [], ◌∷◌, Some, None, refl}
-use Rattle.syntax.specs.declared.tree.ElementType.TheVariants.{Int}
-use Rattle.syntax.specs.declared.tree.Relation.{Relation}
-use Rattle.syntax.specs.declared.tree.Relation.TheVariants.{AtMost, Equal}
-use Rattle.syntax.specs.declared.tree.Sign.TheVariants.{Plus}
-use Rattle.syntax.specs.declared.tree.Operator.{Operator}
-use Rattle.syntax.specs.declared.tree.Operator.TheVariants.{Times, Over}
-use Rattle.syntax.specs.Tree.{Expr, Or, NoConj, And, NoNeg, Plainly, Alone, Compare, Add, NoTerm, AddTerm, Multiply}
-use Rattle.syntax.specs.Tree.{NoFactor, MultiplyFactor, Positive, Atom, Number, Name, Element, Length, Var, Assign}
-use Rattle.syntax.specs.Tree.{Store, Print, If, IfElse, Split, Call, Async, Finish, End, Then, Array, Written, Program}
+use Rattle.syntax_tree.specs.declared.tree.ElementType.TheVariants.{Int}
+use Rattle.syntax_tree.specs.declared.tree.Relation.{Relation}
+use Rattle.syntax_tree.specs.declared.tree.Relation.TheVariants.{AtMost, Equal}
+use Rattle.syntax_tree.specs.declared.tree.Sign.TheVariants.{Plus}
+use Rattle.syntax_tree.specs.declared.tree.Operator.{Operator}
+use Rattle.syntax_tree.specs.declared.tree.Operator.TheVariants.{Times, Over}
+use Rattle.syntax_tree.specs.Tree.{Expr, Or, NoConj, And, NoNeg, Plainly, Alone, Compare, Add, NoTerm, AddTerm, Multiply}
+use Rattle.syntax_tree.specs.Tree.{NoFactor, MultiplyFactor, Positive, Atom, Number, Name, Element, Length, Var, Assign}
+use Rattle.syntax_tree.specs.Tree.{Store, Print, If, IfElse, Split, Call, Async, Finish, End, Then, Array, Written, Program}
 use Rattle.types.specs.Resolution.{resolution}
 use Rattle.types.proofs.Programs.{two_arrays, doubling, scalars}
 

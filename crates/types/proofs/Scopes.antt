@@ -5,8 +5,8 @@ use Rattle.std.specs.Prelude.{nat_eq, nat_lt}
 use Rattle.std.specs.Cmp.Lexicographic.{pointwise}
 use Rattle.std.proofs.lemmas.List.{length-append}
 use Rattle.sections.specs.Origins.{Root, Left, Right}
-use Rattle.syntax.specs.Tree.{Stmt, Skip, Var, Assign, Store, Print, Fault, If, IfElse, While, Split, Call, Async, Finish}
-use Rattle.syntax.specs.Tree.{Block, End, Then, Parameter as Declared, Written, Read, Scalar, Array}
+use Rattle.syntax_tree.specs.Tree.{Stmt, Skip, Var, Assign, Store, Print, Fault, If, IfElse, While, Split, Call, Async, Finish}
+use Rattle.syntax_tree.specs.Tree.{Block, End, Then, Parameter as Declared, Written, Read, Scalar, Array}
 use Rattle.types.specs.Code.{Parameter}
 use Rattle.types.specs.Scope.{Meant, ASection, AScalar, Names, meant, section_of, Scope, kind_of, with_scalar, with_root}
 use Rattle.types.specs.Scope.{with_sides, next, inside_async, out_of, behind, after, with_parameter, with_parameters, with_array}

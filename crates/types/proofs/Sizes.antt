@@ -1,7 +1,7 @@
 -- How much there is of a statement, so that going into it comes to an end.
 use Rattle.std.proofs.Common.{ℕ, ◌+◌}
-use Rattle.syntax.specs.Tree.{Stmt, Skip, Var, Assign, Store, Print, Fault, If, IfElse, While, Split, Call, Async, Finish}
-use Rattle.syntax.specs.Tree.{Block, End, Then}
+use Rattle.syntax_tree.specs.Tree.{Stmt, Skip, Var, Assign, Store, Print, Fault, If, IfElse, While, Split, Call, Async, Finish}
+use Rattle.syntax_tree.specs.Tree.{Block, End, Then}
 
 abbrev mutual
   pub size_in : Stmt → ℕ

@@ -1,14 +1,14 @@
 -- What a statement resolves to, from what its parts do; and what is told of a part is told of the statement.
 use Rattle.std.proofs.Common.{◌≡◌, ℕ, ◌+◌, List, [], ◌∷◌, ◌++◌, map, length, Vec, Global, Some, refl, sym, ap, ◌∙◌, subst}
-use Rattle.syntax.specs.Tree.{Stmt, Skip, Var, Assign, Store, Print, Fault, If, IfElse, While, Split, Call, Async, Finish}
-use Rattle.syntax.specs.Tree.{Expr, Block, Procedure}
+use Rattle.syntax_tree.specs.Tree.{Stmt, Skip, Var, Assign, Store, Print, Fault, If, IfElse, While, Split, Call, Async, Finish}
+use Rattle.syntax_tree.specs.Tree.{Expr, Block, Procedure}
 use Rattle.sections.specs.declared.id.SectionId.{SectionId}
 use Rattle.std.proofs.Common.{String}
 use Rattle.std.specs.String.{string_bytes}
-use Rattle.syntax.specs.Tree as tree
-use Rattle.syntax.specs.declared.tree.Expr.{Expr as rExpr}
-use Rattle.syntax.specs.declared.tree.Stmt.TheVariants.{Skip as tree_Skip, Var as tree_Var, Assign as tree_Assign, Store as tree_Store}
-use Rattle.syntax.specs.declared.tree.Stmt.TheVariants.{Print as tree_Print, Fault as tree_Fault, Call as tree_Call}
+use Rattle.syntax_tree.specs.Tree as tree
+use Rattle.syntax_tree.specs.declared.tree.Expr.{Expr as rExpr}
+use Rattle.syntax_tree.specs.declared.tree.Stmt.TheVariants.{Skip as tree_Skip, Var as tree_Var, Assign as tree_Assign, Store as tree_Store}
+use Rattle.syntax_tree.specs.declared.tree.Stmt.TheVariants.{Print as tree_Print, Fault as tree_Fault, Call as tree_Call}
 use Rattle.types.specs.Code as code
 use Rattle.types.specs.declared.code.Number.{Number}
 use Rattle.types.specs.declared.code.Primitive.TheVariants.{Skip as rSkip, Assign as rAssign, Store as rStore, Print as rPrint, Fault as rRaise}

@@ -4,8 +4,8 @@ use Rattle.std.proofs.Math.ListN.{get_or-append}
 use Rattle.std.proofs.lemmas.List.{length-append, get_or-append-add}
 use Rattle.sections.specs.Member.{Member}
 use Rattle.sections.specs.Origins.{Root, Left, Right, origin_of}
-use Rattle.syntax.specs.Tree.{Stmt, Skip, Var, Assign, Store, Print, Fault, If, IfElse, While, Split, Call, Async, Finish}
-use Rattle.syntax.specs.Tree.{Block, End, Then, Procedure as DeclaredProcedure, Parameter as Declared}
+use Rattle.syntax_tree.specs.Tree.{Stmt, Skip, Var, Assign, Store, Print, Fault, If, IfElse, While, Split, Call, Async, Finish}
+use Rattle.syntax_tree.specs.Tree.{Block, End, Then, Procedure as DeclaredProcedure, Parameter as Declared}
 use Rattle.types.specs.Code.{Procedure, Program}
 use Rattle.types.specs.ExpressionErrors as errors
 use Rattle.types.specs.NameErrors.{naming_section, naming_written, naming_assigned}

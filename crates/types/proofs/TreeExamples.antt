@@ -3,7 +3,7 @@ use Rattle.std.proofs.Common.{◌≡◌, ℕ, List, [], ◌∷◌, Some, refl}
 use Rattle.std.specs.Prelude.{ℤ, pos}
 use Rattle.sections.specs.Origins.{Root, Left, Right}
 use Rattle.sections.specs.Place.{Place}
-use Rattle.syntax.specs.declared.tree.Relation.TheVariants.{Less}
+use Rattle.syntax_tree.specs.declared.tree.Relation.TheVariants.{Less}
 use Rattle.types.specs.declared.fault.FaultKind.TheVariants.{Raised}
 use Rattle.types.specs.Code.{Number, Scalar, Element, Length, Skip, Assign, Store, Print, Split, Do, Async, Finish, End}
 use Rattle.types.specs.Code.{Compare, If, Codes, Program}

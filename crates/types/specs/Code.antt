@@ -2,8 +2,8 @@
 -- numbers of their procedure, arrays and procedures are numbers of the program.
 use Rattle.std.specs.Prelude.{ℕ, ℤ, Bool, List}
 use Rattle.sections.specs.Origins.{Origin}
-use Rattle.syntax.specs.declared.tree.ElementType.{ElementType}
-use Rattle.syntax.specs.declared.tree.Relation.{Relation}
+use Rattle.syntax_tree.specs.declared.tree.ElementType.{ElementType}
+use Rattle.syntax_tree.specs.declared.tree.Relation.{Relation}
 use Rattle.types.specs.declared.code.Operator.{Operator}
 
 -- an expression for a number; a chain is its first operand and the others, each behind its operator

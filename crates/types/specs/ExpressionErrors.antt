@@ -2,13 +2,13 @@
 -- sections where another kind is wanted (Y3). A part of the wrong kind is one error, whatever stands
 -- in it.
 use Rattle.std.specs.Prelude.{ℕ, ◌^◌, List, [], ◌∷◌, ◌++◌, nat_lt, if◌then◌else◌}
-use Rattle.syntax.specs.Tree.{Expr, Or, Conjs, NoConj, OrConj, Conj, And, Negs, NoNeg, AndNeg, Neg}
-use Rattle.syntax.specs.Tree.{Plainly, Not, Cmp}
-use Rattle.syntax.specs.Tree.{Alone, Compare, Sum, Add, Terms, NoTerm, AddTerm, Prod, Multiply}
-use Rattle.syntax.specs.Tree.{Factors, NoFactor}
-use Rattle.syntax.specs.Tree.{MultiplyFactor, Unary, Positive, Negative, Atom, Number, True, False}
-use Rattle.syntax.specs.Tree.{Name, Element}
-use Rattle.syntax.specs.Tree.{Length, Parens}
+use Rattle.syntax_tree.specs.Tree.{Expr, Or, Conjs, NoConj, OrConj, Conj, And, Negs, NoNeg, AndNeg, Neg}
+use Rattle.syntax_tree.specs.Tree.{Plainly, Not, Cmp}
+use Rattle.syntax_tree.specs.Tree.{Alone, Compare, Sum, Add, Terms, NoTerm, AddTerm, Prod, Multiply}
+use Rattle.syntax_tree.specs.Tree.{Factors, NoFactor}
+use Rattle.syntax_tree.specs.Tree.{MultiplyFactor, Unary, Positive, Negative, Atom, Number, True, False}
+use Rattle.syntax_tree.specs.Tree.{Name, Element}
+use Rattle.syntax_tree.specs.Tree.{Length, Parens}
 use Rattle.types.specs.declared.error.TypeError.{TypeError}
 use Rattle.types.specs.declared.error.TypeError.TheVariants.{WrongKind, OverLimit}
 use Rattle.types.specs.NameErrors.{naming_section, naming_scalar}

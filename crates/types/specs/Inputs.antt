@@ -13,7 +13,7 @@ use Rattle.serde_json.specs.Data.{no_items, item}
 use Rattle.serde_json.specs.Data.{Members, no_members, member}
 use Rattle.serde_json.specs.Find.{as_number, as_i64, get_member}
 use Rattle.serde_json.specs.Read.{read}
-use Rattle.syntax.specs.declared.tree.ElementType.{ElementType}
+use Rattle.syntax_tree.specs.declared.tree.ElementType.{ElementType}
 use Rattle.types.specs.Code.{Array}
 use Rattle.types.specs.Value.{holds_number}
 

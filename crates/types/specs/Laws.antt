@@ -1,12 +1,11 @@
 -- What holds of runs and of values, whatever the program.
-use Rattle.std.specs.Prelude.{ℕ, ℤ, ◌≡◌, ◌≤◌, List, [], Contains}
+use Rattle.std.specs.Prelude.{ℕ, ℤ, ◌≡◌, ◌≤◌, List, Contains}
 use Rattle.types.specs.Code.{Codes, Program}
 use Rattle.sections.specs.Place.{Place, In}
 use Rattle.types.specs.Contents.{Extends}
 use Rattle.types.specs.Value.{Environment}
 use Rattle.types.specs.Run.{State, Rules, Work, work}
 use Rattle.types.specs.Meaning.{hushed, joined}
-use Rattle.types.specs.Outcome.{Outcome, Ended, Stopped}
 
 module _ {X : Type 0} where
   -- the rules spend steps honestly: nothing gives a step back
@@ -27,11 +26,6 @@ module _ {X : Type 0} where
   -- it only adds to the lines and faults that are there, and goes the same way without them
   abbrev pub OnlyAdds : (State X → State X) → Type 0
   OnlyAdds go = (st : State X) → go st ≡ joined st (go (hushed st))
-
--- it ended, and no task faulted
-abbrev pub EndsWithoutFault : Outcome → Type 0
-EndsWithoutFault (Ended e) = e.faults ≡ []
-EndsWithoutFault Stopped = ⊥
 
 module _ {X : Type 0} where
   -- a way in which a state may follow another: by each operation of the rules, by all that changes

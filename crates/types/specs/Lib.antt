@@ -3,13 +3,11 @@ pub mod Code
 pub mod Codes
 pub mod Contents
 pub mod ExpressionErrors
-pub mod FirstPart
 pub mod Indexed
 pub mod Labels
 pub mod Laws
 pub mod Meaning
 pub mod NameErrors
-pub mod Depth
 pub mod InputErrors
 pub mod InputNames
 pub mod Inputs
@@ -23,7 +21,7 @@ pub mod Run
 pub mod Scope
 pub mod Sets
 pub mod Sound
-pub mod Stands
+pub mod Statements
 pub mod Told
 pub mod Translation
 pub mod TreePlaces

@@ -3,29 +3,29 @@ use Rattle.std.specs.Prelude.{ℕ, ◌+◌, List, [], ◌∷◌, map, length, co
 use Rattle.std.specs.Prelude.{Option, Some, None}
 use Rattle.std.specs.Prelude.{option_map, nat_eq, if◌then◌else◌}
 use Rattle.std.specs.Cmp.Lexicographic.{pointwise}
-use Rattle.syntax.specs.declared.tree.Sign.{Sign}
-use Rattle.syntax.specs.declared.tree.Sign.TheVariants.{Plus as SignPlus, Minus as SignMinus}
-use Rattle.syntax.specs.declared.tree.Operator.{Operator as Factored}
-use Rattle.syntax.specs.declared.tree.Operator.TheVariants.{Times as ByTimes, Over as ByOver}
-use Rattle.syntax.specs.declared.tree.Operator.TheVariants.{Modulo as ByModulo}
-use Rattle.syntax.specs.Tree.{Expr, Or, Conjs, NoConj, OrConj, Conj, And, Negs, NoNeg, AndNeg}
-use Rattle.syntax.specs.Tree.{Neg, Plainly}
-use Rattle.syntax.specs.Tree.{Not as Denied, Cmp, Alone, Compare as Compared, Sum, Add, Terms}
-use Rattle.syntax.specs.Tree.{NoTerm, AddTerm, Prod}
-use Rattle.syntax.specs.Tree.{Multiply, Factors, NoFactor, MultiplyFactor, Unary, Positive}
-use Rattle.syntax.specs.Tree.{Negative as Minus_of, Atom}
-use Rattle.syntax.specs.Tree.{Number as Numeral, True, False, Name, Element as Element_of}
-use Rattle.syntax.specs.Tree.{Length as Length_of, Parens}
-use Rattle.syntax.specs.Tree.{Stmt, Skip as Skips, Var, Assign as Assigns}
-use Rattle.syntax.specs.Tree.{Store as Stores, Print as Prints}
-use Rattle.syntax.specs.Tree.{Fault as Faults, If as Ifs, IfElse, While as Whiles, Split as Splits}
-use Rattle.syntax.specs.Tree.{Call as Calls}
-use Rattle.syntax.specs.Tree.{Async as Asyncs, Finish as Finishes, Block}
-use Rattle.syntax.specs.Tree.{End as Ends, Then as Thens}
-use Rattle.syntax.specs.Tree.{Array as DeclaredArray, Parameter as DeclaredParameter}
-use Rattle.syntax.specs.Tree.{Scalar as ScalarParameter}
-use Rattle.syntax.specs.Tree.{Procedure as DeclaredProcedure, Main, Program as Text, Written, Read}
-use Rattle.syntax.specs.Tree.{lone_atom}
+use Rattle.syntax_tree.specs.declared.tree.Sign.{Sign}
+use Rattle.syntax_tree.specs.declared.tree.Sign.TheVariants.{Plus as SignPlus, Minus as SignMinus}
+use Rattle.syntax_tree.specs.declared.tree.Operator.{Operator as Factored}
+use Rattle.syntax_tree.specs.declared.tree.Operator.TheVariants.{Times as ByTimes, Over as ByOver}
+use Rattle.syntax_tree.specs.declared.tree.Operator.TheVariants.{Modulo as ByModulo}
+use Rattle.syntax_tree.specs.Tree.{Expr, Or, Conjs, NoConj, OrConj, Conj, And, Negs, NoNeg, AndNeg}
+use Rattle.syntax_tree.specs.Tree.{Neg, Plainly}
+use Rattle.syntax_tree.specs.Tree.{Not as Denied, Cmp, Alone, Compare as Compared, Sum, Add, Terms}
+use Rattle.syntax_tree.specs.Tree.{NoTerm, AddTerm, Prod}
+use Rattle.syntax_tree.specs.Tree.{Multiply, Factors, NoFactor, MultiplyFactor, Unary, Positive}
+use Rattle.syntax_tree.specs.Tree.{Negative as Minus_of, Atom}
+use Rattle.syntax_tree.specs.Tree.{Number as Numeral, True, False, Name, Element as Element_of}
+use Rattle.syntax_tree.specs.Tree.{Length as Length_of, Parens}
+use Rattle.syntax_tree.specs.Tree.{Stmt, Skip as Skips, Var, Assign as Assigns}
+use Rattle.syntax_tree.specs.Tree.{Store as Stores, Print as Prints}
+use Rattle.syntax_tree.specs.Tree.{Fault as Faults, If as Ifs, IfElse, While as Whiles, Split as Splits}
+use Rattle.syntax_tree.specs.Tree.{Call as Calls}
+use Rattle.syntax_tree.specs.Tree.{Async as Asyncs, Finish as Finishes, Block}
+use Rattle.syntax_tree.specs.Tree.{End as Ends, Then as Thens}
+use Rattle.syntax_tree.specs.Tree.{Array as DeclaredArray, Parameter as DeclaredParameter}
+use Rattle.syntax_tree.specs.Tree.{Scalar as ScalarParameter}
+use Rattle.syntax_tree.specs.Tree.{Procedure as DeclaredProcedure, Main, Program as Text, Written, Read}
+use Rattle.syntax_tree.specs.Tree.{lone_atom}
 use Rattle.types.specs.declared.code.Operator.{Operator}
 use Rattle.types.specs.declared.code.Operator.TheVariants.{Plus, Minus, Times, Over, Modulo}
 use Rattle.types.specs.Code.{Number, Literal, Scalar, Element, Length, Negative, Chain, Links, Done}

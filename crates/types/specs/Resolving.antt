@@ -4,8 +4,8 @@ use Rattle.std.specs.Prelude.{ℕ, ◌+◌, ◌-◌, ◌≡◌, ◌<◌, ◌≤�
 use Rattle.std.specs.Prelude.{Bool, Option, Some, String}
 use Rattle.std.specs.String.{string_bytes}
 use Rattle.sections.specs.Tree.{origins_of}
-use Rattle.syntax.specs.Tree.{Stmt, Procedure}
-use Rattle.syntax.specs.Tree as tree
+use Rattle.syntax_tree.specs.Tree.{Stmt, Procedure}
+use Rattle.syntax_tree.specs.Tree as tree
 use Rattle.types.specs.declared.check.calls.Passed.{Passed as rPassed}
 use Rattle.types.specs.declared.check.procedures.Procedures.{Procedures as rProcedures}
 use Rattle.types.specs.declared.check.names.Meaning.{Meaning}

@@ -2,7 +2,7 @@
 use Rattle.std.specs.Prelude.{ℕ, zero, suc, ◌+◌, List, [], ◌∷◌, ◌++◌, map, Bool, true, false, ℤ}
 use Rattle.std.specs.Prelude.{pos, Ok, Err, ok_or}
 use Rattle.std.specs.Prelude.{nat_eq, slice_index_or, if◌then◌else◌}
-use Rattle.syntax.specs.declared.tree.ElementType.TheVariants.{Int}
+use Rattle.syntax_tree.specs.declared.tree.ElementType.TheVariants.{Int}
 use Rattle.types.specs.declared.fault.FaultKind.{FaultKind}
 use Rattle.types.specs.declared.fault.FaultKind.TheVariants.{OutOfElement, SplitPoint, Raised}
 use Rattle.types.specs.Code.{Number, Truth, Primitive, Skip, Assign, Store, Print, Raise, Code, Do}

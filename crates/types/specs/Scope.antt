@@ -3,12 +3,12 @@ use Rattle.std.specs.Prelude.{ℕ, ◌+◌, List, [], ◌∷◌, ◌++◌, lengt
 use Rattle.std.specs.Prelude.{Some, None}
 use Rattle.std.specs.Prelude.{nat_eq, if◌then◌else◌, slice_index_or}
 use Rattle.std.specs.Cmp.Lexicographic.{pointwise}
-use Rattle.syntax.specs.declared.tree.ElementType.{ElementType}
-use Rattle.syntax.specs.declared.tree.ElementType.TheVariants.{Int}
-use Rattle.syntax.specs.Tree.{Stmt, Skip, Var, Assign, Store, Print, Fault, If, IfElse, While}
-use Rattle.syntax.specs.Tree.{Split, Call, Async}
-use Rattle.syntax.specs.Tree.{Finish, Block, End, Then, Array, Parameter as Declared, Written}
-use Rattle.syntax.specs.Tree.{Read, Scalar}
+use Rattle.syntax_tree.specs.declared.tree.ElementType.{ElementType}
+use Rattle.syntax_tree.specs.declared.tree.ElementType.TheVariants.{Int}
+use Rattle.syntax_tree.specs.Tree.{Stmt, Skip, Var, Assign, Store, Print, Fault, If, IfElse, While}
+use Rattle.syntax_tree.specs.Tree.{Split, Call, Async}
+use Rattle.syntax_tree.specs.Tree.{Finish, Block, End, Then, Array, Parameter as Declared, Written}
+use Rattle.syntax_tree.specs.Tree.{Read, Scalar}
 use Rattle.sections.specs.Origins.{Origin, Root, Left, Right}
 use Rattle.types.specs.Code.{Parameter}
 

@@ -3,8 +3,8 @@ use Rattle.std.specs.Prelude.{◌≡◌, List, Option}
 use mathlib.Core.Sum.{⊎_set}
 use Rattle.std.proofs.Props.{props}
 use Rattle.sections.specs.Origins.{Origin}
-use Rattle.syntax.specs.declared.tree.ElementType.{ElementType}
-use Rattle.syntax.specs.declared.tree.Relation.{Relation}
+use Rattle.syntax_tree.specs.declared.tree.ElementType.{ElementType}
+use Rattle.syntax_tree.specs.declared.tree.Relation.{Relation}
 use Rattle.types.specs.declared.code.Operator.{Operator}
 use Rattle.types.specs.Code.{Number, Number-set, Truth, Truth-set, Primitive, Primitive-set, Codes}
 use Rattle.types.specs.Code.{Codes-set, Program}

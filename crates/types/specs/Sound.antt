@@ -4,7 +4,7 @@ use Rattle.std.specs.Prelude.{ℕ, zero, suc, ◌+◌, ◌^◌, ◌<◌, ◌≤�
 use Rattle.std.specs.Prelude.{map, Bool, true, false, ℤ, pos, negsuc, slice_get}
 use Rattle.std.specs.Prelude.{slice_index_or, Some}
 use Rattle.std.specs.List.{AllByRecursion, range_with_len}
-use Rattle.syntax.specs.declared.tree.ElementType.TheVariants.{Int}
+use Rattle.syntax_tree.specs.declared.tree.ElementType.TheVariants.{Int}
 use Rattle.sections.specs.Member.{Member}
 use Rattle.sections.specs.Origins.{Root, Left, Right, origin_of, IsNumbered}
 use Rattle.sections.specs.Overlap.{root_of, overlap}

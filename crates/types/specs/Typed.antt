@@ -1,5 +1,5 @@
 -- What a well-typed program shows.
-use Rattle.syntax.specs.Tree as tree
+use Rattle.syntax_tree.specs.Tree as tree
 use Rattle.types.specs.Code.{Program}
 use Rattle.types.specs.Translation.{program}
 use Rattle.types.specs.declared.typed.Typed.{Typed}

@@ -4,11 +4,11 @@ use Rattle.std.specs.Prelude.{pos, negsuc, ◌+ℤ◌}
 use Rattle.std.specs.Prelude.{◌-ℤ◌, ◌*ℤ◌, neg_ℤ, int_lt, int_le, int_div, int_rem, Result, Ok}
 use Rattle.std.specs.Prelude.{Err, ok_or}
 use Rattle.std.specs.Prelude.{if◌then◌else◌}
-use Rattle.syntax.specs.declared.tree.ElementType.{ElementType}
-use Rattle.syntax.specs.declared.tree.ElementType.TheVariants.{Int, Byte}
-use Rattle.syntax.specs.declared.tree.Relation.{Relation}
-use Rattle.syntax.specs.declared.tree.Relation.TheVariants.{Less, AtMost, Greater, AtLeast}
-use Rattle.syntax.specs.declared.tree.Relation.TheVariants.{Equal, Differs}
+use Rattle.syntax_tree.specs.declared.tree.ElementType.{ElementType}
+use Rattle.syntax_tree.specs.declared.tree.ElementType.TheVariants.{Int, Byte}
+use Rattle.syntax_tree.specs.declared.tree.Relation.{Relation}
+use Rattle.syntax_tree.specs.declared.tree.Relation.TheVariants.{Less, AtMost, Greater, AtLeast}
+use Rattle.syntax_tree.specs.declared.tree.Relation.TheVariants.{Equal, Differs}
 use Rattle.types.specs.declared.code.Operator.{Operator}
 use Rattle.types.specs.declared.code.Operator.TheVariants.{Plus, Minus, Times, Over, Modulo}
 use Rattle.types.specs.declared.fault.FaultKind.{FaultKind}

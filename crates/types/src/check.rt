@@ -1,7 +1,7 @@
 //! The typing rules, and the resolution of names.
 
 ghost use Rattle.std.specs.Prelude.{◌≡◌, IfOk, IfErr, OnOk, IsOkUnless, Some};
-ghost use Rattle.syntax.specs.Tree.{program as tree_of};
+ghost use Rattle.syntax_tree.specs.Tree.{program as tree_of};
 ghost use Rattle.types.specs.Resolution.{resolution};
 ghost use Rattle.types.specs.Rules.{errors_of, BreaksNoRule};
 ghost use Rattle.types.specs.Told.{Told};
@@ -25,7 +25,7 @@ use crate::code::Program;
 use crate::error::TypeError;
 use crate::typed::Typed;
 use std::alloc::Global;
-use syntax::tree;
+use syntax_tree::tree;
 
 /// Resolves a program that breaks no rule of the language.
 pub fn type_check(alloc: Global, program: tree::Program) -> Result<Typed, TypeError>

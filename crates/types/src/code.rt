@@ -6,7 +6,7 @@ ghost use Rattle.std.specs.Prelude.{◌≤◌};
 use crate::ids::{ProcedureId, Slot};
 use sections::id::SectionId;
 use sections::tree::SectionTree;
-use syntax::tree::{ElementType, Relation};
+use syntax_tree::tree::{ElementType, Relation};
 
 /// A statement's number in the order of the text, from 1.
 pub type Label = u32;

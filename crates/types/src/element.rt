@@ -3,7 +3,7 @@
 ghost use Rattle.std.specs.Prelude.{◌≡◌};
 ghost use Rattle.types.specs.Value.{holds_number};
 
-use syntax::tree::ElementType;
+use syntax_tree::tree::ElementType;
 
 /// Whether elements of a type hold a number: a `byte` holds 0 to 255, an `int` each number of 64 bits.
 pub fn holds(element: ElementType, number: i64) -> bool

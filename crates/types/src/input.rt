@@ -22,7 +22,7 @@ use crate::input_error::InputError;
 use crate::typed::Typed;
 use serde_json::{Map, Value};
 use std::alloc::{AllocError, Global};
-use syntax::tree::ElementType;
+use syntax_tree::tree::ElementType;
 
 /// The contents of the arrays as a run begins, in the order of declaration.
 #[derive(Clone, PartialEq, Eq, Debug, Drop)]

@@ -1,13 +1,9 @@
 //! Laws of the definitions, each the contract of a function that does nothing.
 
-ghost use Rattle.std.specs.Prelude.{◌≡◌, ◌<◌, ◌≤◌, IsTrue, ℕ, ℤ, List, [], ◌++◌, length, replicate};
+ghost use Rattle.std.specs.Prelude.{◌≡◌, ◌<◌, ℕ, ℤ, List, [], ◌++◌, length, replicate};
 ghost use Rattle.std.specs.Prelude.{slice_get, slice_index_or, slice_set};
 ghost use Rattle.std.specs.List.{range_with_len};
-ghost use Rattle.syntax.specs.Brackets.{AreShallow};
-ghost use Rattle.syntax.specs.Spelling.{spelling};
-ghost use Rattle.syntax.specs.Tree.{Program as Text};
-ghost use Rattle.types.specs.Depth.{depth_of};
-ghost use Rattle.types.specs.FirstPart.{codes_fit, statements, is_first_part};
+ghost use Rattle.syntax_tree.specs.Tree.{Program as Text};
 ghost use Rattle.types.specs.Labels.{labels_of_program};
 ghost use Rattle.types.specs.Resolution.{resolution};
 ghost use Rattle.types.specs.Rules.{BreaksNoRule};
@@ -23,7 +19,6 @@ ghost use Rattle.types.specs.Outcome.{Budget, IsLarger, Ending, Ended, outcome};
 ghost use Rattle.types.specs.Outcome.{Means, whole_arrays};
 ghost use Rattle.types.specs.Indexed.{indexed, indexed_truth};
 ghost use Rattle.types.specs.Laws.{IsThrifty, Solves, IsOnly, IsKept, Keeps, OnlyAdds, SameOn};
-ghost use Rattle.types.specs.Laws.{EndsWithoutFault};
 
 use crate::typed::Typed;
 
@@ -64,29 +59,6 @@ pub fn larger_budgets_end_alike()
         → IsLarger larger b → outcome p input b ≡ Ended e → outcome p input larger ≡ Ended e }
     ensures one { (p : Program) (input : List (List ℤ)) (e f : Ending)
         → Means p input e → Means p input f → e ≡ f }
-{}
-
-/// A program of the first part ends on one thread, and no task faults, whatever the input, where the
-/// budget has a step for each of its statements and nest for its asyncs. The usual budget has the
-/// steps, and the nest as far as no async stands in more than 99 others: so it is enough for each
-/// program that was read.
-pub fn first_parts_end_without_fault()
-    ensures within { (p : Program) (input : List (List ℤ)) (b : Budget)
-        → IsTrue (codes_fit p p.main.body) → statements p.main.body ≤ b.steps
-        → depth_of p.main.body ≤ b.nest → EndsWithoutFault (outcome p input b) }
-    ensures usual { (p : Program) (input : List (List ℤ)) → IsTrue (is_first_part p)
-        → depth_of p.main.body ≤ 100
-        → EndsWithoutFault (outcome p input (record { steps = 1000000; nest = 100 })) }
-    ensures read { (t : Text) (p : Program) (input : List (List ℤ)) → resolution t ≡ Some p
-        → AreShallow 0 (spelling t) → IsTrue (is_first_part p)
-        → EndsWithoutFault (outcome p input (record { steps = 1000000; nest = 100 })) }
-{}
-
-/// Asyncs stand in one another less than 100 deep, where what spells the program opens at most 100
-/// brackets at once, as all that is read does.
-pub fn asyncs_stand_in_brackets()
-    ensures { (t : Text) (p : Program) → resolution t ≡ Some p → AreShallow 0 (spelling t)
-        → depth_of p.main.body < 100 }
 {}
 
 /// The labels of a resolved text, in the order of the text, are 1, 2 and so on: each stands once.

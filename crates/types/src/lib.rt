@@ -8,7 +8,6 @@ pub mod code;
 pub mod element;
 pub mod error;
 pub mod fault;
-pub mod first_part;
 pub mod ids;
 pub mod input;
 pub mod input_error;

@@ -1,7 +1,7 @@
 //! A well-typed program.
 
 ghost use Rattle.std.specs.Prelude.{◌≡◌, Some};
-ghost use Rattle.syntax.specs.Tree.{program as tree_of};
+ghost use Rattle.syntax_tree.specs.Tree.{program as tree_of};
 ghost use Rattle.types.specs.Resolution.{resolution};
 ghost use Rattle.types.specs.Rules.{BreaksNoRule};
 ghost use Rattle.types.specs.Sets.{one_proof};
@@ -12,7 +12,7 @@ use crate::code;
 /// A program that breaks no rule of the language, with its names resolved. `type_check` alone makes it.
 #[derive(Drop)]
 pub struct Typed {
-    pub(crate) program: syntax::tree::Program,
+    pub(crate) program: syntax_tree::tree::Program,
     pub(crate) code: code::Program,
     pub ghost right: { BreaksNoRule (tree_of program) },
     pub ghost resolved: { resolution (tree_of program) ≡ Some (plain code) } by { one_proof _ _ },
@@ -22,7 +22,7 @@ impl Typed {
     ghost use Rattle.types.specs.Typed.{program_of, code_of};
 
     /// The program as it was read.
-    pub fn program(&self) -> &syntax::tree::Program
+    pub fn program(&self) -> &syntax_tree::tree::Program
         ensures program { tree_of result.now ≡ program_of self.now }
         ensures right { BreaksNoRule (program_of self.now) }
     {

@@ -5,7 +5,7 @@ use std::alloc::{AllocError, Global};
 use std::io;
 use std::io::ErrorKind;
 use std::test::Fail;
-use syntax::tree::ElementType;
+use syntax_tree::tree::ElementType;
 use types::code::Array;
 use types::fault::{Fault, FaultKind};
 use types::outcome::Outcome;

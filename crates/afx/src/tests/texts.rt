@@ -3,7 +3,7 @@
 use std::alloc::{AllocError, Global};
 use std::test::Fail;
 use syntax::parse;
-use syntax::tree::Stmt;
+use syntax_tree::tree::Stmt;
 
 const PROGRAM: &str = "program";
 

@@ -3,7 +3,7 @@
 use crate::tests::compare;
 use std::alloc::Global;
 use std::process::Abort;
-use syntax::tree::{Program, Stmt};
+use syntax_tree::tree::{Program, Stmt};
 use syntax::{format, parse};
 
 const PROGRAM: &str = "program";

@@ -154,7 +154,7 @@ const PASS_FIRST: &[Of] = &[(Pass(1), ROOT)];
 type Row = (
     &'static str,
     u64,
-    &'static [&'static [Happens]],
+    &'static [&'static [Of]],
     &'static str,
 );
 

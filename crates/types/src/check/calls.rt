@@ -8,8 +8,8 @@ ghost use Rattle.std.specs.List.{list_any};
 ghost use Rattle.std.specs.String.{string_bytes};
 ghost use Rattle.sections.specs.Translation.{section as section_as};
 ghost use Rattle.sections.specs.Tree.{origins_of};
-ghost use Rattle.syntax.specs.Tree.{expr as expr_of, parameter as parameter_of};
-ghost use Rattle.syntax.specs.Tree.{atom as atom_of, lone_atom};
+ghost use Rattle.syntax_tree.specs.Tree.{expr as expr_of, parameter as parameter_of};
+ghost use Rattle.syntax_tree.specs.Tree.{atom as atom_of, lone_atom};
 ghost use Rattle.types.specs.CallErrors as errors;
 ghost use Rattle.types.specs.Resolution as resolution;
 ghost use Rattle.types.specs.Resolving.{names_of, scope_of, passed_by, procedures_of, IsWellScoped};
@@ -26,8 +26,8 @@ use crate::error::TypeError;
 use sections::id::SectionId;
 use sections::tree::SectionTree;
 use std::alloc::Global;
-use syntax::tree;
-use syntax::tree::{Atom, Expr};
+use syntax_tree::tree;
+use syntax_tree::tree::{Atom, Expr};
 
 /// A call in the statement that begins at this place.
 pub fn call(
@@ -225,7 +225,7 @@ fn argument_section(
     }
 }
 
-#[tactic(auto, using(crate::proofs::Telling::told_alone), unfolding(syntax::specs::Tree::atom))]
+#[tactic(auto, using(crate::proofs::Telling::told_alone), unfolding(syntax_tree::specs::Tree::atom))]
 fn atom_section(scope: &Scope, kind: SectionParameter, atom: &Atom) -> Result<SectionId, TypeError>
     ensures right { OnOk result (errors.passing_atom scope.now.label (scope_of scope.now)
         (parameter_in kind) (Some (atom_of atom.now)) ≡ []) }

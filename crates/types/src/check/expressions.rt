@@ -4,9 +4,9 @@
 
 ghost use Rattle.std.specs.Prelude.{◌≡◌, [], ◌∷◌, ◌++◌, map, OnOk, IfOk, IfErr, Some, pos};
 ghost use Rattle.std.specs.String.{string_bytes};
-ghost use Rattle.syntax.specs.Tree.{expr as expr_of, conj as conj_of, neg as neg_of, cmp as cmp_of};
-ghost use Rattle.syntax.specs.Tree.{sum as sum_of, prod as prod_of};
-ghost use Rattle.syntax.specs.Tree.{unary as unary_of, atom as atom_of};
+ghost use Rattle.syntax_tree.specs.Tree.{expr as expr_of, conj as conj_of, neg as neg_of, cmp as cmp_of};
+ghost use Rattle.syntax_tree.specs.Tree.{sum as sum_of, prod as prod_of};
+ghost use Rattle.syntax_tree.specs.Tree.{unary as unary_of, atom as atom_of};
 ghost use Rattle.types.specs.Code.{Literal};
 ghost use Rattle.types.specs.ExpressionErrors as errors;
 ghost use Rattle.types.specs.NameErrors.{naming_section, naming_scalar};
@@ -22,8 +22,8 @@ use crate::error::TypeError;
 use crate::ids::Slot;
 use sections::id::SectionId;
 use std::alloc::Global;
-use syntax::tree;
-use syntax::tree::{Atom, Cmp, Conj, Expr, Neg, Prod, Sign, Sum, Unary};
+use syntax_tree::tree;
+use syntax_tree::tree::{Atom, Cmp, Conj, Expr, Neg, Prod, Sign, Sum, Unary};
 
 /// The expressions of the statement with the label.
 #[derive(Clone, Copy)]

@@ -9,7 +9,7 @@ use crate::error::TypeError;
 use crate::ids::ProcedureId;
 use indexmap::IndexSet;
 use std::alloc::Global;
-use syntax::tree;
+use syntax_tree::tree;
 
 /// The procedures of a program, each by its name.
 #[derive(Drop)]
@@ -22,7 +22,7 @@ pub struct Procedures<'p> {
 impl Procedures<'_> {
     ghost use Rattle.std.specs.Prelude.{[], OnOk, IfOk, IfErr};
     ghost use Rattle.std.specs.Option.{option_map};
-    ghost use Rattle.syntax.specs.Tree.{parameter as parameter_of, procedure as procedure_as};
+    ghost use Rattle.syntax_tree.specs.Tree.{parameter as parameter_of, procedure as procedure_as};
     ghost use Rattle.types.specs.Resolution as resolution;
     ghost use Rattle.types.specs.Resolving.{procedures_of};
     ghost use Rattle.types.specs.Rules.{name_errors};

@@ -5,9 +5,9 @@
 ghost use Rattle.std.specs.Prelude.{◌≡◌, [], ◌∷◌, ◌++◌, ◌≤◌, ◌+◌, map, OnOk, IfOk, IfErr, length};
 ghost use Rattle.std.specs.Prelude.{sum_by, Some, None, codes};
 ghost use Rattle.std.specs.String.{string_bytes};
-ghost use Rattle.syntax.specs.Tree.{block as block_of, procedure as procedure_as};
-ghost use Rattle.syntax.specs.Tree.{parameter as parameter_of};
-ghost use Rattle.syntax.specs.Tree.{array as array_of, main as main_of};
+ghost use Rattle.syntax_tree.specs.Tree.{block as block_of, procedure as procedure_as};
+ghost use Rattle.syntax_tree.specs.Tree.{parameter as parameter_of};
+ghost use Rattle.syntax_tree.specs.Tree.{array as array_of, main as main_of};
 ghost use Rattle.types.specs.NameErrors.{declaring};
 ghost use Rattle.types.specs.Resolution.{array as array_at, resolved as resolved_at};
 ghost use Rattle.types.specs.Resolution.{procedures as procedures_at, label_behind};
@@ -28,7 +28,7 @@ use crate::code::{Array, Label, Procedure, SectionParameter};
 use crate::error::TypeError;
 use sections::window::MOST_ELEMENTS;
 use std::alloc::Global;
-use syntax::tree;
+use syntax_tree::tree;
 
 /// Procedures in the order of the text. The label is that of the next statement.
 pub fn resolve_procedures(

@@ -20,7 +20,7 @@ use crate::ids::Slot;
 use sections::id::SectionId;
 use sections::tree::SectionTree;
 use std::alloc::Global;
-use syntax::tree::ElementType;
+use syntax_tree::tree::ElementType;
 
 /// A place of a text, and the sections of its procedure so far.
 #[derive(Drop)]

@@ -4,9 +4,9 @@
 
 ghost use Rattle.std.specs.Prelude.{◌≡◌, [], ◌∷◌, ◌++◌, ◌≤◌, map, OnOk, IfOk, IfErr, Some};
 ghost use Rattle.std.specs.String.{string_bytes};
-ghost use Rattle.syntax.specs.Tree.{block as block_of, stmt as stmt_of, expr as expr_of};
-ghost use Rattle.syntax.specs.Tree.{Var, Assign, Store, Print, Fault, If, IfElse, While, Split};
-ghost use Rattle.syntax.specs.Tree.{Call, Async, Finish};
+ghost use Rattle.syntax_tree.specs.Tree.{block as block_of, stmt as stmt_of, expr as expr_of};
+ghost use Rattle.syntax_tree.specs.Tree.{Var, Assign, Store, Print, Fault, If, IfElse, While, Split};
+ghost use Rattle.syntax_tree.specs.Tree.{Call, Async, Finish};
 ghost use Rattle.types.specs.Resolution.{code as code_at, codes as codes_at, number as number_at};
 ghost use Rattle.types.specs.Resolution.{truth as truth_at};
 ghost use Rattle.types.specs.ExpressionErrors.{number as number_errors, numbers as numbers_errors};
@@ -30,8 +30,8 @@ use crate::error::TypeError;
 use crate::ids::Slot;
 use sections::id::SectionId;
 use std::alloc::Global;
-use syntax::tree;
-use syntax::tree::Expr;
+use syntax_tree::tree;
+use syntax_tree::tree::Expr;
 
 /// Statements, which may call these procedures.
 #[derive(Drop)]

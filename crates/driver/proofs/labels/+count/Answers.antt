@@ -1,5 +1,5 @@
 use Rattle.std.proofs.Common.{min, ap, ◌∙◌, arith}
-use Rattle.types.specs.FirstPart.{statements, statements_in}
+use Rattle.types.specs.Statements.{statements, statements_in}
 use Rattle.types.specs.Translation.{codes, code as plain_code}
 use Rattle.types.proofs.Blocks.{code_If, code_While, code_Split, code_Async, code_Finish}
 use Rattle.driver.proofs.labels.+count.Goals as goal

@@ -1,5 +1,5 @@
 use Rattle.std.proofs.Common.{◌≡◌, ◌+◌, ◌≤◌, min, drop}
-use Rattle.types.specs.FirstPart.{statements}
+use Rattle.types.specs.Statements.{statements}
 use Rattle.types.specs.Translation.{codes}
 use Rattle.driver.proofs.labels.+count.Given as goal
 

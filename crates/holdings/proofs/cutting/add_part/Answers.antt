@@ -5,7 +5,7 @@ use Rattle.sections.specs.Translation.{window as window_of}
 use Rattle.holdings.specs.Fragments.{numbers_in, numbers_of, row_at}
 use Rattle.holdings.specs.Held.{Map, only, over}
 use Rattle.holdings.proofs.CutLemmas.{inside-part, inside-nothing}
-use Rattle.syntax.proofs.ExpressionText.{ok_map}
+use Rattle.holdings.proofs.HoldingsLemmas.{ok_map}
 use Rattle.holdings.proofs.cutting.add_part.Goals as goal
 
 pub returns-then-low-high : goal.returns-then-low-high

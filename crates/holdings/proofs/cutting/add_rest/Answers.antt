@@ -6,7 +6,7 @@ use Rattle.sections.specs.Translation.{window as window_of}
 use Rattle.holdings.specs.Fragments.{numbers_in, places}
 use Rattle.holdings.specs.Held.{over}
 use Rattle.holdings.proofs.DisjointLemmas.{rest_met, rest_unmet}
-use Rattle.syntax.proofs.ExpressionText.{ok_map}
+use Rattle.holdings.proofs.HoldingsLemmas.{ok_map}
 use Rattle.holdings.proofs.cutting.add_rest.Goals as goal
 
 pub returns-then-not-meets_any : goal.returns-then-not-meets_any

@@ -8,7 +8,7 @@ use Rattle.holdings.specs.Fragments.{AreDisjoint, meets_any, numbers_in}
 use Rattle.holdings.specs.Held.{over}
 use Rattle.holdings.specs.declared.fragment.Fragment.{Fragment}
 use Rattle.holdings.proofs.DisjointLemmas.{AreDisjoint-filter, cleared, rests_apart}
-use Rattle.syntax.proofs.ExpressionText.{ok_map}
+use Rattle.holdings.proofs.HoldingsLemmas.{ok_map}
 use Rattle.holdings.proofs.cutting.clear.Goals as goal
 
 pub invariant_of-fragments-2 : goal.invariant_of-fragments-2

@@ -2,19 +2,19 @@ use Rattle.std.proofs.Common.{◌+◌, ◌-◌, ◌<◌, ◌≤◌, ◌∷◌, c
 use Rattle.std.proofs.lemmas.List.{at_drop_more, at_drop_all}
 use Rattle.std.specs.Option.{option_map}
 use Rattle.std.specs.String.{string_bytes}
-use Rattle.syntax.specs.declared.tree.Stmt.TheVariants.{If as rIf}
+use Rattle.syntax_tree.specs.declared.tree.Stmt.TheVariants.{If as rIf}
 use Rattle.syntax.specs.declared.token.Word.TheVariants.{Else as WordElse}
 use Rattle.syntax.specs.declared.token.Mark.TheVariants.{LeftBrace}
 use Rattle.syntax.specs.Canonical.{Margin, Opening, Operand, Ended, Other}
 use Rattle.syntax.specs.Spelling.{stmt_then, block_then}
 use Rattle.syntax.specs.Token.{WordToken, MarkToken}
-use Rattle.syntax.specs.Tree.{If, IfElse, While, Split, Async, Finish, Then, expr, stmt, block}
+use Rattle.syntax_tree.specs.Tree.{If, IfElse, While, Split, Async, Finish, Then, expr, stmt, block}
 use Rattle.syntax.specs.Writing.{place, with_rest}
 use Rattle.syntax.proofs.ExpressionText.{ok_then, ok_map3, pushed}
 use Rattle.syntax.proofs.LineText.{wrote, wrote_adds, wrote_text, counted_by, stmt_begins, block_is_line, laid-opening_brace}
 use Rattle.syntax.proofs.LineText.{laid-closing_brace, laid_If, laid_IfElse, laid_Else, laid_While, laid_Split, laid_Async}
 use Rattle.syntax.proofs.LineText.{laid_Finish, laid_end}
-use Rattle.syntax.proofs.RowLemmas.{stmt_If, stmt_IfElse, stmt_While, stmt_Split, stmt_Async, stmt_Finish}
+use Rattle.syntax_tree.proofs.RowLemmas.{stmt_If, stmt_IfElse, stmt_While, stmt_Split, stmt_Async, stmt_Finish}
 use Rattle.syntax.proofs.StatementKinds.{is_simple-true}
 use Rattle.syntax.proofs.canonical.+stmt.Goals as goal
 

@@ -1,10 +1,10 @@
 use Rattle.std.proofs.Common.{◌≡◌, ◌+◌, ◌*◌, List, drop}
 use Rattle.syntax.proofs.tree.Stmt.TheLaws.{the_size}
-use Rattle.syntax.specs.declared.tree.Stmt.TheVariants.{If as rIf}
+use Rattle.syntax_tree.specs.declared.tree.Stmt.TheVariants.{If as rIf}
 use Rattle.syntax.specs.Canonical.{Margin}
 use Rattle.syntax.specs.Spelling.{block_then}
 use Rattle.syntax.specs.Token.{Token}
-use Rattle.syntax.specs.Tree.{block}
+use Rattle.syntax_tree.specs.Tree.{block}
 use Rattle.syntax.specs.Writing.{with_rest, IsCounted}
 use Rattle.syntax.proofs.canonical.+stmt.Given as goal
 

@@ -2,7 +2,7 @@ use Rattle.std.proofs.Common.{sym, subst}
 use Rattle.std.specs.Str.{chars}
 use Rattle.syntax.specs.Lexical.{AreTokensOf}
 use Rattle.syntax.specs.Spelling.{spelling}
-use Rattle.syntax.specs.Tree.{program}
+use Rattle.syntax_tree.specs.Tree.{program}
 use Rattle.syntax.proofs.AsciiLemmas.{canonical_is_read}
 use Rattle.syntax.proofs.LineText.{begins_text}
 use Rattle.syntax.proofs.canonical.format.Goals as goal

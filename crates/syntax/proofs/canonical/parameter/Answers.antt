@@ -2,7 +2,7 @@ use Rattle.std.proofs.Common.{◌++◌, [], ap, sym, ◌∙◌}
 use Rattle.std.specs.String.{string_bytes}
 use Rattle.syntax.specs.Canonical.{in_line}
 use Rattle.syntax.specs.Spelling.{parameter_then}
-use Rattle.syntax.specs.Tree.{parameter}
+use Rattle.syntax_tree.specs.Tree.{parameter}
 use Rattle.syntax.proofs.ExpressionText.{pushed, then_ok, ok_adds_equal}
 use Rattle.syntax.proofs.LineText.{parameter_text_Written, parameter_text_Read, parameter_text_Scalar}
 use Rattle.syntax.proofs.canonical.parameter.Goals as goal

@@ -2,7 +2,7 @@ use Rattle.std.proofs.Common.{◌≡◌, ◌++◌, [], drop, map}
 use Rattle.std.specs.String.{string_bytes}
 use Rattle.syntax.specs.Canonical.{in_line}
 use Rattle.syntax.specs.Spelling.{parameters_then}
-use Rattle.syntax.specs.Tree.{parameter}
+use Rattle.syntax_tree.specs.Tree.{parameter}
 use Rattle.syntax.proofs.LineText.{parameters_text}
 use Rattle.syntax.proofs.canonical.parameters.Given as goal
 

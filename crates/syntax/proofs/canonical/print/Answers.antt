@@ -1,7 +1,7 @@
 use Rattle.std.proofs.Common.{◌+◌, ◌<◌, ◌≤◌, false, ◌++◌, ◌∷◌, drop, length, ap, sym, ◌∙◌, rules}
 use Rattle.std.proofs.lemmas.List.{at_drop_more, at_drop_all}
 use Rattle.std.specs.String.{string_bytes}
-use Rattle.syntax.specs.Tree.{expr, exprs}
+use Rattle.syntax_tree.specs.Tree.{expr, exprs}
 use Rattle.syntax.proofs.ExpressionText.{then_adds, adds_part, adds_all, exprs_text, exprs_text_more, exprs_text_none}
 use Rattle.syntax.proofs.LineText.{print_text}
 use Rattle.syntax.proofs.canonical.print.Goals as goal

@@ -3,7 +3,7 @@ use Rattle.std.proofs.lemmas.Bool.{both_ways}
 use Rattle.std.specs.String.{string_bytes}
 use Rattle.syntax.specs.Canonical.{Opening}
 use Rattle.syntax.specs.Spelling.{stmt_then}
-use Rattle.syntax.specs.Tree.{Print, Call, expr, exprs, stmt}
+use Rattle.syntax_tree.specs.Tree.{Print, Call, expr, exprs, stmt}
 use Rattle.syntax.specs.Writing.{with_rest}
 use Rattle.syntax.proofs.ExpressionText.{ok_then, pushed, then_ok}
 use Rattle.syntax.proofs.LineText.{wrote_simple, laid_Skip, laid_Var, laid_Assign, laid_Store, laid_Print}

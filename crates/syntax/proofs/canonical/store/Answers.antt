@@ -1,6 +1,6 @@
 use Rattle.std.proofs.Common.{◌++◌, ap, ◌∙◌}
 use Rattle.std.specs.String.{string_bytes}
-use Rattle.syntax.specs.Tree.{expr}
+use Rattle.syntax_tree.specs.Tree.{expr}
 use Rattle.syntax.proofs.ExpressionText.{then_ok, ok_adds_equal}
 use Rattle.syntax.proofs.LineText.{store_text}
 use Rattle.syntax.proofs.canonical.store.Goals as goal

@@ -1,14 +1,14 @@
 use Rattle.std.proofs.Common.{◌≡◌, ◌+◌, ◌<◌, ◌≤◌, if◌then◌else◌, [], ◌++◌, ◌∷◌, codes, drop, length, refl, ap, sym, ◌∙◌, rules, append-nil}
 use Rattle.std.proofs.lemmas.List.{at_drop_more, at_drop_all}
 use Rattle.std.specs.String.{string_bytes}
-use Rattle.syntax.specs.declared.tree.Expr.{out-Expr}
-use Rattle.syntax.specs.declared.tree.Conj.{out-Conj}
-use Rattle.syntax.specs.declared.tree.Neg.{out-Neg}
-use Rattle.syntax.specs.declared.tree.Sum.{out-Sum}
-use Rattle.syntax.specs.declared.tree.Prod.{out-Prod}
+use Rattle.syntax_tree.specs.declared.tree.Expr.{out-Expr}
+use Rattle.syntax_tree.specs.declared.tree.Conj.{out-Conj}
+use Rattle.syntax_tree.specs.declared.tree.Neg.{out-Neg}
+use Rattle.syntax_tree.specs.declared.tree.Sum.{out-Sum}
+use Rattle.syntax_tree.specs.declared.tree.Prod.{out-Prod}
 use Rattle.syntax.specs.Canonical.{in_line}
 use Rattle.syntax.specs.Spelling.{expr_then, conj_then, neg_then, sum_then, prod_then, unary_then, atom_then}
-use Rattle.syntax.specs.Tree.{expr, conj, neg, sum, prod, unary, atom}
+use Rattle.syntax_tree.specs.Tree.{expr, conj, neg, sum, prod, unary, atom}
 use Rattle.syntax.proofs.ExpressionText.{then_adds, adds_part, adds_all, pushed, then_ok, ok_adds_equal, conjs_text}
 use Rattle.syntax.proofs.ExpressionText.{conjs_text_more, conjs_text_none, negs_text, negs_text_more, negs_text_none}
 use Rattle.syntax.proofs.ExpressionText.{terms_text, terms_text_more, terms_text_none, factors_text, factors_text_more}

@@ -2,7 +2,7 @@ use Rattle.std.proofs.Common.{◌≡◌, ◌++◌, [], drop}
 use Rattle.std.specs.String.{string_bytes}
 use Rattle.syntax.specs.Canonical.{in_line}
 use Rattle.syntax.specs.Spelling.{expr_then, conj_then, sum_then, prod_then}
-use Rattle.syntax.specs.Tree.{expr, conj, sum, prod}
+use Rattle.syntax_tree.specs.Tree.{expr, conj, sum, prod}
 use Rattle.syntax.proofs.ExpressionText.{conjs_text, negs_text, terms_text, factors_text}
 use Rattle.syntax.proofs.expression_text.+expr.Given as goal
 

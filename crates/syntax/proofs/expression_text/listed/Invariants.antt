@@ -2,7 +2,7 @@ use Rattle.std.proofs.Common.{◌≡◌, ◌++◌, [], drop}
 use Rattle.std.specs.String.{string_bytes}
 use Rattle.syntax.specs.Canonical.{in_line}
 use Rattle.syntax.specs.Spelling.{exprs_then}
-use Rattle.syntax.specs.Tree.{exprs}
+use Rattle.syntax_tree.specs.Tree.{exprs}
 use Rattle.syntax.proofs.ExpressionText.{exprs_text}
 use Rattle.syntax.proofs.expression_text.listed.Given as goal
 

@@ -2,7 +2,7 @@ use Rattle.std.proofs.Common.{◌∷◌, ◌∙◌, ap, sym, arith}
 use Rattle.syntax.specs.Spelling.{atom_then, unary_then, sum_then, conj_then, conjs_then, neg_then, negs_then}
 use Rattle.syntax.specs.Spelling.{prod_then, terms_then, factors_then}
 use Rattle.syntax.specs.Token.{MarkToken, token, plain}
-use Rattle.syntax.specs.Tree.{atom, sum, conj, neg, prod, unary, conjs, negs, terms, factors}
+use Rattle.syntax_tree.specs.Tree.{atom, sum, conj, neg, prod, unary, conjs, negs, terms, factors}
 use Rattle.syntax.proofs.ChainLemmas.{behind, expr_then_built, conj_then_built, neg_then_plain, neg_then_not}
 use Rattle.syntax.proofs.ChainLemmas.{cmp_then_alone, cmp_then_compared, sum_then_built, prod_then_built, conjs_read}
 use Rattle.syntax.proofs.ChainLemmas.{negs_read, terms_read, factors_read}

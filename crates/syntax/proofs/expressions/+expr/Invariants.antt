@@ -3,7 +3,7 @@ use Rattle.syntax.specs.Reading.{or_level, and_level, sign_level, operator_level
 use Rattle.syntax.proofs.RefusalLemmas.{LeavesEnd}
 use Rattle.syntax.specs.Spelling.{conj_then, conjs_then, neg_then, negs_then, prod_then, terms_then, unary_then, factors_then}
 use Rattle.syntax.specs.Token.{plain}
-use Rattle.syntax.specs.Tree.{conj, conjs, neg, negs, prod, terms, unary, factors}
+use Rattle.syntax_tree.specs.Tree.{conj, conjs, neg, negs, prod, terms, unary, factors}
 use Rattle.syntax.proofs.expressions.+expr.Given as goal
 
 -- An expression is read from no more tokens than the ones that it is called with; the levels follow each other.

@@ -1,7 +1,7 @@
 use Rattle.std.proofs.Common.{rules, sym, ◌∙◌}
 use Rattle.syntax.specs.Spelling.{atom_then}
 use Rattle.syntax.specs.Token.{plain}
-use Rattle.syntax.specs.Tree.{atom}
+use Rattle.syntax_tree.specs.Tree.{atom}
 use Rattle.syntax.proofs.ChainLemmas.{behind}
 use Rattle.syntax.proofs.RefusalLemmas.{passed_on, rests_equal, true_atom, false_atom, number_atom, length_atom, BeginsNoAtom, no_atom}
 use Rattle.syntax.proofs.expressions.constant.Goals as goal

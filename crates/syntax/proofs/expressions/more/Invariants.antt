@@ -2,7 +2,7 @@ use Rattle.std.proofs.Common.{◌≡◌, ◌<◌, ◌≤◌, List, length}
 use Rattle.syntax.specs.Reading.{AddsExprs, binds, list_level}
 use Rattle.syntax.specs.Spelling.{more_then}
 use Rattle.syntax.specs.Token.{Token, plain}
-use Rattle.syntax.specs.Tree.{Expr}
+use Rattle.syntax_tree.specs.Tree.{Expr}
 use Rattle.syntax.proofs.expressions.more.Given as goal
 
 abbrev pub invariant-loop-after : goal.invariant-loop-after

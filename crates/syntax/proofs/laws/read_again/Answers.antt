@@ -2,7 +2,7 @@ use Rattle.std.proofs.Common.{◌≤◌, sym, ◌∙◌, subst, length}
 use Rattle.std.specs.Str.{chars}
 use Rattle.syntax.specs.Lexical.{AreTokensOf}
 use Rattle.syntax.specs.Spelling.{spelling}
-use Rattle.syntax.specs.Tree.{program}
+use Rattle.syntax_tree.specs.Tree.{program}
 use Rattle.syntax.proofs.laws.read_again.Goals as goal
 
 pub returns : goal.returns

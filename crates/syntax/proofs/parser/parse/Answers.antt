@@ -3,7 +3,7 @@ use Rattle.std.specs.Str.{chars}
 use Rattle.syntax.specs.Lexical.{AreTokensOf}
 use Rattle.syntax.specs.Refusals.{TellsOf}
 use Rattle.syntax.specs.Spelling.{spelling}
-use Rattle.syntax.specs.Tree.{program}
+use Rattle.syntax_tree.specs.Tree.{program}
 use Rattle.syntax.proofs.Refused.{it_is_read}
 use Rattle.syntax.proofs.parser.parse.Goals as goal
 

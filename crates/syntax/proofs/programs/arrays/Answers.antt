@@ -1,7 +1,7 @@
 use Rattle.std.proofs.Common.{rules, ap, sym, ◌∙◌, map, arith}
 use Rattle.syntax.specs.Spelling.{arrays_then}
 use Rattle.syntax.specs.Token.{plain}
-use Rattle.syntax.specs.Tree.{array}
+use Rattle.syntax_tree.specs.Tree.{array}
 use Rattle.syntax.proofs.ProgramLemmas.{arrays_read}
 use Rattle.syntax.proofs.RefusalLemmas.{passed_on}
 use Rattle.syntax.proofs.ProgramRefusals.{arrays_opened, arrays_closed}

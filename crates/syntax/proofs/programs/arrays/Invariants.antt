@@ -2,7 +2,7 @@ use Rattle.std.proofs.Common.{◌≡◌, ◌<◌, ◌≤◌, List, length, map}
 use Rattle.syntax.specs.Reading.{binds, list_level}
 use Rattle.syntax.specs.Spelling.{arrays_then}
 use Rattle.syntax.specs.Token.{Token, plain}
-use Rattle.syntax.specs.Tree.{Array, array}
+use Rattle.syntax_tree.specs.Tree.{Array, array}
 use Rattle.syntax.proofs.programs.arrays.Given as goal
 
 abbrev pub invariant-loop-after : goal.invariant-loop-after

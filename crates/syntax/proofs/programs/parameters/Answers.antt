@@ -2,7 +2,7 @@ use Rattle.std.proofs.Common.{[], ◌∷◌, ◌++◌, ◌∙◌, ap, sym, map, 
 use Rattle.syntax.specs.declared.token.Mark.TheVariants.{RightParen}
 use Rattle.syntax.specs.Spelling.{parameters_then, more_parameters_then}
 use Rattle.syntax.specs.Token.{MarkToken, plain}
-use Rattle.syntax.specs.Tree.{parameter}
+use Rattle.syntax_tree.specs.Tree.{parameter}
 use Rattle.syntax.proofs.ProgramLemmas.{parameters_read, parameters_then-one}
 use Rattle.syntax.proofs.RefusalLemmas.{passed_on, rests_equal}
 use Rattle.syntax.proofs.ProgramRefusals.{parameters_opened, parameters_closed, more_parameters_opened, more_parameters_closed}

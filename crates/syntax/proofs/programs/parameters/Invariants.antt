@@ -2,7 +2,7 @@ use Rattle.std.proofs.Common.{◌≡◌, ◌<◌, List, ◌∷◌, length, map}
 use Rattle.syntax.specs.declared.token.Mark.TheVariants.{RightParen}
 use Rattle.syntax.specs.Spelling.{parameters_then, more_parameters_then}
 use Rattle.syntax.specs.Token.{Token, MarkToken, plain}
-use Rattle.syntax.specs.Tree.{Parameter, parameter}
+use Rattle.syntax_tree.specs.Tree.{Parameter, parameter}
 use Rattle.syntax.proofs.programs.parameters.Given as goal
 
 abbrev pub invariant-loop-after : goal.invariant-loop-after

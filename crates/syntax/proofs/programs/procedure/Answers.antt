@@ -1,6 +1,6 @@
 use Rattle.std.proofs.Common.{◌∷◌, ◌∙◌, ap, sym, map}
 use Rattle.syntax.specs.Spelling.{block_then, parameters_then, procedures_then}
-use Rattle.syntax.specs.Tree.{parameter}
+use Rattle.syntax_tree.specs.Tree.{parameter}
 use Rattle.syntax.proofs.ChainLemmas.{behind}
 use Rattle.syntax.specs.declared.token.Mark.TheVariants.{LeftBrace}
 use Rattle.syntax.specs.Token.{MarkToken}

@@ -3,7 +3,7 @@ use Rattle.syntax.specs.declared.token.Mark.TheVariants.{LeftBrace}
 use Rattle.syntax.specs.declared.token.Word.TheVariants.{Main}
 use Rattle.syntax.specs.Spelling.{arrays_then, block_then, procedures_then, main_tokens, spelling}
 use Rattle.syntax.specs.Token.{WordToken, MarkToken, plain}
-use Rattle.syntax.specs.Tree.{array, block, procedure}
+use Rattle.syntax_tree.specs.Tree.{array, block, procedure}
 use Rattle.syntax.proofs.ProgramLemmas.{procedures_read, plain_none}
 use Rattle.syntax.proofs.RefusalLemmas.{passed_on}
 use Rattle.syntax.proofs.ProgramRefusals.{none_plain, procedures_opened, procedures_closed, main_opened}

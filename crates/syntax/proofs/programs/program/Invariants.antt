@@ -1,7 +1,7 @@
 use Rattle.std.proofs.Common.{◌≡◌, ◌≤◌, List, Option, length, map}
 use Rattle.syntax.specs.Spelling.{procedures_then, main_tokens}
 use Rattle.syntax.specs.Token.{plain}
-use Rattle.syntax.specs.Tree.{Main, Procedure, procedure}
+use Rattle.syntax_tree.specs.Tree.{Main, Procedure, procedure}
 use Rattle.syntax.proofs.programs.program.Given as goal
 
 abbrev pub invariant-loop-after : goal.invariant-loop-after

@@ -2,7 +2,7 @@ use Rattle.std.proofs.Common.{◌∷◌, ◌∙◌, ap, sym, arith}
 use Rattle.syntax.specs.Spelling.{expr_then, block_then}
 use Rattle.syntax.specs.declared.token.Mark.TheVariants.{LeftBrace}
 use Rattle.syntax.specs.Token.{WordToken, MarkToken, plain}
-use Rattle.syntax.specs.Tree.{expr, block}
+use Rattle.syntax_tree.specs.Tree.{expr, block}
 use Rattle.syntax.proofs.ChainLemmas.{behind}
 use Rattle.syntax.proofs.BlockLemmas.{stmts_then, stmts_read, block_then-block, stmt_then_If, stmt_then_IfElse}
 use Rattle.syntax.proofs.BlockLemmas.{stmt_then_While, stmt_then_Split, stmt_then_Async, stmt_then_Finish}

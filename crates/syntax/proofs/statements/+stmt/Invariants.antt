@@ -1,7 +1,7 @@
 use Rattle.std.proofs.Common.{◌≡◌, ◌≤◌, List, length, ◌+◌, ◌*◌}
 use Rattle.syntax.specs.Spelling.{block_then}
 use Rattle.syntax.specs.Token.{Token, plain}
-use Rattle.syntax.specs.Tree.{Block}
+use Rattle.syntax_tree.specs.Tree.{Block}
 use Rattle.syntax.proofs.BlockLemmas.{stmts_then}
 use Rattle.syntax.proofs.statements.+stmt.Given as goal
 

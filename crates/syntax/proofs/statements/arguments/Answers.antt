@@ -2,7 +2,7 @@ use Rattle.std.proofs.Common.{[], ◌∷◌, ◌++◌, ◌∙◌, ap, sym, arith
 use Rattle.syntax.specs.declared.token.Mark.TheVariants.{RightParen}
 use Rattle.syntax.specs.Spelling.{exprs_then}
 use Rattle.syntax.specs.Token.{MarkToken, plain}
-use Rattle.syntax.specs.Tree.{exprs}
+use Rattle.syntax_tree.specs.Tree.{exprs}
 use Rattle.syntax.proofs.ChainLemmas.{adds_to_one}
 use Rattle.syntax.proofs.RefusalLemmas.{passed_on, rests_equal}
 use Rattle.syntax.proofs.StmtRefusals.{exprs_closed, exprs_opened}

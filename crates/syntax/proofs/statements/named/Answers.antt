@@ -1,6 +1,6 @@
 use Rattle.std.proofs.Common.{◌∷◌, sym, ◌∙◌, ap, arith}
 use Rattle.syntax.specs.Spelling.{expr_then, exprs_then, stmt_then}
-use Rattle.syntax.specs.Tree.{expr, exprs, stmt}
+use Rattle.syntax_tree.specs.Tree.{expr, exprs, stmt}
 use Rattle.syntax.proofs.ChainLemmas.{behind}
 use Rattle.syntax.specs.declared.token.Mark.TheVariants.{RightBracket, Semicolon, Becomes}
 use Rattle.syntax.specs.Token.{MarkToken}

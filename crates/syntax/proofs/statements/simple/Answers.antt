@@ -1,7 +1,7 @@
 use Rattle.std.proofs.Common.{sym, ◌∙◌}
 use Rattle.syntax.specs.Spelling.{stmt_then}
 use Rattle.syntax.specs.Token.{plain}
-use Rattle.syntax.specs.Tree.{stmt}
+use Rattle.syntax_tree.specs.Tree.{stmt}
 use Rattle.syntax.proofs.ChainLemmas.{behind}
 use Rattle.syntax.proofs.RefusalLemmas.{passed_on, rests_equal}
 use Rattle.syntax.proofs.StmtRefusals.{BeginsNoStatement, no_simple, skip_opened, fault_opened}

@@ -1,6 +1,6 @@
 use Rattle.std.proofs.Common.{◌≡◌, [], length, map, sym, ◌∙◌, subst, rules}
 use Rattle.std.proofs.lemmas.List.{length-map}
-use Rattle.syntax.specs.Tree as tree
+use Rattle.syntax_tree.specs.Tree as tree
 use Rattle.types.specs.Rules.{limit, name_errors, procedures_errors, errors_of}
 use Rattle.types.specs.Told.{Told}
 use Rattle.types.proofs.Telling.{at_exit, told_left, told_right}

@@ -6,7 +6,7 @@ use Rattle.sections.specs.Translation.{window as window_of}
 use Rattle.holdings.specs.Fragments.{numbers_in}
 use Rattle.holdings.specs.Held.{Map, held_by, over}
 use Rattle.holdings.proofs.HoldingsLemmas.{err_map, held_by-taken, taken_apart}
-use Rattle.syntax.proofs.ExpressionText.{ok_map}
+use Rattle.holdings.proofs.HoldingsLemmas.{ok_map}
 use Rattle.holdings.proofs.holdings.Holdings.take.Goals as goal
 
 pub invariant_of-self-2 : goal.invariant_of-self-2

@@ -4,7 +4,7 @@ use Rattle.syntax.specs.Canonical.{Margin, Ended, Other, in_line}
 use Rattle.syntax.specs.declared.token.Mark.TheVariants.{LeftBrace}
 use Rattle.syntax.specs.Token.{MarkToken}
 use Rattle.syntax.specs.Spelling.{block_then, parameters_then, procedures_then, main_tokens}
-use Rattle.syntax.specs.Tree.{block, parameter}
+use Rattle.syntax_tree.specs.Tree.{block, parameter}
 use Rattle.syntax.specs.Writing.{with_rest}
 use Rattle.syntax.proofs.ExpressionText.{ok_then, then_adds}
 use Rattle.syntax.proofs.LineText.{wrote, wrote_adds, laid_procedure, procedures_are_lines}

@@ -6,7 +6,7 @@ use Rattle.syntax.specs.Canonical.{Margin, Ended, Other, laid}
 use Rattle.syntax.specs.Spelling.{spelling, procedures_then, main_tokens, arrays_then, block_then}
 use Rattle.syntax.specs.declared.token.Mark.TheVariants.{RightBrace}
 use Rattle.syntax.specs.Token.{MarkToken}
-use Rattle.syntax.specs.Tree.{procedure, main, array, block}
+use Rattle.syntax_tree.specs.Tree.{procedure, main, array, block}
 use Rattle.syntax.specs.Writing.{with_rest}
 use Rattle.syntax.proofs.ExpressionText.{ok_then, then_adds}
 use Rattle.syntax.proofs.LineText.{wrote, laid_main, laid-opening_brace, laid-closing_brace, arrays_are_lines}

@@ -1,6 +1,6 @@
 use Rattle.std.proofs.Common.{◌<◌, length, map, sym, ap, ◌∙◌, subst, All}
 use Rattle.sections.specs.Tree.{origins_of}
-use Rattle.syntax.specs.Tree.{expr, parameter}
+use Rattle.syntax_tree.specs.Tree.{expr, parameter}
 use Rattle.types.specs.Resolving.{names_of, passed_by}
 use Rattle.types.proofs.Calls.{passed_are_there}
 use Rattle.types.proofs.check.calls.call.Goals as goal

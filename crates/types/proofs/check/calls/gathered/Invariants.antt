@@ -1,6 +1,6 @@
 use Rattle.std.proofs.Common.{◌≡◌, ◌++◌, drop, map}
 use Rattle.sections.specs.Translation.{section}
-use Rattle.syntax.specs.Tree.{expr, parameter}
+use Rattle.syntax_tree.specs.Tree.{expr, parameter}
 use Rattle.types.specs.CallErrors as errors
 use Rattle.types.specs.Resolution as resolution
 use Rattle.types.specs.Resolving.{names_of, scope_of, passed_by}

@@ -1,5 +1,5 @@
 use Rattle.std.proofs.Common.{◌≡◌, drop, map}
-use Rattle.syntax.specs.Tree as tree
+use Rattle.syntax_tree.specs.Tree as tree
 use Rattle.types.specs.Resolving.{scope_of}
 use Rattle.types.specs.Rules.{array_errors}
 use Rattle.types.specs.Scope.{with_arrays, empty_scope, in_main}

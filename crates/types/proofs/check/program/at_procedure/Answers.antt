@@ -1,6 +1,6 @@
 use Rattle.std.proofs.Common.{◌≡◌, ◌<◌, ◌≤◌, ◌+◌, ◌++◌, ◌∷◌, [], length, map, drop, None, arith, ap, sym, ◌∙◌, subst, rules}
 use Rattle.std.proofs.lemmas.List.{at_drop_more, at_drop_all}
-use Rattle.syntax.specs.Tree as tree
+use Rattle.syntax_tree.specs.Tree as tree
 use Rattle.types.specs.NameErrors.{declaring}
 use Rattle.types.specs.Resolving.{scope_of}
 use Rattle.types.specs.Rules.{parameter_errors, name_of}

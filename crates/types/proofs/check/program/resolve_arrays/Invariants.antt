@@ -1,5 +1,5 @@
 use Rattle.std.proofs.Common.{◌≡◌, ◌≤◌, ◌+◌, ◌++◌, drop, map, sum_by}
-use Rattle.syntax.specs.Tree as tree
+use Rattle.syntax_tree.specs.Tree as tree
 use Rattle.types.specs.Resolution as resolution
 use Rattle.types.specs.Translation as plain
 use Rattle.types.proofs.check.program.resolve_arrays.Given as goal

@@ -1,6 +1,6 @@
 use Rattle.std.proofs.Common.{◌≡◌, ◌≤◌, length, map, arith, sym, ap, ◌∙◌, subst, rules}
 use Rattle.std.proofs.lemmas.List.{length-map}
-use Rattle.syntax.specs.Tree as tree
+use Rattle.syntax_tree.specs.Tree as tree
 use Rattle.types.specs.Resolving.{procedures_of, IsWellScoped}
 use Rattle.types.specs.Rules.{limit, procedure_errors}
 use Rattle.types.specs.Scope.{Scope, empty_scope}

@@ -1,5 +1,5 @@
 use Rattle.std.proofs.Common.{◌≡◌, ◌≤◌, ◌++◌, drop, map}
-use Rattle.syntax.specs.Tree as tree
+use Rattle.syntax_tree.specs.Tree as tree
 use Rattle.types.specs.Resolution as resolution
 use Rattle.types.specs.Resolving.{procedures_of}
 use Rattle.types.specs.Rules.{procedures_errors}

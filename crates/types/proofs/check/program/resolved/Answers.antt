@@ -1,5 +1,5 @@
 use Rattle.std.proofs.Common.{◌≡◌, ◌≤◌, sym, subst, arith}
-use Rattle.syntax.specs.Tree.{block}
+use Rattle.syntax_tree.specs.Tree.{block}
 use Rattle.types.specs.Resolving.{scope_of, procedures_of}
 use Rattle.types.specs.Scope.{Scope}
 use Rattle.types.proofs.LabelLimit.{label_after}

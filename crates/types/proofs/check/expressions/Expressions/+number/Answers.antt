@@ -1,15 +1,15 @@
 use Rattle.std.proofs.Common.{◌≡◌, ◌≢◌, ◌+◌, ◌<◌, ◌≤◌, [], ◌∷◌, ◌++◌, drop, length, sym, ap, ◌∙◌, subst, rules}
 use Rattle.std.proofs.lemmas.List.{at_drop_all}
 use Rattle.std.specs.String.{string_bytes}
-use Rattle.syntax.specs.Tree.{expr, conj, neg, cmp, sum, prod, unary, atom, terms, factors, negated}
-use Rattle.syntax.specs.Tree.{Number as Number_of, Name, Element, Length, Parens}
-use Rattle.syntax.specs.declared.tree.Expr.{out-Expr}
-use Rattle.syntax.specs.declared.tree.Conj.{out-Conj}
-use Rattle.syntax.specs.declared.tree.Neg.{out-Neg}
-use Rattle.syntax.specs.declared.tree.Sum.{out-Sum}
-use Rattle.syntax.specs.declared.tree.Term.{out-Term}
-use Rattle.syntax.specs.declared.tree.Prod.{out-Prod}
-use Rattle.syntax.proofs.Atoms.{expr_is, conj_is, neg_is, cmp_is_alone, sum_is, prod_is}
+use Rattle.syntax_tree.specs.Tree.{expr, conj, neg, cmp, sum, prod, unary, atom, terms, factors, negated}
+use Rattle.syntax_tree.specs.Tree.{Number as Number_of, Name, Element, Length, Parens}
+use Rattle.syntax_tree.specs.declared.tree.Expr.{out-Expr}
+use Rattle.syntax_tree.specs.declared.tree.Conj.{out-Conj}
+use Rattle.syntax_tree.specs.declared.tree.Neg.{out-Neg}
+use Rattle.syntax_tree.specs.declared.tree.Sum.{out-Sum}
+use Rattle.syntax_tree.specs.declared.tree.Term.{out-Term}
+use Rattle.syntax_tree.specs.declared.tree.Prod.{out-Prod}
+use Rattle.syntax_tree.proofs.Atoms.{expr_is, conj_is, neg_is, cmp_is_alone, sum_is, prod_is}
 use Rattle.types.specs.Code.{Scalar, Element as Element_at, Length as Length_at, Chain, Link}
 use Rattle.types.specs.declared.code.Link.{Link as rLink}
 use Rattle.types.specs.ExpressionErrors as errors

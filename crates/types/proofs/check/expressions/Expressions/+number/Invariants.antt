@@ -1,7 +1,7 @@
 use Rattle.std.proofs.Common.{◌≡◌, drop}
-use Rattle.syntax.specs.Tree.{sum, prod, unary, terms, factors}
-use Rattle.syntax.specs.declared.tree.Sum.{out-Sum}
-use Rattle.syntax.specs.declared.tree.Prod.{out-Prod}
+use Rattle.syntax_tree.specs.Tree.{sum, prod, unary, terms, factors}
+use Rattle.syntax_tree.specs.declared.tree.Sum.{out-Sum}
+use Rattle.syntax_tree.specs.declared.tree.Prod.{out-Prod}
 use Rattle.types.specs.ExpressionErrors as errors
 use Rattle.types.specs.Resolution as resolution
 use Rattle.types.specs.Resolving.{names_of}

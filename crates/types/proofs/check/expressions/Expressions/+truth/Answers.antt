@@ -1,14 +1,14 @@
 use Rattle.std.proofs.Common.{◌≡◌, ◌≢◌, ◌+◌, ◌<◌, ◌≤◌, [], ◌∷◌, ◌++◌, drop, length, sym, ap, ◌∙◌, subst, rules}
 use Rattle.std.proofs.lemmas.List.{at_drop_all}
-use Rattle.syntax.specs.Tree.{expr, conj, neg, cmp, sum, prod, unary, atom, conjs, negs, negated, Parens}
-use Rattle.syntax.specs.declared.tree.Expr.{out-Expr}
-use Rattle.syntax.specs.declared.tree.Conj.{out-Conj}
-use Rattle.syntax.specs.declared.tree.Neg.{out-Neg}
-use Rattle.syntax.specs.declared.tree.Cmp.{out-Cmp}
-use Rattle.syntax.specs.declared.tree.Compared.{out-Compared}
-use Rattle.syntax.specs.declared.tree.Sum.{out-Sum}
-use Rattle.syntax.specs.declared.tree.Prod.{out-Prod}
-use Rattle.syntax.proofs.Atoms.{expr_is, conj_is, neg_is, cmp_is_alone, cmp_is_compared, sum_is, prod_is}
+use Rattle.syntax_tree.specs.Tree.{expr, conj, neg, cmp, sum, prod, unary, atom, conjs, negs, negated, Parens}
+use Rattle.syntax_tree.specs.declared.tree.Expr.{out-Expr}
+use Rattle.syntax_tree.specs.declared.tree.Conj.{out-Conj}
+use Rattle.syntax_tree.specs.declared.tree.Neg.{out-Neg}
+use Rattle.syntax_tree.specs.declared.tree.Cmp.{out-Cmp}
+use Rattle.syntax_tree.specs.declared.tree.Compared.{out-Compared}
+use Rattle.syntax_tree.specs.declared.tree.Sum.{out-Sum}
+use Rattle.syntax_tree.specs.declared.tree.Prod.{out-Prod}
+use Rattle.syntax_tree.proofs.Atoms.{expr_is, conj_is, neg_is, cmp_is_alone, cmp_is_compared, sum_is, prod_is}
 use Rattle.types.specs.Code.{Compare, Not, Both, Either, Also}
 use Rattle.types.specs.ExpressionErrors as errors
 use Rattle.types.specs.Resolution as resolution

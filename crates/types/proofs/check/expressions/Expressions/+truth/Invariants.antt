@@ -1,7 +1,7 @@
 use Rattle.std.proofs.Common.{◌≡◌, drop}
-use Rattle.syntax.specs.Tree.{expr, conj, neg, conjs, negs}
-use Rattle.syntax.specs.declared.tree.Expr.{out-Expr}
-use Rattle.syntax.specs.declared.tree.Conj.{out-Conj}
+use Rattle.syntax_tree.specs.Tree.{expr, conj, neg, conjs, negs}
+use Rattle.syntax_tree.specs.declared.tree.Expr.{out-Expr}
+use Rattle.syntax_tree.specs.declared.tree.Conj.{out-Conj}
 use Rattle.types.specs.Code.{Also}
 use Rattle.types.specs.ExpressionErrors as errors
 use Rattle.types.specs.Resolution as resolution

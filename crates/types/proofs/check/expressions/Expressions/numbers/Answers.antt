@@ -1,6 +1,6 @@
 use Rattle.std.proofs.Common.{◌≡◌, ◌+◌, ◌<◌, ◌≤◌, [], ◌∷◌, ◌++◌, drop, length, map, sym, ap, ◌∙◌, subst, rules, append-nil}
 use Rattle.std.proofs.lemmas.List.{at_drop_all}
-use Rattle.syntax.specs.Tree.{expr}
+use Rattle.syntax_tree.specs.Tree.{expr}
 use Rattle.types.specs.ExpressionErrors as errors
 use Rattle.types.specs.Resolution as resolution
 use Rattle.types.specs.Resolving.{names_of}

@@ -1,5 +1,5 @@
 use Rattle.std.proofs.Common.{◌≡◌, ◌∷◌, ◌++◌, drop, map}
-use Rattle.syntax.specs.Tree.{expr}
+use Rattle.syntax_tree.specs.Tree.{expr}
 use Rattle.types.specs.ExpressionErrors as errors
 use Rattle.types.specs.Resolution as resolution
 use Rattle.types.specs.Resolving.{names_of}

@@ -1,7 +1,7 @@
 use Rattle.std.proofs.Common.{◌≡◌, Some, slice_get, map, refl, sym, ap, ◌∙◌}
 use Rattle.std.specs.Option.{option_map}
 use Rattle.std.proofs.lemmas.Option.{slice_get_read}
-use Rattle.syntax.specs.Tree.{parameter}
+use Rattle.syntax_tree.specs.Tree.{parameter}
 use Rattle.types.proofs.Calls.{procedure_absent, procedure_found}
 use Rattle.types.proofs.check.procedures.Procedures.find.Goals as goal
 

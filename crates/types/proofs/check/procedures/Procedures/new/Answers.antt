@@ -4,7 +4,7 @@ use Rattle.std.specs.Cmp.Lexicographic.{pointwise}
 use Rattle.std.specs.List.{list_any}
 use Rattle.std.specs.Prelude.{nat_eq}
 use Rattle.std.specs.String.{string_bytes}
-use Rattle.syntax.specs.Tree as tree
+use Rattle.syntax_tree.specs.Tree as tree
 use Rattle.types.specs.Rules.{name_errors}
 use Rattle.types.specs.Told.{Told}
 use Rattle.types.specs.declared.error.TypeError.TheVariants.{DeclaredTwice}

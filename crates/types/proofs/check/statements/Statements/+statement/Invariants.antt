@@ -1,5 +1,5 @@
 use Rattle.std.proofs.Common.{◌≡◌, ◌≤◌, ◌+◌, ◌*◌, drop}
-use Rattle.syntax.specs.Tree.{block, stmt}
+use Rattle.syntax_tree.specs.Tree.{block, stmt}
 use Rattle.types.specs.Resolution as resolution
 use Rattle.types.specs.Resolving.{scope_of, procedures_of, IsWellScoped}
 use Rattle.types.specs.Rules.{errors}

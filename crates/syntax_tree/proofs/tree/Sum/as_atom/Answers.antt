@@ -1,0 +1,14 @@
+use Rattle.std.proofs.Common.{◌≡◌, ◌≢◌, length, rules, ◌∙◌}
+use Rattle.syntax_tree.specs.declared.tree.Sum.{out-Sum}
+use Rattle.syntax_tree.proofs.Atoms.{sum_alone, sum_beside}
+use Rattle.syntax.proofs.tree.Sum.as_atom.Goals as goal
+
+pub returns-then-is_empty : goal.returns-then-is_empty
+returns-then-is_empty c =
+    let none : length (out-Sum c.args.self.now).rest.items ≡ 0 = search rules in
+    c.as_atom.ensures ∙ sum_alone c.args.self.now none
+
+pub returns-else-is_empty : goal.returns-else-is_empty
+returns-else-is_empty c =
+    let some : length (out-Sum c.args.self.now).rest.items ≢ 0 = search rules in
+    sum_beside c.args.self.now some

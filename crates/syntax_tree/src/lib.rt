@@ -1,0 +1,5 @@
+//! Programs as texts spell them.
+
+#![tactic(auto)]
+
+pub mod tree;

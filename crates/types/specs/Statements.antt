@@ -1,0 +1,18 @@
+-- How many statements there are.
+use Rattle.std.specs.Prelude.{ℕ, ◌+◌}
+use Rattle.types.specs.Code.{Code, Do, If, While, Split, Call, Async, Finish, Codes, End, Then}
+
+abbrev mutual
+  -- how many statements there are, those inside others among them
+  pub statements_in : Code → ℕ
+  statements_in (Do s) = 1
+  statements_in (If t b c) = 1 + statements b + statements c
+  statements_in (While t b) = 1 + statements b
+  statements_in (Split s e l r b) = 1 + statements b
+  statements_in (Call f es ss) = 1
+  statements_in (Async b) = 1 + statements b
+  statements_in (Finish b) = 1 + statements b
+
+  pub statements : Codes → ℕ
+  statements End = 0
+  statements (Then l s rest) = statements_in s + statements rest
