@@ -6,6 +6,7 @@ mod effects_of_programs;
 mod held_places;
 mod inputs;
 mod meetings_of_programs;
+mod outputs;
 mod read_texts;
 mod scope_weights;
 mod section_trees;
@@ -19,9 +20,18 @@ use types::check::type_check;
 use types::typed::Typed;
 
 /// Compares what is said at a row with what the row wants.
-fn compare<D: Display + Drop>(rt: &impl Abort, alloc: Global, row: &str, said: D, want: &str) {
+fn compare<N: Display + Drop, D: Display + Drop>(
+    rt: &impl Abort,
+    alloc: Global,
+    row: N,
+    said: D,
+    want: &str,
+) {
     let said = format!(in alloc; "{said}").expect(rt, "memory");
-    assert!(rt; said.as_str() == want, "at {row}\nsaid: {said}\nwant: {want}");
+    assert!(rt;
+        said.as_str() == want,
+        "at {row}\nsaid: {said}\nwant: {want}"
+    );
 }
 
 /// A program of the language.

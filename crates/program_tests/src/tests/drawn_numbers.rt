@@ -2,31 +2,69 @@
 
 ghost use Rattle.std.specs.Prelude.{◌≡◌, []};
 ghost use Rattle.std.specs.Thread.{IsSync};
-ghost use Rattle.tickets.specs.Seats.{IsSeatOf, drawn_of};
+ghost use Rattle.tickets.specs.Seats.{IsSeatOf, drawn_of, seats_of};
 
-use std::test::Fail;
+use std::alloc::Global;
+use std::process::Abort;
 use std::thread::{Threads, join};
 use tickets::{Seat, Tickets};
 
-#[test]
-fn seats_draw_in_turn(rt: HostRuntime) -> Result<(), Fail> {
-    let alloc = rt.alloc();
-    let (tickets, mut seats) = Tickets::new(alloc, 3)?;
-    let (Some(mut a), Some(mut b), Some(mut c)) = (seats.pop(), seats.pop(), seats.pop()) else {
-        return Err("not three seats".into());
-    };
+/// Two seats and two more.
+type Seats = ((Seat, Seat), (Seat, Seat));
+
+/// A word from which nothing was drawn, and its four seats.
+fn four_seats(rt: &impl Abort, alloc: Global) -> (Tickets, Seats)
+    ensures count { seats_of result.0 ≡ 4 }
+    ensures a { IsSeatOf result.0 result.1.0.0 × (drawn_of result.1.0.0 ≡ []) }
+    ensures b { IsSeatOf result.0 result.1.0.1 × (drawn_of result.1.0.1 ≡ []) }
+    ensures c { IsSeatOf result.0 result.1.1.0 × (drawn_of result.1.1.0 ≡ []) }
+    ensures d { IsSeatOf result.0 result.1.1.1 × (drawn_of result.1.1.1 ≡ []) }
+{
+    let (tickets, mut seats) = Tickets::new(alloc, 4).expect(rt, "memory");
+    let a = seats.pop().expect(rt, "a seat");
+    let b = seats.pop().expect(rt, "a seat");
+    let c = seats.pop().expect(rt, "a seat");
+    let d = seats.pop().expect(rt, "a seat");
     assert!(rt; seats.is_empty());
-    let drawn = [
-        tickets.draw(&mut b).number(),
-        tickets.draw(&mut b).number(),
-        tickets.draw(&mut a).number(),
-        tickets.draw(&mut c).number(),
-        tickets.draw(&mut b).number(),
-    ];
-    assert!(rt; drawn == [0, 1, 2, 3, 4]);
-    let seats = vec![in alloc; a, b, c]?;
-    assert!(rt; tickets.close(seats) == 5);
-    Ok(())
+    (tickets, ((a, b), (c, d)))
+}
+
+/// How many numbers the four seats drew.
+fn closed(rt: &impl Abort, alloc: Global, tickets: Tickets, seats: Seats) -> u64
+    requires count { seats_of tickets ≡ 4 }
+    requires left { IsSeatOf tickets seats.0.0 × IsSeatOf tickets seats.0.1 }
+    requires right { IsSeatOf tickets seats.1.0 × IsSeatOf tickets seats.1.1 }
+{
+    let (left, right) = seats;
+    let (a, b) = left;
+    let (c, d) = right;
+    tickets.close(vec![in alloc; a, b, c, d].expect(rt, "memory"))
+}
+
+/// What three seats draw in turn: the second twice, the first, the third, and the second again.
+fn drawn_in_turn(tickets: &Tickets, a: &mut Seat, b: &mut Seat, c: &mut Seat) -> [u64; 5]
+    requires first { IsSeatOf tickets.now a.old × (drawn_of a.old ≡ []) }
+    requires second { IsSeatOf tickets.now b.old × (drawn_of b.old ≡ []) }
+    requires third { IsSeatOf tickets.now c.old × (drawn_of c.old ≡ []) }
+    ensures { IsSeatOf tickets.now a.new × IsSeatOf tickets.now b.new × IsSeatOf tickets.now c.new }
+{
+    [
+        tickets.draw(b).number(),
+        tickets.draw(b).number(),
+        tickets.draw(a).number(),
+        tickets.draw(c).number(),
+        tickets.draw(b).number(),
+    ]
+}
+
+#[test]
+fn seats_draw_in_turn(rt: HostRuntime) {
+    let alloc = rt.alloc();
+    let (tickets, (left, right)) = four_seats(&rt, alloc);
+    let (mut a, mut b) = left;
+    let (mut c, d) = right;
+    assert!(rt; drawn_in_turn(&tickets, &mut a, &mut b, &mut c) == [0, 1, 2, 3, 4]);
+    assert!(rt; closed(&rt, alloc, tickets, ((a, b), (c, d))) == 5);
 }
 
 /// What four draws of a seat give.
@@ -99,29 +137,31 @@ fn by_four<R: Threads + Sync>(
     )
 }
 
-#[test]
-fn four_threads_draw_each_number_once(rt: HostRuntime) -> Result<(), Fail> {
-    let alloc = rt.alloc();
-    let (tickets, mut seats) = Tickets::new(alloc, 4)?;
-    let (Some(a), Some(b), Some(c), Some(d)) = (seats.pop(), seats.pop(), seats.pop(), seats.pop())
-    else {
-        return Err("not four seats".into());
-    };
-    let (left, right) = by_four(&rt, &tickets, (a, b), (c, d));
+/// The seats, and what each of them drew.
+fn apart(left: (Four, Four), right: (Four, Four)) -> (Seats, [[u64; 4]; 4])
+    ensures left { (result.0.0.0 ≡ left.0.0) × (result.0.0.1 ≡ left.1.0) }
+    ensures right { (result.0.1.0 ≡ right.0.0) × (result.0.1.1 ≡ right.1.0) }
+{
     let (one, two) = left;
     let (three, four) = right;
     let (a, first) = one;
     let (b, second) = two;
     let (c, third) = three;
     let (d, fourth) = four;
-    let mut all = Vec::new(alloc);
-    for numbers in [first, second, third, fourth] {
-        all.extend_from_slice(&numbers)?;
-    }
-    all.sort_unstable();
-    let wanted = [0, 1, 2, 3, 4, 5, 6, 7, 8, 9, 10, 11, 12, 13, 14, 15];
-    assert!(rt; all.as_slice() == wanted.as_slice());
-    let seats = vec![in alloc; a, b, c, d]?;
-    assert!(rt; tickets.close(seats) == 16);
-    Ok(())
+    (((a, b), (c, d)), [first, second, third, fourth])
+}
+
+/// Whether each number below 16 stands in one row.
+fn has_each(rows: &[[u64; 4]]) -> bool {
+    (0..16u64).all(|number| rows.iter().filter(|row| row.contains(&number)).count() == 1)
+}
+
+#[test]
+fn four_threads_draw_each_number_once(rt: HostRuntime) {
+    let alloc = rt.alloc();
+    let (tickets, (left, right)) = four_seats(&rt, alloc);
+    let (left, right) = by_four(&rt, &tickets, left, right);
+    let (seats, rows) = apart(left, right);
+    assert!(rt; has_each(&rows));
+    assert!(rt; closed(&rt, alloc, tickets, seats) == 16);
 }

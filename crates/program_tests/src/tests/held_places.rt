@@ -45,8 +45,16 @@ const STORIES: &[&[Row]] = &[
         (Begin, "", "10 11 12 13 - - | "),
         (Carve(0, &[(0, 3, 2)]), "H1", "10 11 12 13 - - | "),
         (Share(0, &[(0, 3, 2)]), "H1", "10 11 12 13 - - | "),
-        (Carve(0, &[(0, 0, 1), (0, 4, 1)]), "H1", "10 11 12 13 - - | "),
-        (Share(0, &[(0, 0, 1), (0, 4, 1)]), "H1", "10 11 12 13 - - | "),
+        (
+            Carve(0, &[(0, 0, 1), (0, 4, 1)]),
+            "H1",
+            "10 11 12 13 - - | ",
+        ),
+        (
+            Share(0, &[(0, 0, 1), (0, 4, 1)]),
+            "H1",
+            "10 11 12 13 - - | ",
+        ),
         (Carve(0, &[(1, 0, 1)]), "H1", "10 11 12 13 - - | "),
         (Share(0, &[(1, 0, 1)]), "H1", "10 11 12 13 - - | "),
         (Carve(0, &[(0, 100, 1)]), "H1", "10 11 12 13 - - | "),
@@ -109,7 +117,12 @@ fn four(rt: &impl Abort, alloc: Global) -> Holdings {
 }
 
 /// Does a step.
-fn act(rt: &impl Abort, alloc: Global, step: Step, all: &mut Vec<Holdings>) -> Result<(), HoldError> {
+fn act(
+    rt: &impl Abort,
+    alloc: Global,
+    step: Step,
+    all: &mut Vec<Holdings>,
+) -> Result<(), HoldError> {
     match step {
         Carve(of, rows) => {
             let own = all.get_mut(of).expect(rt, "holdings");
@@ -166,8 +179,8 @@ fn what_is_held_after_each_step(rt: HostRuntime) {
         let mut all = Vec::new(alloc);
         for (step, refusal, held) in *story {
             match act(&rt, alloc, *step, &mut all) {
-                Ok(()) => compare(&rt, alloc, held, "", refusal),
-                Err(error) => compare(&rt, alloc, held, error, refusal),
+                Ok(()) => compare(&rt, alloc, *held, "", refusal),
+                Err(error) => compare(&rt, alloc, *held, error, refusal),
             }
             compare(&rt, alloc, "holdings", shown(&rt, alloc, &all), held);
         }

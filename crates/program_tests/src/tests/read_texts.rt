@@ -3,8 +3,8 @@
 use crate::tests::compare;
 use std::alloc::Global;
 use std::process::Abort;
-use syntax_tree::tree::{Program, Stmt};
 use syntax::{format, parse};
+use syntax_tree::tree::{Program, Stmt};
 
 const PROGRAM: &str = "program";
 

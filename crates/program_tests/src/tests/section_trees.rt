@@ -11,19 +11,28 @@ use std::process::Abort;
 /// Of two roots, 0 and 1, the sections that are split in turn, each with its left side and its right one.
 const SPLITS: &[(usize, usize, usize)] = &[(0, 2, 3), (0, 4, 5), (2, 6, 7)];
 
+/// The two roots.
+fn roots(rt: &impl Abort, alloc: Global) -> SectionTree {
+    let mut tree = SectionTree::new(alloc);
+    let first = tree.root().expect(rt, "memory");
+    let second = tree.root().expect(rt, "memory");
+    assert!(rt; first.number == 0 && second.number == 1);
+    tree
+}
+
+/// Whether a section is split into sides of these numbers.
+fn is_split(rt: &impl Abort, tree: &mut SectionTree, split: (usize, usize, usize)) -> bool {
+    let (number, want_left, want_right) = split;
+    assert!(rt; number < tree.len());
+    let (left, right) = tree.split(SectionId { number }).expect(rt, "memory");
+    left.number == want_left && right.number == want_right
+}
+
 /// The two roots and all sides.
 fn tree(rt: &impl Abort, alloc: Global) -> SectionTree {
-    let mut tree = SectionTree::new(alloc);
-    for want in [0, 1] {
-        let root = tree.root().expect(rt, "memory");
-        assert!(rt; root.number == want, "root {want}");
-    }
-    for (number, want_left, want_right) in SPLITS {
-        assert!(rt; *number < tree.len(), "split of {number}");
-        let sides = tree.split(SectionId { number: *number });
-        let (left, right) = sides.expect(rt, "memory");
-        let is_right = left.number == *want_left && right.number == *want_right;
-        assert!(rt; is_right, "split of {number}");
+    let mut tree = roots(rt, alloc);
+    for split in SPLITS {
+        assert!(rt; is_split(rt, &mut tree, *split), "split of {}", split.0);
     }
     tree
 }
@@ -74,32 +83,30 @@ fn sections_that_overlap(rt: HostRuntime) {
 /// A window: its array, its first place and its length.
 pub type Numbers = (usize, usize, usize);
 
+/// The window of these numbers.
+fn window(rt: &impl Abort, (array, at, len): Numbers) -> Window {
+    assert!(rt; at <= 100 && len <= 100);
+    Window {
+        array: ArrayId { number: array },
+        at,
+        len,
+    }
+}
+
 /// The windows of these numbers.
 pub fn windows(rt: &impl Abort, alloc: Global, rows: &[Numbers]) -> Vec<Window> {
     let mut windows = Vec::new(alloc);
-    for (array, at, len) in rows {
-        assert!(rt; *at <= 100 && *len <= 100);
-        let window = Window {
-            array: ArrayId { number: *array },
-            at: *at,
-            len: *len,
-        };
-        windows.push(window).expect(rt, "memory");
+    for row in rows {
+        windows.push(window(rt, *row)).expect(rt, "memory");
     }
     windows
 }
 
 /// Whether windows have these numbers.
 fn have_numbers(windows: &[Window], rows: &[Numbers]) -> bool {
-    if windows.len() != rows.len() {
-        return false;
-    }
-    for (window, (array, at, len)) in windows.iter().zip(rows) {
-        if window.array.number != *array || window.at != *at || window.len != *len {
-            return false;
-        }
-    }
-    true
+    windows.len() == rows.len()
+        && windows.iter().zip(rows).all(|(window, row)| (window.array.number, window.at, window.len)
+            == *row)
 }
 
 /// Windows and others, the cover of the windows, and what is left of it without the others.
@@ -153,7 +160,13 @@ fn covers_of_windows(rt: HostRuntime) {
         let gone = windows(&rt, alloc, others);
         let whole = cover(alloc, &taken).expect(&rt, "memory");
         let rest = less(alloc, &taken, &gone).expect(&rt, "memory");
-        assert!(rt; have_numbers(&whole, want_cover), "cover of {some:?}: {whole:?}");
-        assert!(rt; have_numbers(&rest, want_less), "{some:?} less {others:?}: {rest:?}");
+        assert!(rt;
+            have_numbers(&whole, want_cover),
+            "cover of {some:?}: {whole:?}"
+        );
+        assert!(rt;
+            have_numbers(&rest, want_less),
+            "{some:?} less {others:?}: {rest:?}"
+        );
     }
 }

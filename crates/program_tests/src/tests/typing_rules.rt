@@ -41,10 +41,7 @@ const SCOPE: &[Verdict] = &[
         "Y1 at label 1",
     ),
     // ---- a name ends with its block
-    (
-        "main { if true { var x = 1; } print x; }",
-        "Y1 at label 3",
-    ),
+    ("main { if true { var x = 1; } print x; }", "Y1 at label 3"),
     (
         "main { if true { } else { var x = 1; } print x; }",
         "Y1 at label 3",
@@ -114,14 +111,8 @@ const DECLARED: &[Verdict] = &[
         "main { var x = 1; while false { var x = 2; } }",
         "Y2 at label 3",
     ),
-    (
-        "main { var x = 1; async { var x = 2; } }",
-        "Y2 at label 3",
-    ),
-    (
-        "main { var x = 1; finish { var x = 2; } }",
-        "Y2 at label 3",
-    ),
+    ("main { var x = 1; async { var x = 2; } }", "Y2 at label 3"),
+    ("main { var x = 1; finish { var x = 2; } }", "Y2 at label 3"),
     (
         "main { array a: int[1]; split a at 0 as l, r { var l = 2; } }",
         "Y2 at label 2",

@@ -106,12 +106,18 @@ fn tasks_in_any_order_leave_what_one_thread_does(rt: HostRuntime) {
         let input = Input::zeros(alloc, program.typed()).expect(&rt, "memory");
         let one_thread = one_thread_outcome(&rt, alloc, &program, budget);
         if !want.is_empty() {
-            compare(&rt, alloc, text, one_thread.as_str(), want);
+            compare(&rt, alloc, *text, one_thread.as_str(), want);
         }
         for order in [Order::InTurn, Order::Oldest, Order::Newest] {
             let outcome = run_by(alloc, &program, &input, budget, order);
             let outcome = outcome.expect(&rt, "an outcome");
-            compare(&rt, alloc, text, format_args!("{outcome:?}"), one_thread.as_str());
+            compare(
+                &rt,
+                alloc,
+                format_args!("{order:?} of {text}"),
+                format_args!("{outcome:?}"),
+                one_thread.as_str(),
+            );
         }
     }
 }

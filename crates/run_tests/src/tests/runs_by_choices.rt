@@ -38,6 +38,6 @@ fn choices_lead_where_they_say(rt: HostRuntime) {
         let program = accepted(&rt, alloc, text);
         let input = Input::zeros(alloc, program.typed()).expect(&rt, "memory");
         let explored = explore(alloc, &program, &input, choices).expect(&rt, "memory");
-        compare(&rt, alloc, text, format_args!("{explored:?}"), want);
+        compare(&rt, alloc, *text, format_args!("{explored:?}"), want);
     }
 }

@@ -43,6 +43,6 @@ fn a_watched_run_tells_its_steps(rt: HostRuntime) {
         };
         let outcome = serial_watched(alloc, program.typed(), &input, Budget::usual(), &mut seen);
         assert!(rt; outcome.is_ok());
-        compare(&rt, alloc, text, format_args!("{:?}", seen.steps), want);
+        compare(&rt, alloc, *text, format_args!("{:?}", seen.steps), want);
     }
 }

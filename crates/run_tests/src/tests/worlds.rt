@@ -1,6 +1,6 @@
 //! Worlds that lists of events lead to, and walks at random.
 
-use crate::tests::{FAULTS, TWO_ARRAYS, accepted, compare, one_thread_outcome};
+use crate::tests::{FAULTS, TWO_ARRAYS, accepted, compare, one_thread_outcome, path};
 use interleave::event::{Event, ScopeId};
 use interleave::job::Job;
 use interleave::replay::replay;
@@ -56,12 +56,6 @@ fn event(happens: Happens, path: Path) -> Event {
         },
         Resume(worker) => Event::Resume { worker, path },
     }
-}
-
-/// A path.
-fn path(rt: &impl Abort, alloc: Global, turns: Turns) -> Path {
-    let turns = Vec::from_slice(alloc, turns).expect(rt, "memory");
-    Path { turns }
 }
 
 /// The events of several pieces of a row.
@@ -151,12 +145,7 @@ const PASS_FIRST: &[Of] = &[(Pass(1), ROOT)];
 
 /// A program on zeros, the weight that a scope issues at a time, events in pieces, and what is told behind
 /// them: the book of the root's first finish and the printed lines, or which event isn't legal.
-type Row = (
-    &'static str,
-    u64,
-    &'static [&'static [Of]],
-    &'static str,
-);
+type Row = (&'static str, u64, &'static [&'static [Of]], &'static str);
 
 const ROWS: &[Row] = &[
     (TWO_ARRAYS, 8, &[BEGIN, GO_ON, END], "8 8 [[7, 8]]"),
@@ -221,9 +210,7 @@ fn told(rt: &impl Abort, alloc: Global, world: World<'_>) -> String {
     };
     let (issued, returned) = world.book(&scope).expect(rt, "a finish");
     let told = match world.outcome().expect(rt, "memory") {
-        Some(Outcome::Ended { lines, .. }) => {
-            format!(in alloc; "{issued} {returned} {lines:?}")
-        }
+        Some(Outcome::Ended { lines, .. }) => { format!(in alloc; "{issued} {returned} {lines:?}") }
         Some(Outcome::Stopped) => format!(in alloc; "{issued} {returned} stopped"),
         None => format!(in alloc; "{issued} {returned} none"),
     };
@@ -239,8 +226,8 @@ fn events_are_legal_or_the_first_that_is_not_is_told(rt: HostRuntime) {
         let job = Job::new(alloc, &program, &input, Budget::usual(), *w0);
         let events = events(&rt, alloc, pieces);
         match replay(job.expect(&rt, "a weight"), &events) {
-            Ok(world) => compare(&rt, alloc, text, told(&rt, alloc, world), want),
-            Err(error) => compare(&rt, alloc, text, format_args!("{error:?}"), want),
+            Ok(world) => compare(&rt, alloc, *text, told(&rt, alloc, world), want),
+            Err(error) => compare(&rt, alloc, *text, format_args!("{error:?}"), want),
         }
     }
 }
@@ -288,7 +275,13 @@ fn walks_come_to_the_one_thread_outcome(rt: HostRuntime) {
             let walk = random_walk(job, workers, u64::from(seed), 1_000_000).expect(&rt, "memory");
             let outcome = walk.world.outcome().expect(&rt, "memory");
             let outcome = outcome.expect(&rt, "an end");
-            compare(&rt, alloc, text, format_args!("{outcome:?}"), one_thread.as_str());
+            compare(
+                &rt,
+                alloc,
+                format_args!("walk {seed} of {text}"),
+                format_args!("{outcome:?}"),
+                one_thread.as_str(),
+            );
         }
     }
 }
