@@ -1,0 +1,118 @@
+//! Bytes, as a line of a table spells them behind the character that says where they go.
+
+use std::alloc::Global;
+use std::io;
+use std::io::ErrorKind;
+
+/// That a line of a table says nothing.
+pub fn not_understood() -> io::Error {
+    io::Error::from(ErrorKind::InvalidData)
+}
+
+/// The number that stands there in decimal.
+pub fn number_in(text: &str) -> io::Result<usize> {
+    match text.parse::<usize>() {
+        Ok(number) => Ok(number),
+        Err(_) => Err(not_understood()),
+    }
+}
+
+/// Adds a whole line, as ` skip;`, a piece of one, as `+ "skip;"`, one that stands there many times, as `* 99 "("`, or
+/// bytes in hexadecimal, as `x c3 a9`.
+pub fn push_spelled(alloc: Global, bytes: &mut Vec<u8>, spelled: &str) -> io::Result<()> {
+    if spelled.is_empty() {
+        push_line(bytes, "")
+    } else if let Some(line) = spelled.strip_prefix(' ') {
+        push_line(bytes, line)
+    } else if let Some(pairs) = spelled.strip_prefix("x ") {
+        push_hexadecimal(bytes, pairs)
+    } else {
+        push_quoted(alloc, bytes, spelled)
+    }
+}
+
+/// Adds a line with its line feed.
+fn push_line(bytes: &mut Vec<u8>, line: &str) -> io::Result<()> {
+    bytes.extend_from_slice(line.as_bytes())?;
+    bytes.extend_from_slice(b"\n")?;
+    Ok(())
+}
+
+/// Adds a byte for each pair of hexadecimal digits.
+fn push_hexadecimal(bytes: &mut Vec<u8>, pairs: &str) -> io::Result<()> {
+    for pair in pairs.split(' ') {
+        match u8::from_str_radix(pair, 16) {
+            Ok(byte) => bytes.push(byte)?,
+            Err(_) => return Err(not_understood()),
+        }
+    }
+    Ok(())
+}
+
+/// Adds what stands between the first quote and the last, once or in many turns.
+fn push_quoted(alloc: Global, bytes: &mut Vec<u8>, spelled: &str) -> io::Result<()> {
+    let Some((head, piece)) = split_at_quotes(spelled) else {
+        return Err(not_understood());
+    };
+    if head == "+ " {
+        bytes.extend_from_slice(piece.as_bytes())?;
+        return Ok(());
+    }
+    let turns = turns_of(alloc, head)?;
+    push_turns(alloc, bytes, &turns, piece)
+}
+
+/// What stands before the first quote, and what between it and the last, which ends the line.
+fn split_at_quotes(spelled: &str) -> Option<(&str, &str)> {
+    let (head, behind) = spelled.split_once('"')?;
+    let piece = behind.strip_suffix('"')?;
+    Some((head, piece))
+}
+
+/// How often a piece stands there, and the numbers that `#` is in it: the first, and how much is added each time.
+#[derive(Clone, Copy)]
+struct Turns {
+    count: usize,
+    first: usize,
+    step: usize,
+}
+
+/// The turns that a head says: `* 99 `, `* 99 from 1 ` or `* 99 from 2 by 2 `.
+fn turns_of(alloc: Global, head: &str) -> io::Result<Turns> {
+    let words: Vec<&str> = head.split(' ').collect(alloc)?;
+    let (count, first, step) = match words.as_slice() {
+        ["*", count, ""] => (*count, "0", "1"),
+        ["*", count, "from", first, ""] => (*count, *first, "1"),
+        ["*", count, "from", first, "by", step, ""] => (*count, *first, *step),
+        _ => return Err(not_understood()),
+    };
+    Ok(Turns {
+        count: number_in(count)?,
+        first: number_in(first)?,
+        step: number_in(step)?,
+    })
+}
+
+/// Adds a piece turn by turn.
+fn push_turns(alloc: Global, bytes: &mut Vec<u8>, turns: &Turns, piece: &str) -> io::Result<()> {
+    let mut number = turns.first;
+    for _ in 0..turns.count {
+        push_turn(alloc, bytes, piece, number)?;
+        number = number.saturating_add(turns.step);
+    }
+    Ok(())
+}
+
+/// Adds a piece with a number in the place of each `#`.
+fn push_turn(alloc: Global, bytes: &mut Vec<u8>, piece: &str, number: usize) -> io::Result<()> {
+    let mut parts = piece.split('#');
+    if let Some(first) = parts.next() {
+        bytes.extend_from_slice(first.as_bytes())?;
+    }
+    for part in parts {
+        let digits = format!(in alloc; "{number}")?;
+        bytes.extend_from_slice(digits.as_bytes())?;
+        bytes.extend_from_slice(part.as_bytes())?;
+    }
+    Ok(())
+}

@@ -1,0 +1,159 @@
+//! A row: a command, and what it must tell.
+
+use crate::machine::Machine;
+use crate::output::{End, Limit, Output};
+use crate::shelf::Shelf;
+use crate::transcript::words_of;
+use crate::wanted::Wanted;
+use driver::act::act;
+use serial_run::watch::Unwatched;
+use std::io;
+
+/// A command of a group, and what it must tell.
+#[derive(Clone, Copy)]
+pub struct Row<'a> {
+    pub group: &'a str,
+    pub command: &'a str,
+    pub wanted: &'a Wanted,
+}
+
+/// What a command told.
+#[derive(Drop)]
+struct Told {
+    out: Output,
+    err: Output,
+    status: usize,
+}
+
+/// Two texts and a status, told or wanted.
+#[derive(Clone, Copy)]
+struct Answer<'a> {
+    out: &'a [u8],
+    err: &'a [u8],
+    status: usize,
+}
+
+impl Row<'_> {
+    /// Whether the command tells what it must. Where it doesn't, both are shown.
+    pub fn is_so<R: Machine>(&self, rt: &R, shelf: &mut Shelf<'_, R>) -> io::Result<bool> {
+        if self.wanted.is_swept {
+            return self.is_so_swept(rt, shelf);
+        }
+        if !self.is_so_until(rt, shelf, End::Fails)? {
+            return Ok(false);
+        }
+        if self.wanted.out_left.is_none() && self.wanted.err_left.is_none() {
+            return Ok(true);
+        }
+        self.is_so_until(rt, shelf, End::TakesNothing)
+    }
+
+    /// Whether the command tells what it must to outputs that end so, if they end.
+    fn is_so_until<R: Machine>(
+        &self,
+        rt: &R,
+        shelf: &mut Shelf<'_, R>,
+        end: End,
+    ) -> io::Result<bool> {
+        let out = Limit::of(self.wanted.out_left, end);
+        let err = Limit::of(self.wanted.err_left, end);
+        let told = self.told(rt, shelf, out, err)?;
+        self.compare(rt, &told, self.whole())
+    }
+
+    /// Whether the command tells what it must to an output that takes all, and a beginning of it to each that fails
+    /// at an earlier call: the last of these at the flush, behind the whole answer.
+    fn is_so_swept<R: Machine>(&self, rt: &R, shelf: &mut Shelf<'_, R>) -> io::Result<bool> {
+        let mut taken = 0;
+        for calls in 0..1_000 {
+            let told = self.told(rt, shelf, Limit::Calls(calls), Limit::Never)?;
+            if !told.out.has_failed {
+                return Ok(self.compare(rt, &told, self.whole())? && self.has_flushed(rt, taken)?);
+            }
+            taken = told.out.taken.len();
+            if !self.compare(rt, &told, self.beginning(taken))? {
+                return Ok(false);
+            }
+        }
+        println!(rt; "{}: {}\n  fails at each call", self.group, self.command)?;
+        Ok(false)
+    }
+
+    /// Whether the last output to fail, which took so many bytes, failed behind all of them.
+    fn has_flushed<R: Machine>(&self, rt: &R, taken: usize) -> io::Result<bool> {
+        if taken == self.wanted.out.len() {
+            return Ok(true);
+        }
+        println!(rt; "{}: {}\n  doesn't flush", self.group, self.command)?;
+        Ok(false)
+    }
+
+    /// What the command does with such outputs.
+    fn told<R: Machine>(
+        &self,
+        rt: &R,
+        shelf: &mut Shelf<'_, R>,
+        out: Limit,
+        err: Limit,
+    ) -> io::Result<Told> {
+        let alloc = rt.alloc();
+        let words = words_of(alloc, self.command)?;
+        let mut out = Output::new(alloc, out);
+        let mut err = Output::new(alloc, err);
+        let status = act(rt, alloc, &words, shelf, &mut out, &mut err, &mut Unwatched);
+        Ok(Told {
+            out,
+            err,
+            status: usize::from(status),
+        })
+    }
+
+    /// All that the command must tell.
+    fn whole(&self) -> Answer<'_> {
+        Answer {
+            out: &self.wanted.out,
+            err: &self.wanted.err,
+            status: self.wanted.status,
+        }
+    }
+
+    /// What it must tell where its output fails behind so many bytes.
+    fn beginning(&self, taken: usize) -> Answer<'_> {
+        Answer {
+            out: self.wanted.out.get(..taken).unwrap_or(&self.wanted.out),
+            err: b"cannot write output\n",
+            status: 1,
+        }
+    }
+
+    /// Whether what was told is what is wanted. Where it isn't, both are shown.
+    fn compare<R: Machine>(&self, rt: &R, told: &Told, wanted: Answer<'_>) -> io::Result<bool> {
+        let told = Answer {
+            out: &told.out.taken,
+            err: &told.err.taken,
+            status: told.status,
+        };
+        if told.out == wanted.out && told.err == wanted.err && told.status == wanted.status {
+            return Ok(true);
+        }
+        println!(rt; "{}: {}", self.group, self.command)?;
+        show(rt, "told", told)?;
+        show(rt, "wanted", wanted)?;
+        Ok(false)
+    }
+}
+
+/// Shows an answer, each of its texts on one line.
+fn show<R: Machine>(rt: &R, what: &str, answer: Answer<'_>) -> io::Result<()> {
+    let out = text_of(answer.out);
+    let err = text_of(answer.err);
+    println!(rt;
+        "  {what}: {out:?}, error {err:?}, status {}",
+        answer.status
+    )
+}
+
+/// The bytes as text, if they are one.
+fn text_of(bytes: &[u8]) -> &str {
+    std::str::from_utf8(bytes).unwrap_or("not UTF-8")
+}

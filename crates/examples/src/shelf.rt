@@ -1,0 +1,134 @@
+//! The files that a row's command is lent: those that its table gives, and the machine's.
+
+use crate::bytes::{not_understood, push_spelled};
+use crate::machine::Machine;
+use driver::files::{FileError, FileSource, MachineFiles};
+use std::alloc::Global;
+use std::io;
+
+/// What a file gives to who reads it.
+#[derive(Drop)]
+enum Contents {
+    Bytes(Vec<u8>),
+    /// There is no memory for it.
+    NoMemory,
+    /// As many bytes as are read of it, and these are no text.
+    Endless,
+}
+
+/// A file of a table.
+#[derive(Drop)]
+struct TableFile<'t> {
+    name: &'t str,
+    contents: Contents,
+}
+
+/// The files of a table, of which the last with a name counts, and those of the machine.
+#[derive(Drop)]
+pub struct Shelf<'t, R> {
+    alloc: Global,
+    machine: MachineFiles<'t, R>,
+    files: Vec<TableFile<'t>>,
+    /// How many stand before the first group, once it has begun.
+    lasting: Option<usize>,
+}
+
+impl<'t, R: Machine> Shelf<'t, R> {
+    /// No file of a table.
+    pub fn new(rt: &'t R) -> Shelf<'t, R> {
+        Shelf {
+            alloc: rt.alloc(),
+            machine: MachineFiles::new(rt),
+            files: Vec::new(rt.alloc()),
+            lasting: None,
+        }
+    }
+
+    /// Begins a file: `program.afx`, `heavy.afx: no memory` or `endless.afx: endless`.
+    pub fn begin_file(&mut self, said: &'t str) -> io::Result<()> {
+        let file = file_said(self.alloc, said);
+        self.files.push(file)?;
+        Ok(())
+    }
+
+    /// Takes a line of the file that was begun last.
+    pub fn read_line(&mut self, line: &str) -> io::Result<()> {
+        let Some(spelled) = line.strip_prefix('|') else {
+            return Err(not_understood());
+        };
+        let Some(file) = self.files.last_mut() else {
+            return Err(not_understood());
+        };
+        match &mut file.contents {
+            Contents::Bytes(bytes) => push_spelled(self.alloc, bytes, spelled),
+            _ => Err(not_understood()),
+        }
+    }
+
+    /// Forgets the files of the group before; those before the first group stay.
+    pub fn begin_group(&mut self) {
+        match self.lasting {
+            None => self.lasting = Some(self.files.len()),
+            Some(lasting) => self.files.truncate(lasting),
+        }
+    }
+}
+
+/// The file of which a table says so.
+fn file_said(alloc: Global, said: &str) -> TableFile<'_> {
+    match said.split_once(": ") {
+        Some((name, "no memory")) => TableFile {
+            name,
+            contents: Contents::NoMemory,
+        },
+        Some((name, "endless")) => TableFile {
+            name,
+            contents: Contents::Endless,
+        },
+        _ => TableFile {
+            name: said,
+            contents: Contents::Bytes(Vec::new(alloc)),
+        },
+    }
+}
+
+/// What the last file with a name holds.
+fn contents_of<'f>(files: &'f [TableFile<'_>], name: &str) -> Option<&'f Contents> {
+    for file in files.iter().rev() {
+        if file.name == name {
+            return Some(&file.contents);
+        }
+    }
+    None
+}
+
+impl<R: Machine> FileSource for Shelf<'_, R> {
+    fn read(&mut self, name: &str) -> Result<Vec<u8>, FileError> {
+        match contents_of(&self.files, name) {
+            None => self.machine.read(name),
+            Some(Contents::Bytes(bytes)) => copied(self.alloc, bytes),
+            Some(Contents::NoMemory) => Err(FileError::NoMemory),
+            Some(Contents::Endless) => Err(FileError::Failed),
+        }
+    }
+
+    fn read_first(&mut self, name: &str, most: usize) -> Result<Vec<u8>, FileError> {
+        match contents_of(&self.files, name) {
+            None => self.machine.read_first(name, most),
+            Some(Contents::Bytes(bytes)) => {
+                let mut first = copied(self.alloc, bytes)?;
+                first.truncate(most);
+                Ok(first)
+            }
+            Some(Contents::NoMemory) => Err(FileError::NoMemory),
+            Some(Contents::Endless) => {
+                Vec::from_elem(self.alloc, 0xff, most).map_err(|_| FileError::NoMemory)
+            }
+        }
+    }
+}
+
+/// The bytes once more.
+fn copied(alloc: Global, bytes: &[u8]) -> Result<Vec<u8>, FileError> {
+    bytes.to_vec(alloc).map_err(|_| FileError::NoMemory)
+}

@@ -1,0 +1,47 @@
+//! A command line with what it writes.
+
+use crate::machine::Machine;
+use driver::act::act;
+use driver::files::MachineFiles;
+use serial_run::watch::Unwatched;
+use std::alloc::{AllocError, Global};
+use std::io;
+
+/// Does a command line over the machine's files, and shows it, what it writes to both outputs, and its status where
+/// that isn't 0.
+pub fn show<R: Machine>(rt: &R, line: &str) -> io::Result<()> {
+    let alloc = rt.alloc();
+    let command = format!(in alloc; "$ afx {line}")?;
+    println!(rt; "{command}")?;
+    let words = words_of(alloc, &command)?;
+    let mut files = MachineFiles::new(rt);
+    let mut out = io::writer(rt);
+    let mut err = io::writer(rt);
+    let status = act(
+        rt,
+        alloc,
+        &words,
+        &mut files,
+        &mut out,
+        &mut err,
+        &mut Unwatched,
+    );
+    if status != 0 {
+        println!(rt; "status {status}")?;
+    }
+    Ok(())
+}
+
+/// The words of a command behind `$ afx`.
+pub fn words_of(alloc: Global, command: &str) -> Result<Vec<String>, AllocError> {
+    let mut words = Vec::new(alloc);
+    for word in command.split(' ').skip(2) {
+        words.push(String::from_str(alloc, meant(word))?)?;
+    }
+    Ok(words)
+}
+
+/// The word that is written so: `""` is the empty one.
+fn meant(word: &str) -> &str {
+    if word == "\"\"" { "" } else { word }
+}

@@ -1,0 +1,62 @@
+//! What a table says that a command must tell.
+
+use crate::bytes::{not_understood, number_in, push_spelled};
+use std::alloc::Global;
+use std::io;
+
+/// What a command must write and answer, and which outputs it has.
+#[derive(Drop)]
+pub struct Wanted {
+    alloc: Global,
+    pub out: Vec<u8>,
+    pub err: Vec<u8>,
+    pub status: usize,
+    /// How many bytes the standard output takes, if it ends.
+    pub out_left: Option<usize>,
+    /// How many bytes the standard error takes, if it ends.
+    pub err_left: Option<usize>,
+    /// Whether the command is done with outputs that fail at each of their calls in turn.
+    pub is_swept: bool,
+}
+
+impl Wanted {
+    /// Nothing, and status 0.
+    pub fn new(alloc: Global) -> Wanted {
+        Wanted {
+            alloc,
+            out: Vec::new(alloc),
+            err: Vec::new(alloc),
+            status: 0,
+            out_left: None,
+            err_left: None,
+            is_swept: false,
+        }
+    }
+
+    /// Takes a line: what is written (`>`, `!`), the status (`=`), or which outputs there are (`%`).
+    pub fn read(&mut self, line: &str) -> io::Result<()> {
+        if let Some(spelled) = line.strip_prefix('>') {
+            push_spelled(self.alloc, &mut self.out, spelled)
+        } else if let Some(spelled) = line.strip_prefix('!') {
+            push_spelled(self.alloc, &mut self.err, spelled)
+        } else if let Some(status) = line.strip_prefix("= ") {
+            self.status = number_in(status)?;
+            Ok(())
+        } else if let Some(outputs) = line.strip_prefix("% ") {
+            self.lend(outputs)
+        } else {
+            Err(not_understood())
+        }
+    }
+
+    /// Takes which outputs there are: `out 3`, `err 6` or `sweep`.
+    fn lend(&mut self, outputs: &str) -> io::Result<()> {
+        match outputs.split_once(' ') {
+            Some(("out", left)) => self.out_left = Some(number_in(left)?),
+            Some(("err", left)) => self.err_left = Some(number_in(left)?),
+            None if outputs == "sweep" => self.is_swept = true,
+            _ => return Err(not_understood()),
+        }
+        Ok(())
+    }
+}
