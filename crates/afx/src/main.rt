@@ -2,9 +2,6 @@
 
 #![tactic(auto)]
 
-#[cfg(test)]
-mod tests;
-
 use driver::act::{act, refuse_words};
 use driver::files::MachineFiles;
 use driver::progress::Progress;

@@ -1,0 +1,41 @@
+//! What no clause says of the libraries below the runs, by rows: a table for each area, with the calls that its rows
+//! need.
+
+mod drawn_numbers;
+mod effects_of_programs;
+mod held_places;
+mod inputs;
+mod meetings_of_programs;
+mod outputs;
+mod read_texts;
+mod scope_weights;
+mod section_trees;
+mod typing_rules;
+
+use std::alloc::Global;
+use std::fmt::Display;
+use std::process::Abort;
+use syntax::parse;
+use types::check::type_check;
+use types::typed::Typed;
+
+/// Compares what is said at a row with what the row wants.
+fn compare<N: Display + Drop, D: Display + Drop>(
+    rt: &impl Abort,
+    alloc: Global,
+    row: N,
+    said: D,
+    want: &str,
+) {
+    let said = format!(in alloc; "{said}").expect(rt, "memory");
+    assert!(rt;
+        said.as_str() == want,
+        "at {row}\nsaid: {said}\nwant: {want}"
+    );
+}
+
+/// A program of the language.
+fn typed(rt: &impl Abort, alloc: Global, text: &str) -> Typed {
+    let program = parse(alloc, text).expect(rt, "a text of the language");
+    type_check(alloc, program).expect(rt, "a program")
+}

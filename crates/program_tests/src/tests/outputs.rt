@@ -1,0 +1,167 @@
+//! Outcomes as text, and writers that end.
+
+use std::alloc::Global;
+use std::io;
+use std::io::ErrorKind;
+use std::process::Abort;
+use syntax_tree::tree::ElementType;
+use texts::emit::emit;
+use types::code::Array;
+use types::fault::{Fault, FaultKind};
+use types::outcome::Outcome;
+use types::path::Path;
+
+/// How a writer ends.
+#[derive(Clone, Copy)]
+enum End {
+    /// It answers an error.
+    Fails,
+    /// It takes nothing.
+    TakesNothing,
+}
+
+/// A writer that takes one byte a call, and ends after `left` calls.
+#[derive(Drop)]
+struct Ending {
+    left: usize,
+    end: End,
+    taken: Vec<u8>,
+}
+
+impl io::Write for Ending {
+    fn write(&mut self, buf: &[u8]) -> io::Result<usize> {
+        if self.left > 0 && !buf.is_empty() {
+            self.left -= 1;
+            self.taken.push(buf[0])?;
+            return Ok(1);
+        }
+        match self.end {
+            End::Fails => Err(io::Error::from(ErrorKind::Other)),
+            End::TakesNothing => Ok(0),
+        }
+    }
+
+    fn flush(&mut self) -> io::Result<()> {
+        Ok(())
+    }
+}
+
+/// A fault of each kind, of the task `0.1.12`.
+const KINDS: &[FaultKind] = &[
+    FaultKind::Index,
+    FaultKind::Overflow,
+    FaultKind::ZeroDivisor,
+    FaultKind::OutOfElement,
+    FaultKind::SplitPoint,
+    FaultKind::Raised(-3),
+];
+
+/// Faults of these kinds.
+fn faults_of(rt: &impl Abort, alloc: Global, kinds: &[FaultKind]) -> Vec<Fault> {
+    let mut faults = Vec::new(alloc);
+    for kind in kinds {
+        let turns = Vec::from_slice(alloc, &[1, 12]).expect(rt, "memory");
+        let fault = Fault {
+            path: Path { turns },
+            label: 65_535,
+            kind: *kind,
+        };
+        faults.push(fault).expect(rt, "memory");
+    }
+    faults
+}
+
+/// The lists of these numbers.
+fn lists_of(rt: &impl Abort, alloc: Global, rows: &[&[i64]]) -> Vec<Vec<i64>> {
+    let mut lists = Vec::new(alloc);
+    for row in rows {
+        let list = Vec::from_slice(alloc, row).expect(rt, "memory");
+        lists.push(list).expect(rt, "memory");
+    }
+    lists
+}
+
+/// An ending with two lines, two arrays, and a fault of each kind.
+fn faulted(rt: &impl Abort, alloc: Global) -> Outcome {
+    Outcome::Ended {
+        arrays: lists_of(rt, alloc, &[&[255], &[-1, 0, 10]]),
+        lines: lists_of(rt, alloc, &[&[7, 8], &[i64::MIN]]),
+        faults: faults_of(rt, alloc, KINDS),
+    }
+}
+
+/// The arrays `a` and `b_2`.
+fn two_arrays(rt: &impl Abort, alloc: Global) -> Vec<Array> {
+    let mut arrays = Vec::new(alloc);
+    for (name, length) in [("a", 1), ("b_2", 3)] {
+        let array = Array {
+            name: String::from_str(alloc, name).expect(rt, "memory"),
+            element: ElementType::Int,
+            length,
+        };
+        arrays.push(array).expect(rt, "memory");
+    }
+    arrays
+}
+
+const WITHOUT_ARRAYS: &str = "7 8
+-9223372036854775808
+fault 0.1.12 at 65535: F1
+fault 0.1.12 at 65535: F2
+fault 0.1.12 at 65535: F3
+fault 0.1.12 at 65535: F4
+fault 0.1.12 at 65535: F5
+fault 0.1.12 at 65535: F6 -3
+";
+
+const WITH_ARRAYS: &str = "7 8
+-9223372036854775808
+fault 0.1.12 at 65535: F1
+fault 0.1.12 at 65535: F2
+fault 0.1.12 at 65535: F3
+fault 0.1.12 at 65535: F4
+fault 0.1.12 at 65535: F5
+fault 0.1.12 at 65535: F6 -3
+array a 255
+array b_2 -1 0 10
+";
+
+/// Compares what is written of an outcome, and of the two arrays, with what is wanted.
+fn compare_written(rt: &impl Abort, alloc: Global, outcome: &Outcome, arrays: bool, want: &str) {
+    let declared = two_arrays(rt, alloc);
+    let mut out = Vec::new(alloc);
+    let emitted = emit(&mut out, outcome, &declared, arrays);
+    assert!(rt; emitted.is_ok());
+    assert!(rt; out.as_slice() == want.as_bytes(), "not written: {want}");
+}
+
+#[test]
+fn outcomes_as_text(rt: HostRuntime) {
+    let alloc = rt.alloc();
+    let outcome = faulted(&rt, alloc);
+    compare_written(&rt, alloc, &outcome, true, WITH_ARRAYS);
+    compare_written(&rt, alloc, &outcome, false, WITHOUT_ARRAYS);
+    compare_written(&rt, alloc, &Outcome::Stopped, true, "stopped\n");
+    compare_written(&rt, alloc, &Outcome::Stopped, false, "stopped\n");
+}
+
+#[test]
+fn a_writer_that_ends_has_a_beginning(rt: HostRuntime) {
+    let alloc = rt.alloc();
+    let outcome = faulted(&rt, alloc);
+    let declared = two_arrays(&rt, alloc);
+    let text = WITH_ARRAYS.as_bytes();
+    for end in [End::Fails, End::TakesNothing] {
+        for left in 0..text.len() + 1 {
+            let mut out = Ending {
+                left,
+                end,
+                taken: Vec::new(alloc),
+            };
+            let is_whole = emit(&mut out, &outcome, &declared, true).is_ok();
+            assert!(rt; is_whole == (left == text.len()), "after {left} bytes");
+            let is_beginning = out.taken.len() == left && text.starts_with(&out.taken);
+            assert!(rt; is_beginning, "what was taken of {left} bytes");
+        }
+    }
+}

@@ -1,0 +1,175 @@
+//! Texts, read by `parse`: which are programs, where the others go wrong, and which are canonical.
+
+use crate::tests::compare;
+use std::alloc::Global;
+use std::process::Abort;
+use syntax::{format, parse};
+use syntax_tree::tree::{Program, Stmt};
+
+const PROGRAM: &str = "program";
+
+/// A text, and what `parse` says of it.
+const VERDICTS: &[(&str, &str)] = &[
+    ("", PROGRAM),
+    ("main { }", PROGRAM),
+    ("main { print 1 ! 2; }", "S1 at 1:16"),
+    ("main { by }", "S2 at 1:8"),
+    ("main { skip }", "S2 at 1:13"),
+    ("main { print 9223372036854775808; }", "S3 at 1:14"),
+    ("main { print 9223372036854775807; }", PROGRAM),
+    ("main { print 007; }", PROGRAM),
+    ("main {\n\tskip;\r\n // \u{e9}\u{1f600}!\n  }}", "S2 at 4:4"),
+    ("main { // the end", "S2 at 1:18"),
+    ("main {\n", "S2 at 2:1"),
+    ("main { } // the end", PROGRAM),
+    (
+        "proc f(mut s: int, read t: byte, n: int) { } proc g() { f(a, b, 1); }",
+        PROGRAM,
+    ),
+    ("proc f(mut s: int,) { }", "S2 at 1:19"),
+    ("main { a[0] = -1 * 2 + b[a] % (3 - len(a)); }", PROGRAM),
+    (
+        "main { if not a < 1 and b == 2 or true { skip; } else { } }",
+        PROGRAM,
+    ),
+    (
+        "main { while x <= 1 { split s at k as l, r { async { } } } finish { } }",
+        PROGRAM,
+    ),
+    ("main { if a < b < c { } }", "S2 at 1:17"),
+    (
+        "main { print 1, x != 2; fault 3; var x = 1; x = x + 1; f(); }",
+        PROGRAM,
+    ),
+    ("main { array a: int[8]; array b: byte[2]; }", PROGRAM),
+    ("main { skip; array a: int[8]; }", "S2 at 1:14"),
+    ("main { } main { }", "S2 at 1:10"),
+    ("skip;", "S2 at 1:1"),
+    // ---- each production, cut short or gone wrong
+    ("main { var x; }", "S2 at 1:13"),
+    ("main { x; }", "S2 at 1:9"),
+    ("main { x[1]; }", "S2 at 1:12"),
+    ("main { f(1,); }", "S2 at 1:12"),
+    ("main { print; }", "S2 at 1:13"),
+    ("main { if { } }", "S2 at 1:11"),
+    ("main { while 1 }", "S2 at 1:16"),
+    ("main { split s as l, r { } }", "S2 at 1:16"),
+    ("main { split s at 1 as l { } }", "S2 at 1:26"),
+    ("main { async skip; }", "S2 at 1:14"),
+    ("main { else { } }", "S2 at 1:8"),
+    ("main { x = - - 1; }", "S2 at 1:14"),
+    ("main { x = not not y; }", "S2 at 1:16"),
+    ("main { x = len(1); }", "S2 at 1:16"),
+    ("main { x = a[]; }", "S2 at 1:14"),
+    ("main { array a: int; }", "S2 at 1:20"),
+    ("main { array a: bool[1]; }", "S2 at 1:17"),
+    ("proc f(a) { }", "S2 at 1:9"),
+    ("proc f(mut a: int) skip;", "S2 at 1:20"),
+    ("main { x = 1 < 2 < 3; }", "S2 at 1:18"),
+    ("main { x = rescue; }", "S2 at 1:12"),
+    ("main { parts = 1; }", "S2 at 1:8"),
+    // ---- what comes before what
+    ("main { x = 1 &&", "S1 at 1:14"),
+    ("main } } } { ( !", "S1 at 1:16"),
+    ("main { x = 99999999999999999999999999; ! }", "S3 at 1:12"),
+];
+
+/// Compares what `parse` says of a text with what is wanted.
+fn compare_read(rt: &impl Abort, alloc: Global, row: &str, text: &str, want: &str) {
+    match parse(alloc, text) {
+        Ok(_) => compare(rt, alloc, row, PROGRAM, want),
+        Err(error) => compare(rt, alloc, row, error, want),
+    }
+}
+
+#[test]
+fn texts_are_read_or_told_where_they_go_wrong(rt: HostRuntime) {
+    for (text, want) in VERDICTS {
+        compare_read(&rt, rt.alloc(), text, text, want);
+    }
+}
+
+/// How many bytes of a comment are a text.
+const LENGTHS: &[(usize, &str)] = &[(1_048_576, PROGRAM), (1_048_577, "S5")];
+
+#[test]
+fn the_longest_text_is_read_and_a_longer_one_is_not(rt: HostRuntime) {
+    let alloc = rt.alloc();
+    for (bytes, want) in LENGTHS {
+        let text = "/".repeat(alloc, *bytes).expect(&rt, "memory");
+        compare_read(&rt, alloc, "a long comment", text.as_str(), want);
+    }
+}
+
+/// A text whose `main` begins with a `fault`, and whether its value is a lone atom.
+const FAULTS: &[(&str, bool)] = &[
+    ("main { fault 1; }", true),
+    ("main { fault a[1 + 1]; }", true),
+    ("main { fault (1 + 1); }", true),
+    ("main { fault -1; }", false),
+    ("main { fault not a; }", false),
+    ("main { fault a * 1; }", false),
+    ("main { fault a - 1; }", false),
+    ("main { fault a < 1; }", false),
+    ("main { fault a and b; }", false),
+    ("main { fault a or b; }", false),
+];
+
+/// Whether the value of the `fault` with which `main` begins is a lone atom.
+fn is_lone_atom(program: &Program) -> Option<bool> {
+    match program.main.as_ref()?.body.first()? {
+        Stmt::Fault { value } => Some(value.as_atom().is_some()),
+        _ => None,
+    }
+}
+
+#[test]
+fn lone_atoms(rt: HostRuntime) {
+    for (text, want) in FAULTS {
+        let program = parse(rt.alloc(), text).expect(&rt, "a text of the language");
+        assert!(rt; is_lone_atom(&program) == Some(*want), "at {text}");
+    }
+}
+
+/// Texts that are their programs' canonical texts.
+const CANONICAL: &[&str] = &[
+    "",
+    "main {
+}
+",
+    "main {
+  skip;
+  var x = 1 + 2 * -3 % 4 / 5 - x;
+  x = a[b[0]];
+  fault 7;
+}
+",
+    "main {
+  split s at k as l, r {
+    l[0] = 1 <= 2;
+  }
+  g();
+}
+",
+    "main {
+  if x > 1 {
+  }
+  if x >= 1 {
+  } else {
+    skip;
+  }
+  if x != 1 {
+  }
+}
+",
+];
+
+#[test]
+fn canonical_text_is_a_fixed_point(rt: HostRuntime) {
+    let alloc = rt.alloc();
+    for text in CANONICAL {
+        let program = parse(alloc, text).expect(&rt, "a text of the language");
+        let said = format(alloc, &program).expect(&rt, "memory");
+        compare(&rt, alloc, "a canonical text", said, text);
+    }
+}

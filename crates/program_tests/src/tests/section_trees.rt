@@ -1,0 +1,172 @@
+//! Which sections overlap, and what windows cover.
+
+use sections::cover::{cover, less};
+use sections::id::{ArrayId, SectionId};
+use sections::origin::Origin;
+use sections::tree::SectionTree;
+use sections::window::Window;
+use std::alloc::Global;
+use std::process::Abort;
+
+/// Of two roots, 0 and 1, the sections that are split in turn, each with its left side and its right one.
+const SPLITS: &[(usize, usize, usize)] = &[(0, 2, 3), (0, 4, 5), (2, 6, 7)];
+
+/// The two roots.
+fn roots(rt: &impl Abort, alloc: Global) -> SectionTree {
+    let mut tree = SectionTree::new(alloc);
+    let first = tree.root().expect(rt, "memory");
+    let second = tree.root().expect(rt, "memory");
+    assert!(rt; first.number == 0 && second.number == 1);
+    tree
+}
+
+/// Whether a section is split into sides of these numbers.
+fn is_split(rt: &impl Abort, tree: &mut SectionTree, split: (usize, usize, usize)) -> bool {
+    let (number, want_left, want_right) = split;
+    assert!(rt; number < tree.len());
+    let (left, right) = tree.split(SectionId { number }).expect(rt, "memory");
+    left.number == want_left && right.number == want_right
+}
+
+/// The two roots and all sides.
+fn tree(rt: &impl Abort, alloc: Global) -> SectionTree {
+    let mut tree = roots(rt, alloc);
+    for split in SPLITS {
+        assert!(rt; is_split(rt, &mut tree, *split), "split of {}", split.0);
+    }
+    tree
+}
+
+/// Two sections of the tree, and whether they overlap.
+const OVERLAPS: &[(usize, usize, bool)] = &[
+    (0, 1, false),
+    (0, 0, true),
+    (5, 5, true),
+    // ---- a section and its sides
+    (0, 2, true),
+    (0, 3, true),
+    (0, 7, true),
+    (1, 2, false),
+    (1, 7, false),
+    // ---- the sides of one split, and of two
+    (2, 3, false),
+    (4, 5, false),
+    (2, 4, true),
+    (2, 5, true),
+    (3, 4, true),
+    (3, 5, true),
+    // ---- the sides of a side
+    (6, 7, false),
+    (2, 6, true),
+    (2, 7, true),
+    (3, 6, false),
+    (3, 7, false),
+    (4, 6, true),
+    (5, 7, true),
+];
+
+#[test]
+fn sections_that_overlap(rt: HostRuntime) {
+    let tree = tree(&rt, rt.alloc());
+    assert!(rt; tree.len() == 8);
+    for (a, b, want) in OVERLAPS {
+        assert!(rt; *a < tree.len() && *b < tree.len(), "{a} and {b}");
+        let first = SectionId { number: *a };
+        let second = SectionId { number: *b };
+        assert!(rt; tree.overlap(first, second) == *want, "{a} and {b}");
+        assert!(rt; tree.overlap(second, first) == *want, "{b} and {a}");
+    }
+    let parent = SectionId { number: 2 };
+    assert!(rt; tree.origin(SectionId { number: 7 }) == Origin::Right { parent });
+}
+
+/// A window: its array, its first place and its length.
+pub type Numbers = (usize, usize, usize);
+
+/// The window of these numbers.
+fn window(rt: &impl Abort, (array, at, len): Numbers) -> Window {
+    assert!(rt; at <= 100 && len <= 100);
+    Window {
+        array: ArrayId { number: array },
+        at,
+        len,
+    }
+}
+
+/// The windows of these numbers.
+pub fn windows(rt: &impl Abort, alloc: Global, rows: &[Numbers]) -> Vec<Window> {
+    let mut windows = Vec::new(alloc);
+    for row in rows {
+        windows.push(window(rt, *row)).expect(rt, "memory");
+    }
+    windows
+}
+
+/// Whether windows have these numbers.
+fn have_numbers(windows: &[Window], rows: &[Numbers]) -> bool {
+    windows.len() == rows.len()
+        && windows.iter().zip(rows).all(|(window, row)| (window.array.number, window.at, window.len)
+            == *row)
+}
+
+/// Windows and others, the cover of the windows, and what is left of it without the others.
+const COVERS: &[(&[Numbers], &[Numbers], &[Numbers], &[Numbers])] = &[
+    (&[], &[], &[], &[]),
+    (&[], &[(0, 0, 4)], &[], &[]),
+    (&[(0, 3, 0)], &[], &[], &[]),
+    (&[(0, 9, 0), (0, 1, 1)], &[], &[(0, 1, 1)], &[(0, 1, 1)]),
+    // ---- windows that touch, overlap or stand inside one another
+    (
+        &[(0, 2, 2), (0, 0, 2)],
+        &[(0, 1, 2)],
+        &[(0, 0, 4)],
+        &[(0, 0, 1), (0, 3, 1)],
+    ),
+    (&[(0, 1, 4), (0, 0, 3)], &[(0, 0, 5)], &[(0, 0, 5)], &[]),
+    (
+        &[(0, 0, 9), (0, 2, 3)],
+        &[(0, 2, 3)],
+        &[(0, 0, 9)],
+        &[(0, 0, 2), (0, 5, 4)],
+    ),
+    // ---- a gap
+    (
+        &[(0, 3, 2), (0, 0, 2)],
+        &[(0, 1, 3)],
+        &[(0, 0, 2), (0, 3, 2)],
+        &[(0, 0, 1), (0, 4, 1)],
+    ),
+    (&[(0, 0, 4)], &[(0, 2, 0)], &[(0, 0, 4)], &[(0, 0, 4)]),
+    // ---- two arrays
+    (
+        &[(1, 2, 2), (0, 0, 2)],
+        &[(1, 0, 3)],
+        &[(0, 0, 2), (1, 2, 2)],
+        &[(0, 0, 2), (1, 3, 1)],
+    ),
+    (
+        &[(0, 0, 4), (1, 0, 4)],
+        &[(1, 1, 1), (0, 3, 9)],
+        &[(0, 0, 4), (1, 0, 4)],
+        &[(0, 0, 3), (1, 0, 1), (1, 2, 2)],
+    ),
+];
+
+#[test]
+fn covers_of_windows(rt: HostRuntime) {
+    let alloc = rt.alloc();
+    for (some, others, want_cover, want_less) in COVERS {
+        let taken = windows(&rt, alloc, some);
+        let gone = windows(&rt, alloc, others);
+        let whole = cover(alloc, &taken).expect(&rt, "memory");
+        let rest = less(alloc, &taken, &gone).expect(&rt, "memory");
+        assert!(rt;
+            have_numbers(&whole, want_cover),
+            "cover of {some:?}: {whole:?}"
+        );
+        assert!(rt;
+            have_numbers(&rest, want_less),
+            "{some:?} less {others:?}: {rest:?}"
+        );
+    }
+}

@@ -1,0 +1,287 @@
+//! Worlds that lists of events lead to, and walks at random.
+
+use crate::tests::{FAULTS, TWO_ARRAYS, accepted, compare, one_thread_outcome, path};
+use interleave::event::{Event, ScopeId};
+use interleave::job::Job;
+use interleave::replay::replay;
+use interleave::walk::random_walk;
+use interleave::world::World;
+use std::alloc::Global;
+use std::process::Abort;
+use std::thread::Threads;
+use types::budget::Budget;
+use types::input::Input;
+use types::outcome::Outcome;
+use types::path::Path;
+
+/// The turns of a task's path.
+type Turns = &'static [u32];
+
+/// What happens to a task, or to its scope of this number.
+#[derive(Clone, Copy)]
+enum Happens {
+    Take(u32),
+    Steal(u32, u32),
+    Step,
+    Replenish,
+    Spawn,
+    Open,
+    Park,
+    End,
+    Pass(u32),
+    Resume(u32),
+}
+
+use Happens::{End, Open, Park, Pass, Replenish, Resume, Spawn, Steal, Step, Take};
+
+/// What happens, and the path of its task.
+type Of = (Happens, Turns);
+
+/// The event of what happens.
+fn event(happens: Happens, path: Path) -> Event {
+    match happens {
+        Take(worker) => Event::Take { worker, path },
+        Steal(worker, from) => Event::Steal { worker, from, path },
+        Step => Event::Step { path },
+        Replenish => Event::Replenish { path },
+        Spawn => Event::Spawn { path },
+        Open => Event::Open { path },
+        Park => Event::Park { path },
+        End => Event::End { path },
+        Pass(number) => Event::Pass {
+            scope: ScopeId {
+                owner: path,
+                number,
+            },
+        },
+        Resume(worker) => Event::Resume { worker, path },
+    }
+}
+
+/// The events of several pieces of a row.
+fn events(rt: &impl Abort, alloc: Global, pieces: &[&[Of]]) -> Vec<Event> {
+    let mut events = Vec::new(alloc);
+    for piece in pieces {
+        for (happens, turns) in *piece {
+            let event = event(*happens, path(rt, alloc, turns));
+            events.push(event).expect(rt, "memory");
+        }
+    }
+    events
+}
+
+const ROOT: Turns = &[];
+
+const FIRST: Turns = &[1];
+
+const SECOND: Turns = &[2];
+
+const THIRD: Turns = &[3];
+
+const FOURTH: Turns = &[4];
+
+/// One worker over the two arrays, up to the spawn of the task that writes the first.
+const BEGIN: &[Of] = &[(Take(0), ROOT), (Open, ROOT), (Spawn, ROOT)];
+
+/// The root and then the task go on in the first worker's hand, and the finish ends.
+const GO_ON: &[Of] = &[
+    (Step, ROOT),
+    (Park, ROOT),
+    (Take(0), FIRST),
+    (Step, FIRST),
+    (End, FIRST),
+    (Pass(1), ROOT),
+    (Resume(0), ROOT),
+];
+
+/// Behind the finish.
+const END: &[Of] = &[(Step, ROOT), (Park, ROOT), (Pass(0), ROOT)];
+
+const THREE: &str = "main { finish { async { skip; } async { skip; } async { skip; } } }";
+
+const FOUR: &str =
+    "main { finish { async { skip; } async { skip; } async { skip; } async { skip; } } }";
+
+/// With weight 1 each async needs more.
+const SPAWN_THREE: &[Of] = &[
+    (Take(0), ROOT),
+    (Open, ROOT),
+    (Replenish, ROOT),
+    (Spawn, ROOT),
+    (Replenish, ROOT),
+    (Spawn, ROOT),
+    (Replenish, ROOT),
+    (Spawn, ROOT),
+];
+
+/// With weight 8 the fourth does.
+const SPAWN_FOUR: &[Of] = &[
+    (Take(0), ROOT),
+    (Open, ROOT),
+    (Spawn, ROOT),
+    (Spawn, ROOT),
+    (Spawn, ROOT),
+    (Replenish, ROOT),
+    (Spawn, ROOT),
+];
+
+/// Three tasks end behind their parent.
+const END_THREE: &[Of] = &[
+    (Park, ROOT),
+    (Take(0), FIRST),
+    (Step, FIRST),
+    (End, FIRST),
+    (Take(0), SECOND),
+    (Step, SECOND),
+    (End, SECOND),
+    (Take(0), THIRD),
+    (Step, THIRD),
+    (End, THIRD),
+];
+
+const END_FOURTH: &[Of] = &[(Take(0), FOURTH), (Step, FOURTH), (End, FOURTH)];
+
+const PASS_FIRST: &[Of] = &[(Pass(1), ROOT)];
+
+/// A program on zeros, the weight that a scope issues at a time, events in pieces, and what is told behind
+/// them: the book of the root's first finish and the printed lines, or which event isn't legal.
+type Row = (&'static str, u64, &'static [&'static [Of]], &'static str);
+
+const ROWS: &[Row] = &[
+    (TWO_ARRAYS, 8, &[BEGIN, GO_ON, END], "8 8 [[7, 8]]"),
+    (TWO_ARRAYS, 8, &[BEGIN, GO_ON], "8 8 none"),
+    (TWO_ARRAYS, 8, &[BEGIN], "8 0 none"),
+    (
+        TWO_ARRAYS,
+        8,
+        &[&[(Take(0), ROOT), (Open, ROOT), (Park, ROOT)]],
+        "IllegalAt(2)",
+    ),
+    (
+        TWO_ARRAYS,
+        8,
+        &[&[(Take(0), ROOT), (Open, ROOT), (Pass(1), ROOT)]],
+        "IllegalAt(2)",
+    ),
+    (
+        TWO_ARRAYS,
+        8,
+        &[BEGIN, &[(Steal(1, 0), FIRST), (Take(1), FIRST)]],
+        "8 0 none",
+    ),
+    (
+        TWO_ARRAYS,
+        8,
+        &[BEGIN, &[(Steal(1, 1), FIRST)]],
+        "IllegalAt(3)",
+    ),
+    (
+        TWO_ARRAYS,
+        8,
+        &[BEGIN, &[(Steal(0, 0), FIRST)]],
+        "IllegalAt(3)",
+    ),
+    (TWO_ARRAYS, 8, &[BEGIN, &[(Take(0), FIRST)]], "IllegalAt(3)"),
+    (TWO_ARRAYS, 8, &[BEGIN, GO_ON, END, END], "IllegalAt(13)"),
+    (TWO_ARRAYS, 8, &[&[(Take(0), FIRST)]], "IllegalAt(0)"),
+    (THREE, 1, &[SPAWN_THREE], "4 0 none"),
+    (THREE, 1, &[SPAWN_THREE, END_THREE, PASS_FIRST], "4 4 none"),
+    (THREE, 1, &[SPAWN_THREE, PASS_FIRST], "IllegalAt(8)"),
+    (FOUR, 8, &[SPAWN_FOUR], "16 0 none"),
+    (
+        FOUR,
+        8,
+        &[SPAWN_FOUR, END_THREE, PASS_FIRST],
+        "IllegalAt(17)",
+    ),
+    (
+        FOUR,
+        8,
+        &[SPAWN_FOUR, END_THREE, END_FOURTH, PASS_FIRST],
+        "16 16 none",
+    ),
+];
+
+/// What is told of a world: the book of the root's first finish, and the printed lines.
+fn told(rt: &impl Abort, alloc: Global, world: World<'_>) -> String {
+    let scope = ScopeId {
+        owner: path(rt, alloc, ROOT),
+        number: 1,
+    };
+    let (issued, returned) = world.book(&scope).expect(rt, "a finish");
+    let told = match world.outcome().expect(rt, "memory") {
+        Some(Outcome::Ended { lines, .. }) => { format!(in alloc; "{issued} {returned} {lines:?}") }
+        Some(Outcome::Stopped) => format!(in alloc; "{issued} {returned} stopped"),
+        None => format!(in alloc; "{issued} {returned} none"),
+    };
+    told.expect(rt, "memory")
+}
+
+#[test]
+fn events_are_legal_or_the_first_that_is_not_is_told(rt: HostRuntime) {
+    let alloc = rt.alloc();
+    for (text, w0, pieces, want) in ROWS {
+        let program = accepted(&rt, alloc, text);
+        let input = Input::zeros(alloc, program.typed()).expect(&rt, "memory");
+        let job = Job::new(alloc, &program, &input, Budget::usual(), *w0);
+        let events = events(&rt, alloc, pieces);
+        match replay(job.expect(&rt, "a weight"), &events) {
+            Ok(world) => compare(&rt, alloc, *text, told(&rt, alloc, world), want),
+            Err(error) => compare(&rt, alloc, *text, format_args!("{error:?}"), want),
+        }
+    }
+}
+
+#[test]
+fn weights_are_halved_and_issued(rt: HostRuntime) {
+    let alloc = rt.alloc();
+    let program = accepted(&rt, alloc, FOUR);
+    let input = Input::zeros(alloc, program.typed()).expect(&rt, "memory");
+    let job = Job::new(alloc, &program, &input, Budget::usual(), 8).expect(&rt, "a weight");
+    let events = events(&rt, alloc, &[SPAWN_FOUR]);
+    let world = replay(job, &events).expect(&rt, "legal events");
+    for (turns, want) in [(FIRST, 4), (SECOND, 2), (THIRD, 1), (FOURTH, 4), (ROOT, 5)] {
+        let weight = world.weight(&path(&rt, alloc, turns));
+        assert!(rt; weight == Some(want), "the weight of {turns:?}");
+    }
+}
+
+/// Doubles each of 16 elements, half by half, each left half as a task.
+const HALVES: &str = "proc twice(mut s: int) {
+  if len(s) <= 1 { s[0] = s[0] * 2 + 1; }
+  else { split s at len(s) / 2 as l, r { async { twice(l); } twice(r); } }
+}
+main { array a: int[16]; finish { twice(a); } print a[0], a[15]; }";
+
+const NESTED: &str = "main { array a: int[2]; array b: int[1];
+  async { finish { async { a[0] = 1; async { b[0] = 3; } } } print a[0]; async { a[1] = 2; } }
+  finish { finish { async { print 4; } } async { print 5; } } print 9; }";
+
+const STOPPING: &str =
+    "main { finish { async { while true { skip; } } async { print 1; } } print 2; }";
+
+#[test]
+fn walks_come_to_the_one_thread_outcome(rt: HostRuntime) {
+    let alloc = rt.alloc();
+    let budget = Budget::new(60, 100).expect(&rt, "a budget");
+    for text in [HALVES, FAULTS, NESTED, STOPPING] {
+        let program = accepted(&rt, alloc, text);
+        let input = Input::zeros(alloc, program.typed()).expect(&rt, "memory");
+        let one_thread = one_thread_outcome(&rt, alloc, &program, budget);
+        for seed in 0..50u32 {
+            let workers = seed * 9 % 64 + 1;
+            let job = Job::new(alloc, &program, &input, budget, u64::from(seed % 9 + 1));
+            let job = job.expect(&rt, "a weight");
+            let walk = random_walk(job, workers, u64::from(seed), 1_000_000).expect(&rt, "memory");
+            let outcome = walk.world.outcome().expect(&rt, "memory");
+            let outcome = outcome.expect(&rt, "an end");
+            compare(
+                &rt,
+                alloc,
+                format_args!("walk {seed} of {text}"),
+                format_args!("{outcome:?}"),
+                one_thread.as_str(),
+            );
+        }
+    }
+}
