@@ -6,14 +6,14 @@ use Rattle.std.specs.Io.KnownBytes.{Keeps}
 use Rattle.std.specs.Prelude.{IsErrAnd}
 use Rattle.std.specs.Str.{IsUtf8}
 use Rattle.driver.specs.Acts.{Acts, ReadsAndPerforms, Reports, on_text, without_text}
-use Rattle.driver.specs.Answers.{Does, Explains, Wrote, Began, Failed}
-use Rattle.driver.specs.Appending.{AppendsBeginning, Writes}
-use Rattle.driver.specs.Held.{Held, IsGiven, TellsNoProgram}
-use Rattle.driver.specs.Requests.{Asked, Settings, asked_of}
-use Rattle.driver.specs.declared.request.Command.{Command}
-use Rattle.driver.specs.declared.failure.Failure.{Failure}
-use Rattle.driver.specs.declared.failure.Failure.TheVariants.{CannotWriteOutput}
-use Rattle.driver.specs.declared.request.Request.{Request}
+use Rattle.answers.specs.Answers.{Does, Explains, Wrote, Began, Failed}
+use Rattle.texts.specs.Appending.{AppendsBeginning, Writes}
+use Rattle.intake.specs.Held.{Held, IsGiven, TellsNoProgram}
+use Rattle.command_line.specs.Requests.{Asked, Settings, asked_of}
+use Rattle.command_line.specs.declared.request.Command.{Command}
+use Rattle.intake.specs.declared.failure.Failure.{Failure}
+use Rattle.intake.specs.declared.failure.Failure.TheVariants.{CannotWriteOutput}
+use Rattle.command_line.specs.declared.request.Request.{Request}
 
 -- whether or not all was taken, a beginning was appended
 pub begins : {T E : Type 0} (a b : Option (List ℕ)) (r : Result T E) (t : List ℕ) → Writes a b r t → AppendsBeginning a b t

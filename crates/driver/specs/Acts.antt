@@ -1,13 +1,13 @@
 -- What the program does with the file that its words name, and how it reports.
 use Rattle.std.specs.Prelude.{ℕ, ◌≡◌, ◌≤◌, List, ◌++◌, length, Option, Result, Ok, Err, codes, IsErrAnd}
 use Rattle.std.specs.Io.KnownBytes.{Keeps}
-use Rattle.driver.specs.Answers.{Does}
-use Rattle.driver.specs.Appending.{AppendsBeginning}
-use Rattle.driver.specs.FailureStatus.{failure_status}
-use Rattle.driver.specs.Held.{Held, HasText, TellsNoProgram}
-use Rattle.driver.specs.Messages.{failure_text}
-use Rattle.driver.specs.Requests.{Asked}
-use Rattle.driver.specs.declared.failure.Failure.{Failure}
+use Rattle.answers.specs.Answers.{Does}
+use Rattle.texts.specs.Appending.{AppendsBeginning}
+use Rattle.intake.specs.FailureStatus.{failure_status}
+use Rattle.intake.specs.Held.{Held, HasText, TellsNoProgram}
+use Rattle.intake.specs.Messages.{failure_text}
+use Rattle.command_line.specs.Requests.{Asked}
+use Rattle.intake.specs.declared.failure.Failure.{Failure}
 
 -- the file has a text of at most 1,048,576 bytes, and what is asked was done with it; or it has none, and
 -- nothing was written

@@ -1,14 +1,1 @@
 pub mod Acts
-pub mod Answers
-pub mod Appending
-pub mod Choices
-pub mod Choosing
-pub mod ExploredText
-pub mod FailureStatus
-pub mod Failures
-pub mod Held
-pub mod Labels
-pub mod Messages
-pub mod OutcomeText
-pub mod Reading
-pub mod Requests

@@ -4,23 +4,23 @@ ghost use Rattle.std.specs.Io.KnownBytes.{Keeps};
 ghost use Rattle.std.specs.Prelude.{◌≡◌, ◌≤◌, ◌<◌, codes, map, Err, IfOk, IfErr};
 ghost use Rattle.std.specs.String.{string_bytes};
 ghost use Rattle.driver.specs.Acts.{Acts, ReadsAndPerforms, Reports};
-ghost use Rattle.driver.specs.Failures.{TellsNotUtf8};
-ghost use Rattle.driver.specs.declared.failure.Failure.{Failure as FailureOf};
-ghost use Rattle.driver.specs.Requests.{Asked, Asks, asked_of};
+ghost use Rattle.intake.specs.Failures.{TellsNotUtf8};
+ghost use Rattle.intake.specs.declared.failure.Failure.{Failure as FailureOf};
+ghost use Rattle.command_line.specs.Requests.{Asked, Asks, asked_of};
 
-use crate::command_line::request_of;
 use crate::commands;
-use crate::emit::append;
-use crate::failure::Failure;
-use crate::files::{FileSource, read_program};
-use crate::message::emit_message;
-use crate::request::Request;
 use clap::Error;
+use command_line::request::Request;
+use command_line::words::request_of;
+use intake::failure::Failure;
+use intake::files::{FileSource, read_program};
+use intake::message::emit_message;
 use serial_run::watch::Watch;
 use std::alloc::{AllocError, Global};
 use std::io;
 use std::io::{ErrorKind, Write};
 use std::thread::Threads;
+use texts::emit::append;
 
 /// Does what the words behind the program's name ask, and answers the exit status. `--progress` has
 /// `watch` told how far a run has come.

@@ -3,16 +3,7 @@
 #![tactic(auto)]
 
 pub mod act;
-pub mod by_clap;
-pub mod choices;
-pub mod command_line;
 pub mod commands;
-pub mod emit;
-pub mod exploring;
-pub mod failure;
-pub mod files;
-pub mod input_file;
-pub mod labels;
-pub mod message;
-pub mod progress;
-pub mod request;
+
+pub use intake::files;
+pub use texts::progress;

@@ -5,6 +5,7 @@
 pub mod error;
 mod filling;
 pub mod laws;
+pub mod run_error;
 pub mod settle;
 mod table;
 mod unused;

@@ -1,5 +1,9 @@
 //! The one refusal.
 
+ghost use Rattle.std.specs.Prelude.{◌≡◌};
+ghost use Rattle.gather.specs.declared.run_error.RunError.TheVariants.{OutOfMemory};
+
+use gather::run_error::RunError;
 use std::alloc::{AllocError, AllocFailed};
 
 /// Want of memory.
@@ -15,5 +19,13 @@ impl From<AllocError> for NoMemory {
 impl<T: Drop> From<AllocFailed<T>> for NoMemory {
     fn from(_error: AllocFailed<T>) -> NoMemory {
         NoMemory
+    }
+}
+
+impl From<NoMemory> for RunError {
+    ghost from_gives = { λ _ e. e ≡ OutOfMemory };
+
+    fn from(_error: NoMemory) -> RunError {
+        RunError::OutOfMemory
     }
 }

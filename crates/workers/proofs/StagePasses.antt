@@ -34,7 +34,7 @@ use Rattle.gather.specs.declared.error.GatherError.TheVariants.{Lost, Double, St
 use Rattle.gather.specs.declared.error.GatherError.TheVariants.{OutOfMemory as NoMemoryToGather}
 use Rattle.gather.proofs.TasksGiveBack.{comes_back, give_back}
 use Rattle.workers.specs.Books.{Task, task_at, AreBalanced}
-use Rattle.workers.specs.Errors.{refused_by}
+use Rattle.gather.specs.RunErrors.{refused_by}
 use Rattle.task_machine.specs.Jobs.{program_of, lists_of, budget_of, IsJob}
 use Rattle.task_machine.specs.declared.finish.Owner.TheVariants.{Main, Finish}
 use Rattle.task_machine.specs.declared.finish.Parked.{Parked}
@@ -46,8 +46,8 @@ use Rattle.workers.specs.Turns.{IsTaken}
 use Rattle.workers.specs.Weights.{tasks_of}
 use Rattle.workers.specs.declared.backlog.Backlog.{Backlog}
 use Rattle.workers.specs.declared.scope.Scope.{Scope}
-use Rattle.workers.specs.declared.error.RunError.{RunError}
-use Rattle.workers.specs.declared.error.RunError.TheVariants.{OutOfMemory}
+use Rattle.gather.specs.declared.run_error.RunError.{RunError}
+use Rattle.gather.specs.declared.run_error.RunError.TheVariants.{OutOfMemory}
 use Rattle.workers.proofs.BookLemmas.{second_scope}
 use Rattle.workers.proofs.BookMoves.{Settles, begun_at_first, finish_settles, root_settles}
 use Rattle.workers.proofs.StageTurns.{at_next, fits, same_root}

@@ -1,5 +1,4 @@
 pub mod Books
-pub mod Errors
 pub mod Left
 pub mod Stages
 pub mod Turns

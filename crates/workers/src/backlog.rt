@@ -6,7 +6,7 @@ ghost use Rattle.weights.specs.Ledger.{issued_of, returned_of};
 ghost use Rattle.workers.specs.Left.{LeavesLess, left, left_after, left_in, left_of_parked};
 ghost use Rattle.workers.specs.Stages.{IsNext, IsStage};
 ghost use Rattle.workers.specs.Turns.{EndsIn, IsTurnIn};
-ghost use Rattle.workers.specs.declared.error.RunError.TheVariants.{OutOfMemory};
+ghost use Rattle.gather.specs.declared.run_error.RunError.TheVariants.{OutOfMemory};
 ghost use Rattle.workers.specs.declared.stage.Now.TheVariants.{Runs, Waits};
 
 use crate::error::RunError;

@@ -6,7 +6,7 @@ ghost use Rattle.types.specs.Outcome.{outcome as one_thread_outcome};
 ghost use Rattle.types.specs.Translation.{budget as budget_of, input as lists_in};
 ghost use Rattle.types.specs.Translation.{outcome as outcome_of};
 ghost use Rattle.types.specs.Typed.{code_of};
-ghost use Rattle.workers.specs.declared.error.RunError.TheVariants.{OutOfMemory};
+ghost use Rattle.gather.specs.declared.run_error.RunError.TheVariants.{OutOfMemory};
 
 use crate::error::RunError;
 pub use crate::order::Order;

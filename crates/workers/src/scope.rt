@@ -7,7 +7,7 @@ ghost use Rattle.task_machine.specs.declared.turn.Turn.TheVariants.{Spawns};
 ghost use Rattle.weights.specs.Ledger.{GivesBack, issued_of, minted, opened, returned_of};
 ghost use Rattle.workers.specs.Weights.{tasks_of};
 ghost use Rattle.workers.specs.Turns.{IsSetDown, IsTaken, given_by};
-ghost use Rattle.workers.specs.declared.error.RunError.TheVariants.{OutOfMemory};
+ghost use Rattle.gather.specs.declared.run_error.RunError.TheVariants.{OutOfMemory};
 
 use crate::error::RunError;
 use crate::order::Order;

@@ -4,7 +4,7 @@ ghost use Rattle.std.specs.Prelude.{◌≡◌, IfErr, IfOk};
 ghost use Rattle.task_machine.specs.Jobs.{IsJob};
 ghost use Rattle.workers.specs.Left.{LeavesLess, left};
 ghost use Rattle.workers.specs.Stages.{IsNext, IsStage};
-ghost use Rattle.workers.specs.declared.error.RunError.TheVariants.{OutOfMemory};
+ghost use Rattle.gather.specs.declared.run_error.RunError.TheVariants.{OutOfMemory};
 
 use crate::backlog::Backlog;
 use crate::error::RunError;

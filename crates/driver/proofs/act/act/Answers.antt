@@ -1,7 +1,7 @@
 use Rattle.std.proofs.Common.{refl}
 use Rattle.std.proofs.KnownBytes.{Keeps-refl}
 use Rattle.driver.proofs.Acting.{acts}
-use Rattle.driver.specs.Requests.{asked_of}
+use Rattle.command_line.specs.Requests.{asked_of}
 use Rattle.driver.proofs.act.act.Goals as goal
 
 pub returns-in-Err-clause-asked : goal.returns-in-Err-clause-asked

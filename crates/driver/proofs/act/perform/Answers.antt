@@ -1,9 +1,9 @@
 use Rattle.std.proofs.Common.{List, ℕ, ◌≤◌, length, Ok, Err, refl, subst, sym, ◌∙◌}
 use Rattle.std.specs.Str.{IsUtf8}
 use Rattle.driver.proofs.Acting.{handed_over, performed_on_text, performed_without_text}
-use Rattle.driver.proofs.Programs.{no_program_text}
-use Rattle.driver.specs.Held.{IsGiven}
-use Rattle.driver.specs.Requests.{asked_of, settings as settings_of}
+use Rattle.intake.proofs.Programs.{no_program_text}
+use Rattle.intake.specs.Held.{IsGiven}
+use Rattle.command_line.specs.Requests.{asked_of, settings as settings_of}
 use Rattle.driver.proofs.act.perform.Goals as goal
 
 pub returns-in-Ok-perform : goal.returns-in-Ok-perform

@@ -8,9 +8,9 @@ use Rattle.types.specs.Translation.{array, budget, input as lists_of, outcome as
 use Rattle.types.specs.Typed.{code_of, program_of}
 use Rattle.types.specs.declared.typed.Typed.{Typed}
 use Rattle.types.proofs.InputLemmas.{FitsArrays-from_IsInput}
-use Rattle.driver.specs.Requests.{settings}
-use Rattle.driver.specs.declared.request.Command.TheVariants.{Run}
-use Rattle.driver.proofs.Answering.{code_of_text, outcome_shown, passes_no_input, shown}
+use Rattle.command_line.specs.Requests.{settings}
+use Rattle.command_line.specs.declared.request.Command.TheVariants.{Run}
+use Rattle.answers.proofs.Answering.{code_of_text, outcome_shown, passes_no_input, shown}
 use Rattle.driver.proofs.commands.run_as_tasks.Goals as goal
 
 pub returns-in_err-input : goal.returns-in_err-input

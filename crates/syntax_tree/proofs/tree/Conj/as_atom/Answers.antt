@@ -1,7 +1,7 @@
 use Rattle.std.proofs.Common.{◌≡◌, ◌≢◌, length, rules, ◌∙◌}
 use Rattle.syntax_tree.specs.declared.tree.Conj.{out-Conj}
 use Rattle.syntax_tree.proofs.Atoms.{conj_alone, conj_beside}
-use Rattle.syntax.proofs.tree.Conj.as_atom.Goals as goal
+use Rattle.syntax_tree.proofs.tree.Conj.as_atom.Goals as goal
 
 pub returns-then-is_empty : goal.returns-then-is_empty
 returns-then-is_empty c =

@@ -1,6 +1,6 @@
 use Rattle.std.proofs.Common.{rules, ◌∙◌}
 use Rattle.syntax_tree.proofs.Atoms.{neg_denied, neg_alone, neg_compared}
-use Rattle.syntax.proofs.tree.Neg.as_atom.Goals as goal
+use Rattle.syntax_tree.proofs.tree.Neg.as_atom.Goals as goal
 
 pub returns-then-self : goal.returns-then-self
 returns-then-self c = neg_denied c.args.self.now (search rules)

@@ -1,7 +1,7 @@
 use Rattle.std.proofs.Common.{◌≡◌, ◌≢◌, length, rules, ◌∙◌}
 use Rattle.syntax_tree.specs.declared.tree.Prod.{out-Prod}
 use Rattle.syntax_tree.proofs.Atoms.{prod_alone, prod_beside}
-use Rattle.syntax.proofs.tree.Prod.as_atom.Goals as goal
+use Rattle.syntax_tree.proofs.tree.Prod.as_atom.Goals as goal
 
 pub returns-then-is_empty : goal.returns-then-is_empty
 returns-then-is_empty c =

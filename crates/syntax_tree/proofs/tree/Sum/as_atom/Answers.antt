@@ -1,7 +1,7 @@
 use Rattle.std.proofs.Common.{◌≡◌, ◌≢◌, length, rules, ◌∙◌}
 use Rattle.syntax_tree.specs.declared.tree.Sum.{out-Sum}
 use Rattle.syntax_tree.proofs.Atoms.{sum_alone, sum_beside}
-use Rattle.syntax.proofs.tree.Sum.as_atom.Goals as goal
+use Rattle.syntax_tree.proofs.tree.Sum.as_atom.Goals as goal
 
 pub returns-then-is_empty : goal.returns-then-is_empty
 returns-then-is_empty c =

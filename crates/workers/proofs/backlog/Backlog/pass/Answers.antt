@@ -5,7 +5,7 @@ use Rattle.own_run.specs.Translation.{task_result}
 use Rattle.own_run.specs.declared.result.TaskResult.{TaskResult}
 use Rattle.gather.specs.GivesBack.{GiveBack, all_owned}
 use Rattle.task_machine.specs.Jobs.{outcome_of}
-use Rattle.workers.specs.Errors.{refused_by}
+use Rattle.gather.specs.RunErrors.{refused_by}
 use Rattle.workers.specs.Left.{left, left_in, left_of_parked}
 use Rattle.workers.specs.Stages.{IsStage}
 use Rattle.workers.proofs.StagePasses.{made_in, memory_alone, only_memory}

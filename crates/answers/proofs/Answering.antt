@@ -1,0 +1,307 @@
+-- From what a command wrote, or why it wrote nothing, to what was done.
+use Rattle.std.proofs.Common.{◌≡◌, ◌≢◌, ◌<◌, inl, inr, ℕ, List, Option, Some, Result, Ok, Err, ap, ◌∙◌, sym, subst, refl}
+use Rattle.std.proofs.KnownBytes.{Keeps-refl}
+use Rattle.std.specs.List.{flat_map}
+use Rattle.std.specs.Prelude.{◌↔◌, ℤ, IfErr, IfOk, IsErrAnd, Bool}
+use Rattle.std.specs.Str.{chars}
+use Rattle.syntax.specs.Canonical.{listed}
+use Rattle.syntax.specs.Lexical.{AreTokensOf}
+use Rattle.syntax.specs.Spelling.{spelling}
+use Rattle.types.specs.Code.{Array, Program}
+use Rattle.types.specs.Outcome.{Outcome}
+use Rattle.types.specs.TreeRuns.{Explored, Ends, Open, NoSuchChoice}
+use Rattle.types.specs.Typed.{code_of, program_of}
+use Rattle.types.specs.declared.typed.Typed.{Typed}
+use Rattle.parallel_relation.specs.Pairs.{ArePairs, AreListed, HasPair}
+use Rattle.parallel_relation.specs.Together.{LabelsMeet}
+use Rattle.parallel_relation.specs.declared.pairs.Pairs.{Pairs as KeptPairs}
+use Rattle.race_checker.specs.Clash.{IsAccepted}
+use Rattle.race_checker.specs.Races.{IsLeastRace, Race as ProgramRace}
+use Rattle.answers.specs.Answers.{Answers, AnswersCheck, AnswersExplore, AnswersList, AnswersPairs}
+use Rattle.answers.specs.Answers.{Explores, IsExplored}
+use Rattle.answers.specs.Answers.{Does, Explains, Failed, HasRace, IsCodeOf, IsRunBy, LooksForRaces, Shows}
+use Rattle.answers.specs.Answers.{TellsNoCode, TellsNotAccepted, TellsRaceTo}
+use Rattle.texts.specs.Appending.{Writes}
+use Rattle.answers.specs.Chosen.{ComesTo}
+use Rattle.intake.specs.Choosing.{TellsNoChoices}
+use Rattle.texts.specs.ExploredText.{open_text}
+use Rattle.intake.specs.Failures.{TellsRaceIn}
+use Rattle.intake.specs.Held.{Held, BeginsWith, TellsNoInput}
+use Rattle.texts.specs.Labels.{accepted_text, pair_text}
+use Rattle.texts.specs.OutcomeText.{outcome_text, status_of}
+use Rattle.command_line.specs.Requests.{Settings}
+use Rattle.intake.specs.declared.failure.Failure.{Failure}
+use Rattle.intake.specs.declared.failure.Failure.TheVariants.{CannotRead, NotUtf8, Syntax, Types}
+use Rattle.intake.specs.declared.failure.Failure.TheVariants.{Race, NoMemoryInCheck, Input, CannotWriteOutput, NoMemory}
+use Rattle.intake.specs.declared.failure.Failure.TheVariants.{Run as RunFailed, ChoicesNotUnderstood, NoLeaf}
+use Rattle.command_line.specs.declared.request.Command.{Command}
+use Rattle.command_line.specs.declared.request.Command.TheVariants.{Run, Serial, Check, Listing, Pairs, Explore}
+
+-- ---- failures
+
+-- any failure but that of writing
+abbrev pub IsOther : Failure → Type 0
+IsOther CannotWriteOutput = ⊥
+IsOther _ = Unit {0}
+
+pub other_failure : (f : Failure) → IsOther f → f ≢ CannotWriteOutput
+other_failure f other is = subst IsOther is other
+
+-- a fact of a failure is one of what passes it on
+pub err_passed : {T : Type 0} (r : Result T Failure) (f : Failure) (Q : Failure → Type 0) → IsErrAnd r (λ y. y ≡ f)
+    → Q f → IsErrAnd r Q
+err_passed (Ok x) f Q is fact = absurd is
+err_passed (Err y) f Q is fact = subst Q (sym is) fact
+
+pub if_err_passed : {T : Type 0} (r : Result T Failure) (f : Failure) (Q : Failure → Type 0) → IsErrAnd r (λ y. y ≡ f)
+    → Q f → IfErr r Q
+if_err_passed (Ok x) f Q is fact = absurd is
+if_err_passed (Err y) f Q is fact = subst Q (sym is) fact
+
+module _ (c : Command) (s : Settings) (held : Held) (text : List ℕ) (b : Option (List ℕ)) where
+  -- a failure that comes before anything is written
+  pub refuses : (f : Failure) → Explains c s held text f → f ≢ CannotWriteOutput → Failed c s held text b b f
+  refuses f why other = record { why = why; silent = λ _. Keeps-refl b; begun = λ is. absurd (other is) }
+
+  -- one that is passed on
+  pub passes_on : (r : Result ℕ Failure) (f : Failure) → IsErrAnd r (λ y. y ≡ f) → Explains c s held text f
+      → f ≢ CannotWriteOutput → Does c s held text b b r
+  passes_on (Ok x) f is why other = absurd is
+  passes_on (Err y) f is why other = subst (Failed c s held text b b) (sym is) (refuses f why other)
+
+  -- ---- a text without a code
+
+  pub no_code_explained : (f : Failure) → TellsNoCode text f → Explains c s held text f
+  no_code_explained (Syntax e) told = told
+  no_code_explained (Types e) told = told
+  no_code_explained _ told = absurd told
+
+  no_code_other : (f : Failure) → TellsNoCode text f → IsOther f
+  no_code_other CannotWriteOutput told = told
+  no_code_other _ told = tt
+
+  pub passes_no_code : (r : Result ℕ Failure) (f : Failure) → IsErrAnd r (λ y. y ≡ f) → TellsNoCode text f
+      → Does c s held text b b r
+  passes_no_code r f is told = passes_on r f is (no_code_explained f told) (other_failure f (no_code_other f told))
+
+  -- ---- a run without an input
+
+  module _ (code : Program) (is_code : IsCodeOf text code) (is_run : IsRunBy c code) where
+    no_input_explained : (f : Failure) → TellsNoInput s.input held code.arrays f → Explains c s held text f
+    no_input_explained (CannotRead name) told = inl (record { code = code; is_code = is_code; is_run = is_run; why = told })
+    no_input_explained (NotUtf8 name) told = record { code = code; is_code = is_code; is_run = is_run; why = told }
+    no_input_explained (Input e) told = record { code = code; is_code = is_code; is_run = is_run; why = told }
+    no_input_explained NoMemory told = tt
+    no_input_explained _ told = absurd told
+
+    no_input_other : (f : Failure) → TellsNoInput s.input held code.arrays f → IsOther f
+    no_input_other CannotWriteOutput told = told
+    no_input_other _ told = tt
+
+    pub passes_no_input : (r : Result ℕ Failure) (f : Failure) → IsErrAnd r (λ y. y ≡ f)
+        → TellsNoInput s.input held code.arrays f → Does c s held text b b r
+    passes_no_input r f is told = passes_on r f is (no_input_explained f told) (other_failure f (no_input_other f told))
+
+-- ---- a text without an accepted program
+
+pub no_code_not_accepted : (text : List ℕ) (f : Failure) → TellsNoCode text f → TellsNotAccepted text f
+no_code_not_accepted text (Syntax e) told = told
+no_code_not_accepted text (Types e) told = told
+no_code_not_accepted text _ told = absurd told
+
+-- a race that is told
+pub told_race : (text : List ℕ) (typed back : Typed) (race : ProgramRace) → IsCodeOf text (code_of typed) → back ≡ typed
+    → IsLeastRace (code_of typed) race → (f : Failure) → TellsRaceIn (code_of back) race f → TellsNotAccepted text f
+told_race text typed back race is_code same least (Race procedure first second) told = record {
+  code = code_of back;
+  is_code = subst (λ (t : Typed). IsCodeOf text (code_of t)) (sym same) is_code;
+  race = race;
+  least = subst (λ (t : Typed). IsLeastRace (code_of t) race) (sym same) least;
+  told = told;
+}
+told_race text typed back race is_code same least NoMemoryInCheck told = tt
+told_race text typed back race is_code same least _ told = absurd told
+
+race_told : (c : Command) (text procedure first second : List ℕ) → LooksForRaces c → HasRace text procedure first second
+    → TellsRaceTo c text procedure first second
+race_told Run text procedure first second looks race = race
+race_told Serial text procedure first second looks race = absurd looks
+race_told Check text procedure first second looks race = race
+race_told Listing text procedure first second looks race = race
+race_told Pairs text procedure first second looks race = absurd looks
+race_told Explore text procedure first second looks race = race
+
+module _ (c : Command) (looks : LooksForRaces c) (s : Settings) (held : Held) (text : List ℕ) (b : Option (List ℕ)) where
+  not_accepted_explained : (f : Failure) → TellsNotAccepted text f → Explains c s held text f
+  not_accepted_explained (Syntax e) told = told
+  not_accepted_explained (Types e) told = told
+  not_accepted_explained (Race procedure first second) told = race_told c text _ _ _ looks told
+  not_accepted_explained NoMemoryInCheck told = looks
+  not_accepted_explained _ told = absurd told
+
+  not_accepted_other : (f : Failure) → TellsNotAccepted text f → IsOther f
+  not_accepted_other CannotWriteOutput told = told
+  not_accepted_other _ told = tt
+
+  pub passes_not_accepted : (r : Result ℕ Failure) (f : Failure) → IsErrAnd r (λ y. y ≡ f) → TellsNotAccepted text f
+      → Does c s held text b b r
+  passes_not_accepted r f is told =
+      passes_on c s held text b r f is (not_accepted_explained f told) (other_failure f (not_accepted_other f told))
+
+-- want of memory before anything is written
+pub passes_memory : (c : Command) (s : Settings) (held : Held) (text : List ℕ) (b : Option (List ℕ)) (r : Result ℕ Failure)
+    (f : Failure) → IsErrAnd r (λ y. y ≡ f) → f ≡ NoMemory → Does c s held text b b r
+passes_memory c s held text b r f is memory =
+    passes_on c s held text b r f is (subst (Explains c s held text) (sym memory) tt)
+    (λ write. other_failure NoMemory tt (sym memory ∙ write))
+
+-- ---- answers
+
+-- the code of a program that a text spells
+abbrev pub code_of_text : (text : List ℕ) (typed : Typed) → AreTokensOf (chars text) (spelling (program_of typed))
+    → IsCodeOf text (code_of typed)
+code_of_text text typed spelled = record {
+  program = program_of typed;
+  spelled = spelled;
+  right = typed.right;
+  resolved = typed.resolved;
+}
+
+module _ (text told : List ℕ) (kept typed : Typed) (same : typed ≡ kept)
+    (spelled : AreTokensOf (chars text) (spelling (program_of kept))) (accepted : IsAccepted (code_of typed)) where
+  spelled_so : AreTokensOf (chars text) (spelling (program_of typed))
+  spelled_so = subst (λ (t : Typed). AreTokensOf (chars text) (spelling (program_of t))) (sym same) spelled
+
+  -- the listing of an accepted program
+  pub listing_answers : told ≡ listed (program_of typed) → AnswersList text told 0
+  listing_answers is = record {
+    code = code_of typed;
+    is_code = code_of_text text typed spelled_so;
+    accepted = accepted;
+    told_is = is;
+    status_is = refl;
+  }
+
+  -- the line that tells an accepted program
+  pub line_answers : told ≡ accepted_text (code_of typed) → AnswersCheck text told 0
+  line_answers is = record {
+    code = code_of typed;
+    is_code = code_of_text text typed spelled_so;
+    accepted = accepted;
+    told_is = is;
+    status_is = refl;
+  }
+
+-- pairs as they are kept are listed as those of the program
+listed_as : (has meets : ℕ → ℕ → Type 0) → ((x y : ℕ) → has x y ↔ meets x y) → (pairs : List (ℕ × ℕ))
+    → AreListed has pairs → AreListed meets pairs
+listed_as has meets same pairs listed = record {
+  smaller_first = listed.smaller_first;
+  only = λ x y m. (same x y).0 (listed.only x y m);
+  every = λ x y le meet. listed.every x y le ((same x y).1 meet);
+  ascending = listed.ascending;
+}
+
+-- the pairs of labels that may run together
+pub pairs_answer : (text : List ℕ) (code : Program) (kept : KeptPairs) (list : List (ℕ × ℕ)) → IsCodeOf text code
+    → ArePairs code kept → AreListed (HasPair kept) list → AnswersPairs text (flat_map pair_text list) 0
+pairs_answer text code kept list is_code are listed = record {
+  code = code;
+  is_code = is_code;
+  pairs = list;
+  listed = listed_as (HasPair kept) (LabelsMeet code) are list listed;
+  told_is = refl;
+  status_is = refl;
+}
+
+-- what was shown is the answer, or a beginning of it
+pub shown : (c : Command) (s : Settings) (held : Held) (text : List ℕ) (old new : Option (List ℕ)) (r : Result ℕ Failure)
+    (told : List ℕ) (status : ℕ) → Answers c s held text told status → Writes old new r told → IfOk r (λ x. x ≡ status)
+    → IfErr r (λ f. f ≡ CannotWriteOutput) → Does c s held text old new r
+shown c s held text old new (Ok x) told status answers written is only = record {
+  told = told;
+  answers = subst (Answers c s held text told) (sym is) answers;
+  written = written;
+}
+shown c s held text old new (Err f) told status answers written is only = record {
+  why = subst (Explains c s held text) (sym only) tt;
+  silent = λ other. absurd (other only);
+  begun = λ _. record { told = told; status = status; answers = answers; begun = written };
+}
+
+pub outcome_shown : (arrays : Bool) (code : Program) (o p : Outcome) (declared : List Array) → o ≡ p → declared ≡ code.arrays
+    → Shows arrays p code (outcome_text declared arrays o) (status_of o)
+outcome_shown arrays code o p declared same are = record {
+  told_is = ap (λ (d : List Array). outcome_text d arrays o) are ∙ ap (outcome_text code.arrays arrays) same;
+  status_is = ap status_of same;
+}
+
+-- ---- runs by choices
+
+ends_not_open : (o : Outcome) (leaves : ℕ) → Ends o ≡ Open leaves → ⊥
+ends_not_open o leaves is = cc
+
+-- the outcome to which it comes
+pub outcome_explored : (s : Settings) (held : Held) (text : List ℕ) (o : Outcome) (declared : List Array)
+    (by : Explores s held text (Ends o)) → declared ≡ by.run.code.arrays
+    → AnswersExplore s held text (outcome_text declared s.arrays o) (status_of o)
+outcome_explored s held text o declared by are = record {
+  comes_to = Ends o;
+  explores = by;
+  open_yet = λ leaves is. absurd (ends_not_open o leaves is);
+  told_is = ap (λ (d : List Array). Some (outcome_text d s.arrays o)) (sym are);
+  status_is = refl;
+}
+
+-- the leaves that may step
+pub open_explored : (s : Settings) (held : Held) (text : List ℕ) (leaves : ℕ) (by : Explores s held text (Open leaves))
+    → ((n : ℕ) → Open leaves ≡ Open n → 0 < n) → AnswersExplore s held text (open_text leaves) 3
+open_explored s held text leaves by some =
+    record { comes_to = Open leaves; explores = by; open_yet = some; told_is = refl; status_is = refl }
+
+-- a choice that names no leaf
+pub no_leaf : (s : Settings) (held : Held) (text : List ℕ) (b : Option (List ℕ)) (n : ℕ)
+    → Explores s held text (NoSuchChoice n) → Failed Explore s held text b b (NoLeaf n)
+no_leaf s held text b n by =
+    refuses Explore s held text b (NoLeaf n) (record { by_choices = refl; explores = by }) (other_failure (NoLeaf n) tt)
+
+-- ---- a run without choices
+
+module _ (s : Settings) (held : Held) (text : List ℕ) (run : IsExplored s held text) where
+  no_choices_explained : (f : Failure) → TellsNoChoices s.choices held f → Explains Explore s held text f
+  no_choices_explained ChoicesNotUnderstood told = record { by_choices = refl; run = run; why = told }
+  no_choices_explained (CannotRead name) told = inr (record { by_choices = refl; run = run; why = told })
+  no_choices_explained NoMemory told = tt
+  no_choices_explained _ told = absurd told
+
+  no_choices_other : (f : Failure) → TellsNoChoices s.choices held f → IsOther f
+  no_choices_other CannotWriteOutput told = told
+  no_choices_other _ told = tt
+
+  pub passes_no_choices : (later : Held) → later ≡ held → (b : Option (List ℕ)) (r : Result ℕ Failure) (f : Failure)
+      → IsErrAnd r (λ y. y ≡ f) → TellsNoChoices s.choices later f → Does Explore s held text b b r
+  passes_no_choices later keeps b r f is tells =
+      let told = subst (λ (h : Held). TellsNoChoices s.choices h f) keeps tells in
+      passes_on Explore s held text b r f is (no_choices_explained f told) (other_failure f (no_choices_other f told))
+
+-- what was explored of a program that was accepted
+module _ (s : Settings) (held : Held) (text : List ℕ) (kept typed : Typed) (same : typed ≡ kept)
+    (spelled : AreTokensOf (chars text) (spelling (program_of kept))) (accepted : IsAccepted (code_of typed))
+    (input : List (List ℤ)) (begins : BeginsWith s.input held (code_of typed).arrays input) where
+  abbrev pub is_explored : IsExplored s held text
+  is_explored = record {
+    code = code_of typed;
+    is_code = code_of_text text typed
+        (subst (λ (t : Typed). AreTokensOf (chars text) (spelling (program_of t))) (sym same) spelled);
+    accepted = accepted;
+    input = input;
+    begins = begins;
+  }
+
+  abbrev pub explores : (later : Held) → later ≡ held → (e : Explored) → ComesTo s.choices later (code_of kept) input e
+      → Explores s held text e
+  explores later keeps e by = record {
+    run = is_explored;
+    by_choices = subst (λ (h : Held). ComesTo s.choices h (code_of typed) input e) keeps
+        (subst (λ (t : Typed). ComesTo s.choices later (code_of t) input e) (sym same) by);
+  }

@@ -1,0 +1,255 @@
+-- What a command answers to the text of a program, and why it fails.
+use Rattle.std.specs.Prelude.{ℕ, ℤ, ◌≡◌, ◌≢◌, ◌<◌, ◌⊎◌, List, [], Bool, false, codes, IsTrue}
+use Rattle.std.specs.Prelude.{Option, Some, None, Result, MatchResult}
+use Rattle.std.specs.Io.KnownBytes.{Appends, Keeps}
+use Rattle.std.specs.List.{flat_map}
+use Rattle.std.specs.Str.{chars}
+use Rattle.std.specs.String.{string_bytes}
+use Rattle.syntax.specs.Canonical.{listed}
+use Rattle.syntax.specs.Lexical.{AreTokensOf}
+use Rattle.syntax.specs.Refusals.{Tells as IsErrorOfText}
+use Rattle.syntax.specs.Spelling.{spelling}
+use Rattle.syntax_tree.specs.Tree as tree
+use Rattle.types.specs.Code.{Program}
+use Rattle.types.specs.Outcome.{Outcome, outcome}
+use Rattle.types.specs.Resolution.{resolution}
+use Rattle.types.specs.Rules.{BreaksNoRule, errors_of}
+use Rattle.types.specs.Told.{Told}
+use Rattle.types.specs.TreeRuns.{Explored, Open, NoSuchChoice}
+use Rattle.types.specs.Typed.{code_of}
+use Rattle.types.specs.declared.error.TypeError.{TypeError}
+use Rattle.parallel_relation.specs.Pairs.{AreListed}
+use Rattle.parallel_relation.specs.Together.{LabelsMeet}
+use Rattle.race_checker.specs.Clash.{IsAccepted}
+use Rattle.race_checker.specs.Races.{IsLeastRace, Race as ProgramRace}
+use Rattle.texts.specs.Appending.{AppendsBeginning}
+use Rattle.gather.specs.declared.run_error.RunError.TheVariants.{OutOfMemory as NoMemoryInRun}
+use Rattle.answers.specs.Chosen.{ComesTo}
+use Rattle.intake.specs.Choosing.{TellsNoChoices}
+use Rattle.texts.specs.ExploredText.{explored_text, explored_status}
+use Rattle.intake.specs.Failures.{told_procedure, IsToldAs}
+use Rattle.intake.specs.Held.{Held, BeginsWith, TellsNoInput}
+use Rattle.texts.specs.Labels.{accepted_text, pair_text}
+use Rattle.texts.specs.OutcomeText.{outcome_text, status_of}
+use Rattle.command_line.specs.Requests.{Settings}
+use Rattle.intake.specs.declared.failure.Failure.{Failure}
+use Rattle.intake.specs.declared.failure.Failure.TheVariants.{CannotRead, NotUtf8, Syntax, Types}
+use Rattle.intake.specs.declared.failure.Failure.TheVariants.{Race, NoMemoryInCheck, Input}
+use Rattle.intake.specs.declared.failure.Failure.TheVariants.{CannotWriteOutput, NoMemory}
+use Rattle.intake.specs.declared.failure.Failure.TheVariants.{ChoicesNotUnderstood, NoLeaf}
+use Rattle.intake.specs.declared.failure.Failure.TheVariants.{Run as RunFailed}
+use Rattle.command_line.specs.declared.request.Command.{Command}
+use Rattle.command_line.specs.declared.request.Command.TheVariants.{Run, Serial, Check, Listing, Pairs, Explore}
+
+-- the text spells a program that breaks no rule, of which this is the code
+pub record IsCodeOf (text : List ℕ) (code : Program) : Type 0 where
+  pub program : tree.Program
+  pub spelled : AreTokensOf (chars text) (spelling program)
+  pub right : BreaksNoRule program
+  pub resolved : resolution program ≡ Some code
+
+-- the command runs the program
+abbrev pub IsRunBy : Command → Program → Type 0
+IsRunBy Run code = IsAccepted code
+IsRunBy Serial code = Unit {0}
+IsRunBy Check code = ⊥
+IsRunBy Listing code = ⊥
+IsRunBy Pairs code = ⊥
+IsRunBy Explore code = IsAccepted code
+
+-- ---- answers
+
+-- the text of an outcome, with the arrays if they are asked for, and its status
+pub record Shows (arrays : Bool) (o : Outcome) (code : Program) (told : List ℕ) (status : ℕ)
+    : Type 0 where
+  pub told_is : told ≡ outcome_text code.arrays arrays o
+  pub status_is : status ≡ status_of o
+
+-- `serial`: the one-thread outcome of the text's program, of the input and under the budget given
+pub record AnswersSerial (s : Settings) (held : Held) (text told : List ℕ) (status : ℕ) : Type 0 where
+  pub code : Program
+  pub is_code : IsCodeOf text code
+  pub input : List (List ℤ)
+  pub begins : BeginsWith s.input held code.arrays input
+  pub shows : Shows s.arrays (outcome code input s.budget) code told status
+
+-- `run`: the text's program has no race; the same outcome
+pub record AnswersRun (s : Settings) (held : Held) (text told : List ℕ) (status : ℕ) : Type 0 where
+  pub code : Program
+  pub is_code : IsCodeOf text code
+  pub accepted : IsAccepted code
+  pub input : List (List ℤ)
+  pub begins : BeginsWith s.input held code.arrays input
+  pub shows : Shows s.arrays (outcome code input s.budget) code told status
+
+-- `check`: the text's program has no race, and the line tells how many procedures and labels it has
+pub record AnswersCheck (text told : List ℕ) (status : ℕ) : Type 0 where
+  pub code : Program
+  pub is_code : IsCodeOf text code
+  pub accepted : IsAccepted code
+  pub told_is : told ≡ accepted_text code
+  pub status_is : status ≡ 0
+
+-- `check --list`: the listing of the text's program, which has no race
+pub record AnswersList (text told : List ℕ) (status : ℕ) : Type 0 where
+  pub code : Program
+  pub is_code : IsCodeOf text code
+  pub accepted : IsAccepted code
+  pub told_is : told ≡ listed is_code.program
+  pub status_is : status ≡ 0
+
+-- `mhp`: the pairs of labels of the text's program that may run together, ascending, a line each
+pub record AnswersPairs (text told : List ℕ) (status : ℕ) : Type 0 where
+  pub code : Program
+  pub is_code : IsCodeOf text code
+  pub pairs : List (ℕ × ℕ)
+  pub listed : AreListed (LabelsMeet code) pairs
+  pub told_is : told ≡ flat_map pair_text pairs
+  pub status_is : status ≡ 0
+
+-- the text's program has no race, and this is its input
+pub record IsExplored (s : Settings) (held : Held) (text : List ℕ) : Type 0 where
+  pub code : Program
+  pub is_code : IsCodeOf text code
+  pub accepted : IsAccepted code
+  pub input : List (List ℤ)
+  pub begins : BeginsWith s.input held code.arrays input
+
+-- what its run comes to by the choices that are given
+pub record Explores (s : Settings) (held : Held) (text : List ℕ) (e : Explored) : Type 0 where
+  pub run : IsExplored s held text
+  pub by_choices : ComesTo s.choices held run.code run.input e
+
+-- `explore`: the text of what the run by choices comes to; where it is open, a leaf may step
+pub record AnswersExplore (s : Settings) (held : Held) (text told : List ℕ) (status : ℕ)
+    : Type 0 where
+  pub comes_to : Explored
+  pub explores : Explores s held text comes_to
+  pub open_yet : (leaves : ℕ) → comes_to ≡ Open leaves → 0 < leaves
+  pub told_is : explored_text explores.run.code.arrays s.arrays comes_to ≡ Some told
+  pub status_is : status ≡ explored_status comes_to
+
+-- the text told, with its status, answers what is asked of a program's text
+abbrev pub Answers : Command → Settings → Held → (text told : List ℕ) → (status : ℕ) → Type 0
+Answers Run s held text told status = AnswersRun s held text told status
+Answers Serial s held text told status = AnswersSerial s held text told status
+Answers Check s held text told status = AnswersCheck text told status
+Answers Listing s held text told status = AnswersList text told status
+Answers Pairs s held text told status = AnswersPairs text told status
+Answers Explore s held text told status = AnswersExplore s held text told status
+
+-- ---- failures
+
+-- the text spells a program, and the error is one of it, or want of memory
+pub record BreaksRule (text : List ℕ) (e : TypeError) : Type 0 where
+  pub program : tree.Program
+  pub spelled : AreTokensOf (chars text) (spelling program)
+  pub broken : Told (errors_of program) e
+
+-- why a text has no code, memory aside: it spells no program, or one that breaks a rule
+abbrev pub TellsNoCode : (text : List ℕ) → Failure → Type 0
+TellsNoCode text (Syntax e) = IsErrorOfText text e
+TellsNoCode text (Types e) = BreaksRule text e
+TellsNoCode text _ = ⊥
+
+-- C1: the text's program has a race, and the least one is told
+pub record HasRace (text procedure first second : List ℕ) : Type 0 where
+  pub code : Program
+  pub is_code : IsCodeOf text code
+  pub race : ProgramRace
+  pub least : IsLeastRace code race
+  pub told : IsToldAs (told_procedure code race.procedure) race procedure first second
+
+abbrev pub TellsRaceTo : Command → (text procedure first second : List ℕ) → Type 0
+TellsRaceTo Run text procedure first second = HasRace text procedure first second
+TellsRaceTo Serial text procedure first second = ⊥
+TellsRaceTo Check text procedure first second = HasRace text procedure first second
+TellsRaceTo Listing text procedure first second = HasRace text procedure first second
+TellsRaceTo Pairs text procedure first second = ⊥
+TellsRaceTo Explore text procedure first second = HasRace text procedure first second
+
+-- the command looks for races
+abbrev pub LooksForRaces : Command → Type 0
+LooksForRaces Run = Unit {0}
+LooksForRaces Serial = ⊥
+LooksForRaces Check = Unit {0}
+LooksForRaces Listing = Unit {0}
+LooksForRaces Pairs = ⊥
+LooksForRaces Explore = Unit {0}
+
+-- why a text has no accepted program, memory aside
+abbrev pub TellsNotAccepted : (text : List ℕ) → Failure → Type 0
+TellsNotAccepted text (Syntax e) = TellsNoCode text (Syntax e)
+TellsNotAccepted text (Types e) = TellsNoCode text (Types e)
+TellsNotAccepted text (Race procedure first second) =
+    HasRace text (string_bytes procedure) (string_bytes first) (string_bytes second)
+TellsNotAccepted text NoMemoryInCheck = Unit {0}
+TellsNotAccepted text _ = ⊥
+
+-- the text's program is run, but there is no input, as the failure says
+pub record LacksInput (c : Command) (s : Settings) (held : Held) (text : List ℕ) (f : Failure)
+    : Type 0 where
+  pub code : Program
+  pub is_code : IsCodeOf text code
+  pub is_run : IsRunBy c code
+  pub why : TellsNoInput s.input held code.arrays f
+
+-- the text's program is run by choices, but there are none, as the failure says
+pub record LacksChoices (c : Command) (s : Settings) (held : Held) (text : List ℕ) (f : Failure)
+    : Type 0 where
+  pub by_choices : c ≡ Explore
+  pub run : IsExplored s held text
+  pub why : TellsNoChoices s.choices held f
+
+-- the text's program is run by choices, and the one with this number is the first that names no leaf
+pub record LacksLeaf (c : Command) (s : Settings) (held : Held) (text : List ℕ) (n : ℕ)
+    : Type 0 where
+  pub by_choices : c ≡ Explore
+  pub explores : Explores s held text (NoSuchChoice n)
+
+-- a failure is one of the text, for what was asked; only want of memory is free
+abbrev pub Explains : Command → Settings → Held → (text : List ℕ) → Failure → Type 0
+Explains c s held text (CannotRead name) =
+    (LacksInput c s held text (CannotRead name)) ⊎ (LacksChoices c s held text (CannotRead name))
+Explains c s held text (NotUtf8 name) = LacksInput c s held text (NotUtf8 name)
+Explains c s held text (Syntax e) = TellsNoCode text (Syntax e)
+Explains c s held text (Types e) = TellsNoCode text (Types e)
+Explains c s held text (Race procedure first second) =
+    TellsRaceTo c text (string_bytes procedure) (string_bytes first) (string_bytes second)
+Explains c s held text NoMemoryInCheck = LooksForRaces c
+Explains c s held text (Input e) = LacksInput c s held text (Input e)
+Explains c s held text (RunFailed e) = (c ≡ Run) × (e ≡ NoMemoryInRun)
+Explains c s held text ChoicesNotUnderstood = LacksChoices c s held text ChoicesNotUnderstood
+Explains c s held text (NoLeaf n) = LacksLeaf c s held text n
+Explains c s held text CannotWriteOutput = Unit {0}
+Explains c s held text NoMemory = Unit {0}
+
+-- ---- what was done
+
+-- an answer was written whole, and its status given
+pub record Wrote (c : Command) (s : Settings) (held : Held) (text : List ℕ)
+    (old new : Option (List ℕ)) (status : ℕ) : Type 0 where
+  pub told : List ℕ
+  pub answers : Answers c s held text told status
+  pub written : Appends old new told
+
+-- an answer was begun
+pub record Began (c : Command) (s : Settings) (held : Held) (text : List ℕ)
+    (old new : Option (List ℕ)) : Type 0 where
+  pub told : List ℕ
+  pub status : ℕ
+  pub answers : Answers c s held text told status
+  pub begun : AppendsBeginning old new told
+
+-- there is a reason; nothing was written, or, where writing failed, a beginning of the answer
+pub record Failed (c : Command) (s : Settings) (held : Held) (text : List ℕ)
+    (old new : Option (List ℕ)) (f : Failure) : Type 0 where
+  pub why : Explains c s held text f
+  pub silent : f ≢ CannotWriteOutput → Keeps old new
+  pub begun : f ≡ CannotWriteOutput → Began c s held text old new
+
+-- what is asked was done with the text of a program
+abbrev pub Does : Command → Settings → Held → (text : List ℕ) → (old new : Option (List ℕ))
+    → Result ℕ Failure → Type 0
+Does c s held text old new r =
+    MatchResult r (Wrote c s held text old new) (Failed c s held text old new)

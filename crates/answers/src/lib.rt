@@ -1,0 +1,9 @@
+//! What each command answers to the text of a program, but for a run as tasks.
+
+#![tactic(auto)]
+
+pub mod exploring;
+pub mod programs;
+pub mod running;
+pub mod showing;
+pub mod telling;

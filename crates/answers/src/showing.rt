@@ -1,0 +1,76 @@
+//! An answer written, and its exit status.
+
+ghost use Rattle.std.specs.Prelude.{◌≡◌, map, IfOk, IfErr};
+ghost use Rattle.std.specs.List.{flat_map};
+ghost use Rattle.types.specs.Translation.{array, outcome as outcome_of};
+ghost use Rattle.parallel_relation.specs.Pairs.{pairs_left};
+ghost use Rattle.texts.specs.Appending.{Writes};
+ghost use Rattle.texts.specs.ExploredText.{open_text};
+ghost use Rattle.texts.specs.Labels.{pair_text};
+ghost use Rattle.texts.specs.OutcomeText.{outcome_text, status_of};
+
+use intake::failure::Failure;
+use parallel_relation::pairs::PairList;
+use std::io::Write;
+use texts::emit::{append, emit, emit_open, emit_pairs};
+use types::code::Array;
+use types::outcome::Outcome;
+
+/// Writes an outcome, with the arrays if they are asked for, and gives its exit status: 0 ended, 2 ended with
+/// faults, 3 stopped.
+pub fn show<O: Write>(
+    out: &mut O,
+    declared: &[Array],
+    outcome: &Outcome,
+    arrays: bool,
+) -> Result<u8, Failure>
+    ensures text { Writes (O.contents out.old) (O.contents out.new) result
+        (outcome_text (map array declared.now) arrays (outcome_of outcome.now)) }
+    ensures status { IfOk result (λ status. status ≡ status_of (outcome_of outcome.now)) }
+    ensures failure { IfErr result (λ failure. failure ≡ Failure.CannotWriteOutput) }
+{
+    if emit(out, outcome, declared, arrays).is_err() {
+        return Err(Failure::CannotWriteOutput);
+    }
+    match outcome {
+        Outcome::Stopped => Ok(3),
+        Outcome::Ended { faults, .. } => Ok(if faults.is_empty() { 0 } else { 2 }),
+    }
+}
+
+/// Writes how many leaves may step; the status is 3.
+pub fn show_open<O: Write>(out: &mut O, leaves: u32) -> Result<u8, Failure>
+    ensures text { Writes (O.contents out.old) (O.contents out.new) result (open_text leaves) }
+    ensures status { IfOk result (λ status. status ≡ 3) }
+    ensures failure { IfErr result (λ failure. failure ≡ Failure.CannotWriteOutput) }
+{
+    match emit_open(out, leaves) {
+        Ok(()) => Ok(3),
+        Err(_) => Err(Failure::CannotWriteOutput),
+    }
+}
+
+/// Writes an answer whose status is 0.
+pub fn answer<O: Write>(out: &mut O, text: &str) -> Result<u8, Failure>
+    ensures text { Writes (O.contents out.old) (O.contents out.new) result text.now }
+    ensures status { IfOk result (λ status. status ≡ 0) }
+    ensures failure { IfErr result (λ failure. failure ≡ Failure.CannotWriteOutput) }
+{
+    match append(out, text.as_bytes()) {
+        Ok(()) => Ok(0),
+        Err(_) => Err(Failure::CannotWriteOutput),
+    }
+}
+
+/// Writes pairs of labels, a line each; the status is 0.
+pub fn answer_pairs<O: Write>(out: &mut O, pairs: PairList<'_>) -> Result<u8, Failure>
+    ensures text { Writes (O.contents out.old) (O.contents out.new) result
+        (flat_map pair_text (pairs_left pairs.entry)) }
+    ensures status { IfOk result (λ status. status ≡ 0) }
+    ensures failure { IfErr result (λ failure. failure ≡ Failure.CannotWriteOutput) }
+{
+    match emit_pairs(out, pairs) {
+        Ok(()) => Ok(0),
+        Err(_) => Err(Failure::CannotWriteOutput),
+    }
+}

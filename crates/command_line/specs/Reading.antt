@@ -1,0 +1,152 @@
+-- How the words of a command line are read that name a command, a file and options behind it.
+use Rattle.std.specs.Prelude.{ℕ, ◌&&◌, List, [], ◌∷◌, Bool, true, false, codes, if◌then◌else◌}
+use Rattle.std.specs.Prelude.{Option, Some, None, option_map}
+use Rattle.std.specs.Str.{bytes_eq}
+use Rattle.command_line.specs.Requests.{Texts, is_file_name}
+use Rattle.command_line.specs.declared.request.Command.{Command}
+use Rattle.command_line.specs.declared.request.Command.TheVariants.{Run, Serial, Check, Listing, Pairs, Explore}
+use Rattle.command_line.specs.declared.plain.Line.{Line as rLine}
+use Rattle.command_line.specs.declared.plain.Texts.{Texts as rTexts}
+
+-- a command, a file, and the texts behind options
+pub record Line : Type 0 where
+  pub command : Command
+  pub file : List ℕ
+  pub texts : Texts
+
+abbrev pub texts_of : rTexts → Texts
+texts_of t = record {
+  input = option_map (λ s. s.now) t.input;
+  steps = option_map (λ s. s.now) t.steps;
+  nest = option_map (λ s. s.now) t.nest;
+  choices = option_map (λ s. s.now) t.choices;
+  choices_from = option_map (λ s. s.now) t.choices_from;
+  random = option_map (λ s. s.now) t.random;
+  arrays = t.arrays;
+}
+
+abbrev pub line_of : rLine → Line
+line_of l = record { command = l.command; file = l.file.now; texts = texts_of l.texts }
+
+-- a line without options
+abbrev pub bare : Command → (file : List ℕ) → Line
+bare command file = record {
+  command = command;
+  file = file;
+  texts = record {
+    input = None;
+    steps = None;
+    nest = None;
+    choices = None;
+    choices_from = None;
+    random = None;
+    arrays = false;
+  };
+}
+
+-- the value behind an option that stands first, and the words behind both
+abbrev pub taken : (option : List ℕ) → List (List ℕ) → Option (List ℕ) × List (List ℕ)
+taken option [] = (None, [])
+taken option (word ∷ []) = (None, word ∷ [])
+taken option (word ∷ value ∷ behind) =
+    if bytes_eq word option then (Some value, behind) else (None, word ∷ value ∷ behind)
+
+-- the last option, which has no value
+abbrev pub read_arrays : List (List ℕ) → Option Bool
+read_arrays [] = Some false
+read_arrays (word ∷ []) = if bytes_eq word (codes "--arrays") then Some true else None
+read_arrays (word ∷ other ∷ behind) = None
+
+-- the options of a run
+abbrev pub read_texts : List (List ℕ) → Option Texts
+read_texts words =
+    let input = taken (codes "--input") words in
+    let steps = taken (codes "--steps") input.1 in
+    let nest = taken (codes "--nest") steps.1 in
+    option_map (λ arrays. let t : Texts = record {
+      input = input.0;
+      steps = steps.0;
+      nest = nest.0;
+      choices = None;
+      choices_from = None;
+      random = None;
+      arrays = arrays;
+    } in t)
+    (read_arrays nest.1)
+
+-- the options of a run by choices
+abbrev pub read_choosing : List (List ℕ) → Option Texts
+read_choosing words =
+    let input = taken (codes "--input") words in
+    let choices = taken (codes "--choices") input.1 in
+    let choices_from = taken (codes "--choices-from") choices.1 in
+    let random = taken (codes "--random") choices_from.1 in
+    option_map (λ arrays. let t : Texts = record {
+      input = input.0;
+      steps = None;
+      nest = None;
+      choices = choices.0;
+      choices_from = choices_from.0;
+      random = random.0;
+      arrays = arrays;
+    } in t)
+    (read_arrays random.1)
+
+-- the words behind a command that runs
+abbrev pub read_run : Command → (file : List ℕ) → (behind : List (List ℕ)) → Option Line
+read_run command file behind =
+    if is_file_name file
+    then option_map (λ texts. let line : Line = record {
+      command = command;
+      file = file;
+      texts = texts;
+    } in line)
+    (read_texts behind) else None
+
+-- the words behind `explore`
+abbrev pub read_explore : (file : List ℕ) → (behind : List (List ℕ)) → Option Line
+read_explore file behind =
+    if is_file_name file
+    then option_map (λ texts. let line : Line = record {
+      command = Explore;
+      file = file;
+      texts = texts;
+    } in line)
+    (read_choosing behind) else None
+
+-- a command with a file alone
+abbrev pub read_file : Command → (file : List ℕ) → Option Line
+read_file command file =
+    if is_file_name file then Some (bare command file) else None
+
+-- the two words behind `check`, one of which is its option
+abbrev pub read_listing : (one other : List ℕ) → Option Line
+read_listing one other =
+    if bytes_eq one (codes "--list") && is_file_name other then Some (bare Listing other) else
+    (if bytes_eq other (codes "--list") then read_file Listing one else None)
+
+-- the words behind `check`
+abbrev pub read_check : (one : List ℕ) → (others : List (List ℕ)) → Option Line
+read_check one [] = read_file Check one
+read_check one (other ∷ []) = read_listing one other
+read_check one (other ∷ third ∷ behind) = None
+
+-- the words behind a command that takes a file alone
+abbrev pub read_alone : Command → (file : List ℕ) → (behind : List (List ℕ)) → Option Line
+read_alone command file [] = read_file command file
+read_alone command file (other ∷ behind) = None
+
+-- the words behind a command
+abbrev pub read_behind : (command file : List ℕ) → (behind : List (List ℕ)) → Option Line
+read_behind command file behind =
+    if bytes_eq command (codes "run") then read_run Run file behind else
+    (if bytes_eq command (codes "serial") then read_run Serial file behind else
+    (if bytes_eq command (codes "check") then read_check file behind else
+    (if bytes_eq command (codes "mhp") then read_alone Pairs file behind else
+    (if bytes_eq command (codes "explore") then read_explore file behind else None))))
+
+-- the words of a command line
+abbrev pub read : List (List ℕ) → Option Line
+read [] = Some (bare Run (codes "-"))
+read (command ∷ []) = None
+read (command ∷ file ∷ behind) = read_behind command file behind

@@ -1,0 +1,9 @@
+//! What the words of a command line ask.
+
+#![tactic(auto)]
+
+pub mod by_clap;
+pub mod plain;
+pub mod request;
+pub mod settings;
+pub mod words;

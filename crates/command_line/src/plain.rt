@@ -1,0 +1,248 @@
+//! Words that name a command, a file and options behind it, in their order.
+
+ghost use Rattle.std.specs.Prelude.{◌≡◌, map, option_map};
+ghost use Rattle.std.specs.String.{string_bytes};
+ghost use Rattle.command_line.specs.Reading.{bare as bare_line, line_of, read, read_alone};
+ghost use Rattle.command_line.specs.Reading.{read_arrays, read_behind, read_check, read_choosing};
+ghost use Rattle.command_line.specs.Reading.{read_explore, read_file, read_listing, read_run};
+ghost use Rattle.command_line.specs.Reading.{read_texts, taken, texts_of};
+ghost use Rattle.command_line.specs.Requests.{is_file_name as names_file};
+
+use crate::request::Command;
+
+/// A command line that names a command, a file and options behind it.
+#[derive(Clone, Copy)]
+pub struct Line<'w> {
+    pub command: Command,
+    pub file: &'w str,
+    pub texts: Texts<'w>,
+}
+
+/// What stands behind the options of a command line, as it is written.
+#[derive(Clone, Copy)]
+pub struct Texts<'w> {
+    pub input: Option<&'w str>,
+    pub steps: Option<&'w str>,
+    pub nest: Option<&'w str>,
+    pub choices: Option<&'w str>,
+    pub choices_from: Option<&'w str>,
+    pub random: Option<&'w str>,
+    pub arrays: bool,
+}
+
+/// The line of words. No word at all means `run -`.
+pub fn line_in<'w>(words: &'w [String]) -> Option<Line<'w>>
+    ensures { option_map line_of result ≡ read (map string_bytes words.now) }
+{
+    match words {
+        [] => Some(bare(Command::Run, "-")),
+        [_] => None,
+        [command, file, behind @ ..] => line_behind(command.as_str(), file.as_str(), behind),
+    }
+}
+
+/// The line of a command and the words behind it.
+fn line_behind<'w>(command: &str, file: &'w str, behind: &'w [String]) -> Option<Line<'w>>
+    ensures { option_map line_of result
+        ≡ read_behind command.now file.now (map string_bytes behind.now) }
+{
+    if command == "run" {
+        run_line(Command::Run, file, behind)
+    } else if command == "serial" {
+        run_line(Command::Serial, file, behind)
+    } else if command == "check" {
+        check_line(file, behind)
+    } else if command == "mhp" {
+        alone_line(Command::Pairs, file, behind)
+    } else if command == "explore" {
+        explore_line(file, behind)
+    } else {
+        None
+    }
+}
+
+/// A line of a command that runs.
+fn run_line<'w>(command: Command, file: &'w str, behind: &'w [String]) -> Option<Line<'w>>
+    ensures { option_map line_of result
+        ≡ read_run command file.now (map string_bytes behind.now) }
+{
+    if is_file_name(file) {
+        let texts = texts_in(behind)?;
+        Some(Line {
+            command,
+            file,
+            texts,
+        })
+    } else {
+        None
+    }
+}
+
+/// The texts behind options: `--input FILE --steps N --nest N --arrays`, each of which may be left out.
+fn texts_in<'w>(words: &'w [String]) -> Option<Texts<'w>>
+    ensures { option_map texts_of result ≡ read_texts (map string_bytes words.now) }
+{
+    let (input, words) = take("--input", words);
+    let (steps, words) = take("--steps", words);
+    let (nest, words) = take("--nest", words);
+    let arrays = arrays_in(words)?;
+    Some(Texts {
+        input,
+        steps,
+        nest,
+        choices: None,
+        choices_from: None,
+        random: None,
+        arrays,
+    })
+}
+
+/// A line of `explore`.
+fn explore_line<'w>(file: &'w str, behind: &'w [String]) -> Option<Line<'w>>
+    ensures { option_map line_of result ≡ read_explore file.now (map string_bytes behind.now) }
+{
+    if is_file_name(file) {
+        let texts = choosing_texts_in(behind)?;
+        Some(Line {
+            command: Command::Explore,
+            file,
+            texts,
+        })
+    } else {
+        None
+    }
+}
+
+/// The texts behind options: `--input FILE --choices LIST --choices-from FILE --random SEED --arrays`,
+/// each of which may be left out.
+fn choosing_texts_in<'w>(words: &'w [String]) -> Option<Texts<'w>>
+    ensures { option_map texts_of result ≡ read_choosing (map string_bytes words.now) }
+{
+    let (input, words) = take("--input", words);
+    let (choices, words) = take("--choices", words);
+    let (choices_from, words) = take("--choices-from", words);
+    let (random, words) = take("--random", words);
+    let arrays = arrays_in(words)?;
+    Some(Texts {
+        input,
+        steps: None,
+        nest: None,
+        choices,
+        choices_from,
+        random,
+        arrays,
+    })
+}
+
+/// The value behind an option that stands first, and the words behind both.
+fn take<'w>(option: &str, words: &'w [String]) -> (Option<&'w str>, &'w [String])
+    ensures value { option_map (λ v. v.now) result.0
+        ≡ (taken option.now (map string_bytes words.now)).0 }
+    ensures behind { map string_bytes result.1.now
+        ≡ (taken option.now (map string_bytes words.now)).1 }
+{
+    match words {
+        [] => (None, words),
+        [_] => (None, words),
+        [first, value, behind @ ..] => {
+            if first.as_str() == option {
+                (Some(value.as_str()), behind)
+            } else {
+                (None, words)
+            }
+        }
+    }
+}
+
+/// Whether the arrays are asked for, where the words say nothing else.
+fn arrays_in(words: &[String]) -> Option<bool>
+    ensures { result ≡ read_arrays (map string_bytes words.now) }
+{
+    match words {
+        [] => Some(false),
+        [last] => {
+            if last.as_str() == "--arrays" {
+                Some(true)
+            } else {
+                None
+            }
+        }
+        [_, _, ..] => None,
+    }
+}
+
+/// A line of `check`: a file, with its option before or behind it, or without it.
+fn check_line<'w>(one: &'w str, others: &'w [String]) -> Option<Line<'w>>
+    ensures { option_map line_of result ≡ read_check one.now (map string_bytes others.now) }
+{
+    match others {
+        [] => file_line(Command::Check, one),
+        [other] => listing_line(one, other.as_str()),
+        [_, _, ..] => None,
+    }
+}
+
+/// A line of `check --list`.
+fn listing_line<'w>(one: &'w str, other: &'w str) -> Option<Line<'w>>
+    ensures { option_map line_of result ≡ read_listing one.now other.now }
+{
+    if one == "--list" && is_file_name(other) {
+        Some(bare(Command::Listing, other))
+    } else if other == "--list" {
+        file_line(Command::Listing, one)
+    } else {
+        None
+    }
+}
+
+/// A line of a command that takes a file alone.
+fn alone_line<'w>(command: Command, file: &'w str, behind: &'w [String]) -> Option<Line<'w>>
+    ensures { option_map line_of result
+        ≡ read_alone command file.now (map string_bytes behind.now) }
+{
+    match behind {
+        [] => file_line(command, file),
+        [_, ..] => None,
+    }
+}
+
+/// A line of a command and a file alone.
+fn file_line<'w>(command: Command, file: &'w str) -> Option<Line<'w>>
+    ensures { option_map line_of result ≡ read_file command file.now }
+{
+    if is_file_name(file) {
+        Some(bare(command, file))
+    } else {
+        None
+    }
+}
+
+/// A command and a file, without options.
+fn bare<'w>(command: Command, file: &'w str) -> Line<'w>
+    ensures { line_of result ≡ bare_line command file.now }
+{
+    Line {
+        command,
+        file,
+        texts: Texts {
+            input: None,
+            steps: None,
+            nest: None,
+            choices: None,
+            choices_from: None,
+            random: None,
+            arrays: false,
+        },
+    }
+}
+
+/// Whether a word names a file: it begins with no `-`, or it is `-` alone.
+pub fn is_file_name(word: &str) -> bool
+    ensures { result ≡ names_file word.now }
+{
+    match word.as_bytes() {
+        [] => true,
+        [_] => true,
+        [first, _, ..] => *first != b'-',
+    }
+}

@@ -1,9 +1,0 @@
-use Rattle.types.specs.Translation.{fault}
-use Rattle.driver.specs.OutcomeText.{fault_text}
-use Rattle.driver.proofs.Appending.{AppendsFirst}
-use Rattle.driver.proofs.emit.emit_faults.Given as goal
-
-abbrev pub invariant-loop-fault : goal.invariant-loop-fault
-invariant-loop-fault g l =
-    AppendsFirst (λ f. fault_text (fault f)) l.faults l.fault-index (g.W.Write.contents l.fn.out)
-    (g.W.Write.contents l.out)

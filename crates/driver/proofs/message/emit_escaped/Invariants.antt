@@ -1,7 +1,0 @@
-use Rattle.driver.specs.Messages.{escaped_byte}
-use Rattle.driver.proofs.Appending.{AppendsFirst}
-use Rattle.driver.proofs.message.emit_escaped.Given as goal
-
-abbrev pub invariant-loop-byte : goal.invariant-loop-byte
-invariant-loop-byte g l =
-    AppendsFirst escaped_byte l.name l.byte-index (g.W.Write.contents l.fn.err) (g.W.Write.contents l.err)

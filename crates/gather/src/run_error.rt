@@ -1,0 +1,58 @@
+//! Why a run has no outcome.
+
+ghost use Rattle.std.specs.Prelude.{◌≡◌};
+ghost use Rattle.gather.specs.RunErrors.{error_code, refused_by};
+ghost use Rattle.gather.specs.declared.run_error.RunError.TheVariants.{OutOfMemory};
+
+use crate::error::GatherError;
+use std::alloc::{AllocError, AllocFailed};
+
+/// Why a run has no outcome.
+#[derive(PartialEq, Eq, Debug, Drop)]
+pub enum RunError {
+    /// E1: memory. It is told too where a scope has issued weight as often as its book counts.
+    OutOfMemory,
+    /// E3: the results of tasks don't make a whole.
+    Gather(GatherError),
+}
+
+impl RunError {
+    /// The code that the program prints.
+    pub fn code(&self) -> &'static str
+        ensures { result.now ≡ error_code self.now }
+    {
+        match self {
+            RunError::OutOfMemory => "E1",
+            RunError::Gather(_) => "E3",
+        }
+    }
+}
+
+impl From<AllocError> for RunError {
+    ghost from_gives = { λ _ e. e ≡ OutOfMemory };
+
+    fn from(_error: AllocError) -> RunError {
+        RunError::OutOfMemory
+    }
+}
+
+impl<T: Drop> From<AllocFailed<T>> for RunError {
+    ghost from_gives = { λ _ e. e ≡ OutOfMemory };
+
+    fn from(_error: AllocFailed<T>) -> RunError {
+        RunError::OutOfMemory
+    }
+}
+
+impl From<GatherError> for RunError {
+    ghost from_gives = { λ error e. e ≡ refused_by error };
+
+    fn from(error: GatherError) -> RunError {
+        match error {
+            GatherError::OutOfMemory => RunError::OutOfMemory,
+            GatherError::Lost(_) | GatherError::Double(_) | GatherError::Stranger(_) => {
+                RunError::Gather(error)
+            }
+        }
+    }
+}

@@ -1,0 +1,5 @@
+pub mod Inputs
+pub mod Programs
+pub mod ReadChoices
+pub mod Statuses
+pub mod Zeros

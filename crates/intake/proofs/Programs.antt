@@ -1,0 +1,138 @@
+-- What the first bytes of a file say of all of it.
+use Rattle.std.proofs.Common.{◌≡◌, ◌⊎◌, inl, inr, ℕ, ◌<◌, ◌≤◌, List, length, take, sym, ap, ◌∙◌, subst, refl, arith}
+use Rattle.std.proofs.lemmas.Bool.{cases_lt}
+use Rattle.std.proofs.lemmas.List.{length-take-le, take_all}
+use Rattle.std.proofs.lemmas.Bool.Decides.{nat_tests}
+use Rattle.std.specs.Prelude.{Bool, true, if◌then◌else◌, nat_lt, Option, None, Some, Result, Ok, Err, option_map}
+use Rattle.intake.specs.Choices.{filed_within, nothing_read, read_of_file}
+use Rattle.intake.specs.Failures.{TellsNotUtf8, TellsUnread}
+use Rattle.intake.specs.Held.{Bytes, Held, HasNoProgramText, IsGiven, IsTooLong, TellsNoProgram, first}
+use Rattle.intake.specs.declared.failure.Failure.{Failure}
+use Rattle.intake.specs.declared.failure.Failure.TheVariants.{CannotRead, NotUtf8, NoMemory}
+use Rattle.intake.specs.declared.files.FileError.{FileError}
+use Rattle.intake.specs.declared.files.FileError.TheVariants.{Failed as Unread, NoMemory as NoMemoryInFile}
+
+-- ---- beginnings of a list
+
+too_few : (n m k : ℕ) → n < m → k ≤ n → k ≡ m → ⊥
+too_few n m k less few is = omega arith
+
+-- a beginning with fewer elements than it may have is the whole
+all_taken : (n m : ℕ) (xs : List ℕ) → n < m → length (take m xs) ≤ n → take m xs ≡ xs
+all_taken n m xs less few = elim (cases_lt m (length xs)) [
+  | inl more ↦ absurd (too_few n m (length (take m xs)) less few (length-take-le m xs (omega arith)))
+  | inr rest ↦ take_all m xs rest
+]
+
+beyond : (n m k l : ℕ) → n < k → k ≡ m → m < l → n < l
+beyond n m k l long is more = omega arith
+
+-- a beginning is no longer than the whole
+no_longer : (n m : ℕ) (xs : List ℕ) → n < length (take m xs) → n < length xs
+no_longer n m xs long = elim (cases_lt m (length xs)) [
+  | inl more ↦ beyond n m (length (take m xs)) (length xs) long (length-take-le m xs (omega arith)) more
+  | inr rest ↦ subst (λ (ys : List ℕ). n < length ys) (take_all m xs rest) long
+]
+
+-- ---- what is known of a file, and what was read of it
+
+abbrev read : List ℕ → Bytes
+read xs = Ok xs
+
+abbrev refused : FileError → Bytes
+refused e = Err e
+
+same_bytes : (xs ys : List ℕ) → read xs ≡ read ys → xs ≡ ys
+same_bytes xs ys is = cc
+
+was_read : (xs : List ℕ) (e : FileError) → read xs ≡ refused e → ⊥
+was_read xs e is = cc
+
+whole_of : (known : Option Bytes) (n m : ℕ) (xs : List ℕ) → n < m → length xs ≤ n
+    → IsGiven (option_map (first m) known) (Ok xs) → IsGiven known (Ok xs)
+whole_of None n m xs less few given = tt
+whole_of (Some (Ok whole)) n m xs less few given = λ other.
+    let is : xs ≡ take m whole = same_bytes xs (take m whole) (given other) in
+    ap read (is ∙ all_taken n m whole less (subst (λ (ys : List ℕ). length ys ≤ n) is few))
+whole_of (Some (Err e)) n m xs less few given = λ other. absurd (was_read xs e (given other))
+
+-- a file of which less was read than may be has no more
+pub given_whole : (held : Held) (name : List ℕ) (xs : List ℕ) → length xs ≤ 1048576
+    → IsGiven (option_map (first 1048577) (held name)) (Ok xs) → IsGiven (held name) (Ok xs)
+given_whole held name xs few given = whole_of (held name) 1048576 1048577 xs (omega arith) few given
+
+-- a file may have more bytes than these
+record HasMore (known : Option Bytes) (n : ℕ) : Type 0 where
+  pub whole : List ℕ
+  pub given : IsGiven known (Ok whole)
+  pub more : n < length whole
+
+has_more : (known : Option Bytes) (n m : ℕ) (xs : List ℕ) → n < length xs → IsGiven (option_map (first m) known) (Ok xs)
+    → HasMore known n
+has_more None n m xs more given = record { whole = xs; given = tt; more = more }
+has_more (Some (Ok whole)) n m xs more given =
+    let is : xs ≡ take m whole = same_bytes xs (take m whole) (given (was_read xs NoMemoryInFile)) in
+    record {
+      whole = whole;
+      given = λ other. refl;
+      more = no_longer n m whole (subst (λ (ys : List ℕ). n < length ys) is more);
+    }
+has_more (Some (Err e)) n m xs more given = absurd (was_read xs e (given (was_read xs NoMemoryInFile)))
+
+-- a file of which too much was read is too long
+pub too_long : (held : Held) (name : List ℕ) (xs : List ℕ) → 1048576 < length xs
+    → IsGiven (option_map (first 1048577) (held name)) (Ok xs) → IsTooLong held name
+too_long held name xs more given =
+    let all = has_more (held name) 1048576 1048577 xs more given in
+    record { bytes = all.whole; given = all.given; long = all.more }
+
+-- ---- choices
+
+longer_says_none : (n : ℕ) (xs : List ℕ) → n < length xs → filed_within n xs ≡ None
+longer_says_none n xs more =
+    let long : nat_lt n (length xs) ≡ true = grind (arith, nat_tests) in
+    ap (λ (z : Bool). if z then None else read_of_file nothing_read xs) long
+
+-- a beginning says what the whole says, where one byte more than may be was read
+filed_begun : (n m : ℕ) (xs : List ℕ) → n < m → filed_within n (take m xs) ≡ filed_within n xs
+filed_begun n m xs less = elim (cases_lt n (length (take m xs))) [
+  | inl more ↦ longer_says_none n (take m xs) more ∙ sym (longer_says_none n xs (no_longer n m xs more))
+  | inr few ↦ ap (filed_within n) (all_taken n m xs less few)
+]
+
+-- all of a file that says what its first bytes say
+pub record SaysAsMuch (known : Option Bytes) (n : ℕ) (xs : List ℕ) : Type 0 where
+  pub whole : List ℕ
+  pub given : IsGiven known (Ok whole)
+  pub same : filed_within n whole ≡ filed_within n xs
+
+pub filed_whole : (known : Option Bytes) (n m : ℕ) (xs : List ℕ) → n < m → IsGiven (option_map (first m) known) (Ok xs)
+    → SaysAsMuch known n xs
+filed_whole None n m xs less given = record { whole = xs; given = tt; same = refl }
+filed_whole (Some (Ok whole)) n m xs less given =
+    let is : xs ≡ take m whole = same_bytes xs (take m whole) (given (was_read xs NoMemoryInFile)) in
+    record {
+      whole = whole;
+      given = λ other. refl;
+      same = sym (filed_begun n m whole less) ∙ ap (filed_within n) (sym is);
+    }
+filed_whole (Some (Err e)) n m xs less given = absurd (was_read xs e (given (was_read xs NoMemoryInFile)))
+
+-- a file whose first bytes can't be read can't be read
+pub not_read : (known : Option Bytes) (m : ℕ) → IsGiven (option_map (first m) known) (Err Unread) → IsGiven known (Err Unread)
+not_read None m given = tt
+not_read (Some (Ok whole)) m given = λ other. absurd (was_read (take m whole) Unread (sym (given other)))
+not_read (Some (Err e)) m given = given
+
+pub no_program_unread : (held : Held) (name : List ℕ) (f : Failure) → TellsUnread name f
+    → IsGiven (option_map (first 1048577) (held name)) (Err Unread) → TellsNoProgram held name f
+no_program_unread held name (CannotRead told) is given = (is, not_read (held name) 1048577 given)
+no_program_unread held name NoMemory is given = tt
+no_program_unread held name _ is given = absurd is
+
+-- a file whose bytes are no text has none
+pub no_program_text : (held : Held) (name : List ℕ) (f : Failure) → TellsNotUtf8 name f → HasNoProgramText held name
+    → TellsNoProgram held name f
+no_program_text held name (NotUtf8 told) is bytes = (is, bytes)
+no_program_text held name NoMemory is bytes = tt
+no_program_text held name _ is bytes = absurd is

@@ -1,0 +1,62 @@
+-- What is read of choices, byte by byte, and of a file of them.
+use Rattle.std.proofs.Common.{◌≡◌, ℕ, List, [], ◌∷◌, Option, Some, None, Ok, Err, length, refl, sym, ap, ◌∙◌, subst, arith}
+use Rattle.std.specs.Prelude.{option_map}
+use Rattle.intake.specs.Choices.{Reading, filed_by, goes_on, read_from, read_of_file, said_by, with_byte}
+use Rattle.intake.specs.Choices.{with_byte_of_file}
+use Rattle.intake.specs.Choosing.{SaysChoices, TellsNoChoices, TellsNone}
+use Rattle.intake.specs.Failures.{TellsUnread}
+use Rattle.intake.specs.Held.{Held, IsGiven, first}
+use Rattle.command_line.specs.Requests.{Choosing, InFile, Listed}
+use Rattle.intake.specs.declared.failure.Failure.{Failure}
+use Rattle.intake.specs.declared.failure.Failure.TheVariants.{CannotRead, ChoicesNotUnderstood, NoMemory}
+use Rattle.intake.specs.declared.files.FileError.TheVariants.{Failed as Unread}
+use Rattle.intake.proofs.Programs.{filed_whole, not_read}
+
+-- a byte that goes on
+pub read_on : (r s : Reading) (byte : ℕ) (behind : List ℕ) → with_byte r byte ≡ Some s
+    → read_from r (byte ∷ behind) ≡ read_from s behind
+read_on r s byte behind is = ap (goes_on (λ t. read_from t behind)) is
+
+-- one that doesn't
+pub stuck : (r : Reading) (byte : ℕ) (behind : List ℕ) → with_byte r byte ≡ None → read_from r (byte ∷ behind) ≡ None
+stuck r byte behind is = ap (goes_on (λ t. read_from t behind)) is
+
+pub no_more : (l : List ℕ) → length l ≡ 0 → l ≡ []
+no_more [] e = refl
+no_more (x ∷ l) e = absurd (let bad : ⊥ = omega (arith, e) in bad)
+
+-- ---- of a file
+
+pub file_read_on : (r s : Reading) (byte : ℕ) (behind : List ℕ) → with_byte_of_file r byte ≡ Some s
+    → read_of_file r (byte ∷ behind) ≡ read_of_file s behind
+file_read_on r s byte behind is = ap (goes_on (λ t. read_of_file t behind)) is
+
+-- the first bytes of a file say what all of it says
+pub says_choices : (held : Held) (name xs : List ℕ) (choices : Option (List ℕ))
+    → IsGiven (option_map (first 16777217) (held name)) (Ok xs) → filed_by xs ≡ choices → SaysChoices held name choices
+says_choices held name xs choices given says =
+    let all = filed_whole (held name) 16777216 16777217 xs (omega arith) given in
+    record { bytes = all.whole; given = all.given; says = all.same ∙ says }
+
+pub file_says_none : (held : Held) (name xs : List ℕ) (f : Failure) → IsGiven (option_map (first 16777217) (held name)) (Ok xs)
+    → TellsNone (filed_by xs) f → TellsNoChoices (Some (InFile name)) held f
+file_says_none held name xs ChoicesNotUnderstood given told = says_choices held name xs None given told
+file_says_none held name xs NoMemory given told = tt
+file_says_none held name xs _ given told = absurd told
+
+pub file_unread : (held : Held) (name : List ℕ) (f : Failure) → TellsUnread name f
+    → IsGiven (option_map (first 16777217) (held name)) (Err Unread) → TellsNoChoices (Some (InFile name)) held f
+file_unread held name (CannotRead told) is given = (is, not_read (held name) 16777217 given)
+file_unread held name NoMemory is given = tt
+file_unread held name _ is given = absurd is
+
+-- and of a list
+pub list_says_none : (held : Held) (text : List ℕ) (f : Failure) → TellsNone (said_by text) f
+    → TellsNoChoices (Some (Listed text)) held f
+list_says_none held text ChoicesNotUnderstood told = told
+list_says_none held text NoMemory told = tt
+list_says_none held text _ told = absurd told
+
+-- want of memory tells of no choices
+pub no_memory_tells : (c : Option Choosing) (held : Held) (f : Failure) → f ≡ NoMemory → TellsNoChoices c held f
+no_memory_tells c held f is = subst (TellsNoChoices c held) (sym is) tt

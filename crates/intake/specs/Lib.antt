@@ -1,0 +1,6 @@
+pub mod Choices
+pub mod Choosing
+pub mod FailureStatus
+pub mod Failures
+pub mod Held
+pub mod Messages

@@ -1,0 +1,30 @@
+-- The line that tells a failure.
+use Rattle.std.specs.Prelude.{ℕ, List, ◌++◌, codes}
+use Rattle.std.specs.Fmt.{decimal}
+use Rattle.std.specs.String.{string_bytes}
+use Rattle.syntax.specs.Refusals.{error_text as syntax_text}
+use Rattle.types.specs.Codes.{error_text}
+use Rattle.types.specs.InputErrors.{error_text as input_text}
+use Rattle.texts.specs.Reasons.{escaped, race_text}
+use Rattle.gather.specs.RunErrors.{error_code as run_code}
+use Rattle.intake.specs.declared.failure.Failure.{Failure}
+use Rattle.intake.specs.declared.failure.Failure.TheVariants.{CannotRead, NotUtf8, Syntax, Types}
+use Rattle.intake.specs.declared.failure.Failure.TheVariants.{Race, NoMemoryInCheck, Input, Run}
+use Rattle.intake.specs.declared.failure.Failure.TheVariants.{CannotWriteOutput, NoMemory}
+use Rattle.intake.specs.declared.failure.Failure.TheVariants.{ChoicesNotUnderstood, NoLeaf}
+
+-- the line that tells a failure, without its line feed
+abbrev pub failure_text : Failure → List ℕ
+failure_text (CannotRead name) = codes "cannot read " ++ escaped (string_bytes name)
+failure_text (NotUtf8 name) = codes "not UTF-8 " ++ escaped (string_bytes name)
+failure_text (Syntax e) = syntax_text e
+failure_text (Types e) = error_text e
+failure_text (Race procedure first second) =
+    race_text (string_bytes procedure) (string_bytes first) (string_bytes second)
+failure_text NoMemoryInCheck = codes "C2"
+failure_text (Input e) = input_text e
+failure_text (Run e) = run_code e
+failure_text ChoicesNotUnderstood = codes "choices not understood"
+failure_text (NoLeaf n) = codes "no leaf at choice " ++ decimal n
+failure_text CannotWriteOutput = codes "cannot write output"
+failure_text NoMemory = codes "no memory"

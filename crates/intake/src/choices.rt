@@ -1,0 +1,226 @@
+//! The choices of a command line, and of a file.
+
+ghost use Rattle.std.specs.Prelude.{◌≡◌, IfErr, IfOk, Some, option_map};
+ghost use Rattle.intake.specs.Choices.{behind_comma, filed_by, nothing_read, numbers_of, read_from};
+ghost use Rattle.intake.specs.Choices.{read_of_file, reading_of, renumbered, said_by};
+ghost use Rattle.intake.specs.Choices.{separates as may_separate, with_begun, with_byte};
+ghost use Rattle.intake.specs.Choices.{with_byte_of_file, with_digit};
+ghost use Rattle.intake.specs.Choosing.{SaysChoices, TellsNoChoices, TellsNone};
+ghost use Rattle.command_line.specs.Requests.{InFile};
+
+use crate::failure::Failure;
+use crate::files::{FileError, FileSource};
+use std::alloc::{AllocError, Global};
+
+/// The most bytes of a file of choices.
+const MOST_BYTES: usize = 16_777_216;
+
+/// The choices that the file of this name says. It is read no further than it can matter.
+#[tactic(auto, using(crate::proofs::ReadChoices::file_unread))]
+pub fn choices_in_file<F: FileSource>(
+    alloc: Global,
+    files: &mut F,
+    name: &str,
+) -> Result<Vec<u32>, Failure>
+    ensures says { IfOk result
+        (λ numbers. SaysChoices (F.held files.old) name.now (Some numbers.items)) }
+    ensures why { IfErr result (TellsNoChoices (Some (InFile name.now)) (F.held files.old)) }
+{
+    match files.read_first(name, MOST_BYTES + 1) {
+        Ok(bytes) => choices_filed(alloc, &bytes),
+        Err(FileError::NoMemory) => Err(Failure::NoMemory),
+        Err(FileError::Failed) => Err(Failure::cannot_read(alloc, name)),
+    }
+}
+
+/// The choices that the bytes of a file say.
+fn choices_filed(alloc: Global, bytes: &[u8]) -> Result<Vec<u32>, Failure>
+    ensures says { IfOk result (λ numbers. filed_by bytes.now ≡ Some numbers.items) }
+    ensures why { IfErr result (TellsNone (filed_by bytes.now)) }
+{
+    if bytes.len() > MOST_BYTES {
+        return Err(Failure::ChoicesNotUnderstood);
+    }
+    match filed(alloc, bytes) {
+        Ok(Some(numbers)) => Ok(numbers),
+        Ok(None) => Err(Failure::ChoicesNotUnderstood),
+        Err(_) => Err(Failure::NoMemory),
+    }
+}
+
+/// The choices that a list says: numbers in decimal, joined by commas.
+pub fn choices_said(alloc: Global, text: &str) -> Result<Vec<u32>, Failure>
+    ensures says { IfOk result (λ numbers. said_by text.now ≡ Some numbers.items) }
+    ensures why { IfErr result (TellsNone (said_by text.now)) }
+{
+    match said(alloc, text.as_bytes()) {
+        Ok(Some(numbers)) => Ok(numbers),
+        Ok(None) => Err(Failure::ChoicesNotUnderstood),
+        Err(_) => Err(Failure::NoMemory),
+    }
+}
+
+/// The choices that bytes say, if they are numbers joined by commas.
+fn said(alloc: Global, text: &[u8]) -> Result<Option<Vec<u32>>, AllocError>
+    ensures { IfOk result (λ r. option_map (λ numbers. numbers.items) r ≡ said_by text.now) }
+{
+    match text {
+        [] => Ok(Some(Vec::new(alloc))),
+        [_, ..] => numbers_in(alloc, text),
+    }
+}
+
+/// What was read: the numbers before the last comma, and the one behind it, where it is begun.
+#[derive(Drop)]
+pub struct Reading {
+    pub before: Vec<u32>,
+    pub number: Option<u32>,
+}
+
+/// One number or more, joined by commas.
+fn numbers_in(alloc: Global, text: &[u8]) -> Result<Option<Vec<u32>>, AllocError>
+    ensures { IfOk result
+        (λ r. option_map (λ numbers. numbers.items) r ≡ read_from nothing_read text.now) }
+{
+    let mut reading = Reading {
+        before: Vec::new(alloc),
+        number: None,
+    };
+    let mut left = text;
+    'bytes: while let Some((byte, behind)) = left.split_first() {
+        let Some(next) = byte_read(reading, *byte)? else {
+            return Ok(None);
+        };
+        reading = next;
+        left = behind;
+    }
+    numbers_read(reading)
+}
+
+/// One byte more.
+fn byte_read(reading: Reading, byte: u8) -> Result<Option<Reading>, AllocError>
+    ensures { IfOk result (λ r. option_map reading_of r ≡ with_byte (reading_of reading) byte) }
+{
+    if byte == b',' {
+        comma_read(reading)
+    } else {
+        Ok(digit_read(reading, byte))
+    }
+}
+
+/// A comma more.
+fn comma_read(reading: Reading) -> Result<Option<Reading>, AllocError>
+    ensures { IfOk result
+        (λ r. option_map reading_of r ≡ option_map behind_comma (numbers_of (reading_of reading))) }
+{
+    match numbers_read(reading)? {
+        None => Ok(None),
+        Some(before) => Ok(Some(Reading {
+            before,
+            number: None,
+        })),
+    }
+}
+
+/// All numbers, where the last one is begun.
+fn numbers_read(reading: Reading) -> Result<Option<Vec<u32>>, AllocError>
+    ensures { IfOk result
+        (λ r. option_map (λ numbers. numbers.items) r ≡ numbers_of (reading_of reading)) }
+{
+    let Reading { mut before, number } = reading;
+    match number {
+        None => Ok(None),
+        Some(number) => {
+            before.push(number)?;
+            Ok(Some(before))
+        }
+    }
+}
+
+/// A digit more.
+fn digit_read(reading: Reading, byte: u8) -> Option<Reading>
+    ensures { option_map reading_of result ≡ option_map (renumbered (reading_of reading))
+        (with_digit reading.number byte) }
+{
+    let Reading { before, number } = reading;
+    match digit_behind(number, byte) {
+        None => None,
+        Some(number) => Some(Reading {
+            before,
+            number: Some(number),
+        }),
+    }
+}
+
+/// A number with one digit more, if it is still small.
+fn digit_behind(number: Option<u32>, byte: u8) -> Option<u32>
+    ensures { result ≡ with_digit number byte }
+{
+    if byte < b'0' || b'9' < byte {
+        return None;
+    }
+    let value = u64::from(number.unwrap_or(0)) * 10 + u64::from(byte - b'0');
+    if u64::from(u32::MAX) < value {
+        None
+    } else {
+        Some(value as u32)
+    }
+}
+
+// ---- in a file
+
+/// The numbers of a file, with commas or white space between them.
+fn filed(alloc: Global, bytes: &[u8]) -> Result<Option<Vec<u32>>, AllocError>
+    ensures { IfOk result
+        (λ r. option_map (λ numbers. numbers.items) r ≡ read_of_file nothing_read bytes.now) }
+{
+    let mut reading = Reading {
+        before: Vec::new(alloc),
+        number: None,
+    };
+    let mut left = bytes;
+    'bytes: while let Some((byte, behind)) = left.split_first() {
+        let Some(next) = byte_of_file_read(reading, *byte)? else {
+            return Ok(None);
+        };
+        reading = next;
+        left = behind;
+    }
+    let numbers = all_begun(reading)?;
+    Ok(Some(numbers))
+}
+
+/// One byte of a file more.
+fn byte_of_file_read(reading: Reading, byte: u8) -> Result<Option<Reading>, AllocError>
+    ensures { IfOk result
+        (λ r. option_map reading_of r ≡ with_byte_of_file (reading_of reading) byte) }
+{
+    if separates(byte) {
+        let before = all_begun(reading)?;
+        Ok(Some(Reading {
+            before,
+            number: None,
+        }))
+    } else {
+        Ok(digit_read(reading, byte))
+    }
+}
+
+/// All numbers, the last one with them, where it is begun.
+fn all_begun(reading: Reading) -> Result<Vec<u32>, AllocError>
+    ensures { IfOk result
+        (λ numbers. numbers.items ≡ with_begun reading.before.items reading.number) }
+{
+    let Reading { mut before, number } = reading;
+    if let Some(number) = number {
+        before.push(number)?;
+    }
+    Ok(before)
+}
+
+/// Whether a byte may stand between two numbers of a file.
+fn separates(byte: u8) -> bool
+    ensures { result ≡ may_separate byte }
+{
+    byte == b'\t' || byte == b'\n' || byte == b'\r' || byte == b' ' || byte == b','
+}

@@ -1,0 +1,169 @@
+//! What ends a command, and the line and the exit status that tell it.
+
+ghost use Rattle.std.specs.Prelude.{◌≡◌, IfOk};
+ghost use Rattle.std.specs.String.{string_bytes};
+ghost use Rattle.intake.specs.FailureStatus.{failure_status};
+ghost use Rattle.types.specs.Translation.{procedure as plain_procedure, program};
+ghost use Rattle.effects.specs.Translation.{access as access_of};
+ghost use Rattle.race_checker.specs.Translation.{race as race_of};
+ghost use Rattle.intake.specs.Failures.{IsRaceOf, TellsNotUtf8, TellsRaceIn, TellsUnread};
+ghost use Rattle.intake.specs.Failures.{access_text, kind_of, section_text, told_procedure};
+ghost use Rattle.intake.specs.Failures.{section_name as name_of_section};
+
+use gather::run_error::RunError;
+use race_checker::race::Race;
+use sections::id::SectionId;
+use std::alloc::{AllocError, Global};
+use syntax::error::SyntaxError;
+use types::code::{Label, Procedure, Program};
+use types::error::TypeError;
+use types::ids::ProcedureId;
+use types::input_error::InputError;
+
+/// Why a command ended without its answer. `message::emit_message` writes its line.
+#[derive(Debug, Drop)]
+pub enum Failure {
+    /// `cannot read program.afx`
+    CannotRead {
+        name: String,
+    },
+    /// `not UTF-8 program.afx`
+    NotUtf8 {
+        name: String,
+    },
+    /// `S2 at 1:13`
+    Syntax(SyntaxError),
+    /// `Y1 at label 2`
+    Types(TypeError),
+    /// `C1 race in main: 2 write a, 4 read a`
+    Race {
+        procedure: String,
+        first: String,
+        second: String,
+    },
+    /// `C2`
+    NoMemoryInCheck,
+    /// `N4 a`
+    Input(InputError),
+    /// `E1` or `E3`
+    Run(RunError),
+    /// `choices not understood`
+    ChoicesNotUnderstood,
+    /// `no leaf at choice 2`: the first choice that names none, numbered from 0
+    NoLeaf(usize),
+    /// `cannot write output`
+    CannotWriteOutput,
+    /// `no memory`
+    NoMemory,
+}
+
+impl Failure {
+    /// The exit status: 1 refused, 4 want of memory, 5 a lost or strange result of a task.
+    pub fn status(&self) -> u8
+        ensures { result ≡ failure_status self.now }
+    {
+        match self {
+            Failure::Syntax(SyntaxError::OutOfMemory) => 4,
+            Failure::Types(TypeError::OutOfMemory) => 4,
+            Failure::NoMemoryInCheck => 4,
+            Failure::Input(InputError::OutOfMemory) => 4,
+            Failure::Run(RunError::OutOfMemory) => 4,
+            Failure::NoMemory => 4,
+            Failure::Run(RunError::Gather(_)) => 5,
+            _ => 1,
+        }
+    }
+
+    /// A file that can't be read.
+    pub fn cannot_read(alloc: Global, name: &str) -> Failure
+        ensures { TellsUnread name.now result }
+    {
+        match String::from_str(alloc, name) {
+            Ok(name) => Failure::CannotRead { name },
+            Err(AllocError) => Failure::NoMemory,
+        }
+    }
+
+    /// A file that isn't text.
+    pub fn not_utf8(alloc: Global, name: &str) -> Failure
+        ensures { TellsNotUtf8 name.now result }
+    {
+        match String::from_str(alloc, name) {
+            Ok(name) => Failure::NotUtf8 { name },
+            Err(AllocError) => Failure::NoMemory,
+        }
+    }
+
+    /// A program that has a race.
+    pub fn of_race(alloc: Global, code: &Program, race: Race) -> Failure
+        ensures { TellsRaceIn (program code.now) (race_of race) result }
+    {
+        match race_in(alloc, procedure_of(code, race.procedure), race) {
+            Ok(failure) => failure,
+            Err(AllocError) => Failure::NoMemoryInCheck,
+        }
+    }
+}
+
+/// The procedure of a number; `main` stands behind the others.
+fn procedure_of(code: &Program, procedure: ProcedureId) -> &Procedure
+    ensures { plain_procedure result.now ≡ told_procedure (program code.now) procedure.number }
+{
+    match code.procedures.get(procedure.number) {
+        Some(procedure) => procedure,
+        None => &code.main,
+    }
+}
+
+/// A race of a procedure, told by the names of its sections.
+fn race_in(alloc: Global, procedure: &Procedure, race: Race) -> Result<Failure, AllocError>
+    ensures { IfOk result (IsRaceOf (plain_procedure procedure.now) (race_of race)) }
+{
+    Ok(Failure::Race {
+        procedure: procedure.name.clone()?,
+        first: section_told(alloc, procedure, race.first)?,
+        second: section_told(alloc, procedure, race.second)?,
+    })
+}
+
+/// An access of a section.
+fn section_told(
+    alloc: Global,
+    procedure: &Procedure,
+    access: effects::access::Access,
+) -> Result<String, AllocError>
+    ensures { IfOk result (λ text. string_bytes text
+        ≡ section_text (plain_procedure procedure.now) (access_of access)) }
+{
+    told(
+        alloc,
+        access.label,
+        access.write,
+        section_name(procedure, access.section),
+    )
+}
+
+/// The name of a section.
+fn section_name(procedure: &Procedure, section: SectionId) -> &str
+    ensures { result.now ≡ name_of_section (plain_procedure procedure.now) section.number }
+{
+    match procedure.section_names.get(section.number) {
+        Some(name) => name.as_str(),
+        None => "",
+    }
+}
+
+/// An access as the message tells it: `2 write a`.
+fn told(alloc: Global, label: Label, write: bool, name: &str) -> Result<String, AllocError>
+    ensures { IfOk result (λ text. string_bytes text ≡ access_text label write name.now) }
+{
+    let kind = kind(write);
+    format!(in alloc; "{label} {kind} {name}")
+}
+
+/// What an access does.
+fn kind(write: bool) -> &'static str
+    ensures { result.now ≡ kind_of write }
+{
+    if write { "write" } else { "read" }
+}

@@ -1,0 +1,147 @@
+//! Where the program finds what its words name.
+
+ghost use Rattle.std.specs.Prelude.{◌≡◌, ◌≤◌, ℕ, List, length, Option, None, option_map};
+ghost use Rattle.std.specs.Prelude.{IfOk, IfErr, MatchResult};
+ghost use Rattle.intake.specs.Held.{Held, IsGiven, TellsNoProgram, TellsNoText, first};
+
+use crate::failure::Failure;
+use std::alloc::Global;
+use std::io::{ErrorKind, Read};
+use std::rt::Files;
+use std::{fs, io};
+use syntax::error::SyntaxError;
+
+/// The most bytes of a program's text.
+const MOST_BYTES: usize = 1_048_576;
+
+/// Why a file isn't there.
+#[derive(Clone, Copy, PartialEq, Eq, Debug)]
+pub enum FileError {
+    /// It can't be opened or read.
+    Failed,
+    /// Memory ran out.
+    NoMemory,
+}
+
+/// Files by their names.
+pub trait FileSource {
+    /// What a name is known to give: None where nobody can know it, as of the machine's files.
+    ghost held: { Self → Held } = { λ _ _. None };
+
+    /// What a file holds.
+    fn read(&mut self, name: &str) -> Result<Vec<u8>, FileError>
+        ensures given { let known = held self.old name.now in
+            MatchResult result (λ v. IsGiven known (Ok v.items)) (λ e. IsGiven known (Err e)) }
+        ensures keeps { held self.new ≡ held self.old };
+
+    /// The first bytes of a file, so many at most, however many more it has.
+    fn read_first(&mut self, name: &str, most: usize) -> Result<Vec<u8>, FileError>
+        ensures given { let known = option_map (first most) (held self.old name.now) in
+            MatchResult result (λ v. IsGiven known (Ok v.items)) (λ e. IsGiven known (Err e)) }
+        ensures keeps { held self.new ≡ held self.old };
+}
+
+/// What a file holds, or the failure that says why there is nothing.
+pub fn read_file<F: FileSource>(
+    alloc: Global,
+    files: &mut F,
+    name: &str,
+) -> Result<Vec<u8>, Failure>
+    ensures given { IfOk result (λ v. IsGiven (F.held files.old name.now) (Ok v.items)) }
+    ensures why { IfErr result (TellsNoText (F.held files.old) name.now) }
+    ensures keeps { F.held files.new ≡ F.held files.old }
+{
+    match files.read(name) {
+        Ok(bytes) => Ok(bytes),
+        Err(FileError::NoMemory) => Err(Failure::NoMemory),
+        Err(FileError::Failed) => Err(Failure::cannot_read(alloc, name)),
+    }
+}
+
+/// What the file of a program holds, or the failure that says why it is no text of one. It is read no
+/// further than it can matter: with one byte more than a program may have it is too long, whatever stands
+/// behind.
+#[tactic(auto, using(crate::proofs::Programs::given_whole, crate::proofs::Programs::no_program_unread))]
+pub fn read_program<F: FileSource>(
+    alloc: Global,
+    files: &mut F,
+    name: &str,
+) -> Result<Vec<u8>, Failure>
+    ensures given { IfOk result (λ v. IsGiven (F.held files.old name.now) (Ok v.items)) }
+    ensures short { IfOk result (λ v. length v.items ≤ 1048576) }
+    ensures why { IfErr result (TellsNoProgram (F.held files.old) name.now) }
+    ensures keeps { F.held files.new ≡ F.held files.old }
+{
+    match files.read_first(name, MOST_BYTES + 1) {
+        Ok(bytes) => {
+            if bytes.len() > MOST_BYTES {
+                Err(Failure::Syntax(SyntaxError::TooLong))
+            } else {
+                Ok(bytes)
+            }
+        }
+        Err(FileError::NoMemory) => Err(Failure::NoMemory),
+        Err(FileError::Failed) => Err(Failure::cannot_read(alloc, name)),
+    }
+}
+
+/// The files of the machine; `-` is the standard input.
+#[derive(Drop)]
+pub struct MachineFiles<'r, R> {
+    rt: &'r R,
+}
+
+impl<'r, R> MachineFiles<'r, R> {
+    /// The files that a runtime reaches.
+    pub fn new(rt: &'r R) -> MachineFiles<'r, R>
+        ensures { result.rt ≡ rt.entry }
+    {
+        MachineFiles { rt }
+    }
+}
+
+impl<R: Files + Input + AllocGlobal> FileSource for MachineFiles<'_, R> {
+    fn read(&mut self, name: &str) -> Result<Vec<u8>, FileError> {
+        let bytes = if name == "-" {
+            standard_input(self.rt)
+        } else {
+            fs::read(self.rt, name)
+        };
+        bytes.map_err(|error| file_error(&error))
+    }
+
+    fn read_first(&mut self, name: &str, most: usize) -> Result<Vec<u8>, FileError> {
+        let alloc = self.rt.alloc();
+        let bytes = if name == "-" {
+            first_of(alloc, self.rt.reader(), most)
+        } else {
+            match fs::open(self.rt, name) {
+                Ok(file) => first_of(alloc, file, most),
+                Err(error) => Err(error),
+            }
+        };
+        bytes.map_err(|error| file_error(&error))
+    }
+}
+
+/// All that stands on the standard input.
+fn standard_input<R: Input + AllocGlobal>(rt: &R) -> io::Result<Vec<u8>> {
+    let mut bytes = Vec::new(rt.alloc());
+    rt.reader().read_to_end(&mut bytes)?;
+    Ok(bytes)
+}
+
+/// The first bytes that a reader gives, so many at most.
+fn first_of<R: Read + Drop>(alloc: Global, reader: R, most: usize) -> io::Result<Vec<u8>> {
+    let mut bytes = Vec::new(alloc);
+    reader.take(most as u64).read_to_end(&mut bytes)?;
+    Ok(bytes)
+}
+
+/// What an error of the machine is to the program.
+fn file_error(error: &io::Error) -> FileError {
+    match error.kind() {
+        ErrorKind::OutOfMemory => FileError::NoMemory,
+        _ => FileError::Failed,
+    }
+}

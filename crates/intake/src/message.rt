@@ -1,0 +1,46 @@
+//! The line that tells a failure, piece by piece, without memory of its own.
+
+ghost use Rattle.std.specs.Prelude.{◌++◌, codes};
+ghost use Rattle.texts.specs.Appending.{Writes};
+ghost use Rattle.intake.specs.Messages.{failure_text};
+
+use crate::failure::Failure;
+use std::io::Write;
+use texts::emit::{EmitError, append};
+use texts::reasons::{
+    emit_file, emit_input_error, emit_no_leaf, emit_race, emit_syntax_error, emit_text,
+    emit_type_error,
+};
+
+/// Writes the line of a failure, with its line feed.
+pub fn emit_message<W: Write>(err: &mut W, failure: &Failure) -> Result<(), EmitError>
+    ensures { Writes (W.contents err.old) (W.contents err.new) result
+        (failure_text failure.now ++ codes "\n") }
+{
+    emit_failure(err, failure)?;
+    append(err, b"\n")
+}
+
+/// The line without its line feed.
+fn emit_failure<W: Write>(err: &mut W, failure: &Failure) -> Result<(), EmitError>
+    ensures { Writes (W.contents err.old) (W.contents err.new) result (failure_text failure.now) }
+{
+    match failure {
+        Failure::CannotRead { name } => emit_file(err, "cannot read ", name.as_str()),
+        Failure::NotUtf8 { name } => emit_file(err, "not UTF-8 ", name.as_str()),
+        Failure::Syntax(error) => emit_syntax_error(err, error),
+        Failure::Types(error) => emit_type_error(err, *error),
+        Failure::Race {
+            procedure,
+            first,
+            second,
+        } => emit_race(err, procedure.as_str(), first.as_str(), second.as_str()),
+        Failure::NoMemoryInCheck => emit_text(err, "C2"),
+        Failure::Input(error) => emit_input_error(err, error),
+        Failure::Run(error) => emit_text(err, error.code()),
+        Failure::ChoicesNotUnderstood => emit_text(err, "choices not understood"),
+        Failure::NoLeaf(choice) => emit_no_leaf(err, *choice),
+        Failure::CannotWriteOutput => emit_text(err, "cannot write output"),
+        Failure::NoMemory => emit_text(err, "no memory"),
+    }
+}

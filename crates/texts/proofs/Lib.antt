@@ -1,0 +1,3 @@
+pub mod Appending
+pub mod Examples
+pub mod OutcomeText

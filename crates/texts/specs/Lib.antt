@@ -1,0 +1,5 @@
+pub mod Appending
+pub mod ExploredText
+pub mod Labels
+pub mod OutcomeText
+pub mod Reasons

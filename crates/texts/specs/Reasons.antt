@@ -1,0 +1,24 @@
+-- The pieces of the line that tells why something is refused.
+use Rattle.std.specs.Prelude.{ℕ, ◌+◌, ◌/◌, ◌%◌, List, [], ◌∷◌, ◌++◌, ◌||◌, codes}
+use Rattle.std.specs.Prelude.{if◌then◌else◌, nat_eq, nat_lt}
+use Rattle.std.specs.List.{flat_map}
+
+-- a race: its procedure, and both its accesses
+abbrev pub race_text : (procedure first second : List ℕ) → List ℕ
+race_text procedure first second =
+    (codes "C1 race in " ++ procedure) ++ ((codes ": " ++ first) ++ (codes ", " ++ second))
+
+-- ---- names of files
+
+-- a hexadecimal digit
+abbrev pub digit : ℕ → ℕ
+digit n = if nat_lt n 10 then 48 + n else 87 + n
+
+-- a byte of a name: one that steers a terminal is told by its number, as `\x1b`
+abbrev pub escaped_byte : ℕ → List ℕ
+escaped_byte b =
+    if nat_lt b 32 || nat_eq b 127
+    then codes "\\x" ++ (digit (b / 16) ∷ digit (b % 16) ∷ []) else b ∷ []
+
+abbrev pub escaped : List ℕ → List ℕ
+escaped name = flat_map escaped_byte name

@@ -1,0 +1,71 @@
+//! How many procedures and labels a program has.
+
+ghost use Rattle.std.specs.Prelude.{◌≡◌, ◌-◌, ◌^◌, IfOk, IfSome, map, min};
+ghost use Rattle.std.specs.String.{string_bytes};
+ghost use Rattle.types.specs.Statements.{statements, statements_in};
+ghost use Rattle.types.specs.Translation.{code as plain_code, codes, procedure as plain, program};
+ghost use Rattle.texts.specs.Labels.{accepted_text, labels_in, labels_in_procedures};
+
+use std::alloc::{AllocError, Global};
+use types::code::{Procedure, Program, Stmt, StmtKind};
+
+/// The line that tells an accepted program: `accepted: 1 procedures, 9 labels`.
+pub fn accepted_line(alloc: Global, code: &Program) -> Result<String, AllocError>
+    ensures line { IfOk result (λ text. string_bytes text ≡ accepted_text (program code.now)) }
+{
+    let procedures = code.procedures.len();
+    let Some(labels) = labels(code) else {
+        return Err(AllocError);
+    };
+    format!(in alloc; "accepted: {procedures} procedures, {labels} labels\n")
+}
+
+/// How many labels a program has: one for each statement. None where 64 bits don't hold it, which no memory
+/// holds.
+fn labels(code: &Program) -> Option<u64>
+    ensures { IfSome result (λ n. n ≡ labels_in (program code.now)) }
+{
+    let all = in_procedures(&code.procedures).saturating_add(in_block(&code.main.body));
+    if all < u64::MAX { Some(all) } else { None }
+}
+
+/// How many statements procedures have; the largest number of 64 bits where there are more.
+fn in_procedures(procedures: &[Procedure]) -> u64
+    ensures { result ≡ min (labels_in_procedures (map plain procedures.now)) (2 ^ 64 - 1) }
+{
+    let mut sum = 0u64;
+    for procedure in procedures {
+        sum = sum.saturating_add(in_block(&procedure.body));
+    }
+    sum
+}
+
+/// The statements of a block, those inside others among them.
+#[cycle(count)]
+fn in_block(block: &[Stmt]) -> u64
+    ensures { result ≡ min (statements (codes block.now)) (2 ^ 64 - 1) }
+{
+    let mut sum = 0u64;
+    for stmt in block {
+        sum = sum.saturating_add(in_statement(&stmt.kind));
+    }
+    sum
+}
+
+/// A statement and those inside.
+#[cycle(count)]
+fn in_statement(kind: &StmtKind) -> u64
+    ensures { result ≡ min (statements_in (plain_code kind.now)) (2 ^ 64 - 1) }
+{
+    match kind {
+        StmtKind::Do(_) => 1,
+        StmtKind::If { body, other, .. } => in_block(body)
+            .saturating_add(in_block(other))
+            .saturating_add(1),
+        StmtKind::While { body, .. } => in_block(body).saturating_add(1),
+        StmtKind::Split { body, .. } => in_block(body).saturating_add(1),
+        StmtKind::Call { .. } => 1,
+        StmtKind::Async { body } => in_block(body).saturating_add(1),
+        StmtKind::Finish { body } => in_block(body).saturating_add(1),
+    }
+}

@@ -1,0 +1,157 @@
+//! Why something is refused, piece by piece, without memory of its own.
+
+ghost use Rattle.std.specs.Prelude.{◌≡◌, ◌<◌, ◌++◌, codes};
+ghost use Rattle.std.specs.Fmt.{decimal};
+ghost use Rattle.syntax.specs.Refusals.{at_text, error_text as syntax_text};
+ghost use Rattle.types.specs.Codes.{error_text, labelled};
+ghost use Rattle.types.specs.InputErrors.{error_text as input_text};
+ghost use Rattle.texts.specs.Appending.{Writes};
+ghost use Rattle.texts.specs.Reasons.{digit, escaped, escaped_byte, race_text};
+
+use crate::emit::{EmitError, append, emit_count, emit_label};
+use std::io::Write;
+use syntax::Place;
+use syntax::error::SyntaxError;
+use types::code::Label;
+use types::error::TypeError;
+use types::input_error::InputError;
+
+/// A text.
+pub fn emit_text<W: Write>(err: &mut W, text: &str) -> Result<(), EmitError>
+    ensures { Writes (W.contents err.old) (W.contents err.new) result text.now }
+{
+    append(err, text.as_bytes())
+}
+
+/// What is told, and a name.
+fn emit_named<W: Write>(err: &mut W, told: &str, name: &str) -> Result<(), EmitError>
+    ensures { Writes (W.contents err.old) (W.contents err.new) result (told.now ++ name.now) }
+{
+    emit_text(err, told)?;
+    emit_text(err, name)
+}
+
+/// What is told, and the name of a file.
+pub fn emit_file<W: Write>(err: &mut W, told: &str, name: &str) -> Result<(), EmitError>
+    ensures { Writes (W.contents err.old) (W.contents err.new) result
+        (told.now ++ escaped name.now) }
+{
+    emit_text(err, told)?;
+    emit_escaped(err, name.as_bytes())
+}
+
+/// A name, byte by byte.
+fn emit_escaped<W: Write>(err: &mut W, name: &[u8]) -> Result<(), EmitError>
+    ensures { Writes (W.contents err.old) (W.contents err.new) result (escaped name.now) }
+{
+    for byte in name {
+        emit_byte(err, *byte)?;
+    }
+    Ok(())
+}
+
+/// A byte of a name: one that steers a terminal is told by its number.
+fn emit_byte<W: Write>(err: &mut W, byte: u8) -> Result<(), EmitError>
+    ensures { Writes (W.contents err.old) (W.contents err.new) result (escaped_byte byte) }
+{
+    if byte < 32 || byte == 127 {
+        append(
+            err,
+            &[b'\\', b'x', digit_of(byte / 16), digit_of(byte % 16)],
+        )
+    } else {
+        append(err, &[byte])
+    }
+}
+
+/// A hexadecimal digit.
+fn digit_of(number: u8) -> u8
+    requires { number < 16 }
+    ensures { result ≡ digit number }
+{
+    if number < 10 {
+        b'0' + number
+    } else {
+        b'a' + (number - 10)
+    }
+}
+
+/// `S2 at 1:13`
+pub fn emit_syntax_error<W: Write>(err: &mut W, error: &SyntaxError) -> Result<(), EmitError>
+    ensures { Writes (W.contents err.old) (W.contents err.new) result (syntax_text error.now) }
+{
+    emit_text(err, error.code())?;
+    match error.place() {
+        None => Ok(()),
+        Some(place) => emit_place(err, place),
+    }
+}
+
+/// ` at 1:13`: the line before the column.
+fn emit_place<W: Write>(err: &mut W, place: Place) -> Result<(), EmitError>
+    ensures { Writes (W.contents err.old) (W.contents err.new) result (at_text (Some place)) }
+{
+    emit_text(err, " at ")?;
+    emit_label(err, place.line)?;
+    emit_text(err, ":")?;
+    emit_label(err, place.column)
+}
+
+/// `Y1 at label 2`
+pub fn emit_type_error<W: Write>(err: &mut W, error: TypeError) -> Result<(), EmitError>
+    ensures { Writes (W.contents err.old) (W.contents err.new) result (error_text error) }
+{
+    match error.label() {
+        None => emit_text(err, error.code()),
+        Some(label) => emit_at_label(err, error.code(), label),
+    }
+}
+
+/// A code and a label.
+fn emit_at_label<W: Write>(err: &mut W, code: &str, label: Label) -> Result<(), EmitError>
+    ensures { Writes (W.contents err.old) (W.contents err.new) result
+        (labelled code.now (Some label)) }
+{
+    emit_text(err, code)?;
+    emit_text(err, " at label ")?;
+    emit_label(err, label)
+}
+
+/// `C1 race in main: 2 write a, 4 read a`
+pub fn emit_race<W: Write>(
+    err: &mut W,
+    procedure: &str,
+    first: &str,
+    second: &str,
+) -> Result<(), EmitError>
+    ensures { Writes (W.contents err.old) (W.contents err.new) result
+        (race_text procedure.now first.now second.now) }
+{
+    emit_named(err, "C1 race in ", procedure)?;
+    emit_named(err, ": ", first)?;
+    emit_named(err, ", ", second)
+}
+
+/// `N4 a`
+pub fn emit_input_error<W: Write>(err: &mut W, error: &InputError) -> Result<(), EmitError>
+    ensures { Writes (W.contents err.old) (W.contents err.new) result (input_text error.now) }
+{
+    match error {
+        InputError::NotJson => emit_text(err, "N1"),
+        InputError::NotAnObject => emit_text(err, "N2"),
+        InputError::UnknownArray { name } => emit_named(err, "N3 ", name.as_str()),
+        InputError::WrongNumberOfLists => emit_text(err, "N4"),
+        InputError::WrongLength { name } => emit_named(err, "N4 ", name.as_str()),
+        InputError::WrongElement { name } => emit_named(err, "N5 ", name.as_str()),
+        InputError::OutOfMemory => emit_text(err, "N6"),
+    }
+}
+
+/// `no leaf at choice 2`
+pub fn emit_no_leaf<W: Write>(err: &mut W, choice: usize) -> Result<(), EmitError>
+    ensures { Writes (W.contents err.old) (W.contents err.new) result
+        (codes "no leaf at choice " ++ decimal choice) }
+{
+    emit_text(err, "no leaf at choice ")?;
+    emit_count(err, choice)
+}
