@@ -1,0 +1,44 @@
+-- What is of the job of a run, wherever it comes from.
+use Rattle.std.specs.Prelude.{◌≡◌, List, Option, Some, None}
+use Rattle.own_run.specs.Lists.{Each}
+use Rattle.own_run.specs.declared.result.TaskResult.{TaskResult as Made}
+use Rattle.task_machine.specs.Ends.{IsAtEnd}
+use Rattle.task_machine.specs.Tasks.{IsResultOf}
+use Rattle.task_machine.specs.declared.finish.Parked.{Parked}
+use Rattle.task_machine.specs.declared.job.Job.{Job}
+use Rattle.finish_scope.specs.declared.resting.Passing.{Passing}
+use Rattle.finish_scope.specs.declared.resting.Resting.{Resting}
+
+-- a task that is parked at the end of a finish, or of `main`, is its job's
+abbrev pub IsParked : Parked → Type 0
+IsParked p = IsAtEnd p.job p.owner p.made p.outer.items p.opened
+
+-- the results of a scope that passes are those of tasks of its owner's job
+pub record CanPass (p : Passing) : Type 0 where
+  pub ends : IsParked p.owner.parked
+  pub results : Each (IsResultOf p.owner.parked.job) p.results.items
+
+module _ (o : Option Job) where
+  -- a result is that of a task of the run
+  abbrev pub IsOwnResult : Made → Type 0
+  IsOwnResult made = (j : Job) → o ≡ Some j → IsResultOf j made
+
+  -- an owner is one of its tasks
+  pub record IsOwnResting (r : Resting) : Type 0 where
+    pub job : o ≡ Some r.parked.job
+    pub ends : IsParked r.parked
+
+  -- where one is parked
+  abbrev pub IsOwnOwner : Option Resting → Type 0
+  IsOwnOwner None = Unit {0}
+  IsOwnOwner (Some r) = IsOwnResting r
+
+  -- all that stands in a scope is of the run
+  pub record IsOwnScope (came : List Made) (parked : Option Resting) : Type 0 where
+    pub results : Each IsOwnResult came
+    pub owner : IsOwnOwner parked
+
+  -- a scope of the run passes
+  pub record IsOwnPassing (p : Passing) : Type 0 where
+    pub job : o ≡ Some p.owner.parked.job
+    pub can : CanPass p

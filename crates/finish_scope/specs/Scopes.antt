@@ -1,0 +1,79 @@
+-- What stands in a scope, and what each call does to it.
+use Rattle.std.specs.Prelude.{ℕ, ◌≡◌, ◌≢◌, ◌-◌, ◌+◌, ◌<◌, ◌≤◌, ◌⊎◌, List, [], ◌∷◌, ◌++◌, Option, Some, None, Bool, true, false}
+use Rattle.own_run.specs.declared.result.TaskResult.{TaskResult as Made}
+use Rattle.weights.specs.Ledger.{Ledger, Returned, issued_of, returned_of, opened, minted, listed, without_entry}
+use Rattle.finish_scope.specs.declared.late.Reason.{Reason}
+use Rattle.finish_scope.specs.declared.late.Reason.TheVariants.{NotDue, IssuedTooOften}
+use Rattle.finish_scope.specs.declared.resting.Passing.{Passing}
+use Rattle.finish_scope.specs.declared.resting.Resting.{Resting}
+
+-- its book, the results that have come, the owner that is parked, and whether a result or an entry
+-- found no memory
+pub record Standing : Type 0 where
+  pub book : Ledger
+  pub results : List Made
+  pub owner : Option Resting
+  pub marked : Bool
+
+-- at its opening, w0 is out
+abbrev pub scope_at_opening : (w0 : ℕ) → Standing
+scope_at_opening w0 = record { book = opened w0; results = []; owner = None; marked = false }
+
+-- how much weight is out
+abbrev pub out_of : Standing → ℕ
+out_of s = issued_of s.book - returned_of s.book
+
+-- all that was issued is back
+abbrev pub IsEven : Standing → Type 0
+IsEven s = returned_of s.book ≡ issued_of s.book
+
+-- it has passed: all is back, and nobody is parked
+pub record HasPassed (s : Standing) : Type 0 where
+  pub even : IsEven s
+  pub nobody : s.owner ≡ None
+
+-- what comes back with a result, or as its owner is parked
+abbrev pub given_by : Made → (weight : ℕ) → Returned
+given_by made weight = record { path = made.path.turns.items; weight = weight }
+
+-- w0 more is issued, on top of a weight that is out
+pub record Mints (old new : Standing) (weight : ℕ) : Type 0 where
+  pub out : weight ≤ out_of old
+  pub few : 1 + old.book.mints < 2147483648
+  pub book : new ≡ record old { book = minted old.book }
+
+-- why no more is issued: so much isn't out; or it is, and w0 was issued 2^31 times
+abbrev pub Cannot : Standing → (weight : ℕ) → Reason → Type 0
+Cannot s weight NotDue = out_of s < weight
+Cannot s weight IssuedTooOften = (weight ≤ out_of s) × (1 + s.book.mints ≡ 2147483648)
+
+-- a weight comes back: it has its entry; or that found no memory, and the weight is counted as
+-- unlisted, and the mark says so
+abbrev pub Counts : (old new : Standing) → Returned → Type 0
+Counts old new e = (new ≡ record old { book = listed e old.book })
+    ⊎ (new ≡ record old { book = without_entry e old.book; marked = true })
+
+-- a result is kept; or it found no memory, and the mark says so
+abbrev pub Keeps : (old new : Standing) → Made → Type 0
+Keeps old new made = (new ≡ record old { results = old.results ++ made ∷ [] })
+    ⊎ (new ≡ record old { marked = true })
+
+-- a weight that was out comes back with a result: it is counted, and the result is kept
+pub record TakesBack (old new : Standing) (e : Returned) (made : Made) : Type 0 where
+  pub out : e.weight ≤ out_of old
+  pub between : Standing
+  pub counts : Counts old between e
+  pub keeps : Keeps between new made
+
+-- an owner is parked where none was: the weight that it gives back was out, and is counted
+pub record Parks (old new : Standing) (e : Returned) (owner : Resting) : Type 0 where
+  pub nobody : old.owner ≡ None
+  pub out : e.weight ≤ out_of old
+  pub counts : Counts (record old { owner = Some owner }) new e
+
+-- all is back: its owner leaves with all results
+pub record Passes (old new : Standing) (p : Passing) : Type 0 where
+  pub even : IsEven old
+  pub owner : old.owner ≡ Some p.owner
+  pub results : p.results.items ≡ old.results
+  pub left : new ≡ record old { results = []; owner = None }

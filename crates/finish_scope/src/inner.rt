@@ -1,0 +1,215 @@
+//! What stands under the lock of a scope.
+
+ghost use Rattle.std.specs.Prelude.{◌≡◌, ◌≢◌, ◌+◌, ◌<◌, ◌≤◌, ◌⊎◌, ◌↔◌, IfErr, IfNone, IfOk};
+ghost use Rattle.std.specs.Prelude.{IfSome, None, OnErr, OnOk};
+ghost use Rattle.weights.specs.Ledger.{issued_of, returned_of};
+ghost use Rattle.finish_scope.specs.Own.{IsOwnPassing, IsOwnResting, IsOwnResult};
+ghost use Rattle.finish_scope.specs.Scopes.{Cannot, Counts, Keeps, Mints, Parks, Passes, TakesBack};
+ghost use Rattle.finish_scope.specs.Scopes.{IsEven, out_of, given_by, scope_at_opening};
+
+use crate::late::{Late, Reason};
+use crate::resting::{Passing, Resting};
+use crate::running::Running;
+use own_run::result::TaskResult;
+use std::alloc::Global;
+use std::marker::{Model, PhantomData};
+use std::sync::Mutex;
+use types::path::Path;
+use weights::book::{Back, Book};
+use weights::weight::Weight;
+
+/// A scope that threads share.
+pub type Scope<'p, J> = Mutex<Inner<'p, J>>;
+
+/// How many times a scope issues weight at most.
+const MOST_ISSUES: u64 = 2_147_483_648;
+
+/// What stands under the lock of a scope.
+#[derive(Drop)]
+pub struct Inner<'p, J: Running> {
+    book: Book,
+    /// Those that have come, the oldest first.
+    results: Vec<TaskResult>,
+    owner: Option<Resting<'p>>,
+    /// A result, or the entry of a weight, found no memory.
+    marked: bool,
+    of: PhantomData<J>,
+}
+
+impl<'p, J: Running> Model for Inner<'p, J> {
+    ghost use Rattle.std.specs.Coded.{codes};
+    ghost use Rattle.finish_scope.specs.Own.{IsOwnScope};
+    ghost use Rattle.finish_scope.specs.Scopes.{Standing};
+    ghost use denote.Signature.{static_lft};
+    ghost use Rattle.finish_scope.specs.contracts.resting.Resting as resting;
+
+    ghost Value = { Standing };
+
+    ghost coded = { Prim.hlevel (codes, (resting.the_row static_lft).coded) };
+
+    ghost view = { λ s. record {
+      book = s.book;
+      results = s.results.items;
+      owner = s.owner;
+      marked = s.marked;
+    } };
+
+    ghost invariant = { λ s. IsOwnScope J.job s.results.items s.owner };
+}
+
+impl<'p, J: Running> Inner<'p, J> {
+    /// A scope at its opening, and the first weight that it issues.
+    pub fn open(alloc: Global, w0: u64) -> (Inner<'p, J>, Weight)
+        requires { (1 ≤ w0) × (w0 ≤ 4294967296) }
+        ensures scope { result.0 ≡ scope_at_opening w0 }
+        ensures weight { result.1 ≡ w0 }
+    {
+        let (book, weight) = Book::open(alloc, w0);
+        let inner = Inner {
+            book,
+            results: Vec::new(alloc),
+            owner: None,
+            marked: false,
+            of: PhantomData,
+        };
+        (inner, weight)
+    }
+
+    /// How much weight is out.
+    pub fn out(&self) -> u64
+        ensures out { result ≡ out_of self.now }
+        ensures within { returned_of self.now.book ≤ issued_of self.now.book }
+    {
+        self.book.issued() - self.book.returned()
+    }
+
+    /// Whether a result, or the entry of a weight, found no memory.
+    pub fn marked(&self) -> bool
+        ensures { result ≡ self.now.marked }
+    {
+        self.marked
+    }
+
+    /// Issues more weight, on top of one that is out.
+    pub fn replenish(&mut self, weight: Weight) -> Result<Weight, Late<Weight>>
+        ensures book { OnOk result (Mints self.old self.new weight) }
+        ensures weight { IfOk result (λ w. w ≡ weight + self.old.book.w0) }
+        ensures case { IfErr result (λ l. Cannot self.old weight l.reason) }
+        ensures back { IfErr result (λ l. l.back ≡ weight) }
+        ensures same { OnErr result (self.new ≡ self.old) }
+    {
+        if weight.units() > self.out() {
+            return Err(Late {
+                reason: Reason::NotDue,
+                back: weight,
+            });
+        }
+        if self.book.issues() == MOST_ISSUES {
+            return Err(Late {
+                reason: Reason::IssuedTooOften,
+                back: weight,
+            });
+        }
+        Ok(self.book.mint(weight))
+    }
+
+    /// A task of this path has ended: its weight comes back, with its result.
+    pub fn give_back(
+        &mut self,
+        weight: Weight,
+        path: Path,
+        made: TaskResult,
+    ) -> Result<Back, Late<(Weight, TaskResult)>>
+        requires path { path.turns.items ≡ made.path.turns.items }
+        requires own { IsOwnResult J.job made }
+        ensures takes { OnOk result (TakesBack self.old self.new (given_by made weight) made) }
+        ensures complete { IfOk result (λ b. (b ≡ Back.Complete) ↔ IsEven self.new) }
+        ensures case { OnErr result (out_of self.old < weight) }
+        ensures reason { IfErr result (λ l. l.reason ≡ Reason.NotDue) }
+        ensures back { IfErr result (λ l. (l.back.0 ≡ weight) × (l.back.1 ≡ made)) }
+        ensures same { OnErr result (self.new ≡ self.old) }
+    {
+        if self.out() < weight.units() {
+            return Err(Late {
+                reason: Reason::NotDue,
+                back: (weight, made),
+            });
+        }
+        let back = self.count(weight, path);
+        self.keep(made);
+        Ok(back)
+    }
+
+    /// A task of this path is at the end of its finish, or of `main`: its weight comes back, and it
+    /// waits as the owner.
+    pub fn park(
+        &mut self,
+        weight: Weight,
+        path: Path,
+        owner: Resting<'p>,
+    ) -> Result<Back, Late<(Weight, Resting<'p>)>>
+        requires path { path.turns.items ≡ owner.parked.made.path.turns.items }
+        requires own { IsOwnResting J.job owner }
+        ensures parks { OnOk result (Parks self.old self.new
+            (given_by owner.entry.parked.made weight) owner.entry) }
+        ensures complete { IfOk result (λ b. (b ≡ Back.Complete) ↔ IsEven self.new) }
+        ensures case { OnErr result ((out_of self.old < weight) ⊎ (self.old.owner ≢ None)) }
+        ensures reason { IfErr result (λ l. l.reason ≡ Reason.NotDue) }
+        ensures back { IfErr result (λ l. (l.back.0 ≡ weight) × (l.back.1 ≡ owner.entry)) }
+        ensures same { OnErr result (self.new ≡ self.old) }
+    {
+        if self.owner.is_some() || self.out() < weight.units() {
+            return Err(Late {
+                reason: Reason::NotDue,
+                back: (weight, owner),
+            });
+        }
+        self.owner = Some(owner);
+        Ok(self.count(weight, path))
+    }
+
+    /// All of its weight is back: the owner goes on, with all results. None where weight is out, or
+    /// nobody is parked, as once it has passed.
+    pub fn resume(&mut self) -> Option<Passing<'p>>
+        ensures own { IfSome result (IsOwnPassing J.job) }
+        ensures passes { IfSome result (Passes self.old self.new) }
+        ensures none { IfNone result ((self.old.owner ≡ None) ⊎ (IsEven self.old → ⊥)) }
+        ensures same { IfNone result (self.new ≡ self.old) }
+    {
+        if self.out() > 0 {
+            return None;
+        }
+        let owner = self.owner.take()?;
+        let none = Vec::new(owner.parked.job.alloc);
+        let results = std::mem::replace(&mut self.results, none);
+        Some(Passing { owner, results })
+    }
+
+    /// Counts a weight that came back. Where its entry finds no memory the scope is marked.
+    fn count(&mut self, weight: Weight, path: Path) -> Back
+        requires out { weight ≤ out_of self.old }
+        ensures counts { Counts self.old self.new (record {
+          path = path.turns.items;
+          weight = weight;
+        }) }
+        ensures complete { (result ≡ Back.Complete) ↔ IsEven self.new }
+    {
+        let some = weight.units();
+        let before = self.book.unlisted();
+        let back = self.book.back(weight, path);
+        if some > 0 && self.book.unlisted() != before {
+            self.marked = true;
+        }
+        back
+    }
+
+    /// Keeps a result. Where it finds no memory the scope is marked.
+    fn keep(&mut self, made: TaskResult)
+        requires own { IsOwnResult J.job made }
+        ensures { Keeps self.old self.new made }
+    {
+        if self.results.push(made).is_err() {
+            self.marked = true;
+        }
+    }
+}
