@@ -1,12 +1,15 @@
 use Rattle.std.proofs.Common.{ap, ◌∙◌, sym, map, length, ℕ}
 use Rattle.std.proofs.lemmas.List.{length-map}
+use Rattle.std.proofs.lemmas.Result.{IfOk-weaker}
 use Rattle.types.specs.Translation.{procedure}
 use Rattle.texts.specs.Labels.{accepted_by}
 use Rattle.texts.proofs.labels.accepted_line.Goals as goal
 
-pub returns-in-Ok-clause-line : goal.returns-in-Ok-clause-line
-returns-in-Ok-clause-line c =
+pub returns : goal.returns
+returns c =
     let all = c.args.code.now.procedures.items in
-    c.in-Ok.ensures.ok
-    ∙ ap (λ (n : ℕ). accepted_by n c.in-Some.labels) (c.len-procedures.ensures ∙ c.args.code.now.procedures.ok.0 ∙ sym (length-map all procedure))
-    ∙ ap (accepted_by (length (map procedure all))) c.in-Some.ensures
+    let numbers =
+    ap (λ (n : ℕ). accepted_by n c.in-Some.labels)
+    (c.len-procedures.ensures ∙ c.args.code.now.procedures.ok.0 ∙ sym (length-map all procedure))
+    ∙ ap (accepted_by (length (map procedure all))) c.in-Some.ensures in
+    IfOk-weaker c.format.result _ _ (λ text told. told ∙ numbers) c.format.ensures.ok
