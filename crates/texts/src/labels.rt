@@ -11,7 +11,7 @@ use types::code::{Procedure, Program, Stmt, StmtKind};
 
 /// The line that tells an accepted program: `accepted: 1 procedures, 9 labels`.
 pub fn accepted_line(alloc: Global, code: &Program) -> Result<String, AllocError>
-    ensures line { IfOk result (λ text. string_bytes text ≡ accepted_text (program code.now)) }
+    ensures { IfOk result (λ text. string_bytes text ≡ accepted_text (program code.now)) }
 {
     let procedures = code.procedures.len();
     let Some(labels) = labels(code) else {

@@ -9,5 +9,5 @@ returns g c s held =
     shown Check s held c.args.text.now _ _ c.answer.result c.as_str.result.now 0
     (line_answers c.args.text.now c.as_str.result.now c.in_ok-accepted.accepted.typed c.typed.result.now c.typed.ensures.field
     c.in_ok-accepted.ensures.spelled c.typed.ensures.no_clash
-    (c.as_str.ensures.value ∙ c.in_ok-line.ensures.line ∙ ap accepted_text c.code.ensures.code))
+    (c.as_str.ensures.value ∙ c.in-Ok.ensures ∙ ap accepted_text c.code.ensures.code))
     c.answer.ensures.text c.answer.ensures.status c.answer.ensures.failure
