@@ -38,10 +38,16 @@ inner_send κ J gh =
     view_send (InInner.the_row κ J gh) _ _ _ _
     (declared_send (InInner.the_type κ J gh) (
       OfBook.the_send,
-      (as_row_send (Vec.the_field RunResult.the_row Heap.the_row ghosts) (Vec-send RunResult.the_row OfResult.the_send),
-      (as_row_send (Option.the_field (Resting.the_row κ)) (OfOption.the_field_send (Resting.the_row κ) (resting_send κ)),
-      (search sendable,
-      (phantom_send J, tt)))),
+      (
+        as_row_send (Vec.the_field RunResult.the_row Heap.the_row ghosts) (Vec-send RunResult.the_row OfResult.the_send),
+        (
+          as_row_send (Option.the_field (Resting.the_row κ)) (OfOption.the_field_send (Resting.the_row κ) (resting_send κ)),
+          (
+            search sendable,
+            (phantom_send J, tt),
+          ),
+        ),
+      ),
     ))
 
 -- a scope is shared

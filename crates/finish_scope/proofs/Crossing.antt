@@ -162,9 +162,13 @@ pub run_send : (κ : NamedLft) → IsSend (Run.the_row κ)
 run_send κ =
     declared_send (Run.the_type κ) (
       search (sendable, crosses, carried) depth 60 fits 50000,
-      (search (sendable, crosses, carried) depth 60 fits 50000,
-      (search (sendable, crosses, frame_send) depth 60 fits 50000,
-      (search (sendable, crosses, OfListed.the_send) depth 60 fits 50000, tt))),
+      (
+        search (sendable, crosses, carried) depth 60 fits 50000,
+        (
+          search (sendable, crosses, frame_send) depth 60 fits 50000,
+          (search (sendable, crosses, OfListed.the_send) depth 60 fits 50000, tt),
+        ),
+      ),
     )
 
 pub body_send : (κ : NamedLft) → IsSend (Body.the_row κ)
@@ -177,14 +181,28 @@ paused_send : (κ : NamedLft) → IsSend (RunPaused.the_row κ)
 paused_send κ =
     declared_send (RunPaused.the_type κ) (
       search (sendable, crosses, carried) depth 60 fits 50000,
-      (search (sendable, crosses, OfPath.the_send) depth 60 fits 50000,
-      (search sendable,
-      (search (sendable, crosses, OfEnvironment.the_send) depth 60 fits 50000,
-      (search sendable,
-      (search sendable,
-      (search (sendable, crosses, OfEnvironment.the_send) depth 60 fits 50000,
-      (search (sendable, crosses, frame_send) depth 60 fits 50000,
-      (search (sendable, crosses, OfOuter.the_send) depth 60 fits 50000, tt)))))))),
+      (
+        search (sendable, crosses, OfPath.the_send) depth 60 fits 50000,
+        (
+          search sendable,
+          (
+            search (sendable, crosses, OfEnvironment.the_send) depth 60 fits 50000,
+            (
+              search sendable,
+              (
+                search sendable,
+                (
+                  search (sendable, crosses, OfEnvironment.the_send) depth 60 fits 50000,
+                  (
+                    search (sendable, crosses, frame_send) depth 60 fits 50000,
+                    (search (sendable, crosses, OfOuter.the_send) depth 60 fits 50000, tt),
+                  ),
+                ),
+              ),
+            ),
+          ),
+        ),
+      ),
     )
 
 owner_send : (κ : NamedLft) → IsSend (Owner.the_row κ)
@@ -194,9 +212,14 @@ pub parked_send : (κ : NamedLft) → IsSend (Parked.the_row κ)
 parked_send κ =
     declared_send (Parked.the_type κ) (
       job_send κ,
-      (owner_send κ,
-      (search (sendable, crosses, OfTaskResult.the_send) depth 60 fits 50000,
-      (search (sendable, crosses, OfStake.the_send) depth 60 fits 50000,
-      (search sendable, tt)))),
+      (
+        owner_send κ,
+        (
+          search (sendable, crosses, OfTaskResult.the_send) depth 60 fits 50000,
+          (
+            search (sendable, crosses, OfStake.the_send) depth 60 fits 50000,
+            (search sendable, tt),
+          ),
+        ),
+      ),
     )
-
