@@ -1,95 +1,100 @@
 //! Results put together by path, also where one is missing or too many come.
 
-ghost use Rattle.std.specs.Prelude.{◌≡◌, false};
+ghost use Rattle.std.specs.Prelude.{◌≡◌, false, IfOk};
 ghost use Rattle.std.specs.List.{All};
 ghost use Rattle.sections.specs.Place.{Place};
 ghost use Rattle.own_run.specs.Translation.{owned_by};
 ghost use Rattle.run_tests.specs.Results.{GivesNoPlace, HasNoPlace};
 
-use crate::tests::{accepted, compare, path};
+use crate::tests::{accepted, compare};
 use gather::settle::settle;
+use holdings::error::HoldError;
 use holdings::holdings::Holdings;
 use own_run::result::{Listed, TaskResult};
-use std::alloc::Global;
+use std::alloc::{AllocError, Global};
 use std::process::Abort;
+use std::test::Fail;
 use std::thread::Threads;
 use types::code::Label;
 use types::fault::{Fault, FaultKind};
 use types::input::Input;
+use types::path::Path;
 
 /// A task of a program with no array: its path, and the paths of those that it began. It ends with a fault, whose
 /// number is that of its label.
 type Task = (&'static [u32], Label, &'static [&'static [u32]]);
 
 /// Holdings of no place.
-fn nothing(rt: &(impl Abort + Threads + Sync), alloc: Global) -> Holdings
-    ensures { (q : Place) → owned_by result q ≡ false }
+fn nothing(rt: &(impl Abort + Threads + Sync), alloc: Global) -> Result<Holdings, HoldError>
+    ensures { IfOk result (λ h. (q : Place) → owned_by h q ≡ false) }
 {
     let program = accepted(rt, alloc, "main { }");
     let input = Input::zeros(alloc, program.typed()).expect(rt, "memory");
     let all = Holdings::of_input(alloc, program.typed(), &input).expect(rt, "memory");
-    all.share(alloc, &[]).expect(rt, "memory")
+    let shared = all.share(alloc, &[])?;
+    Ok(shared)
+}
+
+/// A path.
+fn path(alloc: Global, turns: &[u32]) -> Result<Path, AllocError> {
+    let turns = Vec::from_slice(alloc, turns)?;
+    Ok(Path { turns })
 }
 
 /// What its parent knows of a task that writes nothing.
-fn listed(rt: &impl Abort, alloc: Global, turns: &[u32]) -> Listed
-    ensures { GivesNoPlace result }
+fn listed(alloc: Global, turns: &[u32]) -> Result<Listed, AllocError>
+    ensures { IfOk result GivesNoPlace }
 {
-    Listed {
-        path: path(rt, alloc, turns),
+    Ok(Listed {
+        path: path(alloc, turns)?,
         windows: Vec::new(alloc),
         lines: Vec::new(alloc),
         faults: Vec::new(alloc),
-    }
-}
-
-/// What its parent knows of such tasks.
-fn all_listed(rt: &impl Abort, alloc: Global, tasks: &[&[u32]]) -> Vec<Listed>
-    ensures { All GivesNoPlace result.items }
-{
-    let mut children = Vec::new(alloc);
-    for turns in tasks {
-        let child = listed(rt, alloc, turns);
-        children.push(child).expect(rt, "memory");
-    }
-    children
-}
-
-/// The fault of such a task.
-fn fault_of(rt: &impl Abort, alloc: Global, turns: &[u32], label: Label) -> Vec<Fault> {
-    let fault = Fault {
-        path: path(rt, alloc, turns),
-        label,
-        kind: FaultKind::Raised(0),
-    };
-    vec![in alloc; fault].expect(rt, "memory")
+    })
 }
 
 /// What such a task hands on.
-fn result_of(rt: &(impl Abort + Threads + Sync), alloc: Global, task: Task) -> TaskResult
-    ensures { HasNoPlace result }
+fn result_of(
+    rt: &(impl Abort + Threads + Sync),
+    alloc: Global,
+    task: Task,
+) -> Result<TaskResult, HoldError>
+    ensures { IfOk result HasNoPlace }
 {
     let (turns, label, begun) = task;
-    TaskResult {
-        path: path(rt, alloc, turns),
-        stopped: false,
-        holdings: nothing(rt, alloc),
-        lines: Vec::new(alloc),
-        faults: fault_of(rt, alloc, turns, label),
-        children: all_listed(rt, alloc, begun),
+    let mut children = Vec::new(alloc);
+    for child in begun {
+        children.push(listed(alloc, child)?)?;
     }
+    let mut faults = Vec::new(alloc);
+    faults.push(Fault {
+        path: path(alloc, turns)?,
+        label,
+        kind: FaultKind::Raised(0),
+    })?;
+    Ok(TaskResult {
+        path: path(alloc, turns)?,
+        stopped: false,
+        holdings: nothing(rt, alloc)?,
+        lines: Vec::new(alloc),
+        faults,
+        children,
+    })
 }
 
 /// What such tasks hand on.
-fn results_of(rt: &(impl Abort + Threads + Sync), alloc: Global, tasks: &[Task]) -> Vec<TaskResult>
-    ensures { All HasNoPlace result.items }
+fn results_of(
+    rt: &(impl Abort + Threads + Sync),
+    alloc: Global,
+    tasks: &[Task],
+) -> Result<Vec<TaskResult>, HoldError>
+    ensures { IfOk result (λ rs. All HasNoPlace rs.items) }
 {
     let mut results = Vec::new(alloc);
     for task in tasks {
-        let made = result_of(rt, alloc, *task);
-        results.push(made).expect(rt, "memory");
+        results.push(result_of(rt, alloc, *task)?)?;
     }
-    results
+    Ok(results)
 }
 
 /// The labels of faults.
@@ -142,11 +147,11 @@ const ROWS: &[(&str, &[Task], &str)] = &[
 ];
 
 #[test]
-fn results_settle_by_path(rt: HostRuntime) {
+fn results_settle_by_path(rt: HostRuntime) -> Result<(), Fail> {
     let alloc = rt.alloc();
     for (name, tasks, want) in ROWS {
-        let root = result_of(&rt, alloc, ROOT);
-        let results = results_of(&rt, alloc, tasks);
+        let root = result_of(&rt, alloc, ROOT)?;
+        let results = results_of(&rt, alloc, tasks)?;
         match settle(alloc, root, results) {
             Ok(settled) => {
                 let labels = labels_of(&rt, alloc, &settled.faults);
@@ -155,4 +160,5 @@ fn results_settle_by_path(rt: HostRuntime) {
             Err(error) => compare(&rt, alloc, *name, error, want),
         }
     }
+    Ok(())
 }

@@ -209,8 +209,9 @@ fn told(rt: &impl Abort, alloc: Global, world: World<'_>) -> String {
         number: 1,
     };
     let (issued, returned) = world.book(&scope).expect(rt, "a finish");
-    let told = match world.outcome().expect(rt, "memory") {
-        Some(Outcome::Ended { lines, .. }) => { format!(in alloc; "{issued} {returned} {lines:?}") }
+    let outcome = world.outcome().expect(rt, "memory");
+    let told = match &outcome {
+        Some(Outcome::Ended { lines, .. }) => format!(in alloc; "{issued} {returned} {lines:?}"),
         Some(Outcome::Stopped) => format!(in alloc; "{issued} {returned} stopped"),
         None => format!(in alloc; "{issued} {returned} none"),
     };
