@@ -5,9 +5,9 @@ use interleave::event::{Event, ScopeId};
 use interleave::job::Job;
 use interleave::replay::replay;
 use interleave::walk::random_walk;
-use interleave::world::World;
 use std::alloc::Global;
 use std::process::Abort;
+use std::test::Fail;
 use std::thread::Threads;
 use types::budget::Budget;
 use types::input::Input;
@@ -202,35 +202,40 @@ const ROWS: &[Row] = &[
     ),
 ];
 
-/// What is told of a world: the book of the root's first finish, and the printed lines.
-fn told(rt: &impl Abort, alloc: Global, world: World<'_>) -> String {
-    let scope = ScopeId {
+/// What is told behind the events of a row: the book of the root's first finish, and the printed lines.
+fn told(rt: &(impl Abort + Threads + Sync), alloc: Global, row: Row) -> Result<String, Fail> {
+    let (text, w0, pieces, _) = row;
+    let program = accepted(rt, alloc, text);
+    let input = Input::zeros(alloc, program.typed())?;
+    let job = Job::new(alloc, &program, &input, Budget::usual(), w0).expect(rt, "a weight");
+    let events = events(rt, alloc, pieces);
+    let world = match replay(job, &events) {
+        Ok(world) => world,
+        Err(error) => return Ok(format!(in alloc; "{error:?}")?),
+    };
+    let finish = ScopeId {
         owner: path(rt, alloc, ROOT),
         number: 1,
     };
-    let (issued, returned) = world.book(&scope).expect(rt, "a finish");
+    let (issued, returned) = world.book(&finish).expect(rt, "a finish");
     let outcome = world.outcome().expect(rt, "memory");
-    let told = match &outcome {
-        Some(Outcome::Ended { lines, .. }) => format!(in alloc; "{issued} {returned} {lines:?}"),
-        Some(Outcome::Stopped) => format!(in alloc; "{issued} {returned} stopped"),
-        None => format!(in alloc; "{issued} {returned} none"),
+    let lines = match &outcome {
+        Some(Outcome::Ended { lines, .. }) => format!(in alloc; "{lines:?}")?,
+        Some(Outcome::Stopped) => format!(in alloc; "stopped")?,
+        None => format!(in alloc; "none")?,
     };
-    told.expect(rt, "memory")
+    Ok(format!(in alloc; "{issued} {returned} {lines}")?)
 }
 
 #[test]
-fn events_are_legal_or_the_first_that_is_not_is_told(rt: HostRuntime) {
+fn events_are_legal_or_the_first_that_is_not_is_told(rt: HostRuntime) -> Result<(), Fail> {
     let alloc = rt.alloc();
-    for (text, w0, pieces, want) in ROWS {
-        let program = accepted(&rt, alloc, text);
-        let input = Input::zeros(alloc, program.typed()).expect(&rt, "memory");
-        let job = Job::new(alloc, &program, &input, Budget::usual(), *w0);
-        let events = events(&rt, alloc, pieces);
-        match replay(job.expect(&rt, "a weight"), &events) {
-            Ok(world) => compare(&rt, alloc, *text, told(&rt, alloc, world), want),
-            Err(error) => compare(&rt, alloc, *text, format_args!("{error:?}"), want),
-        }
+    for row in ROWS {
+        let (text, _, _, want) = *row;
+        let told = told(&rt, alloc, *row)?;
+        compare(&rt, alloc, text, told.as_str(), want);
     }
+    Ok(())
 }
 
 #[test]
