@@ -102,7 +102,7 @@ fn placed<'p>(round: Round<'p>, tree: Tree<'p>) -> Result<Place<'p>, AllocError>
     Ok(Place { round, tree, ready })
 }
 
-/// As many as a number of 32 bits can tell.
+/// How many leaves may step in all, of those left of a place, there and right of it.
 fn in_all(left: u32, here: u32, right: u32) -> Result<u32, AllocError>
     ensures { IfOk result (λ n. n ≡ left + here + right) }
 {

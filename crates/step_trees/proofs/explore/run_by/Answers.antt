@@ -36,8 +36,8 @@ choices-init c =
           ∙ ap (explored_from p 0 cs (first_tree p)) store;
     }
 
-pub returns-then-choice-ready : goal.returns-then-choice-ready
-returns-then-choice-ready c =
+pub returns-then-choice-place : goal.returns-then-choice-place
+returns-then-choice-place c =
     let p = program c.code.result.now in let cs = c.args.choices.now in
     let same_code : p ≡ code_of c.args.accepted.now.typed = c.code.ensures.code ∙ ap code_of c.typed.ensures.field in
     let t = whole c.choices.place in let a = contents_of c.choices.store in
