@@ -1,12 +1,11 @@
 -- A place in a tree: how many leaves may step round it, and which of the whole stand there.
-use Rattle.std.proofs.Common.{◌≡◌, ℕ, ◌+◌, ◌-◌, ◌<◌, ◌≤◌, List, [], ◌∷◌, ◌++◌, Option, Some, None, refl, sym, ap, ◌∙◌, arith}
+use Rattle.std.proofs.Common.{◌≡◌, ℕ, ◌+◌, ◌<◌, List, [], ◌∷◌, ◌++◌, Option, Some, None, refl, ap, ◌∙◌, arith}
 use Rattle.std.proofs.lemmas.Bool.{and_parts}
 use Rattle.std.specs.Prelude.{Bool, true, false, ◌&&◌, if◌then◌else◌}
-use Rattle.types.specs.Code.{Codes, Program}
+use Rattle.types.specs.Code.{Program}
 use Rattle.types.specs.Contents.{Contents}
-use Rattle.types.specs.Trees.{Leaf, Tree, Single, AndThen, Beside, is_done, all_done, ready, closed, and_then}
+use Rattle.types.specs.Trees.{Leaf, Tree, Single, AndThen, Beside, all_done, ready, closed, and_then}
 use Rattle.types.specs.TreeSteps.{in_tree, step, leaf_at}
-use Rattle.step_trees.specs.declared.tree.Tree.{Tree as rTree}
 use Rattle.step_trees.specs.declared.tree.Around.{Around}
 use Rattle.step_trees.specs.declared.tree.Around.TheVariants.{Behind, Left, Right}
 use Rattle.step_trees.specs.Held.{tree_of, within, inside}

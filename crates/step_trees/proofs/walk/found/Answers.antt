@@ -1,8 +1,7 @@
-use Rattle.std.proofs.Common.{◌≡◌, ◌+◌, ◌-◌, ◌<◌, ◌≤◌, subst, arith}
+use Rattle.std.proofs.Common.{◌≡◌, ◌+◌, ◌-◌, ◌<◌, subst, arith}
 use Rattle.std.proofs.lemmas.Result.{IfOk-weaker}
 use Rattle.types.specs.Trees.{ready}
 use Rattle.step_trees.specs.Found.{IsFound}
-use Rattle.step_trees.specs.Held.{tree_of}
 use Rattle.step_trees.specs.Places.{lefts, whole}
 use Rattle.step_trees.proofs.Places.{place_going}
 use Rattle.step_trees.proofs.walk.found.Goals as goal

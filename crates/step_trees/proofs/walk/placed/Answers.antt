@@ -1,4 +1,3 @@
-use Rattle.std.proofs.Common.{refl}
 use Rattle.step_trees.specs.Held.{tree_of}
 use Rattle.step_trees.proofs.Places.{placed_ready}
 use Rattle.step_trees.proofs.walk.placed.Goals as goal

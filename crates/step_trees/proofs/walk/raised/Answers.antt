@@ -1,8 +1,6 @@
-use Rattle.std.proofs.Common.{◌≡◌, ◌+◌, ◌-◌, ◌<◌, ◌≤◌, refl, sym, ap, ◌∙◌, subst, rules, arith}
-use Rattle.std.specs.Prelude.{[], false}
-use Rattle.types.specs.Trees.{all_done, ready}
-use Rattle.step_trees.specs.Held.{tree_of, inside}
-use Rattle.step_trees.specs.Places.{lefts}
+use Rattle.std.proofs.Common.{ap, ◌∙◌}
+use Rattle.types.specs.Trees.{all_done}
+use Rattle.step_trees.specs.Held.{tree_of}
 use Rattle.step_trees.proofs.Places.{within_going}
 use Rattle.step_trees.proofs.Walks.{up-by}
 use Rattle.step_trees.proofs.walk.raised.Goals as goal

@@ -1,7 +1,3 @@
-use Rattle.std.proofs.Common.{◌≡◌, ◌∙◌, sym, rules}
-use Rattle.std.proofs.lemmas.Result.{IfOk-weaker}
-use Rattle.std.specs.Prelude.{true, false}
-use Rattle.types.specs.Trees.{all_done}
 use Rattle.step_trees.specs.Held.{tree_of}
 use Rattle.step_trees.proofs.Walks.{up-by}
 use Rattle.step_trees.proofs.walk.settled.Goals as goal
