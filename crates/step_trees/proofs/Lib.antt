@@ -2,6 +2,7 @@ pub mod ChosenRuns
 pub mod CommutingSteps
 pub mod Deeds
 pub mod Drawing
+pub mod Dropping
 pub mod Examples
 pub mod Exploring
 pub mod FirstLeaves
@@ -15,6 +16,7 @@ pub mod LyingTrees
 pub mod NoDeadlock
 pub mod OneThread
 pub mod PlacedStatements
+pub mod Places
 pub mod PlacesRead
 pub mod PlacesTouched
 pub mod ReachedTrees

@@ -10,8 +10,8 @@ use Rattle.types.specs.TreeSteps.{leaf_step, in_tree, step, unless_done, leaf_at
 use Rattle.step_trees.specs.declared.leaf.Leaf.{Leaf as rLeaf}
 use Rattle.step_trees.specs.declared.tree.Tree.{Tree as rTree}
 use Rattle.step_trees.specs.declared.tree.Tree.TheVariants.{AndThen' as rAndThen, Beside' as rBeside}
-use Rattle.step_trees.specs.declared.walk.Around.{Around}
-use Rattle.step_trees.specs.declared.walk.Around.TheVariants.{Behind, Left, Right}
+use Rattle.step_trees.specs.declared.tree.Around.{Around}
+use Rattle.step_trees.specs.declared.tree.Around.TheVariants.{Behind, Left, Right}
 use Rattle.step_trees.specs.Held.{tree_of, within, inside, IsCounted, IsCountedRound, AreCounted}
 
 -- the nearest is last
@@ -74,20 +74,19 @@ module _ (k : Leaf) (n : ℕ) (below : n < ready (Single k)) where
   single-step p a = ap (λ (m : ℕ). step p m (Single k) a) (only_leaf k.rest n below).0
 
 -- on the way to the n-th leaf that may step: of what stands in there, it is the m-th
-pub record Way (n : ℕ) (whole : rTree) (xs : List Around) (m : ℕ) (t : rTree) : Type 0 where
+pub record Way (n : ℕ) (whole : Tree) (xs : List Around) (m : ℕ) (t : rTree) : Type 0 where
   pub counted : IsCounted t
-  pub round : AreCounted xs
   pub below : m < ready (tree_of t)
-  pub leaf : leaf_at n (tree_of whole) ≡ leaf_at m (tree_of t)
-  pub steps : (p : Program) (a : Contents) → step p n (tree_of whole) a ≡ in_tree (inside xs) (step p m (tree_of t) a)
+  pub leaf : leaf_at n whole ≡ leaf_at m (tree_of t)
+  pub steps : (p : Program) (a : Contents) → step p n whole a ≡ in_tree (inside xs) (step p m (tree_of t) a)
 
-less_by : (m n : ℕ) → m < n → nat_lt m n ≡ true
+pub less_by : (m n : ℕ) → m < n → nat_lt m n ≡ true
 less_by m n h = grind (arith, nat_tests)
 
-more_by : (m n : ℕ) → n ≤ m → nat_lt m n ≡ false
+pub more_by : (m n : ℕ) → n ≤ m → nat_lt m n ≡ false
 more_by m n h = grind (arith, nat_tests)
 
-module _ (n : ℕ) (whole : rTree) (xs : List Around) (m : ℕ) where
+module _ (n : ℕ) (whole : Tree) (xs : List Around) (m : ℕ) where
   pub way-as : {ys : List Around} {k : ℕ} {t u : rTree} → xs ≡ ys → m ≡ k → t ≡ u → Way n whole xs m t → Way n whole ys k u
   way-as {ys} {k} {t} {u} e f g w =
       subst (λ ys. Way n whole ys k u) e (subst (λ k. Way n whole xs k u) f (subst (Way n whole xs m) g w))
@@ -95,7 +94,6 @@ module _ (n : ℕ) (whole : rTree) (xs : List Around) (m : ℕ) where
   pub way-first : (p : _) (f : rTree) (k : rLeaf) (r : ℕ) → Way n whole xs m (rAndThen p f k r) → Way n whole (xs ++ Behind k ∷ []) m f
   way-first p f k r w = record {
     counted = w.counted.0;
-    round = counted-push xs (Behind k) w.round tt;
     below = w.below;
     leaf = w.leaf;
     steps = λ p a. w.steps p a ∙ in_tree-push xs (Behind k) (step p m (tree_of f) a);
@@ -107,7 +105,6 @@ module _ (n : ℕ) (whole : rTree) (xs : List Around) (m : ℕ) where
       let e = less_by m (ready (tree_of f)) h in
       record {
         counted = w.counted.0;
-        round = counted-push xs (Right b) w.round w.counted.1;
         below = h;
         leaf = w.leaf ∙ leaf-left m (tree_of f) (tree_of b.value) e;
         steps = λ p a.
@@ -123,7 +120,6 @@ module _ (n : ℕ) (whole : rTree) (xs : List Around) (m : ℕ) where
       let all : m < ready (tree_of b.value) + ready (tree_of g) = w.below in
       record {
         counted = w.counted.1;
-        round = counted-push xs (Left b) w.round w.counted.0;
         below = omega (arith, h, is, all);
         leaf = w.leaf ∙ leaf-right m (tree_of b.value) (tree_of g) k e is;
         steps = λ p a.
@@ -132,6 +128,6 @@ module _ (n : ℕ) (whole : rTree) (xs : List Around) (m : ℕ) where
       }
 
 -- back up by one
-pub up-by : (xs ys : List Around) (x y : Around) (t u w : Tree) → xs ≡ ys ++ x ∷ [] → x ≡ y → u ≡ within y t → inside xs t ≡ w → inside ys u ≡ w
-up-by xs ys x y t u w e f g h =
-    ap (inside ys) g ∙ sym (ap (λ x. inside ys (within x t)) f) ∙ sym (inside-push ys x t) ∙ sym (ap (λ xs. inside xs t) e) ∙ h
+pub up-by : (xs ys : List Around) (x : Around) (t u w : Tree) → xs ≡ ys ++ x ∷ [] → u ≡ within x t → inside xs t ≡ w → inside ys u ≡ w
+up-by xs ys x t u w e g h =
+    ap (inside ys) g ∙ sym (inside-push ys x t) ∙ sym (ap (λ xs. inside xs t) e) ∙ h

@@ -10,21 +10,22 @@ use Rattle.serial_run.specs.Lists.{lists_of, contents_of}
 use Rattle.step_trees.specs.declared.explore.Explored.{Explored as rExplored}
 use Rattle.step_trees.specs.declared.explore.Explored.TheVariants.{Ended as rEnded, Open as rOpen}
 use Rattle.step_trees.specs.declared.explore.Explored.TheVariants.{NoSuchChoice as rNoSuchChoice}
-use Rattle.step_trees.specs.declared.tree.Tree.{Tree as rTree}
-use Rattle.step_trees.specs.Held.{tree_of, IsCounted}
+use Rattle.step_trees.specs.declared.walk.Place.{Place}
+use Rattle.step_trees.specs.Places.{whole, IsPlace}
 use Rattle.step_trees.specs.Windows.{TreeLies}
 
--- a tree is counted, its windows lie in their arrays, and these have a number for each element
-pub record IsHeld (plan : Plan) (a : Store) (t : rTree) : Type 0 where
-  pub counted : IsCounted t
-  pub windows : TreeLies (program plan.program.now) (tree_of t)
+-- what is held of a place is so, the windows of its tree lie in their arrays, and these have a
+-- number for each element
+pub record IsHeld (plan : Plan) (a : Store) (c : Place) : Type 0 where
+  pub place : IsPlace c
+  pub windows : TreeLies (program plan.program.now) (whole c)
   pub store : FitsArrays (program plan.program.now).arrays (lists_of a)
 
--- the step of the n-th leaf that may step, after which a tree is held as before
-pub record StepsTree (plan : Plan) (a : Store) (t : rTree) (n : ℕ) (r : rTree × Store)
+-- the step of the n-th leaf that may step, after which a place is held as before
+pub record StepsTree (plan : Plan) (a : Store) (c : Place) (n : ℕ) (r : Place × Store)
     : Type 0 where
-  pub step : step (program plan.program.now) n (tree_of t) (contents_of a)
-      ≡ Some (tree_of r.0, contents_of r.1)
+  pub step : step (program plan.program.now) n (whole c) (contents_of a)
+      ≡ Some (whole r.0, contents_of r.1)
   pub held : IsHeld plan r.1 r.0
 
 -- what is told

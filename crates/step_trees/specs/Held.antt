@@ -7,8 +7,8 @@ use Rattle.step_trees.specs.declared.tree.Remains.{Remains}
 use Rattle.step_trees.specs.declared.tree.Tree.{Tree as rTree}
 use Rattle.step_trees.specs.declared.tree.Tree.TheVariants.{Single as rSingle}
 use Rattle.step_trees.specs.declared.tree.Tree.TheVariants.{AndThen' as rAndThen, Beside' as rBeside}
-use Rattle.step_trees.specs.declared.walk.Around.{Around}
-use Rattle.step_trees.specs.declared.walk.Around.TheVariants.{Behind, Left, Right}
+use Rattle.step_trees.specs.declared.tree.Around.{Around}
+use Rattle.step_trees.specs.declared.tree.Around.TheVariants.{Behind, Left, Right}
 use Rattle.step_trees.specs.Translation.{leaf_of}
 
 -- a tree

@@ -3,6 +3,7 @@ pub mod Exploring
 pub mod Found
 pub mod Held
 pub mod Laws
+pub mod Places
 pub mod Still
 pub mod Translation
 pub mod Turns

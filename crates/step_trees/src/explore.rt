@@ -14,13 +14,14 @@ ghost use Rattle.step_trees.specs.Drawing.{drawn_choices, next_number as number_
 ghost use Rattle.step_trees.specs.Drawing.{picked as picked_by};
 ghost use Rattle.step_trees.specs.Exploring.{explored_of, IsHeld, StepsTree};
 ghost use Rattle.step_trees.specs.Held.{tree_of, IsCounted};
+ghost use Rattle.step_trees.specs.Places.{whole, IsPlace};
 ghost use Rattle.step_trees.specs.Turns.{becomes as becomes_tree};
 
 use crate::leaf::{Leaf, returned};
 use crate::rest::block_alone;
-use crate::tree::{Tree, and_then, beside, take_apart};
+use crate::tree::{Round, Tree, and_then, beside};
 use crate::turn::{Becomes, step as leaf_turn};
-use crate::walk::{found, rebuilt};
+use crate::walk::{Place, found, settled};
 use effects::laws::typed_programs_are_sound;
 use race_checker::accepted::Accepted;
 use serial_run::store::Store;
@@ -81,19 +82,19 @@ fn run_by(
         program: accepted.typed().code(),
         budget: Budget::usual(),
     };
-    let mut tree = first(plan)?;
+    let mut place = start(plan)?;
     let mut store = Store::of_input(alloc, input)?;
     let mut left = choices;
     'choices: while let Some((choice, later)) = left.split_first() {
-        if *choice >= tree.ready() {
+        if *choice >= place.ready {
             return Ok(Explored::NoSuchChoice(choices.len() - left.len()));
         }
-        let (next, after) = step(plan, store, tree, *choice)?;
-        tree = next;
+        let (next, after) = step(plan, store, place, *choice)?;
+        place = next;
         store = after;
         left = later;
     }
-    told(plan, store, tree)
+    told(plan, store, place)
 }
 
 /// The most choices that are drawn.
@@ -142,22 +143,22 @@ fn run_drawn(
         program: accepted.typed().code(),
         budget: Budget::usual(),
     };
-    let mut tree = first(plan)?;
+    let mut place = start(plan)?;
     let mut store = Store::of_input(alloc, input)?;
     let mut number = seed;
     let mut left = MOST_DRAWN;
     'choices: while let Some(later) = left.checked_sub(1) {
-        let leaves = tree.ready();
+        let leaves = place.ready;
         if leaves == 0 {
-            return told(plan, store, tree);
+            return told(plan, store, place);
         }
         number = next_number(number);
-        let (next, after) = step(plan, store, tree, picked(number, leaves))?;
-        tree = next;
+        let (next, after) = step(plan, store, place, picked(number, leaves))?;
+        place = next;
         store = after;
         left = later;
     }
-    told(plan, store, tree)
+    told(plan, store, place)
 }
 
 /// The generator's number behind this one.
@@ -175,6 +176,15 @@ fn picked(number: u64, leaves: u32) -> u32
     ensures picked { result ≡ picked_by number leaves }
 {
     (number / 4_294_967_296 % u64::from(leaves)) as u32
+}
+
+/// Where a run begins.
+fn start<'p>(plan: Plan<'p>) -> Result<Place<'p>, AllocError>
+    ensures tree { IfOk result (λ c. whole c ≡ first_tree (program_of plan.entry.program.now)) }
+    ensures place { IfOk result IsPlace }
+{
+    let tree = first(plan)?;
+    settled(plan.alloc, Round::nothing(plan.alloc), tree)
 }
 
 /// `main` at its beginning.
@@ -202,18 +212,18 @@ fn first<'p>(plan: Plan<'p>) -> Result<Tree<'p>, AllocError>
 fn step<'p>(
     plan: Plan<'p>,
     store: Store,
-    tree: Tree<'p>,
+    place: Place<'p>,
     choice: u32,
-) -> Result<(Tree<'p>, Store), AllocError>
-    requires held { IsHeld plan store tree }
-    requires choice { choice < ready_leaves (tree_of tree) }
-    ensures { IfOk result (StepsTree plan.entry store tree.entry choice) }
+) -> Result<(Place<'p>, Store), AllocError>
+    requires held { IsHeld plan store place }
+    requires choice { choice < ready_leaves (whole place) }
+    ensures { IfOk result (StepsTree plan.entry store place.entry choice) }
 {
-    let (around, leaf) = found(plan.alloc, tree, choice)?;
+    let (round, leaf) = found(plan.alloc, place, choice)?;
     let (becomes, store) = leaf_turn(plan, store, leaf)?;
     let tree = grown(plan.alloc, becomes)?;
-    let tree = rebuilt(plan.alloc, around, tree)?;
-    Ok((tree, store))
+    let place = settled(plan.alloc, round, tree)?;
+    Ok((place, store))
 }
 
 /// The tree that a leaf becomes by a step.
@@ -233,16 +243,20 @@ fn grown<'p>(alloc: Global, becomes: Becomes<'p>) -> Result<Tree<'p>, AllocError
 }
 
 /// What is told of a tree once all choices are used.
-fn told<'p>(plan: Plan<'p>, store: Store, tree: Tree<'p>) -> Result<Explored, AllocError>
-    requires { IsHeld plan store tree }
+fn told<'p>(plan: Plan<'p>, store: Store, place: Place<'p>) -> Result<Explored, AllocError>
+    requires { IsHeld plan store place }
     ensures { IfOk result (λ e. explored_of e ≡ told_of (program_of plan.entry.program.now)
-        (tree_of tree.entry) (contents_of store)) }
+        (whole place.entry) (contents_of store)) }
 {
+    let Place {
+        round: _,
+        tree,
+        ready,
+    } = place;
     if !tree.is_done() {
-        let leaves = tree.ready();
-        return Ok(Explored::Open { leaves });
+        return Ok(Explored::Open { leaves: ready });
     }
-    let remains = take_apart(plan.alloc, tree)?;
+    let remains = tree.take_apart(plan.alloc)?;
     Ok(Explored::Ended(Outcome::Ended {
         arrays: store.arrays,
         lines: remains.lines,

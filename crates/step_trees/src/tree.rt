@@ -1,9 +1,12 @@
-//! Step trees.
+//! Step trees, and what stands round a place in one.
 
-ghost use Rattle.std.specs.Prelude.{◌≡◌, IfOk, true};
+ghost use Rattle.std.specs.Prelude.{◌≡◌, ◌<◌, ◌+◌, ◌++◌, ◌∷◌, [], IfOk, OnOk, true};
 ghost use Rattle.types.specs.Trees.{all_done, ready as ready_leaves, and_then as then_tree};
 ghost use Rattle.types.specs.Trees.{closed as closed_leaf, Beside};
-ghost use Rattle.step_trees.specs.Held.{tree_of, IsCounted, IsLeftOf};
+ghost use Rattle.step_trees.specs.Found.{IsFound};
+ghost use Rattle.step_trees.specs.Held.{tree_of, inside, within as within_round, IsCounted};
+ghost use Rattle.step_trees.specs.Held.{IsCountedRound, IsLeftOf};
+ghost use Rattle.step_trees.specs.Places.{lefts, ready_left, ready_right, IsRound, Pops};
 ghost use Rattle.step_trees.specs.Translation.{leaf_of};
 
 use crate::leaf::{Leaf, done, returned};
@@ -12,7 +15,6 @@ use types::fault::Fault;
 use types::value::Environment;
 
 /// A step tree, held so that a leaf is found by its number in as many steps as it is deep.
-#[derive(Drop)]
 pub enum Tree<'p> {
     /// One leaf.
     Single(Leaf<'p>),
@@ -46,6 +48,72 @@ pub struct Remains {
     pub faults: Vec<Fault>,
 }
 
+/// What stands round a tree within another.
+#[derive(Drop)]
+pub enum Around<'p> {
+    /// It is the body of a finish, and this waits for its end.
+    Behind(Leaf<'p>),
+    /// This stands right of it.
+    Right(Box<Tree<'p>>),
+    /// This stands left of it.
+    Left(Box<Tree<'p>>),
+}
+
+/// All that stands round a place in a tree.
+#[derive(Drop)]
+pub struct Round<'p> {
+    /// The nearest last.
+    pub around: Vec<Around<'p>>,
+    /// How many leaves may step left of the place.
+    pub left: u32,
+    /// And right of it.
+    pub right: u32,
+}
+
+/// By a loop, without memory: what is left to drop hangs in the boxes of what is gone.
+impl Drop for Tree<'_> {
+    fn drop(mut self) {
+        let mut others: Option<Box<Self>> = None;
+        'parts: loop {
+            match self {
+                Tree::Single(_) => match others {
+                    None => return,
+                    Some(tree) => {
+                        self = Box::into_inner(tree);
+                        others = None;
+                    }
+                },
+                Tree::AndThen {
+                    first,
+                    behind: _,
+                    ready: _,
+                } => self = Box::into_inner(first),
+                Tree::Beside {
+                    mut left,
+                    right,
+                    ready: _,
+                    done: _,
+                } => match others {
+                    None => {
+                        self = Box::into_inner(left);
+                        others = Some(right);
+                    }
+                    Some(more) => {
+                        let both = Tree::Beside {
+                            left: right,
+                            right: more,
+                            ready: 0,
+                            done: false,
+                        };
+                        self = std::mem::replace(&mut *left, both);
+                        others = Some(left);
+                    }
+                },
+            }
+        }
+    }
+}
+
 impl<'p> Tree<'p> {
     /// How many leaves may step.
     pub fn ready(&self) -> u32
@@ -68,6 +136,191 @@ impl<'p> Tree<'p> {
             Tree::Single(leaf) => leaf.rest.is_empty(),
             Tree::AndThen { .. } => false,
             Tree::Beside { done, .. } => *done,
+        }
+    }
+
+    /// Goes down to the leaf with a number, from the left and from 0, of those that may step.
+    pub fn leaf(
+        mut self,
+        round: Round<'p>,
+        choice: u32,
+    ) -> Result<(Round<'p>, Leaf<'p>), AllocError>
+        requires round { IsRound round }
+        requires counted { IsCounted self }
+        requires choice { choice < ready_leaves (tree_of self) }
+        ensures { IfOk result (IsFound (inside round.entry.around.items (tree_of self.entry))
+            (lefts round.entry.around.items + choice)) }
+    {
+        let mut round = round;
+        let mut choice = choice;
+        'down: loop {
+            match self {
+                Tree::Single(leaf) => return Ok((round, leaf)),
+                Tree::AndThen {
+                    first,
+                    behind,
+                    ready: _,
+                } => {
+                    round.push(Around::Behind(behind))?;
+                    self = Box::into_inner(first);
+                }
+                Tree::Beside {
+                    left,
+                    right,
+                    ready: _,
+                    done: _,
+                } => {
+                    let before = left.ready();
+                    if choice < before {
+                        round.push(Around::Right(right))?;
+                        self = Box::into_inner(left);
+                    } else {
+                        choice -= before;
+                        round.push(Around::Left(left))?;
+                        self = Box::into_inner(right);
+                    }
+                }
+            }
+        }
+    }
+
+    /// Takes a tree apart, all of whose leaves are done.
+    pub fn take_apart(mut self, alloc: Global) -> Result<Remains, AllocError>
+        requires { all_done (tree_of self) ≡ true }
+        ensures { IfOk result (IsLeftOf (tree_of self.entry)) }
+    {
+        let mut rights = Vec::new(alloc);
+        let mut lines = Vec::new(alloc);
+        let mut faults = Vec::new(alloc);
+        'leaves: loop {
+            match self {
+                Tree::Beside {
+                    left,
+                    right,
+                    ready: _,
+                    done: _,
+                } => {
+                    rights.push(right)?;
+                    self = Box::into_inner(left);
+                }
+                Tree::AndThen {
+                    first,
+                    behind: _,
+                    ready: _,
+                } => self = Box::into_inner(first),
+                Tree::Single(leaf) => {
+                    let Leaf {
+                        environment,
+                        spawned,
+                        lines: mut own_lines,
+                        faults: mut own_faults,
+                        ..
+                    } = done(alloc, leaf);
+                    lines.append(&mut own_lines)?;
+                    faults.append(&mut own_faults)?;
+                    match rights.pop() {
+                        Some(right) => self = Box::into_inner(right),
+                        None => {
+                            return Ok(Remains {
+                                environment,
+                                spawned,
+                                lines,
+                                faults,
+                            });
+                        }
+                    }
+                }
+            }
+        }
+    }
+}
+
+impl<'p> Around<'p> {
+    /// A tree in the place that this stands round.
+    pub fn within(self, alloc: Global, tree: Tree<'p>) -> Result<Tree<'p>, AllocError>
+        requires around { IsCountedRound self }
+        requires tree { IsCounted tree }
+        ensures tree { IfOk result (λ t. tree_of t ≡ within_round self.entry (tree_of tree.entry)) }
+        ensures counted { IfOk result IsCounted }
+    {
+        match self {
+            Around::Behind(leaf) => and_then(alloc, tree, leaf),
+            Around::Right(right) => beside(Box::new(alloc, tree)?, right),
+            Around::Left(left) => beside(left, Box::new(alloc, tree)?),
+        }
+    }
+
+    /// How many of its leaves may step left of the place.
+    fn left(&self) -> u32
+        requires { IsCountedRound self.now }
+        ensures { result ≡ ready_left self.now }
+    {
+        match self {
+            Around::Behind(_) => 0,
+            Around::Right(_) => 0,
+            Around::Left(left) => left.ready(),
+        }
+    }
+
+    /// And right of it.
+    fn right(&self) -> u32
+        requires { IsCountedRound self.now }
+        ensures { result ≡ ready_right self.now }
+    {
+        match self {
+            Around::Behind(_) => 0,
+            Around::Right(right) => right.ready(),
+            Around::Left(_) => 0,
+        }
+    }
+}
+
+impl<'p> Round<'p> {
+    /// Nothing.
+    pub fn nothing(alloc: Global) -> Round<'p>
+        ensures none { result.around.items ≡ [] }
+        ensures round { IsRound result }
+    {
+        Round {
+            around: Vec::new(alloc),
+            left: 0,
+            right: 0,
+        }
+    }
+
+    /// What stands nearer than the rest.
+    fn push(&mut self, around: Around<'p>) -> Result<(), AllocError>
+        requires round { IsRound self.old }
+        requires around { IsCountedRound around }
+        ensures items { OnOk result (self.new.around.items
+            ≡ self.old.around.items ++ around.entry ∷ []) }
+        ensures round { OnOk result (IsRound self.new) }
+    {
+        let Some(left) = self.left.checked_add(around.left()) else {
+            return Err(AllocError);
+        };
+        let Some(right) = self.right.checked_add(around.right()) else {
+            return Err(AllocError);
+        };
+        self.around.push(around)?;
+        self.left = left;
+        self.right = right;
+        Ok(())
+    }
+
+    /// Takes off what stands nearest.
+    pub fn pop(&mut self) -> Option<Around<'p>>
+        requires { IsRound self.old }
+        ensures popped { Pops result self.old.around.items self.new.around.items }
+        ensures round { IsRound self.new }
+    {
+        match self.around.pop() {
+            None => None,
+            Some(around) => {
+                self.left -= around.left();
+                self.right -= around.right();
+                Some(around)
+            }
         }
     }
 }
@@ -120,7 +373,7 @@ fn closed<'p>(alloc: Global, first: Tree<'p>, behind: Leaf<'p>) -> Result<Leaf<'
     requires { all_done (tree_of first) ≡ true }
     ensures { IfOk result (λ k. leaf_of k ≡ closed_leaf (tree_of first.entry) (leaf_of behind.entry)) }
 {
-    let remains = take_apart(alloc, first)?;
+    let remains = first.take_apart(alloc)?;
     let faulted = !remains.faults.is_empty();
     let leaf = Leaf {
         environment: remains.environment,
@@ -135,47 +388,5 @@ fn closed<'p>(alloc: Global, first: Tree<'p>, behind: Leaf<'p>) -> Result<Leaf<'
         Ok(done(alloc, leaf))
     } else {
         Ok(returned(leaf))
-    }
-}
-
-/// Takes a tree apart, all of whose leaves are done.
-pub fn take_apart<'p>(alloc: Global, tree: Tree<'p>) -> Result<Remains, AllocError>
-    requires { all_done (tree_of tree) ≡ true }
-    ensures { IfOk result (IsLeftOf (tree_of tree.entry)) }
-{
-    let mut tree = tree;
-    let mut rights = Vec::new(alloc);
-    let mut lines = Vec::new(alloc);
-    let mut faults = Vec::new(alloc);
-    'leaves: loop {
-        match tree {
-            Tree::Beside { left, right, .. } => {
-                rights.push(right)?;
-                tree = Box::into_inner(left);
-            }
-            Tree::AndThen { first, .. } => tree = Box::into_inner(first),
-            Tree::Single(leaf) => {
-                let Leaf {
-                    environment,
-                    spawned,
-                    lines: mut own_lines,
-                    faults: mut own_faults,
-                    ..
-                } = done(alloc, leaf);
-                lines.append(&mut own_lines)?;
-                faults.append(&mut own_faults)?;
-                match rights.pop() {
-                    Some(right) => tree = Box::into_inner(right),
-                    None => {
-                        return Ok(Remains {
-                            environment,
-                            spawned,
-                            lines,
-                            faults,
-                        });
-                    }
-                }
-            }
-        }
     }
 }

@@ -1,79 +1,116 @@
-//! The way down a tree to a leaf, and back up.
+//! A place in a tree, where a run stands: from there to a leaf, and to the next place.
 
-ghost use Rattle.std.specs.Prelude.{◌≡◌, ◌<◌, IfOk};
-ghost use Rattle.types.specs.Trees.{ready as ready_leaves};
-ghost use Rattle.step_trees.specs.Held.{tree_of, inside, IsCounted, AreCounted};
+ghost use Rattle.std.specs.Prelude.{◌≡◌, ◌<◌, ◌+◌, [], IfOk, true, false};
+ghost use Rattle.types.specs.Trees.{all_done, ready as ready_leaves};
 ghost use Rattle.step_trees.specs.Found.{IsFound};
+ghost use Rattle.step_trees.specs.Held.{tree_of, inside, IsCounted};
+ghost use Rattle.step_trees.specs.Places.{whole, IsPlace, IsRaised, IsRound};
 
 use crate::leaf::Leaf;
-use crate::tree::{Tree, and_then, beside};
+use crate::tree::{Round, Tree};
 use std::alloc::{AllocError, Global};
 
-/// What stands round a tree within another.
+/// A tree within another, where the last step was. It isn't done, unless it is the whole.
 #[derive(Drop)]
-pub enum Around<'p> {
-    /// It is the body of a finish, and this waits for its end.
-    Behind(Leaf<'p>),
-    /// This stands right of it.
-    Right(Box<Tree<'p>>),
-    /// This stands left of it.
-    Left(Box<Tree<'p>>),
+pub struct Place<'p> {
+    pub round: Round<'p>,
+    pub tree: Tree<'p>,
+    /// How many leaves may step, of the whole.
+    pub ready: u32,
 }
 
-/// Goes down to the leaf with a number, from the left and from 0, of those that may step.
+/// Goes to the leaf with a number, from the left and from 0, of those that may step.
 pub fn found<'p>(
     alloc: Global,
+    place: Place<'p>,
+    choice: u32,
+) -> Result<(Round<'p>, Leaf<'p>), AllocError>
+    requires place { IsPlace place }
+    requires choice { choice < ready_leaves (whole place) }
+    ensures { IfOk result (IsFound (whole place.entry) choice) }
+{
+    let Place {
+        round,
+        tree,
+        ready: _,
+    } = place;
+    let (round, tree) = raised(alloc, round, tree, choice)?;
+    let inside = choice - round.left;
+    tree.leaf(round, inside)
+}
+
+/// Goes up to where the leaf with a number is inside.
+fn raised<'p>(
+    alloc: Global,
+    round: Round<'p>,
     tree: Tree<'p>,
     choice: u32,
-) -> Result<(Vec<Around<'p>>, Leaf<'p>), AllocError>
-    requires counted { IsCounted tree }
-    requires choice { choice < ready_leaves (tree_of tree) }
-    ensures { IfOk result (IsFound (tree_of tree.entry) choice) }
+) -> Result<(Round<'p>, Tree<'p>), AllocError>
+    requires round { IsRound round }
+    requires tree { IsCounted tree }
+    requires going { all_done (tree_of tree) ≡ false }
+    requires choice { choice < ready_leaves (inside round.around.items (tree_of tree)) }
+    ensures { IfOk result (IsRaised (inside round.entry.around.items (tree_of tree.entry)) choice) }
 {
+    let mut round = round;
     let mut tree = tree;
-    let mut choice = choice;
-    let mut around = Vec::new(alloc);
-    'down: loop {
-        match tree {
-            Tree::Single(leaf) => return Ok((around, leaf)),
-            Tree::AndThen { first, behind, .. } => {
-                around.push(Around::Behind(behind))?;
-                tree = Box::into_inner(first);
-            }
-            Tree::Beside { left, right, .. } => {
-                let before = left.ready();
-                if choice < before {
-                    around.push(Around::Right(right))?;
-                    tree = Box::into_inner(left);
-                } else {
-                    choice -= before;
-                    around.push(Around::Left(left))?;
-                    tree = Box::into_inner(right);
-                }
-            }
+    'up: loop {
+        if round.left <= choice && choice - round.left < tree.ready() {
+            return Ok((round, tree));
+        }
+        match round.pop() {
+            None => return Ok((round, tree)),
+            Some(around) => tree = around.within(alloc, tree)?,
         }
     }
 }
 
-/// Goes back up with what stands there now.
-pub fn rebuilt<'p>(
-    alloc: Global,
-    around: Vec<Around<'p>>,
-    tree: Tree<'p>,
-) -> Result<Tree<'p>, AllocError>
-    requires around { AreCounted around.items }
+/// Goes up while all leaves are done, so that what waits for their end goes on.
+pub fn settled<'p>(alloc: Global, round: Round<'p>, tree: Tree<'p>) -> Result<Place<'p>, AllocError>
+    requires round { IsRound round }
     requires tree { IsCounted tree }
-    ensures tree { IfOk result (λ t. tree_of t ≡ inside around.entry.items (tree_of tree.entry)) }
-    ensures counted { IfOk result IsCounted }
+    ensures whole { IfOk result (λ c. whole c
+        ≡ inside round.entry.around.items (tree_of tree.entry)) }
+    ensures place { IfOk result IsPlace }
 {
+    let mut round = round;
     let mut tree = tree;
-    let mut around = around;
-    'up: while let Some(place) = around.pop() {
-        tree = match place {
-            Around::Behind(leaf) => and_then(alloc, tree, leaf)?,
-            Around::Right(right) => beside(Box::new(alloc, tree)?, right)?,
-            Around::Left(left) => beside(left, Box::new(alloc, tree)?)?,
-        };
+    'up: loop {
+        if !tree.is_done() {
+            return placed(round, tree);
+        }
+        match round.pop() {
+            None => return placed(round, tree),
+            Some(around) => tree = around.within(alloc, tree)?,
+        }
     }
-    Ok(tree)
+}
+
+/// A place, with how many leaves may step.
+fn placed<'p>(round: Round<'p>, tree: Tree<'p>) -> Result<Place<'p>, AllocError>
+    requires round { IsRound round }
+    requires tree { IsCounted tree }
+    requires settled { all_done (tree_of tree) ≡ true → round.around.items ≡ [] }
+    ensures whole { IfOk result (λ c. whole c
+        ≡ inside round.entry.around.items (tree_of tree.entry)) }
+    ensures place { IfOk result IsPlace }
+{
+    let here = tree.ready();
+    let left = round.left;
+    let right = round.right;
+    let ready = in_all(left, here, right)?;
+    Ok(Place { round, tree, ready })
+}
+
+/// How many leaves may step in all, of those left of a place, there and right of it.
+fn in_all(left: u32, here: u32, right: u32) -> Result<u32, AllocError>
+    ensures { IfOk result (λ n. n ≡ left + here + right) }
+{
+    let Some(until) = left.checked_add(here) else {
+        return Err(AllocError);
+    };
+    let Some(all) = until.checked_add(right) else {
+        return Err(AllocError);
+    };
+    Ok(all)
 }

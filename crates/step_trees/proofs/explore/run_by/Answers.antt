@@ -8,7 +8,7 @@ use Rattle.types.specs.Trees.{ready}
 use Rattle.types.specs.TreeSteps.{first_tree}
 use Rattle.types.specs.Typed.{code_of}
 use Rattle.serial_run.specs.Lists.{contents_of}
-use Rattle.step_trees.specs.Held.{tree_of}
+use Rattle.step_trees.specs.Places.{whole}
 use Rattle.step_trees.specs.Windows.{TreeLies}
 use Rattle.step_trees.proofs.Exploring.{misses, goes-on, no_more}
 use Rattle.step_trees.proofs.LyingTrees.{first-lies}
@@ -18,12 +18,12 @@ pub choices-init : goal.choices-init
 choices-init c =
     let p = program c.code.result.now in let cs = c.args.choices.now in
     let same_code : p ≡ code_of c.args.accepted.now.typed = c.code.ensures.code ∙ ap code_of c.typed.ensures.field in
-    let start : tree_of c.in_ok-tree.tree ≡ first_tree p = c.in_ok-tree.ensures.tree in
+    let start : whole c.in_ok-place.place ≡ first_tree p = c.in_ok-place.ensures.tree in
     let store : contents_of c.in_ok-store.store ≡ held_by (input c.args.input.now) = ap held_by c.in_ok-store.ensures in
     let none : length cs - length cs ≡ 0 = omega arith in
     record {
       held = record {
-        counted = c.in_ok-tree.ensures.counted;
+        place = c.in_ok-place.ensures.place;
         windows = subst (TreeLies p) (sym start) (first-lies p);
         store =
             subst (FitsArrays p.arrays) (sym c.in_ok-store.ensures)
@@ -31,20 +31,20 @@ choices-init c =
       };
       short = omega arith;
       same =
-          ap (λ n. explored_from p n cs (tree_of c.in_ok-tree.tree) (contents_of c.in_ok-store.store)) none
+          ap (λ n. explored_from p n cs (whole c.in_ok-place.place) (contents_of c.in_ok-store.store)) none
           ∙ ap (λ t. explored_from p 0 cs t (contents_of c.in_ok-store.store)) start
           ∙ ap (explored_from p 0 cs (first_tree p)) store;
     }
 
-pub returns-then-choice-ready : goal.returns-then-choice-ready
-returns-then-choice-ready c =
+pub returns-then-choice-place : goal.returns-then-choice-place
+returns-then-choice-place c =
     let p = program c.code.result.now in let cs = c.args.choices.now in
     let same_code : p ≡ code_of c.args.accepted.now.typed = c.code.ensures.code ∙ ap code_of c.typed.ensures.field in
-    let t = tree_of c.choices.tree in let a = contents_of c.choices.store in
+    let t = whole c.choices.place in let a = contents_of c.choices.store in
     let n = length cs - length c.choices.left.now in
     let split : c.choices.left.now ≡ c.in-Some.choice.now ∷ c.in-Some.later.now = search rules in
-    let past : c.ready.result ≤ c.in-Some.choice.now = search rules in
-    let count : c.ready.result ≡ ready t = c.ready.ensures in
+    let past : c.choices.place.ready ≤ c.in-Some.choice.now = search rules in
+    let count : c.choices.place.ready ≡ ready t = c.choices.invariant.held.place.ready in
     sym (misses p t a n c.in-Some.choice.now c.in-Some.later.now (omega (arith, past, count)))
     ∙ ap (λ l. explored_from p n l t a) (sym split)
     ∙ c.choices.invariant.same
@@ -53,8 +53,8 @@ returns-then-choice-ready c =
 pub choices-preserved : goal.choices-preserved
 choices-preserved c =
     let p = program c.code.result.now in let cs = c.args.choices.now in
-    let t = tree_of c.choices.tree in let a = contents_of c.choices.store in
-    let u = tree_of c.in_ok-next.next in let b = contents_of c.in_ok-next.after in
+    let t = whole c.choices.place in let a = contents_of c.choices.store in
+    let u = whole c.in_ok-next.next in let b = contents_of c.in_ok-next.after in
     let n = length cs - length c.choices.left.now in
     let split : c.choices.left.now ≡ c.in-Some.choice.now ∷ c.in-Some.later.now = search rules in
     let one : length c.choices.left.now ≡ suc (length c.in-Some.later.now) = ap length split in
@@ -74,7 +74,7 @@ pub returns : goal.returns
 returns c =
     let p = program c.code.result.now in let cs = c.args.choices.now in
     let same_code : p ≡ code_of c.args.accepted.now.typed = c.code.ensures.code ∙ ap code_of c.typed.ensures.field in
-    let t = tree_of c.choices.tree in let a = contents_of c.choices.store in
+    let t = whole c.choices.place in let a = contents_of c.choices.store in
     let n = length cs - length c.choices.left.now in
     let none : c.choices.left.now ≡ [] = no_more c.choices.left.now c.in_default.ensures.cases in
     IfOk-weaker c.told.result _ _

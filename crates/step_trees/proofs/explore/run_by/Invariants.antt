@@ -3,7 +3,7 @@ use Rattle.types.specs.Translation.{program, input}
 use Rattle.types.specs.TreeRuns.{explored_from, explored}
 use Rattle.serial_run.specs.Lists.{contents_of}
 use Rattle.step_trees.specs.Exploring.{IsHeld}
-use Rattle.step_trees.specs.Held.{tree_of}
+use Rattle.step_trees.specs.Places.{whole}
 use Rattle.step_trees.proofs.explore.run_by.Given as goal
 
 -- by the choices that are left it is told what is told by all
@@ -11,9 +11,9 @@ abbrev pub invariant-choices : goal.invariant-choices
 invariant-choices l =
     let p = program l.plan.program.now in
     record {
-      held : IsHeld l.plan l.store l.tree;
+      held : IsHeld l.plan l.store l.place;
       short : length l.left ≤ length l.fn.choices;
-      same : explored_from p (length l.fn.choices - length l.left) l.left (tree_of l.tree) (contents_of l.store)
+      same : explored_from p (length l.fn.choices - length l.left) l.left (whole l.place) (contents_of l.store)
           ≡ explored p (input l.fn.input) l.fn.choices;
     }
 

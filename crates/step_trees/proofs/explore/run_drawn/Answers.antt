@@ -9,7 +9,7 @@ use Rattle.types.specs.TreeSteps.{first_tree}
 use Rattle.types.specs.Typed.{code_of}
 use Rattle.serial_run.specs.Lists.{contents_of}
 use Rattle.step_trees.specs.Drawing.{drawn, drawn_choices, next_number, picked}
-use Rattle.step_trees.specs.Held.{tree_of}
+use Rattle.step_trees.specs.Places.{whole}
 use Rattle.step_trees.specs.Windows.{TreeLies}
 use Rattle.step_trees.proofs.Drawing.{drawn-goes, told-none, told-over}
 use Rattle.step_trees.proofs.LyingTrees.{first-lies}
@@ -19,11 +19,11 @@ pub choices-init : goal.choices-init
 choices-init c =
     let p = program c.code.result.now in let n = c.args.seed in
     let same_code : p ≡ code_of c.args.accepted.now.typed = c.code.ensures.code ∙ ap code_of c.typed.ensures.field in
-    let start : tree_of c.in_ok-tree.tree ≡ first_tree p = c.in_ok-tree.ensures.tree in
+    let start : whole c.in_ok-place.place ≡ first_tree p = c.in_ok-place.ensures.tree in
     let store : contents_of c.in_ok-store.store ≡ held_by (input c.args.input.now) = ap held_by c.in_ok-store.ensures in
     record {
       held = record {
-        counted = c.in_ok-tree.ensures.counted;
+        place = c.in_ok-place.ensures.place;
         windows = subst (TreeLies p) (sym start) (first-lies p);
         store =
             subst (FitsArrays p.arrays) (sym c.in_ok-store.ensures)
@@ -39,9 +39,9 @@ pub returns-then-leaves-eq0 : goal.returns-then-leaves-eq0
 returns-then-leaves-eq0 c =
     let p = program c.code.result.now in let i = input c.args.input.now in let n = c.args.seed in
     let same_code : p ≡ code_of c.args.accepted.now.typed = c.code.ensures.code ∙ ap code_of c.typed.ensures.field in
-    let t = tree_of c.choices.tree in let a = contents_of c.choices.store in
-    let zero : c.ready-leaves.result ≡ 0 = search rules in
-    let none : ready t ≡ 0 = sym c.ready-leaves.ensures ∙ zero in
+    let t = whole c.choices.place in let a = contents_of c.choices.store in
+    let zero : c.choices.place.ready ≡ 0 = search rules in
+    let none : ready t ≡ 0 = sym c.choices.invariant.held.place.ready ∙ zero in
     IfOk-weaker c.told.result _ _
     (λ e h. h ∙ sym (told-none p (1000000 - c.choices.left) c.choices.left c.choices.number t a none) ∙ c.choices.invariant.same
     ∙ ap (λ q. explored q i (drawn_choices q i n)) same_code) c.told.ensures
@@ -49,19 +49,19 @@ returns-then-leaves-eq0 c =
 pub choices-preserved : goal.choices-preserved
 choices-preserved c =
     let p = program c.code.result.now in
-    let t = tree_of c.choices.tree in let a = contents_of c.choices.store in
-    let u = tree_of c.in_ok-next.next in let b = contents_of c.in_ok-next.after in
+    let t = whole c.choices.place in let a = contents_of c.choices.store in
+    let u = whole c.in_ok-next.next in let b = contents_of c.in_ok-next.after in
     let later = c.in-Some.later in let n = c.choices.number in let k = 1000000 - c.choices.left in
     let one : c.choices.left ≡ suc later = search rules in
     let few = c.choices.invariant.few in
     let less : later ≤ 1000000 = omega (arith, one, few) in
     let count : 1000000 - later ≡ k + 1 = omega (arith, one, few) in
     let behind : c.next_number-number.result ≡ next_number n = c.next_number-number.ensures in
-    let leaves : c.ready-leaves.result ≡ ready t = c.ready-leaves.ensures in
-    let more : 0 < c.ready-leaves.result = search rules in
+    let leaves : c.choices.place.ready ≡ ready t = c.choices.invariant.held.place.ready in
+    let more : 0 < c.choices.place.ready = search rules in
     let some : 0 < ready t = omega (arith, leaves, more) in
     let choice : c.picked.result ≡ picked (next_number n) (ready t)
-    = c.picked.ensures.picked ∙ ap (λ x. picked x c.ready-leaves.result) behind ∙ ap (picked (next_number n)) leaves in
+    = c.picked.ensures.picked ∙ ap (λ x. picked x c.choices.place.ready) behind ∙ ap (picked (next_number n)) leaves in
     record {
       held = c.in_ok-next.ensures.held;
       few = less;
@@ -77,7 +77,7 @@ pub returns : goal.returns
 returns c =
     let p = program c.code.result.now in let i = input c.args.input.now in let n = c.args.seed in
     let same_code : p ≡ code_of c.args.accepted.now.typed = c.code.ensures.code ∙ ap code_of c.typed.ensures.field in
-    let t = tree_of c.choices.tree in let a = contents_of c.choices.store in
+    let t = whole c.choices.place in let a = contents_of c.choices.store in
     let none : c.choices.left ≡ 0 = search rules in
     IfOk-weaker c.told-2.result _ _
     (λ e h. h ∙ sym (told-over p (1000000 - c.choices.left) c.choices.number t a)

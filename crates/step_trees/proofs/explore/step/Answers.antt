@@ -4,7 +4,8 @@ use Rattle.types.specs.Trees.{Tree}
 use Rattle.types.specs.TreeSteps.{step, in_tree}
 use Rattle.serial_run.specs.Lists.{lists_of, contents_of}
 use Rattle.serial_run.proofs.Ends.{fits_too}
-use Rattle.step_trees.specs.Held.{tree_of, inside}
+use Rattle.step_trees.specs.Held.{inside}
+use Rattle.step_trees.specs.Places.{whole}
 use Rattle.step_trees.specs.Translation.{leaf_of}
 use Rattle.step_trees.proofs.LyingTrees.{leaf-lies, step-lies}
 use Rattle.step_trees.proofs.Steps.{some_of}
@@ -16,23 +17,23 @@ step-requires-clause-bounds c =
     record {
       store = c.requires.held.store;
       windows =
-          (leaf-lies p c.args.choice (tree_of c.args.tree) (leaf_of c.in_ok-around.leaf) c.in_ok-around.ensures.leaf
+          (leaf-lies p c.args.choice (whole c.args.place) (leaf_of c.in_ok-round.leaf) c.in_ok-round.ensures.leaf
           c.requires.held.windows).0;
     }
 
 pub returns : goal.returns
 returns c =
     let p = program c.args.plan.program.now in let a = contents_of c.args.store in
-    let n = c.args.choice in let t = tree_of c.args.tree in let b = contents_of c.in_ok-becomes.store in
-    let xs = c.in_ok-around.around.items in
-    let is : tree_of c.in_ok-tree-2.tree ≡ inside xs _ = c.in_ok-tree-2.ensures.tree ∙ ap (inside xs) c.in_ok-tree.ensures.tree in
-    let same : step p n t a ≡ Some (tree_of c.in_ok-tree-2.tree, b)
-    = c.in_ok-around.ensures.step p a ∙ ap (in_tree (inside xs)) c.in_ok-becomes.ensures.step
+    let n = c.args.choice in let t = whole c.args.place in let b = contents_of c.in_ok-becomes.store in
+    let xs = c.in_ok-round.round.around.items in let next = whole c.in_ok-place.place in
+    let is : next ≡ inside xs _ = c.in_ok-place.ensures.whole ∙ ap (inside xs) c.in_ok-tree.ensures.tree in
+    let same : step p n t a ≡ Some (next, b)
+    = c.in_ok-round.ensures.step p a ∙ ap (in_tree (inside xs)) c.in_ok-becomes.ensures.step
     ∙ ap (λ (u : Tree). some_of u b) (sym is) in
     record {
       step = same;
       held = record {
-        counted = c.in_ok-tree-2.ensures.counted;
+        place = c.in_ok-place.ensures.place;
         windows = step-lies p n t _ a b same c.requires.held.windows;
         store =
             fits_too p.arrays (lists_of c.args.store) (lists_of c.in_ok-becomes.store) c.requires.held.store

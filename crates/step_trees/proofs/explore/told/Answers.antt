@@ -5,21 +5,27 @@ use Rattle.types.specs.Run.{Fault}
 use Rattle.types.specs.Outcome.{Ending}
 use Rattle.types.specs.Translation.{program, fault}
 use Rattle.types.specs.Contents.{shown}
+use Rattle.types.specs.TreeRuns.{told as told_of}
 use Rattle.types.specs.Trees.{all_done, lines_of}
 use Rattle.serial_run.specs.Lists.{lists_of, contents_of}
-use Rattle.step_trees.specs.Held.{tree_of}
+use Rattle.step_trees.specs.Held.{tree_of, inside}
+use Rattle.step_trees.specs.Places.{whole}
 use Rattle.step_trees.proofs.Exploring.{told-open, told-ends}
+use Rattle.step_trees.proofs.Places.{inside_going}
 use Rattle.step_trees.proofs.explore.told.Goals as goal
 
 pub returns-then-not-is_done : goal.returns-then-not-is_done
 returns-then-not-is_done c =
-    let unfinished : all_done (tree_of c.args.tree) ≡ false = search rules in
-    told-open (program c.args.plan.program.now) (tree_of c.args.tree) (contents_of c.args.store) c.ready-leaves.result unfinished c.ready-leaves.ensures
+    let here = tree_of c.args.place.tree in
+    let unfinished : all_done here ≡ false = search rules in
+    told-open (program c.args.plan.program.now) (whole c.args.place) (contents_of c.args.store) c.args.place.ready
+    (inside_going c.args.place.round.around.items here unfinished) c.requires.place.ready
 
 pub returns : goal.returns
 returns c =
-    let p = program c.args.plan.program.now in let t = tree_of c.args.tree in
+    let p = program c.args.plan.program.now in let t = tree_of c.args.place.tree in
     let ended : all_done t ≡ true = search rules in
+    let same : whole c.args.place ≡ t = ap (λ xs. inside xs t) (c.requires.place.settled ended) in
     let left = c.in_ok-remains.ensures in
     let end : List (List ℤ) → List (List ℤ) → List Fault → Ending = λ arrays lines faults. record { arrays = arrays; lines = lines; faults = faults } in
     let arrays = lists_of c.args.store in let shown_is = sym (shown-held_by p.arrays arrays c.requires.store) in
@@ -30,3 +36,4 @@ returns c =
     (ap (λ (xs : List (List ℤ)). end xs lines faults) shown_is
     ∙ ap (λ (ls : List (List ℤ)). end all ls faults) left.lines
     ∙ ap (λ (fs : List Fault). end all (lines_of t) fs) left.faults)
+    ∙ sym (ap (λ u. told_of p u (contents_of c.args.store)) same)

@@ -4,13 +4,13 @@ use Rattle.types.specs.Translation.{fault}
 use Rattle.types.specs.Trees.{all_done, lines_of, faults_of, rightmost}
 use Rattle.step_trees.specs.Held.{tree_of}
 use Rattle.step_trees.proofs.HeldTrees.{weight, weights, with_rights}
-use Rattle.step_trees.proofs.tree.take_apart.Given as goal
+use Rattle.step_trees.proofs.tree.Tree.take_apart.Given as goal
 
 -- what was told so far, and what is told by what is left, is all
 abbrev pub invariant-leaves : goal.invariant-leaves
 invariant-leaves l =
-    let t = with_rights l.rights.items (tree_of l.tree) in
-    let whole = tree_of l.fn.tree in
+    let t = with_rights l.rights.items (tree_of l.self) in
+    let whole = tree_of l.fn.self in
     record {
       ended : all_done t ≡ true;
       lines : map (λ v. v.items) l.lines.items ++ lines_of t ≡ lines_of whole;
@@ -19,4 +19,4 @@ invariant-leaves l =
     }
 
 abbrev pub decreases-leaves : goal.decreases-leaves
-decreases-leaves l = weight l.tree + weights l.rights.items
+decreases-leaves l = weight l.self + weights l.rights.items

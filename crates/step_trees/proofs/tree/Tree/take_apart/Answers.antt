@@ -5,26 +5,26 @@ use Rattle.types.specs.Trees.{Leaf, Single, Beside, all_done, lines_of, faults_o
 use Rattle.step_trees.specs.Held.{tree_of}
 use Rattle.step_trees.specs.Translation.{leaf_of}
 use Rattle.step_trees.proofs.HeldTrees.{weight, weights, weights-push, with_rights, with_rights-push, lines-beside, faults-beside, rightmost-beside, no_then, done-rights}
-use Rattle.step_trees.proofs.tree.take_apart.Goals as goal
+use Rattle.step_trees.proofs.tree.Tree.take_apart.Goals as goal
 
 pub leaves-smaller-in-Beside : goal.leaves-smaller-in-Beside
 leaves-smaller-in-Beside c =
     let rights = c.leaves.rights.items in let b = c.in-Beside.right in
-    let same : weight c.leaves.tree ≡ suc (weight c.in-Beside.left.value + weight b.value) = ap weight c.in-Beside.is in
+    let same : weight c.leaves.self ≡ suc (weight c.in-Beside.left.value + weight b.value) = ap weight c.in-Beside.is in
     let pushed : weights c.push.new.self.items ≡ weights rights + weight b.value
     = ap weights c.in_ok-push-in-Beside.ensures.items ∙ weights-push rights b in
-    let top : weight c.into_inner-tree.result ≡ weight c.in-Beside.left.value = ap weight c.into_inner-tree.ensures in
-    let less : weight c.into_inner-tree.result + weights c.push.new.self.items < weight c.leaves.tree + weights rights
+    let top : weight c.into_inner-self.result ≡ weight c.in-Beside.left.value = ap weight c.into_inner-self.ensures in
+    let less : weight c.into_inner-self.result + weights c.push.new.self.items < weight c.leaves.self + weights rights
     = omega (arith, same, pushed, top) in
     less
 
 pub leaves-preserved-in-Beside : goal.leaves-preserved-in-Beside
 leaves-preserved-in-Beside c =
-    let rights = c.leaves.rights.items in let b = c.in-Beside.right in let t = c.into_inner-tree.result in
-    let same : with_rights c.push.new.self.items (tree_of t) ≡ with_rights rights (tree_of c.leaves.tree)
+    let rights = c.leaves.rights.items in let b = c.in-Beside.right in let t = c.into_inner-self.result in
+    let same : with_rights c.push.new.self.items (tree_of t) ≡ with_rights rights (tree_of c.leaves.self)
     = ap (λ bs. with_rights bs (tree_of t)) c.in_ok-push-in-Beside.ensures.items
     ∙ with_rights-push rights b (tree_of t)
-    ∙ ap (λ t. with_rights rights (Beside (tree_of t) (tree_of b.value))) c.into_inner-tree.ensures
+    ∙ ap (λ t. with_rights rights (Beside (tree_of t) (tree_of b.value))) c.into_inner-self.ensures
     ∙ sym (ap (λ t. with_rights rights (tree_of t)) c.in-Beside.is) in
     record {
       ended = ap all_done same ∙ c.leaves.invariant.ended;
@@ -42,11 +42,11 @@ leaves-preserved-in-AndThen c =
 pub leaves-smaller : goal.leaves-smaller
 leaves-smaller c =
     let rights = c.pop.new.self.items in let b = c.in-Some.right in
-    let same : weight c.leaves.tree ≡ 1 = ap weight c.in-Single.is in
+    let same : weight c.leaves.self ≡ 1 = ap weight c.in-Single.is in
     let popped : weights c.leaves.rights.items ≡ weights rights + weight b.value
     = ap weights c.in-Some.ensures.items ∙ weights-push rights b in
-    let top : weight c.into_inner-tree-in-Some.result ≡ weight b.value = ap weight c.into_inner-tree-in-Some.ensures in
-    let less : weight c.into_inner-tree-in-Some.result + weights rights < weight c.leaves.tree + weights c.leaves.rights.items
+    let top : weight c.into_inner-self-in-Some.result ≡ weight b.value = ap weight c.into_inner-self-in-Some.ensures in
+    let less : weight c.into_inner-self-in-Some.result + weights rights < weight c.leaves.self + weights c.leaves.rights.items
     = omega (arith, same, popped, top) in
     less
 
@@ -54,11 +54,11 @@ pub leaves-preserved : goal.leaves-preserved
 leaves-preserved c =
     let rights = c.pop.new.self.items in let b = c.in-Some.right in
     let k = leaf_of c.in-Single.leaf in let u = tree_of b.value in
-    let whole : with_rights c.leaves.rights.items (tree_of c.leaves.tree) ≡ with_rights rights (Beside (Single k) u)
+    let whole : with_rights c.leaves.rights.items (tree_of c.leaves.self) ≡ with_rights rights (Beside (Single k) u)
     = ap (λ t. with_rights c.leaves.rights.items (tree_of t)) c.in-Single.is
     ∙ ap (λ bs. with_rights bs (Single k)) c.in-Some.ensures.items
     ∙ with_rights-push rights b (Single k) in
-    let top : tree_of c.into_inner-tree-in-Some.result ≡ u = ap tree_of c.into_inner-tree-in-Some.ensures in
+    let top : tree_of c.into_inner-self-in-Some.result ≡ u = ap tree_of c.into_inner-self-in-Some.ensures in
     let own = c.done-environment.result in
     let old = map (λ v. v.items) c.leaves.lines.items in let old_faults = map fault c.leaves.faults.items in
     let left = lines_of (with_rights rights u) in let left_faults = faults_of (with_rights rights u) in

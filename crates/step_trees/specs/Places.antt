@@ -1,0 +1,60 @@
+-- A place in a tree, and what stands round it.
+use Rattle.std.specs.Prelude.{ℕ, ◌+◌, ◌<◌, ◌≤◌, ◌≡◌, ◌++◌, List, [], ◌∷◌, true, Option, Some, None}
+use Rattle.types.specs.Trees.{Tree, all_done, ready}
+use Rattle.step_trees.specs.declared.tree.Tree.{Tree as rTree}
+use Rattle.step_trees.specs.declared.tree.Around.{Around}
+use Rattle.step_trees.specs.declared.tree.Around.TheVariants.{Behind, Left, Right}
+use Rattle.step_trees.specs.declared.walk.Place.{Place}
+use Rattle.step_trees.specs.declared.tree.Round.{Round}
+use Rattle.step_trees.specs.Held.{tree_of, inside, IsCounted, IsCountedRound, AreCounted}
+
+-- how many leaves may step left of a place, of what stands round it
+abbrev pub ready_left : Around → ℕ
+ready_left (Behind k) = 0
+ready_left (Right u) = 0
+ready_left (Left u) = ready (tree_of u.value)
+
+-- and right of it
+abbrev pub ready_right : Around → ℕ
+ready_right (Behind k) = 0
+ready_right (Right u) = ready (tree_of u.value)
+ready_right (Left u) = 0
+
+-- of all that stands round it
+abbrev pub lefts : List Around → ℕ
+lefts [] = 0
+lefts (x ∷ xs) = ready_left x + lefts xs
+
+abbrev pub rights : List Around → ℕ
+rights [] = 0
+rights (x ∷ xs) = ready_right x + rights xs
+
+-- what is held of these numbers is so
+pub record IsRound (r : Round) : Type 0 where
+  pub counted : AreCounted r.around.items
+  pub left : r.left ≡ lefts r.around.items
+  pub right : r.right ≡ rights r.around.items
+
+-- the nearest is taken off, or none is there
+abbrev pub Pops : Option Around → (old new : List Around) → Type 0
+Pops None old new = (old ≡ []) × (new ≡ [])
+Pops (Some x) old new = (old ≡ new ++ x ∷ []) × IsCountedRound x
+
+-- the tree that a place is in
+abbrev pub whole : Place → Tree
+whole c = inside c.round.around.items (tree_of c.tree)
+
+-- what is held of a place is so, and where all leaves are done nothing stands round it
+pub record IsPlace (c : Place) : Type 0 where
+  pub round : IsRound c.round
+  pub tree : IsCounted c.tree
+  pub settled : all_done (tree_of c.tree) ≡ true → c.round.around.items ≡ []
+  pub ready : c.ready ≡ ready (whole c)
+
+-- the n-th leaf of t that may step is inside of a tree with this round it
+pub record IsRaised (t : Tree) (n : ℕ) (r : Round × rTree) : Type 0 where
+  pub round : IsRound r.0
+  pub tree : IsCounted r.1
+  pub same : inside r.0.around.items (tree_of r.1) ≡ t
+  pub from : lefts r.0.around.items ≤ n
+  pub below : n < lefts r.0.around.items + ready (tree_of r.1)
