@@ -23,7 +23,7 @@ use Rattle.parallel_relation.specs.Together.{LabelsMeet}
 use Rattle.race_checker.specs.Clash.{IsAccepted}
 use Rattle.race_checker.specs.Races.{IsLeastRace, Race as ProgramRace}
 use Rattle.texts.specs.Appending.{AppendsBeginning}
-use Rattle.gather.specs.declared.run_error.RunError.TheVariants.{OutOfMemory as NoMemoryInRun}
+use Rattle.gather.specs.RunErrors.{IsCause}
 use Rattle.answers.specs.Chosen.{ComesTo}
 use Rattle.intake.specs.Choosing.{TellsNoChoices}
 use Rattle.texts.specs.ExploredText.{explored_text, explored_status}
@@ -218,7 +218,7 @@ Explains c s held text (Race procedure first second) =
     TellsRaceTo c text (string_bytes procedure) (string_bytes first) (string_bytes second)
 Explains c s held text NoMemoryInCheck = LooksForRaces c
 Explains c s held text (Input e) = LacksInput c s held text (Input e)
-Explains c s held text (RunFailed e) = (c ≡ Run) × (e ≡ NoMemoryInRun)
+Explains c s held text (RunFailed e) = (c ≡ Run) × IsCause 65536 e
 Explains c s held text ChoicesNotUnderstood = LacksChoices c s held text ChoicesNotUnderstood
 Explains c s held text (NoLeaf n) = LacksLeaf c s held text n
 Explains c s held text CannotWriteOutput = Unit {0}

@@ -19,12 +19,13 @@ use serial_run::watch::Watch;
 use std::alloc::{AllocError, Global};
 use std::io;
 use std::io::{ErrorKind, Write};
+use std::sync::Wait;
 use std::thread::Threads;
 use texts::emit::append;
 
 /// Does what the words behind the program's name ask, and answers the exit status. `--progress` has
 /// `watch` told how far a run has come.
-pub fn act<R: Threads + Sync, F: FileSource, O: Write, E: Write, W: Watch>(
+pub fn act<R: Threads + Wait + Sync, F: FileSource, O: Write, E: Write, W: Watch>(
     rt: &R,
     alloc: Global,
     words: &[String],
@@ -70,7 +71,7 @@ fn report<E: Write>(err: &mut E, failure: &Failure) -> u8
 }
 
 /// Does one command.
-fn perform<R: Threads + Sync, F: FileSource, O: Write, W: Watch>(
+fn perform<R: Threads + Wait + Sync, F: FileSource, O: Write, W: Watch>(
     rt: &R,
     alloc: Global,
     request: Request<'_>,

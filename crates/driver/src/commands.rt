@@ -14,11 +14,14 @@ use intake::input_file::input_of;
 use serial_run::watch::Watch;
 use std::alloc::Global;
 use std::io::Write;
+use std::sync::Wait;
 use std::thread::Threads;
+use workers::gate::NoGate;
 use workers::run::run;
+use workers::settings::Settings as RunSettings;
 
 /// What is asked of the text of a program.
-pub fn perform<R: Threads + Sync, F: FileSource, O: Write, W: Watch>(
+pub fn perform<R: Threads + Wait + Sync, F: FileSource, O: Write, W: Watch>(
     rt: &R,
     alloc: Global,
     request: Request<'_>,
@@ -41,7 +44,7 @@ pub fn perform<R: Threads + Sync, F: FileSource, O: Write, W: Watch>(
 }
 
 /// `run`: runs the program task by task, and writes its outcome; gives the exit status.
-fn run_as_tasks<R: Threads + Sync, F: FileSource, O: Write>(
+fn run_as_tasks<R: Threads + Wait + Sync, F: FileSource, O: Write>(
     rt: &R,
     alloc: Global,
     settings: Settings<'_>,
@@ -54,7 +57,8 @@ fn run_as_tasks<R: Threads + Sync, F: FileSource, O: Write>(
 {
     let accepted = accepted_of(rt, alloc, text)?;
     let input = input_of(alloc, files, accepted.typed(), settings.input)?;
-    match run(alloc, &accepted, &input, settings.budget) {
+    let on = RunSettings::usual(settings.budget);
+    match run(rt, alloc, &accepted, &input, on, &NoGate) {
         Ok(outcome) => {
             let arrays = &accepted.typed().code().arrays;
             show(out, arrays, &outcome, settings.arrays)

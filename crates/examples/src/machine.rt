@@ -1,9 +1,10 @@
 //! What a command asks of the machine.
 
 use std::rt::Files;
+use std::sync::Wait;
 use std::thread::Threads;
 
 /// Files, both ends of the standard streams, memory and threads.
-pub trait Machine: Files + Input + Print + AllocGlobal + Threads + Sync {}
+pub trait Machine: Files + Input + Print + AllocGlobal + Threads + Wait + Sync {}
 
-impl<R: Files + Input + Print + AllocGlobal + Threads + Sync> Machine for R {}
+impl<R: Files + Input + Print + AllocGlobal + Threads + Wait + Sync> Machine for R {}

@@ -6,14 +6,20 @@ ghost use Rattle.gather.specs.declared.run_error.RunError.TheVariants.{OutOfMemo
 
 use crate::error::GatherError;
 use std::alloc::{AllocError, AllocFailed};
+use tickets::Ticket;
 
-/// Why a run has no outcome.
+/// Why a run has no outcome: what came first.
 #[derive(PartialEq, Eq, Debug, Drop)]
 pub enum RunError {
-    /// E1: memory. It is told too where a scope has issued weight as often as its book counts.
+    /// E1: memory; a thread that couldn't be started; a scope that has issued weight, or a worker
+    /// that has drawn tickets, as often as is counted.
     OutOfMemory,
+    /// E2: this ticket was drawn, whose number is the most tasks that the run may have, or more.
+    TooManyTasks(Ticket),
     /// E3: the results of tasks don't make a whole.
     Gather(GatherError),
+    /// E4: a scope didn't take what was given back to it, or it was complete and nobody its owner.
+    Late,
 }
 
 impl RunError {
@@ -23,7 +29,9 @@ impl RunError {
     {
         match self {
             RunError::OutOfMemory => "E1",
+            RunError::TooManyTasks(_) => "E2",
             RunError::Gather(_) => "E3",
+            RunError::Late => "E4",
         }
     }
 }

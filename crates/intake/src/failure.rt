@@ -58,7 +58,7 @@ pub enum Failure {
 }
 
 impl Failure {
-    /// The exit status: 1 refused, 4 want of memory, 5 a lost or strange result of a task.
+    /// The exit status: 1 refused, 4 want of memory or too many tasks, 5 a lost or strange result or weight.
     pub fn status(&self) -> u8
         ensures { result ≡ failure_status self.now }
     {
@@ -68,8 +68,10 @@ impl Failure {
             Failure::NoMemoryInCheck => 4,
             Failure::Input(InputError::OutOfMemory) => 4,
             Failure::Run(RunError::OutOfMemory) => 4,
+            Failure::Run(RunError::TooManyTasks(_)) => 4,
             Failure::NoMemory => 4,
             Failure::Run(RunError::Gather(_)) => 5,
+            Failure::Run(RunError::Late) => 5,
             _ => 1,
         }
     }

@@ -4,6 +4,7 @@ mod outcomes_of_tasks;
 mod progress_lines;
 mod runs_by_choices;
 mod settled_results;
+mod threads;
 mod watched_runs;
 mod worlds;
 

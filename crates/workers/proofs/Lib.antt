@@ -1,12 +1,3 @@
-pub mod BookLemmas
-pub mod BookMoves
-pub mod LeftLemmas
-pub mod StageBegins
-pub mod StageGoes
-pub mod StagePasses
-pub mod StageTurns
-pub mod StageWaits
-pub mod Takes
-pub mod TaskPaths
-pub mod TaskStages
-pub mod WeightMoves
+pub mod Boarding
+pub mod Passes
+pub mod Turning

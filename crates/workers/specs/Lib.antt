@@ -1,5 +1,2 @@
-pub mod Books
-pub mod Left
-pub mod Stages
-pub mod Turns
-pub mod Weights
+pub mod Desks
+pub mod Own

@@ -1,3 +1,58 @@
 //! Why a run has no outcome.
 
+ghost use Rattle.std.specs.Prelude.{ℕ};
+ghost use Rattle.gather.specs.RunErrors.{IsCause};
+
+use gather::error::GatherError;
 pub use gather::run_error::RunError;
+use std::alloc::{AllocError, AllocFailed};
+use task_machine::error::NoMemory;
+
+/// Why a worker ends a run, but for a ticket.
+#[derive(Drop)]
+pub enum Trouble {
+    OutOfMemory,
+    Gather(GatherError),
+    Late,
+}
+
+impl From<Trouble> for RunError {
+    ghost from_gives = { λ _ e. (tasks : ℕ) → IsCause tasks e };
+
+    fn from(trouble: Trouble) -> RunError {
+        match trouble {
+            Trouble::OutOfMemory => RunError::OutOfMemory,
+            Trouble::Gather(error) => RunError::Gather(error),
+            Trouble::Late => RunError::Late,
+        }
+    }
+}
+
+impl From<AllocError> for Trouble {
+    fn from(_error: AllocError) -> Trouble {
+        Trouble::OutOfMemory
+    }
+}
+
+impl<T: Drop> From<AllocFailed<T>> for Trouble {
+    fn from(_error: AllocFailed<T>) -> Trouble {
+        Trouble::OutOfMemory
+    }
+}
+
+impl From<NoMemory> for Trouble {
+    fn from(_error: NoMemory) -> Trouble {
+        Trouble::OutOfMemory
+    }
+}
+
+impl From<GatherError> for Trouble {
+    fn from(error: GatherError) -> Trouble {
+        match error {
+            GatherError::OutOfMemory => Trouble::OutOfMemory,
+            GatherError::Lost(_) | GatherError::Double(_) | GatherError::Stranger(_) => {
+                Trouble::Gather(error)
+            }
+        }
+    }
+}

@@ -1,10 +1,16 @@
-//! Runs accepted programs as tasks.
+//! Runs accepted programs as tasks, on worker threads.
 
 #![tactic(auto)]
 
-mod backlog;
 pub mod error;
-mod order;
+mod floor;
+pub mod gate;
+mod hall;
+mod kit;
+mod opening;
+mod passing;
+mod post;
+mod ready;
 pub mod run;
-mod scope;
-mod stage;
+mod scopes;
+pub mod settings;

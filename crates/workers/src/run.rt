@@ -1,64 +1,88 @@
-//! The run of an accepted program, task by task.
+//! The run of an accepted program on worker threads.
 
-ghost use Rattle.std.specs.Prelude.{◌≡◌, IfErr, IfOk};
+ghost use Rattle.std.specs.Prelude.{◌≡◌, All, IfErr, IfOk, Option, Some};
 ghost use Rattle.types.specs.Contents.{FitsArrays};
 ghost use Rattle.types.specs.Outcome.{outcome as one_thread_outcome};
 ghost use Rattle.types.specs.Translation.{budget as budget_of, input as lists_in};
-ghost use Rattle.types.specs.Translation.{outcome as outcome_of};
+ghost use Rattle.types.specs.Translation.{outcome as outcome_in};
 ghost use Rattle.types.specs.Typed.{code_of};
-ghost use Rattle.gather.specs.declared.run_error.RunError.TheVariants.{OutOfMemory};
+ghost use Rattle.task_machine.specs.Jobs.{IsJob, outcome_of};
+ghost use Rattle.workers.specs.Desks.{Tells};
+ghost use Rattle.gather.specs.RunErrors.{IsCause};
 
 use crate::error::RunError;
-pub use crate::order::Order;
-use crate::stage::{Next, Stage};
+use crate::gate::Gate;
+use crate::kit::Report;
+use crate::opening::open;
+use crate::settings::Settings;
+use crews::work_together;
 use effects::laws::typed_programs_are_sound;
+use finish_scope::running::Running;
 use race_checker::accepted::Accepted;
 use std::alloc::Global;
+use std::marker::Brand;
+use std::sync::Wait;
+use std::thread::Threads;
 use task_machine::job::Job;
-use types::budget::Budget;
 use types::input::Input;
 use types::outcome::Outcome;
 
-/// Runs a program on an input. Each async is a task of its own, and the tasks of a finish run in turn.
-pub fn run(
+/// Runs a program on an input, on as many workers as the settings say. Each async is a task of its
+/// own, and whatever worker runs it, an Ok is the one-thread outcome.
+pub fn run<'p, G: Gate + Sync, R: Threads + Wait + Sync>(
+    rt: &R,
     alloc: Global,
-    accepted: &Accepted,
-    input: &Input,
-    budget: Budget,
+    accepted: &'p Accepted,
+    input: &'p Input,
+    settings: Settings,
+    gate: &'p G,
 ) -> Result<Outcome, RunError>
     requires { FitsArrays (code_of accepted.now.typed).arrays (lists_in input.now) }
-    ensures outcome { IfOk result (λ o. outcome_of o
-        ≡ one_thread_outcome (code_of accepted.now.typed) (lists_in input.now) (budget_of budget)) }
-    ensures refused { IfErr result (λ e. e ≡ OutOfMemory) }
-{
-    run_by(alloc, accepted, input, budget, Order::InTurn)
-}
-
-/// The same, in a given order.
-pub fn run_by(
-    alloc: Global,
-    accepted: &Accepted,
-    input: &Input,
-    budget: Budget,
-    order: Order,
-) -> Result<Outcome, RunError>
-    requires { FitsArrays (code_of accepted.now.typed).arrays (lists_in input.now) }
-    ensures outcome { IfOk result (λ o. outcome_of o
-        ≡ one_thread_outcome (code_of accepted.now.typed) (lists_in input.now) (budget_of budget)) }
-    ensures refused { IfErr result (λ e. e ≡ OutOfMemory) }
+    ensures outcome { IfOk result (λ o. outcome_in o ≡ one_thread_outcome
+        (code_of accepted.now.typed) (lists_in input.now) (budget_of settings.budget)) }
+    ensures cause { IfErr result (IsCause settings.tasks) }
 {
     typed_programs_are_sound(accepted.typed());
     let job = Job {
         alloc,
         accepted,
         input,
-        budget,
+        budget: settings.budget,
     };
-    let mut stage = Stage::begin(job)?;
-    'turns: loop {
-        match stage.turn(job, order)? {
-            Next::Going(next) => stage = next,
-            Next::Over(outcome) => return Ok(outcome),
+    run_for::<Brand, G, R>(rt, job, settings, gate)
+}
+
+/// The same, once the job is picked.
+fn run_for<'p, J: Running + Send + Sync, G: Gate + Sync, R: Threads + Wait + Sync>(
+    rt: &R,
+    job: Job<'p>,
+    settings: Settings,
+    gate: &'p G,
+) -> Result<Outcome, RunError>
+    requires of { J.job ≡ Some job }
+    requires job { IsJob job }
+    ensures outcome { IfOk result (λ o. outcome_in o ≡ outcome_of job.entry) }
+    ensures cause { IfErr result (IsCause settings.tasks) }
+{
+    let (floor, own, kits) = open::<J, G, R>(rt, job, settings, gate)?;
+    match work_together(rt, job.alloc, &floor, own, kits) {
+        Ok(reports) => told(job, settings, reports),
+        Err(_) => Err(RunError::OutOfMemory),
+    }
+}
+
+/// What all workers together tell.
+fn told(job: Job<'_>, settings: Settings, reports: Vec<Report>) -> Result<Outcome, RunError>
+    requires { All (Tells job settings) reports.items }
+    ensures outcome { IfOk result (λ o. outcome_in o ≡ outcome_of job.entry) }
+    ensures cause { IfErr result (IsCause settings.tasks) }
+{
+    for report in reports {
+        match report.told {
+            Ok(None) => {}
+            Ok(Some(outcome)) => return Ok(outcome),
+            Err(error) => return Err(error),
         }
     }
+    Err(RunError::Late)
 }

@@ -1,9 +1,11 @@
-//! What tasks leave, whichever of those that wait goes on first: the same as on one thread.
+//! What tasks leave, on however many workers: the same as on one thread.
 
 use crate::tests::{FAULTS, TWO_ARRAYS, accepted, compare, one_thread_outcome};
 use types::budget::Budget;
 use types::input::Input;
-use workers::run::{Order, run_by};
+use workers::gate::NoGate;
+use workers::run::run;
+use workers::settings::Settings;
 
 const READERS: &str = "main { array a: byte[2]; a[1] = 4;
   finish { async { print a[1]; } async { print a[1]; } print a[1]; } a[0] = 5; print a[0], a[1]; }";
@@ -98,7 +100,7 @@ const ROWS: &[(&str, u64, u64, &str)] = &[
 ];
 
 #[test]
-fn tasks_in_any_order_leave_what_one_thread_does(rt: HostRuntime) {
+fn tasks_on_threads_leave_what_one_thread_does(rt: HostRuntime) {
     let alloc = rt.alloc();
     for (text, steps, nest, want) in ROWS {
         let budget = Budget::new(*steps, *nest).expect(&rt, "a budget");
@@ -108,13 +110,14 @@ fn tasks_in_any_order_leave_what_one_thread_does(rt: HostRuntime) {
         if !want.is_empty() {
             compare(&rt, alloc, *text, one_thread.as_str(), want);
         }
-        for order in [Order::InTurn, Order::Oldest, Order::Newest] {
-            let outcome = run_by(alloc, &program, &input, budget, order);
+        for (workers, w0) in [(1, 1), (1, 4_294_967_296), (2, 8), (8, 1_048_576), (64, 2)] {
+            let settings = Settings::new(budget, 1_048_576, w0, workers).expect(&rt, "settings");
+            let outcome = run(&rt, alloc, &program, &input, settings, &NoGate);
             let outcome = outcome.expect(&rt, "an outcome");
             compare(
                 &rt,
                 alloc,
-                format_args!("{order:?} of {text}"),
+                format_args!("{workers} workers, weight {w0}, of {text}"),
                 format_args!("{outcome:?}"),
                 one_thread.as_str(),
             );

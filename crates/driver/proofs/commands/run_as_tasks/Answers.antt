@@ -1,3 +1,4 @@
+use denote.Param.Send.{sendable}
 use Rattle.std.proofs.Common.{ap, ◌∙◌, map, subst, sym}
 use Rattle.std.specs.Str.{chars}
 use Rattle.syntax.specs.Lexical.{AreTokensOf}
@@ -5,6 +6,7 @@ use Rattle.syntax.specs.Spelling.{spelling}
 use Rattle.types.specs.Contents.{FitsArrays}
 use Rattle.types.specs.Outcome.{outcome}
 use Rattle.types.specs.Translation.{array, budget, input as lists_of, outcome as outcome_of}
+use Rattle.types.specs.declared.budget.Budget.{Budget}
 use Rattle.types.specs.Typed.{code_of, program_of}
 use Rattle.types.specs.declared.typed.Typed.{Typed}
 use Rattle.types.proofs.InputLemmas.{FitsArrays-from_IsInput}
@@ -24,8 +26,14 @@ returns-in_err-input g c =
 
 pub run-requires : goal.run-requires
 run-requires g c =
-    subst (λ (t : Typed). FitsArrays (code_of t).arrays (lists_of c.in_ok-input.input)) c.typed.ensures.field
-    (FitsArrays-from_IsInput _ _ c.in_ok-input.ensures.fits)
+    let shared = c.type_bounds.sync-R in (
+      (search sendable),
+      (
+        (search sendable),
+        subst (λ (t : Typed). FitsArrays (code_of t).arrays (lists_of c.in_ok-input.input)) c.typed.ensures.field
+            (FitsArrays-from_IsInput _ _ c.in_ok-input.ensures.fits),
+      ),
+    )
 
 pub returns-in-Ok : goal.returns-in-Ok
 returns-in-Ok g c =
@@ -39,7 +47,7 @@ returns-in-Ok g c =
     ap (map array) c.deref.ensures.value
     ∙ ap (λ (q : _). map array q.arrays.items) c.code.ensures.field
     ∙ ap (λ (t : Typed). map array t.code.arrays.items) (c.typed-in-Ok.ensures.field ∙ sym c.typed.ensures.field) in
-    let told = c.in-Ok.ensures.outcome ∙ ap (λ (t : Typed). outcome (code_of t) input (budget c.args.settings.budget)) (sym c.typed.ensures.field) in
+    let told = c.in-Ok.ensures.outcome ∙ ap (λ (b : Budget). outcome (code_of c.in_ok-accepted.accepted.typed) input (budget b)) c.usual-on.ensures.budget ∙ ap (λ (t : Typed). outcome (code_of t) input (budget c.args.settings.budget)) (sym c.typed.ensures.field) in
     shown Run (settings c.args.settings) (g.F.FileSource.held c.args.files.now) text _ _ c.show.result _ _
     (record {
       code = p;

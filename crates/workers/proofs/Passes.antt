@@ -1,0 +1,81 @@
+-- An owner goes on with what came of its scope.
+use Rattle.std.proofs.Common.{◌≡◌, IfSome, List, [], ◌∷◌, ◌++◌, Option, Some, map, sym, ap, ◌∙◌, subst}
+use Rattle.std.proofs.lemmas.Option.{same_Some}
+use Rattle.sections.specs.Place.{Place}
+use Rattle.own_run.specs.Frames.{AtEnd}
+use Rattle.own_run.specs.Lists.{Each}
+use Rattle.own_run.specs.Results.{TaskResult as Results}
+use Rattle.own_run.specs.Runs.{root, IsTaskResult}
+use Rattle.own_run.specs.Settling.{settle}
+use Rattle.own_run.specs.Translation.{owned_by, settled, task_result}
+use Rattle.own_run.specs.declared.result.Settled.{Settled}
+use Rattle.own_run.specs.declared.result.TaskResult.{TaskResult as Made}
+use Rattle.own_run.proofs.Lists.{each_map}
+use Rattle.gather.specs.GivesBack.{GiveBack, all_owned}
+use Rattle.gather.proofs.TasksGiveBack.{give_back}
+use Rattle.task_machine.specs.Ends.{Comes, EndsSo, IsAtEnd}
+use Rattle.task_machine.specs.Jobs.{program_of, lists_of, budget_of, IsJob}
+use Rattle.task_machine.specs.Tasks.{IsResultOf}
+use Rattle.task_machine.specs.declared.finish.Owner.{Owner}
+use Rattle.task_machine.specs.declared.finish.Owner.TheVariants.{Main, Finish}
+use Rattle.task_machine.specs.declared.finish.Parked.{Parked}
+use Rattle.task_machine.specs.declared.finish.Waiting.{Waiting}
+use Rattle.task_machine.specs.declared.job.Job.{Job}
+use Rattle.task_machine.specs.declared.stake.Stake.{Stake}
+use Rattle.task_machine.specs.Jobs.{outcome_of}
+use Rattle.finish_scope.specs.Own.{IsOwnResult, IsParked}
+use Rattle.workers.specs.Own.{IsNext, IsOwnEnded, IsOwnNext}
+use Rattle.task_machine.specs.declared.turn.TaskResult.{TaskResult}
+use Rattle.workers.specs.declared.post.Next.{Next}
+use Rattle.workers.specs.declared.post.Next.TheVariants.{Goes, Idle, Told}
+
+module _ (j : Job) (rs : List Made) (all : Each (IsResultOf j) rs) where
+  abbrev results : List Results
+  results = map task_result rs
+
+  are_results : Each (IsTaskResult (program_of j) (lists_of j) (budget_of j)) results
+  are_results = each_map task_result (IsTaskResult (program_of j) (lists_of j) (budget_of j)) rs all
+
+  -- they give back what the owner lists
+  gives_so : (ok : IsJob j) (w : Owner) (made : Made) (outer : List Stake) (n : _) → EndsSo j w made outer n
+      → GiveBack (task_result made) results
+  gives_so ok Main made outer n ends =
+      subst (λ (r : Results). GiveBack r results) (sym ends.is)
+      (give_back (program_of j) ok.sound ok.accepted (lists_of j) (budget_of j) ok.fits
+      (root (program_of j) (lists_of j) (budget_of j)) (record { frames = []; state = ends.state }) ends.stands results are_results)
+  gives_so ok (Finish q) made outer n ends =
+      subst (λ (r : Results). GiveBack r results) (sym ends.may.made)
+      (give_back (program_of j) ok.sound ok.accepted (lists_of j) (budget_of j) ok.fits
+      ends.may.start (record { frames = AtEnd ends.may.before ∷ ends.may.frames; state = ends.may.state }) ends.may.stands results
+      are_results)
+
+  pub gives : (w : Owner) (made : Made) (outer : List Stake) (n : _) → IsAtEnd j w made outer n → GiveBack (task_result made) results
+  gives w made outer n at = gives_so at.0 w made outer n at.1
+
+-- what has come of the owner
+pub comes : (p : Parked) (rs : List Made) → IsParked p → Each (IsResultOf p.job) rs
+    → (w : Waiting) (y : Settled) → w.job ≡ p.job → w.owner ≡ p.owner → w.outer ≡ p.outer → w.opened ≡ p.opened
+    → Some (settled y) ≡ settle (task_result p.made) (map task_result rs)
+    → ((c : Place) → owned_by y.holdings c ≡ all_owned (task_result p.made) c) → Comes w y
+comes p rs ends all w y job owner outer opened settles owned = record {
+  made = p.made;
+  waits =
+      subst (λ (j : Job). IsAtEnd j w.owner p.made w.outer.items w.opened) (sym job)
+      (subst (λ (o : Owner). IsAtEnd p.job o p.made w.outer.items w.opened) (sym owner)
+      (subst (λ (o : _). IsAtEnd p.job p.owner p.made o.items w.opened) (sym outer)
+      (subst (λ (n : _). IsAtEnd p.job p.owner p.made p.outer.items n) (sym opened) ends)));
+  results = map task_result rs;
+  tasks = subst (λ (j : Job). Each (IsTaskResult (program_of j) (lists_of j) (budget_of j)) (map task_result rs)) (sym job) (are_results p.job rs all);
+  settles = settles;
+  owned = owned;
+}
+
+-- what a worker goes on with is of the run
+pub next_own : (o : Option Job) (j : Job) (n : Next) → o ≡ Some j → IsNext j n → IsOwnNext o n
+next_own o j (Goes t) of n = record { job = of ∙ ap Some (sym n.0); task = n.1 }
+next_own o j Idle of n = tt
+next_own o j (Told x) of n = λ k at. n ∙ ap outcome_of (same_Some _ _ (sym of ∙ at))
+
+-- what has ended is a result of the run
+pub ended_own : (o : Option Job) (r : TaskResult) → IsOwnEnded o r → IsOwnResult o r.made
+ended_own o r own j is = subst (λ (i : Job). IsResultOf i r.made) (same_Some _ _ (sym own.job ∙ is)) own.result

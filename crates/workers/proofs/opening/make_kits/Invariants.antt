@@ -1,0 +1,11 @@
+use Rattle.std.proofs.Common.{All}
+use Rattle.std.specs.Vec.Iter.{into_iter_items}
+use Rattle.workers.specs.Desks.{HasSeat, IsFresh}
+use Rattle.workers.proofs.opening.make_kits.Given as goal
+
+-- the kits have seats of the run, and those that are left are fresh
+abbrev pub invariant-loop-seat : goal.invariant-loop-seat
+invariant-loop-seat g l =
+    (goal.iterator-loop-seat g).can_next l.seat-iterator × (goal.iterator-loop-seat g).is_finite l.seat-iterator
+    × All (IsFresh l.tickets) (into_iter_items l.seat-iterator)
+    × All (λ k. HasSeat l.tickets k.desk) l.kits.items

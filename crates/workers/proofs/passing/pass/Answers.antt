@@ -1,0 +1,38 @@
+use Rattle.std.proofs.Common.{◌∙◌, ap, map, subst, sym}
+use Rattle.sections.specs.Place.{Place}
+use Rattle.own_run.specs.Settling.{settle}
+use Rattle.own_run.specs.Translation.{task_result}
+use Rattle.own_run.specs.declared.result.TaskResult.{TaskResult}
+use Rattle.gather.specs.GivesBack.{GiveBack, all_owned}
+use Rattle.task_machine.specs.Jobs.{outcome_of}
+use Rattle.workers.proofs.Passes.{comes, gives}
+use Rattle.workers.proofs.passing.pass.Goals as goal
+
+pub settle-requires : goal.settle-requires
+settle-requires c =
+    let p = c.args.owner in
+    let rs = c.args.results.items in
+    subst (λ (m : TaskResult). GiveBack (task_result m) (map task_result rs)) (sym c.open-waiting.ensures.made)
+    (gives p.job rs c.requires.results p.owner p.made p.outer.items p.opened c.requires.ends)
+
+pub outcome-requires-clause-comes : goal.outcome-requires-clause-comes
+outcome-requires-clause-comes c =
+    let p = c.args.owner in
+    let rs = c.args.results.items in
+    let w = c.open-waiting.ensures in
+    comes p rs c.requires.ends c.requires.results c.open-waiting.result.0 c.in_ok-settled.settled w.job w.owner w.outer w.opened
+    (c.in_ok-settled.ensures.settled ∙ ap (λ (m : TaskResult). settle (task_result m) (map task_result rs)) w.made)
+    (λ (q : Place). c.in_ok-settled.ensures.owned q ∙ ap (λ (m : TaskResult). all_owned (task_result m) q) w.made)
+
+pub returns-in_ok-outcome-in-Main : goal.returns-in_ok-outcome-in-Main
+returns-in_ok-outcome-in-Main c =
+    c.in_ok-outcome-in-Main.ensures.told ∙ ap outcome_of c.open-waiting.ensures.job
+
+pub go_on-requires-clause-comes : goal.go_on-requires-clause-comes
+go_on-requires-clause-comes c =
+    let p = c.args.owner in
+    let rs = c.args.results.items in
+    let w = c.open-waiting.ensures in
+    comes p rs c.requires.ends c.requires.results c.open-waiting.result.0 c.in_ok-settled.settled w.job w.owner w.outer w.opened
+    (c.in_ok-settled.ensures.settled ∙ ap (λ (m : TaskResult). settle (task_result m) (map task_result rs)) w.made)
+    (λ (q : Place). c.in_ok-settled.ensures.owned q ∙ ap (λ (m : TaskResult). all_owned (task_result m) q) w.made)

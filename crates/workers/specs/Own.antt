@@ -1,0 +1,79 @@
+-- What is of the job of a run, wherever it comes from.
+use Rattle.std.specs.Prelude.{◌≡◌, List, Option, Some}
+use Rattle.types.specs.Translation.{outcome}
+use Rattle.own_run.specs.Lists.{Each}
+use Rattle.own_run.specs.declared.result.TaskResult.{TaskResult as Made}
+use Rattle.task_machine.specs.Ends.{IsAtEnd}
+use Rattle.task_machine.specs.Jobs.{outcome_of}
+use Rattle.task_machine.specs.Tasks.{IsTask, IsChild, IsResultOf}
+use Rattle.task_machine.specs.Turns.{IsWanting}
+use Rattle.task_machine.specs.declared.finish.Ending.{Ending}
+use Rattle.task_machine.specs.declared.finish.Parked.{Parked}
+use Rattle.task_machine.specs.declared.job.Job.{Job}
+use Rattle.task_machine.specs.declared.task.Body.{Body}
+use Rattle.task_machine.specs.declared.task.Child.{Child}
+use Rattle.task_machine.specs.declared.task.Task.{Task}
+use Rattle.task_machine.specs.declared.turn.TaskResult.{TaskResult}
+use Rattle.task_machine.specs.declared.turn.Turn.{Turn}
+use Rattle.task_machine.specs.declared.turn.Turn.TheVariants.{Going, Spawns, WantsWeight}
+use Rattle.task_machine.specs.declared.turn.Turn.TheVariants.{EntersFinish, EndsFinish}
+use Rattle.task_machine.specs.declared.turn.Turn.TheVariants.{Ended, Over}
+use Rattle.task_machine.specs.declared.turn.Wanting.{Wanting}
+use Rattle.task_machine.specs.Tasks.{IsBody}
+use Rattle.finish_scope.specs.Own.{IsParked}
+use Rattle.workers.specs.declared.post.Next.{Next}
+use Rattle.workers.specs.declared.post.Next.TheVariants.{Goes, Idle, Told}
+
+-- what a worker goes on with is of this job, and what it tells is the outcome on one thread
+abbrev pub IsNext : Job → Next → Type 0
+IsNext j (Goes t) = (t.body.value.job ≡ j) × IsTask t
+IsNext j Idle = Unit {0}
+IsNext j (Told x) = outcome x ≡ outcome_of j
+
+module _ (o : Option Job) where
+  -- a task that was begun, and one between two turns
+  pub record IsOwnChild (c : Child) : Type 0 where
+    pub job : o ≡ Some c.job
+    pub child : IsChild c
+
+  pub record IsOwnTask (t : Task) : Type 0 where
+    pub job : o ≡ Some t.body.value.job
+    pub task : IsTask t
+
+  pub record IsOwnBody (b : Body) : Type 0 where
+    pub job : o ≡ Some b.job
+    pub body : IsBody b
+
+  pub record IsOwnWanting (w : Wanting) : Type 0 where
+    pub job : o ≡ Some w.body.value.job
+    pub wanting : IsWanting w.body.value w.start
+
+  pub record IsOwnEnding (e : Ending) : Type 0 where
+    pub job : o ≡ Some e.job
+    pub ends : IsAtEnd e.job e.owner e.made e.outer.items e.opened
+
+  pub record IsOwnEnded (r : TaskResult) : Type 0 where
+    pub job : o ≡ Some r.job
+    pub result : IsResultOf r.job r.made
+
+  -- what a turn gives
+  abbrev pub IsOwnTurn : Turn → Type 0
+  IsOwnTurn (Going t) = IsOwnTask t
+  IsOwnTurn (Spawns t c) = IsOwnTask t × IsOwnChild c
+  IsOwnTurn (WantsWeight w) = IsOwnWanting w
+  IsOwnTurn (EntersFinish e) = IsOwnBody e.body.value
+  IsOwnTurn (EndsFinish e) = IsOwnEnding e
+  IsOwnTurn (Ended r) = IsOwnEnded r
+  IsOwnTurn (Over t) = IsOwnTask t
+
+  -- an owner of it that passes, with the results of its scope
+  pub record IsOwnLeaving (p : Parked) (rs : List Made) : Type 0 where
+    pub job : o ≡ Some p.job
+    pub ends : IsParked p
+    pub results : Each (IsResultOf p.job) rs
+
+  -- what a worker goes on with, or tells
+  abbrev pub IsOwnNext : Next → Type 0
+  IsOwnNext (Goes t) = IsOwnTask t
+  IsOwnNext Idle = Unit {0}
+  IsOwnNext (Told x) = (j : Job) → o ≡ Some j → outcome x ≡ outcome_of j

@@ -1,0 +1,380 @@
+//! The workers of a run.
+
+ghost use Rattle.std.specs.Prelude.{◌≡◌, IfErr, IfOk, IfSome, Option, Some};
+ghost use Rattle.types.specs.Translation.{outcome as outcome_in};
+ghost use Rattle.task_machine.specs.Jobs.{outcome_of};
+ghost use Rattle.finish_scope.specs.Own.{IsOwnPassing};
+ghost use Rattle.gather.specs.RunErrors.{IsCause};
+ghost use Rattle.workers.specs.Own.{IsOwnBody, IsOwnChild, IsOwnEnded, IsOwnEnding, IsOwnNext};
+ghost use Rattle.workers.specs.Own.{IsOwnLeaving, IsOwnTask, IsOwnTurn};
+ghost use Rattle.workers.specs.Desks.{HasSeat, Tells};
+
+use crate::error::{RunError, Trouble};
+use crate::gate::Gate;
+use crate::hall::Hall;
+use crate::kit::{Desk, Kit, Report};
+use crate::passing::pass;
+use crate::post::{Next, Post};
+use crate::ready::{First, Ready};
+use crate::scopes;
+use crate::settings::Settings;
+use crews::Crew;
+use crossbeam_deque::Worker;
+use finish_scope::inner::Inner;
+use finish_scope::resting::{Passing, Resting};
+use finish_scope::running::Running;
+use own_run::result::TaskResult;
+use std::sync::{Arc, Mutex, Wait};
+use std::thread;
+use task_machine::error::NoMemory;
+use task_machine::finish::{Ending, Entering, Parked};
+use task_machine::job::Job;
+use task_machine::task::{Child, Task};
+use task_machine::turn::{TaskResult as Ended, Turn};
+use tickets::Tickets;
+use types::outcome::Outcome;
+
+/// How often a worker looks for a task before it rests.
+const LOOKS: u32 = 64;
+
+/// How many tickets one seat draws at most.
+const MOST_DRAWS: u64 = 4_294_967_295;
+
+/// What the workers of a run share.
+#[derive(Drop)]
+pub struct Floor<'p, J: Running, G: Gate> {
+    pub job: Job<'p>,
+    pub settings: Settings,
+    pub gate: &'p G,
+    pub tickets: Tickets,
+    pub hall: Hall<'p, J>,
+    pub ghost of: { J.job ≡ Some job },
+}
+
+impl<'p, J: Running, G: Gate> Floor<'p, J, G> {
+    // ---- turns
+
+    /// A task goes on, up to a turn that is more than a step.
+    fn turn<R: Wait>(
+        &self,
+        rt: &R,
+        number: usize,
+        own: &mut Worker<Ready<'p, J>>,
+        post: &mut Post<'p, J>,
+        task: Task<'p>,
+    ) -> Result<Next<'p>, Trouble>
+        requires { IsOwnTask J.job task }
+        ensures { IfOk result (IsOwnNext J.job) }
+    {
+        match go::<J>(task)? {
+            Turn::Going(task) => Ok(Next::Goes(task)),
+            Turn::Over(task) => Ok(Next::Goes(task)),
+            Turn::Spawns(task, child) => {
+                self.begin(own, post, child)?;
+                Ok(Next::Goes(task))
+            }
+            Turn::WantsWeight(wanting) => {
+                let (task, child) = scopes::replenish(rt, &post.scope, wanting)?;
+                self.begin(own, post, child)?;
+                Ok(Next::Goes(task))
+            }
+            Turn::EntersFinish(entering) => self.enter(rt, number, post, entering),
+            Turn::EndsFinish(ending) => self.park(rt, post, ending),
+            Turn::Ended(ended) => self.end(rt, post, ended),
+        }
+    }
+
+    /// A task was begun: it waits in the worker's deque.
+    fn begin(
+        &self,
+        own: &mut Worker<Ready<'p, J>>,
+        post: &mut Post<'p, J>,
+        child: Child<'p>,
+    ) -> Result<(), Trouble>
+        requires { IsOwnChild J.job child }
+    {
+        let scope = Arc::try_clone(&post.scope)?;
+        match own.push(Ready::new(child, scope, post.place)) {
+            Ok(()) => {
+                self.hall.wake();
+                Ok(())
+            }
+            Err(_) => Err(Trouble::OutOfMemory),
+        }
+    }
+
+    /// A task began a finish: it stands in a new scope.
+    fn enter<R: Wait>(
+        &self,
+        rt: &R,
+        number: usize,
+        post: &mut Post<'p, J>,
+        entering: Entering<'p>,
+    ) -> Result<Next<'p>, Trouble>
+        requires { IsOwnBody J.job entering.body.value }
+        ensures { IfOk result (IsOwnNext J.job) }
+    {
+        let (inner, weight) = Inner::open(self.job.alloc, self.settings.w0);
+        let task = entering.enter(weight);
+        let scope = Arc::new(self.job.alloc, Mutex::new(inner))?;
+        post.outer.push(post.place)?;
+        post.place = self.hall.put(rt, number, Arc::try_clone(&scope)?)?;
+        post.scope = scope;
+        Ok(Next::Goes(task))
+    }
+
+    /// A task is at the end of a finish, or of `main`.
+    fn park<R: Wait>(
+        &self,
+        rt: &R,
+        post: &mut Post<'p, J>,
+        ending: Ending<'p>,
+    ) -> Result<Next<'p>, Trouble>
+        requires { IsOwnEnding J.job ending }
+        ensures { IfOk result (IsOwnNext J.job) }
+    {
+        let path = ending.made.path.clone()?;
+        let outer = std::mem::replace(&mut post.outer, Vec::new(self.job.alloc));
+        let (weight, parked) = ending.set_down();
+        let owner = Resting { parked, outer };
+        let passing = scopes::park(rt, &post.scope, weight, path, owner)?;
+        self.after(rt, post, passing)
+    }
+
+    /// A task has ended.
+    fn end<R: Wait>(
+        &self,
+        rt: &R,
+        post: &mut Post<'p, J>,
+        ended: Ended<'p>,
+    ) -> Result<Next<'p>, Trouble>
+        requires { IsOwnEnded J.job ended }
+        ensures { IfOk result (IsOwnNext J.job) }
+    {
+        let path = ended.made.path.clone()?;
+        let left = ended.made.path.clone()?;
+        let (weight, made) = ended.take_weight();
+        let passing = scopes::give_back(rt, &post.scope, weight, path, made)?;
+        self.gate.leave(&left);
+        self.after(rt, post, passing)
+    }
+
+    /// What comes after a task that waits or has ended: whoever goes on in its place.
+    fn after<R: Wait>(
+        &self,
+        rt: &R,
+        post: &mut Post<'p, J>,
+        passing: Option<Passing<'p>>,
+    ) -> Result<Next<'p>, Trouble>
+        requires { IfSome passing (IsOwnPassing J.job) }
+        ensures { IfOk result (IsOwnNext J.job) }
+    {
+        match passing {
+            Some(passing) => {
+                self.hall.clear(rt, post.place)?;
+                self.go_behind(rt, post, passing)
+            }
+            None => Ok(Next::Idle),
+        }
+    }
+
+    /// An owner goes on behind its finish, in the scope around it.
+    fn go_behind<R: Wait>(
+        &self,
+        rt: &R,
+        post: &mut Post<'p, J>,
+        passing: Passing<'p>,
+    ) -> Result<Next<'p>, Trouble>
+        requires { IsOwnPassing J.job passing }
+        ensures { IfOk result (IsOwnNext J.job) }
+    {
+        let Passing { owner, results } = passing;
+        let Resting { parked, mut outer } = owner;
+        if let Some(place) = outer.pop() {
+            post.scope = self.hall.scope_at(rt, place)?;
+            post.place = place;
+        }
+        post.outer = outer;
+        passed::<J>(parked, results)
+    }
+
+    // ---- tasks
+
+    /// A task goes on until it waits or has ended, and whoever that makes go on.
+    fn go_on<R: Wait>(
+        &self,
+        rt: &R,
+        number: usize,
+        own: &mut Worker<Ready<'p, J>>,
+        post: &mut Post<'p, J>,
+        task: Task<'p>,
+    ) -> Result<Option<Outcome>, Trouble>
+        requires { IsOwnTask J.job task }
+        ensures { IfOk result (λ o. IfSome o (λ x. outcome_in x ≡ outcome_of self.now.job)) }
+    {
+        let mut task = task;
+        for _ in rt.forever() {
+            match self.turn(rt, number, own, post, task)? {
+                Next::Goes(next) => task = next,
+                Next::Idle => return Ok(None),
+                Next::Told(outcome) => return Ok(Some(outcome)),
+            }
+            if self.hall.is_over() {
+                return Ok(None);
+            }
+        }
+        unreachable!()
+    }
+
+    /// The root, from its beginning on.
+    fn run_first<R: Wait>(
+        &self,
+        rt: &R,
+        number: usize,
+        own: &mut Worker<Ready<'p, J>>,
+        first: First<'p, J>,
+    ) -> Result<Option<Outcome>, Trouble>
+        ensures { IfOk result (λ o. IfSome o (λ x. outcome_in x ≡ outcome_of self.now.job)) }
+    {
+        let (task, mut post) = first.begin();
+        self.go_on(rt, number, own, &mut post, task)
+    }
+
+    /// A task below the root, from its beginning on.
+    fn run_next<R: Wait>(
+        &self,
+        rt: &R,
+        number: usize,
+        own: &mut Worker<Ready<'p, J>>,
+        ready: Ready<'p, J>,
+    ) -> Result<Option<Outcome>, Trouble>
+        ensures { IfOk result (λ o. IfSome o (λ x. outcome_in x ≡ outcome_of self.now.job)) }
+    {
+        let (task, mut post) = ready.begin()?;
+        self.let_in(&task);
+        self.go_on(rt, number, own, &mut post, task)
+    }
+
+    /// The gate is lent a task before its first turn.
+    fn let_in(&self, task: &Task<'p>)
+        requires { IsOwnTask J.job task.now }
+    {
+        self.gate.enter(task);
+    }
+
+    // ---- a worker
+
+    /// A task begins: it has a ticket.
+    fn draw(&self, desk: &mut Desk) -> Result<(), RunError>
+        requires seat { HasSeat self.now.tickets desk.old }
+        ensures seat { HasSeat self.now.tickets desk.new }
+        ensures cause { IfErr result (IsCause self.now.settings.tasks) }
+    {
+        if desk.drawn >= MOST_DRAWS {
+            return Err(RunError::OutOfMemory);
+        }
+        let ticket = self.tickets.draw(&mut desk.seat);
+        desk.drawn += 1;
+        if ticket.number() < self.settings.tasks {
+            Ok(())
+        } else {
+            Err(RunError::TooManyTasks(ticket))
+        }
+    }
+
+    /// A task, where there is one; a worker that has looked in vain for long rests before.
+    fn look<R: Wait>(
+        &self,
+        rt: &R,
+        desk: &Desk,
+        own: &mut Worker<Ready<'p, J>>,
+        looks: &mut u32,
+    ) -> Option<Ready<'p, J>> {
+        let found = self.hall.find(desk.number, own);
+        if found.is_some() {
+            *looks = 0;
+            return found;
+        }
+        if *looks < LOOKS {
+            *looks += 1;
+            thread::yield_now();
+            return None;
+        }
+        *looks = 0;
+        self.hall.rest(rt, desk.number, &desk.parker, own)
+    }
+
+    /// Runs tasks until the run is over.
+    fn serve<R: Wait>(&self, rt: &R, kit: Kit<'p, J>) -> Result<Option<Outcome>, RunError>
+        requires seat { HasSeat self.now.tickets kit.desk }
+        ensures outcome { IfOk result (λ o. IfSome o (λ x. outcome_in x ≡ outcome_of self.now.job)) }
+        ensures cause { IfErr result (IsCause self.now.settings.tasks) }
+    {
+        let Kit {
+            mut desk,
+            mut own,
+            first,
+        } = kit;
+        if let Some(first) = first {
+            self.draw(&mut desk)?;
+            if let Some(outcome) = self.run_first(rt, desk.number, &mut own, first)? {
+                return Ok(Some(outcome));
+            }
+        }
+        let mut looks = 0u32;
+        for _ in rt.forever() {
+            if self.hall.is_over() {
+                return Ok(None);
+            }
+            if let Some(ready) = self.look(rt, &desk, &mut own, &mut looks) {
+                self.draw(&mut desk)?;
+                if let Some(outcome) = self.run_next(rt, desk.number, &mut own, ready)? {
+                    return Ok(Some(outcome));
+                }
+            }
+        }
+        unreachable!()
+    }
+}
+
+/// A task turns on, up to a turn that is more than a step.
+fn go<'p, J: Running>(task: Task<'p>) -> Result<Turn<'p>, NoMemory>
+    requires { IsOwnTask J.job task }
+    ensures { IfOk result (IsOwnTurn J.job) }
+{
+    task.go()
+}
+
+/// What comes of an owner of the run that passes.
+fn passed<'p, J: Running>(owner: Parked<'p>, results: Vec<TaskResult>) -> Result<Next<'p>, Trouble>
+    requires own { IsOwnLeaving J.job owner results.items }
+    ensures { IfOk result (IsOwnNext J.job) }
+{
+    pass(owner, results)
+}
+
+impl<'p, J: Running + Send + Sync, G: Gate + Sync> Crew for Floor<'p, J, G> {
+    type Kit = Kit<'p, J>;
+
+    type Report = Report;
+
+    ghost fits = { λ f k. HasSeat f.tickets k.desk };
+
+    ghost told = { λ f r. Tells f.job f.settings r };
+
+    fn work<R: Wait>(&self, rt: &R, kit: Kit<'p, J>) -> Report {
+        let told = self.serve(rt, kit);
+        let silent = match &told {
+            Ok(None) => true,
+            _ => false,
+        };
+        if silent || self.hall.end() {
+            return Report { told };
+        }
+        Report { told: Ok(None) }
+    }
+
+    fn call_off(&self) {
+        self.hall.end();
+    }
+}

@@ -1,0 +1,203 @@
+//! Where the workers meet: their deques and shelves, where they rest, and the mark that ends a run.
+
+use crate::error::Trouble;
+use crate::ready::Ready;
+use crossbeam_deque::{Steal, Stealer, Worker};
+use crossbeam_utils::sync::{Parker, Unparker};
+use finish_scope::inner::Scope;
+use finish_scope::resting::Place;
+use finish_scope::running::Running;
+use finish_scope::shelf::Shelf;
+use std::alloc::{AllocError, Global};
+use std::sync::atomic::{AtomicBool, AtomicUsize, Ordering};
+use std::sync::{Arc, Mutex, Wait};
+
+/// What the workers share, whatever they run.
+#[derive(Drop)]
+pub struct Hall<'p, J: Running> {
+    thieves: Vec<Stealer<Ready<'p, J>>>,
+    shelves: Vec<Mutex<Shelf<'p, J>>>,
+    beds: Vec<Bed>,
+    /// How many workers rest.
+    resting: AtomicUsize,
+    /// The mark: the run has an outcome, or none will come.
+    over: AtomicBool,
+}
+
+/// Where a worker rests.
+#[derive(Drop)]
+struct Bed {
+    taken: AtomicBool,
+    unparker: Unparker,
+}
+
+impl<'p, J: Running> Hall<'p, J> {
+    /// A hall before any worker has come.
+    pub fn new(alloc: Global) -> Hall<'p, J> {
+        Hall {
+            thieves: Vec::new(alloc),
+            shelves: Vec::new(alloc),
+            beds: Vec::new(alloc),
+            resting: AtomicUsize::new(0),
+            over: AtomicBool::new(false),
+        }
+    }
+
+    /// One more worker comes: its number, its deque, and what it waits on.
+    pub fn welcome(
+        &mut self,
+        alloc: Global,
+    ) -> Result<(usize, Worker<Ready<'p, J>>, Parker), AllocError> {
+        let number = self.beds.len();
+        let (own, thief) = deque::<Ready<'p, J>>(alloc)?;
+        self.thieves.push(thief)?;
+        self.shelves.push(Mutex::new(Shelf::new(alloc)))?;
+        let parker = Parker::new(alloc)?;
+        self.beds.push(Bed {
+            taken: AtomicBool::new(false),
+            unparker: parker.unparker().clone()?,
+        })?;
+        Ok((number, own, parker))
+    }
+
+    // ---- tasks
+
+    /// A task of its own, the one that came last; else one of another worker.
+    pub fn find(&self, number: usize, own: &mut Worker<Ready<'p, J>>) -> Option<Ready<'p, J>> {
+        match own.pop() {
+            Some(ready) => Some(ready),
+            None => self.steal(number, own),
+        }
+    }
+
+    /// A task of another worker; where that has more, some of them too, and one who rests is woken.
+    fn steal(&self, number: usize, own: &mut Worker<Ready<'p, J>>) -> Option<Ready<'p, J>> {
+        let mut victim = number;
+        for _ in 1..self.thieves.len() {
+            victim = victim.wrapping_add(1);
+            if victim >= self.thieves.len() {
+                victim = 0;
+            }
+            let thief = self.thieves.get(victim)?;
+            if let Steal::Success(ready) = thief.steal_batch_and_pop(own) {
+                if has_more::<Ready<'p, J>>(own) {
+                    self.wake();
+                }
+                return Some(ready);
+            }
+        }
+        None
+    }
+
+    // ---- rest
+
+    /// A worker that found no task rests until one is pushed, or the run is over. It looks once more
+    /// before.
+    pub fn rest<R: Wait>(
+        &self,
+        rt: &R,
+        number: usize,
+        parker: &Parker,
+        own: &mut Worker<Ready<'p, J>>,
+    ) -> Option<Ready<'p, J>> {
+        let bed = self.beds.get(number)?;
+        bed.taken.store(true, Ordering::SeqCst);
+        self.resting.fetch_add(1, Ordering::SeqCst);
+        let found = self.find(number, own);
+        if found.is_none() && !self.is_over() {
+            parker.park(rt);
+        }
+        self.rise(bed);
+        found
+    }
+
+    /// Wakes one worker, where one rests.
+    pub fn wake(&self) {
+        if self.resting.load(Ordering::SeqCst) == 0 {
+            return;
+        }
+        for bed in self.beds.iter() {
+            if bed.taken.load(Ordering::SeqCst) && self.rise(bed) {
+                bed.unparker.unpark();
+                return;
+            }
+        }
+    }
+
+    /// Whoever rests there is to rest no more. False where nobody does.
+    fn rise(&self, bed: &Bed) -> bool {
+        let taken = bed.taken.swap(false, Ordering::SeqCst);
+        if taken {
+            self.resting.fetch_sub(1, Ordering::SeqCst);
+        }
+        taken
+    }
+
+    // ---- the mark
+
+    /// Sets the mark, and wakes all. True where it wasn't set before.
+    pub fn end(&self) -> bool {
+        let set = self.over.swap(true, Ordering::SeqCst);
+        for bed in self.beds.iter() {
+            bed.unparker.unpark();
+        }
+        !set
+    }
+
+    /// Whether the mark is set.
+    pub fn is_over(&self) -> bool {
+        self.over.load(Ordering::SeqCst)
+    }
+
+    // ---- scopes
+
+    /// Puts a scope on the shelf of this worker, and tells where it lies.
+    pub fn put<R: Wait>(
+        &self,
+        rt: &R,
+        number: usize,
+        scope: Arc<Scope<'p, J>>,
+    ) -> Result<Place, Trouble> {
+        match self.shelves.get(number) {
+            Some(shelf) => Ok(Place {
+                shelf: number,
+                slot: shelf.lock(rt).add(scope)?,
+            }),
+            None => Err(Trouble::Late),
+        }
+    }
+
+    /// The scope that lies there.
+    pub fn scope_at<R: Wait>(&self, rt: &R, place: Place) -> Result<Arc<Scope<'p, J>>, Trouble> {
+        match self.shelves.get(place.shelf) {
+            Some(shelf) => match shelf.lock(rt).find(place.slot) {
+                Some(scope) => Ok(scope),
+                None => Err(Trouble::Late),
+            },
+            None => Err(Trouble::Late),
+        }
+    }
+
+    /// A scope has passed: it lies there no more.
+    pub fn clear<R: Wait>(&self, rt: &R, place: Place) -> Result<(), Trouble> {
+        match self.shelves.get(place.shelf) {
+            Some(shelf) => {
+                shelf.lock(rt).free(place.slot)?;
+                Ok(())
+            }
+            None => Err(Trouble::Late),
+        }
+    }
+}
+
+/// A deque, and what steals from it.
+fn deque<T: Drop>(alloc: Global) -> Result<(Worker<T>, Stealer<T>), AllocError> {
+    let own = Worker::new_lifo(alloc, 64)?;
+    let thief = own.stealer()?;
+    Ok((own, thief))
+}
+
+/// Whether a task is left in a worker's deque.
+fn has_more<T>(own: &mut Worker<T>) -> bool {
+    !own.is_empty()
+}

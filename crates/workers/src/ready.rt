@@ -1,0 +1,98 @@
+//! Tasks that wait for a worker.
+
+ghost use Rattle.std.specs.Prelude.{◌≡◌, IfOk};
+ghost use Rattle.workers.specs.Own.{IsOwnChild, IsOwnTask};
+
+use crate::post::Post;
+use finish_scope::inner::Scope;
+use finish_scope::resting::Place;
+use finish_scope::running::Running;
+use std::marker::Model;
+use std::sync::Arc;
+use task_machine::error::NoMemory;
+use task_machine::task::{Child, Task};
+
+/// A task of the run that was begun, and the scope that it stands in.
+#[derive(Drop)]
+pub struct Ready<'p, J: Running> {
+    child: Child<'p>,
+    scope: Arc<Scope<'p, J>>,
+    place: Place,
+}
+
+impl<'p, J: Running> Model for Ready<'p, J> {
+    ghost use Rattle.std.specs.Prelude.{ℕ};
+    ghost use Rattle.workers.specs.Own.{IsOwnChild};
+
+    ghost Value = { ℕ };
+
+    ghost view = { λ r. 0 };
+
+    ghost invariant = { λ r. IsOwnChild J.job r.child };
+}
+
+impl<'p, J: Running> Ready<'p, J> {
+    pub fn new(child: Child<'p>, scope: Arc<Scope<'p, J>>, place: Place) -> Ready<'p, J>
+        requires { IsOwnChild J.job child }
+    {
+        Ready {
+            child,
+            scope,
+            place,
+        }
+    }
+
+    /// The task before its first turn, and where it stands.
+    pub fn begin(self) -> Result<(Task<'p>, Post<'p, J>), NoMemory>
+        ensures { IfOk result (λ r. IsOwnTask J.job r.0) }
+    {
+        let Ready {
+            child,
+            scope,
+            place,
+        } = self;
+        let outer = Vec::new(child.job.alloc);
+        let task = child.begin()?;
+        Ok((
+            task,
+            Post {
+                scope,
+                place,
+                outer,
+            },
+        ))
+    }
+}
+
+/// The root, with which one worker begins.
+#[derive(Drop)]
+pub struct First<'p, J: Running> {
+    task: Task<'p>,
+    post: Post<'p, J>,
+}
+
+impl<'p, J: Running> Model for First<'p, J> {
+    ghost use Rattle.std.specs.Prelude.{ℕ};
+    ghost use Rattle.workers.specs.Own.{IsOwnTask};
+
+    ghost Value = { ℕ };
+
+    ghost view = { λ f. 0 };
+
+    ghost invariant = { λ f. IsOwnTask J.job f.task };
+}
+
+impl<'p, J: Running> First<'p, J> {
+    pub fn new(task: Task<'p>, post: Post<'p, J>) -> First<'p, J>
+        requires { IsOwnTask J.job task }
+    {
+        First { task, post }
+    }
+
+    pub fn begin(self) -> (Task<'p>, Post<'p, J>)
+        ensures { IsOwnTask J.job result.0 }
+    {
+        let First { task, post } = self;
+        (task, post)
+    }
+}

@@ -1,0 +1,121 @@
+//! What is done to a scope during one holding of its lock.
+
+ghost use Rattle.std.specs.Prelude.{◌≡◌, IfOk, IfSome};
+ghost use Rattle.finish_scope.specs.Own.{IsOwnPassing, IsOwnResting, IsOwnResult};
+ghost use Rattle.workers.specs.Own.{IsOwnChild, IsOwnTask, IsOwnWanting};
+
+use crate::error::Trouble;
+use finish_scope::inner::{Inner, Scope};
+use finish_scope::late::{Late, Reason};
+use finish_scope::resting::{Passing, Resting};
+use finish_scope::running::Running;
+use own_run::result::TaskResult;
+use std::sync::Wait;
+use task_machine::task::{Child, Task};
+use task_machine::turn::Wanting;
+use types::path::Path;
+use weights::book::Back;
+use weights::weight::Weight;
+
+/// Issues more weight to a task that has too little for the one that it began.
+pub fn replenish<'p, J: Running, R: Wait>(
+    rt: &R,
+    scope: &Scope<'p, J>,
+    wanting: Wanting<'p>,
+) -> Result<(Task<'p>, Child<'p>), Trouble>
+    requires { IsOwnWanting J.job wanting }
+    ensures task { IfOk result (λ p. IsOwnTask J.job p.0) }
+    ensures child { IfOk result (λ p. IsOwnChild J.job p.1) }
+{
+    let (weight, paused) = wanting.take_weight();
+    let issued = scope.lock(rt).replenish(weight);
+    match issued {
+        Ok(weight) => {
+            if weight.units() < 2 {
+                weight.forfeit();
+                return Err(Trouble::Late);
+            }
+            Ok(paused.with_weight(weight))
+        }
+        Err(late) => Err(not_issued(late)),
+    }
+}
+
+/// A task has ended. The owner of its scope is to go on where that was the last.
+pub fn give_back<'p, J: Running, R: Wait>(
+    rt: &R,
+    scope: &Scope<'p, J>,
+    weight: Weight,
+    path: Path,
+    made: TaskResult,
+) -> Result<Option<Passing<'p>>, Trouble>
+    requires path { path.turns.items ≡ made.path.turns.items }
+    requires own { IsOwnResult J.job made }
+    ensures { IfOk result (λ p. IfSome p (IsOwnPassing J.job)) }
+{
+    let mut guard = scope.lock(rt);
+    let inner = &mut *guard;
+    match inner.give_back(weight, path, made) {
+        Ok(back) => passes::<J>(inner, back),
+        Err(late) => {
+            let Late { reason: _, back } = late;
+            let (weight, _) = back;
+            weight.forfeit();
+            Err(Trouble::Late)
+        }
+    }
+}
+
+/// A task waits as the owner of the scope. It is to go on where all tasks of that have ended.
+pub fn park<'p, J: Running, R: Wait>(
+    rt: &R,
+    scope: &Scope<'p, J>,
+    weight: Weight,
+    path: Path,
+    owner: Resting<'p>,
+) -> Result<Option<Passing<'p>>, Trouble>
+    requires path { path.turns.items ≡ owner.parked.made.path.turns.items }
+    requires own { IsOwnResting J.job owner }
+    ensures { IfOk result (λ p. IfSome p (IsOwnPassing J.job)) }
+{
+    let mut guard = scope.lock(rt);
+    let inner = &mut *guard;
+    match inner.park(weight, path, owner) {
+        Ok(back) => passes::<J>(inner, back),
+        Err(late) => {
+            let Late { reason: _, back } = late;
+            let (weight, _) = back;
+            weight.forfeit();
+            Err(Trouble::Late)
+        }
+    }
+}
+
+/// A weight came back to a scope. Its owner is to go on where that was the last.
+fn passes<'p, J: Running>(
+    inner: &mut Inner<'p, J>,
+    back: Back,
+) -> Result<Option<Passing<'p>>, Trouble>
+    ensures { IfOk result (λ p. IfSome p (IsOwnPassing J.job)) }
+{
+    if inner.marked() {
+        return Err(Trouble::OutOfMemory);
+    }
+    match back {
+        Back::Open => Ok(None),
+        Back::Complete => match inner.resume() {
+            Some(passing) => Ok(Some(passing)),
+            None => Err(Trouble::Late),
+        },
+    }
+}
+
+/// Why a scope issued nothing.
+fn not_issued(late: Late<Weight>) -> Trouble {
+    let Late { reason, back } = late;
+    back.forfeit();
+    match reason {
+        Reason::NotDue => Trouble::Late,
+        Reason::IssuedTooOften => Trouble::OutOfMemory,
+    }
+}
