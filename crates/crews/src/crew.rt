@@ -27,12 +27,12 @@ pub trait Crew: Sync {
     fn call_off(&self);
 }
 
-/// Why a crew has no reports.
+/// Why a crew has no reports, of `work_together(rt, alloc, &crew, own, kits)` with one kit.
 #[derive(Clone, Copy, PartialEq, Eq, Debug)]
 pub enum Refusal {
-    /// There was no memory for a thread's handle, or for a report.
+    /// There was no memory for the thread's handle, or for a report.
     OutOfMemory,
-    /// A thread couldn't be started.
+    /// The thread of the kit couldn't be started.
     NoThread,
 }
 

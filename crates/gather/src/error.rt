@@ -9,16 +9,17 @@ use std::error::Error;
 use std::fmt;
 use types::path::Path;
 
-/// Why results don't make a whole.
+/// Why results don't make a whole, with a call of `settle` that says so: `root` is the result of the root of
+/// `main { async { } }`, which lists 0.1, and `child` that of 0.1.
 #[derive(PartialEq, Eq, Debug, Drop)]
 pub enum GatherError {
-    /// G1: a task that is listed has no result.
+    /// `G1 0.1`, a task that is listed has no result: `root` and no results.
     Lost(Path),
-    /// G2: a path has two results, or a place comes back from it that is owned.
+    /// `G2 0.1`, a path has two results: `root`, with `child` twice. Or a place comes back that is owned.
     Double(Path),
-    /// G3: a result that nobody lists.
+    /// `G3 0.1`, a result that nobody lists: the result of the root of `main { }`, with `child`.
     Stranger(Path),
-    /// G4: want of memory.
+    /// `G4`, want of memory: `root` with `child` where memory is refused.
     OutOfMemory,
 }
 

@@ -8,17 +8,19 @@ use crate::error::GatherError;
 use std::alloc::{AllocError, AllocFailed};
 use tickets::Ticket;
 
-/// Why a run has no outcome: what came first.
+/// Why a run has no outcome: what came first. With a run to which it happens, where one is known.
 #[derive(PartialEq, Eq, Debug, Drop)]
 pub enum RunError {
-    /// E1: memory; a thread that couldn't be started; a scope that has issued weight, or a worker
-    /// that has drawn tickets, as often as is counted.
+    /// E1: memory, as may be of `main { }`; a thread that couldn't be started; a scope that has issued
+    /// weight, or a worker that has drawn tickets, as often as is counted.
     OutOfMemory,
-    /// E2: this ticket was drawn, whose number is the most tasks that the run may have, or more.
+    /// E2: this ticket was drawn, whose number is the most tasks that the run may have, or more: 1 of
+    /// `main { async { } }` where that is 1.
     TooManyTasks(Ticket),
-    /// E3: the results of tasks don't make a whole.
+    /// E3: the results of tasks don't make a whole. No run is known that comes to it.
     Gather(GatherError),
-    /// E4: a scope didn't take what was given back to it, or it was complete and nobody its owner.
+    /// E4: a scope didn't take what was given back to it, or it was complete and nobody its owner. No
+    /// run is known that comes to it.
     Late,
 }
 

@@ -8,14 +8,15 @@ use std::alloc::{AllocError, AllocFailed};
 use std::error::Error;
 use std::fmt;
 
-/// Why a call was refused. Nothing has changed then.
+/// Why a call was refused, with one that is: `own` and `others` are made by `Holdings::of_input` of
+/// `main { array a: int[1]; }`, and `a` is `ArrayId { number: 0 }`. Nothing has changed then.
 #[derive(Clone, Copy, PartialEq, Eq, Debug)]
 pub enum HoldError {
-    /// H1: a place that isn't held, or, to write it or to carve it out, not owned.
+    /// H1: a place that isn't held, as in `own.read(a, 1)`, or, to write it or to carve it out, not owned.
     NotHeld,
-    /// H2: want of memory.
+    /// H2: want of memory, as may be in `own.carve(alloc, &windows)`.
     OutOfMemory,
-    /// H3: a pasted place that is owned here already.
+    /// H3: a pasted place that is owned here already, as in `own.paste(alloc, others)`.
     OwnedTwice,
 }
 

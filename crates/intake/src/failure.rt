@@ -45,7 +45,7 @@ pub enum Failure {
     NoMemoryInCheck,
     /// `N4 a`
     Input(InputError),
-    /// `E1` or `E3`
+    /// `E1` to `E4`
     Run(RunError),
     /// `choices not understood`
     ChoicesNotUnderstood,

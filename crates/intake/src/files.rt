@@ -14,12 +14,12 @@ use syntax::error::SyntaxError;
 /// The most bytes of a program's text.
 const MOST_BYTES: usize = 1_048_576;
 
-/// Why a file isn't there.
+/// Why a file isn't there, with a call that says so.
 #[derive(Clone, Copy, PartialEq, Eq, Debug)]
 pub enum FileError {
-    /// It can't be opened or read.
+    /// It can't be opened or read: `files.read("nowhere.afx")`.
     Failed,
-    /// Memory ran out.
+    /// Memory ran out: `files.read("/dev/zero")`, which has no end.
     NoMemory,
 }
 

@@ -5,12 +5,12 @@ ghost use Rattle.interleave.specs.declared.error.EventError.TheVariants.{NoMemor
 
 use std::alloc::{AllocError, AllocFailed};
 
-/// Why an event leads to no world. The world stays as it was.
+/// Why an event leads to no world. The world shows what it showed.
 #[derive(Clone, Copy, PartialEq, Eq, Debug)]
 pub enum EventError {
-    /// The event isn't legal in that world.
+    /// The event isn't legal in that world, as `step 0` in the first, where the root is in a queue.
     Illegal,
-    /// Want of memory.
+    /// Want of memory, as may be of `take 0 0` there.
     NoMemory,
 }
 
@@ -33,8 +33,8 @@ impl<T: Drop> From<AllocFailed<T>> for EventError {
 /// Why a list of events leads to no world.
 #[derive(Clone, Copy, PartialEq, Eq, Debug)]
 pub enum ReplayError {
-    /// The event of this number, from 0, is the first that isn't legal.
+    /// The event of this number, from 0, is the first that isn't legal: 1 of `take 0 0`, `take 0 0`.
     IllegalAt(usize),
-    /// Want of memory.
+    /// Want of memory, as may be of `take 0 0`.
     NoMemory,
 }

@@ -27,13 +27,14 @@ use types::typed::Typed;
 /// Why a program isn't accepted.
 #[derive(Drop)]
 pub enum Refused {
-    /// C1: two accesses clash. Of all clashes this is the least.
+    /// C1: two accesses clash, as 2 and 3 in `main { array a: int[1]; async { a[0] = 1; } a[0] = 2; }`. Of
+    /// all clashes this is the least.
     Race {
         race: Race,
         /// The program, for the names in it.
         typed: Typed,
     },
-    /// C2: memory.
+    /// C2: memory, as may be of `main { }`.
     OutOfMemory,
 }
 

@@ -13,8 +13,10 @@ use std::alloc::{AllocError, AllocFailed};
 /// Why no more can be read.
 #[derive(Clone, Copy, Debug)]
 pub enum Stuck {
-    /// A token may not stand where so many are left, with itself; with none left the text ends.
+    /// A token may not stand where so many are left, with itself, 1 of `main { skip }`; with none left
+    /// the text ends, as of `main`.
     Unexpected { left: usize },
+    /// Of `main { skip; }` where memory is refused.
     OutOfMemory,
 }
 

@@ -11,16 +11,17 @@ use std::fmt;
 /// Why a text is no program.
 #[derive(Clone, Copy, PartialEq, Eq, Debug)]
 pub enum SyntaxError {
-    /// A character outside of a comment that begins no token, as `!` alone.
+    /// `S1 at 1:1` of `!`: a character outside of a comment that begins no token.
     NotACharacter { place: Place },
-    /// A token that may not stand here, or the end of the text.
+    /// `S2 at 1:13` of `main { skip }`: a token that may not stand here, or the end of the text.
     UnexpectedToken { place: Place },
-    /// A number over 9,223,372,036,854,775,807.
+    /// `S3 at 1:1` of `9223372036854775808`: a number over 9,223,372,036,854,775,807.
     NumberTooLarge { place: Place },
-    /// The bracket by which more than 100 are open.
+    /// `S4 at 1:101` of 101 `(`: the bracket by which more than 100 are open.
     TooDeep { place: Place },
-    /// A text over 1,048,576 bytes.
+    /// `S5` of 1,048,577 spaces: a text over 1,048,576 bytes.
     TooLong,
+    /// `S6` of `main { }` where memory is refused.
     OutOfMemory,
 }
 

@@ -22,10 +22,11 @@ const MOST: u64 = 9_223_372_036_854_775_807;
 /// Why a text has no tokens.
 #[derive(Clone, Copy, Debug)]
 pub enum Unread {
-    /// No token begins where this many characters are left.
+    /// No token begins where this many characters are left: 1 of `!`.
     NotACharacter { left: usize },
-    /// A number too large begins where this many characters are left.
+    /// A number too large begins where this many characters are left: 19 of `9223372036854775808`.
     NumberTooLarge { left: usize },
+    /// Of `skip` where memory is refused.
     OutOfMemory,
 }
 

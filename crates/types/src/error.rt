@@ -13,28 +13,34 @@ use std::fmt;
 /// is broken in one.
 #[derive(Clone, Copy, PartialEq, Eq, Debug)]
 pub enum TypeError {
-    /// Y1: a name or a procedure that isn't in scope, as `a` in `main { print a[0]; }`.
+    /// Y1: a name or a procedure that isn't in scope, as `a` in `main { print a; }`.
     NotInScope { label: Label },
-    /// Y2: a name that is declared while the same name is in scope; arrays, parameters and
-    /// procedures have no label.
+    /// Y2: a name that is declared while the same name is in scope, as the second in
+    /// `main { var x = 1; var x = 2; }`. Arrays, parameters and procedures have no label, as in
+    /// `main { array a: int[1]; array a: int[1]; }`.
     DeclaredTwice { label: Option<Label> },
-    /// Y3: a number where a truth value is wanted or the other way, or a section for a scalar or
-    /// the other way.
+    /// Y3: a number where a truth value is wanted or the other way, as in `main { print true; }`, or a
+    /// section for a scalar or the other way, as in `main { array a: int[1]; print a; }`.
     WrongKind { label: Label },
-    /// Y4: a call with a wrong number of arguments, or with an argument that isn't the name of a section of
-    /// the parameter's element type.
+    /// Y4: a call with a wrong number of arguments, as in `proc f() { } main { f(1); }`, or with an
+    /// argument that isn't the name of a section of the parameter's element type, as in
+    /// `proc f(read s: int) { } main { f(1); }`.
     WrongArguments { label: Label },
-    /// Y5: a scalar that is assigned in an async body outside of which it is declared.
+    /// Y5: a scalar that is assigned in an async body outside of which it is declared, as in
+    /// `main { var x = 1; async { x = 2; } }`.
     AssignedOutsideAsync { label: Label },
-    /// Y6: a `read` section, or a side of one, that is written or passed as `mut`.
+    /// Y6: a `read` section, or a side of one, that is written or passed as `mut`, as in
+    /// `proc f(read s: int) { s[0] = 1; } main { }`.
     ReadOnly { label: Label },
-    /// Y7: a `mut` argument that overlaps another section argument.
+    /// Y7: a `mut` argument that overlaps another section argument, as in
+    /// `proc f(mut s: int, read t: int) { } main { array a: int[1]; f(a, a); }`.
     Overlapping { label: Label },
-    /// Y8: no `main`.
+    /// Y8: no `main`, as in the empty text.
     NoMain,
-    /// Y9: more than 256 procedures, 16 parameters, 32 arrays, 4,194,304 elements or 65,535 statements.
+    /// Y9: more than 256 procedures, 16 parameters, 32 arrays, 4,194,304 elements or 65,535 statements, as
+    /// in `main { array a: int[4194305]; }`.
     OverLimit,
-    /// Y10: want of memory.
+    /// Y10: want of memory, as may be of `main { }`.
     OutOfMemory,
 }
 

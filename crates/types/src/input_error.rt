@@ -8,24 +8,24 @@ use std::alloc::{AllocError, AllocFailed};
 use std::error::Error;
 use std::fmt;
 
-/// Why an input is refused. The arrays are taken in the order of their declaration, and for each first its
-/// length, then its elements.
+/// Why an input is refused, with one for `main { array a: byte[1]; }` that is. The arrays are taken in the order
+/// of their declaration, and for each first its length, then its elements.
 #[derive(PartialEq, Eq, Debug, Drop)]
 pub enum InputError {
     /// N1: a text that is no JSON, as `{`.
     NotJson,
     /// N2: a value that is no object, as `[]`.
     NotAnObject,
-    /// N3: a member that names no array; the least name of those, in the order of bytes.
+    /// N3: a member that names no array, as in `{"z": []}`; the least name of those, in the order of bytes.
     UnknownArray { name: String },
-    /// N4 without a name: not one list for each array.
+    /// N4 without a name: not one list for each array, as in `Input::new(alloc, &typed, Vec::new(alloc))`.
     WrongNumberOfLists,
-    /// N4: an array that is given no list, or one of another length.
+    /// N4: an array that is given no list, as in `{"a": 1}`, or one of another length, as in `{"a": [1, 2]}`.
     WrongLength { name: String },
-    /// N5: an element that isn't written as a whole number, as `1.0`, or that the element type
-    /// doesn't hold, as 256 in a `byte`.
+    /// N5: an element that isn't written as a whole number, as in `{"a": [1.0]}`, or that the element type
+    /// doesn't hold, as in `{"a": [256]}`.
     WrongElement { name: String },
-    /// N6: want of memory.
+    /// N6: want of memory, as may be of `{}`.
     OutOfMemory,
 }
 

@@ -11,8 +11,11 @@ use task_machine::error::NoMemory;
 /// Why a worker ends a run, but for a ticket.
 #[derive(Drop)]
 pub enum Trouble {
+    /// Memory, as may be of `main { }`; a scope that has issued weight as often as is counted.
     OutOfMemory,
+    /// The results of tasks don't make a whole. No run is known that comes to it.
     Gather(GatherError),
+    /// A scope didn't take what was given back to it. No run is known that comes to it.
     Late,
 }
 
