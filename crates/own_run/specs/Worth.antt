@@ -46,10 +46,6 @@ around (Back env ∷ fs) = around fs
 abbrev pub lists : Standing Own → Lists
 lists t = record { inner = t.state.extra.pending; outer = around t.frames }
 
--- nothing, as at its beginning
-abbrev pub no_lists : Lists
-no_lists = record { inner = []; outer = [] }
-
 -- with one child more
 abbrev pub with_child : Child → Lists → Lists
 with_child c ls = record ls { inner = ls.inner ++ c ∷ [] }
