@@ -1,0 +1,51 @@
+#!/bin/sh
+# Looks whether each program in docs/COOKBOOK.md is that of examples/ which its heading names, without its comment, whether
+# each name there is a file, and whether `afx check` accepts the programs and says of those in examples/refused/ what the
+# page says. A line for each that is wrong; the last line is `N passed, M failed`. No part of the gate.
+#
+#     sh tests/cookbook.sh      AFX='./afx' names another program
+set -eu
+cd "$(dirname "$0")/.."
+afx=${AFX:-./afx}
+page=docs/COOKBOOK.md
+folder=$(mktemp -d)
+trap 'rm -rf "$folder"' EXIT
+passed=0
+failed=0
+
+# count WHAT CMD..: whether a command succeeds
+count() {
+    what=$1
+    shift
+    if "$@"; then passed=$((passed + 1)); else failed=$((failed + 1)) && echo "$what"; fi
+}
+
+# The programs of the page, each into a file of its heading's name.
+awk -v folder="$folder" '
+/^### / { split($0, parts, "`"); name = parts[2] }
+/^```/ { inside = !inside; next }
+inside { print >(folder "/" name ".afx") }' $page
+for file in "$folder"/*.afx; do
+    name=$(basename "$file")
+    grep -v '^//' "examples/$name" >"$folder/own" || true
+    count "$name isn't what stands in examples/" cmp -s "$file" "$folder/own"
+    count "$name is refused" $afx check "$file" >/dev/null
+done
+
+# The tables: a program, and in that of refused ones what is said of it.
+accepted() { $afx check "examples/$1.afx" >/dev/null; }
+refused() { ! $afx check "examples/refused/$1.afx" >/dev/null 2>"$folder/err" && [ "$(cat "$folder/err")" = "$2" ]; }
+for name in $(sed -n '/^## Kernels/,/^## Refused/s/^| \(`[^|]*`\) |.*/\1/p' $page | tr -d '`,'); do
+    count "$name is refused" accepted "$name"
+done
+sed -n '/^## Refused/,$s/^| `\([^`]*\)` | `\([^`]*\)` |.*/\1 \2/p' $page >"$folder/lines"
+while read -r name line; do
+    count "$name isn't refused so" refused "$name" "$line"
+done <"$folder/lines"
+for file in examples/refused/*.afx; do
+    name=$(basename "$file" .afx)
+    count "$name isn't on the page" grep -q "^$name " "$folder/lines"
+done
+
+echo "$passed passed, $failed failed"
+[ "$failed" -eq 0 ]
