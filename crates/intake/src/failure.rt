@@ -10,50 +10,65 @@ ghost use Rattle.intake.specs.Failures.{IsRaceOf, TellsNotUtf8, TellsRaceIn, Tel
 ghost use Rattle.intake.specs.Failures.{access_text, kind_of, section_text, told_procedure};
 ghost use Rattle.intake.specs.Failures.{section_name as name_of_section};
 
+use crate::escaped::Escaped;
 use gather::run_error::RunError;
 use race_checker::race::Race;
 use sections::id::SectionId;
 use std::alloc::{AllocError, Global};
 use syntax::error::SyntaxError;
+use thiserror::Error;
 use types::code::{Label, Procedure, Program};
 use types::error::TypeError;
 use types::ids::ProcedureId;
 use types::input_error::InputError;
 
-/// Why a command ended without its answer. `message::emit_message` writes its line.
-#[derive(Debug, Drop)]
+/// Why a command ended without its answer. `message::emit_message` writes its line, and its clause says which bytes; the
+/// same text by `Display` is what the derive makes of the words here.
+#[derive(Debug, Drop, Error)]
 pub enum Failure {
     /// `cannot read program.afx`
+    #[error("cannot read {}", Escaped(.name.as_str()))]
     CannotRead {
         name: String,
     },
     /// `not UTF-8 program.afx`
+    #[error("not UTF-8 {}", Escaped(.name.as_str()))]
     NotUtf8 {
         name: String,
     },
     /// `S2 at 1:13`
+    #[error(transparent)]
     Syntax(SyntaxError),
     /// `Y1 at label 2`
+    #[error(transparent)]
     Types(TypeError),
     /// `C1 race in main: 2 write a, 4 read a`
+    #[error("C1 race in {procedure}: {first}, {second}")]
     Race {
         procedure: String,
         first: String,
         second: String,
     },
     /// `C2`
+    #[error("C2")]
     NoMemoryInCheck,
     /// `N4 a`
+    #[error(transparent)]
     Input(InputError),
     /// `E1` to `E4`
+    #[error("{}", .0.code())]
     Run(RunError),
     /// `choices not understood`
+    #[error("choices not understood")]
     ChoicesNotUnderstood,
     /// `no leaf at choice 2`: the first choice that names none, numbered from 0
+    #[error("no leaf at choice {0}")]
     NoLeaf(usize),
     /// `cannot write output`
+    #[error("cannot write output")]
     CannotWriteOutput,
     /// `no memory`
+    #[error("no memory")]
     NoMemory,
 }
 

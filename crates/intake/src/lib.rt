@@ -3,6 +3,7 @@
 #![tactic(auto)]
 
 pub mod choices;
+pub mod escaped;
 pub mod failure;
 pub mod files;
 pub mod input_file;

@@ -3,6 +3,7 @@
 
 mod drawn_numbers;
 mod effects_of_programs;
+mod failures;
 mod held_places;
 mod inputs;
 mod meetings_of_programs;

@@ -1,0 +1,216 @@
+//! The lines of failures, as `emit_message` writes them and as `Display` shows them.
+
+use gather::error::GatherError;
+use gather::run_error::RunError;
+use intake::failure::Failure;
+use intake::message::emit_message;
+use std::alloc::Global;
+use std::process::Abort;
+use std::rt::HostRuntime;
+use syntax::error::SyntaxError;
+use syntax::place::Place;
+use tickets::Tickets;
+use types::error::TypeError;
+use types::input_error::InputError;
+use types::path::Path;
+
+const PLACE: Place = Place {
+    line: 1,
+    column: 13,
+};
+
+/// Failures that own nothing, and their lines.
+const PLAIN: &[(Plain, &str)] = &[
+    (
+        Plain::Syntax(SyntaxError::NotACharacter { place: PLACE }),
+        "S1 at 1:13",
+    ),
+    (
+        Plain::Syntax(SyntaxError::UnexpectedToken { place: PLACE }),
+        "S2 at 1:13",
+    ),
+    (
+        Plain::Syntax(SyntaxError::NumberTooLarge { place: PLACE }),
+        "S3 at 1:13",
+    ),
+    (
+        Plain::Syntax(SyntaxError::TooDeep { place: PLACE }),
+        "S4 at 1:13",
+    ),
+    (Plain::Syntax(SyntaxError::TooLong), "S5"),
+    (Plain::Syntax(SyntaxError::OutOfMemory), "S6"),
+    (
+        Plain::Types(TypeError::NotInScope { label: 2 }),
+        "Y1 at label 2",
+    ),
+    (
+        Plain::Types(TypeError::DeclaredTwice { label: Some(2) }),
+        "Y2 at label 2",
+    ),
+    (Plain::Types(TypeError::DeclaredTwice { label: None }), "Y2"),
+    (
+        Plain::Types(TypeError::WrongKind { label: 65_535 }),
+        "Y3 at label 65535",
+    ),
+    (
+        Plain::Types(TypeError::WrongArguments { label: 2 }),
+        "Y4 at label 2",
+    ),
+    (
+        Plain::Types(TypeError::AssignedOutsideAsync { label: 3 }),
+        "Y5 at label 3",
+    ),
+    (
+        Plain::Types(TypeError::ReadOnly { label: 1 }),
+        "Y6 at label 1",
+    ),
+    (
+        Plain::Types(TypeError::Overlapping { label: 2 }),
+        "Y7 at label 2",
+    ),
+    (Plain::Types(TypeError::NoMain), "Y8"),
+    (Plain::Types(TypeError::OverLimit), "Y9"),
+    (Plain::Types(TypeError::OutOfMemory), "Y10"),
+    (Plain::NoMemoryInCheck, "C2"),
+    (Plain::ChoicesNotUnderstood, "choices not understood"),
+    (Plain::NoLeaf(5), "no leaf at choice 5"),
+    (Plain::CannotWriteOutput, "cannot write output"),
+    (Plain::NoMemory, "no memory"),
+];
+
+/// A failure that owns nothing.
+#[derive(Clone, Copy)]
+enum Plain {
+    Syntax(SyntaxError),
+    Types(TypeError),
+    NoMemoryInCheck,
+    ChoicesNotUnderstood,
+    NoLeaf(usize),
+    CannotWriteOutput,
+    NoMemory,
+}
+
+/// The failure.
+fn failure_of(failure: Plain) -> Failure {
+    match failure {
+        Plain::Syntax(error) => Failure::Syntax(error),
+        Plain::Types(error) => Failure::Types(error),
+        Plain::NoMemoryInCheck => Failure::NoMemoryInCheck,
+        Plain::ChoicesNotUnderstood => Failure::ChoicesNotUnderstood,
+        Plain::NoLeaf(choice) => Failure::NoLeaf(choice),
+        Plain::CannotWriteOutput => Failure::CannotWriteOutput,
+        Plain::NoMemory => Failure::NoMemory,
+    }
+}
+
+/// A text of one's own.
+fn owned(rt: &impl Abort, alloc: Global, text: &str) -> String {
+    String::from_str(alloc, text).expect(rt, "memory")
+}
+
+/// The line of a failure is this one, and its `Display` shows the same.
+fn tells(rt: &impl Abort, alloc: Global, failure: &Failure, want: &str) {
+    let mut line = Vec::new(alloc);
+    emit_message(&mut line, failure).expect(rt, "memory");
+    let shown = format!(in alloc; "{failure}").expect(rt, "memory");
+    let wanted = format!(in alloc; "{want}\n").expect(rt, "memory");
+    assert!(rt; shown.as_str() == want, "shown: {shown}\nwant: {want}");
+    assert!(rt; line.as_slice() == wanted.as_bytes(), "not the line {want}");
+}
+
+#[test]
+fn lines_without_names(rt: HostRuntime) {
+    let alloc = rt.alloc();
+    for (failure, want) in PLAIN {
+        tells(&rt, alloc, &failure_of(*failure), want);
+    }
+}
+
+/// Whose a name is, and its line.
+const NAMED: &[(Named, &str, &str)] = &[
+    (Named::CannotRead, "a.afx", "cannot read a.afx"),
+    (
+        Named::CannotRead,
+        "\u{1b}[1m\u{7f}\n\u{e4}",
+        "cannot read \\x1b[1m\\x7f\\x0a\u{e4}",
+    ),
+    (Named::NotUtf8, "a.afx", "not UTF-8 a.afx"),
+    (Named::NotUtf8, "\t", "not UTF-8 \\x09"),
+    (Named::UnknownArray, "z", "N3 z"),
+    (Named::WrongLength, "a", "N4 a"),
+    (Named::WrongElement, "a", "N5 a"),
+];
+
+/// What is told with a name.
+#[derive(Clone, Copy)]
+enum Named {
+    CannotRead,
+    NotUtf8,
+    UnknownArray,
+    WrongLength,
+    WrongElement,
+}
+
+/// The failure of this name.
+fn failure_named(failure: Named, name: String) -> Failure {
+    match failure {
+        Named::CannotRead => Failure::CannotRead { name },
+        Named::NotUtf8 => Failure::NotUtf8 { name },
+        Named::UnknownArray => Failure::Input(InputError::UnknownArray { name }),
+        Named::WrongLength => Failure::Input(InputError::WrongLength { name }),
+        Named::WrongElement => Failure::Input(InputError::WrongElement { name }),
+    }
+}
+
+#[test]
+fn lines_with_names(rt: HostRuntime) {
+    let alloc = rt.alloc();
+    for (failure, name, want) in NAMED {
+        let failure = failure_named(*failure, owned(&rt, alloc, name));
+        tells(&rt, alloc, &failure, want);
+    }
+}
+
+#[test]
+fn lines_of_inputs_and_races(rt: HostRuntime) {
+    let alloc = rt.alloc();
+    tells(&rt, alloc, &Failure::Input(InputError::NotJson), "N1");
+    tells(&rt, alloc, &Failure::Input(InputError::NotAnObject), "N2");
+    tells(
+        &rt,
+        alloc,
+        &Failure::Input(InputError::WrongNumberOfLists),
+        "N4",
+    );
+    tells(&rt, alloc, &Failure::Input(InputError::OutOfMemory), "N6");
+    let race = Failure::Race {
+        procedure: owned(&rt, alloc, "main"),
+        first: owned(&rt, alloc, "2 write a"),
+        second: owned(&rt, alloc, "4 read a"),
+    };
+    tells(&rt, alloc, &race, "C1 race in main: 2 write a, 4 read a");
+}
+
+#[test]
+fn lines_of_runs(rt: HostRuntime) {
+    let alloc = rt.alloc();
+    let turns = Vec::from_slice(alloc, &[1]).expect(&rt, "memory");
+    let lost = RunError::Gather(GatherError::Lost(Path { turns }));
+    tells(&rt, alloc, &Failure::Run(RunError::OutOfMemory), "E1");
+    tells(&rt, alloc, &Failure::Run(lost), "E3");
+    tells(&rt, alloc, &Failure::Run(RunError::Late), "E4");
+}
+
+#[test]
+fn line_of_too_many_tasks(rt: HostRuntime) {
+    let alloc = rt.alloc();
+    let (tickets, mut seats) = Tickets::new(alloc, 1).expect(&rt, "memory");
+    let mut seat = seats.pop().expect(&rt, "a seat");
+    let ticket = tickets.draw(&mut seat);
+    tells(
+        &rt,
+        alloc,
+        &Failure::Run(RunError::TooManyTasks(ticket)),
+        "E2",
+    );
+}
