@@ -1,0 +1,46 @@
+#!/bin/sh
+# Runs the built program `afx` once for each exit status from 0 to 4, and compares its status, its standard output and its
+# standard error with what docs/FORMATS.md says of them: no clause says with which status `main` ends, and the gate runs
+# no program but those that end with 0. (No words are known that come to 5.) `./afx` proves and builds first where a
+# source is newer. A line tells of each run that went wrong; the last line is `N passed, M failed`, and the status is 1
+# where one did. No part of the gate.
+set -eu
+cd "$(dirname "$0")/.."
+room=$(mktemp -d)
+trap 'rm -rf "$room"' EXIT
+passed=0
+failed=0
+
+# expect STATUS OUT ERR WORD..: one run on these words, with the standard input of the call.
+expect() {
+    wanted=$1 out=$2 err=$3
+    shift 3
+    status=0
+    ./afx "$@" >"$room/out" 2>"$room/err" || status=$?
+    if [ "$status" = "$wanted" ] && [ "$(cat "$room/out")" = "$out" ] && [ "$(cat "$room/err")" = "$err" ]; then
+        passed=$((passed + 1))
+    else
+        failed=$((failed + 1))
+        echo "afx $*: status $status for $wanted, output '$(cat "$room/out")' for '$out'," \
+            "error '$(cat "$room/err")' for '$err'"
+    fi
+}
+
+# So that what is told while it is built is no part of what a run writes.
+echo 'main { }' | ./afx serial - >"$room/out"
+
+expect 0 '7 8' '' run examples/two_arrays.afx
+expect 1 '' 'C1 race in main: 2 write a, 4 read a' run examples/race.afx
+expect 2 '1
+fault 0.1 at 3: F6 7' '' run - <<'END'
+main { print 1; async { fault 7; } }
+END
+expect 3 'stopped' '' run - --steps 9 <<'END'
+main { while true { skip; } }
+END
+expect 4 '' 'E2' run - <<'END'
+main { var k = 0; while k < 65536 { async { skip; } k = k + 1; } }
+END
+
+echo "$passed passed, $failed failed"
+[ "$failed" -eq 0 ]
