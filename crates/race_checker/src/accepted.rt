@@ -29,7 +29,7 @@ impl Accepted {
     /// What its procedures do and leave pending.
     pub fn summaries(&self) -> &Summaries
         ensures field { result.now ≡ self.now.summaries }
-        ensures exact { ∥ AreSummaries (code_of self.now.typed) result.now ∥₁ }
+        ensures exact { AreSummaries (code_of self.now.typed) result.now }
     {
         &self.summaries
     }

@@ -15,8 +15,8 @@ returns-in-Some c =
     let found : option_map needs (option_copied c.needs.result) ≡ Some (needs c.in-Some.needs.now)
     = ap (λ o. option_map needs (option_copied o)) c.in-Some.is in
     ap (map section) c.deref.ensures.value
-    ∙ found_list p c.summaries.result.now c.summaries.ensures.exact c.args.label body c.requires (needs c.in-Some.needs.now)
-    (λ n. n.reads) (λ e. subst (IsNeedAt p c.args.label) found (c.needs.ensures p e))
+    ∙ found_list p c.args.label body c.requires (needs c.in-Some.needs.now) (λ n. n.reads)
+    (subst (IsNeedAt p c.args.label) found (c.needs.ensures p c.summaries.ensures.exact))
 
 pub returns-in-None : goal.returns-in-None
 returns-in-None c =
@@ -24,5 +24,5 @@ returns-in-None c =
     let body = codes c.args._body.now in
     let found : option_map needs (option_copied c.needs.result) ≡ None
     = ap (λ o. option_map needs (option_copied o)) c.in-None.is in
-    absurd (never_none p c.summaries.result.now c.summaries.ensures.exact c.args.label body c.requires
-    (λ e. subst (IsNeedAt p c.args.label) found (c.needs.ensures p e)))
+    absurd (never_none p c.args.label body c.requires
+    (subst (IsNeedAt p c.args.label) found (c.needs.ensures p c.summaries.ensures.exact)))
