@@ -16,7 +16,7 @@ use Rattle.race_checker.proofs.Calming.{is_calm}
 use Rattle.own_run.specs.Apart.{apart_outcome}
 use Rattle.own_run.specs.Results.{TaskResult, Settled}
 use Rattle.own_run.specs.OwnRun.{Start, Own, result_of}
-use Rattle.own_run.specs.Given.{own, comes_to, below, IsOwn, root_of, told_of}
+use Rattle.own_run.specs.Given.{own, comes_to, below, IsOfOwnRun, IsOwn, root_of, told_of}
 use Rattle.own_run.specs.Frames.{Standing}
 use Rattle.own_run.specs.Holds.{MayBegin}
 use Rattle.own_run.specs.Reached.{Reached, IsResult, HasNext, CanSettle, CanEnd}
@@ -28,7 +28,7 @@ use Rattle.own_run.proofs.SettledResults.{told_apart, settled_outcome}
 use Rattle.own_run.proofs.HoldingTurns.{root_begins}
 use Rattle.own_run.proofs.TasksEnd.{all_settle}
 use Rattle.own_run.proofs.NeverStuck.{can_leave, can_end}
-use Rattle.own_run.proofs.ReachedTasks.{has_next, is_parted, ends_own, root_ends}
+use Rattle.own_run.proofs.ReachedTasks.{has_next, is_parted, ends_of_own_run, ends_own, root_ends}
 
 pub provides_needs : (p : Program) → IsSound p → Provides p (needs_of p)
 provides_needs p sound = provides p (summaries p) (summaries_derived p) (summaries_stable p sound)
@@ -54,6 +54,12 @@ module _ (p : Program) (sound : IsSound p) (accepted : IsAccepted p) (input : Li
 
     pub parted : (s : Start) (t : Standing Own) → Reached p (needs_of p) b.steps (root_of p input b.nest) s t → IsParted (result_of t.state)
     parted = is_parted p (needs_of p) (is_scoped p sound) (is_calm p sound accepted) (provides_needs p sound) b.steps
+        (root_of p input b.nest) refl may_begin
+
+    pub results_of_own_runs : (r : TaskResult) → IsResult p (needs_of p) b.steps (root_of p input b.nest) r
+        → IsOfOwnRun p (needs_of p) b.steps (root_of p input b.nest) r
+    results_of_own_runs =
+        ends_of_own_run p (needs_of p) (is_scoped p sound) (is_calm p sound accepted) (provides_needs p sound) b.steps
         (root_of p input b.nest) refl may_begin
 
     pub results_own : (r : TaskResult) → IsResult p (needs_of p) b.steps (root_of p input b.nest) r

@@ -8,13 +8,13 @@ use Rattle.race_checker.specs.Scope.{IsScoped}
 use Rattle.race_checker.specs.Calm.{IsCalm}
 use Rattle.own_run.specs.Results.{TaskResult}
 use Rattle.own_run.specs.OwnRun.{Start, Own, result_of}
-use Rattle.own_run.specs.Given.{own, given, in_truth, IsOwn}
+use Rattle.own_run.specs.Given.{own, given, in_truth, IsOfOwnRun, IsOwn}
 use Rattle.own_run.specs.Frames.{Frame, Rest, Again, AtEnd, Back, Standing, IsTask, IsGivenChild}
 use Rattle.own_run.specs.Holds.{MayBegin, Carries, Holds}
 use Rattle.own_run.specs.Reached.{Reached, root_begins, child_begins, turns, leaves, IsResult, HasNeedsOf, HasNext}
 use Rattle.own_run.specs.Lists.{Each}
 use Rattle.own_run.specs.Settling.{IsParted}
-use Rattle.own_run.proofs.TaskRuns.{begins_task, turns_task, lists_given, leaves_task, ends_task}
+use Rattle.own_run.proofs.TaskRuns.{begins_task, turns_task, lists_given, leaves_task, ends_task, of_own_run}
 use Rattle.own_run.proofs.HoldingTurns.{turn_holds, handed_holds, first_has, again_has, async_has, begin_holds}
 
 pub each_member : {A : Type 0} (P : A → Type 0) (x : A) (xs : List A) → Each P xs → Member x xs → P x
@@ -87,6 +87,10 @@ module _ (p : Program) (needs : Codes → Needs) (scoped : IsScoped p) (calm : I
 
     pub is_parted : (s : Start) (t : Standing Own) → Reached p needs fresh root s t → IsParted (result_of t.state)
     is_parted s t r = (goes r).holds.parted
+
+    pub ends_of_own_run : (r : TaskResult) → IsResult p needs fresh root r → IsOfOwnRun p needs fresh root r
+    ends_of_own_run r k =
+        subst (IsOfOwnRun p needs fresh root) (sym k.is) (of_own_run p needs fresh root k.start k.state (goes k.ended).task)
 
     pub ends_own : (r : TaskResult) → IsResult p needs fresh root r → IsOwn p needs fresh root r
     ends_own r k = subst (IsOwn p needs fresh root) (sym k.is) (ends_task p needs fresh root k.start k.state (goes k.ended).task)

@@ -10,7 +10,7 @@ use Rattle.own_run.specs.Apart.{is_stopped}
 use Rattle.own_run.specs.Results.{TaskResult, Settled, none_yet, complete, and_then}
 use Rattle.own_run.specs.OwnRun.{Start, Action, Own, EndFinish, at_first, notes, result_of, leave_with, own_rules}
 use Rattle.own_run.specs.OwnRun.{begun_by, beginning, from_receipts, run_by}
-use Rattle.own_run.specs.Given.{filled, in_truth, own, given, IsOwn}
+use Rattle.own_run.specs.Given.{filled, in_truth, own, given, IsOfOwnRun, IsOwn}
 use Rattle.own_run.specs.Frames.{Frame, Rest, Again, AtEnd, Back, Standing, resume, paid, by_flow, turn, handed}
 use Rattle.own_run.specs.Frames.{IsBegun, HasBegun, HasBegunBelow, IsGivenChild, IsTask, Follows}
 use Rattle.own_run.specs.Settling.{settle}
@@ -26,6 +26,10 @@ asleep true w e = e
 asleep false w e = refl
 
 module _ (p : Program) (needs : Codes → Needs) (fresh : ℕ) (root : Start) where
+  -- what is of a task's own run is so for whatever start its path is given
+  pub own_if_given : (r : TaskResult) → IsOfOwnRun p needs fresh root r → IsOwn p needs fresh root r
+  own_if_given r k s e = k.is ∙ ap (λ s. result_of (own p needs fresh s)) (same_Some _ _ (sym k.of_path ∙ e))
+
   -- where it is awake, a finish ends with what is handed over
   leaves : (nest : ℕ) (close : State Own → Option Settled) (before st : State Own) (x : Settled) → st.extra.waits ≡ false
       → close st ≡ Some x
@@ -135,11 +139,17 @@ module _ (p : Program) (needs : Codes → Needs) (fresh : ℕ) (root : Start) wh
         (part_sound p needs fresh root st.extra.pending (lists_given (AtEnd before ∷ fs) st h) (result_of st) refl rs all x e)
 
     -- its end
+    pub of_own_run : (st : State Own) → IsTask p needs fresh root s (record { frames = []; state = st })
+        → IsOfOwnRun p needs fresh root (result_of st)
+    of_own_run st h = record {
+      start = s;
+      of_path = ap (given p needs fresh root) h.path ∙ h.comes;
+      is = ap result_of h.runs;
+    }
+
     pub ends_task : (st : State Own) → IsTask p needs fresh root s (record { frames = []; state = st })
         → IsOwn p needs fresh root (result_of st)
-    ends_task st h t e =
-        ap result_of h.runs ∙ ap (λ s. result_of (own p needs fresh s))
-        (same_Some _ _ (sym h.comes ∙ ap (given p needs fresh root) (sym h.path) ∙ e))
+    ends_task st h = own_if_given (result_of st) (of_own_run st h)
 
     -- ---- by receipts
     pub begins_follow : Follows p needs fresh root s [] (record { frames = Rest s.body ∷ []; state = beginning (at_first s.owned) fresh s })

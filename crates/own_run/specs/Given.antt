@@ -36,7 +36,13 @@ module _ (p : Program) (needs : Codes → Needs) (fresh : ℕ) where
   given s [] = Some s
   given s (k ∷ path) = and_then (kth k (begun_by (own s).extra.actions)) (λ c. given c path)
 
-  -- a result is what its task has at the end of its own run
+  -- a result is that of a task: its path is given a start, and the task's own run has it at its end
+  pub record IsOfOwnRun (root : Start) (r : TaskResult) : Type 0 where
+    pub start : Start
+    pub of_path : given root r.path ≡ Some start
+    pub is : r ≡ result_of (own start)
+
+  -- a result is what its task has at the end of its own run, if its path is given a start
   abbrev pub IsOwn : Start → TaskResult → Type 0
   IsOwn root r = (s : Start) → given root r.path ≡ Some s → r ≡ result_of (own s)
 

@@ -20,7 +20,7 @@ ghost use Rattle.own_run.specs.OwnRun.{Start, Own, at_first, beginning, result_o
 ghost use Rattle.own_run.specs.OwnRun.{next_action, last_action, Action, EndFinish, is_waiting};
 ghost use Rattle.own_run.specs.OwnRun.{run_by};
 ghost use Rattle.own_run.specs.Given.{own, given, in_truth, comes_to, below, IsOwn, root_of};
-ghost use Rattle.own_run.specs.Given.{told_of};
+ghost use Rattle.own_run.specs.Given.{IsOfOwnRun, told_of};
 ghost use Rattle.own_run.specs.Frames.{Frame, Rest, Again, AtEnd, Standing, turn, handed};
 ghost use Rattle.own_run.specs.Frames.{HasBegun, HasBegunBelow, IsGivenChild, IsTask, Follows};
 ghost use Rattle.own_run.specs.Frames.{done_in};
@@ -78,7 +78,8 @@ pub fn tasks_of_accepted_programs_miss_no_place()
         → IsParted (result_of t.state) }
     ensures own { (p : Program) → IsSound p → IsAccepted p
         → (input : List (List ℤ)) (b : Budget) → FitsArrays p.arrays input
-        → (r : TaskResult) → IsTaskResult p input b r → IsOwnResult p input b r }
+        → (r : TaskResult) → IsTaskResult p input b r
+        → IsOfOwnRun p (needs_of p) b.steps (root p input b) r }
     ensures told { (p : Program) → IsSound p → IsAccepted p
         → (input : List (List ℤ)) (b : Budget) → FitsArrays p.arrays input
         → (st : State Own)
@@ -164,7 +165,9 @@ pub fn tasks_are_own_runs()
         → IsTask p needs fresh root s (record { frames = fs; state = handed before x st }) }
     ensures ends { (p : Program) (needs : Codes → Needs) (fresh : ℕ) (root s : Start)
         → (st : State Own) → IsTask p needs fresh root s (record { frames = []; state = st })
-        → IsOwn p needs fresh root (result_of st) }
+        → IsOfOwnRun p needs fresh root (result_of st) }
+    ensures tells { (p : Program) (needs : Codes → Needs) (fresh : ℕ) (root : Start)
+        → (r : TaskResult) → IsOfOwnRun p needs fresh root r → IsOwn p needs fresh root r }
 {}
 
 /// For all later receipts the own run of a task's start is what it has so far, followed by the own
