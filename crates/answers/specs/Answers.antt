@@ -218,7 +218,7 @@ Explains c s held text (Race procedure first second) =
     TellsRaceTo c text (string_bytes procedure) (string_bytes first) (string_bytes second)
 Explains c s held text NoMemoryInCheck = LooksForRaces c
 Explains c s held text (Input e) = LacksInput c s held text (Input e)
-Explains c s held text (RunFailed e) = (c ≡ Run) × IsCause 65536 e
+Explains c s held text (RunFailed e) = (c ≡ Run) × IsCause s.spread.tasks e
 Explains c s held text ChoicesNotUnderstood = LacksChoices c s held text ChoicesNotUnderstood
 Explains c s held text (NoLeaf n) = LacksLeaf c s held text n
 Explains c s held text CannotWriteOutput = Unit {0}

@@ -12,10 +12,12 @@ use Rattle.command_line.specs.declared.plain.Line.{Line as rLine}
 use Rattle.command_line.specs.declared.request.Command.{Command}
 use Rattle.command_line.specs.declared.request.Command.TheVariants.{Run, Serial, Check, Listing, Pairs, Explore}
 use Rattle.command_line.specs.declared.request.Settings.{Settings as rSettings}
-use Rattle.command_line.specs.Reading.{Line, bare, line_of, read, read_choosing, read_explore, read_file, read_run, read_texts}
-use Rattle.command_line.specs.Requests.{AreRight, Asked, Asks, Options, Settings, Texts, is_file_name, optioned, plain, settings_by}
+use Rattle.command_line.specs.Reading.{Line, bare, flag_taken, line_of, no_texts, read, read_choosing, read_file, read_whole}
+use Rattle.command_line.specs.Reading.{read_optioned, read_serial_texts, read_texts, taken}
+use Rattle.command_line.specs.Requests.{AreForExplore, AreForRun, AreForSerial, AreRight, Asked, Asks, Options, Settings, Texts}
+use Rattle.command_line.specs.Requests.{is_file_name, optioned, plain, settings_by, flagged, valued}
 use Rattle.command_line.specs.Requests.{Choosing, Listed, InFile, Random, IsRightChoosing, choosing_words_of, file_of, list_of}
-use Rattle.command_line.specs.Requests.{seed_of, texts_by, words_of}
+use Rattle.command_line.specs.Requests.{seed_of, serial_words_of, texts_by, words_of}
 use Rattle.command_line.specs.Requests.{by_no_word, to_run, to_run_on_one_thread, to_check, to_list, to_list_behind, to_pair, to_explore}
 
 if_true : {A : Type 0} (b : Bool) (x y : A) → b ≡ true → (if b then x else y) ≡ x
@@ -24,85 +26,331 @@ if_true b x y e = ap (λ (c : Bool). if c then x else y) e
 if_false : {A : Type 0} (b : Bool) (x y : A) → b ≡ false → (if b then x else y) ≡ y
 if_false b x y e = ap (λ (c : Bool). if c then x else y) e
 
-abbrev texts_with : (input steps nest : Option (List ℕ)) (choices : Option Choosing) (arrays : Bool) → Texts
-texts_with input steps nest choices arrays = record {
-  input = input;
-  steps = steps;
-  nest = nest;
-  choices = list_of choices;
-  choices_from = file_of choices;
-  random = option_map decimal (seed_of choices);
-  arrays = arrays;
-}
+-- ---- options in their order
 
--- the words of options are read as these options
-read_words : (input steps nest : Option (List ℕ)) (arrays : Bool)
-    → read_texts (words_of (texts_with input steps nest None arrays)) ≡ Some (texts_with input steps nest None arrays)
-read_words (Some i) (Some s) (Some n) true = refl
-read_words (Some i) (Some s) (Some n) false = refl
-read_words (Some i) (Some s) None true = refl
-read_words (Some i) (Some s) None false = refl
-read_words (Some i) None (Some n) true = refl
-read_words (Some i) None (Some n) false = refl
-read_words (Some i) None None true = refl
-read_words (Some i) None None false = refl
-read_words None (Some s) (Some n) true = refl
-read_words None (Some s) (Some n) false = refl
-read_words None (Some s) None true = refl
-read_words None (Some s) None false = refl
-read_words None None (Some n) true = refl
-read_words None None (Some n) false = refl
-read_words None None None true = refl
-read_words None None None false = refl
+-- these words don't begin with an option and its value
+abbrev Lacks : (option : List ℕ) → List (List ℕ) → Type 0
+Lacks option words = taken option words ≡ (None, words)
 
-read_option_words : (o : Options) → o.choices ≡ None → read_texts (words_of (texts_by o)) ≡ Some (texts_by o)
-read_option_words o none =
-    read_words o.input (option_map decimal o.steps) (option_map decimal o.nest) o.arrays
-    ∙ ap (λ (c : Option Choosing). Some (texts_with o.input (option_map decimal o.steps) (option_map decimal o.nest) c o.arrays))
-    (sym none)
+abbrev LacksFlag : (option : List ℕ) → List (List ℕ) → Type 0
+LacksFlag option words = flag_taken option words ≡ (false, words)
 
--- and those of a run by choices
-read_choosing_words : (input : Option (List ℕ)) (choices : Option Choosing) (arrays : Bool)
-    → read_choosing (choosing_words_of (texts_with input None None choices arrays))
-    ≡ Some (texts_with input None None choices arrays)
-read_choosing_words (Some i) None true = refl
-read_choosing_words (Some i) None false = refl
-read_choosing_words (Some i) (Some (Listed c)) true = refl
-read_choosing_words (Some i) (Some (Listed c)) false = refl
-read_choosing_words (Some i) (Some (InFile c)) true = refl
-read_choosing_words (Some i) (Some (InFile c)) false = refl
-read_choosing_words (Some i) (Some (Random c)) true = refl
-read_choosing_words (Some i) (Some (Random c)) false = refl
-read_choosing_words None None true = refl
-read_choosing_words None None false = refl
-read_choosing_words None (Some (Listed c)) true = refl
-read_choosing_words None (Some (Listed c)) false = refl
-read_choosing_words None (Some (InFile c)) true = refl
-read_choosing_words None (Some (InFile c)) false = refl
-read_choosing_words None (Some (Random c)) true = refl
-read_choosing_words None (Some (Random c)) false = refl
+lacks_valued : (option other : List ℕ) (value : Option (List ℕ)) (behind : List (List ℕ)) → bytes_eq other option ≡ false
+    → Lacks option behind → Lacks option (valued other value behind)
+lacks_valued option other None behind differs lacks = lacks
+lacks_valued option other (Some value) behind differs lacks = if_false (bytes_eq other option) _ _ differs
 
-read_choosing_option_words : (o : Options) → o.steps ≡ None → o.nest ≡ None
-    → read_choosing (choosing_words_of (texts_by o)) ≡ Some (texts_by o)
-read_choosing_option_words o no_steps no_nest =
-    read_choosing_words o.input o.choices o.arrays
-    ∙ ap (λ (s : Option ℕ). Some (texts_with o.input (option_map decimal s) None o.choices o.arrays)) (sym no_steps)
-    ∙ ap (λ (n : Option ℕ). Some (texts_with o.input (option_map decimal o.steps) (option_map decimal n) o.choices o.arrays))
-    (sym no_nest)
+lacks_flagged : (option other : List ℕ) (b : Bool) (behind : List (List ℕ)) → bytes_eq other option ≡ false
+    → Lacks option behind → Lacks option (flagged other b behind)
+lacks_flagged option other false behind differs lacks = lacks
+lacks_flagged option other true [] differs lacks = refl
+lacks_flagged option other true (word ∷ behind) differs lacks = if_false (bytes_eq other option) _ _ differs
+
+lacks_flag : (option other : List ℕ) (b : Bool) → bytes_eq other option ≡ false → LacksFlag option (flagged other b [])
+lacks_flag option other false differs = refl
+lacks_flag option other true differs = if_false (bytes_eq other option) _ _ differs
+
+takes : (option : List ℕ) (value : Option (List ℕ)) (behind : List (List ℕ)) → bytes_eq option option ≡ true
+    → Lacks option behind → taken option (valued option value behind) ≡ (value, behind)
+takes option None behind same lacks = lacks
+takes option (Some value) behind same lacks = if_true (bytes_eq option option) _ _ same
+
+takes_flag : (option : List ℕ) (b : Bool) (behind : List (List ℕ)) → bytes_eq option option ≡ true
+    → LacksFlag option behind → flag_taken option (flagged option b behind) ≡ (b, behind)
+takes_flag option false behind same lacks = lacks
+takes_flag option true behind same lacks = if_true (bytes_eq option option) _ _ same
+
+-- reading goes on with what was taken
+goes : {A : Type 0} (option : List ℕ) (words : List (List ℕ)) (value : Option (List ℕ)) (behind : List (List ℕ))
+    (on : Option (List ℕ) → List (List ℕ) → A) → taken option words ≡ (value, behind)
+    → on (taken option words).0 (taken option words).1 ≡ on value behind
+goes option words value behind on is = ap (λ (t : Option (List ℕ) × List (List ℕ)). on t.0 t.1) is
+
+goes_flag : {A : Type 0} (option : List ℕ) (words : List (List ℕ)) (b : Bool) (behind : List (List ℕ))
+    (on : Bool → List (List ℕ) → A) → flag_taken option words ≡ (b, behind)
+    → on (flag_taken option words).0 (flag_taken option words).1 ≡ on b behind
+goes_flag option words b behind on is = ap (λ (t : Bool × List (List ℕ)). on t.0 t.1) is
+
+-- what stands behind options doesn't begin with another one
+abbrev Differ : (others : List (List ℕ)) → (option : List ℕ) → Type 0
+Differ [] option = Unit {0}
+Differ (other ∷ others) option = (bytes_eq other option ≡ false) × Differ others option
+
+-- how each reading goes on behind an option
+abbrev from_arrays : (input steps nest tasks w0 workers : Option (List ℕ)) → Bool → List (List ℕ) → Option Texts
+from_arrays input steps nest tasks w0 workers arrays words =
+    read_whole (record no_texts { input = input; steps = steps; nest = nest; tasks = tasks; w0 = w0; workers = workers; arrays = arrays }) words
+
+abbrev from_workers : (input steps nest tasks w0 : Option (List ℕ)) → Option (List ℕ) → List (List ℕ) → Option Texts
+from_workers input steps nest tasks w0 workers words =
+    let t = flag_taken (codes "--arrays") words in from_arrays input steps nest tasks w0 workers t.0 t.1
+
+abbrev from_w0 : (input steps nest tasks : Option (List ℕ)) → Option (List ℕ) → List (List ℕ) → Option Texts
+from_w0 input steps nest tasks w0 words =
+    let t = taken (codes "--workers") words in from_workers input steps nest tasks w0 t.0 t.1
+
+abbrev from_tasks : (input steps nest : Option (List ℕ)) → Option (List ℕ) → List (List ℕ) → Option Texts
+from_tasks input steps nest tasks words =
+    let t = taken (codes "--w0") words in from_w0 input steps nest tasks t.0 t.1
+
+abbrev from_nest : (input steps : Option (List ℕ)) → Option (List ℕ) → List (List ℕ) → Option Texts
+from_nest input steps nest words =
+    let t = taken (codes "--tasks") words in from_tasks input steps nest t.0 t.1
+
+abbrev from_steps : (input : Option (List ℕ)) → Option (List ℕ) → List (List ℕ) → Option Texts
+from_steps input steps words =
+    let t = taken (codes "--nest") words in from_nest input steps t.0 t.1
+
+abbrev from_input : Option (List ℕ) → List (List ℕ) → Option Texts
+from_input input words =
+    let t = taken (codes "--steps") words in from_steps input t.0 t.1
+
+abbrev serial_from_progress : (input steps nest : Option (List ℕ)) (arrays : Bool) → Bool → List (List ℕ) → Option Texts
+serial_from_progress input steps nest arrays progress words =
+    read_whole (record no_texts { input = input; steps = steps; nest = nest; arrays = arrays; progress = progress }) words
+
+abbrev serial_from_arrays : (input steps nest : Option (List ℕ)) → Bool → List (List ℕ) → Option Texts
+serial_from_arrays input steps nest arrays words =
+    let t = flag_taken (codes "--progress") words in serial_from_progress input steps nest arrays t.0 t.1
+
+abbrev serial_from_nest : (input steps : Option (List ℕ)) → Option (List ℕ) → List (List ℕ) → Option Texts
+serial_from_nest input steps nest words =
+    let t = flag_taken (codes "--arrays") words in serial_from_arrays input steps nest t.0 t.1
+
+abbrev serial_from_steps : (input : Option (List ℕ)) → Option (List ℕ) → List (List ℕ) → Option Texts
+serial_from_steps input steps words =
+    let t = taken (codes "--nest") words in serial_from_nest input steps t.0 t.1
+
+abbrev serial_from_input : Option (List ℕ) → List (List ℕ) → Option Texts
+serial_from_input input words =
+    let t = taken (codes "--steps") words in serial_from_steps input t.0 t.1
+
+abbrev choosing_from_arrays : (input list file random : Option (List ℕ)) → Bool → List (List ℕ) → Option Texts
+choosing_from_arrays input list file random arrays words =
+    read_whole (record no_texts { input = input; choices = list; choices_from = file; random = random; arrays = arrays }) words
+
+abbrev choosing_from_random : (input list file : Option (List ℕ)) → Option (List ℕ) → List (List ℕ) → Option Texts
+choosing_from_random input list file random words =
+    let t = flag_taken (codes "--arrays") words in choosing_from_arrays input list file random t.0 t.1
+
+abbrev choosing_from_file : (input list : Option (List ℕ)) → Option (List ℕ) → List (List ℕ) → Option Texts
+choosing_from_file input list file words =
+    let t = taken (codes "--random") words in choosing_from_random input list file t.0 t.1
+
+abbrev choosing_from_list : (input : Option (List ℕ)) → Option (List ℕ) → List (List ℕ) → Option Texts
+choosing_from_list input list words =
+    let t = taken (codes "--choices-from") words in choosing_from_file input list t.0 t.1
+
+abbrev choosing_from_input : Option (List ℕ) → List (List ℕ) → Option Texts
+choosing_from_input input words =
+    let t = taken (codes "--choices") words in choosing_from_list input t.0 t.1
+
+module _ (arrays : Bool) where
+  abbrev arrays_words : List (List ℕ)
+  arrays_words = flagged (codes "--arrays") arrays []
+
+  module _ (tasks w0 workers : Option (List ℕ)) where
+    abbrev workers_words : List (List ℕ)
+    workers_words = valued (codes "--workers") workers arrays_words
+
+    abbrev w0_words : List (List ℕ)
+    w0_words = valued (codes "--w0") w0 workers_words
+
+    abbrev tasks_words : List (List ℕ)
+    tasks_words = valued (codes "--tasks") tasks w0_words
+
+    lacks_workers : (option : List ℕ) → Differ (codes "--arrays" ∷ codes "--workers" ∷ []) option
+        → Lacks option workers_words
+    lacks_workers option differ =
+        lacks_valued option (codes "--workers") workers arrays_words differ.1.0
+        (lacks_flagged option (codes "--arrays") arrays [] differ.0 refl)
+
+    lacks_w0 : (option : List ℕ) → Differ (codes "--w0" ∷ codes "--arrays" ∷ codes "--workers" ∷ []) option
+        → Lacks option w0_words
+    lacks_w0 option differ =
+        lacks_valued option (codes "--w0") w0 workers_words differ.0 (lacks_workers option differ.1)
+
+    lacks_tasks : (option : List ℕ)
+        → Differ (codes "--tasks" ∷ codes "--w0" ∷ codes "--arrays" ∷ codes "--workers" ∷ []) option
+        → Lacks option tasks_words
+    lacks_tasks option differ =
+        lacks_valued option (codes "--tasks") tasks w0_words differ.0 (lacks_w0 option differ.1)
+
+    -- the words of options of a run as tasks are read as these options
+    read_words : (input steps nest : Option (List ℕ))
+        → (let t : Texts = record no_texts {
+          input = input;
+          steps = steps;
+          nest = nest;
+          tasks = tasks;
+          w0 = w0;
+          workers = workers;
+          arrays = arrays;
+        } in read_texts (words_of t) ≡ Some t)
+    read_words input steps nest =
+        let nest_words = valued (codes "--nest") nest tasks_words in
+        let steps_words = valued (codes "--steps") steps nest_words in
+        goes (codes "--input") (valued (codes "--input") input steps_words) input steps_words from_input
+        (takes (codes "--input") input steps_words refl
+        (lacks_valued (codes "--input") (codes "--steps") steps nest_words refl
+        (lacks_valued (codes "--input") (codes "--nest") nest tasks_words refl
+        (lacks_tasks (codes "--input") (refl, (refl, (refl, (refl, tt))))))))
+        ∙ goes (codes "--steps") steps_words steps nest_words (from_steps input)
+        (takes (codes "--steps") steps nest_words refl
+        (lacks_valued (codes "--steps") (codes "--nest") nest tasks_words refl
+        (lacks_tasks (codes "--steps") (refl, (refl, (refl, (refl, tt)))))))
+        ∙ goes (codes "--nest") nest_words nest tasks_words (from_nest input steps)
+        (takes (codes "--nest") nest tasks_words refl (lacks_tasks (codes "--nest") (refl, (refl, (refl, (refl, tt))))))
+        ∙ goes (codes "--tasks") tasks_words tasks w0_words (from_tasks input steps nest)
+        (takes (codes "--tasks") tasks w0_words refl (lacks_w0 (codes "--tasks") (refl, (refl, (refl, tt)))))
+        ∙ goes (codes "--w0") w0_words w0 workers_words (from_w0 input steps nest tasks)
+        (takes (codes "--w0") w0 workers_words refl (lacks_workers (codes "--w0") (refl, (refl, tt))))
+        ∙ goes (codes "--workers") workers_words workers arrays_words (from_workers input steps nest tasks w0)
+        (takes (codes "--workers") workers arrays_words refl
+        (lacks_flagged (codes "--workers") (codes "--arrays") arrays [] refl refl))
+        ∙ goes_flag (codes "--arrays") arrays_words arrays [] (from_arrays input steps nest tasks w0 workers)
+        (takes_flag (codes "--arrays") arrays [] refl refl)
+
+  -- those of a run by choices
+  read_choosing_words : (input : Option (List ℕ)) (choices : Option Choosing)
+      → (let t : Texts = record no_texts {
+        input = input;
+        choices = list_of choices;
+        choices_from = file_of choices;
+        random = option_map decimal (seed_of choices);
+        arrays = arrays;
+      } in read_choosing (choosing_words_of t) ≡ Some t)
+  read_choosing_words input choices =
+      let random = option_map decimal (seed_of choices) in
+      let random_words = valued (codes "--random") random arrays_words in
+      let file_words = valued (codes "--choices-from") (file_of choices) random_words in
+      let list_words = valued (codes "--choices") (list_of choices) file_words in
+      goes (codes "--input") (valued (codes "--input") input list_words) input list_words choosing_from_input
+      (takes (codes "--input") input list_words refl
+      (lacks_valued (codes "--input") (codes "--choices") (list_of choices) file_words refl
+      (lacks_valued (codes "--input") (codes "--choices-from") (file_of choices) random_words refl
+      (lacks_valued (codes "--input") (codes "--random") random arrays_words refl
+      (lacks_flagged (codes "--input") (codes "--arrays") arrays [] refl refl)))))
+      ∙ goes (codes "--choices") list_words (list_of choices) file_words (choosing_from_list input)
+      (takes (codes "--choices") (list_of choices) file_words refl
+      (lacks_valued (codes "--choices") (codes "--choices-from") (file_of choices) random_words refl
+      (lacks_valued (codes "--choices") (codes "--random") random arrays_words refl
+      (lacks_flagged (codes "--choices") (codes "--arrays") arrays [] refl refl))))
+      ∙ goes (codes "--choices-from") file_words (file_of choices) random_words (choosing_from_file input (list_of choices))
+      (takes (codes "--choices-from") (file_of choices) random_words refl
+      (lacks_valued (codes "--choices-from") (codes "--random") random arrays_words refl
+      (lacks_flagged (codes "--choices-from") (codes "--arrays") arrays [] refl refl)))
+      ∙ goes (codes "--random") random_words random arrays_words
+      (choosing_from_random input (list_of choices) (file_of choices))
+      (takes (codes "--random") random arrays_words refl
+      (lacks_flagged (codes "--random") (codes "--arrays") arrays [] refl refl))
+      ∙ goes_flag (codes "--arrays") arrays_words arrays []
+      (choosing_from_arrays input (list_of choices) (file_of choices) random)
+      (takes_flag (codes "--arrays") arrays [] refl refl)
+
+  module _ (progress : Bool) where
+    abbrev flags_words : List (List ℕ)
+    flags_words = flagged (codes "--arrays") arrays (flagged (codes "--progress") progress [])
+
+    lacks_flags : (option : List ℕ) → Differ (codes "--progress" ∷ codes "--arrays" ∷ []) option
+        → Lacks option flags_words
+    lacks_flags option differ =
+        lacks_flagged option (codes "--arrays") arrays (flagged (codes "--progress") progress []) differ.1.0
+        (lacks_flagged option (codes "--progress") progress [] differ.0 refl)
+
+    -- those of a run on one thread
+    read_serial_words : (input steps nest : Option (List ℕ))
+        → (let t : Texts = record no_texts {
+          input = input;
+          steps = steps;
+          nest = nest;
+          arrays = arrays;
+          progress = progress;
+        } in read_serial_texts (serial_words_of t) ≡ Some t)
+    read_serial_words input steps nest =
+        let nest_words = valued (codes "--nest") nest flags_words in
+        let steps_words = valued (codes "--steps") steps nest_words in
+        goes (codes "--input") (valued (codes "--input") input steps_words) input steps_words serial_from_input
+        (takes (codes "--input") input steps_words refl
+        (lacks_valued (codes "--input") (codes "--steps") steps nest_words refl
+        (lacks_valued (codes "--input") (codes "--nest") nest flags_words refl
+        (lacks_flags (codes "--input") (refl, (refl, tt))))))
+        ∙ goes (codes "--steps") steps_words steps nest_words (serial_from_steps input)
+        (takes (codes "--steps") steps nest_words refl
+        (lacks_valued (codes "--steps") (codes "--nest") nest flags_words refl
+        (lacks_flags (codes "--steps") (refl, (refl, tt)))))
+        ∙ goes (codes "--nest") nest_words nest flags_words (serial_from_nest input steps)
+        (takes (codes "--nest") nest flags_words refl (lacks_flags (codes "--nest") (refl, (refl, tt))))
+        ∙ goes_flag (codes "--arrays") flags_words arrays (flagged (codes "--progress") progress [])
+        (serial_from_arrays input steps nest)
+        (takes_flag (codes "--arrays") arrays (flagged (codes "--progress") progress []) refl
+        (lacks_flag (codes "--arrays") (codes "--progress") progress refl))
+        ∙ goes_flag (codes "--progress") (flagged (codes "--progress") progress []) progress []
+        (serial_from_progress input steps nest arrays) (takes_flag (codes "--progress") progress [] refl refl)
+
+-- ---- lines
 
 abbrev line : Command → (file : List ℕ) → Texts → Line
 line command file texts = record { command = command; file = file; texts = texts }
 
-read_running : (command : Command) (file : List ℕ) (o : Options) → IsTrue (is_file_name file) → o.choices ≡ None
-    → read_run command file (words_of (texts_by o)) ≡ Some (line command file (texts_by o))
-read_running command file o named none =
-    if_true (is_file_name file) _ _ named ∙ ap (option_map (line command file)) (read_option_words o none)
+-- a command with right options
+read_with : (command : Command) (file : List ℕ) (texts : Texts) (read_as : Option Texts) → IsTrue (is_file_name file)
+    → read_as ≡ Some texts → read_optioned command file read_as ≡ Some (line command file texts)
+read_with command file texts read_as named is =
+    if_true (is_file_name file) _ _ named ∙ ap (option_map (line command file)) is
 
-read_exploring : (file : List ℕ) (o : Options) → IsTrue (is_file_name file) → o.steps ≡ None → o.nest ≡ None
-    → read_explore file (choosing_words_of (texts_by o)) ≡ Some (line Explore file (texts_by o))
-read_exploring file o named no_steps no_nest =
-    if_true (is_file_name file) _ _ named
-    ∙ ap (option_map (line Explore file)) (read_choosing_option_words o no_steps no_nest)
+-- options of a run as tasks
+run_options : (o : Options) → AreForRun o → read_texts (words_of (texts_by o)) ≡ Some (texts_by o)
+run_options o for =
+    let P : (Option Choosing) → Bool → Type 0 = λ c p.
+    let t : Texts = record (texts_by o) {
+      choices = list_of c;
+      choices_from = file_of c;
+      random = option_map decimal (seed_of c);
+      progress = p;
+    } in read_texts (words_of t) ≡ Some t in
+    subst (λ c. P c o.progress) (sym for.choices)
+    (subst (P None) (sym for.progress)
+    (read_words o.arrays (option_map decimal o.tasks) (option_map decimal o.w0) (option_map decimal o.workers) o.input
+    (option_map decimal o.steps) (option_map decimal o.nest)))
+
+-- of a run on one thread
+serial_options : (o : Options) → AreForSerial o → read_serial_texts (serial_words_of (texts_by o)) ≡ Some (texts_by o)
+serial_options o for =
+    let P : (tasks w0 workers : Option ℕ) → Option Choosing → Type 0 = λ tasks w0 workers c.
+    let t : Texts = record (texts_by o) {
+      tasks = option_map decimal tasks;
+      w0 = option_map decimal w0;
+      workers = option_map decimal workers;
+      choices = list_of c;
+      choices_from = file_of c;
+      random = option_map decimal (seed_of c);
+    } in read_serial_texts (serial_words_of t) ≡ Some t in
+    subst (λ n. P n o.w0 o.workers o.choices) (sym for.spread.tasks)
+    (subst (λ n. P None n o.workers o.choices) (sym for.spread.w0)
+    (subst (λ n. P None None n o.choices) (sym for.spread.workers)
+    (subst (λ c. P None None None c) (sym for.choices)
+    (read_serial_words o.arrays o.progress o.input (option_map decimal o.steps) (option_map decimal o.nest)))))
+
+-- of a run by choices
+explore_options : (o : Options) → AreForExplore o → read_choosing (choosing_words_of (texts_by o)) ≡ Some (texts_by o)
+explore_options o for =
+    let P : (steps nest tasks w0 workers : Option ℕ) → Bool → Type 0 = λ steps nest tasks w0 workers p.
+    let t : Texts = record (texts_by o) {
+      steps = option_map decimal steps;
+      nest = option_map decimal nest;
+      tasks = option_map decimal tasks;
+      w0 = option_map decimal w0;
+      workers = option_map decimal workers;
+      progress = p;
+    } in read_choosing (choosing_words_of t) ≡ Some t in
+    subst (λ n. P n o.nest o.tasks o.w0 o.workers o.progress) (sym for.budget.steps)
+    (subst (λ n. P None n o.tasks o.w0 o.workers o.progress) (sym for.budget.nest)
+    (subst (λ n. P None None n o.w0 o.workers o.progress) (sym for.spread.tasks)
+    (subst (λ n. P None None None n o.workers o.progress) (sym for.spread.w0)
+    (subst (λ n. P None None None None n o.progress) (sym for.spread.workers)
+    (subst (λ p. P None None None None None p) (sym for.progress)
+    (read_choosing_words o.arrays o.input o.choices))))))
 
 read_named : (command : Command) (file : List ℕ) → IsTrue (is_file_name file)
     → read_file command file ≡ Some (bare command file)
@@ -125,7 +373,17 @@ pub record IsLineOf (words : List (List ℕ)) (a : Asked) : Type 0 where
   pub asked : a ≡ optioned command file options
 
 abbrev no_options : Options
-no_options = record { input = None; steps = None; nest = None; choices = None; arrays = false }
+no_options = record {
+  input = None;
+  steps = None;
+  nest = None;
+  tasks = None;
+  w0 = None;
+  workers = None;
+  choices = None;
+  arrays = false;
+  progress = false;
+}
 
 bare_line : (words : List (List ℕ)) (a : Asked) (command : Command) (file : List ℕ) → read words ≡ Some (bare command file)
     → a ≡ plain command file → IsLineOf words a
@@ -133,35 +391,35 @@ bare_line words a command file is_read asked = record {
   command = command;
   file = file;
   options = no_options;
-  right = record { input = tt; steps = tt; nest = tt; choices = tt };
+  right = record { input = tt; steps = tt; nest = tt; tasks = tt; w0 = tt; workers = tt; choices = tt };
   is_read = is_read;
   asked = asked;
 }
 
 pub asks_line : (words : List (List ℕ)) (a : Asked) → Asks words a → IsLineOf words a
 asks_line words a (by_no_word is asked) = bare_line words a Run (codes "-") (ap read is) asked
-asks_line words a (to_run file o named right none is asked) = record {
+asks_line words a (to_run file o named for is asked) = record {
   command = Run;
   file = file;
   options = o;
-  right = right;
-  is_read = ap read is ∙ read_running Run file o named none;
+  right = for.right;
+  is_read = ap read is ∙ read_with Run file (texts_by o) _ named (run_options o for);
   asked = asked;
 }
-asks_line words a (to_run_on_one_thread file o named right none is asked) = record {
+asks_line words a (to_run_on_one_thread file o named for is asked) = record {
   command = Serial;
   file = file;
   options = o;
-  right = right;
-  is_read = ap read is ∙ read_running Serial file o named none;
+  right = for.right;
+  is_read = ap read is ∙ read_with Serial file (texts_by o) _ named (serial_options o for);
   asked = asked;
 }
-asks_line words a (to_explore file o named right spare is asked) = record {
+asks_line words a (to_explore file o named for is asked) = record {
   command = Explore;
   file = file;
   options = o;
-  right = right;
-  is_read = ap read is ∙ read_exploring file o named spare.steps spare.nest;
+  right = for.right;
+  is_read = ap read is ∙ read_with Explore file (texts_by o) _ named (explore_options o for);
   asked = asked;
 }
 asks_line words a (to_check file named is asked) = bare_line words a Check file (ap read is ∙ read_named Check file named) asked

@@ -19,30 +19,38 @@ texts_of t = record {
   input = option_map (λ s. s.now) t.input;
   steps = option_map (λ s. s.now) t.steps;
   nest = option_map (λ s. s.now) t.nest;
+  tasks = option_map (λ s. s.now) t.tasks;
+  w0 = option_map (λ s. s.now) t.w0;
+  workers = option_map (λ s. s.now) t.workers;
   choices = option_map (λ s. s.now) t.choices;
   choices_from = option_map (λ s. s.now) t.choices_from;
   random = option_map (λ s. s.now) t.random;
   arrays = t.arrays;
+  progress = t.progress;
 }
 
 abbrev pub line_of : rLine → Line
 line_of l = record { command = l.command; file = l.file.now; texts = texts_of l.texts }
 
+-- that there is no option
+abbrev pub no_texts : Texts
+no_texts = record {
+  input = None;
+  steps = None;
+  nest = None;
+  tasks = None;
+  w0 = None;
+  workers = None;
+  choices = None;
+  choices_from = None;
+  random = None;
+  arrays = false;
+  progress = false;
+}
+
 -- a line without options
 abbrev pub bare : Command → (file : List ℕ) → Line
-bare command file = record {
-  command = command;
-  file = file;
-  texts = record {
-    input = None;
-    steps = None;
-    nest = None;
-    choices = None;
-    choices_from = None;
-    random = None;
-    arrays = false;
-  };
-}
+bare command file = record { command = command; file = file; texts = no_texts }
 
 -- the value behind an option that stands first, and the words behind both
 abbrev pub taken : (option : List ℕ) → List (List ℕ) → Option (List ℕ) × List (List ℕ)
@@ -51,28 +59,54 @@ taken option (word ∷ []) = (None, word ∷ [])
 taken option (word ∷ value ∷ behind) =
     if bytes_eq word option then (Some value, behind) else (None, word ∷ value ∷ behind)
 
--- the last option, which has no value
-abbrev pub read_arrays : List (List ℕ) → Option Bool
-read_arrays [] = Some false
-read_arrays (word ∷ []) = if bytes_eq word (codes "--arrays") then Some true else None
-read_arrays (word ∷ other ∷ behind) = None
+-- whether an option without a value stands first, and the words behind it
+abbrev pub flag_taken : (option : List ℕ) → List (List ℕ) → Bool × List (List ℕ)
+flag_taken option [] = (false, [])
+flag_taken option (word ∷ behind) =
+    if bytes_eq word option then (true, behind) else (false, word ∷ behind)
 
--- the options of a run
+-- what was read, where no word is left
+abbrev pub read_whole : Texts → (left : List (List ℕ)) → Option Texts
+read_whole texts [] = Some texts
+read_whole texts (word ∷ behind) = None
+
+-- the options of a run as tasks
 abbrev pub read_texts : List (List ℕ) → Option Texts
 read_texts words =
     let input = taken (codes "--input") words in
     let steps = taken (codes "--steps") input.1 in
     let nest = taken (codes "--nest") steps.1 in
-    option_map (λ arrays. let t : Texts = record {
+    let tasks = taken (codes "--tasks") nest.1 in
+    let w0 = taken (codes "--w0") tasks.1 in
+    let workers = taken (codes "--workers") w0.1 in
+    let arrays = flag_taken (codes "--arrays") workers.1 in
+    read_whole
+    (record no_texts {
       input = input.0;
       steps = steps.0;
       nest = nest.0;
-      choices = None;
-      choices_from = None;
-      random = None;
-      arrays = arrays;
-    } in t)
-    (read_arrays nest.1)
+      tasks = tasks.0;
+      w0 = w0.0;
+      workers = workers.0;
+      arrays = arrays.0;
+    }) arrays.1
+
+-- the options of a run on one thread
+abbrev pub read_serial_texts : List (List ℕ) → Option Texts
+read_serial_texts words =
+    let input = taken (codes "--input") words in
+    let steps = taken (codes "--steps") input.1 in
+    let nest = taken (codes "--nest") steps.1 in
+    let arrays = flag_taken (codes "--arrays") nest.1 in
+    let progress = flag_taken (codes "--progress") arrays.1 in
+    read_whole
+    (record no_texts {
+      input = input.0;
+      steps = steps.0;
+      nest = nest.0;
+      arrays = arrays.0;
+      progress = progress.0;
+    }) progress.1
 
 -- the options of a run by choices
 abbrev pub read_choosing : List (List ℕ) → Option Texts
@@ -81,38 +115,25 @@ read_choosing words =
     let choices = taken (codes "--choices") input.1 in
     let choices_from = taken (codes "--choices-from") choices.1 in
     let random = taken (codes "--random") choices_from.1 in
-    option_map (λ arrays. let t : Texts = record {
+    let arrays = flag_taken (codes "--arrays") random.1 in
+    read_whole
+    (record no_texts {
       input = input.0;
-      steps = None;
-      nest = None;
       choices = choices.0;
       choices_from = choices_from.0;
       random = random.0;
-      arrays = arrays;
-    } in t)
-    (read_arrays random.1)
+      arrays = arrays.0;
+    }) arrays.1
 
--- the words behind a command that runs
-abbrev pub read_run : Command → (file : List ℕ) → (behind : List (List ℕ)) → Option Line
-read_run command file behind =
+-- the words behind a command that takes options: a file, and the texts that its options are read as
+abbrev pub read_optioned : Command → (file : List ℕ) → (read : Option Texts) → Option Line
+read_optioned command file read =
     if is_file_name file
     then option_map (λ texts. let line : Line = record {
       command = command;
       file = file;
       texts = texts;
-    } in line)
-    (read_texts behind) else None
-
--- the words behind `explore`
-abbrev pub read_explore : (file : List ℕ) → (behind : List (List ℕ)) → Option Line
-read_explore file behind =
-    if is_file_name file
-    then option_map (λ texts. let line : Line = record {
-      command = Explore;
-      file = file;
-      texts = texts;
-    } in line)
-    (read_choosing behind) else None
+    } in line) read else None
 
 -- a command with a file alone
 abbrev pub read_file : Command → (file : List ℕ) → Option Line
@@ -139,11 +160,11 @@ read_alone command file (other ∷ behind) = None
 -- the words behind a command
 abbrev pub read_behind : (command file : List ℕ) → (behind : List (List ℕ)) → Option Line
 read_behind command file behind =
-    if bytes_eq command (codes "run") then read_run Run file behind else
-    (if bytes_eq command (codes "serial") then read_run Serial file behind else
+    if bytes_eq command (codes "run") then read_optioned Run file (read_texts behind) else
+    (if bytes_eq command (codes "serial") then read_optioned Serial file (read_serial_texts behind) else
     (if bytes_eq command (codes "check") then read_check file behind else
     (if bytes_eq command (codes "mhp") then read_alone Pairs file behind else
-    (if bytes_eq command (codes "explore") then read_explore file behind else None))))
+    (if bytes_eq command (codes "explore") then read_optioned Explore file (read_choosing behind) else None))))
 
 -- the words of a command line
 abbrev pub read : List (List ℕ) → Option Line

@@ -12,6 +12,7 @@ use Rattle.command_line.specs.declared.request.Choosing.TheVariants.{Listed as r
 use Rattle.command_line.specs.declared.request.Choosing.TheVariants.{Random as rRandom}
 use Rattle.command_line.specs.declared.request.Settings.{Settings as rSettings}
 use Rattle.command_line.specs.declared.request.Request.{Request}
+use Rattle.command_line.specs.declared.request.Spread.{Spread as rSpread}
 
 -- how the leaves that step are chosen: by the text of a list, by a file of this name, or by a
 -- generator from this number on
@@ -25,13 +26,26 @@ choosing (rListed text) = Listed text.now
 choosing (rInFile name) = InFile name.now
 choosing (rRandom seed) = Random seed
 
+-- how a run goes on worker threads: how many tasks it may have, how much weight a scope issues at a
+-- time, and how many workers there are
+pub record Spread : Type 0 where
+  pub tasks : ℕ
+  pub w0 : ℕ
+  pub workers : ℕ
+
+abbrev pub spread : rSpread → Spread
+spread s = record { tasks = s.tasks; w0 = s.w0; workers = s.workers }
+
 -- how a program is to be run: the file of what its arrays hold at first, where one is named; its
--- budget; how its choices are given, where they are; whether the arrays are shown
+-- budget; how it goes on worker threads; how its choices are given, where they are; whether the arrays
+-- are shown; whether it is told how far the run has come
 pub record Settings : Type 0 where
   pub input : Option (List ℕ)
   pub budget : Budget
+  pub spread : Spread
   pub choices : Option Choosing
   pub arrays : Bool
+  pub progress : Bool
 
 -- what is to be done with the program of a file
 pub record Asked : Type 0 where
@@ -43,8 +57,10 @@ abbrev pub settings : rSettings → Settings
 settings s = record {
   input = option_map (λ name. name.now) s.input;
   budget = budget_of s.budget;
+  spread = spread s.spread;
   choices = option_map choosing s.choices;
   arrays = s.arrays;
+  progress = s.progress;
 }
 
 -- what a request asks
@@ -55,9 +71,20 @@ asked_of r = record { command = r.command; file = r.file.now; settings = setting
 abbrev pub usual_budget : Budget
 usual_budget = record { steps = 1000000; nest = 100 }
 
+-- the tasks, the weight and the workers of a run that names none
+abbrev pub usual_spread : Spread
+usual_spread = record { tasks = 65536; w0 = 1048576; workers = 4 }
+
 -- the settings of a command line that names none
 abbrev pub usual : Settings
-usual = record { input = None; budget = usual_budget; choices = None; arrays = false }
+usual = record {
+  input = None;
+  budget = usual_budget;
+  spread = usual_spread;
+  choices = None;
+  arrays = false;
+  progress = false;
+}
 
 -- ---- words
 
@@ -72,8 +99,12 @@ pub record Options : Type 0 where
   pub input : Option (List ℕ)
   pub steps : Option ℕ
   pub nest : Option ℕ
+  pub tasks : Option ℕ
+  pub w0 : Option ℕ
+  pub workers : Option ℕ
   pub choices : Option Choosing
   pub arrays : Bool
+  pub progress : Bool
 
 -- a file of choices has a file's name, and a seed is a number of 64 bits
 abbrev pub IsRightChoosing : Choosing → Type 0
@@ -86,6 +117,9 @@ pub record AreRight (o : Options) : Type 0 where
   pub input : IfSome o.input (λ name. IsTrue (is_file_name name))
   pub steps : IfSome o.steps (λ n. (1 ≤ n) × (n ≤ 1000000000))
   pub nest : IfSome o.nest (λ n. n ≤ 1000)
+  pub tasks : IfSome o.tasks (λ n. (1 ≤ n) × (n ≤ 1048576))
+  pub w0 : IfSome o.w0 (λ n. (1 ≤ n) × (n ≤ 4294967296))
+  pub workers : IfSome o.workers (λ n. (1 ≤ n) × (n ≤ 64))
   pub choices : IfSome o.choices IsRightChoosing
 
 -- the texts that stand behind options
@@ -93,10 +127,14 @@ pub record Texts : Type 0 where
   pub input : Option (List ℕ)
   pub steps : Option (List ℕ)
   pub nest : Option (List ℕ)
+  pub tasks : Option (List ℕ)
+  pub w0 : Option (List ℕ)
+  pub workers : Option (List ℕ)
   pub choices : Option (List ℕ)
   pub choices_from : Option (List ℕ)
   pub random : Option (List ℕ)
   pub arrays : Bool
+  pub progress : Bool
 
 -- the list, the file or the seed by which is chosen
 abbrev pub list_of : Option Choosing → Option (List ℕ)
@@ -123,10 +161,14 @@ texts_by o = record {
   input = o.input;
   steps = option_map decimal o.steps;
   nest = option_map decimal o.nest;
+  tasks = option_map decimal o.tasks;
+  w0 = option_map decimal o.w0;
+  workers = option_map decimal o.workers;
   choices = list_of o.choices;
   choices_from = file_of o.choices;
   random = option_map decimal (seed_of o.choices);
   arrays = o.arrays;
+  progress = o.progress;
 }
 
 -- an option and its value
@@ -134,36 +176,78 @@ abbrev pub valued : (option : List ℕ) → (value : Option (List ℕ)) → (beh
 valued option None behind = behind
 valued option (Some value) behind = option ∷ value ∷ behind
 
-abbrev pub flagged : (option : List ℕ) → Bool → List (List ℕ)
-flagged option true = option ∷ []
-flagged option false = []
+-- an option without a value
+abbrev pub flagged : (option : List ℕ) → Bool → (behind : List (List ℕ)) → List (List ℕ)
+flagged option true behind = option ∷ behind
+flagged option false behind = behind
 
--- the words of options, in this order: `--input FILE --steps N --nest N --arrays`
+-- the words of options of a run as tasks, in this order: `--input FILE --steps N --nest N --tasks N
+-- --w0 N --workers N --arrays`
 abbrev pub words_of : Texts → List (List ℕ)
 words_of t =
     valued (codes "--input") t.input (valued (codes "--steps") t.steps
-    (valued (codes "--nest") t.nest (flagged (codes "--arrays") t.arrays)))
+    (valued (codes "--nest") t.nest (valued (codes "--tasks") t.tasks
+    (valued (codes "--w0") t.w0 (valued (codes "--workers") t.workers
+    (flagged (codes "--arrays") t.arrays []))))))
 
--- the words of options of a run by choices, in this order: `--input FILE`, one of `--choices LIST`,
+-- those of a run on one thread, in this order: `--input FILE --steps N --nest N --arrays --progress`
+abbrev pub serial_words_of : Texts → List (List ℕ)
+serial_words_of t =
+    valued (codes "--input") t.input (valued (codes "--steps") t.steps
+    (valued (codes "--nest") t.nest
+    (flagged (codes "--arrays") t.arrays (flagged (codes "--progress") t.progress []))))
+
+-- those of a run by choices, in this order: `--input FILE`, one of `--choices LIST`,
 -- `--choices-from FILE` and `--random SEED`, and `--arrays`
 abbrev pub choosing_words_of : Texts → List (List ℕ)
 choosing_words_of t =
     valued (codes "--input") t.input
     (valued (codes "--choices") t.choices (valued (codes "--choices-from") t.choices_from
-    (valued (codes "--random") t.random (flagged (codes "--arrays") t.arrays))))
+    (valued (codes "--random") t.random (flagged (codes "--arrays") t.arrays []))))
 
--- a run by choices has no budget
+-- a run has no budget
 pub record HasNoBudget (o : Options) : Type 0 where
   pub steps : o.steps ≡ None
   pub nest : o.nest ≡ None
+
+-- it doesn't go on worker threads
+pub record HasNoSpread (o : Options) : Type 0 where
+  pub tasks : o.tasks ≡ None
+  pub w0 : o.w0 ≡ None
+  pub workers : o.workers ≡ None
+
+-- options of a run as tasks: it isn't by choices, and nobody looks at it
+pub record AreForRun (o : Options) : Type 0 where
+  pub right : AreRight o
+  pub choices : o.choices ≡ None
+  pub progress : o.progress ≡ false
+
+-- of a run on one thread: it goes on no worker threads, and not by choices
+pub record AreForSerial (o : Options) : Type 0 where
+  pub right : AreRight o
+  pub spread : HasNoSpread o
+  pub choices : o.choices ≡ None
+
+-- of a run by choices: it has no budget, goes on no worker threads, and nobody looks at it
+pub record AreForExplore (o : Options) : Type 0 where
+  pub right : AreRight o
+  pub budget : HasNoBudget o
+  pub spread : HasNoSpread o
+  pub progress : o.progress ≡ false
 
 -- what they set; what isn't named is as usual
 abbrev pub settings_by : Options → Settings
 settings_by o = record {
   input = o.input;
   budget = record { steps = unwrap_or o.steps 1000000; nest = unwrap_or o.nest 100 };
+  spread = record {
+    tasks = unwrap_or o.tasks 65536;
+    w0 = unwrap_or o.w0 1048576;
+    workers = unwrap_or o.workers 4;
+  };
   choices = o.choices;
   arrays = o.arrays;
+  progress = o.progress;
 }
 
 -- a command with a file alone
@@ -177,11 +261,11 @@ optioned command file o = record { command = command; file = file; settings = se
 -- the words ask this; no word is `run -`
 pub data Asks (words : List (List ℕ)) (a : Asked) : Type 0 where
   by_no_word : words ≡ [] → a ≡ plain Run (codes "-") → Asks words a
-  to_run : (file : List ℕ) (o : Options) → IsTrue (is_file_name file) → AreRight o → o.choices ≡ None
+  to_run : (file : List ℕ) (o : Options) → IsTrue (is_file_name file) → AreForRun o
       → words ≡ codes "run" ∷ file ∷ words_of (texts_by o) → a ≡ optioned Run file o → Asks words a
-  to_run_on_one_thread : (file : List ℕ) (o : Options) → IsTrue (is_file_name file) → AreRight o
-      → o.choices ≡ None
-      → words ≡ codes "serial" ∷ file ∷ words_of (texts_by o) → a ≡ optioned Serial file o → Asks words a
+  to_run_on_one_thread : (file : List ℕ) (o : Options) → IsTrue (is_file_name file) → AreForSerial o
+      → words ≡ codes "serial" ∷ file ∷ serial_words_of (texts_by o) → a ≡ optioned Serial file o
+      → Asks words a
   to_check : (file : List ℕ) → IsTrue (is_file_name file)
       → words ≡ codes "check" ∷ file ∷ [] → a ≡ plain Check file → Asks words a
   to_list : (file : List ℕ) → IsTrue (is_file_name file)
@@ -190,6 +274,6 @@ pub data Asks (words : List (List ℕ)) (a : Asked) : Type 0 where
       → words ≡ codes "check" ∷ file ∷ codes "--list" ∷ [] → a ≡ plain Listing file → Asks words a
   to_pair : (file : List ℕ) → IsTrue (is_file_name file)
       → words ≡ codes "mhp" ∷ file ∷ [] → a ≡ plain Pairs file → Asks words a
-  to_explore : (file : List ℕ) (o : Options) → IsTrue (is_file_name file) → AreRight o → HasNoBudget o
+  to_explore : (file : List ℕ) (o : Options) → IsTrue (is_file_name file) → AreForExplore o
       → words ≡ codes "explore" ∷ file ∷ choosing_words_of (texts_by o) → a ≡ optioned Explore file o
       → Asks words a

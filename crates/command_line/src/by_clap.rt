@@ -1,6 +1,6 @@
 //! The words of a command line that `clap` reads.
 
-use crate::request::{Choosing, Command, Request, Settings};
+use crate::request::{Choosing, Command, Request, Settings, Spread};
 use clap::error::ErrorKind;
 use clap::{Arg, ArgAction, ArgMatches, Error, value_parser};
 use std::alloc::{AllocError, Global};
@@ -34,6 +34,7 @@ fn request<'w>(
         settings: Settings {
             input: given.get_str("input"),
             budget: budget(alloc, given)?,
+            spread: spread(alloc, given)?,
             choices: choosing(given),
             arrays: given.get_flag("arrays"),
             progress: given.get_flag("progress"),
@@ -63,6 +64,18 @@ fn budget(alloc: Global, given: &ArgMatches<'_>) -> Result<Budget, Error> {
     }
 }
 
+/// How a run goes on worker threads; `clap` has seen that its numbers are in their ranges.
+fn spread(alloc: Global, given: &ArgMatches<'_>) -> Result<Spread, Error> {
+    let usual = Spread::usual();
+    let tasks = given.get_one("tasks").unwrap_or(usual.tasks);
+    let w0 = given.get_one("w0").unwrap_or(usual.w0);
+    let workers = given.get_one("workers").unwrap_or(usual.workers);
+    match Spread::new(tasks, w0, workers) {
+        Some(spread) => Ok(spread),
+        None => Err(commands(alloc)?.error(ErrorKind::ValueValidation, "no workers")?),
+    }
+}
+
 /// What stands behind the help of the program.
 const STATUSES: &str = "No word is `run -`: the program is read from the standard input.
 
@@ -73,11 +86,11 @@ Exit status:
   1  refused: the command line, a file, the text, a rule, a race, the input, the choices, the output
   2  the run ended with faults
   3  the run was stopped over its budget; it has not ended by its choices
-  4  no memory
+  4  no memory; more tasks than the run may have
   5  the result of a task was lost";
 
 /// What stands behind the help of a command that runs.
-const RUN_EXAMPLE: &str = "Example: afx run examples/two_arrays.afx --steps 1000";
+const RUN_EXAMPLE: &str = "Example: afx run examples/two_arrays.afx --steps 1000 --workers 2";
 
 /// The same of the run on one thread.
 const SERIAL_EXAMPLE: &str =
@@ -109,12 +122,6 @@ fn commands<'w>(alloc: Global) -> Result<clap::Command<'w>, AllocError> {
         .arg(choices_from(alloc)?)?
         .arg(random(alloc))?
         .arg(arrays(alloc))?;
-    let serial = run(
-        alloc,
-        "serial",
-        "Runs a program on one thread",
-        SERIAL_EXAMPLE,
-    )?;
     clap::Command::new(alloc, "afx")
         .bin_name("afx")?
         .about("Checks and runs programs of tasks")
@@ -122,15 +129,32 @@ fn commands<'w>(alloc: Global) -> Result<clap::Command<'w>, AllocError> {
         .version("0.1.0")
         .no_binary_name(true)
         .subcommand_required(true)
-        .subcommand(run(alloc, "run", "Runs a program as tasks", RUN_EXAMPLE)?)?
-        .subcommand(serial.arg(progress(alloc))?)?
+        .subcommand(run(alloc)?)?
+        .subcommand(serial(alloc)?)?
         .subcommand(check)?
         .subcommand(pairs)?
         .subcommand(explore)
 }
 
-/// A command that runs a program.
-fn run<'w>(
+/// The run as tasks.
+fn run<'w>(alloc: Global) -> Result<clap::Command<'w>, AllocError> {
+    with_budget(alloc, "run", "Runs a program as tasks", RUN_EXAMPLE)?
+        .arg(tasks(alloc))?
+        .arg(w0(alloc))?
+        .arg(workers(alloc))?
+        .arg(arrays(alloc))
+}
+
+/// The run on one thread.
+fn serial<'w>(alloc: Global) -> Result<clap::Command<'w>, AllocError> {
+    let about = "Runs a program on one thread";
+    with_budget(alloc, "serial", about, SERIAL_EXAMPLE)?
+        .arg(arrays(alloc))?
+        .arg(progress(alloc))
+}
+
+/// A command that runs a program under a budget.
+fn with_budget<'w>(
     alloc: Global,
     name: &'static str,
     about: &'static str,
@@ -142,8 +166,7 @@ fn run<'w>(
         .arg(file(alloc))?
         .arg(input(alloc))?
         .arg(steps(alloc))?
-        .arg(nest(alloc))?
-        .arg(arrays(alloc))
+        .arg(nest(alloc))
 }
 
 /// The file of a program.
@@ -185,6 +208,35 @@ fn nest<'w>(alloc: Global) -> Arg<'w> {
         .value_name("N")
         .help("How many asyncs may stand inside one another; without it 100")
         .value_parser(value_parser!(u64).range(0..=1_000))
+}
+
+/// How many tasks a run may have.
+fn tasks<'w>(alloc: Global) -> Arg<'w> {
+    Arg::new(alloc, "tasks")
+        .long("tasks")
+        .value_name("N")
+        .help("How many tasks there may be, with the one of main; without it 65536")
+        .value_parser(value_parser!(u64).range(1..=1_048_576))
+}
+
+/// How much weight a scope issues at a time.
+fn w0<'w>(alloc: Global) -> Arg<'w> {
+    Arg::new(alloc, "w0")
+        .long("w0")
+        .value_name("N")
+        .help(
+            "How much weight a finish issues at a time, for its tasks to divide; without it 1048576",
+        )
+        .value_parser(value_parser!(u64).range(1..=4_294_967_296))
+}
+
+/// On how many workers a run goes.
+fn workers<'w>(alloc: Global) -> Arg<'w> {
+    Arg::new(alloc, "workers")
+        .long("workers")
+        .value_name("N")
+        .help("On how many threads the tasks run; without it 4")
+        .value_parser(value_parser!(u64).range(1..=64))
 }
 
 /// Which leaf steps, step by step.

@@ -2,10 +2,10 @@
 
 ghost use Rattle.std.specs.Prelude.{◌≡◌, map, option_map};
 ghost use Rattle.std.specs.String.{string_bytes};
-ghost use Rattle.command_line.specs.Reading.{bare as bare_line, line_of, read, read_alone};
-ghost use Rattle.command_line.specs.Reading.{read_arrays, read_behind, read_check, read_choosing};
-ghost use Rattle.command_line.specs.Reading.{read_explore, read_file, read_listing, read_run};
-ghost use Rattle.command_line.specs.Reading.{read_texts, taken, texts_of};
+ghost use Rattle.command_line.specs.Reading.{bare as bare_line, flag_taken, line_of, read};
+ghost use Rattle.command_line.specs.Reading.{read_alone, read_behind, read_check, read_choosing};
+ghost use Rattle.command_line.specs.Reading.{no_texts, read_file, read_listing, read_optioned};
+ghost use Rattle.command_line.specs.Reading.{read_serial_texts, read_texts, read_whole, taken, texts_of};
 ghost use Rattle.command_line.specs.Requests.{is_file_name as names_file};
 
 use crate::request::Command;
@@ -24,10 +24,35 @@ pub struct Texts<'w> {
     pub input: Option<&'w str>,
     pub steps: Option<&'w str>,
     pub nest: Option<&'w str>,
+    pub tasks: Option<&'w str>,
+    pub w0: Option<&'w str>,
+    pub workers: Option<&'w str>,
     pub choices: Option<&'w str>,
     pub choices_from: Option<&'w str>,
     pub random: Option<&'w str>,
     pub arrays: bool,
+    pub progress: bool,
+}
+
+impl<'w> Texts<'w> {
+    /// That there is no option.
+    fn none() -> Texts<'w>
+        ensures { texts_of result ≡ no_texts }
+    {
+        Texts {
+            input: None,
+            steps: None,
+            nest: None,
+            tasks: None,
+            w0: None,
+            workers: None,
+            choices: None,
+            choices_from: None,
+            random: None,
+            arrays: false,
+            progress: false,
+        }
+    }
 }
 
 /// The line of words. No word at all means `run -`.
@@ -47,27 +72,27 @@ fn line_behind<'w>(command: &str, file: &'w str, behind: &'w [String]) -> Option
         ≡ read_behind command.now file.now (map string_bytes behind.now) }
 {
     if command == "run" {
-        run_line(Command::Run, file, behind)
+        optioned_line(Command::Run, file, texts_in(behind))
     } else if command == "serial" {
-        run_line(Command::Serial, file, behind)
+        optioned_line(Command::Serial, file, serial_texts_in(behind))
     } else if command == "check" {
         check_line(file, behind)
     } else if command == "mhp" {
         alone_line(Command::Pairs, file, behind)
     } else if command == "explore" {
-        explore_line(file, behind)
+        optioned_line(Command::Explore, file, choosing_texts_in(behind))
     } else {
         None
     }
 }
 
-/// A line of a command that runs.
-fn run_line<'w>(command: Command, file: &'w str, behind: &'w [String]) -> Option<Line<'w>>
+/// A line of a command that takes options.
+fn optioned_line<'w>(command: Command, file: &'w str, texts: Option<Texts<'w>>) -> Option<Line<'w>>
     ensures { option_map line_of result
-        ≡ read_run command file.now (map string_bytes behind.now) }
+        ≡ read_optioned command file.now (option_map texts_of texts.entry) }
 {
     if is_file_name(file) {
-        let texts = texts_in(behind)?;
+        let texts = texts?;
         Some(Line {
             command,
             file,
@@ -78,39 +103,50 @@ fn run_line<'w>(command: Command, file: &'w str, behind: &'w [String]) -> Option
     }
 }
 
-/// The texts behind options: `--input FILE --steps N --nest N --arrays`, each of which may be left out.
+/// The texts behind options: `--input FILE --steps N --nest N --tasks N --w0 N --workers N --arrays`,
+/// each of which may be left out.
 fn texts_in<'w>(words: &'w [String]) -> Option<Texts<'w>>
     ensures { option_map texts_of result ≡ read_texts (map string_bytes words.now) }
 {
     let (input, words) = take("--input", words);
     let (steps, words) = take("--steps", words);
     let (nest, words) = take("--nest", words);
-    let arrays = arrays_in(words)?;
-    Some(Texts {
+    let (tasks, words) = take("--tasks", words);
+    let (w0, words) = take("--w0", words);
+    let (workers, words) = take("--workers", words);
+    let (arrays, words) = take_flag("--arrays", words);
+    let texts = Texts {
         input,
         steps,
         nest,
-        choices: None,
-        choices_from: None,
-        random: None,
+        tasks,
+        w0,
+        workers,
         arrays,
-    })
+        ..Texts::none()
+    };
+    whole(texts, words)
 }
 
-/// A line of `explore`.
-fn explore_line<'w>(file: &'w str, behind: &'w [String]) -> Option<Line<'w>>
-    ensures { option_map line_of result ≡ read_explore file.now (map string_bytes behind.now) }
+/// The texts behind options: `--input FILE --steps N --nest N --arrays --progress`, each of which may be
+/// left out.
+fn serial_texts_in<'w>(words: &'w [String]) -> Option<Texts<'w>>
+    ensures { option_map texts_of result ≡ read_serial_texts (map string_bytes words.now) }
 {
-    if is_file_name(file) {
-        let texts = choosing_texts_in(behind)?;
-        Some(Line {
-            command: Command::Explore,
-            file,
-            texts,
-        })
-    } else {
-        None
-    }
+    let (input, words) = take("--input", words);
+    let (steps, words) = take("--steps", words);
+    let (nest, words) = take("--nest", words);
+    let (arrays, words) = take_flag("--arrays", words);
+    let (progress, words) = take_flag("--progress", words);
+    let texts = Texts {
+        input,
+        steps,
+        nest,
+        arrays,
+        progress,
+        ..Texts::none()
+    };
+    whole(texts, words)
 }
 
 /// The texts behind options: `--input FILE --choices LIST --choices-from FILE --random SEED --arrays`,
@@ -122,16 +158,27 @@ fn choosing_texts_in<'w>(words: &'w [String]) -> Option<Texts<'w>>
     let (choices, words) = take("--choices", words);
     let (choices_from, words) = take("--choices-from", words);
     let (random, words) = take("--random", words);
-    let arrays = arrays_in(words)?;
-    Some(Texts {
+    let (arrays, words) = take_flag("--arrays", words);
+    let texts = Texts {
         input,
-        steps: None,
-        nest: None,
         choices,
         choices_from,
         random,
         arrays,
-    })
+        ..Texts::none()
+    };
+    whole(texts, words)
+}
+
+/// These texts, where no word is left.
+fn whole<'w>(texts: Texts<'w>, left: &[String]) -> Option<Texts<'w>>
+    ensures { option_map texts_of result
+        ≡ read_whole (texts_of texts.entry) (map string_bytes left.now) }
+{
+    match left {
+        [] => Some(texts),
+        [_, ..] => None,
+    }
 }
 
 /// The value behind an option that stands first, and the words behind both.
@@ -154,20 +201,21 @@ fn take<'w>(option: &str, words: &'w [String]) -> (Option<&'w str>, &'w [String]
     }
 }
 
-/// Whether the arrays are asked for, where the words say nothing else.
-fn arrays_in(words: &[String]) -> Option<bool>
-    ensures { result ≡ read_arrays (map string_bytes words.now) }
+/// Whether an option without a value stands first, and the words behind it.
+fn take_flag<'w>(option: &str, words: &'w [String]) -> (bool, &'w [String])
+    ensures stands { result.0 ≡ (flag_taken option.now (map string_bytes words.now)).0 }
+    ensures behind { map string_bytes result.1.now
+        ≡ (flag_taken option.now (map string_bytes words.now)).1 }
 {
     match words {
-        [] => Some(false),
-        [last] => {
-            if last.as_str() == "--arrays" {
-                Some(true)
+        [] => (false, words),
+        [first, behind @ ..] => {
+            if first.as_str() == option {
+                (true, behind)
             } else {
-                None
+                (false, words)
             }
         }
-        [_, _, ..] => None,
     }
 }
 
@@ -224,15 +272,7 @@ fn bare<'w>(command: Command, file: &'w str) -> Line<'w>
     Line {
         command,
         file,
-        texts: Texts {
-            input: None,
-            steps: None,
-            nest: None,
-            choices: None,
-            choices_from: None,
-            random: None,
-            arrays: false,
-        },
+        texts: Texts::none(),
     }
 }
 

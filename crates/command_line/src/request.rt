@@ -1,7 +1,6 @@
 //! What a command line asks.
 
-ghost use Rattle.std.specs.Prelude.{◌≡◌};
-ghost use Rattle.command_line.specs.Requests.{usual};
+ghost use Rattle.std.specs.Prelude.{◌≡◌, ◌<◌, ◌≤◌, ◌⊎◌, ◌↔◌, IfSome, IsNone};
 
 use types::budget::Budget;
 
@@ -33,6 +32,60 @@ pub enum Choosing<'w> {
     Random(u64),
 }
 
+/// How a run goes on worker threads.
+#[derive(Clone, Copy, PartialEq, Eq, Debug)]
+pub struct Spread {
+    /// How many tasks it may have, the root among them, 1 to 1,048,576.
+    pub tasks: u64,
+    /// How much weight a scope issues at a time, 1 to 4,294,967,296.
+    pub w0: u64,
+    /// How many workers there are, 1 to 64.
+    pub workers: u64,
+    ghost tasks_in_range: { (1 ≤ tasks) × (tasks ≤ 1048576) },
+    ghost w0_in_range: { (1 ≤ w0) × (w0 ≤ 4294967296) },
+    ghost workers_in_range: { (1 ≤ workers) × (workers ≤ 64) },
+}
+
+impl Spread {
+    ghost use Rattle.command_line.specs.Requests.{spread, usual_spread};
+
+    /// The one of these numbers, or None where one of them is out of its range.
+    pub fn new(tasks: u64, w0: u64, workers: u64) -> Option<Spread>
+        ensures none { IsNone result ↔ ((tasks < 1) ⊎ (1048576 < tasks) ⊎ (w0 < 1)
+            ⊎ (4294967296 < w0) ⊎ (workers < 1) ⊎ (64 < workers)) }
+        ensures numbers { IfSome result (λ s. spread s
+            ≡ (record { tasks = tasks; w0 = w0; workers = workers })) }
+    {
+        if tasks < 1 || tasks > MOST_TASKS || w0 < 1 || w0 > MOST_WEIGHT {
+            return None;
+        }
+        if workers < 1 || workers > MOST_WORKERS {
+            return None;
+        }
+        Some(Spread { tasks, w0, workers })
+    }
+
+    /// That of a command line that names none: 65,536 tasks, a weight of 1,048,576, 4 workers.
+    pub fn usual() -> Spread
+        ensures { spread result ≡ usual_spread }
+    {
+        Spread {
+            tasks: 65_536,
+            w0: 1_048_576,
+            workers: 4,
+        }
+    }
+}
+
+/// How many tasks a run has, at most.
+const MOST_TASKS: u64 = 1_048_576;
+
+/// How much weight a scope issues at a time, at most.
+const MOST_WEIGHT: u64 = 4_294_967_296;
+
+/// How many workers there are, at most.
+const MOST_WORKERS: u64 = 64;
+
 /// How a program is to be run.
 #[derive(Clone, Copy, PartialEq, Eq, Debug)]
 pub struct Settings<'w> {
@@ -40,6 +93,8 @@ pub struct Settings<'w> {
     pub input: Option<&'w str>,
     /// `--steps N` and `--nest N`
     pub budget: Budget,
+    /// `--tasks N`, `--w0 N` and `--workers N`
+    pub spread: Spread,
     /// `--choices LIST`, `--choices-from FILE` or `--random SEED`. Without any of them none steps.
     pub choices: Option<Choosing<'w>>,
     /// `--arrays`: the arrays are shown behind the outcome.
@@ -49,15 +104,16 @@ pub struct Settings<'w> {
 }
 
 impl<'w> Settings<'w> {
-    ghost use Rattle.command_line.specs.Requests.{settings};
+    ghost use Rattle.command_line.specs.Requests.{settings, usual};
 
-    /// Those of a command line that names none: zeros, the usual budget, and no arrays.
+    /// Those of a command line that names none: zeros, the usual budget, 4 workers, and no arrays.
     pub fn usual() -> Settings<'w>
         ensures { settings result ≡ usual }
     {
         Settings {
             input: None,
             budget: Budget::usual(),
+            spread: Spread::usual(),
             choices: None,
             arrays: false,
             progress: false,

@@ -8,9 +8,10 @@ ghost use Rattle.command_line.specs.Requests.{AreRight, Options, is_file_name as
 ghost use Rattle.command_line.specs.Requests.{Choosing as ChoosingOf, IsRightChoosing, file_of, list_of};
 ghost use Rattle.command_line.specs.Requests.{choosing as choosing_of, seed_of};
 ghost use Rattle.command_line.specs.Requests.{settings as settings_of, settings_by, texts_by};
+ghost use Rattle.command_line.specs.Requests.{spread as spread_of};
 
 use crate::plain::{Texts, is_file_name};
-use crate::request::{Choosing, Settings};
+use crate::request::{Choosing, Settings, Spread};
 use types::budget::Budget;
 
 /// The settings that texts say, where they are right.
@@ -22,14 +23,27 @@ pub fn settings_in<'w>(texts: Texts<'w>) -> Option<Settings<'w>>
     let steps = number_or(texts.steps, 1_000_000)?;
     let nest = number_or(texts.nest, 100)?;
     let budget = Budget::new(steps, nest)?;
+    let spread = spread_in(texts)?;
     let choices = choosing_in(texts.choices, texts.choices_from, texts.random)?;
     Some(Settings {
         input,
         budget,
+        spread,
         choices,
         arrays: texts.arrays,
-        progress: false,
+        progress: texts.progress,
     })
+}
+
+/// How a run goes on worker threads, where its numbers are right.
+fn spread_in(texts: Texts<'_>) -> Option<Spread>
+    ensures { (o : Options) → AreRight o → texts_of texts.entry ≡ texts_by o
+        → option_map spread_of result ≡ Some (settings_by o).spread }
+{
+    let tasks = number_or(texts.tasks, 65_536)?;
+    let w0 = number_or(texts.w0, 1_048_576)?;
+    let workers = number_or(texts.workers, 4)?;
+    Spread::new(tasks, w0, workers)
 }
 
 /// How is chosen, where at most one of these texts says it.

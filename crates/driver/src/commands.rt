@@ -1,5 +1,6 @@
 //! What each command does with the text of its file.
 
+ghost use Rattle.std.specs.Prelude.{◌≡◌};
 ghost use Rattle.answers.specs.Answers.{Does};
 ghost use Rattle.command_line.specs.Requests.{settings as settings_of};
 
@@ -7,7 +8,7 @@ use answers::programs::accepted_of;
 use answers::running::{run_by_choices, run_serially};
 use answers::showing::show;
 use answers::telling::{check, list, pairs};
-use command_line::request::{Command, Request, Settings};
+use command_line::request::{Command, Request, Settings, Spread};
 use intake::failure::Failure;
 use intake::files::FileSource;
 use intake::input_file::input_of;
@@ -43,7 +44,7 @@ pub fn perform<R: Threads + Wait + Sync, F: FileSource, O: Write, W: Watch>(
     }
 }
 
-/// `run`: runs the program task by task, and writes its outcome; gives the exit status.
+/// `run`: runs the program as tasks, and writes its outcome; gives the exit status.
 fn run_as_tasks<R: Threads + Wait + Sync, F: FileSource, O: Write>(
     rt: &R,
     alloc: Global,
@@ -57,12 +58,26 @@ fn run_as_tasks<R: Threads + Wait + Sync, F: FileSource, O: Write>(
 {
     let accepted = accepted_of(rt, alloc, text)?;
     let input = input_of(alloc, files, accepted.typed(), settings.input)?;
-    let on = RunSettings::usual(settings.budget);
+    let on = run_settings(settings);
     match run(rt, alloc, &accepted, &input, on, &NoGate) {
         Ok(outcome) => {
             let arrays = &accepted.typed().code().arrays;
             show(out, arrays, &outcome, settings.arrays)
         }
         Err(error) => Err(Failure::Run(error)),
+    }
+}
+
+/// What a run may spend, and on how many workers it goes, as it was asked.
+fn run_settings(settings: Settings<'_>) -> RunSettings
+    ensures budget { result.budget ≡ settings.entry.budget }
+    ensures tasks { result.tasks ≡ settings.entry.spread.tasks }
+    ensures w0 { result.w0 ≡ settings.entry.spread.w0 }
+    ensures workers { result.workers ≡ settings.entry.spread.workers }
+{
+    let Spread { tasks, w0, workers } = settings.spread;
+    match RunSettings::new(settings.budget, tasks, w0, workers) {
+        Some(on) => on,
+        None => unreachable!(),
     }
 }

@@ -6,7 +6,7 @@ use crate::shelf::Shelf;
 use crate::transcript::words_of;
 use crate::wanted::Wanted;
 use driver::act::act;
-use serial_run::watch::Unwatched;
+use serial_run::watch::Watch;
 use std::io;
 
 /// A command of a group, and what it must tell.
@@ -23,14 +23,28 @@ struct Told {
     out: Output,
     err: Output,
     status: usize,
+    looks: usize,
 }
 
-/// Two texts and a status, told or wanted.
+/// Two texts, a status, and how often a watch was told, as they are or as they are wanted.
 #[derive(Clone, Copy)]
 struct Answer<'a> {
     out: &'a [u8],
     err: &'a [u8],
     status: usize,
+    looks: usize,
+}
+
+/// Counts how often it is told.
+#[derive(Drop)]
+struct Counting {
+    looks: usize,
+}
+
+impl Watch for Counting {
+    fn look(&mut self, _steps: u64) {
+        self.looks = self.looks.saturating_add(1);
+    }
 }
 
 impl Row<'_> {
@@ -100,11 +114,13 @@ impl Row<'_> {
         let words = words_of(alloc, self.command)?;
         let mut out = Output::new(alloc, out);
         let mut err = Output::new(alloc, err);
-        let status = act(rt, alloc, &words, shelf, &mut out, &mut err, &mut Unwatched);
+        let mut watch = Counting { looks: 0 };
+        let status = act(rt, alloc, &words, shelf, &mut out, &mut err, &mut watch);
         Ok(Told {
             out,
             err,
             status: usize::from(status),
+            looks: watch.looks,
         })
     }
 
@@ -114,6 +130,7 @@ impl Row<'_> {
             out: &self.wanted.out,
             err: &self.wanted.err,
             status: self.wanted.status,
+            looks: self.wanted.looks,
         }
     }
 
@@ -123,6 +140,7 @@ impl Row<'_> {
             out: self.wanted.out.get(..taken).unwrap_or(&self.wanted.out),
             err: b"cannot write output\n",
             status: 1,
+            looks: self.wanted.looks,
         }
     }
 
@@ -132,8 +150,9 @@ impl Row<'_> {
             out: &told.out.taken,
             err: &told.err.taken,
             status: told.status,
+            looks: told.looks,
         };
-        if told.out == wanted.out && told.err == wanted.err && told.status == wanted.status {
+        if told.equals(wanted) {
             return Ok(true);
         }
         println!(rt; "{}: {}", self.group, self.command)?;
@@ -143,13 +162,23 @@ impl Row<'_> {
     }
 }
 
+impl Answer<'_> {
+    /// Whether two of them are the same.
+    fn equals(&self, other: Answer<'_>) -> bool {
+        self.out == other.out
+            && self.err == other.err
+            && self.status == other.status
+            && self.looks == other.looks
+    }
+}
+
 /// Shows an answer, each of its texts on one line.
 fn show<R: Machine>(rt: &R, what: &str, answer: Answer<'_>) -> io::Result<()> {
     let out = text_of(answer.out);
     let err = text_of(answer.err);
     println!(rt;
-        "  {what}: {out:?}, error {err:?}, status {}",
-        answer.status
+        "  {what}: {out:?}, error {err:?}, status {}, {} looks",
+        answer.status, answer.looks
     )
 }
 

@@ -11,6 +11,8 @@ pub struct Wanted {
     pub out: Vec<u8>,
     pub err: Vec<u8>,
     pub status: usize,
+    /// How often its watch is told how far it has come.
+    pub looks: usize,
     /// How many bytes the standard output takes, if it ends.
     pub out_left: Option<usize>,
     /// How many bytes the standard error takes, if it ends.
@@ -27,13 +29,15 @@ impl Wanted {
             out: Vec::new(alloc),
             err: Vec::new(alloc),
             status: 0,
+            looks: 0,
             out_left: None,
             err_left: None,
             is_swept: false,
         }
     }
 
-    /// Takes a line: what is written (`>`, `!`), the status (`=`), or which outputs there are (`%`).
+    /// Takes a line: what is written (`>`, `!`), the status (`=`), how often a watch is told (`~`), or which outputs there
+    /// are (`%`).
     pub fn read(&mut self, line: &str) -> io::Result<()> {
         if let Some(spelled) = line.strip_prefix('>') {
             push_spelled(self.alloc, &mut self.out, spelled)
@@ -41,6 +45,9 @@ impl Wanted {
             push_spelled(self.alloc, &mut self.err, spelled)
         } else if let Some(status) = line.strip_prefix("= ") {
             self.status = number_in(status)?;
+            Ok(())
+        } else if let Some(looks) = line.strip_prefix("~ ") {
+            self.looks = number_in(looks)?;
             Ok(())
         } else if let Some(outputs) = line.strip_prefix("% ") {
             self.lend(outputs)

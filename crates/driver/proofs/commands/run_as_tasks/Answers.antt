@@ -47,7 +47,7 @@ returns-in-Ok g c =
     ap (map array) c.deref.ensures.value
     ∙ ap (λ (q : _). map array q.arrays.items) c.code.ensures.field
     ∙ ap (λ (t : Typed). map array t.code.arrays.items) (c.typed-in-Ok.ensures.field ∙ sym c.typed.ensures.field) in
-    let told = c.in-Ok.ensures.outcome ∙ ap (λ (b : Budget). outcome (code_of c.in_ok-accepted.accepted.typed) input (budget b)) c.usual-on.ensures.budget ∙ ap (λ (t : Typed). outcome (code_of t) input (budget c.args.settings.budget)) (sym c.typed.ensures.field) in
+    let told = c.in-Ok.ensures.outcome ∙ ap (λ (b : Budget). outcome (code_of c.in_ok-accepted.accepted.typed) input (budget b)) c.run_settings-on.ensures.budget ∙ ap (λ (t : Typed). outcome (code_of t) input (budget c.args.settings.budget)) (sym c.typed.ensures.field) in
     shown Run (settings c.args.settings) (g.F.FileSource.held c.args.files.now) text _ _ c.show.result _ _
     (record {
       code = p;
