@@ -1,0 +1,4 @@
+pub mod BegunLemmas
+pub mod ExprStarts
+pub mod Margins
+pub mod Starting

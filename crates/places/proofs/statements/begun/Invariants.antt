@@ -1,0 +1,13 @@
+use Rattle.std.proofs.Common.{◌≡◌, ◌++◌, List, take, drop}
+use Rattle.std.specs.Prelude.{false}
+use Rattle.syntax.specs.Place.{place_at}
+use Rattle.syntax.specs.Token.{Token, plain}
+use Rattle.places.proofs.BegunLemmas.{IsFound}
+use Rattle.places.proofs.statements.begun.Given as goal
+
+-- the place that was reached is right, and the statements so far are found
+abbrev pub invariant-loop-spanned : goal.invariant-loop-spanned
+invariant-loop-spanned l = record {
+  reached : l.reached.place ≡ place_at l.text l.reached.at;
+  found : IsFound l.text (plain l.tokens) (plain (drop l.spanned-index l.tokens)) l.ended l.places.items;
+}

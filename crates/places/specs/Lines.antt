@@ -1,0 +1,39 @@
+-- A listing with the places of its statements: line and column before each line with a label.
+use Rattle.std.specs.Prelude.{ℕ, ◌-◌, Bool, true, false, if◌then◌else◌, List, [], ◌∷◌, ◌++◌, codes, drop, length}
+use Rattle.std.specs.Prelude.{replicate}
+use Rattle.std.specs.Char.{is_ascii_digit}
+use Rattle.std.specs.Fmt.{decimal}
+use Rattle.syntax.specs.declared.place.Place.{Place}
+use Rattle.syntax.specs.Lexical.{starts}
+
+-- a label is right in five places
+abbrev pub has_label : List ℕ → Bool
+has_label line = starts is_ascii_digit (drop 4 line)
+
+-- the line right in five places, a colon, and the column left in four
+abbrev pub place_margin : Place → List ℕ
+place_margin p =
+    (replicate (5 - length (decimal p.line)) 32 ++ decimal p.line)
+    ++ (codes ":" ++ (decimal p.column ++ replicate (4 - length (decimal p.column)) 32))
+
+-- what stands before a line, with a label or without one: the first place that is left, or nothing
+abbrev pub margin : Bool → List Place → List ℕ
+margin false places = codes "          "
+margin true [] = codes "          "
+margin true (p ∷ ps) = place_margin p
+
+-- the places that are left behind a line, with a label or without one
+abbrev pub left_behind : Bool → List Place → List Place
+left_behind false places = places
+left_behind true [] = []
+left_behind true (p ∷ ps) = ps
+
+-- a line behind its margin
+abbrev pub placed_line : List Place → List ℕ → List ℕ
+placed_line places line = margin (has_label line) places ++ (line ++ codes "\n")
+
+-- lines, with the places of those that have a label
+abbrev pub placed_lines : List Place → List (List ℕ) → List ℕ
+placed_lines places [] = []
+placed_lines places (line ∷ more) =
+    placed_line places line ++ placed_lines (left_behind (has_label line) places) more

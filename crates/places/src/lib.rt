@@ -1,0 +1,9 @@
+//! Where the statements of a program stand in its text.
+
+#![tactic(auto)]
+
+pub mod listing;
+pub mod statements;
+
+pub use listing::placed_listing;
+pub use statements::statement_places;

@@ -1,0 +1,86 @@
+//! A listing, with the places of its statements.
+
+ghost use Rattle.std.specs.Prelude.{◌≡◌, ◌++◌, map, IfOk, OnOk};
+ghost use Rattle.std.specs.Str.Lines.{lines};
+ghost use Rattle.std.specs.String.{string_bytes};
+ghost use Rattle.places.specs.Lines.{has_label as shows_label, left_behind, margin, place_margin};
+ghost use Rattle.places.specs.Lines.{placed_line, placed_lines};
+
+use std::alloc::{AllocError, Global};
+use syntax::Place;
+
+/// The lines of a listing, each with a label behind the line and the column at which its statement begins.
+pub fn placed_listing(alloc: Global, listing: &str, places: &[Place]) -> Result<String, AllocError>
+    ensures { IfOk result (λ text. string_bytes text ≡ placed_lines places.now (lines listing.now)) }
+{
+    let lines = lines(alloc, listing)?;
+    let mut text = String::new(alloc);
+    let mut left = places;
+    for line in &lines {
+        left = push_line(&mut text, left, line)?;
+    }
+    Ok(text)
+}
+
+/// The lines of a text.
+fn lines(alloc: Global, text: &str) -> Result<Vec<&str>, AllocError>
+    ensures { IfOk result (λ lines_found. map (λ l. l.now) lines_found.items ≡ lines text.now) }
+{
+    text.lines().collect(alloc)
+}
+
+/// Adds a line, and gives the places that are left behind it.
+fn push_line<'p>(
+    text: &mut String,
+    places: &'p [Place],
+    line: &str,
+) -> Result<&'p [Place], AllocError>
+    ensures left { IfOk result
+        (λ left. left.now ≡ left_behind (shows_label line.now) places.now) }
+    ensures text { IfOk result
+        (λ _. string_bytes text.new ≡ string_bytes text.old ++ placed_line places.now line.now) }
+{
+    let left = push_margin(text, has_label(line), places)?;
+    text.push_str(line)?;
+    text.push('\n')?;
+    Ok(left)
+}
+
+/// Adds what stands before a line, and gives the places that are left behind it.
+fn push_margin<'p>(
+    text: &mut String,
+    labelled: bool,
+    places: &'p [Place],
+) -> Result<&'p [Place], AllocError>
+    ensures left { IfOk result (λ left. left.now ≡ left_behind labelled places.now) }
+    ensures text { IfOk result
+        (λ _. string_bytes text.new ≡ string_bytes text.old ++ margin labelled places.now) }
+{
+    if labelled {
+        if let [first, behind @ ..] = places {
+            push_place(text, *first)?;
+            return Ok(behind);
+        }
+    }
+    text.push_str("          ")?;
+    Ok(places)
+}
+
+/// Adds a place: its line right in five places, its column left in four.
+fn push_place(text: &mut String, place: Place) -> Result<(), AllocError>
+    ensures { OnOk result (string_bytes text.new ≡ string_bytes text.old ++ place_margin place) }
+{
+    let line = place.line;
+    let column = place.column;
+    write!(text, "{line:>5}:{column:<4}")
+}
+
+/// Whether a line of a listing begins with a label.
+fn has_label(line: &str) -> bool
+    ensures { result ≡ shows_label line.now }
+{
+    match line.as_bytes().get(4) {
+        Some(last) => last.is_ascii_digit(),
+        None => false,
+    }
+}
