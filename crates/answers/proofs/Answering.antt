@@ -1,12 +1,20 @@
 -- From what a command wrote, or why it wrote nothing, to what was done.
-use Rattle.std.proofs.Common.{◌≡◌, ◌≢◌, ◌<◌, inl, inr, ℕ, List, Option, Some, Result, Ok, Err, ap, ◌∙◌, sym, subst, refl}
+use Rattle.std.proofs.Common.{◌≡◌, ◌≢◌, ◌<◌, ◌≤◌, inl, inr, ℕ, List, Option, Some, Result, Ok, Err, ap, ◌∙◌, sym, subst, refl}
 use Rattle.std.proofs.KnownBytes.{Keeps-refl}
+use Rattle.std.proofs.Math.Dec.{ltb}
+use Rattle.std.proofs.lemmas.Bool.{ltb-false, ltb-true}
 use Rattle.std.specs.List.{flat_map}
-use Rattle.std.specs.Prelude.{◌↔◌, ℤ, IfErr, IfOk, IsErrAnd, Bool}
+use Rattle.std.specs.Prelude.{◌↔◌, ℤ, IfErr, IfOk, IsErrAnd, Bool, true, false}
 use Rattle.std.specs.Str.{chars}
+use Rattle.std.specs.Str.Lines.{lines}
 use Rattle.syntax.specs.Canonical.{listed}
 use Rattle.syntax.specs.Lexical.{AreTokensOf}
 use Rattle.syntax.specs.Spelling.{spelling}
+use Rattle.syntax.specs.declared.place.Place.{Place}
+use Rattle.syntax_tree.specs.Tree as tree
+use Rattle.places.specs.Begun.{AreBegun}
+use Rattle.places.specs.Lines.{placed_lines}
+use Rattle.places.specs.Starts.{starts}
 use Rattle.types.specs.Code.{Array, Program}
 use Rattle.types.specs.Outcome.{Outcome}
 use Rattle.types.specs.TreeRuns.{Explored, Ends, Open, NoSuchChoice}
@@ -20,7 +28,8 @@ use Rattle.race_checker.specs.Races.{IsLeastRace, Race as ProgramRace}
 use Rattle.answers.specs.Answers.{Answers, AnswersCheck, AnswersExplore, AnswersList, AnswersPairs}
 use Rattle.answers.specs.Answers.{Explores, IsExplored}
 use Rattle.answers.specs.Answers.{Does, Explains, Failed, HasRace, IsCodeOf, IsRunBy, LooksForRaces, Shows}
-use Rattle.answers.specs.Answers.{TellsNoCode, TellsNotAccepted, TellsRaceTo}
+use Rattle.answers.specs.Answers.{TellsNoCode, TellsNotAccepted, TellsRaceTo, TellsUnspelled, TestsRules}
+use Rattle.answers.specs.Answers.{AnswersLabels, AnswersPlaces}
 use Rattle.texts.specs.Appending.{Writes}
 use Rattle.answers.specs.Chosen.{ComesTo}
 use Rattle.intake.specs.Choosing.{TellsNoChoices}
@@ -36,6 +45,7 @@ use Rattle.intake.specs.declared.failure.Failure.TheVariants.{Race, NoMemoryInCh
 use Rattle.intake.specs.declared.failure.Failure.TheVariants.{Run as RunFailed, ChoicesNotUnderstood, NoLeaf}
 use Rattle.command_line.specs.declared.request.Command.{Command}
 use Rattle.command_line.specs.declared.request.Command.TheVariants.{Run, Serial, Check, Listing, Pairs, Explore}
+use Rattle.command_line.specs.declared.request.Command.TheVariants.{Labels, Places}
 
 -- ---- failures
 
@@ -71,18 +81,33 @@ module _ (c : Command) (s : Settings) (held : Held) (text : List ℕ) (b : Optio
 
   -- ---- a text without a code
 
-  pub no_code_explained : (f : Failure) → TellsNoCode text f → Explains c s held text f
-  no_code_explained (Syntax e) told = told
-  no_code_explained (Types e) told = told
-  no_code_explained _ told = absurd told
+  pub no_code_explained : TestsRules c → (f : Failure) → TellsNoCode text f → Explains c s held text f
+  no_code_explained tests (Syntax e) told = told
+  no_code_explained tests (Types e) told = (tests, told)
+  no_code_explained tests _ told = absurd told
 
   no_code_other : (f : Failure) → TellsNoCode text f → IsOther f
   no_code_other CannotWriteOutput told = told
   no_code_other _ told = tt
 
-  pub passes_no_code : (r : Result ℕ Failure) (f : Failure) → IsErrAnd r (λ y. y ≡ f) → TellsNoCode text f
+  pub passes_no_code : TestsRules c → (r : Result ℕ Failure) (f : Failure) → IsErrAnd r (λ y. y ≡ f) → TellsNoCode text f
       → Does c s held text b b r
-  passes_no_code r f is told = passes_on r f is (no_code_explained f told) (other_failure f (no_code_other f told))
+  passes_no_code tests r f is told =
+      passes_on r f is (no_code_explained tests f told) (other_failure f (no_code_other f told))
+
+  -- ---- a text that spells no program
+
+  no_program_explained : (f : Failure) → TellsUnspelled text f → Explains c s held text f
+  no_program_explained (Syntax e) told = told
+  no_program_explained _ told = absurd told
+
+  no_program_other : (f : Failure) → TellsUnspelled text f → IsOther f
+  no_program_other (Syntax e) told = tt
+  no_program_other _ told = absurd told
+
+  pub passes_no_program : (r : Result ℕ Failure) (f : Failure) → IsErrAnd r (λ y. y ≡ f) → TellsUnspelled text f
+      → Does c s held text b b r
+  passes_no_program r f is told = passes_on r f is (no_program_explained f told) (other_failure f (no_program_other f told))
 
   -- ---- a run without an input
 
@@ -103,6 +128,10 @@ module _ (c : Command) (s : Settings) (held : Held) (text : List ℕ) (b : Optio
     passes_no_input r f is told = passes_on r f is (no_input_explained f told) (other_failure f (no_input_other f told))
 
 -- ---- a text without an accepted program
+
+pub unspelled_has_no_code : (text : List ℕ) (f : Failure) → TellsUnspelled text f → TellsNoCode text f
+unspelled_has_no_code text (Syntax e) told = told
+unspelled_has_no_code text _ told = absurd told
 
 pub no_code_not_accepted : (text : List ℕ) (f : Failure) → TellsNoCode text f → TellsNotAccepted text f
 no_code_not_accepted text (Syntax e) told = told
@@ -130,11 +159,23 @@ race_told Check text procedure first second looks race = race
 race_told Listing text procedure first second looks race = race
 race_told Pairs text procedure first second looks race = absurd looks
 race_told Explore text procedure first second looks race = race
+race_told Labels text procedure first second looks race = absurd looks
+race_told Places text procedure first second looks race = absurd looks
+
+rules_tested : (c : Command) → LooksForRaces c → TestsRules c
+rules_tested Run looks = tt
+rules_tested Serial looks = absurd looks
+rules_tested Check looks = tt
+rules_tested Listing looks = tt
+rules_tested Pairs looks = absurd looks
+rules_tested Explore looks = tt
+rules_tested Labels looks = absurd looks
+rules_tested Places looks = absurd looks
 
 module _ (c : Command) (looks : LooksForRaces c) (s : Settings) (held : Held) (text : List ℕ) (b : Option (List ℕ)) where
   not_accepted_explained : (f : Failure) → TellsNotAccepted text f → Explains c s held text f
   not_accepted_explained (Syntax e) told = told
-  not_accepted_explained (Types e) told = told
+  not_accepted_explained (Types e) told = (rules_tested c looks, told)
   not_accepted_explained (Race procedure first second) told = race_told c text _ _ _ looks told
   not_accepted_explained NoMemoryInCheck told = looks
   not_accepted_explained _ told = absurd told
@@ -191,6 +232,39 @@ module _ (text told : List ℕ) (kept typed : Typed) (same : typed ≡ kept)
     told_is = is;
     status_is = refl;
   }
+
+-- ---- listings of any program
+
+ok_is_no_error : {A E : Type 0} (x : A) (e : E) → (let r : Result A E = Ok x in r) ≡ Err e → ⊥
+ok_is_no_error x e is = cc
+
+short_by : {A E : Type 0} (r : Result A E) (x : A) (e : E) (n : ℕ) (b : Bool) → ltb 1048576 n ≡ b → r ≡ Ok x
+    → ((r ≡ Err e) ↔ (1048576 < n)) → n ≤ 1048576
+short_by r x e n true long is over = absurd (ok_is_no_error x e (sym is ∙ over.1 (ltb-true 1048576 n long)))
+short_by r x e n false long is over = ltb-false 1048576 n long
+
+-- what is read isn't too long
+pub read_is_short : {A E : Type 0} (r : Result A E) (x : A) (e : E) (n : ℕ) → r ≡ Ok x → ((r ≡ Err e) ↔ (1048576 < n))
+    → n ≤ 1048576
+read_is_short r x e n is over = short_by r x e n (ltb 1048576 n) refl is over
+
+-- the listing
+pub labels_answer : (text told : List ℕ) (program : tree.Program) → AreTokensOf (chars text) (spelling program)
+    → told ≡ listed program → AnswersLabels text told 0
+labels_answer text told program spelled is = record { program = program; spelled = spelled; told_is = is; status_is = refl }
+
+-- the same with places
+pub places_answer : (text told listing : List ℕ) (program : tree.Program) (places : List Place)
+    → AreTokensOf (chars text) (spelling program) → AreBegun (chars text) (starts program) places
+    → told ≡ placed_lines places (lines listing) → listing ≡ listed program → AnswersPlaces text told 0
+places_answer text told listing program places spelled begun is of = record {
+  program = program;
+  spelled = spelled;
+  places = places;
+  begun = begun;
+  told_is = is ∙ ap (λ (l : List ℕ). placed_lines places (lines l)) of;
+  status_is = refl;
+}
 
 -- pairs as they are kept are listed as those of the program
 listed_as : (has meets : ℕ → ℕ → Type 0) → ((x y : ℕ) → has x y ↔ meets x y) → (pairs : List (ℕ × ℕ))

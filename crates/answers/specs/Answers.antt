@@ -4,11 +4,16 @@ use Rattle.std.specs.Prelude.{Option, Some, None, Result, MatchResult}
 use Rattle.std.specs.Io.KnownBytes.{Appends, Keeps}
 use Rattle.std.specs.List.{flat_map}
 use Rattle.std.specs.Str.{chars}
+use Rattle.std.specs.Str.Lines.{lines}
 use Rattle.std.specs.String.{string_bytes}
 use Rattle.syntax.specs.Canonical.{listed}
 use Rattle.syntax.specs.Lexical.{AreTokensOf}
 use Rattle.syntax.specs.Refusals.{Tells as IsErrorOfText}
 use Rattle.syntax.specs.Spelling.{spelling}
+use Rattle.syntax.specs.declared.place.Place.{Place}
+use Rattle.places.specs.Begun.{AreBegun}
+use Rattle.places.specs.Lines.{placed_lines}
+use Rattle.places.specs.Starts.{starts}
 use Rattle.syntax_tree.specs.Tree as tree
 use Rattle.types.specs.Code.{Program}
 use Rattle.types.specs.Outcome.{Outcome, outcome}
@@ -40,6 +45,7 @@ use Rattle.intake.specs.declared.failure.Failure.TheVariants.{ChoicesNotUndersto
 use Rattle.intake.specs.declared.failure.Failure.TheVariants.{Run as RunFailed}
 use Rattle.command_line.specs.declared.request.Command.{Command}
 use Rattle.command_line.specs.declared.request.Command.TheVariants.{Run, Serial, Check, Listing, Pairs, Explore}
+use Rattle.command_line.specs.declared.request.Command.TheVariants.{Labels, Places}
 
 -- the text spells a program that breaks no rule, of which this is the code
 pub record IsCodeOf (text : List ℕ) (code : Program) : Type 0 where
@@ -56,6 +62,8 @@ IsRunBy Check code = ⊥
 IsRunBy Listing code = ⊥
 IsRunBy Pairs code = ⊥
 IsRunBy Explore code = IsAccepted code
+IsRunBy Labels code = ⊥
+IsRunBy Places code = ⊥
 
 -- ---- answers
 
@@ -107,6 +115,22 @@ pub record AnswersPairs (text told : List ℕ) (status : ℕ) : Type 0 where
   pub told_is : told ≡ flat_map pair_text pairs
   pub status_is : status ≡ 0
 
+-- `list`: the listing of the text's program, whatever rules it breaks
+pub record AnswersLabels (text told : List ℕ) (status : ℕ) : Type 0 where
+  pub program : tree.Program
+  pub spelled : AreTokensOf (chars text) (spelling program)
+  pub told_is : told ≡ listed program
+  pub status_is : status ≡ 0
+
+-- `list --lines`: the same, with the place of each statement's first token
+pub record AnswersPlaces (text told : List ℕ) (status : ℕ) : Type 0 where
+  pub program : tree.Program
+  pub spelled : AreTokensOf (chars text) (spelling program)
+  pub places : List Place
+  pub begun : AreBegun (chars text) (starts program) places
+  pub told_is : told ≡ placed_lines places (lines (listed program))
+  pub status_is : status ≡ 0
+
 -- the text's program has no race, and this is its input
 pub record IsExplored (s : Settings) (held : Held) (text : List ℕ) : Type 0 where
   pub code : Program
@@ -137,6 +161,8 @@ Answers Check s held text told status = AnswersCheck text told status
 Answers Listing s held text told status = AnswersList text told status
 Answers Pairs s held text told status = AnswersPairs text told status
 Answers Explore s held text told status = AnswersExplore s held text told status
+Answers Labels s held text told status = AnswersLabels text told status
+Answers Places s held text told status = AnswersPlaces text told status
 
 -- ---- failures
 
@@ -146,11 +172,27 @@ pub record BreaksRule (text : List ℕ) (e : TypeError) : Type 0 where
   pub spelled : AreTokensOf (chars text) (spelling program)
   pub broken : Told (errors_of program) e
 
+-- the command tests the rules of types
+abbrev pub TestsRules : Command → Type 0
+TestsRules Run = Unit {0}
+TestsRules Serial = Unit {0}
+TestsRules Check = Unit {0}
+TestsRules Listing = Unit {0}
+TestsRules Pairs = Unit {0}
+TestsRules Explore = Unit {0}
+TestsRules Labels = ⊥
+TestsRules Places = ⊥
+
 -- why a text has no code, memory aside: it spells no program, or one that breaks a rule
 abbrev pub TellsNoCode : (text : List ℕ) → Failure → Type 0
 TellsNoCode text (Syntax e) = IsErrorOfText text e
 TellsNoCode text (Types e) = BreaksRule text e
 TellsNoCode text _ = ⊥
+
+-- why a text spells no program, memory aside
+abbrev pub TellsUnspelled : (text : List ℕ) → Failure → Type 0
+TellsUnspelled text (Syntax e) = IsErrorOfText text e
+TellsUnspelled text _ = ⊥
 
 -- C1: the text's program has a race, and the least one is told
 pub record HasRace (text procedure first second : List ℕ) : Type 0 where
@@ -167,6 +209,8 @@ TellsRaceTo Check text procedure first second = HasRace text procedure first sec
 TellsRaceTo Listing text procedure first second = HasRace text procedure first second
 TellsRaceTo Pairs text procedure first second = ⊥
 TellsRaceTo Explore text procedure first second = HasRace text procedure first second
+TellsRaceTo Labels text procedure first second = ⊥
+TellsRaceTo Places text procedure first second = ⊥
 
 -- the command looks for races
 abbrev pub LooksForRaces : Command → Type 0
@@ -176,6 +220,8 @@ LooksForRaces Check = Unit {0}
 LooksForRaces Listing = Unit {0}
 LooksForRaces Pairs = ⊥
 LooksForRaces Explore = Unit {0}
+LooksForRaces Labels = ⊥
+LooksForRaces Places = ⊥
 
 -- why a text has no accepted program, memory aside
 abbrev pub TellsNotAccepted : (text : List ℕ) → Failure → Type 0
@@ -213,7 +259,7 @@ Explains c s held text (CannotRead name) =
     (LacksInput c s held text (CannotRead name)) ⊎ (LacksChoices c s held text (CannotRead name))
 Explains c s held text (NotUtf8 name) = LacksInput c s held text (NotUtf8 name)
 Explains c s held text (Syntax e) = TellsNoCode text (Syntax e)
-Explains c s held text (Types e) = TellsNoCode text (Types e)
+Explains c s held text (Types e) = TestsRules c × BreaksRule text e
 Explains c s held text (Race procedure first second) =
     TellsRaceTo c text (string_bytes procedure) (string_bytes first) (string_bytes second)
 Explains c s held text NoMemoryInCheck = LooksForRaces c

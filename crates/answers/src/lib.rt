@@ -3,6 +3,7 @@
 #![tactic(auto)]
 
 pub mod exploring;
+pub mod listing;
 pub mod programs;
 pub mod running;
 pub mod showing;

@@ -1,12 +1,12 @@
 //! The program of a text.
 
-ghost use Rattle.std.specs.Prelude.{IfOk, IfErr};
+ghost use Rattle.std.specs.Prelude.{◌≤◌, IfOk, IfErr, length};
 ghost use Rattle.std.specs.Str.{chars};
 ghost use Rattle.syntax.specs.Lexical.{AreTokensOf};
 ghost use Rattle.syntax.specs.Spelling.{spelling};
 ghost use Rattle.syntax_tree.specs.Tree.{program as tree_of};
 ghost use Rattle.types.specs.Typed.{code_of, program_of as program_in};
-ghost use Rattle.answers.specs.Answers.{IsCodeOf, TellsNoCode, TellsNotAccepted};
+ghost use Rattle.answers.specs.Answers.{IsCodeOf, TellsNoCode, TellsNotAccepted, TellsUnspelled};
 
 use effects::laws::typed_programs_are_sound;
 use intake::failure::Failure;
@@ -49,10 +49,11 @@ pub fn typed_of(alloc: Global, text: &str) -> Result<Typed, Failure>
     }
 }
 
-/// The program that a text spells.
-fn program_of(alloc: Global, text: &str) -> Result<Program, Failure>
+/// The program that a text spells, whatever rules it breaks.
+pub fn program_of(alloc: Global, text: &str) -> Result<Program, Failure>
     ensures spelled { IfOk result (λ p. AreTokensOf (chars text.now) (spelling (tree_of p))) }
-    ensures why { IfErr result (TellsNoCode text.now) }
+    ensures short { IfOk result (λ _. length text.now ≤ 1048576) }
+    ensures why { IfErr result (TellsUnspelled text.now) }
 {
     match syntax::parse(alloc, text) {
         Ok(program) => Ok(program),

@@ -11,6 +11,7 @@ use Rattle.std.proofs.Math.Bool.{and-false}
 use Rattle.command_line.specs.declared.plain.Line.{Line as rLine}
 use Rattle.command_line.specs.declared.request.Command.{Command}
 use Rattle.command_line.specs.declared.request.Command.TheVariants.{Run, Serial, Check, Listing, Pairs, Explore}
+use Rattle.command_line.specs.declared.request.Command.TheVariants.{Labels, Places}
 use Rattle.command_line.specs.declared.request.Settings.{Settings as rSettings}
 use Rattle.command_line.specs.Reading.{Line, bare, flag_taken, line_of, no_texts, read, read_choosing, read_file, read_whole}
 use Rattle.command_line.specs.Reading.{read_optioned, read_serial_texts, read_texts, taken}
@@ -18,6 +19,7 @@ use Rattle.command_line.specs.Requests.{AreForExplore, AreForRun, AreForSerial, 
 use Rattle.command_line.specs.Requests.{is_file_name, optioned, plain, settings_by, flagged, valued}
 use Rattle.command_line.specs.Requests.{Choosing, Listed, InFile, Random, IsRightChoosing, choosing_words_of, file_of, list_of}
 use Rattle.command_line.specs.Requests.{seed_of, serial_words_of, texts_by, words_of}
+use Rattle.command_line.specs.Requests.{to_label, to_place, to_place_behind}
 use Rattle.command_line.specs.Requests.{by_no_word, to_run, to_run_on_one_thread, to_check, to_list, to_list_behind, to_pair, to_explore}
 
 if_true : {A : Type 0} (b : Bool) (x y : A) → b ≡ true → (if b then x else y) ≡ x
@@ -363,6 +365,13 @@ read_list_behind file named =
     if_false (bytes_eq file (codes "--list") && false) _ _ (and-false (bytes_eq file (codes "--list")))
     ∙ read_named Listing file named
 
+-- and that of `list`
+read_places_behind : (file : List ℕ) → IsTrue (is_file_name file)
+    → read (codes "list" ∷ file ∷ codes "--lines" ∷ []) ≡ Some (bare Places file)
+read_places_behind file named =
+    if_false (bytes_eq file (codes "--lines") && false) _ _ (and-false (bytes_eq file (codes "--lines")))
+    ∙ read_named Places file named
+
 -- what words that ask are read as, and for which options that stands
 pub record IsLineOf (words : List (List ℕ)) (a : Asked) : Type 0 where
   pub command : Command
@@ -427,6 +436,11 @@ asks_line words a (to_list file named is asked) =
     bare_line words a Listing file (ap read is ∙ if_true (is_file_name file) _ _ named) asked
 asks_line words a (to_list_behind file named is asked) =
     bare_line words a Listing file (ap read is ∙ read_list_behind file named) asked
+asks_line words a (to_label file named is asked) = bare_line words a Labels file (ap read is ∙ read_named Labels file named) asked
+asks_line words a (to_place file named is asked) =
+    bare_line words a Places file (ap read is ∙ if_true (is_file_name file) _ _ named) asked
+asks_line words a (to_place_behind file named is asked) =
+    bare_line words a Places file (ap read is ∙ read_places_behind file named) asked
 asks_line words a (to_pair file named is asked) = bare_line words a Pairs file (ap read is ∙ read_named Pairs file named) asked
 
 -- what was read

@@ -5,6 +5,7 @@ use Rattle.std.specs.Str.{bytes_eq}
 use Rattle.command_line.specs.Requests.{Texts, is_file_name}
 use Rattle.command_line.specs.declared.request.Command.{Command}
 use Rattle.command_line.specs.declared.request.Command.TheVariants.{Run, Serial, Check, Listing, Pairs, Explore}
+use Rattle.command_line.specs.declared.request.Command.TheVariants.{Labels, Places}
 use Rattle.command_line.specs.declared.plain.Line.{Line as rLine}
 use Rattle.command_line.specs.declared.plain.Texts.{Texts as rTexts}
 
@@ -140,17 +141,18 @@ abbrev pub read_file : Command → (file : List ℕ) → Option Line
 read_file command file =
     if is_file_name file then Some (bare command file) else None
 
--- the two words behind `check`, one of which is its option
-abbrev pub read_listing : (one other : List ℕ) → Option Line
-read_listing one other =
-    if bytes_eq one (codes "--list") && is_file_name other then Some (bare Listing other) else
-    (if bytes_eq other (codes "--list") then read_file Listing one else None)
+-- the two words behind a command, one of which is its option
+abbrev pub read_flagged : (flag : List ℕ) → (flagged : Command) → (one other : List ℕ) → Option Line
+read_flagged flag flagged one other =
+    if bytes_eq one flag && is_file_name other then Some (bare flagged other) else
+    (if bytes_eq other flag then read_file flagged one else None)
 
--- the words behind `check`
-abbrev pub read_check : (one : List ℕ) → (others : List (List ℕ)) → Option Line
-read_check one [] = read_file Check one
-read_check one (other ∷ []) = read_listing one other
-read_check one (other ∷ third ∷ behind) = None
+-- the words behind a command with one option, by which another is meant
+abbrev pub read_flaggable : Command → (flag : List ℕ) → (flagged : Command) → (one : List ℕ)
+    → (others : List (List ℕ)) → Option Line
+read_flaggable command flag flagged one [] = read_file command one
+read_flaggable command flag flagged one (other ∷ []) = read_flagged flag flagged one other
+read_flaggable command flag flagged one (other ∷ third ∷ behind) = None
 
 -- the words behind a command that takes a file alone
 abbrev pub read_alone : Command → (file : List ℕ) → (behind : List (List ℕ)) → Option Line
@@ -162,9 +164,10 @@ abbrev pub read_behind : (command file : List ℕ) → (behind : List (List ℕ)
 read_behind command file behind =
     if bytes_eq command (codes "run") then read_optioned Run file (read_texts behind) else
     (if bytes_eq command (codes "serial") then read_optioned Serial file (read_serial_texts behind) else
-    (if bytes_eq command (codes "check") then read_check file behind else
+    (if bytes_eq command (codes "check") then read_flaggable Check (codes "--list") Listing file behind else
+    (if bytes_eq command (codes "list") then read_flaggable Labels (codes "--lines") Places file behind else
     (if bytes_eq command (codes "mhp") then read_alone Pairs file behind else
-    (if bytes_eq command (codes "explore") then read_optioned Explore file (read_choosing behind) else None))))
+    (if bytes_eq command (codes "explore") then read_optioned Explore file (read_choosing behind) else None)))))
 
 -- the words of a command line
 abbrev pub read : List (List ℕ) → Option Line

@@ -7,6 +7,7 @@ use Rattle.types.specs.Outcome.{Budget}
 use Rattle.types.specs.Translation.{budget as budget_of}
 use Rattle.command_line.specs.declared.request.Command.{Command}
 use Rattle.command_line.specs.declared.request.Command.TheVariants.{Run, Serial, Check, Listing, Pairs, Explore}
+use Rattle.command_line.specs.declared.request.Command.TheVariants.{Labels, Places}
 use Rattle.command_line.specs.declared.request.Choosing.{Choosing as rChoosing}
 use Rattle.command_line.specs.declared.request.Choosing.TheVariants.{Listed as rListed, InFile as rInFile}
 use Rattle.command_line.specs.declared.request.Choosing.TheVariants.{Random as rRandom}
@@ -272,6 +273,12 @@ pub data Asks (words : List (List ℕ)) (a : Asked) : Type 0 where
       → words ≡ codes "check" ∷ codes "--list" ∷ file ∷ [] → a ≡ plain Listing file → Asks words a
   to_list_behind : (file : List ℕ) → IsTrue (is_file_name file)
       → words ≡ codes "check" ∷ file ∷ codes "--list" ∷ [] → a ≡ plain Listing file → Asks words a
+  to_label : (file : List ℕ) → IsTrue (is_file_name file)
+      → words ≡ codes "list" ∷ file ∷ [] → a ≡ plain Labels file → Asks words a
+  to_place : (file : List ℕ) → IsTrue (is_file_name file)
+      → words ≡ codes "list" ∷ codes "--lines" ∷ file ∷ [] → a ≡ plain Places file → Asks words a
+  to_place_behind : (file : List ℕ) → IsTrue (is_file_name file)
+      → words ≡ codes "list" ∷ file ∷ codes "--lines" ∷ [] → a ≡ plain Places file → Asks words a
   to_pair : (file : List ℕ) → IsTrue (is_file_name file)
       → words ≡ codes "mhp" ∷ file ∷ [] → a ≡ plain Pairs file → Asks words a
   to_explore : (file : List ℕ) (o : Options) → IsTrue (is_file_name file) → AreForExplore o

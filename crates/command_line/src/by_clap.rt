@@ -16,6 +16,10 @@ pub fn request_by_clap<'w>(alloc: Global, words: &'w [String]) -> Result<Request
             request(alloc, Command::Listing, given)
         }
         Some(("check", given)) => request(alloc, Command::Check, given),
+        Some(("list", given)) if given.get_flag("lines") => {
+            request(alloc, Command::Places, given)
+        }
+        Some(("list", given)) => request(alloc, Command::Labels, given),
         Some(("mhp", given)) => request(alloc, Command::Pairs, given),
         Some(("explore", given)) => request(alloc, Command::Explore, given),
         _ => Err(commands(alloc)?.error(ErrorKind::MissingSubcommand, "no command")?),
@@ -82,7 +86,7 @@ const STATUSES: &str = "No word is `run -`: the program is read from the standar
 Example: afx serial examples/doubling.afx --input examples/doubling.json --arrays
 
 Exit status:
-  0  the run ended; the program is accepted; pairs of labels; help
+  0  the run ended; the program is accepted; a listing; pairs of labels; help
   1  refused: the command line, a file, the text, a rule, a race, the input, the choices, the output
   2  the run ended with faults
   3  the run was stopped over its budget; it has not ended by its choices
@@ -109,6 +113,11 @@ fn commands<'w>(alloc: Global) -> Result<clap::Command<'w>, AllocError> {
         .after_help("Example: afx check examples/two_arrays.afx --list")
         .arg(file(alloc))?
         .arg(list(alloc))?;
+    let labels = clap::Command::new(alloc, "list")
+        .about("Writes a program, each statement behind its label")
+        .after_help("Example: afx list examples/race.afx --lines")
+        .arg(file(alloc))?
+        .arg(lines(alloc))?;
     let pairs = clap::Command::new(alloc, "mhp")
         .about("Tells which labels of a program may run together")
         .after_help("Example: afx mhp examples/two_arrays.afx")
@@ -132,6 +141,7 @@ fn commands<'w>(alloc: Global) -> Result<clap::Command<'w>, AllocError> {
         .subcommand(run(alloc)?)?
         .subcommand(serial(alloc)?)?
         .subcommand(check)?
+        .subcommand(labels)?
         .subcommand(pairs)?
         .subcommand(explore)
 }
@@ -181,6 +191,14 @@ fn list<'w>(alloc: Global) -> Arg<'w> {
     Arg::new(alloc, "list")
         .long("list")
         .help("Writes the program, each statement behind its label")
+        .action(ArgAction::SetTrue)
+}
+
+/// The option of `list`.
+fn lines<'w>(alloc: Global) -> Arg<'w> {
+    Arg::new(alloc, "lines")
+        .long("lines")
+        .help("Writes before each label the line and the column at which its statement begins")
         .action(ArgAction::SetTrue)
 }
 

@@ -3,9 +3,10 @@
 ghost use Rattle.std.specs.Prelude.{◌≡◌, map, option_map};
 ghost use Rattle.std.specs.String.{string_bytes};
 ghost use Rattle.command_line.specs.Reading.{bare as bare_line, flag_taken, line_of, read};
-ghost use Rattle.command_line.specs.Reading.{read_alone, read_behind, read_check, read_choosing};
-ghost use Rattle.command_line.specs.Reading.{no_texts, read_file, read_listing, read_optioned};
-ghost use Rattle.command_line.specs.Reading.{read_serial_texts, read_texts, read_whole, taken, texts_of};
+ghost use Rattle.command_line.specs.Reading.{read_alone, read_behind, read_choosing};
+ghost use Rattle.command_line.specs.Reading.{no_texts, read_file, read_flaggable, read_flagged};
+ghost use Rattle.command_line.specs.Reading.{read_optioned, read_serial_texts, read_texts, read_whole};
+ghost use Rattle.command_line.specs.Reading.{taken, texts_of};
 ghost use Rattle.command_line.specs.Requests.{is_file_name as names_file};
 
 use crate::request::Command;
@@ -76,7 +77,9 @@ fn line_behind<'w>(command: &str, file: &'w str, behind: &'w [String]) -> Option
     } else if command == "serial" {
         optioned_line(Command::Serial, file, serial_texts_in(behind))
     } else if command == "check" {
-        check_line(file, behind)
+        flagged_line(Command::Check, "--list", Command::Listing, file, behind)
+    } else if command == "list" {
+        flagged_line(Command::Labels, "--lines", Command::Places, file, behind)
     } else if command == "mhp" {
         alone_line(Command::Pairs, file, behind)
     } else if command == "explore" {
@@ -219,25 +222,32 @@ fn take_flag<'w>(option: &str, words: &'w [String]) -> (bool, &'w [String])
     }
 }
 
-/// A line of `check`: a file, with its option before or behind it, or without it.
-fn check_line<'w>(one: &'w str, others: &'w [String]) -> Option<Line<'w>>
-    ensures { option_map line_of result ≡ read_check one.now (map string_bytes others.now) }
+/// A line of a command with one option, which may stand before the file or behind it.
+fn flagged_line<'w>(
+    command: Command,
+    flag: &str,
+    flagged: Command,
+    one: &'w str,
+    others: &'w [String],
+) -> Option<Line<'w>>
+    ensures { option_map line_of result
+        ≡ read_flaggable command flag.now flagged one.now (map string_bytes others.now) }
 {
     match others {
-        [] => file_line(Command::Check, one),
-        [other] => listing_line(one, other.as_str()),
+        [] => file_line(command, one),
+        [other] => flag_line(flag, flagged, one, other.as_str()),
         [_, _, ..] => None,
     }
 }
 
-/// A line of `check --list`.
-fn listing_line<'w>(one: &'w str, other: &'w str) -> Option<Line<'w>>
-    ensures { option_map line_of result ≡ read_listing one.now other.now }
+/// A line of a command with its option.
+fn flag_line<'w>(flag: &str, flagged: Command, one: &'w str, other: &'w str) -> Option<Line<'w>>
+    ensures { option_map line_of result ≡ read_flagged flag.now flagged one.now other.now }
 {
-    if one == "--list" && is_file_name(other) {
-        Some(bare(Command::Listing, other))
-    } else if other == "--list" {
-        file_line(Command::Listing, one)
+    if one == flag && is_file_name(other) {
+        Some(bare(flagged, other))
+    } else if other == flag {
+        file_line(flagged, one)
     } else {
         None
     }

@@ -15,6 +15,10 @@ pub enum Command {
     Check,
     /// `check --list`: write its listing.
     Listing,
+    /// `list`: write the listing of any program.
+    Labels,
+    /// `list --lines`: the same, with the places of its statements.
+    Places,
     /// `mhp`: write the pairs of its labels that may run together.
     Pairs,
     /// `explore`: run it over one shared store by given choices.

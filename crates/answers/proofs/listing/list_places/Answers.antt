@@ -1,0 +1,21 @@
+use Rattle.std.proofs.Common.{List, ap, ◌∙◌}
+use Rattle.std.specs.Str.Lines.{lines}
+use Rattle.syntax.specs.declared.place.Place.{Place}
+use Rattle.syntax_tree.specs.Tree.{program as tree_of}
+use Rattle.places.specs.Lines.{placed_lines}
+use Rattle.command_line.specs.declared.request.Command.TheVariants.{Places}
+use Rattle.answers.proofs.Answering.{places_answer, shown}
+use Rattle.answers.proofs.listing.list_places.Goals as goal
+
+pub returns : goal.returns
+returns g c s held =
+    let text = c.args.text.now in
+    let program = tree_of c.in_ok-program.program in
+    let spelled = c.in_ok-program.ensures.spelled in
+    shown Places s held text _ _ c.answer.result c.as_str-2.result.now 0
+    (places_answer text c.as_str-2.result.now c.as_str.result.now program c.in_ok-places.places.items spelled
+    (c.in_ok-places.ensures.begun program spelled)
+    (c.as_str-2.ensures.value ∙ c.in_ok-placed.ensures.text
+    ∙ ap (λ (l : List Place). placed_lines l (lines c.as_str.result.now)) c.deref.ensures.value)
+    (c.as_str.ensures.value ∙ c.in_ok-listing.ensures.text))
+    c.answer.ensures.text c.answer.ensures.status c.answer.ensures.failure
