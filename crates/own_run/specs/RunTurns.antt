@@ -228,8 +228,18 @@ pub data GoesOn (needs : Codes → Needs) : (old new : Run) → Type 0 where
   further : {old mid new : Run} → GoesOn needs old mid → IsTurn needs mid (Going new)
       → GoesOn needs old new
 
--- so, and then takes this turn
+-- a turn that comes to more than a step
+abbrev pub IsMore : Turn → Type 0
+IsMore (Going r) = ⊥
+IsMore (Spawns r s) = ⊤
+IsMore (EntersFinish r) = ⊤
+IsMore (EndsFinish q r) = ⊤
+IsMore (Ended r) = ⊤
+IsMore (Over r) = ⊤
+
+-- so, and then takes this turn, the first that comes to more than a step
 pub record GoesUpTo (needs : Codes → Needs) (old : Run) (t : Turn) : Type 0 where
   pub last : Run
   pub reached : GoesOn needs old last
   pub turn : IsTurn needs last t
+  pub more : IsMore t

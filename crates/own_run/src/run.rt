@@ -54,7 +54,8 @@ pub struct Run<'p> {
 
 impl<'p> Run<'p> {
     ghost use Rattle.own_run.specs.RunTurns.{Acts, CanAct, CanTurn, DidAct, DidNext, GoesOn};
-    ghost use Rattle.own_run.specs.RunTurns.{GoesUpTo, HasRoom, IsAtEnd, IsStep, IsTurn, Turns};
+    ghost use Rattle.own_run.specs.RunTurns.{GoesUpTo, HasRoom, IsAtEnd, IsMore, IsStep, IsTurn};
+    ghost use Rattle.own_run.specs.RunTurns.{Turns};
     ghost use Rattle.own_run.specs.RunTurns.{below_top, taken_off};
     ghost use Rattle.own_run.specs.declared.run.Run.{Run as AnyRun};
 
@@ -445,7 +446,8 @@ impl<'p> Run<'p> {
     /// The turn of a run at the end of a finish, or at its own.
     fn end(self) -> Result<Turn<'p>, AllocError>
         requires { IsAtEnd self }
-        ensures { IfOk result (λ t. (needs : Codes → Needs) → IsTurn needs self.entry t) }
+        ensures turn { IfOk result (λ t. (needs : Codes → Needs) → IsTurn needs self.entry t) }
+        ensures more { IfOk result IsMore }
     {
         let mut run = self;
         match run.frames.pop() {

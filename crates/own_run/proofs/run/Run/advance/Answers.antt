@@ -13,4 +13,4 @@ pub returns-in_ok-end-in-AtEnd-clause-turn : goal.returns-in_ok-end-in-AtEnd-cla
 returns-in_ok-end-in-AtEnd-clause-turn g c =
     let needs = g.N.Needed.needs c.args.needed.now in
     let stays = subst (λ s. IsStep needs c.args.self s c.step.new.self) c.in-AtEnd.is c.in_ok-done.ensures.step in
-    subst (λ (r : Run). IsTurn needs r c.in_ok-end-in-AtEnd.field-0) stays.0 (c.in_ok-end-in-AtEnd.ensures needs)
+    subst (λ (r : Run). IsTurn needs r c.in_ok-end-in-AtEnd.field-0) stays.0 (c.in_ok-end-in-AtEnd.ensures.turn needs)

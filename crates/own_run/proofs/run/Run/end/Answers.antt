@@ -10,8 +10,8 @@ use Rattle.own_run.specs.declared.turn.Turn.TheVariants.{EndsFinish, Ended}
 use Rattle.own_run.proofs.RunTops.{none_left, none_stacked, on_frame}
 use Rattle.own_run.proofs.run.Run.end.Goals as goal
 
-pub returns-in-None : goal.returns-in-None
-returns-in-None c = λ needs close fs x shows.
+pub returns-in-None-clause-turn : goal.returns-in-None-clause-turn
+returns-in-None-clause-turn c = λ needs close fs x shows.
     let m = c.args.self in let popped = c.pop.new.self in
     let none : m.frames.items ≡ [] = none_left m.frames.items (sym m.frames.ok.0 ∙ c.in-None.ensures.cases.0) in
     subst (λ (fs : List (Frame Own)). TurnOf needs close m fs (with_own x (state_of m.thread)) (Ended c.result.result))
@@ -23,8 +23,8 @@ returns-in-None c = λ needs close fs x shows.
       few = shows.few;
     }))
 
-pub returns-in_ok-paused-in-EndFinish : goal.returns-in_ok-paused-in-EndFinish
-returns-in_ok-paused-in-EndFinish c = λ needs close fs x shows.
+pub returns-in_ok-paused-in-EndFinish-clause-turn : goal.returns-in_ok-paused-in-EndFinish-clause-turn
+returns-in_ok-paused-in-EndFinish-clause-turn c = λ needs close fs x shows.
     let m = c.args.self in let popped = c.pop.new.self in
     let st = with_own x (state_of m.thread) in
     let waiting = EndsFinish c.in_ok-paused-in-EndFinish.paused c.in_ok-paused-in-EndFinish.result in

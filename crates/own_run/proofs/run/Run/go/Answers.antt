@@ -1,8 +1,17 @@
-use Rattle.std.proofs.Common.{sym, subst}
-use Rattle.own_run.specs.RunTurns.{IsAtEnd, IsStep, IsTurn, here, further, turn_of}
+use Rattle.std.proofs.Common.{◌≡◌, refl, sym, subst}
+use Rattle.own_run.specs.RunTurns.{IsAtEnd, IsMore, IsStep, IsTurn, here, further, turn_of}
 use Rattle.own_run.specs.declared.run.Run.{Run}
+use Rattle.own_run.specs.declared.turn.Done.{Done}
+use Rattle.own_run.specs.declared.turn.Done.TheVariants.{Gone, Spawned, Entered, Exceeded}
 use Rattle.own_run.proofs.TurnsLeft.{leaves_fewer}
 use Rattle.own_run.proofs.run.Run.go.Goals as goal
+
+-- what isn't a step alone is more
+more_than_gone : (r : Run) (d : Done) → (d ≡ Gone → ⊥) → IsMore (turn_of r d)
+more_than_gone r Gone other = absurd (other refl)
+more_than_gone r (Spawned s) other = tt
+more_than_gone r Entered other = tt
+more_than_gone r Exceeded other = tt
 
 pub turns-init : goal.turns-init
 turns-init g c = here
@@ -30,6 +39,7 @@ returns-in_default g c =
         last = c.turns.run;
         reached = c.turns.invariant;
         turn = subst (IsTurn needs c.turns.run) (sym c.turned.ensures) did;
+        more = subst IsMore (sym c.turned.ensures) (more_than_gone c.step.new.self _ c.in_default.not-Gone);
       };
       refused = tt;
     }
@@ -47,5 +57,6 @@ returns-in-AtEnd-clause-turn g c =
     record {
       last = c.turns.run;
       reached = c.turns.invariant;
-      turn = subst (λ (r : Run). IsTurn needs r c.in_ok-end-in-AtEnd.field-0) stays.0 (c.in_ok-end-in-AtEnd.ensures needs);
+      turn = subst (λ (r : Run). IsTurn needs r c.in_ok-end-in-AtEnd.field-0) stays.0 (c.in_ok-end-in-AtEnd.ensures.turn needs);
+      more = c.in_ok-end-in-AtEnd.ensures.more;
     }
