@@ -38,6 +38,7 @@ pub trait FileSource {
     fn read_first(&mut self, name: &str, most: usize) -> Result<Vec<u8>, FileError>
         ensures given { let known = option_map (first most) (held self.old name.now) in
             MatchResult result (λ v. IsGiven known (Ok v.items)) (λ e. IsGiven known (Err e)) }
+        ensures short { IfOk result (λ v. length v.items ≤ most) }
         ensures keeps { held self.new ≡ held self.old };
 }
 
@@ -111,16 +112,10 @@ impl<R: Files + Input + AllocGlobal> FileSource for MachineFiles<'_, R> {
     }
 
     fn read_first(&mut self, name: &str, most: usize) -> Result<Vec<u8>, FileError> {
-        let alloc = self.rt.alloc();
-        let bytes = if name == "-" {
-            first_of(alloc, self.rt.reader(), most)
-        } else {
-            match fs::open(self.rt, name) {
-                Ok(file) => first_of(alloc, file, most),
-                Err(error) => Err(error),
-            }
-        };
-        bytes.map_err(|error| file_error(&error))
+        match first_bytes(self.rt, name, most) {
+            Ok(bytes) => Ok(bytes),
+            Err(error) => Err(file_error(&error)),
+        }
     }
 }
 
@@ -131,10 +126,30 @@ fn standard_input<R: Input + AllocGlobal>(rt: &R) -> io::Result<Vec<u8>> {
     Ok(bytes)
 }
 
+/// The first bytes of a file of the machine, so many at most.
+fn first_bytes<R: Files + Input + AllocGlobal>(
+    rt: &R,
+    name: &str,
+    most: usize,
+) -> io::Result<Vec<u8>>
+    ensures { IfOk result (λ v. length v.items ≤ most) }
+{
+    let alloc = rt.alloc();
+    if name == "-" {
+        return first_of(alloc, rt.reader(), most);
+    }
+    let file = fs::open(rt, name)?;
+    first_of(alloc, file, most)
+}
+
 /// The first bytes that a reader gives, so many at most.
-fn first_of<R: Read + Drop>(alloc: Global, reader: R, most: usize) -> io::Result<Vec<u8>> {
+fn first_of<R: Read + Drop>(alloc: Global, reader: R, most: usize) -> io::Result<Vec<u8>>
+    ensures { IfOk result (λ v. length v.items ≤ most) }
+{
     let mut bytes = Vec::new(alloc);
     reader.take(most as u64).read_to_end(&mut bytes)?;
+    // No clause bounds what `take` gives of a reader whose bytes nobody knows.
+    bytes.truncate(most);
     Ok(bytes)
 }
 
