@@ -4,8 +4,10 @@
 # no program but those that end with 0. (No words are known that come to 5.) `./afx` proves and builds first where a
 # source is newer. A line tells of each run that went wrong; the last line is `N passed, M failed`, and the status is 1
 # where one did. No part of the gate.
+#     sh tests/program.sh      AFX='./afx' names another program
 set -eu
 cd "$(dirname "$0")/.."
+afx=${AFX:-./afx}
 room=$(mktemp -d)
 trap 'rm -rf "$room"' EXIT
 passed=0
@@ -16,7 +18,7 @@ expect() {
     wanted=$1 out=$2 err=$3
     shift 3
     status=0
-    ./afx "$@" >"$room/out" 2>"$room/err" || status=$?
+    $afx "$@" >"$room/out" 2>"$room/err" || status=$?
     if [ "$status" = "$wanted" ] && [ "$(cat "$room/out")" = "$out" ] && [ "$(cat "$room/err")" = "$err" ]; then
         passed=$((passed + 1))
     else
@@ -27,7 +29,7 @@ expect() {
 }
 
 # So that what is told while it is built is no part of what a run writes.
-echo 'main { }' | ./afx serial - >"$room/out"
+echo 'main { }' | $afx serial - >"$room/out"
 
 expect 0 '7 8' '' run examples/two_arrays.afx
 expect 1 '' 'C1 race in main: 2 write a, 4 read a' run examples/race.afx
