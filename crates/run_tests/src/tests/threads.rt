@@ -1,17 +1,19 @@
-//! Workers: several work at once, and each task passes the gate once.
+//! Workers: several work at once, each task passes the gate once, and a scope that is held stops no other.
 
 use crate::tests::{accepted, compare};
+use finish_scope::inner::{Inner, Scope};
 use std::alloc::Global;
+use std::marker::Brand;
 use std::process::Abort;
-use std::sync::Wait;
 use std::sync::atomic::{AtomicBool, AtomicU32, Ordering};
+use std::sync::{Mutex, Wait};
 use std::thread;
-use std::thread::Threads;
+use std::thread::{Threads, join};
 use task_machine::task::Task;
 use types::budget::Budget;
 use types::input::Input;
 use types::path::Path;
-use workers::gate::Gate;
+use workers::gate::{Gate, NoGate};
 use workers::run::run;
 use workers::settings::Settings;
 
@@ -149,4 +151,30 @@ fn each_task_passes_the_gate_once(rt: HostRuntime) {
             "{entered} entered, {left} left"
         );
     }
+}
+
+#[test]
+fn a_scope_that_is_held_stops_no_other(rt: HostRuntime) {
+    let alloc = rt.alloc();
+    let has_passed = AtomicBool::new(false);
+    let (waited, said) = join(
+        &rt,
+        || {
+            let (inner, weight) = Inner::<Brand>::open(alloc, 8);
+            weight.forfeit();
+            let scope: Scope<'_, Brand> = Mutex::new(inner);
+            let guard = scope.lock(&rt);
+            let waited = waited_for(&has_passed);
+            drop(guard);
+            waited
+        },
+        || {
+            let said = told(&rt, alloc, TWO_TASKS, settings(&rt, 65_536, 8, 1), &NoGate);
+            has_passed.store(true, Ordering::SeqCst);
+            said
+        },
+    );
+    assert!(rt; waited, "a run waited for a scope of another one");
+    let want = "Ended { arrays: [], lines: [], faults: [] }";
+    compare(&rt, alloc, "a run beside a held scope", said.as_str(), want);
 }
