@@ -29,7 +29,11 @@ use Rattle.answers.specs.Answers.{Answers, AnswersCheck, AnswersExplore, Answers
 use Rattle.answers.specs.Answers.{Explores, IsExplored}
 use Rattle.answers.specs.Answers.{Does, Explains, Failed, HasRace, IsCodeOf, IsRunBy, LooksForRaces, Shows}
 use Rattle.answers.specs.Answers.{TellsNoCode, TellsNotAccepted, TellsRaceTo, TellsUnspelled, TestsRules}
-use Rattle.answers.specs.Answers.{AnswersLabels, AnswersPlaces}
+use Rattle.answers.specs.Answers.{AnswersLabels, AnswersPlaces, AnswersFormat, AnswersCheckFormat, NeedsLayout}
+use Rattle.layout.specs.Kept.{HaveSameTokens, IsLaidOut, KeepsAll}
+use Rattle.std.specs.Str.{IsUtf8}
+use Rattle.std.proofs.Math.Utf8.{encodes}
+use Rattle.std.proofs.lemmas.Str.{encodes-chars}
 use Rattle.texts.specs.Appending.{Writes}
 use Rattle.answers.specs.Chosen.{ComesTo}
 use Rattle.intake.specs.Choosing.{TellsNoChoices}
@@ -45,7 +49,7 @@ use Rattle.intake.specs.declared.failure.Failure.TheVariants.{Race, NoMemoryInCh
 use Rattle.intake.specs.declared.failure.Failure.TheVariants.{Run as RunFailed, ChoicesNotUnderstood, NoLeaf}
 use Rattle.command_line.specs.declared.request.Command.{Command}
 use Rattle.command_line.specs.declared.request.Command.TheVariants.{Run, Serial, Check, Listing, Pairs, Explore}
-use Rattle.command_line.specs.declared.request.Command.TheVariants.{Labels, Places}
+use Rattle.command_line.specs.declared.request.Command.TheVariants.{Labels, Places, Format, CheckFormat}
 
 -- ---- failures
 
@@ -161,6 +165,8 @@ race_told Pairs text procedure first second looks race = absurd looks
 race_told Explore text procedure first second looks race = race
 race_told Labels text procedure first second looks race = absurd looks
 race_told Places text procedure first second looks race = absurd looks
+race_told Format text procedure first second looks race = absurd looks
+race_told CheckFormat text procedure first second looks race = absurd looks
 
 rules_tested : (c : Command) → LooksForRaces c → TestsRules c
 rules_tested Run looks = tt
@@ -171,6 +177,8 @@ rules_tested Pairs looks = absurd looks
 rules_tested Explore looks = tt
 rules_tested Labels looks = absurd looks
 rules_tested Places looks = absurd looks
+rules_tested Format looks = absurd looks
+rules_tested CheckFormat looks = absurd looks
 
 module _ (c : Command) (looks : LooksForRaces c) (s : Settings) (held : Held) (text : List ℕ) (b : Option (List ℕ)) where
   not_accepted_explained : (f : Failure) → TellsNotAccepted text f → Explains c s held text f
@@ -264,6 +272,43 @@ places_answer text told listing program places spelled begun is of = record {
   begun = begun;
   told_is = is ∙ ap (λ (l : List ℕ). placed_lines places (lines l)) of;
   status_is = refl;
+}
+
+-- the text laid out
+pub format_answer : (text laid told : List ℕ) (program : tree.Program) → AreTokensOf (chars text) (spelling program)
+    → told ≡ laid → IsUtf8 laid → IsLaidOut (chars text) (chars laid) → KeepsAll (chars text) (chars laid)
+    → HaveSameTokens (chars text) (chars laid) → AnswersFormat text told 0
+format_answer text laid told program spelled is utf8 laid_out kept same =
+    subst (λ (l : List ℕ). AnswersFormat text l 0) (sym is) (record {
+      program = program;
+      spelled = spelled;
+      is_text = utf8;
+      laid = laid_out;
+      kept = kept;
+      same = same (spelling program) spelled;
+      status_is = refl;
+    })
+
+-- a text that is laid out already
+pub check_format_answer : (text laid : List ℕ) (program : tree.Program) → AreTokensOf (chars text) (spelling program)
+    → laid ≡ text → IsLaidOut (chars text) (chars laid) → AnswersCheckFormat text [] 0
+check_format_answer text laid program spelled same laid_out = record {
+  program = program;
+  spelled = spelled;
+  laid = subst (λ (l : List ℕ). IsLaidOut (chars text) (chars l)) same laid_out;
+  told_is = refl;
+  status_is = refl;
+}
+
+-- a text that isn't: its layout is another
+pub needs_layout : (text laid : List ℕ) (program : tree.Program) → AreTokensOf (chars text) (spelling program)
+    → IsUtf8 text → IsUtf8 laid → laid ≢ text → IsLaidOut (chars text) (chars laid) → NeedsLayout text
+needs_layout text laid program spelled utf8 laid_utf8 other laid_out = record {
+  program = program;
+  spelled = spelled;
+  not_laid = λ stands.
+      let same : chars laid ≡ chars text = laid_out spelled.pieces spelled.cut ∙ sym (stands spelled.pieces spelled.cut) in
+      other (sym (encodes-chars laid laid_utf8) ∙ ap encodes same ∙ encodes-chars text utf8);
 }
 
 -- pairs as they are kept are listed as those of the program

@@ -3,7 +3,7 @@ use Rattle.std.specs.Prelude.{ℕ, ℤ, ◌≡◌, ◌≢◌, ◌<◌, ◌⊎◌
 use Rattle.std.specs.Prelude.{Option, Some, None, Result, MatchResult}
 use Rattle.std.specs.Io.KnownBytes.{Appends, Keeps}
 use Rattle.std.specs.List.{flat_map}
-use Rattle.std.specs.Str.{chars}
+use Rattle.std.specs.Str.{chars, IsUtf8}
 use Rattle.std.specs.Str.Lines.{lines}
 use Rattle.std.specs.String.{string_bytes}
 use Rattle.syntax.specs.Canonical.{listed}
@@ -11,6 +11,7 @@ use Rattle.syntax.specs.Lexical.{AreTokensOf}
 use Rattle.syntax.specs.Refusals.{Tells as IsErrorOfText}
 use Rattle.syntax.specs.Spelling.{spelling}
 use Rattle.syntax.specs.declared.place.Place.{Place}
+use Rattle.layout.specs.Kept.{IsLaidOut, KeepsAll}
 use Rattle.places.specs.Begun.{AreBegun}
 use Rattle.places.specs.Lines.{placed_lines}
 use Rattle.places.specs.Starts.{starts}
@@ -41,11 +42,11 @@ use Rattle.intake.specs.declared.failure.Failure.{Failure}
 use Rattle.intake.specs.declared.failure.Failure.TheVariants.{CannotRead, NotUtf8, Syntax, Types}
 use Rattle.intake.specs.declared.failure.Failure.TheVariants.{Race, NoMemoryInCheck, Input}
 use Rattle.intake.specs.declared.failure.Failure.TheVariants.{CannotWriteOutput, NoMemory}
-use Rattle.intake.specs.declared.failure.Failure.TheVariants.{ChoicesNotUnderstood, NoLeaf}
+use Rattle.intake.specs.declared.failure.Failure.TheVariants.{ChoicesNotUnderstood, NoLeaf, NotLaidOut}
 use Rattle.intake.specs.declared.failure.Failure.TheVariants.{Run as RunFailed}
 use Rattle.command_line.specs.declared.request.Command.{Command}
 use Rattle.command_line.specs.declared.request.Command.TheVariants.{Run, Serial, Check, Listing, Pairs, Explore}
-use Rattle.command_line.specs.declared.request.Command.TheVariants.{Labels, Places}
+use Rattle.command_line.specs.declared.request.Command.TheVariants.{Labels, Places, Format, CheckFormat}
 
 -- the text spells a program that breaks no rule, of which this is the code
 pub record IsCodeOf (text : List ℕ) (code : Program) : Type 0 where
@@ -64,6 +65,8 @@ IsRunBy Pairs code = ⊥
 IsRunBy Explore code = IsAccepted code
 IsRunBy Labels code = ⊥
 IsRunBy Places code = ⊥
+IsRunBy Format code = ⊥
+IsRunBy CheckFormat code = ⊥
 
 -- ---- answers
 
@@ -131,6 +134,24 @@ pub record AnswersPlaces (text told : List ℕ) (status : ℕ) : Type 0 where
   pub told_is : told ≡ placed_lines places (lines (listed program))
   pub status_is : status ≡ 0
 
+-- `fmt`: the text in the canonical layout, with its comments; it spells the same program
+pub record AnswersFormat (text told : List ℕ) (status : ℕ) : Type 0 where
+  pub program : tree.Program
+  pub spelled : AreTokensOf (chars text) (spelling program)
+  pub is_text : IsUtf8 told
+  pub laid : IsLaidOut (chars text) (chars told)
+  pub kept : KeepsAll (chars text) (chars told)
+  pub same : AreTokensOf (chars told) (spelling program)
+  pub status_is : status ≡ 0
+
+-- `fmt --check`: the text is so laid out, and nothing is written
+pub record AnswersCheckFormat (text told : List ℕ) (status : ℕ) : Type 0 where
+  pub program : tree.Program
+  pub spelled : AreTokensOf (chars text) (spelling program)
+  pub laid : IsLaidOut (chars text) (chars text)
+  pub told_is : told ≡ []
+  pub status_is : status ≡ 0
+
 -- the text's program has no race, and this is its input
 pub record IsExplored (s : Settings) (held : Held) (text : List ℕ) : Type 0 where
   pub code : Program
@@ -163,6 +184,8 @@ Answers Pairs s held text told status = AnswersPairs text told status
 Answers Explore s held text told status = AnswersExplore s held text told status
 Answers Labels s held text told status = AnswersLabels text told status
 Answers Places s held text told status = AnswersPlaces text told status
+Answers Format s held text told status = AnswersFormat text told status
+Answers CheckFormat s held text told status = AnswersCheckFormat text told status
 
 -- ---- failures
 
@@ -182,6 +205,8 @@ TestsRules Pairs = Unit {0}
 TestsRules Explore = Unit {0}
 TestsRules Labels = ⊥
 TestsRules Places = ⊥
+TestsRules Format = ⊥
+TestsRules CheckFormat = ⊥
 
 -- why a text has no code, memory aside: it spells no program, or one that breaks a rule
 abbrev pub TellsNoCode : (text : List ℕ) → Failure → Type 0
@@ -211,6 +236,8 @@ TellsRaceTo Pairs text procedure first second = ⊥
 TellsRaceTo Explore text procedure first second = HasRace text procedure first second
 TellsRaceTo Labels text procedure first second = ⊥
 TellsRaceTo Places text procedure first second = ⊥
+TellsRaceTo Format text procedure first second = ⊥
+TellsRaceTo CheckFormat text procedure first second = ⊥
 
 -- the command looks for races
 abbrev pub LooksForRaces : Command → Type 0
@@ -222,6 +249,8 @@ LooksForRaces Pairs = ⊥
 LooksForRaces Explore = Unit {0}
 LooksForRaces Labels = ⊥
 LooksForRaces Places = ⊥
+LooksForRaces Format = ⊥
+LooksForRaces CheckFormat = ⊥
 
 -- why a text has no accepted program, memory aside
 abbrev pub TellsNotAccepted : (text : List ℕ) → Failure → Type 0
@@ -253,6 +282,12 @@ pub record LacksLeaf (c : Command) (s : Settings) (held : Held) (text : List ℕ
   pub by_choices : c ≡ Explore
   pub explores : Explores s held text (NoSuchChoice n)
 
+-- the text spells a program, and is not laid out
+pub record NeedsLayout (text : List ℕ) : Type 0 where
+  pub program : tree.Program
+  pub spelled : AreTokensOf (chars text) (spelling program)
+  pub not_laid : ¬ IsLaidOut (chars text) (chars text)
+
 -- a failure is one of the text, for what was asked; only want of memory is free
 abbrev pub Explains : Command → Settings → Held → (text : List ℕ) → Failure → Type 0
 Explains c s held text (CannotRead name) =
@@ -267,6 +302,7 @@ Explains c s held text (Input e) = LacksInput c s held text (Input e)
 Explains c s held text (RunFailed e) = (c ≡ Run) × IsCause s.spread.tasks e
 Explains c s held text ChoicesNotUnderstood = LacksChoices c s held text ChoicesNotUnderstood
 Explains c s held text (NoLeaf n) = LacksLeaf c s held text n
+Explains c s held text NotLaidOut = (c ≡ CheckFormat) × NeedsLayout text
 Explains c s held text CannotWriteOutput = Unit {0}
 Explains c s held text NoMemory = Unit {0}
 

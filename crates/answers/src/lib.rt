@@ -3,6 +3,7 @@
 #![tactic(auto)]
 
 pub mod exploring;
+pub mod formatting;
 pub mod listing;
 pub mod programs;
 pub mod running;

@@ -11,7 +11,7 @@ use Rattle.std.proofs.Math.Bool.{and-false}
 use Rattle.command_line.specs.declared.plain.Line.{Line as rLine}
 use Rattle.command_line.specs.declared.request.Command.{Command}
 use Rattle.command_line.specs.declared.request.Command.TheVariants.{Run, Serial, Check, Listing, Pairs, Explore}
-use Rattle.command_line.specs.declared.request.Command.TheVariants.{Labels, Places}
+use Rattle.command_line.specs.declared.request.Command.TheVariants.{Labels, Places, Format, CheckFormat}
 use Rattle.command_line.specs.declared.request.Settings.{Settings as rSettings}
 use Rattle.command_line.specs.Reading.{Line, bare, flag_taken, line_of, no_texts, read, read_choosing, read_file, read_whole}
 use Rattle.command_line.specs.Reading.{read_optioned, read_serial_texts, read_texts, taken}
@@ -19,7 +19,7 @@ use Rattle.command_line.specs.Requests.{AreForExplore, AreForRun, AreForSerial, 
 use Rattle.command_line.specs.Requests.{is_file_name, optioned, plain, settings_by, flagged, valued}
 use Rattle.command_line.specs.Requests.{Choosing, Listed, InFile, Random, IsRightChoosing, choosing_words_of, file_of, list_of}
 use Rattle.command_line.specs.Requests.{seed_of, serial_words_of, texts_by, words_of}
-use Rattle.command_line.specs.Requests.{to_label, to_place, to_place_behind}
+use Rattle.command_line.specs.Requests.{to_label, to_place, to_place_behind, to_format, to_check_format, to_check_format_behind}
 use Rattle.command_line.specs.Requests.{by_no_word, to_run, to_run_on_one_thread, to_check, to_list, to_list_behind, to_pair, to_explore}
 
 if_true : {A : Type 0} (b : Bool) (x y : A) → b ≡ true → (if b then x else y) ≡ x
@@ -372,6 +372,13 @@ read_places_behind file named =
     if_false (bytes_eq file (codes "--lines") && false) _ _ (and-false (bytes_eq file (codes "--lines")))
     ∙ read_named Places file named
 
+-- and that of `fmt`
+read_check_behind : (file : List ℕ) → IsTrue (is_file_name file)
+    → read (codes "fmt" ∷ file ∷ codes "--check" ∷ []) ≡ Some (bare CheckFormat file)
+read_check_behind file named =
+    if_false (bytes_eq file (codes "--check") && false) _ _ (and-false (bytes_eq file (codes "--check")))
+    ∙ read_named CheckFormat file named
+
 -- what words that ask are read as, and for which options that stands
 pub record IsLineOf (words : List (List ℕ)) (a : Asked) : Type 0 where
   pub command : Command
@@ -441,6 +448,11 @@ asks_line words a (to_place file named is asked) =
     bare_line words a Places file (ap read is ∙ if_true (is_file_name file) _ _ named) asked
 asks_line words a (to_place_behind file named is asked) =
     bare_line words a Places file (ap read is ∙ read_places_behind file named) asked
+asks_line words a (to_format file named is asked) = bare_line words a Format file (ap read is ∙ read_named Format file named) asked
+asks_line words a (to_check_format file named is asked) =
+    bare_line words a CheckFormat file (ap read is ∙ if_true (is_file_name file) _ _ named) asked
+asks_line words a (to_check_format_behind file named is asked) =
+    bare_line words a CheckFormat file (ap read is ∙ read_check_behind file named) asked
 asks_line words a (to_pair file named is asked) = bare_line words a Pairs file (ap read is ∙ read_named Pairs file named) asked
 
 -- what was read

@@ -5,7 +5,7 @@ use Rattle.std.specs.Str.{bytes_eq}
 use Rattle.command_line.specs.Requests.{Texts, is_file_name}
 use Rattle.command_line.specs.declared.request.Command.{Command}
 use Rattle.command_line.specs.declared.request.Command.TheVariants.{Run, Serial, Check, Listing, Pairs, Explore}
-use Rattle.command_line.specs.declared.request.Command.TheVariants.{Labels, Places}
+use Rattle.command_line.specs.declared.request.Command.TheVariants.{Labels, Places, Format, CheckFormat}
 use Rattle.command_line.specs.declared.plain.Line.{Line as rLine}
 use Rattle.command_line.specs.declared.plain.Texts.{Texts as rTexts}
 
@@ -167,7 +167,8 @@ read_behind command file behind =
     (if bytes_eq command (codes "check") then read_flaggable Check (codes "--list") Listing file behind else
     (if bytes_eq command (codes "list") then read_flaggable Labels (codes "--lines") Places file behind else
     (if bytes_eq command (codes "mhp") then read_alone Pairs file behind else
-    (if bytes_eq command (codes "explore") then read_optioned Explore file (read_choosing behind) else None)))))
+    (if bytes_eq command (codes "fmt") then read_flaggable Format (codes "--check") CheckFormat file behind else
+    (if bytes_eq command (codes "explore") then read_optioned Explore file (read_choosing behind) else None))))))
 
 -- the words of a command line
 abbrev pub read : List (List ℕ) → Option Line

@@ -7,7 +7,7 @@ use Rattle.types.specs.Outcome.{Budget}
 use Rattle.types.specs.Translation.{budget as budget_of}
 use Rattle.command_line.specs.declared.request.Command.{Command}
 use Rattle.command_line.specs.declared.request.Command.TheVariants.{Run, Serial, Check, Listing, Pairs, Explore}
-use Rattle.command_line.specs.declared.request.Command.TheVariants.{Labels, Places}
+use Rattle.command_line.specs.declared.request.Command.TheVariants.{Labels, Places, Format, CheckFormat}
 use Rattle.command_line.specs.declared.request.Choosing.{Choosing as rChoosing}
 use Rattle.command_line.specs.declared.request.Choosing.TheVariants.{Listed as rListed, InFile as rInFile}
 use Rattle.command_line.specs.declared.request.Choosing.TheVariants.{Random as rRandom}
@@ -279,6 +279,12 @@ pub data Asks (words : List (List ℕ)) (a : Asked) : Type 0 where
       → words ≡ codes "list" ∷ codes "--lines" ∷ file ∷ [] → a ≡ plain Places file → Asks words a
   to_place_behind : (file : List ℕ) → IsTrue (is_file_name file)
       → words ≡ codes "list" ∷ file ∷ codes "--lines" ∷ [] → a ≡ plain Places file → Asks words a
+  to_format : (file : List ℕ) → IsTrue (is_file_name file)
+      → words ≡ codes "fmt" ∷ file ∷ [] → a ≡ plain Format file → Asks words a
+  to_check_format : (file : List ℕ) → IsTrue (is_file_name file)
+      → words ≡ codes "fmt" ∷ codes "--check" ∷ file ∷ [] → a ≡ plain CheckFormat file → Asks words a
+  to_check_format_behind : (file : List ℕ) → IsTrue (is_file_name file)
+      → words ≡ codes "fmt" ∷ file ∷ codes "--check" ∷ [] → a ≡ plain CheckFormat file → Asks words a
   to_pair : (file : List ℕ) → IsTrue (is_file_name file)
       → words ≡ codes "mhp" ∷ file ∷ [] → a ≡ plain Pairs file → Asks words a
   to_explore : (file : List ℕ) (o : Options) → IsTrue (is_file_name file) → AreForExplore o

@@ -20,6 +20,10 @@ pub fn request_by_clap<'w>(alloc: Global, words: &'w [String]) -> Result<Request
             request(alloc, Command::Places, given)
         }
         Some(("list", given)) => request(alloc, Command::Labels, given),
+        Some(("fmt", given)) if given.get_flag("check") => {
+            request(alloc, Command::CheckFormat, given)
+        }
+        Some(("fmt", given)) => request(alloc, Command::Format, given),
         Some(("mhp", given)) => request(alloc, Command::Pairs, given),
         Some(("explore", given)) => request(alloc, Command::Explore, given),
         _ => Err(commands(alloc)?.error(ErrorKind::MissingSubcommand, "no command")?),
@@ -86,8 +90,8 @@ const STATUSES: &str = "No word is `run -`: the program is read from the standar
 Example: afx serial examples/doubling.afx --input examples/doubling.json --arrays
 
 Exit status:
-  0  the run ended; the program is accepted; a listing; pairs of labels; help
-  1  refused: the command line, a file, the text, a rule, a race, the input, the choices, the output
+  0  the run ended; the program is accepted; a listing; pairs of labels; a text laid out; help
+  1  refused: the command line, a file, the text, a rule, a race, the input, the choices, the output; not laid out
   2  the run ended with faults
   3  the run was stopped over its budget; it has not ended by its choices
   4  no memory; more tasks than the run may have
@@ -122,15 +126,6 @@ fn commands<'w>(alloc: Global) -> Result<clap::Command<'w>, AllocError> {
         .about("Tells which labels of a program may run together")
         .after_help("Example: afx mhp examples/two_arrays.afx")
         .arg(file(alloc))?;
-    let explore = clap::Command::new(alloc, "explore")
-        .about("Runs a program step by step, by given choices")
-        .after_help(EXPLORE_EXAMPLE)
-        .arg(file(alloc))?
-        .arg(input(alloc))?
-        .arg(choices(alloc)?)?
-        .arg(choices_from(alloc)?)?
-        .arg(random(alloc))?
-        .arg(arrays(alloc))?;
     clap::Command::new(alloc, "afx")
         .bin_name("afx")?
         .about("Checks and runs programs of tasks")
@@ -142,8 +137,31 @@ fn commands<'w>(alloc: Global) -> Result<clap::Command<'w>, AllocError> {
         .subcommand(serial(alloc)?)?
         .subcommand(check)?
         .subcommand(labels)?
+        .subcommand(format(alloc)?)?
         .subcommand(pairs)?
-        .subcommand(explore)
+        .subcommand(explore(alloc)?)
+}
+
+/// A text laid out.
+fn format<'w>(alloc: Global) -> Result<clap::Command<'w>, AllocError> {
+    clap::Command::new(alloc, "fmt")
+        .about("Writes a program's text in the canonical layout, with its comments")
+        .after_help("Example: afx fmt examples/race.afx --check")
+        .arg(file(alloc))?
+        .arg(checked(alloc))
+}
+
+/// The run by choices.
+fn explore<'w>(alloc: Global) -> Result<clap::Command<'w>, AllocError> {
+    clap::Command::new(alloc, "explore")
+        .about("Runs a program step by step, by given choices")
+        .after_help(EXPLORE_EXAMPLE)
+        .arg(file(alloc))?
+        .arg(input(alloc))?
+        .arg(choices(alloc)?)?
+        .arg(choices_from(alloc)?)?
+        .arg(random(alloc))?
+        .arg(arrays(alloc))
 }
 
 /// The run as tasks.
@@ -199,6 +217,14 @@ fn lines<'w>(alloc: Global) -> Arg<'w> {
     Arg::new(alloc, "lines")
         .long("lines")
         .help("Writes before each label the line and the column at which its statement begins")
+        .action(ArgAction::SetTrue)
+}
+
+/// The option of `fmt`.
+fn checked<'w>(alloc: Global) -> Arg<'w> {
+    Arg::new(alloc, "check")
+        .long("check")
+        .help("Writes nothing, and tells by the exit status whether the file is so laid out")
         .action(ArgAction::SetTrue)
 }
 

@@ -82,6 +82,8 @@ fn line_behind<'w>(command: &str, file: &'w str, behind: &'w [String]) -> Option
         flagged_line(Command::Labels, "--lines", Command::Places, file, behind)
     } else if command == "mhp" {
         alone_line(Command::Pairs, file, behind)
+    } else if command == "fmt" {
+        flagged_line(Command::Format, "--check", Command::CheckFormat, file, behind)
     } else if command == "explore" {
         optioned_line(Command::Explore, file, choosing_texts_in(behind))
     } else {

@@ -23,6 +23,10 @@ pub enum Command {
     Pairs,
     /// `explore`: run it over one shared store by given choices.
     Explore,
+    /// `fmt`: write its text in the canonical layout, with its comments.
+    Format,
+    /// `fmt --check`: tell whether its text is so laid out.
+    CheckFormat,
 }
 
 /// How the leaves that step are chosen.

@@ -4,6 +4,7 @@ ghost use Rattle.std.specs.Prelude.{◌≡◌};
 ghost use Rattle.answers.specs.Answers.{Does};
 ghost use Rattle.command_line.specs.Requests.{settings as settings_of};
 
+use answers::formatting::{check_format, format};
 use answers::listing::{list_labels, list_places};
 use answers::programs::accepted_of;
 use answers::running::{run_by_choices, run_serially};
@@ -42,6 +43,8 @@ pub fn perform<R: Threads + Wait + Sync, F: FileSource, O: Write, W: Watch>(
         Command::Listing => list(rt, alloc, text, out),
         Command::Labels => list_labels(alloc, text, out),
         Command::Places => list_places(alloc, text, out),
+        Command::Format => format(alloc, text, out),
+        Command::CheckFormat => check_format(alloc, text, out),
         Command::Pairs => pairs(alloc, text, out),
         Command::Explore => run_by_choices(rt, alloc, request.settings, text, files, out),
     }

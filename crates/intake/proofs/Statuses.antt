@@ -10,6 +10,7 @@ use Rattle.gather.specs.declared.run_error.RunError.TheVariants.{OutOfMemory as 
 use Rattle.intake.specs.FailureStatus.{failure_status}
 use Rattle.intake.specs.declared.failure.Failure.TheVariants.{CannotRead, NotUtf8, Syntax, Types, Race, NoMemoryInCheck}
 use Rattle.intake.specs.declared.failure.Failure.TheVariants.{Input, Run, ChoicesNotUnderstood, NoLeaf, CannotWriteOutput, NoMemory}
+use Rattle.intake.specs.declared.failure.Failure.TheVariants.{NotLaidOut}
 
 -- ---- want of memory, wherever it comes
 
@@ -70,6 +71,9 @@ no_choices = refl
 
 no_leaf : failure_status (NoLeaf 2) ≡ 1
 no_leaf = refl
+
+no_layout : failure_status NotLaidOut ≡ 1
+no_layout = refl
 
 no_output : failure_status CannotWriteOutput ≡ 1
 no_output = refl

@@ -11,7 +11,7 @@ use Rattle.intake.specs.declared.failure.Failure.{Failure}
 use Rattle.intake.specs.declared.failure.Failure.TheVariants.{CannotRead, NotUtf8, Syntax, Types}
 use Rattle.intake.specs.declared.failure.Failure.TheVariants.{Race, NoMemoryInCheck, Input, Run}
 use Rattle.intake.specs.declared.failure.Failure.TheVariants.{CannotWriteOutput, NoMemory}
-use Rattle.intake.specs.declared.failure.Failure.TheVariants.{ChoicesNotUnderstood, NoLeaf}
+use Rattle.intake.specs.declared.failure.Failure.TheVariants.{ChoicesNotUnderstood, NoLeaf, NotLaidOut}
 
 -- the line that tells a failure, without its line feed
 abbrev pub failure_text : Failure → List ℕ
@@ -26,5 +26,6 @@ failure_text (Input e) = input_text e
 failure_text (Run e) = run_code e
 failure_text ChoicesNotUnderstood = codes "choices not understood"
 failure_text (NoLeaf n) = codes "no leaf at choice " ++ decimal n
+failure_text NotLaidOut = codes "not laid out"
 failure_text CannotWriteOutput = codes "cannot write output"
 failure_text NoMemory = codes "no memory"

@@ -64,6 +64,9 @@ pub enum Failure {
     /// `no leaf at choice 2`: the first choice that names none, numbered from 0
     #[error("no leaf at choice {0}")]
     NoLeaf(usize),
+    /// `not laid out`
+    #[error("not laid out")]
+    NotLaidOut,
     /// `cannot write output`
     #[error("cannot write output")]
     CannotWriteOutput,

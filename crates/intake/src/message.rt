@@ -40,6 +40,7 @@ fn emit_failure<W: Write>(err: &mut W, failure: &Failure) -> Result<(), EmitErro
         Failure::Run(error) => emit_text(err, error.code()),
         Failure::ChoicesNotUnderstood => emit_text(err, "choices not understood"),
         Failure::NoLeaf(choice) => emit_no_leaf(err, *choice),
+        Failure::NotLaidOut => emit_text(err, "not laid out"),
         Failure::CannotWriteOutput => emit_text(err, "cannot write output"),
         Failure::NoMemory => emit_text(err, "no memory"),
     }
