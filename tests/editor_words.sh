@@ -1,7 +1,7 @@
 #!/bin/sh
-# Compares the reserved words and the marks in editors/ and in docs/LANGUAGE.md with those of the lexer, which stand in
-# crates/syntax/src/token.rt: each must be there once, a mark of two characters before the one that begins it, and
-# nothing else. A line for each that is wrong; the last line is `N passed, M failed`. No part of the gate.
+# Compares the reserved words and the marks in editors/ and in docs/LANGUAGE.md, and the words of `afx explain words`, with
+# those of the lexer, which stand in crates/syntax/src/token.rt: each must be there once, a mark of two characters before
+# the one that begins it, and nothing else. A line for each that is wrong; the last line is `N passed, M failed`. No part of the gate.
 set -eu
 cd "$(dirname "$0")/.."
 folder=$(mktemp -d)
@@ -10,6 +10,7 @@ tokens=crates/syntax/src/token.rt
 vim=editors/vim/syntax/afx.vim
 vscode=editors/vscode/afx.tmLanguage.json
 page=docs/LANGUAGE.md
+explained=crates/pages/src/words.rt
 
 # The lexer's own: `"and" => Word::And`, `'(' => Mark::LeftParen`, `'<' => Some(Mark::AtMost)`.
 sed -n 's/^ *"\([a-z]*\)" => Word::.*/\1/p' $tokens >"$folder/words"
@@ -24,6 +25,7 @@ sed -n 's/^syn match *afx\(Operator\|Bracket\) *"\(.*\)"$/\2/p' $vim | alternati
 sed -n 's/.*"match": "\\\\b(\([a-z|]*\))\\\\b".*/\1/p' $vscode | alternatives >"$folder/words.vscode"
 sed -n 's/.*"\(keyword.operator\|punctuation\).afx", "match": "\(.*\)" }.*/\2/p' $vscode | alternatives >"$folder/marks.vscode"
 tr '\n' ' ' <$page | sed 's/.*Reserved words\*\*[^`]*`\([^`]*\)`.*/\1/' | tr -s ' ' '\n' >"$folder/words.page"
+sed -n '/rule: "/,/^$/p' $explained | sed 's/.*rule: "//' | tr -s ' ' '\n' | sed '/^$/d' >"$folder/words.explained"
 sed -n 's/^- \*\*Marks\*\*: `\(.*\)`\.$/\1/p' $page | tr ' ' '\n' >"$folder/marks.page"
 
 awk -v folder="$folder" '
@@ -71,6 +73,7 @@ BEGIN {
         compare("words", places[place])
         compare("marks", places[place])
     }
+    compare("words", "explained")
     longest_first("vim")
     longest_first("vscode")
     print passed + 0 " passed, " failed + 0 " failed"

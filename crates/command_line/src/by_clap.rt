@@ -1,15 +1,33 @@
 //! The words of a command line that `clap` reads.
 
+use crate::reply::{self, Reply};
 use crate::request::{Choosing, Command, Request, Settings, Spread};
 use clap::error::ErrorKind;
 use clap::{Arg, ArgAction, ArgMatches, Error, value_parser};
+use pages::manual::Closing;
+use pages::shell::Shell;
 use std::alloc::{AllocError, Global};
 use types::budget::Budget;
 
-/// The request that `clap` finds in the words.
-pub fn request_by_clap<'w>(alloc: Global, words: &'w [String]) -> Result<Request<'w>, Error> {
+/// The request that `clap` finds in the words, or the reply to them.
+pub fn request_by_clap<'w>(alloc: Global, words: &'w [String]) -> Result<Request<'w>, Reply> {
     let matches = commands(alloc)?.try_get_matches_from(words)?;
     match matches.subcommand() {
+        Some(("explain", given)) => Err(reply::explained(alloc, given)?),
+        Some(("completions", given)) => {
+            Err(reply::completions(alloc, given, &commands(alloc)?)?)
+        }
+        Some(("man", _)) => Err(reply::manual(alloc, &commands(alloc)?, CLOSING)?),
+        asked => Ok(request_asked(alloc, asked)?),
+    }
+}
+
+/// The request of a command that asks something of a program.
+fn request_asked<'w>(
+    alloc: Global,
+    asked: Option<(&str, &ArgMatches<'w>)>,
+) -> Result<Request<'w>, Error> {
+    match asked {
         Some(("run", given)) => request(alloc, Command::Run, given),
         Some(("serial", given)) => request(alloc, Command::Serial, given),
         Some(("check", given)) if given.get_flag("list") => {
@@ -97,6 +115,23 @@ Exit status:
   4  no memory; more tasks than the run may have
   5  the result of a task was lost";
 
+/// What the manual page says behind the commands.
+const CLOSING: Closing<'static> = Closing {
+    notes: STATUSES,
+    examples: &[
+        RUN_EXAMPLE,
+        SERIAL_EXAMPLE,
+        CHECK_EXAMPLE,
+        LIST_EXAMPLE,
+        FORMAT_EXAMPLE,
+        PAIRS_EXAMPLE,
+        EXPLORE_EXAMPLE,
+        EXPLAIN_EXAMPLE,
+        COMPLETIONS_EXAMPLE,
+        MAN_EXAMPLE,
+    ],
+};
+
 /// What stands behind the help of a command that runs.
 const RUN_EXAMPLE: &str = "Example: afx run examples/two_arrays.afx --steps 1000 --workers 2";
 
@@ -110,21 +145,36 @@ const EXPLORE_EXAMPLE: &str =
 
 Example: afx explore examples/two_arrays.afx --choices 0,0,1";
 
+/// The same of the other commands.
+const CHECK_EXAMPLE: &str = "Example: afx check examples/two_arrays.afx --list";
+
+const LIST_EXAMPLE: &str = "Example: afx list examples/race.afx --lines";
+
+const FORMAT_EXAMPLE: &str = "Example: afx fmt examples/race.afx --check";
+
+const PAIRS_EXAMPLE: &str = "Example: afx mhp examples/two_arrays.afx";
+
+const EXPLAIN_EXAMPLE: &str = "Example: afx explain Y5";
+
+const COMPLETIONS_EXAMPLE: &str = "Example: source <(afx completions bash)";
+
+const MAN_EXAMPLE: &str = "Example: afx man >afx.1; man -l afx.1";
+
 /// The commands and their arguments.
 fn commands<'w>(alloc: Global) -> Result<clap::Command<'w>, AllocError> {
     let check = clap::Command::new(alloc, "check")
         .about("Tells whether a program would be run")
-        .after_help("Example: afx check examples/two_arrays.afx --list")
+        .after_help(CHECK_EXAMPLE)
         .arg(file(alloc))?
         .arg(list(alloc))?;
     let labels = clap::Command::new(alloc, "list")
         .about("Writes a program, each statement behind its label")
-        .after_help("Example: afx list examples/race.afx --lines")
+        .after_help(LIST_EXAMPLE)
         .arg(file(alloc))?
         .arg(lines(alloc))?;
     let pairs = clap::Command::new(alloc, "mhp")
         .about("Tells which labels of a program may run together")
-        .after_help("Example: afx mhp examples/two_arrays.afx")
+        .after_help(PAIRS_EXAMPLE)
         .arg(file(alloc))?;
     clap::Command::new(alloc, "afx")
         .bin_name("afx")?
@@ -139,14 +189,17 @@ fn commands<'w>(alloc: Global) -> Result<clap::Command<'w>, AllocError> {
         .subcommand(labels)?
         .subcommand(format(alloc)?)?
         .subcommand(pairs)?
-        .subcommand(explore(alloc)?)
+        .subcommand(explore(alloc)?)?
+        .subcommand(explain(alloc)?)?
+        .subcommand(completions(alloc)?)?
+        .subcommand(man(alloc))
 }
 
 /// A text laid out.
 fn format<'w>(alloc: Global) -> Result<clap::Command<'w>, AllocError> {
     clap::Command::new(alloc, "fmt")
         .about("Writes a program's text in the canonical layout, with its comments")
-        .after_help("Example: afx fmt examples/race.afx --check")
+        .after_help(FORMAT_EXAMPLE)
         .arg(file(alloc))?
         .arg(checked(alloc))
 }
@@ -162,6 +215,41 @@ fn explore<'w>(alloc: Global) -> Result<clap::Command<'w>, AllocError> {
         .arg(choices_from(alloc)?)?
         .arg(random(alloc))?
         .arg(arrays(alloc))
+}
+
+/// The pages of what the program prints.
+fn explain<'w>(alloc: Global) -> Result<clap::Command<'w>, AllocError> {
+    let word = Arg::new(alloc, "WORD")
+        .help("A code, as Y5, or another word that has a page; without it a list of them")
+        .num_args(0..);
+    let list = Arg::new(alloc, "list")
+        .long("list")
+        .help("Lists the words that have a page")
+        .action(ArgAction::SetTrue);
+    clap::Command::new(alloc, "explain")
+        .about("Tells what a message means, or how a program is usually said")
+        .after_help(EXPLAIN_EXAMPLE)
+        .arg(word)?
+        .arg(list)
+}
+
+/// The completions of shells.
+fn completions<'w>(alloc: Global) -> Result<clap::Command<'w>, AllocError> {
+    let shell = Arg::new(alloc, "SHELL")
+        .help("The shell")
+        .required(true)
+        .value_parser(Shell::NAMES);
+    clap::Command::new(alloc, "completions")
+        .about("Writes a script by which a shell completes command lines")
+        .after_help(COMPLETIONS_EXAMPLE)
+        .arg(shell)
+}
+
+/// The manual page.
+fn man<'w>(alloc: Global) -> clap::Command<'w> {
+    clap::Command::new(alloc, "man")
+        .about("Writes the manual page")
+        .after_help(MAN_EXAMPLE)
 }
 
 /// The run as tasks.

@@ -4,6 +4,7 @@
 
 pub mod by_clap;
 pub mod plain;
+pub mod reply;
 pub mod request;
 pub mod settings;
 pub mod words;

@@ -6,14 +6,14 @@ ghost use Rattle.command_line.specs.Requests.{Asked, Asks, asked_of};
 
 use crate::by_clap::request_by_clap;
 use crate::plain::line_in;
+use crate::reply::Reply;
 use crate::request::Request;
 use crate::settings::settings_in;
-use clap::Error;
 use std::alloc::Global;
 
 /// Reads the words behind the program's name. What names a command, a file and options behind it, in their
-/// order, is read here; all else, as other orders, help and mistakes, by `clap`.
-pub fn request_of<'w>(alloc: Global, words: &'w [String]) -> Result<Request<'w>, Error>
+/// order, is read here; all else, as other orders, help, pages and mistakes, by `clap`.
+pub fn request_of<'w>(alloc: Global, words: &'w [String]) -> Result<Request<'w>, Reply>
     ensures { (a : Asked) → Asks (map string_bytes words.now) a
         → IsOkAnd result (λ r. asked_of r ≡ a) }
 {

@@ -9,7 +9,7 @@ ghost use Rattle.intake.specs.declared.failure.Failure.{Failure as FailureOf};
 ghost use Rattle.command_line.specs.Requests.{Asked, Asks, asked_of};
 
 use crate::commands;
-use clap::Error;
+use command_line::reply::Reply;
 use command_line::request::Request;
 use command_line::words::request_of;
 use intake::failure::Failure;
@@ -42,7 +42,7 @@ pub fn act<R: Threads + Wait + Sync, F: FileSource, O: Write, E: Write, W: Watch
         (E.contents err.old) (E.contents err.new) result }
 {
     match request_of(alloc, words) {
-        Err(error) => tell_command_line(alloc, &error, out, err),
+        Err(reply) => tell_command_line(alloc, &reply, out, err),
         Ok(request) => match perform(rt, alloc, request, files, out, watch) {
             Ok(status) => status,
             Err(failure) => report(err, &failure),
@@ -105,29 +105,42 @@ fn handed_on<O: Write>(out: &mut O, status: u8) -> Result<u8, Failure>
     }
 }
 
-/// Prints what `clap` says of a command line: help on the output with status 0, a mistake on the other
-/// with 1.
+/// Prints the reply to words that ask nothing of a program: help and pages on the output with status 0, a
+/// mistake on the other with 1.
 fn tell_command_line<O: Write, E: Write>(
     alloc: Global,
-    error: &Error,
+    reply: &Reply,
     out: &mut O,
     err: &mut E,
 ) -> u8
     ensures { result ≤ 1 }
 {
-    let text = match format!(in alloc; "{error}") {
-        Ok(text) => text,
-        Err(AllocError) => return 1,
-    };
-    if error.use_stderr() {
-        let _ = append(err, text.as_bytes());
-        1
-    } else {
-        if append(out, text.as_bytes()).is_ok() && out.flush().is_ok() {
-            0
-        } else {
-            let _ = append(err, b"cannot write output\n");
-            1
-        }
+    match reply {
+        Reply::Said(error) => match format!(in alloc; "{error}") {
+            Ok(text) if error.use_stderr() => refuse(err, &text),
+            Ok(text) => hand_out(out, err, &text),
+            Err(AllocError) => 1,
+        },
+        Reply::Page(text) => hand_out(out, err, text),
+        Reply::NoPage(line) => refuse(err, line),
     }
+}
+
+/// Writes a text to the output.
+fn hand_out<O: Write, E: Write>(out: &mut O, err: &mut E, text: &str) -> u8
+    ensures { result ≤ 1 }
+{
+    if append(out, text.as_bytes()).is_ok() && out.flush().is_ok() {
+        0
+    } else {
+        refuse(err, "cannot write output\n")
+    }
+}
+
+/// Writes a mistake in the words to the other output.
+fn refuse<E: Write>(err: &mut E, line: &str) -> u8
+    ensures { result ≤ 1 }
+{
+    let _ = append(err, line.as_bytes());
+    1
 }

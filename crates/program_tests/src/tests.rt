@@ -1,6 +1,7 @@
 //! What no clause says of the libraries below the runs, by rows: a table for each area, with the calls that its rows
 //! need.
 
+mod completed_words;
 mod drawn_numbers;
 mod effects_of_programs;
 mod failures;

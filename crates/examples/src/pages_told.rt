@@ -1,0 +1,87 @@
+//! The pages of `afx explain`: whether what they say of programs is so.
+
+use crate::machine::Machine;
+use crate::output::{Limit, Output};
+use crate::shelf::Shelf;
+use crate::transcript::words_of;
+use driver::act::act;
+use pages::find::tables;
+use pages::page::{Example, Page, Told};
+use serial_run::watch::Unwatched;
+use std::io;
+
+/// Does what the pages show, and tells how many of them say what is so, or which of them don't.
+pub fn compare<R: Machine>(rt: &R) -> io::Result<()> {
+    let mut so = 0u64;
+    for table in &tables() {
+        for page in *table {
+            if is_so(rt, page)? {
+                so = so.saturating_add(1);
+            } else {
+                println!(rt; "{}: something else is told", page.name)?;
+            }
+        }
+    }
+    println!(rt; "{so} pages say what is so")
+}
+
+/// Whether the program of a page tells the page's line; whether a shape can be read, and its program is accepted.
+fn is_so<R: Machine>(rt: &R, page: &Page) -> io::Result<bool> {
+    match page.example {
+        Example::Nothing => Ok(true),
+        Example::Program(told) => tells(rt, told, ""),
+        Example::WithInput(given) => tells(rt, given.told, given.input),
+        Example::Shape(shape) => {
+            let mut shelf = shelf_with(rt, shape.lines, "")?;
+            let check = format!(in rt.alloc(); "check {}.afx", shape.name)?;
+            Ok(
+                status_of(rt, &mut shelf, "list program.afx")? == 0
+                    && status_of(rt, &mut shelf, &check)? == 0,
+            )
+        }
+    }
+}
+
+/// Whether a program with an input tells its line, and nothing else.
+fn tells<R: Machine>(rt: &R, told: Told, input: &'static str) -> io::Result<bool> {
+    let mut shelf = shelf_with(rt, told.lines, input)?;
+    let mut both = Output::new(rt.alloc(), Limit::Never);
+    let mut err = Output::new(rt.alloc(), Limit::Never);
+    done(rt, &mut shelf, told.command, &mut both, &mut err)?;
+    both.taken.extend_from_slice(&err.taken)?;
+    let line = format!(in rt.alloc(); "{}\n", told.line)?;
+    Ok(both.taken.as_slice() == line.as_bytes())
+}
+
+/// The status of a command.
+fn status_of<R: Machine>(rt: &R, shelf: &mut Shelf<'_, R>, command: &str) -> io::Result<u8> {
+    let mut out = Output::new(rt.alloc(), Limit::Never);
+    let mut err = Output::new(rt.alloc(), Limit::Never);
+    done(rt, shelf, command, &mut out, &mut err)
+}
+
+/// Does a command, and answers its status.
+fn done<R: Machine>(
+    rt: &R,
+    shelf: &mut Shelf<'_, R>,
+    command: &str,
+    out: &mut Output,
+    err: &mut Output,
+) -> io::Result<u8> {
+    let alloc = rt.alloc();
+    let command = format!(in alloc; "$ afx {command}")?;
+    let words = words_of(alloc, &command)?;
+    Ok(act(rt, alloc, &words, shelf, out, err, &mut Unwatched))
+}
+
+/// The files of the machine, `program.afx` and `input.json`.
+fn shelf_with<'t, R: Machine>(rt: &'t R, lines: &[&str], input: &str) -> io::Result<Shelf<'t, R>> {
+    let mut shelf = Shelf::new(rt);
+    shelf.begin_file("program.afx")?;
+    for line in lines {
+        shelf.read_line(&format!(in rt.alloc(); "| {line}")?)?;
+    }
+    shelf.begin_file("input.json")?;
+    shelf.read_line(&format!(in rt.alloc(); "| {input}")?)?;
+    Ok(shelf)
+}

@@ -1,0 +1,70 @@
+-- Which page a word asks for, and what is shown of a page.
+use Rattle.std.specs.Prelude.{ℕ, List, [], ◌++◌, ◌||◌, Bool, Option, None, Some, codes}
+use Rattle.std.specs.Borrow.{Bor}
+use Rattle.std.specs.List.{flat_map, list_any}
+use Rattle.std.specs.Str.{bytes_eq}
+use Rattle.pages.specs.declared.page.Page.{Page}
+use Rattle.pages.specs.declared.page.Given.{Given}
+use Rattle.pages.specs.declared.page.Told.{Told}
+use Rattle.pages.specs.declared.page.Example.{Example}
+use Rattle.pages.specs.declared.page.Example.TheVariants.{Nothing, Program, WithInput, Shape}
+
+-- a page has this word, as its name or as one of the others
+abbrev pub answers_to : Page → (word : List ℕ) → Bool
+answers_to page word = bytes_eq page.name.now word || list_any (λ other. bytes_eq other.now word) page.others.now
+
+-- `NAME: ABOUT`
+abbrev pub head_text : Page → List ℕ
+head_text page = page.name.now ++ codes ": " ++ page.about.now ++ codes "\n"
+
+-- a name behind a space
+abbrev pub spaced_name : Page → List ℕ
+spaced_name page = codes " " ++ page.name.now
+
+-- a line of a program
+abbrev pub indented : Bor (List ℕ) → List ℕ
+indented line = codes "    " ++ line.now ++ codes "\n"
+
+-- a program behind an empty line
+abbrev pub program_text : List (Bor (List ℕ)) → List ℕ
+program_text lines = codes "\n" ++ flat_map indented lines
+
+-- a command as it is typed, and what it tells
+abbrev pub told_text : Told → List ℕ
+told_text t = codes "\n  $ afx " ++ t.command.now ++ codes "\n  " ++ t.line.now ++ codes "\n"
+
+-- an input, as the file that the command names
+abbrev pub input_text : List ℕ → List ℕ
+input_text input = codes "\n  input.json: " ++ input ++ codes "\n"
+
+-- an input, a command, and what it tells of both
+abbrev pub given_text : Given → List ℕ
+given_text g = input_text g.input.now ++ told_text g.told
+
+-- where a whole program of a shape stands
+abbrev pub place_text : (name : List ℕ) → List ℕ
+place_text name = codes "\n  A whole program of this shape: examples/" ++ name ++ codes ".afx\n"
+
+-- a program, with its input where there is one, and what is told of it; or where the whole of it stands
+abbrev pub example_text : Example → List ℕ
+example_text Nothing = []
+example_text (Program t) = program_text t.lines.now ++ told_text t
+example_text (WithInput g) = program_text g.told.lines.now ++ given_text g
+example_text (Shape s) = program_text s.lines.now ++ place_text s.name.now
+
+-- how it is mended, where that is said
+abbrev pub mend_text : Option (Bor (List ℕ)) → List ℕ
+mend_text None = []
+mend_text (Some mend) = codes "\n" ++ mend.now ++ codes "\n"
+
+-- what stands behind the rule: the program, and how it is mended
+abbrev pub end_text : Page → List ℕ
+end_text page = example_text page.example ++ mend_text page.mend
+
+-- what stands behind the head: the rule between two line ends, and the end
+abbrev pub body_text : Page → List ℕ
+body_text page = (codes "\n" ++ page.rule.now ++ codes "\n") ++ end_text page
+
+-- the text of a page
+abbrev pub page_text : Page → List ℕ
+page_text page = head_text page ++ body_text page

@@ -1,0 +1,115 @@
+//! Completions for bash.
+
+use crate::find::{push_names, tables};
+use crate::offers::{Offer, offer_of, takes_value};
+use crate::page::push_all;
+use clap::{Arg, Command};
+use std::alloc::{AllocError, Global};
+
+/// What stands before the commands.
+const HEAD: &str = "# Completions of afx for bash: source <(afx completions bash)
+_afx() {
+    local now=${COMP_WORDS[COMP_CWORD]} before=${COMP_WORDS[COMP_CWORD-1]} command=${COMP_WORDS[1]}
+    local options= offer= words=
+";
+
+/// What stands behind them.
+const TAIL: &str = "    case $now in
+    -*) offer=words words=$options ;;
+    esac
+    local IFS=$'\\n'
+    case $offer in
+    words) COMPREPLY=($(IFS=' '; compgen -W \"$words\" -- \"$now\")) ;;
+    file) compopt -o filenames; COMPREPLY=($(compgen -f -- \"$now\")) ;;
+    afx | json)
+        compopt -o filenames
+        COMPREPLY=($(compgen -f -X \"!*.$offer\" -- \"$now\") $(compgen -d -- \"$now\"))
+        [ ${#COMPREPLY[@]} -gt 0 ] || COMPREPLY=($(compgen -f -- \"$now\"))
+        ;;
+    esac
+}
+complete -F _afx afx
+";
+
+/// The script by which bash completes the words of a program with these commands.
+pub fn script(alloc: Global, program: &Command<'_>) -> Result<String, AllocError> {
+    let mut text = String::from_str(alloc, HEAD)?;
+    push_first(&mut text, program)?;
+    text.push_str("    case $command in\n")?;
+    for command in program.get_subcommands() {
+        push_command(alloc, &mut text, command)?;
+    }
+    text.push_str("    help) offer=words words=$commands ;;\n    esac\n")?;
+    text.push_str("    case \"$command $before\" in\n")?;
+    for command in program.get_subcommands() {
+        push_values(alloc, &mut text, command)?;
+    }
+    push_all(&mut text, &["    esac\n", TAIL])?;
+    Ok(text)
+}
+
+/// What the first word may be: a command.
+fn push_first(text: &mut String, program: &Command<'_>) -> Result<(), AllocError> {
+    text.push_str("    local commands=\"")?;
+    for command in program.get_subcommands() {
+        push_all(text, &[command.get_name(), " "])?;
+    }
+    text.push_str("help\"\n    if [ \"$COMP_CWORD\" -eq 1 ]; then\n")?;
+    text.push_str(
+        "        COMPREPLY=($(compgen -W \"$commands --help --version\" -- \"$now\"))\n",
+    )?;
+    text.push_str("        return\n    fi\n")
+}
+
+/// The options of a command, and what its argument may be: `list) options="--lines --help" offer=afx ;;`
+fn push_command(alloc: Global, text: &mut String, command: &Command<'_>) -> Result<(), AllocError> {
+    push_all(text, &["    ", command.get_name(), ") options=\""])?;
+    for arg in command.get_arguments() {
+        if let Some(long) = arg.get_long() {
+            push_all(text, &["--", long, " "])?;
+        }
+    }
+    text.push_str("--help\"")?;
+    for arg in command.get_arguments() {
+        if arg.is_positional() {
+            push_offer(alloc, text, arg)?;
+        }
+    }
+    text.push_str(" ;;\n")
+}
+
+/// What may stand behind options of a command: `"run --input") offer=json ;;`
+fn push_values(alloc: Global, text: &mut String, command: &Command<'_>) -> Result<(), AllocError> {
+    for arg in command.get_arguments() {
+        if let Some(long) = arg.get_long() {
+            if takes_value(arg) {
+                push_all(text, &["    \"", command.get_name(), " --", long, "\")"])?;
+                push_offer(alloc, text, arg)?;
+                text.push_str(" ;;\n")?;
+            }
+        }
+    }
+    Ok(())
+}
+
+/// What an argument may be, as variables of the script.
+fn push_offer(alloc: Global, text: &mut String, arg: &Arg<'_>) -> Result<(), AllocError> {
+    match offer_of(alloc, arg)? {
+        Offer::Program => text.push_str(" offer=afx"),
+        Offer::Input => text.push_str(" offer=json"),
+        Offer::File => text.push_str(" offer=file"),
+        Offer::Page => {
+            text.push_str(" offer=words words=\"")?;
+            push_names(text, &tables())?;
+            text.push('"')
+        }
+        Offer::Words(words) => {
+            text.push_str(" offer=words words=\"")?;
+            for word in words {
+                push_all(text, &[" ", *word])?;
+            }
+            text.push('"')
+        }
+        Offer::Nothing => text.push_str(" offer="),
+    }
+}

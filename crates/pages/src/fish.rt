@@ -1,0 +1,84 @@
+//! Completions for fish.
+
+use crate::find::{push_names, tables};
+use crate::offers::{Offer, offer_of, takes_value};
+use crate::page::push_all;
+use crate::quoting::Quoting;
+use clap::{Arg, Command};
+use std::alloc::{AllocError, Global};
+
+/// What stands before the commands.
+const HEAD: &str =
+    "# Completions of afx for fish: afx completions fish >~/.config/fish/completions/afx.fish
+complete -c afx -f
+complete -c afx -n __fish_use_subcommand -l help -d 'Prints help'
+complete -c afx -n __fish_use_subcommand -l version -d 'Prints the version'
+complete -c afx -n __fish_use_subcommand -a help -d 'Tells what a command does'
+";
+
+/// The script by which fish completes the words of a program with these commands.
+pub fn script(alloc: Global, program: &Command<'_>) -> Result<String, AllocError> {
+    let mut text = String::from_str(alloc, HEAD)?;
+    for command in program.get_subcommands() {
+        let line = "complete -c afx -n __fish_use_subcommand -a ";
+        push_all(&mut text, &[line, command.get_name(), " -d '"])?;
+        Quoting::Fish.push(&mut text, command.get_about().unwrap_or(""))?;
+        text.push_str("'\n")?;
+    }
+    for command in program.get_subcommands() {
+        for arg in command.get_arguments() {
+            push_argument(alloc, &mut text, command.get_name(), arg)?;
+        }
+        push_begin(&mut text, command.get_name())?;
+        text.push_str(" -l help -d 'Prints help'\n")?;
+    }
+    Ok(text)
+}
+
+/// What each line of a command begins with.
+fn push_begin(text: &mut String, command: &str) -> Result<(), AllocError> {
+    let begin = "complete -c afx -n '__fish_seen_subcommand_from ";
+    push_all(text, &[begin, command, "'"])
+}
+
+/// The line of an option with what it says and what stands behind it, or of a positional argument.
+fn push_argument(
+    alloc: Global,
+    text: &mut String,
+    command: &str,
+    arg: &Arg<'_>,
+) -> Result<(), AllocError> {
+    push_begin(text, command)?;
+    if let Some(long) = arg.get_long() {
+        push_all(text, &[" -l ", long, " -d '"])?;
+        Quoting::Fish.push(text, arg.get_help().unwrap_or(""))?;
+        text.push('\'')?;
+        if takes_value(arg) {
+            text.push_str(" -r")?;
+        }
+    }
+    push_offer(alloc, text, arg)?;
+    text.push('\n')
+}
+
+/// What an argument may be.
+fn push_offer(alloc: Global, text: &mut String, arg: &Arg<'_>) -> Result<(), AllocError> {
+    match offer_of(alloc, arg)? {
+        Offer::Program => text.push_str(" -k -a '(__fish_complete_suffix .afx)'"),
+        Offer::Input => text.push_str(" -k -a '(__fish_complete_suffix .json)'"),
+        Offer::File => text.push_str(" -F"),
+        Offer::Page => {
+            text.push_str(" -a '")?;
+            push_names(text, &tables())?;
+            text.push_str("'")
+        }
+        Offer::Words(words) => {
+            text.push_str(" -a '")?;
+            for word in words {
+                push_all(text, &[" ", *word])?;
+            }
+            text.push('\'')
+        }
+        Offer::Nothing => Ok(()),
+    }
+}

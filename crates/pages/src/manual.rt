@@ -1,0 +1,137 @@
+//! The manual page.
+
+use crate::find::tables;
+use crate::offers::{takes_value, value_name};
+use crate::page::push_all;
+use crate::quoting::Quoting;
+use clap::{Arg, Command};
+use std::alloc::{AllocError, Global};
+
+/// What is told behind the commands.
+#[derive(Clone, Copy)]
+pub struct Closing<'a> {
+    /// What stands behind the help of the program, with the statuses at its end.
+    pub notes: &'a str,
+    /// What stands behind the help of the commands, with a line that begins with `Example: ` in each.
+    pub examples: &'a [&'a str],
+}
+
+/// The manual page of a program with these commands, for `man -l`.
+pub fn page(
+    alloc: Global,
+    program: &Command<'_>,
+    closing: Closing<'_>,
+) -> Result<String, AllocError> {
+    let mut text = String::new(alloc);
+    push_title(&mut text, program)?;
+    text.push_str(".SH COMMANDS\n")?;
+    for command in program.get_subcommands() {
+        push_command(alloc, &mut text, command)?;
+    }
+    push_statuses(&mut text, closing.notes)?;
+    text.push_str(
+        ".SH MESSAGES\nEach word has a page that tells more, by \\fBafx explain\\fR \\fIWORD\\fR.\n",
+    )?;
+    for table in &tables() {
+        for page in *table {
+            text.push_str(".TP 16\n.B ")?;
+            Quoting::Roff.push(&mut text, page.name)?;
+            text.push('\n')?;
+            push_line(&mut text, page.about)?;
+        }
+    }
+    push_examples(&mut text, closing.examples)?;
+    Ok(text)
+}
+
+/// The title, and what the program does.
+fn push_title(text: &mut String, program: &Command<'_>) -> Result<(), AllocError> {
+    let version = program.get_version().unwrap_or("");
+    push_all(
+        text,
+        &[
+            ".TH AFX 1 \"\" \"afx ",
+            version,
+            "\" \"User Commands\"\n.SH NAME\nafx \\- ",
+        ],
+    )?;
+    push_line(text, program.get_about().unwrap_or(""))?;
+    text.push_str(".SH SYNOPSIS\n.B afx\n\\fICOMMAND\\fR [\\fIOPTIONS\\fR] [\\fIFILE\\fR]\n")
+}
+
+/// A command: how it is called, what it does, and its arguments.
+fn push_command(alloc: Global, text: &mut String, command: &Command<'_>) -> Result<(), AllocError> {
+    push_all(text, &[".SS afx ", command.get_name()])?;
+    for arg in command.get_arguments() {
+        if arg.is_positional() {
+            push_positional(alloc, text, arg)?;
+        }
+    }
+    text.push('\n')?;
+    push_line(text, command.get_about().unwrap_or(""))?;
+    for arg in command.get_arguments() {
+        push_argument(alloc, text, arg)?;
+    }
+    Ok(())
+}
+
+/// A positional argument of a call, in brackets where it may be left out.
+fn push_positional(alloc: Global, text: &mut String, arg: &Arg<'_>) -> Result<(), AllocError> {
+    let name = value_name(alloc, arg)?;
+    if arg.is_required_set() {
+        push_all(text, &[" ", name.as_str()])
+    } else {
+        push_all(text, &[" [", name.as_str(), "]"])
+    }
+}
+
+/// An argument, and what it says.
+fn push_argument(alloc: Global, text: &mut String, arg: &Arg<'_>) -> Result<(), AllocError> {
+    text.push_str(".TP\n")?;
+    if let Some(long) = arg.get_long() {
+        text.push_str("\\fB\\-\\-")?;
+        Quoting::Roff.push(text, long)?;
+        text.push_str("\\fR ")?;
+    }
+    if takes_value(arg) {
+        let name = value_name(alloc, arg)?;
+        push_all(text, &["\\fI", name.as_str(), "\\fR"])?;
+    }
+    text.push('\n')?;
+    push_line(text, arg.get_help().unwrap_or(""))
+}
+
+/// The statuses, which stand at the end of the notes, a line each.
+fn push_statuses(text: &mut String, notes: &str) -> Result<(), AllocError> {
+    text.push_str(".SH EXIT STATUS\n.nf\n")?;
+    let mut here = false;
+    for line in notes.lines() {
+        if here {
+            push_line(text, line.trim_start())?;
+        }
+        here = here || line == "Exit status:";
+    }
+    text.push_str(".fi\n")
+}
+
+/// The examples, a line each.
+fn push_examples(text: &mut String, examples: &[&str]) -> Result<(), AllocError> {
+    text.push_str(".SH EXAMPLES\n.nf\n")?;
+    for example in examples {
+        for line in example.lines() {
+            if let Some(command) = line.strip_prefix("Example: ") {
+                push_line(text, command)?;
+            }
+        }
+    }
+    text.push_str(".fi\n")
+}
+
+/// A line of text, whatever it begins with.
+fn push_line(text: &mut String, line: &str) -> Result<(), AllocError> {
+    if line.starts_with('.') {
+        text.push_str("\\&")?;
+    }
+    Quoting::Roff.push(text, line)?;
+    text.push('\n')
+}

@@ -1,0 +1,205 @@
+//! What a page says, and its text.
+
+ghost use Rattle.std.specs.Prelude.{◌≡◌, ◌++◌, IfOk, OnOk};
+ghost use Rattle.std.specs.List.{flat_map, list_any};
+ghost use Rattle.std.specs.Str.{bytes_eq};
+ghost use Rattle.std.specs.String.{string_bytes};
+ghost use Rattle.pages.specs.Pages.{answers_to, body_text, end_text, example_text, given_text, head_text};
+ghost use Rattle.pages.specs.Pages.{input_text, mend_text, page_text, place_text, program_text};
+ghost use Rattle.pages.specs.Pages.{told_text};
+
+use std::alloc::{AllocError, Global};
+
+/// What `afx explain WORD` shows.
+#[derive(Clone, Copy)]
+pub struct Page {
+    /// The word that asks for it. It has no blank.
+    pub name: &'static str,
+    /// Other words that do, as they stand in what the program prints.
+    pub others: &'static [&'static str],
+    /// What it is about, on a line.
+    pub about: &'static str,
+    /// The rule, or what the word means, in lines.
+    pub rule: &'static str,
+    pub example: Example,
+    /// How it is mended, in lines.
+    pub mend: Option<&'static str>,
+}
+
+/// What a page shows of programs.
+#[derive(Clone, Copy)]
+pub enum Example {
+    /// No small program comes to it, as to want of memory.
+    Nothing,
+    /// A program, and what is told of it.
+    Program(Told),
+    /// The same with an input.
+    WithInput(Given),
+    /// A part of a program.
+    Shape(Shape),
+}
+
+/// A program, and what is told of it.
+#[derive(Clone, Copy)]
+pub struct Told {
+    /// The lines of `program.afx`.
+    pub lines: &'static [&'static str],
+    /// The words behind `afx`, as `check program.afx`.
+    pub command: &'static str,
+    /// The one line that is told.
+    pub line: &'static str,
+}
+
+/// A program with `input.json`, and what is told of both.
+#[derive(Clone, Copy)]
+pub struct Given {
+    pub told: Told,
+    /// The text of `input.json`.
+    pub input: &'static str,
+}
+
+/// A procedure of a program in `examples/`, or one like it.
+#[derive(Clone, Copy)]
+pub struct Shape {
+    pub lines: &'static [&'static str],
+    /// The name of the program, as `tiles`.
+    pub name: &'static str,
+}
+
+impl Page {
+    /// Whether a word asks for it.
+    pub fn answers_to(&self, word: &str) -> bool
+        ensures { result ≡ answers_to self.now word.now }
+    {
+        self.name == word || has_word(self.others, word)
+    }
+
+    /// Its text: its head, the rule, the program with what is told of it, and how it is mended.
+    pub fn text(&self, alloc: Global) -> Result<String, AllocError>
+        ensures { IfOk result (λ text. string_bytes text ≡ page_text self.now) }
+    {
+        let mut text = String::new(alloc);
+        self.push_head(&mut text)?;
+        self.push_body(&mut text)?;
+        Ok(text)
+    }
+
+    /// Adds what stands behind its head.
+    fn push_body(&self, text: &mut String) -> Result<(), AllocError>
+        ensures { OnOk result (string_bytes text.new ≡ string_bytes text.old ++ body_text self.now) }
+    {
+        push_all(text, &["\n", self.rule, "\n"])?;
+        self.push_end(text)
+    }
+
+    /// Adds what stands behind the rule.
+    fn push_end(&self, text: &mut String) -> Result<(), AllocError>
+        ensures { OnOk result (string_bytes text.new ≡ string_bytes text.old ++ end_text self.now) }
+    {
+        push_example(text, self.example)?;
+        push_mend(text, self.mend)
+    }
+
+    /// Adds its name and what it is about, on a line.
+    pub fn push_head(&self, text: &mut String) -> Result<(), AllocError>
+        ensures { OnOk result (string_bytes text.new ≡ string_bytes text.old ++ head_text self.now) }
+    {
+        push_all(text, &[self.name, ": ", self.about, "\n"])
+    }
+}
+
+/// Whether a word is one of these.
+fn has_word(words: &[&str], word: &str) -> bool
+    ensures { result ≡ list_any (λ one. bytes_eq one.now word.now) words.now }
+{
+    words.iter().any(|one| *one == word)
+}
+
+/// Adds a program with what is told of it.
+fn push_example(text: &mut String, example: Example) -> Result<(), AllocError>
+    ensures { OnOk result (string_bytes text.new ≡ string_bytes text.old ++ example_text example) }
+{
+    match example {
+        Example::Nothing => Ok(()),
+        Example::Program(told) => {
+            push_program(text, told.lines)?;
+            push_told(text, told)
+        }
+        Example::WithInput(given) => {
+            push_program(text, given.told.lines)?;
+            push_told_of(text, given)
+        }
+        Example::Shape(shape) => {
+            push_program(text, shape.lines)?;
+            push_place(text, shape.name)
+        }
+    }
+}
+
+/// Adds how it is mended, where that is said.
+fn push_mend(text: &mut String, mend: Option<&str>) -> Result<(), AllocError>
+    ensures { OnOk result (string_bytes text.new ≡ string_bytes text.old ++ mend_text mend.entry) }
+{
+    match mend {
+        None => Ok(()),
+        Some(mend) => push_all(text, &["\n", mend, "\n"]),
+    }
+}
+
+/// Adds the lines of a program.
+fn push_program(text: &mut String, lines: &[&str]) -> Result<(), AllocError>
+    ensures { OnOk result (string_bytes text.new ≡ string_bytes text.old ++ program_text lines.now) }
+{
+    text.push('\n')?;
+    for line in lines {
+        push_all(text, &["    ", *line, "\n"])?;
+    }
+    Ok(())
+}
+
+/// Adds an input, and a command with what it tells.
+fn push_told_of(text: &mut String, given: Given) -> Result<(), AllocError>
+    ensures { OnOk result (string_bytes text.new ≡ string_bytes text.old ++ given_text given) }
+{
+    push_input(text, given.input)?;
+    push_told(text, given.told)
+}
+
+/// Adds an input.
+fn push_input(text: &mut String, input: &str) -> Result<(), AllocError>
+    ensures { OnOk result (string_bytes text.new ≡ string_bytes text.old ++ input_text input.now) }
+{
+    push_all(text, &["\n  input.json: ", input, "\n"])
+}
+
+/// Adds where a whole program of a shape stands.
+fn push_place(text: &mut String, name: &str) -> Result<(), AllocError>
+    ensures { OnOk result (string_bytes text.new ≡ string_bytes text.old ++ place_text name.now) }
+{
+    push_all(
+        text,
+        &[
+            "\n  A whole program of this shape: examples/",
+            name,
+            ".afx\n",
+        ],
+    )
+}
+
+/// Adds a command and what it tells.
+fn push_told(text: &mut String, told: Told) -> Result<(), AllocError>
+    ensures { OnOk result (string_bytes text.new ≡ string_bytes text.old ++ told_text told) }
+{
+    push_all(text, &["\n  $ afx ", told.command, "\n  ", told.line, "\n"])
+}
+
+/// Adds these texts, one behind the other.
+pub fn push_all(text: &mut String, pieces: &[&str]) -> Result<(), AllocError>
+    ensures { OnOk result (string_bytes text.new
+        ≡ string_bytes text.old ++ flat_map (λ piece. piece.now) pieces.now) }
+{
+    for piece in pieces {
+        text.push_str(*piece)?;
+    }
+    Ok(())
+}

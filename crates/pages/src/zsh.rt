@@ -1,0 +1,98 @@
+//! Completions for zsh.
+
+use crate::find::{push_names, tables};
+use crate::offers::{Offer, offer_of, takes_value, value_name};
+use crate::page::push_all;
+use crate::quoting::Quoting;
+use clap::{Arg, Command};
+use std::alloc::{AllocError, Global};
+
+/// What stands before the commands.
+const HEAD: &str = "#compdef afx
+# Completions of afx for zsh: afx completions zsh >_afx, in a folder of $fpath
+_afx() {
+    local curcontext=$curcontext state line
+    local -a commands=(
+";
+
+/// What stands between the list of commands and their arguments.
+const MIDDLE: &str = "        'help:Tells what a command does'
+    )
+    _arguments -C '(- :)--help[Prints help]' '(- :)--version[Prints the version]' ':command:->command' '*::argument:->rest'
+    case $state in
+    command) _describe command commands ;;
+    rest)
+        case $words[1] in
+";
+
+/// What stands behind them.
+const TAIL: &str = "        help) _describe command commands ;;
+        esac
+        ;;
+    esac
+}
+_afx \"$@\"
+";
+
+/// The script by which zsh completes the words of a program with these commands.
+pub fn script(alloc: Global, program: &Command<'_>) -> Result<String, AllocError> {
+    let mut text = String::from_str(alloc, HEAD)?;
+    for command in program.get_subcommands() {
+        push_all(&mut text, &["        '", command.get_name(), ":"])?;
+        Quoting::Zsh.push(&mut text, command.get_about().unwrap_or(""))?;
+        text.push_str("'\n")?;
+    }
+    text.push_str(MIDDLE)?;
+    for command in program.get_subcommands() {
+        push_command(alloc, &mut text, command)?;
+    }
+    text.push_str(TAIL)?;
+    Ok(text)
+}
+
+/// The arguments of a command: `list) _arguments '--lines[..]' '--help[..]' ':FILE:_files -g "*.afx"' ;;`
+fn push_command(alloc: Global, text: &mut String, command: &Command<'_>) -> Result<(), AllocError> {
+    push_all(text, &["        ", command.get_name(), ") _arguments"])?;
+    for arg in command.get_arguments() {
+        push_argument(alloc, text, arg)?;
+    }
+    text.push_str(" \\\n            '--help[Prints help]' ;;\n")
+}
+
+/// An option with what it says and what stands behind it, or a positional argument.
+fn push_argument(alloc: Global, text: &mut String, arg: &Arg<'_>) -> Result<(), AllocError> {
+    text.push_str(" \\\n            '")?;
+    if let Some(long) = arg.get_long() {
+        push_all(text, &["--", long, "["])?;
+        Quoting::Zsh.push(text, arg.get_help().unwrap_or(""))?;
+        text.push(']')?;
+    }
+    if takes_value(arg) {
+        let name = value_name(alloc, arg)?;
+        push_all(text, &[":", name.as_str(), ":"])?;
+        push_offer(alloc, text, arg)?;
+    }
+    text.push('\'')
+}
+
+/// What an argument may be.
+fn push_offer(alloc: Global, text: &mut String, arg: &Arg<'_>) -> Result<(), AllocError> {
+    match offer_of(alloc, arg)? {
+        Offer::Program => text.push_str("_files -g \"*.afx\""),
+        Offer::Input => text.push_str("_files -g \"*.json\""),
+        Offer::File => text.push_str("_files"),
+        Offer::Page => {
+            text.push_str("(")?;
+            push_names(text, &tables())?;
+            text.push_str(")")
+        }
+        Offer::Words(words) => {
+            text.push('(')?;
+            for word in words {
+                push_all(text, &[" ", *word])?;
+            }
+            text.push(')')
+        }
+        Offer::Nothing => Ok(()),
+    }
+}

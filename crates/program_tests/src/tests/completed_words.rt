@@ -1,0 +1,133 @@
+//! Completions and the manual name just the options that help names.
+
+use crate::tests::compare;
+use command_line::reply::Reply;
+use command_line::words::request_of;
+use std::alloc::Global;
+use std::process::Abort;
+use std::rt::HostRuntime;
+
+/// Commands and their options, in their order.
+const ROWS: &[(&str, &str)] = &[
+    ("run", " input steps nest tasks w0 workers arrays"),
+    ("serial", " input steps nest arrays progress"),
+    ("check", " list"),
+    ("list", " lines"),
+    ("mhp", ""),
+    ("explore", " input choices choices-from random arrays"),
+    ("explain", " list"),
+    ("completions", ""),
+    ("man", ""),
+];
+
+/// Where the options of COMMAND stand: in the reply to these words, from a text to another one, each behind a
+/// mark; and whether `--help` is told there too, as the last.
+struct Source {
+    words: &'static str,
+    begin: &'static str,
+    end: &'static str,
+    mark: &'static str,
+    with_help: bool,
+}
+
+const SOURCES: &[Source] = &[
+    Source {
+        words: "COMMAND --help",
+        begin: "Options:\n",
+        end: "\n\n",
+        mark: " --",
+        with_help: true,
+    },
+    Source {
+        words: "completions bash",
+        begin: "\n    COMMAND) options=",
+        end: "\n",
+        mark: "--",
+        with_help: true,
+    },
+    Source {
+        words: "completions zsh",
+        begin: "\n        COMMAND) _arguments",
+        end: ";;",
+        mark: "'--",
+        with_help: true,
+    },
+    Source {
+        words: "completions fish",
+        begin: "\ncomplete -c afx -n '__fish_seen_subcommand_from COMMAND'",
+        end: "Prints help",
+        mark: " -l ",
+        with_help: true,
+    },
+    Source {
+        words: "man",
+        begin: "\n.SS afx COMMAND",
+        end: "\n.S",
+        mark: "fB--",
+        with_help: false,
+    },
+];
+
+#[test]
+fn each_names_the_options_of_help(rt: HostRuntime) {
+    let alloc = rt.alloc();
+    for source in SOURCES {
+        for (command, options) in ROWS {
+            let help = if source.with_help { " help" } else { "" };
+            let want = format!(in alloc; "{options}{help}").expect(rt, "memory");
+            let row = format!(in alloc; "{} of {command}", source.words).expect(rt, "memory");
+            compare(
+                rt,
+                alloc,
+                row,
+                options_at(rt, alloc, source, command),
+                &want,
+            );
+        }
+    }
+}
+
+/// The options of a command at a source, each behind a space.
+fn options_at(rt: &impl Abort, alloc: Global, source: &Source, command: &str) -> String {
+    let reply = reply_to(rt, alloc, &about(rt, alloc, source.words, command));
+    let begin = about(rt, alloc, source.begin, command);
+    let (_, behind) = reply.split_once(begin.as_str()).expect(rt, "a beginning");
+    let (here, _) = behind.split_once(source.end).expect(rt, "an end");
+    let mut options = String::new(alloc);
+    for piece in here.split(source.mark).skip(1) {
+        options.push(' ').expect(rt, "memory");
+        push_name(rt, &mut options, piece);
+    }
+    options
+}
+
+/// Adds the name with which a text begins.
+fn push_name(rt: &impl Abort, out: &mut String, text: &str) {
+    for c in text.chars() {
+        if !c.is_ascii_alphanumeric() && c != '-' {
+            return;
+        }
+        out.push(c).expect(rt, "memory");
+    }
+}
+
+/// A text about a command.
+fn about(rt: &impl Abort, alloc: Global, text: &str, command: &str) -> String {
+    text.replace(alloc, "COMMAND", command).expect(rt, "memory")
+}
+
+/// What is replied to words between single spaces, without the backslashes before dashes.
+fn reply_to(rt: &impl Abort, alloc: Global, line: &str) -> String {
+    let mut words = Vec::new(alloc);
+    for word in line.split(' ') {
+        words
+            .push(String::from_str(alloc, word).expect(rt, "memory"))
+            .expect(rt, "memory");
+    }
+    let text = match request_of(alloc, &words) {
+        Err(Reply::Said(said)) => format!(in alloc; "{said}").expect(rt, "memory"),
+        Err(Reply::Page(text)) => text,
+        _ => String::new(alloc),
+    };
+    text.replace(alloc, "\\-", "-").expect(rt, "memory")
+}
