@@ -83,7 +83,13 @@ fn line_behind<'w>(command: &str, file: &'w str, behind: &'w [String]) -> Option
     } else if command == "mhp" {
         alone_line(Command::Pairs, file, behind)
     } else if command == "fmt" {
-        flagged_line(Command::Format, "--check", Command::CheckFormat, file, behind)
+        flagged_line(
+            Command::Format,
+            "--check",
+            Command::CheckFormat,
+            file,
+            behind,
+        )
     } else if command == "explore" {
         optioned_line(Command::Explore, file, choosing_texts_in(behind))
     } else {
