@@ -1,5 +1,5 @@
 -- From what a command wrote, or why it wrote nothing, to what was done.
-use Rattle.std.proofs.Common.{◌≡◌, ◌≢◌, ◌<◌, ◌≤◌, inl, inr, ℕ, List, Option, Some, Result, Ok, Err, ap, ◌∙◌, sym, subst, refl}
+use Rattle.std.proofs.Common.{◌≡◌, ◌≢◌, ◌<◌, ◌≤◌, inl, inr, ℕ, List, [], Option, Some, Result, Ok, Err, ap, ◌∙◌, sym, subst, refl}
 use Rattle.std.proofs.KnownBytes.{Keeps-refl}
 use Rattle.std.proofs.Math.Dec.{ltb}
 use Rattle.std.proofs.lemmas.Bool.{ltb-false, ltb-true}
@@ -20,6 +20,7 @@ use Rattle.types.specs.Outcome.{Outcome}
 use Rattle.types.specs.TreeRuns.{Explored, Ends, Open, NoSuchChoice}
 use Rattle.types.specs.Typed.{code_of, program_of}
 use Rattle.types.specs.declared.typed.Typed.{Typed}
+use Rattle.effects.proofs.Members.{false_true}
 use Rattle.parallel_relation.specs.Pairs.{ArePairs, AreListed, HasPair}
 use Rattle.parallel_relation.specs.Together.{LabelsMeet}
 use Rattle.parallel_relation.specs.declared.pairs.Pairs.{Pairs as KeptPairs}
@@ -31,7 +32,8 @@ use Rattle.answers.specs.Answers.{Does, Explains, Failed, HasRace, IsCodeOf, IsR
 use Rattle.answers.specs.Answers.{TellsNoCode, TellsNotAccepted, TellsRaceTo, TellsUnspelled, TestsRules}
 use Rattle.answers.specs.Answers.{AnswersLabels, AnswersPlaces, AnswersFormat, AnswersCheckFormat, NeedsLayout}
 use Rattle.layout.specs.Kept.{HaveSameTokens, IsLaidOut, KeepsAll}
-use Rattle.std.specs.Str.{IsUtf8}
+use Rattle.std.specs.Str.{IsUtf8, bytes_eq}
+use Rattle.std.proofs.lemmas.Slice.Eq.{bytes_eq-Decides}
 use Rattle.std.proofs.Math.Utf8.{encodes}
 use Rattle.std.proofs.lemmas.Str.{encodes-chars}
 use Rattle.texts.specs.Appending.{Writes}
@@ -299,6 +301,11 @@ check_format_answer text laid program spelled same laid_out = record {
   told_is = refl;
   status_is = refl;
 }
+
+-- two texts that were found to differ
+pub differ : (equal : Bool) (told laid text : List ℕ) → told ≡ laid → equal ≡ bytes_eq told text → equal ≡ false → laid ≢ text
+differ equal told laid text of is none same =
+    false_true (sym none ∙ is ∙ (bytes_eq-Decides told text).1 (of ∙ same))
 
 -- a text that isn't: its layout is another
 pub needs_layout : (text laid : List ℕ) (program : tree.Program) → AreTokensOf (chars text) (spelling program)
