@@ -13,6 +13,7 @@ const ROWS: &[(&str, &str)] = &[
     ("serial", " input steps nest arrays progress"),
     ("check", " list"),
     ("list", " lines"),
+    ("fmt", " check"),
     ("mhp", ""),
     ("explore", " input choices choices-from random arrays"),
     ("explain", " list"),
