@@ -97,7 +97,7 @@ together.",
         rule: "Two splits, the second of the right side of the first. The three parts are apart, so each may be a task's.",
         example: Example::Shape(Shape {
             lines: &[
-                "proc parts(mut a: int) {",
+                "proc three(mut a: int) {",
                 "  split a at 2 as before, from {",
                 "    split from at 3 as part, after {",
                 "      async {",
