@@ -11,8 +11,10 @@ pub returns : goal.returns
 returns g c s held =
     let text = c.args.text.now in
     let laid = string_bytes c.in_ok-laid.laid in
-    refuses CheckFormat s held text _ NotLaidOut
-    (refl, needs_layout text laid (tree_of c.in_ok-_program._program) c.in_ok-_program.ensures.spelled c.utf8.text
-    (IsUtf8-string_bytes c.in_ok-laid.laid)
-    (differ c.eq.result c.as_str.result.now laid text c.as_str.ensures.value c.eq.ensures c.if-eq.false) c.in_ok-laid.ensures.laid)
+    refuses CheckFormat s held text _ NotLaidOut (
+      refl,
+      needs_layout text laid (tree_of c.in_ok-_program._program) c.in_ok-_program.ensures.spelled c.utf8.text
+          (IsUtf8-string_bytes c.in_ok-laid.laid)
+          (differ c.eq.result c.as_str.result.now laid text c.as_str.ensures.value c.eq.ensures c.if-eq.false) c.in_ok-laid.ensures.laid,
+    )
     (other_failure NotLaidOut tt)
