@@ -75,15 +75,10 @@ fn each_names_the_options_of_help(rt: HostRuntime) {
     for source in SOURCES {
         for (command, options) in ROWS {
             let help = if source.with_help { " help" } else { "" };
-            let want = format!(in alloc; "{options}{help}").expect(rt, "memory");
-            let row = format!(in alloc; "{} of {command}", source.words).expect(rt, "memory");
-            compare(
-                rt,
-                alloc,
-                row,
-                options_at(rt, alloc, source, command),
-                &want,
-            );
+            let want = format!(in alloc; "{options}{help}").expect(&rt, "memory");
+            let row = format!(in alloc; "{} of {command}", source.words).expect(&rt, "memory");
+            let said = options_at(&rt, alloc, source, command);
+            compare(&rt, alloc, row, said, want.as_str());
         }
     }
 }
