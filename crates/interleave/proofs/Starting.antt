@@ -14,7 +14,7 @@ use Rattle.interleave.specs.Replay.{start_of}
 use Rattle.interleave.specs.Shown.{AreBoth, IsTaskOf, IsBookOf, Shows, is_path, is_scope, scope_id, stake}
 use Rattle.interleave.specs.World.{Live, Stake, same_path, same_scope, root_scope, scope}
 use Rattle.interleave.specs.declared.doing.Doing.TheVariants.{Starts}
-use Rattle.interleave.specs.declared.event.ScopeId.{ScopeId as rScopeId}
+use Rattle.types.specs.declared.scope_id.ScopeId.{ScopeId as rScopeId}
 use Rattle.interleave.specs.declared.scope.Scope.{Scope as rScope}
 use Rattle.interleave.specs.declared.task.Task.{Task as rTask}
 use Rattle.interleave.specs.declared.task.Whereabouts.TheVariants.{Queue as rQueue}

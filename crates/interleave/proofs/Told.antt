@@ -23,7 +23,7 @@ use Rattle.interleave.specs.Shown.{IsTaskOf, IsBookOf, IsDoingThere, Shows, is_p
 use Rattle.interleave.specs.World.{Live, Scope, World, Whereabouts, Queue, Hand, Parked, task, scope, root_scope}
 use Rattle.interleave.specs.Worlds.{outcome_of}
 use Rattle.interleave.specs.declared.doing.Doing.TheVariants.{AtEnd}
-use Rattle.interleave.specs.declared.event.ScopeId.{ScopeId as rScopeId}
+use Rattle.types.specs.declared.scope_id.ScopeId.{ScopeId as rScopeId}
 use Rattle.interleave.specs.declared.job.Job.{Job}
 use Rattle.interleave.specs.declared.scope.Scope.{Scope as rScope}
 use Rattle.interleave.specs.declared.task.Task.{Task as rTask}

@@ -11,7 +11,7 @@ use Rattle.interleave.specs.Shown.{IsBookOf, is_path, is_scope, scope_id, stake,
 use Rattle.interleave.specs.declared.doing.Doing.{Doing}
 use Rattle.interleave.specs.declared.doing.Doing.TheVariants.{Starts, Runs, Steps, Spawns, Opens}
 use Rattle.interleave.specs.declared.doing.Doing.TheVariants.{AtFinish, AtEnd, Lost}
-use Rattle.interleave.specs.declared.event.ScopeId.{ScopeId}
+use Rattle.types.specs.declared.scope_id.ScopeId.{ScopeId}
 use Rattle.interleave.specs.declared.scope.Scope.{Scope}
 use Rattle.interleave.specs.declared.task.Stake.{Stake as rStake}
 use Rattle.interleave.specs.declared.task.Task.{Task}

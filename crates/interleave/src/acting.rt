@@ -14,20 +14,21 @@ ghost use Rattle.interleave.specs.Shown.{Becomes, IsTaskOf, IsWorld, Refuses, Sh
 ghost use Rattle.interleave.specs.Shown.{scope_id, stake, whereabouts};
 ghost use Rattle.interleave.specs.World.{Live, World as AnyWorld, hand_of};
 ghost use Rattle.interleave.specs.declared.error.EventError.TheVariants.{Illegal};
-ghost use Rattle.interleave.specs.declared.event.ScopeId.{ScopeId as AnyScopeId};
+ghost use Rattle.types.specs.declared.scope_id.ScopeId.{ScopeId as AnyScopeId};
 ghost use Rattle.interleave.specs.declared.task.Stake.{Stake as AnyStake};
 ghost use Rattle.interleave.specs.declared.task.Task.{Task as AnyTask};
 
 use crate::doing::Doing;
 use crate::error::EventError;
-use crate::event::ScopeId;
 use crate::job::Job;
 use crate::scope::Scope;
 use crate::task::{Stake, Task, Whereabouts};
+use crate::worker_id::WorkerId;
 use crate::world::World;
 use std::alloc::{AllocError, Global};
 use std::collections::VecDeque;
 use types::path::Path;
+use types::scope_id::ScopeId;
 
 impl<'p> World<'p> {
     /// A task does one step, of a statement other than async and finish.
@@ -98,7 +99,7 @@ impl<'p> World<'p> {
     }
 
     /// The worker in whose hand the task of a path is, once its next action is known.
-    fn look_at(&mut self, path: &Path) -> Result<u32, EventError>
+    fn look_at(&mut self, path: &Path) -> Result<WorkerId, EventError>
         requires { IsWorld self.old }
         ensures others { self.new ≡ record self.old { tasks = self.new.tasks } }
         ensures shows { (w : AnyWorld) → Shows self.old w → Shows self.new w }
@@ -156,7 +157,7 @@ impl<'p> World<'p> {
 
 impl<'p> Task<'p> {
     /// The worker in whose hand it is, once its next action is known.
-    fn in_hand(&mut self, job: Job<'p>) -> Result<u32, EventError>
+    fn in_hand(&mut self, job: Job<'p>) -> Result<WorkerId, EventError>
         requires job { IsJob job }
         requires task { (t : Live) × IsTaskOf job self.old t }
         ensures same { (t : Live) → IsTaskOf job.entry self.old t → IsTaskOf job.entry self.new t }
@@ -210,7 +211,7 @@ impl<'p> Task<'p> {
     }
 
     /// It begins a task, to which half of its weight goes, and which is in the same worker's queue.
-    fn spawn(&mut self, alloc: Global, worker: u32) -> Result<(Path, Task<'p>), EventError>
+    fn spawn(&mut self, alloc: Global, worker: WorkerId) -> Result<(Path, Task<'p>), EventError>
         ensures spawned { IfOk result (λ r. DidSpawn self.old self.new r.1 r.0 worker) }
         ensures same { OnErr result (IsSame self.old self.new) }
         ensures light { IfErr result (λ e. e ≡ Illegal

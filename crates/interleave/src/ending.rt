@@ -28,6 +28,7 @@ use crate::doing::Doing;
 use crate::error::EventError;
 use crate::job::Job;
 use crate::task::{Task, Whereabouts};
+use crate::worker_id::WorkerId;
 use crate::world::World;
 use gather::settle::settle;
 use own_run::result::TaskResult;
@@ -72,7 +73,7 @@ impl<'p> World<'p> {
     }
 
     /// A worker takes a task that was parked at a passed scope, with what came of the finish.
-    pub fn resume(&mut self, worker: u32, path: &Path) -> Result<(), EventError>
+    pub fn resume(&mut self, worker: WorkerId, path: &Path) -> Result<(), EventError>
         requires { IsWorld self.old }
         ensures resumed { OnOk result
             (Becomes (IsResume worker path.now.turns.items) self.old self.new) }
@@ -97,7 +98,7 @@ impl<'p> World<'p> {
     }
 
     /// The worker in whose hand a task is, once its next action is known.
-    fn look_in_hand(&mut self, path: &Path) -> Result<u32, EventError>
+    fn look_in_hand(&mut self, path: &Path) -> Result<WorkerId, EventError>
         requires { IsWorld self.old }
         ensures others { self.new ≡ record self.old { tasks = self.new.tasks } }
         ensures keeps { Keeps self.old self.new }
@@ -261,7 +262,7 @@ impl<'p> World<'p> {
     /// is known of it.
     fn go_behind(
         &mut self,
-        worker: u32,
+        worker: WorkerId,
         path: &Path,
         results: Vec<TaskResult>,
     ) -> Result<(), EventError>
@@ -285,7 +286,7 @@ impl<'p> World<'p> {
 
 impl<'p> Task<'p> {
     /// The worker in whose hand it is, once its next action is known.
-    fn look_in_hand(&mut self, job: Job<'p>) -> Result<u32, EventError>
+    fn look_in_hand(&mut self, job: Job<'p>) -> Result<WorkerId, EventError>
         requires job { IsJob job }
         requires task { (t : Live) × IsTaskOf job self.old t }
         ensures same { (t : Live) → IsTaskOf job.entry self.old t
@@ -319,7 +320,7 @@ impl<'p> Task<'p> {
     /// known of it.
     fn go_behind(
         &mut self,
-        worker: u32,
+        worker: WorkerId,
         alloc: Global,
         results: Vec<TaskResult>,
     ) -> Result<(), EventError>

@@ -14,20 +14,21 @@ ghost use Rattle.interleave.specs.World.{root_scope as the_root_scope};
 ghost use Rattle.interleave.specs.Jobs.{program_of, lists_of, budget_of};
 ghost use Rattle.interleave.specs.Replay.{start_of as first_of};
 ghost use Rattle.interleave.specs.declared.error.EventError.TheVariants.{NoMemory};
-ghost use Rattle.interleave.specs.declared.event.ScopeId.{ScopeId as AnyScopeId};
+ghost use Rattle.types.specs.declared.scope_id.ScopeId.{ScopeId as AnyScopeId};
 ghost use Rattle.interleave.specs.declared.scope.Scope.{Scope as AnyScope};
 ghost use Rattle.interleave.specs.declared.task.Task.{Task as AnyTask};
 
 use crate::doing::Doing;
 use crate::error::EventError;
-use crate::event::ScopeId;
 use crate::job::Job;
 use crate::scope::Scope;
 use crate::task::{Stake, Task, Whereabouts};
+use crate::worker_id::WorkerId;
 use own_run::start::Start;
 use std::alloc::Global;
 use std::collections::{HashMap, HashSet, VecDeque};
 use types::path::Path;
+use types::scope_id::ScopeId;
 
 /// The live tasks by their paths and the scopes by their names.
 #[derive(Drop)]
@@ -36,7 +37,7 @@ pub struct World<'p> {
     pub tasks: HashMap<Path, Task<'p>>,
     pub scopes: HashMap<ScopeId, Scope>,
     /// The workers that have a task in their hands.
-    pub hands: HashSet<u32>,
+    pub hands: HashSet<WorkerId>,
 }
 
 impl<'p> World<'p> {
@@ -59,7 +60,7 @@ impl<'p> World<'p> {
             doing: Doing::Starts(root),
             opened: 0,
             stakes,
-            place: Whereabouts::Queue(0),
+            place: Whereabouts::Queue(WorkerId::first()),
         };
         let mut tasks = HashMap::new(job.alloc);
         tasks.insert(root_path(job.alloc), task)?;
@@ -74,7 +75,7 @@ impl<'p> World<'p> {
     }
 
     /// A worker takes a task from its queue into its hand.
-    pub fn take(&mut self, worker: u32, path: &Path) -> Result<(), EventError>
+    pub fn take(&mut self, worker: WorkerId, path: &Path) -> Result<(), EventError>
         ensures taken { OnOk result
             (Becomes (IsTake worker path.now.turns.items) self.old self.new) }
         ensures refused { IfErr result
@@ -90,7 +91,7 @@ impl<'p> World<'p> {
     }
 
     /// A worker takes a task from another's queue into its own.
-    pub fn steal(&mut self, worker: u32, from: u32, path: &Path) -> Result<(), EventError>
+    pub fn steal(&mut self, worker: WorkerId, from: WorkerId, path: &Path) -> Result<(), EventError>
         ensures stolen { OnOk result
             (Becomes (IsSteal worker from path.now.turns.items) self.old self.new) }
         ensures refused { IfErr result
@@ -148,7 +149,7 @@ impl<'p> World<'p> {
     }
 
     /// Whether a task lives and is in this worker's queue.
-    fn is_in_queue(&self, path: &Path, worker: u32) -> bool
+    fn is_in_queue(&self, path: &Path, worker: WorkerId) -> bool
         ensures there { OnTrue result ((k : AnyTask)
             × (get is_path self.now.tasks path.now ≡ Some k)
             × (in_queue (whereabouts k.place) worker ≡ true)) }
