@@ -39,7 +39,7 @@ use Rattle.interleave.specs.World.{Stake, Live, Scope, World, Whereabouts, Queue
 use Rattle.interleave.specs.World.{in_hand, hand_is_free}
 use Rattle.interleave.specs.declared.doing.Doing.{Doing}
 use Rattle.interleave.specs.declared.doing.Doing.TheVariants.{AtFinish}
-use Rattle.interleave.specs.declared.event.ScopeId.{ScopeId as rScopeId}
+use Rattle.types.specs.declared.scope_id.ScopeId.{ScopeId as rScopeId}
 use Rattle.interleave.specs.declared.job.Job.{Job}
 use Rattle.interleave.specs.declared.scope.Scope.{Scope as rScope}
 use Rattle.interleave.specs.declared.task.Stake.{Stake as rStake}

@@ -19,7 +19,7 @@ use Rattle.interleave.specs.Worlds.{LeadsTo}
 use Rattle.interleave.specs.declared.doing.Doing.{Doing}
 use Rattle.interleave.specs.declared.error.EventError.{EventError}
 use Rattle.interleave.specs.declared.error.EventError.TheVariants.{Illegal, NoMemory}
-use Rattle.interleave.specs.declared.event.ScopeId.{ScopeId as rScopeId}
+use Rattle.types.specs.declared.scope_id.ScopeId.{ScopeId as rScopeId}
 use Rattle.interleave.specs.declared.job.Job.{Job}
 use Rattle.interleave.specs.declared.scope.Scope.{Scope as rScope}
 use Rattle.interleave.specs.declared.task.Task.{Task as rTask}

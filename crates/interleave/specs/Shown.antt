@@ -1,10 +1,13 @@
 -- What a world in Rust stands for: live tasks by their paths, scopes by their names.
-use Rattle.std.specs.Prelude.{ℕ, ◌≡◌, ◌⊎◌, List, Bool, true, ◌&&◌, option_map}
+use Rattle.std.specs.Prelude.{ℕ, ◌≡◌, ◌⊎◌, List, Bool, true, false, ◌&&◌, option_map}
 use Rattle.std.specs.Prelude.{not, nat_eq, map, Option, Some, None, Vec}
 use Rattle.std.specs.Global.{Global}
 use Rattle.std.specs.Cmp.Lexicographic.{pointwise}
 use Rattle.std.specs.HashMap.{get}
 use Rattle.std.specs.HashSet.{contains}
+use Rattle.types.specs.Outcome.{outcome as one_thread}
+use Rattle.types.specs.Translation.{outcome as outcome_of}
+use Rattle.types.specs.declared.outcome.Outcome.{Outcome}
 use Rattle.types.specs.declared.path.Path.{Path}
 use Rattle.own_run.specs.Translation.{task_result}
 use Rattle.own_run.specs.declared.result.TaskResult.{TaskResult}
@@ -13,7 +16,7 @@ use Rattle.interleave.specs.Events.{Event}
 use Rattle.interleave.specs.Jobs.{program_of, lists_of, budget_of, IsJob}
 use Rattle.interleave.specs.World.{ScopeId, Stake, Live, Scope, World}
 use Rattle.interleave.specs.World.{Whereabouts, Queue, Hand, Parked}
-use Rattle.interleave.specs.World.{task, scope, hand_is_free}
+use Rattle.interleave.specs.World.{task, scope, hand_is_free, has_passed, root_scope}
 use Rattle.interleave.specs.Worlds.{LeadsTo, event_of}
 use Rattle.interleave.specs.declared.doing.Doing.{Doing}
 use Rattle.interleave.specs.declared.error.EventError.{EventError}
@@ -104,6 +107,13 @@ module _ (j : Job) where
     pub place : new.place ≡ old.place
     pub stakes : new.stakes.items ≡ old.stakes.items
 
+  -- ---- what is told
+  -- nothing before the root's scope has passed, and then the one-thread outcome
+  abbrev pub IsTold : (passed : Bool) → Option Outcome → Type 0
+  IsTold passed None = passed ≡ false
+  IsTold passed (Some told) =
+      (passed ≡ true) × (outcome_of told ≡ one_thread (program_of j) (lists_of j) (budget_of j))
+
 -- ---- worlds
 -- each live task has a path that a table can be asked for
 abbrev pub ArePaths : List Live → Type 0
@@ -119,6 +129,7 @@ pub record Shows (r : rWorld) (w : World) : Type 0 where
   pub scopes : (id : rScopeId)
       → AreBoth IsBookOf (get is_scope r.scopes id) (scope (scope_id id) w.scopes)
   pub hands : (worker : ℕ) → contains nat_eq r.hands worker ≡ not (hand_is_free worker w.live)
+  pub told : IsTold r.job (has_passed root_scope w) r.told
 
 -- the world after an event of a job, where it is legal
 abbrev pub next_world : Job → Event → World → Option World
@@ -137,6 +148,7 @@ pub record WorldStays (old new : rWorld) : Type 0 where
   pub scopes : (id : rScopeId)
       → AreBoth ScopeStays (get is_scope old.scopes id) (get is_scope new.scopes id)
   pub hands : (worker : ℕ) → contains nat_eq new.hands worker ≡ contains nat_eq old.hands worker
+  pub told : new.told ≡ old.told
 
 -- an error leaves the same tables; where the event is called illegal it was, in whatever world was
 -- shown

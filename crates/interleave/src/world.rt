@@ -7,7 +7,8 @@ ghost use Rattle.std.specs.HashMap.{get};
 ghost use Rattle.types.specs.Contents.{FitsArrays};
 ghost use Rattle.types.specs.declared.path.Path.{Path as AnyPath};
 ghost use Rattle.interleave.specs.Events.{Pass as IsPass, Steal as IsSteal, Take as IsTake};
-ghost use Rattle.interleave.specs.Shown.{Becomes, Refuses, Shows, is_path, is_scope, scope_id};
+ghost use Rattle.interleave.specs.Shown.{Becomes, IsWorld, Refuses, Shows, is_path, is_scope};
+ghost use Rattle.interleave.specs.Shown.{scope_id};
 ghost use Rattle.interleave.specs.Shown.{whereabouts};
 ghost use Rattle.interleave.specs.World.{World as AnyWorld, book, has_passed, in_queue, weight_of};
 ghost use Rattle.interleave.specs.World.{root_scope as the_root_scope};
@@ -27,6 +28,7 @@ use crate::worker_id::WorkerId;
 use own_run::start::Start;
 use std::alloc::Global;
 use std::collections::{HashMap, HashSet, VecDeque};
+use types::outcome::Outcome;
 use types::path::Path;
 use types::scope_id::ScopeId;
 
@@ -38,6 +40,8 @@ pub struct World<'p> {
     pub scopes: HashMap<ScopeId, Scope>,
     /// The workers that have a task in their hands.
     pub hands: HashSet<WorkerId>,
+    /// What is told once the root's scope has passed.
+    pub told: Option<Outcome>,
 }
 
 impl<'p> World<'p> {
@@ -71,6 +75,7 @@ impl<'p> World<'p> {
             tasks,
             scopes,
             hands: HashSet::new(job.alloc),
+            told: None,
         })
     }
 
@@ -105,14 +110,19 @@ impl<'p> World<'p> {
         Ok(())
     }
 
-    /// A scope passes, since all its weight came back.
+    /// A scope passes, since all its weight came back. Where it is the root's, what is told is known
+    /// from then on.
     pub fn pass(&mut self, scope: &ScopeId) -> Result<(), EventError>
+        requires { IsWorld self.old }
         ensures passed { OnOk result (Becomes (IsPass (scope_id scope.now)) self.old self.new) }
         ensures refused { IfErr result (Refuses (IsPass (scope_id scope.now)) self.old self.new) }
         ensures job { self.new.job ≡ self.old.job }
     {
         if !self.is_complete(scope) {
             return Err(EventError::Illegal);
+        }
+        if is_root_scope(scope) {
+            return self.pass_root(scope);
         }
         self.mark_passed(scope);
         Ok(())
@@ -191,7 +201,7 @@ impl<'p> World<'p> {
     }
 
     /// A scope has passed.
-    fn mark_passed(&mut self, scope: &ScopeId)
+    pub(crate) fn mark_passed(&mut self, scope: &ScopeId)
         ensures others { self.new ≡ record self.old { scopes = self.new.scopes } }
         ensures marked { (s : AnyScope) → get is_scope self.old.scopes scope.now ≡ Some s
             → (q : AnyScopeId) → get is_scope self.new.scopes q
@@ -202,6 +212,14 @@ impl<'p> World<'p> {
             book.passed = true;
         }
     }
+}
+
+/// Whether it is the scope that `main` stands in.
+fn is_root_scope(scope: &ScopeId) -> bool
+    ensures root { OnTrue result (scope_id scope.now ≡ the_root_scope) }
+    ensures other { OnFalse result (scope_id scope.now ≡ the_root_scope → ⊥) }
+{
+    scope.owner.turns.is_empty() && scope.number == 0
 }
 
 /// The path of the root.

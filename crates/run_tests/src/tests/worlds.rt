@@ -235,8 +235,7 @@ fn told(rt: &(impl Abort + Threads + Sync), alloc: Global, row: Row) -> Result<S
         number: 1,
     };
     let (issued, returned) = world.book(&finish).expect(rt, "a finish");
-    let outcome = world.outcome().expect(rt, "memory");
-    let lines = match &outcome {
+    let lines = match world.outcome() {
         Some(Outcome::Ended { lines, .. }) => format!(in alloc; "{lines:?}")?,
         Some(Outcome::Stopped) => format!(in alloc; "stopped")?,
         None => format!(in alloc; "none")?,
@@ -296,8 +295,7 @@ fn walks_come_to_the_one_thread_outcome(rt: HostRuntime) {
             let job = Job::new(alloc, &program, &input, budget, u64::from(seed % 9 + 1));
             let job = job.expect(&rt, "a weight");
             let walk = random_walk(job, workers, u64::from(seed), 1_000_000).expect(&rt, "memory");
-            let outcome = walk.world.outcome().expect(&rt, "memory");
-            let outcome = outcome.expect(&rt, "an end");
+            let outcome = walk.world.outcome().expect(&rt, "an end");
             compare(
                 &rt,
                 alloc,
