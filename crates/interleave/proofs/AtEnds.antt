@@ -24,10 +24,10 @@ use Rattle.interleave.specs.Ending.{NoneIsLate, ScopeBecomes, StandsAt, TaskBeco
 use Rattle.interleave.specs.Events.{Ends, Parks, only_if, did, give_back, owns, with_next, in_innermost, next_action, by_end, by_park}
 use Rattle.interleave.specs.Jobs.{IsJob, program_of, lists_of, budget_of}
 use Rattle.interleave.specs.Replay.{does, hands_on}
-use Rattle.interleave.specs.Shown.{AreBoth, IsTaskOf, IsBookOf, IsDoingThere, Becomes, Refuses, ScopeStays, Shows, WorldStays, is_path, is_scope, next_world}
+use Rattle.interleave.specs.Shown.{AreBoth, IsTaskOf, IsBookOf, IsDoingThere, IsTold, Becomes, Refuses, ScopeStays, Shows, WorldStays, is_path, is_scope, next_world}
 use Rattle.interleave.specs.Shown.{scope_id, stake, whereabouts}
 use Rattle.interleave.specs.World.{Stake, Live, Scope, World, Whereabouts, Queue, Hand, Parked, task, put_task}
-use Rattle.interleave.specs.World.{without_task, scope, put_scope, hand_of, hand_is_free}
+use Rattle.interleave.specs.World.{without_task, scope, put_scope, hand_of, hand_is_free, is_passed, root_scope}
 use Rattle.interleave.specs.Worlds.{next_of}
 use Rattle.interleave.specs.declared.doing.Doing.{Doing}
 use Rattle.interleave.specs.declared.doing.Doing.TheVariants.{Starts, Runs, Steps, Spawns, Opens, AtFinish, AtEnd}
@@ -47,7 +47,7 @@ use Rattle.interleave.proofs.Hands.{hands_are_apart, free_without, free_parked}
 use Rattle.interleave.proofs.LateWeights.{none_is_late}
 use Rattle.interleave.proofs.Histories.{contains_here}
 use Rattle.interleave.proofs.Lookups.{by_test, other_path, path_refl, task_path, task-without_task, gone-without_task, Unique}
-use Rattle.interleave.proofs.Lookups.{scopes_same, scope_id as named_so}
+use Rattle.interleave.proofs.Lookups.{passed-put_scope, scopes_same, scope_id as named_so}
 use Rattle.interleave.proofs.Outcomes.{IsSound, replays_are_worlds, sound}
 use Rattle.interleave.proofs.OwnTasks.{IsAtLevel, start_path}
 use Rattle.interleave.proofs.Present.{IsThere}
@@ -306,6 +306,15 @@ module _ (r : rWorld) (ok : IsJob r.job) (w : World) (h : Shows r w) where
       its_book : (b : Scope) × (scope (scope_id inner.scope) w.scopes ≡ Some b) × IsBookOf book b
       its_book = there IsBookOf book (get is_scope r.scopes inner.scope) (scope (scope_id inner.scope) w.scopes) (h.scopes inner.scope) kept
 
+      -- with another in its place that has passed where it has
+      told_so : (to : Scope) → to.id ≡ its_book.0.id → to.passed ≡ its_book.0.passed
+          → IsTold r.job (is_passed (scope root_scope (put_scope to w.scopes))) r.told
+      told_so to named passed =
+          subst (λ b. IsTold r.job b r.told)
+          (sym (passed-put_scope to its_book.0 root_scope w.scopes
+          (ap (λ i. scope i w.scopes) (named ∙ named_so (scope_id inner.scope) w.scopes its_book.0 its_book.1) ∙ its_book.1) passed))
+          h.told
+
       freed_hand : (x f : Bool) → (if x then false else not f) ≡ not (x || f)
       freed_hand true f = refl
       freed_hand false f = refl
@@ -394,6 +403,7 @@ module _ (r : rWorld) (ok : IsJob r.job) (w : World) (h : Shows r w) where
             hands = hands_so (without_task found.its.path w.live)
                 (λ v. free_without found.its w.live (hands_are_apart p r.job.w0 (lists_of r.job) (budget_of r.job) h.events w h.led) worker v
                 found.hand found.its.path (ap (λ x. task x w.live) found.named ∙ found.lives));
+            told = told_so (give_back inner.weight (handed ∷ []) its_book.0) refl refl;
           },
         )
 
@@ -457,6 +467,7 @@ module _ (r : rWorld) (ok : IsJob r.job) (w : World) (h : Shows r w) where
             hands = hands_so (put_task parked w.live)
                 (λ v. free_parked found.its w.live (hands_are_apart p r.job.w0 (lists_of r.job) (budget_of r.job) h.events w h.led) worker v
                 found.hand parked refl (ap (λ x. task x w.live) found.named ∙ found.lives));
+            told = told_so (give_back inner.weight [] its_book.0) refl refl;
           },
         )
 

@@ -272,6 +272,7 @@ scope_keeps r w h id s to new at still each = record {
       (λ e. subst (λ x. AreBoth IsBookOf (Some s) (scope x w.scopes)) (scopes_same (scope_id id) (scope_id q) e)
       (subst (λ o. AreBoth IsBookOf o (scope (scope_id id) w.scopes)) at (h.scopes id))) (h.scopes q));
   hands = h.hands;
+  told = h.told;
 }
 
 -- ---- a parked task goes on
@@ -288,6 +289,7 @@ module _ (old : rWorld) (ok : IsJob old.job) (path : Path) (m : MayLeave old pat
     paths = h.paths;
     scopes = h.scopes;
     hands = λ v. same_hands v ∙ h.hands v;
+    told = h.told;
   }
 
   pub roomy_stays : WorldStays old roomy
@@ -462,6 +464,7 @@ module _ (old : rWorld) (ok : IsJob old.job) (path : Path) (m : MayLeave old pat
                   ∙ ap (λ b. if nat_eq worker v then true else b) (same_hands v ∙ h.hands v)
                   ∙ in_hands (nat_eq worker v) (hand_is_free v w.live)
                   ∙ ap not (sym (free_put v left it.its w.live (ap (λ x. task x w.live) named ∙ it.lives) (parked_out v)));
+              told = h.told;
             }
 
           pub resumed : Becomes (Resume worker path.turns.items) old (record r3 { hands = last.hands })

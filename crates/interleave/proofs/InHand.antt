@@ -24,9 +24,9 @@ use Rattle.interleave.specs.Events.{with_next, in_innermost, by_step, by_repleni
 use Rattle.interleave.specs.Jobs.{program_of, lists_of, budget_of}
 use Rattle.interleave.specs.Replay.{does, hands_on}
 use Rattle.interleave.specs.Shown.{AreBoth, IsTaskOf, IsBookOf, IsDoingThere, is_path, is_scope, scope_id, stake, whereabouts}
-use Rattle.interleave.specs.Shown.{Shows, TaskStays, WorldStays, next_world, Becomes, Refuses}
+use Rattle.interleave.specs.Shown.{IsTold, Shows, TaskStays, WorldStays, next_world, Becomes, Refuses}
 use Rattle.interleave.specs.World.{Live, ScopeId, Stake, Scope, World, Whereabouts, Queue, Hand, Parked, task, put_task, scope, put_scope, child_path}
-use Rattle.interleave.specs.World.{hand_of, in_hand, hand_is_free, same_path, same_scope}
+use Rattle.interleave.specs.World.{hand_of, in_hand, hand_is_free, is_passed, root_scope, same_path, same_scope}
 use Rattle.interleave.specs.declared.doing.Doing.{Doing}
 use Rattle.interleave.specs.declared.doing.Doing.TheVariants.{Starts, Runs, Steps as rSteps, Spawns as rSpawns, Opens as rOpens}
 use Rattle.interleave.specs.declared.doing.Doing.TheVariants.{AtFinish, AtEnd}
@@ -38,7 +38,7 @@ use Rattle.interleave.specs.declared.scope.Scope.{Scope as rScope}
 use Rattle.interleave.specs.declared.task.Stake.{Stake as rStake}
 use Rattle.interleave.specs.declared.task.Task.{Task as rTask}
 use Rattle.interleave.specs.declared.world.World.{World as rWorld}
-use Rattle.interleave.proofs.Lookups.{by_test, task_path, scope_id as named_so}
+use Rattle.interleave.proofs.Lookups.{by_test, task_path, passed-put_scope, passed_opened, scope_id as named_so}
 use Rattle.interleave.proofs.Numbered.{given_path}
 use Rattle.interleave.proofs.Outcomes.{starts_are_given}
 use Rattle.interleave.proofs.Staying.{alike_stays, its_self, refuses_after, refuses_by, stays_put, stays_self, stays_shown}
@@ -232,9 +232,10 @@ module _ (old mid : rWorld) (path : Path) (worker : ℕ) (g : IsReady mid path w
       → to.path ≡ path.turns.items → to.place ≡ (at_hand w h).its.place → IsTaskOf mid.job new to
       → ((q : Path) → get is_path tasks q ≡ (if is_path path q then Some new else get is_path mid.tasks q))
       → ((q : rScopeId) → AreBoth IsBookOf (get is_scope scopes q) (scope (scope_id q) ss))
+      → is_passed (scope root_scope ss) ≡ is_passed (scope root_scope w.scopes)
       → next_world mid.job e w ≡ Some (record { live = put_task to w.live; scopes = ss })
       → Shows (record mid { tasks = tasks; scopes = scopes }) (record { live = put_task to w.live; scopes = ss })
-  shows_put w h e new to ss tasks scopes named placed is each kept legal =
+  shows_put w h e new to ss tasks scopes named placed is each kept passed legal =
       let x = at_hand w h in
       record {
         events = h.events ++ e ∷ [];
@@ -244,6 +245,7 @@ module _ (old mid : rWorld) (path : Path) (worker : ℕ) (g : IsReady mid path w
         paths = paths_put to x.its w.live (ap (λ p. task p w.live) named ∙ x.lives) h.paths;
         scopes = kept;
         hands = λ v. h.hands v ∙ ap not (sym (free_same v to x.its w.live (ap (λ p. task p w.live) named ∙ x.lives) placed));
+        told = subst (λ b. IsTold mid.job b mid.told) (sym passed) h.told;
       }
 
   -- a task that isn't as another look-up says
@@ -274,7 +276,7 @@ module _ (old mid : rWorld) (path : Path) (worker : ℕ) (g : IsReady mid path w
         = acts mid w h path worker g.task x Step (λ t. by_step mid.job.w0 (D mid.job) (H mid.job) t w) d.0 in (
           record { live = put_task to w.live; scopes = w.scopes },
           legal,
-          shows_put w h (Steps path.turns.items) new to w.scopes next.tasks mid.scopes x.named refl now each h.scopes legal,
+          shows_put w h (Steps path.turns.items) new to w.scopes next.tasks mid.scopes x.named refl now each h.scopes refl legal,
         )
 
     no_step_of : ((r : Run) → k.doing ≡ rSteps r → ⊥) → (w : World) (h : Shows mid w)
@@ -300,9 +302,9 @@ module _ (old mid : rWorld) (path : Path) (worker : ℕ) (g : IsReady mid path w
         (λ m w h. no_step_of none w h))
 
   -- ---- more weight
-  module _ (next : rWorld) (job : next.job ≡ mid.job) (hands : next.hands ≡ mid.hands) where
+  module _ (next : rWorld) (job : next.job ≡ mid.job) (hands : next.hands ≡ mid.hands) (told : next.told ≡ mid.told) where
     with_tables : record mid { tasks = next.tasks; scopes = next.scopes } ≡ next
-    with_tables = sym (λ t. record { job = job t; tasks = next.tasks; scopes = next.scopes; hands = hands t })
+    with_tables = sym (λ t. record { job = job t; tasks = next.tasks; scopes = next.scopes; hands = hands t; told = told t })
 
     replenish_of : (s : IsShort mid path) → DidIssue mid next path s → Becomes (Replenish path.turns.items) mid next
     replenish_of s d w h = subst (λ z. (to : World) × (next_world mid.job (Replenish path.turns.items) w ≡ Some to) × Shows z to) with_tables (
@@ -310,7 +312,7 @@ module _ (old mid : rWorld) (path : Path) (worker : ℕ) (g : IsReady mid path w
       legal,
       shows_put w h (Replenish path.turns.items) d.task its_new (put_scope (issue w0 b.0) w.scopes) next.tasks next.scopes x.named refl is d.tasks
           (scopes_put (get is_scope mid.scopes) (get is_scope next.scopes) s.id d.book b.0 (issue w0 b.0) w.scopes h.scopes b.1
-          (named_so (scope_id s.id) w.scopes b.0 b.1) (d.issued b.0 b.2) d.scopes) legal,
+          (named_so (scope_id s.id) w.scopes b.0 b.1) (d.issued b.0 b.2) d.scopes) passed legal,
     )
       where
         w0 : ℕ
@@ -345,6 +347,11 @@ module _ (old mid : rWorld) (path : Path) (worker : ℕ) (g : IsReady mid path w
 
         stakes_are : x.its.stakes ≡ inner ∷ outer
         stakes_are = sym x.is.stakes ∙ ap (λ (z : rTask). map stake z.stakes.items) e ∙ ap (map stake) s.wants.stakes
+
+        passed : is_passed (scope root_scope (put_scope (issue w0 b.0) w.scopes)) ≡ is_passed (scope root_scope w.scopes)
+        passed =
+            passed-put_scope (issue w0 b.0) b.0 root_scope w.scopes
+            (ap (λ i. scope i w.scopes) (named_so (scope_id s.id) w.scopes b.0 b.1) ∙ b.1) refl
 
         few : may_issue w0 b.0 ≡ true
         few = let few = s.few in let same = b.2.issued in lt-ltb b.0.issued (2147483648 * w0) (omega (arith, few, same))
@@ -467,6 +474,7 @@ module _ (old mid : rWorld) (path : Path) (worker : ℕ) (g : IsReady mid path w
               (paths_put its_new x.its w.live (ap (λ p. task p w.live) x.named ∙ x.lives) h.paths);
           scopes = h.scopes;
           hands = λ v. h.hands v ∙ ap not (sym (free_same v its_new x.its w.live (ap (λ p. task p w.live) x.named ∙ x.lives) refl));
+          told = h.told;
         },
       )
         where
@@ -625,7 +633,7 @@ module _ (old mid : rWorld) (path : Path) (worker : ℕ) (g : IsReady mid path w
         record { live = put_task its_new w.live; scopes = new_scope name mid.job.w0 ∷ w.scopes },
         legal,
         shows_put w h (Opens path.turns.items) new its_new (new_scope name mid.job.w0 ∷ w.scopes) next.tasks next.scopes x.named refl now each
-            scopes_now legal,
+            scopes_now (passed_opened name mid.job.w0 x.its.opened w.scopes refl) legal,
       )
         where
           x : InHand mid w path worker g.task

@@ -12,9 +12,9 @@ use Rattle.interleave.specs.Acting.{IsSame}
 use Rattle.interleave.specs.Courses.{Course, course_of, IsDoing, IsLooked}
 use Rattle.interleave.specs.Events.{Event}
 use Rattle.interleave.specs.Jobs.{program_of, lists_of, budget_of}
-use Rattle.interleave.specs.Shown.{AreBoth, AreResultsOf, IsTaskOf, IsBookOf, IsDoingThere, Refuses, ScopeStays, Shows, TaskStays, WorldStays}
+use Rattle.interleave.specs.Shown.{AreBoth, AreResultsOf, IsTaskOf, IsBookOf, IsDoingThere, IsTold, Refuses, ScopeStays, Shows, TaskStays, WorldStays}
 use Rattle.interleave.specs.Shown.{is_path, is_scope, next_world, scope_id, stake, whereabouts}
-use Rattle.interleave.specs.World.{Live, Scope, ScopeId, World, Whereabouts, Queue, Hand, Parked, task, scope, hand_is_free}
+use Rattle.interleave.specs.World.{Live, Scope, ScopeId, World, Whereabouts, Queue, Hand, Parked, task, scope, hand_is_free, has_passed, root_scope}
 use Rattle.interleave.specs.Worlds.{LeadsTo}
 use Rattle.interleave.specs.declared.doing.Doing.{Doing}
 use Rattle.interleave.specs.declared.error.EventError.{EventError}
@@ -134,6 +134,8 @@ stays_shown old new s w h = record {
   scopes = λ q. both_over ScopeStays IsBookOf scope_stays (get is_scope old.scopes q) (get is_scope new.scopes q)
       (scope (scope_id q) w.scopes) (s.scopes q) (h.scopes q);
   hands = λ v. s.hands v ∙ h.hands v;
+  told = subst (λ (j : Job). IsTold j (has_passed root_scope w) new.told) (sym s.job)
+      (subst (λ o. IsTold old.job (has_passed root_scope w) o) (sym s.told) h.told);
 }
 
 pub stays_self : (r : rWorld) → WorldStays r r
@@ -142,6 +144,7 @@ stays_self r = record {
   tasks = λ q. both_self (TaskStays r.job) (its_self r.job) (get is_path r.tasks q);
   scopes = λ q. both_self ScopeStays scope_self (get is_scope r.scopes q);
   hands = λ v. refl;
+  told = refl;
 }
 
 pub stays_on : (a b c : rWorld) → WorldStays a b → WorldStays b c → WorldStays a c
@@ -152,6 +155,7 @@ stays_on a b c h k = record {
   scopes = λ q. both_on ScopeStays scope_on (get is_scope a.scopes q) (get is_scope b.scopes q) (get is_scope c.scopes q) (h.scopes q)
       (k.scopes q);
   hands = λ v. k.hands v ∙ h.hands v;
+  told = k.told ∙ h.told;
 }
 
 -- with tables that have the same
@@ -163,6 +167,7 @@ stays_tasks r tasks kept = record {
       (both_self (TaskStays r.job) (its_self r.job) (get is_path r.tasks q));
   scopes = λ q. both_self ScopeStays scope_self (get is_scope r.scopes q);
   hands = λ v. refl;
+  told = refl;
 }
 
 pub stays_scopes : (r : rWorld) (scopes : _) → ((q : rScopeId) → get is_scope scopes q ≡ get is_scope r.scopes q)
@@ -172,6 +177,7 @@ stays_scopes r scopes kept = record {
   tasks = λ q. both_self (TaskStays r.job) (its_self r.job) (get is_path r.tasks q);
   scopes = λ q. subst (λ o. AreBoth ScopeStays (get is_scope r.scopes q) o) (sym (kept q)) (both_self ScopeStays scope_self (get is_scope r.scopes q));
   hands = λ v. refl;
+  told = refl;
 }
 
 pub stays_hands : (r : rWorld) (hands : _) → ((v : ℕ) → contains nat_eq hands v ≡ contains nat_eq r.hands v)
@@ -181,6 +187,7 @@ stays_hands r hands kept = record {
   tasks = λ q. both_self (TaskStays r.job) (its_self r.job) (get is_path r.tasks q);
   scopes = λ q. both_self ScopeStays scope_self (get is_scope r.scopes q);
   hands = kept;
+  told = refl;
 }
 
 -- with one task that stays, and scopes that are where they were
@@ -195,6 +202,7 @@ stays_put r path k new tasks scopes at s each kept = record {
       (λ e. both_self (TaskStays r.job) (its_self r.job) (get is_path r.tasks q)));
   scopes = λ q. subst (λ o. AreBoth ScopeStays (get is_scope r.scopes q) o) (sym (kept q)) (both_self ScopeStays scope_self (get is_scope r.scopes q));
   hands = λ v. refl;
+  told = refl;
 }
 
 -- with one scope that stays
@@ -209,6 +217,7 @@ stays_book r id s to scopes at stays each = record {
       (λ e. subst (λ o. AreBoth ScopeStays o (Some to)) (sym (at_scope r.scopes id q e ∙ at)) stays)
       (λ e. both_self ScopeStays scope_self (get is_scope r.scopes q)));
   hands = λ v. refl;
+  told = refl;
 }
 
 -- ---- errors

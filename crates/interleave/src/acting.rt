@@ -140,6 +140,7 @@ impl<'p> World<'p> {
         requires short { IsShort self.old path.now }
         ensures job { self.new.job ≡ self.old.job }
         ensures hands { self.new.hands ≡ self.old.hands }
+        ensures told { self.new.told ≡ self.old.told }
         ensures issued { (s : IsShort self.old path.now) → DidIssue self.old self.new path.now s }
     {
         let w0 = self.job.w0;

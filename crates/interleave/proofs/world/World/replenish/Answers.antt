@@ -12,4 +12,4 @@ pub returns-clause-given : goal.returns-clause-given
 returns-clause-given c =
     replenishes c.args.self.now c.look_at.new.self c.args.path.now c.in_ok-look_at.field-0 c.in_ok-look_at.ensures.ready
     (ap (λ (r : rWorld). r.job) c.look_at.ensures.others) c.look_at.ensures.stays c.issue_to.new.self c.issue_to.ensures.job
-    c.issue_to.ensures.hands c.if-not-is_short.ensures.is (c.issue_to.ensures.issued c.if-not-is_short.ensures.is)
+    c.issue_to.ensures.hands c.issue_to.ensures.told c.if-not-is_short.ensures.is (c.issue_to.ensures.issued c.if-not-is_short.ensures.is)
