@@ -263,7 +263,7 @@ impl<'p> World<'p> {
     fn go_behind(&mut self, worker: WorkerId, path: &Path, run: Run<'p>)
         ensures others { self.new ≡ record self.old { tasks = self.new.tasks } }
         ensures behind { (k : AnyTask) → get is_path self.old.tasks path.now ≡ Some k
-            → TaskBecomes self.old self.new path.now (IsOutside worker run k) }
+            → TaskBecomes self.old self.new path.now (IsOutside worker run.entry k) }
     {
         if let Some(task) = self.tasks.get_mut(path) {
             task.go_behind(worker, run);
@@ -284,7 +284,7 @@ impl<'p> Task<'p> {
 
     /// It runs so in a hand, in the scope around its innermost one.
     fn go_behind(&mut self, worker: WorkerId, run: Run<'p>)
-        ensures { IsOutside worker run self.old self.new }
+        ensures { IsOutside worker run.entry self.old self.new }
     {
         self.doing = Doing::Runs(run);
         self.stakes.pop_front();
