@@ -1,12 +1,14 @@
 -- Tables that stay the same show the same world.
 use Rattle.std.proofs.Common.{◌≡◌, ℕ, List, Option, Some, None, refl, sym, ap, ◌∙◌, subst, inl, inr}
 use Rattle.std.proofs.lemmas.Option.{none-some, same_Some}
-use Rattle.std.specs.Prelude.{◌⊎◌, Bool, true, ◌&&◌, nat_eq, map, option_map, if◌then◌else◌}
+use Rattle.std.specs.Prelude.{◌⊎◌, Bool, true, ◌&&◌, nat_eq, map, option_map, Vec, if◌then◌else◌}
 use Rattle.std.specs.Cmp.Lexicographic.{pointwise}
+use Rattle.std.specs.Global.{Global}
 use Rattle.std.specs.HashMap.{HashMap, get, get_by}
 use Rattle.std.specs.HashSet.{contains}
 use Rattle.types.specs.declared.path.Path.{Path}
 use Rattle.own_run.specs.Translation.{task_result}
+use Rattle.own_run.specs.declared.result.TaskResult.{TaskResult as Made}
 use Rattle.own_run.proofs.SettledResults.{paths_same}
 use Rattle.interleave.specs.Acting.{IsSame}
 use Rattle.interleave.specs.Courses.{Course, course_of, IsDoing, IsLooked}
@@ -97,7 +99,8 @@ task_on j a b c h k = record {
     doing_on (inr l) (inr m) = inr (record { known = m.known; same = λ x h. m.same x (l.same x h) })
 
 -- ---- scopes
-results_stay : (o n : _) (b : Scope) → option_map (λ v. v.items) n ≡ option_map (λ v. v.items) o → AreResultsOf o b → AreResultsOf n b
+results_stay : (o n : Option (Vec Made Global)) (b : Scope)
+    → option_map (λ (v : Vec Made Global). v.items) n ≡ option_map (λ (v : Vec Made Global). v.items) o → AreResultsOf o b → AreResultsOf n b
 results_stay None None b e h = h
 results_stay None (Some v) b e h = absurd (none-some _ (sym e))
 results_stay (Some v) None b e h = absurd (none-some _ e)

@@ -31,6 +31,14 @@ impl Whereabouts {
         }
     }
 
+    /// The worker whose queue it is in.
+    pub fn queue(self) -> Option<WorkerId> {
+        match self {
+            Whereabouts::Queue(worker) => Some(worker),
+            Whereabouts::Hand(_) | Whereabouts::Parked => None,
+        }
+    }
+
     /// The worker whose hand it is in.
     pub fn hand(self) -> Option<WorkerId>
         ensures { result ≡ hand_of (whereabouts self) }

@@ -160,18 +160,16 @@ impl<'p> Walk<'p> {
         ensures happened { IfOk result (λ b. Happened b self.old self.new) }
         ensures refused { IfErr result (λ e. e ≡ NoMemory) }
     {
-        match self.place(path) {
-            Some(Whereabouts::Queue(from)) => {
-                let path = path.clone()?;
-                self.happens(Event::Steal { worker, from, path })
-            }
-            _ => Ok(false),
-        }
+        let Some(from) = self.queue(path) else {
+            return Ok(false);
+        };
+        let path = path.clone()?;
+        self.happens(Event::Steal { worker, from, path })
     }
 
-    /// Where a task is.
-    fn place(&self, path: &Path) -> Option<Whereabouts> {
-        Some(self.world.tasks.get(path)?.place)
+    /// The worker in whose queue a task is.
+    fn queue(&self, path: &Path) -> Option<WorkerId> {
+        self.world.tasks.get(path)?.place.queue()
     }
 
     /// An event of the first task that has one which is legal, and whether there was one.

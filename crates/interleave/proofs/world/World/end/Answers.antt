@@ -15,8 +15,8 @@ returns-in_err-worker-clause-refused c =
     let old = c.args.self.now in
     let path = c.args.path.now in
     let e = c.in_err-worker.field-0.0 in
-    at_exit (Refuses (Ends path.turns.items) old c.look_at.new.self) c.from_residual-in_err-worker.result e
-    c.from_residual-in_err-worker.ensures.1
+    at_exit (Refuses (Ends path.turns.items) old c.look_at.new.self) c.from_residual.result e
+    c.from_residual.ensures.1
     (end_unseen old c.requires.job path c.look_at.new.self c.look_at.ensures.others c.look_at.ensures.stays e
     (unseen_by old path e c.in_err-worker.ensures.nowhere))
 
@@ -28,8 +28,8 @@ returns-then-not-has_ended-clause-refused c =
     end_refused c.args.self.now c.requires.job path c.look_at.new.self l.others l.stays c.in_ok-worker.worker seen
     (sym (c.has_ended.ensures seen.its seen.at) ∙ c.if-not-has_ended.true)
 
-pub made-made-requires : goal.made-made-requires
-made-made-requires c =
+pub made-requires : goal.made-requires
+made-requires c =
     let path = c.args.path.now in
     let seen = seen_by c.look_at.new.self path c.in_ok-worker.worker c.in_ok-worker.ensures.ready in
     let made = has_made path.turns.items seen.its.doing

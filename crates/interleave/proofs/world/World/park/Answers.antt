@@ -10,8 +10,8 @@ returns-in_err-worker-clause-refused c =
     let old = c.args.self.now in
     let path = c.args.path.now in
     let e = c.in_err-worker.field-0.0 in
-    at_exit (Refuses (Parks path.turns.items) old c.look_at.new.self) c.from_residual-in_err-worker.result e
-    c.from_residual-in_err-worker.ensures.1
+    at_exit (Refuses (Parks path.turns.items) old c.look_at.new.self) c.from_residual.result e
+    c.from_residual.ensures.1
     (park_unseen old c.requires.job path c.look_at.new.self c.look_at.ensures.others c.look_at.ensures.stays e
     (unseen_by old path e c.in_err-worker.ensures.nowhere))
 

@@ -12,9 +12,9 @@ returns-clause-passed c = λ w h.
     let old : rWorld = c.args.self.now in
     let id = c.args.scope.now in
     let there = c.requires.complete in
-    let told = Some c.in_ok-settled.told in
+    let told = Some c.in_ok-told.told in
     let ok = c.requires.world.job in
     subst (λ (r : rWorld). (next : World) × (next_world old.job (Pass (scope_id id)) w ≡ Some next) × Shows r next)
     (sym (ap (λ (r : rWorld). record r { told = told }) c.mark_passed.ensures.others))
     (passes old w h id there.0 there.1 there.2 c.mark_passed.new.self.scopes (c.mark_passed.ensures.marked there.0 there.1) told
-    (root_passed old ok w h id c.requires.root there.0 there.1 there.2, c.in_ok-settled.ensures.told))
+    (root_passed old ok w h id c.requires.root there.0 there.1 there.2, c.in_ok-told.ensures.told))

@@ -11,15 +11,15 @@ pub returns-then-not-may_leave-clause-refused : goal.returns-then-not-may_leave-
 returns-then-not-may_leave-clause-refused c =
     (stays_self c.args.self.now, λ w h. c.if-not-may_leave.ensures.not w c.args.worker h)
 
-pub settled_run-run-requires-clause-stands : goal.settled_run-run-requires-clause-stands
-settled_run-run-requires-clause-stands c =
+pub settled_run-requires-clause-stands : goal.settled_run-requires-clause-stands
+settled_run-requires-clause-stands c =
     let old = c.args.self.now in
     let m = c.if-not-may_leave.ensures.may in
     let hs : rWorld = record old { hands = c.reserve.new.self } in
     roomy_stands old c.requires.job c.args.path.now m hs c.reserve.ensures.keys.2
 
-pub settled_run-run-requires-clause-may : goal.settled_run-run-requires-clause-may
-settled_run-run-requires-clause-may c =
+pub settled_run-requires-clause-may : goal.settled_run-requires-clause-may
+settled_run-requires-clause-may c =
     let old = c.args.self.now in
     let m = c.if-not-may_leave.ensures.may in
     let hs : rWorld = record old { hands = c.reserve.new.self } in
@@ -41,7 +41,7 @@ drop_results-requires c =
     let old = c.args.self.now in
     let m = c.if-not-may_leave.ensures.may in
     let hs : rWorld = record old { hands = c.reserve.new.self } in
-    roomy_stands old c.requires.job c.args.path.now m hs c.reserve.ensures.keys.2
+    record { stands = roomy_stands old c.requires.job c.args.path.now m hs c.reserve.ensures.keys.2 }
 
 pub returns-clause-resumed : goal.returns-clause-resumed
 returns-clause-resumed c =
