@@ -252,23 +252,27 @@ module _ (old : rWorld) (w : World) (h : Shows old w) (id : rScopeId) where
         → ((q : rScopeId) → get is_scope scopes q ≡ (if is_scope id q then Some (record s { passed = true }) else get is_scope old.scopes q))
         → (told : _) → IsTold old.job (has_passed root_scope passed_world) told
         → (next : World) × (next_world old.job (Pass (scope_id id)) w ≡ Some next) × Shows (record old { scopes = scopes; told = told }) next
-    passes scopes each told is_told = (passed_world, pass_legal, record {
-      events = h.events ++ Pass (scope_id id) ∷ [];
-      led = pass_led;
-      tasks = h.tasks;
-      paths = h.paths;
-      scopes = scopes_put (get is_scope old.scopes) (get is_scope scopes) id (record s { passed = true }) passing_book.0 passed_book w.scopes
-          h.scopes passing_book.1 its_name
-          (record {
-            issued = passing_book.2.issued;
-            returned = passing_book.2.returned;
-            passed = refl;
-            results = still_results s.results passing_book.0 passing_book.2.results;
-          })
-          each;
-      hands = h.hands;
-      told = is_told;
-    })
+    passes scopes each told is_told = (
+      passed_world,
+      pass_legal,
+      record {
+        events = h.events ++ Pass (scope_id id) ∷ [];
+        led = pass_led;
+        tasks = h.tasks;
+        paths = h.paths;
+        scopes = scopes_put (get is_scope old.scopes) (get is_scope scopes) id (record s { passed = true }) passing_book.0 passed_book w.scopes
+            h.scopes passing_book.1 its_name
+            (record {
+              issued = passing_book.2.issued;
+              returned = passing_book.2.returned;
+              passed = refl;
+              results = still_results s.results passing_book.0 passing_book.2.results;
+            })
+            each;
+        hands = h.hands;
+        told = is_told;
+      },
+    )
 
     -- a finish's scope
     pub passes_beside : (scopes : _)

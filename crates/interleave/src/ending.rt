@@ -315,10 +315,7 @@ fn run_behind<'p>(
 }
 
 /// Results a second time.
-pub(crate) fn copies(
-    alloc: Global,
-    results: &[TaskResult],
-) -> Result<Vec<TaskResult>, AllocError>
+pub(crate) fn copies(alloc: Global, results: &[TaskResult]) -> Result<Vec<TaskResult>, AllocError>
     ensures { IfOk result (λ v. map task_result v.items ≡ map task_result results.now) }
 {
     let mut copies = Vec::new(alloc);
