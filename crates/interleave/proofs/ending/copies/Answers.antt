@@ -16,4 +16,4 @@ loop-made-preserved c =
     ∙ ap (λ xs. xs ++ task_result copy ∷ []) c.loop-made.invariant
     ∙ ap (λ x. before ++ x ∷ []) c.in_ok-copy.ensures
     ∙ sym (map-append task_result (take i all) (item ∷ []))
-    ∙ ap (map task_result) (sym (take_more i all item c.loop-made-test.true ∙ ap (λ (x : Made). take i all ++ x ∷ []) (sym c.made-item.is)))
+    ∙ ap (map task_result) (sym (take_more all i item c.loop-made-test.true ∙ ap (λ (x : Made). take i all ++ x ∷ []) (sym c.made-item.is)))

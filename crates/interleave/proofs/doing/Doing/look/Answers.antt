@@ -15,7 +15,7 @@ ahead-requires-clause-task c =
     let run = c.in_ok-run-in-Starts.run' in (
       t.0,
       begins j c.requires.job t.0 copy run
-          (fresh_copy j c.requires.job t.0 c.in-Starts.start.now copy c.in_ok-copy-in-Starts.ensures (subst (IsDoing j t.0) c.in-Starts.is t.1))
+          (fresh_copy j c.requires.job t.0 c.in-Starts.start copy c.in_ok-copy-in-Starts.ensures (subst (IsDoing j t.0) c.in-Starts.is t.1))
           (ap (λ (q : _). program q.program.now) c.in_ok-run-in-Starts.ensures.plan ∙ c.plan.ensures.program) c.in_ok-run-in-Starts.ensures.nest
           (subst (λ (n : _). IsAt run (begun n (start copy))) (ap (λ (z : _). z.steps) c.plan.ensures.budget) c.in_ok-run-in-Starts.ensures.begun),
     )
@@ -29,7 +29,7 @@ returns-in_ok-known-in-Starts-clause-looked c =
       known = c.in_ok-known-in-Starts.ensures.known;
       same = λ d m. c.in_ok-known-in-Starts.ensures.same d
           (begins j c.requires.job d copy run
-          (fresh_copy j c.requires.job d c.in-Starts.start.now copy c.in_ok-copy-in-Starts.ensures (subst (IsDoing j d) c.in-Starts.is m))
+          (fresh_copy j c.requires.job d c.in-Starts.start copy c.in_ok-copy-in-Starts.ensures (subst (IsDoing j d) c.in-Starts.is m))
           (ap (λ (q : _). program q.program.now) c.in_ok-run-in-Starts.ensures.plan ∙ c.plan.ensures.program) c.in_ok-run-in-Starts.ensures.nest
           (subst (λ (n : _). IsAt run (begun n (start copy))) (ap (λ (z : _). z.steps) c.plan.ensures.budget) c.in_ok-run-in-Starts.ensures.begun));
     }
@@ -38,7 +38,7 @@ pub ahead-requires-in-Runs-clause-task : goal.ahead-requires-in-Runs-clause-task
 ahead-requires-in-Runs-clause-task c =
     let j = c.args.job in
     let t = c.requires.task in
-    (t.0, run_copy j c.requires.job t.0 c.in-Runs.run'.now c.in_ok-copy-in-Runs.copy c.in_ok-copy-in-Runs.ensures (subst (IsDoing j t.0) c.in-Runs.is t.1))
+    (t.0, run_copy j c.requires.job t.0 c.in-Runs.run' c.in_ok-copy-in-Runs.copy c.in_ok-copy-in-Runs.ensures (subst (IsDoing j t.0) c.in-Runs.is t.1))
 
 pub returns-in_ok-known-in-Runs-clause-looked : goal.returns-in_ok-known-in-Runs-clause-looked
 returns-in_ok-known-in-Runs-clause-looked c =
@@ -46,5 +46,5 @@ returns-in_ok-known-in-Runs-clause-looked c =
     record {
       known = c.in_ok-known-in-Runs.ensures.known;
       same = λ d m. c.in_ok-known-in-Runs.ensures.same d
-          (run_copy j c.requires.job d c.in-Runs.run'.now c.in_ok-copy-in-Runs.copy c.in_ok-copy-in-Runs.ensures (subst (IsDoing j d) c.in-Runs.is m));
+          (run_copy j c.requires.job d c.in-Runs.run' c.in_ok-copy-in-Runs.copy c.in_ok-copy-in-Runs.ensures (subst (IsDoing j d) c.in-Runs.is m));
     }
