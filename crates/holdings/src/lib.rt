@@ -2,6 +2,7 @@
 
 #![tactic(auto)]
 
+mod copy;
 mod cutting;
 pub mod error;
 pub mod fragment;

@@ -17,22 +17,23 @@ use Rattle.own_run.specs.Results.{TaskResult, and_then}
 use Rattle.own_run.specs.Runs.{root}
 use Rattle.own_run.specs.Translation.{start, task_result}
 use Rattle.own_run.specs.declared.result.TaskResult.{TaskResult as Made}
-use Rattle.interleave.specs.Courses.{Course, course_of, IsAhead, IsDoing, IsNext}
-use Rattle.interleave.specs.Ending.{GivesBack, IsKnown, IsSeen, IsSetDown, IsStill, IsUnseen, IsInNoHand, Keeps}
+use Rattle.interleave.specs.Acting.{IsReady}
+use Rattle.interleave.specs.Courses.{Course, IsKnown, course_of, IsDoing, IsNext}
+use Rattle.interleave.specs.Ending.{GivesBack, IsSeen, IsSetDown, IsUnseen, IsInNoHand}
 use Rattle.interleave.specs.Ending.{NoneIsLate, ScopeBecomes, StandsAt, TaskBecomes, has_ended, is_root, is_waiting}
 use Rattle.interleave.specs.Events.{Ends, Parks, only_if, did, give_back, owns, with_next, in_innermost, next_action, by_end, by_park}
 use Rattle.interleave.specs.Jobs.{IsJob, program_of, lists_of, budget_of}
 use Rattle.interleave.specs.Replay.{does, hands_on}
-use Rattle.interleave.specs.Shown.{AreBoth, IsTaskOf, IsBookOf, IsDoingThere, Becomes, Refuses, Shows, is_path, is_scope, next_world}
+use Rattle.interleave.specs.Shown.{AreBoth, IsTaskOf, IsBookOf, IsDoingThere, IsTold, Becomes, Refuses, ScopeStays, Shows, WorldStays, is_path, is_scope, next_world}
 use Rattle.interleave.specs.Shown.{scope_id, stake, whereabouts}
 use Rattle.interleave.specs.World.{Stake, Live, Scope, World, Whereabouts, Queue, Hand, Parked, task, put_task}
-use Rattle.interleave.specs.World.{without_task, scope, put_scope, hand_of, hand_is_free}
+use Rattle.interleave.specs.World.{without_task, scope, put_scope, hand_of, hand_is_free, is_passed, root_scope}
 use Rattle.interleave.specs.Worlds.{next_of}
 use Rattle.interleave.specs.declared.doing.Doing.{Doing}
-use Rattle.interleave.specs.declared.doing.Doing.TheVariants.{Starts, Runs, Steps, Spawns, Opens, AtFinish, AtEnd, Lost}
+use Rattle.interleave.specs.declared.doing.Doing.TheVariants.{Starts, Runs, Steps, Spawns, Opens, AtFinish, AtEnd}
 use Rattle.interleave.specs.declared.error.EventError.{EventError}
 use Rattle.interleave.specs.declared.error.EventError.TheVariants.{Illegal, NoMemory}
-use Rattle.interleave.specs.declared.event.ScopeId.{ScopeId as rScopeId}
+use Rattle.types.specs.declared.scope_id.ScopeId.{ScopeId as rScopeId}
 use Rattle.interleave.specs.declared.job.Job.{Job}
 use Rattle.interleave.specs.declared.scope.Scope.{Scope as rScope}
 use Rattle.interleave.specs.declared.task.Stake.{Stake as rStake}
@@ -46,10 +47,11 @@ use Rattle.interleave.proofs.Hands.{hands_are_apart, free_without, free_parked}
 use Rattle.interleave.proofs.LateWeights.{none_is_late}
 use Rattle.interleave.proofs.Histories.{contains_here}
 use Rattle.interleave.proofs.Lookups.{by_test, other_path, path_refl, task_path, task-without_task, gone-without_task, Unique}
-use Rattle.interleave.proofs.Lookups.{scopes_same, scope_id as named_so}
+use Rattle.interleave.proofs.Lookups.{passed-put_scope, scopes_same, scope_id as named_so}
 use Rattle.interleave.proofs.Outcomes.{IsSound, replays_are_worlds, sound}
 use Rattle.interleave.proofs.OwnTasks.{IsAtLevel, start_path}
 use Rattle.interleave.proofs.Present.{IsThere}
+use Rattle.interleave.proofs.Staying.{stays_book, stays_on, stays_shown}
 use Rattle.interleave.proofs.Tables.{there, not_there, tasks_put, paths_put, paths_without, scopes_put, led_on}
 use Rattle.own_run.proofs.SettledResults.{paths_same}
 
@@ -63,7 +65,6 @@ action_of path (Spawns r s) = Some (Spawn (start s))
 action_of path (Opens r) = Some EnterFinish
 action_of path (AtFinish q made) = Some EndFinish
 action_of path (AtEnd made) = Some (last_action path)
-action_of path Lost = None
 
 next_is : (j : Job) (c : Course) (d : Doing) → IsDoing j c d → IsKnown d
     → (a : Action) × (action_of c.start.path d ≡ Some a) × IsNext j c a
@@ -74,7 +75,6 @@ next_is j c (Spawns r s) h k = (Spawn (start s), refl, h.0)
 next_is j c (Opens r) h k = (EnterFinish, refl, h.0)
 next_is j c (AtFinish q made) h k = (EndFinish, refl, h.0)
 next_is j c (AtEnd made) h k = (last_action c.start.path, refl, h.0)
-next_is j c Lost h k = absurd k
 
 abbrev is_end : Action → Bool
 is_end EndTask = true
@@ -114,7 +114,6 @@ ends_as path (Spawns r s) a e = ap is_end (sym (same_Some _ _ e))
 ends_as path (Opens r) a e = ap is_end (sym (same_Some _ _ e))
 ends_as path (AtFinish q made) a e = ap is_end (sym (same_Some _ _ e))
 ends_as path (AtEnd made) a e = ap is_end (sym (same_Some _ _ e)) ∙ last_end path
-ends_as path Lost a e = absurd (none-some _ e)
 
 finishes_as : (path : List ℕ) (d : Doing) (a : Action) → action_of path d ≡ Some a → is_finish a ≡ is_waiting path d
 finishes_as path (Starts s) a e = absurd (none-some _ e)
@@ -124,7 +123,6 @@ finishes_as path (Spawns r s) a e = ap is_finish (sym (same_Some _ _ e))
 finishes_as path (Opens r) a e = ap is_finish (sym (same_Some _ _ e))
 finishes_as path (AtFinish q made) a e = ap is_finish (sym (same_Some _ _ e))
 finishes_as path (AtEnd made) a e = ap is_finish (sym (same_Some _ _ e)) ∙ last_finish path
-finishes_as path Lost a e = absurd (none-some _ e)
 
 -- a task at its end has made something
 pub has_made : (path : List ℕ) (d : Doing) → has_ended path d ≡ true → (made : Made) × (d ≡ AtEnd made)
@@ -135,7 +133,6 @@ has_made path (Steps r) e = false_true e
 has_made path (Spawns r s) e = false_true e
 has_made path (Opens r) e = false_true e
 has_made path (AtFinish q made) e = false_true e
-has_made path Lost e = false_true e
 
 -- ---- a world that is shown
 module _ (r : rWorld) (ok : IsJob r.job) (w : World) (h : Shows r w) where
@@ -309,6 +306,15 @@ module _ (r : rWorld) (ok : IsJob r.job) (w : World) (h : Shows r w) where
       its_book : (b : Scope) × (scope (scope_id inner.scope) w.scopes ≡ Some b) × IsBookOf book b
       its_book = there IsBookOf book (get is_scope r.scopes inner.scope) (scope (scope_id inner.scope) w.scopes) (h.scopes inner.scope) kept
 
+      -- with another in its place that has passed where it has
+      told_so : (to : Scope) → to.id ≡ its_book.0.id → to.passed ≡ its_book.0.passed
+          → IsTold r.job (is_passed (scope root_scope (put_scope to w.scopes))) r.told
+      told_so to named passed =
+          subst (λ b. IsTold r.job b r.told)
+          (sym (passed-put_scope to its_book.0 root_scope w.scopes
+          (ap (λ i. scope i w.scopes) (named ∙ named_so (scope_id inner.scope) w.scopes its_book.0 its_book.1) ∙ its_book.1) passed))
+          h.told
+
       freed_hand : (x f : Bool) → (if x then false else not f) ≡ not (x || f)
       freed_hand true f = refl
       freed_hand false f = refl
@@ -397,6 +403,7 @@ module _ (r : rWorld) (ok : IsJob r.job) (w : World) (h : Shows r w) where
             hands = hands_so (without_task found.its.path w.live)
                 (λ v. free_without found.its w.live (hands_are_apart p r.job.w0 (lists_of r.job) (budget_of r.job) h.events w h.led) worker v
                 found.hand found.its.path (ap (λ x. task x w.live) found.named ∙ found.lives));
+            told = told_so (give_back inner.weight (handed ∷ []) its_book.0) refl refl;
           },
         )
 
@@ -460,104 +467,25 @@ module _ (r : rWorld) (ok : IsJob r.job) (w : World) (h : Shows r w) where
             hands = hands_so (put_task parked w.live)
                 (λ v. free_parked found.its w.live (hands_are_apart p r.job.w0 (lists_of r.job) (budget_of r.job) h.events w h.led) worker v
                 found.hand parked refl (ap (λ x. task x w.live) found.named ∙ found.lives));
+            told = told_so (give_back inner.weight [] its_book.0) refl refl;
           },
         )
 
--- ---- what keeps what is shown
-both_still : {A B : Type 0} (Are : A → B → Type 0) (b : Bool) (to was : A) (o : Option A) (q : Option B)
-    → ((x : B) → Are was x → Are to x) → (b ≡ true → AreBoth Are (Some was) q) → AreBoth Are o q
-    → AreBoth Are (if b then Some to else o) q
-both_still Are true to was o (Some x) still here other = still x (here refl)
-both_still Are true to was o None still here other = here refl
-both_still Are false to was o q still here other = other
-
-module _ (r : rWorld) (w : World) (h : Shows r w) where
-  pub task_keeps : (path : Path) (k to : rTask) (new : rWorld) → get is_path r.tasks path ≡ Some k
-      → ((t : Live) → IsTaskOf r.job k t → IsTaskOf r.job to t)
-      → ((q : Path) → get is_path new.tasks q ≡ (if is_path path q then Some to else get is_path r.tasks q))
-      → Shows (record r { tasks = new.tasks }) w
-  task_keeps path k to new at still each = record {
-    events = h.events;
-    led = h.led;
-    tasks = λ q. subst (λ o. AreBoth (IsTaskOf r.job) o (task q.turns.items w.live)) (sym (each q))
-        (both_still (IsTaskOf r.job) (is_path path q) to k (get is_path r.tasks q) (task q.turns.items w.live) still
-        (λ e. subst (λ x. AreBoth (IsTaskOf r.job) (Some k) (task x w.live)) (paths_same path.turns.items q.turns.items e)
-        (subst (λ o. AreBoth (IsTaskOf r.job) o (task path.turns.items w.live)) at (h.tasks path))) (h.tasks q));
-    paths = h.paths;
-    scopes = h.scopes;
-    hands = h.hands;
-  }
-
-  pub scope_keeps : (id : rScopeId) (s to : rScope) (new : rWorld) → get is_scope r.scopes id ≡ Some s → IsStill s to
-      → ((q : rScopeId) → get is_scope new.scopes q ≡ (if is_scope id q then Some to else get is_scope r.scopes q))
-      → Shows (record r { scopes = new.scopes }) w
-  scope_keeps id s to new at still each = record {
-    events = h.events;
-    led = h.led;
-    tasks = h.tasks;
-    paths = h.paths;
-    scopes = λ q. subst (λ o. AreBoth IsBookOf o (scope (scope_id q) w.scopes)) (sym (each q))
-        (both_still IsBookOf (is_scope id q) to s (get is_scope r.scopes q) (scope (scope_id q) w.scopes) still
-        (λ e. subst (λ x. AreBoth IsBookOf (Some s) (scope x w.scopes)) (scopes_same (scope_id id) (scope_id q) e)
-        (subst (λ o. AreBoth IsBookOf o (scope (scope_id id) w.scopes)) at (h.scopes id))) (h.scopes q));
-    hands = h.hands;
-  }
-
--- a task of which nothing more is known
-lost_there : (j : Job) (q : Whereabouts) (c : Course) (d : Doing) → IsDoingThere j q c d → IsDoingThere j q c Lost
-lost_there j (Queue v) c d h = tt
-lost_there j (Hand v) c d h = tt
-lost_there j Parked c d h = record { before = h.before; last = h.last; at = tt }
-
-pub lost_still : (j : Job) (k : rTask) (t : Live) → IsTaskOf j k t → IsTaskOf j (record k { doing = Lost }) t
-lost_still j k t h = record {
-  place = h.place;
-  stakes = h.stakes;
-  opened = h.opened;
-  doing = lost_there j t.place (course_of t) k.doing h.doing;
-}
-
--- ---- for the functions of tasks
-hand_doing : (j : Job) (q : Whereabouts) (v : ℕ) (c : Course) (d : Doing) → hand_of q ≡ Some v → IsDoingThere j q c d → IsDoing j c d
-hand_doing j (Queue u) v c d e h = h
-hand_doing j (Hand u) v c d e h = h
-hand_doing j Parked v c d e h = absurd (none-some _ e)
-
-doing_hand : (j : Job) (q : Whereabouts) (v : ℕ) (c : Course) (d : Doing) → hand_of q ≡ Some v → IsDoing j c d → IsDoingThere j q c d
-doing_hand j (Queue u) v c d e h = h
-doing_hand j (Hand u) v c d e h = h
-doing_hand j Parked v c d e h = absurd (none-some _ e)
-
-pub hand_place : (q : rWhereabouts) (v : ℕ) → hand_of (whereabouts q) ≡ Some v → q ≡ rHand v
+-- ---- for the functions of worlds
+-- the hand that a task is in
+hand_place : (q : rWhereabouts) (v : ℕ) → hand_of (whereabouts q) ≡ Some v → q ≡ rHand v
 hand_place (rQueue u) v e = absurd (none-some _ e)
 hand_place (rHand u) v e = ap rHand (same_Some _ _ e)
 hand_place rParked v e = absurd (none-some _ e)
 
-module _ (j : Job) (k : rTask) (v : ℕ) (hand : hand_of (whereabouts k.place) ≡ Some v) where
-  pub in_hand_does : (t : Live) → IsTaskOf j k t → IsDoing j (course_of t) k.doing
-  in_hand_does t h = hand_doing j t.place v (course_of t) k.doing (ap hand_of (sym h.place) ∙ hand) h.doing
+pub seen_by : (r : rWorld) (path : Path) (worker : ℕ) → IsReady r path worker → IsSeen r path worker
+seen_by r path worker g = record { its = g.task; at = g.at; place = hand_place g.task.place worker g.hand; known = g.known }
 
-  -- it does something else that stands for the same
-  pub in_hand_still : (d : Doing) → ((c : Course) → IsDoing j c k.doing → IsDoing j c d) → (t : Live) → IsTaskOf j k t
-      → IsTaskOf j (record k { doing = d }) t
-  in_hand_still d same t h = record {
-    place = h.place;
-    stakes = h.stakes;
-    opened = h.opened;
-    doing = doing_hand j t.place v (course_of t) d (ap hand_of (sym h.place) ∙ hand) (same (course_of t) (in_hand_does t h));
-  }
+pub unseen_by : (r : rWorld) (path : Path) (e : EventError)
+    → (e ≡ Illegal → (k : rTask) → get is_path r.tasks path ≡ Some k → hand_of (whereabouts k.place) ≡ None) → IsUnseen r path e
+unseen_by r path Illegal none = none refl
+unseen_by r path NoMemory none = λ k at. tt
 
-pub known_is : (d : Doing) → IsAhead d → (d ≡ Lost → ⊥) → IsKnown d
-known_is (Starts s) h n = h
-known_is (Runs r) h n = h
-known_is (Steps r) h n = tt
-known_is (Spawns r s) h n = tt
-known_is (Opens r) h n = tt
-known_is (AtFinish q made) h n = tt
-known_is (AtEnd made) h n = tt
-known_is Lost h n = n refl
-
--- ---- for the functions of worlds
 -- what was found is where the task stands
 pub found_here : (r : rWorld) (path : Path) (a : StandsAt r path) (k : rTask) (s : rStake) (b : rScope)
     → get is_path r.tasks path ≡ Some k → s ≡ slice_index_or k.stakes.items 0 s → get is_scope r.scopes s.scope ≡ Some b
@@ -569,10 +497,6 @@ found_here r path a k s b at front there =
       same_Some _ _ (sym there ∙ ap (λ (x : rStake). get is_scope r.scopes x.scope) stake_is ∙ a.there),
     )
 
-hidden : {A : Type 0} (b : Bool) (x y z : Option A) → (if b then x else (if b then y else z)) ≡ (if b then x else z)
-hidden true x y z = refl
-hidden false x y z = refl
-
 -- at an exit by `?`
 pub at_exit : {X : Type 0} (P : EventError → Type 0) (r : Result X EventError) (e : EventError) → IsErrAnd r (λ y. y ≡ e) → P e
     → IfErr r P
@@ -581,19 +505,22 @@ at_exit P (Err y) e passed h = subst P (sym passed) h
 
 -- a hand was asked for
 module _ (old : rWorld) (ok : IsJob old.job) (path : Path) (r1 : rWorld) (others1 : r1 ≡ record old { tasks = r1.tasks })
-    (keeps1 : Keeps old r1) where
+    (still1 : WorldStays old r1) where
+  keeps1 : (w : World) → Shows old w → Shows r1 w
+  keeps1 = stays_shown old r1 still1
+
   -- no task is in one
   unseen_there : IsUnseen old path Illegal → (w : World) → Shows old w
       → (next_world old.job (Ends path.turns.items) w ≡ None) × (next_world old.job (Parks path.turns.items) w ≡ None)
   unseen_there none w h = (unseen_ends old ok w h path none, unseen_parks old ok w h path none)
 
   pub end_unseen : (e : EventError) → IsUnseen old path e → Refuses (Ends path.turns.items) old r1 e
-  end_unseen Illegal none = λ w h. (keeps1 w h, (unseen_there none w h).0)
-  end_unseen NoMemory none = keeps1
+  end_unseen Illegal none = (still1, λ w h. (unseen_there none w h).0)
+  end_unseen NoMemory none = still1
 
   pub park_unseen : (e : EventError) → IsUnseen old path e → Refuses (Parks path.turns.items) old r1 e
-  park_unseen Illegal none = λ w h. (keeps1 w h, (unseen_there none w h).1)
-  park_unseen NoMemory none = keeps1
+  park_unseen Illegal none = (still1, λ w h. (unseen_there none w h).1)
+  park_unseen NoMemory none = still1
 
   module _ (worker : ℕ) (seen1 : IsSeen r1 path worker) where
     abbrev looked : rWorld
@@ -605,23 +532,22 @@ module _ (old : rWorld) (ok : IsJob old.job) (path : Path) (r1 : rWorld) (others
     shown : (w : World) → Shows old w → Shows looked w
     shown w h = subst (λ r. Shows r w) others1 (keeps1 w h)
 
-    pub end_refused : has_ended path.turns.items seen1.its.doing ≡ false → (w : World) → Shows old w
-        → Shows r1 w × (next_world old.job (Ends path.turns.items) w ≡ None)
-    end_refused e w h = (keeps1 w h, not_ended looked ok w (shown w h) path worker seen e)
+    pub end_refused : has_ended path.turns.items seen1.its.doing ≡ false → Refuses (Ends path.turns.items) old r1 Illegal
+    end_refused e = (still1, λ w h. not_ended looked ok w (shown w h) path worker seen e)
 
-    pub park_refused : is_waiting path.turns.items seen1.its.doing ≡ false → (w : World) → Shows old w
-        → Shows r1 w × (next_world old.job (Parks path.turns.items) w ≡ None)
-    park_refused e w h = (keeps1 w h, not_waiting looked ok w (shown w h) path worker seen e)
+    pub park_refused : is_waiting path.turns.items seen1.its.doing ≡ false → Refuses (Parks path.turns.items) old r1 Illegal
+    park_refused e = (still1, λ w h. not_waiting looked ok w (shown w h) path worker seen e)
 
-    -- ---- a task is parked
+    -- ---- where it stands
     module _ (w0 : World) (h0 : Shows old w0) where
-      pub park_stands : StandsAt r1 path
-      park_stands =
+      pub its_stand : StandsAt r1 path
+      its_stand =
           subst (λ r. StandsAt r path) (sym others1) (stands_at looked ok w0 (shown w0 h0) path seen1.its seen1.at)
 
-      pub park_late : NoneIsLate r1
-      park_late = subst NoneIsLate (sym others1) (none_late looked ok w0 (shown w0 h0))
+      pub its_late : NoneIsLate r1
+      its_late = subst NoneIsLate (sym others1) (none_late looked ok w0 (shown w0 h0))
 
+    -- ---- a task is parked
     module _ (waits : is_waiting path.turns.items seen1.its.doing ≡ true) (a : StandsAt r1 path) (r2 : rWorld)
         (others2 : r2 ≡ record r1 { scopes = r2.scopes })
         (given : ScopeBecomes r1 r2 a.inner.scope (GivesBack a.inner.weight [] a.book)) (r3 : rWorld)
@@ -662,73 +588,44 @@ module _ (old : rWorld) (ok : IsJob old.job) (path : Path) (r1 : rWorld) (others
           (s.0, s.1, subst (λ r. Shows r s.0) together s.2)
 
     -- ---- a task ends
-    module _ (r2 : rWorld) (others2 : r2 ≡ record r1 { tasks = r2.tasks })
-        (lost : TaskBecomes r1 r2 path (λ to. to ≡ record seen1.its { doing = Lost })) where
-      abbrev forgotten : rWorld
-      forgotten = record old { tasks = r2.tasks }
+    module _ (a : StandsAt r1 path) (r3 : rWorld) (others3 : r3 ≡ record r1 { scopes = r3.scopes }) where
+      all_others : r3 ≡ record old { tasks = r1.tasks; scopes = r3.scopes }
+      all_others = others3 ∙ ap (λ (r : rWorld). record r { scopes = r3.scopes }) others1
 
-      both_others : r2 ≡ forgotten
-      both_others = others2 ∙ ap (λ (r : rWorld). record r { tasks = r2.tasks }) others1
+      kept_scopes : r1.scopes ≡ old.scopes
+      kept_scopes = ap (λ (r : rWorld). r.scopes) others1
 
-      pub forgets : (w : World) → Shows old w → Shows forgotten w
-      forgets w h =
-          task_keeps looked w (shown w h) path seen1.its lost.to r2 seen1.at
-          (λ t k. subst (λ x. IsTaskOf old.job x t) (sym lost.fits) (lost_still old.job seen1.its t k)) lost.each
+      end_there : get is_scope old.scopes a.inner.scope ≡ Some a.book
+      end_there = ap (λ ss. get is_scope ss a.inner.scope) (sym kept_scopes) ∙ a.there
 
-      lost_at : get is_path r2.tasks path ≡ Some lost.to
-      lost_at =
-          lost.each path ∙ ap (λ b. if b then Some lost.to else get is_path r1.tasks path) (path_refl path.turns.items)
+      -- its result finds no room
+      pub end_roomless : ScopeBecomes r1 r3 a.inner.scope (ScopeStays a.book) → WorldStays old r3
+      end_roomless s =
+          subst (WorldStays old) (sym others3)
+          (stays_on old r1 (record r1 { scopes = r3.scopes }) still1
+          (stays_book r1 a.inner.scope a.book s.to r3.scopes a.there s.fits s.each))
 
-      module _ (w0 : World) (h0 : Shows old w0) where
-        pub end_stands : StandsAt r2 path
-        end_stands =
-            subst (λ r. StandsAt r path) (sym both_others) (stands_at forgotten ok w0 (forgets w0 h0) path lost.to lost_at)
+      module _ (made : Made) (at_end : seen1.its.doing ≡ AtEnd made) (ended : has_ended path.turns.items seen1.its.doing ≡ true)
+          (given : ScopeBecomes r1 r3 a.inner.scope (GivesBack a.inner.weight (task_result made ∷ []) a.book)) (last : rWorld)
+          (without : (q : Path) → get is_path last.tasks q ≡ (if is_path path q then None else get is_path r3.tasks q))
+          (hand : (v : ℕ) → contains nat_eq last.hands v ≡ (if nat_eq worker v then false else contains nat_eq r3.hands v)) where
+        its_here : a.its ≡ seen1.its
+        its_here = same_Some _ _ (sym a.at ∙ seen1.at)
 
-        pub end_late : NoneIsLate r2
-        end_late = subst NoneIsLate (sym both_others) (none_late forgotten ok w0 (forgets w0 h0))
+        stakes : seen1.its.stakes.items ≡ a.inner ∷ a.outer
+        stakes = ap (λ (k : rTask). k.stakes.items) (sym its_here) ∙ a.stakes
 
-      module _ (a : StandsAt r2 path) (r3 : rWorld) (others3 : r3 ≡ record r2 { scopes = r3.scopes }) where
-        kept_scopes : r2.scopes ≡ old.scopes
-        kept_scopes = ap (λ (r : rWorld). r.scopes) both_others
+        each : (q : Path) → get is_path last.tasks q ≡ (if is_path path q then None else get is_path r1.tasks q)
+        each q = without q ∙ ap (λ (r : rWorld). if is_path path q then None else get is_path r.tasks q) others3
 
-        end_there : get is_scope old.scopes a.inner.scope ≡ Some a.book
-        end_there = ap (λ ss. get is_scope ss a.inner.scope) (sym kept_scopes) ∙ a.there
-
-        pub end_lost : ScopeBecomes r2 r3 a.inner.scope (IsStill a.book) → Keeps old r3
-        end_lost still w h =
-            subst (λ r. Shows r w)
-            (sym (others3 ∙ ap (λ (r : rWorld). record r { scopes = r3.scopes }) both_others))
-            (scope_keeps forgotten w (forgets w h) a.inner.scope a.book still.to r3 end_there still.fits
-            (λ q. still.each q ∙ ap (λ ss. if is_scope a.inner.scope q then Some still.to else get is_scope ss q) kept_scopes))
-
-        module _ (made : Made) (at_end : seen1.its.doing ≡ AtEnd made) (ended : has_ended path.turns.items seen1.its.doing ≡ true)
-            (given : ScopeBecomes r2 r3 a.inner.scope (GivesBack a.inner.weight (task_result made ∷ []) a.book)) (last : rWorld)
-            (without : (q : Path) → get is_path last.tasks q ≡ (if is_path path q then None else get is_path r3.tasks q))
-            (hand : (v : ℕ) → contains nat_eq last.hands v ≡ (if nat_eq worker v then false else contains nat_eq r3.hands v)) where
-          lost_is : a.its ≡ lost.to
-          lost_is = same_Some _ _ (sym a.at ∙ lost_at)
-
-          stakes : seen1.its.stakes.items ≡ a.inner ∷ a.outer
-          stakes = sym (ap (λ (k : rTask). k.stakes.items) (lost_is ∙ lost.fits)) ∙ a.stakes
-
-          all_others : r3 ≡ record old { tasks = r2.tasks; scopes = r3.scopes }
-          all_others = others3 ∙ ap (λ (r : rWorld). record r { scopes = r3.scopes }) both_others
-
-          each : (q : Path) → get is_path last.tasks q ≡ (if is_path path q then None else get is_path r1.tasks q)
-          each q =
-              without q
-              ∙ ap (λ (r : rWorld). if is_path path q then None else get is_path r.tasks q) all_others
-              ∙ ap (λ o. if is_path path q then None else o) (lost.each q)
-              ∙ hidden (is_path path q) None (Some lost.to) (get is_path r1.tasks q)
-
-          pub end_done : Becomes (Ends path.turns.items) old (record r3 { tasks = last.tasks; hands = last.hands })
-          end_done w h =
-              let s = ended_shown looked ok w (shown w h) path worker seen a.inner a.outer stakes a.book end_there given.to
-              (record old { tasks = last.tasks; scopes = r3.scopes; hands = last.hands })
-              (λ v. hand v ∙ ap (λ (r : rWorld). if nat_eq worker v then false else contains nat_eq r.hands v) all_others)
-              (λ q. given.each q ∙ ap (λ ss. if is_scope a.inner.scope q then Some given.to else get is_scope ss q) kept_scopes) made at_end
-              ended given.fits each in (
-                s.0,
-                s.1,
-                subst (λ r. Shows r s.0) (sym (ap (λ (r : rWorld). record r { tasks = last.tasks; hands = last.hands }) all_others)) s.2,
-              )
+        pub end_done : Becomes (Ends path.turns.items) old (record r3 { tasks = last.tasks; hands = last.hands })
+        end_done w h =
+            let s = ended_shown looked ok w (shown w h) path worker seen a.inner a.outer stakes a.book end_there given.to
+            (record old { tasks = last.tasks; scopes = r3.scopes; hands = last.hands })
+            (λ v. hand v ∙ ap (λ (r : rWorld). if nat_eq worker v then false else contains nat_eq r.hands v) all_others)
+            (λ q. given.each q ∙ ap (λ ss. if is_scope a.inner.scope q then Some given.to else get is_scope ss q) kept_scopes) made at_end
+            ended given.fits each in (
+              s.0,
+              s.1,
+              subst (λ r. Shows r s.0) (sym (ap (λ (r : rWorld). record r { tasks = last.tasks; hands = last.hands }) all_others)) s.2,
+            )

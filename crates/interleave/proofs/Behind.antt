@@ -29,16 +29,17 @@ use Rattle.own_run.proofs.TaskRuns.{leaves_follow}
 use Rattle.gather.specs.GivesBack.{GiveBack, all_owned}
 use Rattle.gather.proofs.TasksGiveBack.{comes_back, give_back}
 use Rattle.interleave.specs.Courses.{Course, course_of, further, HasCome, IsDoing, IsPausedOf, IsRunOf}
-use Rattle.interleave.specs.Ending.{GoesBehind, IsBehind, IsStill, Keeps, MayGoOn, MayLeave, ScopeBecomes, StandsAt, TaskBecomes}
+use Rattle.interleave.specs.Ending.{GoesBehind, IsBehind, IsGoneOn, IsOutside, MayGoOn, MayLeave, ScopeBecomes, StandsAt, TaskBecomes}
 use Rattle.interleave.specs.Events.{Resume, only_if, by_resume}
 use Rattle.interleave.specs.Jobs.{IsJob, program_of, lists_of, budget_of}
 use Rattle.interleave.specs.Replay.{does, hands_on}
-use Rattle.interleave.specs.Shown.{AreResultsOf, Becomes, IsTaskOf, IsBookOf, IsDoingThere, Shows, is_path, is_scope, next_world}
+use Rattle.interleave.specs.Shown.{AreBoth, AreResultsOf, Becomes, IsTaskOf, IsBookOf, IsDoingThere, Shows, WorldStays, is_path, is_scope, next_world}
 use Rattle.interleave.specs.Shown.{scope_id, stake, whereabouts}
 use Rattle.interleave.specs.World.{Stake, Live, Scope, World, Whereabouts, Queue, Hand, Parked, task, put_task, scope, is_parked}
 use Rattle.interleave.specs.World.{in_hand, hand_is_free}
 use Rattle.interleave.specs.declared.doing.Doing.{Doing}
-use Rattle.interleave.specs.declared.doing.Doing.TheVariants.{Lost}
+use Rattle.interleave.specs.declared.doing.Doing.TheVariants.{AtFinish}
+use Rattle.types.specs.declared.scope_id.ScopeId.{ScopeId as rScopeId}
 use Rattle.interleave.specs.declared.job.Job.{Job}
 use Rattle.interleave.specs.declared.scope.Scope.{Scope as rScope}
 use Rattle.interleave.specs.declared.task.Stake.{Stake as rStake}
@@ -46,11 +47,12 @@ use Rattle.interleave.specs.declared.task.Task.{Task as rTask}
 use Rattle.interleave.specs.declared.task.Whereabouts.{Whereabouts as rWhereabouts}
 use Rattle.interleave.specs.declared.task.Whereabouts.TheVariants.{Queue as rQueue, Hand as rHand, Parked as rParked}
 use Rattle.interleave.specs.declared.world.World.{World as rWorld}
-use Rattle.interleave.proofs.AtEnds.{lost_still, scope_keeps, task_keeps}
 use Rattle.interleave.proofs.Came.{results_came}
 use Rattle.interleave.proofs.Histories.{cons_head, nil_cons}
-use Rattle.interleave.proofs.Lookups.{task_path}
+use Rattle.interleave.proofs.InHand.{one_first}
+use Rattle.interleave.proofs.Lookups.{scopes_same, task_path}
 use Rattle.interleave.proofs.Outcomes.{results_are_own}
+use Rattle.interleave.proofs.Staying.{stays_hands}
 use Rattle.interleave.proofs.Tables.{there, not_there, tasks_put, paths_put, free_put, led_on}
 use Rattle.interleave.proofs.Turning.{its_task}
 
@@ -103,7 +105,7 @@ parked_doing j Parked c d e h = (h.before, h.last, h.at)
 parked_doing j (Queue v) c d e h = absurd (false_true (ap is_parked e))
 parked_doing j (Hand v) c d e h = absurd (false_true (ap is_parked e))
 
-pub emptied : (s : rScope) → s.passed ≡ true → IsStill s (record s { results = None })
+emptied : (s : rScope) → s.passed ≡ true → (b : Scope) → IsBookOf s b → IsBookOf (record s { results = None }) b
 emptied s e b h = record { issued = h.issued; returned = h.returned; passed = h.passed; results = sym h.passed ∙ e }
 
 pub results_of : (o : _) (rs : _) (b : Scope) → o ≡ Some rs → AreResultsOf o b → map task_result rs.items ≡ b.results
@@ -248,6 +250,31 @@ module _ (r : rWorld) (w : World) (h : Shows r w) (path : Path) (worker : ℕ) w
       by_live (Some t) =
           by_tests t t.stakes (λ s rest e b f. ap (λ x. is_parked t.place && (b.passed && x)) kept ∙ none_free (is_parked t.place) b.passed)
 
+-- a scope stands for the same
+both_still : {A B : Type 0} (Are : A → B → Type 0) (b : Bool) (to was : A) (o : Option A) (q : Option B)
+    → ((x : B) → Are was x → Are to x) → (b ≡ true → AreBoth Are (Some was) q) → AreBoth Are o q
+    → AreBoth Are (if b then Some to else o) q
+both_still Are true to was o (Some x) still here other = still x (here refl)
+both_still Are true to was o None still here other = here refl
+both_still Are false to was o q still here other = other
+
+scope_keeps : (r : rWorld) (w : World) → Shows r w → (id : rScopeId) (s to : rScope) (new : rWorld) → get is_scope r.scopes id ≡ Some s
+    → ((b : Scope) → IsBookOf s b → IsBookOf to b)
+    → ((q : rScopeId) → get is_scope new.scopes q ≡ (if is_scope id q then Some to else get is_scope r.scopes q))
+    → Shows (record r { scopes = new.scopes }) w
+scope_keeps r w h id s to new at still each = record {
+  events = h.events;
+  led = h.led;
+  tasks = h.tasks;
+  paths = h.paths;
+  scopes = λ q. subst (λ o. AreBoth IsBookOf o (scope (scope_id q) w.scopes)) (sym (each q))
+      (both_still IsBookOf (is_scope id q) to s (get is_scope r.scopes q) (scope (scope_id q) w.scopes) still
+      (λ e. subst (λ x. AreBoth IsBookOf (Some s) (scope x w.scopes)) (scopes_same (scope_id id) (scope_id q) e)
+      (subst (λ o. AreBoth IsBookOf o (scope (scope_id id) w.scopes)) at (h.scopes id))) (h.scopes q));
+  hands = h.hands;
+  told = h.told;
+}
+
 -- ---- a parked task goes on
 module _ (old : rWorld) (ok : IsJob old.job) (path : Path) (m : MayLeave old path) (hs : rWorld)
     (same_hands : (v : ℕ) → contains nat_eq hs.hands v ≡ contains nat_eq old.hands v) where
@@ -262,7 +289,11 @@ module _ (old : rWorld) (ok : IsJob old.job) (path : Path) (m : MayLeave old pat
     paths = h.paths;
     scopes = h.scopes;
     hands = λ v. same_hands v ∙ h.hands v;
+    told = h.told;
   }
+
+  pub roomy_stays : WorldStays old roomy
+  roomy_stays = stays_hands old hs.hands same_hands
 
   abbrev pub roomy_stands : StandsAt roomy path
   roomy_stands = record {
@@ -275,67 +306,71 @@ module _ (old : rWorld) (ok : IsJob old.job) (path : Path) (m : MayLeave old pat
     there = m.at.there;
   }
 
+  module _ (results : List Made) (them : (b : Scope) → AreResultsOf m.at.book.results b → map task_result results ≡ b.results) where
+    -- what is known of it in a world that is shown
+    record Waiting (w : World) : Type 0 where
+      its : Live
+      lives : task path.turns.items w.live ≡ Some its
+      is : IsTaskOf old.job m.at.its its
+      place : its.place ≡ Parked
+      before : Course
+      last : further before ≡ course_of its
+      doing : IsDoing old.job before m.at.its.doing
+      book : Scope
+      found : scope (scope_id m.at.inner.scope) w.scopes ≡ Some book
+      books : IsBookOf m.at.book book
+      are : map task_result results ≡ book.results
+
+    waiting : (w : World) → Shows old w → Waiting w
+    waiting w h =
+        let t = there (IsTaskOf old.job) m.at.its (get is_path old.tasks path) (task path.turns.items w.live) (h.tasks path) m.at.at in
+        let b = there IsBookOf m.at.book (get is_scope old.scopes m.at.inner.scope) (scope (scope_id m.at.inner.scope) w.scopes)
+        (h.scopes m.at.inner.scope) m.at.there in
+        let place : t.0.place ≡ Parked = sym t.2.place ∙ ap whereabouts m.place in
+        let d = parked_doing old.job t.0.place (course_of t.0) m.at.its.doing place t.2.doing in
+        record {
+          its = t.0;
+          lives = t.1;
+          is = t.2;
+          place = place;
+          before = d.0;
+          last = d.1;
+          doing = d.2;
+          book = b.0;
+          found = b.1;
+          books = b.2;
+          are = them b.0 b.2.results;
+        }
+
+  -- its scope's results are what it listed
+  pub may_go : (w0 : World) → Shows old w0 → MayGoOn roomy path
+  may_go w0 h0 a q made results is kept =
+      let task : m.at.its ≡ a.its = same_Some _ _ (sym m.at.at ∙ a.at) in
+      let inner : m.at.inner ≡ a.inner
+      = (one_first m.at.its.stakes.items m.at.outer a.outer m.at.inner a.inner m.at.stakes (ap (λ (k : rTask). k.stakes.items) task ∙ a.stakes)).0
+      in
+      let book : m.at.book ≡ a.book
+      = same_Some _ _ (sym m.at.there ∙ ap (λ (s : rStake). get is_scope old.scopes s.scope) inner ∙ a.there) in
+      let x = waiting results.items (λ b h. results_of m.at.book.results results b (ap (λ (s : rScope). s.results) book ∙ kept) h) w0 h0 in
+      let paused = subst (IsDoing old.job x.before) (ap (λ (k : rTask). k.doing) task ∙ is) x.doing in
+      let came = results_came (program_of old.job) ok.sound ok.accepted old.job.w0 ok.least (lists_of old.job) (budget_of old.job)
+      ok.fits h0.events w0 h0.led (scope_id m.at.inner.scope) x.book x.found in
+      subst (λ rs. GiveBack (task_result made) rs) (sym x.are)
+      (subst (λ y. GiveBack y x.book.results) (sym paused.1.made)
+      (give_back (program_of old.job) ok.sound ok.accepted (lists_of old.job) (budget_of old.job) ok.fits x.before.start
+      (record { frames = AtEnd paused.1.before ∷ paused.1.frames; state = paused.1.state }) paused.1.come.stands x.book.results came))
+
   module _ (r2 : rWorld) (others2 : r2 ≡ record old { scopes = r2.scopes; hands = hs.hands })
       (taken : ScopeBecomes roomy r2 m.at.inner.scope (λ to. to ≡ record m.at.book { results = None })) where
     taken_shown : (w : World) → Shows old w → Shows (record old { scopes = r2.scopes; hands = hs.hands }) w
     taken_shown w h =
         scope_keeps roomy w (roomy_shown w h) m.at.inner.scope m.at.book taken.to r2 m.at.there
-        (subst (IsStill m.at.book) (sym taken.fits) (emptied m.at.book m.passed)) taken.each
-
-    pub taken_keeps : Keeps old r2
-    taken_keeps w h = subst (λ r. Shows r w) (sym others2) (taken_shown w h)
+        (λ b is. subst (λ x. IsBookOf x b) (sym taken.fits) (emptied m.at.book m.passed b is)) taken.each
 
     pub same_at : get is_path r2.tasks path ≡ Some m.at.its
     same_at = ap (λ (r : rWorld). get is_path r.tasks path) others2 ∙ m.at.at
 
     module _ (results : List Made) (them : (b : Scope) → AreResultsOf m.at.book.results b → map task_result results ≡ b.results) where
-      -- what is known of it in a world that is shown
-      record Waiting (w : World) : Type 0 where
-        its : Live
-        lives : task path.turns.items w.live ≡ Some its
-        is : IsTaskOf old.job m.at.its its
-        place : its.place ≡ Parked
-        before : Course
-        last : further before ≡ course_of its
-        doing : IsDoing old.job before m.at.its.doing
-        book : Scope
-        found : scope (scope_id m.at.inner.scope) w.scopes ≡ Some book
-        books : IsBookOf m.at.book book
-        are : map task_result results ≡ book.results
-
-      waiting : (w : World) → Shows old w → Waiting w
-      waiting w h =
-          let t = there (IsTaskOf old.job) m.at.its (get is_path old.tasks path) (task path.turns.items w.live) (h.tasks path) m.at.at in
-          let b = there IsBookOf m.at.book (get is_scope old.scopes m.at.inner.scope) (scope (scope_id m.at.inner.scope) w.scopes)
-          (h.scopes m.at.inner.scope) m.at.there in
-          let place : t.0.place ≡ Parked = sym t.2.place ∙ ap whereabouts m.place in
-          let d = parked_doing old.job t.0.place (course_of t.0) m.at.its.doing place t.2.doing in
-          record {
-            its = t.0;
-            lives = t.1;
-            is = t.2;
-            place = place;
-            before = d.0;
-            last = d.1;
-            doing = d.2;
-            book = b.0;
-            found = b.1;
-            books = b.2;
-            are = them b.0 b.2.results;
-          }
-
-      pub may_go : (w0 : World) → Shows old w0 → MayGoOn r2 path results
-      may_go w0 h0 k q made at is =
-          let x = waiting w0 h0 in
-          let same : m.at.its ≡ k = same_Some _ _ (sym same_at ∙ at) in
-          let paused = subst (IsDoing old.job x.before) (ap (λ (k : rTask). k.doing) same ∙ is) x.doing in
-          let came = results_came (program_of old.job) ok.sound ok.accepted old.job.w0 ok.least (lists_of old.job) (budget_of old.job)
-          ok.fits h0.events w0 h0.led (scope_id m.at.inner.scope) x.book x.found in
-          subst (λ rs. GiveBack (task_result made) rs) (sym x.are)
-          (subst (λ y. GiveBack y x.book.results) (sym paused.1.made)
-          (give_back (program_of old.job) ok.sound ok.accepted (lists_of old.job) (budget_of old.job) ok.fits x.before.start
-          (record { frames = AtEnd paused.1.before ∷ paused.1.frames; state = paused.1.state }) paused.1.come.stands x.book.results came))
-
       module _ (r3 : rWorld) (others3 : r3 ≡ record r2 { tasks = r3.tasks }) where
         both_others : r3 ≡ record old { tasks = r3.tasks; scopes = r2.scopes; hands = hs.hands }
         both_others = others3 ∙ ap (λ (r : rWorld). record r { tasks = r3.tasks }) others2
@@ -345,18 +380,12 @@ module _ (old : rWorld) (ok : IsJob old.job) (path : Path) (m : MayLeave old pat
         each_task to each q =
             each q ∙ ap (λ (r : rWorld). if is_path path q then Some to else get is_path r.tasks q) others2
 
-        pub lost_keeps : TaskBecomes r2 r3 path (λ to. to ≡ record m.at.its { doing = Lost }) → Keeps old r3
-        lost_keeps lost w h =
-            subst (λ r. Shows r w) (sym both_others)
-            (task_keeps (record old { scopes = r2.scopes; hands = hs.hands }) w (taken_shown w h) path m.at.its lost.to r3 m.at.at
-            (λ t k. subst (λ x. IsTaskOf old.job x t) (sym lost.fits) (lost_still old.job m.at.its t k)) (each_task lost.to lost.each))
-
         module _ (worker : ℕ) (free : contains nat_eq old.hands worker ≡ false)
             (behind : TaskBecomes r2 r3 path (IsBehind worker (map task_result results) m.at.its)) (last : rWorld)
             (hand : (v : ℕ) → contains nat_eq last.hands v ≡ (if nat_eq worker v then true else contains nat_eq r3.hands v)) where
           module _ (w : World) (h : Shows old w) where
-            abbrev it : Waiting w
-            it = waiting w h
+            abbrev it : Waiting results them w
+            it = waiting results them w h
 
             abbrev left : Live
             left = record it.its {
@@ -435,6 +464,7 @@ module _ (old : rWorld) (ok : IsJob old.job) (path : Path) (m : MayLeave old pat
                   ∙ ap (λ b. if nat_eq worker v then true else b) (same_hands v ∙ h.hands v)
                   ∙ in_hands (nat_eq worker v) (hand_is_free v w.live)
                   ∙ ap not (sym (free_put v left it.its w.live (ap (λ x. task x w.live) named ∙ it.lives) (parked_out v)));
+              told = h.told;
             }
 
           pub resumed : Becomes (Resume worker path.turns.items) old (record r3 { hands = last.hands })
@@ -443,3 +473,22 @@ module _ (old : rWorld) (ok : IsJob old.job) (path : Path) (m : MayLeave old pat
             legal w h,
             subst (λ r. Shows r (to w h)) (sym (ap (λ (r : rWorld). record r { hands = last.hands }) both_others)) (shown w h),
           )
+
+-- it has gone on with what its scope keeps, and runs so outside of that
+pub behind_by : (r : rWorld) (path : Path) (a : StandsAt r path) (run : Run) (g : IsGoneOn r path a run) (worker : ℕ) (old new : rWorld)
+    → TaskBecomes old new path (IsOutside worker run a.its) → TaskBecomes old new path (IsBehind worker (map task_result g.results.items) a.its)
+behind_by r path a run g worker old new b = record {
+  to = b.to;
+  fits = record {
+    paused = g.paused;
+    made = g.made;
+    was = g.was;
+    run = run;
+    is = b.fits.is;
+    goes = g.goes;
+    place = b.fits.place;
+    opened = b.fits.opened;
+    stakes = b.fits.stakes;
+  };
+  each = b.each;
+}

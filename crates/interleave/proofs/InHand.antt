@@ -17,30 +17,31 @@ use Rattle.own_run.specs.Translation.{start}
 use Rattle.own_run.specs.declared.run.Run.{Run}
 use Rattle.own_run.specs.declared.start.Start.{Start as rStart}
 use Rattle.own_run.proofs.SettledResults.{paths_same}
-use Rattle.interleave.specs.Acting.{IsKnown, IsReady, IsSame, DidStep, IsToSpawn, IsShort, DidIssue, DidSpawn, IsHeavy, DidOpen}
-use Rattle.interleave.specs.Courses.{Course, IsAhead, course_of, IsDoing, IsNext}
+use Rattle.interleave.specs.Acting.{IsReady, IsSame, DidStep, IsToSpawn, IsShort, DidIssue, DidSpawn, IsHeavy, DidOpen}
+use Rattle.interleave.specs.Courses.{Course, IsKnown, course_of, IsDoing, IsNext}
 use Rattle.interleave.specs.Events.{Event, Steps, Replenish, Spawns, Opens, did, issue, may_issue, only_if, new_scope, new_task}
 use Rattle.interleave.specs.Events.{with_next, in_innermost, by_step, by_replenish, by_spawn, by_open, next_action}
 use Rattle.interleave.specs.Jobs.{program_of, lists_of, budget_of}
 use Rattle.interleave.specs.Replay.{does, hands_on}
 use Rattle.interleave.specs.Shown.{AreBoth, IsTaskOf, IsBookOf, IsDoingThere, is_path, is_scope, scope_id, stake, whereabouts}
-use Rattle.interleave.specs.Shown.{Shows, next_world, Becomes, Refuses}
+use Rattle.interleave.specs.Shown.{IsTold, Shows, TaskStays, WorldStays, next_world, Becomes, Refuses}
 use Rattle.interleave.specs.World.{Live, ScopeId, Stake, Scope, World, Whereabouts, Queue, Hand, Parked, task, put_task, scope, put_scope, child_path}
-use Rattle.interleave.specs.World.{hand_of, in_hand, hand_is_free, same_path, same_scope}
+use Rattle.interleave.specs.World.{hand_of, in_hand, hand_is_free, is_passed, root_scope, same_path, same_scope}
 use Rattle.interleave.specs.declared.doing.Doing.{Doing}
 use Rattle.interleave.specs.declared.doing.Doing.TheVariants.{Starts, Runs, Steps as rSteps, Spawns as rSpawns, Opens as rOpens}
-use Rattle.interleave.specs.declared.doing.Doing.TheVariants.{AtFinish, AtEnd, Lost}
+use Rattle.interleave.specs.declared.doing.Doing.TheVariants.{AtFinish, AtEnd}
 use Rattle.interleave.specs.declared.error.EventError.{EventError}
 use Rattle.interleave.specs.declared.error.EventError.TheVariants.{Illegal, NoMemory}
-use Rattle.interleave.specs.declared.event.ScopeId.{ScopeId as rScopeId}
+use Rattle.types.specs.declared.scope_id.ScopeId.{ScopeId as rScopeId}
 use Rattle.interleave.specs.declared.job.Job.{Job}
 use Rattle.interleave.specs.declared.scope.Scope.{Scope as rScope}
 use Rattle.interleave.specs.declared.task.Stake.{Stake as rStake}
 use Rattle.interleave.specs.declared.task.Task.{Task as rTask}
 use Rattle.interleave.specs.declared.world.World.{World as rWorld}
-use Rattle.interleave.proofs.Lookups.{by_test, task_path, scope_id as named_so}
+use Rattle.interleave.proofs.Lookups.{by_test, task_path, passed-put_scope, passed_opened, scope_id as named_so}
 use Rattle.interleave.proofs.Numbered.{given_path}
 use Rattle.interleave.proofs.Outcomes.{starts_are_given}
+use Rattle.interleave.proofs.Staying.{alike_stays, its_self, refuses_after, refuses_by, stays_put, stays_self, stays_shown}
 use Rattle.interleave.proofs.Tables.{there, not_there, tasks_put, paths_put, paths_more, scopes_put, led_on}
 
 -- ---- in a hand
@@ -58,101 +59,17 @@ pub its_doing : (j : Job) (k : rTask) (t : Live) (v : ℕ) → IsTaskOf j k t �
     → IsDoing j (course_of t) k.doing
 its_doing j k t v is e = doing_there j t.place v (course_of t) k.doing (ap hand_of (sym is.place) ∙ e) is.doing
 
--- what it does next becomes known
-pub still_its : (j : Job) (k : rTask) (v : ℕ) (d : Doing) → hand_of (whereabouts k.place) ≡ Some v
-    → ((c : Course) → IsDoing j c k.doing → IsDoing j c d) → (t : Live) → IsTaskOf j k t
-    → IsTaskOf j (record k { doing = d }) t
-still_its j k v d e same t is = record {
-  place = is.place;
-  stakes = is.stakes;
-  opened = is.opened;
-  doing = there_doing j t.place v (course_of t) d (ap hand_of (sym is.place) ∙ e) (same (course_of t) (its_doing j k t v is e));
-}
-
-pub same_its : (j : Job) (old new : rTask) → IsSame old new → (t : Live) → IsTaskOf j old t → IsTaskOf j new t
-same_its j old new s t is = record {
-  place = ap whereabouts s.place ∙ is.place;
-  stakes = ap (map stake) s.stakes ∙ is.stakes;
-  opened = s.opened ∙ is.opened;
-  doing = subst (λ d. IsDoingThere j t.place (course_of t) d) (sym s.doing) is.doing;
-}
-
 -- ---- tables that show the same world
 pick : {A B : Type 0} (Are : A → B → Type 0) (b : Bool) (x u : Option A) (y v : Option B) → AreBoth Are x y → AreBoth Are u v
     → AreBoth Are (if b then x else u) (if b then y else v)
 pick Are true x u y v h k = h
 pick Are false x u y v h k = k
 
-tasks_same : (j : Job) (at to_at : Path → Option rTask) (path : Path) (k new : rTask) (live : List Live)
-    → ((q : Path) → AreBoth (IsTaskOf j) (at q) (task q.turns.items live)) → at path ≡ Some k
-    → ((t : Live) → IsTaskOf j k t → IsTaskOf j new t)
-    → ((q : Path) → to_at q ≡ (if is_path path q then Some new else at q))
-    → (q : Path) → AreBoth (IsTaskOf j) (to_at q) (task q.turns.items live)
-tasks_same j at to_at path k new live h here same each q =
-    subst (λ o. AreBoth (IsTaskOf j) o (task q.turns.items live)) (sym (each q))
-    (by_test (λ b. AreBoth (IsTaskOf j) (if b then Some new else at q) (task q.turns.items live)) (is_path path q)
-    (λ e. subst (λ p. AreBoth (IsTaskOf j) (Some new) (task p live)) (paths_same path.turns.items q.turns.items e)
-    (put (task path.turns.items live) (subst (λ o. AreBoth (IsTaskOf j) o (task path.turns.items live)) here (h path))))
-    (λ e. h q))
-  where
-    put : (o : Option Live) → AreBoth (IsTaskOf j) (Some k) o → AreBoth (IsTaskOf j) (Some new) o
-    put None both = both
-    put (Some t) both = same t both
-
--- a task stands for what it stood for, and scopes are where they were
-pub shows_same : (r : rWorld) (w : World) → Shows r w → (path : Path) (k new : rTask) → get is_path r.tasks path ≡ Some k
-    → ((t : Live) → IsTaskOf r.job k t → IsTaskOf r.job new t) → (tasks : _) (scopes : _)
-    → ((q : Path) → get is_path tasks q ≡ (if is_path path q then Some new else get is_path r.tasks q))
-    → ((q : rScopeId) → get is_scope scopes q ≡ get is_scope r.scopes q)
-    → Shows (record r { tasks = tasks; scopes = scopes }) w
-shows_same r w h path k new at same tasks scopes each kept = record {
-  events = h.events;
-  led = h.led;
-  tasks = tasks_same r.job (get is_path r.tasks) (get is_path tasks) path k new w.live h.tasks at same each;
-  paths = h.paths;
-  scopes = λ q. subst (λ o. AreBoth IsBookOf o (scope (scope_id q) w.scopes)) (sym (kept q)) (h.scopes q);
-  hands = h.hands;
-}
-
-pub shows_scopes : (r : rWorld) (w : World) → Shows r w → (scopes : _)
-    → ((q : rScopeId) → get is_scope scopes q ≡ get is_scope r.scopes q) → Shows (record r { scopes = scopes }) w
-shows_scopes r w h scopes kept = record {
-  events = h.events;
-  led = h.led;
-  tasks = h.tasks;
-  paths = h.paths;
-  scopes = λ q. subst (λ o. AreBoth IsBookOf o (scope (scope_id q) w.scopes)) (sym (kept q)) (h.scopes q);
-  hands = h.hands;
-}
-
-pub shows_tasks : (r : rWorld) (w : World) → Shows r w → (tasks : _)
-    → ((q : Path) → get is_path tasks q ≡ get is_path r.tasks q) → Shows (record r { tasks = tasks }) w
-shows_tasks r w h tasks kept = record {
-  events = h.events;
-  led = h.led;
-  tasks = λ q. subst (λ o. AreBoth (IsTaskOf r.job) o (task q.turns.items w.live)) (sym (kept q)) (h.tasks q);
-  paths = h.paths;
-  scopes = h.scopes;
-  hands = h.hands;
-}
-
 -- ---- an event after a look
 pub becomes_after : (old mid new : rWorld) (e : Event) → mid.job ≡ old.job → ((w : World) → Shows old w → Shows mid w)
     → Becomes e mid new → Becomes e old new
 becomes_after old mid new e same looked b w h =
     subst (λ j. (to : World) × (next_world j e w ≡ Some to) × Shows new to) same (b w (looked w h))
-
-pub refuses_after : (old mid new : rWorld) (e : Event) (x : EventError) → mid.job ≡ old.job → ((w : World) → Shows old w → Shows mid w)
-    → Refuses e mid new x → Refuses e old new x
-refuses_after old mid new e Illegal same looked b = λ w h.
-    subst (λ j. Shows new w × (next_world j e w ≡ None)) same (b w (looked w h))
-refuses_after old mid new e NoMemory same looked b = λ w h. b w (looked w h)
-
--- refused where what was shown is shown still
-pub refuses_by : (old new : rWorld) (e : Event) (x : EventError) → ((w : World) → Shows old w → Shows new w)
-    → (x ≡ Illegal → (w : World) → Shows old w → next_world old.job e w ≡ None) → Refuses e old new x
-refuses_by old new e Illegal still none = λ w h. (still w h, none refl w h)
-refuses_by old new e NoMemory still none = λ w h. still w h
 
 -- ---- the next action
 -- what it does next, where that is known
@@ -164,7 +81,6 @@ ahead_of path (rSpawns r s) = Some (Spawn (start s))
 ahead_of path (rOpens r) = Some EnterFinish
 ahead_of path (AtFinish q made) = Some EndFinish
 ahead_of path (AtEnd made) = Some (last_action path)
-ahead_of path Lost = None
 
 known_next : (j : Job) (c : Course) (d : Doing) → IsKnown d → IsDoing j c d
     → (a : Action) × IsNext j c a × (ahead_of c.start.path d ≡ Some a)
@@ -175,7 +91,6 @@ known_next j c (rSpawns r s) k h = (Spawn (start s), h.0, refl)
 known_next j c (rOpens r) k h = (EnterFinish, h.0, refl)
 known_next j c (AtFinish q made) k h = (EndFinish, h.0, refl)
 known_next j c (AtEnd made) k h = (last_action c.start.path, h.0, refl)
-known_next j c Lost k h = absurd k
 
 -- what comes of an event by its next action
 by_kind : (go : Action → Option World) (d : Doing) (a : Action) (q : List ℕ) → ((r : Run) → d ≡ rSteps r → go Step ≡ None)
@@ -189,7 +104,6 @@ by_kind go (rOpens r) a q step spawn enter finish end e = ap go (sym (same_Some 
 by_kind go (AtFinish p made) a q step spawn enter finish end e = ap go (sym (same_Some _ _ e)) ∙ finish
 by_kind go (AtEnd made) a [] step spawn enter finish end e = ap go (sym (same_Some _ _ e)) ∙ finish
 by_kind go (AtEnd made) a (i ∷ q) step spawn enter finish end e = ap go (sym (same_Some _ _ e)) ∙ end
-by_kind go Lost a q step spawn enter finish end e = absurd (none-some _ e)
 
 -- the events that its next action makes legal
 module _ (j : Job) where
@@ -277,16 +191,6 @@ free_same v to was (t ∷ ts) lives same =
     lives
 
 -- ---- in Rust
-pub known_ahead : (d : Doing) → IsAhead d → (d ≡ Lost → ⊥) → IsKnown d
-known_ahead (Starts s) a not = a
-known_ahead (Runs r) a not = a
-known_ahead (rSteps r) a not = tt
-known_ahead (rSpawns r s) a not = tt
-known_ahead (rOpens r) a not = tt
-known_ahead (AtFinish q made) a not = tt
-known_ahead (AtEnd made) a not = tt
-known_ahead Lost a not = absurd (not refl)
-
 -- an error that `?` hands on
 pub err_is : {A E : Type 0} (r : Result A E) (e : E) (P : E → Type 0) → IsErrAnd r (λ x. x ≡ e) → P e → IfErr r P
 err_is (Ok a) e P h p = absurd h
@@ -316,7 +220,10 @@ ready_by r path k (Err e) at hand known = tt
 
 -- an event on a task that is ready, which stays in the hand
 module _ (old mid : rWorld) (path : Path) (worker : ℕ) (g : IsReady mid path worker) (same : mid.job ≡ old.job)
-    (looked : (w : World) → Shows old w → Shows mid w) where
+    (still : WorldStays old mid) where
+  looked : (w : World) → Shows old w → Shows mid w
+  looked = stays_shown old mid still
+
   abbrev at_hand : (w : World) → Shows mid w → InHand mid w path worker g.task
   at_hand w h = in_the_hand mid w h path worker g.task g.at g.hand
 
@@ -325,9 +232,10 @@ module _ (old mid : rWorld) (path : Path) (worker : ℕ) (g : IsReady mid path w
       → to.path ≡ path.turns.items → to.place ≡ (at_hand w h).its.place → IsTaskOf mid.job new to
       → ((q : Path) → get is_path tasks q ≡ (if is_path path q then Some new else get is_path mid.tasks q))
       → ((q : rScopeId) → AreBoth IsBookOf (get is_scope scopes q) (scope (scope_id q) ss))
+      → is_passed (scope root_scope ss) ≡ is_passed (scope root_scope w.scopes)
       → next_world mid.job e w ≡ Some (record { live = put_task to w.live; scopes = ss })
       → Shows (record mid { tasks = tasks; scopes = scopes }) (record { live = put_task to w.live; scopes = ss })
-  shows_put w h e new to ss tasks scopes named placed is each kept legal =
+  shows_put w h e new to ss tasks scopes named placed is each kept passed legal =
       let x = at_hand w h in
       record {
         events = h.events ++ e ∷ [];
@@ -337,6 +245,7 @@ module _ (old mid : rWorld) (path : Path) (worker : ℕ) (g : IsReady mid path w
         paths = paths_put to x.its w.live (ap (λ p. task p w.live) named ∙ x.lives) h.paths;
         scopes = kept;
         hands = λ v. h.hands v ∙ ap not (sym (free_same v to x.its w.live (ap (λ p. task p w.live) named ∙ x.lives) placed));
+        told = subst (λ b. IsTold mid.job b mid.told) (sym passed) h.told;
       }
 
   -- a task that isn't as another look-up says
@@ -367,7 +276,7 @@ module _ (old mid : rWorld) (path : Path) (worker : ℕ) (g : IsReady mid path w
         = acts mid w h path worker g.task x Step (λ t. by_step mid.job.w0 (D mid.job) (H mid.job) t w) d.0 in (
           record { live = put_task to w.live; scopes = w.scopes },
           legal,
-          shows_put w h (Steps path.turns.items) new to w.scopes next.tasks mid.scopes x.named refl now each h.scopes legal,
+          shows_put w h (Steps path.turns.items) new to w.scopes next.tasks mid.scopes x.named refl now each h.scopes refl legal,
         )
 
     no_step_of : ((r : Run) → k.doing ≡ rSteps r → ⊥) → (w : World) (h : Shows mid w)
@@ -384,17 +293,18 @@ module _ (old mid : rWorld) (path : Path) (worker : ℕ) (g : IsReady mid path w
 
     pub steps_not : (o : Result (Unit {0}) EventError) → OnErr o (new ≡ k) → IfErr o (λ e. e ≡ Illegal)
         → OnErr o ((r : Run) → k.doing ≡ rSteps r → ⊥) → IfErr o (Refuses (Steps path.turns.items) old after_it)
-    steps_not (Ok u) still is none = tt
-    steps_not (Err e) still is none =
-        refuses_after old mid after_it (Steps path.turns.items) e same looked
+    steps_not (Ok u) as_before is none = tt
+    steps_not (Err e) as_before is none =
+        refuses_after old mid after_it (Steps path.turns.items) e still
         (refuses_by mid after_it (Steps path.turns.items) e
-        (λ w h. shows_same mid w h path k new at (λ t m. subst (λ z. IsTaskOf mid.job z t) (sym still) m) next.tasks mid.scopes each (λ q. refl))
+        (stays_put mid path k new next.tasks mid.scopes at (subst (λ z. TaskStays mid.job k z) (sym as_before) (its_self mid.job k)) each
+        (λ q. refl))
         (λ m w h. no_step_of none w h))
 
   -- ---- more weight
-  module _ (next : rWorld) (job : next.job ≡ mid.job) (hands : next.hands ≡ mid.hands) where
+  module _ (next : rWorld) (job : next.job ≡ mid.job) (hands : next.hands ≡ mid.hands) (told : next.told ≡ mid.told) where
     with_tables : record mid { tasks = next.tasks; scopes = next.scopes } ≡ next
-    with_tables = sym (λ t. record { job = job t; tasks = next.tasks; scopes = next.scopes; hands = hands t })
+    with_tables = sym (λ t. record { job = job t; tasks = next.tasks; scopes = next.scopes; hands = hands t; told = told t })
 
     replenish_of : (s : IsShort mid path) → DidIssue mid next path s → Becomes (Replenish path.turns.items) mid next
     replenish_of s d w h = subst (λ z. (to : World) × (next_world mid.job (Replenish path.turns.items) w ≡ Some to) × Shows z to) with_tables (
@@ -402,7 +312,7 @@ module _ (old mid : rWorld) (path : Path) (worker : ℕ) (g : IsReady mid path w
       legal,
       shows_put w h (Replenish path.turns.items) d.task its_new (put_scope (issue w0 b.0) w.scopes) next.tasks next.scopes x.named refl is d.tasks
           (scopes_put (get is_scope mid.scopes) (get is_scope next.scopes) s.id d.book b.0 (issue w0 b.0) w.scopes h.scopes b.1
-          (named_so (scope_id s.id) w.scopes b.0 b.1) (d.issued b.0 b.2) d.scopes) legal,
+          (named_so (scope_id s.id) w.scopes b.0 b.1) (d.issued b.0 b.2) d.scopes) passed legal,
     )
       where
         w0 : ℕ
@@ -437,6 +347,11 @@ module _ (old mid : rWorld) (path : Path) (worker : ℕ) (g : IsReady mid path w
 
         stakes_are : x.its.stakes ≡ inner ∷ outer
         stakes_are = sym x.is.stakes ∙ ap (λ (z : rTask). map stake z.stakes.items) e ∙ ap (map stake) s.wants.stakes
+
+        passed : is_passed (scope root_scope (put_scope (issue w0 b.0) w.scopes)) ≡ is_passed (scope root_scope w.scopes)
+        passed =
+            passed-put_scope (issue w0 b.0) b.0 root_scope w.scopes
+            (ap (λ i. scope i w.scopes) (named_so (scope_id s.id) w.scopes b.0 b.1) ∙ b.1) refl
 
         few : may_issue w0 b.0 ≡ true
         few = let few = s.few in let same = b.2.issued in lt-ltb b.0.issued (2147483648 * w0) (omega (arith, few, same))
@@ -539,8 +454,8 @@ module _ (old mid : rWorld) (path : Path) (worker : ℕ) (g : IsReady mid path w
                 ap (λ o. and_then o give) b.1 ∙ by_tests z b.0 (at z refl) b.2
 
   pub replenishes_not : (IsShort mid path → ⊥) → Refuses (Replenish path.turns.items) old mid Illegal
-  replenishes_not none = refuses_after old mid mid (Replenish path.turns.items) Illegal same looked
-      (λ w h. (h, not_short none w h))
+  replenishes_not none =
+      refuses_after old mid mid (Replenish path.turns.items) Illegal still (stays_self mid, λ w h. not_short none w h)
 
   -- ---- a task is begun
   module _ (least : 1 ≤ mid.job.w0) (k : rTask) (at : get is_path mid.tasks path ≡ Some k) where
@@ -559,6 +474,7 @@ module _ (old mid : rWorld) (path : Path) (worker : ℕ) (g : IsReady mid path w
               (paths_put its_new x.its w.live (ap (λ p. task p w.live) x.named ∙ x.lives) h.paths);
           scopes = h.scopes;
           hands = λ v. h.hands v ∙ ap not (sym (free_same v its_new x.its w.live (ap (λ p. task p w.live) x.named ∙ x.lives) refl));
+          told = h.told;
         },
       )
         where
@@ -689,10 +605,10 @@ module _ (old mid : rWorld) (path : Path) (worker : ℕ) (g : IsReady mid path w
         → ((q : Path) → get is_path next.tasks q ≡ (if is_path path q then Some new else get is_path mid.tasks q))
         → (x : EventError) → (x ≡ Illegal → IsToSpawn k → IsHeavy k → ⊥)
         → Refuses (Spawns path.turns.items) old (record mid { tasks = next.tasks }) x
-    spawns_not new still next each x none =
-        refuses_after old mid (record mid { tasks = next.tasks }) (Spawns path.turns.items) x same looked
+    spawns_not new alike next each x none =
+        refuses_after old mid (record mid { tasks = next.tasks }) (Spawns path.turns.items) x still
         (refuses_by mid (record mid { tasks = next.tasks }) (Spawns path.turns.items) x
-        (λ w h. shows_same mid w h path k new at (same_its mid.job k new still) next.tasks mid.scopes each (λ q. refl))
+        (stays_put mid path k new next.tasks mid.scopes at (alike_stays mid.job k new alike) each (λ q. refl))
         (λ m w h. no_spawn_of (none m) w h))
 
   -- ---- a finish is begun
@@ -717,7 +633,7 @@ module _ (old mid : rWorld) (path : Path) (worker : ℕ) (g : IsReady mid path w
         record { live = put_task its_new w.live; scopes = new_scope name mid.job.w0 ∷ w.scopes },
         legal,
         shows_put w h (Opens path.turns.items) new its_new (new_scope name mid.job.w0 ∷ w.scopes) next.tasks next.scopes x.named refl now each
-            scopes_now legal,
+            scopes_now (passed_opened name mid.job.w0 x.its.opened w.scopes refl) legal,
       )
         where
           x : InHand mid w path worker g.task
@@ -782,10 +698,10 @@ module _ (old mid : rWorld) (path : Path) (worker : ℕ) (g : IsReady mid path w
         → ((q : rScopeId) → get is_scope next.scopes q ≡ get is_scope mid.scopes q)
         → (x : EventError) → (x ≡ Illegal → (r : Run) → k.doing ≡ rOpens r → ⊥)
         → Refuses (Opens path.turns.items) old (record mid { tasks = next.tasks; scopes = next.scopes }) x
-    opens_not new still next each kept x none =
-        refuses_after old mid (record mid { tasks = next.tasks; scopes = next.scopes }) (Opens path.turns.items) x same looked
+    opens_not new alike next each kept x none =
+        refuses_after old mid (record mid { tasks = next.tasks; scopes = next.scopes }) (Opens path.turns.items) x still
         (refuses_by mid (record mid { tasks = next.tasks; scopes = next.scopes }) (Opens path.turns.items) x
-        (λ w h. shows_same mid w h path k new at (same_its mid.job k new still) next.tasks next.scopes each kept)
+        (stays_put mid path k new next.tasks next.scopes at (alike_stays mid.job k new alike) each kept)
         (λ m w h. no_open_of (none m) w h))
 
 -- what is known of a task that is short, as one look-up finds it

@@ -7,8 +7,8 @@ use Rattle.effects.proofs.Members.{false_true}
 use Rattle.own_run.specs.Lists.{Each}
 use Rattle.own_run.proofs.SettledResults.{paths_same}
 use Rattle.interleave.specs.World.{same_path, ScopeId, Live, Scope, same_scope, task, put_task, without_task, scope}
-use Rattle.interleave.specs.World.{put_scope, weight_in, held}
-use Rattle.interleave.specs.Events.{only_if}
+use Rattle.interleave.specs.World.{put_scope, weight_in, held, is_passed, root_scope}
+use Rattle.interleave.specs.Events.{new_scope, only_if}
 
 -- ---- tests
 pub true_not_false : {b : Bool} → b ≡ true → b ≡ false → ⊥
@@ -227,3 +227,31 @@ scope-put_scope to s j (r ∷ ss) e =
     later true true f g ne h = absurd (other_scope ne (scopes_same r.id j f ∙ sym (scopes_same to.id j g)))
     later true false f g ne h = refl
     later false c f g ne h = h
+
+-- ---- whether scopes have passed
+-- another of the same scope, which has passed where that has
+pub passed-put_scope : (to was : Scope) (j : ScopeId) (ss : List Scope) → scope to.id ss ≡ Some was → to.passed ≡ was.passed
+    → is_passed (scope j (put_scope to ss)) ≡ is_passed (scope j ss)
+passed-put_scope to was j ss found same =
+    ap is_passed (scope-put_scope to was j ss found)
+    ∙ by_test (λ b. is_passed (if b then Some to else scope j ss) ≡ is_passed (scope j ss)) (same_scope to.id j)
+    (λ e. same ∙ ap is_passed (sym found) ∙ ap (λ i. is_passed (scope i ss)) (scopes_same to.id j e))
+    (λ e. refl)
+
+-- another of another scope
+pub passed_beside : (to was : Scope) (j : ScopeId) (ss : List Scope) → scope to.id ss ≡ Some was → (to.id ≡ j → ⊥)
+    → is_passed (scope j (put_scope to ss)) ≡ is_passed (scope j ss)
+passed_beside to was j ss found other =
+    ap is_passed (scope-put_scope to was j ss found)
+    ∙ by_test (λ b. is_passed (if b then Some to else scope j ss) ≡ is_passed (scope j ss)) (same_scope to.id j)
+    (λ e. absurd (other (scopes_same to.id j e)))
+    (λ e. refl)
+
+-- a finish that is begun isn't the root's scope
+pub passed_opened : (name : ScopeId) (w0 n : ℕ) (ss : List Scope) → name.number ≡ n + 1
+    → is_passed (scope root_scope (new_scope name w0 ∷ ss)) ≡ is_passed (scope root_scope ss)
+passed_opened name w0 n ss numbered =
+    by_test (λ b. is_passed (if b then Some (new_scope name w0) else scope root_scope ss) ≡ is_passed (scope root_scope ss))
+    (same_scope name root_scope)
+    (λ e. let none : name.number ≡ 0 = ap (λ (i : ScopeId). i.number) (scopes_same name root_scope e) in absurd (omega (arith, numbered, none)))
+    (λ e. refl)

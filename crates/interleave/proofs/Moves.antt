@@ -13,18 +13,19 @@ use Rattle.interleave.specs.Events.{Event, Take, Steal, Pass, only_if, moved, by
 use Rattle.interleave.specs.Replay.{does, hands_on}
 use Rattle.interleave.specs.Jobs.{program_of, lists_of, budget_of}
 use Rattle.interleave.specs.Shown.{AreBoth, IsTaskOf, IsBookOf, IsDoingThere, is_path, is_scope, scope_id, whereabouts}
-use Rattle.interleave.specs.Shown.{AreResultsOf, Shows, next_world}
+use Rattle.interleave.specs.Shown.{AreResultsOf, IsTold, Shows, next_world}
 use Rattle.interleave.specs.World.{Live, Scope, World, Whereabouts, Queue, Hand, Parked, task, scope, put_scope}
-use Rattle.interleave.specs.World.{in_queue, in_hand, hand_is_free}
+use Rattle.interleave.specs.World.{in_queue, in_hand, hand_is_free, has_passed, root_scope}
+use Rattle.interleave.specs.Worlds.{LeadsTo}
 use Rattle.interleave.specs.declared.doing.Doing.{Doing}
-use Rattle.interleave.specs.declared.event.ScopeId.{ScopeId as rScopeId}
+use Rattle.types.specs.declared.scope_id.ScopeId.{ScopeId as rScopeId}
 use Rattle.interleave.specs.declared.job.Job.{Job}
 use Rattle.interleave.specs.declared.scope.Scope.{Scope as rScope}
 use Rattle.interleave.specs.declared.task.Task.{Task as rTask}
 use Rattle.interleave.specs.declared.task.Whereabouts.{Whereabouts as rWhereabouts}
 use Rattle.interleave.specs.declared.task.Whereabouts.TheVariants.{Queue as rQueue, Hand as rHand}
 use Rattle.interleave.specs.declared.world.World.{World as rWorld}
-use Rattle.interleave.proofs.Lookups.{task_path, scope_id as named_so}
+use Rattle.interleave.proofs.Lookups.{task_path, scope_id as named_so, scope_is, passed_beside, scope-put_scope}
 use Rattle.interleave.proofs.Tables.{there, not_there, tasks_put, paths_put, scopes_put, free_put, led_on}
 
 queued_doing : (j : Job) (q : Whereabouts) (w : ℕ) (c : Course) (d : Doing) → in_queue q w ≡ true → IsDoingThere j q c d → IsDoing j c d
@@ -102,6 +103,7 @@ module _ (old : rWorld) (w : World) (h : Shows old w) (path : Path) where
           hands = λ v. hand v
               ∙ ap not (sym (free_put v (record its { place = whereabouts place }) its w.live (ap (λ p. task p w.live) named ∙ f.lives)
               (queued_out its.place from v f.queued)));
+          told = h.told;
         }
 
     -- into a hand that was free
@@ -207,33 +209,78 @@ still_results None book h = refl
 still_results (Some rs) book h = h
 
 module _ (old : rWorld) (w : World) (h : Shows old w) (id : rScopeId) where
-  pub passes : (s : rScope) (scopes : _) → get is_scope old.scopes id ≡ Some s
-      → (not s.passed && nat_eq s.issued s.returned) ≡ true
-      → ((q : rScopeId) → get is_scope scopes q ≡ (if is_scope id q then Some (record s { passed = true }) else get is_scope old.scopes q))
-      → (next : World) × (next_world old.job (Pass (scope_id id)) w ≡ Some next) × Shows (record old { scopes = scopes }) next
-  passes s scopes at complete each = (
-    to,
-    legal,
-    record {
-      events = h.events ++ Pass (scope_id id) ∷ [];
-      led = led_on (program_of old.job) old.job.w0 (lists_of old.job) (budget_of old.job) (Pass (scope_id id)) h.events w to h.led legal;
-      tasks = h.tasks;
-      paths = h.paths;
-      scopes = scopes_put (get is_scope old.scopes) (get is_scope scopes) id (record s { passed = true }) b.0 (record b.0 { passed = true }) w.scopes
-          h.scopes b.1 (named_so (scope_id id) w.scopes b.0 b.1)
-          (record { issued = b.2.issued; returned = b.2.returned; passed = refl; results = still_results s.results b.0 b.2.results }) each;
-      hands = h.hands;
-    },
-  )
-    where
-      b : (x : Scope) × (scope (scope_id id) w.scopes ≡ Some x) × IsBookOf s x
-      b = there IsBookOf s (get is_scope old.scopes id) (scope (scope_id id) w.scopes) (h.scopes id) at
+  -- a scope that may pass
+  module _ (s : rScope) (at : get is_scope old.scopes id ≡ Some s) (complete : (not s.passed && nat_eq s.issued s.returned) ≡ true) where
+    pub passing_book : (x : Scope) × (scope (scope_id id) w.scopes ≡ Some x) × IsBookOf s x
+    passing_book = there IsBookOf s (get is_scope old.scopes id) (scope (scope_id id) w.scopes) (h.scopes id) at
 
-      to : World
-      to = record w { scopes = put_scope (record b.0 { passed = true }) w.scopes }
+    abbrev pub passed_book : Scope
+    passed_book = record passing_book.0 { passed = true }
 
-      legal : next_world old.job (Pass (scope_id id)) w ≡ Some to
-      legal = ap (λ o. and_then o (passing old w)) b.1 ∙ ap (λ x. only_if x (Some to)) (sym (same_test s b.0 b.2) ∙ complete)
+    abbrev pub passed_world : World
+    passed_world = record w { scopes = put_scope passed_book w.scopes }
+
+    pub pass_legal : next_world old.job (Pass (scope_id id)) w ≡ Some passed_world
+    pass_legal =
+        ap (λ o. and_then o (passing old w)) passing_book.1
+        ∙ ap (λ x. only_if x (Some passed_world)) (sym (same_test s passing_book.0 passing_book.2) ∙ complete)
+
+    pub pass_led : LeadsTo (program_of old.job) old.job.w0 (lists_of old.job) (budget_of old.job) (h.events ++ Pass (scope_id id) ∷ [])
+        passed_world
+    pass_led =
+        led_on (program_of old.job) old.job.w0 (lists_of old.job) (budget_of old.job) (Pass (scope_id id)) h.events w passed_world h.led
+        pass_legal
+
+    its_name : passed_book.id ≡ scope_id id
+    its_name = named_so (scope_id id) w.scopes passing_book.0 passing_book.1
+
+    found_so : scope passed_book.id w.scopes ≡ Some passing_book.0
+    found_so = ap (λ i. scope i w.scopes) its_name ∙ passing_book.1
+
+    -- it is there, and has passed
+    pub passed_there : scope (scope_id id) passed_world.scopes ≡ Some passed_book
+    passed_there =
+        scope-put_scope passed_book passing_book.0 (scope_id id) w.scopes found_so
+        ∙ ap (λ (b : Bool). if b then Some passed_book else scope (scope_id id) w.scopes) (scope_is its_name)
+
+    -- another scope than the root's
+    pub passed_elsewhere : (scope_id id ≡ root_scope → ⊥) → has_passed root_scope passed_world ≡ has_passed root_scope w
+    passed_elsewhere other =
+        passed_beside passed_book passing_book.0 root_scope w.scopes found_so (λ e. other (sym its_name ∙ e))
+
+    pub passes : (scopes : _)
+        → ((q : rScopeId) → get is_scope scopes q ≡ (if is_scope id q then Some (record s { passed = true }) else get is_scope old.scopes q))
+        → (told : _) → IsTold old.job (has_passed root_scope passed_world) told
+        → (next : World) × (next_world old.job (Pass (scope_id id)) w ≡ Some next) × Shows (record old { scopes = scopes; told = told }) next
+    passes scopes each told is_told = (
+      passed_world,
+      pass_legal,
+      record {
+        events = h.events ++ Pass (scope_id id) ∷ [];
+        led = pass_led;
+        tasks = h.tasks;
+        paths = h.paths;
+        scopes = scopes_put (get is_scope old.scopes) (get is_scope scopes) id (record s { passed = true }) passing_book.0 passed_book w.scopes
+            h.scopes passing_book.1 its_name
+            (record {
+              issued = passing_book.2.issued;
+              returned = passing_book.2.returned;
+              passed = refl;
+              results = still_results s.results passing_book.0 passing_book.2.results;
+            })
+            each;
+        hands = h.hands;
+        told = is_told;
+      },
+    )
+
+    -- a finish's scope
+    pub passes_beside : (scopes : _)
+        → ((q : rScopeId) → get is_scope scopes q ≡ (if is_scope id q then Some (record s { passed = true }) else get is_scope old.scopes q))
+        → (scope_id id ≡ root_scope → ⊥)
+        → (next : World) × (next_world old.job (Pass (scope_id id)) w ≡ Some next) × Shows (record old { scopes = scopes }) next
+    passes_beside scopes each other =
+        passes scopes each old.told (subst (λ b. IsTold old.job b old.told) (sym (passed_elsewhere other)) h.told)
 
   pub passes_not : ((s : rScope) → get is_scope old.scopes id ≡ Some s → (not s.passed && nat_eq s.issued s.returned) ≡ false)
       → next_world old.job (Pass (scope_id id)) w ≡ None

@@ -1,6 +1,6 @@
 -- No world of a sound and accepted program is stuck, and at the end its outcome is told.
 use Rattle.std.proofs.Common.{◌≡◌, ℕ, ◌≤◌, List, [], ◌∷◌, ◌++◌, Option, Some, None, refl, sym, ap, ◌∙◌, subst, inl}
-use Rattle.std.proofs.Common.{inr}
+use Rattle.std.proofs.Common.{inr, arith}
 use Rattle.std.proofs.lemmas.Option.{none-some, same_Some}
 use Rattle.std.specs.Prelude.{Bool, Contains, ℤ, map, true, false, ◌⊎◌}
 use Rattle.types.specs.Code.{Codes, Program}
@@ -25,12 +25,13 @@ use Rattle.own_run.proofs.HoldingTurns.{root_begins}
 use Rattle.own_run.proofs.SettledResults.{gives}
 use Rattle.own_run.proofs.TaskRuns.{begins_follow}
 use Rattle.interleave.specs.Candidates.{candidates}
-use Rattle.interleave.specs.World.{ScopeId, Stake, Live, Scope, World, root_scope, task, scope, is_parked, is_passed, has_passed}
+use Rattle.interleave.specs.World.{ScopeId, Stake, Live, Scope, World, Hand, root_scope, task, put_task, scope, is_parked, is_passed, has_passed}
 use Rattle.interleave.specs.Events.{Event, next_action, next, first_world, after}
 use Rattle.interleave.specs.Replay.{does, hands_on}
-use Rattle.interleave.specs.Worlds.{IsFree, IsSpent, LeadsTo, event_of, next_of, outcome_of}
+use Rattle.interleave.specs.Worlds.{IsFree, IsSpent, LeadsTo, Settles, event_of, next_of, outcome_of}
 use Rattle.interleave.proofs.ReplayLaws.{IsFree as IsFreeBy, IsSpent as IsSpentBy, IsUnsettled}
-use Rattle.interleave.proofs.Changes.{becomes}
+use Rattle.interleave.proofs.Changes.{IsResume, becomes}
+use Rattle.interleave.proofs.Lookups.{scope_id, task_path}
 use Rattle.interleave.proofs.Outcomes.{IsSound, first_sound, list_sound, replays_are_worlds, sound as is_sound}
 use Rattle.interleave.proofs.Rooted.{its_stakes}
 use Rattle.interleave.proofs.Stakes.{scope_of, own as own_scope}
@@ -41,7 +42,7 @@ use Rattle.interleave.proofs.Measured.{worth, worth_lists}
 use Rattle.interleave.proofs.There.{root_has_all, told_once_settled}
 use Rattle.interleave.proofs.Standing.{poise, has_next_action}
 use Rattle.interleave.proofs.Owed.{first_even}
-use Rattle.interleave.proofs.Parting.{AllPlaced, AllEvenBy, awake_stands, event_placed, event_even, HasPlace}
+use Rattle.interleave.proofs.Parting.{AllPlaced, AllEvenBy, awake_stands, event_placed, event_even, HasPlace, comes, waited}
 
 module _ (p : Program) (needs : Codes → Needs) (scoped : IsScoped p) (calm : IsCalm p) (provided : Provides p needs) (fresh w0 : ℕ)
     (least : 1 ≤ w0) (root : Start) (nameless : root.path ≡ []) (may_begin : MayBegin p needs root) where
@@ -118,6 +119,52 @@ module _ (p : Program) (sound : IsSoundProgram p) (accepted : IsAccepted p) (w0 
       has_next p (needs_of p) (is_scoped p sound) (is_calm p sound accepted) (provides_needs p sound) b.steps w0 least (root_of p input b.nest) refl
       (root_begins p (needs_of p) (is_scoped p sound) (is_calm p sound accepted) (provides_needs p sound) input b.nest fits) es w
       (replays_are_worlds p (needs_of p) w0 input b es w leads)
+
+  -- what a passed scope holds settles what its owner has made in it
+  pub settles_there : (path : List ℕ) (t : Live) → task path w.live ≡ Some t → is_parked t.place ≡ true
+      → (inner around : Stake) (outer : List Stake) → t.stakes ≡ inner ∷ around ∷ outer
+      → (s : Scope) → scope inner.scope w.scopes ≡ Some s → s.passed ≡ true → Settles p input b t s.results
+  settles_there path t lives parked inner around outer stakes s there passed =
+      let scoped = is_scoped p sound in
+      let calm = is_calm p sound accepted in
+      let provided = provides_needs p sound in
+      let first = root_of p input b.nest in
+      let may = root_begins p (needs_of p) scoped calm provided input b.nest fits in
+      let h = is_sound p (needs_of p) w0 least input b es w leads in
+      let g = list_goes p (needs_of p) scoped calm provided b.steps w0 least first refl may [] es (first_world w0 first) w
+      (first_sound p (needs_of p) b.steps w0 least first refl) (first_goes p (needs_of p) scoped calm provided b.steps w0 least first refl may)
+      (replays_are_worlds p (needs_of p) w0 input b es w leads) in
+      let to : World = record w {
+        live = put_task (record t { receipts = t.receipts ++ s.results ∷ []; stakes = around ∷ outer; place = Hand 0 }) w.live;
+      } in
+      let c : IsResume path w to = record {
+        was = t;
+        worker = 0;
+        inner = inner;
+        next = around;
+        outer = outer;
+        found = lives;
+        named = task_path path w.live t lives;
+        parked = parked;
+        stakes = stakes;
+        of = record { book = s; found = there; id = scope_id inner.scope w.scopes s there };
+        passed = passed;
+        now = refl;
+      } in
+      let at = waited p (needs_of p) scoped calm provided b.steps w0 first refl may es w h.kept h.own g.placed h.once g.even path to c in
+      let x = comes p (needs_of p) scoped calm provided b.steps w0 first refl may es w h.kept h.own g.placed h.once g.even path to c in
+      let after = at.stands.after in
+      let count = at.count in
+      record {
+        before = at.before;
+        frames = at.frames;
+        state = at.state;
+        stands = at.stands.reached;
+        follows = at.stands.follows;
+        done = omega (arith, after, count);
+        settled = x.0;
+        settles = x.1;
+      }
 
   never : IsUnsettled p (needs_of p) b.steps w0 w → ⊥
   never u = let a = next_there u.path u.its u.lives u.awake in none-some _ (sym u.nothing ∙ a.1)

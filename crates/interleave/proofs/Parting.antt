@@ -337,7 +337,7 @@ module _ (p : Program) (needs : Codes → Needs) (scoped : IsScoped p) (calm : I
 
     -- ---- behind a finish
     module _ (once : AllOnce es a.live a.scopes) (even : AllEvenBy a.live a.scopes) (path : List ℕ) (b : World) (c : IsResume path a b) where
-      waited : WaitsAt c.was
+      pub waited : WaitsAt c.was
       waited = by_place c.was.place c.parked (subst (λ ss. HasPlace c.was.place ss c.was) c.stakes (h path c.was c.found))
         where
           by_place : (w : Whereabouts) → is_parked w ≡ true → HasPlace w (c.inner ∷ c.next ∷ c.outer) c.was → WaitsAt c.was
@@ -413,7 +413,7 @@ module _ (p : Program) (needs : Codes → Needs) (scoped : IsScoped p) (calm : I
           (λ f. pending_worth p needs fresh w0 root nameless f n c.was.start.nest waited.state e waited.state.extra.pending reached.task.fine.begun
           ∙ sym (by_measure f))
 
-      comes : (x : Settled) × (settle (result_of waited.state) c.of.book.results ≡ Some x)
+      pub comes : (x : Settled) × (settle (result_of waited.state) c.of.book.results ≡ Some x)
       comes =
           settles_any p needs scoped calm provided fresh root nameless may_begin c.was.start.nest c.was.start
           (AtEnd waited.before ∷ waited.frames) waited.state refl reached.task reached.holds c.of.book.results (ordered c.was.start.nest refl)

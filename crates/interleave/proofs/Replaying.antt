@@ -33,6 +33,6 @@ module _ (j : Job) (old : rWorld) (same : old.job ≡ j) (w : World) (h : Shows 
   -- one that isn't is the first of those that are left
   pub stops_at : (x : EventError) → x ≡ Illegal → Refuses (event e) old new x → left_comes j n (e ∷ es) w ≡ IllegalAt n
   stops_at x is r =
-      let s = subst (Refuses (event e) old new) is r w h in
+      let s = subst (Refuses (event e) old new) is r in
       ap (go_or n (replay_from (program_of j) (needs_of (program_of j)) (budget_of j).steps j.w0 (n + 1) (map event es)))
-      (ap (λ i. next_world i (event e) w) (sym same) ∙ s.1)
+      (ap (λ i. next_world i (event e) w) (sym same) ∙ s.1 w h)

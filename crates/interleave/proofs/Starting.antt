@@ -1,5 +1,5 @@
 -- The world at the start, as the tables in Rust show it.
-use Rattle.std.proofs.Common.{◌≡◌, ℕ, [], ◌∷◌, Some, None, refl, sym, subst}
+use Rattle.std.proofs.Common.{◌≡◌, ℕ, [], ◌∷◌, Some, None, refl, sym, ap, subst}
 use Rattle.std.specs.Prelude.{Bool, true, false, nat_eq, map, if◌then◌else◌}
 use Rattle.std.specs.HashMap.{get}
 use Rattle.std.specs.HashSet.{contains}
@@ -11,10 +11,10 @@ use Rattle.own_run.specs.declared.start.Start.{Start as rStart}
 use Rattle.interleave.specs.Events.{new_task, new_scope}
 use Rattle.interleave.specs.Jobs.{program_of, lists_of, budget_of}
 use Rattle.interleave.specs.Replay.{start_of}
-use Rattle.interleave.specs.Shown.{AreBoth, IsTaskOf, IsBookOf, Shows, is_path, is_scope, scope_id, stake}
-use Rattle.interleave.specs.World.{Live, Stake, same_path, same_scope, root_scope, scope}
+use Rattle.interleave.specs.Shown.{AreBoth, IsTaskOf, IsBookOf, IsTold, Shows, is_path, is_scope, scope_id, stake}
+use Rattle.interleave.specs.World.{Live, Queue, Stake, same_path, same_scope, root_scope, scope}
 use Rattle.interleave.specs.declared.doing.Doing.TheVariants.{Starts}
-use Rattle.interleave.specs.declared.event.ScopeId.{ScopeId as rScopeId}
+use Rattle.types.specs.declared.scope_id.ScopeId.{ScopeId as rScopeId}
 use Rattle.interleave.specs.declared.scope.Scope.{Scope as rScope}
 use Rattle.interleave.specs.declared.task.Task.{Task as rTask}
 use Rattle.interleave.specs.declared.task.Whereabouts.TheVariants.{Queue as rQueue}
@@ -33,16 +33,17 @@ module _ (r : rWorld) (root : rStart) (is : start root ≡ root_of (program_of r
   abbrev first_task : Live
   first_task = new_task [] (root_of (program_of r.job) (lists_of r.job) (budget_of r.job)) first_stake 0
 
-  pub shows_start : (stakes : _) (s : rScope) (path : Path) (id : rScopeId)
-      → let k : rTask = record { doing = Starts root; opened = 0; stakes = stakes; place = rQueue 0 } in
-      path.turns.items ≡ [] → scope_id id ≡ root_scope → map stake stakes.items ≡ first_stake ∷ []
+  pub shows_start : (stakes : _) (s : rScope) (path : Path) (id : rScopeId) (first : ℕ)
+      → let k : rTask = record { doing = Starts root; opened = 0; stakes = stakes; place = rQueue first } in
+      first ≡ 0 → path.turns.items ≡ [] → scope_id id ≡ root_scope → map stake stakes.items ≡ first_stake ∷ []
       → ((q : Path) → get is_path r.tasks q ≡ (if is_path path q then Some k else None))
       → ((q : rScopeId) → get is_scope r.scopes q ≡ (if is_scope id q then Some s else None))
       → ((v : ℕ) → contains nat_eq r.hands v ≡ false)
       → IsBookOf s (new_scope root_scope r.job.w0)
+      → r.told ≡ None
       → Shows r (start_of (program_of r.job) r.job.w0 (lists_of r.job) (budget_of r.job))
-  shows_start stakes s path id named scoped staked tasks scopes hands book =
-      let k : rTask = record { doing = Starts root; opened = 0; stakes = stakes; place = rQueue 0 } in
+  shows_start stakes s path id first zero named scoped staked tasks scopes hands book none =
+      let k : rTask = record { doing = Starts root; opened = 0; stakes = stakes; place = rQueue first } in
       record {
         events = [];
         led = refl;
@@ -51,7 +52,7 @@ module _ (r : rWorld) (root : rStart) (is : start root ≡ root_of (program_of r
             (subst (λ p. AreBoth (IsTaskOf r.job) (if same_path p q.turns.items then Some k else None)
             (if same_path [] q.turns.items then Some first_task else None)) (sym named)
             (one (IsTaskOf r.job) (same_path [] q.turns.items) k first_task (record {
-              place = refl;
+              place = ap Queue zero;
               stakes = staked;
               opened = refl;
               doing = record { is = is; may = root_begins; receipts = refl; done = refl; spawned = refl; opened = refl };
@@ -63,4 +64,5 @@ module _ (r : rWorld) (root : rStart) (is : start root ≡ root_of (program_of r
             (scope (scope_id q) (new_scope root_scope r.job.w0 ∷ []))) (sym scoped)
             (one IsBookOf (same_scope root_scope (scope_id q)) s (new_scope root_scope r.job.w0) book));
         hands = hands;
+        told = subst (IsTold r.job false) (sym none) refl;
       }

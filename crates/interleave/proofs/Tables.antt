@@ -14,7 +14,7 @@ use Rattle.interleave.specs.Replay.{does, hands_on, start_of}
 use Rattle.interleave.specs.Shown.{ArePaths, AreBoth, IsTaskOf, IsBookOf, is_path, is_scope, scope_id}
 use Rattle.interleave.specs.World.{Live, Scope, World, same_path, task, put_task, without_task, scope, put_scope, in_hand, hand_is_free}
 use Rattle.interleave.specs.Worlds.{LeadsTo, event_of}
-use Rattle.interleave.specs.declared.event.ScopeId.{ScopeId as rScopeId}
+use Rattle.types.specs.declared.scope_id.ScopeId.{ScopeId as rScopeId}
 use Rattle.interleave.specs.declared.job.Job.{Job}
 use Rattle.interleave.specs.declared.scope.Scope.{Scope as rScope}
 use Rattle.interleave.specs.declared.task.Task.{Task as rTask}

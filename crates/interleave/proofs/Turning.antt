@@ -7,6 +7,7 @@ use Rattle.types.specs.Code.{Program}
 use Rattle.types.specs.Run.{State}
 use Rattle.types.specs.Translation.{program}
 use Rattle.effects.specs.Rounds.{needs_of}
+use Rattle.own_run.specs.Copies.{IsCopy}
 use Rattle.own_run.specs.Frames.{Frame, Rest, Again, AtEnd, Back, Standing, done_in, turn, IsTask, Follows}
 use Rattle.own_run.specs.Given.{in_truth}
 use Rattle.own_run.specs.MayRun.{MayRun, Stays}
@@ -290,3 +291,24 @@ module _ (j : Job) (ok : IsJob j) where
         children = sym fresh.spawned;
         few = let none = fresh.opened in omega (arith, none);
       }
+
+  -- what was copied stands for the same
+  pub fresh_copy : (c : Course) (s q : rStart) → start q ≡ start s → IsFresh j c s → IsFresh j c q
+  fresh_copy c s q e h = record {
+    is = e ∙ h.is;
+    may = h.may;
+    receipts = h.receipts;
+    done = h.done;
+    spawned = h.spawned;
+    opened = h.opened;
+  }
+
+  pub run_copy : (c : Course) (r q : Run) → IsCopy r q → IsRunOf j c r → IsRunOf j c q
+  run_copy c r q e h = record {
+    program = ap (λ plan. program plan.program.now) e.plan ∙ h.program;
+    nest = e.nest ∙ h.nest;
+    frames = h.frames;
+    own = h.own;
+    shows = e.shows h.frames h.own h.shows;
+    come = subst (λ st. HasCome j c (record { frames = h.frames; state = with_own h.own st })) (sym e.state) h.come;
+  }

@@ -27,6 +27,7 @@ use Rattle.interleave.specs.declared.walk.Walk.{Walk}
 use Rattle.interleave.specs.declared.world.World.{World as rWorld}
 use Rattle.interleave.proofs.Histories.{contains_here}
 use Rattle.interleave.proofs.NeverStuck.{each_has, stuck}
+use Rattle.interleave.proofs.Staying.{stays_shown}
 use Rattle.interleave.proofs.Tables.{is_there, led_on}
 
 -- ---- events that were legal
@@ -72,17 +73,17 @@ module _ (old new : Walk) (e : rEvent) (i : IsWalk old) (same : new.world.job �
           (subst (λ l. IsReplayed old.world.job l new.world) (sym items) (record {
             world = i.replayed.world;
             legal = i.replayed.legal;
-            shows = (subst (Refuses (event e) old.world new.world) is r i.replayed.world i.replayed.shows).0;
+            shows = stays_shown old.world new.world (subst (Refuses (event e) old.world new.world) is r).0 i.replayed.world i.replayed.shows;
             job = same ∙ i.replayed.job;
           }));
     };
     job = same;
     same = items;
-    shows = λ w s. (subst (Refuses (event e) old.world new.world) is r w s).0;
+    shows = stays_shown old.world new.world (subst (Refuses (event e) old.world new.world) is r).0;
   }
 
 pub was_illegal : (old new : rWorld) (e : Event) (x : EventError) → x ≡ Illegal → Refuses e old new x → IsIllegal old e
-was_illegal old new e x is r w s = (subst (Refuses e old new) is r w s).1
+was_illegal old new e x is r w s = (subst (Refuses e old new) is r).1 w s
 
 -- ---- one behind the other
 pub still_so : (a : Walk) → IsWalk a → IsAsBefore a a

@@ -5,29 +5,17 @@ use Rattle.std.specs.HashMap.{get}
 use Rattle.types.specs.declared.path.Path.{Path}
 use Rattle.own_run.specs.declared.run.Run.{Run}
 use Rattle.own_run.specs.declared.start.Start.{Start}
+use Rattle.interleave.specs.Courses.{IsKnown}
 use Rattle.interleave.specs.Events.{issue}
 use Rattle.interleave.specs.World.{Stake, hand_of, Scope as Book}
 use Rattle.interleave.specs.Shown.{IsBookOf, is_path, is_scope, scope_id, stake, whereabouts}
-use Rattle.interleave.specs.declared.doing.Doing.{Doing}
 use Rattle.interleave.specs.declared.doing.Doing.TheVariants.{Starts, Runs, Steps, Spawns, Opens}
-use Rattle.interleave.specs.declared.doing.Doing.TheVariants.{AtFinish, AtEnd, Lost}
-use Rattle.interleave.specs.declared.event.ScopeId.{ScopeId}
+use Rattle.types.specs.declared.scope_id.ScopeId.{ScopeId}
 use Rattle.interleave.specs.declared.scope.Scope.{Scope}
 use Rattle.interleave.specs.declared.task.Stake.{Stake as rStake}
 use Rattle.interleave.specs.declared.task.Task.{Task}
 use Rattle.interleave.specs.declared.task.Whereabouts.TheVariants.{Queue}
 use Rattle.interleave.specs.declared.world.World.{World}
-
--- the next action is known
-abbrev pub IsKnown : Doing → Type 0
-IsKnown (Starts s) = ⊥
-IsKnown (Runs r) = ⊥
-IsKnown (Steps r) = Unit {0}
-IsKnown (Spawns r s) = Unit {0}
-IsKnown (Opens r) = Unit {0}
-IsKnown (AtFinish q made) = Unit {0}
-IsKnown (AtEnd made) = Unit {0}
-IsKnown Lost = ⊥
 
 -- a task of this path is in this worker's hand, and its next action is known
 pub record IsReady (r : World) (path : Path) (worker : ℕ) : Type 0 where

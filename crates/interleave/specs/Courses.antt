@@ -1,5 +1,5 @@
 -- How far a live task has come in its own run, and what a run in Rust stands for there.
-use Rattle.std.specs.Prelude.{ℕ, ◌+◌, ◌≡◌, ◌≤◌, List, [], ◌∷◌, length, Some}
+use Rattle.std.specs.Prelude.{ℕ, ◌+◌, ◌≡◌, ◌≤◌, List, [], ◌∷◌, length, Option, Some, None}
 use Rattle.types.specs.Run.{State}
 use Rattle.types.specs.Translation.{program}
 use Rattle.effects.specs.Rounds.{needs_of}
@@ -23,7 +23,7 @@ use Rattle.interleave.specs.World.{Live, child_path}
 use Rattle.interleave.specs.Jobs.{program_of, lists_of, budget_of}
 use Rattle.interleave.specs.declared.doing.Doing.{Doing}
 use Rattle.interleave.specs.declared.doing.Doing.TheVariants.{Starts, Runs, Steps, Spawns as rSpawns, Opens}
-use Rattle.interleave.specs.declared.doing.Doing.TheVariants.{AtFinish, AtEnd as rAtEnd, Lost}
+use Rattle.interleave.specs.declared.doing.Doing.TheVariants.{AtFinish, AtEnd as rAtEnd}
 use Rattle.interleave.specs.declared.job.Job.{Job}
 
 -- what a live task has started with, gone on with and done
@@ -54,6 +54,36 @@ with_child c = record (further c) { spawned = c.spawned + 1 }
 -- which began a finish
 abbrev pub with_finish : Course → Course
 with_finish c = record (further c) { opened = c.opened + 1 }
+
+-- the next action is known
+abbrev pub IsKnown : Doing → Type 0
+IsKnown (Starts s) = ⊥
+IsKnown (Runs r) = ⊥
+IsKnown (Steps r) = Unit {0}
+IsKnown (rSpawns r s) = Unit {0}
+IsKnown (Opens r) = Unit {0}
+IsKnown (AtFinish q made) = Unit {0}
+IsKnown (rAtEnd made) = Unit {0}
+
+-- what a task is about to do once it has done what it was to do in a hand
+abbrev pub behind : Doing → Doing
+behind (Starts s) = Starts s
+behind (Runs r) = Runs r
+behind (Steps r) = Runs r
+behind (rSpawns r s) = Runs r
+behind (Opens r) = Runs r
+behind (AtFinish q made) = AtFinish q made
+behind (rAtEnd made) = rAtEnd made
+
+-- what the task starts with that it begins by that
+abbrev pub begun_by : Doing → Option rStart
+begun_by (Starts s) = None
+begun_by (Runs r) = None
+begun_by (Steps r) = None
+begun_by (rSpawns r s) = Some s
+begun_by (Opens r) = None
+begun_by (AtFinish q made) = None
+begun_by (rAtEnd made) = None
 
 module _ (j : Job) where
   -- the next action
@@ -118,7 +148,11 @@ module _ (j : Job) where
   IsDoing c (Opens r) = IsNext c EnterFinish × IsRunOf (with_finish c) r
   IsDoing c (AtFinish q made) = IsNext c EndFinish × IsPausedOf c q made
   IsDoing c (rAtEnd made) = IsNext c (last_action c.start.path) × IsEndOf c made
-  IsDoing c Lost = Unit {0}
+
+  -- the same, whose next action is known
+  pub record IsLooked (old new : Doing) : Type 0 where
+    pub known : IsKnown new
+    pub same : (c : Course) → IsDoing c old → IsDoing c new
 
   -- what a turn shows of a task that was to run; `less` where steps are fewer after it
   abbrev pub IsShown : Course → (before : ℕ) → Turn → Type 0
@@ -129,14 +163,3 @@ module _ (j : Job) where
   IsShown c n (EntersFinish r) = IsDoing c (Opens r)
   IsShown c n (EndsFinish q made) = IsDoing c (AtFinish q made)
   IsShown c n (Ended made) = IsDoing c (rAtEnd made)
-
--- the next action is known, or was lost
-abbrev pub IsAhead : Doing → Type 0
-IsAhead (Starts s) = ⊥
-IsAhead (Runs r) = ⊥
-IsAhead (Steps r) = Unit {0}
-IsAhead (rSpawns r s) = Unit {0}
-IsAhead (Opens r) = Unit {0}
-IsAhead (AtFinish q made) = Unit {0}
-IsAhead (rAtEnd made) = Unit {0}
-IsAhead Lost = Unit {0}

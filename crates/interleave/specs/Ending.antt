@@ -1,6 +1,8 @@
 -- What the events at the ends of finishes and of tasks find in the tables, and leave there.
 use Rattle.std.specs.Prelude.{ℕ, ◌≡◌, ◌+◌, ◌≤◌, List, [], ◌∷◌, Bool, true, false, not, map, drop}
 use Rattle.std.specs.Prelude.{Some, None, if◌then◌else◌}
+use Rattle.std.specs.Prelude.{Vec}
+use Rattle.std.specs.Global.{Global}
 use Rattle.std.specs.HashMap.{get}
 use Rattle.sections.specs.Place.{Place}
 use Rattle.types.specs.Run.{State}
@@ -18,14 +20,14 @@ use Rattle.own_run.specs.declared.run.Run.{Run}
 use Rattle.own_run.specs.declared.turn.Paused.{Paused}
 use Rattle.gather.specs.GivesBack.{GiveBack, all_owned}
 use Rattle.interleave.specs.Events.{give_back}
-use Rattle.interleave.specs.Shown.{IsBookOf, Shows, is_path, is_scope, stake, whereabouts}
-use Rattle.interleave.specs.World.{Scope, World, hand_of}
+use Rattle.interleave.specs.Courses.{IsKnown}
+use Rattle.interleave.specs.Shown.{IsBookOf, is_path, is_scope, stake, whereabouts}
+use Rattle.interleave.specs.World.{Scope, hand_of}
 use Rattle.interleave.specs.declared.doing.Doing.{Doing}
-use Rattle.interleave.specs.declared.doing.Doing.TheVariants.{Starts, Runs, Steps, Spawns, Opens}
-use Rattle.interleave.specs.declared.doing.Doing.TheVariants.{AtFinish, AtEnd, Lost}
+use Rattle.interleave.specs.declared.doing.Doing.TheVariants.{AtEnd, AtFinish, Runs}
 use Rattle.interleave.specs.declared.error.EventError.{EventError}
 use Rattle.interleave.specs.declared.error.EventError.TheVariants.{Illegal, NoMemory}
-use Rattle.interleave.specs.declared.event.ScopeId.{ScopeId as rScopeId}
+use Rattle.types.specs.declared.scope_id.ScopeId.{ScopeId as rScopeId}
 use Rattle.interleave.specs.declared.scope.Scope.{Scope as rScope}
 use Rattle.interleave.specs.declared.task.Stake.{Stake as rStake}
 use Rattle.interleave.specs.declared.task.Task.{Task as rTask}
@@ -34,17 +36,6 @@ use Rattle.interleave.specs.declared.task.Whereabouts.TheVariants.{Hand as rHand
 use Rattle.interleave.specs.declared.world.World.{World as rWorld}
 
 -- ---- what a task is about to do
--- the next action is known
-abbrev pub IsKnown : Doing → Type 0
-IsKnown (Starts s) = ⊥
-IsKnown (Runs r) = ⊥
-IsKnown (Steps r) = Unit {0}
-IsKnown (Spawns r s) = Unit {0}
-IsKnown (Opens r) = Unit {0}
-IsKnown (AtFinish q made) = Unit {0}
-IsKnown (AtEnd made) = Unit {0}
-IsKnown Lost = ⊥
-
 -- the root's path
 abbrev pub is_root : List ℕ → Bool
 is_root [] = true
@@ -109,17 +100,15 @@ abbrev pub NoneIsLate : rWorld → Type 0
 NoneIsLate r =
     (path : Path) (a : StandsAt r path) → a.book.returned + a.inner.weight ≤ a.book.issued
 
--- what a task at the end of a finish made is given back what it listed
-abbrev pub MayGoOn : rWorld → Path → List Made → Type 0
-MayGoOn r path results =
-    (k : rTask) (q : Paused) (made : Made) → get is_path r.tasks path ≡ Some k
-    → k.doing ≡ AtFinish q made → GiveBack (task_result made) (map task_result results)
+-- what a task at the end of a finish made is given back what it listed, by what its innermost
+-- scope keeps
+abbrev pub MayGoOn : rWorld → Path → Type 0
+MayGoOn r path =
+    (a : StandsAt r path) (q : Paused) (made : Made) (results : Vec Made Global)
+    → a.its.doing ≡ AtFinish q made → a.book.results ≡ Some results
+    → GiveBack (task_result made) (map task_result results.items)
 
 -- ---- what changes
--- whatever world was shown is shown still
-abbrev pub Keeps : (old new : rWorld) → Type 0
-Keeps old new = (w : World) → Shows old w → Shows new w
-
 -- the task of a path became another, and no other did
 pub record TaskBecomes (old new : rWorld) (path : Path) (Fits : rTask → Type 0) : Type 0 where
   pub to : rTask
@@ -137,10 +126,6 @@ pub record ScopeBecomes (old new : rWorld) (id : rScopeId) (Fits : rScope → Ty
 -- weight comes back to a scope, and results with it
 abbrev pub GivesBack : ℕ → List TaskResult → (old new : rScope) → Type 0
 GivesBack w rs old new = (b : Scope) → IsBookOf old b → IsBookOf new (give_back w rs b)
-
--- a scope stands for the same
-abbrev pub IsStill : (old new : rScope) → Type 0
-IsStill old new = (b : Scope) → IsBookOf old b → IsBookOf new b
 
 -- a task is parked, and weighs nothing in its innermost scope
 pub record IsSetDown (old new : rTask) : Type 0 where
@@ -161,6 +146,22 @@ pub record GoesBehind (q : Paused) (made : Made) (results : List TaskResult)
       → IsAt run (record { frames = fs; state = handed before (settled_of settled) st })
   pub plan : run.plan ≡ q.plan
   pub nest : run.thread.nest ≡ q.nest
+
+-- it goes on so behind its finish, with what its innermost scope keeps
+pub record IsGoneOn (r : rWorld) (path : Path) (a : StandsAt r path) (run : Run) : Type 0 where
+  pub paused : Paused
+  pub made : Made
+  pub was : a.its.doing ≡ AtFinish paused made
+  pub results : Vec Made Global
+  pub kept : a.book.results ≡ Some results
+  pub goes : GoesBehind paused made (map task_result results.items) run
+
+-- a task runs so in a hand, in the scope around its innermost one
+pub record IsOutside (worker : ℕ) (run : Run) (old new : rTask) : Type 0 where
+  pub is : new.doing ≡ Runs run
+  pub place : new.place ≡ rHand worker
+  pub opened : new.opened ≡ old.opened
+  pub stakes : new.stakes.items ≡ drop 1 old.stakes.items
 
 -- a task goes on in a hand, in the scope around the finish
 pub record IsBehind (worker : ℕ) (results : List TaskResult) (old new : rTask) : Type 0 where

@@ -1,24 +1,27 @@
 -- What a world in Rust stands for: live tasks by their paths, scopes by their names.
-use Rattle.std.specs.Prelude.{ℕ, ◌≡◌, List, Bool, true, ◌&&◌}
+use Rattle.std.specs.Prelude.{ℕ, ◌≡◌, ◌⊎◌, List, Bool, true, false, ◌&&◌, option_map}
 use Rattle.std.specs.Prelude.{not, nat_eq, map, Option, Some, None, Vec}
 use Rattle.std.specs.Global.{Global}
 use Rattle.std.specs.Cmp.Lexicographic.{pointwise}
 use Rattle.std.specs.HashMap.{get}
 use Rattle.std.specs.HashSet.{contains}
+use Rattle.types.specs.Outcome.{outcome as one_thread}
+use Rattle.types.specs.Translation.{outcome as outcome_of}
+use Rattle.types.specs.declared.outcome.Outcome.{Outcome}
 use Rattle.types.specs.declared.path.Path.{Path}
 use Rattle.own_run.specs.Translation.{task_result}
 use Rattle.own_run.specs.declared.result.TaskResult.{TaskResult}
-use Rattle.interleave.specs.Courses.{Course, course_of, further, IsDoing}
+use Rattle.interleave.specs.Courses.{Course, course_of, further, IsDoing, IsLooked}
 use Rattle.interleave.specs.Events.{Event}
 use Rattle.interleave.specs.Jobs.{program_of, lists_of, budget_of, IsJob}
 use Rattle.interleave.specs.World.{ScopeId, Stake, Live, Scope, World}
 use Rattle.interleave.specs.World.{Whereabouts, Queue, Hand, Parked}
-use Rattle.interleave.specs.World.{task, scope, hand_is_free}
+use Rattle.interleave.specs.World.{task, scope, hand_is_free, has_passed, root_scope}
 use Rattle.interleave.specs.Worlds.{LeadsTo, event_of}
 use Rattle.interleave.specs.declared.doing.Doing.{Doing}
 use Rattle.interleave.specs.declared.error.EventError.{EventError}
 use Rattle.interleave.specs.declared.error.EventError.TheVariants.{Illegal, NoMemory}
-use Rattle.interleave.specs.declared.event.ScopeId.{ScopeId as rScopeId}
+use Rattle.types.specs.declared.scope_id.ScopeId.{ScopeId as rScopeId}
 use Rattle.interleave.specs.declared.job.Job.{Job}
 use Rattle.interleave.specs.declared.scope.Scope.{Scope as rScope}
 use Rattle.interleave.specs.declared.task.Stake.{Stake as rStake}
@@ -70,6 +73,13 @@ pub record IsBookOf (s : rScope) (book : Scope) : Type 0 where
   pub passed : s.passed ≡ book.passed
   pub results : AreResultsOf s.results book
 
+-- the same scope, wherever its results lie
+pub record ScopeStays (old new : rScope) : Type 0 where
+  pub issued : new.issued ≡ old.issued
+  pub returned : new.returned ≡ old.returned
+  pub passed : new.passed ≡ old.passed
+  pub results : option_map (λ v. v.items) new.results ≡ option_map (λ v. v.items) old.results
+
 module _ (j : Job) where
   -- ---- tasks
   -- a parked task did the end of a finish last, or of its own
@@ -90,6 +100,20 @@ module _ (j : Job) where
     pub opened : k.opened ≡ t.opened
     pub doing : IsDoingThere t.place (course_of t) k.doing
 
+  -- the same task, wherever its stakes lie; its next action may be known by now
+  pub record TaskStays (old new : rTask) : Type 0 where
+    pub doing : (new.doing ≡ old.doing) ⊎ IsLooked j old.doing new.doing
+    pub opened : new.opened ≡ old.opened
+    pub place : new.place ≡ old.place
+    pub stakes : new.stakes.items ≡ old.stakes.items
+
+  -- ---- what is told
+  -- nothing before the root's scope has passed, and then the one-thread outcome
+  abbrev pub IsTold : (passed : Bool) → Option Outcome → Type 0
+  IsTold passed None = passed ≡ false
+  IsTold passed (Some told) =
+      (passed ≡ true) × (outcome_of told ≡ one_thread (program_of j) (lists_of j) (budget_of j))
+
 -- ---- worlds
 -- each live task has a path that a table can be asked for
 abbrev pub ArePaths : List Live → Type 0
@@ -105,6 +129,7 @@ pub record Shows (r : rWorld) (w : World) : Type 0 where
   pub scopes : (id : rScopeId)
       → AreBoth IsBookOf (get is_scope r.scopes id) (scope (scope_id id) w.scopes)
   pub hands : (worker : ℕ) → contains nat_eq r.hands worker ≡ not (hand_is_free worker w.live)
+  pub told : IsTold r.job (has_passed root_scope w) r.told
 
 -- the world after an event of a job, where it is legal
 abbrev pub next_world : Job → Event → World → Option World
@@ -115,10 +140,22 @@ abbrev pub Becomes : Event → (old new : rWorld) → Type 0
 Becomes e old new = (w : World) → Shows old w
     → (to : World) × (next_world old.job e w ≡ Some to) × Shows new to
 
--- whatever world was shown is shown still; where the event is called illegal it was
+-- the same tables, wherever they lie
+pub record WorldStays (old new : rWorld) : Type 0 where
+  pub job : new.job ≡ old.job
+  pub tasks : (path : Path)
+      → AreBoth (TaskStays old.job) (get is_path old.tasks path) (get is_path new.tasks path)
+  pub scopes : (id : rScopeId)
+      → AreBoth ScopeStays (get is_scope old.scopes id) (get is_scope new.scopes id)
+  pub hands : (worker : ℕ) → contains nat_eq new.hands worker ≡ contains nat_eq old.hands worker
+  pub told : new.told ≡ old.told
+
+-- an error leaves the same tables; where the event is called illegal it was, in whatever world was
+-- shown
 abbrev pub Refuses : Event → (old new : rWorld) → EventError → Type 0
-Refuses e old new Illegal = (w : World) → Shows old w → Shows new w × (next_world old.job e w ≡ None)
-Refuses e old new NoMemory = (w : World) → Shows old w → Shows new w
+Refuses e old new Illegal =
+    WorldStays old new × ((w : World) → Shows old w → next_world old.job e w ≡ None)
+Refuses e old new NoMemory = WorldStays old new
 
 -- a right job, and a world that is shown
 pub record IsWorld (r : rWorld) : Type 0 where

@@ -1,11 +1,15 @@
 -- The worlds of a program's run on an input and under a budget, with the needs that are computed.
-use Rattle.std.specs.Prelude.{ℕ, ℤ, ◌≡◌, ◌≤◌, ◌*◌, ◌^◌, List, ◌∷◌, ◌++◌, length, Option, Some, None}
+use Rattle.std.specs.Prelude.{ℕ, ℤ, ◌≡◌, ◌+◌, ◌≤◌, ◌*◌, ◌^◌, List, ◌∷◌, ◌++◌, length, Option, Some, None}
 use Rattle.types.specs.Code.{Program}
 use Rattle.types.specs.Outcome.{Budget, Outcome}
+use Rattle.types.specs.Run.{State}
 use Rattle.effects.specs.Rounds.{needs_of}
-use Rattle.own_run.specs.OwnRun.{Start, Action, Spawn}
+use Rattle.own_run.specs.Frames.{AtEnd, Follows, Frame}
+use Rattle.own_run.specs.OwnRun.{Start, Action, Own, Spawn, result_of}
 use Rattle.own_run.specs.Given.{given}
-use Rattle.own_run.specs.Runs.{root}
+use Rattle.own_run.specs.Results.{Settled, TaskResult}
+use Rattle.own_run.specs.Runs.{MayStand, root}
+use Rattle.own_run.specs.Settling.{settle}
 use Rattle.interleave.specs.World.{Stake, Live, Scope, World, task, scope}
 use Rattle.interleave.specs.Events.{Event, next_action}
 use Rattle.interleave.specs.Replay.{does, hands_on, event, Replayed, Legal, replay, world_outcome}
@@ -14,6 +18,18 @@ module _ (p : Program) (input : List (List ℤ)) (b : Budget) where
   -- what the task of a path starts with, in the run of the program
   abbrev pub given_to : List ℕ → Option Start
   given_to = given p (needs_of p) b.steps (root p input b)
+
+  -- a parked task stands at the end of a finish, and these results settle what it has made in that
+  pub record Settles (t : Live) (results : List TaskResult) : Type 0 where
+    pub before : State Own
+    pub frames : List (Frame Own)
+    pub state : State Own
+    pub stands : MayStand p input b t.start (record { frames = AtEnd before ∷ frames; state = state })
+    pub follows : Follows p (needs_of p) b.steps (root p input b) t.start t.receipts
+        (record { frames = AtEnd before ∷ frames; state = state })
+    pub done : length state.extra.actions + 1 ≡ t.done
+    pub settled : Settled
+    pub settles : settle (result_of state) results ≡ Some settled
 
 module _ (p : Program) (w0 : ℕ) (b : Budget) where
   -- the world after an event, where it is legal

@@ -5,29 +5,32 @@ ghost use Rattle.std.specs.Prelude.{IfErr, IfOk, MatchOption, OnErr, OnOk};
 ghost use Rattle.std.specs.Bool.{OnFalse, OnTrue};
 ghost use Rattle.std.specs.HashMap.{get};
 ghost use Rattle.own_run.specs.declared.run.Run.{Run as AnyRun};
-ghost use Rattle.interleave.specs.Acting.{DidIssue, DidOpen, DidSpawn, DidStep, IsHeavy, IsKnown};
+ghost use Rattle.interleave.specs.Acting.{DidIssue, DidOpen, DidSpawn, DidStep, IsHeavy};
 ghost use Rattle.interleave.specs.Acting.{IsReady, IsSame, IsShare, IsShort, IsToSpawn, IsWanting};
+ghost use Rattle.interleave.specs.Courses.{IsKnown, behind, begun_by};
 ghost use Rattle.interleave.specs.Events.{Opens as IsOpen, Replenish as IsReplenish};
 ghost use Rattle.interleave.specs.Events.{Spawns as IsSpawn, Steps as IsStep};
 ghost use Rattle.interleave.specs.Jobs.{IsJob};
-ghost use Rattle.interleave.specs.Shown.{Becomes, IsTaskOf, IsWorld, Refuses, Shows, is_path};
-ghost use Rattle.interleave.specs.Shown.{scope_id, stake, whereabouts};
-ghost use Rattle.interleave.specs.World.{Live, World as AnyWorld, hand_of};
+ghost use Rattle.interleave.specs.Shown.{Becomes, IsTaskOf, IsWorld, Refuses, TaskStays, WorldStays};
+ghost use Rattle.interleave.specs.Shown.{is_path, scope_id, stake, whereabouts};
+ghost use Rattle.interleave.specs.World.{Live, hand_of};
 ghost use Rattle.interleave.specs.declared.error.EventError.TheVariants.{Illegal};
-ghost use Rattle.interleave.specs.declared.event.ScopeId.{ScopeId as AnyScopeId};
+ghost use Rattle.types.specs.declared.scope_id.ScopeId.{ScopeId as AnyScopeId};
 ghost use Rattle.interleave.specs.declared.task.Stake.{Stake as AnyStake};
 ghost use Rattle.interleave.specs.declared.task.Task.{Task as AnyTask};
 
 use crate::doing::Doing;
 use crate::error::EventError;
-use crate::event::ScopeId;
 use crate::job::Job;
 use crate::scope::Scope;
 use crate::task::{Stake, Task, Whereabouts};
+use crate::worker_id::WorkerId;
 use crate::world::World;
+use own_run::start::Start;
 use std::alloc::{AllocError, Global};
 use std::collections::VecDeque;
 use types::path::Path;
+use types::scope_id::ScopeId;
 
 impl<'p> World<'p> {
     /// A task does one step, of a statement other than async and finish.
@@ -98,10 +101,10 @@ impl<'p> World<'p> {
     }
 
     /// The worker in whose hand the task of a path is, once its next action is known.
-    fn look_at(&mut self, path: &Path) -> Result<u32, EventError>
+    pub(crate) fn look_at(&mut self, path: &Path) -> Result<WorkerId, EventError>
         requires { IsWorld self.old }
         ensures others { self.new ≡ record self.old { tasks = self.new.tasks } }
-        ensures shows { (w : AnyWorld) → Shows self.old w → Shows self.new w }
+        ensures stays { WorldStays self.old self.new }
         ensures ready { IfOk result (IsReady self.new path.now) }
         ensures nowhere { IfErr result (λ e. e ≡ Illegal → (k : AnyTask)
             → get is_path self.old.tasks path.now ≡ Some k
@@ -137,6 +140,7 @@ impl<'p> World<'p> {
         requires short { IsShort self.old path.now }
         ensures job { self.new.job ≡ self.old.job }
         ensures hands { self.new.hands ≡ self.old.hands }
+        ensures told { self.new.told ≡ self.old.told }
         ensures issued { (s : IsShort self.old path.now) → DidIssue self.old self.new path.now s }
     {
         let w0 = self.job.w0;
@@ -156,10 +160,10 @@ impl<'p> World<'p> {
 
 impl<'p> Task<'p> {
     /// The worker in whose hand it is, once its next action is known.
-    fn in_hand(&mut self, job: Job<'p>) -> Result<u32, EventError>
+    fn in_hand(&mut self, job: Job<'p>) -> Result<WorkerId, EventError>
         requires job { IsJob job }
         requires task { (t : Live) × IsTaskOf job self.old t }
-        ensures same { (t : Live) → IsTaskOf job.entry self.old t → IsTaskOf job.entry self.new t }
+        ensures stays { TaskStays job.entry self.old self.new }
         ensures hand { IfOk result (λ worker. hand_of (whereabouts self.new.place) ≡ Some worker) }
         ensures known { OnOk result (IsKnown self.new.doing) }
         ensures nowhere { IfErr result (λ e. e ≡ Illegal
@@ -168,12 +172,18 @@ impl<'p> Task<'p> {
         let Some(worker) = self.place.hand() else {
             return Err(EventError::Illegal);
         };
-        let doing = std::mem::replace(&mut self.doing, Doing::Lost);
-        self.doing = doing.look(job);
-        match &self.doing {
-            Doing::Lost => Err(EventError::NoMemory),
-            _ => Ok(worker),
+        if let Some(known) = self.doing.look(job)? {
+            self.doing = known;
         }
+        Ok(worker)
+    }
+
+    /// It has done what it was to do. What the task starts with that it began by that.
+    fn goes_on(&mut self) -> Option<Start<'p>>
+        ensures now { self.new ≡ record self.old { doing = behind self.old.doing } }
+        ensures child { result ≡ begun_by self.old.doing }
+    {
+        core::mem::replace_with(&mut self.doing, (), Doing::goes_on)
     }
 
     /// It does a step.
@@ -183,16 +193,11 @@ impl<'p> Task<'p> {
         ensures refused { IfErr result (λ e. e ≡ Illegal) }
         ensures other { OnErr result ((r : AnyRun) → self.old.doing ≡ Doing.Steps r → ⊥) }
     {
-        match std::mem::replace(&mut self.doing, Doing::Lost) {
-            Doing::Steps(run) => {
-                self.doing = Doing::Runs(run);
-                Ok(())
-            }
-            other => {
-                self.doing = other;
-                Err(EventError::Illegal)
-            }
-        }
+        let Doing::Steps(_) = &self.doing else {
+            return Err(EventError::Illegal);
+        };
+        self.goes_on();
+        Ok(())
     }
 
     /// The innermost scope, where it weighs 1 in that and is to begin a task.
@@ -210,17 +215,16 @@ impl<'p> Task<'p> {
     }
 
     /// It begins a task, to which half of its weight goes, and which is in the same worker's queue.
-    fn spawn(&mut self, alloc: Global, worker: u32) -> Result<(Path, Task<'p>), EventError>
+    fn spawn(&mut self, alloc: Global, worker: WorkerId) -> Result<(Path, Task<'p>), EventError>
         ensures spawned { IfOk result (λ r. DidSpawn self.old self.new r.1 r.0 worker) }
         ensures same { OnErr result (IsSame self.old self.new) }
         ensures light { IfErr result (λ e. e ≡ Illegal
             → IsToSpawn self.old → IsHeavy self.old → ⊥) }
     {
         let (path, stakes) = self.share(alloc)?;
-        let Doing::Spawns(run, start) = std::mem::replace(&mut self.doing, Doing::Lost) else {
+        let Some(start) = self.goes_on() else {
             unreachable!()
         };
-        self.doing = Doing::Runs(run);
         self.halve();
         let child = Task {
             doing: Doing::Starts(start),
@@ -283,10 +287,7 @@ impl<'p> Task<'p> {
         let weight = job.w0;
         self.stakes.push_front(Stake { scope, weight })?;
         self.opened = number;
-        let Doing::Opens(run) = std::mem::replace(&mut self.doing, Doing::Lost) else {
-            unreachable!()
-        };
-        self.doing = Doing::Runs(run);
+        self.goes_on();
         Ok(name)
     }
 }

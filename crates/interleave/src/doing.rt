@@ -1,9 +1,12 @@
 //! What a live task is about to do.
 
-ghost use Rattle.std.specs.Prelude.{◌≡◌};
-ghost use Rattle.interleave.specs.Courses.{Course, IsDoing, IsAhead, IsRunOf};
+ghost use Rattle.std.specs.Prelude.{◌≡◌, IfErr, IfOk, MatchOption};
+ghost use Rattle.interleave.specs.Courses.{Course, IsDoing, IsKnown, IsLooked, IsRunOf};
+ghost use Rattle.interleave.specs.Courses.{behind, begun_by};
 ghost use Rattle.interleave.specs.Jobs.{IsJob};
+ghost use Rattle.interleave.specs.declared.error.EventError.TheVariants.{NoMemory};
 
+use crate::error::EventError;
 use crate::job::Job;
 use own_run::result::TaskResult;
 use own_run::run::Run;
@@ -27,35 +30,63 @@ pub enum Doing<'p> {
     AtFinish(Paused<'p>, TaskResult),
     /// It is at its end, with what it has made.
     AtEnd(TaskResult),
-    /// A turn found no memory: nothing more is known of it.
-    Lost,
 }
 
 impl<'p> Doing<'p> {
-    /// Looks up to the next action. Where that isn't known then, a turn found no memory.
-    pub fn look(self, job: Job<'p>) -> Doing<'p>
+    /// The same with its next action, where that isn't known yet. It is a copy of the run that turns,
+    /// so that want of memory takes nothing away.
+    pub fn look(&self, job: Job<'p>) -> Result<Option<Doing<'p>>, EventError>
         requires job { IsJob job }
-        requires task { (c : Course) × IsDoing job c self }
-        ensures same { (c : Course) → IsDoing job.entry c self.entry → IsDoing job.entry c result }
-        ensures known { IsAhead result }
+        requires task { (c : Course) × IsDoing job c self.now }
+        ensures looked { IfOk result (λ o. MatchOption o (IsKnown self.now)
+            (IsLooked job.entry self.now)) }
+        ensures refused { IfErr result (λ e. e ≡ NoMemory) }
     {
         match self {
-            Doing::Starts(start) => match Run::begin(job.plan(), start) {
-                Ok(run) => ahead(job, run),
-                Err(_) => Doing::Lost,
-            },
-            Doing::Runs(run) => ahead(job, run),
-            known => known,
+            Doing::Starts(start) => {
+                let copy = start.clone(job.alloc)?;
+                let run = Run::begin(job.plan(), copy)?;
+                let known = ahead(job, run)?;
+                Ok(Some(known))
+            }
+            Doing::Runs(run) => {
+                let copy = run.clone()?;
+                let known = ahead(job, copy)?;
+                Ok(Some(known))
+            }
+            Doing::Steps(_) => Ok(None),
+            Doing::Spawns(_, _) => Ok(None),
+            Doing::Opens(_) => Ok(None),
+            Doing::AtFinish(_, _) => Ok(None),
+            Doing::AtEnd(_) => Ok(None),
+        }
+    }
+
+    /// The run behind what it was to do, and what the task starts with that it begins by that.
+    pub fn goes_on(self, _behind: ()) -> (Doing<'p>, Option<Start<'p>>)
+        ensures now { result.0 ≡ behind self.entry }
+        ensures child { result.1 ≡ begun_by self.entry }
+    {
+        match self {
+            Doing::Steps(run) => (Doing::Runs(run), None),
+            Doing::Opens(run) => (Doing::Runs(run), None),
+            Doing::Spawns(run, start) => (Doing::Runs(run), Some(start)),
+            Doing::Starts(start) => (Doing::Starts(start), None),
+            Doing::Runs(run) => (Doing::Runs(run), None),
+            Doing::AtFinish(paused, made) => (Doing::AtFinish(paused, made), None),
+            Doing::AtEnd(made) => (Doing::AtEnd(made), None),
         }
     }
 }
 
 /// A run up to the first action of its own. One that takes a step has fewer steps left behind it.
-fn ahead<'p>(job: Job<'p>, run: Run<'p>) -> Doing<'p>
+fn ahead<'p>(job: Job<'p>, run: Run<'p>) -> Result<Doing<'p>, EventError>
     requires job { IsJob job }
     requires task { (c : Course) × IsRunOf job c run }
-    ensures same { (c : Course) → IsRunOf job.entry c run.entry → IsDoing job.entry c result }
-    ensures known { IsAhead result }
+    ensures same { IfOk result (λ d. (c : Course) → IsRunOf job.entry c run.entry
+        → IsDoing job.entry c d) }
+    ensures known { IfOk result IsKnown }
+    ensures refused { IfErr result (λ e. e ≡ NoMemory) }
 {
     let mut run = run;
     'turns: loop {
@@ -63,16 +94,16 @@ fn ahead<'p>(job: Job<'p>, run: Run<'p>) -> Doing<'p>
         match run.advance(job.accepted) {
             Ok(Turn::Going(next)) => {
                 if next.thread.steps < steps {
-                    return Doing::Steps(next);
+                    return Ok(Doing::Steps(next));
                 }
                 run = next;
             }
             Ok(Turn::Over(next)) => run = next,
-            Ok(Turn::Spawns(next, start)) => return Doing::Spawns(next, start),
-            Ok(Turn::EntersFinish(next)) => return Doing::Opens(next),
-            Ok(Turn::EndsFinish(paused, made)) => return Doing::AtFinish(paused, made),
-            Ok(Turn::Ended(made)) => return Doing::AtEnd(made),
-            Err(_) => return Doing::Lost,
+            Ok(Turn::Spawns(next, start)) => return Ok(Doing::Spawns(next, start)),
+            Ok(Turn::EntersFinish(next)) => return Ok(Doing::Opens(next)),
+            Ok(Turn::EndsFinish(paused, made)) => return Ok(Doing::AtFinish(paused, made)),
+            Ok(Turn::Ended(made)) => return Ok(Doing::AtEnd(made)),
+            Err(_) => return Err(EventError::NoMemory),
         }
     }
 }

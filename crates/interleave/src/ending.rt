@@ -1,37 +1,33 @@
 //! The events at the ends of finishes and of tasks.
 
-ghost use Rattle.std.specs.Prelude.{◌≡◌, ◌∷◌, [], IfErr, IfOk, OnOk, Some, map};
+ghost use Rattle.std.specs.Prelude.{◌≡◌, ◌∷◌, [], IfErr, IfOk, OnOk, Some, None, map};
 ghost use Rattle.std.specs.Bool.{OnTrue, OnFalse};
 ghost use Rattle.std.specs.HashMap.{get};
 ghost use Rattle.own_run.specs.Translation.{task_result};
+ghost use Rattle.own_run.specs.declared.result.TaskResult.{TaskResult as Made};
 ghost use Rattle.gather.specs.GivesBack.{GiveBack};
-ghost use Rattle.interleave.specs.Ending.{GivesBack, HasMade, IsBehind, IsInNoHand, IsKnown};
-ghost use Rattle.interleave.specs.Ending.{IsSeen};
-ghost use Rattle.interleave.specs.Ending.{IsSetDown, IsStill, IsUnseen, Keeps, MayGoOn, MayLeave};
-ghost use Rattle.interleave.specs.Ending.{NoneIsLate, ScopeBecomes, StandsAt, TaskBecomes};
+ghost use Rattle.interleave.specs.Ending.{GivesBack, GoesBehind, HasMade, IsGoneOn, IsOutside};
+ghost use Rattle.interleave.specs.Ending.{IsSetDown, MayGoOn, MayLeave, NoneIsLate};
+ghost use Rattle.interleave.specs.Ending.{ScopeBecomes, StandsAt, TaskBecomes};
 ghost use Rattle.interleave.specs.Ending.{has_ended, is_waiting};
 ghost use Rattle.interleave.specs.Events.{Ends as IsEnd, Parks as IsPark, Resume as IsResume};
-ghost use Rattle.interleave.specs.Jobs.{IsJob};
-ghost use Rattle.interleave.specs.Shown.{Becomes, IsTaskOf, IsWorld, Refuses, Shows, is_path};
+ghost use Rattle.interleave.specs.Shown.{Becomes, IsWorld, Refuses, ScopeStays, Shows, is_path};
 ghost use Rattle.interleave.specs.Shown.{next_world};
-ghost use Rattle.interleave.specs.World.{Live, World as AnyWorld};
+ghost use Rattle.interleave.specs.World.{World as AnyWorld};
 ghost use Rattle.interleave.specs.declared.doing.Doing.TheVariants.{AtEnd as IsAtEnd};
-ghost use Rattle.interleave.specs.declared.doing.Doing.TheVariants.{AtFinish as IsAtFinish};
-ghost use Rattle.interleave.specs.declared.doing.Doing.TheVariants.{Lost as IsLost};
 ghost use Rattle.interleave.specs.declared.error.EventError.TheVariants.{NoMemory};
 ghost use Rattle.interleave.specs.declared.task.Task.{Task as AnyTask};
-ghost use Rattle.interleave.specs.declared.task.Whereabouts.TheVariants.{Hand as InHand};
-ghost use Rattle.own_run.specs.declared.result.TaskResult.{TaskResult as Made};
-ghost use Rattle.own_run.specs.declared.turn.Paused.{Paused};
 
 use crate::doing::Doing;
 use crate::error::EventError;
-use crate::job::Job;
 use crate::task::{Task, Whereabouts};
+use crate::worker_id::WorkerId;
 use crate::world::World;
 use gather::settle::settle;
 use own_run::result::TaskResult;
-use std::alloc::Global;
+use own_run::run::Run;
+use own_run::turn::Paused;
+use std::alloc::{AllocError, Global};
 use types::path::Path;
 
 impl<'p> World<'p> {
@@ -43,7 +39,7 @@ impl<'p> World<'p> {
             (Refuses (IsPark path.now.turns.items) self.old self.new) }
         ensures job { self.new.job ≡ self.old.job }
     {
-        let worker = self.look_in_hand(path)?;
+        let worker = self.look_at(path)?;
         if !self.is_waiting(path) {
             return Err(EventError::Illegal);
         }
@@ -60,11 +56,11 @@ impl<'p> World<'p> {
         ensures refused { IfErr result (Refuses (IsEnd path.now.turns.items) self.old self.new) }
         ensures job { self.new.job ≡ self.old.job }
     {
-        let worker = self.look_in_hand(path)?;
+        let worker = self.look_at(path)?;
         if !self.has_ended(path) {
             return Err(EventError::Illegal);
         }
-        let made = self.take_made(path);
+        let made = self.made(path)?;
         self.hand_on(path, made)?;
         self.tasks.remove(path);
         self.hands.remove(&worker);
@@ -72,7 +68,7 @@ impl<'p> World<'p> {
     }
 
     /// A worker takes a task that was parked at a passed scope, with what came of the finish.
-    pub fn resume(&mut self, worker: u32, path: &Path) -> Result<(), EventError>
+    pub fn resume(&mut self, worker: WorkerId, path: &Path) -> Result<(), EventError>
         requires { IsWorld self.old }
         ensures resumed { OnOk result
             (Becomes (IsResume worker path.now.turns.items) self.old self.new) }
@@ -87,27 +83,12 @@ impl<'p> World<'p> {
             return Err(EventError::Illegal);
         }
         self.hands.reserve(1)?;
-        let Some(results) = self.take_results(path) else {
-            return Err(EventError::NoMemory);
-        };
-        self.go_behind(worker, path, results)?;
-        // There is room for it.
+        let run = self.settled_run(path)?;
+        // Nothing below finds no memory.
+        self.drop_results(path);
+        self.go_behind(worker, path, run);
         self.hands.insert(worker)?;
         Ok(())
-    }
-
-    /// The worker in whose hand a task is, once its next action is known.
-    fn look_in_hand(&mut self, path: &Path) -> Result<u32, EventError>
-        requires { IsWorld self.old }
-        ensures others { self.new ≡ record self.old { tasks = self.new.tasks } }
-        ensures keeps { Keeps self.old self.new }
-        ensures seen { IfOk result (IsSeen self.new path.now) }
-        ensures refused { IfErr result (IsUnseen self.old path.now) }
-    {
-        let Some(task) = self.tasks.get_mut(path) else {
-            return Err(EventError::Illegal);
-        };
-        task.look_in_hand(self.job)
     }
 
     /// Whether a task is at the end of a finish.
@@ -170,22 +151,20 @@ impl<'p> World<'p> {
         }
     }
 
-    /// What a task has made at its end, of which nothing more is known then.
-    fn take_made(&mut self, path: &Path) -> TaskResult
-        requires { HasMade self.old path.now }
-        ensures others { self.new ≡ record self.old { tasks = self.new.tasks } }
-        ensures made { (k : AnyTask) (m : Made) → get is_path self.old.tasks path.now ≡ Some k
-            → k.doing ≡ IsAtEnd m → result ≡ m }
-        ensures lost { (k : AnyTask) → get is_path self.old.tasks path.now ≡ Some k
-            → TaskBecomes self.old self.new path.now (λ to. to ≡ record k { doing = IsLost }) }
+    /// What a task has made at its end, a second time.
+    fn made(&self, path: &Path) -> Result<TaskResult, AllocError>
+        requires { HasMade self.now path.now }
+        ensures { IfOk result (λ made. (k : AnyTask) (m : Made)
+            → get is_path self.now.tasks path.now ≡ Some k → k.doing ≡ IsAtEnd m
+            → task_result made ≡ task_result m) }
     {
-        let Some(task) = self.tasks.get_mut(path) else {
+        let Some(task) = self.tasks.get(path) else {
             unreachable!()
         };
-        let Doing::AtEnd(made) = std::mem::replace(&mut task.doing, Doing::Lost) else {
+        let Doing::AtEnd(made) = &task.doing else {
             unreachable!()
         };
-        made
+        made.clone(self.job.alloc)
     }
 
     /// A task's weight in its innermost scope goes back there, with its result.
@@ -197,7 +176,7 @@ impl<'p> World<'p> {
             → ScopeBecomes self.old self.new a.inner.scope
             (GivesBack a.inner.weight (task_result made ∷ []) a.book)) }
         ensures refused { IfErr result (λ e. (e ≡ NoMemory) × ((a : StandsAt self.old path.now)
-            → ScopeBecomes self.old self.new a.inner.scope (IsStill a.book))) }
+            → ScopeBecomes self.old self.new a.inner.scope (ScopeStays a.book))) }
     {
         let Some(task) = self.tasks.get(path) else {
             unreachable!()
@@ -236,11 +215,34 @@ impl<'p> World<'p> {
         }
     }
 
-    /// The results of a task's innermost scope, where they are there.
-    fn take_results(&mut self, path: &Path) -> Option<Vec<TaskResult>>
+    /// The run that goes on behind a task's finish, with what its innermost scope keeps: copies of
+    /// both.
+    fn settled_run(&self, path: &Path) -> Result<Run<'p>, EventError>
+        requires stands { StandsAt self.now path.now }
+        requires may { MayGoOn self.now path.now }
+        ensures goes { IfOk result (λ run. (a : StandsAt self.now path.now)
+            → IsGoneOn self.now path.now a run) }
+        ensures refused { IfErr result (λ e. e ≡ NoMemory) }
+    {
+        let Some(task) = self.tasks.get(path) else {
+            unreachable!()
+        };
+        let Some(stake) = task.stakes.front() else {
+            unreachable!()
+        };
+        let Some(scope) = self.scopes.get(&stake.scope) else {
+            unreachable!()
+        };
+        let (Doing::AtFinish(paused, made), Some(results)) = (&task.doing, &scope.results) else {
+            return Err(EventError::NoMemory);
+        };
+        run_behind(self.job.alloc, paused, made, results)
+    }
+
+    /// A task's innermost scope keeps no results any more: its owner has them.
+    fn drop_results(&mut self, path: &Path)
         requires stands { StandsAt self.old path.now }
         ensures others { self.new ≡ record self.old { scopes = self.new.scopes } }
-        ensures results { (a : StandsAt self.old path.now) → result ≡ a.book.results }
         ensures taken { (a : StandsAt self.old path.now)
             → ScopeBecomes self.old self.new a.inner.scope
             (λ to. to ≡ record a.book { results = None }) }
@@ -254,57 +256,22 @@ impl<'p> World<'p> {
         let Some(scope) = self.scopes.get_mut(&stake.scope) else {
             unreachable!()
         };
-        scope.results.take()
+        scope.results = None;
     }
 
-    /// A task goes on in a hand with what came of its finish. Where memory is wanting nothing more
-    /// is known of it.
-    fn go_behind(
-        &mut self,
-        worker: u32,
-        path: &Path,
-        results: Vec<TaskResult>,
-    ) -> Result<(), EventError>
-        requires lives { (k : AnyTask) × (get is_path self.old.tasks path.now ≡ Some k) }
-        requires may { MayGoOn self.old path.now results.items }
+    /// A task runs so in a hand, in the scope around its innermost one.
+    fn go_behind(&mut self, worker: WorkerId, path: &Path, run: Run<'p>)
         ensures others { self.new ≡ record self.old { tasks = self.new.tasks } }
-        ensures behind { OnOk result ((k : AnyTask) → get is_path self.old.tasks path.now ≡ Some k
-            → TaskBecomes self.old self.new path.now
-            (IsBehind worker (map task_result results.items) k)) }
-        ensures refused { IfErr result (λ e. (e ≡ NoMemory)
-            × ((k : AnyTask) → get is_path self.old.tasks path.now ≡ Some k
-            → TaskBecomes self.old self.new path.now (λ to. to ≡ record k { doing = IsLost }))) }
+        ensures behind { (k : AnyTask) → get is_path self.old.tasks path.now ≡ Some k
+            → TaskBecomes self.old self.new path.now (IsOutside worker run.entry k) }
     {
-        let alloc = self.job.alloc;
-        let Some(task) = self.tasks.get_mut(path) else {
-            unreachable!()
-        };
-        task.go_behind(worker, alloc, results)
+        if let Some(task) = self.tasks.get_mut(path) {
+            task.go_behind(worker, run);
+        }
     }
 }
 
 impl<'p> Task<'p> {
-    /// The worker in whose hand it is, once its next action is known.
-    fn look_in_hand(&mut self, job: Job<'p>) -> Result<u32, EventError>
-        requires job { IsJob job }
-        requires task { (t : Live) × IsTaskOf job self.old t }
-        ensures same { (t : Live) → IsTaskOf job.entry self.old t
-            → IsTaskOf job.entry self.new t }
-        ensures seen { IfOk result (λ worker. (self.new.place ≡ InHand worker)
-            × IsKnown self.new.doing) }
-        ensures refused { IfErr result (IsInNoHand self.old.place) }
-    {
-        let Some(worker) = self.place.hand() else {
-            return Err(EventError::Illegal);
-        };
-        let doing = std::mem::replace(&mut self.doing, Doing::Lost);
-        self.doing = doing.look(job);
-        match self.doing {
-            Doing::Lost => Err(EventError::NoMemory),
-            _ => Ok(worker),
-        }
-    }
-
     /// It is parked, and weighs nothing in its innermost scope.
     fn set_down(&mut self)
         ensures { IsSetDown self.old self.new }
@@ -315,31 +282,46 @@ impl<'p> Task<'p> {
         }
     }
 
-    /// It goes on in a hand with what came of its finish. Where memory is wanting nothing more is
-    /// known of it.
-    fn go_behind(
-        &mut self,
-        worker: u32,
-        alloc: Global,
-        results: Vec<TaskResult>,
-    ) -> Result<(), EventError>
-        requires { (q : Paused) (made : Made) → self.old.doing ≡ IsAtFinish q made
-            → GiveBack (task_result made) (map task_result results.items) }
-        ensures behind { OnOk result
-            (IsBehind worker (map task_result results.items) self.old self.new) }
-        ensures refused { IfErr result (λ e. (e ≡ NoMemory)
-            × (self.new ≡ record self.old { doing = IsLost })) }
+    /// It runs so in a hand, in the scope around its innermost one.
+    fn go_behind(&mut self, worker: WorkerId, run: Run<'p>)
+        ensures { IsOutside worker run.entry self.old self.new }
     {
-        let doing = std::mem::replace(&mut self.doing, Doing::Lost);
-        let Doing::AtFinish(paused, made) = doing else {
-            return Err(EventError::NoMemory);
-        };
-        let Ok(settled) = settle(alloc, made, results) else {
-            return Err(EventError::NoMemory);
-        };
-        self.doing = Doing::Runs(paused.go_on(settled)?);
+        self.doing = Doing::Runs(run);
         self.stakes.pop_front();
         self.place = Whereabouts::Hand(worker);
-        Ok(())
     }
+}
+
+/// The run that goes on behind a finish, with what its results settle to. It is copies that settle,
+/// so that want of memory takes nothing away.
+fn run_behind<'p>(
+    alloc: Global,
+    paused: &Paused<'p>,
+    made: &TaskResult,
+    results: &[TaskResult],
+) -> Result<Run<'p>, EventError>
+    requires { GiveBack (task_result made.now) (map task_result results.now) }
+    ensures goes { IfOk result (GoesBehind paused.now made.now
+        (map task_result results.now)) }
+    ensures refused { IfErr result (λ e. e ≡ NoMemory) }
+{
+    let made = made.clone(alloc)?;
+    let results = copies(alloc, results)?;
+    let Ok(settled) = settle(alloc, made, results) else {
+        return Err(EventError::NoMemory);
+    };
+    let run = paused.clone()?.go_on(settled)?;
+    Ok(run)
+}
+
+/// Results a second time.
+pub(crate) fn copies(alloc: Global, results: &[TaskResult]) -> Result<Vec<TaskResult>, AllocError>
+    ensures { IfOk result (λ v. map task_result v.items ≡ map task_result results.now) }
+{
+    let mut copies = Vec::new(alloc);
+    for made in results {
+        let copy = made.clone(alloc)?;
+        copies.push(copy)?;
+    }
+    Ok(copies)
 }

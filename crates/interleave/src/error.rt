@@ -5,7 +5,7 @@ ghost use Rattle.interleave.specs.declared.error.EventError.TheVariants.{NoMemor
 
 use std::alloc::{AllocError, AllocFailed};
 
-/// Why an event leads to no world. The world shows what it showed.
+/// Why an event leads to no world. The world's tables stay as they were.
 #[derive(Clone, Copy, PartialEq, Eq, Debug)]
 pub enum EventError {
     /// The event isn't legal in that world, as `step 0` in the first, where the root is in a queue.

@@ -1,36 +1,54 @@
 //! What tasks, workers and scopes do, one at a time.
 
+use crate::worker_id::WorkerId;
 use types::path::Path;
-
-/// A scope's name: the path of its owner, and which of its finishes it is, from 1. The scope of the
-/// root's outer finish has the number 0.
-#[derive(Clone, PartialEq, Eq, Hash, Debug, Drop)]
-pub struct ScopeId {
-    pub owner: Path,
-    pub number: u32,
-}
+use types::scope_id::ScopeId;
 
 /// What happens to a world.
 #[derive(Clone, PartialEq, Eq, Debug, Drop)]
 pub enum Event {
     /// `take 1 0.2`: a worker takes a task from its queue into its hand.
-    Take { worker: u32, path: Path },
+    Take {
+        worker: WorkerId,
+        path: Path,
+    },
     /// `steal 1 0 0.2`: a worker takes a task from another's queue into its own.
-    Steal { worker: u32, from: u32, path: Path },
+    Steal {
+        worker: WorkerId,
+        from: WorkerId,
+        path: Path,
+    },
     /// `step 0.1`: a task does one step, of a statement other than async and finish.
-    Step { path: Path },
+    Step {
+        path: Path,
+    },
     /// `replenish 0.1`: a task that weighs 1 is given more by its innermost scope.
-    Replenish { path: Path },
+    Replenish {
+        path: Path,
+    },
     /// `spawn 0`: a task begins another, and shares its weight with it.
-    Spawn { path: Path },
+    Spawn {
+        path: Path,
+    },
     /// `open 0`: a task begins a finish.
-    Open { path: Path },
+    Open {
+        path: Path,
+    },
     /// `park 0`: a task is at the end of its innermost finish, and gives back its weight there.
-    Park { path: Path },
+    Park {
+        path: Path,
+    },
     /// `end 0.1`: a task is at its end, and gives back its weight and its result.
-    End { path: Path },
+    End {
+        path: Path,
+    },
     /// `pass 0#1`: a scope passes, since all its weight came back.
-    Pass { scope: ScopeId },
+    Pass {
+        scope: ScopeId,
+    },
     /// `resume 0 0`: a worker takes a task that was parked at a passed scope.
-    Resume { worker: u32, path: Path },
+    Resume {
+        worker: WorkerId,
+        path: Path,
+    },
 }

@@ -1,22 +1,28 @@
 //! What is told once the root's scope has passed.
 
-ghost use Rattle.std.specs.Prelude.{◌≡◌, IfErr, IfOk, IfSome, Some, map, option_map};
+ghost use Rattle.std.specs.Prelude.{◌≡◌, ◌&&◌, IfErr, IfOk, IfSome, OnOk, Some, map, nat_eq, not};
+ghost use Rattle.std.specs.Prelude.{option_map, true};
+ghost use Rattle.std.specs.HashMap.{get};
+ghost use Rattle.interleave.specs.Events.{Pass as IsPass};
 ghost use Rattle.interleave.specs.Jobs.{budget_of, lists_of, program_of};
-ghost use Rattle.interleave.specs.Shown.{IsWorld, Shows};
-ghost use Rattle.interleave.specs.World.{World as AnyWorld};
+ghost use Rattle.interleave.specs.Shown.{Becomes, IsWorld, Refuses, Shows, is_scope, scope_id};
+ghost use Rattle.interleave.specs.World.{World as AnyWorld, root_scope as the_root_scope};
 ghost use Rattle.interleave.specs.Worlds.{outcome_of as outcome_in};
 ghost use Rattle.interleave.specs.declared.error.EventError.TheVariants.{NoMemory};
+ghost use Rattle.interleave.specs.declared.scope.Scope.{Scope as AnyScope};
 ghost use Rattle.types.specs.Contents.{shown as shown_in};
 ghost use Rattle.types.specs.Outcome.{outcome as one_thread};
 ghost use Rattle.types.specs.Translation.{array as array_of, outcome as outcome_of};
 ghost use Rattle.types.specs.Typed.{code_of};
+ghost use Rattle.types.specs.declared.outcome.Outcome.{Outcome as AnyOutcome};
 ghost use Rattle.own_run.specs.Given.{told_of};
 ghost use Rattle.own_run.specs.Translation.{contents_of, settled as settled_of};
 
 use crate::doing::Doing;
+use crate::ending::copies;
 use crate::error::EventError;
 use crate::job::Job;
-use crate::world::{World, root_path, root_scope};
+use crate::world::{World, root_path};
 use gather::settle::settle;
 use holdings::holdings::Holdings;
 use own_run::result::Settled;
@@ -24,42 +30,67 @@ use sections::id::ArrayId;
 use std::alloc::{AllocError, Global};
 use types::code::Array;
 use types::outcome::Outcome;
+use types::scope_id::ScopeId;
 
 impl<'p> World<'p> {
     /// What is told, once the root's scope has passed.
-    pub fn outcome(self) -> Result<Option<Outcome>, EventError>
-        requires { IsWorld self }
-        ensures told { IfOk result (λ o. (w : AnyWorld) → Shows self.entry w
-            → option_map outcome_of o
-            ≡ outcome_in (program_of self.entry.job) self.entry.job.w0
-            (budget_of self.entry.job) w) }
-        ensures one_thread { IfOk result (λ o. IfSome o (λ x. outcome_of x ≡ one_thread
-            (program_of self.entry.job) (lists_of self.entry.job) (budget_of self.entry.job))) }
+    pub fn outcome(&self) -> Option<&Outcome>
+        requires { IsWorld self.now }
+        ensures told { (w : AnyWorld) → Shows self.now w
+            → option_map (λ o. outcome_of o.now) result
+            ≡ outcome_in (program_of self.now.job) self.now.job.w0 (budget_of self.now.job) w }
+        ensures one_thread { IfSome result (λ x. outcome_of x.now ≡ one_thread
+            (program_of self.now.job) (lists_of self.now.job) (budget_of self.now.job)) }
+    {
+        match &self.told {
+            Some(told) => Some(told),
+            None => None,
+        }
+    }
+
+    /// The root's scope passes, with what is told then.
+    pub(crate) fn pass_root(&mut self, scope: &ScopeId) -> Result<(), EventError>
+        requires world { IsWorld self.old }
+        requires root { scope_id scope.now ≡ the_root_scope }
+        requires complete { (s : AnyScope) × (get is_scope self.old.scopes scope.now ≡ Some s)
+            × ((not s.passed && nat_eq s.issued s.returned) ≡ true) }
+        ensures passed { OnOk result (Becomes (IsPass (scope_id scope.now)) self.old self.new) }
+        ensures refused { IfErr result (Refuses (IsPass (scope_id scope.now)) self.old self.new) }
+        ensures job { self.new.job ≡ self.old.job }
+    {
+        let told = self.settled(scope)?;
+        self.mark_passed(scope);
+        self.told = Some(told);
+        Ok(())
+    }
+
+    /// What is told where the root's scope is about to pass. It is copies that settle.
+    fn settled(&self, scope: &ScopeId) -> Result<Outcome, EventError>
+        requires world { IsWorld self.now }
+        requires root { scope_id scope.now ≡ the_root_scope }
+        requires complete { (s : AnyScope) × (get is_scope self.now.scopes scope.now ≡ Some s)
+            × ((not s.passed && nat_eq s.issued s.returned) ≡ true) }
+        ensures told { IfOk result (λ x. outcome_of x ≡ one_thread (program_of self.now.job)
+            (lists_of self.now.job) (budget_of self.now.job)) }
         ensures refused { IfErr result (λ e. e ≡ NoMemory) }
     {
-        let World {
-            job,
-            mut tasks,
-            mut scopes,
-            ..
-        } = self;
-        let alloc = job.alloc;
-        let Some(scope) = scopes.remove(&root_scope(alloc)) else {
-            return Ok(None);
-        };
-        if !scope.passed {
-            return Ok(None);
-        }
-        let Some(task) = tasks.remove(&root_path(alloc)) else {
-            return Ok(None);
-        };
-        let (Doing::AtEnd(made), Some(results)) = (task.doing, scope.results) else {
+        let alloc = self.job.alloc;
+        let Some(book) = self.scopes.get(scope) else {
             return Err(EventError::NoMemory);
         };
+        let Some(task) = self.tasks.get(&root_path(alloc)) else {
+            return Err(EventError::NoMemory);
+        };
+        let (Doing::AtEnd(made), Some(results)) = (&task.doing, &book.results) else {
+            return Err(EventError::NoMemory);
+        };
+        let made = made.clone(alloc)?;
+        let results = copies(alloc, results)?;
         let Ok(settled) = settle(alloc, made, results) else {
             return Err(EventError::NoMemory);
         };
-        Ok(Some(told(job, settled)?))
+        let told = told(self.job, settled)?;
+        Ok(told)
     }
 }
 

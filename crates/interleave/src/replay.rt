@@ -11,7 +11,7 @@ use crate::job::Job;
 use crate::world::World;
 
 impl<'p> World<'p> {
-    /// What happens next. Where it isn't legal the world shows what it showed.
+    /// What happens next. After an error the world is as it was.
     pub fn event(&mut self, event: &Event) -> Result<(), EventError>
         requires { IsWorld self.old }
         ensures legal { OnOk result (Becomes (event_of event.now) self.old self.new) }

@@ -5,7 +5,7 @@ ghost use Rattle.std.specs.Prelude.{◌↔◌, IfErr, IsTrue, OnOk};
 ghost use Rattle.own_run.specs.Translation.{task_result};
 ghost use Rattle.interleave.specs.Events.{give_back, issue, may_issue, new_scope};
 ghost use Rattle.interleave.specs.World.{Scope as Book};
-ghost use Rattle.interleave.specs.Shown.{IsBookOf};
+ghost use Rattle.interleave.specs.Shown.{IsBookOf, ScopeStays};
 ghost use Rattle.interleave.specs.declared.error.EventError.TheVariants.{NoMemory};
 
 use crate::error::EventError;
@@ -65,13 +65,13 @@ impl Scope {
         self.returned += weight;
     }
 
-    /// Weight comes back, and a result with it. Where memory is wanting the result is lost.
+    /// Weight comes back, and a result with it.
     pub fn end(&mut self, weight: u64, made: TaskResult) -> Result<(), EventError>
         requires { self.old.returned + weight ≤ self.old.issued }
         ensures ended { OnOk result ((book : Book) → IsBookOf self.old book
             → IsBookOf self.new (give_back weight (task_result made ∷ []) book)) }
         ensures refused { IfErr result (λ e. (e ≡ NoMemory)
-            × ((book : Book) → IsBookOf self.old book → IsBookOf self.new book)) }
+            × ScopeStays self.old self.new) }
     {
         let Some(results) = &mut self.results else {
             return Err(EventError::NoMemory);

@@ -5,23 +5,24 @@ ghost use Rattle.interleave.specs.Shown.{whereabouts};
 ghost use Rattle.interleave.specs.World.{hand_of, in_queue};
 
 use crate::doing::Doing;
-use crate::event::ScopeId;
+use crate::worker_id::WorkerId;
 use std::collections::VecDeque;
+use types::scope_id::ScopeId;
 
 /// Where a task is.
 #[derive(Clone, Copy, PartialEq, Eq, Debug)]
 pub enum Whereabouts {
     /// In a worker's queue.
-    Queue(u32),
+    Queue(WorkerId),
     /// In a worker's hand.
-    Hand(u32),
+    Hand(WorkerId),
     /// At the end of a finish of its own.
     Parked,
 }
 
 impl Whereabouts {
     /// Whether it is in this worker's queue.
-    pub fn is_in_queue(self, worker: u32) -> bool
+    pub fn is_in_queue(self, worker: WorkerId) -> bool
         ensures { result ≡ in_queue (whereabouts self) worker }
     {
         match self {
@@ -30,8 +31,16 @@ impl Whereabouts {
         }
     }
 
+    /// The worker whose queue it is in.
+    pub fn queue(self) -> Option<WorkerId> {
+        match self {
+            Whereabouts::Queue(worker) => Some(worker),
+            Whereabouts::Hand(_) | Whereabouts::Parked => None,
+        }
+    }
+
     /// The worker whose hand it is in.
-    pub fn hand(self) -> Option<u32>
+    pub fn hand(self) -> Option<WorkerId>
         ensures { result ≡ hand_of (whereabouts self) }
     {
         match self {

@@ -15,6 +15,7 @@ use crate::error::EventError;
 use crate::event::Event;
 use crate::job::Job;
 use crate::task::{Stake, Whereabouts};
+use crate::worker_id::{MOST_WORKERS, WorkerId};
 use crate::world::{World, root_scope};
 use rand::rngs::SmallRng;
 use rand::{RngExt, SeedableRng};
@@ -46,9 +47,10 @@ impl Chance {
     }
 
     /// A worker.
-    fn worker(&mut self) -> u32 {
-        let workers = self.workers.max(1);
-        self.generator.random_range(0..workers)
+    fn worker(&mut self) -> WorkerId {
+        let workers = self.workers.clamp(1, MOST_WORKERS);
+        let number = self.generator.random_range(0..workers);
+        WorkerId::new(number).unwrap_or(WorkerId::first())
     }
 
     /// One of two sides of a coin.
@@ -58,7 +60,7 @@ impl Chance {
 }
 
 /// A walk of so many workers until the root's scope has passed, or of so many events; no worker
-/// counts as one. A generator picks live tasks and workers from a seed on, and what can happen to
+/// counts as one, and more than 64 as 64. A generator picks live tasks and workers from a seed on, and what can happen to
 /// these happens. It ends earlier only where a task wants weight from a scope that has issued 2^31
 /// times.
 pub fn random_walk<'p>(
@@ -153,23 +155,21 @@ impl<'p> Walk<'p> {
     }
 
     /// A task in a queue is stolen.
-    fn steal(&mut self, worker: u32, path: &Path) -> Result<bool, EventError>
+    fn steal(&mut self, worker: WorkerId, path: &Path) -> Result<bool, EventError>
         requires { IsWalk self.old }
         ensures happened { IfOk result (λ b. Happened b self.old self.new) }
         ensures refused { IfErr result (λ e. e ≡ NoMemory) }
     {
-        match self.place(path) {
-            Some(Whereabouts::Queue(from)) => {
-                let path = path.clone()?;
-                self.happens(Event::Steal { worker, from, path })
-            }
-            _ => Ok(false),
-        }
+        let Some(from) = self.queue(path) else {
+            return Ok(false);
+        };
+        let path = path.clone()?;
+        self.happens(Event::Steal { worker, from, path })
     }
 
-    /// Where a task is.
-    fn place(&self, path: &Path) -> Option<Whereabouts> {
-        Some(self.world.tasks.get(path)?.place)
+    /// The worker in whose queue a task is.
+    fn queue(&self, path: &Path) -> Option<WorkerId> {
+        self.world.tasks.get(path)?.place.queue()
     }
 
     /// An event of the first task that has one which is legal, and whether there was one.
@@ -181,7 +181,7 @@ impl<'p> Walk<'p> {
     {
         let paths = self.paths()?;
         'paths: for path in &paths {
-            if self.go_on(0, path)? {
+            if self.go_on(WorkerId::first(), path)? {
                 return Ok(true);
             }
         }
@@ -200,7 +200,7 @@ impl<'p> Walk<'p> {
     }
 
     /// What a task does, where that is legal: this worker may take it from where it is parked.
-    fn go_on(&mut self, worker: u32, path: &Path) -> Result<bool, EventError>
+    fn go_on(&mut self, worker: WorkerId, path: &Path) -> Result<bool, EventError>
         requires { IsWalk self.old }
         ensures happened { IfOk result (λ b. Happened b self.old self.new) }
         ensures idle { IfOk result (λ b. b ≡ false
@@ -212,7 +212,7 @@ impl<'p> Walk<'p> {
     }
 
     /// What a task may do, by where it is.
-    fn candidates(&self, worker: u32, path: &Path) -> Result<Vec<Event>, AllocError>
+    fn candidates(&self, worker: WorkerId, path: &Path) -> Result<Vec<Event>, AllocError>
         ensures { IfOk result (λ events. AreCandidates self.now.world worker path.now.turns.items
             (map event_of events.items)) }
     {
@@ -264,7 +264,7 @@ impl<'p> Walk<'p> {
 }
 
 /// What a task in a queue may do.
-fn in_queue(alloc: Global, owner: u32, path: &Path) -> Result<Vec<Event>, AllocError>
+fn in_queue(alloc: Global, owner: WorkerId, path: &Path) -> Result<Vec<Event>, AllocError>
     ensures { IfOk result (λ events. map event_of events.items
         ≡ IsTake owner path.now.turns.items ∷ []) }
 {
@@ -306,7 +306,7 @@ fn in_hand(alloc: Global, path: &Path) -> Result<Vec<Event>, AllocError>
 /// What may happen where a task is parked: its innermost scope passes, or the worker takes it.
 fn when_parked(
     alloc: Global,
-    worker: u32,
+    worker: WorkerId,
     path: &Path,
     stakes: &VecDeque<Stake>,
 ) -> Result<Vec<Event>, AllocError>

@@ -7,27 +7,30 @@ ghost use Rattle.std.specs.HashMap.{get};
 ghost use Rattle.types.specs.Contents.{FitsArrays};
 ghost use Rattle.types.specs.declared.path.Path.{Path as AnyPath};
 ghost use Rattle.interleave.specs.Events.{Pass as IsPass, Steal as IsSteal, Take as IsTake};
-ghost use Rattle.interleave.specs.Shown.{Becomes, Refuses, Shows, is_path, is_scope, scope_id};
+ghost use Rattle.interleave.specs.Shown.{Becomes, IsWorld, Refuses, Shows, is_path, is_scope};
+ghost use Rattle.interleave.specs.Shown.{scope_id};
 ghost use Rattle.interleave.specs.Shown.{whereabouts};
 ghost use Rattle.interleave.specs.World.{World as AnyWorld, book, has_passed, in_queue, weight_of};
 ghost use Rattle.interleave.specs.World.{root_scope as the_root_scope};
 ghost use Rattle.interleave.specs.Jobs.{program_of, lists_of, budget_of};
 ghost use Rattle.interleave.specs.Replay.{start_of as first_of};
 ghost use Rattle.interleave.specs.declared.error.EventError.TheVariants.{NoMemory};
-ghost use Rattle.interleave.specs.declared.event.ScopeId.{ScopeId as AnyScopeId};
+ghost use Rattle.types.specs.declared.scope_id.ScopeId.{ScopeId as AnyScopeId};
 ghost use Rattle.interleave.specs.declared.scope.Scope.{Scope as AnyScope};
 ghost use Rattle.interleave.specs.declared.task.Task.{Task as AnyTask};
 
 use crate::doing::Doing;
 use crate::error::EventError;
-use crate::event::ScopeId;
 use crate::job::Job;
 use crate::scope::Scope;
 use crate::task::{Stake, Task, Whereabouts};
+use crate::worker_id::WorkerId;
 use own_run::start::Start;
 use std::alloc::Global;
 use std::collections::{HashMap, HashSet, VecDeque};
+use types::outcome::Outcome;
 use types::path::Path;
+use types::scope_id::ScopeId;
 
 /// The live tasks by their paths and the scopes by their names.
 #[derive(Drop)]
@@ -36,7 +39,9 @@ pub struct World<'p> {
     pub tasks: HashMap<Path, Task<'p>>,
     pub scopes: HashMap<ScopeId, Scope>,
     /// The workers that have a task in their hands.
-    pub hands: HashSet<u32>,
+    pub hands: HashSet<WorkerId>,
+    /// What is told once the root's scope has passed.
+    pub told: Option<Outcome>,
 }
 
 impl<'p> World<'p> {
@@ -59,7 +64,7 @@ impl<'p> World<'p> {
             doing: Doing::Starts(root),
             opened: 0,
             stakes,
-            place: Whereabouts::Queue(0),
+            place: Whereabouts::Queue(WorkerId::first()),
         };
         let mut tasks = HashMap::new(job.alloc);
         tasks.insert(root_path(job.alloc), task)?;
@@ -70,11 +75,12 @@ impl<'p> World<'p> {
             tasks,
             scopes,
             hands: HashSet::new(job.alloc),
+            told: None,
         })
     }
 
     /// A worker takes a task from its queue into its hand.
-    pub fn take(&mut self, worker: u32, path: &Path) -> Result<(), EventError>
+    pub fn take(&mut self, worker: WorkerId, path: &Path) -> Result<(), EventError>
         ensures taken { OnOk result
             (Becomes (IsTake worker path.now.turns.items) self.old self.new) }
         ensures refused { IfErr result
@@ -90,7 +96,7 @@ impl<'p> World<'p> {
     }
 
     /// A worker takes a task from another's queue into its own.
-    pub fn steal(&mut self, worker: u32, from: u32, path: &Path) -> Result<(), EventError>
+    pub fn steal(&mut self, worker: WorkerId, from: WorkerId, path: &Path) -> Result<(), EventError>
         ensures stolen { OnOk result
             (Becomes (IsSteal worker from path.now.turns.items) self.old self.new) }
         ensures refused { IfErr result
@@ -104,14 +110,19 @@ impl<'p> World<'p> {
         Ok(())
     }
 
-    /// A scope passes, since all its weight came back.
+    /// A scope passes, since all its weight came back. Where it is the root's, what is told is known
+    /// from then on.
     pub fn pass(&mut self, scope: &ScopeId) -> Result<(), EventError>
+        requires { IsWorld self.old }
         ensures passed { OnOk result (Becomes (IsPass (scope_id scope.now)) self.old self.new) }
         ensures refused { IfErr result (Refuses (IsPass (scope_id scope.now)) self.old self.new) }
         ensures job { self.new.job ≡ self.old.job }
     {
         if !self.is_complete(scope) {
             return Err(EventError::Illegal);
+        }
+        if is_root_scope(scope) {
+            return self.pass_root(scope);
         }
         self.mark_passed(scope);
         Ok(())
@@ -148,7 +159,7 @@ impl<'p> World<'p> {
     }
 
     /// Whether a task lives and is in this worker's queue.
-    fn is_in_queue(&self, path: &Path, worker: u32) -> bool
+    fn is_in_queue(&self, path: &Path, worker: WorkerId) -> bool
         ensures there { OnTrue result ((k : AnyTask)
             × (get is_path self.now.tasks path.now ≡ Some k)
             × (in_queue (whereabouts k.place) worker ≡ true)) }
@@ -190,7 +201,7 @@ impl<'p> World<'p> {
     }
 
     /// A scope has passed.
-    fn mark_passed(&mut self, scope: &ScopeId)
+    pub(crate) fn mark_passed(&mut self, scope: &ScopeId)
         ensures others { self.new ≡ record self.old { scopes = self.new.scopes } }
         ensures marked { (s : AnyScope) → get is_scope self.old.scopes scope.now ≡ Some s
             → (q : AnyScopeId) → get is_scope self.new.scopes q
@@ -201,6 +212,14 @@ impl<'p> World<'p> {
             book.passed = true;
         }
     }
+}
+
+/// Whether it is the scope that `main` stands in.
+fn is_root_scope(scope: &ScopeId) -> bool
+    ensures root { OnTrue result (scope_id scope.now ≡ the_root_scope) }
+    ensures other { OnFalse result (scope_id scope.now ≡ the_root_scope → ⊥) }
+{
+    scope.owner.turns.is_empty() && scope.number == 0
 }
 
 /// The path of the root.

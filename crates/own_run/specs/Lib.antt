@@ -1,4 +1,5 @@
 pub mod Apart
+pub mod Copies
 pub mod Frames
 pub mod Given
 pub mod Holds

@@ -2,6 +2,7 @@
 
 #![tactic(auto)]
 
+mod copy;
 pub mod frame;
 pub mod laws;
 pub mod memory;

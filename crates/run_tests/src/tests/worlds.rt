@@ -1,10 +1,11 @@
 //! Worlds that lists of events lead to, and walks at random.
 
 use crate::tests::{FAULTS, TWO_ARRAYS, accepted, compare, one_thread_outcome, path};
-use interleave::event::{Event, ScopeId};
+use interleave::event::Event;
 use interleave::job::Job;
 use interleave::replay::replay;
 use interleave::walk::random_walk;
+use interleave::worker_id::WorkerId;
 use std::alloc::Global;
 use std::process::Abort;
 use std::test::Fail;
@@ -13,6 +14,7 @@ use types::budget::Budget;
 use types::input::Input;
 use types::outcome::Outcome;
 use types::path::Path;
+use types::scope_id::ScopeId;
 
 /// The turns of a task's path.
 type Turns = &'static [u32];
@@ -38,10 +40,17 @@ use Happens::{End, Open, Park, Pass, Replenish, Resume, Spawn, Steal, Step, Take
 type Of = (Happens, Turns);
 
 /// The event of what happens.
-fn event(happens: Happens, path: Path) -> Event {
+fn event(rt: &impl Abort, happens: Happens, path: Path) -> Event {
     match happens {
-        Take(worker) => Event::Take { worker, path },
-        Steal(worker, from) => Event::Steal { worker, from, path },
+        Take(number) => Event::Take {
+            worker: worker(rt, number),
+            path,
+        },
+        Steal(number, from) => Event::Steal {
+            worker: worker(rt, number),
+            from: worker(rt, from),
+            path,
+        },
         Step => Event::Step { path },
         Replenish => Event::Replenish { path },
         Spawn => Event::Spawn { path },
@@ -54,8 +63,16 @@ fn event(happens: Happens, path: Path) -> Event {
                 number,
             },
         },
-        Resume(worker) => Event::Resume { worker, path },
+        Resume(number) => Event::Resume {
+            worker: worker(rt, number),
+            path,
+        },
     }
+}
+
+/// A worker of a row.
+fn worker(rt: &impl Abort, number: u32) -> WorkerId {
+    WorkerId::new(number).expect(rt, "a worker")
 }
 
 /// The events of several pieces of a row.
@@ -63,7 +80,7 @@ fn events(rt: &impl Abort, alloc: Global, pieces: &[&[Of]]) -> Vec<Event> {
     let mut events = Vec::new(alloc);
     for piece in pieces {
         for (happens, turns) in *piece {
-            let event = event(*happens, path(rt, alloc, turns));
+            let event = event(rt, *happens, path(rt, alloc, turns));
             events.push(event).expect(rt, "memory");
         }
     }
@@ -218,8 +235,7 @@ fn told(rt: &(impl Abort + Threads + Sync), alloc: Global, row: Row) -> Result<S
         number: 1,
     };
     let (issued, returned) = world.book(&finish).expect(rt, "a finish");
-    let outcome = world.outcome().expect(rt, "memory");
-    let lines = match &outcome {
+    let lines = match world.outcome() {
         Some(Outcome::Ended { lines, .. }) => format!(in alloc; "{lines:?}")?,
         Some(Outcome::Stopped) => format!(in alloc; "stopped")?,
         None => format!(in alloc; "none")?,
@@ -279,8 +295,7 @@ fn walks_come_to_the_one_thread_outcome(rt: HostRuntime) {
             let job = Job::new(alloc, &program, &input, budget, u64::from(seed % 9 + 1));
             let job = job.expect(&rt, "a weight");
             let walk = random_walk(job, workers, u64::from(seed), 1_000_000).expect(&rt, "memory");
-            let outcome = walk.world.outcome().expect(&rt, "memory");
-            let outcome = outcome.expect(&rt, "an end");
+            let outcome = walk.world.outcome().expect(&rt, "an end");
             compare(
                 &rt,
                 alloc,

@@ -1,6 +1,8 @@
 use Rattle.std.proofs.Common.{◌≡◌, ◌+◌, ◌∙◌, ◌∷◌, List, refl, sym, ap, map}
+use Rattle.interleave.specs.Courses.{behind}
 use Rattle.interleave.specs.Shown.{scope_id, stake}
 use Rattle.interleave.specs.World.{ScopeId, Stake}
+use Rattle.interleave.specs.declared.task.Task.{Task}
 use Rattle.interleave.proofs.InHand.{copied}
 use Rattle.interleave.proofs.task.Task.open.Goals as goal
 
@@ -12,14 +14,15 @@ returns-clause-opened c =
     let number = c.in_ok-scope.ensures.cases.1 in
     let same : scope_id c.in_ok-scope.scope ≡ scope_id (record { owner = c.in_ok-owner.owner; number = c.args.self.now.opened + 1 })
     = λ t. record { owner = owner t; number = number t } in
+    let on = c.goes_on.ensures.now in
     record {
-      run = c.in-Opens-replace.run';
-      was = sym c.in-Opens-replace.ensures.value;
-      now = refl;
-      opened = refl;
-      place = refl;
+      run = c.in-Opens.field-0;
+      was = c.in-Opens.is;
+      now = ap (λ (k : Task). k.doing) on ∙ ap behind c.in-Opens.is;
+      opened = ap (λ (k : Task). k.opened) on;
+      place = ap (λ (k : Task). k.place) on;
       owner = copied c.args.path.now.turns.items c.in_ok-owner.owner.turns.items c.in_ok-owner.ensures.cases.0;
       number = refl;
-      stakes = ap (map stake) c.in_ok-push_front.ensures.items
+      stakes = ap (map stake) (ap (λ (k : Task). k.stakes.items) on ∙ c.in_ok-push_front.ensures.items)
           ∙ ap (λ (i : ScopeId). record { scope = i; weight = w0 } ∷ rest) same;
     }

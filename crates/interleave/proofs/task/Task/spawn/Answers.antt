@@ -1,5 +1,7 @@
-use Rattle.std.proofs.Common.{◌≡◌, ◌∙◌, refl, sym, ap, map}
+use Rattle.std.proofs.Common.{◌≡◌, ◌∙◌, refl, sym, ap, map, Some}
+use Rattle.std.proofs.lemmas.Option.{same_Some}
 use Rattle.own_run.specs.declared.start.Start.{Start}
+use Rattle.interleave.specs.Courses.{begun_by, behind}
 use Rattle.interleave.specs.Shown.{stake}
 use Rattle.interleave.specs.declared.doing.Doing.TheVariants.{Spawns}
 use Rattle.interleave.specs.declared.task.Task.{Task}
@@ -8,22 +10,22 @@ use Rattle.interleave.proofs.task.Task.spawn.Goals as goal
 pub returns-clause-spawned : goal.returns-clause-spawned
 returns-clause-spawned c =
     let s = c.in_ok-path.ensures.share in
-    let e : Spawns s.spawns.run s.spawns.start ≡ Spawns c.in-Spawns.run' c.in-Spawns.start
-    = sym s.spawns.is ∙ sym c.in-Spawns.ensures.value in
-    let same : s.spawns.start ≡ c.in-Spawns.start = cc e in
+    let start = c.in-Some.start in
+    let same : s.spawns.start ≡ start = same_Some _ _ (ap begun_by (sym s.spawns.is) ∙ sym c.goes_on.ensures.child ∙ c.in-Some.is) in
+    let now = c.goes_on.ensures.now in
     let others = c.halve.ensures.others in
     record {
-      run = c.in-Spawns.run';
-      start = c.in-Spawns.start;
-      was = sym c.in-Spawns.ensures.value;
-      now = ap (λ (k : Task). k.doing) others;
-      opened = ap (λ (k : Task). k.opened) others;
-      place = ap (λ (k : Task). k.place) others;
+      run = s.spawns.run;
+      start = start;
+      was = s.spawns.is ∙ ap (λ (x : Start). Spawns s.spawns.run x) same;
+      now = ap (λ (k : Task). k.doing) others ∙ ap (λ (k : Task). k.doing) now ∙ ap behind s.spawns.is;
+      opened = ap (λ (k : Task). k.opened) others ∙ ap (λ (k : Task). k.opened) now;
+      place = ap (λ (k : Task). k.place) others ∙ ap (λ (k : Task). k.place) now;
       inner = stake s.inner;
       outer = map stake s.outer;
       stakes = ap (map stake) s.are;
       two = s.two;
-      kept = ap (map stake) (c.halve.ensures.halved s.inner s.outer s.are);
+      kept = ap (map stake) (c.halve.ensures.halved s.inner s.outer (ap (λ (k : Task). k.stakes.items) now ∙ s.are));
       named = s.named ∙ ap (λ (x : Start). x.path.turns.items) same;
       begins = refl;
       opened_none = refl;

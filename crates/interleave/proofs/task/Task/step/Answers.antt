@@ -1,5 +1,13 @@
-use Rattle.std.proofs.Common.{refl, sym}
+use Rattle.std.proofs.Common.{◌∙◌, ap}
+use Rattle.interleave.specs.Courses.{behind}
+use Rattle.interleave.specs.declared.task.Task.{Task}
 use Rattle.interleave.proofs.task.Task.step.Goals as goal
 
-pub returns-in-Steps-clause-stepped : goal.returns-in-Steps-clause-stepped
-returns-in-Steps-clause-stepped c = record { run = c.in-Steps.run'; was = sym c.in-Steps.ensures.value; now = refl }
+pub returns-clause-stepped : goal.returns-clause-stepped
+returns-clause-stepped c =
+    let old : Task = c.args.self.now in
+    record {
+      run = c.in-Steps.field-0;
+      was = c.in-Steps.is;
+      now = c.goes_on.ensures.now ∙ ap (λ d. record old { doing = behind d }) c.in-Steps.is;
+    }

@@ -14,7 +14,8 @@ paths-preserved c =
     record {
       before = still_on _ _ _ i.before was;
       none = each_further c.args.self.now.world c.deref-path-items.result.now c.paths.path-index p c.paths-test.true c.path-item.is i.none
-          (idle_before _ _ i.before 0 p.turns.items (c.in_ok-go_on.ensures.idle c.if-branch.false));
+          (subst (λ v. IsIdle c.args.self.now.world v p.turns.items) c.first.ensures
+          (idle_before _ _ i.before c.first.result p.turns.items (c.in_ok-go_on.ensures.idle c.if-branch.false)));
     }
 
 pub returns-clause-stopped : goal.returns-clause-stopped

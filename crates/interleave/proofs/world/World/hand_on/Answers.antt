@@ -3,8 +3,8 @@ use Rattle.std.specs.Prelude.{if◌then◌else◌}
 use Rattle.std.proofs.lemmas.Result.{on_ok_weaker, IfErr-weaker}
 use Rattle.std.specs.HashMap.{get}
 use Rattle.own_run.specs.Translation.{task_result}
-use Rattle.interleave.specs.Ending.{GivesBack, IsStill}
-use Rattle.interleave.specs.Shown.{is_scope}
+use Rattle.interleave.specs.Ending.{GivesBack}
+use Rattle.interleave.specs.Shown.{ScopeStays, is_scope}
 use Rattle.interleave.specs.declared.scope.Scope.{Scope as rScope}
 use Rattle.interleave.specs.declared.task.Stake.{Stake as rStake}
 use Rattle.interleave.proofs.AtEnds.{found_here}
@@ -45,7 +45,7 @@ returns-clause-refused c =
           (sym c.in-Some.ensures.value) c.in-Some-front.ensures.lookup (sym c.in-Some-get_mut.ensures.value) in
           record {
             to = c.end.new.self;
-            fits = subst (λ b. IsStill b c.end.new.self) same.1 h.1;
+            fits = subst (λ b. ScopeStays b c.end.new.self) same.1 h.1;
             each = λ q.
                 ((c.get_mut.follows.holds c.end.new.self).3 (search rules)).0 q
                 ∙ ap (λ (s : rStake). if is_scope s.scope q then Some c.end.new.self else get is_scope c.args.self.now.scopes q) same.0;

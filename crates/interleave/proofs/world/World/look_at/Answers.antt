@@ -1,7 +1,8 @@
 use Rattle.std.proofs.Common.{refl, sym, ap}
 use Rattle.std.specs.Prelude.{is_some}
 use Rattle.interleave.specs.Shown.{IsTaskOf}
-use Rattle.interleave.proofs.InHand.{ready_by, shows_same}
+use Rattle.interleave.proofs.InHand.{ready_by}
+use Rattle.interleave.proofs.Staying.{stays_put}
 use Rattle.interleave.proofs.Tables.{there}
 use Rattle.interleave.proofs.world.World.look_at.Goals as goal
 
@@ -12,13 +13,12 @@ in_hand-requires-clause-task c =
     let t = there (IsTaskOf r.job) c.in-Some.task.now _ _ (c.requires.shows.tasks path) (sym c.in-Some.ensures.value) in
     (t.0, t.2)
 
-pub returns-in-Some-clause-shows : goal.returns-in-Some-clause-shows
-returns-in-Some-clause-shows c = λ w h.
+pub returns-in-Some-clause-stays : goal.returns-in-Some-clause-stays
+returns-in-Some-clause-stays c =
     let r = c.args.self.now in
     let new = c.in_hand.new.self in
-    shows_same r w h c.args.path.now c.in-Some.task.now new (sym c.in-Some.ensures.value) c.in_hand.ensures.same
-    (c.get_mut.follows.lender new) r.scopes
-    ((c.get_mut.follows.holds new).3 (ap is_some (sym c.in-Some.ensures.value))).0 (λ q. refl)
+    stays_put r c.args.path.now c.in-Some.task.now new (c.get_mut.follows.lender new) r.scopes (sym c.in-Some.ensures.value)
+    c.in_hand.ensures.stays ((c.get_mut.follows.holds new).3 (ap is_some (sym c.in-Some.ensures.value))).0 (λ q. refl)
 
 pub returns-in-Some-clause-ready : goal.returns-in-Some-clause-ready
 returns-in-Some-clause-ready c =

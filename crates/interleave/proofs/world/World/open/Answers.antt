@@ -4,7 +4,8 @@ use Rattle.interleave.specs.Events.{Opens}
 use Rattle.interleave.specs.Shown.{Refuses, is_scope}
 use Rattle.interleave.specs.declared.error.EventError.TheVariants.{NoMemory}
 use Rattle.interleave.specs.declared.world.World.{World as rWorld}
-use Rattle.interleave.proofs.InHand.{err_is, opened_few, opens, opens_not, shows_scopes}
+use Rattle.interleave.proofs.InHand.{err_is, opened_few, opens, opens_not}
+use Rattle.interleave.proofs.Staying.{stays_on, stays_scopes, stays_shown}
 use Rattle.interleave.proofs.world.World.open.Goals as goal
 
 pub returns-in_err-reserve-clause-refused : goal.returns-in_err-reserve-clause-refused
@@ -14,15 +15,15 @@ returns-in_err-reserve-clause-refused c =
     let next : rWorld = record mid { scopes = c.reserve.new.self } in
     err_is c.from_residual-in_err-reserve.result NoMemory (Refuses (Opens c.args.path.now.turns.items) old next)
     c.from_residual-in_err-reserve.ensures.1
-    (λ w h. shows_scopes mid w (c.look_at.ensures.shows w h) c.reserve.new.self c.reserve.ensures.entries.2)
+    (stays_on old mid next c.look_at.ensures.stays (stays_scopes mid c.reserve.new.self c.reserve.ensures.entries.2))
 
 pub open-requires : goal.open-requires
 open-requires c = λ r is.
     let old : rWorld = c.args.self.now in
     let mid : rWorld = c.look_at.new.self in
     let few = opened_few old mid c.args.path.now c.in_ok-look_at.field-0 c.in_ok-look_at.ensures.ready
-    (ap (λ (r : rWorld). r.job) c.look_at.ensures.others) c.look_at.ensures.shows c.in-Some.task.now
-    (sym c.in-Some.ensures.value) c.requires.world (c.look_at.ensures.shows c.requires.world c.requires.shows) r is in
+    (ap (λ (r : rWorld). r.job) c.look_at.ensures.others) c.look_at.ensures.stays c.in-Some.task.now
+    (sym c.in-Some.ensures.value) c.requires.world (stays_shown old mid c.look_at.ensures.stays c.requires.world c.requires.shows) r is in
     omega (arith, few)
 
 pub returns-in_err-scope-clause-refused : goal.returns-in_err-scope-clause-refused
@@ -35,7 +36,7 @@ returns-in_err-scope-clause-refused c =
     err_is c.from_residual-in_err-scope.result c.in_err-scope.field-0.0 (Refuses (Opens path.turns.items) old next)
     c.from_residual-in_err-scope.ensures.1
     (opens_not old mid path c.in_ok-look_at.field-0 c.in_ok-look_at.ensures.ready
-    (ap (λ (r : rWorld). r.job) c.look_at.ensures.others) c.look_at.ensures.shows c.in-Some.task.now
+    (ap (λ (r : rWorld). r.job) c.look_at.ensures.others) c.look_at.ensures.stays c.in-Some.task.now
     (sym c.in-Some.ensures.value) new c.in_err-scope.ensures.same next
     ((c.get_mut.follows.holds new).3 (ap is_some (sym c.in-Some.ensures.value))).0 c.reserve.ensures.entries.2
     c.in_err-scope.field-0.0 c.in_err-scope.ensures.other)
@@ -49,7 +50,7 @@ returns-clause-opened c =
     let book = c.new.result in
     let next : rWorld = record mid { tasks = c.get_mut.follows.lender new; scopes = c.insert.new.self } in
     opens old mid c.args.path.now c.in_ok-look_at.field-0 c.in_ok-look_at.ensures.ready
-    (ap (λ (r : rWorld). r.job) c.look_at.ensures.others) c.look_at.ensures.shows c.in-Some.task.now
+    (ap (λ (r : rWorld). r.job) c.look_at.ensures.others) c.look_at.ensures.stays c.in-Some.task.now
     (sym c.in-Some.ensures.value) new id c.in_ok-scope.ensures.opened book c.new.ensures next
     ((c.get_mut.follows.holds new).3 (ap is_some (sym c.in-Some.ensures.value))).0
     (λ q. c.in_ok-insert.ensures.updates.0 q ∙ ap (λ o. if is_scope id q then Some book else o) (c.reserve.ensures.entries.2 q))

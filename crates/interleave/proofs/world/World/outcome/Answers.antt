@@ -1,25 +1,11 @@
-use Rattle.std.proofs.Common.{◌∙◌, ap, sym, Some}
-use Rattle.interleave.proofs.Told.{gives_back, one_thread_so, told_so}
+use Rattle.interleave.proofs.Told.{told_is, told_not, told_there}
 use Rattle.interleave.proofs.world.World.outcome.Goals as goal
 
-pub settle-requires : goal.settle-requires
-settle-requires c =
-    gives_back c.args.self c.requires.job c.requires.world c.requires.shows c.root_scope.result c.root_scope.ensures c.in-Some.scope
-    (sym c.in-Some.ensures.value) c.if-not-scope.false c.root_path.result c.root_path.ensures c.in-Some-remove.task
-    (sym c.in-Some-remove.ensures.value) c.in-AtEnd-Some.made c.in-AtEnd-Some.is-0 c.in-AtEnd-Some.results c.in-AtEnd-Some.is-1
+pub returns-in-Some-clause-told : goal.returns-in-Some-clause-told
+returns-in-Some-clause-told c = λ w h. told_there c.args.self.now c.requires.job w h c.in-Some.told c.in-Some.is
 
-pub returns-clause-told : goal.returns-clause-told
-returns-clause-told c = λ w h.
-    ap Some c.in_ok-told.ensures.told
-    ∙ sym (told_so c.args.self c.requires.job w h c.root_scope.result c.root_scope.ensures c.in-Some.scope
-    (sym c.in-Some.ensures.value) c.if-not-scope.false c.root_path.result c.root_path.ensures c.in-Some-remove.task
-    (sym c.in-Some-remove.ensures.value) c.in-AtEnd-Some.made c.in-AtEnd-Some.is-0 c.in-AtEnd-Some.results c.in-AtEnd-Some.is-1
-    _ c.in-Ok.ensures.settled)
+pub returns-in-None-clause-told : goal.returns-in-None-clause-told
+returns-in-None-clause-told c = λ w h. told_not c.args.self.now c.requires.job w h c.in-None.is
 
-pub returns-clause-one_thread : goal.returns-clause-one_thread
-returns-clause-one_thread c =
-    c.in_ok-told.ensures.told
-    ∙ one_thread_so c.args.self c.requires.job c.requires.world c.requires.shows c.root_scope.result c.root_scope.ensures
-    c.in-Some.scope (sym c.in-Some.ensures.value) c.if-not-scope.false c.root_path.result c.root_path.ensures c.in-Some-remove.task
-    (sym c.in-Some-remove.ensures.value) c.in-AtEnd-Some.made c.in-AtEnd-Some.is-0 c.in-AtEnd-Some.results c.in-AtEnd-Some.is-1
-    _ c.in-Ok.ensures.settled
+pub returns-in-Some-clause-one_thread : goal.returns-in-Some-clause-one_thread
+returns-in-Some-clause-one_thread c = told_is c.args.self.now c.requires.job c.requires.world c.requires.shows c.in-Some.told c.in-Some.is

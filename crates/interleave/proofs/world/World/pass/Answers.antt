@@ -3,7 +3,8 @@ use Rattle.interleave.specs.Events.{Pass}
 use Rattle.interleave.specs.Shown.{Shows, next_world, scope_id}
 use Rattle.interleave.specs.World.{World}
 use Rattle.interleave.specs.declared.world.World.{World as rWorld}
-use Rattle.interleave.proofs.Moves.{passes}
+use Rattle.interleave.proofs.Moves.{passes_beside, passes_not}
+use Rattle.interleave.proofs.Staying.{stays_self}
 use Rattle.interleave.proofs.world.World.pass.Goals as goal
 
 pub returns-clause-passed : goal.returns-clause-passed
@@ -13,4 +14,5 @@ returns-clause-passed c = λ w h.
     let there = c.if-not-is_complete.ensures.there in
     subst (λ (r : rWorld). (next : World) × (next_world old.job (Pass (scope_id id)) w ≡ Some next) × Shows r next)
     (sym c.mark_passed.ensures.others)
-    (passes old w h id there.0 c.mark_passed.new.self.scopes there.1 there.2 (c.mark_passed.ensures.marked there.0 there.1))
+    (passes_beside old w h id there.0 there.1 there.2 c.mark_passed.new.self.scopes (c.mark_passed.ensures.marked there.0 there.1)
+    c.if-is_root_scope.ensures.other)

@@ -2,10 +2,21 @@ use Rattle.std.proofs.Common.{◌≤◌, ◌∙◌, sym, ap, subst, Some}
 use Rattle.std.specs.Prelude.{is_some, if◌then◌else◌}
 use Rattle.interleave.specs.Events.{Spawns}
 use Rattle.interleave.specs.Shown.{Refuses, is_path}
+use Rattle.interleave.specs.declared.error.EventError.TheVariants.{NoMemory}
 use Rattle.interleave.specs.declared.job.Job.{Job}
 use Rattle.interleave.specs.declared.world.World.{World as rWorld}
 use Rattle.interleave.proofs.InHand.{err_is, spawns, spawns_not}
+use Rattle.interleave.proofs.Staying.{stays_on, stays_tasks}
 use Rattle.interleave.proofs.world.World.spawn.Goals as goal
+
+pub returns-in_err-reserve-clause-refused : goal.returns-in_err-reserve-clause-refused
+returns-in_err-reserve-clause-refused c =
+    let old : rWorld = c.args.self.now in
+    let mid : rWorld = c.look_at.new.self in
+    let next : rWorld = record mid { tasks = c.reserve.new.self } in
+    err_is c.from_residual-in_err-reserve.result NoMemory (Refuses (Spawns c.args.path.now.turns.items) old next)
+    c.from_residual-in_err-reserve.ensures.1
+    (stays_on old mid next c.look_at.ensures.stays (stays_tasks mid c.reserve.new.self c.reserve.ensures.entries.2))
 
 pub returns-in_err-child-clause-refused : goal.returns-in_err-child-clause-refused
 returns-in_err-child-clause-refused c =
@@ -18,7 +29,7 @@ returns-in_err-child-clause-refused c =
     let job = ap (λ (r : rWorld). r.job) c.look_at.ensures.others in
     err_is c.from_residual-in_err-child.result c.in_err-child.field-0.0 (Refuses (Spawns path.turns.items) old next)
     c.from_residual-in_err-child.ensures.1
-    (spawns_not old mid path c.in_ok-worker.worker c.in_ok-worker.ensures.ready job c.look_at.ensures.shows
+    (spawns_not old mid path c.in_ok-worker.worker c.in_ok-worker.ensures.ready job c.look_at.ensures.stays
     (subst (λ (j : Job). 1 ≤ j.w0) (sym job) c.requires.job.least) k
     (sym (c.reserve.ensures.entries.2 path) ∙ sym c.in-Some.ensures.value) new c.in_err-child.ensures.same next
     (λ q. ((c.get_mut.follows.holds new).3 (ap is_some (sym c.in-Some.ensures.value))).0 q
@@ -36,7 +47,7 @@ returns-clause-spawned c =
     let called = c.in_ok-child.child in
     let next : rWorld = record mid { tasks = c.insert.new.self } in
     let job = ap (λ (r : rWorld). r.job) c.look_at.ensures.others in
-    spawns old mid path c.in_ok-worker.worker c.in_ok-worker.ensures.ready job c.look_at.ensures.shows
+    spawns old mid path c.in_ok-worker.worker c.in_ok-worker.ensures.ready job c.look_at.ensures.stays
     (subst (λ (j : Job). 1 ≤ j.w0) (sym job) c.requires.job.least) k
     (sym (c.reserve.ensures.entries.2 path) ∙ sym c.in-Some.ensures.value) new child called c.in_ok-child.ensures.spawned next
     (λ q. c.in_ok-insert.ensures.updates.0 q

@@ -1,4 +1,4 @@
-use Rattle.std.proofs.Common.{◌∙◌, ap, ◌∷◌, Some}
+use Rattle.std.proofs.Common.{◌∙◌, ap, refl, ◌∷◌, None, Some}
 use Rattle.std.specs.List.{list_any}
 use Rattle.std.specs.Map.{lookup}
 use Rattle.std.specs.Prelude.{map, nat_eq, if◌then◌else◌}
@@ -22,7 +22,7 @@ returns-clause-shows c =
     let w0 = c.args.job.w0 in
     let path = c.root_path.result in
     let id = c.root_scope.result in
-    let r : rWorld = record { job = c.args.job; tasks = c.insert.new.self; scopes = c.insert-2.new.self; hands = c.new-2.result } in
+    let r : rWorld = record { job = c.args.job; tasks = c.insert.new.self; scopes = c.insert-2.new.self; hands = c.new-2.result; told = None } in
     let root = c.in_ok-root.root in
     let job = c.args.job in
     let lists = lists_of job in
@@ -30,8 +30,8 @@ returns-clause-shows c =
     = c.in_ok-root.ensures
     ∙ ap (λ (t : Typed). root_of (code_of t) lists (budget_from c.plan.result.budget)) c.typed.ensures.field
     ∙ ap (λ (b : Budget). root_of (program_of job) lists (budget_from b)) c.plan.ensures.budget in
-    let k : rTask = record { doing = Starts root; opened = 0; stakes = c.push_front.new.self; place = rQueue 0 } in
-    shows_start r root same c.push_front.new.self c.new.result path id c.root_path.ensures c.root_scope.ensures
+    let k : rTask = record { doing = Starts root; opened = 0; stakes = c.push_front.new.self; place = rQueue c.first.result } in
+    shows_start r root same c.push_front.new.self c.new.result path id c.first.result c.first.ensures c.root_path.ensures c.root_scope.ensures
     (ap (map stake) c.in_ok-push_front.ensures.items
     ∙ ap (λ (i : ScopeId). record { scope = i; weight = w0 } ∷ map stake c.new-stakes.result.items) c.root_scope-scope.ensures
     ∙ ap (λ ss. record { scope = root_scope; weight = w0 } ∷ map stake ss) c.new-stakes.ensures.items)
@@ -39,4 +39,4 @@ returns-clause-shows c =
     ∙ ap (λ es. if is_path path q then Some k else lookup (is_path q) es) c.new-tasks.ensures.empty)
     (λ q. c.in_ok-insert-2.ensures.updates.0 q
     ∙ ap (λ es. if is_scope id q then Some c.new.result else lookup (is_scope q) es) c.new-scopes.ensures.empty)
-    (λ v. ap (λ ks. list_any (nat_eq v) ks) c.new-2.ensures.empty) (c.new.ensures root_scope)
+    (λ v. ap (λ ks. list_any (nat_eq v) ks) c.new-2.ensures.empty) (c.new.ensures root_scope) refl

@@ -1,4 +1,5 @@
-use Rattle.std.proofs.Common.{◌≡◌, refl, sym, subst, Some}
+use Rattle.std.proofs.lemmas.Bool.{eqb-false}
+use Rattle.std.proofs.Common.{◌≡◌, ◌∙◌, refl, sym, subst, Some}
 use Rattle.interleave.specs.Events.{Steal}
 use Rattle.interleave.specs.Shown.{Shows, next_world}
 use Rattle.interleave.specs.World.{World}
@@ -18,4 +19,4 @@ returns-clause-stolen c = λ w h.
     subst (λ (r : rWorld). (next : World) × (next_world old.job (Steal worker from path.turns.items) w ≡ Some next) × Shows r next)
     (sym c.move_to.ensures.others)
     (stolen old w h path from there.0 there.1 there.2 (Queue worker) new (c.move_to.ensures.moved there.0 there.1) worker refl
-    c.if-from-worker.false refl)
+    (eqb-false from worker (sym c.eq.ensures ∙ c.if-eq.false)) refl)

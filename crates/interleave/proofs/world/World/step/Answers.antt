@@ -8,7 +8,7 @@ pub returns-in-Some-clause-stepped : goal.returns-in-Some-clause-stepped
 returns-in-Some-clause-stepped c =
     let new = c.step.new.self in
     steps c.args.self.now c.look_at.new.self c.args.path.now c.in_ok-look_at.field-0 c.in_ok-look_at.ensures.ready
-    (ap (λ (r : rWorld). r.job) c.look_at.ensures.others) c.look_at.ensures.shows
+    (ap (λ (r : rWorld). r.job) c.look_at.ensures.others) c.look_at.ensures.stays
     c.in-Some.task.now new (sym c.in-Some.ensures.value) (record c.look_at.new.self { tasks = c.get_mut.follows.lender new })
     ((c.get_mut.follows.holds new).3 (ap is_some (sym c.in-Some.ensures.value))).0 c.step.result c.step.ensures.stepped
 
@@ -16,7 +16,7 @@ pub returns-in-Some-clause-refused : goal.returns-in-Some-clause-refused
 returns-in-Some-clause-refused c =
     let new = c.step.new.self in
     steps_not c.args.self.now c.look_at.new.self c.args.path.now c.in_ok-look_at.field-0 c.in_ok-look_at.ensures.ready
-    (ap (λ (r : rWorld). r.job) c.look_at.ensures.others) c.look_at.ensures.shows
+    (ap (λ (r : rWorld). r.job) c.look_at.ensures.others) c.look_at.ensures.stays
     c.in-Some.task.now new (sym c.in-Some.ensures.value) (record c.look_at.new.self { tasks = c.get_mut.follows.lender new })
     ((c.get_mut.follows.holds new).3 (ap is_some (sym c.in-Some.ensures.value))).0 c.step.result
     c.step.ensures.same c.step.ensures.refused c.step.ensures.other

@@ -1,0 +1,21 @@
+use Rattle.std.proofs.Common.{◌∙◌, ap, rules, sym, None, Some}
+use Rattle.std.specs.Prelude.{if◌then◌else◌}
+use Rattle.std.specs.HashMap.{get}
+use Rattle.interleave.specs.Shown.{is_scope}
+use Rattle.interleave.specs.declared.scope.Scope.{Scope as rScope}
+use Rattle.interleave.specs.declared.task.Stake.{Stake as rStake}
+use Rattle.interleave.proofs.AtEnds.{found_here}
+use Rattle.interleave.proofs.world.World.drop_results.Goals as goal
+
+pub returns-clause-taken : goal.returns-clause-taken
+returns-clause-taken c = λ a.
+    let same = found_here c.args.self.now c.args.path.now a c.in-Some.task.now c.in-Some-front.stake.now c.in-Some-get_mut.scope.now
+    (sym c.in-Some.ensures.value) c.in-Some-front.ensures.lookup (sym c.in-Some-get_mut.ensures.value) in
+    let to : rScope = record c.in-Some-get_mut.scope.now { results = None } in
+    record {
+      to = to;
+      fits = ap (λ (b : rScope). record b { results = None }) same.1;
+      each = λ q.
+          ((c.get_mut.follows.holds to).3 (search rules)).0 q
+          ∙ ap (λ (s : rStake). if is_scope s.scope q then Some to else get is_scope c.args.self.now.scopes q) same.0;
+    }

@@ -1,0 +1,51 @@
+//! The names of workers.
+
+ghost use Rattle.std.specs.Prelude.{◌≡◌, ◌<◌, ◌≤◌, ℕ, MatchOption};
+
+use std::marker::Model;
+
+/// How many workers there are, at most.
+pub const MOST_WORKERS: u32 = 64;
+
+/// A worker's number, from 0 to 63.
+#[derive(Clone, Copy, PartialEq, Eq, Hash, Debug)]
+pub struct WorkerId {
+    number: u32,
+}
+
+impl Model for WorkerId {
+    ghost Value = { ℕ };
+
+    ghost view = { λ w. w.number };
+
+    ghost inverse = { λ n. record { number = n } };
+
+    ghost invariant = { λ w. w.number < 64 };
+}
+
+impl WorkerId {
+    /// The worker of this number, where it is below 64: none of 64.
+    pub fn new(number: u32) -> Option<WorkerId>
+        ensures { MatchOption result (64 ≤ number) (λ w. (number < 64) × (w ≡ number)) }
+    {
+        if number >= MOST_WORKERS {
+            return None;
+        }
+        Some(WorkerId { number })
+    }
+
+    /// The worker in whose queue the root begins.
+    pub fn first() -> WorkerId
+        ensures { result ≡ 0 }
+    {
+        WorkerId { number: 0 }
+    }
+
+    /// Its number.
+    pub fn number(self) -> u32
+        ensures same { result ≡ self }
+        ensures few { result < 64 }
+    {
+        self.number
+    }
+}

@@ -1,0 +1,23 @@
+-- A run a second time: in memory of its own, it stands for the same.
+use Rattle.std.specs.Prelude.{◌≡◌, List}
+use Rattle.types.specs.Run.{State}
+use Rattle.own_run.specs.Frames.{Frame}
+use Rattle.own_run.specs.OwnRun.{Own}
+use Rattle.own_run.specs.RunTurns.{Waits}
+use Rattle.own_run.specs.Standings.{Shows, state_of}
+use Rattle.own_run.specs.declared.run.Run.{Run}
+use Rattle.own_run.specs.declared.turn.Paused.{Paused}
+
+-- it stands where the other does, and knows what that knows
+pub record IsCopy (old new : Run) : Type 0 where
+  pub plan : new.plan ≡ old.plan
+  pub nest : new.thread.nest ≡ old.thread.nest
+  pub state : state_of new.thread ≡ state_of old.thread
+  pub shows : (fs : List (Frame Own)) (x : Own) → Shows old fs x → Shows new fs x
+
+-- it waits where the other does
+pub record IsPausedCopy (old new : Paused) : Type 0 where
+  pub plan : new.plan ≡ old.plan
+  pub nest : new.nest ≡ old.nest
+  pub waits : (fs : List (Frame Own)) (before st : State Own) → Waits old fs before st
+      → Waits new fs before st

@@ -1,0 +1,218 @@
+//! Runs and results a second time, in memory of their own.
+
+ghost use Rattle.std.specs.Prelude.{◌≡◌, IfOk, List, map};
+ghost use Rattle.types.specs.Run.{State};
+ghost use Rattle.types.specs.Translation.{fault as fault_of};
+ghost use Rattle.own_run.specs.Copies.{IsCopy, IsPausedCopy};
+ghost use Rattle.own_run.specs.Frames.{Frame as AnyFrame};
+ghost use Rattle.own_run.specs.OwnRun.{Own};
+ghost use Rattle.own_run.specs.Standings.{IsEnd, ShowsFrame, Stacked, state_of};
+ghost use Rattle.own_run.specs.Translation.{contents_of, listed, owned_by, start as start_of, task_result};
+
+use crate::frame::{Frame, Outer};
+use crate::memory::TaskMemory;
+use crate::result::{Listed, TaskResult};
+use crate::run::Run;
+use crate::start::Start;
+use crate::turn::Paused;
+use serial_run::thread::Thread;
+use std::alloc::{AllocError, Global};
+use types::fault::Fault;
+use types::path::Path;
+
+impl<'p> Run<'p> {
+    /// An equal run: whatever this one stands for, that does.
+    pub fn clone(&self) -> Result<Run<'p>, AllocError>
+        ensures { IfOk result (IsCopy self.now) }
+    {
+        let alloc = self.plan.alloc;
+        Ok(Run {
+            plan: self.plan,
+            thread: thread(alloc, &self.thread)?,
+            frames: frames(alloc, &self.frames)?,
+            pending: children(alloc, &self.pending)?,
+        })
+    }
+}
+
+impl<'p> Paused<'p> {
+    /// One that waits as this one does.
+    pub fn clone(&self) -> Result<Paused<'p>, AllocError>
+        ensures { IfOk result (IsPausedCopy self.now) }
+    {
+        let alloc = self.plan.alloc;
+        Ok(Paused {
+            plan: self.plan,
+            path: path(alloc, &self.path)?,
+            spawned: self.spawned,
+            environment: self.environment.copied(alloc)?,
+            steps: self.steps,
+            nest: self.nest,
+            spare: Vec::new(alloc),
+            frames: frames(alloc, &self.frames)?,
+            outer: self.outer.clone(alloc)?,
+        })
+    }
+}
+
+impl<'p> Start<'p> {
+    /// An equal start.
+    pub fn clone(&self, alloc: Global) -> Result<Start<'p>, AllocError>
+        ensures { IfOk result (λ s. start_of s ≡ start_of self.now) }
+    {
+        Ok(Start {
+            body: self.body,
+            environment: self.environment.copied(alloc)?,
+            holdings: self.holdings.clone(alloc)?,
+            nest: self.nest,
+            path: path(alloc, &self.path)?,
+        })
+    }
+}
+
+impl TaskResult {
+    /// An equal result.
+    pub fn clone(&self, alloc: Global) -> Result<TaskResult, AllocError>
+        ensures { IfOk result (λ r. task_result r ≡ task_result self.now) }
+    {
+        Ok(TaskResult {
+            path: path(alloc, &self.path)?,
+            stopped: self.stopped,
+            holdings: self.holdings.clone(alloc)?,
+            lines: lines(alloc, &self.lines)?,
+            faults: faults(alloc, &self.faults)?,
+            children: children(alloc, &self.children)?,
+        })
+    }
+}
+
+impl Listed {
+    /// The same again.
+    fn clone(&self, alloc: Global) -> Result<Listed, AllocError>
+        ensures { IfOk result (λ c. listed c ≡ listed self.now) }
+    {
+        Ok(Listed {
+            path: path(alloc, &self.path)?,
+            windows: Vec::from_slice(alloc, &self.windows)?,
+            lines: lines(alloc, &self.lines)?,
+            faults: faults(alloc, &self.faults)?,
+        })
+    }
+}
+
+impl<'p> Frame<'p> {
+    /// An equal frame.
+    fn clone(&self, alloc: Global) -> Result<Frame<'p>, AllocError>
+        ensures { IfOk result (λ g. (f : AnyFrame Own) → ShowsFrame self.now f → ShowsFrame g f) }
+    {
+        match self {
+            Frame::Rest(block) => Ok(Frame::Rest(*block)),
+            Frame::Again { label, guard, body } => Ok(Frame::Again {
+                label: *label,
+                guard: *guard,
+                body: *body,
+            }),
+            Frame::EndFinish(outer) => Ok(Frame::EndFinish(outer.clone(alloc)?)),
+            Frame::EndCall { environment } => {
+                let environment = environment.copied(alloc)?;
+                Ok(Frame::EndCall { environment })
+            }
+        }
+    }
+}
+
+impl Outer {
+    /// The same again.
+    fn clone(&self, alloc: Global) -> Result<Outer, AllocError>
+        ensures { IfOk result (λ o. (before : State Own) → IsEnd self.now before → IsEnd o before) }
+    {
+        Ok(Outer {
+            lines: lines(alloc, &self.lines)?,
+            faults: faults(alloc, &self.faults)?,
+            pending: children(alloc, &self.pending)?,
+        })
+    }
+}
+
+/// Where a run stands. Room for environments of calls is not copied.
+fn thread(alloc: Global, thread: &Thread<TaskMemory>) -> Result<Thread<TaskMemory>, AllocError>
+    ensures state { IfOk result (λ t. state_of t ≡ state_of thread.now) }
+    ensures owned { IfOk result (λ t. owned_by t.store.holdings
+        ≡ owned_by thread.now.store.holdings) }
+    ensures nest { IfOk result (λ t. t.nest ≡ thread.now.nest) }
+{
+    let holdings = thread.store.holdings.clone(alloc)?;
+    Ok(Thread {
+        flow: thread.flow,
+        store: TaskMemory { holdings },
+        lines: lines(alloc, &thread.lines)?,
+        faults: faults(alloc, &thread.faults)?,
+        path: path(alloc, &thread.path)?,
+        spawned: thread.spawned,
+        environment: thread.environment.copied(alloc)?,
+        steps: thread.steps,
+        nest: thread.nest,
+        spare: Vec::new(alloc),
+    })
+}
+
+/// Frames, in their order.
+fn frames<'p>(alloc: Global, frames: &[Frame<'p>]) -> Result<Vec<Frame<'p>>, AllocError>
+    ensures { IfOk result (λ v. (fs : List (AnyFrame Own)) → Stacked frames.now fs
+        → Stacked v.items fs) }
+{
+    let mut copies = Vec::new(alloc);
+    for frame in frames {
+        let copy = frame.clone(alloc)?;
+        copies.push(copy)?;
+    }
+    Ok(copies)
+}
+
+/// What is known of tasks that were begun.
+fn children(alloc: Global, children: &[Listed]) -> Result<Vec<Listed>, AllocError>
+    ensures { IfOk result (λ v. map listed v.items ≡ map listed children.now) }
+{
+    let mut copies = Vec::new(alloc);
+    for child in children {
+        let copy = child.clone(alloc)?;
+        copies.push(copy)?;
+    }
+    Ok(copies)
+}
+
+/// What was printed.
+fn lines(alloc: Global, lines: &[Vec<i64>]) -> Result<Vec<Vec<i64>>, AllocError>
+    ensures { IfOk result (λ v. map (λ l. l.items) v.items ≡ map (λ l. l.items) lines.now) }
+{
+    let mut copies = Vec::new(alloc);
+    for line in lines {
+        let copy = Vec::from_slice(alloc, line)?;
+        copies.push(copy)?;
+    }
+    Ok(copies)
+}
+
+/// What went wrong.
+fn faults(alloc: Global, faults: &[Fault]) -> Result<Vec<Fault>, AllocError>
+    ensures { IfOk result (λ v. map fault_of v.items ≡ map fault_of faults.now) }
+{
+    let mut copies = Vec::new(alloc);
+    for fault in faults {
+        let path = path(alloc, &fault.path)?;
+        copies.push(Fault {
+            path,
+            label: fault.label,
+            kind: fault.kind,
+        })?;
+    }
+    Ok(copies)
+}
+
+/// A task's name.
+fn path(alloc: Global, path: &Path) -> Result<Path, AllocError>
+    ensures { IfOk result (λ p. p.turns.items ≡ path.now.turns.items) }
+{
+    let turns = Vec::from_slice(alloc, &path.turns)?;
+    Ok(Path { turns })
+}
