@@ -8,7 +8,7 @@ use Rattle.interleave.specs.Shown.{Becomes, Refuses, Shows, next_world}
 use Rattle.interleave.specs.World.{World}
 use Rattle.interleave.specs.declared.error.EventError.{EventError}
 use Rattle.interleave.specs.declared.error.EventError.TheVariants.{Illegal}
-use Rattle.interleave.specs.declared.event.Event.{Event as rEvent}
+use Rattle.events.specs.declared.event.Event.{Event as rEvent}
 use Rattle.interleave.specs.declared.job.Job.{Job}
 use Rattle.interleave.specs.declared.world.World.{World as rWorld}
 

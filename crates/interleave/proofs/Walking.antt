@@ -21,7 +21,7 @@ use Rattle.interleave.specs.World.{Live, World, has_passed, root_scope, task}
 use Rattle.interleave.specs.Worlds.{IsSpent, LeadsTo}
 use Rattle.interleave.specs.declared.error.EventError.{EventError}
 use Rattle.interleave.specs.declared.error.EventError.TheVariants.{Illegal}
-use Rattle.interleave.specs.declared.event.Event.{Event as rEvent}
+use Rattle.events.specs.declared.event.Event.{Event as rEvent}
 use Rattle.interleave.specs.declared.job.Job.{Job}
 use Rattle.interleave.specs.declared.walk.Walk.{Walk}
 use Rattle.interleave.specs.declared.world.World.{World as rWorld}

@@ -10,14 +10,14 @@ use Rattle.interleave.specs.Worlds.{replayed}
 use Rattle.interleave.specs.declared.error.ReplayError.{ReplayError}
 use Rattle.interleave.specs.declared.error.ReplayError.TheVariants.{IllegalAt as rIllegalAt}
 use Rattle.interleave.specs.declared.error.ReplayError.TheVariants.{NoMemory}
-use Rattle.interleave.specs.declared.event.Event.{Event as rEvent}
-use Rattle.interleave.specs.declared.event.Event.TheVariants.{Take as rTake, Steal as rSteal}
-use Rattle.interleave.specs.declared.event.Event.TheVariants.{Step as rStep}
-use Rattle.interleave.specs.declared.event.Event.TheVariants.{Replenish as rReplenish}
-use Rattle.interleave.specs.declared.event.Event.TheVariants.{Spawn as rSpawn}
-use Rattle.interleave.specs.declared.event.Event.TheVariants.{Open as rOpen, Park as rPark}
-use Rattle.interleave.specs.declared.event.Event.TheVariants.{End as rEnd}
-use Rattle.interleave.specs.declared.event.Event.TheVariants.{Pass as rPass, Resume as rResume}
+use Rattle.events.specs.declared.event.Event.{Event as rEvent}
+use Rattle.events.specs.declared.event.Event.TheVariants.{Take as rTake, Steal as rSteal}
+use Rattle.events.specs.declared.event.Event.TheVariants.{Step as rStep}
+use Rattle.events.specs.declared.event.Event.TheVariants.{Replenish as rReplenish}
+use Rattle.events.specs.declared.event.Event.TheVariants.{Spawn as rSpawn}
+use Rattle.events.specs.declared.event.Event.TheVariants.{Open as rOpen, Park as rPark}
+use Rattle.events.specs.declared.event.Event.TheVariants.{End as rEnd}
+use Rattle.events.specs.declared.event.Event.TheVariants.{Pass as rPass, Resume as rResume}
 use Rattle.interleave.specs.declared.job.Job.{Job}
 use Rattle.interleave.specs.declared.world.World.{World as rWorld}
 

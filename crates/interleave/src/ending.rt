@@ -21,7 +21,7 @@ ghost use Rattle.interleave.specs.declared.task.Task.{Task as AnyTask};
 use crate::doing::Doing;
 use crate::error::EventError;
 use crate::task::{Task, Whereabouts};
-use crate::worker_id::WorkerId;
+use events::worker_id::WorkerId;
 use crate::world::World;
 use gather::settle::settle;
 use own_run::result::TaskResult;

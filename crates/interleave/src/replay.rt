@@ -6,7 +6,7 @@ ghost use Rattle.interleave.specs.Replaying.{IsRefused, IsReplayed, event as eve
 ghost use Rattle.interleave.specs.Shown.{Becomes, IsWorld, Refuses};
 
 use crate::error::{EventError, ReplayError};
-use crate::event::Event;
+use events::event::Event;
 use crate::job::Job;
 use crate::world::World;
 

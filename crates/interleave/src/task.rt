@@ -5,7 +5,7 @@ ghost use Rattle.interleave.specs.Shown.{whereabouts};
 ghost use Rattle.interleave.specs.World.{hand_of, in_queue};
 
 use crate::doing::Doing;
-use crate::worker_id::WorkerId;
+use events::worker_id::WorkerId;
 use std::collections::VecDeque;
 use types::scope_id::ScopeId;
 

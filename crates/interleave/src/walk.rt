@@ -12,10 +12,10 @@ ghost use Rattle.interleave.specs.Walks.{IsIdle, IsIllegal, IsOver, IsWalk, Went
 ghost use Rattle.interleave.specs.declared.error.EventError.TheVariants.{NoMemory};
 
 use crate::error::EventError;
-use crate::event::Event;
+use events::event::Event;
 use crate::job::Job;
 use crate::task::{Stake, Whereabouts};
-use crate::worker_id::{MOST_WORKERS, WorkerId};
+use events::worker_id::{MOST_WORKERS, WorkerId};
 use crate::world::{World, root_scope};
 use rand::rngs::SmallRng;
 use rand::{RngExt, SeedableRng};

@@ -24,7 +24,7 @@ use crate::error::EventError;
 use crate::job::Job;
 use crate::scope::Scope;
 use crate::task::{Stake, Task, Whereabouts};
-use crate::worker_id::WorkerId;
+use events::worker_id::WorkerId;
 use own_run::start::Start;
 use std::alloc::Global;
 use std::collections::{HashMap, HashSet, VecDeque};

@@ -115,6 +115,17 @@ impl<'p> Task<'p> {
         &run.thread.path
     }
 
+    /// How many steps it may still do.
+    pub fn steps(&self) -> u32
+        requires task { IsTask self.now }
+        ensures { IfSome self.now.body.value.run (λ r. result ≡ r.thread.steps) }
+    {
+        let Some(run) = &self.body.run else {
+            unreachable!()
+        };
+        run.thread.steps
+    }
+
     /// The innermost scope in which it stands.
     pub fn scope(&self) -> ScopeMark
         ensures { result ≡ self.now.body.value.scope }

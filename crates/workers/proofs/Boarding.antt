@@ -36,6 +36,7 @@ use Rattle.crossbeam_deque.proofs.handles.Worker.TheSendSync as OfWorker
 use Rattle.crossbeam_deque.proofs.handles.Stealer.TheSendSync as OfStealer
 use Rattle.finish_scope.proofs.resting.Place.TheSendSync as OfPlace
 use Rattle.workers.proofs.hall.Bed.TheSendSync as OfBed
+use Rattle.workers.proofs.journal.Journal.TheSendSync as OfJournal
 use Rattle.workers.proofs.kit.Desk.TheSendSync as OfDesk
 use Rattle.workers.proofs.settings.Settings.TheSendSync as OfSettings
 use Rattle.tickets.proofs.word.Tickets.TheSendSync as OfTickets
@@ -50,7 +51,7 @@ module _ (κ : NamedLft) (J : RattleType) (gh : Ghosts J.Denot) where
   scope_field = as_row_send (Arc.the_field (Mutex.the_row (Inner.the_row κ J gh)) Heap.the_row ghosts) (scope_send κ J gh)
 
   ready_send : IsSend (Ready.the_row κ J gh)
-  ready_send = view_send (InReady.the_row κ J gh) _ _ _ _ (declared_send (InReady.the_type κ J gh) (child_send κ, (scope_field, (OfPlace.the_send, tt))))
+  ready_send = view_send (InReady.the_row κ J gh) _ _ _ _ (declared_send (InReady.the_type κ J gh) (child_send κ, (scope_field, (OfPlace.the_send, (search (sendable, crosses) depth 30 fits 5000, tt)))))
 
   post_send : IsSend (Post.the_row κ J gh)
   post_send =
@@ -114,7 +115,7 @@ module _ (κ : NamedLft) (J : RattleType) (gh : Ghosts J.Denot) where
             search (sendable, crosses) depth 30 fits 5000,
             (
               OfTickets.the_sync,
-              (hall_sync, tt),
+              (hall_sync, (OfJournal.the_sync, tt)),
             ),
           ),
         ),

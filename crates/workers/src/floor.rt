@@ -12,6 +12,7 @@ ghost use Rattle.workers.specs.Desks.{HasSeat, Tells};
 use crate::error::{RunError, Trouble};
 use crate::gate::Gate;
 use crate::hall::Hall;
+use crate::journal::{Clerk, Journal};
 use crate::kit::{Desk, Kit, Report};
 use crate::passing::pass;
 use crate::post::{Next, Post};
@@ -24,15 +25,18 @@ use finish_scope::inner::Inner;
 use finish_scope::resting::{Passing, Resting};
 use finish_scope::running::Running;
 use own_run::result::TaskResult;
+use std::alloc::AllocError;
 use std::sync::{Arc, Mutex, Wait};
 use std::thread;
 use task_machine::error::NoMemory;
 use task_machine::finish::{Ending, Entering, Parked};
 use task_machine::job::Job;
+use task_machine::stake::ScopeMark;
 use task_machine::task::{Child, Task};
 use task_machine::turn::{TaskResult as Ended, Turn};
 use tickets::Tickets;
 use types::outcome::Outcome;
+use types::path::Path;
 
 /// How often a worker looks for a task before it rests.
 const LOOKS: u32 = 64;
@@ -48,6 +52,7 @@ pub struct Floor<'p, J: Running, G: Gate> {
     pub gate: &'p G,
     pub tickets: Tickets,
     pub hall: Hall<'p, J>,
+    pub journal: Journal,
     pub ghost of: { J.job ≡ Some job },
 }
 
@@ -66,27 +71,69 @@ impl<'p, J: Running, G: Gate> Floor<'p, J, G> {
         requires { IsOwnTask J.job task }
         ensures { IfOk result (IsOwnNext J.job) }
     {
-        match go::<J>(task)? {
+        match self.next_turn(rt, task)? {
             Turn::Going(task) => Ok(Next::Goes(task)),
             Turn::Over(task) => Ok(Next::Goes(task)),
             Turn::Spawns(task, child) => {
-                self.begin(own, post, child)?;
+                self.begin(number, own, post, child)?;
                 Ok(Next::Goes(task))
             }
             Turn::WantsWeight(wanting) => {
                 let (task, child) = scopes::replenish(rt, &post.scope, wanting)?;
-                self.begin(own, post, child)?;
+                self.note_more(rt, &task);
+                self.begin(number, own, post, child)?;
                 Ok(Next::Goes(task))
             }
             Turn::EntersFinish(entering) => self.enter(rt, number, post, entering),
-            Turn::EndsFinish(ending) => self.park(rt, post, ending),
-            Turn::Ended(ended) => self.end(rt, post, ended),
+            Turn::EndsFinish(ending) => self.park(rt, number, post, ending),
+            Turn::Ended(ended) => self.end(rt, number, post, ended),
         }
+    }
+
+    /// A turn that is more than a step; of a run that is noted the next one, whatever it is.
+    fn next_turn<R: Wait>(&self, rt: &R, task: Task<'p>) -> Result<Turn<'p>, Trouble>
+        requires { IsOwnTask J.job task }
+        ensures { IfOk result (IsOwnTurn J.job) }
+    {
+        if self.journal.is_kept() {
+            self.noted_turn(rt, task)
+        } else {
+            Ok(go::<J>(task)?)
+        }
+    }
+
+    /// One turn, written down.
+    fn noted_turn<R: Wait>(&self, rt: &R, task: Task<'p>) -> Result<Turn<'p>, Trouble>
+        requires { IsOwnTask J.job task }
+        ensures { IfOk result (IsOwnTurn J.job) }
+    {
+        let path = path_of::<J>(&task)?;
+        let steps = steps_of::<J>(&task);
+        let turn = advance::<J>(task)?;
+        match &turn {
+            Turn::Going(task) => {
+                if steps_of::<J>(task) < steps {
+                    self.journal.stepped(rt, &path);
+                }
+            }
+            Turn::Spawns(_, _) => self.journal.spawned(rt, &path),
+            Turn::EntersFinish(_) => self.journal.opened(rt, &path),
+            _ => {}
+        }
+        Ok(turn)
+    }
+
+    /// Writes down that a task was given more weight, and began another.
+    fn note_more<R: Wait>(&self, rt: &R, task: &Task<'p>)
+        requires { IsOwnTask J.job task.now }
+    {
+        self.journal.replenished(rt, task.path());
     }
 
     /// A task was begun: it waits in the worker's deque.
     fn begin(
         &self,
+        number: usize,
         own: &mut Worker<Ready<'p, J>>,
         post: &mut Post<'p, J>,
         child: Child<'p>,
@@ -94,7 +141,7 @@ impl<'p, J: Running, G: Gate> Floor<'p, J, G> {
         requires { IsOwnChild J.job child }
     {
         let scope = Arc::try_clone(&post.scope)?;
-        match own.push(Ready::new(child, scope, post.place)) {
+        match own.push(Ready::new(child, scope, post.place, number)) {
             Ok(()) => {
                 self.hall.wake();
                 Ok(())
@@ -127,6 +174,7 @@ impl<'p, J: Running, G: Gate> Floor<'p, J, G> {
     fn park<R: Wait>(
         &self,
         rt: &R,
+        number: usize,
         post: &mut Post<'p, J>,
         ending: Ending<'p>,
     ) -> Result<Next<'p>, Trouble>
@@ -135,9 +183,10 @@ impl<'p, J: Running, G: Gate> Floor<'p, J, G> {
     {
         let path = ending.made.path.clone()?;
         let outer = std::mem::replace(&mut post.outer, Vec::new(self.job.alloc));
+        let clerk = self.clerk(number, ending.scope);
         let (weight, parked) = ending.set_down();
         let owner = Resting { parked, outer };
-        let passing = scopes::park(rt, &post.scope, weight, path, owner)?;
+        let passing = scopes::park(rt, &post.scope, weight, path, owner, clerk)?;
         self.after(rt, post, passing)
     }
 
@@ -145,6 +194,7 @@ impl<'p, J: Running, G: Gate> Floor<'p, J, G> {
     fn end<R: Wait>(
         &self,
         rt: &R,
+        number: usize,
         post: &mut Post<'p, J>,
         ended: Ended<'p>,
     ) -> Result<Next<'p>, Trouble>
@@ -153,10 +203,20 @@ impl<'p, J: Running, G: Gate> Floor<'p, J, G> {
     {
         let path = ended.made.path.clone()?;
         let left = ended.made.path.clone()?;
+        let clerk = self.clerk(number, ended.scope);
         let (weight, made) = ended.take_weight();
-        let passing = scopes::give_back(rt, &post.scope, weight, path, made)?;
+        let passing = scopes::give_back(rt, &post.scope, weight, path, made, clerk)?;
         self.gate.leave(&left);
         self.after(rt, post, passing)
+    }
+
+    /// Who writes down what this worker gives back to a scope.
+    fn clerk(&self, number: usize, scope: ScopeMark) -> Clerk<'_> {
+        Clerk {
+            journal: &self.journal,
+            number,
+            scope,
+        }
     }
 
     /// What comes after a task that waits or has ended: whoever goes on in its place.
@@ -237,6 +297,7 @@ impl<'p, J: Running, G: Gate> Floor<'p, J, G> {
         ensures { IfOk result (λ o. IfSome o (λ x. outcome_in x ≡ outcome_of self.now.job)) }
     {
         let (task, mut post) = first.begin();
+        self.note_taken(rt, number, number, &task);
         self.go_on(rt, number, own, &mut post, task)
     }
 
@@ -250,9 +311,18 @@ impl<'p, J: Running, G: Gate> Floor<'p, J, G> {
     ) -> Result<Option<Outcome>, Trouble>
         ensures { IfOk result (λ o. IfSome o (λ x. outcome_in x ≡ outcome_of self.now.job)) }
     {
+        let from = ready.from();
         let (task, mut post) = ready.begin()?;
+        self.note_taken(rt, number, from, &task);
         self.let_in(&task);
         self.go_on(rt, number, own, &mut post, task)
+    }
+
+    /// Writes down that a worker takes a task that another, or it itself, began.
+    fn note_taken<R: Wait>(&self, rt: &R, number: usize, from: usize, task: &Task<'p>)
+        requires { IsOwnTask J.job task.now }
+    {
+        self.journal.taken(rt, number, from, task.path());
     }
 
     /// The gate is lent a task before its first turn.
@@ -343,6 +413,28 @@ fn go<'p, J: Running>(task: Task<'p>) -> Result<Turn<'p>, NoMemory>
     ensures { IfOk result (IsOwnTurn J.job) }
 {
     task.go()
+}
+
+/// A task does one turn.
+fn advance<'p, J: Running>(task: Task<'p>) -> Result<Turn<'p>, NoMemory>
+    requires { IsOwnTask J.job task }
+    ensures { IfOk result (IsOwnTurn J.job) }
+{
+    task.advance()
+}
+
+/// Whose a task is.
+fn path_of<'p, J: Running>(task: &Task<'p>) -> Result<Path, AllocError>
+    requires { IsOwnTask J.job task.now }
+{
+    task.path().clone()
+}
+
+/// How many steps a task may still do.
+fn steps_of<'p, J: Running>(task: &Task<'p>) -> u32
+    requires { IsOwnTask J.job task.now }
+{
+    task.steps()
 }
 
 /// What comes of an owner of the run that passes.

@@ -6,6 +6,7 @@ pub mod error;
 mod floor;
 pub mod gate;
 mod hall;
+mod journal;
 mod kit;
 mod opening;
 mod passing;

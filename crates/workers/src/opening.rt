@@ -9,6 +9,7 @@ use crate::error::Trouble;
 use crate::floor::Floor;
 use crate::gate::Gate;
 use crate::hall::Hall;
+use crate::journal::Journal;
 use crate::kit::{Desk, Kit};
 use crate::post::Post;
 use crate::ready::First;
@@ -28,6 +29,7 @@ pub fn open<'p, J: Running, G: Gate, R: Wait>(
     job: Job<'p>,
     settings: Settings,
     gate: &'p G,
+    is_noted: bool,
 ) -> Result<(Floor<'p, J, G>, Kit<'p, J>, Vec<Kit<'p, J>>), Trouble>
     requires of { J.job ≡ Some job }
     requires job { IsJob job }
@@ -52,6 +54,7 @@ pub fn open<'p, J: Running, G: Gate, R: Wait>(
         gate,
         tickets,
         hall,
+        journal: Journal::new(alloc, is_noted),
     };
     Ok((floor, Kit { desk, own, first }, kits))
 }

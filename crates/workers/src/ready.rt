@@ -18,6 +18,8 @@ pub struct Ready<'p, J: Running> {
     child: Child<'p>,
     scope: Arc<Scope<'p, J>>,
     place: Place,
+    /// The worker that began it.
+    from: usize,
 }
 
 impl<'p, J: Running> Model for Ready<'p, J> {
@@ -32,14 +34,26 @@ impl<'p, J: Running> Model for Ready<'p, J> {
 }
 
 impl<'p, J: Running> Ready<'p, J> {
-    pub fn new(child: Child<'p>, scope: Arc<Scope<'p, J>>, place: Place) -> Ready<'p, J>
+    /// A task that a worker, that of the number `from`, began in the scope that lies at the place.
+    pub fn new(
+        child: Child<'p>,
+        scope: Arc<Scope<'p, J>>,
+        place: Place,
+        from: usize,
+    ) -> Ready<'p, J>
         requires { IsOwnChild J.job child }
     {
         Ready {
             child,
             scope,
             place,
+            from,
         }
+    }
+
+    /// The number of the worker that began it.
+    pub fn from(&self) -> usize {
+        self.from
     }
 
     /// The task before its first turn, and where it stands.
@@ -50,6 +64,7 @@ impl<'p, J: Running> Ready<'p, J> {
             child,
             scope,
             place,
+            ..
         } = self;
         let outer = Vec::new(child.job.alloc);
         let task = child.begin()?;

@@ -17,6 +17,7 @@ use crate::opening::open;
 use crate::settings::Settings;
 use crews::work_together;
 use effects::laws::typed_programs_are_sound;
+use events::event::Event;
 use finish_scope::running::Running;
 use race_checker::accepted::Accepted;
 use std::alloc::Global;
@@ -49,24 +50,57 @@ pub fn run<'p, G: Gate + Sync, R: Threads + Wait + Sync>(
         input,
         budget: settings.budget,
     };
-    run_for::<Brand, G, R>(rt, job, settings, gate)
+    let (outcome, _) = run_for::<Brand, G, R>(rt, job, settings, gate, false)?;
+    Ok(outcome)
 }
 
-/// The same, once the job is picked.
+/// The same, and what the workers did, event by event, in an order in which it is legal. No clause says so: a replay
+/// over a world does. A noted run is slower: each step is written down, by one worker at a time.
+pub fn run_noted<'p, G: Gate + Sync, R: Threads + Wait + Sync>(
+    rt: &R,
+    alloc: Global,
+    accepted: &'p Accepted,
+    input: &'p Input,
+    settings: Settings,
+    gate: &'p G,
+) -> Result<(Outcome, Vec<Event>), RunError>
+    requires { FitsArrays (code_of accepted.now.typed).arrays (lists_in input.now) }
+    ensures outcome { IfOk result (λ r. outcome_in r.0 ≡ one_thread_outcome
+        (code_of accepted.now.typed) (lists_in input.now) (budget_of settings.budget)) }
+    ensures cause { IfErr result (IsCause settings.tasks) }
+{
+    typed_programs_are_sound(accepted.typed());
+    let job = Job {
+        alloc,
+        accepted,
+        input,
+        budget: settings.budget,
+    };
+    match run_for::<Brand, G, R>(rt, job, settings, gate, true)? {
+        (outcome, Some(events)) => Ok((outcome, events)),
+        (_, None) => Err(RunError::OutOfMemory),
+    }
+}
+
+/// The same, once the job is picked; what the workers did where it is to be noted.
 fn run_for<'p, J: Running + Send + Sync, G: Gate + Sync, R: Threads + Wait + Sync>(
     rt: &R,
     job: Job<'p>,
     settings: Settings,
     gate: &'p G,
-) -> Result<Outcome, RunError>
+    is_noted: bool,
+) -> Result<(Outcome, Option<Vec<Event>>), RunError>
     requires of { J.job ≡ Some job }
     requires job { IsJob job }
-    ensures outcome { IfOk result (λ o. outcome_in o ≡ outcome_of job.entry) }
+    ensures outcome { IfOk result (λ r. outcome_in r.0 ≡ outcome_of job.entry) }
     ensures cause { IfErr result (IsCause settings.tasks) }
 {
-    let (floor, own, kits) = open::<J, G, R>(rt, job, settings, gate)?;
+    let (floor, own, kits) = open::<J, G, R>(rt, job, settings, gate, is_noted)?;
     match work_together(rt, job.alloc, &floor, own, kits) {
-        Ok(reports) => told(job, settings, reports),
+        Ok(reports) => {
+            let outcome = told(job, settings, reports)?;
+            Ok((outcome, floor.journal.into_events()))
+        }
         Err(_) => Err(RunError::OutOfMemory),
     }
 }

@@ -5,6 +5,7 @@ ghost use Rattle.finish_scope.specs.Own.{IsOwnPassing, IsOwnResting, IsOwnResult
 ghost use Rattle.workers.specs.Own.{IsOwnChild, IsOwnTask, IsOwnWanting};
 
 use crate::error::Trouble;
+use crate::journal::Clerk;
 use finish_scope::inner::{Inner, Scope};
 use finish_scope::late::{Late, Reason};
 use finish_scope::resting::{Passing, Resting};
@@ -48,15 +49,17 @@ pub fn give_back<'p, J: Running, R: Wait>(
     weight: Weight,
     path: Path,
     made: TaskResult,
+    clerk: Clerk<'_>,
 ) -> Result<Option<Passing<'p>>, Trouble>
     requires path { path.turns.items ≡ made.path.turns.items }
     requires own { IsOwnResult J.job made }
     ensures { IfOk result (λ p. IfSome p (IsOwnPassing J.job)) }
 {
     let mut guard = scope.lock(rt);
+    clerk.ended(rt, &path);
     let inner = &mut *guard;
     match inner.give_back(weight, path, made) {
-        Ok(back) => passes::<J>(inner, back),
+        Ok(back) => passes::<J, R>(rt, inner, back, clerk),
         Err(late) => {
             let Late { reason: _, back } = late;
             let (weight, _) = back;
@@ -73,15 +76,17 @@ pub fn park<'p, J: Running, R: Wait>(
     weight: Weight,
     path: Path,
     owner: Resting<'p>,
+    clerk: Clerk<'_>,
 ) -> Result<Option<Passing<'p>>, Trouble>
     requires path { path.turns.items ≡ owner.parked.made.path.turns.items }
     requires own { IsOwnResting J.job owner }
     ensures { IfOk result (λ p. IfSome p (IsOwnPassing J.job)) }
 {
     let mut guard = scope.lock(rt);
+    clerk.parked(rt, &path);
     let inner = &mut *guard;
     match inner.park(weight, path, owner) {
-        Ok(back) => passes::<J>(inner, back),
+        Ok(back) => passes::<J, R>(rt, inner, back, clerk),
         Err(late) => {
             let Late { reason: _, back } = late;
             let (weight, _) = back;
@@ -92,9 +97,11 @@ pub fn park<'p, J: Running, R: Wait>(
 }
 
 /// A weight came back to a scope. Its owner is to go on where that was the last.
-fn passes<'p, J: Running>(
+fn passes<'p, J: Running, R: Wait>(
+    rt: &R,
     inner: &mut Inner<'p, J>,
     back: Back,
+    clerk: Clerk<'_>,
 ) -> Result<Option<Passing<'p>>, Trouble>
     ensures { IfOk result (λ p. IfSome p (IsOwnPassing J.job)) }
 {
@@ -104,7 +111,10 @@ fn passes<'p, J: Running>(
     match back {
         Back::Open => Ok(None),
         Back::Complete => match inner.resume() {
-            Some(passing) => Ok(Some(passing)),
+            Some(passing) => {
+                clerk.passed(rt, passing.owner.parked.path());
+                Ok(Some(passing))
+            }
             None => Err(Trouble::Late),
         },
     }

@@ -23,37 +23,57 @@ const TURNS: u32 = 1_000_000;
 const MANY_TASKS: &str =
     "main { var k = 0; finish { while k < 500 { async { skip; } k = k + 1; } } print k; }";
 
-const TWO_TASKS: &str = "main { finish { async { skip; } async { skip; } } }";
+pub(crate) const TWO_TASKS: &str = "main { finish { async { skip; } async { skip; } } }";
 
-/// Holds one child of the root until another one has left.
+/// The turns of a task's path.
+pub(crate) type Turns = &'static [u32];
+
+/// A task that is held, and the one that it waits for: one worker alone would run both in one of the two orders.
+pub(crate) const HELD: [(Turns, Turns); 2] = [(&[1], &[2]), (&[2], &[1])];
+
+/// Holds one task until another one has left.
 #[derive(Drop)]
-struct Holding {
-    held: u32,
-    awaited: u32,
+pub(crate) struct Holding {
+    held: Turns,
+    awaited: Turns,
     has_left: AtomicBool,
     gave_up: AtomicBool,
 }
 
+impl Holding {
+    /// Holds the one until the other has left.
+    pub(crate) fn new(held: Turns, awaited: Turns) -> Holding {
+        Holding {
+            held,
+            awaited,
+            has_left: AtomicBool::new(false),
+            gave_up: AtomicBool::new(false),
+        }
+    }
+
+    /// Whether it waited in vain.
+    pub(crate) fn gave_up(&self) -> bool {
+        self.gave_up.load(Ordering::SeqCst)
+    }
+}
+
 impl Gate for Holding {
     fn enter(&self, task: &Task<'_>) {
-        if is_child(task.path(), self.held) && !waited_for(&self.has_left) {
+        if is_at(task.path(), self.held) && !waited_for(&self.has_left) {
             self.gave_up.store(true, Ordering::SeqCst);
         }
     }
 
     fn leave(&self, path: &Path) {
-        if is_child(path, self.awaited) {
+        if is_at(path, self.awaited) {
             self.has_left.store(true, Ordering::SeqCst);
         }
     }
 }
 
-/// Whether this is the path of the root's child of this number.
-fn is_child(path: &Path, number: u32) -> bool {
-    match path.turns.as_slice() {
-        [turn] => *turn == number,
-        _ => false,
-    }
+/// Whether a path has these turns.
+fn is_at(path: &Path, turns: Turns) -> bool {
+    path.turns.as_slice() == turns
 }
 
 /// Counts who goes through.
@@ -109,21 +129,12 @@ fn settings(rt: &impl Abort, tasks: u64, w0: u64, workers: u64) -> Settings {
 #[test]
 fn two_workers_really_work(rt: HostRuntime) {
     let alloc = rt.alloc();
-    // One worker alone would run both in one of the two orders.
-    for (held, awaited) in [(1, 2), (2, 1)] {
-        let gate = Holding {
-            held,
-            awaited,
-            has_left: AtomicBool::new(false),
-            gave_up: AtomicBool::new(false),
-        };
+    for (held, awaited) in HELD {
+        let gate = Holding::new(held, awaited);
         let said = told(&rt, alloc, TWO_TASKS, settings(&rt, 65_536, 8, 2), &gate);
         let want = "Ended { arrays: [], lines: [], faults: [] }";
-        compare(&rt, alloc, held, said.as_str(), want);
-        assert!(rt;
-            !gate.gave_up.load(Ordering::SeqCst),
-            "0.{held} waited in vain for 0.{awaited}"
-        );
+        compare(&rt, alloc, "two tasks", said.as_str(), want);
+        assert!(rt; !gate.gave_up(), "{held:?} waited in vain for {awaited:?}");
     }
 }
 

@@ -1,11 +1,11 @@
 //! Worlds that lists of events lead to, and walks at random.
 
 use crate::tests::{FAULTS, TWO_ARRAYS, accepted, compare, one_thread_outcome, path};
-use interleave::event::Event;
+use events::event::Event;
+use events::worker_id::WorkerId;
 use interleave::job::Job;
 use interleave::replay::replay;
 use interleave::walk::random_walk;
-use interleave::worker_id::WorkerId;
 use std::alloc::Global;
 use std::process::Abort;
 use std::test::Fail;
@@ -269,17 +269,17 @@ fn weights_are_halved_and_issued(rt: HostRuntime) {
 }
 
 /// Doubles each of 16 elements, half by half, each left half as a task.
-const HALVES: &str = "proc twice(mut s: int) {
+pub(crate) const HALVES: &str = "proc twice(mut s: int) {
   if len(s) <= 1 { s[0] = s[0] * 2 + 1; }
   else { split s at len(s) / 2 as l, r { async { twice(l); } twice(r); } }
 }
 main { array a: int[16]; finish { twice(a); } print a[0], a[15]; }";
 
-const NESTED: &str = "main { array a: int[2]; array b: int[1];
+pub(crate) const NESTED: &str = "main { array a: int[2]; array b: int[1];
   async { finish { async { a[0] = 1; async { b[0] = 3; } } } print a[0]; async { a[1] = 2; } }
   finish { finish { async { print 4; } } async { print 5; } } print 9; }";
 
-const STOPPING: &str =
+pub(crate) const STOPPING: &str =
     "main { finish { async { while true { skip; } } async { print 1; } } print 2; }";
 
 #[test]

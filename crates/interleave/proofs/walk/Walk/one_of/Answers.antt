@@ -2,7 +2,7 @@ use Rattle.std.proofs.Common.{[], ◌++◌, ◌∷◌, ◌∙◌, List, ap, subs
 use Rattle.std.proofs.lemmas.List.{append_assoc}
 use Rattle.interleave.specs.Replaying.{event}
 use Rattle.interleave.specs.Walks.{Happened}
-use Rattle.interleave.specs.declared.event.Event.{Event}
+use Rattle.events.specs.declared.event.Event.{Event}
 use Rattle.interleave.proofs.Walking.{illegal_before, still_on}
 use Rattle.interleave.proofs.walk.Walk.one_of.Goals as goal
 

@@ -2,7 +2,7 @@ use Rattle.std.proofs.Common.{◌≡◌, ◌++◌, List, map, vec_len}
 use Rattle.own_run.specs.Lists.{Each}
 use Rattle.interleave.specs.Replaying.{event}
 use Rattle.interleave.specs.Walks.{IsAsBefore, IsIllegal}
-use Rattle.interleave.specs.declared.event.Event.{Event}
+use Rattle.events.specs.declared.event.Event.{Event}
 use Rattle.interleave.proofs.walk.Walk.one_of.Given as goal
 
 -- none of those that were tried is legal

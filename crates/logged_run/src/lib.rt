@@ -1,0 +1,6 @@
+//! Runs accepted programs as tasks, under a log that says what the workers did.
+
+#![tactic(auto)]
+
+pub mod error;
+pub mod run;

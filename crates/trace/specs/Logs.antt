@@ -1,0 +1,37 @@
+-- Logs: the events of a run so far, and the world that they led to.
+use Rattle.std.specs.Prelude.{ℕ, ◌≡◌, List, codes}
+use Rattle.interleave.specs.Jobs.{IsJob}
+use Rattle.interleave.specs.Replaying.{IsReplayed, event}
+use Rattle.interleave.specs.Shown.{Refuses}
+use Rattle.interleave.specs.declared.error.EventError.{EventError}
+use Rattle.interleave.specs.declared.error.EventError.TheVariants.{Illegal as IsIllegal}
+use Rattle.interleave.specs.declared.error.EventError.TheVariants.{NoMemory as IsNoMemory}
+use Rattle.events.specs.declared.event.Event.{Event}
+use Rattle.interleave.specs.declared.world.World.{World}
+use Rattle.trace.specs.declared.log_error.LogError.{LogError}
+use Rattle.trace.specs.declared.log_error.LogError.TheVariants.{Illegal, NoMemory}
+
+-- what a log shows
+pub record Recorded : Type 0 where
+  pub world : World
+  pub events : List Event
+
+-- the log is clean: its events are legal from the start of its world's job, one behind the other, and
+-- its world is the one that they lead to
+pub record IsClean (l : Recorded) : Type 0 where
+  pub job : IsJob l.world.job
+  pub replayed : IsReplayed l.world.job l.events l.world
+
+-- why a world refuses what a log refuses
+abbrev pub world_error : LogError → EventError
+world_error Illegal = IsIllegal
+world_error NoMemory = IsNoMemory
+
+-- an error leaves the log as it was; where it calls the event illegal it was
+pub record Leaves (e : Event) (old new : Recorded) (error : LogError) : Type 0 where
+  pub events : new.events ≡ old.events
+  pub world : Refuses (event e) old.world new.world (world_error error)
+
+abbrev pub log_error_text : LogError → List ℕ
+log_error_text Illegal = codes "I1"
+log_error_text NoMemory = codes "I2"

@@ -1,0 +1,95 @@
+//! What happened in a run so far, with the world that it led to.
+
+ghost use Rattle.std.specs.Prelude.{◌≡◌, ◌∷◌, ◌++◌, [], IfErr, IfOk, OnOk};
+ghost use Rattle.types.specs.Contents.{FitsArrays};
+ghost use Rattle.types.specs.Translation.{input as lists_in};
+ghost use Rattle.types.specs.Typed.{code_of};
+ghost use Rattle.interleave.specs.Replaying.{event as event_of};
+ghost use Rattle.interleave.specs.Shown.{Becomes};
+ghost use Rattle.trace.specs.Logs.{IsClean, Leaves, Recorded};
+ghost use Rattle.trace.specs.declared.log_error.LogError.TheVariants.{NoMemory};
+
+use crate::header::Header;
+use crate::log_error::LogError;
+use events::event::Event;
+use interleave::job::Job;
+use interleave::world::World;
+use race_checker::accepted::Accepted;
+use std::alloc::Global;
+use std::marker::Model;
+use types::input::Input;
+
+/// The events of a run, in the order in which they were recorded, and the world that they lead to. It holds
+/// whenever a lock round it is free that these events are legal and lead to that world.
+#[derive(Drop)]
+pub struct Log<'p> {
+    world: World<'p>,
+    events: Vec<Event>,
+}
+
+impl<'p> Model for Log<'p> {
+    ghost Value = { Recorded };
+
+    ghost view = { λ l. record { world = l.world; events = l.events.items } };
+
+    ghost invariant = { λ l. IsClean (record { world = l.world; events = l.events.items }) };
+}
+
+impl<'p> Log<'p> {
+    /// The log of a run at its start.
+    pub fn new(
+        alloc: Global,
+        header: &Header,
+        accepted: &'p Accepted,
+        input: &'p Input,
+    ) -> Result<Log<'p>, LogError>
+        requires { FitsArrays (code_of accepted.now.typed).arrays (lists_in input.now) }
+        ensures begun { IfOk result (λ l. l.events ≡ []) }
+        ensures job { IfOk result (λ l. l.world.job ≡ record {
+          alloc = alloc;
+          accepted = accepted.entry;
+          input = input.entry;
+          budget = header.now.budget;
+          w0 = header.now.w0;
+        }) }
+        ensures refused { IfErr result (λ e. e ≡ NoMemory) }
+    {
+        let Some(job) = Job::new(alloc, accepted, input, header.budget, header.w0) else {
+            unreachable!()
+        };
+        let world = World::start(job)?;
+        Ok(Log {
+            world,
+            events: Vec::new(alloc),
+        })
+    }
+
+    /// An event happens: it is added to the list, and the world goes on by it.
+    pub fn record(&mut self, event: Event) -> Result<(), LogError>
+        ensures recorded { OnOk result (self.new.events ≡ self.old.events ++ event ∷ []) }
+        ensures moved { OnOk result (Becomes (event_of event) self.old.world self.new.world) }
+        ensures refused { IfErr result (Leaves event self.old self.new) }
+        ensures job { self.new.world.job ≡ self.old.world.job }
+    {
+        self.events.reserve(1)?;
+        self.world.event(&event)?;
+        // There is room for it.
+        self.events.push(event)?;
+        Ok(())
+    }
+
+    /// The events, in the order in which they were recorded.
+    pub fn events(&self) -> &[Event]
+        ensures { result.now ≡ self.now.events }
+    {
+        self.events.as_slice()
+    }
+
+    /// The world that they lead to.
+    pub fn world(&self) -> &World<'p>
+        ensures world { result.now ≡ self.now.world }
+        ensures clean { IsClean self.now }
+    {
+        &self.world
+    }
+}
