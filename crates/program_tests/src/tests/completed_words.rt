@@ -121,9 +121,17 @@ fn reply_to(rt: &impl Abort, alloc: Global, line: &str) -> String {
             .expect(rt, "memory");
     }
     let text = match request_of(alloc, &words) {
-        Err(Reply::Said(said)) => format!(in alloc; "{said}").expect(rt, "memory"),
-        Err(Reply::Page(text)) => text,
-        _ => String::new(alloc),
+        Ok(_request) => String::new(alloc),
+        Err(reply) => told(rt, alloc, reply),
     };
     text.replace(alloc, "\\-", "-").expect(rt, "memory")
+}
+
+/// The text of a reply.
+fn told(rt: &impl Abort, alloc: Global, reply: Reply) -> String {
+    match reply {
+        Reply::Said(said) => format!(in alloc; "{said}").expect(rt, "memory"),
+        Reply::Page(text) => text,
+        Reply::NoPage(line) => line,
+    }
 }
