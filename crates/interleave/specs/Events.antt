@@ -1,33 +1,13 @@
 -- The ten events: where each is legal, and the world after it.
 use Rattle.std.specs.Prelude.{ℕ, ◌+◌, ◌-◌, ◌*◌, ◌/◌, ◌^◌, List, [], ◌∷◌, ◌++◌, Bool, true, false, ◌&&◌}
 use Rattle.std.specs.Prelude.{not, nat_lt, nat_le, nat_eq, Option, Some, None, slice_get}
+pub use Rattle.events.specs.Events.{Event, Take, Steal, Steps, Replenish, Spawns, Opens, Parks}
+pub use Rattle.events.specs.Events.{Ends, Pass, Resume}
 use Rattle.own_run.specs.Results.{TaskResult, and_then}
 use Rattle.own_run.specs.OwnRun.{Start, Action, Step, Spawn, EnterFinish, EndFinish, EndTask}
 use Rattle.interleave.specs.World.{ScopeId, Stake, Live, Scope, World, Whereabouts, Queue, Hand, Parked}
 use Rattle.interleave.specs.World.{same_path, root_scope, child_path, task, put_task, without_task, scope}
 use Rattle.interleave.specs.World.{put_scope, in_queue, is_parked, hand_of, hand_is_free}
-
-pub data Event : Type 0 where
-  -- a worker takes a task from its queue into its hand
-  Take : (worker : ℕ) → (path : List ℕ) → Event
-  -- a worker takes a task from another's queue into its own
-  Steal : (worker from : ℕ) → (path : List ℕ) → Event
-  -- a task does one step, of a statement other than async and finish
-  Steps : (path : List ℕ) → Event
-  -- a task that weighs 1 is given more by its innermost scope
-  Replenish : (path : List ℕ) → Event
-  -- a task begins another, and shares its weight with it
-  Spawns : (path : List ℕ) → Event
-  -- a task begins a finish
-  Opens : (path : List ℕ) → Event
-  -- a task is at the end of its innermost finish, and gives back its weight there
-  Parks : (path : List ℕ) → Event
-  -- a task is at its end, and gives back its weight and its result
-  Ends : (path : List ℕ) → Event
-  -- a scope passes, since all its weight came back
-  Pass : ScopeId → Event
-  -- a worker takes a task that was parked at a passed scope
-  Resume : (worker : ℕ) → (path : List ℕ) → Event
 
 -- nothing unless the test holds
 abbrev pub only_if : {A : Type 0} → Bool → Option A → Option A

@@ -9,6 +9,7 @@ use Rattle.types.specs.Outcome.{outcome as one_thread}
 use Rattle.types.specs.Translation.{outcome as outcome_of}
 use Rattle.types.specs.declared.outcome.Outcome.{Outcome}
 use Rattle.types.specs.declared.path.Path.{Path}
+pub use Rattle.events.specs.Events.{scope_id, turns_of}
 use Rattle.own_run.specs.Translation.{task_result}
 use Rattle.own_run.specs.declared.result.TaskResult.{TaskResult}
 use Rattle.interleave.specs.Courses.{Course, course_of, further, IsDoing, IsLooked}
@@ -32,9 +33,6 @@ use Rattle.interleave.specs.declared.task.Whereabouts.TheVariants.{Parked as rPa
 use Rattle.interleave.specs.declared.world.World.{World as rWorld}
 
 -- ---- names and places
-abbrev pub scope_id : rScopeId → ScopeId
-scope_id i = record { owner = i.owner.turns.items; number = i.number }
-
 abbrev pub stake : rStake → Stake
 stake s = record { scope = scope_id s.scope; weight = s.weight }
 
@@ -42,9 +40,6 @@ abbrev pub whereabouts : rWhereabouts → Whereabouts
 whereabouts (rQueue w) = Queue w
 whereabouts (rHand w) = Hand w
 whereabouts rParked = Parked
-
-abbrev pub turns_of : Path → List ℕ
-turns_of path = path.turns.items
 
 -- whether two keys of a table are the same
 abbrev pub is_path : (path other : Path) → Bool

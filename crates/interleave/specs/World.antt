@@ -2,13 +2,9 @@
 use Rattle.std.specs.Prelude.{ℕ, ◌+◌, List, [], ◌∷◌, ◌++◌, Bool, true, false, ◌&&◌, not, nat_eq}
 use Rattle.std.specs.Prelude.{Option, Some, None, if◌then◌else◌}
 use Rattle.std.specs.Cmp.Lexicographic.{pointwise}
+pub use Rattle.events.specs.Events.{ScopeId}
 use Rattle.own_run.specs.Results.{TaskResult, and_then}
 use Rattle.own_run.specs.OwnRun.{Start}
-
--- a scope's name: the path of its owner, and which of its finishes it is, from 1
-pub record ScopeId : Type 0 where
-  pub owner : List ℕ
-  pub number : ℕ
 
 -- where a task is; a parked one stands at the end of a finish of its own
 pub data Whereabouts : Type 0 where

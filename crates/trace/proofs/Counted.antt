@@ -8,7 +8,7 @@ use Rattle.interleave.specs.Events.{Parks, Ends, Pass, Resume}
 use Rattle.interleave.specs.Replaying.{event}
 use Rattle.events.specs.declared.event.Event.{Event}
 use Rattle.trace.specs.Summary.{alive_after, deepest, most_alive_from, nest_of}
-use Rattle.trace.proofs.Written.{parts_at}
+use Rattle.trace_text.proofs.Written.{parts_at}
 
 larger_of : (a b c : ℕ) → max (max a b) c ≡ max a (max b c)
 larger_of a b c = omega arith

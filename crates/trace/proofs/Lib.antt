@@ -1,11 +1,2 @@
-pub mod Marks
-pub mod Texts
-pub mod ReadBack
-pub mod Cuts
-pub mod Found
-pub mod Written
-pub mod PathReading
 pub mod LogLemmas
-pub mod Arms
-pub mod TableText
 pub mod Counted

@@ -1,18 +1,7 @@
-//! What a run did, written down, read again and looked at.
+//! What a run did so far, event by event, with the world that it led to; and the numbers of such a list.
 
 #![tactic(auto)]
 
-mod cut;
-pub mod error;
-pub mod header;
-pub mod kind;
-mod line;
 pub mod log;
 pub mod log_error;
-mod path;
-pub mod read;
 pub mod summary;
-pub mod table;
-#[cfg(test)]
-mod tests;
-pub mod write;

@@ -9,7 +9,6 @@ ghost use Rattle.interleave.specs.Shown.{Becomes};
 ghost use Rattle.trace.specs.Logs.{IsClean, Leaves, Recorded};
 ghost use Rattle.trace.specs.declared.log_error.LogError.TheVariants.{NoMemory};
 
-use crate::header::Header;
 use crate::log_error::LogError;
 use events::event::Event;
 use interleave::job::Job;
@@ -17,6 +16,7 @@ use interleave::world::World;
 use race_checker::accepted::Accepted;
 use std::alloc::Global;
 use std::marker::Model;
+use trace_text::header::Header;
 use types::input::Input;
 
 /// The events of a run, in the order in which they were recorded, and the world that they lead to. It holds

@@ -10,7 +10,7 @@ use std::alloc::Global;
 use std::process::Abort;
 use std::sync::Wait;
 use std::thread::Threads;
-use trace::header::Header;
+use trace_text::header::Header;
 use trace::log::Log;
 use types::budget::Budget;
 use types::input::Input;

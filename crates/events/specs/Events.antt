@@ -1,0 +1,58 @@
+-- The ten events, and what an event in Rust stands for.
+use Rattle.std.specs.Prelude.{ℕ, List}
+use Rattle.types.specs.declared.path.Path.{Path}
+use Rattle.types.specs.declared.scope_id.ScopeId.{ScopeId as rScopeId}
+use Rattle.events.specs.declared.event.Event.{Event as rEvent}
+use Rattle.events.specs.declared.event.Event.TheVariants.{Take as rTake, Steal as rSteal}
+use Rattle.events.specs.declared.event.Event.TheVariants.{Step as rStep}
+use Rattle.events.specs.declared.event.Event.TheVariants.{Replenish as rReplenish}
+use Rattle.events.specs.declared.event.Event.TheVariants.{Spawn as rSpawn}
+use Rattle.events.specs.declared.event.Event.TheVariants.{Open as rOpen, Park as rPark}
+use Rattle.events.specs.declared.event.Event.TheVariants.{End as rEnd}
+use Rattle.events.specs.declared.event.Event.TheVariants.{Pass as rPass, Resume as rResume}
+
+-- a scope's name: the path of its owner, and which of its finishes it is, from 1
+pub record ScopeId : Type 0 where
+  pub owner : List ℕ
+  pub number : ℕ
+
+pub data Event : Type 0 where
+  -- a worker takes a task from its queue into its hand
+  Take : (worker : ℕ) → (path : List ℕ) → Event
+  -- a worker takes a task from another's queue into its own
+  Steal : (worker from : ℕ) → (path : List ℕ) → Event
+  -- a task does one step, of a statement other than async and finish
+  Steps : (path : List ℕ) → Event
+  -- a task that weighs 1 is given more by its innermost scope
+  Replenish : (path : List ℕ) → Event
+  -- a task begins another, and shares its weight with it
+  Spawns : (path : List ℕ) → Event
+  -- a task begins a finish
+  Opens : (path : List ℕ) → Event
+  -- a task is at the end of its innermost finish, and gives back its weight there
+  Parks : (path : List ℕ) → Event
+  -- a task is at its end, and gives back its weight and its result
+  Ends : (path : List ℕ) → Event
+  -- a scope passes, since all its weight came back
+  Pass : ScopeId → Event
+  -- a worker takes a task that was parked at a passed scope
+  Resume : (worker : ℕ) → (path : List ℕ) → Event
+
+-- ---- without what says where it lies in memory
+abbrev pub turns_of : Path → List ℕ
+turns_of path = path.turns.items
+
+abbrev pub scope_id : rScopeId → ScopeId
+scope_id i = record { owner = i.owner.turns.items; number = i.number }
+
+abbrev pub event : rEvent → Event
+event (rTake worker path) = Take worker path.turns.items
+event (rSteal worker from path) = Steal worker from path.turns.items
+event (rStep path) = Steps path.turns.items
+event (rReplenish path) = Replenish path.turns.items
+event (rSpawn path) = Spawns path.turns.items
+event (rOpen path) = Opens path.turns.items
+event (rPark path) = Parks path.turns.items
+event (rEnd path) = Ends path.turns.items
+event (rPass id) = Pass (scope_id id)
+event (rResume worker path) = Resume worker path.turns.items

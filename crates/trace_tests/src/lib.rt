@@ -1,0 +1,6 @@
+//! Tests of the texts of traces.
+
+#![tactic(auto)]
+
+#[cfg(test)]
+mod tests;

@@ -1,0 +1,176 @@
+//! Texts of traces that are read, and texts that aren't.
+
+use std::alloc::Global;
+use std::process::Abort;
+use trace_text::error::TraceError;
+use trace_text::read::read_lines;
+use trace_text::table::view;
+use trace_text::write::write_lines;
+
+/// What one worker does over the program of two arrays, with weight 8.
+const LINES: &str = "{\"format\":1,\"nest\":100,\"steps\":1000000,\"w0\":8,\"workers\":1}
+{\"e\":\"take\",\"path\":\"0\",\"worker\":0}
+{\"e\":\"open\",\"path\":\"0\"}
+{\"e\":\"spawn\",\"path\":\"0\"}
+{\"e\":\"step\",\"path\":\"0\"}
+{\"e\":\"park\",\"path\":\"0\"}
+{\"e\":\"take\",\"path\":\"0.1\",\"worker\":0}
+{\"e\":\"step\",\"path\":\"0.1\"}
+{\"e\":\"end\",\"path\":\"0.1\"}
+{\"e\":\"pass\",\"number\":1,\"owner\":\"0\"}
+{\"e\":\"resume\",\"path\":\"0\",\"worker\":0}
+{\"e\":\"step\",\"path\":\"0\"}
+{\"e\":\"park\",\"path\":\"0\"}
+{\"e\":\"pass\",\"number\":0,\"owner\":\"0\"}
+";
+
+const TABLE: &str = "       0 take       0    0
+       1 open            0
+       2 spawn           0
+       3 step            0
+       4 park            0
+       5 take       0    0.1
+       6 step            0.1
+       7 end             0.1
+       8 pass            0#1
+       9 resume     0    0
+      10 step            0
+      11 park            0
+      12 pass            0#0
+";
+
+const HEADER: &str = "{\"format\":1,\"nest\":100,\"steps\":1000000,\"w0\":8,\"workers\":1}\n";
+
+/// Lines behind a header, and the first of them, from 2, that is none.
+const BAD_EVENTS: &[(&str, usize)] = &[
+    ("\n", 2),
+    ("{}\n", 2),
+    ("7\n", 2),
+    ("{\"e\":\"step\"}\n", 2),
+    ("{\"e\":\"step\",\"path\":\"0\"}", 2),
+    ("{\"e\":\"step\",\"path\":\"0\"}\r\n", 2),
+    ("{\"e\":\"step\",\"path\":\"0\"}\n\n", 3),
+    (
+        "{\"e\":\"step\",\"path\":\"0\"}\n{\"path\":\"0\",\"e\":\"step\"}\n",
+        3,
+    ),
+    ("{\"e\":\"step\", \"path\":\"0\"}\n", 2),
+    ("{\"e\":\"step\",\"path\":\"0\",\"path\":\"0\"}\n", 2),
+    ("{\"e\":\"step\",\"path\":\"0\",\"worker\":0}\n", 2),
+    ("{\"e\":\"leap\",\"path\":\"0\"}\n", 2),
+    ("{\"e\":\"step\",\"path\":\"\"}\n", 2),
+    ("{\"e\":\"step\",\"path\":\"1\"}\n", 2),
+    ("{\"e\":\"step\",\"path\":\"00\"}\n", 2),
+    ("{\"e\":\"step\",\"path\":\"0.\"}\n", 2),
+    ("{\"e\":\"step\",\"path\":\"0.0\"}\n", 2),
+    ("{\"e\":\"step\",\"path\":\"0.01\"}\n", 2),
+    ("{\"e\":\"step\",\"path\":\"0.+1\"}\n", 2),
+    ("{\"e\":\"step\",\"path\":\"0.1.\"}\n", 2),
+    ("{\"e\":\"step\",\"path\":\"0..1\"}\n", 2),
+    ("{\"e\":\"step\",\"path\":\"0.4294967296\"}\n", 2),
+    ("{\"e\":\"step\",\"path\":\"\\u0030\"}\n", 2),
+    ("{\"e\":\"take\",\"path\":\"0\",\"worker\":64}\n", 2),
+    ("{\"e\":\"take\",\"path\":\"0\",\"worker\":-1}\n", 2),
+    ("{\"e\":\"take\",\"path\":\"0\",\"worker\":0.0}\n", 2),
+    ("{\"e\":\"take\",\"path\":\"0\",\"worker\":00}\n", 2),
+    (
+        "{\"e\":\"pass\",\"number\":4294967296,\"owner\":\"0\"}\n",
+        2,
+    ),
+];
+
+/// Texts whose first line is no header.
+const BAD_HEADERS: &[&str] = &[
+    "",
+    "\n",
+    "{\"e\":\"step\",\"path\":\"0\"}\n",
+    "{\"format\":1,\"nest\":100,\"steps\":1000000,\"w0\":8,\"workers\":1}",
+    "{\"format\":2,\"nest\":100,\"steps\":1000000,\"w0\":8,\"workers\":1}\n",
+    "{\"format\":1,\"nest\":1001,\"steps\":1000000,\"w0\":8,\"workers\":1}\n",
+    "{\"format\":1,\"nest\":100,\"steps\":0,\"w0\":8,\"workers\":1}\n",
+    "{\"format\":1,\"nest\":100,\"steps\":1000000001,\"w0\":8,\"workers\":1}\n",
+    "{\"format\":1,\"nest\":100,\"steps\":1000000,\"w0\":0,\"workers\":1}\n",
+    "{\"format\":1,\"nest\":100,\"steps\":1000000,\"w0\":4294967297,\"workers\":1}\n",
+    "{\"format\":1,\"nest\":100,\"steps\":1000000,\"w0\":8,\"workers\":0}\n",
+    "{\"format\":1,\"nest\":100,\"steps\":1000000,\"w0\":8,\"workers\":65}\n",
+    "{\"nest\":100,\"format\":1,\"steps\":1000000,\"w0\":8,\"workers\":1}\n",
+    "{\"format\":1,\"nest\":100,\"steps\":1000000,\"w0\":8,\"workers\":1} \n",
+];
+
+/// Lines of events in the widest range.
+const WIDEST: &[&str] = &[
+    "{\"e\":\"steal\",\"from\":0,\"path\":\"0.1.4294967295\",\"worker\":63}\n",
+    "{\"e\":\"replenish\",\"path\":\"0.12.3\"}\n",
+    "{\"e\":\"pass\",\"number\":4294967295,\"owner\":\"0.10\"}\n",
+    "{\"e\":\"pass\",\"number\":0,\"owner\":\"0.10\"}\n",
+];
+
+/// What a text is read as: the same text again, or what is wrong with it.
+fn told(rt: &impl Abort, alloc: Global, text: &str) -> String {
+    match read_lines(alloc, text) {
+        Ok((header, events)) => write_lines(alloc, &header, &events).expect(rt, "memory"),
+        Err(error) => format!(in alloc; "{error}").expect(rt, "memory"),
+    }
+}
+
+#[test]
+fn lines_are_read_and_written_again(rt: HostRuntime) {
+    let alloc = rt.alloc();
+    assert_eq!(rt; told(&rt, alloc, LINES).as_str(), LINES);
+    assert_eq!(rt; told(&rt, alloc, HEADER).as_str(), HEADER);
+    for line in WIDEST {
+        let mut text = String::from_str(alloc, HEADER).expect(&rt, "memory");
+        text.push_str(line).expect(&rt, "memory");
+        assert_eq!(rt; told(&rt, alloc, text.as_str()).as_str(), text.as_str());
+    }
+}
+
+#[test]
+fn the_table_has_a_line_for_each_event(rt: HostRuntime) {
+    let alloc = rt.alloc();
+    let (_, events) = read_lines(alloc, LINES).expect(&rt, "a trace");
+    let table = view(alloc, &events).expect(&rt, "memory");
+    assert_eq!(rt; table.as_str(), TABLE);
+}
+
+#[test]
+fn only_one_spelling_is_read(rt: HostRuntime) {
+    let alloc = rt.alloc();
+    for (events, number) in BAD_EVENTS {
+        let mut text = String::from_str(alloc, HEADER).expect(&rt, "memory");
+        text.push_str(events).expect(&rt, "memory");
+        let error = read_lines(alloc, text.as_str()).err();
+        assert_eq!(rt; error, Some(TraceError::NotALine(*number)), "{events}");
+    }
+    for text in BAD_HEADERS {
+        let error = read_lines(alloc, text).err();
+        assert_eq!(rt; error, Some(TraceError::NotALine(1)), "{text}");
+    }
+}
+
+/// What a text cut behind some bytes is read as.
+fn cut(rt: &impl Abort, alloc: Global, length: usize) -> String {
+    let bytes = LINES.as_bytes().get(..length).expect(rt, "within");
+    let front = std::str::from_utf8(bytes).expect(rt, "ascii");
+    told(rt, alloc, front)
+}
+
+#[test]
+fn a_text_that_is_cut_names_its_last_line(rt: HostRuntime) {
+    let alloc = rt.alloc();
+    let mut lines: usize = 0;
+    for (length, byte) in LINES.bytes().enumerate() {
+        let told = cut(&rt, alloc, length);
+        let whole = length > 0 && LINES.as_bytes().get(length - 1) == Some(&b'\n');
+        let number = lines + 1;
+        if whole {
+            assert_eq!(rt; told.len(), length);
+        } else {
+            let wanted = format!(in alloc; "J1 line {number}").expect(&rt, "memory");
+            assert_eq!(rt; told.as_str(), wanted.as_str());
+        }
+        if byte == b'\n' && lines < 100 {
+            lines += 1;
+        }
+    }
+}

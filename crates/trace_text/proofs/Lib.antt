@@ -1,0 +1,9 @@
+pub mod Marks
+pub mod Texts
+pub mod ReadBack
+pub mod Cuts
+pub mod Found
+pub mod Written
+pub mod PathReading
+pub mod Arms
+pub mod TableText

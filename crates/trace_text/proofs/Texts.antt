@@ -1,0 +1,221 @@
+-- The text of each line, written out.
+use Rattle.std.proofs.Common.{◌≡◌, ℕ, ◌^◌, ◌<◌, Bool, true, false, List, [], ◌∷◌, ◌++◌, codes}
+use Rattle.std.proofs.Common.{refl, ap, sym, ◌∙◌, append_assoc, append-nil, lit<}
+use Rattle.std.proofs.lemmas.Fmt.{decimal_digit}
+use Rattle.std.specs.Fmt.{decimal}
+use Rattle.types.specs.Names.{path_text}
+use Rattle.json.specs.Print.{escape, escape_byte, quoted}
+use Rattle.serde_json.specs.Data.{Data, Members, member, no_members, object, string, number, unsigned}
+use Rattle.serde_json.specs.Written.{comma_if, compact_text, members_text}
+use Rattle.trace_text.proofs.Marks.{escape-path}
+use Rattle.trace_text.specs.Headers.{TraceHeader}
+use Rattle.trace_text.specs.Kinds.{kind_name}
+use Rattle.trace_text.specs.Lines.{line, text_under, number_under, task_object, worker_object, steal_object, pass_object, header_object}
+use Rattle.trace_text.specs.declared.kind.Kind.{Kind}
+use Rattle.trace_text.specs.declared.kind.Kind.TheVariants.{Take, Steal, Step, Replenish, Spawn, Open, Park, End, Pass, Resume}
+
+-- what stands in a line as it is
+abbrev pub IsPlain : List ℕ → Type 0
+IsPlain s = escape s ≡ s
+
+pub IsPlain-kind : (k : Kind) → IsPlain (kind_name k)
+unfolding escape_byte
+IsPlain-kind Take = refl
+IsPlain-kind Steal = refl
+IsPlain-kind Step = refl
+IsPlain-kind Replenish = refl
+IsPlain-kind Spawn = refl
+IsPlain-kind Open = refl
+IsPlain-kind Park = refl
+IsPlain-kind End = refl
+IsPlain-kind Pass = refl
+IsPlain-kind Resume = refl
+
+-- ---- one key more
+quoted_then : (s rest : List ℕ) → IsPlain s → quoted s ++ rest ≡ 34 ∷ (s ++ (34 ∷ rest))
+quoted_then s rest plain =
+    ap (λ (l : List ℕ). 34 ∷ ((l ++ (34 ∷ [])) ++ rest)) plain
+    ∙ ap (λ (l : List ℕ). 34 ∷ l) (append_assoc s (34 ∷ []) rest)
+
+member_then : (later : Bool) (k text more rest : List ℕ) → IsPlain k
+    → (comma_if later ++ (quoted k ++ (58 ∷ (text ++ more)))) ++ rest
+    ≡ comma_if later ++ (34 ∷ (k ++ (34 ∷ (58 ∷ (text ++ (more ++ rest))))))
+member_then later k text more rest plain =
+    append_assoc (comma_if later) (quoted k ++ (58 ∷ (text ++ more))) rest
+    ∙ ap (λ (l : List ℕ). comma_if later ++ l)
+    (append_assoc (quoted k) (58 ∷ (text ++ more)) rest
+    ∙ ap (λ (l : List ℕ). quoted k ++ (58 ∷ l)) (append_assoc text more rest)
+    ∙ quoted_then k (58 ∷ (text ++ (more ++ rest))) plain)
+
+text_then : (later : Bool) (k s rest : List ℕ) (ms : Members) → IsPlain k → IsPlain s
+    → members_text later (text_under k s ms) ++ rest
+    ≡ comma_if later ++ (34 ∷ (k ++ (34 ∷ (58 ∷ (34 ∷ (s ++ (34 ∷ (members_text true ms ++ rest))))))))
+text_then later k s rest ms plain_key plain =
+    member_then later k (quoted s) (members_text true ms) rest plain_key
+    ∙ ap (λ (l : List ℕ). comma_if later ++ (34 ∷ (k ++ (34 ∷ (58 ∷ l)))))
+    (quoted_then s (members_text true ms ++ rest) plain)
+
+number_then : (later : Bool) (k rest : List ℕ) (n : ℕ) (ms : Members) → IsPlain k
+    → members_text later (number_under k n ms) ++ rest
+    ≡ comma_if later ++ (34 ∷ (k ++ (34 ∷ (58 ∷ (decimal n ++ (members_text true ms ++ rest))))))
+number_then later k rest n ms plain_key = member_then later k (decimal n) (members_text true ms) rest plain_key
+
+-- the keys
+key_e : IsPlain (codes "e")
+unfolding escape_byte
+key_e = refl
+
+key_path : IsPlain (codes "path")
+unfolding escape_byte
+key_path = refl
+
+key_worker : IsPlain (codes "worker")
+unfolding escape_byte
+key_worker = refl
+
+key_from : IsPlain (codes "from")
+unfolding escape_byte
+key_from = refl
+
+key_number : IsPlain (codes "number")
+unfolding escape_byte
+key_number = refl
+
+key_owner : IsPlain (codes "owner")
+unfolding escape_byte
+key_owner = refl
+
+key_format : IsPlain (codes "format")
+unfolding escape_byte
+key_format = refl
+
+key_nest : IsPlain (codes "nest")
+unfolding escape_byte
+key_nest = refl
+
+key_steps : IsPlain (codes "steps")
+unfolding escape_byte
+key_steps = refl
+
+key_w0 : IsPlain (codes "w0")
+unfolding escape_byte
+key_w0 = refl
+
+key_workers : IsPlain (codes "workers")
+unfolding escape_byte
+key_workers = refl
+
+-- ---- lines, with what stands behind the object
+abbrev pub task_words : (kind path rest : List ℕ) → List ℕ
+task_words kind path rest =
+    codes "{\"e\":\"" ++ (kind ++ (codes "\",\"path\":\"" ++ (path ++ (codes "\"}" ++ rest))))
+
+pub text_of_task : (kind : Kind) (path rest : List ℕ)
+    → compact_text (task_object kind path) ++ rest ≡ task_words (kind_name kind) (path_text path) rest
+text_of_task kind path rest =
+    let behind = text_under (codes "path") (path_text path) no_members in
+    ap (λ (l : List ℕ). 123 ∷ l) (text_then false (codes "e") (kind_name kind) rest behind key_e (IsPlain-kind kind))
+    ∙ ap (λ (l : List ℕ). codes "{\"e\":\"" ++ (kind_name kind ++ (34 ∷ l)))
+    (text_then true (codes "path") (path_text path) rest no_members key_path (escape-path path))
+
+abbrev pub worker_words : (kind path worker rest : List ℕ) → List ℕ
+worker_words kind path worker rest =
+    codes "{\"e\":\"" ++ (kind ++ (codes "\",\"path\":\"" ++ (path ++ (codes "\",\"worker\":" ++ (worker ++ (codes "}" ++ rest))))))
+
+pub text_of_worker : (kind : Kind) (worker : ℕ) (path rest : List ℕ)
+    → compact_text (worker_object kind worker path) ++ rest
+    ≡ worker_words (kind_name kind) (path_text path) (decimal worker) rest
+text_of_worker kind worker path rest =
+    let last = number_under (codes "worker") worker no_members in
+    let behind = text_under (codes "path") (path_text path) last in
+    ap (λ (l : List ℕ). 123 ∷ l) (text_then false (codes "e") (kind_name kind) rest behind key_e (IsPlain-kind kind))
+    ∙ ap (λ (l : List ℕ). codes "{\"e\":\"" ++ (kind_name kind ++ (34 ∷ l)))
+    (text_then true (codes "path") (path_text path) rest last key_path (escape-path path)
+    ∙ ap (λ (l : List ℕ). codes ",\"path\":\"" ++ (path_text path ++ (34 ∷ l)))
+    (number_then true (codes "worker") rest worker no_members key_worker))
+
+abbrev pub steal_words : (from path worker rest : List ℕ) → List ℕ
+steal_words from path worker rest =
+    codes "{\"e\":\"steal\",\"from\":" ++ (from ++ (codes ",\"path\":\"" ++ (path ++ (codes "\",\"worker\":" ++ (worker ++ (codes "}" ++ rest))))))
+
+pub text_of_steal : (worker from : ℕ) (path rest : List ℕ)
+    → compact_text (steal_object worker from path) ++ rest
+    ≡ steal_words (decimal from) (path_text path) (decimal worker) rest
+text_of_steal worker from path rest =
+    let last = number_under (codes "worker") worker no_members in
+    let third = text_under (codes "path") (path_text path) last in
+    let second = number_under (codes "from") from third in
+    ap (λ (l : List ℕ). 123 ∷ l) (text_then false (codes "e") (kind_name Steal) rest second key_e (IsPlain-kind Steal))
+    ∙ ap (λ (l : List ℕ). codes "{\"e\":\"steal\"" ++ l)
+    (number_then true (codes "from") rest from third key_from
+    ∙ ap (λ (l : List ℕ). codes ",\"from\":" ++ (decimal from ++ l))
+    (text_then true (codes "path") (path_text path) rest last key_path (escape-path path)
+    ∙ ap (λ (l : List ℕ). codes ",\"path\":\"" ++ (path_text path ++ (34 ∷ l)))
+    (number_then true (codes "worker") rest worker no_members key_worker)))
+
+abbrev pub pass_words : (n owner rest : List ℕ) → List ℕ
+pass_words n owner rest =
+    codes "{\"e\":\"pass\",\"number\":" ++ (n ++ (codes ",\"owner\":\"" ++ (owner ++ (codes "\"}" ++ rest))))
+
+pub text_of_pass : (n : ℕ) (owner rest : List ℕ)
+    → compact_text (pass_object n owner) ++ rest ≡ pass_words (decimal n) (path_text owner) rest
+text_of_pass n owner rest =
+    let last = text_under (codes "owner") (path_text owner) no_members in
+    let second = number_under (codes "number") n last in
+    ap (λ (l : List ℕ). 123 ∷ l) (text_then false (codes "e") (kind_name Pass) rest second key_e (IsPlain-kind Pass))
+    ∙ ap (λ (l : List ℕ). codes "{\"e\":\"pass\"" ++ l)
+    (number_then true (codes "number") rest n last key_number
+    ∙ ap (λ (l : List ℕ). codes ",\"number\":" ++ (decimal n ++ l))
+    (text_then true (codes "owner") (path_text owner) rest no_members key_owner (escape-path owner)))
+
+abbrev pub header_words : (nest steps w0 workers rest : List ℕ) → List ℕ
+header_words nest steps w0 workers rest =
+    codes "{\"format\":1,\"nest\":" ++ (nest ++ (codes ",\"steps\":" ++ (steps ++ (codes ",\"w0\":" ++ (w0 ++ (codes ",\"workers\":" ++ (workers ++ (codes "}" ++ rest))))))))
+
+pub text_of_header : (h : TraceHeader) (rest : List ℕ)
+    → compact_text (header_object h) ++ rest
+    ≡ header_words (decimal h.nest) (decimal h.steps) (decimal h.w0) (decimal h.workers) rest
+text_of_header h rest =
+    let fifth = number_under (codes "workers") h.workers no_members in
+    let fourth = number_under (codes "w0") h.w0 fifth in
+    let third = number_under (codes "steps") h.steps fourth in
+    let second = number_under (codes "nest") h.nest third in
+    ap (λ (l : List ℕ). 123 ∷ l) (number_then false (codes "format") rest 1 second key_format)
+    ∙ ap (λ (l : List ℕ). codes "{\"format\":" ++ (l ++ (members_text true second ++ rest))) (decimal_digit 1 (lit< tt))
+    ∙ ap (λ (l : List ℕ). codes "{\"format\":1" ++ l)
+    (number_then true (codes "nest") rest h.nest third key_nest
+    ∙ ap (λ (l : List ℕ). codes ",\"nest\":" ++ (decimal h.nest ++ l))
+    (number_then true (codes "steps") rest h.steps fourth key_steps
+    ∙ ap (λ (l : List ℕ). codes ",\"steps\":" ++ (decimal h.steps ++ l))
+    (number_then true (codes "w0") rest h.w0 fifth key_w0
+    ∙ ap (λ (l : List ℕ). codes ",\"w0\":" ++ (decimal h.w0 ++ l))
+    (number_then true (codes "workers") rest h.workers no_members key_workers))))
+
+-- ---- whole lines
+pub line_of_task : (kind : Kind) (path : List ℕ)
+    → line (task_object kind path) ≡ task_words (kind_name kind) (path_text path) (codes "\n")
+unfolding line
+line_of_task kind path = text_of_task kind path (codes "\n")
+
+pub line_of_worker : (kind : Kind) (worker : ℕ) (path : List ℕ)
+    → line (worker_object kind worker path)
+    ≡ worker_words (kind_name kind) (path_text path) (decimal worker) (codes "\n")
+unfolding line
+line_of_worker kind worker path = text_of_worker kind worker path (codes "\n")
+
+pub line_of_steal : (worker from : ℕ) (path : List ℕ)
+    → line (steal_object worker from path)
+    ≡ steal_words (decimal from) (path_text path) (decimal worker) (codes "\n")
+unfolding line
+line_of_steal worker from path = text_of_steal worker from path (codes "\n")
+
+pub line_of_pass : (n : ℕ) (owner : List ℕ)
+    → line (pass_object n owner) ≡ pass_words (decimal n) (path_text owner) (codes "\n")
+unfolding line
+line_of_pass n owner = text_of_pass n owner (codes "\n")
+
+pub line_of_header : (h : TraceHeader)
+    → line (header_object h)
+    ≡ header_words (decimal h.nest) (decimal h.steps) (decimal h.w0) (decimal h.workers) (codes "\n")
+unfolding line
+line_of_header h = text_of_header h (codes "\n")

@@ -1,0 +1,15 @@
+use Rattle.std.proofs.Common.{ℕ, List, ◌++◌, ap, sym, ◌∙◌, codes}
+use Rattle.std.specs.Fmt.{decimal}
+use Rattle.std.specs.String.{string_bytes}
+use Rattle.types.specs.Names.{path_text}
+use Rattle.trace_text.specs.Kinds.{kind_name}
+use Rattle.trace_text.proofs.Written.{ok_then}
+use Rattle.trace_text.specs.Headers.{header_of}
+use Rattle.trace_text.proofs.Texts.{line_of_header}
+use Rattle.trace_text.proofs.line.push_header.Goals as goal
+
+pub returns : goal.returns
+returns c =
+    let old = string_bytes c.args.text.now in
+    ok_then c.write.result c.write.ensures.bytes (λ bytes. bytes
+    ∙ ap (λ (l : List ℕ). old ++ l) (sym (line_of_header (header_of c.args.header.now))))

@@ -1,0 +1,7 @@
+pub mod Fields
+pub mod Headers
+pub mod Kinds
+pub mod Lines
+pub mod Reading
+pub mod Spelled
+pub mod Table

@@ -1,0 +1,76 @@
+-- The table of a trace: a line for each event.
+use Rattle.std.specs.Prelude.{ℕ, ◌+◌, ◌-◌, List, [], ◌∷◌, ◌++◌, Option, Some, None, codes, length, replicate}
+use Rattle.std.specs.Fmt.{decimal}
+use Rattle.types.specs.Names.{path_text, scope_text}
+use Rattle.events.specs.Events.{Event, Take, Steal, Steps, Replenish, Spawns, Opens, Parks}
+use Rattle.events.specs.Events.{Ends, Pass, Resume}
+use Rattle.trace_text.specs.Kinds.{kind_name, kind_of}
+
+-- a text right in so many places, behind spaces, or left in them
+abbrev pub right_in : ℕ → List ℕ → List ℕ
+right_in width text = replicate (width - length text) 32 ++ text
+
+abbrev pub left_in : ℕ → List ℕ → List ℕ
+left_in width text = text ++ replicate (width - length text) 32
+
+-- which worker does it, where one is named
+abbrev pub worker_of : Event → Option ℕ
+worker_of (Take worker path) = Some worker
+worker_of (Steal worker from path) = Some worker
+worker_of (Steps path) = None
+worker_of (Replenish path) = None
+worker_of (Spawns path) = None
+worker_of (Opens path) = None
+worker_of (Parks path) = None
+worker_of (Ends path) = None
+worker_of (Pass scope) = None
+worker_of (Resume worker path) = Some worker
+
+-- from whom it is stolen
+abbrev pub from_of : Event → Option ℕ
+from_of (Take worker path) = None
+from_of (Steal worker from path) = Some from
+from_of (Steps path) = None
+from_of (Replenish path) = None
+from_of (Spawns path) = None
+from_of (Opens path) = None
+from_of (Parks path) = None
+from_of (Ends path) = None
+from_of (Pass scope) = None
+from_of (Resume worker path) = None
+
+-- the task, or the scope
+abbrev pub whose : Event → List ℕ
+whose (Take worker path) = path_text path
+whose (Steal worker from path) = path_text path
+whose (Steps path) = path_text path
+whose (Replenish path) = path_text path
+whose (Spawns path) = path_text path
+whose (Opens path) = path_text path
+whose (Parks path) = path_text path
+whose (Ends path) = path_text path
+whose (Pass scope) = scope_text scope.owner scope.number
+whose (Resume worker path) = path_text path
+
+-- a worker right in two places, or blanks, and a space
+abbrev pub column : Option ℕ → List ℕ
+column None = codes "   "
+column (Some worker) = right_in 2 (decimal worker) ++ codes " "
+
+-- who does it to what
+abbrev pub deed : Event → List ℕ
+deed e = column (worker_of e) ++ (column (from_of e) ++ (whose e ++ codes "\n"))
+
+-- the number right in eight places, the kind left in nine, the worker, from whom, and the task or scope
+abbrev pub table_line : ℕ → Event → List ℕ
+table_line n e =
+    right_in 8 (decimal n)
+    ++ (codes " " ++ (left_in 9 (kind_name (kind_of e)) ++ (codes " " ++ deed e)))
+
+-- the lines of events from this number on
+abbrev pub table_from : ℕ → List Event → List ℕ
+table_from n [] = []
+table_from n (e ∷ es) = table_line n e ++ table_from (n + 1) es
+
+abbrev pub table_text : List Event → List ℕ
+table_text = table_from 0

@@ -1,0 +1,39 @@
+//! The first line of a trace: what its run was asked for.
+
+ghost use Rattle.std.specs.Prelude.{◌≡◌, ◌<◌, ◌≤◌, ◌⊎◌, ◌↔◌, IsNone, IfSome};
+
+use events::worker_id::MOST_WORKERS;
+use types::budget::Budget;
+
+/// The weight that a scope issues at a time, at most.
+pub const MOST_WEIGHT: u64 = 4_294_967_296;
+
+/// What a run was asked for.
+#[derive(Clone, Copy, PartialEq, Eq, Debug)]
+pub struct Header {
+    pub budget: Budget,
+    /// The weight that a scope issues at a time, 1 to 4294967296.
+    pub w0: u64,
+    /// How many workers the run has, 1 to 64.
+    pub workers: u32,
+    ghost weight_in_range: { (1 ≤ w0) × (w0 ≤ 4294967296) },
+    ghost workers_in_range: { (1 ≤ workers) × (workers ≤ 64) },
+}
+
+impl Header {
+    /// The header of these numbers, or None where the weight or the workers are out of their range.
+    pub fn new(budget: Budget, w0: u64, workers: u32) -> Option<Header>
+        ensures none { IsNone result ↔ ((w0 < 1) ⊎ (4294967296 < w0) ⊎ (workers < 1) ⊎ (64 < workers)) }
+        ensures some { IfSome result
+            (λ h. (h.budget ≡ budget) × (h.w0 ≡ w0) × (h.workers ≡ workers)) }
+    {
+        if w0 < 1 || w0 > MOST_WEIGHT || workers < 1 || workers > MOST_WORKERS {
+            return None;
+        }
+        Some(Header {
+            budget,
+            w0,
+            workers,
+        })
+    }
+}

@@ -1,0 +1,13 @@
+//! The text of a trace: what a run was asked for and its events, as lines of JSON, and as a table.
+
+#![tactic(auto)]
+
+mod cut;
+pub mod error;
+pub mod header;
+pub mod kind;
+mod line;
+mod path;
+pub mod read;
+pub mod table;
+pub mod write;
