@@ -1,20 +1,25 @@
 -- What a line is, and what stands first in a text.
-use Rattle.std.proofs.Common.{◌≡◌, ◌≢◌, ℕ, ◌+◌, ◌<◌, List, [], ◌∷◌, ◌++◌, length, Option, Some, None, map}
-use Rattle.std.proofs.Common.{refl, ap, sym, subst, ◌∙◌, arith, append_assoc, append-nil, length-append, codes}
+use Rattle.std.proofs.Common.{◌≡◌, ◌≢◌, ℕ, ◌+◌, ◌<◌, ◌≤◌, List, [], ◌∷◌, ◌++◌, length, Option, Some, None, map}
+use Rattle.std.proofs.Common.{refl, ap, sym, subst, ◌∙◌, arith, append_assoc, append-nil, length-append, codes, inr}
 use Rattle.std.specs.List.{All, flat_map}
-use Rattle.std.proofs.lemmas.List.{append_cancel_right}
+use Rattle.std.proofs.lemmas.List.{append_cancel_right, length-map}
 use Rattle.std.proofs.lemmas.List.Concat.{flat_map-append}
 use Rattle.std.proofs.lemmas.List.Elements.{All-push}
 use Rattle.std.proofs.lemmas.Slice.Eq.{bytes_eq-Decides}
 use Rattle.std.specs.Str.{bytes_eq}
-use Rattle.std.specs.Prelude.{Bool, true, false, IsTrue}
-use Rattle.events.specs.Events.{Event}
+use Rattle.std.specs.Prelude.{Bool, true, false, IsTrue, IfNone, IfSome, ◌⊎◌}
+use Rattle.core.specs.Bool.{then_some}
+use Rattle.events.specs.Events.{Event, event}
+use Rattle.events.specs.declared.event.Event.{Event as rEvent}
 use Rattle.serde_json.specs.Data.{Data}
 use Rattle.serde_json.specs.Read.{read}
 use Rattle.serde_json.specs.Written.{compact_text}
 use Rattle.trace_text.specs.Headers.{TraceHeader, IsHeader}
 use Rattle.trace_text.specs.Lines.{line, event_line, event_object, header_line, header_object}
 use Rattle.trace_text.specs.Reading.{AreEvents, BeginsWithEvent, BeginsWithHeader, IsBadEvent}
+use Rattle.trace_text.specs.Reading.{IsEventRefusal, IsRefusal}
+use Rattle.trace_text.specs.declared.error.TraceError.{TraceError}
+use Rattle.trace_text.specs.declared.error.TraceError.TheVariants.{NotALine, NoMemory}
 use Rattle.trace_text.specs.Spelled.{IsCutAt, IsSpelled, Lacks}
 use Rattle.trace_text.proofs.Cuts.{not_lacking, one_cut}
 use Rattle.trace_text.proofs.ReadBack.{read-event, read-header, Lacks-event, Lacks-header}
@@ -122,19 +127,39 @@ front_all text rest es front none =
     }
 
 -- something is left in which no event's line stands first
-pub front_bad : (n : ℕ) (text rest : List ℕ) (es : List Event) → Front text rest es → n ≡ length es + 2 → rest ≢ []
-    → (BeginsWithEvent rest → ⊥) → IsBadEvent n text
-front_bad n text rest es front number some bad =
+pub front_bad : (text rest : List ℕ) (es : List rEvent) → Front text rest (map event es) → rest ≢ []
+    → (BeginsWithEvent rest → ⊥) → IsBadEvent (length es + 2) text
+front_bad text rest es front some bad =
+    let told = map event es in
     record {
-      events = es;
-      before = flat_map event_line es;
+      events = told;
+      before = flat_map event_line told;
       rest = rest;
       good = record { spelled = front.spelled; lines = refl };
       parts = front.parts;
-      number = number;
+      number = ap (λ (n : ℕ). n + 2) (sym (length-map es event));
       some = some;
       bad = bad;
     }
+
+pub cut_some : (text before behind : List ℕ) → IsCutAt 10 before behind text → text ≢ []
+cut_some text before behind cut none =
+    let total = ap length (sym none ∙ cut.parts) ∙ length-append before (10 ∷ behind) in
+    absurd (omega (arith, total))
+
+pub long_some : (text : List ℕ) → 0 < length text → text ≢ []
+long_some text long none = absurd (omega (arith, ap length none))
+
+pub none_left : (text : List ℕ) → length text ≤ 0 → text ≡ []
+none_left [] short = refl
+none_left (x ∷ xs) short = absurd (omega arith)
+
+-- what is wrong behind a header's line is wrong in the whole
+pub refused_behind : (text rest : List ℕ) (h : TraceHeader) (e : TraceError) → IsHeader h → text ≡ header_line h ++ rest
+    → IsEventRefusal rest e → IsRefusal text e
+refused_behind text rest h (NotALine n) fits parts bad =
+    inr (record { first = record { header = h; behind = rest; fits = fits; parts = parts }; later = bad })
+refused_behind text rest h NoMemory fits parts bad = bad
 
 -- less is left behind a cut
 pub cut_shorter : (text before behind : List ℕ) → IsCutAt 10 before behind text → length behind < length text
@@ -164,28 +189,34 @@ pub unread-header : (text : List ℕ) → None ≡ read text → (h : TraceHeade
 unread-header text none h fits same = let one = reads-header text h fits same in cc
 
 -- a line that isn't spelled as what its value tells
-other_line : (text again mine : List ℕ) (b : Bool) → (text ++ codes "\n" ≡ again → IsTrue b) → again ≡ mine → b ≡ false
-    → text ++ codes "\n" ≡ mine → ⊥
-other_line text again mine b decides written differs same =
-    let yes : b ≡ true = decides (same ∙ sym written) in cc
-
-pub misspelled-event : (text again : List ℕ) (d : Data) (found : Event) (b : Bool) → Some d ≡ read text
-    → ((e : Event) → IsSpelled e → d ≡ event_object e → Some found ≡ Some e)
-    → (text ++ codes "\n" ≡ again → IsTrue b) → again ≡ event_line found → b ≡ false
+pub misspelled-event : (text : List ℕ) (d : Data) (o : Option Event) (found : Event) (b : Bool) → Some d ≡ read text
+    → ((e : Event) → IsSpelled e → d ≡ event_object e → o ≡ Some e) → o ≡ Some found
+    → (text ++ codes "\n" ≡ event_line found → IsTrue b) → b ≡ false
     → (e : Event) → IsSpelled e → text ++ codes "\n" ≡ event_line e → ⊥
-misspelled-event text again d found b value told decides written differs e h same =
-    let both : Some found ≡ Some e = told-event text d (Some found) value told e h same in
-    let one : e ≡ found = cc in
-    other_line text again (event_line found) b decides written differs (same ∙ ap event_line one)
+misspelled-event text d o found b value told is decides differs e h same =
+    let one : o ≡ Some e = told-event text d o value told e h same in
+    let both : e ≡ found = cc in
+    let yes : b ≡ true = decides (same ∙ ap event_line both) in cc
 
-pub misspelled-header : (text again : List ℕ) (d : Data) (found : TraceHeader) (b : Bool) → Some d ≡ read text
-    → ((h : TraceHeader) → IsHeader h → d ≡ header_object h → Some found ≡ Some h)
-    → (text ++ codes "\n" ≡ again → IsTrue b) → again ≡ header_line found → b ≡ false
+pub misspelled-header : (text : List ℕ) (d : Data) (o : Option TraceHeader) (found : TraceHeader) (b : Bool) → Some d ≡ read text
+    → ((h : TraceHeader) → IsHeader h → d ≡ header_object h → o ≡ Some h) → o ≡ Some found
+    → (text ++ codes "\n" ≡ header_line found → IsTrue b) → b ≡ false
     → (h : TraceHeader) → IsHeader h → text ++ codes "\n" ≡ header_line h → ⊥
-misspelled-header text again d found b value told decides written differs h fits same =
-    let both : Some found ≡ Some h = told-header text d (Some found) value told h fits same in
-    let one : h ≡ found = cc in
-    other_line text again (header_line found) b decides written differs (same ∙ ap header_line one)
+misspelled-header text d o found b value told is decides differs h fits same =
+    let one : o ≡ Some h = told-header text d o value told h fits same in
+    let both : h ≡ found = cc in
+    let yes : b ≡ true = decides (same ∙ ap header_line both) in cc
+
+-- what is kept where a test holds, and what is let go
+pub if_kept : {A : Type 0} {Q : A → Type 0} (same : Bool) (x : A) (o : Option A) → o ≡ then_some same x
+    → (IsTrue same → Q x) → IfSome o Q
+if_kept {A} {Q} true x o is holds = subst (λ (v : Option A). IfSome v Q) (sym is) (holds refl)
+if_kept {A} {Q} false x o is holds = subst (λ (v : Option A). IfSome v Q) (sym is) tt
+
+pub if_let_go : {A : Type 0} {P : Type 0} (same : Bool) (x : A) (o : Option A) → o ≡ then_some same x
+    → (same ≡ false → P) → IfNone o P
+if_let_go {A} {P} true x o is holds = subst (λ (v : Option A). IfNone v P) (sym is) tt
+if_let_go {A} {P} false x o is holds = subst (λ (v : Option A). IfNone v P) (sym is) (holds refl)
 
 -- whether a line with its line feed is a text that ends by one
 pub line_decided : (front text again : List ℕ) (r : Bool) → again ≡ front ++ (10 ∷ []) → r ≡ bytes_eq front text

@@ -1,7 +1,7 @@
 //! How a trace is read.
 
-ghost use Rattle.std.specs.Prelude.{◌≡◌, ◌<◌, ◌++◌, ◌↔◌, ℕ, List, All, IfErr, IfNone, IfOk, IfSome};
-ghost use Rattle.std.specs.Prelude.{IsTrue, Some, codes, map, option_map, option_and_then};
+ghost use Rattle.std.specs.Prelude.{◌≡◌, ◌<◌, ◌+◌, ◌++◌, ◌↔◌, ℕ, List, All, IfErr, IfNone, IfOk, IfSome};
+ghost use Rattle.std.specs.Prelude.{IsTrue, Some, codes, length, map, option_map, option_and_then};
 ghost use Rattle.types.specs.Names.{path_text};
 ghost use Rattle.events.specs.Events.{Event as AnyEvent, Take as IsTake, Steal as IsSteal};
 ghost use Rattle.events.specs.Events.{Pass as IsPass, Resume as IsResume};
@@ -53,18 +53,24 @@ fn read_events(alloc: Global, text: &str) -> Result<Vec<Event>, TraceError>
 {
     let mut events = Vec::new(alloc);
     let mut rest = text;
-    'lines: while !rest.is_empty() {
-        let number = events.len() + 2;
-        let Some((line, behind)) = cut_at(rest, '\n') else {
-            return Err(TraceError::NotALine(number));
-        };
+    'lines: while let Some((line, behind)) = cut_at(rest, '\n') {
         let Some(event) = read_event(alloc, line)? else {
-            return Err(TraceError::NotALine(number));
+            return Err(no_line_behind(&events));
         };
         events.push(event)?;
         rest = behind;
     }
+    if rest.len() > 0 {
+        return Err(no_line_behind(&events));
+    }
     Ok(events)
+}
+
+/// The line behind those of a header and of these events is none.
+fn no_line_behind(events: &[Event]) -> TraceError
+    ensures { result ≡ TraceError.NotALine (length events.now + 2) }
+{
+    TraceError::NotALine(events.len() + 2)
 }
 
 /// The header of a line, given without its line feed.
@@ -80,13 +86,8 @@ fn read_header(alloc: Global, line: &str) -> Result<Option<Header>, AllocError>
     let Some(header) = header_in(&value) else {
         return Ok(None);
     };
-    let mut again = String::new(alloc);
-    push_header(&mut again, &header)?;
-    Ok(if is_line(line, again.as_str()) {
-        Some(header)
-    } else {
-        None
-    })
+    let same = is_header_line(alloc, line, &header)?;
+    Ok(same.then_some(header))
 }
 
 /// The event of a line, given without its line feed.
@@ -102,13 +103,28 @@ fn read_event(alloc: Global, line: &str) -> Result<Option<Event>, AllocError>
     let Some(event) = event_in(alloc, &value)? else {
         return Ok(None);
     };
+    let same = is_event_line(alloc, line, &event)?;
+    Ok(same.then_some(event))
+}
+
+/// Whether a line is that of a header.
+fn is_header_line(alloc: Global, line: &str, header: &Header) -> Result<bool, AllocError>
+    ensures { IfOk result (λ same. IsTrue same
+        ↔ (line.now ++ codes "\n" ≡ header_line (header_of header.now))) }
+{
     let mut again = String::new(alloc);
-    push_event(&mut again, &event)?;
-    Ok(if is_line(line, again.as_str()) {
-        Some(event)
-    } else {
-        None
-    })
+    push_header(&mut again, header)?;
+    Ok(is_line(line, again.as_str()))
+}
+
+/// Whether a line is that of an event.
+fn is_event_line(alloc: Global, line: &str, event: &Event) -> Result<bool, AllocError>
+    ensures { IfOk result (λ same. IsTrue same
+        ↔ (line.now ++ codes "\n" ≡ event_line (event_of event.now))) }
+{
+    let mut again = String::new(alloc);
+    push_event(&mut again, event)?;
+    Ok(is_line(line, again.as_str()))
 }
 
 /// Whether a line, with its line feed, is this text.
