@@ -1,54 +1,88 @@
--- What the value of an event's line tells, kind by kind.
-use Rattle.std.proofs.Common.{◌≡◌, ℕ, ◌<◌, List, Option, Some, None, refl, ap, sym, ◌∙◌, codes}
-use Rattle.std.specs.Prelude.{option_map, IfSome}
+-- The text of an event's line kind by kind, and what of it tells which event it is.
+use Rattle.std.proofs.Common.{◌≡◌, ℕ, ◌<◌, true, arith, List, [], ◌∷◌, ◌++◌, Option, Some, None, refl, ap, sym, ◌∙◌, append-nil, codes}
+use Rattle.std.specs.Prelude.{option_map, IfSome, sum}
+use Rattle.std.specs.Fmt.{decimal}
 use Rattle.types.specs.Names.{path_text}
 use Rattle.types.specs.declared.path.Path.{Path}
-use Rattle.types.specs.declared.scope_id.ScopeId.{ScopeId as rScopeId}
 use Rattle.events.specs.Events.{Event, Take, Steal, Steps, Replenish, Spawns, Opens, Parks}
-use Rattle.events.specs.Events.{Ends, Pass, Resume, ScopeId, event, scope_id, turns_of}
+use Rattle.events.specs.Events.{Ends, Pass, Resume, ScopeId, event, turns_of}
 use Rattle.events.specs.declared.event.Event.{Event as rEvent}
-use Rattle.serde_json.specs.Data.{Data}
-use Rattle.trace_text.specs.Fields.{number_at, text_at}
+use Rattle.serde_json.specs.Written.{compact_text}
+use Rattle.trace_text.specs.Fields.{fields, pass_fields, steal_fields, task_fields, worker_fields}
+use Rattle.trace_text.specs.Headers.{TraceHeader}
 use Rattle.trace_text.specs.Kinds.{kind_name, kind_of}
-use Rattle.trace_text.specs.Lines.{event_object}
-use Rattle.trace_text.specs.Spelled.{IsPath, IsScope, IsSpelled, IsTheft, IsWorkers}
+use Rattle.trace_text.specs.Lines.{event_object, header_object}
+use Rattle.trace_text.specs.Spelled.{Lacks, IsPath, IsScope, IsSpelled, IsTheft, IsWorkers}
 use Rattle.trace_text.specs.declared.kind.Kind.{Kind}
 use Rattle.trace_text.specs.declared.kind.Kind.TheVariants.{Take as IsTake, Steal as IsSteal}
 use Rattle.trace_text.specs.declared.kind.Kind.TheVariants.{Step as IsStep, Replenish as IsReplenish}
 use Rattle.trace_text.specs.declared.kind.Kind.TheVariants.{Spawn as IsSpawn, Open as IsOpen}
 use Rattle.trace_text.specs.declared.kind.Kind.TheVariants.{Park as IsPark, End as IsEnd}
 use Rattle.trace_text.specs.declared.kind.Kind.TheVariants.{Pass as IsPass, Resume as IsResume}
+use Rattle.trace_text.proofs.Marks.{above, Lacks-above}
+use Rattle.trace_text.proofs.Texts.{text_of_header, text_of_pass, text_of_steal, text_of_task, text_of_worker}
 
--- the kind stands under `e`
-kind_under : (e : Event) → text_at (codes "e") (event_object e) ≡ Some (kind_name (kind_of e))
-kind_under (Take worker path) = refl
-kind_under (Steal worker from path) = refl
-kind_under (Steps path) = refl
-kind_under (Replenish path) = refl
-kind_under (Spawns path) = refl
-kind_under (Opens path) = refl
-kind_under (Parks path) = refl
-kind_under (Ends path) = refl
-kind_under (Pass scope) = refl
-kind_under (Resume worker path) = refl
+-- a text with nothing behind it
+bare : {text words : List ℕ} → text ++ [] ≡ words → text ≡ words
+bare {text} {words} same = sym (append-nil text) ∙ same
 
--- so what is found there is the event's kind
-pub kind_found : (d : Data) (o : Option Kind)
-    → ((k : Kind) → text_at (codes "e") d ≡ Some (kind_name k) → o ≡ Some k)
-    → (e : Event) → d ≡ event_object e → o ≡ Some (kind_of e)
-kind_found d o found e same = found (kind_of e) (ap (text_at (codes "e")) same ∙ kind_under e)
+-- ---- the text of a header's line
+abbrev pub behind_w0 : TraceHeader → List ℕ
+behind_w0 h = codes "\"workers\":" ++ (decimal h.workers ++ codes "}")
 
--- in the arm of a kind it is the event's
-pub kind_is : (d : Data) (o : Option Kind) (k arm : Kind)
-    → ((j : Kind) → text_at (codes "e") d ≡ Some (kind_name j) → o ≡ Some j)
-    → o ≡ Some k → k ≡ arm → (e : Event) → d ≡ event_object e → arm ≡ kind_of e
-kind_is d o k arm found is same e tells =
-    let one : o ≡ Some (kind_of e) = kind_found d o found e tells in cc
+abbrev pub behind_steps : TraceHeader → List ℕ
+behind_steps h = codes "\"w0\":" ++ (decimal h.w0 ++ (codes "," ++ behind_w0 h))
 
-pub no_kind : (d : Data) (o : Option Kind)
-    → ((j : Kind) → text_at (codes "e") d ≡ Some (kind_name j) → o ≡ Some j)
-    → o ≡ None → (e : Event) → d ≡ event_object e → ⊥
-no_kind d o found none e tells = let one : o ≡ Some (kind_of e) = kind_found d o found e tells in cc
+abbrev pub behind_nest : TraceHeader → List ℕ
+behind_nest h = codes "\"steps\":" ++ (decimal h.steps ++ (codes "," ++ behind_steps h))
+
+pub text_of_front : (h : TraceHeader)
+    → compact_text (header_object h) ≡ codes "{\"format\":1,\"nest\":" ++ (decimal h.nest ++ (codes "," ++ behind_nest h))
+text_of_front h = bare (text_of_header h [])
+
+-- ---- kinds
+above_kind : (k : Kind) → above 97 (kind_name k) ≡ true
+above_kind IsTake = refl
+above_kind IsSteal = refl
+above_kind IsStep = refl
+above_kind IsReplenish = refl
+above_kind IsSpawn = refl
+above_kind IsOpen = refl
+above_kind IsPark = refl
+above_kind IsEnd = refl
+above_kind IsPass = refl
+above_kind IsResume = refl
+
+pub kind_then_quote : (k : Kind) → Lacks 34 (kind_name k)
+kind_then_quote k = Lacks-above 97 34 (kind_name k) (above_kind k) (omega arith)
+
+-- a kind is known by its name
+pub same_kind : (j k : Kind) → kind_name j ≡ kind_name k → j ≡ k
+same_kind IsTake IsTake e = refl
+same_kind IsSteal IsSteal e = refl
+same_kind IsStep IsStep e = refl
+same_kind IsReplenish IsReplenish e = refl
+same_kind IsSpawn IsSpawn e = refl
+same_kind IsOpen IsOpen e = refl
+same_kind IsPark IsPark e = refl
+same_kind IsEnd IsEnd e = refl
+same_kind IsPass IsPass e = refl
+same_kind IsResume IsResume e = refl
+same_kind j k e = let sums : sum (kind_name j) ≡ sum (kind_name k) = ap sum e in absurd (omega arith)
+
+-- the text of an event's line: the kind, and the fields behind it
+pub text_of_event : (e : Event)
+    → compact_text (event_object e) ≡ codes "{\"e\":\"" ++ (kind_name (kind_of e) ++ (34 ∷ fields e))
+text_of_event (Take worker path) = bare (text_of_worker IsTake worker path [])
+text_of_event (Steal worker from path) = bare (text_of_steal worker from path [])
+text_of_event (Steps path) = bare (text_of_task IsStep path [])
+text_of_event (Replenish path) = bare (text_of_task IsReplenish path [])
+text_of_event (Spawns path) = bare (text_of_task IsSpawn path [])
+text_of_event (Opens path) = bare (text_of_task IsOpen path [])
+text_of_event (Parks path) = bare (text_of_task IsPark path [])
+text_of_event (Ends path) = bare (text_of_task IsEnd path [])
+text_of_event (Pass scope) = bare (text_of_pass scope.number scope.owner [])
+text_of_event (Resume worker path) = bare (text_of_worker IsResume worker path [])
 
 -- a path that was read, as part of an event
 pub with_path : (o : Option Path) (make : Path → rEvent) (shape : List ℕ → Event)
@@ -65,70 +99,62 @@ pub path_spelled : (o : Option Path) (make : Path → rEvent) → IfSome o (λ p
 path_spelled None make fits is = fits
 path_spelled (Some q) make fits is = is q fits
 
-pub told_step : (d : Data) (o : Option Event)
-    → ((p : List ℕ) → IsPath p → text_at (codes "path") d ≡ Some (path_text p) → o ≡ Some (Steps p))
-    → (e : Event) → IsSpelled e → d ≡ event_object e → IsStep ≡ kind_of e → o ≡ Some e
-told_step d o found (Steps p) h same kind = found p h (ap (text_at (codes "path")) same)
-told_step d o found e h same kind = absurd cc
+pub told_step : (rest : List ℕ) (o : Option Event)
+    → ((p : List ℕ) → IsPath p → rest ≡ task_fields p → o ≡ Some (Steps p))
+    → (e : Event) → IsSpelled e → IsStep ≡ kind_of e → rest ≡ fields e → o ≡ Some e
+told_step rest o found (Steps p) h kind same = found p h same
+told_step rest o found e h kind same = absurd cc
 
-pub told_replenish : (d : Data) (o : Option Event)
-    → ((p : List ℕ) → IsPath p → text_at (codes "path") d ≡ Some (path_text p) → o ≡ Some (Replenish p))
-    → (e : Event) → IsSpelled e → d ≡ event_object e → IsReplenish ≡ kind_of e → o ≡ Some e
-told_replenish d o found (Replenish p) h same kind = found p h (ap (text_at (codes "path")) same)
-told_replenish d o found e h same kind = absurd cc
+pub told_replenish : (rest : List ℕ) (o : Option Event)
+    → ((p : List ℕ) → IsPath p → rest ≡ task_fields p → o ≡ Some (Replenish p))
+    → (e : Event) → IsSpelled e → IsReplenish ≡ kind_of e → rest ≡ fields e → o ≡ Some e
+told_replenish rest o found (Replenish p) h kind same = found p h same
+told_replenish rest o found e h kind same = absurd cc
 
-pub told_spawn : (d : Data) (o : Option Event)
-    → ((p : List ℕ) → IsPath p → text_at (codes "path") d ≡ Some (path_text p) → o ≡ Some (Spawns p))
-    → (e : Event) → IsSpelled e → d ≡ event_object e → IsSpawn ≡ kind_of e → o ≡ Some e
-told_spawn d o found (Spawns p) h same kind = found p h (ap (text_at (codes "path")) same)
-told_spawn d o found e h same kind = absurd cc
+pub told_spawn : (rest : List ℕ) (o : Option Event)
+    → ((p : List ℕ) → IsPath p → rest ≡ task_fields p → o ≡ Some (Spawns p))
+    → (e : Event) → IsSpelled e → IsSpawn ≡ kind_of e → rest ≡ fields e → o ≡ Some e
+told_spawn rest o found (Spawns p) h kind same = found p h same
+told_spawn rest o found e h kind same = absurd cc
 
-pub told_open : (d : Data) (o : Option Event)
-    → ((p : List ℕ) → IsPath p → text_at (codes "path") d ≡ Some (path_text p) → o ≡ Some (Opens p))
-    → (e : Event) → IsSpelled e → d ≡ event_object e → IsOpen ≡ kind_of e → o ≡ Some e
-told_open d o found (Opens p) h same kind = found p h (ap (text_at (codes "path")) same)
-told_open d o found e h same kind = absurd cc
+pub told_open : (rest : List ℕ) (o : Option Event)
+    → ((p : List ℕ) → IsPath p → rest ≡ task_fields p → o ≡ Some (Opens p))
+    → (e : Event) → IsSpelled e → IsOpen ≡ kind_of e → rest ≡ fields e → o ≡ Some e
+told_open rest o found (Opens p) h kind same = found p h same
+told_open rest o found e h kind same = absurd cc
 
-pub told_park : (d : Data) (o : Option Event)
-    → ((p : List ℕ) → IsPath p → text_at (codes "path") d ≡ Some (path_text p) → o ≡ Some (Parks p))
-    → (e : Event) → IsSpelled e → d ≡ event_object e → IsPark ≡ kind_of e → o ≡ Some e
-told_park d o found (Parks p) h same kind = found p h (ap (text_at (codes "path")) same)
-told_park d o found e h same kind = absurd cc
+pub told_park : (rest : List ℕ) (o : Option Event)
+    → ((p : List ℕ) → IsPath p → rest ≡ task_fields p → o ≡ Some (Parks p))
+    → (e : Event) → IsSpelled e → IsPark ≡ kind_of e → rest ≡ fields e → o ≡ Some e
+told_park rest o found (Parks p) h kind same = found p h same
+told_park rest o found e h kind same = absurd cc
 
-pub told_end : (d : Data) (o : Option Event)
-    → ((p : List ℕ) → IsPath p → text_at (codes "path") d ≡ Some (path_text p) → o ≡ Some (Ends p))
-    → (e : Event) → IsSpelled e → d ≡ event_object e → IsEnd ≡ kind_of e → o ≡ Some e
-told_end d o found (Ends p) h same kind = found p h (ap (text_at (codes "path")) same)
-told_end d o found e h same kind = absurd cc
+pub told_end : (rest : List ℕ) (o : Option Event)
+    → ((p : List ℕ) → IsPath p → rest ≡ task_fields p → o ≡ Some (Ends p))
+    → (e : Event) → IsSpelled e → IsEnd ≡ kind_of e → rest ≡ fields e → o ≡ Some e
+told_end rest o found (Ends p) h kind same = found p h same
+told_end rest o found e h kind same = absurd cc
 
-pub told_take : (d : Data) (o : Option Event)
-    → ((w : ℕ) (p : List ℕ) → IsWorkers w p → number_at (codes "worker") d ≡ Some w
-    → text_at (codes "path") d ≡ Some (path_text p) → o ≡ Some (Take w p))
-    → (e : Event) → IsSpelled e → d ≡ event_object e → IsTake ≡ kind_of e → o ≡ Some e
-told_take d o found (Take w p) h same kind =
-    found w p h (ap (number_at (codes "worker")) same) (ap (text_at (codes "path")) same)
-told_take d o found e h same kind = absurd cc
+pub told_take : (rest : List ℕ) (o : Option Event)
+    → ((w : ℕ) (p : List ℕ) → IsWorkers w p → rest ≡ worker_fields w p → o ≡ Some (Take w p))
+    → (e : Event) → IsSpelled e → IsTake ≡ kind_of e → rest ≡ fields e → o ≡ Some e
+told_take rest o found (Take w p) h kind same = found w p h same
+told_take rest o found e h kind same = absurd cc
 
-pub told_resume : (d : Data) (o : Option Event)
-    → ((w : ℕ) (p : List ℕ) → IsWorkers w p → number_at (codes "worker") d ≡ Some w
-    → text_at (codes "path") d ≡ Some (path_text p) → o ≡ Some (Resume w p))
-    → (e : Event) → IsSpelled e → d ≡ event_object e → IsResume ≡ kind_of e → o ≡ Some e
-told_resume d o found (Resume w p) h same kind =
-    found w p h (ap (number_at (codes "worker")) same) (ap (text_at (codes "path")) same)
-told_resume d o found e h same kind = absurd cc
+pub told_resume : (rest : List ℕ) (o : Option Event)
+    → ((w : ℕ) (p : List ℕ) → IsWorkers w p → rest ≡ worker_fields w p → o ≡ Some (Resume w p))
+    → (e : Event) → IsSpelled e → IsResume ≡ kind_of e → rest ≡ fields e → o ≡ Some e
+told_resume rest o found (Resume w p) h kind same = found w p h same
+told_resume rest o found e h kind same = absurd cc
 
-pub told_steal : (d : Data) (o : Option Event)
-    → ((w f : ℕ) (p : List ℕ) → IsTheft w f p → number_at (codes "worker") d ≡ Some w
-    → number_at (codes "from") d ≡ Some f → text_at (codes "path") d ≡ Some (path_text p) → o ≡ Some (Steal w f p))
-    → (e : Event) → IsSpelled e → d ≡ event_object e → IsSteal ≡ kind_of e → o ≡ Some e
-told_steal d o found (Steal w f p) h same kind =
-    found w f p h (ap (number_at (codes "worker")) same) (ap (number_at (codes "from")) same) (ap (text_at (codes "path")) same)
-told_steal d o found e h same kind = absurd cc
+pub told_steal : (rest : List ℕ) (o : Option Event)
+    → ((w f : ℕ) (p : List ℕ) → IsTheft w f p → rest ≡ steal_fields w f p → o ≡ Some (Steal w f p))
+    → (e : Event) → IsSpelled e → IsSteal ≡ kind_of e → rest ≡ fields e → o ≡ Some e
+told_steal rest o found (Steal w f p) h kind same = found w f p h same
+told_steal rest o found e h kind same = absurd cc
 
-pub told_pass : (d : Data) (o : Option Event)
-    → ((id : ScopeId) → IsScope id → number_at (codes "number") d ≡ Some id.number
-    → text_at (codes "owner") d ≡ Some (path_text id.owner) → o ≡ Some (Pass id))
-    → (e : Event) → IsSpelled e → d ≡ event_object e → IsPass ≡ kind_of e → o ≡ Some e
-told_pass d o found (Pass id) h same kind =
-    found id h (ap (number_at (codes "number")) same) (ap (text_at (codes "owner")) same)
-told_pass d o found e h same kind = absurd cc
+pub told_pass : (rest : List ℕ) (o : Option Event)
+    → ((id : ScopeId) → IsScope id → rest ≡ pass_fields id.number id.owner → o ≡ Some (Pass id))
+    → (e : Event) → IsSpelled e → IsPass ≡ kind_of e → rest ≡ fields e → o ≡ Some e
+told_pass rest o found (Pass id) h kind same = found id h same
+told_pass rest o found e h kind same = absurd cc

@@ -1,7 +1,9 @@
 -- Texts that are cut at the first place of a byte, and the pieces of a path.
 use Rattle.std.proofs.Common.{◌≡◌, ◌≢◌, ℕ, zero, suc, ◌+◌, ◌<◌, ◌≤◌, List, [], ◌∷◌, ◌++◌, length, get_or, Option, Some, None, Bor}
 use Rattle.std.proofs.Common.{refl, ap, ap₂, sym, subst, ◌∙◌, arith, append-nil, codes}
-use Rattle.std.specs.Prelude.{MatchOption}
+use Rattle.std.specs.Prelude.{IsSomeAnd, MatchOption, drop}
+use Rattle.std.specs.Str.Pattern.{FindsTextPrefix, StripsPrefix}
+use Rattle.std.proofs.lemmas.List.{append_cancel_left}
 use Rattle.std.specs.Fmt.{decimal}
 use Rattle.std.proofs.lemmas.Str.Pattern.{IsSplitOnceResult, split_parts}
 use Rattle.types.specs.Names.{path_text}
@@ -15,6 +17,14 @@ cut_found c text None h small = split_parts c text None h small
 cut_found c text (Some x) h small =
     let p = split_parts c text (Some x) h small in
     record { parts = p.0; first = p.1 }
+
+-- what `strip_prefix` says at a text
+pub front_stripped : (front text : List ℕ) (r : Option (Bor (List ℕ)))
+    → MatchOption r (FindsTextPrefix front text None) (λ x. StripsPrefix (FindsTextPrefix front) text x.now)
+    → (more : List ℕ) → text ≡ front ++ more → IsSomeAnd r (λ x. x.now ≡ more)
+front_stripped front text None h more same = h more same
+front_stripped front text (Some x) h more same =
+    h.2 ∙ sym (append_cancel_left front more (drop h.0 text) (sym same ∙ h.1.1))
 
 -- ---- a text has one such cut
 lacks_tail : (c x : ℕ) (xs : List ℕ) → Lacks c (x ∷ xs) → Lacks c xs
@@ -37,6 +47,14 @@ one_cut c (a ∷ more) b (x ∷ xs) y la lx e =
 pub not_lacking : (c : ℕ) (a b : List ℕ) → Lacks c (a ++ (c ∷ b)) → ⊥
 not_lacking c [] b h = not_first c c b h refl
 not_lacking c (a ∷ more) b h = not_lacking c more b (lacks_tail c a (more ++ (c ∷ b)) h)
+
+-- so whoever knows how a text can be cut knows how it is cut
+pub cut_given : (c : ℕ) (text : List ℕ) (r : Option (Bor (List ℕ) × Bor (List ℕ)))
+    → MatchOption r (Lacks c text) (λ x. IsCutAt c x.0.now x.1.now text) → (piece behind : List ℕ) → Lacks c piece
+    → text ≡ piece ++ (c ∷ behind) → IsSomeAnd r (λ x. (x.0.now ≡ piece) × (x.1.now ≡ behind))
+cut_given c text None h piece behind lacks same = not_lacking c piece behind (subst (Lacks c) same h)
+cut_given c text (Some x) h piece behind lacks same =
+    one_cut c x.0.now x.1.now piece behind h.first lacks (sym h.parts ∙ same)
 
 -- ---- the pieces of a path
 -- what is left behind a piece and its dot, where turns are left

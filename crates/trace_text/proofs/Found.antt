@@ -2,17 +2,16 @@
 use Rattle.std.proofs.Common.{◌≡◌, ◌≢◌, ℕ, ◌+◌, ◌<◌, ◌≤◌, List, [], ◌∷◌, ◌++◌, length, Option, Some, None, map}
 use Rattle.std.proofs.Common.{refl, ap, sym, subst, ◌∙◌, arith, append_assoc, append-nil, length-append, codes, inr}
 use Rattle.std.specs.List.{All, flat_map}
-use Rattle.std.proofs.lemmas.List.{append_cancel_right, length-map}
+use Rattle.std.proofs.lemmas.List.{append_cancel_right, length-map, map-append}
 use Rattle.std.proofs.lemmas.List.Concat.{flat_map-append}
 use Rattle.std.proofs.lemmas.List.Elements.{All-push}
 use Rattle.std.proofs.lemmas.Slice.Eq.{bytes_eq-Decides}
 use Rattle.std.specs.Str.{bytes_eq}
 use Rattle.std.specs.Prelude.{Bool, true, false, IsTrue, IfNone, IfSome, ◌⊎◌}
-use Rattle.core.specs.Bool.{then_some}
+use Rattle.std.specs.Bool.{then_some}
 use Rattle.events.specs.Events.{Event, event}
 use Rattle.events.specs.declared.event.Event.{Event as rEvent}
 use Rattle.serde_json.specs.Data.{Data}
-use Rattle.serde_json.specs.Read.{read}
 use Rattle.serde_json.specs.Written.{compact_text}
 use Rattle.trace_text.specs.Headers.{TraceHeader, IsHeader}
 use Rattle.trace_text.specs.Lines.{line, event_line, event_object, header_line, header_object}
@@ -22,7 +21,7 @@ use Rattle.trace_text.specs.declared.error.TraceError.{TraceError}
 use Rattle.trace_text.specs.declared.error.TraceError.TheVariants.{NotALine, NoMemory}
 use Rattle.trace_text.specs.Spelled.{IsCutAt, IsSpelled, Lacks}
 use Rattle.trace_text.proofs.Cuts.{not_lacking, one_cut}
-use Rattle.trace_text.proofs.ReadBack.{read-event, read-header, Lacks-event, Lacks-header}
+use Rattle.trace_text.proofs.NoFeeds.{Lacks-event, Lacks-header}
 
 -- ---- one line
 -- a line without its line feed is its object's text
@@ -30,30 +29,16 @@ body_is : (text : List ℕ) (d : Data) → text ++ codes "\n" ≡ line d → tex
 unfolding line
 body_is text d same = append_cancel_right text (compact_text d) (codes "\n") same
 
-pub reads-event : (text : List ℕ) (e : Event) → IsSpelled e → text ++ codes "\n" ≡ event_line e
-    → read text ≡ Some (event_object e)
-reads-event text e h same = ap read (body_is text (event_object e) same) ∙ read-event e h
-
-pub reads-header : (text : List ℕ) (h : TraceHeader) → IsHeader h → text ++ codes "\n" ≡ header_line h
-    → read text ≡ Some (header_object h)
-reads-header text h fits same = ap read (body_is text (header_object h) same) ∙ read-header h fits
-
--- whatever event a line is, it is that which its value tells
-pub told-event : (text : List ℕ) (d : Data) (o : Option Event) → Some d ≡ read text
-    → ((e : Event) → IsSpelled e → d ≡ event_object e → o ≡ Some e)
+-- whatever event a line is, it is that which its text tells
+told-event : (text : List ℕ) (o : Option Event)
+    → ((e : Event) → IsSpelled e → text ≡ compact_text (event_object e) → o ≡ Some e)
     → (e : Event) → IsSpelled e → text ++ codes "\n" ≡ event_line e → o ≡ Some e
-told-event text d o value told e h same =
-    let both : Some d ≡ Some (event_object e) = value ∙ reads-event text e h same in
-    let one : d ≡ event_object e = cc in
-    told e h one
+told-event text o told e h same = told e h (body_is text (event_object e) same)
 
-pub told-header : (text : List ℕ) (d : Data) (o : Option TraceHeader) → Some d ≡ read text
-    → ((h : TraceHeader) → IsHeader h → d ≡ header_object h → o ≡ Some h)
+told-header : (text : List ℕ) (o : Option TraceHeader)
+    → ((h : TraceHeader) → IsHeader h → text ≡ compact_text (header_object h) → o ≡ Some h)
     → (h : TraceHeader) → IsHeader h → text ++ codes "\n" ≡ header_line h → o ≡ Some h
-told-header text d o value told h fits same =
-    let both : Some d ≡ Some (header_object h) = value ∙ reads-header text h fits same in
-    let one : d ≡ header_object h = cc in
-    told h fits one
+told-header text o told h fits same = told h fits (body_is text (header_object h) same)
 
 -- ---- the first line of a text
 line_then : (d : Data) (behind : List ℕ) → line d ++ behind ≡ compact_text d ++ (10 ∷ behind)
@@ -118,6 +103,14 @@ front_more text rest before behind es e front cut spelled same =
           ∙ ap (λ (l : List ℕ). l ++ behind) (sym (flat_map-append event_line es (e ∷ [])));
     }
 
+-- the same of events in Rust, of which one is pushed
+pub front_pushed : (text rest before behind : List ℕ) (es pushed : List rEvent) (e : rEvent) → Front text rest (map event es)
+    → IsCutAt 10 before behind rest → IsSpelled (event e) → before ++ codes "\n" ≡ event_line (event e)
+    → pushed ≡ es ++ e ∷ [] → Front text behind (map event pushed)
+front_pushed text rest before behind es pushed e front cut spelled same is =
+    subst (Front text behind) (sym (ap (λ (l : List rEvent). map event l) is ∙ map-append event es (e ∷ [])))
+    (front_more text rest before behind (map event es) (event e) front cut spelled same)
+
 -- with nothing left
 pub front_all : (text rest : List ℕ) (es : List Event) → Front text rest es → rest ≡ [] → AreEvents es text
 front_all text rest es front none =
@@ -168,51 +161,37 @@ cut_shorter text before behind cut =
     omega (arith, total)
 
 -- ---- a line that is written again
--- what is known of a line that isn't what its value tells
-pub not_told-event : (text : List ℕ) (d : Data) (o : Option Event) → Some d ≡ read text
-    → ((e : Event) → IsSpelled e → d ≡ event_object e → o ≡ Some e) → o ≡ None
+-- what is known of a line that isn't what its text tells
+pub not_told-event : (text : List ℕ) (o : Option Event)
+    → ((e : Event) → IsSpelled e → text ≡ compact_text (event_object e) → o ≡ Some e) → o ≡ None
     → (e : Event) → IsSpelled e → text ++ codes "\n" ≡ event_line e → ⊥
-not_told-event text d o value told none e h same =
-    let one : o ≡ Some e = told-event text d o value told e h same in cc
+not_told-event text o told none e h same = let one : o ≡ Some e = told-event text o told e h same in cc
 
-pub not_told-header : (text : List ℕ) (d : Data) (o : Option TraceHeader) → Some d ≡ read text
-    → ((h : TraceHeader) → IsHeader h → d ≡ header_object h → o ≡ Some h) → o ≡ None
+pub not_told-header : (text : List ℕ) (o : Option TraceHeader)
+    → ((h : TraceHeader) → IsHeader h → text ≡ compact_text (header_object h) → o ≡ Some h) → o ≡ None
     → (h : TraceHeader) → IsHeader h → text ++ codes "\n" ≡ header_line h → ⊥
-not_told-header text d o value told none h fits same =
-    let one : o ≡ Some h = told-header text d o value told h fits same in cc
+not_told-header text o told none h fits same = let one : o ≡ Some h = told-header text o told h fits same in cc
 
--- a text that is no value
-pub unread-event : (text : List ℕ) → None ≡ read text → (e : Event) → IsSpelled e → text ++ codes "\n" ≡ event_line e → ⊥
-unread-event text none e h same = let one = reads-event text e h same in cc
-
-pub unread-header : (text : List ℕ) → None ≡ read text → (h : TraceHeader) → IsHeader h → text ++ codes "\n" ≡ header_line h → ⊥
-unread-header text none h fits same = let one = reads-header text h fits same in cc
-
--- a line that isn't spelled as what its value tells
-pub misspelled-event : (text : List ℕ) (d : Data) (o : Option Event) (found : Event) (b : Bool) → Some d ≡ read text
-    → ((e : Event) → IsSpelled e → d ≡ event_object e → o ≡ Some e) → o ≡ Some found
+-- a line that isn't spelled as what its text tells
+pub misspelled-event : (text : List ℕ) (o : Option Event) (found : Event) (b : Bool)
+    → ((e : Event) → IsSpelled e → text ≡ compact_text (event_object e) → o ≡ Some e) → o ≡ Some found
     → (text ++ codes "\n" ≡ event_line found → IsTrue b) → b ≡ false
     → (e : Event) → IsSpelled e → text ++ codes "\n" ≡ event_line e → ⊥
-misspelled-event text d o found b value told is decides differs e h same =
-    let one : o ≡ Some e = told-event text d o value told e h same in
+misspelled-event text o found b told is decides differs e h same =
+    let one : o ≡ Some e = told-event text o told e h same in
     let both : e ≡ found = cc in
     let yes : b ≡ true = decides (same ∙ ap event_line both) in cc
 
-pub misspelled-header : (text : List ℕ) (d : Data) (o : Option TraceHeader) (found : TraceHeader) (b : Bool) → Some d ≡ read text
-    → ((h : TraceHeader) → IsHeader h → d ≡ header_object h → o ≡ Some h) → o ≡ Some found
+pub misspelled-header : (text : List ℕ) (o : Option TraceHeader) (found : TraceHeader) (b : Bool)
+    → ((h : TraceHeader) → IsHeader h → text ≡ compact_text (header_object h) → o ≡ Some h) → o ≡ Some found
     → (text ++ codes "\n" ≡ header_line found → IsTrue b) → b ≡ false
     → (h : TraceHeader) → IsHeader h → text ++ codes "\n" ≡ header_line h → ⊥
-misspelled-header text d o found b value told is decides differs h fits same =
-    let one : o ≡ Some h = told-header text d o value told h fits same in
+misspelled-header text o found b told is decides differs h fits same =
+    let one : o ≡ Some h = told-header text o told h fits same in
     let both : h ≡ found = cc in
     let yes : b ≡ true = decides (same ∙ ap header_line both) in cc
 
--- what is kept where a test holds, and what is let go
-pub if_kept : {A : Type 0} {Q : A → Type 0} (same : Bool) (x : A) (o : Option A) → o ≡ then_some same x
-    → (IsTrue same → Q x) → IfSome o Q
-if_kept {A} {Q} true x o is holds = subst (λ (v : Option A). IfSome v Q) (sym is) (holds refl)
-if_kept {A} {Q} false x o is holds = subst (λ (v : Option A). IfSome v Q) (sym is) tt
-
+-- what is let go where a test fails
 pub if_let_go : {A : Type 0} {P : Type 0} (same : Bool) (x : A) (o : Option A) → o ≡ then_some same x
     → (same ≡ false → P) → IfNone o P
 if_let_go {A} {P} true x o is holds = subst (λ (v : Option A). IfNone v P) (sym is) tt

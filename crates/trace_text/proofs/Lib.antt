@@ -1,6 +1,6 @@
 pub mod Marks
 pub mod Texts
-pub mod ReadBack
+pub mod NoFeeds
 pub mod Cuts
 pub mod Found
 pub mod Written

@@ -86,9 +86,36 @@ escape-marks (x ∷ xs) h =
 pub escape-path : (turns : List ℕ) → escape (path_text turns) ≡ path_text turns
 escape-path turns = escape-marks (path_text turns) (marks_of_path turns)
 
+-- ---- what stands in no text of marks
+pub Lacks-marks : (c : ℕ) (xs : List ℕ) → All IsMark xs → (IsMark c → ⊥) → Lacks c xs
+Lacks-marks c xs h other i within e =
+    let mark : IsMark (get_or xs i 0) = All-get_or IsMark xs i 0 within h in
+    other (subst IsMark e mark)
+
+quote_other : IsMark 34 → ⊥
+quote_other h = let low : 46 ≤ 34 = h.0 in absurd (omega arith)
+
+comma_other : IsMark 44 → ⊥
+comma_other h = let low : 46 ≤ 44 = h.0 in absurd (omega arith)
+
+brace_other : IsMark 125 → ⊥
+brace_other h = let high : 125 ≤ 57 = h.1 in absurd (omega arith)
+
+pub path_then_quote : (turns : List ℕ) → Lacks 34 (path_text turns)
+path_then_quote turns = Lacks-marks 34 (path_text turns) (marks_of_path turns) quote_other
+
+pub number_then_comma : (n : ℕ) → Lacks 44 (decimal n)
+number_then_comma n = Lacks-marks 44 (decimal n) (marks_of_number n) comma_other
+
+pub number_then_brace : (n : ℕ) → Lacks 125 (decimal n)
+number_then_brace n = Lacks-marks 125 (decimal n) (marks_of_number n) brace_other
+
 -- ---- no control character stands in a line
+abbrev pub above : ℕ → List ℕ → Bool
+above low xs = list_all (λ x. leb low x) xs
+
 abbrev pub visible : List ℕ → Bool
-visible xs = list_all (λ x. leb 32 x) xs
+visible = above 32
 
 visible-marks : (xs : List ℕ) → All IsMark xs → visible xs ≡ true
 visible-marks [] h = refl
@@ -110,13 +137,16 @@ visible-append (x ∷ xs) ys h k =
     let parts = and_parts (leb 32 x) (visible xs) h in
     and_from (leb 32 x) (visible (xs ++ ys)) parts.0 (visible-append xs ys parts.1 k)
 
-low_bound : (xs : List ℕ) → visible xs ≡ true → (i : ℕ) → i < length xs → 32 ≤ get_or xs i 0
-low_bound [] h i within = absurd (omega arith)
-low_bound (x ∷ xs) h zero within = leb-true 32 x (and_parts (leb 32 x) (visible xs) h).0
-low_bound (x ∷ xs) h (suc i) within = low_bound xs (and_parts (leb 32 x) (visible xs) h).1 i (omega arith)
+low_bound : (low : ℕ) (xs : List ℕ) → above low xs ≡ true → (i : ℕ) → i < length xs → low ≤ get_or xs i 0
+low_bound low [] h i within = absurd (omega arith)
+low_bound low (x ∷ xs) h zero within = leb-true low x (and_parts (leb low x) (above low xs) h).0
+low_bound low (x ∷ xs) h (suc i) within = low_bound low xs (and_parts (leb low x) (above low xs) h).1 i (omega arith)
+
+pub Lacks-above : (low c : ℕ) (xs : List ℕ) → above low xs ≡ true → c < low → Lacks c xs
+Lacks-above low c xs h under i within e = let bound = low_bound low xs h i within in omega (arith, bound, e)
 
 pub Lacks-visible : (xs : List ℕ) → visible xs ≡ true → Lacks 10 xs
-Lacks-visible xs h i within e = let low = low_bound xs h i within in omega (arith, low, e)
+Lacks-visible xs h = Lacks-above 32 10 xs h (omega arith)
 
 -- no dot stands in a number
 pub Lacks-number : (n : ℕ) → Lacks 46 (decimal n)

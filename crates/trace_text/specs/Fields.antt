@@ -1,10 +1,41 @@
--- What stands under the keys of a value.
-use Rattle.std.specs.Prelude.{ℕ, List, Option, option_and_then}
-use Rattle.serde_json.specs.Data.{Data}
-use Rattle.serde_json.specs.Find.{get, as_str, as_number, as_u64}
+-- What stands in the line of an event behind the name of its kind.
+use Rattle.std.specs.Prelude.{ℕ, List, ◌++◌, codes}
+use Rattle.std.specs.Fmt.{decimal}
+use Rattle.types.specs.Names.{path_text}
+use Rattle.events.specs.Events.{Event, Take, Steal, Steps, Replenish, Spawns, Opens, Parks}
+use Rattle.events.specs.Events.{Ends, Pass, Resume}
 
-abbrev pub text_at : (key : List ℕ) → Data → Option (List ℕ)
-text_at key d = option_and_then as_str (get key d)
+-- `,"worker":0}`
+abbrev pub worker_field : (worker : ℕ) → List ℕ
+worker_field worker = codes ",\"worker\":" ++ (decimal worker ++ codes "}")
 
-abbrev pub number_at : (key : List ℕ) → Data → Option ℕ
-number_at key d = option_and_then as_u64 (option_and_then as_number (get key d))
+-- `,"path":"0.1"}`
+abbrev pub task_fields : (path : List ℕ) → List ℕ
+task_fields path = codes ",\"path\":\"" ++ (path_text path ++ codes "\"}")
+
+-- `,"path":"0.1","worker":0}`
+abbrev pub worker_fields : (worker : ℕ) → (path : List ℕ) → List ℕ
+worker_fields worker path =
+    codes ",\"path\":\"" ++ (path_text path ++ (codes "\"" ++ worker_field worker))
+
+-- `,"from":0,"path":"0.1","worker":1}`
+abbrev pub steal_fields : (worker from : ℕ) → (path : List ℕ) → List ℕ
+steal_fields worker from path =
+    codes ",\"from\":" ++ (decimal from ++ worker_fields worker path)
+
+-- `,"number":1,"owner":"0"}`
+abbrev pub pass_fields : (n : ℕ) → (owner : List ℕ) → List ℕ
+pass_fields n owner =
+    codes ",\"number\":" ++ (decimal n ++ (codes ",\"owner\":\"" ++ (path_text owner ++ codes "\"}")))
+
+abbrev pub fields : Event → List ℕ
+fields (Take worker path) = worker_fields worker path
+fields (Steal worker from path) = steal_fields worker from path
+fields (Steps path) = task_fields path
+fields (Replenish path) = task_fields path
+fields (Spawns path) = task_fields path
+fields (Opens path) = task_fields path
+fields (Parks path) = task_fields path
+fields (Ends path) = task_fields path
+fields (Pass scope) = pass_fields scope.number scope.owner
+fields (Resume worker path) = worker_fields worker path
