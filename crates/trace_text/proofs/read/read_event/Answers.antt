@@ -1,6 +1,7 @@
-use Rattle.std.proofs.Common.{ap}
+use Rattle.std.proofs.Common.{◌≡◌, ◌++◌, List, ℕ, ap, sym, ◌∙◌}
 use Rattle.std.specs.Prelude.{option_map}
 use Rattle.events.specs.Events.{event}
+use Rattle.trace_text.specs.Lines.{event_line}
 use Rattle.trace_text.proofs.Found.{if_let_go, misspelled-event, not_told-event}
 use Rattle.trace_text.proofs.read.read_event.Goals as goal
 
@@ -8,3 +9,12 @@ pub returns-in_default-clause-other : goal.returns-in_default-clause-other
 returns-in_default-clause-other c =
     not_told-event c.args.line.now (option_map event c.in_ok-event.field-0) c.in_ok-event.ensures.told
     (ap (option_map event) c.in_default.is)
+
+pub returns-clause-other : goal.returns-clause-other
+returns-clause-other c =
+    let found = event c.in-Some.event in
+    let again : c.as_str.result.now ≡ event_line found =
+    c.as_str.ensures.value ∙ c.in_ok-push_event.ensures ∙ ap (λ (l : List ℕ). l ++ event_line found) c.clear.ensures.bytes in
+    if_let_go c.is_line-same.result c.in-Some.event c.then_some.result c.then_some.ensures
+    (misspelled-event c.args.line.now (option_map event c.in_ok-event.field-0) found c.is_line-same.result
+    c.in_ok-event.ensures.told (ap (option_map event) c.in-Some.is) (λ same. c.is_line-same.ensures.1 (same ∙ sym again)))
