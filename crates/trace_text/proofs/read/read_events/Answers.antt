@@ -25,4 +25,10 @@ lines-preserved c =
     )
 
 pub returns-then-rest-gt0-clause-refused : goal.returns-then-rest-gt0-clause-refused
-returns-then-rest-gt0-clause-refused c = ?
+returns-then-rest-gt0-clause-refused c =
+    let rest = c.lines.rest.now in
+    subst (IsEventRefusal c.args.text.now)
+    (sym (c.no_line_behind-then-rest-gt0.ensures
+    ∙ ap (λ (es : List Event). NotALine (length es + 2)) c.deref-then-rest-gt0.ensures.value))
+    (front_bad c.args.text.now rest c.lines.events.items c.lines.invariant.1
+    (long_some rest c.if-rest-gt0.true) (no_event_uncut rest c.in_default.ensures))
