@@ -1,8 +1,7 @@
 -- The text of an event's line kind by kind, and what of it tells which event it is.
-use Rattle.std.proofs.Common.{◌≡◌, ℕ, ◌<◌, true, arith, List, [], ◌∷◌, ◌++◌, Option, Some, None, refl, ap, sym, ◌∙◌, append-nil, codes}
+use Rattle.std.proofs.Common.{◌≡◌, ℕ, true, arith, List, [], ◌∷◌, ◌++◌, Option, Some, None, refl, ap, sym, ◌∙◌, append-nil, codes}
 use Rattle.std.specs.Prelude.{option_map, IfSome, sum}
 use Rattle.std.specs.Fmt.{decimal}
-use Rattle.types.specs.Names.{path_text}
 use Rattle.types.specs.declared.path.Path.{Path}
 use Rattle.events.specs.Events.{Event, Take, Steal, Steps, Replenish, Spawns, Opens, Parks}
 use Rattle.events.specs.Events.{Ends, Pass, Resume, ScopeId, event, turns_of}

@@ -1,5 +1,5 @@
 -- Texts that are cut at the first place of a byte, and the pieces of a path.
-use Rattle.std.proofs.Common.{◌≡◌, ◌≢◌, ℕ, zero, suc, ◌+◌, ◌<◌, ◌≤◌, List, [], ◌∷◌, ◌++◌, length, get_or, Option, Some, None, Bor}
+use Rattle.std.proofs.Common.{◌≡◌, ℕ, zero, suc, ◌<◌, List, [], ◌∷◌, ◌++◌, Option, Some, None, Bor}
 use Rattle.std.proofs.Common.{refl, ap, ap₂, sym, subst, ◌∙◌, arith, append-nil, codes}
 use Rattle.std.specs.Prelude.{IsSomeAnd, MatchOption, drop}
 use Rattle.std.specs.Str.Pattern.{FindsTextPrefix, StripsPrefix}

@@ -7,7 +7,7 @@ use Rattle.std.proofs.lemmas.List.Concat.{flat_map-append}
 use Rattle.std.proofs.lemmas.List.Elements.{All-push}
 use Rattle.std.proofs.lemmas.Slice.Eq.{bytes_eq-Decides}
 use Rattle.std.specs.Str.{bytes_eq}
-use Rattle.std.specs.Prelude.{Bool, true, false, IsTrue, IfErr, IfNone, Result, Ok, Err, ◌⊎◌}
+use Rattle.std.specs.Prelude.{Bool, true, false, IsTrue, IfErr, IfNone, Result, Ok, Err}
 use Rattle.std.specs.Result.{IsErrAnd}
 use Rattle.std.specs.Bool.{then_some}
 use Rattle.events.specs.Events.{Event, event}

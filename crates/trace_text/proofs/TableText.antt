@@ -1,5 +1,5 @@
 -- The columns of the table.
-use Rattle.std.proofs.Common.{◌≡◌, ℕ, zero, suc, replicate, ◌+◌, ◌-◌, List, [], ◌∷◌, ◌++◌, length, Some, None, codes}
+use Rattle.std.proofs.Common.{◌≡◌, ℕ, zero, suc, replicate, ◌-◌, List, [], ◌∷◌, ◌++◌, length, Some, None, codes}
 use Rattle.std.proofs.Common.{arith, refl, ap, sym, ◌∙◌, append_assoc, append-nil}
 use Rattle.std.specs.Fmt.{char_count, decimal, format_spec, styled_decimal, padded_integral}
 use Rattle.std.specs.List.{repeat}

@@ -1,11 +1,11 @@
 -- The text of each line, written out.
-use Rattle.std.proofs.Common.{◌≡◌, ℕ, ◌^◌, ◌<◌, Bool, true, false, List, [], ◌∷◌, ◌++◌, codes}
-use Rattle.std.proofs.Common.{refl, ap, sym, ◌∙◌, append_assoc, append-nil, lit<}
+use Rattle.std.proofs.Common.{◌≡◌, ℕ, Bool, true, false, List, [], ◌∷◌, ◌++◌, codes}
+use Rattle.std.proofs.Common.{refl, ap, ◌∙◌, append_assoc, lit<}
 use Rattle.std.proofs.lemmas.Fmt.{decimal_digit}
 use Rattle.std.specs.Fmt.{decimal}
 use Rattle.types.specs.Names.{path_text}
 use Rattle.json.specs.Print.{escape, escape_byte, quoted}
-use Rattle.serde_json.specs.Data.{Data, Members, member, no_members, object, string, number, unsigned}
+use Rattle.serde_json.specs.Data.{Members, no_members}
 use Rattle.serde_json.specs.Written.{comma_if, compact_text, members_text}
 use Rattle.trace_text.proofs.Marks.{escape-path}
 use Rattle.trace_text.specs.Headers.{TraceHeader}

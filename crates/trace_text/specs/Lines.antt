@@ -3,7 +3,7 @@ use Rattle.std.specs.Prelude.{ℕ, List, ◌++◌, codes}
 use Rattle.std.specs.List.{flat_map}
 use Rattle.types.specs.Names.{path_text}
 use Rattle.events.specs.Events.{Event, Take, Steal, Steps, Replenish, Spawns, Opens, Parks}
-use Rattle.events.specs.Events.{Ends, Pass, Resume, ScopeId}
+use Rattle.events.specs.Events.{Ends, Pass, Resume}
 use Rattle.serde_json.specs.Data.{Data, Members, object, member, no_members, string, number, unsigned}
 use Rattle.serde_json.specs.Written.{compact_text}
 use Rattle.trace_text.specs.Headers.{TraceHeader}

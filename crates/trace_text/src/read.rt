@@ -59,7 +59,7 @@ fn read_events(alloc: Global, text: &str) -> Result<Vec<Event>, TraceError>
         events.push(event)?;
         rest = behind;
     }
-    if rest.len() > 0 {
+    if !rest.is_empty() {
         return Err(no_line_behind(&events));
     }
     Ok(events)
@@ -90,11 +90,7 @@ fn read_header(alloc: Global, line: &str) -> Result<Option<Header>, AllocError>
 
 /// The event of a line, given without its line feed. The line is written again into `again`, which has what
 /// it likes: so a trace is read with one of these.
-fn read_event(
-    alloc: Global,
-    line: &str,
-    again: &mut String,
-) -> Result<Option<Event>, AllocError>
+fn read_event(alloc: Global, line: &str, again: &mut String) -> Result<Option<Event>, AllocError>
     ensures read { IfOk result (λ o. IfSome o (λ e. IsSpelled (event_of e)
         × (line.now ++ codes "\n" ≡ event_line (event_of e)))) }
     ensures other { IfOk result (λ o. IfNone o ((e : AnyEvent) → IsSpelled e

@@ -1,4 +1,4 @@
-use Rattle.std.proofs.Common.{◌≡◌, ◌++◌, ◌∷◌, List, ℕ, Some, sym, ◌∙◌}
+use Rattle.std.proofs.Common.{◌++◌, ◌∷◌, Some}
 use Rattle.trace_text.proofs.Cuts.{cut_given, front_stripped}
 use Rattle.trace_text.proofs.cut.between.Goals as goal
 

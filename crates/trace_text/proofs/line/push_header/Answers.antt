@@ -1,8 +1,5 @@
-use Rattle.std.proofs.Common.{ℕ, List, ◌++◌, ap, sym, ◌∙◌, codes}
-use Rattle.std.specs.Fmt.{decimal}
+use Rattle.std.proofs.Common.{ℕ, List, ◌++◌, ap, sym, ◌∙◌}
 use Rattle.std.specs.String.{string_bytes}
-use Rattle.types.specs.Names.{path_text}
-use Rattle.trace_text.specs.Kinds.{kind_name}
 use Rattle.trace_text.proofs.Written.{ok_then}
 use Rattle.trace_text.specs.Headers.{header_of}
 use Rattle.trace_text.proofs.Texts.{line_of_header}

@@ -1,4 +1,4 @@
-use Rattle.std.proofs.Common.{◌≡◌, ◌≢◌, ◌<◌, ◌≤◌, ◌^◌, ℕ, List, Option, Some, None, Bor, length, arith, rules, subst, sym, codes}
+use Rattle.std.proofs.Common.{◌≡◌, ◌≢◌, ◌<◌, ◌≤◌, ◌^◌, ℕ, List, Option, Bor, length, arith, rules, subst, codes}
 use Rattle.std.specs.Prelude.{option_map}
 use Rattle.trace_text.proofs.Cuts.{root_is}
 use Rattle.trace_text.proofs.PathReading.{ReadSoFar, next_turn, read_more, read_start}

@@ -1,4 +1,4 @@
-use Rattle.std.proofs.Common.{◌≡◌, ◌<◌, ◌^◌, ◌∙◌, List, [], ℕ, Some, arith, lit<, rules}
+use Rattle.std.proofs.Common.{◌∙◌, [], arith, rules}
 use Rattle.std.proofs.lemmas.Grind.{common_steps}
 use Rattle.trace_text.proofs.Arms.{behind_nest, behind_steps, behind_w0, text_of_front}
 use Rattle.trace_text.proofs.Marks.{number_then_brace, number_then_comma}

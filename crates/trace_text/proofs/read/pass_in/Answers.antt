@@ -1,4 +1,4 @@
-use Rattle.std.proofs.Common.{◌≡◌, ◌<◌, ◌++◌, Some, arith, codes, rules}
+use Rattle.std.proofs.Common.{◌≡◌, ◌++◌, Some, arith, codes, rules}
 use Rattle.std.specs.Prelude.{option_map}
 use Rattle.types.specs.Names.{path_text}
 use Rattle.events.specs.Events.{turns_of}

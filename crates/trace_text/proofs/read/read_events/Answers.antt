@@ -24,11 +24,11 @@ lines-preserved c =
           c.in_ok-push.ensures.items,
     )
 
-pub returns-then-rest-gt0-clause-refused : goal.returns-then-rest-gt0-clause-refused
-returns-then-rest-gt0-clause-refused c =
+pub returns-then-not-is_empty-clause-refused : goal.returns-then-not-is_empty-clause-refused
+returns-then-not-is_empty-clause-refused c =
     let rest = c.lines.rest.now in
     subst (IsEventRefusal c.args.text.now)
-    (sym (c.no_line_behind-then-rest-gt0.ensures
-    ∙ ap (λ (es : List Event). NotALine (length es + 2)) c.deref-then-rest-gt0.ensures.value))
+    (sym (c.no_line_behind-then-not-is_empty.ensures
+    ∙ ap (λ (es : List Event). NotALine (length es + 2)) c.deref-then-not-is_empty.ensures.value))
     (front_bad c.args.text.now rest c.lines.events.items c.lines.invariant.1
-    (long_some rest c.if-rest-gt0.true) (no_event_uncut rest c.in_default.ensures))
+    (long_some rest (search rules)) (no_event_uncut rest c.in_default.ensures))

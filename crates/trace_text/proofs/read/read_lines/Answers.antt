@@ -1,5 +1,4 @@
-use Rattle.std.proofs.Common.{◌≡◌, ◌++◌, List, ℕ, ap, sym, subst, ◌∙◌, rules, inl, refl}
-use Rattle.events.specs.Events.{event}
+use Rattle.std.proofs.Common.{◌++◌, List, ℕ, ap, sym, subst, ◌∙◌, inl, refl}
 use Rattle.trace_text.specs.Headers.{header_of}
 use Rattle.trace_text.specs.Reading.{IsRefusal}
 use Rattle.trace_text.proofs.Found.{cut_line, if_err_then, no_header_first, no_header_uncut, refused_behind}

@@ -1,4 +1,4 @@
-use Rattle.std.proofs.Common.{◌≡◌, ◌<◌, ◌^◌, [], arith}
+use Rattle.std.proofs.Common.{◌<◌, [], arith}
 use Rattle.trace_text.proofs.Marks.{number_then_brace}
 use Rattle.trace_text.proofs.read.worker_in.Goals as goal
 
