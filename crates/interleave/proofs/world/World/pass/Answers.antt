@@ -7,6 +7,9 @@ use Rattle.interleave.proofs.Moves.{passes_beside, passes_not}
 use Rattle.interleave.proofs.Staying.{stays_self}
 use Rattle.interleave.proofs.world.World.pass.Goals as goal
 
+pub pass_root-requires-clause-world : goal.pass_root-requires-clause-world
+pass_root-requires-clause-world c = c.requires c.if-is_root_scope.ensures.root
+
 pub returns-clause-passed : goal.returns-clause-passed
 returns-clause-passed c = λ w h.
     let old : rWorld = c.args.self.now in
