@@ -12,11 +12,11 @@ ghost use Rattle.interleave.specs.Walks.{IsIdle, IsIllegal, IsOver, IsWalk, Went
 ghost use Rattle.interleave.specs.declared.error.EventError.TheVariants.{NoMemory};
 
 use crate::error::EventError;
-use events::event::Event;
 use crate::job::Job;
 use crate::task::{Stake, Whereabouts};
-use events::worker_id::{MOST_WORKERS, WorkerId};
 use crate::world::{World, root_scope};
+use events::event::Event;
+use events::worker_id::{MOST_WORKERS, WorkerId};
 use rand::rngs::SmallRng;
 use rand::{RngExt, SeedableRng};
 use std::alloc::{AllocError, Global};
