@@ -88,8 +88,8 @@ fn read_header(alloc: Global, line: &str) -> Result<Option<Header>, AllocError>
     Ok(same.then_some(header))
 }
 
-/// The event of a line, given without its line feed. The line is written again into `again`, which has what
-/// it likes: so a trace is read with one of these.
+/// The event of a line, given without its line feed. It is written again into `again`, whatever stands
+/// there: one text serves for all lines.
 fn read_event(alloc: Global, line: &str, again: &mut String) -> Result<Option<Event>, AllocError>
     ensures read { IfOk result (λ o. IfSome o (λ e. IsSpelled (event_of e)
         × (line.now ++ codes "\n" ≡ event_line (event_of e)))) }
