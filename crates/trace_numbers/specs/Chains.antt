@@ -41,11 +41,12 @@ begin child path c = record c {
 abbrev pub begin_child : List ℕ → Chains → Chains
 begin_child path c = begin (path ++ (c.spawned path + 1) ∷ []) path c
 
--- a task stands in a scope of its own
+-- a task stands in a scope of its own, to which nothing came back
 abbrev pub begin_finish : List ℕ → Chains → Chains
 begin_finish path c = record c {
   stands = at_path path c.scopes c.stands;
   scopes = c.scopes + 1;
+  came_back = at_number c.scopes 0 c.came_back;
   around = at_number c.scopes (c.stands path) c.around;
 }
 

@@ -25,8 +25,11 @@ abbrev pub chain_at : {S : Type 0} → HashMap Path Chain S → Path → Chain
 chain_at tasks path = known (get is_path tasks path)
 
 -- the scope of a number
+abbrev pub none_back : Scope
+none_back = record { came_back = 0; around = 0 }
+
 abbrev pub scope_at : List Scope → ℕ → Scope
-scope_at scopes n = slice_index_or scopes n (record { came_back = 0; around = 0 })
+scope_at scopes n = slice_index_or scopes n none_back
 
 pub record Shows (r : rChains) (c : Chains) : Type 0 where
   pub cost : (path : Path) → (chain_at r.tasks path).cost ≡ c.cost path.turns.items
@@ -41,7 +44,6 @@ pub record AreWithin (count : ℕ) (c : Chains) : Type 0 where
   pub cost : (path : List ℕ) → c.cost path ≤ count
   pub spawned : (path : List ℕ) → c.spawned path ≤ count
   pub came_back : (n : ℕ) → c.came_back n ≤ count
-  pub fresh : (n : ℕ) → c.scopes ≤ n → c.came_back n ≡ 0
   pub stands : (path : List ℕ) → c.stands path < c.scopes
   pub around : (n : ℕ) → c.around n < c.scopes
 
