@@ -1,3 +1,4 @@
 pub mod Known
 pub mod Within
 pub mod Spans
+pub mod Holders
