@@ -49,7 +49,9 @@ impl Hands {
             → ShowsHands self.new (handled event.now h)) }
     {
         match event {
-            Event::Take { worker, path } | Event::Resume { worker, path } => self.take(*worker, path),
+            Event::Take { worker, path } | Event::Resume { worker, path } => self.take(
+                *worker, path,
+            ),
             Event::Step { path } | Event::Spawn { path } | Event::Open { path } => {
                 self.one_step(path);
                 Ok(())

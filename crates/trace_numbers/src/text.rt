@@ -28,7 +28,10 @@ fn push_work(text: &mut String, summary: &Summary) -> Result<(), AllocError>
     let tasks = summary.tasks;
     let steps = summary.steps;
     let span = summary.span;
-    write!(text, "tasks: {tasks}\nsteps: {steps}\nspan: {span}\nparallelism: ")?;
+    write!(
+        text,
+        "tasks: {tasks}\nsteps: {steps}\nspan: {span}\nparallelism: "
+    )?;
     push_parallelism(text, steps, span)
 }
 
@@ -55,12 +58,20 @@ fn push_tasks(text: &mut String, summary: &Summary) -> Result<(), AllocError>
     let replenishings = summary.replenishings;
     let deepest_nest = summary.deepest_nest;
     let most_tasks = summary.most_tasks;
-    write!(text, "steals: {steals}\nreplenishings: {replenishings}\n")?;
-    write!(text, "deepest nest: {deepest_nest}\nmost tasks alive: {most_tasks}\n")
+    write!(
+        text,
+        "steals: {steals}\nreplenishings: {replenishings}\n\
+         deepest nest: {deepest_nest}\nmost tasks alive: {most_tasks}\n"
+    )
 }
 
 /// The steps of a worker, where it is one of the run's, which has so many, or did some.
-fn push_worker(text: &mut String, number: usize, steps: usize, workers: usize) -> Result<(), AllocError>
+fn push_worker(
+    text: &mut String,
+    number: usize,
+    steps: usize,
+    workers: usize,
+) -> Result<(), AllocError>
     ensures { OnOk result (string_bytes text.new
         ≡ string_bytes text.old ++ worker_line workers number steps) }
 {
