@@ -8,4 +8,3 @@ pub mod PathReading
 pub mod LogLemmas
 pub mod Arms
 pub mod TableText
-pub mod Counted

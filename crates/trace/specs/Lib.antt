@@ -5,5 +5,4 @@ pub mod Lines
 pub mod Logs
 pub mod Reading
 pub mod Spelled
-pub mod Summary
 pub mod Table

@@ -11,7 +11,6 @@ pub mod log;
 pub mod log_error;
 mod path;
 pub mod read;
-pub mod summary;
 pub mod table;
 #[cfg(test)]
 mod tests;
