@@ -1,0 +1,92 @@
+//! Numbers of runs: steps and span are those that are known, on any number of workers.
+
+use crate::tests::{accepted, compare};
+use std::alloc::Global;
+use std::process::Abort;
+use std::sync::Wait;
+use std::thread::Threads;
+use trace_numbers::summary::summarize;
+use trace_numbers::text::summary_text;
+use types::budget::Budget;
+use types::input::Input;
+use workers::gate::NoGate;
+use workers::run::run_noted;
+use workers::settings::Settings;
+
+/// Doubles each element, half by half.
+const DOUBLING: &str = "proc twice(mut s: int) {
+  if len(s) <= 1 {
+    if len(s) == 1 { s[0] = s[0] * 2; }
+  } else {
+    split s at len(s) / 2 as l, r { async { twice(l); } twice(r); }
+  }
+}
+main { array a: int[8]; finish { twice(a); } }";
+
+/// What is told of it where one worker does all.
+const DONE_BY_ONE: &str = "tasks: 8
+steps: 61
+span: 17
+parallelism: 3.58
+steals: 0
+replenishings: 0
+deepest nest: 3
+most tasks alive: 4
+steps of worker 0: 61
+";
+
+/// A task whose child may end behind it, and what comes behind a finish within a finish.
+const OUTLIVED: &str = "main { finish { async { async { skip; skip; skip; } } skip; } skip; }";
+
+/// Programs, and the first lines of what is told of their runs.
+const ROWS: [(&str, &str); 4] = [
+    ("main { }", "tasks: 1\nsteps: 0\nspan: 0\nparallelism: -\n"),
+    (
+        "main { finish { async { skip; } skip; } skip; }",
+        "tasks: 2\nsteps: 5\nspan: 4\nparallelism: 1.25\n",
+    ),
+    (
+        OUTLIVED,
+        "tasks: 3\nsteps: 8\nspan: 7\nparallelism: 1.14\n",
+    ),
+    (
+        DOUBLING,
+        "tasks: 8\nsteps: 61\nspan: 17\nparallelism: 3.58\n",
+    ),
+];
+
+/// What is told of a run on zeros.
+fn told(
+    rt: &(impl Abort + Threads + Wait + Sync),
+    alloc: Global,
+    text: &str,
+    workers: u32,
+) -> String {
+    let program = accepted(rt, alloc, text);
+    let input = Input::zeros(alloc, program.typed()).expect(rt, "memory");
+    let settings =
+        Settings::new(Budget::usual(), 64, 8, u64::from(workers)).expect(rt, "settings");
+    let (_, events) =
+        run_noted(rt, alloc, &program, &input, settings, &NoGate).expect(rt, "an outcome");
+    let summary = summarize(alloc, &events).expect(rt, "memory");
+    summary_text(alloc, &summary, workers).expect(rt, "memory")
+}
+
+#[test]
+fn steps_and_span_are_those_of_the_program(rt: HostRuntime) {
+    let alloc = rt.alloc();
+    for (text, want) in ROWS {
+        for workers in [1u32, 2, 8] {
+            let told = told(&rt, alloc, text, workers);
+            let first = told.as_str().get(..want.len()).unwrap_or("");
+            compare(&rt, alloc, text, first, want);
+        }
+    }
+}
+
+#[test]
+fn one_worker_does_all(rt: HostRuntime) {
+    let alloc = rt.alloc();
+    let told = told(&rt, alloc, DOUBLING, 1);
+    compare(&rt, alloc, DOUBLING, told.as_str(), DONE_BY_ONE);
+}

@@ -1,0 +1,5 @@
+pub mod Known
+pub mod Within
+pub mod Spans
+pub mod Holders
+pub mod Pieces

@@ -1,0 +1,6 @@
+pub mod Chains
+pub mod Counts
+pub mod Hands
+pub mod Summary
+pub mod Tables
+pub mod Text

@@ -1,0 +1,18 @@
+-- All numbers of a list of events.
+use Rattle.std.specs.Prelude.{◌≡◌, List, count_by}
+use Rattle.events.specs.declared.event.Event.{Event}
+use Rattle.trace_numbers.specs.Chains.{span_of}
+use Rattle.trace_numbers.specs.Counts.{deepest, is_replenishing, is_steal, most_alive, steps_in}
+use Rattle.trace_numbers.specs.Counts.{tasks_in}
+use Rattle.trace_numbers.specs.Hands.{steps_by_worker}
+use Rattle.trace_numbers.specs.declared.summary.Summary.{Summary}
+
+pub record IsSummary (es : List Event) (s : Summary) : Type 0 where
+  pub tasks : s.tasks ≡ tasks_in es
+  pub steps : s.steps ≡ steps_in es
+  pub span : s.span ≡ span_of es
+  pub steals : s.steals ≡ count_by is_steal es
+  pub replenishings : s.replenishings ≡ count_by is_replenishing es
+  pub deepest_nest : s.deepest_nest ≡ deepest es
+  pub most_tasks : s.most_tasks ≡ most_alive es
+  pub by_worker : s.by_worker.items ≡ steps_by_worker es

@@ -1,0 +1,72 @@
+-- What the tables stand for by which the numbers of a trace are found.
+use Rattle.std.specs.Prelude.{ℕ, ◌≡◌, ◌+◌, ◌<◌, ◌≤◌, List, length, Bool, nat_eq, Option, None, Some}
+use Rattle.std.specs.Prelude.{All, slice_index, slice_index_or}
+use Rattle.std.specs.Cmp.Lexicographic.{pointwise}
+use Rattle.std.specs.HashMap.{HashMap, get}
+use Rattle.types.specs.declared.path.Path.{Path}
+use Rattle.trace_numbers.specs.Chains.{Chains}
+use Rattle.trace_numbers.specs.Hands.{Hands}
+use Rattle.trace_numbers.specs.declared.chains.Chain.{Chain}
+use Rattle.trace_numbers.specs.declared.chains.Chains.{Chains as rChains}
+use Rattle.trace_numbers.specs.declared.chains.Scope.{Scope}
+use Rattle.trace_numbers.specs.declared.hands.Hands.{Hands as rHands}
+
+-- whether two keys of a table are the same
+abbrev pub is_path : (path other : Path) → Bool
+is_path path other = pointwise nat_eq path.turns.items other.turns.items
+
+-- ---- chains
+abbrev pub known : Option Chain → Chain
+known None = record { cost = 0; stands = 0; spawned = 0 }
+known (Some chain) = chain
+
+-- a table of chains as a function of paths
+abbrev pub chain_at : {S : Type 0} → HashMap Path Chain S → Path → Chain
+chain_at tasks path = known (get is_path tasks path)
+
+-- the scope of a number
+abbrev pub none_back : Scope
+none_back = record { came_back = 0; around = 0 }
+
+abbrev pub scope_at : List Scope → ℕ → Scope
+scope_at scopes n = slice_index_or scopes n none_back
+
+pub record Shows (r : rChains) (c : Chains) : Type 0 where
+  pub cost : (path : Path) → (chain_at r.tasks path).cost ≡ c.cost path.turns.items
+  pub stands : (path : Path) → (chain_at r.tasks path).stands ≡ c.stands path.turns.items
+  pub spawned : (path : Path) → (chain_at r.tasks path).spawned ≡ c.spawned path.turns.items
+  pub scopes : length r.scopes.items ≡ c.scopes
+  pub came_back : (n : ℕ) → n < c.scopes → (scope_at r.scopes.items n).came_back ≡ c.came_back n
+  pub around : (n : ℕ) → n < c.scopes → (scope_at r.scopes.items n).around ≡ c.around n
+
+-- behind so many events no number is larger, and whatever scope is named is there
+pub record AreWithin (count : ℕ) (c : Chains) : Type 0 where
+  pub cost : (path : List ℕ) → c.cost path ≤ count
+  pub spawned : (path : List ℕ) → c.spawned path ≤ count
+  pub came_back : (n : ℕ) → c.came_back n ≤ count
+  pub stands : (path : List ℕ) → c.stands path < c.scopes
+  pub around : (n : ℕ) → c.around n < c.scopes
+
+-- events led to it, of which there may be one more
+pub record AreAfter (r : rChains) : Type 0 where
+  pub count : ℕ
+  pub few : count < 18446744073709551615
+  pub chains : Chains
+  pub within : AreWithin count chains
+  pub shows : Shows r chains
+
+-- ---- hands
+pub record ShowsHands (r : rHands) (h : Hands) : Type 0 where
+  pub holder : (path : Path) → get is_path r.tasks path ≡ h.holder path.turns.items
+  pub did : r.did.items ≡ h.did
+
+-- the 64 workers, none of whom did more steps than there were events
+pub record DidWithin (count : ℕ) (did : List ℕ) : Type 0 where
+  pub workers : length did ≡ 64
+  pub few : (w : ℕ) → slice_index did w ≤ count
+
+-- events led to it, of which there may be one more
+pub record AreHandsAfter (r : rHands) : Type 0 where
+  pub count : ℕ
+  pub few : count < 18446744073709551615
+  pub within : DidWithin count r.did.items

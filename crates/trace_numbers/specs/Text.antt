@@ -1,0 +1,47 @@
+-- How the numbers of a trace are told, one on each line.
+use Rattle.std.specs.Prelude.{ℕ, zero, suc, ◌+◌, ◌*◌, ◌/◌, ◌%◌, List, [], ◌∷◌, ◌++◌, codes}
+use Rattle.std.specs.Prelude.{if◌then◌else◌, nat_lt, ◌||◌}
+use Rattle.std.specs.Fmt.{decimal}
+use Rattle.trace_numbers.specs.declared.summary.Summary.{Summary}
+
+-- `3.59`: the steps by the span, with two digits, and what is behind them cut; `-` where there is no span
+abbrev pub parallelism : (steps span : ℕ) → List ℕ
+parallelism steps zero = codes "-"
+parallelism steps (suc n) =
+    let hundredths = steps % suc n * 100 / suc n in
+    decimal (steps / suc n) ++ (codes "." ++ (decimal (hundredths / 10) ++ decimal (hundredths % 10)))
+
+abbrev pub line : (name number : List ℕ) → List ℕ
+line name number = name ++ (codes ": " ++ (number ++ codes "\n"))
+
+-- how much was done, and how much of it at once
+abbrev pub work_lines : Summary → List ℕ
+work_lines s =
+    line (codes "tasks") (decimal s.tasks)
+    ++ (line (codes "steps") (decimal s.steps)
+    ++ (line (codes "span") (decimal s.span)
+    ++ line (codes "parallelism") (parallelism s.steps s.span)))
+
+-- how tasks went from worker to worker, and how many there were at once
+abbrev pub task_lines : Summary → List ℕ
+task_lines s =
+    line (codes "steals") (decimal s.steals)
+    ++ (line (codes "replenishings") (decimal s.replenishings)
+    ++ (line (codes "deepest nest") (decimal s.deepest_nest)
+    ++ line (codes "most tasks alive") (decimal s.most_tasks)))
+
+-- the steps of a worker, where it is one of the run's, which has so many, or did some
+abbrev pub worker_line : (workers number steps : ℕ) → List ℕ
+worker_line workers number steps =
+    if nat_lt number workers || nat_lt 0 steps
+    then line (codes "steps of worker " ++ decimal number) (decimal steps)
+    else []
+
+-- the lines of workers from this number on
+abbrev pub worker_lines : (workers number : ℕ) → (by_worker : List ℕ) → List ℕ
+worker_lines workers number [] = []
+worker_lines workers number (steps ∷ more) =
+    worker_line workers number steps ++ worker_lines workers (number + 1) more
+
+abbrev pub summary_text : (workers : ℕ) → Summary → List ℕ
+summary_text workers s = work_lines s ++ (task_lines s ++ worker_lines workers 0 s.by_worker.items)

@@ -1,0 +1,188 @@
+//! The longest chain of steps: no number of workers makes a run faster than that.
+
+ghost use Rattle.std.specs.Prelude.{◌≡◌, IfOk, OnOk, if◌then◌else◌};
+ghost use Rattle.trace_numbers.specs.Chains.{Chains as AnyChains, begin_child, begin_finish, chained};
+ghost use Rattle.trace_numbers.specs.Chains.{come_back, leave, no_chains, one_more, span_of};
+ghost use Rattle.trace_numbers.specs.Tables.{AreAfter, Shows, chain_at, is_path};
+ghost use Rattle.types.specs.declared.path.Path.{Path as AnyPath};
+
+use events::event::Event;
+use std::alloc::{AllocError, Global};
+use std::collections::HashMap;
+use types::path::Path;
+
+/// How a task has come to where it is.
+#[derive(Clone, Copy)]
+struct Chain {
+    /// What the longest chain of steps costs that leads to it.
+    cost: usize,
+    /// The number of the innermost scope in which it stands.
+    stands: usize,
+    /// How many tasks it has spawned.
+    spawned: usize,
+}
+
+/// A scope, and what came back to it.
+#[derive(Clone, Copy)]
+struct Scope {
+    /// What the longest chain costs that came back.
+    came_back: usize,
+    /// The number of the scope in which its owner stood when it opened it.
+    around: usize,
+}
+
+/// All tasks that did something, and all scopes by their numbers: 0 is the root's, and then as they were opened.
+#[derive(Drop)]
+struct Chains {
+    tasks: HashMap<Path, Chain>,
+    scopes: Vec<Scope>,
+}
+
+/// What the longest chain of steps costs: 4 of the one trace of `main { finish { async { skip; } skip; } skip; }`,
+/// whose two tasks do a step each at once.
+pub fn span(alloc: Global, events: &[Event]) -> Result<usize, AllocError>
+    ensures { IfOk result (λ n. n ≡ span_of events.now) }
+{
+    let mut chains = Chains::start(alloc)?;
+    for event in events {
+        chains.happens(event)?;
+    }
+    Ok(chains.scopes[0].came_back)
+}
+
+impl Chains {
+    /// Nothing has been done.
+    fn start(alloc: Global) -> Result<Chains, AllocError>
+        ensures { IfOk result (λ r. Shows r no_chains) }
+    {
+        let mut scopes = Vec::new(alloc);
+        scopes.push(Scope {
+            came_back: 0,
+            around: 0,
+        })?;
+        Ok(Chains {
+            tasks: HashMap::new(alloc),
+            scopes,
+        })
+    }
+
+    /// An event happens.
+    fn happens(&mut self, event: &Event) -> Result<(), AllocError>
+        requires { AreAfter self.old }
+        ensures { OnOk result ((c : AnyChains) → Shows self.old c → Shows self.new (chained event.now c)) }
+    {
+        match event {
+            Event::Step { path } => self.one_more(path),
+            Event::Spawn { path } => self.begin_child(path),
+            Event::Open { path } => self.begin_finish(path),
+            Event::Park { path } | Event::End { path } => {
+                self.come_back(path);
+                Ok(())
+            }
+            Event::Resume { path, .. } => self.leave(path),
+            Event::Take { .. }
+            | Event::Steal { .. }
+            | Event::Replenish { .. }
+            | Event::Pass { .. } => Ok(()),
+        }
+    }
+
+    /// A step more.
+    fn one_more(&mut self, path: &Path) -> Result<(), AllocError>
+        requires { AreAfter self.old }
+        ensures { OnOk result ((c : AnyChains) → Shows self.old c
+            → Shows self.new (one_more path.now.turns.items c)) }
+    {
+        let mut chain = self.chain(path);
+        chain.cost += 1;
+        self.put(path, chain)
+    }
+
+    /// A task takes a step, and begins another where it has come to by that, in its innermost scope.
+    fn begin_child(&mut self, path: &Path) -> Result<(), AllocError>
+        requires { AreAfter self.old }
+        ensures { OnOk result ((c : AnyChains) → Shows self.old c
+            → Shows self.new (begin_child path.now.turns.items (one_more path.now.turns.items c))) }
+    {
+        let mut chain = self.chain(path);
+        chain.cost += 1;
+        chain.spawned += 1;
+        self.put(path, chain)?;
+        // A path names no more children.
+        let Ok(number) = u32::try_from(chain.spawned) else {
+            return Err(AllocError);
+        };
+        let child = path.child(number)?;
+        chain.spawned = 0;
+        self.put(&child, chain)
+    }
+
+    /// A task takes a step, and stands in a scope of its own.
+    fn begin_finish(&mut self, path: &Path) -> Result<(), AllocError>
+        requires { AreAfter self.old }
+        ensures { OnOk result ((c : AnyChains) → Shows self.old c
+            → Shows self.new (begin_finish path.now.turns.items (one_more path.now.turns.items c))) }
+    {
+        let mut chain = self.chain(path);
+        let number = self.scopes.len();
+        self.scopes.push(Scope {
+            came_back: 0,
+            around: chain.stands,
+        })?;
+        chain.cost += 1;
+        chain.stands = number;
+        self.put(path, chain)
+    }
+
+    /// What leads to a task comes back to its innermost scope.
+    fn come_back(&mut self, path: &Path)
+        requires { AreAfter self.old }
+        ensures { (c : AnyChains) → Shows self.old c
+            → Shows self.new (come_back path.now.turns.items c) }
+    {
+        let chain = self.chain(path);
+        let scope = &mut self.scopes[chain.stands];
+        scope.came_back = scope.came_back.max(chain.cost);
+    }
+
+    /// A task goes on behind its innermost scope.
+    fn leave(&mut self, path: &Path) -> Result<(), AllocError>
+        requires { AreAfter self.old }
+        ensures { OnOk result ((c : AnyChains) → Shows self.old c
+            → Shows self.new (leave path.now.turns.items c)) }
+    {
+        let mut chain = self.chain(path);
+        let scope = self.scopes[chain.stands];
+        chain.cost = scope.came_back;
+        chain.stands = scope.around;
+        self.put(path, chain)
+    }
+
+    /// How a task has come to where it is; nothing is known of most.
+    fn chain(&self, path: &Path) -> Chain
+        ensures { result ≡ chain_at self.now.tasks path.now }
+    {
+        match self.tasks.get(path) {
+            Some(chain) => *chain,
+            None => Chain {
+                cost: 0,
+                stands: 0,
+                spawned: 0,
+            },
+        }
+    }
+
+    /// A task has come to somewhere else.
+    fn put(&mut self, path: &Path, chain: Chain) -> Result<(), AllocError>
+        ensures scopes { self.new.scopes ≡ self.old.scopes }
+        ensures others { OnOk result ((other : AnyPath) → chain_at self.new.tasks other
+            ≡ (if is_path path.now other then chain else chain_at self.old.tasks other)) }
+    {
+        if let Some(place) = self.tasks.get_mut(path) {
+            *place = chain;
+            return Ok(());
+        }
+        self.tasks.insert(path.clone()?, chain)?;
+        Ok(())
+    }
+}

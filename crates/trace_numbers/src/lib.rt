@@ -1,0 +1,10 @@
+//! The numbers of a trace: what its tasks did, and what stood in the way of more at once.
+
+#![tactic(auto)]
+
+mod chains;
+mod counts;
+mod hands;
+pub mod summary;
+mod tasks;
+pub mod text;

@@ -1,0 +1,82 @@
+//! The numbers of a trace, as they are told.
+
+ghost use Rattle.std.specs.Prelude.{◌≡◌, ◌++◌, codes, IfOk, OnOk};
+ghost use Rattle.std.specs.String.{string_bytes};
+ghost use Rattle.trace_numbers.specs.Text.{parallelism, summary_text, task_lines, work_lines, worker_line};
+
+use crate::summary::Summary;
+use std::alloc::{AllocError, Global};
+
+/// The numbers of a trace, one on each line: of all, and then the steps of each worker of the run, which had so many,
+/// and of any other that did some.
+pub fn summary_text(alloc: Global, summary: &Summary, workers: u32) -> Result<String, AllocError>
+    ensures { IfOk result (λ text. string_bytes text ≡ summary_text workers summary.now) }
+{
+    let mut text = String::new(alloc);
+    push_work(&mut text, summary)?;
+    push_tasks(&mut text, summary)?;
+    for (number, steps) in summary.by_worker.iter().enumerate() {
+        push_worker(&mut text, number, *steps, workers as usize)?;
+    }
+    Ok(text)
+}
+
+/// How much was done, and how much of it at once.
+fn push_work(text: &mut String, summary: &Summary) -> Result<(), AllocError>
+    ensures { OnOk result (string_bytes text.new ≡ string_bytes text.old ++ work_lines summary.now) }
+{
+    let tasks = summary.tasks;
+    let steps = summary.steps;
+    let span = summary.span;
+    write!(
+        text,
+        "tasks: {tasks}\nsteps: {steps}\nspan: {span}\nparallelism: "
+    )?;
+    push_parallelism(text, steps, span)
+}
+
+/// The steps by the span, with two digits, and what is behind them cut; `-` where there is no span.
+fn push_parallelism(text: &mut String, steps: usize, span: usize) -> Result<(), AllocError>
+    ensures { OnOk result (string_bytes text.new
+        ≡ string_bytes text.old ++ (parallelism steps span ++ codes "\n")) }
+{
+    if span == 0 {
+        return write!(text, "-\n");
+    }
+    let whole = steps / span;
+    let hundredths = (steps % span) as u128 * 100 / span as u128;
+    let tenth = hundredths as u32 / 10;
+    let hundredth = hundredths as u32 % 10;
+    write!(text, "{whole}.{tenth}{hundredth}\n")
+}
+
+/// How tasks went from worker to worker, and how many there were at once.
+fn push_tasks(text: &mut String, summary: &Summary) -> Result<(), AllocError>
+    ensures { OnOk result (string_bytes text.new ≡ string_bytes text.old ++ task_lines summary.now) }
+{
+    let steals = summary.steals;
+    let replenishings = summary.replenishings;
+    let deepest_nest = summary.deepest_nest;
+    let most_tasks = summary.most_tasks;
+    write!(
+        text,
+        "steals: {steals}\nreplenishings: {replenishings}\n\
+         deepest nest: {deepest_nest}\nmost tasks alive: {most_tasks}\n"
+    )
+}
+
+/// The steps of a worker, where it is one of the run's, which has so many, or did some.
+fn push_worker(
+    text: &mut String,
+    number: usize,
+    steps: usize,
+    workers: usize,
+) -> Result<(), AllocError>
+    ensures { OnOk result (string_bytes text.new
+        ≡ string_bytes text.old ++ worker_line workers number steps) }
+{
+    if number >= workers && steps == 0 {
+        return Ok(());
+    }
+    write!(text, "steps of worker {number}: {steps}\n")
+}
