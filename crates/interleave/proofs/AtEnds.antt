@@ -26,7 +26,7 @@ use Rattle.interleave.specs.Jobs.{IsJob, program_of, lists_of, budget_of}
 use Rattle.interleave.specs.Replay.{does, hands_on}
 use Rattle.interleave.specs.Shown.{AreBoth, IsTaskOf, IsBookOf, IsDoingThere, IsTold, Becomes, Refuses, ScopeStays, Shows, WorldStays, is_path, is_scope, next_world}
 use Rattle.interleave.specs.Shown.{scope_id, stake, whereabouts}
-use Rattle.interleave.specs.World.{Stake, Live, Scope, World, Whereabouts, Queue, Hand, Parked, task, put_task}
+use Rattle.interleave.specs.World.{Stake, Live, Scope, World, Whereabouts, Hand, Parked, task, put_task}
 use Rattle.interleave.specs.World.{without_task, scope, put_scope, hand_of, hand_is_free, is_passed, root_scope}
 use Rattle.interleave.specs.Worlds.{next_of}
 use Rattle.interleave.specs.declared.doing.Doing.{Doing}
@@ -46,8 +46,8 @@ use Rattle.interleave.proofs.GoingOn.{ends_are_own}
 use Rattle.interleave.proofs.Hands.{hands_are_apart, free_without, free_parked}
 use Rattle.interleave.proofs.LateWeights.{none_is_late}
 use Rattle.interleave.proofs.Histories.{contains_here}
-use Rattle.interleave.proofs.Lookups.{by_test, other_path, path_refl, task_path, task-without_task, gone-without_task, Unique}
-use Rattle.interleave.proofs.Lookups.{passed-put_scope, scopes_same, scope_id as named_so}
+use Rattle.interleave.proofs.Lookups.{by_test, other_path, task_path, task-without_task, gone-without_task, Unique}
+use Rattle.interleave.proofs.Lookups.{passed-put_scope, scope_id as named_so}
 use Rattle.interleave.proofs.Outcomes.{IsSound, replays_are_worlds, sound}
 use Rattle.interleave.proofs.OwnTasks.{IsAtLevel, start_path}
 use Rattle.interleave.proofs.Present.{IsThere}

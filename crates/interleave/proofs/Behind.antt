@@ -38,7 +38,6 @@ use Rattle.interleave.specs.Shown.{scope_id, stake, whereabouts}
 use Rattle.interleave.specs.World.{Stake, Live, Scope, World, Whereabouts, Queue, Hand, Parked, task, put_task, scope, is_parked}
 use Rattle.interleave.specs.World.{in_hand, hand_is_free}
 use Rattle.interleave.specs.declared.doing.Doing.{Doing}
-use Rattle.interleave.specs.declared.doing.Doing.TheVariants.{AtFinish}
 use Rattle.types.specs.declared.scope_id.ScopeId.{ScopeId as rScopeId}
 use Rattle.interleave.specs.declared.job.Job.{Job}
 use Rattle.interleave.specs.declared.scope.Scope.{Scope as rScope}

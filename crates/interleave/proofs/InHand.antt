@@ -16,7 +16,6 @@ use Rattle.own_run.specs.Runs.{root}
 use Rattle.own_run.specs.Translation.{start}
 use Rattle.own_run.specs.declared.run.Run.{Run}
 use Rattle.own_run.specs.declared.start.Start.{Start as rStart}
-use Rattle.own_run.proofs.SettledResults.{paths_same}
 use Rattle.interleave.specs.Acting.{IsReady, IsSame, DidStep, IsToSpawn, IsShort, DidIssue, DidSpawn, IsHeavy, DidOpen}
 use Rattle.interleave.specs.Courses.{Course, IsKnown, course_of, IsDoing, IsNext}
 use Rattle.interleave.specs.Events.{Event, Steps, Replenish, Spawns, Opens, did, issue, may_issue, only_if, new_scope, new_task}
@@ -31,7 +30,7 @@ use Rattle.interleave.specs.declared.doing.Doing.{Doing}
 use Rattle.interleave.specs.declared.doing.Doing.TheVariants.{Starts, Runs, Steps as rSteps, Spawns as rSpawns, Opens as rOpens}
 use Rattle.interleave.specs.declared.doing.Doing.TheVariants.{AtFinish, AtEnd}
 use Rattle.interleave.specs.declared.error.EventError.{EventError}
-use Rattle.interleave.specs.declared.error.EventError.TheVariants.{Illegal, NoMemory}
+use Rattle.interleave.specs.declared.error.EventError.TheVariants.{Illegal}
 use Rattle.types.specs.declared.scope_id.ScopeId.{ScopeId as rScopeId}
 use Rattle.interleave.specs.declared.job.Job.{Job}
 use Rattle.interleave.specs.declared.scope.Scope.{Scope as rScope}

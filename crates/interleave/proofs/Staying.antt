@@ -1,7 +1,7 @@
 -- Tables that stay the same show the same world.
 use Rattle.std.proofs.Common.{◌≡◌, ℕ, List, Option, Some, None, refl, sym, ap, ◌∙◌, subst, inl, inr}
 use Rattle.std.proofs.lemmas.Option.{none-some, same_Some}
-use Rattle.std.specs.Prelude.{◌⊎◌, Bool, true, ◌&&◌, nat_eq, map, option_map, Vec, if◌then◌else◌}
+use Rattle.std.specs.Prelude.{◌⊎◌, true, ◌&&◌, nat_eq, map, option_map, Vec, if◌then◌else◌}
 use Rattle.std.specs.Cmp.Lexicographic.{pointwise}
 use Rattle.std.specs.Global.{Global}
 use Rattle.std.specs.HashMap.{HashMap, get, get_by}
@@ -11,12 +11,12 @@ use Rattle.own_run.specs.Translation.{task_result}
 use Rattle.own_run.specs.declared.result.TaskResult.{TaskResult as Made}
 use Rattle.own_run.proofs.SettledResults.{paths_same}
 use Rattle.interleave.specs.Acting.{IsSame}
-use Rattle.interleave.specs.Courses.{Course, course_of, IsDoing, IsLooked}
+use Rattle.interleave.specs.Courses.{Course, course_of, IsLooked}
 use Rattle.interleave.specs.Events.{Event}
 use Rattle.interleave.specs.Jobs.{program_of, lists_of, budget_of}
 use Rattle.interleave.specs.Shown.{AreBoth, AreResultsOf, IsTaskOf, IsBookOf, IsDoingThere, IsTold, Refuses, ScopeStays, Shows, TaskStays, WorldStays}
 use Rattle.interleave.specs.Shown.{is_path, is_scope, next_world, scope_id, stake, whereabouts}
-use Rattle.interleave.specs.World.{Live, Scope, ScopeId, World, Whereabouts, Queue, Hand, Parked, task, scope, hand_is_free, has_passed, root_scope}
+use Rattle.interleave.specs.World.{Live, Scope, ScopeId, World, Whereabouts, Queue, Hand, Parked, task, scope, has_passed, root_scope}
 use Rattle.interleave.specs.Worlds.{LeadsTo}
 use Rattle.interleave.specs.declared.doing.Doing.{Doing}
 use Rattle.interleave.specs.declared.error.EventError.{EventError}

@@ -1,7 +1,7 @@
 -- What is told where the root's scope passes, by what the root has made and what its scope keeps.
 use Rattle.std.proofs.Common.{◌≡◌, List, [], ◌∷◌, ◌++◌, Option, Some, None, refl, sym, ap, ◌∙◌, subst}
-use Rattle.std.proofs.lemmas.Option.{none-some, same_Some}
-use Rattle.std.specs.Prelude.{Bool, true, false, ◌&&◌, not, nat_eq, map}
+use Rattle.std.proofs.lemmas.Option.{same_Some}
+use Rattle.std.specs.Prelude.{true, false, ◌&&◌, not, nat_eq, map}
 use Rattle.std.specs.HashMap.{get}
 use Rattle.types.specs.Outcome.{Outcome, outcome}
 use Rattle.types.specs.Translation.{outcome as plain_outcome}
@@ -25,7 +25,7 @@ use Rattle.interleave.specs.Jobs.{IsJob, program_of, lists_of, budget_of}
 use Rattle.interleave.specs.Replay.{hands_on}
 use Rattle.interleave.specs.Shown.{IsTaskOf, IsBookOf, IsDoingThere, IsTold, Shows, is_path, is_scope, scope_id}
 use Rattle.interleave.specs.World.{Live, Scope, World, Whereabouts, Queue, Hand, Parked, task, scope, root_scope, has_passed, is_passed}
-use Rattle.interleave.specs.Worlds.{LeadsTo, outcome_of}
+use Rattle.interleave.specs.Worlds.{outcome_of}
 use Rattle.interleave.specs.declared.doing.Doing.TheVariants.{AtEnd}
 use Rattle.interleave.specs.declared.job.Job.{Job}
 use Rattle.interleave.specs.declared.scope.Scope.{Scope as rScope}

@@ -6,9 +6,9 @@ ghost use Rattle.interleave.specs.Replaying.{IsRefused, IsReplayed, event as eve
 ghost use Rattle.interleave.specs.Shown.{Becomes, IsWorld, Refuses};
 
 use crate::error::{EventError, ReplayError};
-use events::event::Event;
 use crate::job::Job;
 use crate::world::World;
+use events::event::Event;
 
 impl<'p> World<'p> {
     /// What happens next. After an error the world is as it was.

@@ -12,11 +12,11 @@ ghost use Rattle.interleave.specs.Walks.{IsIdle, IsIllegal, IsOver, IsWalk, Went
 ghost use Rattle.interleave.specs.declared.error.EventError.TheVariants.{NoMemory};
 
 use crate::error::EventError;
-use events::event::Event;
 use crate::job::Job;
 use crate::task::{Stake, Whereabouts};
-use events::worker_id::{MOST_WORKERS, WorkerId};
 use crate::world::{World, root_scope};
+use events::event::Event;
+use events::worker_id::{MOST_WORKERS, WorkerId};
 use rand::rngs::SmallRng;
 use rand::{RngExt, SeedableRng};
 use std::alloc::{AllocError, Global};
@@ -60,9 +60,9 @@ impl Chance {
 }
 
 /// A walk of so many workers until the root's scope has passed, or of so many events; no worker
-/// counts as one, and more than 64 as 64. A generator picks live tasks and workers from a seed on, and what can happen to
-/// these happens. It ends earlier only where a task wants weight from a scope that has issued 2^31
-/// times.
+/// counts as one, and more than 64 as 64. A generator picks live tasks and workers from a seed on,
+/// and what can happen to these happens. It ends earlier only where a task wants weight from a
+/// scope that has issued 2^31 times.
 pub fn random_walk<'p>(
     job: Job<'p>,
     workers: u32,

@@ -111,9 +111,9 @@ impl<'p> World<'p> {
     }
 
     /// A scope passes, since all its weight came back. Where it is the root's, what is told is known
-    /// from then on.
+    /// from then on: what the scope keeps settles what the root has made in a world that is shown.
     pub fn pass(&mut self, scope: &ScopeId) -> Result<(), EventError>
-        requires { IsWorld self.old }
+        requires { scope_id scope.now ≡ the_root_scope → IsWorld self.old }
         ensures passed { OnOk result (Becomes (IsPass (scope_id scope.now)) self.old self.new) }
         ensures refused { IfErr result (Refuses (IsPass (scope_id scope.now)) self.old self.new) }
         ensures job { self.new.job ≡ self.old.job }

@@ -1,4 +1,4 @@
-use Rattle.std.proofs.Common.{◌≡◌, ◌∙◌, ap, sym, subst}
+use Rattle.std.proofs.Common.{◌∙◌, ap, subst}
 use Rattle.types.specs.Translation.{program}
 use Rattle.own_run.specs.Reached.{begun}
 use Rattle.own_run.specs.Standings.{IsAt}

@@ -1,4 +1,4 @@
-use Rattle.std.proofs.Common.{◌∙◌, refl, sym, inl, inr}
+use Rattle.std.proofs.Common.{◌∙◌, sym}
 use Rattle.interleave.specs.Courses.{course_of}
 use Rattle.interleave.proofs.InHand.{its_doing}
 use Rattle.interleave.proofs.task.Task.in_hand.Goals as goal

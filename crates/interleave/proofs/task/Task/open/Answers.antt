@@ -1,4 +1,4 @@
-use Rattle.std.proofs.Common.{◌≡◌, ◌+◌, ◌∙◌, ◌∷◌, List, refl, sym, ap, map}
+use Rattle.std.proofs.Common.{◌≡◌, ◌+◌, ◌∙◌, ◌∷◌, List, refl, ap, map}
 use Rattle.interleave.specs.Courses.{behind}
 use Rattle.interleave.specs.Shown.{scope_id, stake}
 use Rattle.interleave.specs.World.{ScopeId, Stake}

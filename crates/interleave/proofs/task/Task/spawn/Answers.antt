@@ -1,4 +1,4 @@
-use Rattle.std.proofs.Common.{◌≡◌, ◌∙◌, refl, sym, ap, map, Some}
+use Rattle.std.proofs.Common.{◌≡◌, ◌∙◌, refl, sym, ap, map}
 use Rattle.std.proofs.lemmas.Option.{same_Some}
 use Rattle.own_run.specs.declared.start.Start.{Start}
 use Rattle.interleave.specs.Courses.{begun_by, behind}

@@ -1,6 +1,5 @@
-use Rattle.std.proofs.Common.{◌≡◌, ◌∙◌, ◌∷◌, [], ap, sym, subst}
+use Rattle.std.proofs.Common.{◌∙◌, ◌∷◌, [], sym, subst}
 use Rattle.own_run.specs.Results.{TaskResult}
-use Rattle.own_run.specs.Translation.{task_result}
 use Rattle.interleave.specs.Ending.{GivesBack, ScopeBecomes}
 use Rattle.interleave.specs.Events.{Ends}
 use Rattle.interleave.specs.Shown.{Refuses}

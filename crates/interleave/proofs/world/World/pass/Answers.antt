@@ -3,9 +3,11 @@ use Rattle.interleave.specs.Events.{Pass}
 use Rattle.interleave.specs.Shown.{Shows, next_world, scope_id}
 use Rattle.interleave.specs.World.{World}
 use Rattle.interleave.specs.declared.world.World.{World as rWorld}
-use Rattle.interleave.proofs.Moves.{passes_beside, passes_not}
-use Rattle.interleave.proofs.Staying.{stays_self}
+use Rattle.interleave.proofs.Moves.{passes_beside}
 use Rattle.interleave.proofs.world.World.pass.Goals as goal
+
+pub pass_root-requires-clause-world : goal.pass_root-requires-clause-world
+pass_root-requires-clause-world c = c.requires c.if-is_root_scope.ensures.root
 
 pub returns-clause-passed : goal.returns-clause-passed
 returns-clause-passed c = λ w h.
