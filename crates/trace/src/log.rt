@@ -6,7 +6,7 @@ ghost use Rattle.types.specs.Translation.{input as lists_in};
 ghost use Rattle.types.specs.Typed.{code_of};
 ghost use Rattle.interleave.specs.Replaying.{event as event_of};
 ghost use Rattle.interleave.specs.Shown.{Becomes};
-ghost use Rattle.trace.specs.Logs.{IsClean, Leaves, Recorded};
+ghost use Rattle.trace.specs.Logs.{IsClean, Leaves};
 ghost use Rattle.trace.specs.declared.log_error.LogError.TheVariants.{NoMemory};
 
 use crate::log_error::LogError;
@@ -28,7 +28,14 @@ pub struct Log<'p> {
 }
 
 impl<'p> Model for Log<'p> {
+    ghost use Rattle.std.specs.Coded.{codes};
+    ghost use Rattle.trace.specs.Logs.{IsClean, Recorded};
+    ghost use Rattle.interleave.specs.contracts.world.World as shown;
+    ghost use denote.Signature.{static_lft};
+
     ghost Value = { Recorded };
+
+    ghost coded = { Prim.hlevel (codes, (shown.the_row static_lft).coded) };
 
     ghost view = { λ l. record { world = l.world; events = l.events.items } };
 

@@ -1,0 +1,36 @@
+use Rattle.std.proofs.Common.{◌∷◌, ◌++◌, [], List, sym, ap, ◌∙◌, subst}
+use Rattle.events.specs.declared.event.Event.{Event}
+use Rattle.interleave.specs.Replaying.{event as event_of}
+use Rattle.interleave.specs.Shown.{Becomes}
+use Rattle.trace.specs.Logs.{IsClean, Leaves, Recorded}
+use Rattle.trace.proofs.LogLemmas.{clean_more, clean_still, if_error_then, left_by, recorded, stayed_by}
+use Rattle.trace.proofs.log.Log.record.Goals as goal
+
+pub invariant_of-self-in_err-event : goal.invariant_of-self-in_err-event
+invariant_of-self-in_err-event c =
+    let old = c.self.inside in
+    let new = c.event.new.self in
+    subst (λ (l : List Event). IsClean (recorded new l)) (sym c.in_ok-reserve.ensures.items)
+    (clean_still old.world new old.events.items c.self.invariant
+    (stayed_by c.args.event old.world new c.in_err-event.field-0.0 c.in_err-event.ensures.refused))
+
+pub returns-in_err-event-clause-refused : goal.returns-in_err-event-clause-refused
+returns-in_err-event-clause-refused c =
+    let old = c.self.inside in
+    let new = recorded c.event.new.self c.reserve.new.self.items in
+    if_error_then c.from_residual-in_err-event.result c.from_residual-in_err-event.ensures.1
+    (λ x same. subst (λ (l : Recorded). Leaves c.args.event l new x) c.self.view_is
+    (left_by c.args.event (recorded old.world old.events.items) new x c.in_err-event.field-0.0 same c.in_ok-reserve.ensures.items
+    c.in_err-event.ensures.refused))
+
+pub invariant_of-self-2 : goal.invariant_of-self-2
+invariant_of-self-2 c =
+    let old = c.self.inside in
+    let new = c.event.new.self in
+    let items = c.in_ok-push.ensures.items ∙ ap (λ (l : List Event). l ++ c.args.event ∷ []) c.in_ok-reserve.ensures.items in
+    subst (λ (l : List Event). IsClean (recorded new l)) (sym items)
+    (clean_more old.world new old.events.items c.args.event c.self.invariant c.in_ok-event.ensures.legal c.event.ensures.job)
+
+pub returns-clause-moved : goal.returns-clause-moved
+returns-clause-moved c =
+    subst (λ (l : Recorded). Becomes (event_of c.args.event) l.world c.event.new.self) c.self.view_is c.in_ok-event.ensures.legal
