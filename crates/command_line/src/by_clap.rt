@@ -64,6 +64,7 @@ fn request<'w>(
             choices: choosing(given),
             arrays: given.get_flag("arrays"),
             progress: given.get_flag("progress"),
+            explain: given.get_flag("explain"),
         },
     })
 }
@@ -166,16 +167,19 @@ fn commands<'w>(alloc: Global) -> Result<clap::Command<'w>, AllocError> {
         .about("Tells whether a program would be run")
         .after_help(CHECK_EXAMPLE)
         .arg(file(alloc))?
-        .arg(list(alloc))?;
+        .arg(list(alloc))?
+        .arg(explained(alloc))?;
     let labels = clap::Command::new(alloc, "list")
         .about("Writes a program, each statement behind its label")
         .after_help(LIST_EXAMPLE)
         .arg(file(alloc))?
-        .arg(lines(alloc))?;
+        .arg(lines(alloc))?
+        .arg(explained(alloc))?;
     let pairs = clap::Command::new(alloc, "mhp")
         .about("Tells which labels of a program may run together")
         .after_help(PAIRS_EXAMPLE)
-        .arg(file(alloc))?;
+        .arg(file(alloc))?
+        .arg(explained(alloc))?;
     clap::Command::new(alloc, "afx")
         .bin_name("afx")?
         .about("Checks and runs programs of tasks")
@@ -201,7 +205,8 @@ fn format<'w>(alloc: Global) -> Result<clap::Command<'w>, AllocError> {
         .about("Writes a program's text in the canonical layout, with its comments")
         .after_help(FORMAT_EXAMPLE)
         .arg(file(alloc))?
-        .arg(checked(alloc))
+        .arg(checked(alloc))?
+        .arg(explained(alloc))
 }
 
 /// The run by choices.
@@ -214,7 +219,8 @@ fn explore<'w>(alloc: Global) -> Result<clap::Command<'w>, AllocError> {
         .arg(choices(alloc)?)?
         .arg(choices_from(alloc)?)?
         .arg(random(alloc))?
-        .arg(arrays(alloc))
+        .arg(arrays(alloc))?
+        .arg(explained(alloc))
 }
 
 /// The pages of what the program prints.
@@ -258,7 +264,8 @@ fn run<'w>(alloc: Global) -> Result<clap::Command<'w>, AllocError> {
         .arg(tasks(alloc))?
         .arg(w0(alloc))?
         .arg(workers(alloc))?
-        .arg(arrays(alloc))
+        .arg(arrays(alloc))?
+        .arg(explained(alloc))
 }
 
 /// The run on one thread.
@@ -266,7 +273,8 @@ fn serial<'w>(alloc: Global) -> Result<clap::Command<'w>, AllocError> {
     let about = "Runs a program on one thread";
     with_budget(alloc, "serial", about, SERIAL_EXAMPLE)?
         .arg(arrays(alloc))?
-        .arg(progress(alloc))
+        .arg(progress(alloc))?
+        .arg(explained(alloc))
 }
 
 /// A command that runs a program under a budget.
@@ -404,6 +412,14 @@ fn arrays<'w>(alloc: Global) -> Arg<'w> {
     Arg::new(alloc, "arrays")
         .long("arrays")
         .help("Shows the arrays behind the outcome")
+        .action(ArgAction::SetTrue)
+}
+
+/// Whether a refusal is explained.
+fn explained<'w>(alloc: Global) -> Arg<'w> {
+    Arg::new(alloc, "explain")
+        .long("explain")
+        .help("Says behind a refusal where it stands in the text, why, and what would be right")
         .action(ArgAction::SetTrue)
 }
 

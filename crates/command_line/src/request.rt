@@ -109,6 +109,8 @@ pub struct Settings<'w> {
     pub arrays: bool,
     /// `--progress`: how far a run on one thread has come is told while it runs.
     pub progress: bool,
+    /// `--explain`: behind the line of a refusal it is said where and why.
+    pub explain: bool,
 }
 
 impl<'w> Settings<'w> {
@@ -125,6 +127,7 @@ impl<'w> Settings<'w> {
             choices: None,
             arrays: false,
             progress: false,
+            explain: false,
         }
     }
 }

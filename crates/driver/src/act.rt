@@ -9,8 +9,9 @@ ghost use Rattle.intake.specs.declared.failure.Failure.{Failure as FailureOf};
 ghost use Rattle.command_line.specs.Requests.{Asked, Asks, asked_of};
 
 use crate::commands;
+use answers::explaining::explanation;
 use command_line::reply::Reply;
-use command_line::request::Request;
+use command_line::request::{Request, Settings};
 use command_line::words::request_of;
 use intake::failure::Failure;
 use intake::files::{FileSource, read_program};
@@ -45,7 +46,7 @@ pub fn act<R: Threads + Wait + Sync, F: FileSource, O: Write, E: Write, W: Watch
         Err(reply) => tell_command_line(alloc, &reply, out, err),
         Ok(request) => match perform(rt, alloc, request, files, out, watch) {
             Ok(status) => status,
-            Err(failure) => report(err, &failure),
+            Err(refusal) => tell(err, &refusal),
         },
     }
 }
@@ -78,19 +79,60 @@ fn perform<R: Threads + Wait + Sync, F: FileSource, O: Write, W: Watch>(
     files: &mut F,
     out: &mut O,
     watch: &mut W,
-) -> Result<u8, Failure>
+) -> Result<u8, Refusal>
     ensures { ReadsAndPerforms (asked_of request.entry) (F.held files.old)
         (O.contents out.old) (O.contents out.new) result }
 {
     let name = request.file;
-    let bytes = read_program(alloc, files, name)?;
+    let bytes = match read_program(alloc, files, name) {
+        Ok(bytes) => bytes,
+        Err(failure) => return Err(Refusal::bare(alloc, failure)),
+    };
     match std::str::from_utf8(&bytes) {
         Ok(text) => match commands::perform(rt, alloc, request, text, files, out, watch) {
-            Ok(status) => handed_on(out, status),
-            Err(failure) => Err(failure),
+            Ok(status) => match handed_on(out, status) {
+                Ok(status) => Ok(status),
+                Err(failure) => Err(Refusal::bare(alloc, failure)),
+            },
+            Err(failure) => Err(explained(alloc, request.settings, text, failure)),
         },
-        Err(_) => Err(Failure::not_utf8(alloc, name)),
+        Err(_) => Err(Refusal::bare(alloc, Failure::not_utf8(alloc, name))),
     }
+}
+
+/// A failure, and what is said behind its line.
+#[derive(Drop)]
+struct Refusal {
+    failure: Failure,
+    more: String,
+}
+
+impl Refusal {
+    /// A failure with nothing behind its line.
+    fn bare(alloc: Global, failure: Failure) -> Refusal {
+        Refusal {
+            failure,
+            more: String::new(alloc),
+        }
+    }
+}
+
+/// A failure with what is said behind its line, where that is asked for.
+fn explained(alloc: Global, settings: Settings<'_>, text: &str, failure: Failure) -> Refusal {
+    if !settings.explain {
+        return Refusal::bare(alloc, failure);
+    }
+    match explanation(alloc, text, &failure) {
+        Ok(more) => Refusal { failure, more },
+        Err(AllocError) => Refusal::bare(alloc, failure),
+    }
+}
+
+/// Writes the line of a failure and what is said behind it, and answers its status.
+fn tell<E: Write>(err: &mut E, refusal: &Refusal) -> u8 {
+    let status = report(err, &refusal.failure);
+    let _ = append(err, refusal.more.as_bytes());
+    status
 }
 
 /// Hands on what a writer keeps back of an answer with this status.

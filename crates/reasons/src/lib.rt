@@ -1,0 +1,12 @@
+//! Why a text, a program or an input is refused, said at length.
+
+#![tactic(auto)]
+
+mod arguments;
+mod declared;
+mod expected;
+mod named;
+mod rule_texts;
+pub mod rule_errors;
+mod source;
+pub mod syntax_errors;
