@@ -94,7 +94,7 @@ fn perform<R: Threads + Wait + Sync, F: FileSource, O: Write, W: Watch>(
                 Ok(status) => Ok(status),
                 Err(failure) => Err(Refusal::bare(alloc, failure)),
             },
-            Err(failure) => Err(explained(alloc, request.settings, text, failure)),
+            Err(failure) => Err(explained(alloc, files, request.settings, text, failure)),
         },
         Err(_) => Err(Refusal::bare(alloc, Failure::not_utf8(alloc, name))),
     }
@@ -118,11 +118,17 @@ impl Refusal {
 }
 
 /// A failure with what is said behind its line, where that is asked for.
-fn explained(alloc: Global, settings: Settings<'_>, text: &str, failure: Failure) -> Refusal {
+fn explained<F: FileSource>(
+    alloc: Global,
+    files: &mut F,
+    settings: Settings<'_>,
+    text: &str,
+    failure: Failure,
+) -> Refusal {
     if !settings.explain {
         return Refusal::bare(alloc, failure);
     }
-    match explanation(alloc, text, &failure) {
+    match explanation(alloc, files, text, settings.input, &failure) {
         Ok(more) => Refusal { failure, more },
         Err(AllocError) => Refusal::bare(alloc, failure),
     }

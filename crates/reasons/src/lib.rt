@@ -5,6 +5,7 @@
 mod arguments;
 mod declared;
 mod expected;
+pub mod input_errors;
 mod named;
 mod rule_texts;
 pub mod rule_errors;
