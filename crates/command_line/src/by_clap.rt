@@ -64,8 +64,8 @@ fn request<'w>(
             choices: choosing(given),
             arrays: given.get_flag("arrays"),
             progress: given.get_flag("progress"),
-            explain: given.get_flag("explain"),
         },
+        explain: given.get_flag("explain"),
     })
 }
 

@@ -109,8 +109,6 @@ pub struct Settings<'w> {
     pub arrays: bool,
     /// `--progress`: how far a run on one thread has come is told while it runs.
     pub progress: bool,
-    /// `--explain`: behind the line of a refusal it is said where and why.
-    pub explain: bool,
 }
 
 impl<'w> Settings<'w> {
@@ -127,7 +125,6 @@ impl<'w> Settings<'w> {
             choices: None,
             arrays: false,
             progress: false,
-            explain: false,
         }
     }
 }
@@ -139,4 +136,6 @@ pub struct Request<'w> {
     /// The file of the program; `-` is the standard input.
     pub file: &'w str,
     pub settings: Settings<'w>,
+    /// `--explain`: behind the line of a refusal it is said where and why.
+    pub explain: bool,
 }

@@ -32,7 +32,6 @@ pub fn settings_in<'w>(texts: Texts<'w>) -> Option<Settings<'w>>
         choices,
         arrays: texts.arrays,
         progress: texts.progress,
-        explain: false,
     })
 }
 

@@ -49,7 +49,7 @@ pub struct Procedure<'t> {
 }
 
 /// The procedure of a name, where the text has one.
-pub fn procedure<'t>(
+pub fn procedure_of<'t>(
     alloc: Global,
     tokens: &'t [Spanned],
     name: &str,

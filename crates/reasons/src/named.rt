@@ -55,7 +55,7 @@ pub fn names<'t>(alloc: Global, head: &'t [Spanned]) -> Result<Vec<Named<'t>>, A
         if let Token::Name(name) = &first.token {
             found.push(Named {
                 name: name.as_str(),
-                role: role(before, behind),
+                role: role_of(before, behind),
                 at: first.at,
             })?;
         }
@@ -96,7 +96,7 @@ impl Before {
 }
 
 /// What a name does behind these tokens and before those.
-fn role(before: Before, behind: &[Spanned]) -> Role {
+fn role_of(before: Before, behind: &[Spanned]) -> Role {
     match before {
         Before::Var | Before::As => Role::Declared,
         Before::Split => Role::Cut,

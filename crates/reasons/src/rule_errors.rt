@@ -1,6 +1,6 @@
 //! Programs that break a rule.
 
-use crate::arguments::{Argument, Parameter, Procedure, arguments, procedure};
+use crate::arguments::{Argument, Parameter, Procedure, arguments, procedure_of};
 use crate::declared::{Declared, Kind, Scope, find};
 use crate::named::{Named, Role, head, names};
 use crate::rule_texts;
@@ -129,7 +129,7 @@ impl<'t> Broken<'t> {
     fn push_not_in_scope(&self, told: &mut String) -> Result<(), AllocError> {
         for named in &self.names {
             if named.role == Role::Called {
-                if procedure(self.alloc, &self.source.tokens, named.name)?.is_none() {
+                if procedure_of(self.alloc, &self.source.tokens, named.name)?.is_none() {
                     return self.push_no_procedure(told, *named);
                 }
             } else if named.role != Role::Declared && self.scope.find(named.name).is_none() {
@@ -446,7 +446,7 @@ impl<'t> Broken<'t> {
         if named.role != Role::Called {
             return Ok(None);
         }
-        match procedure(self.alloc, &self.source.tokens, named.name)? {
+        match procedure_of(self.alloc, &self.source.tokens, named.name)? {
             Some(called) => Ok(Some((called, arguments(self.alloc, self.head)?))),
             None => Ok(None),
         }
