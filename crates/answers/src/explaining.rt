@@ -4,6 +4,7 @@ use crate::programs::typed_of;
 use intake::failure::Failure;
 use intake::files::FileSource;
 use reasons::input_errors::explained_input;
+use reasons::races::explained_race;
 use reasons::rule_errors::explained_rule;
 use reasons::syntax_errors::explained_syntax;
 use std::alloc::{AllocError, Global};
@@ -21,6 +22,7 @@ pub fn explanation<F: FileSource>(
     match failure {
         Failure::Syntax(error) => explained_syntax(alloc, text, error),
         Failure::Types(error) => explained_rule(alloc, text, *error),
+        Failure::Race { first, second, .. } => explained_race(alloc, text, first, second),
         Failure::Input(error) => match input {
             Some(name) => input_explained(alloc, files, text, name, error),
             None => Ok(String::new(alloc)),

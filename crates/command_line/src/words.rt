@@ -68,8 +68,8 @@ fn explained_request<'w>(command: &str, behind: &'w [String]) -> Option<Request<
 
 /// The request of a line.
 fn request_in<'w>(line: Line<'w>, explain: bool) -> Option<Request<'w>>
-    ensures { (o : Options) → AreRight o → (line_of line).texts ≡ texts_by o → IsSomeAnd result
-        (λ r. asked_of r ≡ record (optioned line.command line.file.now o) { explain = explain }) }
+    ensures { (o : Options) → AreRight o → (line_of line.entry).texts ≡ texts_by o → IsSomeAnd result
+        (λ r. asked_of r ≡ record (optioned line.entry.command line.entry.file.now o) { explain = explain }) }
 {
     let settings = settings_in(line.texts)?;
     Some(Request {

@@ -7,6 +7,7 @@ mod declared;
 mod expected;
 pub mod input_errors;
 mod named;
+pub mod races;
 mod rule_texts;
 pub mod rule_errors;
 mod source;

@@ -1,5 +1,7 @@
 //! Programs that break a rule.
 
+ghost use Rattle.std.specs.Prelude.{◌≤◌, length};
+
 use crate::arguments::{Argument, Parameter, Procedure, arguments, procedure_of};
 use crate::declared::{Declared, Kind, Scope, find};
 use crate::named::{Named, Role, head, names};
@@ -37,7 +39,9 @@ pub fn explained_rule(alloc: Global, text: &str, error: TypeError) -> Result<Str
 }
 
 /// Where the statement of a label begins.
-fn place_of(alloc: Global, text: &str, label: u32) -> Result<Option<Place>, AllocError> {
+fn place_of(alloc: Global, text: &str, label: u32) -> Result<Option<Place>, AllocError>
+    requires { length text.now ≤ 1048576 }
+{
     match statement_places(alloc, text) {
         Ok(places) => {
             let number = usize::try_from(label).unwrap_or(0).saturating_sub(1);
