@@ -2,6 +2,7 @@
 
 #![tactic(auto)]
 
+pub mod explaining;
 pub mod exploring;
 pub mod formatting;
 pub mod listing;

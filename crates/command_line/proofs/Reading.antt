@@ -15,8 +15,8 @@ use Rattle.command_line.specs.declared.request.Command.TheVariants.{Labels, Plac
 use Rattle.command_line.specs.declared.request.Settings.{Settings as rSettings}
 use Rattle.command_line.specs.Reading.{Line, bare, flag_taken, line_of, no_texts, read, read_choosing, read_file, read_whole}
 use Rattle.command_line.specs.Reading.{read_optioned, read_serial_texts, read_texts, taken}
-use Rattle.command_line.specs.Requests.{AreForExplore, AreForRun, AreForSerial, AreRight, Asked, Asks, Options, Settings, Texts}
-use Rattle.command_line.specs.Requests.{is_file_name, optioned, plain, settings_by, flagged, valued}
+use Rattle.command_line.specs.Requests.{AreForExplore, AreForRun, AreForSerial, AreRight, Asked, Asks, AsksPlainly, Options, Settings, Texts}
+use Rattle.command_line.specs.Requests.{is_file_name, optioned, plain, settings_by, flagged, valued, plainly, explaining, explained}
 use Rattle.command_line.specs.Requests.{Choosing, Listed, InFile, Random, IsRightChoosing, choosing_words_of, file_of, list_of}
 use Rattle.command_line.specs.Requests.{seed_of, serial_words_of, texts_by, words_of}
 use Rattle.command_line.specs.Requests.{to_label, to_place, to_place_behind, to_format, to_check_format, to_check_format_behind}
@@ -412,7 +412,7 @@ bare_line words a command file is_read asked = record {
   asked = asked;
 }
 
-pub asks_line : (words : List (List ℕ)) (a : Asked) → Asks words a → IsLineOf words a
+pub asks_line : (words : List (List ℕ)) (a : Asked) → AsksPlainly words a → IsLineOf words a
 asks_line words a (by_no_word is asked) = bare_line words a Run (codes "-") (ap read is) asked
 asks_line words a (to_run file o named for is asked) = record {
   command = Run;
@@ -462,7 +462,7 @@ IsRead l None = ⊥
 
 -- words that ask are read
 pub asked_is_read : (words : List (List ℕ)) (a : Asked)
-    → option_map line_of (let o : Option rLine = None in o) ≡ read words → Asks words a → ⊥
+    → option_map line_of (let o : Option rLine = None in o) ≡ read words → AsksPlainly words a → ⊥
 asked_is_read words a unread asks =
     let l = asks_line words a asks in subst (IsRead (line l.command l.file (texts_by l.options))) (sym (unread ∙ l.is_read)) refl
 
@@ -472,14 +472,95 @@ pub read_is_asked : (words : List (List ℕ)) (a : Asked) (l : rLine) (asked : I
 read_is_asked words a l asked is =
     subst (IsRead (line asked.command asked.file (texts_by asked.options))) (sym (is ∙ asked.is_read)) refl
 
--- a line's command and file, with the settings of its options, are what was asked
-pub settled : (words : List (List ℕ)) (a : Asked) (asked : IsLineOf words a) (m : Line) (s : Settings)
-    → m ≡ line asked.command asked.file (texts_by asked.options) → s ≡ settings_by asked.options
-    → (let b : Asked = record { command = m.command; file = m.file; settings = s } in b) ≡ a
-settled words a asked m s same set =
-    ap (λ (l : Line). let b : Asked = record { command = l.command; file = l.file; settings = s } in b) same
-    ∙ ap (λ (t : Settings). let b : Asked = record { command = asked.command; file = asked.file; settings = t } in b) set
-    ∙ sym asked.asked
+-- a line that was read, with the options that were asked
+pub record IsAskedBy (l : rLine) (a : Asked) : Type 0 where
+  pub options : Options
+  pub right : AreRight options
+  pub texts : (line_of l).texts ≡ texts_by options
+  pub asked : optioned l.command l.file.now options ≡ a
+
+pub asked_by : (words : List (List ℕ)) (a : Asked) (l : rLine) → AsksPlainly words a → option_map line_of (Some l) ≡ read words
+    → IsAskedBy l a
+asked_by words a l asks is =
+    let asked = asks_line words a asks in
+    let same = read_is_asked words a l asked is in
+    record {
+      options = asked.options;
+      right = asked.right;
+      texts = ap (λ (m : Line). m.texts) same;
+      asked = ap (λ (m : Line). optioned m.command m.file asked.options) same ∙ sym asked.asked;
+    }
+
+-- the settings that a line's texts say are those that are asked
+pub settled : (command : Command) (file : List ℕ) (explain : Bool) (o : Options) (s : Settings) → s ≡ settings_by o
+    → (let b : Asked = record { command = command; file = file; settings = s; explain = explain } in b)
+    ≡ record (optioned command file o) { explain = explain }
+settled command file explain o s set =
+    ap (λ (t : Settings). let b : Asked = record { command = command; file = file; settings = t; explain = explain } in b) set
+
+-- ---- whether refusals are explained
+
+-- the second of some words
+abbrev pub second : List (List ℕ) → List ℕ
+second [] = []
+second (word ∷ []) = []
+second (word ∷ other ∷ behind) = other
+
+false_is_true : (let b : Bool = false in b) ≡ true → ⊥
+false_is_true is = cc
+
+other_word_is : (one text : List ℕ) → bytes_eq one text ≡ false → one ≡ text → bytes_eq text text ≡ true → ⊥
+other_word_is one text differs is same = false_is_true (sym differs ∙ ap (λ (w : List ℕ). bytes_eq w text) is ∙ same)
+
+file_is_no_explain : (file : List ℕ) → IsTrue (is_file_name file) → file ≡ codes "--explain" → ⊥
+file_is_no_explain file named is = false_is_true (subst (λ (w : List ℕ). IsTrue (is_file_name w)) is named)
+
+-- no words that ask plainly have `--explain` behind the command
+pub not_plainly : (words : List (List ℕ)) (a : Asked) → AsksPlainly words a → second words ≡ codes "--explain" → ⊥
+not_plainly words a (by_no_word is asked) explain =
+    other_word_is [] (codes "--explain") refl (sym (ap second is) ∙ explain) refl
+not_plainly words a (to_run file o named for is asked) explain = file_is_no_explain file named (sym (ap second is) ∙ explain)
+not_plainly words a (to_run_on_one_thread file o named for is asked) explain =
+    file_is_no_explain file named (sym (ap second is) ∙ explain)
+not_plainly words a (to_explore file o named for is asked) explain = file_is_no_explain file named (sym (ap second is) ∙ explain)
+not_plainly words a (to_check file named is asked) explain = file_is_no_explain file named (sym (ap second is) ∙ explain)
+not_plainly words a (to_list file named is asked) explain =
+    other_word_is (codes "--list") (codes "--explain") refl (sym (ap second is) ∙ explain) refl
+not_plainly words a (to_list_behind file named is asked) explain = file_is_no_explain file named (sym (ap second is) ∙ explain)
+not_plainly words a (to_label file named is asked) explain = file_is_no_explain file named (sym (ap second is) ∙ explain)
+not_plainly words a (to_place file named is asked) explain =
+    other_word_is (codes "--lines") (codes "--explain") refl (sym (ap second is) ∙ explain) refl
+not_plainly words a (to_place_behind file named is asked) explain = file_is_no_explain file named (sym (ap second is) ∙ explain)
+not_plainly words a (to_format file named is asked) explain = file_is_no_explain file named (sym (ap second is) ∙ explain)
+not_plainly words a (to_check_format file named is asked) explain =
+    other_word_is (codes "--check") (codes "--explain") refl (sym (ap second is) ∙ explain) refl
+not_plainly words a (to_check_format_behind file named is asked) explain =
+    file_is_no_explain file named (sym (ap second is) ∙ explain)
+not_plainly words a (to_pair file named is asked) explain = file_is_no_explain file named (sym (ap second is) ∙ explain)
+
+-- what words ask whose second is another, and what those ask whose second is `--explain`
+pub asks_plainly : (words : List (List ℕ)) (a : Asked) → Asks words a → (second words ≡ codes "--explain" → ⊥) → AsksPlainly words a
+asks_plainly words a (plainly asks) other = asks
+asks_plainly words a (explaining command behind b asks is asked) other = absurd (other (ap second is))
+
+-- the words without their second
+abbrev pub without_second : List (List ℕ) → List (List ℕ)
+without_second [] = []
+without_second (word ∷ []) = word ∷ []
+without_second (word ∷ other ∷ behind) = word ∷ behind
+
+pub record IsExplained (words : List (List ℕ)) (a : Asked) : Type 0 where
+  pub bare : Asked
+  pub asks : AsksPlainly (without_second words) bare
+  pub asked : a ≡ explained bare
+
+pub asks_explained : (words : List (List ℕ)) (a : Asked) → Asks words a → second words ≡ codes "--explain" → IsExplained words a
+asks_explained words a (plainly asks) explain = absurd (not_plainly words a asks explain)
+asks_explained words a (explaining command behind b asks is asked) explain = record {
+  bare = b;
+  asks = subst (λ (w : List (List ℕ)). AsksPlainly w b) (sym (ap without_second is)) asks;
+  asked = asked;
+}
 
 some_is_none : (text : List ℕ) → Some text ≡ (let o : Option (List ℕ) = None in o) → ⊥
 some_is_none text is = cc

@@ -48,11 +48,12 @@ pub record Settings : Type 0 where
   pub arrays : Bool
   pub progress : Bool
 
--- what is to be done with the program of a file
+-- what is to be done with the program of a file, and whether a refusal is explained
 pub record Asked : Type 0 where
   pub command : Command
   pub file : List ℕ
   pub settings : Settings
+  pub explain : Bool
 
 abbrev pub settings : rSettings → Settings
 settings s = record {
@@ -66,7 +67,12 @@ settings s = record {
 
 -- what a request asks
 abbrev pub asked_of : Request → Asked
-asked_of r = record { command = r.command; file = r.file.now; settings = settings r.settings }
+asked_of r = record {
+  command = r.command;
+  file = r.file.now;
+  settings = settings r.settings;
+  explain = r.explain;
+}
 
 -- the budget of a run that names none
 abbrev pub usual_budget : Budget
@@ -253,40 +259,51 @@ settings_by o = record {
 
 -- a command with a file alone
 abbrev pub plain : Command → (file : List ℕ) → Asked
-plain command file = record { command = command; file = file; settings = usual }
+plain command file = record { command = command; file = file; settings = usual; explain = false }
 
 -- a command with a file and options behind it
 abbrev pub optioned : Command → (file : List ℕ) → Options → Asked
-optioned command file o = record { command = command; file = file; settings = settings_by o }
+optioned command file o =
+    record { command = command; file = file; settings = settings_by o; explain = false }
 
--- the words ask this; no word is `run -`
-pub data Asks (words : List (List ℕ)) (a : Asked) : Type 0 where
-  by_no_word : words ≡ [] → a ≡ plain Run (codes "-") → Asks words a
+-- the same, and a refusal is explained
+abbrev pub explained : Asked → Asked
+explained a = record a { explain = true }
+
+-- the words ask this, in this order; no word is `run -`
+pub data AsksPlainly (words : List (List ℕ)) (a : Asked) : Type 0 where
+  by_no_word : words ≡ [] → a ≡ plain Run (codes "-") → AsksPlainly words a
   to_run : (file : List ℕ) (o : Options) → IsTrue (is_file_name file) → AreForRun o
-      → words ≡ codes "run" ∷ file ∷ words_of (texts_by o) → a ≡ optioned Run file o → Asks words a
+      → words ≡ codes "run" ∷ file ∷ words_of (texts_by o) → a ≡ optioned Run file o → AsksPlainly words a
   to_run_on_one_thread : (file : List ℕ) (o : Options) → IsTrue (is_file_name file) → AreForSerial o
       → words ≡ codes "serial" ∷ file ∷ serial_words_of (texts_by o) → a ≡ optioned Serial file o
-      → Asks words a
+      → AsksPlainly words a
   to_check : (file : List ℕ) → IsTrue (is_file_name file)
-      → words ≡ codes "check" ∷ file ∷ [] → a ≡ plain Check file → Asks words a
+      → words ≡ codes "check" ∷ file ∷ [] → a ≡ plain Check file → AsksPlainly words a
   to_list : (file : List ℕ) → IsTrue (is_file_name file)
-      → words ≡ codes "check" ∷ codes "--list" ∷ file ∷ [] → a ≡ plain Listing file → Asks words a
+      → words ≡ codes "check" ∷ codes "--list" ∷ file ∷ [] → a ≡ plain Listing file → AsksPlainly words a
   to_list_behind : (file : List ℕ) → IsTrue (is_file_name file)
-      → words ≡ codes "check" ∷ file ∷ codes "--list" ∷ [] → a ≡ plain Listing file → Asks words a
+      → words ≡ codes "check" ∷ file ∷ codes "--list" ∷ [] → a ≡ plain Listing file → AsksPlainly words a
   to_label : (file : List ℕ) → IsTrue (is_file_name file)
-      → words ≡ codes "list" ∷ file ∷ [] → a ≡ plain Labels file → Asks words a
+      → words ≡ codes "list" ∷ file ∷ [] → a ≡ plain Labels file → AsksPlainly words a
   to_place : (file : List ℕ) → IsTrue (is_file_name file)
-      → words ≡ codes "list" ∷ codes "--lines" ∷ file ∷ [] → a ≡ plain Places file → Asks words a
+      → words ≡ codes "list" ∷ codes "--lines" ∷ file ∷ [] → a ≡ plain Places file → AsksPlainly words a
   to_place_behind : (file : List ℕ) → IsTrue (is_file_name file)
-      → words ≡ codes "list" ∷ file ∷ codes "--lines" ∷ [] → a ≡ plain Places file → Asks words a
+      → words ≡ codes "list" ∷ file ∷ codes "--lines" ∷ [] → a ≡ plain Places file → AsksPlainly words a
   to_format : (file : List ℕ) → IsTrue (is_file_name file)
-      → words ≡ codes "fmt" ∷ file ∷ [] → a ≡ plain Format file → Asks words a
+      → words ≡ codes "fmt" ∷ file ∷ [] → a ≡ plain Format file → AsksPlainly words a
   to_check_format : (file : List ℕ) → IsTrue (is_file_name file)
-      → words ≡ codes "fmt" ∷ codes "--check" ∷ file ∷ [] → a ≡ plain CheckFormat file → Asks words a
+      → words ≡ codes "fmt" ∷ codes "--check" ∷ file ∷ [] → a ≡ plain CheckFormat file → AsksPlainly words a
   to_check_format_behind : (file : List ℕ) → IsTrue (is_file_name file)
-      → words ≡ codes "fmt" ∷ file ∷ codes "--check" ∷ [] → a ≡ plain CheckFormat file → Asks words a
+      → words ≡ codes "fmt" ∷ file ∷ codes "--check" ∷ [] → a ≡ plain CheckFormat file → AsksPlainly words a
   to_pair : (file : List ℕ) → IsTrue (is_file_name file)
-      → words ≡ codes "mhp" ∷ file ∷ [] → a ≡ plain Pairs file → Asks words a
+      → words ≡ codes "mhp" ∷ file ∷ [] → a ≡ plain Pairs file → AsksPlainly words a
   to_explore : (file : List ℕ) (o : Options) → IsTrue (is_file_name file) → AreForExplore o
       → words ≡ codes "explore" ∷ file ∷ choosing_words_of (texts_by o) → a ≡ optioned Explore file o
-      → Asks words a
+      → AsksPlainly words a
+
+-- the words ask this; where `--explain` stands behind the command, a refusal is explained
+pub data Asks (words : List (List ℕ)) (a : Asked) : Type 0 where
+  plainly : AsksPlainly words a → Asks words a
+  explaining : (command : List ℕ) (behind : List (List ℕ)) (b : Asked) → AsksPlainly (command ∷ behind) b
+      → words ≡ command ∷ codes "--explain" ∷ behind → a ≡ explained b → Asks words a

@@ -3,6 +3,7 @@
 #![tactic(auto)]
 
 pub mod by_clap;
+mod options;
 pub mod plain;
 pub mod reply;
 pub mod request;

@@ -68,7 +68,7 @@ pub fn line_in<'w>(words: &'w [String]) -> Option<Line<'w>>
 }
 
 /// The line of a command and the words behind it.
-fn line_behind<'w>(command: &str, file: &'w str, behind: &'w [String]) -> Option<Line<'w>>
+pub fn line_behind<'w>(command: &str, file: &'w str, behind: &'w [String]) -> Option<Line<'w>>
     ensures { option_map line_of result
         ≡ read_behind command.now file.now (map string_bytes behind.now) }
 {

@@ -136,4 +136,6 @@ pub struct Request<'w> {
     /// The file of the program; `-` is the standard input.
     pub file: &'w str,
     pub settings: Settings<'w>,
+    /// `--explain`: behind the line of a refusal it is said where and why.
+    pub explain: bool,
 }

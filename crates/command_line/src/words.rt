@@ -1,38 +1,81 @@
 //! The words of a command line.
 
-ghost use Rattle.std.specs.Prelude.{◌≡◌, IsOkAnd, IsSomeAnd, map};
+ghost use Rattle.std.specs.Prelude.{◌≡◌, ◌∷◌, IsOkAnd, IsSomeAnd, map};
 ghost use Rattle.std.specs.String.{string_bytes};
-ghost use Rattle.command_line.specs.Requests.{Asked, Asks, asked_of};
+ghost use Rattle.command_line.specs.Reading.{line_of};
+ghost use Rattle.command_line.specs.Requests.{AreRight, Asked, Asks, AsksPlainly, Options, asked_of};
+ghost use Rattle.command_line.specs.Requests.{explained, optioned, texts_by};
 
 use crate::by_clap::request_by_clap;
-use crate::plain::line_in;
+use crate::plain::{Line, line_behind, line_in};
 use crate::reply::Reply;
 use crate::request::Request;
 use crate::settings::settings_in;
 use std::alloc::Global;
 
 /// Reads the words behind the program's name. What names a command, a file and options behind it, in their
-/// order, is read here; all else, as other orders, help, pages and mistakes, by `clap`.
+/// order, is read here, also where `--explain` stands behind the command; all else, as other orders, help, pages and
+/// mistakes, by `clap`.
 pub fn request_of<'w>(alloc: Global, words: &'w [String]) -> Result<Request<'w>, Reply>
     ensures { (a : Asked) → Asks (map string_bytes words.now) a
         → IsOkAnd result (λ r. asked_of r ≡ a) }
 {
-    match plain_request(words) {
+    match asked_in(words) {
         Some(request) => Ok(request),
         None => request_by_clap(alloc, words),
     }
 }
 
-/// The request of words that ask plainly.
-fn plain_request<'w>(words: &'w [String]) -> Option<Request<'w>>
+/// The request of words that ask in this order.
+fn asked_in<'w>(words: &'w [String]) -> Option<Request<'w>>
     ensures { (a : Asked) → Asks (map string_bytes words.now) a
         → IsSomeAnd result (λ r. asked_of r ≡ a) }
 {
+    match words {
+        [command, second, behind @ ..] => {
+            if second.as_str() == "--explain" {
+                explained_request(command.as_str(), behind)
+            } else {
+                plain_request(words)
+            }
+        }
+        _ => plain_request(words),
+    }
+}
+
+/// The request of words that ask plainly.
+fn plain_request<'w>(words: &'w [String]) -> Option<Request<'w>>
+    ensures { (a : Asked) → AsksPlainly (map string_bytes words.now) a
+        → IsSomeAnd result (λ r. asked_of r ≡ a) }
+{
     let line = line_in(words)?;
+    request_in(line, false)
+}
+
+/// The request of a command and the words behind it, where refusals are explained.
+fn explained_request<'w>(command: &str, behind: &'w [String]) -> Option<Request<'w>>
+    ensures { (a : Asked) → AsksPlainly (command.now ∷ map string_bytes behind.now) a
+        → IsSomeAnd result (λ r. asked_of r ≡ explained a) }
+{
+    match behind {
+        [file, others @ ..] => {
+            let line = line_behind(command, file.as_str(), others)?;
+            request_in(line, true)
+        }
+        [] => None,
+    }
+}
+
+/// The request of a line.
+fn request_in<'w>(line: Line<'w>, explain: bool) -> Option<Request<'w>>
+    ensures { (o : Options) → AreRight o → (line_of line.entry).texts ≡ texts_by o → IsSomeAnd result
+        (λ r. asked_of r ≡ record (optioned line.entry.command line.entry.file.now o) { explain = explain }) }
+{
     let settings = settings_in(line.texts)?;
     Some(Request {
         command: line.command,
         file: line.file,
         settings,
+        explain,
     })
 }

@@ -1,4 +1,10 @@
 -- From a file and a command to what the program did.
+use Rattle.std.proofs.Common.{◌++◌, codes}
+use Rattle.std.specs.Prelude.{Bool, false}
+use Rattle.std.specs.String.{string_bytes}
+use Rattle.intake.specs.FailureStatus.{failure_status}
+use Rattle.intake.specs.Messages.{failure_text}
+use Rattle.driver.specs.declared.refusal.Refusal.{Refusal}
 use Rattle.std.proofs.Common.{◌≡◌, ℕ, ◌≤◌, length, List, [], Option, Result, Ok, Err, IfOk, IfErr, sym, subst}
 use Rattle.std.proofs.lemmas.List.{append-nil}
 use Rattle.std.proofs.KnownBytes.{Keeps-refl, Appends-kept}
@@ -62,9 +68,16 @@ performed_without_text a held b (Err y) f is told = without_text (subst (TellsNo
 -- what was done by a request is what was asked
 pub acts : (a : Asked) (request : Request) → asked_of request ≡ a → (held : Held) (old new err_old err_new : Option (List ℕ))
     (result : Result ℕ Failure) (status : ℕ) → ReadsAndPerforms (asked_of request) held old new result
-    → Reports err_old err_new result status → Acts a held old new err_old err_new status
+    → Reports request.explain err_old err_new result status → Acts a held old new err_old err_new status
 acts a request is held old new err_old err_new result status performs reports = record {
   result = result;
   performs = subst (λ (b : Asked). ReadsAndPerforms b held old new result) is performs;
-  reports = reports;
+  reports = subst (λ (b : Asked). Reports b.explain err_old err_new result status) is reports;
 }
+
+-- a refusal that was told
+pub reported : (explain : Bool) (old new : Option (List ℕ)) (r : Refusal) (status : ℕ)
+    → (explain ≡ false → string_bytes r.more ≡ []) → status ≡ failure_status r.failure
+    → AppendsBeginning old new ((failure_text r.failure ++ codes "\n") ++ string_bytes r.more)
+    → Reports explain old new (Err r.failure) status
+reported explain old new r status bare is told = (is, record { more = string_bytes r.more; bare = bare; told = told })

@@ -1,20 +1,20 @@
 //! The whole program, over files and writers that it is lent.
 
 ghost use Rattle.std.specs.Io.KnownBytes.{Keeps};
-ghost use Rattle.std.specs.Prelude.{◌≡◌, ◌≤◌, ◌<◌, codes, map, Err, IfOk, IfErr};
+ghost use Rattle.std.specs.Prelude.{◌≡◌, ◌≤◌, ◌<◌, [], codes, false, map, Err, IfOk, IfErr};
 ghost use Rattle.std.specs.String.{string_bytes};
-ghost use Rattle.driver.specs.Acts.{Acts, ReadsAndPerforms, Reports};
+ghost use Rattle.driver.specs.Acts.{Acts, ReadsAndPerforms, Reports, in_short};
 ghost use Rattle.intake.specs.Failures.{TellsNotUtf8};
 ghost use Rattle.intake.specs.declared.failure.Failure.{Failure as FailureOf};
 ghost use Rattle.command_line.specs.Requests.{Asked, Asks, asked_of};
 
 use crate::commands;
+use crate::refusal::Refusal;
 use command_line::reply::Reply;
 use command_line::request::Request;
 use command_line::words::request_of;
 use intake::failure::Failure;
 use intake::files::{FileSource, read_program};
-use intake::message::emit_message;
 use serial_run::watch::Watch;
 use std::alloc::{AllocError, Global};
 use std::io;
@@ -45,7 +45,7 @@ pub fn act<R: Threads + Wait + Sync, F: FileSource, O: Write, E: Write, W: Watch
         Err(reply) => tell_command_line(alloc, &reply, out, err),
         Ok(request) => match perform(rt, alloc, request, files, out, watch) {
             Ok(status) => status,
-            Err(failure) => report(err, &failure),
+            Err(refusal) => refusal.tell(err),
         },
     }
 }
@@ -53,21 +53,13 @@ pub fn act<R: Threads + Wait + Sync, F: FileSource, O: Write, E: Write, W: Watch
 /// Tells why the words behind the program's name can't be had: one of them is no text, or memory ran out.
 pub fn refuse_words<E: Write>(alloc: Global, error: &io::Error, err: &mut E) -> u8
     ensures { (f : FailureOf) × TellsNotUtf8 (codes "command line") f
-        × Reports (E.contents err.old) (E.contents err.new) (Err f) result }
+        × Reports false (E.contents err.old) (E.contents err.new) (Err f) result }
 {
     let failure = match error.kind() {
         ErrorKind::OutOfMemory => Failure::NoMemory,
         _ => Failure::not_utf8(alloc, "command line"),
     };
-    report(err, &failure)
-}
-
-/// Writes the line of a failure, and answers its status.
-fn report<E: Write>(err: &mut E, failure: &Failure) -> u8
-    ensures { Reports (E.contents err.old) (E.contents err.new) (Err failure.now) result }
-{
-    let _ = emit_message(err, failure);
-    failure.status()
+    Refusal::bare(alloc, failure).tell(err)
 }
 
 /// Does one command.
@@ -78,18 +70,26 @@ fn perform<R: Threads + Wait + Sync, F: FileSource, O: Write, W: Watch>(
     files: &mut F,
     out: &mut O,
     watch: &mut W,
-) -> Result<u8, Failure>
-    ensures { ReadsAndPerforms (asked_of request.entry) (F.held files.old)
-        (O.contents out.old) (O.contents out.new) result }
+) -> Result<u8, Refusal>
+    ensures done { ReadsAndPerforms (asked_of request.entry) (F.held files.old)
+        (O.contents out.old) (O.contents out.new) (in_short result) }
+    ensures bare { IfErr result
+        (λ refusal. request.entry.explain ≡ false → string_bytes refusal.more ≡ []) }
 {
     let name = request.file;
-    let bytes = read_program(alloc, files, name)?;
+    let bytes = match read_program(alloc, files, name) {
+        Ok(bytes) => bytes,
+        Err(failure) => return Err(Refusal::bare(alloc, failure)),
+    };
     match std::str::from_utf8(&bytes) {
         Ok(text) => match commands::perform(rt, alloc, request, text, files, out, watch) {
-            Ok(status) => handed_on(out, status),
-            Err(failure) => Err(failure),
+            Ok(status) => match handed_on(out, status) {
+                Ok(status) => Ok(status),
+                Err(failure) => Err(Refusal::bare(alloc, failure)),
+            },
+            Err(failure) => Err(Refusal::explained(alloc, files, request, text, failure)),
         },
-        Err(_) => Err(Failure::not_utf8(alloc, name)),
+        Err(_) => Err(Refusal::bare(alloc, Failure::not_utf8(alloc, name))),
     }
 }
 

@@ -4,6 +4,7 @@
 
 pub mod act;
 pub mod commands;
+mod refusal;
 
 pub use intake::files;
 pub use texts::progress;

@@ -1,0 +1,68 @@
+//! A refusal, with what explains it.
+
+ghost use Rattle.std.specs.Prelude.{◌≡◌, ◌++◌, [], codes, false};
+ghost use Rattle.std.specs.String.{string_bytes};
+ghost use Rattle.intake.specs.FailureStatus.{failure_status};
+ghost use Rattle.intake.specs.Messages.{failure_text};
+ghost use Rattle.texts.specs.Appending.{AppendsBeginning};
+
+use answers::explaining::explanation;
+use command_line::request::Request;
+use intake::failure::Failure;
+use intake::files::FileSource;
+use intake::message::emit_message;
+use std::alloc::{AllocError, Global};
+use std::io::Write;
+use texts::emit::append;
+
+/// Why a command ended without its answer, and what is said behind the line that tells it.
+#[derive(Drop)]
+pub struct Refusal {
+    pub failure: Failure,
+    pub more: String,
+}
+
+impl Refusal {
+    /// Nothing is said behind the line.
+    pub fn bare(alloc: Global, failure: Failure) -> Refusal
+        ensures failure { result.failure ≡ failure }
+        ensures more { string_bytes result.more ≡ [] }
+    {
+        Refusal {
+            failure,
+            more: String::new(alloc),
+        }
+    }
+
+    /// It is explained, where that is asked for and memory is there.
+    pub fn explained<F: FileSource>(
+        alloc: Global,
+        files: &mut F,
+        request: Request<'_>,
+        text: &str,
+        failure: Failure,
+    ) -> Refusal
+        ensures failure { result.failure ≡ failure }
+        ensures more { request.entry.explain ≡ false → string_bytes result.more ≡ [] }
+    {
+        if !request.explain {
+            return Refusal::bare(alloc, failure);
+        }
+        match explanation(alloc, files, text, request.settings.input, &failure) {
+            Ok(more) => Refusal { failure, more },
+            Err(AllocError) => Refusal::bare(alloc, failure),
+        }
+    }
+
+    /// Writes the line and what is said behind it, as far as they are taken, and answers the status.
+    pub fn tell<E: Write>(&self, err: &mut E) -> u8
+        ensures status { result ≡ failure_status self.now.failure }
+        ensures told { AppendsBeginning (E.contents err.old) (E.contents err.new)
+            ((failure_text self.now.failure ++ codes "\n") ++ string_bytes self.now.more) }
+    {
+        if emit_message(err, &self.failure).is_ok() {
+            let _ = append(err, self.more.as_bytes());
+        }
+        self.failure.status()
+    }
+}

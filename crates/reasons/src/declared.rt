@@ -1,0 +1,323 @@
+//! What is declared where a statement stands.
+
+use crate::arguments::{is_of_bytes, parameters};
+use std::alloc::{AllocError, Global};
+use syntax::token::{Mark, Spanned, Token, Word};
+
+/// A declaration.
+#[derive(Clone, Copy)]
+pub struct Declared<'t> {
+    pub name: &'t str,
+    pub kind: Kind,
+    /// The number of the first character of the name.
+    pub at: usize,
+    /// Of a side of a split: what is split.
+    pub part_of: Option<Part<'t>>,
+    /// How many blocks are open in which it is in scope.
+    level: usize,
+}
+
+/// Where a side of a split comes from.
+#[derive(Clone, Copy)]
+pub struct Part<'t> {
+    /// What is split.
+    pub whole: &'t str,
+    /// The number of the first character of its name in the split.
+    pub at: usize,
+}
+
+/// What a name stands for.
+#[derive(Clone, Copy, PartialEq, Eq)]
+pub enum Kind {
+    Scalar,
+    /// A section that may be written; the first of it is whether its elements are bytes.
+    Written { bytes: bool },
+    /// A section that is only read.
+    Read { bytes: bool },
+}
+
+impl Kind {
+    /// Whether it is a section.
+    pub fn is_section(self) -> bool {
+        match self {
+            Kind::Scalar => false,
+            _ => true,
+        }
+    }
+
+    /// Whether it is a section that may be written.
+    pub fn is_written(self) -> bool {
+        match self {
+            Kind::Written { .. } => true,
+            _ => false,
+        }
+    }
+
+    /// Whether its elements are bytes.
+    pub fn bytes(self) -> bool {
+        match self {
+            Kind::Scalar => false,
+            Kind::Written { bytes } => bytes,
+            Kind::Read { bytes } => bytes,
+        }
+    }
+
+    /// The name of its element type.
+    pub fn element(self) -> &'static str {
+        if self.bytes() { "byte" } else { "int" }
+    }
+
+    /// Whether it is a section that is only read.
+    pub fn is_read(self) -> bool {
+        match self {
+            Kind::Read { .. } => true,
+            _ => false,
+        }
+    }
+}
+
+/// A block that is open, with the character at which its `async` begins where it is one's.
+#[derive(Clone, Copy)]
+struct Block {
+    task: Option<usize>,
+}
+
+/// What is in scope at a token.
+#[derive(Drop)]
+pub struct Scope<'t> {
+    pub declared: Vec<Declared<'t>>,
+    blocks: Vec<Block>,
+    /// Where the `async` stands whose block comes next.
+    task: Option<usize>,
+}
+
+impl<'t> Scope<'t> {
+    /// The scope behind these tokens, and what was declared in them and is over.
+    pub fn behind(
+        alloc: Global,
+        tokens: &'t [Spanned],
+        over: &mut Vec<Declared<'t>>,
+    ) -> Result<Scope<'t>, AllocError> {
+        let mut scope = Scope {
+            declared: Vec::new(alloc),
+            blocks: Vec::new(alloc),
+            task: None,
+        };
+        let mut left = tokens;
+        while let [first, behind @ ..] = left {
+            scope.pass(alloc, first, behind, over)?;
+            left = behind;
+        }
+        Ok(scope)
+    }
+
+    /// Goes over one token, before those behind it.
+    fn pass(
+        &mut self,
+        alloc: Global,
+        first: &'t Spanned,
+        behind: &'t [Spanned],
+        over: &mut Vec<Declared<'t>>,
+    ) -> Result<(), AllocError> {
+        match &first.token {
+            Token::Word(Word::Proc) => self.parameters(alloc, behind)?,
+            Token::Word(Word::Array) => self.declare(behind, array_kind(behind))?,
+            Token::Word(Word::Var) => self.declare(behind, Kind::Scalar)?,
+            Token::Word(Word::Split) => self.split(behind)?,
+            Token::Word(Word::Async) => self.task = Some(first.at),
+            Token::Mark(Mark::LeftBrace) => {
+                let task = self.task.take();
+                self.blocks.push(Block { task })?;
+            }
+            Token::Mark(Mark::RightBrace) => self.close(over)?,
+            _ => {}
+        }
+        Ok(())
+    }
+
+    /// Declares the name that stands first, in the block that is open.
+    fn declare(&mut self, tokens: &'t [Spanned], kind: Kind) -> Result<(), AllocError> {
+        if let Some((name, at)) = first_name(tokens) {
+            self.declared.push(Declared {
+                name,
+                kind,
+                at,
+                part_of: None,
+                level: self.blocks.len(),
+            })?;
+        }
+        Ok(())
+    }
+
+    /// Declares the sides of a split, of the kind of what is split, whose name stands first.
+    fn split(&mut self, tokens: &'t [Spanned]) -> Result<(), AllocError> {
+        let Some((whole, at)) = first_name(tokens) else {
+            return Ok(());
+        };
+        let kind = match self.find(whole) {
+            Some(declared) => declared.kind,
+            None => Kind::Written { bytes: false },
+        };
+        let part = Part { whole, at };
+        let mut is_side = false;
+        let mut left = tokens;
+        while let [first, behind @ ..] = left {
+            match &first.token {
+                Token::Word(Word::As) => is_side = true,
+                Token::Mark(Mark::LeftBrace) => break,
+                _ => {}
+            }
+            if is_side {
+                self.side(left, kind, part)?;
+            }
+            left = behind;
+        }
+        Ok(())
+    }
+
+    /// Declares a side of a split, in its block, where its name stands first.
+    fn side(
+        &mut self,
+        tokens: &'t [Spanned],
+        kind: Kind,
+        part: Part<'t>,
+    ) -> Result<(), AllocError> {
+        if let Some((name, at)) = first_name(tokens) {
+            self.declared.push(Declared {
+                name,
+                kind,
+                at,
+                part_of: Some(part),
+                level: self.blocks.len().saturating_add(1),
+            })?;
+        }
+        Ok(())
+    }
+
+    /// Declares the parameters of a procedure, whose name stands first.
+    fn parameters(&mut self, alloc: Global, tokens: &'t [Spanned]) -> Result<(), AllocError> {
+        let parameters = parameters(alloc, tokens.get(1..).unwrap_or(tokens))?;
+        for parameter in &parameters {
+            self.declared.push(Declared {
+                name: parameter.name,
+                kind: parameter.kind,
+                at: parameter.at,
+                part_of: None,
+                level: 1,
+            })?;
+        }
+        Ok(())
+    }
+
+    /// Closes a block: what was declared in it is over.
+    fn close(&mut self, over: &mut Vec<Declared<'t>>) -> Result<(), AllocError> {
+        let _ = self.blocks.pop();
+        while let Some(last) = self.declared.last() {
+            if last.level <= self.blocks.len() {
+                break;
+            }
+            over.push(*last)?;
+            let _ = self.declared.pop();
+        }
+        Ok(())
+    }
+
+    /// The declaration of a name that is in scope.
+    pub fn find(&self, name: &str) -> Option<Declared<'t>> {
+        find(&self.declared, name)
+    }
+
+    /// Whether two sections may share places: they come from one, and are not on the two sides of one split.
+    pub fn may_share(&self, one: Declared<'t>, other: Declared<'t>) -> bool {
+        let mut left = Some(one);
+        for _ in 0..=self.declared.len() {
+            let Some(part) = left else {
+                break;
+            };
+            if self.is_apart(part, other) {
+                return false;
+            }
+            left = self.whole_of(part);
+        }
+        self.root_of(one) == self.root_of(other)
+    }
+
+    /// Whether another section is, or comes from, the other side of the split of which this one is a side.
+    fn is_apart(&self, side: Declared<'t>, other: Declared<'t>) -> bool {
+        let mut right = Some(other);
+        for _ in 0..=self.declared.len() {
+            let Some(part) = right else {
+                break;
+            };
+            if are_sides(side, part) {
+                return true;
+            }
+            right = self.whole_of(part);
+        }
+        false
+    }
+
+    /// The section from which another comes by no split.
+    fn root_of(&self, section: Declared<'t>) -> &'t str {
+        let mut root = section;
+        for _ in 0..=self.declared.len() {
+            match self.whole_of(root) {
+                Some(whole) => root = whole,
+                None => break,
+            }
+        }
+        root.name
+    }
+
+    /// What is split into a section and another.
+    fn whole_of(&self, section: Declared<'t>) -> Option<Declared<'t>> {
+        self.find(section.part_of?.whole)
+    }
+
+    /// Where the innermost async begins outside of which a declaration stands.
+    pub fn task_around(&self, declared: Declared<'t>) -> Option<usize> {
+        let mut task = None;
+        for block in self.blocks.iter().skip(declared.level) {
+            if task.is_none() {
+                task = block.task;
+            }
+        }
+        task
+    }
+}
+
+/// Whether two sections are the two sides of one split.
+fn are_sides(one: Declared<'_>, other: Declared<'_>) -> bool {
+    match (one.part_of, other.part_of) {
+        (Some(left), Some(right)) => left.at == right.at && one.name != other.name,
+        _ => false,
+    }
+}
+
+/// The declaration of a name among these.
+pub fn find<'t>(declared: &[Declared<'t>], name: &str) -> Option<Declared<'t>> {
+    for one in declared {
+        if one.name == name {
+            return Some(*one);
+        }
+    }
+    None
+}
+
+/// What an array is whose name stands first.
+fn array_kind(tokens: &[Spanned]) -> Kind {
+    Kind::Written {
+        bytes: is_of_bytes(tokens),
+    }
+}
+
+/// The name that stands first, with the number of its first character.
+fn first_name(tokens: &[Spanned]) -> Option<(&str, usize)> {
+    match tokens {
+        [first, ..] => match &first.token {
+            Token::Name(name) => Some((name.as_str(), first.at)),
+            _ => None,
+        },
+        [] => None,
+    }
+}

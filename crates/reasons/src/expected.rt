@@ -1,0 +1,126 @@
+//! Which tokens may stand behind others, as the parser says of each of them.
+
+use std::alloc::{AllocError, Global};
+use syntax::cursor::Stuck;
+use syntax::programs::program;
+use syntax::token::{Mark, Spanned, Token, Word};
+
+/// The reserved words.
+pub const WORDS: [&str; 28] = [
+    "and", "array", "as", "async", "at", "by", "byte", "else", "false", "fault", "finish", "if",
+    "int", "len", "main", "mut", "not", "or", "parts", "print", "proc", "read", "rescue", "skip",
+    "split", "true", "var", "while",
+];
+
+/// The marks.
+const MARKS: [&str; 21] = [
+    "(", ")", "{", "}", "[", "]", ",", ";", ":", "=", "+", "-", "*", "/", "%", "<", "<=", ">",
+    ">=", "==", "!=",
+];
+
+/// The tokens before a place at which a text goes wrong.
+#[derive(Drop)]
+pub struct Front {
+    alloc: Global,
+    tokens: Vec<Spanned>,
+}
+
+impl Front {
+    /// These tokens.
+    pub fn new(alloc: Global, tokens: Vec<Spanned>) -> Front {
+        Front { alloc, tokens }
+    }
+
+    /// The last of them.
+    pub fn last(&self) -> Option<&Token> {
+        self.tokens.last().map(|spanned| &spanned.token)
+    }
+
+    /// Whether a program can go on with a name behind them.
+    pub fn takes_name(&mut self) -> Result<bool, AllocError> {
+        let name = String::from_str(self.alloc, "x")?;
+        self.takes(Token::Name(name))
+    }
+
+    /// Whether a program can go on with a mark behind them.
+    pub fn takes_mark(&mut self, mark: Mark) -> Result<bool, AllocError> {
+        self.takes(Token::Mark(mark))
+    }
+
+    /// Whether a statement may begin behind them.
+    pub fn takes_statement(&mut self) -> Result<bool, AllocError> {
+        self.takes(Token::Word(Word::Skip))
+    }
+
+    /// Adds what may stand behind them.
+    pub fn push_expected(&mut self, told: &mut String) -> Result<(), AllocError> {
+        told.push_str("Here may stand:")?;
+        if self.takes_name()? {
+            told.push_str(" a name")?;
+        }
+        if self.takes(Token::Number(0))? {
+            told.push_str(" a number")?;
+        }
+        for text in WORDS {
+            if let Some(word) = Word::of(text) {
+                if self.takes(Token::Word(word))? {
+                    write!(told, " {text}")?;
+                }
+            }
+        }
+        for text in MARKS {
+            if let Some(mark) = mark_of(text) {
+                if self.takes(Token::Mark(mark))? {
+                    write!(told, " {text}")?;
+                }
+            }
+        }
+        told.push('\n')
+    }
+
+    /// Whether a program can go on with this token: the parser wants more only behind it.
+    fn takes(&mut self, token: Token) -> Result<bool, AllocError> {
+        self.tokens.push(Spanned { token, at: 0 })?;
+        let read = program(self.alloc, &self.tokens);
+        let _ = self.tokens.pop();
+        match read {
+            Ok(_) => Ok(true),
+            Err(Stuck::Unexpected { left }) => Ok(left == 0),
+            Err(Stuck::OutOfMemory) => Err(AllocError),
+        }
+    }
+}
+
+/// The text of a reserved word.
+pub fn word_text(word: Word) -> &'static str {
+    for text in WORDS {
+        if let Some(found) = Word::of(text) {
+            if found == word {
+                return text;
+            }
+        }
+    }
+    ""
+}
+
+/// The text of a mark.
+pub fn mark_text(mark: Mark) -> &'static str {
+    for text in MARKS {
+        if let Some(found) = mark_of(text) {
+            if found == mark {
+                return text;
+            }
+        }
+    }
+    ""
+}
+
+/// The mark that a text is.
+fn mark_of(text: &str) -> Option<Mark> {
+    let mut characters = text.chars();
+    let first = characters.next()?;
+    match characters.next() {
+        Some(_) => Mark::of_two(first),
+        None => Mark::of_one(first),
+    }
+}

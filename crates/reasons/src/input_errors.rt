@@ -1,0 +1,160 @@
+//! Inputs that don't fit their program.
+
+use crate::source::push_line;
+use serde_json::Value;
+use std::alloc::{AllocError, Global};
+use syntax::Place;
+use syntax_tree::tree::ElementType;
+use types::code::Array;
+use types::input_error::InputError;
+
+/// What stands behind the line of an error of an input: where, why, and what would be right. The text is that of the
+/// input, the arrays are those of the program.
+pub fn explained_input(
+    alloc: Global,
+    arrays: &[Array],
+    text: &str,
+    error: &InputError,
+) -> Result<String, AllocError> {
+    let mut told = String::new(alloc);
+    let value = match Value::from_str(alloc, text) {
+        Ok(value) => value,
+        Err(wrong) => {
+            if wrong.is_memory() {
+                return Err(AllocError);
+            }
+            push_no_json(&mut told, text, wrong.line(), wrong.column())?;
+            return Ok(told);
+        }
+    };
+    match error {
+        InputError::NotAnObject => told.push_str(NO_OBJECT)?,
+        InputError::UnknownArray { name } => push_unknown(&mut told, arrays, name)?,
+        InputError::WrongLength { name } => push_length(&mut told, arrays, &value, name)?,
+        InputError::WrongElement { name } => push_element(alloc, &mut told, arrays, &value, name)?,
+        _ => {}
+    }
+    Ok(told)
+}
+
+const NO_OBJECT: &str = "
+The input must be one object with a list of numbers for each array that doesn't begin with zeros.
+To mend it: write {\"a\": [1, 2]}, with the names of arrays for a.
+";
+
+/// Adds where a text is no JSON.
+fn push_no_json(
+    told: &mut String,
+    text: &str,
+    line: usize,
+    column: usize,
+) -> Result<(), AllocError> {
+    let place = Place {
+        line: u32::try_from(line).unwrap_or(1),
+        column: u32::try_from(column).unwrap_or(1),
+    };
+    told.push('\n')?;
+    push_line(told, text, place)?;
+    told.push_str("The input goes wrong as JSON here.\n")?;
+    told.push_str("To mend it: write {\"a\": [1, 2]}, with the names of arrays for a.\n")
+}
+
+/// Adds which arrays a program has.
+fn push_arrays(told: &mut String, arrays: &[Array]) -> Result<(), AllocError> {
+    if arrays.is_empty() {
+        return told.push_str("The program has no arrays.\n");
+    }
+    let mut before = "Arrays of the program: ";
+    for array in arrays {
+        let name = array.name.as_str();
+        let element = element_text(array.element);
+        let length = array.length;
+        write!(told, "{before}{name}: {element}[{length}]")?;
+        before = ", ";
+    }
+    told.push('\n')
+}
+
+/// The name of an element type.
+fn element_text(element: ElementType) -> &'static str {
+    match element {
+        ElementType::Int => "int",
+        ElementType::Byte => "byte",
+    }
+}
+
+/// Adds that the program has no such array.
+fn push_unknown(told: &mut String, arrays: &[Array], name: &str) -> Result<(), AllocError> {
+    write!(told, "\nThe program has no array `{name}`.\n")?;
+    push_arrays(told, arrays)?;
+    told.push_str("To mend it: take the member away, or give it the name of an array.\n")
+}
+
+/// The array of a name.
+fn array_of<'a>(arrays: &'a [Array], name: &str) -> Option<&'a Array> {
+    for array in arrays {
+        if array.name.as_str() == name {
+            return Some(array);
+        }
+    }
+    None
+}
+
+/// Adds how many elements an array has, and how many are given.
+fn push_length(
+    told: &mut String,
+    arrays: &[Array],
+    value: &Value,
+    name: &str,
+) -> Result<(), AllocError> {
+    if let Some(array) = array_of(arrays, name) {
+        let wanted = array.length;
+        match value.get(name).and_then(Value::as_array) {
+            Some(list) => {
+                let given = list.len();
+                write!(told, "\nThe array `{name}` has {wanted} elements, and the list has {given}.\n")?;
+            }
+            None => write!(told, "\nThe array `{name}` wants a list of {wanted} numbers.\n")?,
+        }
+    }
+    told.push_str("To mend it: give one number for each element; an array that is left out begins with zeros.\n")
+}
+
+/// Adds which element an array can't hold.
+fn push_element(
+    alloc: Global,
+    told: &mut String,
+    arrays: &[Array],
+    value: &Value,
+    name: &str,
+) -> Result<(), AllocError> {
+    let Some(array) = array_of(arrays, name) else {
+        return Ok(());
+    };
+    let Some(list) = value.get(name).and_then(Value::as_array) else {
+        return Ok(());
+    };
+    for (number, element) in list.iter().enumerate() {
+        if !fits(array.element, element) {
+            let text = element.to_string(alloc)?;
+            write!(told, "\nElement {number} of `{name}`, from 0, is {text}.\n")?;
+            break;
+        }
+    }
+    told.push_str(match array.element {
+        ElementType::Int => "An int is a whole number from -9223372036854775808 to 9223372036854775807.\n",
+        ElementType::Byte => "A byte is a whole number from 0 to 255.\n",
+    })?;
+    told.push_str("To mend it: give a number that the array holds.\n")
+}
+
+/// Whether a value is a number that an array with such elements holds.
+fn fits(element: ElementType, value: &Value) -> bool {
+    match value.as_i64() {
+        Some(number) => match element {
+            ElementType::Int => true,
+            ElementType::Byte => 0 <= number && number <= 255,
+        },
+        None => false,
+    }
+}

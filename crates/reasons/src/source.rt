@@ -1,0 +1,142 @@
+//! A program's text, and how a line of it is shown.
+
+use std::alloc::{AllocError, Global};
+use syntax::Place;
+use syntax::lexer::{self, Unread};
+use syntax::token::Spanned;
+
+/// The most characters of a line that are shown before a caret, and as many from it on.
+const SHOWN: usize = 50;
+
+/// A text that has tokens.
+#[derive(Drop)]
+pub struct Source {
+    characters: Vec<char>,
+    pub tokens: Vec<Spanned>,
+}
+
+impl Source {
+    /// The characters and the tokens of a text.
+    pub fn of(alloc: Global, text: &str) -> Result<Source, Unread> {
+        let characters: Vec<char> = text.chars().collect(alloc)?;
+        let tokens = lexer::tokens(alloc, &characters)?;
+        Ok(Source { characters, tokens })
+    }
+
+    /// The line and the column of a character, by its number from 0.
+    pub fn place(&self, at: usize) -> Place {
+        let mut line: u32 = 1;
+        let mut column: u32 = 1;
+        for character in self.characters.iter().take(at) {
+            if *character == '\n' {
+                line = line.saturating_add(1);
+                column = 1;
+            } else {
+                column = column.saturating_add(1);
+            }
+        }
+        Place { line, column }
+    }
+
+    /// The tokens from the one at a place on.
+    pub fn tokens_from(&self, place: Place) -> &[Spanned] {
+        let at = self.character_at(place);
+        let mut left = self.tokens.as_slice();
+        while let [first, behind @ ..] = left {
+            if first.at >= at {
+                break;
+            }
+            left = behind;
+        }
+        left
+    }
+
+    /// The number of the character at a place.
+    fn character_at(&self, place: Place) -> usize {
+        let mut line: u32 = 1;
+        let mut column: u32 = 1;
+        for (at, character) in self.characters.iter().enumerate() {
+            if line == place.line && column == place.column {
+                return at;
+            }
+            if *character == '\n' {
+                line = line.saturating_add(1);
+                column = 1;
+            } else {
+                column = column.saturating_add(1);
+            }
+        }
+        self.characters.len()
+    }
+}
+
+/// Adds the line of a place behind its number, and under it a caret at the place.
+pub fn push_line(told: &mut String, text: &str, place: Place) -> Result<(), AllocError> {
+    let number = place.line;
+    let line = line_of(text, place);
+    write!(told, "{number:>6} | ")?;
+    push_part(told, line, place)?;
+    told.push_str("\n       | ")?;
+    push_indent(told, line, place)?;
+    told.push_str("^\n")
+}
+
+/// The line of a place, or nothing behind the last.
+fn line_of(text: &str, place: Place) -> &str {
+    let mut number: u32 = 1;
+    for line in text.lines() {
+        if number == place.line {
+            return line;
+        }
+        number = number.saturating_add(1);
+    }
+    ""
+}
+
+/// How many characters of a line stand before those that are shown.
+fn first_shown(place: Place) -> usize {
+    let column = usize::try_from(place.column).unwrap_or(0);
+    column.saturating_sub(SHOWN)
+}
+
+/// Adds what is shown of a line, with `..` for what is left out.
+fn push_part(told: &mut String, line: &str, place: Place) -> Result<(), AllocError> {
+    let from = first_shown(place);
+    if from > 0 {
+        told.push_str("..")?;
+    }
+    let mut left = 2 * SHOWN;
+    for character in line.chars().skip(from) {
+        if left == 0 {
+            return told.push_str("..");
+        }
+        told.push(shown(character))?;
+        left -= 1;
+    }
+    Ok(())
+}
+
+/// Adds what stands before a caret: blanks, and tabs where the line has them.
+fn push_indent(told: &mut String, line: &str, place: Place) -> Result<(), AllocError> {
+    let from = first_shown(place);
+    if from > 0 {
+        told.push_str("  ")?;
+    }
+    let column = usize::try_from(place.column).unwrap_or(0);
+    let many = column.saturating_sub(1).saturating_sub(from);
+    for character in line.chars().skip(from).take(many) {
+        told.push(if character == '\t' { '\t' } else { ' ' })?;
+    }
+    Ok(())
+}
+
+/// A character as it is shown: a dot for one that steers a terminal.
+fn shown(character: char) -> char {
+    if character == '\t' {
+        '\t'
+    } else if character.is_control() {
+        '.'
+    } else {
+        character
+    }
+}
