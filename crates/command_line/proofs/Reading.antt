@@ -12,13 +12,17 @@ use Rattle.command_line.specs.declared.plain.Line.{Line as rLine}
 use Rattle.command_line.specs.declared.request.Command.{Command}
 use Rattle.command_line.specs.declared.request.Command.TheVariants.{Run, Serial, Check, Listing, Pairs, Explore}
 use Rattle.command_line.specs.declared.request.Command.TheVariants.{Labels, Places, Format, CheckFormat}
+use Rattle.command_line.specs.declared.request.Request.{Request}
 use Rattle.command_line.specs.declared.request.Settings.{Settings as rSettings}
 use Rattle.command_line.specs.Reading.{Line, bare, flag_taken, line_of, no_texts, read, read_choosing, read_file, read_whole}
+use Rattle.std.proofs.Common.{true≢false}
+use Rattle.std.proofs.lemmas.Slice.Eq.{bytes_eq-Decides}
+use Rattle.command_line.specs.Reading.{has_explain, read_around, without_second}
 use Rattle.command_line.specs.Reading.{read_optioned, read_serial_texts, read_texts, taken}
 use Rattle.command_line.specs.Requests.{AreForExplore, AreForRun, AreForSerial, AreRight, Asked, Asks, AsksPlainly, Options, Settings, Texts}
 use Rattle.command_line.specs.Requests.{is_file_name, optioned, plain, settings_by, flagged, valued, plainly, explaining, explained}
 use Rattle.command_line.specs.Requests.{Choosing, Listed, InFile, Random, IsRightChoosing, choosing_words_of, file_of, list_of}
-use Rattle.command_line.specs.Requests.{seed_of, serial_words_of, texts_by, words_of}
+use Rattle.command_line.specs.Requests.{asked_of, seed_of, serial_words_of, texts_by, words_of}
 use Rattle.command_line.specs.Requests.{to_label, to_place, to_place_behind, to_format, to_check_format, to_check_format_behind}
 use Rattle.command_line.specs.Requests.{by_no_word, to_run, to_run_on_one_thread, to_check, to_list, to_list_behind, to_pair, to_explore}
 
@@ -500,67 +504,67 @@ settled command file explain o s set =
 
 -- ---- whether refusals are explained
 
--- the second of some words
-abbrev pub second : List (List ℕ) → List ℕ
-second [] = []
-second (word ∷ []) = []
-second (word ∷ other ∷ behind) = other
-
 false_is_true : (let b : Bool = false in b) ≡ true → ⊥
-false_is_true is = cc
+false_is_true is = true≢false (sym is)
 
-other_word_is : (one text : List ℕ) → bytes_eq one text ≡ false → one ≡ text → bytes_eq text text ≡ true → ⊥
-other_word_is one text differs is same = false_is_true (sym differs ∙ ap (λ (w : List ℕ). bytes_eq w text) is ∙ same)
-
-file_is_no_explain : (file : List ℕ) → IsTrue (is_file_name file) → file ≡ codes "--explain" → ⊥
-file_is_no_explain file named is = false_is_true (subst (λ (w : List ℕ). IsTrue (is_file_name w)) is named)
+file_is_no_explain : (file : List ℕ) → IsTrue (is_file_name file) → bytes_eq file (codes "--explain") ≡ true → ⊥
+file_is_no_explain file named is =
+    false_is_true
+    (subst (λ (w : List ℕ). IsTrue (is_file_name w)) ((bytes_eq-Decides file (codes "--explain")).0 is) named)
 
 -- no words that ask plainly have `--explain` behind the command
-pub not_plainly : (words : List (List ℕ)) (a : Asked) → AsksPlainly words a → second words ≡ codes "--explain" → ⊥
-not_plainly words a (by_no_word is asked) explain =
-    other_word_is [] (codes "--explain") refl (sym (ap second is) ∙ explain) refl
-not_plainly words a (to_run file o named for is asked) explain = file_is_no_explain file named (sym (ap second is) ∙ explain)
+not_plainly : (words : List (List ℕ)) (a : Asked) → AsksPlainly words a → has_explain words ≡ true → ⊥
+not_plainly words a (by_no_word is asked) explain = false_is_true (sym (ap has_explain is) ∙ explain)
+not_plainly words a (to_run file o named for is asked) explain =
+    file_is_no_explain file named (sym (ap has_explain is) ∙ explain)
 not_plainly words a (to_run_on_one_thread file o named for is asked) explain =
-    file_is_no_explain file named (sym (ap second is) ∙ explain)
-not_plainly words a (to_explore file o named for is asked) explain = file_is_no_explain file named (sym (ap second is) ∙ explain)
-not_plainly words a (to_check file named is asked) explain = file_is_no_explain file named (sym (ap second is) ∙ explain)
-not_plainly words a (to_list file named is asked) explain =
-    other_word_is (codes "--list") (codes "--explain") refl (sym (ap second is) ∙ explain) refl
-not_plainly words a (to_list_behind file named is asked) explain = file_is_no_explain file named (sym (ap second is) ∙ explain)
-not_plainly words a (to_label file named is asked) explain = file_is_no_explain file named (sym (ap second is) ∙ explain)
-not_plainly words a (to_place file named is asked) explain =
-    other_word_is (codes "--lines") (codes "--explain") refl (sym (ap second is) ∙ explain) refl
-not_plainly words a (to_place_behind file named is asked) explain = file_is_no_explain file named (sym (ap second is) ∙ explain)
-not_plainly words a (to_format file named is asked) explain = file_is_no_explain file named (sym (ap second is) ∙ explain)
-not_plainly words a (to_check_format file named is asked) explain =
-    other_word_is (codes "--check") (codes "--explain") refl (sym (ap second is) ∙ explain) refl
+    file_is_no_explain file named (sym (ap has_explain is) ∙ explain)
+not_plainly words a (to_explore file o named for is asked) explain =
+    file_is_no_explain file named (sym (ap has_explain is) ∙ explain)
+not_plainly words a (to_check file named is asked) explain = file_is_no_explain file named (sym (ap has_explain is) ∙ explain)
+not_plainly words a (to_list file named is asked) explain = false_is_true (sym (ap has_explain is) ∙ explain)
+not_plainly words a (to_list_behind file named is asked) explain =
+    file_is_no_explain file named (sym (ap has_explain is) ∙ explain)
+not_plainly words a (to_label file named is asked) explain = file_is_no_explain file named (sym (ap has_explain is) ∙ explain)
+not_plainly words a (to_place file named is asked) explain = false_is_true (sym (ap has_explain is) ∙ explain)
+not_plainly words a (to_place_behind file named is asked) explain =
+    file_is_no_explain file named (sym (ap has_explain is) ∙ explain)
+not_plainly words a (to_format file named is asked) explain = file_is_no_explain file named (sym (ap has_explain is) ∙ explain)
+not_plainly words a (to_check_format file named is asked) explain = false_is_true (sym (ap has_explain is) ∙ explain)
 not_plainly words a (to_check_format_behind file named is asked) explain =
-    file_is_no_explain file named (sym (ap second is) ∙ explain)
-not_plainly words a (to_pair file named is asked) explain = file_is_no_explain file named (sym (ap second is) ∙ explain)
+    file_is_no_explain file named (sym (ap has_explain is) ∙ explain)
+not_plainly words a (to_pair file named is asked) explain = file_is_no_explain file named (sym (ap has_explain is) ∙ explain)
 
--- what words ask whose second is another, and what those ask whose second is `--explain`
-pub asks_plainly : (words : List (List ℕ)) (a : Asked) → Asks words a → (second words ≡ codes "--explain" → ⊥) → AsksPlainly words a
-asks_plainly words a (plainly asks) other = asks
-asks_plainly words a (explaining command behind b asks is asked) other = absurd (other (ap second is))
-
--- the words without their second
-abbrev pub without_second : List (List ℕ) → List (List ℕ)
-without_second [] = []
-without_second (word ∷ []) = word ∷ []
-without_second (word ∷ other ∷ behind) = word ∷ behind
+-- what words ask that don't have it, and what those ask that do
+pub asks_plainly : (words : List (List ℕ)) (a : Asked) → Asks words a → has_explain words ≡ false → AsksPlainly words a
+asks_plainly words a (plainly asks) lacks = asks
+asks_plainly words a (explaining command behind b asks is asked) lacks =
+    absurd (true≢false (sym (ap has_explain is) ∙ lacks))
 
 pub record IsExplained (words : List (List ℕ)) (a : Asked) : Type 0 where
   pub bare : Asked
   pub asks : AsksPlainly (without_second words) bare
   pub asked : a ≡ explained bare
 
-pub asks_explained : (words : List (List ℕ)) (a : Asked) → Asks words a → second words ≡ codes "--explain" → IsExplained words a
+pub asks_explained : (words : List (List ℕ)) (a : Asked) → Asks words a → has_explain words ≡ true → IsExplained words a
 asks_explained words a (plainly asks) explain = absurd (not_plainly words a asks explain)
 asks_explained words a (explaining command behind b asks is asked) explain = record {
   bare = b;
   asks = subst (λ (w : List (List ℕ)). AsksPlainly w b) (sym (ap without_second is)) asks;
   asked = asked;
 }
+
+-- what is read around the second word is what is read without it
+pub read_is_around : (words : List (List ℕ)) → has_explain words ≡ true → read_around words ≡ read (without_second words)
+read_is_around [] explain = absurd (false_is_true explain)
+read_is_around (command ∷ []) explain = absurd (false_is_true explain)
+read_is_around (command ∷ second ∷ []) explain = refl
+read_is_around (command ∷ second ∷ file ∷ behind) explain = refl
+
+-- a request that asks one thing asks what is the same
+pub is_some_and : {a b : Asked} (r : Option Request) → a ≡ b → IsSomeAnd r (λ q. asked_of q ≡ a)
+    → IsSomeAnd r (λ q. asked_of q ≡ b)
+is_some_and r same asks = subst (λ (c : Asked). IsSomeAnd r (λ q. asked_of q ≡ c)) same asks
 
 some_is_none : (text : List ℕ) → Some text ≡ (let o : Option (List ℕ) = None in o) → ⊥
 some_is_none text is = cc

@@ -175,3 +175,24 @@ abbrev pub read : List (List ℕ) → Option Line
 read [] = Some (bare Run (codes "-"))
 read (command ∷ []) = None
 read (command ∷ file ∷ behind) = read_behind command file behind
+
+-- ---- words that ask for refusals to be explained
+
+-- whether `--explain` stands behind the command
+abbrev pub has_explain : List (List ℕ) → Bool
+has_explain [] = false
+has_explain (command ∷ []) = false
+has_explain (command ∷ second ∷ behind) = bytes_eq second (codes "--explain")
+
+-- the words without their second
+abbrev pub without_second : List (List ℕ) → List (List ℕ)
+without_second [] = []
+without_second (command ∷ []) = command ∷ []
+without_second (command ∷ second ∷ behind) = command ∷ behind
+
+-- what stands around the second of some words, as a command line
+abbrev pub read_around : List (List ℕ) → Option Line
+read_around [] = None
+read_around (command ∷ []) = None
+read_around (command ∷ second ∷ []) = None
+read_around (command ∷ second ∷ file ∷ behind) = read_behind command file behind

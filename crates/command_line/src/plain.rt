@@ -2,6 +2,7 @@
 
 ghost use Rattle.std.specs.Prelude.{◌≡◌, map, option_map};
 ghost use Rattle.std.specs.String.{string_bytes};
+ghost use Rattle.command_line.specs.Reading.{has_explain as explains, read_around};
 ghost use Rattle.command_line.specs.Reading.{bare as bare_line, flag_taken, line_of, read};
 ghost use Rattle.command_line.specs.Reading.{read_alone, read_behind, read_choosing};
 ghost use Rattle.command_line.specs.Reading.{no_texts, read_file, read_flaggable, read_flagged};
@@ -67,8 +68,31 @@ pub fn line_in<'w>(words: &'w [String]) -> Option<Line<'w>>
     }
 }
 
+/// Whether `--explain` stands behind the command.
+pub fn has_explain(words: &[String]) -> bool
+    ensures { result ≡ explains (map string_bytes words.now) }
+{
+    match words {
+        [] => false,
+        [_] => false,
+        [_, second, ..] => second.as_str() == "--explain",
+    }
+}
+
+/// The line of words without their second.
+pub fn line_around<'w>(words: &'w [String]) -> Option<Line<'w>>
+    ensures { option_map line_of result ≡ read_around (map string_bytes words.now) }
+{
+    match words {
+        [] => None,
+        [_] => None,
+        [_, _] => None,
+        [command, _, file, behind @ ..] => line_behind(command.as_str(), file.as_str(), behind),
+    }
+}
+
 /// The line of a command and the words behind it.
-pub fn line_behind<'w>(command: &str, file: &'w str, behind: &'w [String]) -> Option<Line<'w>>
+fn line_behind<'w>(command: &str, file: &'w str, behind: &'w [String]) -> Option<Line<'w>>
     ensures { option_map line_of result
         ≡ read_behind command.now file.now (map string_bytes behind.now) }
 {

@@ -1,13 +1,13 @@
 //! The words of a command line.
 
-ghost use Rattle.std.specs.Prelude.{◌≡◌, ◌∷◌, IsOkAnd, IsSomeAnd, map};
+ghost use Rattle.std.specs.Prelude.{◌≡◌, IsOkAnd, IsSomeAnd, map, true};
 ghost use Rattle.std.specs.String.{string_bytes};
-ghost use Rattle.command_line.specs.Reading.{line_of};
+ghost use Rattle.command_line.specs.Reading.{has_explain as explains, line_of, without_second};
 ghost use Rattle.command_line.specs.Requests.{AreRight, Asked, Asks, AsksPlainly, Options, asked_of};
 ghost use Rattle.command_line.specs.Requests.{explained, optioned, texts_by};
 
 use crate::by_clap::request_by_clap;
-use crate::plain::{Line, line_behind, line_in};
+use crate::plain::{Line, has_explain, line_around, line_in};
 use crate::reply::Reply;
 use crate::request::Request;
 use crate::settings::settings_in;
@@ -31,15 +31,10 @@ fn asked_in<'w>(words: &'w [String]) -> Option<Request<'w>>
     ensures { (a : Asked) → Asks (map string_bytes words.now) a
         → IsSomeAnd result (λ r. asked_of r ≡ a) }
 {
-    match words {
-        [command, second, behind @ ..] => {
-            if second.as_str() == "--explain" {
-                explained_request(command.as_str(), behind)
-            } else {
-                plain_request(words)
-            }
-        }
-        _ => plain_request(words),
+    if has_explain(words) {
+        explained_request(words)
+    } else {
+        plain_request(words)
     }
 }
 
@@ -52,18 +47,14 @@ fn plain_request<'w>(words: &'w [String]) -> Option<Request<'w>>
     request_in(line, false)
 }
 
-/// The request of a command and the words behind it, where refusals are explained.
-fn explained_request<'w>(command: &str, behind: &'w [String]) -> Option<Request<'w>>
-    ensures { (a : Asked) → AsksPlainly (command.now ∷ map string_bytes behind.now) a
+/// The request of words that ask plainly but for their second, by which refusals are explained.
+fn explained_request<'w>(words: &'w [String]) -> Option<Request<'w>>
+    requires { explains (map string_bytes words.now) ≡ true }
+    ensures { (a : Asked) → AsksPlainly (without_second (map string_bytes words.now)) a
         → IsSomeAnd result (λ r. asked_of r ≡ explained a) }
 {
-    match behind {
-        [file, others @ ..] => {
-            let line = line_behind(command, file.as_str(), others)?;
-            request_in(line, true)
-        }
-        [] => None,
-    }
+    let line = line_around(words)?;
+    request_in(line, true)
 }
 
 /// The request of a line.

@@ -56,7 +56,7 @@ pub fn procedure_of<'t>(
 ) -> Result<Option<Procedure<'t>>, AllocError> {
     let mut is_behind_proc = false;
     let mut left = tokens;
-    while let [first, behind @ ..] = left {
+    'tokens: while let [first, behind @ ..] = left {
         if is_behind_proc && is_name(first, name) {
             return Ok(Some(Procedure {
                 at: first.at,
@@ -85,7 +85,7 @@ pub fn parameters<'t>(
     let mut found = Vec::new(alloc);
     let mut kind = Kind::Scalar;
     let mut left = tokens;
-    while let [first, behind @ ..] = left {
+    'tokens: while let [first, behind @ ..] = left {
         match &first.token {
             Token::Mark(Mark::RightParen) => break,
             Token::Word(Word::Mut) => kind = Kind::Written { bytes: is_of_bytes(behind) },
@@ -120,7 +120,7 @@ pub fn arguments<'t>(
 ) -> Result<Vec<Argument<'t>>, AllocError> {
     let mut found = Vec::new(alloc);
     let mut left = head.get(2..).unwrap_or(head);
-    while !left.is_empty() {
+    for _ in 0..head.len() {
         let many = argument_length(left);
         if many == 0 {
             break;

@@ -104,7 +104,7 @@ impl<'t> Scope<'t> {
             task: None,
         };
         let mut left = tokens;
-        while let [first, behind @ ..] = left {
+        'tokens: while let [first, behind @ ..] = left {
             scope.pass(alloc, first, behind, over)?;
             left = behind;
         }
@@ -161,7 +161,7 @@ impl<'t> Scope<'t> {
         let part = Part { whole, at };
         let mut is_side = false;
         let mut left = tokens;
-        while let [first, behind @ ..] = left {
+        'tokens: while let [first, behind @ ..] = left {
             match &first.token {
                 Token::Word(Word::As) => is_side = true,
                 Token::Mark(Mark::LeftBrace) => break,
@@ -212,7 +212,10 @@ impl<'t> Scope<'t> {
     /// Closes a block: what was declared in it is over.
     fn close(&mut self, over: &mut Vec<Declared<'t>>) -> Result<(), AllocError> {
         let _ = self.blocks.pop();
-        while let Some(last) = self.declared.last() {
+        for _ in 0..self.declared.len() {
+            let Some(last) = self.declared.last() else {
+                break;
+            };
             if last.level <= self.blocks.len() {
                 break;
             }

@@ -51,7 +51,7 @@ pub fn names<'t>(alloc: Global, head: &'t [Spanned]) -> Result<Vec<Named<'t>>, A
     let mut found = Vec::new(alloc);
     let mut before = Before::Nothing;
     let mut left = head;
-    while let [first, behind @ ..] = left {
+    'tokens: while let [first, behind @ ..] = left {
         if let Token::Name(name) = &first.token {
             found.push(Named {
                 name: name.as_str(),

@@ -53,7 +53,7 @@ fn push_twice(told: &mut String, text: &str, source: &Source) -> Result<(), Allo
 /// The first array, parameter or procedure that is declared a second time, behind the first time.
 fn twice(tokens: &[Spanned]) -> Option<(&Spanned, &Spanned)> {
     let mut left = tokens;
-    while let [first, behind @ ..] = left {
+    'tokens: while let [first, behind @ ..] = left {
         if let [name, others @ ..] = behind {
             if let Some(again) = declared_again(&first.token, name, others) {
                 return Some((name, again));

@@ -42,7 +42,7 @@ impl Source {
     pub fn tokens_from(&self, place: Place) -> &[Spanned] {
         let at = self.character_at(place);
         let mut left = self.tokens.as_slice();
-        while let [first, behind @ ..] = left {
+        'tokens: while let [first, behind @ ..] = left {
             if first.at >= at {
                 break;
             }
