@@ -1,5 +1,7 @@
 //! `--explain`: what is said behind the line of a failure.
 
+ghost use Rattle.std.specs.Prelude.{◌≡◌};
+
 use crate::programs::typed_of;
 use intake::failure::Failure;
 use intake::files::FileSource;
@@ -18,7 +20,9 @@ pub fn explanation<F: FileSource>(
     text: &str,
     input: Option<&str>,
     failure: &Failure,
-) -> Result<String, AllocError> {
+) -> Result<String, AllocError>
+    ensures { F.held files.new ≡ F.held files.old }
+{
     match failure {
         Failure::Syntax(error) => explained_syntax(alloc, text, error),
         Failure::Types(error) => explained_rule(alloc, text, *error),
@@ -38,7 +42,9 @@ fn input_explained<F: FileSource>(
     text: &str,
     name: &str,
     error: &InputError,
-) -> Result<String, AllocError> {
+) -> Result<String, AllocError>
+    ensures { F.held files.new ≡ F.held files.old }
+{
     let Ok(typed) = typed_of(alloc, text) else {
         return Ok(String::new(alloc));
     };

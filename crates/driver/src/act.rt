@@ -83,13 +83,21 @@ fn perform<R: Threads + Wait + Sync, F: FileSource, O: Write, W: Watch>(
     };
     match std::str::from_utf8(&bytes) {
         Ok(text) => match commands::perform(rt, alloc, request, text, files, out, watch) {
-            Ok(status) => match handed_on(out, status) {
-                Ok(status) => Ok(status),
-                Err(failure) => Err(Refusal::bare(alloc, failure)),
-            },
+            Ok(status) => unexplained(alloc, handed_on(out, status)),
             Err(failure) => Err(Refusal::explained(alloc, files, request, text, failure)),
         },
         Err(_) => Err(Refusal::bare(alloc, Failure::not_utf8(alloc, name))),
+    }
+}
+
+/// The same, with nothing said behind the line of a failure.
+fn unexplained(alloc: Global, done: Result<u8, Failure>) -> Result<u8, Refusal>
+    ensures same { in_short result ≡ done }
+    ensures bare { IfErr result (λ refusal. string_bytes refusal.more ≡ []) }
+{
+    match done {
+        Ok(status) => Ok(status),
+        Err(failure) => Err(Refusal::bare(alloc, failure)),
     }
 }
 

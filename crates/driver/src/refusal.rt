@@ -44,6 +44,7 @@ impl Refusal {
     ) -> Refusal
         ensures failure { result.failure ≡ failure }
         ensures more { request.entry.explain ≡ false → string_bytes result.more ≡ [] }
+        ensures keeps { F.held files.new ≡ F.held files.old }
     {
         if !request.explain {
             return Refusal::bare(alloc, failure);

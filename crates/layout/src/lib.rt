@@ -5,8 +5,6 @@
 pub mod gap;
 pub mod pieces;
 pub mod spot;
-#[cfg(test)]
-mod tests;
 pub mod text;
 pub mod writer;
 

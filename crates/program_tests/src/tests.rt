@@ -7,6 +7,7 @@ mod effects_of_programs;
 mod failures;
 mod held_places;
 mod inputs;
+mod layouts;
 mod meetings_of_programs;
 mod outputs;
 mod read_texts;

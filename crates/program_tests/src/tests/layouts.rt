@@ -1,11 +1,12 @@
-//! Worked texts.
+//! Texts laid out, and texts that are none of a program.
 
-use crate::laid_out;
+use crate::tests::compare;
+use layout::laid_out;
 use std::alloc::Global;
 use std::process::Abort;
 use syntax::parse;
 
-/// A text, and its layout.
+/// The name of a row, a text, and its layout.
 const TEXTS: &[(&str, &str, &str)] = &[
     ("nothing", "", ""),
     ("blanks", " \n\t\r\n", ""),
@@ -90,31 +91,20 @@ const REFUSED: &[(&str, &str)] = &[
     ("// a\n}", "S2 at 2:1"),
 ];
 
-/// Compares the layout of a text with what is wanted.
-fn compare(rt: &impl Abort, alloc: Global, name: &str, text: &str, want: &str) {
-    let laid = match parse(alloc, text) {
+/// The layout of a text, or why it is no program.
+fn told(rt: &impl Abort, alloc: Global, text: &str) -> String {
+    match parse(alloc, text) {
         Ok(_program) => laid_out(alloc, text).expect(rt, "memory"),
         Err(error) => format!(in alloc; "{error}").expect(rt, "memory"),
-    };
-    assert!(rt;
-        laid.as_str() == want,
-        "{name}\nlaid out: {laid}\nwant: {want}"
-    );
-}
-
-#[test]
-fn texts_are_laid_out(rt: HostRuntime) {
-    let alloc = rt.alloc();
-    for (name, text, want) in TEXTS {
-        compare(&rt, alloc, name, text, want);
     }
 }
 
 #[test]
-fn what_is_laid_out_stays(rt: HostRuntime) {
+fn texts_are_laid_out_and_stay_so(rt: HostRuntime) {
     let alloc = rt.alloc();
-    for (name, _, laid) in TEXTS {
-        compare(&rt, alloc, name, laid, laid);
+    for (name, text, want) in TEXTS {
+        compare(&rt, alloc, name, told(&rt, alloc, text), want);
+        compare(&rt, alloc, name, told(&rt, alloc, want), want);
     }
 }
 
@@ -122,6 +112,6 @@ fn what_is_laid_out_stays(rt: HostRuntime) {
 fn what_is_no_program_is_refused(rt: HostRuntime) {
     let alloc = rt.alloc();
     for (text, want) in REFUSED {
-        compare(&rt, alloc, text, text, want);
+        compare(&rt, alloc, text, told(&rt, alloc, text), want);
     }
 }
