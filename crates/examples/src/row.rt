@@ -95,13 +95,13 @@ impl Row<'_> {
     }
 
     /// Whether the command, asked to explain a refusal, tells the same, with more behind it on the standard error alone.
-    /// What `clap` says of words depends on all of them.
+    /// A run that isn't refused is not done twice, since it may be long; what `clap` says of words depends on all of them.
     fn is_so_explained<R: Machine>(&self, rt: &R, shelf: &mut Shelf<'_, R>) -> io::Result<bool> {
         let alloc = rt.alloc();
         let Some(words) = explaining_words(alloc, self.command)? else {
             return Ok(true);
         };
-        if self.wanted.err.starts_with(b"error: ") {
+        if self.wanted.status != 1 || self.wanted.err.starts_with(b"error: ") {
             return Ok(true);
         }
         let mut told = self.told_by(rt, shelf, &words, Limit::Never, Limit::Never)?;

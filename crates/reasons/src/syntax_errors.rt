@@ -31,6 +31,10 @@ pub fn explained_syntax(
     Ok(told)
 }
 
+/// How many tokens may stand before the place at which a text goes wrong, where it is said what may stand there: the
+/// parser goes over all of them for each.
+const MOST_TOKENS: usize = 50_000;
+
 const NO_TOKEN: &str = "No token begins with this character.
 To mend it: take it away; a comment begins with //, and not equal is !=.
 ";
@@ -63,6 +67,9 @@ fn push_unexpected(alloc: Global, told: &mut String, text: &str) -> Result<(), A
     match behind.as_slice() {
         [] => told.push_str("The text ends here, and a program can't end so.\n")?,
         [stood, ..] => push_stood(told, &stood.token)?,
+    }
+    if at > MOST_TOKENS {
+        return told.push_str("To mend it: look at what stands before it.\n");
     }
     if is_word(&behind) && front.takes_name()? && !front.takes_statement()? {
         return push_reserved(told);
