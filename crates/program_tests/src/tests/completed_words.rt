@@ -9,13 +9,13 @@ use std::rt::HostRuntime;
 
 /// Commands and their options, in their order.
 const ROWS: &[(&str, &str)] = &[
-    ("run", " input steps nest tasks w0 workers arrays"),
-    ("serial", " input steps nest arrays progress"),
-    ("check", " list"),
-    ("list", " lines"),
-    ("fmt", " check"),
-    ("mhp", ""),
-    ("explore", " input choices choices-from random arrays"),
+    ("run", " input steps nest tasks w0 workers arrays explain"),
+    ("serial", " input steps nest arrays progress explain"),
+    ("check", " list explain"),
+    ("list", " lines explain"),
+    ("fmt", " check explain"),
+    ("mhp", " explain"),
+    ("explore", " input choices choices-from random arrays explain"),
     ("explain", " list"),
     ("completions", ""),
     ("man", ""),
