@@ -61,9 +61,13 @@ impl Refusal {
         ensures told { AppendsBeginning (E.contents err.old) (E.contents err.new)
             ((failure_text self.now.failure ++ codes "\n") ++ string_bytes self.now.more) }
     {
-        if emit_message(err, &self.failure).is_ok() {
-            let _ = append(err, self.more.as_bytes());
+        let status = self.failure.status();
+        match emit_message(err, &self.failure) {
+            Ok(()) => {
+                let _ = append(err, self.more.as_bytes());
+                status
+            }
+            Err(_) => status,
         }
-        self.failure.status()
     }
 }
