@@ -11,7 +11,7 @@ use Rattle.std.proofs.KnownBytes.{Keeps-refl, Appends-kept}
 use Rattle.std.specs.Io.KnownBytes.{Keeps}
 use Rattle.std.specs.Prelude.{IsErrAnd}
 use Rattle.std.specs.Str.{IsUtf8}
-use Rattle.driver.specs.Acts.{Acts, ReadsAndPerforms, Reports, on_text, without_text}
+use Rattle.driver.specs.Acts.{Acts, ReadsAndPerforms, Reports, in_short, on_text, without_text}
 use Rattle.answers.specs.Answers.{Does, Explains, Wrote, Began, Failed}
 use Rattle.texts.specs.Appending.{AppendsBeginning, Writes}
 use Rattle.intake.specs.Held.{Held, IsGiven, TellsNoProgram}
@@ -81,3 +81,13 @@ pub reported : (explain : Bool) (old new : Option (List ℕ)) (r : Refusal) (sta
     → AppendsBeginning old new ((failure_text r.failure ++ codes "\n") ++ string_bytes r.more)
     → Reports explain old new (Err r.failure) status
 reported explain old new r status bare is told = (is, record { more = string_bytes r.more; bare = bare; told = told })
+
+-- what was done is that of the same result
+pub short_of : (a : Asked) (held : Held) (old new : Option (List ℕ)) (r : Result ℕ Refusal) (s : Result ℕ Failure)
+    → in_short r ≡ s → ReadsAndPerforms a held old new s → ReadsAndPerforms a held old new (in_short r)
+short_of a held old new r s same done = subst (ReadsAndPerforms a held old new) (sym same) done
+
+-- and that of a refusal with the same failure
+pub refused_of : (a : Asked) (held : Held) (old new : Option (List ℕ)) (r : Refusal) (f : Failure) → r.failure ≡ f
+    → ReadsAndPerforms a held old new (Err f) → ReadsAndPerforms a held old new (in_short (Err r))
+refused_of a held old new r f same done = subst (λ (g : Failure). ReadsAndPerforms a held old new (Err g)) (sym same) done
