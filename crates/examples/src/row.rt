@@ -7,7 +7,6 @@ use crate::transcript::words_of;
 use crate::wanted::Wanted;
 use driver::act::act;
 use serial_run::watch::Watch;
-use std::alloc::Global;
 use std::io;
 
 /// A command of a group, and what it must tell.
@@ -58,7 +57,7 @@ impl Row<'_> {
             return Ok(false);
         }
         if self.wanted.out_left.is_none() && self.wanted.err_left.is_none() {
-            return self.is_so_explained(rt, shelf);
+            return Ok(true);
         }
         self.is_so_until(rt, shelf, End::TakesNothing)
     }
@@ -94,23 +93,6 @@ impl Row<'_> {
         Ok(false)
     }
 
-    /// Whether the command, asked to explain a refusal, tells the same, with more behind it on the standard error alone.
-    /// A run that isn't refused is not done twice, since it may be long; what `clap` says of words depends on all of them.
-    fn is_so_explained<R: Machine>(&self, rt: &R, shelf: &mut Shelf<'_, R>) -> io::Result<bool> {
-        let alloc = rt.alloc();
-        let Some(words) = explaining_words(alloc, self.command)? else {
-            return Ok(true);
-        };
-        if self.wanted.status != 1 || self.wanted.err.starts_with(b"error: ") {
-            return Ok(true);
-        }
-        let mut told = self.told_by(rt, shelf, &words, Limit::Never, Limit::Never)?;
-        if told.err.taken.starts_with(&self.wanted.err) {
-            told.err.taken.truncate(self.wanted.err.len());
-        }
-        self.compare(rt, &told, self.whole())
-    }
-
     /// Whether the last output to fail, which took so many bytes, failed behind all of them.
     fn has_flushed<R: Machine>(&self, rt: &R, taken: usize) -> io::Result<bool> {
         if taken == self.wanted.out.len() {
@@ -128,24 +110,12 @@ impl Row<'_> {
         out: Limit,
         err: Limit,
     ) -> io::Result<Told> {
-        let words = words_of(rt.alloc(), self.command)?;
-        self.told_by(rt, shelf, &words, out, err)
-    }
-
-    /// What these words have done with such outputs.
-    fn told_by<R: Machine>(
-        &self,
-        rt: &R,
-        shelf: &mut Shelf<'_, R>,
-        words: &[String],
-        out: Limit,
-        err: Limit,
-    ) -> io::Result<Told> {
         let alloc = rt.alloc();
+        let words = words_of(alloc, self.command)?;
         let mut out = Output::new(alloc, out);
         let mut err = Output::new(alloc, err);
         let mut watch = Counting { looks: 0 };
-        let status = act(rt, alloc, words, shelf, &mut out, &mut err, &mut watch);
+        let status = act(rt, alloc, &words, shelf, &mut out, &mut err, &mut watch);
         Ok(Told {
             out,
             err,
@@ -189,28 +159,6 @@ impl Row<'_> {
         show(rt, "told", told)?;
         show(rt, "wanted", wanted)?;
         Ok(false)
-    }
-}
-
-/// The words of a command line with `--explain` behind the command, where that takes it and isn't asked already.
-fn explaining_words(alloc: Global, command: &str) -> io::Result<Option<Vec<String>>> {
-    let mut words = words_of(alloc, command)?;
-    match words.first() {
-        Some(first) if takes_explain(first.as_str()) => {}
-        _ => return Ok(None),
-    }
-    if words.iter().any(|word| word.as_str() == "--explain") {
-        return Ok(None);
-    }
-    words.insert(1, String::from_str(alloc, "--explain")?)?;
-    Ok(Some(words))
-}
-
-/// Whether a command takes `--explain`.
-fn takes_explain(command: &str) -> bool {
-    match command {
-        "check" | "fmt" | "list" | "mhp" | "run" | "serial" | "explore" => true,
-        _ => false,
     }
 }
 
