@@ -191,7 +191,9 @@ const RUN: Row = Row {
     name: "run",
     about: "Runs a program as tasks",
     example: RUN_EXAMPLE,
-    entries: &[FILE, INPUT, STEPS, NEST, TASKS, W0, WORKERS, ARRAYS, EXPLAIN],
+    entries: &[
+        FILE, INPUT, STEPS, NEST, TASKS, W0, WORKERS, ARRAYS, EXPLAIN,
+    ],
 };
 
 const SERIAL: Row = Row {

@@ -88,8 +88,12 @@ pub fn parameters<'t>(
     'tokens: while let [first, behind @ ..] = left {
         match &first.token {
             Token::Mark(Mark::RightParen) => break,
-            Token::Word(Word::Mut) => kind = Kind::Written { bytes: is_of_bytes(behind) },
-            Token::Word(Word::Read) => kind = Kind::Read { bytes: is_of_bytes(behind) },
+            Token::Word(Word::Mut) => kind = Kind::Written {
+                bytes: is_of_bytes(behind),
+            },
+            Token::Word(Word::Read) => kind = Kind::Read {
+                bytes: is_of_bytes(behind),
+            },
             Token::Name(name) => {
                 found.push(Parameter {
                     name: name.as_str(),
@@ -114,10 +118,7 @@ pub fn is_of_bytes(tokens: &[Spanned]) -> bool {
 }
 
 /// The arguments of a call, whose head is `f(a, b)`.
-pub fn arguments<'t>(
-    alloc: Global,
-    head: &'t [Spanned],
-) -> Result<Vec<Argument<'t>>, AllocError> {
+pub fn arguments<'t>(alloc: Global, head: &'t [Spanned]) -> Result<Vec<Argument<'t>>, AllocError> {
     let mut found = Vec::new(alloc);
     let mut left = head.get(2..).unwrap_or(head);
     for _ in 0..head.len() {

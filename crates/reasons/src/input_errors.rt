@@ -112,12 +112,20 @@ fn push_length(
         match value.get(name).and_then(Value::as_array) {
             Some(list) => {
                 let given = list.len();
-                write!(told, "\nThe array `{name}` has {wanted} elements, and the list has {given}.\n")?;
+                write!(
+                    told,
+                    "\nThe array `{name}` has {wanted} elements, and the list has {given}.\n"
+                )?;
             }
-            None => write!(told, "\nThe array `{name}` wants a list of {wanted} numbers.\n")?,
+            None => write!(
+                told,
+                "\nThe array `{name}` wants a list of {wanted} numbers.\n"
+            )?,
         }
     }
-    told.push_str("To mend it: give one number for each element; an array that is left out begins with zeros.\n")
+    told.push_str(
+        "To mend it: give one number for each element; an array that is left out begins with zeros.\n",
+    )
 }
 
 /// Adds which element an array can't hold.
@@ -142,7 +150,8 @@ fn push_element(
         }
     }
     told.push_str(match array.element {
-        ElementType::Int => "An int is a whole number from -9223372036854775808 to 9223372036854775807.\n",
+        ElementType::Int =>
+            "An int is a whole number from -9223372036854775808 to 9223372036854775807.\n",
         ElementType::Byte => "A byte is a whole number from 0 to 255.\n",
     })?;
     told.push_str("To mend it: give a number that the array holds.\n")

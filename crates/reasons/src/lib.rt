@@ -8,7 +8,7 @@ mod expected;
 pub mod input_errors;
 mod named;
 pub mod races;
-mod rule_texts;
 pub mod rule_errors;
+mod rule_texts;
 mod source;
 pub mod syntax_errors;

@@ -26,7 +26,11 @@ pub fn explained_race(
     told.push('\n')?;
     push_access(&mut told, text, &places, first)?;
     push_access(&mut told, text, &places, second)?;
-    told.push_str(if label_of(first) == label_of(second) { ONE } else { TWO })?;
+    told.push_str(if label_of(first) == label_of(second) {
+        ONE
+    } else {
+        TWO
+    })?;
     told.push_str(MEND)?;
     Ok(told)
 }
@@ -34,10 +38,12 @@ pub fn explained_race(
 const ONE: &str = "The statement may run in two tasks at once, and both may touch one place.
 ";
 
-const TWO: &str = "One of them may still run in a task while the other runs, since no finish waits for it, and both may touch one place.
+const TWO: &str =
+    "One of them may still run in a task while the other runs, since no finish waits for it, and both may touch one place.
 ";
 
-const MEND: &str = "The check sees whole sections, whatever the indices are; only the two sides of one split are known to be apart.
+const MEND: &str =
+    "The check sees whole sections, whatever the indices are; only the two sides of one split are known to be apart.
 To mend it: put the statements that start the tasks into a finish, behind which the other access stands; or give each
 task a part of its own by split.
 ";

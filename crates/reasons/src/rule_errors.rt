@@ -164,7 +164,9 @@ impl<'t> Broken<'t> {
         }
         told.push('\n')?;
         self.push_scope(told)?;
-        told.push_str("To mend it: declare it before, in this block or in one around it; or take a name that is in scope.\n")
+        told.push_str(
+            "To mend it: declare it before, in this block or in one around it; or take a name that is in scope.\n",
+        )
     }
 
     /// Adds the names that are in scope.
@@ -189,7 +191,10 @@ impl<'t> Broken<'t> {
                     is_told = true;
                     self.push_at(told, named.at)?;
                     let name = named.name;
-                    write!(told, "`{name}` is in scope here already: it was declared at ")?;
+                    write!(
+                        told,
+                        "`{name}` is in scope here already: it was declared at "
+                    )?;
                     self.push_place(told, declared)?;
                     told.push_str(".\n")?;
                 }
@@ -253,7 +258,10 @@ impl<'t> Broken<'t> {
         write!(told, "`{name}` is a section, declared at ")?;
         self.push_place(told, declared)?;
         told.push_str("; a number must stand here.\n")?;
-        write!(told, "To mend it: write an element of it, as `{name}[0]`, or its length, `len({name})`.\n")
+        write!(
+            told,
+            "To mend it: write an element of it, as `{name}[0]`, or its length, `len({name})`.\n"
+        )
     }
 
     /// A scalar where a section must stand.
@@ -268,7 +276,9 @@ impl<'t> Broken<'t> {
         write!(told, "`{name}` is a scalar, declared at ")?;
         self.push_place(told, declared)?;
         told.push_str("; a section must stand here.\n")?;
-        told.push_str("To mend it: name an array, a side of a split, or a `mut` or `read` parameter.\n")
+        told.push_str(
+            "To mend it: name an array, a side of a split, or a `mut` or `read` parameter.\n",
+        )
     }
 
     /// A call with arguments that don't fit.
@@ -297,7 +307,10 @@ impl<'t> Broken<'t> {
         self.push_start(told)?;
         let wanted = called.parameters.len();
         let place = self.source.place(called.at);
-        write!(told, "The procedure, declared at {place}, wants {wanted} arguments, and the call gives {given}.\n")?;
+        write!(
+            told,
+            "The procedure, declared at {place}, wants {wanted} arguments, and the call gives {given}.\n"
+        )?;
         rule_texts::push_parameters(told, &called.parameters)?;
         told.push_str("To mend it: give one argument for each parameter, in their order.\n")
     }
@@ -327,9 +340,14 @@ impl<'t> Broken<'t> {
         }
         let name = parameter.name;
         let element = parameter.kind.element();
-        write!(told, "The parameter `{name}` wants the name of a section of `{element}` here.\n")?;
+        write!(
+            told,
+            "The parameter `{name}` wants the name of a section of `{element}` here.\n"
+        )?;
         rule_texts::push_parameters(told, &called.parameters)?;
-        told.push_str("To mend it: name an array, a side of a split or a section parameter with such elements.\n")
+        told.push_str(
+            "To mend it: name an array, a side of a split or a section parameter with such elements.\n",
+        )
     }
 
     /// A scalar that is assigned in an async outside of which it is declared.
@@ -348,8 +366,13 @@ impl<'t> Broken<'t> {
             let place = self.source.place(at);
             write!(told, ", outside of the async at {place}")?;
         }
-        told.push_str(": a task has its own copies of such variables, and nobody would see what it assigns.\n")?;
-        write!(told, "To mend it: write the answer into a section, as `out[0] = ..;`, or declare a variable inside of the async.\n")
+        told.push_str(
+            ": a task has its own copies of such variables, and nobody would see what it assigns.\n",
+        )?;
+        write!(
+            told,
+            "To mend it: write the answer into a section, as `out[0] = ..;`, or declare a variable inside of the async.\n"
+        )
     }
 
     /// A section that is only read, and is written or passed as `mut`.
@@ -368,7 +391,9 @@ impl<'t> Broken<'t> {
                 ", as `read`"
             })?;
         }
-        told.push_str(".\nTo mend it: declare the parameter as `mut`, and pass it as `mut` all the way; or write into another section.\n")
+        told.push_str(
+            ".\nTo mend it: declare the parameter as `mut`, and pass it as `mut` all the way; or write into another section.\n",
+        )
     }
 
     /// The `read` section that the statement writes, or passes as `mut`, with its place.
@@ -399,9 +424,14 @@ impl<'t> Broken<'t> {
         self.push_start(told)?;
         if let Some((one, other)) = self.overlapping_ones()? {
             let (first, second) = (one.name, other.name);
-            write!(told, "`{first}` and `{second}` may share places, and one of them is passed as `mut`.\n")?;
+            write!(
+                told,
+                "`{first}` and `{second}` may share places, and one of them is passed as `mut`.\n"
+            )?;
         }
-        told.push_str("To mend it: pass sections that are apart: other arrays, or the two sides of one split.\n")
+        told.push_str(
+            "To mend it: pass sections that are apart: other arrays, or the two sides of one split.\n",
+        )
     }
 
     /// Two arguments that may share places, one of which is written.
@@ -423,7 +453,9 @@ impl<'t> Broken<'t> {
 
     /// The section that an argument is.
     fn section(&self, argument: &Argument<'t>) -> Option<Declared<'t>> {
-        self.scope.find(argument.name()?).filter(|declared| declared.kind.is_section())
+        self.scope
+            .find(argument.name()?)
+            .filter(|declared| declared.kind.is_section())
     }
 
     /// The first of the sections that were passed before that shares places with one, where one of both is written.

@@ -8,7 +8,8 @@ use syntax::token::{Mark, Spanned, Token, Word};
 use types::error::TypeError;
 
 /// What a truth value is, and where it stands.
-pub const TRUTH: &str = "A number stands where a truth value must, or the other way. Comparisons, `true`, `false`, `not`, `and` and `or` give
+pub const TRUTH: &str =
+    "A number stands where a truth value must, or the other way. Comparisons, `true`, `false`, `not`, `and` and `or` give
 truth values; the guards of `if` and `while` and the operands of `not`, `and` and `or` want them; all else is numbers.
 To mend it: compare a number, as `x != 0`; keep an answer as a number, by an `if`.
 ";
@@ -130,21 +131,26 @@ pub fn push_procedures(told: &mut String, tokens: &[Spanned]) -> Result<(), Allo
     for spanned in tokens {
         if is_behind {
             if let Token::Name(name) = &spanned.token {
-                told.push_str(if count == 0 { "Procedures of the text: " } else { ", " })?;
+                told.push_str(if count == 0 {
+                    "Procedures of the text: "
+                } else {
+                    ", "
+                })?;
                 told.push_str(name)?;
                 count = count.saturating_add(1);
             }
         }
         is_behind = is_word(&spanned.token, Word::Proc);
     }
-    if count == 0 { told.push_str("The text has no procedures.\n") } else { told.push('\n') }
+    if count == 0 {
+        told.push_str("The text has no procedures.\n")
+    } else {
+        told.push('\n')
+    }
 }
 
 /// Adds the parameters of a procedure as they are declared.
-pub fn push_parameters(
-    told: &mut String,
-    parameters: &[Parameter<'_>],
-) -> Result<(), AllocError> {
+pub fn push_parameters(told: &mut String, parameters: &[Parameter<'_>]) -> Result<(), AllocError> {
     if parameters.is_empty() {
         return told.push_str("It has no parameters.\n");
     }

@@ -15,7 +15,10 @@ const ROWS: &[(&str, &str)] = &[
     ("list", " lines explain"),
     ("fmt", " check explain"),
     ("mhp", " explain"),
-    ("explore", " input choices choices-from random arrays explain"),
+    (
+        "explore",
+        " input choices choices-from random arrays explain",
+    ),
     ("explain", " list"),
     ("completions", ""),
     ("man", ""),

@@ -45,10 +45,7 @@ const ROWS: [(&str, &str); 4] = [
         "main { finish { async { skip; } skip; } skip; }",
         "tasks: 2\nsteps: 5\nspan: 4\nparallelism: 1.25\n",
     ),
-    (
-        OUTLIVED,
-        "tasks: 3\nsteps: 8\nspan: 7\nparallelism: 1.14\n",
-    ),
+    (OUTLIVED, "tasks: 3\nsteps: 8\nspan: 7\nparallelism: 1.14\n"),
     (
         DOUBLING,
         "tasks: 8\nsteps: 61\nspan: 17\nparallelism: 3.58\n",
@@ -64,10 +61,11 @@ fn told(
 ) -> String {
     let program = accepted(rt, alloc, text);
     let input = Input::zeros(alloc, program.typed()).expect(rt, "memory");
-    let settings =
-        Settings::new(Budget::usual(), 64, 8, u64::from(workers)).expect(rt, "settings");
-    let (_, events) =
-        run_noted(rt, alloc, &program, &input, settings, &NoGate).expect(rt, "an outcome");
+    let settings = Settings::new(Budget::usual(), 64, 8, u64::from(workers)).expect(rt, "settings");
+    let (_, events) = run_noted(rt, alloc, &program, &input, settings, &NoGate).expect(
+        rt,
+        "an outcome",
+    );
     let summary = summarize(alloc, &events).expect(rt, "memory");
     summary_text(alloc, &summary, workers).expect(rt, "memory")
 }

@@ -14,5 +14,5 @@ pub returns : goal.returns
 returns c a asks =
     let words = map string_bytes c.args.words.now in
     let by = asked_by (without_second words) a c.in_ok-line.line asks
-        (c.in_ok-line.ensures ∙ read_is_around words c.requires) in
+    (c.in_ok-line.ensures ∙ read_is_around words c.requires) in
     is_some_and c.request_in.result (ap explained by.asked) (c.request_in.ensures by.options by.right by.texts)
