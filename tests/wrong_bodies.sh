@@ -1,8 +1,8 @@
 #!/bin/sh
 # Tries the wrong bodies that the gate doesn't: the edits wrong_bodies/NAME/*.edit, each of which turns what a function
 # of the crate NAME means, and which the prover must refuse. The words are names of crates; with none, each that has
-# wrong bodies is tried. Works on a copy of the crates as they stand, and begins with what `rt check` kept on this
-# machine: without that (run `rt check` in the crate's folder) the crate is proved from nothing first.
+# wrong bodies is tried. Works on a copy of the crates as they stand, over the libraries that are built (`rt all check`
+# builds those that aren't, which is quicker than one behind the other here); the crate itself is proved once first.
 # A crate whose wrong bodies are all refused has its line in wrong_bodies/RESULT renewed. The last line is
 # `N refused, M failed`, where one that is proved, can't be applied or read, or wasn't tried has failed; the status is
 # then 1.
@@ -12,9 +12,14 @@ room=$(mktemp -d)
 trap 'rm -rf "$room"' EXIT
 [ $# -gt 0 ] || set -- $(find wrong_bodies -name '*.edit' | cut -d/ -f2 | sort -u)
 
-# The crates, with the wrong bodies in place of those that the gate tries.
+# The crates, with the wrong bodies in place of those that the gate tries, and the libraries that were built.
 mkdir "$room/.git"
 tar -cf - --exclude=out --exclude=must-fail crates crates.txt HANDLES | tar -xf - -C "$room"
+for built in crates/*/out/rlib; do
+    [ -d "$built" ] || continue
+    mkdir -p "$room/$built"
+    cp -al "$built/." "$room/$built" 2>/dev/null || cp -a "$built/." "$room/$built"
+done
 for name in "$@"; do
     mkdir "$room/crates/$name/must-fail"
     cp "wrong_bodies/$name/"*.edit "$room/crates/$name/must-fail/"
