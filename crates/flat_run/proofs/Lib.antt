@@ -2,6 +2,7 @@ pub mod Computing
 pub mod Emitting
 pub mod Flats
 pub mod Meant
+pub mod ToldNumbers
 pub mod Writing
 pub mod Guarding
 pub mod Growing
@@ -20,3 +21,4 @@ pub mod Measures
 pub mod Machining
 pub mod Starting
 pub mod Entering
+pub mod Sizing

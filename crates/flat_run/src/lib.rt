@@ -13,6 +13,7 @@ pub mod procedures;
 pub mod programs;
 pub mod run;
 pub mod safe;
+pub mod telling;
 pub mod writer;
 
 pub use programs::{serial, serial_watched};
