@@ -2,6 +2,4 @@ pub mod Lists
 pub mod Standing
 pub mod Primitive
 pub mod Resume
-pub mod Frames
 pub mod Bounds
-pub mod Machines

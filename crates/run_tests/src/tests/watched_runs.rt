@@ -1,7 +1,7 @@
 //! Runs that somebody looks at.
 
 use crate::tests::{accepted, compare};
-use serial_run::serial_watched;
+use flat_run::serial_watched;
 use serial_run::watch::Watch;
 use types::budget::Budget;
 use types::input::Input;
@@ -18,16 +18,17 @@ impl Watch for Seen {
     }
 }
 
-/// A loop of two steps a turn; and one of five a turn, two of which are a task's. A look comes when 65,536 steps are done
-/// since the last one, and 65,537 turns of the machine since it was last asked.
+/// A look comes behind 16 turns of the machine, where 65,536 steps are done since the last one. A loop of two steps a turn
+/// is left at its own end, behind 65,537 steps, and goes on by one more. In the other five steps are done in four turns of
+/// the machine: the finish begins, the async begins, its body ends, and the finish ends.
 const ROWS: &[(&str, &str)] = &[
     (
-        "main { var i = 0; while i < 100000 { i = i + 1; } }",
-        "[65537, 131074, 196611]",
+        "main { var i = 0; while i < 1000000 { i = i + 1; } }",
+        "[1048608]",
     ),
     (
         "main { var i = 0; while i < 40000 { finish { async { skip; } } i = i + 1; } }",
-        "[81922, 163844]",
+        "[65540, 131080, 196620]",
     ),
     ("main { print 1; }", "[]"),
 ];
@@ -35,13 +36,17 @@ const ROWS: &[(&str, &str)] = &[
 #[test]
 fn a_watched_run_tells_its_steps(rt: HostRuntime) {
     let alloc = rt.alloc();
+    let budget = Budget {
+        steps: 4_000_000,
+        nest: 100,
+    };
     for (text, want) in ROWS {
         let program = accepted(&rt, alloc, text);
         let input = Input::zeros(alloc, program.typed()).expect(&rt, "memory");
         let mut seen = Seen {
             steps: Vec::new(alloc),
         };
-        let outcome = serial_watched(alloc, program.typed(), &input, Budget::usual(), &mut seen);
+        let outcome = serial_watched(alloc, program.typed(), &input, budget, &mut seen);
         assert!(rt; outcome.is_ok());
         compare(&rt, alloc, *text, format_args!("{:?}", seen.steps), want);
     }
