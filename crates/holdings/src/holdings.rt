@@ -110,9 +110,9 @@ impl Holdings {
             ≡ put (record { array = array.number; index = index }) (Owned value) (held self.old)) }
         ensures owned { OnOk result
             (IsSome (owned (held self.old) (record { array = array.number; index = index }))) }
-        ensures refused { IfErr result (λ e. (e ≡ HoldError.NotHeld)
-            × (held self.new ≡ held self.old)
-            × (owned (held self.old) (record { array = array.number; index = index }) ≡ None)) }
+        ensures refused { IfErr result (λ e. RefusesPlaces e
+            (IsSome (owned (held self.old) (record { array = array.number; index = index })))) }
+        ensures unchanged { OnErr result (held self.new ≡ held self.old) }
     {
         let place = Place { array, index };
         if self.owned.write_at(place, value) {

@@ -41,10 +41,11 @@ impl Memory for TaskMemory {
 
     ghost shape = { λ m. owned_by m.holdings };
 
-    fn write(&mut self, place: Place, value: i64) {
+    fn write(&mut self, place: Place, value: i64) -> Result<(), AllocError> {
+        // The place is owned, so what can be missing is memory.
         match self.holdings.write(place.array, place.index, value) {
-            Ok(()) => {}
-            Err(_) => {}
+            Ok(()) => Ok(()),
+            Err(_) => Err(AllocError),
         }
     }
 

@@ -1,14 +1,15 @@
 //! What a run reads and writes.
 
+ghost use Rattle.std.specs.Prelude.{◌≡◌, OnOk};
 ghost use Rattle.sections.specs.Translation.{place as place_of};
 ghost use Rattle.types.specs.Contents.{Contents, read as read_of, write as written};
 
 use sections::window::Place;
+use std::alloc::AllocError;
 use types::value::Places;
 
 /// The numbers that a run stands on: all arrays on one thread, what it holds in a task of its own.
 pub trait Memory: Places {
-    ghost use Rattle.std.specs.Prelude.{◌≡◌};
     ghost use Rattle.sections.specs.Place.{Place as PlainPlace};
 
     /// The number at each place that is there.
@@ -22,11 +23,12 @@ pub trait Memory: Places {
 
     ghost shape: { Self → Shape };
 
-    /// Writes the number at a place.
-    fn write(&mut self, place: Place, value: i64)
+    /// Writes the number at a place, for which a memory that is shared may want room.
+    fn write(&mut self, place: Place, value: i64) -> Result<(), AllocError>
         requires { Writable self.old (place_of place) }
-        ensures written { contents self.new ≡ written (place_of place) value (contents self.old) }
-        ensures shape { shape self.new ≡ shape self.old };
+        ensures written { OnOk result
+            (contents self.new ≡ written (place_of place) value (contents self.old)) }
+        ensures shape { OnOk result (shape self.new ≡ shape self.old) };
 
     /// It is read where it is there, and 0 elsewhere.
     ghost reads: { (s : Self) → Self.numbers s ≡ read_of (contents s) };

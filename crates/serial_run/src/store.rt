@@ -44,17 +44,20 @@ impl Memory for Store {
 
     ghost shape = { lengths_of };
 
-    fn write(&mut self, place: Place, value: i64) {
-        let contents = &mut self.arrays[place.array.number];
-        contents[place.index] = value;
+    fn write(&mut self, place: Place, value: i64) -> Result<(), AllocError> {
+        self.write(place, value);
+        Ok(())
     }
 
     ghost reads = { λ s. refl };
 }
 
 impl Store {
+    ghost use Rattle.sections.specs.Translation.{place as place_of};
+    ghost use Rattle.types.specs.Contents.{write as written};
     ghost use Rattle.types.specs.Translation.{input as lists_in};
-    ghost use Rattle.serial_run.specs.Lists.{lists_of};
+    ghost use Rattle.serial_run.specs.Bounds.{HasPlace};
+    ghost use Rattle.serial_run.specs.Lists.{contents_of, lengths_of, lists_of};
 
     /// The contents as a run begins.
     pub fn of_input(alloc: Global, input: &Input) -> Result<Store, AllocError>
@@ -65,5 +68,16 @@ impl Store {
             arrays.push(Vec::from_slice(alloc, contents)?)?;
         }
         Ok(Store { arrays })
+    }
+
+    /// Writes the number at a place, which needs no memory.
+    pub fn write(&mut self, place: Place, value: i64)
+        requires { HasPlace self.old (place_of place) }
+        ensures written { contents_of self.new
+            ≡ written (place_of place) value (contents_of self.old) }
+        ensures shape { lengths_of self.new ≡ lengths_of self.old }
+    {
+        let contents = &mut self.arrays[place.array.number];
+        contents[place.index] = value;
     }
 }

@@ -1,7 +1,7 @@
 use Rattle.std.proofs.Common.{w64}
 use Rattle.std.proofs.lemmas.Int.{to_z-of_z}
 use Rattle.serial_run.proofs.Writes.{held_by-with_item, lengths-with_item, array_is_there, place_is_there}
-use Rattle.serial_run.proofs.store.StoreMemory.write.Goals as goal
+use Rattle.serial_run.proofs.store.Store.write.Goals as goal
 
 pub returns-clause-written : goal.returns-clause-written
 returns-clause-written c =
