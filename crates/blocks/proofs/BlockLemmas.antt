@@ -1,0 +1,305 @@
+-- What blocks hold, own and have room for.
+use Rattle.std.proofs.Common.{◌≡◌, ℕ, ◌+◌, ◌-◌, ◌<◌, ◌≤◌, List, length, Option, Some, None, Bool, true, false, refl, sym, ap, ◌∙◌, arith, rules, subst, ◌⊎◌, inl, inr}
+use Rattle.std.proofs.lemmas.Bool.{leb-true, leb-false, ltb-true}
+use Rattle.std.specs.Arc.{arc_value}
+use Rattle.std.specs.Box.{box_value}
+use Rattle.std.specs.declared.alloc.Global.{Global}
+use Rattle.std.specs.declared.boxed.Box.{Box}
+use Rattle.std.specs.declared.sync.Arc.{Arc}
+use Rattle.blocks.specs.Counts.{how_many}
+use Rattle.std.specs.Prelude.{ℤ, pos, is_some, nat_le, nat_lt, option_map, unwrap_or, if◌then◌else◌}
+use Rattle.blocks.specs.Blocks.{held_as, held_at, kind_of, number_in, owned_at, row_from}
+use Rattle.blocks.specs.Held.{Held, Owned, Shared, first_of, number_of, owned_number}
+use Rattle.blocks.specs.Offsets.{Offsets, Agree, HasAll, HasOnly, IsWithin, in_range, inside, outside}
+use Rattle.blocks.specs.Ready.{IsAsWide, IsCutOut, IsReady, ReachOver, room_at}
+use Rattle.blocks.specs.declared.block.Block.{Block}
+use Rattle.blocks.specs.declared.block.Block.TheVariants.{Empty, Mixed as InParts, Owned as AllOwned, Shared as AllShared}
+use Rattle.blocks.specs.declared.mixed.Mixed.{Mixed}
+use Rattle.blocks.specs.declared.cut.Cut.{Cut}
+use Rattle.blocks.specs.declared.numbers.Numbers.{Numbers}
+use Rattle.blocks.proofs.RowLemmas.{held_row-none, row_from-behind, row_from-in, row_from-there}
+use Rattle.blocks.proofs.WalkLemmas.{how_many-none, in_range-true, in_range-low, in_range-high}
+
+-- ---- what a test tells
+
+pub some_there : {A : Type 0} (o : Option A) → is_some o ≡ true → o ≡ None → ⊥
+some_there None e n = cc
+some_there (Some x) e n = cc
+
+pub some_from_there : {A : Type 0} (o : Option A) → (o ≡ None → ⊥) → is_some o ≡ true
+some_from_there None h = absurd (h refl)
+some_from_there (Some x) h = refl
+
+pub none_from_test : {A : Type 0} (o : Option A) → is_some o ≡ false → o ≡ None
+none_from_test None e = refl
+none_from_test (Some x) e = cc
+
+pub owned_is_held : (h : Option Held) → (owned_number h ≡ None → ⊥) → h ≡ None → ⊥
+owned_is_held None some e = some refl
+owned_is_held (Some v) some e = cc
+
+pub option_map-there : {A B : Type 0} (f : A → B) (o : Option A) → (o ≡ None → ⊥) → option_map f o ≡ None → ⊥
+option_map-there f None some e = some refl
+option_map-there f (Some x) some e = cc
+
+pub option_map-from_there : {A B : Type 0} (f : A → B) (o : Option A) → (option_map f o ≡ None → ⊥) → o ≡ None → ⊥
+option_map-from_there f None some e = some refl
+option_map-from_there f (Some x) some e = cc
+
+pub owned_number-owned : (o : Option ℤ) → owned_number (option_map Owned o) ≡ o
+owned_number-owned None = refl
+owned_number-owned (Some v) = refl
+
+pub owned_number-shared : (o : Option ℤ) → owned_number (option_map Shared o) ≡ None
+owned_number-shared None = refl
+owned_number-shared (Some v) = refl
+
+pub number_of-owned : (o : Option ℤ) → option_map number_of (option_map Owned o) ≡ o
+number_of-owned None = refl
+number_of-owned (Some v) = refl
+
+pub number_of-shared : (o : Option ℤ) → option_map number_of (option_map Shared o) ≡ o
+number_of-shared None = refl
+number_of-shared (Some v) = refl
+
+-- what is owned, by its number
+pub owned_by_number : (h : Option Held) → (owned_number h ≡ None → ⊥) → option_map Owned (option_map number_of h) ≡ h
+owned_by_number None some = absurd (some refl)
+owned_by_number (Some (Owned v)) some = refl
+owned_by_number (Some (Shared v)) some = absurd (some refl)
+
+-- what is held, by its kind and its number
+pub held_by_kind : (h : Option Held) → held_as (kind_of h) (Some (unwrap_or (option_map number_of h) (pos 0))) ≡ h
+held_by_kind None = refl
+held_by_kind (Some (Owned v)) = refl
+held_by_kind (Some (Shared v)) = refl
+
+-- what comes in where nothing is owned
+pub first_of-unowned : (h old : Option Held) → h ≡ None → first_of (option_map Owned (owned_number h)) old ≡ old
+first_of-unowned h old e = ap (λ (o : Option Held). first_of (option_map Owned (owned_number o)) old) e
+
+pub first_of-owned : (o : Option ℤ) (v : ℤ) (old : Option Held) → o ≡ Some v → first_of (option_map Owned o) old ≡ Some (Owned v)
+first_of-owned o v old e = ap (λ (x : Option ℤ). first_of (option_map Owned x) old) e
+
+pub first_of-none : (o : Option ℤ) (old : Option Held) → o ≡ None → first_of (option_map Owned o) old ≡ old
+first_of-none o old e = ap (λ (x : Option ℤ). first_of (option_map Owned x) old) e
+
+-- ---- ranges of maps
+
+pub outside-in : {A : Type 0} (from to : ℕ) (m : Offsets A) (k : ℕ) → in_range from to k ≡ true → outside from to m k ≡ None
+outside-in from to m k e = ap (λ b. if b then None else m k) e
+
+pub outside-out : {A : Type 0} (from to : ℕ) (m : Offsets A) (k : ℕ) → in_range from to k ≡ false → outside from to m k ≡ m k
+outside-out from to m k e = ap (λ b. if b then None else m k) e
+
+pub inside-in : {A : Type 0} (from to : ℕ) (m : Offsets A) (k : ℕ) → in_range from to k ≡ true → inside from to m k ≡ m k
+inside-in from to m k e = ap (λ b. if b then m k else None) e
+
+pub inside-not : {A : Type 0} (from to : ℕ) (m : Offsets A) (k : ℕ) → in_range from to k ≡ false → inside from to m k ≡ None
+inside-not from to m k e = ap (λ b. if b then m k else None) e
+
+-- nothing is there to be cleared
+pub outside-none : {A : Type 0} (from to : ℕ) (m : Offsets A) (k : ℕ) → (in_range from to k ≡ true → m k ≡ None) → outside from to m k ≡ m k
+outside-none from to m k none = by_range (in_range from to k) refl
+  where
+    by_range : (b : Bool) → in_range from to k ≡ b → outside from to m k ≡ m k
+    by_range true e = outside-in from to m k e ∙ sym (none e)
+    by_range false e = outside-out from to m k e
+
+-- a map that has nothing but in a range
+pub inside-only : {A : Type 0} (from to : ℕ) (m : Offsets A) → HasOnly from to m → Agree m (inside from to m)
+inside-only from to m only = λ k. by_range k (in_range from to k) refl
+  where
+    by_range : (k : ℕ) (b : Bool) → in_range from to k ≡ b → m k ≡ inside from to m k
+    by_range k true e = sym (inside-in from to m k e)
+    by_range k false e = only k e ∙ sym (inside-not from to m k e)
+
+pub outside-only : {A : Type 0} (from to : ℕ) (m : Offsets A) → HasOnly from to m → (k : ℕ) → None ≡ outside from to m k
+outside-only from to m only k = by_range (in_range from to k) refl
+  where
+    by_range : (b : Bool) → in_range from to k ≡ b → None ≡ outside from to m k
+    by_range true e = sym (outside-in from to m k e)
+    by_range false e = sym (only k e) ∙ sym (outside-out from to m k e)
+
+-- the numbers of a range all of which is owned
+pub owned_inside : (h : Offsets Held) (n : Offsets ℤ) (from to : ℕ) → HasAll from to (λ k. owned_number (h k))
+    → Agree n (inside from to (λ k. option_map number_of (h k)))
+    → Agree (λ k. option_map Owned (n k)) (inside from to h)
+owned_inside h n from to all same = λ k. by_range k (in_range from to k) refl
+  where
+    by_range : (k : ℕ) (b : Bool) → in_range from to k ≡ b → option_map Owned (n k) ≡ inside from to h k
+    by_range k true e =
+        ap (option_map Owned) (same k ∙ inside-in from to (λ j. option_map number_of (h j)) k e)
+        ∙ owned_by_number (h k) (all k e) ∙ sym (inside-in from to h k e)
+    by_range k false e =
+        ap (option_map Owned) (same k ∙ inside-not from to (λ j. option_map number_of (h j)) k e)
+        ∙ sym (inside-not from to h k e)
+
+-- ---- numbers that reach over a range
+
+pub ReachOver-all : (n : Numbers) (from to : ℕ) → ReachOver n from to → HasAll from to (number_in n)
+ReachOver-all n from to r = λ k e none.
+    let low : n.first ≤ k = omega (arith, r.low, in_range-low from to k e) in
+    let high : k < n.first + length n.list.items = omega (arith, r.high, in_range-high from to k e) in
+    absurd (let f = sym (row_from-in n.first n.list.items k (pos 0) low high) ∙ none in cc)
+
+pub ReachOver-from_all : (n : Numbers) (from to : ℕ) → from < to → HasAll from to (number_in n) → ReachOver n from to
+ReachOver-from_all n from to lt all =
+    let a = row_from-there n.first n.list.items from (all from (in_range-true from to from (omega arith) lt)) in
+    let last : from ≤ to - 1 = omega (arith, lt) in
+    let end : to - 1 < to = omega (arith, lt) in
+    let b = row_from-there n.first n.list.items (to - 1) (all (to - 1) (in_range-true from to (to - 1) last end)) in
+    record { low = a.0; high = omega (arith, b.1, lt) }
+
+-- numbers at the same offsets
+pub IsAsWide-there : (n m : Numbers) (k : ℕ) → IsAsWide n m → (number_in m k ≡ None → ⊥) → number_in n k ≡ None → ⊥
+IsAsWide-there n m k wide some none =
+    let t = row_from-there m.first m.list.items k some in
+    let low : n.first ≤ k = omega (arith, wide.first, t.0) in
+    let high : k < n.first + length n.list.items = omega (arith, wide.first, wide.length, t.1) in
+    absurd (let f = sym (row_from-in n.first n.list.items k (pos 0) low high) ∙ none in cc)
+
+pub IsAsWide-again : (n m o : Numbers) → IsAsWide n m → IsAsWide m o → IsAsWide n o
+IsAsWide-again n m o a b = record { first = a.first ∙ b.first; length = a.length ∙ b.length }
+
+pub empty_range-all : {A : Type 0} (from to : ℕ) (m : Offsets A) → to ≤ from → HasAll from to m
+empty_range-all from to m le = λ k e none.
+    absurd (omega (arith, le, in_range-low from to k e, in_range-high from to k e))
+
+option_map-none : {A B : Type 0} (f : A → B) (o : Option A) → o ≡ None → option_map f o ≡ None
+option_map-none f o e = ap (option_map f) e
+
+-- all numbers of a block are held alike
+same_numbers : (n m : Numbers) (from to : ℕ) → from < to → n ≡ m
+    → (ReachOver n from to → HasAll from to (number_in m)) × (HasAll from to (number_in m) → ReachOver n from to)
+same_numbers n m from to lt e = (
+  λ r. subst (λ x. HasAll from to (number_in x)) e (ReachOver-all n from to r),
+  λ all. ReachOver-from_all n from to lt (subst (λ x. HasAll from to (number_in x)) (sym e) all),
+)
+
+-- whether a block that owns all its numbers owns a range
+pub reach-owned : (b : Block) (n : Numbers) (from to : ℕ) → from < to → (a : Arc Numbers Global) → n ≡ arc_value a → b ≡ AllOwned a
+    → (ReachOver n from to → HasAll from to (owned_at b)) × (HasAll from to (owned_at b) → ReachOver n from to)
+reach-owned b n from to lt a e is =
+    let w = same_numbers n (arc_value a) from to lt e in
+    let same : (k : ℕ) → owned_at b k ≡ number_in (arc_value a) k = λ k. ap (λ x. owned_at x k) is ∙ owned_number-owned (number_in (arc_value a) k) in (
+      λ r k t none. w.0 r k t (sym (same k) ∙ none),
+      λ all. w.1 (λ k t none. all k t (same k ∙ none)),
+    )
+
+-- whether one whose numbers are all held alike holds it
+pub reach-held : (b : Block) (n : Numbers) (from to : ℕ) → from < to → (a : Arc Numbers Global) → n ≡ arc_value a
+    → (b ≡ AllOwned a) ⊎ (b ≡ AllShared a)
+    → (ReachOver n from to → HasAll from to (held_at b)) × (HasAll from to (held_at b) → ReachOver n from to)
+reach-held b n from to lt a e (inl is) =
+    let w = same_numbers n (arc_value a) from to lt e in (
+      λ r k t none. option_map-there Owned (number_in (arc_value a) k) (w.0 r k t) (sym (ap (λ x. held_at x k) is) ∙ none),
+      λ all. w.1 (λ k t none. all k t (ap (λ x. held_at x k) is ∙ option_map-none Owned (number_in (arc_value a) k) none)),
+    )
+reach-held b n from to lt a e (inr is) =
+    let w = same_numbers n (arc_value a) from to lt e in (
+      λ r k t none. option_map-there Shared (number_in (arc_value a) k) (w.0 r k t) (sym (ap (λ x. held_at x k) is) ∙ none),
+      λ all. w.1 (λ k t none. all k t (ap (λ x. held_at x k) is ∙ option_map-none Shared (number_in (arc_value a) k) none)),
+    )
+
+-- one with kinds that holds a range has numbers there
+pub reach-mixed : (b : Block) (m : Mixed) (x : Box Mixed Global) (from to : ℕ) → from < to → m ≡ box_value x → b ≡ InParts x
+    → HasAll from to (held_at b) → ReachOver m.numbers from to
+reach-mixed b m x from to lt e is all =
+    let reach = ReachOver-from_all (box_value x).numbers from to lt (λ k t none.
+    all k t (ap (λ c. held_at c k) is ∙ held_row-none (box_value x).numbers.first (box_value x).kinds.items (box_value x).numbers.list.items k none)) in
+    subst (λ (y : Mixed). ReachOver y.numbers from to) (sym e) reach
+
+-- without room nothing is owned by what can be taken in
+pub none_without_room : (b other : Block) → IsWithin (owned_at other) (room_at b) → ((k : ℕ) → room_at b k ≡ None) → 0 ≡ how_many (owned_at other) 256
+none_without_room b other within none =
+    sym (how_many-none (owned_at other) 256 (λ k lt. by_owned k (owned_at other k) refl))
+  where
+    by_owned : (k : ℕ) (o : Option ℤ) → owned_at other k ≡ o → o ≡ None
+    by_owned k None e = refl
+    by_owned k (Some v) e = absurd (within k (λ n. absurd (let f = sym e ∙ n in cc)) (none k))
+
+-- a row that reaches over all room has room there
+pub spread_keeps : (b : Block) (first : ℕ) (xs : List ℤ) (low high : ℕ) → ((k : ℕ) → k < low → room_at b k ≡ None)
+    → ((k : ℕ) → high ≤ k → room_at b k ≡ None) → first ≤ low → high ≤ first + length xs → IsWithin (room_at b) (row_from first xs)
+spread_keeps b first xs low high below behind start end = λ k some. by_low k some (nat_le low k) refl
+  where
+    by_high : (k : ℕ) → (room_at b k ≡ None → ⊥) → low ≤ k → (x : Bool) → nat_lt k high ≡ x → row_from first xs k ≡ None → ⊥
+    by_high k some le true e none =
+        let lt = ltb-true _ _ e in
+        absurd (let f = sym (row_from-in first xs k (pos 0) (omega (arith, start, le)) (omega (arith, end, lt))) ∙ none in cc)
+    by_high k some le false e none = let ge : high ≤ k = search rules in absurd (some (behind k ge))
+
+    by_low : (k : ℕ) → (room_at b k ≡ None → ⊥) → (x : Bool) → nat_le low k ≡ x → row_from first xs k ≡ None → ⊥
+    by_low k some true e = by_high k some (leb-true _ _ e) (nat_lt k high) refl
+    by_low k some false e = absurd (some (below k (leb-false _ _ e)))
+
+-- a block without kinds has no room
+pub no_room : (b : Block) → (b ≡ Empty) ⊎ (((x : Arc Numbers Global) × (b ≡ AllOwned x)) ⊎ ((x : Arc Numbers Global) × (b ≡ AllShared x)))
+    → (k : ℕ) → room_at b k ≡ None
+no_room b (inl e) k = ap (λ c. room_at c k) e
+no_room b (inr (inl (x, e))) k = ap (λ c. room_at c k) e
+no_room b (inr (inr (x, e))) k = ap (λ c. room_at c k) e
+
+-- ---- cuts that stay ready
+
+HasAll-along : {A : Type 0} (m n : Offsets A) (from to : ℕ) → ((k : ℕ) → in_range from to k ≡ true → n k ≡ m k) → HasAll from to m → HasAll from to n
+HasAll-along m n from to same all = λ k e none. all k e (sym (same k e) ∙ none)
+
+owned_along : (b c : Block) (k : ℕ) → held_at c k ≡ held_at b k → owned_at c k ≡ owned_at b k
+owned_along b c k e = ap owned_number e
+
+-- what is held and the room are the same
+pub IsReady-along : (b c : Block) (f t : ℕ) (cut : Cut) → Agree (held_at c) (held_at b) → IsWithin (room_at b) (room_at c)
+    → IsReady b f t cut → IsReady c f t cut
+IsReady-along b c f t cut same room ready = record {
+  owned = HasAll-along (owned_at b) (owned_at c) f t (λ k e. owned_along b c k (same k)) ready.owned;
+  cut = by_cut cut.numbers ready.cut;
+}
+  where
+    by_cut : (o : Option _) → IsCutOut b f t o → IsCutOut c f t o
+    by_cut None only = λ k e. same k ∙ only k e
+    by_cut (Some n) w = (λ k e. room k (w.0 k e), λ k. w.1 k ∙ ap (λ (h : Option Held). if in_range f t k then h else None) (sym (same k)))
+
+-- another range is carved out
+pub IsReady-carved : (b c : Block) (from to f t : ℕ) (cut : Cut) → Agree (held_at c) (outside from to (held_at b))
+    → Agree (room_at c) (room_at b) → ((k : ℕ) → in_range f t k ≡ true → in_range from to k ≡ false)
+    → IsReady b f t cut → IsReady c f t cut
+IsReady-carved b c from to f t cut held room apart ready = record {
+  owned = HasAll-along (owned_at b) (owned_at c) f t (λ k e. owned_along b c k (kept k e)) ready.owned;
+  cut = by_cut cut.numbers ready.cut;
+}
+  where
+    kept : (k : ℕ) → in_range f t k ≡ true → held_at c k ≡ held_at b k
+    kept k e = held k ∙ outside-out from to (held_at b) k (apart k e)
+
+    gone : (k : ℕ) → held_at b k ≡ None → held_at c k ≡ None
+    gone k none = held k ∙ outside-none from to (held_at b) k (λ e. none) ∙ none
+
+    same : (k : ℕ) (x : Bool) → in_range f t k ≡ x → inside f t (held_at b) k ≡ inside f t (held_at c) k
+    same k true e = inside-in f t (held_at b) k e ∙ sym (kept k e) ∙ sym (inside-in f t (held_at c) k e)
+    same k false e = inside-not f t (held_at b) k e ∙ sym (inside-not f t (held_at c) k e)
+
+    by_cut : (o : Option _) → IsCutOut b f t o → IsCutOut c f t o
+    by_cut None only = λ k e. gone k (only k e)
+    by_cut (Some n) w = (λ k e none. w.0 k e (sym (room k) ∙ none), λ k. w.1 k ∙ same k (in_range f t k) refl)
+
+-- a block that held nothing but one range has no other that is ready
+pub IsReady-moved : (b c : Block) (from to f t : ℕ) (cut : Cut) → HasOnly from to (held_at b) → f < t
+    → ((k : ℕ) → in_range f t k ≡ true → in_range from to k ≡ false) → IsReady b f t cut → IsReady c f t cut
+IsReady-moved b c from to f t cut only lt apart ready =
+    let here : in_range f t f ≡ true = in_range-true f t f (omega arith) lt in
+    absurd (ready.owned f here (ap owned_number (only f (apart f here))))
+
+-- ---- nothing is held behind the last offset
+
+numbers-behind : (n : Numbers) (k : ℕ) → 256 ≤ k → number_in n k ≡ None
+numbers-behind n k le = row_from-behind n.first n.list.items k (omega (arith, n.within, le))
+
+pub held_at-behind : (b : Block) (k : ℕ) → 256 ≤ k → held_at b k ≡ None
+held_at-behind Empty k le = refl
+held_at-behind (AllOwned a) k le = ap (option_map Owned) (numbers-behind (arc_value a) k le)
+held_at-behind (AllShared a) k le = ap (option_map Shared) (numbers-behind (arc_value a) k le)
+held_at-behind (InParts x) k le =
+    let m = box_value x in
+    held_row-none m.numbers.first m.kinds.items m.numbers.list.items k (numbers-behind m.numbers k le)

@@ -1,0 +1,3 @@
+pub mod BlockLemmas
+pub mod RowLemmas
+pub mod WalkLemmas

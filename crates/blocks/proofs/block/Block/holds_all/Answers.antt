@@ -1,0 +1,7 @@
+use Rattle.blocks.proofs.BlockLemmas.{reach-held}
+use Rattle.blocks.proofs.block.Block.holds_all.Goals as goal
+
+pub returns-else-from-to : goal.returns-else-from-to
+returns-else-from-to c =
+    let r = reach-held c.args.self.now c.deref.result.now c.args.from c.args.to c.if-from-to.false c.in-Owned.numbers c.deref.ensures c.in-Owned.is in
+    (λ t. r.0 (c.reach_over.ensures.0 t), λ all. c.reach_over.ensures.1 (r.1 all))

@@ -1,0 +1,7 @@
+use Rattle.std.proofs.Common.{◌≡◌, ℕ, ◌≤◌, ◌<◌, None}
+use Rattle.blocks.specs.Blocks.{held_at}
+use Rattle.blocks.proofs.block.Block.holds_all.Given as goal
+
+-- so far each offset has a number
+abbrev pub invariant-loop-offset : goal.invariant-loop-offset
+invariant-loop-offset l = (k : ℕ) → l.from ≤ k → k < l.offset → held_at l.self k ≡ None → ⊥

@@ -1,0 +1,53 @@
+-- What a block holds.
+use Rattle.std.specs.Prelude.{ℕ, ◌-◌, List, get_or, slice_get, nat_le, ℤ}
+use Rattle.std.specs.Prelude.{Option, Some, None, option_map, if◌then◌else◌}
+use Rattle.std.specs.Arc.{arc_value}
+use Rattle.std.specs.Box.{box_value}
+use Rattle.blocks.specs.Held.{Held, Owned, Shared, owned_number, number_of}
+use Rattle.blocks.specs.Offsets.{Offsets}
+use Rattle.blocks.specs.declared.block.Block.{Block}
+use Rattle.blocks.specs.declared.block.Block.TheVariants.{Empty, Mixed as InParts}
+use Rattle.blocks.specs.declared.block.Block.TheVariants.{Owned as AllOwned, Shared as AllShared}
+use Rattle.blocks.specs.declared.kind.Kind.{Kind}
+use Rattle.blocks.specs.declared.kind.Kind.TheVariants.{Absent, Own, Copied}
+use Rattle.blocks.specs.declared.mixed.Mixed.{Mixed}
+use Rattle.blocks.specs.declared.numbers.Numbers.{Numbers}
+
+-- the elements of a list at neighbouring offsets, the first of them at `first`
+abbrev pub row_from : {A : Type 0} → (first : ℕ) → List A → Offsets A
+row_from first xs k = if nat_le first k then slice_get xs (k - first) else None
+
+-- the numbers of neighbouring offsets
+abbrev pub number_in : Numbers → Offsets ℤ
+number_in n k = row_from n.first n.list.items k
+
+-- a number as what is held of it
+abbrev pub held_as : Kind → Option ℤ → Option Held
+held_as Absent v = None
+held_as Own v = option_map Owned v
+held_as Copied v = option_map Shared v
+
+-- how an offset is held
+abbrev pub kind_of : Option Held → Kind
+kind_of None = Absent
+kind_of (Some (Owned v)) = Own
+kind_of (Some (Shared v)) = Copied
+
+-- what is held where each offset has a kind of its own
+abbrev pub held_in : Mixed → Offsets Held
+held_in m k = held_as (get_or m.kinds.items (k - m.numbers.first) Absent) (number_in m.numbers k)
+
+-- what a block holds: at some offsets a number and its kind
+abbrev pub held_at : Block → Offsets Held
+held_at Empty k = None
+held_at (AllOwned n) k = option_map Owned (number_in (arc_value n) k)
+held_at (AllShared n) k = option_map Shared (number_in (arc_value n) k)
+held_at (InParts m) k = held_in (box_value m) k
+
+-- the numbers that a block owns
+abbrev pub owned_at : Block → Offsets ℤ
+owned_at b k = owned_number (held_at b k)
+
+-- the numbers that it holds, owned or not
+abbrev pub number_at : Block → Offsets ℤ
+number_at b k = option_map number_of (held_at b k)

@@ -1,0 +1,84 @@
+-- What is held of the arrays: at some places a number, owned or as a copy.
+use Rattle.std.specs.Prelude.{ℕ, ◌≡◌, ◌<◌, ◌≤◌, Bool, true, ℤ}
+use Rattle.std.specs.Prelude.{Option, Some, None, option_map, if◌then◌else◌}
+use Rattle.sections.specs.Place.{Place, same_place}
+
+-- a number that is held
+pub data Held : Type 0 where
+  -- its place is the holder's own: the holder may write it and carve it out
+  Owned : ℤ → Held
+  -- it is a copy, to be read alone
+  Shared : ℤ → Held
+
+-- a partial map from places
+abbrev pub Map : Type 0 → Type 0
+Map A = Place → Option A
+
+-- the first, where there is one, else the second
+abbrev pub first_of : {A : Type 0} → Option A → Option A → Option A
+first_of (Some x) other = Some x
+first_of None other = other
+
+-- a map at the places of a set
+abbrev pub only : {A : Type 0} → (Place → Bool) → Map A → Map A
+only set m q = if set q then m q else None
+
+-- a map at all other places
+abbrev pub without : {A : Type 0} → (Place → Bool) → Map A → Map A
+without set m q = if set q then None else m q
+
+-- one map where it has something, and another where it hasn't
+abbrev pub over : {A : Type 0} → Map A → Map A → Map A
+over top below q = first_of (top q) (below q)
+
+-- a map with x at the place p
+abbrev pub put : {A : Type 0} → Place → A → Map A → Map A
+put p x m q = if same_place p q then Some x else m q
+
+-- there is something at each place of a set
+abbrev pub IsThere : {A : Type 0} → (Place → Bool) → Map A → Type 0
+IsThere set m = (q : Place) → set q ≡ true → m q ≡ None → ⊥
+
+-- there is nothing at a place of a set
+abbrev pub IsFree : {A : Type 0} → (Place → Bool) → Map A → Type 0
+IsFree set m = (q : Place) → set q ≡ true → m q ≡ None
+
+-- a map has the places of an array from one up to an end behind it
+pub record IsRun {A : Type 0} (m : Map A) (from : Place) (end : ℕ) : Type 0 where
+  pub behind : from.index < end
+  pub there : (i : ℕ) → from.index ≤ i → i < end → m (record from { index = i }) ≡ None → ⊥
+
+-- two maps have no place together
+abbrev pub AreApart : {A : Type 0} → Map A → Map A → Type 0
+AreApart m n = (q : Place) → (m q ≡ None → ⊥) → n q ≡ None
+
+-- the number, owned or not
+abbrev pub number_of : Held → ℤ
+number_of (Owned v) = v
+number_of (Shared v) = v
+
+-- the number of each held place
+abbrev pub numbers : Map Held → Map ℤ
+numbers m q = option_map number_of (m q)
+
+-- the number, where it is owned
+abbrev pub owned_number : Option Held → Option ℤ
+owned_number None = None
+owned_number (Some (Owned v)) = Some v
+owned_number (Some (Shared v)) = None
+
+-- the owned places alone
+abbrev pub owned : Map Held → Map ℤ
+owned m q = owned_number (m q)
+
+-- numbers as owned ones
+abbrev pub as_owned : Map ℤ → Map Held
+as_owned m q = option_map Owned (m q)
+
+-- numbers as copies
+abbrev pub as_shared : Map ℤ → Map Held
+as_shared m q = option_map Shared (m q)
+
+-- what is held where some numbers are owned and some are copies; an owned place hides its copy
+abbrev pub held_by : (own copies : Map ℤ) → Map Held
+held_by own copies = over (as_owned own) (as_shared copies)

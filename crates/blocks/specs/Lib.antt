@@ -1,0 +1,5 @@
+pub mod Blocks
+pub mod Counts
+pub mod Held
+pub mod Offsets
+pub mod Ready

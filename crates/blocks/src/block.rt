@@ -1,0 +1,303 @@
+//! What is held of the places of a block.
+
+ghost use Rattle.std.specs.Prelude.{◌≡◌, IfOk, IsTrue, None, OnErr, false, is_some};
+ghost use Rattle.std.specs.Arc.{arc_value};
+ghost use Rattle.blocks.specs.Blocks.{number_in};
+ghost use Rattle.blocks.specs.Offsets.{Agree, put_at};
+
+use crate::kind::Kind;
+use crate::mixed::Mixed;
+use crate::numbers::{Numbers, PLACES};
+use std::alloc::{AllocError, Global};
+use std::sync::Arc;
+
+/// What is held of up to 256 neighbouring places of an array, each told by its offset from the
+/// first of them.
+#[derive(Drop)]
+pub enum Block {
+    /// Nothing.
+    Empty,
+    /// Numbers, all owned. Copies of them may have the same memory.
+    Owned(Arc<Numbers>),
+    /// Copies.
+    Shared(Arc<Numbers>),
+    /// Some offsets of one kind and some of another.
+    Mixed(Box<Mixed>),
+}
+
+impl Block {
+    ghost use Rattle.std.specs.Prelude.{◌≡◌, ◌↔◌, ◌<◌, ◌≤◌, ◌-◌, ℕ, true, false, pos, IfOk, IsTrue};
+    ghost use Rattle.std.specs.Prelude.{None, OnErr, get_or, is_some, length, option_map, slice_get};
+    ghost use Rattle.std.specs.Prelude.{unwrap_or};
+    ghost use Rattle.blocks.specs.Blocks.{held_at, kind_of, number_at, number_in, owned_at};
+    ghost use Rattle.blocks.specs.Held.{Owned, Shared};
+    ghost use Rattle.blocks.specs.Offsets.{Agree, HasAll, HasOnly, StandApart, in_range, inside};
+    ghost use Rattle.blocks.specs.Offsets.{put_at};
+    ghost use Rattle.blocks.specs.Ready.{room_at};
+
+    /// Owned numbers, from the first offset on.
+    pub fn of_numbers(alloc: Global, numbers: &[i64]) -> Result<Block, AllocError>
+        requires { length numbers.now ≤ 256 }
+        ensures { IfOk result (λ b.
+            Agree (held_at b) (λ k. option_map Owned (slice_get numbers.now k))) }
+    {
+        let list = Vec::from_slice(alloc, numbers)?;
+        let numbers = Arc::new(alloc, Numbers { first: 0, list })?;
+        Ok(Block::Owned(numbers))
+    }
+
+    /// The number at an offset, where it is held.
+    pub fn number(&self, offset: usize) -> Option<i64>
+        ensures { result ≡ number_at self.now offset }
+    {
+        match self {
+            Block::Empty => None,
+            Block::Owned(numbers) | Block::Shared(numbers) => numbers.number(offset),
+            Block::Mixed(mixed) => mixed.number(offset),
+        }
+    }
+
+    /// Writes the number at an owned offset, and tells whether it is one. Where copies have the same
+    /// memory all numbers are copied before.
+    pub fn write(&mut self, alloc: Global, offset: usize, value: i64) -> Result<bool, AllocError>
+        ensures found { IfOk result (λ f. f ≡ is_some (owned_at self.old offset)) }
+        ensures written { IfOk result (λ f. IsTrue f
+            → Agree (held_at self.new) (put_at offset (Owned value) (held_at self.old))) }
+        ensures missed { IfOk result (λ f. (f ≡ false)
+            → Agree (held_at self.new) (held_at self.old)) }
+        ensures same { OnErr result (Agree (held_at self.new) (held_at self.old)) }
+        ensures owned { OnErr result (owned_at self.old offset ≡ None → ⊥) }
+    {
+        match self {
+            Block::Owned(numbers) => write_in(alloc, numbers, offset, value),
+            Block::Mixed(mixed) => Ok(mixed.write(offset, value)),
+            Block::Empty | Block::Shared(_) => Ok(false),
+        }
+    }
+
+    /// Whether all offsets of a range are owned.
+    pub fn owns_all(&self, from: usize, to: usize) -> bool
+        ensures { IsTrue result ↔ HasAll from to (owned_at self.now) }
+    {
+        if let Block::Owned(numbers) = self {
+            return from >= to || numbers.reach_over(from, to);
+        }
+        for offset in from..to {
+            if !self.owns(offset) {
+                return false;
+            }
+        }
+        true
+    }
+
+    /// Whether all offsets of a range are held.
+    pub fn holds_all(&self, from: usize, to: usize) -> bool
+        ensures { IsTrue result ↔ HasAll from to (held_at self.now) }
+    {
+        if let Block::Owned(numbers) | Block::Shared(numbers) = self {
+            return from >= to || numbers.reach_over(from, to);
+        }
+        for offset in from..to {
+            if !self.holds(offset) {
+                return false;
+            }
+        }
+        true
+    }
+
+    /// Whether no offset is owned here and in another block.
+    pub fn is_apart(&self, other: &Block) -> bool
+        ensures { IsTrue result ↔ StandApart (owned_at other.now) (owned_at self.now) }
+    {
+        let low = self.start().max(other.start());
+        let high = self.end().min(other.end());
+        for offset in low..high {
+            if self.owns(offset) && other.owns(offset) {
+                return false;
+            }
+        }
+        true
+    }
+
+    /// Copies the numbers to their offsets in a list, and leaves what stands at the others.
+    pub fn copy_to(&self, numbers: &mut [i64])
+        ensures { (k : ℕ) → k < length numbers.old → get_or numbers.new k (pos 0)
+            ≡ unwrap_or (number_at self.now k) (get_or numbers.old k (pos 0)) }
+    {
+        for (offset, place) in numbers.iter_mut().enumerate() {
+            if let Some(number) = self.number(offset) {
+                *place = number;
+            }
+        }
+    }
+
+    /// The same once more.
+    pub fn again(&self, alloc: Global) -> Result<Block, AllocError>
+        ensures { IfOk result (λ b. Agree (held_at b) (held_at self.now)) }
+    {
+        match self {
+            Block::Empty => Ok(Block::Empty),
+            Block::Owned(numbers) => Ok(Block::Owned(Arc::try_clone(numbers)?)),
+            Block::Shared(numbers) => Ok(Block::Shared(Arc::try_clone(numbers)?)),
+            Block::Mixed(mixed) => {
+                let mixed = mixed.again(alloc)?;
+                Ok(Block::Mixed(Box::new(alloc, mixed)?))
+            }
+        }
+    }
+
+    /// Copies of the offsets of a range, all of which are held. They have the same memory where the
+    /// range has all offsets.
+    pub fn share(&self, alloc: Global, from: usize, to: usize) -> Result<Block, AllocError>
+        requires range { from < to }
+        requires held { HasAll from to (held_at self.now) }
+        ensures { IfOk result (λ b. Agree (held_at b)
+            (λ k. option_map Shared (inside from to (number_at self.now) k))) }
+    {
+        if let Block::Owned(numbers) | Block::Shared(numbers) = self
+            && from <= numbers.first
+            && numbers.end() <= to
+        {
+            return Ok(Block::Shared(Arc::try_clone(numbers)?));
+        }
+        let (numbers, _) = self.part(alloc, from, to)?;
+        Ok(Block::Shared(Arc::new(alloc, numbers)?))
+    }
+
+    /// How an offset is held.
+    pub(crate) fn kind(&self, offset: usize) -> Kind
+        ensures { result ≡ kind_of (held_at self.now offset) }
+    {
+        match self {
+            Block::Empty => Kind::Absent,
+            Block::Owned(numbers) => match numbers.number(offset) {
+                None => Kind::Absent,
+                Some(_) => Kind::Own,
+            },
+            Block::Shared(numbers) => match numbers.number(offset) {
+                None => Kind::Absent,
+                Some(_) => Kind::Copied,
+            },
+            Block::Mixed(mixed) => mixed.kind(offset),
+        }
+    }
+
+    /// Whether an offset is held.
+    pub(crate) fn holds(&self, offset: usize) -> bool
+        ensures { result ≡ is_some (held_at self.now offset) }
+    {
+        match self.kind(offset) {
+            Kind::Own | Kind::Copied => true,
+            Kind::Absent => false,
+        }
+    }
+
+    /// Whether an offset is owned.
+    pub(crate) fn owns(&self, offset: usize) -> bool
+        ensures { result ≡ is_some (owned_at self.now offset) }
+    {
+        match self.kind(offset) {
+            Kind::Own => true,
+            Kind::Absent | Kind::Copied => false,
+        }
+    }
+
+    /// The number at an owned offset.
+    pub(crate) fn owned(&self, offset: usize) -> Option<i64>
+        ensures { result ≡ owned_at self.now offset }
+    {
+        match self.kind(offset) {
+            Kind::Own => self.number(offset),
+            Kind::Absent | Kind::Copied => None,
+        }
+    }
+
+    /// The first offset that may be held; 256 in a block without numbers.
+    pub(crate) fn start(&self) -> usize
+        ensures before { (k : ℕ) → k < result → held_at self.now k ≡ None }
+        ensures room { (k : ℕ) → k < result → room_at self.now k ≡ None }
+        ensures places { result ≤ 256 }
+    {
+        match self {
+            Block::Empty => PLACES,
+            Block::Owned(numbers) | Block::Shared(numbers) => numbers.first,
+            Block::Mixed(mixed) => mixed.numbers.first,
+        }
+    }
+
+    /// The offset behind the last one that may be held; 0 in a block without numbers.
+    pub(crate) fn end(&self) -> usize
+        ensures behind { (k : ℕ) → result ≤ k → held_at self.now k ≡ None }
+        ensures room { (k : ℕ) → result ≤ k → room_at self.now k ≡ None }
+        ensures places { result ≤ 256 }
+    {
+        match self {
+            Block::Empty => 0,
+            Block::Owned(numbers) | Block::Shared(numbers) => numbers.end(),
+            Block::Mixed(mixed) => mixed.numbers.end(),
+        }
+    }
+
+    /// Whether nothing is held but at the offsets of a range.
+    pub(crate) fn holds_only(&self, from: usize, to: usize) -> bool
+        ensures { IsTrue result ↔ HasOnly from to (held_at self.now) }
+    {
+        let low = self.start();
+        let high = self.end();
+        if from <= low && high <= to {
+            return true;
+        }
+        for offset in low..high {
+            if (offset < from || offset >= to) && self.holds(offset) {
+                return false;
+            }
+        }
+        true
+    }
+
+    /// Copies of the numbers of a range, all of which are held, and how many were copied.
+    pub(crate) fn part(
+        &self,
+        alloc: Global,
+        from: usize,
+        to: usize,
+    ) -> Result<(Numbers, u64), AllocError>
+        requires range { from < to }
+        requires held { HasAll from to (held_at self.now) }
+        ensures numbers { IfOk result (λ r.
+            Agree (number_in r.0) (inside from to (number_at self.now))) }
+        ensures copied { IfOk result (λ r. r.1 ≡ to - from) }
+    {
+        match self {
+            Block::Empty => unreachable!(),
+            Block::Owned(numbers) | Block::Shared(numbers) => numbers.part(alloc, from, to),
+            Block::Mixed(mixed) => mixed.numbers.part(alloc, from, to),
+        }
+    }
+}
+
+/// Writes the number at an offset; where others have the numbers too, into a copy of them.
+fn write_in(
+    alloc: Global,
+    shared: &mut Arc<Numbers>,
+    offset: usize,
+    value: i64,
+) -> Result<bool, AllocError>
+    ensures found { IfOk result (λ f. f ≡ is_some (number_in (arc_value shared.old) offset)) }
+    ensures written { IfOk result (λ f. IsTrue f → Agree (number_in (arc_value shared.new))
+        (put_at offset value (number_in (arc_value shared.old)))) }
+    ensures missed { IfOk result (λ f. (f ≡ false) → arc_value shared.new ≡ arc_value shared.old) }
+    ensures same { OnErr result (arc_value shared.new ≡ arc_value shared.old) }
+    ensures there { OnErr result (number_in (arc_value shared.old) offset ≡ None → ⊥) }
+{
+    if let Some(numbers) = Arc::get_mut(shared) {
+        return Ok(numbers.write(offset, value));
+    }
+    if shared.number(offset).is_none() {
+        return Ok(false);
+    }
+    let mut numbers = shared.copied(alloc)?;
+    let found = numbers.write(offset, value);
+    *shared = Arc::new(alloc, numbers)?;
+    Ok(found)
+}

@@ -1,0 +1,11 @@
+//! Blocks: what is held of up to 256 neighbouring places of an array.
+
+#![tactic(auto)]
+
+pub mod block;
+pub mod cut;
+pub mod kind;
+pub mod mixed;
+pub mod numbers;
+mod opening;
+mod pasting;

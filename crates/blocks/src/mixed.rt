@@ -1,0 +1,142 @@
+//! Numbers each of which has a kind of its own.
+
+ghost use Rattle.std.specs.Prelude.{◌≡◌, length};
+
+use crate::kind::Kind;
+use crate::numbers::Numbers;
+use std::alloc::{AllocError, Global};
+
+/// Numbers each of which has a kind of its own. No other holder has them, so that they can be
+/// written without memory.
+#[derive(Drop)]
+pub struct Mixed {
+    pub(crate) numbers: Numbers,
+    pub(crate) kinds: Vec<Kind>,
+    ghost paired: { length kinds.items ≡ length numbers.list.items },
+}
+
+impl Mixed {
+    ghost use Rattle.std.specs.Prelude.{◌-◌, ◌+◌, ◌↔◌, IfOk, IsTrue, None, is_some, false, option_map};
+    ghost use Rattle.blocks.specs.Blocks.{held_in, kind_of, number_in};
+    ghost use Rattle.blocks.specs.Held.{Owned, number_of, owned_number};
+    ghost use Rattle.blocks.specs.Offsets.{Agree, outside, put_at, without_at};
+    ghost use Rattle.blocks.specs.Ready.{IsAsWide};
+
+    /// Nothing.
+    pub(crate) fn nothing(alloc: Global) -> Mixed {
+        Mixed {
+            numbers: Numbers::none(alloc),
+            kinds: Vec::new(alloc),
+        }
+    }
+
+    /// How an offset is held.
+    pub(crate) fn kind(&self, offset: usize) -> Kind
+        ensures { result ≡ kind_of (held_in self.now offset) }
+    {
+        if offset < self.numbers.first {
+            return Kind::Absent;
+        }
+        match self.kinds.get(offset - self.numbers.first) {
+            None => Kind::Absent,
+            Some(kind) => *kind,
+        }
+    }
+
+    /// The number at an offset, where it is held.
+    pub(crate) fn number(&self, offset: usize) -> Option<i64>
+        ensures { result ≡ option_map number_of (held_in self.now offset) }
+    {
+        match self.kind(offset) {
+            Kind::Absent => None,
+            Kind::Own | Kind::Copied => self.numbers.number(offset),
+        }
+    }
+
+    /// Makes the number at an offset with room the holder's own.
+    pub(crate) fn put(&mut self, offset: usize, value: i64)
+        requires { number_in self.old.numbers offset ≡ None → ⊥ }
+        ensures held { Agree (held_in self.new) (put_at offset (Owned value) (held_in self.old)) }
+        ensures room { IsAsWide self.new.numbers self.old.numbers }
+    {
+        let at = offset - self.numbers.first;
+        self.numbers.list[at] = value;
+        self.kinds[at] = Kind::Own;
+    }
+
+    /// Holds nothing any more at an offset with room.
+    fn forget(&mut self, offset: usize)
+        requires { number_in self.old.numbers offset ≡ None → ⊥ }
+        ensures held { Agree (held_in self.new) (without_at offset (held_in self.old)) }
+        ensures numbers { self.new.numbers ≡ self.old.numbers }
+    {
+        let at = offset - self.numbers.first;
+        self.kinds[at] = Kind::Absent;
+    }
+
+    /// Writes the number at an owned offset.
+    pub(crate) fn write(&mut self, offset: usize, value: i64) -> bool
+        ensures found { result ≡ is_some (owned_number (held_in self.old offset)) }
+        ensures written { IsTrue result
+            → Agree (held_in self.new) (put_at offset (Owned value) (held_in self.old)) }
+        ensures same { (result ≡ false) → self.new ≡ self.old }
+    {
+        match self.kind(offset) {
+            Kind::Own => {
+                self.put(offset, value);
+                true
+            }
+            Kind::Absent | Kind::Copied => false,
+        }
+    }
+
+    /// Holds nothing any more at the offsets of a range.
+    pub(crate) fn clear(&mut self, from: usize, to: usize)
+        ensures held { Agree (held_in self.new) (outside from to (held_in self.old)) }
+        ensures numbers { self.new.numbers ≡ self.old.numbers }
+    {
+        let low = from.max(self.numbers.first);
+        let high = to.min(self.numbers.end());
+        for offset in low..high {
+            self.forget(offset);
+        }
+    }
+
+    /// The same once more.
+    pub(crate) fn again(&self, alloc: Global) -> Result<Mixed, AllocError>
+        ensures { IfOk result (λ m. Agree (held_in m) (held_in self.now)) }
+    {
+        let numbers = self.numbers.copied(alloc)?;
+        let kinds = Vec::from_slice(alloc, &self.kinds)?;
+        Ok(Mixed { numbers, kinds })
+    }
+
+    /// Holds no copies any more.
+    pub(crate) fn drop_copies(&mut self)
+        ensures { Agree (held_in self.new)
+            (λ k. option_map Owned (owned_number (held_in self.old k))) }
+    {
+        let low = self.numbers.first;
+        let high = self.numbers.end();
+        for offset in low..high {
+            match self.kind(offset) {
+                Kind::Copied => self.forget(offset),
+                Kind::Absent | Kind::Own => {}
+            }
+        }
+    }
+
+    /// Whether each number is owned.
+    pub(crate) fn owns_everything(&self) -> bool
+        ensures { IsTrue result → Agree (held_in self.now)
+            (λ k. option_map Owned (number_in self.now.numbers k)) }
+    {
+        for kind in &self.kinds {
+            match kind {
+                Kind::Own => {}
+                Kind::Absent | Kind::Copied => return false,
+            }
+        }
+        true
+    }
+}

@@ -1,0 +1,144 @@
+//! Owned offsets that come into blocks.
+
+use crate::block::Block;
+use crate::mixed::Mixed;
+use std::alloc::{AllocError, Global};
+use std::mem;
+use std::sync::Arc;
+
+impl Block {
+    ghost use Rattle.std.specs.Prelude.{◌≡◌, ◌↔◌, IsTrue, OnOk, option_map};
+    ghost use Rattle.blocks.specs.Blocks.{held_at, owned_at};
+    ghost use Rattle.blocks.specs.Counts.{how_many};
+    ghost use Rattle.blocks.specs.Held.{Owned, first_of};
+    ghost use Rattle.blocks.specs.Offsets.{Agree, IsWithin};
+    ghost use Rattle.blocks.specs.Ready.{CanTake, room_at};
+
+    /// Makes room for what another block owns, so that no memory is wanted to paste it. What is held
+    /// stays.
+    pub fn make_room(&mut self, alloc: Global, other: &Block) -> Result<(), AllocError>
+        ensures same { Agree (held_at self.new) (held_at self.old) }
+        ensures room { OnOk result (CanTake self.new other.now) }
+    {
+        match other {
+            Block::Empty | Block::Shared(_) => Ok(()),
+            Block::Owned(_) | Block::Mixed(_) => {
+                if self.is_within(other) {
+                    return Ok(());
+                }
+                let from = other.start();
+                self.open(alloc, from, other.end().max(from))
+            }
+        }
+    }
+
+    /// Takes in what another block owns, for which there is room, and tells how many numbers were
+    /// copied. The copies that the other holds are dropped.
+    pub fn paste(&mut self, alloc: Global, other: Block) -> u64
+        requires { CanTake self.old other }
+        ensures pasted { Agree (held_at self.new)
+            (λ k. first_of (option_map Owned (owned_at other k)) (held_at self.old k)) }
+        ensures moved { IsWithin (held_at self.old) (owned_at other) → result ≡ 0 }
+        ensures counted { (IsWithin (held_at self.old) (owned_at other) → ⊥)
+            → result ≡ how_many (owned_at other) 256 }
+    {
+        if self.is_within(&other) {
+            *self = other.owned_part();
+            self.close(alloc);
+            return 0;
+        }
+        let copied = self.take(&other);
+        self.close(alloc);
+        copied
+    }
+
+    /// The same, where there is room for all that the other owns.
+    fn take(&mut self, other: &Block) -> u64
+        requires { IsWithin (owned_at other.now) (room_at self.old) }
+        ensures held { Agree (held_at self.new)
+            (λ k. first_of (option_map Owned (owned_at other.now k)) (held_at self.old k)) }
+        ensures copied { result ≡ how_many (owned_at other.now) 256 }
+    {
+        match self {
+            Block::Mixed(mixed) => mixed.take(other),
+            Block::Empty | Block::Owned(_) | Block::Shared(_) => 0,
+        }
+    }
+
+    /// Whether another block owns all that is held.
+    fn is_within(&self, other: &Block) -> bool
+        ensures { IsTrue result ↔ IsWithin (held_at self.now) (owned_at other.now) }
+    {
+        let low = self.start();
+        let high = self.end();
+        for offset in low..high {
+            if self.holds(offset) && !other.owns(offset) {
+                return false;
+            }
+        }
+        true
+    }
+
+    /// What is owned, without the copies.
+    fn owned_part(self) -> Block
+        ensures { Agree (held_at result) (λ k. option_map Owned (owned_at self k)) }
+    {
+        match self {
+            Block::Empty | Block::Shared(_) => Block::Empty,
+            Block::Owned(numbers) => Block::Owned(numbers),
+            Block::Mixed(mut mixed) => {
+                mixed.drop_copies();
+                Block::Mixed(mixed)
+            }
+        }
+    }
+
+    /// Where all is owned, the numbers can be shared again; where memory is missing for that, they
+    /// stay as they are. What is held stays.
+    fn close(&mut self, alloc: Global)
+        ensures { Agree (held_at self.new) (held_at self.old) }
+    {
+        let Block::Mixed(mixed) = self else {
+            return;
+        };
+        if !mixed.owns_everything() {
+            return;
+        }
+        let Mixed { numbers, kinds } = mem::replace(&mut **mixed, Mixed::nothing(alloc));
+        match Arc::new(alloc, numbers) {
+            Ok(numbers) => *self = Block::Owned(numbers),
+            Err(failed) => {
+                let numbers = failed.value;
+                **mixed = Mixed { numbers, kinds };
+            }
+        }
+    }
+}
+
+impl Mixed {
+    ghost use Rattle.std.specs.Prelude.{◌≡◌, option_map};
+    ghost use Rattle.blocks.specs.Blocks.{held_in, number_in, owned_at};
+    ghost use Rattle.blocks.specs.Counts.{how_many};
+    ghost use Rattle.blocks.specs.Held.{Owned, first_of};
+    ghost use Rattle.blocks.specs.Offsets.{Agree, IsWithin};
+
+    /// Takes in what a block owns, for which there is room, and tells how many numbers were copied.
+    /// This loop alone copies what is pasted.
+    fn take(&mut self, other: &Block) -> u64
+        requires { IsWithin (owned_at other.now) (number_in self.old.numbers) }
+        ensures held { Agree (held_in self.new)
+            (λ k. first_of (option_map Owned (owned_at other.now k)) (held_in self.old k)) }
+        ensures copied { result ≡ how_many (owned_at other.now) 256 }
+    {
+        let low = other.start();
+        let high = other.end();
+        let mut copied = 0;
+        for offset in low..high {
+            if let Some(number) = other.owned(offset) {
+                self.put(offset, number);
+                copied += 1;
+            }
+        }
+        copied
+    }
+}
