@@ -13,13 +13,14 @@ use Rattle.command_line.specs.declared.request.Command.{Command}
 use Rattle.command_line.specs.declared.request.Command.TheVariants.{Run, Serial, Check, Listing, Pairs, Explore}
 use Rattle.command_line.specs.declared.request.Command.TheVariants.{Labels, Places, Format, CheckFormat}
 use Rattle.command_line.specs.declared.request.Request.{Request}
-use Rattle.command_line.specs.declared.request.Settings.{Settings as rSettings}
 use Rattle.command_line.specs.Reading.{Line, bare, flag_taken, line_of, no_texts, read, read_choosing, read_file, read_whole}
 use Rattle.std.proofs.Common.{true≢false}
 use Rattle.std.proofs.lemmas.Slice.Eq.{bytes_eq-Decides}
 use Rattle.command_line.specs.Reading.{has_explain, read_around, without_second}
-use Rattle.command_line.specs.Reading.{read_optioned, read_serial_texts, read_texts, taken}
+use Rattle.command_line.specs.Reading.{read_optioned, read_serial_texts, read_showing, read_texts, read_view, shown_if, taken}
 use Rattle.command_line.specs.Requests.{AreForExplore, AreForRun, AreForSerial, AreRight, Asked, Asks, AsksPlainly, Options, Settings, Texts}
+use Rattle.command_line.specs.Requests.{AsPicture, AsTable, ByNumbers, ForViewer, Showing, Viewing, command_for, no_options}
+use Rattle.command_line.specs.Requests.{picture_of, showing_words, to_view, viewing_options, viewing_words}
 use Rattle.command_line.specs.Requests.{is_file_name, optioned, plain, settings_by, flagged, valued, plainly, explaining, explained}
 use Rattle.command_line.specs.Requests.{Choosing, Listed, InFile, Random, IsRightChoosing, choosing_words_of, file_of, list_of}
 use Rattle.command_line.specs.Requests.{asked_of, seed_of, serial_words_of, texts_by, words_of}
@@ -83,13 +84,27 @@ Differ [] option = Unit {0}
 Differ (other ∷ others) option = (bytes_eq other option ≡ false) × Differ others option
 
 -- how each reading goes on behind an option
-abbrev from_arrays : (input steps nest tasks w0 workers : Option (List ℕ)) → Bool → List (List ℕ) → Option Texts
-from_arrays input steps nest tasks w0 workers arrays words =
-    read_whole (record no_texts { input = input; steps = steps; nest = nest; tasks = tasks; w0 = w0; workers = workers; arrays = arrays }) words
+abbrev from_arrays : (input steps nest tasks w0 workers trace : Option (List ℕ)) → Bool → List (List ℕ) → Option Texts
+from_arrays input steps nest tasks w0 workers trace arrays words =
+    read_whole
+    (record no_texts {
+      input = input;
+      steps = steps;
+      nest = nest;
+      tasks = tasks;
+      w0 = w0;
+      workers = workers;
+      trace = trace;
+      arrays = arrays;
+    }) words
+
+abbrev from_trace : (input steps nest tasks w0 workers : Option (List ℕ)) → Option (List ℕ) → List (List ℕ) → Option Texts
+from_trace input steps nest tasks w0 workers trace words =
+    let t = flag_taken (codes "--arrays") words in from_arrays input steps nest tasks w0 workers trace t.0 t.1
 
 abbrev from_workers : (input steps nest tasks w0 : Option (List ℕ)) → Option (List ℕ) → List (List ℕ) → Option Texts
 from_workers input steps nest tasks w0 workers words =
-    let t = flag_taken (codes "--arrays") words in from_arrays input steps nest tasks w0 workers t.0 t.1
+    let t = taken (codes "--trace") words in from_trace input steps nest tasks w0 workers t.0 t.1
 
 abbrev from_w0 : (input steps nest tasks : Option (List ℕ)) → Option (List ℕ) → List (List ℕ) → Option Texts
 from_w0 input steps nest tasks w0 words =
@@ -155,9 +170,12 @@ module _ (arrays : Bool) where
   abbrev arrays_words : List (List ℕ)
   arrays_words = flagged (codes "--arrays") arrays []
 
-  module _ (tasks w0 workers : Option (List ℕ)) where
+  module _ (tasks w0 workers trace : Option (List ℕ)) where
+    abbrev trace_words : List (List ℕ)
+    trace_words = valued (codes "--trace") trace arrays_words
+
     abbrev workers_words : List (List ℕ)
-    workers_words = valued (codes "--workers") workers arrays_words
+    workers_words = valued (codes "--workers") workers trace_words
 
     abbrev w0_words : List (List ℕ)
     w0_words = valued (codes "--w0") w0 workers_words
@@ -165,19 +183,24 @@ module _ (arrays : Bool) where
     abbrev tasks_words : List (List ℕ)
     tasks_words = valued (codes "--tasks") tasks w0_words
 
-    lacks_workers : (option : List ℕ) → Differ (codes "--arrays" ∷ codes "--workers" ∷ []) option
-        → Lacks option workers_words
-    lacks_workers option differ =
-        lacks_valued option (codes "--workers") workers arrays_words differ.1.0
+    lacks_trace : (option : List ℕ) → Differ (codes "--arrays" ∷ codes "--trace" ∷ []) option → Lacks option trace_words
+    lacks_trace option differ =
+        lacks_valued option (codes "--trace") trace arrays_words differ.1.0
         (lacks_flagged option (codes "--arrays") arrays [] differ.0 refl)
 
-    lacks_w0 : (option : List ℕ) → Differ (codes "--w0" ∷ codes "--arrays" ∷ codes "--workers" ∷ []) option
+    lacks_workers : (option : List ℕ) → Differ (codes "--workers" ∷ codes "--arrays" ∷ codes "--trace" ∷ []) option
+        → Lacks option workers_words
+    lacks_workers option differ =
+        lacks_valued option (codes "--workers") workers trace_words differ.0 (lacks_trace option differ.1)
+
+    lacks_w0 : (option : List ℕ)
+        → Differ (codes "--w0" ∷ codes "--workers" ∷ codes "--arrays" ∷ codes "--trace" ∷ []) option
         → Lacks option w0_words
     lacks_w0 option differ =
         lacks_valued option (codes "--w0") w0 workers_words differ.0 (lacks_workers option differ.1)
 
     lacks_tasks : (option : List ℕ)
-        → Differ (codes "--tasks" ∷ codes "--w0" ∷ codes "--arrays" ∷ codes "--workers" ∷ []) option
+        → Differ (codes "--tasks" ∷ codes "--w0" ∷ codes "--workers" ∷ codes "--arrays" ∷ codes "--trace" ∷ []) option
         → Lacks option tasks_words
     lacks_tasks option differ =
         lacks_valued option (codes "--tasks") tasks w0_words differ.0 (lacks_w0 option differ.1)
@@ -191,6 +214,7 @@ module _ (arrays : Bool) where
           tasks = tasks;
           w0 = w0;
           workers = workers;
+          trace = trace;
           arrays = arrays;
         } in read_texts (words_of t) ≡ Some t)
     read_words input steps nest =
@@ -200,21 +224,23 @@ module _ (arrays : Bool) where
         (takes (codes "--input") input steps_words refl
         (lacks_valued (codes "--input") (codes "--steps") steps nest_words refl
         (lacks_valued (codes "--input") (codes "--nest") nest tasks_words refl
-        (lacks_tasks (codes "--input") (refl, (refl, (refl, (refl, tt))))))))
+        (lacks_tasks (codes "--input") (refl, (refl, (refl, (refl, (refl, tt)))))))))
         ∙ goes (codes "--steps") steps_words steps nest_words (from_steps input)
         (takes (codes "--steps") steps nest_words refl
         (lacks_valued (codes "--steps") (codes "--nest") nest tasks_words refl
-        (lacks_tasks (codes "--steps") (refl, (refl, (refl, (refl, tt)))))))
+        (lacks_tasks (codes "--steps") (refl, (refl, (refl, (refl, (refl, tt))))))))
         ∙ goes (codes "--nest") nest_words nest tasks_words (from_nest input steps)
-        (takes (codes "--nest") nest tasks_words refl (lacks_tasks (codes "--nest") (refl, (refl, (refl, (refl, tt))))))
+        (takes (codes "--nest") nest tasks_words refl (lacks_tasks (codes "--nest") (refl, (refl, (refl, (refl, (refl, tt)))))))
         ∙ goes (codes "--tasks") tasks_words tasks w0_words (from_tasks input steps nest)
-        (takes (codes "--tasks") tasks w0_words refl (lacks_w0 (codes "--tasks") (refl, (refl, (refl, tt)))))
+        (takes (codes "--tasks") tasks w0_words refl (lacks_w0 (codes "--tasks") (refl, (refl, (refl, (refl, tt))))))
         ∙ goes (codes "--w0") w0_words w0 workers_words (from_w0 input steps nest tasks)
-        (takes (codes "--w0") w0 workers_words refl (lacks_workers (codes "--w0") (refl, (refl, tt))))
-        ∙ goes (codes "--workers") workers_words workers arrays_words (from_workers input steps nest tasks w0)
-        (takes (codes "--workers") workers arrays_words refl
-        (lacks_flagged (codes "--workers") (codes "--arrays") arrays [] refl refl))
-        ∙ goes_flag (codes "--arrays") arrays_words arrays [] (from_arrays input steps nest tasks w0 workers)
+        (takes (codes "--w0") w0 workers_words refl (lacks_workers (codes "--w0") (refl, (refl, (refl, tt)))))
+        ∙ goes (codes "--workers") workers_words workers trace_words (from_workers input steps nest tasks w0)
+        (takes (codes "--workers") workers trace_words refl (lacks_trace (codes "--workers") (refl, (refl, tt))))
+        ∙ goes (codes "--trace") trace_words trace arrays_words (from_trace input steps nest tasks w0 workers)
+        (takes (codes "--trace") trace arrays_words refl
+        (lacks_flagged (codes "--trace") (codes "--arrays") arrays [] refl refl))
+        ∙ goes_flag (codes "--arrays") arrays_words arrays [] (from_arrays input steps nest tasks w0 workers trace)
         (takes_flag (codes "--arrays") arrays [] refl refl)
 
   -- those of a run by choices
@@ -308,22 +334,25 @@ read_with command file texts read_as named is =
 -- options of a run as tasks
 run_options : (o : Options) → AreForRun o → read_texts (words_of (texts_by o)) ≡ Some (texts_by o)
 run_options o for =
-    let P : (Option Choosing) → Bool → Type 0 = λ c p.
+    let P : Option Choosing → (picture : Option (List ℕ)) → Bool → Type 0 = λ c picture p.
     let t : Texts = record (texts_by o) {
       choices = list_of c;
       choices_from = file_of c;
       random = option_map decimal (seed_of c);
+      picture = picture;
       progress = p;
     } in read_texts (words_of t) ≡ Some t in
-    subst (λ c. P c o.progress) (sym for.choices)
-    (subst (P None) (sym for.progress)
-    (read_words o.arrays (option_map decimal o.tasks) (option_map decimal o.w0) (option_map decimal o.workers) o.input
-    (option_map decimal o.steps) (option_map decimal o.nest)))
+    subst (λ c. P c o.picture o.progress) (sym for.choices)
+    (subst (λ f. P None f o.progress) (sym for.picture)
+    (subst (P None None) (sym for.progress)
+    (read_words o.arrays (option_map decimal o.tasks) (option_map decimal o.w0) (option_map decimal o.workers) o.trace
+    o.input (option_map decimal o.steps) (option_map decimal o.nest))))
 
 -- of a run on one thread
 serial_options : (o : Options) → AreForSerial o → read_serial_texts (serial_words_of (texts_by o)) ≡ Some (texts_by o)
 serial_options o for =
-    let P : (tasks w0 workers : Option ℕ) → Option Choosing → Type 0 = λ tasks w0 workers c.
+    let P : (tasks w0 workers : Option ℕ) → Option Choosing → (trace picture : Option (List ℕ)) → Type 0 =
+    λ tasks w0 workers c trace picture.
     let t : Texts = record (texts_by o) {
       tasks = option_map decimal tasks;
       w0 = option_map decimal w0;
@@ -331,32 +360,64 @@ serial_options o for =
       choices = list_of c;
       choices_from = file_of c;
       random = option_map decimal (seed_of c);
+      trace = trace;
+      picture = picture;
     } in read_serial_texts (serial_words_of t) ≡ Some t in
-    subst (λ n. P n o.w0 o.workers o.choices) (sym for.spread.tasks)
-    (subst (λ n. P None n o.workers o.choices) (sym for.spread.w0)
-    (subst (λ n. P None None n o.choices) (sym for.spread.workers)
-    (subst (λ c. P None None None c) (sym for.choices)
-    (read_serial_words o.arrays o.progress o.input (option_map decimal o.steps) (option_map decimal o.nest)))))
+    subst (λ n. P n o.w0 o.workers o.choices o.trace o.picture) (sym for.spread.tasks)
+    (subst (λ n. P None n o.workers o.choices o.trace o.picture) (sym for.spread.w0)
+    (subst (λ n. P None None n o.choices o.trace o.picture) (sym for.spread.workers)
+    (subst (λ c. P None None None c o.trace o.picture) (sym for.choices)
+    (subst (λ f. P None None None None f o.picture) (sym for.trace.trace)
+    (subst (λ f. P None None None None None f) (sym for.trace.picture)
+    (read_serial_words o.arrays o.progress o.input (option_map decimal o.steps) (option_map decimal o.nest)))))))
 
 -- of a run by choices
 explore_options : (o : Options) → AreForExplore o → read_choosing (choosing_words_of (texts_by o)) ≡ Some (texts_by o)
 explore_options o for =
-    let P : (steps nest tasks w0 workers : Option ℕ) → Bool → Type 0 = λ steps nest tasks w0 workers p.
+    let P : (steps nest tasks w0 workers : Option ℕ) → (trace picture : Option (List ℕ)) → Bool → Type 0 =
+    λ steps nest tasks w0 workers trace picture p.
     let t : Texts = record (texts_by o) {
       steps = option_map decimal steps;
       nest = option_map decimal nest;
       tasks = option_map decimal tasks;
       w0 = option_map decimal w0;
       workers = option_map decimal workers;
+      trace = trace;
+      picture = picture;
       progress = p;
     } in read_choosing (choosing_words_of t) ≡ Some t in
-    subst (λ n. P n o.nest o.tasks o.w0 o.workers o.progress) (sym for.budget.steps)
-    (subst (λ n. P None n o.tasks o.w0 o.workers o.progress) (sym for.budget.nest)
-    (subst (λ n. P None None n o.w0 o.workers o.progress) (sym for.spread.tasks)
-    (subst (λ n. P None None None n o.workers o.progress) (sym for.spread.w0)
-    (subst (λ n. P None None None None n o.progress) (sym for.spread.workers)
-    (subst (λ p. P None None None None None p) (sym for.progress)
-    (read_choosing_words o.arrays o.input o.choices))))))
+    subst (λ n. P n o.nest o.tasks o.w0 o.workers o.trace o.picture o.progress) (sym for.budget.steps)
+    (subst (λ n. P None n o.tasks o.w0 o.workers o.trace o.picture o.progress) (sym for.budget.nest)
+    (subst (λ n. P None None n o.w0 o.workers o.trace o.picture o.progress) (sym for.spread.tasks)
+    (subst (λ n. P None None None n o.workers o.trace o.picture o.progress) (sym for.spread.w0)
+    (subst (λ n. P None None None None n o.trace o.picture o.progress) (sym for.spread.workers)
+    (subst (λ f. P None None None None None f o.picture o.progress) (sym for.trace.trace)
+    (subst (λ f. P None None None None None None f o.progress) (sym for.trace.picture)
+    (subst (λ p. P None None None None None None None p) (sym for.progress)
+    (read_choosing_words o.arrays o.input o.choices))))))))
+
+-- how a trace is shown
+read_shown : (s : Showing) → read_showing (showing_words s) ≡ Some (command_for s, picture_of s)
+read_shown AsTable = refl
+read_shown ByNumbers = refl
+read_shown (AsPicture out) = refl
+read_shown (ForViewer out) = refl
+
+shown_without_input : (s : Showing) → Lacks (codes "--input") (showing_words s)
+shown_without_input AsTable = refl
+shown_without_input ByNumbers = refl
+shown_without_input (AsPicture out) = refl
+shown_without_input (ForViewer out) = refl
+
+-- a trace that is looked at
+read_viewing : (file : List ℕ) (v : Viewing) → IsTrue (is_file_name file)
+    → read_view file (viewing_words v) ≡ Some (line (command_for v.shown) file (texts_by (viewing_options v)))
+read_viewing file v named =
+    goes (codes "--input") (valued (codes "--input") v.input (showing_words v.shown)) v.input (showing_words v.shown)
+    (λ input words. shown_if file v.trace input (read_showing words))
+    (takes (codes "--input") v.input (showing_words v.shown) refl (shown_without_input v.shown))
+    ∙ ap (shown_if file v.trace v.input) (read_shown v.shown)
+    ∙ read_with (command_for v.shown) file (texts_by (viewing_options v)) _ named refl
 
 read_named : (command : Command) (file : List ℕ) → IsTrue (is_file_name file)
     → read_file command file ≡ Some (bare command file)
@@ -392,26 +453,23 @@ pub record IsLineOf (words : List (List ℕ)) (a : Asked) : Type 0 where
   pub is_read : read words ≡ Some (line command file (texts_by options))
   pub asked : a ≡ optioned command file options
 
-abbrev no_options : Options
-no_options = record {
-  input = None;
-  steps = None;
-  nest = None;
-  tasks = None;
-  w0 = None;
-  workers = None;
-  choices = None;
-  arrays = false;
-  progress = false;
-}
-
 bare_line : (words : List (List ℕ)) (a : Asked) (command : Command) (file : List ℕ) → read words ≡ Some (bare command file)
     → a ≡ plain command file → IsLineOf words a
 bare_line words a command file is_read asked = record {
   command = command;
   file = file;
   options = no_options;
-  right = record { input = tt; steps = tt; nest = tt; tasks = tt; w0 = tt; workers = tt; choices = tt };
+  right = record {
+    input = tt;
+    steps = tt;
+    nest = tt;
+    tasks = tt;
+    w0 = tt;
+    workers = tt;
+    choices = tt;
+    trace = tt;
+    picture = tt;
+  };
   is_read = is_read;
   asked = asked;
 }
@@ -440,6 +498,14 @@ asks_line words a (to_explore file o named for is asked) = record {
   options = o;
   right = for.right;
   is_read = ap read is ∙ read_with Explore file (texts_by o) _ named (explore_options o for);
+  asked = asked;
+}
+asks_line words a (to_view file v named right is asked) = record {
+  command = command_for v.shown;
+  file = file;
+  options = viewing_options v;
+  right = right;
+  is_read = ap read is ∙ read_viewing file v named;
   asked = asked;
 }
 asks_line words a (to_check file named is asked) = bare_line words a Check file (ap read is ∙ read_named Check file named) asked
@@ -520,6 +586,8 @@ not_plainly words a (to_run file o named for is asked) explain =
 not_plainly words a (to_run_on_one_thread file o named for is asked) explain =
     file_is_no_explain file named (sym (ap has_explain is) ∙ explain)
 not_plainly words a (to_explore file o named for is asked) explain =
+    file_is_no_explain file named (sym (ap has_explain is) ∙ explain)
+not_plainly words a (to_view file v named right is asked) explain =
     file_is_no_explain file named (sym (ap has_explain is) ∙ explain)
 not_plainly words a (to_check file named is asked) explain = file_is_no_explain file named (sym (ap has_explain is) ∙ explain)
 not_plainly words a (to_list file named is asked) explain = false_is_true (sym (ap has_explain is) ∙ explain)

@@ -1,11 +1,13 @@
 -- How the words of a command line are read that name a command, a file and options behind it.
 use Rattle.std.specs.Prelude.{ℕ, ◌&&◌, List, [], ◌∷◌, Bool, true, false, codes, if◌then◌else◌}
 use Rattle.std.specs.Prelude.{Option, Some, None, option_map}
+use Rattle.std.specs.Borrow.{Bor}
 use Rattle.std.specs.Str.{bytes_eq}
 use Rattle.command_line.specs.Requests.{Texts, is_file_name}
 use Rattle.command_line.specs.declared.request.Command.{Command}
 use Rattle.command_line.specs.declared.request.Command.TheVariants.{Run, Serial, Check, Listing, Pairs, Explore}
 use Rattle.command_line.specs.declared.request.Command.TheVariants.{Labels, Places, Format, CheckFormat}
+use Rattle.command_line.specs.declared.request.Command.TheVariants.{View, Summary, Draw, Chrome}
 use Rattle.command_line.specs.declared.plain.Line.{Line as rLine}
 use Rattle.command_line.specs.declared.plain.Texts.{Texts as rTexts}
 
@@ -26,12 +28,18 @@ texts_of t = record {
   choices = option_map (λ s. s.now) t.choices;
   choices_from = option_map (λ s. s.now) t.choices_from;
   random = option_map (λ s. s.now) t.random;
+  trace = option_map (λ s. s.now) t.trace;
+  picture = option_map (λ s. s.now) t.picture;
   arrays = t.arrays;
   progress = t.progress;
 }
 
 abbrev pub line_of : rLine → Line
 line_of l = record { command = l.command; file = l.file.now; texts = texts_of l.texts }
+
+-- how a trace is shown, and the file in which it is drawn
+abbrev pub shown_of : Command × Option (Bor (List ℕ)) → Command × Option (List ℕ)
+shown_of shown = (shown.0, option_map (λ name. name.now) shown.1)
 
 -- that there is no option
 abbrev pub no_texts : Texts
@@ -45,6 +53,8 @@ no_texts = record {
   choices = None;
   choices_from = None;
   random = None;
+  trace = None;
+  picture = None;
   arrays = false;
   progress = false;
 }
@@ -80,7 +90,8 @@ read_texts words =
     let tasks = taken (codes "--tasks") nest.1 in
     let w0 = taken (codes "--w0") tasks.1 in
     let workers = taken (codes "--workers") w0.1 in
-    let arrays = flag_taken (codes "--arrays") workers.1 in
+    let trace = taken (codes "--trace") workers.1 in
+    let arrays = flag_taken (codes "--arrays") trace.1 in
     read_whole
     (record no_texts {
       input = input.0;
@@ -89,6 +100,7 @@ read_texts words =
       tasks = tasks.0;
       w0 = w0.0;
       workers = workers.0;
+      trace = trace.0;
       arrays = arrays.0;
     }) arrays.1
 
@@ -126,6 +138,15 @@ read_choosing words =
       arrays = arrays.0;
     }) arrays.1
 
+-- the same, as words say it
+abbrev pub read_showing : List (List ℕ) → Option (Command × Option (List ℕ))
+read_showing [] = Some (View, None)
+read_showing (one ∷ []) = if bytes_eq one (codes "--summary") then Some (Summary, None) else None
+read_showing (option ∷ out ∷ []) =
+    if bytes_eq option (codes "--svg") then Some (Draw, Some out) else
+    (if bytes_eq option (codes "--chrome") then Some (Chrome, Some out) else None)
+read_showing (option ∷ out ∷ third ∷ behind) = None
+
 -- the words behind a command that takes options: a file, and the texts that its options are read as
 abbrev pub read_optioned : Command → (file : List ℕ) → (read : Option Texts) → Option Line
 read_optioned command file read =
@@ -159,6 +180,25 @@ abbrev pub read_alone : Command → (file : List ℕ) → (behind : List (List �
 read_alone command file [] = read_file command file
 read_alone command file (other ∷ behind) = None
 
+-- the words behind the trace that is looked at, shown so
+abbrev pub shown_line : (file trace : List ℕ) → (input : Option (List ℕ)) → Command × Option (List ℕ)
+    → Option Line
+shown_line file trace input shown =
+    read_optioned shown.0 file
+    (Some (record no_texts { input = input; trace = Some trace; picture = shown.1 }))
+
+abbrev pub shown_if : (file trace : List ℕ) → (input : Option (List ℕ))
+    → Option (Command × Option (List ℕ)) → Option Line
+shown_if file trace input None = None
+shown_if file trace input (Some shown) = shown_line file trace input shown
+
+-- the words behind the file of a program whose trace is looked at
+abbrev pub read_view : (file : List ℕ) → (behind : List (List ℕ)) → Option Line
+read_view file [] = None
+read_view file (trace ∷ options) =
+    let input = taken (codes "--input") options in
+    shown_if file trace input.0 (read_showing input.1)
+
 -- the words behind a command
 abbrev pub read_behind : (command file : List ℕ) → (behind : List (List ℕ)) → Option Line
 read_behind command file behind =
@@ -168,7 +208,8 @@ read_behind command file behind =
     (if bytes_eq command (codes "list") then read_flaggable Labels (codes "--lines") Places file behind else
     (if bytes_eq command (codes "mhp") then read_alone Pairs file behind else
     (if bytes_eq command (codes "fmt") then read_flaggable Format (codes "--check") CheckFormat file behind else
-    (if bytes_eq command (codes "explore") then read_optioned Explore file (read_choosing behind) else None))))))
+    (if bytes_eq command (codes "explore") then read_optioned Explore file (read_choosing behind) else
+    (if bytes_eq command (codes "view") then read_view file behind else None)))))))
 
 -- the words of a command line
 abbrev pub read : List (List ℕ) → Option Line

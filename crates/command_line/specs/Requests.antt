@@ -8,6 +8,7 @@ use Rattle.types.specs.Translation.{budget as budget_of}
 use Rattle.command_line.specs.declared.request.Command.{Command}
 use Rattle.command_line.specs.declared.request.Command.TheVariants.{Run, Serial, Check, Listing, Pairs, Explore}
 use Rattle.command_line.specs.declared.request.Command.TheVariants.{Labels, Places, Format, CheckFormat}
+use Rattle.command_line.specs.declared.request.Command.TheVariants.{View, Summary, Draw, Chrome}
 use Rattle.command_line.specs.declared.request.Choosing.{Choosing as rChoosing}
 use Rattle.command_line.specs.declared.request.Choosing.TheVariants.{Listed as rListed, InFile as rInFile}
 use Rattle.command_line.specs.declared.request.Choosing.TheVariants.{Random as rRandom}
@@ -38,13 +39,16 @@ abbrev pub spread : rSpread → Spread
 spread s = record { tasks = s.tasks; w0 = s.w0; workers = s.workers }
 
 -- how a program is to be run: the file of what its arrays hold at first, where one is named; its
--- budget; how it goes on worker threads; how its choices are given, where they are; whether the arrays
--- are shown; whether it is told how far the run has come
+-- budget; how it goes on worker threads; how its choices are given, where they are; the file of its
+-- trace, that is written or looked at, and that of a picture of it, where they are named; whether the
+-- arrays are shown; whether it is told how far the run has come
 pub record Settings : Type 0 where
   pub input : Option (List ℕ)
   pub budget : Budget
   pub spread : Spread
   pub choices : Option Choosing
+  pub trace : Option (List ℕ)
+  pub picture : Option (List ℕ)
   pub arrays : Bool
   pub progress : Bool
 
@@ -61,6 +65,8 @@ settings s = record {
   budget = budget_of s.budget;
   spread = spread s.spread;
   choices = option_map choosing s.choices;
+  trace = option_map (λ name. name.now) s.trace;
+  picture = option_map (λ name. name.now) s.picture;
   arrays = s.arrays;
   progress = s.progress;
 }
@@ -89,6 +95,8 @@ usual = record {
   budget = usual_budget;
   spread = usual_spread;
   choices = None;
+  trace = None;
+  picture = None;
   arrays = false;
   progress = false;
 }
@@ -101,7 +109,7 @@ is_file_name [] = true
 is_file_name (c ∷ []) = true
 is_file_name (c ∷ d ∷ rest) = not (nat_eq c 45)
 
--- what may stand behind the file of a run
+-- what may stand behind the file of a program: the options of a run, and the file of its trace
 pub record Options : Type 0 where
   pub input : Option (List ℕ)
   pub steps : Option ℕ
@@ -110,8 +118,26 @@ pub record Options : Type 0 where
   pub w0 : Option ℕ
   pub workers : Option ℕ
   pub choices : Option Choosing
+  pub trace : Option (List ℕ)
+  pub picture : Option (List ℕ)
   pub arrays : Bool
   pub progress : Bool
+
+-- none of them
+abbrev pub no_options : Options
+no_options = record {
+  input = None;
+  steps = None;
+  nest = None;
+  tasks = None;
+  w0 = None;
+  workers = None;
+  choices = None;
+  trace = None;
+  picture = None;
+  arrays = false;
+  progress = false;
+}
 
 -- a file of choices has a file's name, and a seed is a number of 64 bits
 abbrev pub IsRightChoosing : Choosing → Type 0
@@ -119,15 +145,21 @@ IsRightChoosing (Listed text) = Unit {0}
 IsRightChoosing (InFile name) = IsTrue (is_file_name name)
 IsRightChoosing (Random seed) = seed < 2 ^ 64
 
--- an input file has a file's name, and numbers are in their ranges
+-- a file that an option names has a file's name
+abbrev pub IsRightFile : Option (List ℕ) → Type 0
+IsRightFile file = IfSome file (λ name. IsTrue (is_file_name name))
+
+-- files have files' names, and numbers are in their ranges
 pub record AreRight (o : Options) : Type 0 where
-  pub input : IfSome o.input (λ name. IsTrue (is_file_name name))
+  pub input : IsRightFile o.input
   pub steps : IfSome o.steps (λ n. (1 ≤ n) × (n ≤ 1000000000))
   pub nest : IfSome o.nest (λ n. n ≤ 1000)
   pub tasks : IfSome o.tasks (λ n. (1 ≤ n) × (n ≤ 1048576))
   pub w0 : IfSome o.w0 (λ n. (1 ≤ n) × (n ≤ 4294967296))
   pub workers : IfSome o.workers (λ n. (1 ≤ n) × (n ≤ 64))
   pub choices : IfSome o.choices IsRightChoosing
+  pub trace : IsRightFile o.trace
+  pub picture : IsRightFile o.picture
 
 -- the texts that stand behind options
 pub record Texts : Type 0 where
@@ -140,6 +172,8 @@ pub record Texts : Type 0 where
   pub choices : Option (List ℕ)
   pub choices_from : Option (List ℕ)
   pub random : Option (List ℕ)
+  pub trace : Option (List ℕ)
+  pub picture : Option (List ℕ)
   pub arrays : Bool
   pub progress : Bool
 
@@ -174,6 +208,8 @@ texts_by o = record {
   choices = list_of o.choices;
   choices_from = file_of o.choices;
   random = option_map decimal (seed_of o.choices);
+  trace = o.trace;
+  picture = o.picture;
   arrays = o.arrays;
   progress = o.progress;
 }
@@ -189,13 +225,13 @@ flagged option true behind = option ∷ behind
 flagged option false behind = behind
 
 -- the words of options of a run as tasks, in this order: `--input FILE --steps N --nest N --tasks N
--- --w0 N --workers N --arrays`
+-- --w0 N --workers N --trace FILE --arrays`
 abbrev pub words_of : Texts → List (List ℕ)
 words_of t =
     valued (codes "--input") t.input (valued (codes "--steps") t.steps
     (valued (codes "--nest") t.nest (valued (codes "--tasks") t.tasks
     (valued (codes "--w0") t.w0 (valued (codes "--workers") t.workers
-    (flagged (codes "--arrays") t.arrays []))))))
+    (valued (codes "--trace") t.trace (flagged (codes "--arrays") t.arrays [])))))))
 
 -- those of a run on one thread, in this order: `--input FILE --steps N --nest N --arrays --progress`
 abbrev pub serial_words_of : Texts → List (List ℕ)
@@ -223,23 +259,31 @@ pub record HasNoSpread (o : Options) : Type 0 where
   pub w0 : o.w0 ≡ None
   pub workers : o.workers ≡ None
 
--- options of a run as tasks: it isn't by choices, and nobody looks at it
+-- no trace of it is written or looked at
+pub record HasNoTrace (o : Options) : Type 0 where
+  pub trace : o.trace ≡ None
+  pub picture : o.picture ≡ None
+
+-- options of a run as tasks: it isn't by choices, nobody looks at it, and no picture is drawn of it
 pub record AreForRun (o : Options) : Type 0 where
   pub right : AreRight o
   pub choices : o.choices ≡ None
+  pub picture : o.picture ≡ None
   pub progress : o.progress ≡ false
 
--- of a run on one thread: it goes on no worker threads, and not by choices
+-- of a run on one thread: it goes on no worker threads, not by choices, and has no trace
 pub record AreForSerial (o : Options) : Type 0 where
   pub right : AreRight o
   pub spread : HasNoSpread o
   pub choices : o.choices ≡ None
+  pub trace : HasNoTrace o
 
--- of a run by choices: it has no budget, goes on no worker threads, and nobody looks at it
+-- of a run by choices: it has no budget, goes on no worker threads, has no trace, and nobody looks at it
 pub record AreForExplore (o : Options) : Type 0 where
   pub right : AreRight o
   pub budget : HasNoBudget o
   pub spread : HasNoSpread o
+  pub trace : HasNoTrace o
   pub progress : o.progress ≡ false
 
 -- what they set; what isn't named is as usual
@@ -253,9 +297,57 @@ settings_by o = record {
     workers = unwrap_or o.workers 4;
   };
   choices = o.choices;
+  trace = o.trace;
+  picture = o.picture;
   arrays = o.arrays;
   progress = o.progress;
 }
+
+-- ---- a trace that is looked at
+
+-- how it is shown: as a table, by its numbers, as a picture in a file, or in a file for a trace viewer
+pub data Showing : Type 0 where
+  AsTable : Showing
+  ByNumbers : Showing
+  AsPicture : (out : List ℕ) → Showing
+  ForViewer : (out : List ℕ) → Showing
+
+-- the words that ask for it, at most one option
+abbrev pub showing_words : Showing → List (List ℕ)
+showing_words AsTable = []
+showing_words ByNumbers = codes "--summary" ∷ []
+showing_words (AsPicture out) = codes "--svg" ∷ out ∷ []
+showing_words (ForViewer out) = codes "--chrome" ∷ out ∷ []
+
+abbrev pub command_for : Showing → Command
+command_for AsTable = View
+command_for ByNumbers = Summary
+command_for (AsPicture out) = Draw
+command_for (ForViewer out) = Chrome
+
+-- the file in which it is drawn
+abbrev pub picture_of : Showing → Option (List ℕ)
+picture_of AsTable = None
+picture_of ByNumbers = None
+picture_of (AsPicture out) = Some out
+picture_of (ForViewer out) = Some out
+
+-- the file of the trace, that of what the arrays held at first, where one is named, and how it is shown
+pub record Viewing : Type 0 where
+  pub trace : List ℕ
+  pub input : Option (List ℕ)
+  pub shown : Showing
+
+-- the words behind the file of its program: `TRACE --input FILE`, and how it is shown
+abbrev pub viewing_words : Viewing → List (List ℕ)
+viewing_words v = v.trace ∷ valued (codes "--input") v.input (showing_words v.shown)
+
+-- what they set
+abbrev pub viewing_options : Viewing → Options
+viewing_options v =
+    record no_options { input = v.input; trace = Some v.trace; picture = picture_of v.shown }
+
+-- ---- what is asked
 
 -- a command with a file alone
 abbrev pub plain : Command → (file : List ℕ) → Asked
@@ -301,6 +393,9 @@ pub data AsksPlainly (words : List (List ℕ)) (a : Asked) : Type 0 where
   to_explore : (file : List ℕ) (o : Options) → IsTrue (is_file_name file) → AreForExplore o
       → words ≡ codes "explore" ∷ file ∷ choosing_words_of (texts_by o) → a ≡ optioned Explore file o
       → AsksPlainly words a
+  to_view : (file : List ℕ) (v : Viewing) → IsTrue (is_file_name file) → AreRight (viewing_options v)
+      → words ≡ codes "view" ∷ file ∷ viewing_words v
+      → a ≡ optioned (command_for v.shown) file (viewing_options v) → AsksPlainly words a
 
 -- the words ask this; where `--explain` stands behind the command, a refusal is explained
 pub data Asks (words : List (List ℕ)) (a : Asked) : Type 0 where

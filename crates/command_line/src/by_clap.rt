@@ -43,7 +43,21 @@ fn request_asked<'w>(
         Some(("fmt", given)) => request(alloc, Command::Format, given),
         Some(("mhp", given)) => request(alloc, Command::Pairs, given),
         Some(("explore", given)) => request(alloc, Command::Explore, given),
+        Some(("view", given)) => request(alloc, viewing(given), given),
         _ => Err(commands(alloc)?.error(ErrorKind::MissingSubcommand, "no command")?),
+    }
+}
+
+/// How `view` shows a trace; `clap` has seen that at most one option says it.
+fn viewing(given: &ArgMatches<'_>) -> Command {
+    if given.get_flag("summary") {
+        Command::Summary
+    } else if given.get_str("svg").is_some() {
+        Command::Draw
+    } else if given.get_str("chrome").is_some() {
+        Command::Chrome
+    } else {
+        Command::View
     }
 }
 
@@ -61,6 +75,8 @@ fn request<'w>(
             budget: budget(alloc, given)?,
             spread: spread(alloc, given)?,
             choices: choosing(given),
+            trace: trace(given),
+            picture: picture(given),
             arrays: given.get_flag("arrays"),
             progress: given.get_flag("progress"),
         },
@@ -77,6 +93,22 @@ fn choosing<'w>(given: &ArgMatches<'w>) -> Option<Choosing<'w>> {
         return Some(Choosing::InFile(file));
     }
     given.get_one("random").map(|seed| Choosing::Random(seed))
+}
+
+/// The file of the trace: that of an option of `run`, or the second one of `view`.
+fn trace<'w>(given: &ArgMatches<'w>) -> Option<&'w str> {
+    match given.get_str("trace") {
+        Some(file) => Some(file),
+        None => given.get_str("TRACE"),
+    }
+}
+
+/// The file of a picture; `clap` has seen that at most one option names it.
+fn picture<'w>(given: &ArgMatches<'w>) -> Option<&'w str> {
+    match given.get_str("svg") {
+        Some(file) => Some(file),
+        None => given.get_str("chrome"),
+    }
 }
 
 /// The budget that is given; `clap` has seen that its numbers are in their ranges.

@@ -35,6 +35,8 @@ enum Takes {
     Words,
     /// An option without a value.
     Nothing,
+    /// The same, with which these options don't go.
+    NothingBut(&'static [&'static str]),
     /// An option with a text, of which the help says what it is.
     Text(&'static str),
     /// The same, with which these options don't go.
@@ -125,6 +127,36 @@ const RANDOM: Entry = Entry {
     takes: Takes::Seed,
 };
 
+const TRACED: Entry = Entry {
+    name: "trace",
+    help: "The file that the run's trace is written to, some 40 bytes for each step of each task",
+    takes: Takes::Text("FILE"),
+};
+
+const TRACE: Entry = Entry {
+    name: "TRACE",
+    help: "The file of the trace, which `afx run --trace` wrote; - is the standard input",
+    takes: Takes::File,
+};
+
+const SUMMARY: Entry = Entry {
+    name: "summary",
+    help: "Writes its numbers in place of the table: tasks, work, span, parallelism, steals and others",
+    takes: Takes::NothingBut(&["svg", "chrome"]),
+};
+
+const SVG: Entry = Entry {
+    name: "svg",
+    help: "Draws it into this file in place of the table: a lane for each worker, from event to event",
+    takes: Takes::TextBut("OUT", &["chrome"]),
+};
+
+const CHROME: Entry = Entry {
+    name: "chrome",
+    help: "Writes it into this file in place of the table, for Perfetto or the tracing page of chrome",
+    takes: Takes::Text("OUT"),
+};
+
 const ARRAYS: Entry = Entry {
     name: "arrays",
     help: "Shows the arrays behind the outcome",
@@ -181,6 +213,13 @@ const EXPLORE_EXAMPLE: &str =
 
 Example: afx explore examples/two_arrays.afx --choices 0,0,1";
 
+const VIEW_EXAMPLE: &str =
+    "The trace tells the budget and the workers of the run; program and input are those that it was of. It is refused where
+they can't have led to its events.
+
+Example: afx run examples/two_arrays.afx --trace two_arrays.trace && afx view examples/two_arrays.afx two_arrays.trace
+Example: afx view examples/two_arrays.afx two_arrays.trace --svg two_arrays.svg";
+
 const EXPLAIN_EXAMPLE: &str = "Example: afx explain Y5";
 
 const COMPLETIONS_EXAMPLE: &str = "Example: source <(afx completions bash)";
@@ -192,7 +231,7 @@ const RUN: Row = Row {
     about: "Runs a program as tasks",
     example: RUN_EXAMPLE,
     entries: &[
-        FILE, INPUT, STEPS, NEST, TASKS, W0, WORKERS, ARRAYS, EXPLAIN,
+        FILE, INPUT, STEPS, NEST, TASKS, W0, WORKERS, TRACED, ARRAYS, EXPLAIN,
     ],
 };
 
@@ -238,6 +277,13 @@ const EXPLORED: Row = Row {
     entries: &[FILE, INPUT, CHOICES, CHOICES_FROM, RANDOM, ARRAYS, EXPLAIN],
 };
 
+const VIEWED: Row = Row {
+    name: "view",
+    about: "Shows the trace of a run: as a table, by its numbers, or as a picture",
+    example: VIEW_EXAMPLE,
+    entries: &[FILE, TRACE, INPUT, SUMMARY, SVG, CHROME, EXPLAIN],
+};
+
 const EXPLAINED: Row = Row {
     name: "explain",
     about: "Tells what a message means, or how a program is usually said",
@@ -260,8 +306,8 @@ const MANUAL: Row = Row {
 };
 
 /// All commands, in the order in which help tells them.
-const ROWS: [Row; 10] = [
-    RUN, SERIAL, CHECKED, LISTED, FORMATTED, PAIRED, EXPLORED, EXPLAINED, COMPLETED, MANUAL,
+const ROWS: [Row; 11] = [
+    RUN, SERIAL, CHECKED, LISTED, FORMATTED, PAIRED, EXPLORED, VIEWED, EXPLAINED, COMPLETED, MANUAL,
 ];
 
 /// What stands behind the help of the program.
@@ -270,12 +316,12 @@ const STATUSES: &str = "No word is `run -`: the program is read from the standar
 Example: afx serial examples/doubling.afx --input examples/doubling.json --arrays
 
 Exit status:
-  0  the run ended; the program is accepted; a listing; pairs of labels; a text laid out; help
-  1  refused: the command line, a file, the text, a rule, a race, the input, the choices, the output; not laid out
+  0  the run ended; the program is accepted; a listing; pairs of labels; a text laid out; a trace shown; help
+  1  refused: the command line, a file, the text, a rule, a race, the input, choices, the trace, the output; not laid out
   2  the run ended with faults
   3  the run was stopped over its budget; it has not ended by its choices
   4  no memory; more tasks than the run may have
-  5  the result of a task was lost";
+  5  the result of a task was lost; the trace of a run isn't its own";
 
 /// What the manual page says behind the commands.
 pub const CLOSING: Closing<'static> = Closing {
@@ -288,6 +334,7 @@ pub const CLOSING: Closing<'static> = Closing {
         FORMAT_EXAMPLE,
         PAIRS_EXAMPLE,
         EXPLORE_EXAMPLE,
+        VIEW_EXAMPLE,
         EXPLAIN_EXAMPLE,
         COMPLETIONS_EXAMPLE,
         MAN_EXAMPLE,
@@ -330,6 +377,10 @@ fn argument<'w>(alloc: Global, entry: Entry) -> Result<Arg<'w>, AllocError> {
         Takes::Shell => argument.required(true).value_parser(Shell::NAMES),
         Takes::Words => argument.num_args(0..),
         Takes::Nothing => argument.long(entry.name).action(ArgAction::SetTrue),
+        Takes::NothingBut(others) => {
+            let argument = argument.long(entry.name).action(ArgAction::SetTrue);
+            argument.conflicts_with_all(others)?
+        }
         Takes::Text(value) => argument.long(entry.name).value_name(value),
         Takes::TextBut(value, others) => {
             let argument = argument.long(entry.name).value_name(value);

@@ -7,7 +7,7 @@ ghost use Rattle.command_line.specs.Reading.{bare as bare_line, flag_taken, line
 ghost use Rattle.command_line.specs.Reading.{read_alone, read_behind, read_choosing};
 ghost use Rattle.command_line.specs.Reading.{no_texts, read_file, read_flaggable, read_flagged};
 ghost use Rattle.command_line.specs.Reading.{read_optioned, read_serial_texts, read_texts, read_whole};
-ghost use Rattle.command_line.specs.Reading.{taken, texts_of};
+ghost use Rattle.command_line.specs.Reading.{read_showing, read_view, shown_of, taken, texts_of};
 ghost use Rattle.command_line.specs.Requests.{is_file_name as names_file};
 
 use crate::request::Command;
@@ -32,6 +32,8 @@ pub struct Texts<'w> {
     pub choices: Option<&'w str>,
     pub choices_from: Option<&'w str>,
     pub random: Option<&'w str>,
+    pub trace: Option<&'w str>,
+    pub picture: Option<&'w str>,
     pub arrays: bool,
     pub progress: bool,
 }
@@ -51,6 +53,8 @@ impl<'w> Texts<'w> {
             choices: None,
             choices_from: None,
             random: None,
+            trace: None,
+            picture: None,
             arrays: false,
             progress: false,
         }
@@ -116,6 +120,8 @@ fn line_behind<'w>(command: &str, file: &'w str, behind: &'w [String]) -> Option
         )
     } else if command == "explore" {
         optioned_line(Command::Explore, file, choosing_texts_in(behind))
+    } else if command == "view" {
+        view_line(file, behind)
     } else {
         None
     }
@@ -138,8 +144,56 @@ fn optioned_line<'w>(command: Command, file: &'w str, texts: Option<Texts<'w>>) 
     }
 }
 
-/// The texts behind options: `--input FILE --steps N --nest N --tasks N --w0 N --workers N --arrays`,
-/// each of which may be left out.
+/// A line of `view`: behind the file of the program that of the trace, `--input FILE`, which may be left
+/// out, and how it is shown.
+fn view_line<'w>(file: &'w str, behind: &'w [String]) -> Option<Line<'w>>
+    ensures { option_map line_of result ≡ read_view file.now (map string_bytes behind.now) }
+{
+    match behind {
+        [] => None,
+        [trace, options @ ..] => {
+            let (input, options) = take("--input", options);
+            let (command, picture) = showing(options)?;
+            let texts = Texts {
+                input,
+                trace: Some(trace.as_str()),
+                picture,
+                ..Texts::none()
+            };
+            optioned_line(command, file, Some(texts))
+        }
+    }
+}
+
+/// How a trace is shown, and the file in which it is drawn: by no word, `--summary`, `--svg OUT` or
+/// `--chrome OUT`.
+fn showing<'w>(words: &'w [String]) -> Option<(Command, Option<&'w str>)>
+    ensures { option_map shown_of result ≡ read_showing (map string_bytes words.now) }
+{
+    match words {
+        [] => Some((Command::View, None)),
+        [one] => {
+            if one.as_str() == "--summary" {
+                Some((Command::Summary, None))
+            } else {
+                None
+            }
+        }
+        [option, out] => {
+            if option.as_str() == "--svg" {
+                Some((Command::Draw, Some(out.as_str())))
+            } else if option.as_str() == "--chrome" {
+                Some((Command::Chrome, Some(out.as_str())))
+            } else {
+                None
+            }
+        }
+        [_, _, _, ..] => None,
+    }
+}
+
+/// The texts behind options: `--input FILE --steps N --nest N --tasks N --w0 N --workers N --trace FILE
+/// --arrays`, each of which may be left out.
 fn texts_in<'w>(words: &'w [String]) -> Option<Texts<'w>>
     ensures { option_map texts_of result ≡ read_texts (map string_bytes words.now) }
 {
@@ -149,6 +203,7 @@ fn texts_in<'w>(words: &'w [String]) -> Option<Texts<'w>>
     let (tasks, words) = take("--tasks", words);
     let (w0, words) = take("--w0", words);
     let (workers, words) = take("--workers", words);
+    let (trace, words) = take("--trace", words);
     let (arrays, words) = take_flag("--arrays", words);
     let texts = Texts {
         input,
@@ -157,6 +212,7 @@ fn texts_in<'w>(words: &'w [String]) -> Option<Texts<'w>>
         tasks,
         w0,
         workers,
+        trace,
         arrays,
         ..Texts::none()
     };

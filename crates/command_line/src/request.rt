@@ -27,6 +27,14 @@ pub enum Command {
     Format,
     /// `fmt --check`: tell whether its text is so laid out.
     CheckFormat,
+    /// `view`: write the events of a trace as a table.
+    View,
+    /// `view --summary`: write the numbers of a trace.
+    Summary,
+    /// `view --svg OUT`: draw a trace, as a picture in a file.
+    Draw,
+    /// `view --chrome OUT`: write a trace into a file for a trace viewer.
+    Chrome,
 }
 
 /// How the leaves that step are chosen.
@@ -105,6 +113,11 @@ pub struct Settings<'w> {
     pub spread: Spread,
     /// `--choices LIST`, `--choices-from FILE` or `--random SEED`. Without any of them none steps.
     pub choices: Option<Choosing<'w>>,
+    /// `--trace FILE` of `run`: the file that the run's trace is written to. `TRACE` of `view`: the file that
+    /// holds it, which these words always name.
+    pub trace: Option<&'w str>,
+    /// `--svg OUT` or `--chrome OUT`: the file that the picture is written to.
+    pub picture: Option<&'w str>,
     /// `--arrays`: the arrays are shown behind the outcome.
     pub arrays: bool,
     /// `--progress`: how far a run on one thread has come is told while it runs.
@@ -123,6 +136,8 @@ impl<'w> Settings<'w> {
             budget: Budget::usual(),
             spread: Spread::usual(),
             choices: None,
+            trace: None,
+            picture: None,
             arrays: false,
             progress: false,
         }

@@ -25,11 +25,15 @@ pub fn settings_in<'w>(texts: Texts<'w>) -> Option<Settings<'w>>
     let budget = Budget::new(steps, nest)?;
     let spread = spread_in(texts)?;
     let choices = choosing_in(texts.choices, texts.choices_from, texts.random)?;
+    let trace = file_or_none(texts.trace)?;
+    let picture = file_or_none(texts.picture)?;
     Some(Settings {
         input,
         budget,
         spread,
         choices,
+        trace,
+        picture,
         arrays: texts.arrays,
         progress: texts.progress,
     })

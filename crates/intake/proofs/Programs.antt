@@ -1,9 +1,9 @@
 -- What the first bytes of a file say of all of it.
-use Rattle.std.proofs.Common.{◌≡◌, ◌⊎◌, inl, inr, ℕ, ◌<◌, ◌≤◌, List, length, take, sym, ap, ◌∙◌, subst, refl, arith}
+use Rattle.std.proofs.Common.{◌≡◌, inl, inr, ℕ, ◌<◌, ◌≤◌, List, length, take, sym, ap, ◌∙◌, subst, refl, arith}
 use Rattle.std.proofs.lemmas.Bool.{cases_lt}
 use Rattle.std.proofs.lemmas.List.{length-take-le, take_all}
 use Rattle.std.proofs.lemmas.Bool.Decides.{nat_tests}
-use Rattle.std.specs.Prelude.{Bool, true, if◌then◌else◌, nat_lt, Option, None, Some, Result, Ok, Err, option_map}
+use Rattle.std.specs.Prelude.{Bool, true, if◌then◌else◌, nat_lt, Option, None, Some, Ok, Err, option_map}
 use Rattle.intake.specs.Choices.{filed_within, nothing_read, read_of_file}
 use Rattle.intake.specs.Failures.{TellsNotUtf8, TellsUnread}
 use Rattle.intake.specs.Held.{Bytes, Held, HasNoProgramText, IsGiven, IsTooLong, TellsNoProgram, first}

@@ -7,10 +7,11 @@ use Rattle.types.specs.declared.input_error.InputError.TheVariants.{NotJson, Out
 use Rattle.types.specs.declared.path.Path.{Path}
 use Rattle.gather.specs.declared.error.GatherError.TheVariants.{Lost, Double, Stranger}
 use Rattle.gather.specs.declared.run_error.RunError.TheVariants.{OutOfMemory as MemoryInRun, Gather}
+use Rattle.trace_text.specs.declared.error.TraceError.TheVariants.{NotALine, NoMemory as MemoryInTrace}
 use Rattle.intake.specs.FailureStatus.{failure_status}
 use Rattle.intake.specs.declared.failure.Failure.TheVariants.{CannotRead, NotUtf8, Syntax, Types, Race, NoMemoryInCheck}
 use Rattle.intake.specs.declared.failure.Failure.TheVariants.{Input, Run, ChoicesNotUnderstood, NoLeaf, CannotWriteOutput, NoMemory}
-use Rattle.intake.specs.declared.failure.Failure.TheVariants.{NotLaidOut}
+use Rattle.intake.specs.declared.failure.Failure.TheVariants.{NotLaidOut, CannotWrite, Trace, Illegal, StrangeEvents}
 
 -- ---- want of memory, wherever it comes
 
@@ -32,7 +33,10 @@ no_memory_in_input = refl
 no_memory_in_run : failure_status (Run MemoryInRun) ≡ 4
 no_memory_in_run = refl
 
--- ---- results that make no whole
+no_memory_in_trace : failure_status (Trace MemoryInTrace) ≡ 4
+no_memory_in_trace = refl
+
+-- ---- results that make no whole, and events that aren't the run's own
 
 lost_result : (path : Path) → failure_status (Run (Gather (Lost path))) ≡ 5
 lost_result path = refl
@@ -43,10 +47,16 @@ second_result path = refl
 strange_result : (path : Path) → failure_status (Run (Gather (Stranger path))) ≡ 5
 strange_result path = refl
 
+strange_events : failure_status StrangeEvents ≡ 5
+strange_events = refl
+
 -- ---- refusals
 
 unread_file : (name : String Global) → failure_status (CannotRead name) ≡ 1
 unread_file name = refl
+
+unwritten_file : (name : String Global) → failure_status (CannotWrite name) ≡ 1
+unwritten_file name = refl
 
 no_text : (name : String Global) → failure_status (NotUtf8 name) ≡ 1
 no_text name = refl
@@ -65,6 +75,12 @@ race procedure first second = refl
 
 wrong_input : failure_status (Input NotJson) ≡ 1
 wrong_input = refl
+
+no_line_of_a_trace : failure_status (Trace (NotALine 14)) ≡ 1
+no_line_of_a_trace = refl
+
+illegal_event : failure_status (Illegal 7) ≡ 1
+illegal_event = refl
 
 no_choices : failure_status ChoicesNotUnderstood ≡ 1
 no_choices = refl

@@ -2,14 +2,15 @@
 use Rattle.std.specs.Prelude.{ℕ}
 use Rattle.intake.specs.declared.failure.Failure.{Failure}
 use Rattle.intake.specs.declared.failure.Failure.TheVariants.{Syntax, Types, NoMemoryInCheck}
-use Rattle.intake.specs.declared.failure.Failure.TheVariants.{Input, Run, NoMemory}
+use Rattle.intake.specs.declared.failure.Failure.TheVariants.{Input, Run, Trace, StrangeEvents, NoMemory}
 use Rattle.syntax.specs.declared.error.SyntaxError.TheVariants.{OutOfMemory as MemoryInSyntax}
 use Rattle.types.specs.declared.error.TypeError.TheVariants.{OutOfMemory as MemoryInTypes}
 use Rattle.types.specs.declared.input_error.InputError.TheVariants.{OutOfMemory as MemoryInInput}
 use Rattle.gather.specs.declared.run_error.RunError.TheVariants.{OutOfMemory as MemoryInRun, TooManyTasks, Gather, Late}
+use Rattle.trace_text.specs.declared.error.TraceError.TheVariants.{NoMemory as MemoryInTrace}
 
--- 4 for want of memory and for too many tasks, 5 for a result or a weight that is lost or strange,
--- else 1
+-- 4 for want of memory and for too many tasks, 5 for a result, a weight or events that are lost or
+-- strange, else 1
 abbrev pub failure_status : Failure → ℕ
 failure_status (Syntax MemoryInSyntax) = 4
 failure_status (Types MemoryInTypes) = 4
@@ -17,7 +18,9 @@ failure_status NoMemoryInCheck = 4
 failure_status (Input MemoryInInput) = 4
 failure_status (Run MemoryInRun) = 4
 failure_status (Run (TooManyTasks ticket)) = 4
+failure_status (Trace MemoryInTrace) = 4
 failure_status NoMemory = 4
 failure_status (Run (Gather e)) = 5
 failure_status (Run Late) = 5
+failure_status StrangeEvents = 5
 failure_status _ = 1

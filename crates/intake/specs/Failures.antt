@@ -7,7 +7,7 @@ use Rattle.types.specs.Code.{Procedure, Program}
 use Rattle.effects.specs.Accesses.{Access as SectionAccess}
 use Rattle.race_checker.specs.Races.{Race as ProgramRace}
 use Rattle.intake.specs.declared.failure.Failure.{Failure}
-use Rattle.intake.specs.declared.failure.Failure.TheVariants.{CannotRead, NotUtf8, Race}
+use Rattle.intake.specs.declared.failure.Failure.TheVariants.{CannotRead, CannotWrite, NotUtf8, Race}
 use Rattle.intake.specs.declared.failure.Failure.TheVariants.{NoMemoryInCheck, NoMemory}
 
 -- the file of this name can't be read, if there is memory to say so
@@ -15,6 +15,12 @@ abbrev pub TellsUnread : (name : List ℕ) → Failure → Type 0
 TellsUnread name (CannotRead told) = string_bytes told ≡ name
 TellsUnread name NoMemory = Unit {0}
 TellsUnread name _ = ⊥
+
+-- the file of this name can't be written, if there is memory to say so
+abbrev pub TellsUnwritten : (name : List ℕ) → Failure → Type 0
+TellsUnwritten name (CannotWrite told) = string_bytes told ≡ name
+TellsUnwritten name NoMemory = Unit {0}
+TellsUnwritten name _ = ⊥
 
 -- the file of this name isn't text, if there is memory to say so
 abbrev pub TellsNotUtf8 : (name : List ℕ) → Failure → Type 0

@@ -26,6 +26,10 @@ abbrev pub IsGiven : (known : Option Bytes) → Bytes → Type 0
 IsGiven None given = Unit {0}
 IsGiven (Some known) given = given ≢ Err NoMemoryInFile → given ≡ known
 
+-- what is known of files when the one of this name was written: the others give what they gave
+abbrev pub KeepsOthers : (name : List ℕ) → (old new : Held) → Type 0
+KeepsOthers name old new = (other : List ℕ) → other ≢ name → new other ≡ old other
+
 -- what is read of a file that is read no further than its first bytes, so many at most
 abbrev pub first : (most : ℕ) → Bytes → Bytes
 first most (Ok bytes) = Ok (take most bytes)

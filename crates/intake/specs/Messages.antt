@@ -7,10 +7,12 @@ use Rattle.types.specs.Codes.{error_text}
 use Rattle.types.specs.InputErrors.{error_text as input_text}
 use Rattle.texts.specs.Reasons.{escaped, race_text}
 use Rattle.gather.specs.RunErrors.{error_code as run_code}
+use Rattle.trace_text.specs.Reading.{trace_error_text}
 use Rattle.intake.specs.declared.failure.Failure.{Failure}
 use Rattle.intake.specs.declared.failure.Failure.TheVariants.{CannotRead, NotUtf8, Syntax, Types}
 use Rattle.intake.specs.declared.failure.Failure.TheVariants.{Race, NoMemoryInCheck, Input, Run}
-use Rattle.intake.specs.declared.failure.Failure.TheVariants.{CannotWriteOutput, NoMemory}
+use Rattle.intake.specs.declared.failure.Failure.TheVariants.{CannotWrite, CannotWriteOutput, NoMemory}
+use Rattle.intake.specs.declared.failure.Failure.TheVariants.{Trace, Illegal, StrangeEvents}
 use Rattle.intake.specs.declared.failure.Failure.TheVariants.{ChoicesNotUnderstood, NoLeaf, NotLaidOut}
 
 -- the line that tells a failure, without its line feed
@@ -24,8 +26,12 @@ failure_text (Race procedure first second) =
 failure_text NoMemoryInCheck = codes "C2"
 failure_text (Input e) = input_text e
 failure_text (Run e) = run_code e
+failure_text (Trace e) = trace_error_text e
+failure_text (Illegal n) = codes "illegal at event " ++ decimal n
+failure_text StrangeEvents = codes "E5"
 failure_text ChoicesNotUnderstood = codes "choices not understood"
 failure_text (NoLeaf n) = codes "no leaf at choice " ++ decimal n
 failure_text NotLaidOut = codes "not laid out"
+failure_text (CannotWrite name) = codes "cannot write " ++ escaped (string_bytes name)
 failure_text CannotWriteOutput = codes "cannot write output"
 failure_text NoMemory = codes "no memory"

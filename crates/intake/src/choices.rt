@@ -25,6 +25,7 @@ pub fn choices_in_file<F: FileSource>(
     ensures says { IfOk result
         (λ numbers. SaysChoices (F.held files.old) name.now (Some numbers.items)) }
     ensures why { IfErr result (TellsNoChoices (Some (InFile name.now)) (F.held files.old)) }
+    ensures keeps { F.held files.new ≡ F.held files.old }
 {
     match files.read_first(name, MOST_BYTES + 1) {
         Ok(bytes) => choices_filed(alloc, &bytes),

@@ -6,7 +6,7 @@ ghost use Rattle.intake.specs.FailureStatus.{failure_status};
 ghost use Rattle.types.specs.Translation.{procedure as plain_procedure, program};
 ghost use Rattle.effects.specs.Translation.{access as access_of};
 ghost use Rattle.race_checker.specs.Translation.{race as race_of};
-ghost use Rattle.intake.specs.Failures.{IsRaceOf, TellsNotUtf8, TellsRaceIn, TellsUnread};
+ghost use Rattle.intake.specs.Failures.{IsRaceOf, TellsNotUtf8, TellsRaceIn, TellsUnread, TellsUnwritten};
 ghost use Rattle.intake.specs.Failures.{access_text, kind_of, section_text, told_procedure};
 ghost use Rattle.intake.specs.Failures.{section_name as name_of_section};
 
@@ -17,6 +17,7 @@ use sections::id::SectionId;
 use std::alloc::{AllocError, Global};
 use syntax::error::SyntaxError;
 use thiserror::Error;
+use trace_text::error::TraceError;
 use types::code::{Label, Procedure, Program};
 use types::error::TypeError;
 use types::ids::ProcedureId;
@@ -58,6 +59,15 @@ pub enum Failure {
     /// `E1` to `E4`
     #[error("{}", .0.code())]
     Run(RunError),
+    /// `J1 line 3`, `J2`
+    #[error(transparent)]
+    Trace(TraceError),
+    /// `illegal at event 7`: the first event of a trace that can't come where it stands, numbered from 0
+    #[error("illegal at event {0}")]
+    Illegal(usize),
+    /// `E5`: the events that were noted of a run aren't its own. No run is known that comes to it.
+    #[error("E5")]
+    StrangeEvents,
     /// `choices not understood`
     #[error("choices not understood")]
     ChoicesNotUnderstood,
@@ -67,6 +77,11 @@ pub enum Failure {
     /// `not laid out`
     #[error("not laid out")]
     NotLaidOut,
+    /// `cannot write picture.svg`
+    #[error("cannot write {}", Escaped(.name.as_str()))]
+    CannotWrite {
+        name: String,
+    },
     /// `cannot write output`
     #[error("cannot write output")]
     CannotWriteOutput,
@@ -76,7 +91,8 @@ pub enum Failure {
 }
 
 impl Failure {
-    /// The exit status: 1 refused, 4 want of memory or too many tasks, 5 a lost or strange result or weight.
+    /// The exit status: 1 refused, 4 want of memory or too many tasks, 5 a lost or strange result or weight, or strange
+    /// events.
     pub fn status(&self) -> u8
         ensures { result ≡ failure_status self.now }
     {
@@ -87,9 +103,11 @@ impl Failure {
             Failure::Input(InputError::OutOfMemory) => 4,
             Failure::Run(RunError::OutOfMemory) => 4,
             Failure::Run(RunError::TooManyTasks(_)) => 4,
+            Failure::Trace(TraceError::NoMemory) => 4,
             Failure::NoMemory => 4,
             Failure::Run(RunError::Gather(_)) => 5,
             Failure::Run(RunError::Late) => 5,
+            Failure::StrangeEvents => 5,
             _ => 1,
         }
     }
@@ -100,6 +118,16 @@ impl Failure {
     {
         match String::from_str(alloc, name) {
             Ok(name) => Failure::CannotRead { name },
+            Err(AllocError) => Failure::NoMemory,
+        }
+    }
+
+    /// A file that can't be written.
+    pub fn cannot_write(alloc: Global, name: &str) -> Failure
+        ensures { TellsUnwritten name.now result }
+    {
+        match String::from_str(alloc, name) {
+            Ok(name) => Failure::CannotWrite { name },
             Err(AllocError) => Failure::NoMemory,
         }
     }

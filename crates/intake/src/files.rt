@@ -1,8 +1,9 @@
 //! Where the program finds what its words name.
 
 ghost use Rattle.std.specs.Prelude.{◌≡◌, ◌≤◌, ℕ, List, length, Option, None, option_map};
-ghost use Rattle.std.specs.Prelude.{IfOk, IfErr, MatchResult};
-ghost use Rattle.intake.specs.Held.{Held, IsGiven, TellsNoProgram, TellsNoText, first};
+ghost use Rattle.std.specs.Prelude.{IfOk, IfErr, MatchResult, OnOk};
+ghost use Rattle.intake.specs.Failures.{TellsUnwritten};
+ghost use Rattle.intake.specs.Held.{Held, IsGiven, KeepsOthers, TellsNoProgram, TellsNoText, first};
 
 use crate::failure::Failure;
 use std::alloc::Global;
@@ -14,10 +15,10 @@ use syntax::error::SyntaxError;
 /// The most bytes of a program's text.
 const MOST_BYTES: usize = 1_048_576;
 
-/// Why a file isn't there, with a call that says so.
+/// Why a file isn't there, or isn't written, with a call that says so.
 #[derive(Clone, Copy, PartialEq, Eq, Debug)]
 pub enum FileError {
-    /// It can't be opened or read: `files.read("nowhere.afx")`.
+    /// It can't be opened, read or written: `files.read("nowhere.afx")`.
     Failed,
     /// Memory ran out: `files.read("/dev/zero")`, which has no end.
     NoMemory,
@@ -40,6 +41,11 @@ pub trait FileSource {
             MatchResult result (λ v. IsGiven known (Ok v.items)) (λ e. IsGiven known (Err e)) }
         ensures short { IfOk result (λ v. length v.items ≤ most) }
         ensures keeps { held self.new ≡ held self.old };
+
+    /// Writes a file anew, whatever it held. What an `Err` leaves of it is open.
+    fn write(&mut self, name: &str, bytes: &[u8]) -> Result<(), FileError>
+        ensures written { OnOk result (IsGiven (held self.new name.now) (Ok bytes.now)) }
+        ensures others { KeepsOthers name.now (held self.old) (held self.new) };
 }
 
 /// What a file holds, or the failure that says why there is nothing.
@@ -86,6 +92,24 @@ pub fn read_program<F: FileSource>(
     }
 }
 
+/// Writes a file anew, or answers the failure that says why it can't be written.
+pub fn write_file<F: FileSource>(
+    alloc: Global,
+    files: &mut F,
+    name: &str,
+    bytes: &[u8],
+) -> Result<(), Failure>
+    ensures written { OnOk result (IsGiven (F.held files.new name.now) (Ok bytes.now)) }
+    ensures why { IfErr result (TellsUnwritten name.now) }
+    ensures others { KeepsOthers name.now (F.held files.old) (F.held files.new) }
+{
+    match files.write(name, bytes) {
+        Ok(()) => Ok(()),
+        Err(FileError::NoMemory) => Err(Failure::NoMemory),
+        Err(FileError::Failed) => Err(Failure::cannot_write(alloc, name)),
+    }
+}
+
 /// The files of the machine; `-` is the standard input.
 #[derive(Drop)]
 pub struct MachineFiles<'r, R> {
@@ -116,6 +140,14 @@ impl<R: Files + Input + AllocGlobal> FileSource for MachineFiles<'_, R> {
             Ok(bytes) => Ok(bytes),
             Err(error) => Err(file_error(&error)),
         }
+    }
+
+    /// The standard input isn't written, so `-` fails. A file that can't be written whole may have lost what it held.
+    fn write(&mut self, name: &str, bytes: &[u8]) -> Result<(), FileError> {
+        if name == "-" {
+            return Err(FileError::Failed);
+        }
+        fs::write(self.rt, name, bytes).map_err(|error| file_error(&error))
     }
 }
 

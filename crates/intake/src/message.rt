@@ -2,15 +2,17 @@
 
 ghost use Rattle.std.specs.Prelude.{◌++◌, codes};
 ghost use Rattle.texts.specs.Appending.{Writes};
+ghost use Rattle.trace_text.specs.Reading.{trace_error_text};
 ghost use Rattle.intake.specs.Messages.{failure_text};
 
 use crate::failure::Failure;
 use std::io::Write;
 use texts::emit::{EmitError, append};
 use texts::reasons::{
-    emit_file, emit_input_error, emit_no_leaf, emit_race, emit_syntax_error, emit_text,
+    emit_file, emit_input_error, emit_numbered, emit_race, emit_syntax_error, emit_text,
     emit_type_error,
 };
+use trace_text::error::TraceError;
 
 /// Writes the line of a failure, with its line feed.
 pub fn emit_message<W: Write>(err: &mut W, failure: &Failure) -> Result<(), EmitError>
@@ -38,10 +40,24 @@ fn emit_failure<W: Write>(err: &mut W, failure: &Failure) -> Result<(), EmitErro
         Failure::NoMemoryInCheck => emit_text(err, "C2"),
         Failure::Input(error) => emit_input_error(err, error),
         Failure::Run(error) => emit_text(err, error.code()),
+        Failure::Trace(error) => emit_trace_error(err, *error),
+        Failure::Illegal(event) => emit_numbered(err, "illegal at event ", *event),
+        Failure::StrangeEvents => emit_text(err, "E5"),
         Failure::ChoicesNotUnderstood => emit_text(err, "choices not understood"),
-        Failure::NoLeaf(choice) => emit_no_leaf(err, *choice),
+        Failure::NoLeaf(choice) => emit_numbered(err, "no leaf at choice ", *choice),
         Failure::NotLaidOut => emit_text(err, "not laid out"),
+        Failure::CannotWrite { name } => emit_file(err, "cannot write ", name.as_str()),
         Failure::CannotWriteOutput => emit_text(err, "cannot write output"),
         Failure::NoMemory => emit_text(err, "no memory"),
+    }
+}
+
+/// `J1 line 3`
+fn emit_trace_error<W: Write>(err: &mut W, error: TraceError) -> Result<(), EmitError>
+    ensures { Writes (W.contents err.old) (W.contents err.new) result (trace_error_text error) }
+{
+    match error {
+        TraceError::NotALine(line) => emit_numbered(err, "J1 line ", line),
+        TraceError::NoMemory => emit_text(err, "J2"),
     }
 }

@@ -6,8 +6,9 @@ use Rattle.std.specs.Str.{bytes_eq}
 use Rattle.pages.specs.declared.page.Page.{Page}
 use Rattle.pages.specs.declared.page.Given.{Given}
 use Rattle.pages.specs.declared.page.Told.{Told}
+use Rattle.pages.specs.declared.page.Traced.{Traced}
 use Rattle.pages.specs.declared.page.Example.{Example}
-use Rattle.pages.specs.declared.page.Example.TheVariants.{Nothing, Program, WithInput, Shape}
+use Rattle.pages.specs.declared.page.Example.TheVariants.{Nothing, Program, WithInput, WithTrace, Shape}
 
 -- a page has this word, as its name or as one of the others
 abbrev pub answers_to : Page → (word : List ℕ) → Bool
@@ -41,15 +42,25 @@ input_text input = codes "\n  input.json: " ++ input ++ codes "\n"
 abbrev pub given_text : Given → List ℕ
 given_text g = input_text g.input.now ++ told_text g.told
 
+-- a trace, as the file that the command names
+abbrev pub trace_text : List (Bor (List ℕ)) → List ℕ
+trace_text lines = codes "\n  program.trace:\n" ++ flat_map indented lines
+
+-- a trace, a command, and what it tells of both
+abbrev pub traced_text : Traced → List ℕ
+traced_text t = trace_text t.trace.now ++ told_text t.told
+
 -- where a whole program of a shape stands
 abbrev pub place_text : (name : List ℕ) → List ℕ
 place_text name = codes "\n  A whole program of this shape: examples/" ++ name ++ codes ".afx\n"
 
--- a program, with its input where there is one, and what is told of it; or where the whole of it stands
+-- a program, with its input or its trace where there is one, and what is told of it; or where the whole
+-- of it stands
 abbrev pub example_text : Example → List ℕ
 example_text Nothing = []
 example_text (Program t) = program_text t.lines.now ++ told_text t
 example_text (WithInput g) = program_text g.told.lines.now ++ given_text g
+example_text (WithTrace t) = program_text t.told.lines.now ++ traced_text t
 example_text (Shape s) = program_text s.lines.now ++ place_text s.name.now
 
 -- how it is mended, where that is said

@@ -6,11 +6,11 @@ ghost use Rattle.std.specs.String.{string_bytes};
 ghost use Rattle.pages.specs.Pages.{answers_to, head_text, spaced_name};
 
 use crate::page::{Page, push_all};
-use crate::{faults, idioms, inputs, races, rules, runs, texts, words};
+use crate::{faults, idioms, inputs, races, rules, runs, texts, traces, words};
 use std::alloc::{AllocError, Global};
 
 /// All pages, topic by topic.
-pub fn tables() -> [&'static [Page]; 8] {
+pub fn tables() -> [&'static [Page]; 9] {
     [
         texts::pages(),
         rules::pages(),
@@ -18,6 +18,7 @@ pub fn tables() -> [&'static [Page]; 8] {
         inputs::pages(),
         faults::pages(),
         runs::pages(),
+        traces::pages(),
         words::pages(),
         idioms::pages(),
     ]

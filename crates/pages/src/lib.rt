@@ -17,5 +17,6 @@ pub mod rules;
 pub mod runs;
 pub mod shell;
 pub mod texts;
+pub mod traces;
 pub mod words;
 pub mod zsh;

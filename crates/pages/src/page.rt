@@ -5,8 +5,8 @@ ghost use Rattle.std.specs.List.{flat_map, list_any};
 ghost use Rattle.std.specs.Str.{bytes_eq};
 ghost use Rattle.std.specs.String.{string_bytes};
 ghost use Rattle.pages.specs.Pages.{answers_to, body_text, end_text, example_text, given_text, head_text};
-ghost use Rattle.pages.specs.Pages.{input_text, mend_text, page_text, place_text, program_text};
-ghost use Rattle.pages.specs.Pages.{told_text};
+ghost use Rattle.pages.specs.Pages.{indented, input_text, mend_text, page_text, place_text, program_text};
+ghost use Rattle.pages.specs.Pages.{told_text, trace_text, traced_text};
 
 use std::alloc::{AllocError, Global};
 
@@ -35,6 +35,8 @@ pub enum Example {
     Program(Told),
     /// The same with an input.
     WithInput(Given),
+    /// The same with a trace.
+    WithTrace(Traced),
     /// A part of a program.
     Shape(Shape),
 }
@@ -56,6 +58,14 @@ pub struct Given {
     pub told: Told,
     /// The text of `input.json`.
     pub input: &'static str,
+}
+
+/// A program with `program.trace`, and what is told of both.
+#[derive(Clone, Copy)]
+pub struct Traced {
+    pub told: Told,
+    /// The lines of `program.trace`.
+    pub trace: &'static [&'static str],
 }
 
 /// A procedure of a program in `examples/`, or one like it.
@@ -129,6 +139,10 @@ fn push_example(text: &mut String, example: Example) -> Result<(), AllocError>
             push_program(text, given.told.lines)?;
             push_told_of(text, given)
         }
+        Example::WithTrace(traced) => {
+            push_program(text, traced.told.lines)?;
+            push_told_by(text, traced)
+        }
         Example::Shape(shape) => {
             push_program(text, shape.lines)?;
             push_place(text, shape.name)
@@ -151,6 +165,14 @@ fn push_program(text: &mut String, lines: &[&str]) -> Result<(), AllocError>
     ensures { OnOk result (string_bytes text.new ≡ string_bytes text.old ++ program_text lines.now) }
 {
     text.push('\n')?;
+    push_lines(text, lines)
+}
+
+/// Adds lines, each behind four spaces.
+fn push_lines(text: &mut String, lines: &[&str]) -> Result<(), AllocError>
+    ensures { OnOk result (string_bytes text.new
+        ≡ string_bytes text.old ++ flat_map indented lines.now) }
+{
     for line in lines {
         push_all(text, &["    ", *line, "\n"])?;
     }
@@ -163,6 +185,22 @@ fn push_told_of(text: &mut String, given: Given) -> Result<(), AllocError>
 {
     push_input(text, given.input)?;
     push_told(text, given.told)
+}
+
+/// Adds a trace, and a command with what it tells.
+fn push_told_by(text: &mut String, traced: Traced) -> Result<(), AllocError>
+    ensures { OnOk result (string_bytes text.new ≡ string_bytes text.old ++ traced_text traced) }
+{
+    push_trace(text, traced.trace)?;
+    push_told(text, traced.told)
+}
+
+/// Adds the lines of a trace.
+fn push_trace(text: &mut String, lines: &[&str]) -> Result<(), AllocError>
+    ensures { OnOk result (string_bytes text.new ≡ string_bytes text.old ++ trace_text lines.now) }
+{
+    text.push_str("\n  program.trace:\n")?;
+    push_lines(text, lines)
 }
 
 /// Adds an input.

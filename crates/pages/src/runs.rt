@@ -2,7 +2,7 @@
 
 use crate::page::{Example, Page, Told};
 
-/// `E1` to `E4`, choices, files and memory
+/// `E1` to `E5`, choices, files and memory
 pub fn pages() -> &'static [Page] {
     PAGES
 }
@@ -52,6 +52,15 @@ const PAGES: &[Page] = &[
         others: &[],
         about: "a finish was given back what wasn't due",
         rule: "No program is known that comes to it. The status is 5.",
+        example: Example::Nothing,
+        mend: None,
+    },
+    Page {
+        name: "E5",
+        others: &[],
+        about: "the events of a run are not its own",
+        rule: "A run with `--trace` notes its events and replays them: one could not come where it was noted, or they did not
+lead to the run's outcome. No program is known that comes to it. The status is 5.",
         example: Example::Nothing,
         mend: None,
     },
@@ -112,16 +121,23 @@ them too.",
     Page {
         name: "cannot-write",
         others: &["cannot write output", "cannot write"],
-        about: "an answer that can't be written",
-        rule: "The standard output failed or took nothing, as that of a full disk. A beginning of the answer may stand there.",
-        example: Example::Nothing,
-        mend: None,
+        about: "a file or an answer that can't be written",
+        rule: "A trace or a picture: no file of this name may be written, or the disk is full. Then no answer is written either.
+`cannot write output`: the standard output failed or took nothing. A beginning of the answer may stand there.",
+        example: Example::Program(Told {
+            lines: &["main {", "}"],
+            command: "run program.afx --trace -",
+            line: "cannot write -",
+        }),
+        mend: Some(
+            "Look at the name: its folder must be there, and `-`, the standard input, is never written.",
+        ),
     },
     Page {
         name: "not-UTF-8",
         others: &["not UTF-8"],
         about: "a file or a word that is no text",
-        rule: "A program, an input and each word of the command line are UTF-8.",
+        rule: "A program, an input, a trace and each word of the command line are UTF-8.",
         example: Example::Nothing,
         mend: Some("Write it anew in UTF-8. Outside of comments a program has ASCII alone."),
     },
@@ -129,7 +145,7 @@ them too.",
         name: "no-memory",
         others: &["no memory"],
         about: "no memory",
-        rule: "For what no code of its own stands: `S6`, `Y10`, `C2`, `N6` and `E1` are others. The status is 4.",
+        rule: "For what no code of its own stands: `S6`, `Y10`, `C2`, `N6`, `E1` and `J2` are others. The status is 4.",
         example: Example::Nothing,
         mend: Some("Try again where there is more memory."),
     },

@@ -1,6 +1,6 @@
 //! Why something is refused, piece by piece, without memory of its own.
 
-ghost use Rattle.std.specs.Prelude.{◌≡◌, ◌<◌, ◌++◌, codes};
+ghost use Rattle.std.specs.Prelude.{◌≡◌, ◌<◌, ◌++◌};
 ghost use Rattle.std.specs.Fmt.{decimal};
 ghost use Rattle.syntax.specs.Refusals.{at_text, error_text as syntax_text};
 ghost use Rattle.types.specs.Codes.{error_text, labelled};
@@ -147,11 +147,11 @@ pub fn emit_input_error<W: Write>(err: &mut W, error: &InputError) -> Result<(),
     }
 }
 
-/// `no leaf at choice 2`
-pub fn emit_no_leaf<W: Write>(err: &mut W, choice: usize) -> Result<(), EmitError>
+/// What is told, and a number: `no leaf at choice 2`
+pub fn emit_numbered<W: Write>(err: &mut W, told: &str, number: usize) -> Result<(), EmitError>
     ensures { Writes (W.contents err.old) (W.contents err.new) result
-        (codes "no leaf at choice " ++ decimal choice) }
+        (told.now ++ decimal number) }
 {
-    emit_text(err, "no leaf at choice ")?;
-    emit_count(err, choice)
+    emit_text(err, told)?;
+    emit_count(err, number)
 }

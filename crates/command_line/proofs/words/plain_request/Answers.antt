@@ -1,7 +1,6 @@
 use Rattle.std.proofs.Common.{map}
 use Rattle.std.specs.String.{string_bytes}
-use Rattle.std.specs.Prelude.{IsSomeAnd}
-use Rattle.command_line.proofs.Reading.{asked_by, asked_is_read, is_some_and}
+use Rattle.command_line.proofs.Reading.{asked_by, is_some_and}
 use Rattle.command_line.proofs.words.plain_request.Goals as goal
 
 pub returns : goal.returns

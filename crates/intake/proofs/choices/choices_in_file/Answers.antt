@@ -1,4 +1,4 @@
-use Rattle.std.proofs.Common.{◌≡◌, ℕ, List, Ok, Some, sym, ap, ◌∙◌, option_map, subst}
+use Rattle.std.proofs.Common.{ℕ, List, Ok, Some, sym, option_map, subst}
 use Rattle.std.proofs.lemmas.Result.{IfOk-weaker, IfErr-weaker}
 use Rattle.intake.specs.Held.{IsGiven, first}
 use Rattle.intake.proofs.ReadChoices.{file_says_none, says_choices}

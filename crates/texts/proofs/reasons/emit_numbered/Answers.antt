@@ -1,5 +1,5 @@
 use Rattle.texts.proofs.Appending.{fails, begins_longer, then_writes}
-use Rattle.texts.proofs.reasons.emit_no_leaf.Goals as goal
+use Rattle.texts.proofs.reasons.emit_numbered.Goals as goal
 
 pub returns-in_err-emit_text : goal.returns-in_err-emit_text
 returns-in_err-emit_text g c = fails _ c.from_residual.ensures.0 (begins_longer _ _ _ _ c.in_err-emit_text.ensures)
