@@ -13,29 +13,29 @@ use types::path::Path;
 
 /// How a task has come to where it is.
 #[derive(Clone, Copy)]
-struct Chain {
+pub struct Chain {
     /// What the longest chain of steps costs that leads to it.
-    cost: usize,
+    pub cost: usize,
     /// The number of the innermost scope in which it stands.
-    stands: usize,
+    pub stands: usize,
     /// How many tasks it has spawned.
-    spawned: usize,
+    pub spawned: usize,
 }
 
 /// A scope, and what came back to it.
 #[derive(Clone, Copy)]
-struct Scope {
+pub struct Scope {
     /// What the longest chain costs that came back.
-    came_back: usize,
+    pub came_back: usize,
     /// The number of the scope in which its owner stood when it opened it.
-    around: usize,
+    pub around: usize,
 }
 
 /// All tasks that did something, and all scopes by their numbers: 0 is the root's, and then as they were opened.
 #[derive(Drop)]
-struct Chains {
+pub struct Chains {
     tasks: HashMap<Path, Chain>,
-    scopes: Vec<Scope>,
+    pub scopes: Vec<Scope>,
 }
 
 /// What the longest chain of steps costs: 4 of the one trace of `main { finish { async { skip; } skip; } skip; }`,
@@ -52,7 +52,7 @@ pub fn span(alloc: Global, events: &[Event]) -> Result<usize, AllocError>
 
 impl Chains {
     /// Nothing has been done.
-    fn start(alloc: Global) -> Result<Chains, AllocError>
+    pub fn start(alloc: Global) -> Result<Chains, AllocError>
         ensures { IfOk result (λ r. Shows r no_chains) }
     {
         let mut scopes = Vec::new(alloc);
@@ -67,7 +67,7 @@ impl Chains {
     }
 
     /// An event happens.
-    fn happens(&mut self, event: &Event) -> Result<(), AllocError>
+    pub fn happens(&mut self, event: &Event) -> Result<(), AllocError>
         requires { AreAfter self.old }
         ensures { OnOk result ((c : AnyChains) → Shows self.old c → Shows self.new (chained event.now c)) }
     {
@@ -159,7 +159,7 @@ impl Chains {
     }
 
     /// How a task has come to where it is; nothing is known of most.
-    fn chain(&self, path: &Path) -> Chain
+    pub fn chain(&self, path: &Path) -> Chain
         ensures { result ≡ chain_at self.now.tasks path.now }
     {
         match self.tasks.get(path) {

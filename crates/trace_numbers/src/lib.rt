@@ -2,8 +2,8 @@
 
 #![tactic(auto)]
 
-mod chains;
-mod counts;
+pub mod chains;
+pub mod counts;
 mod hands;
 pub mod summary;
 mod tasks;

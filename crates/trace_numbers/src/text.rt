@@ -36,7 +36,7 @@ fn push_work(text: &mut String, summary: &Summary) -> Result<(), AllocError>
 }
 
 /// The steps by the span, with two digits, and what is behind them cut; `-` where there is no span.
-fn push_parallelism(text: &mut String, steps: usize, span: usize) -> Result<(), AllocError>
+pub fn push_parallelism(text: &mut String, steps: usize, span: usize) -> Result<(), AllocError>
     ensures { OnOk result (string_bytes text.new
         ≡ string_bytes text.old ++ (parallelism steps span ++ codes "\n")) }
 {

@@ -1,6 +1,8 @@
-//! Tests of the texts of traces.
+//! Tests of the texts and pictures of traces.
 
 #![tactic(auto)]
 
+#[cfg(test)]
+mod drawn;
 #[cfg(test)]
 mod tests;

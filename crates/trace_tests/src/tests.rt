@@ -135,6 +135,21 @@ fn the_table_has_a_line_for_each_event(rt: HostRuntime) {
 }
 
 #[test]
+fn a_trace_that_was_cut_tells_where(rt: HostRuntime) {
+    let alloc = rt.alloc();
+    for length in 0..LINES.len() {
+        let (text, _) = LINES.split_at(length);
+        let line = text.matches('\n').count() + 1;
+        if line > 1 && text.ends_with('\n') {
+            assert_eq!(rt; told(&rt, alloc, text).as_str(), text);
+        } else {
+            let error = read_lines(alloc, text).err();
+            assert_eq!(rt; error, Some(TraceError::NotALine(line)), "{text}");
+        }
+    }
+}
+
+#[test]
 fn only_one_spelling_is_read(rt: HostRuntime) {
     let alloc = rt.alloc();
     for (events, number) in BAD_EVENTS {

@@ -1,0 +1,63 @@
+//! The lines above the picture.
+
+use std::alloc::{AllocError, Global};
+use svg::elements::push_words;
+use trace_layout::axis::LEFT;
+use trace_numbers::summary::Summary;
+use trace_numbers::text::push_parallelism;
+
+/// How many letters of a heading there is room for.
+const LETTERS: usize = 150;
+
+/// The heading, of which two dots stand for what there is no room for.
+pub fn heading_of(alloc: Global, heading: &str) -> Result<String, AllocError> {
+    let mut text = String::new(alloc);
+    for (number, letter) in heading.chars().enumerate() {
+        if number >= LETTERS {
+            text.push_str(" ..")?;
+            return Ok(text);
+        }
+        text.push(letter)?;
+    }
+    Ok(text)
+}
+
+/// `4 workers · 96 events · 8 tasks · 2 finish scopes · 15 steals · work 61 steps · span 17 steps · parallelism 3.59`
+pub fn numbers_of(
+    alloc: Global,
+    summary: &Summary,
+    workers: u32,
+    events: usize,
+    finishes: usize,
+) -> Result<String, AllocError> {
+    let mut text = String::new(alloc);
+    push_count(&mut text, "", workers as usize, "worker")?;
+    push_count(&mut text, " · ", events, "event")?;
+    push_count(&mut text, " · ", summary.tasks, "task")?;
+    push_count(&mut text, " · ", finishes, "finish scope")?;
+    push_count(&mut text, " · ", summary.steals, "steal")?;
+    push_count(&mut text, " · work ", summary.steps, "step")?;
+    push_count(&mut text, " · span ", summary.span, "step")?;
+    text.push_str(" · parallelism ")?;
+    push_parallelism(&mut text, summary.steps, summary.span)?;
+    // The line feed behind it.
+    let _ = text.pop();
+    Ok(text)
+}
+
+/// ` · 96 events`
+pub fn push_count(
+    text: &mut String,
+    before: &str,
+    count: usize,
+    what: &str,
+) -> Result<(), AllocError> {
+    let ending = if count == 1 { "" } else { "s" };
+    write!(text, "{before}{count} {what}{ending}")
+}
+
+/// Both lines.
+pub fn push_heading(text: &mut String, heading: &str, numbers: &str) -> Result<(), AllocError> {
+    push_words(text, "heading", LEFT, 240, heading)?;
+    push_words(text, "numbers", LEFT, 430, numbers)
+}

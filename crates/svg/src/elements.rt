@@ -1,0 +1,161 @@
+//! Elements of an SVG. Places and lengths are in tenths of a pixel.
+
+use std::alloc::AllocError;
+use std::fmt;
+
+/// A place or a length in tenths of a pixel: `96.5` of 965.
+#[derive(Clone, Copy, PartialEq, Eq, Debug)]
+pub struct Px(pub u32);
+
+impl fmt::Display for Px {
+    fn fmt<W: fmt::Write>(&self, f: &mut fmt::Formatter<W>) -> fmt::Result {
+        let whole = self.0 / 10;
+        let tenth = self.0 % 10;
+        if tenth == 0 {
+            return write!(f, "{whole}");
+        }
+        write!(f, "{whole}.{tenth}")
+    }
+}
+
+/// A rectangle, by its upper left corner.
+#[derive(Clone, Copy, Debug)]
+pub struct Rectangle {
+    pub x: u32,
+    pub y: u32,
+    pub width: u32,
+    pub height: u32,
+}
+
+/// A line, from its beginning to its end.
+#[derive(Clone, Copy, Debug)]
+pub struct Line {
+    pub x1: u32,
+    pub y1: u32,
+    pub x2: u32,
+    pub y2: u32,
+}
+
+impl Line {
+    /// A line from left to right, or from right to left.
+    pub fn level(x1: u32, x2: u32, y: u32) -> Line {
+        Line {
+            x1,
+            y1: y,
+            x2,
+            y2: y,
+        }
+    }
+
+    /// A short upright line, by its middle.
+    pub fn tick(x: u32, y: u32) -> Line {
+        Line::upright(x, y.saturating_sub(60), y.saturating_add(60))
+    }
+
+    /// A line down, or up.
+    pub fn upright(x: u32, y1: u32, y2: u32) -> Line {
+        Line {
+            x1: x,
+            y1,
+            x2: x,
+            y2,
+        }
+    }
+}
+
+/// A rectangle of a class of the style sheet.
+pub fn push_rectangle(text: &mut String, class: &str, place: &Rectangle) -> Result<(), AllocError> {
+    push_open_rectangle(text, class, place)?;
+    text.push_str("/>\n")
+}
+
+/// A rectangle with a text that is shown while one points at it.
+pub fn push_titled_rectangle(
+    text: &mut String,
+    class: &str,
+    place: &Rectangle,
+    title: &str,
+) -> Result<(), AllocError> {
+    push_open_rectangle(text, class, place)?;
+    text.push_str("><title>")?;
+    push_escaped(text, title)?;
+    text.push_str("</title></rect>\n")
+}
+
+/// A rectangle without its end.
+fn push_open_rectangle(
+    text: &mut String,
+    class: &str,
+    place: &Rectangle,
+) -> Result<(), AllocError> {
+    let x = Px(place.x);
+    let y = Px(place.y);
+    let width = Px(place.width);
+    let height = Px(place.height);
+    write!(
+        text,
+        "<rect class=\"{class}\" x=\"{x}\" y=\"{y}\" width=\"{width}\" height=\"{height}\""
+    )
+}
+
+/// A line of a class.
+pub fn push_line(text: &mut String, class: &str, line: &Line) -> Result<(), AllocError> {
+    let x1 = Px(line.x1);
+    let y1 = Px(line.y1);
+    let x2 = Px(line.x2);
+    let y2 = Px(line.y2);
+    write!(
+        text,
+        "<line class=\"{class}\" x1=\"{x1}\" y1=\"{y1}\" x2=\"{x2}\" y2=\"{y2}\"/>\n"
+    )
+}
+
+/// A small circle of a class, by its middle.
+pub fn push_circle(text: &mut String, class: &str, x: u32, y: u32) -> Result<(), AllocError> {
+    let x = Px(x);
+    let y = Px(y);
+    write!(
+        text,
+        "<circle class=\"{class}\" cx=\"{x}\" cy=\"{y}\" r=\"3\"/>\n"
+    )
+}
+
+/// A small triangle that points down, by its upper left corner.
+pub fn push_triangle(text: &mut String, x: u32, y: u32) -> Result<(), AllocError> {
+    let x = Px(x);
+    let y = Px(y);
+    write!(text, "<path class=\"spawn\" d=\"M{x},{y} h8 l-4,6 z\"/>\n")
+}
+
+/// Words of a class, which says where they stand to the place.
+pub fn push_words(
+    text: &mut String,
+    class: &str,
+    x: u32,
+    y: u32,
+    words: &str,
+) -> Result<(), AllocError> {
+    let x = Px(x);
+    let y = Px(y);
+    write!(text, "<text class=\"{class}\" x=\"{x}\" y=\"{y}\">")?;
+    push_escaped(text, words)?;
+    text.push_str("</text>\n")
+}
+
+/// A text as it is written between the tags of XML.
+pub fn push_escaped(text: &mut String, words: &str) -> Result<(), AllocError> {
+    for letter in words.chars() {
+        match letter {
+            '&' => text.push_str("&amp;")?,
+            '<' => text.push_str("&lt;")?,
+            '>' => text.push_str("&gt;")?,
+            '"' => text.push_str("&quot;")?,
+            // XML has no place for these.
+            '\u{0}'..='\u{8}' | '\u{b}'..='\u{1f}' | '\u{fffe}'..='\u{ffff}' => text.push(
+                '\u{fffd}',
+            )?,
+            _ => text.push(letter)?,
+        }
+    }
+    Ok(())
+}

@@ -1,0 +1,5 @@
+//! Elements of an SVG, as text.
+
+#![tactic(auto)]
+
+pub mod elements;

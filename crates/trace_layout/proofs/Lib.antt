@@ -1,0 +1,6 @@
+pub mod Changes
+pub mod Handled
+pub mod InRows
+pub mod Moved
+pub mod Opened
+pub mod Within

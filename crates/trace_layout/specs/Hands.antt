@@ -1,0 +1,64 @@
+-- What is in the workers' hands behind so many events.
+use Rattle.std.specs.Prelude.{ℕ, ◌≡◌, ◌-◌, ◌<◌, ◌≤◌, List, length, take, Option, Some, None}
+use Rattle.std.specs.Prelude.{All, count_by, slice_index_or}
+use Rattle.std.specs.HashMap.{get}
+use Rattle.events.specs.declared.event.Event.{Event}
+use Rattle.trace_numbers.specs.Tables.{is_path}
+use Rattle.types.specs.declared.path.Path.{Path}
+use Rattle.trace_layout.specs.Spells.{AreApart, AreInOrder, IsEnding, ended_at, is_taking, parked_at, taken_at}
+use Rattle.trace_layout.specs.declared.hands.Hands.{Hands}
+use Rattle.trace_layout.specs.declared.spells.Ending.{Ending}
+use Rattle.trace_layout.specs.declared.spells.Ending.TheVariants.{Parked, Ended, Left, Going}
+use Rattle.trace_layout.specs.declared.spells.Spell.{Spell}
+
+-- behind n events a spell has ended by one of them, or goes on to the last of the list
+abbrev pub IsEndingSoFar : List Event → (n last : ℕ) → Spell → Ending → Type 0
+IsEndingSoFar es n last s Parked = IsEnding es s Parked × (s.last < n)
+IsEndingSoFar es n last s Ended = IsEnding es s Ended × (s.last < n)
+IsEndingSoFar es n last s Left = IsEnding es s Left × (s.last < n)
+IsEndingSoFar es n last s Going = s.last ≡ last
+
+pub record IsSpellSoFar (es : List Event) (n last : ℕ) (s : Spell) : Type 0 where
+  pub begins : taken_at es s.first ≡ Some (record { worker = s.worker; path = s.path.turns.items })
+  pub ends : IsEndingSoFar es n last s s.ending
+  pub forward : s.first ≤ s.last
+  pub before : s.first < n
+  pub within : s.last ≤ last
+
+-- the spell of a number is a worker's
+pub record IsOfWorker (ss : List Spell) (worker k : ℕ) : Type 0 where
+  pub there : k < length ss
+  pub same : (d : Spell) → (slice_index_or ss k d).worker ≡ worker
+
+-- one that goes on is in its worker's hand, where each worker's latest is named
+pub record AreSpellsSoFar (es : List Event) (n last : ℕ) (workers : List (Option ℕ)) (ss : List Spell) : Type 0 where
+  pub each : All (IsSpellSoFar es n last) ss
+  pub order : AreInOrder ss
+  pub apart : AreApart ss
+  pub going : (k : ℕ) (d : Spell) → k < length ss → (slice_index_or ss k d).ending ≡ Going
+      → slice_index_or workers (slice_index_or ss k d).worker None ≡ Some k
+  pub held : (w k : ℕ) → slice_index_or workers w None ≡ Some k → IsOfWorker ss w k
+
+-- the spell of a number is a task's
+pub record IsOfTask (ss : List Spell) (path : List ℕ) (k : ℕ) : Type 0 where
+  pub there : k < length ss
+  pub same : (d : Spell) → (slice_index_or ss k d).path.turns.items ≡ path
+
+pub record AreHands (es : List Event) (n : ℕ) (h : Hands) : Type 0 where
+  pub last : h.last ≡ length es - 1
+  pub hands : length h.workers ≡ 64
+  pub spells : AreSpellsSoFar es n h.last h.workers h.spells.items
+  pub tasks : (path : Path) (k : ℕ) → get is_path h.tasks path ≡ Some k → IsOfTask h.spells.items path.turns.items k
+  pub count : length h.spells.items ≡ count_by is_taking (take n es)
+
+-- a worker's hand is empty
+pub record IsEmptyHand (es : List Event) (n worker : ℕ) (h : Hands) : Type 0 where
+  pub hands : AreHands es n h
+  pub past : All (λ s. s.worker ≡ worker → s.last < n) h.spells.items
+
+-- by the event of this number a task leaves its worker's hand
+abbrev pub IsLeaving : List Event → (n : ℕ) → (path : List ℕ) → Ending → Type 0
+IsLeaving es n path Parked = parked_at es n ≡ Some path
+IsLeaving es n path Ended = ended_at es n ≡ Some path
+IsLeaving es n path Left = ⊥
+IsLeaving es n path Going = ⊥

@@ -1,0 +1,9 @@
+pub mod Axis
+pub mod Busy
+pub mod Finishes
+pub mod Hands
+pub mod Layout
+pub mod Moves
+pub mod Rows
+pub mod Scopes
+pub mod Spells

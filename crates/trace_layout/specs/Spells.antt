@@ -1,0 +1,109 @@
+-- Spells: a task in a worker's hand.
+use Rattle.std.specs.Prelude.{ℕ, ◌≡◌, ◌+◌, ◌<◌, ◌≤◌, List, length, Bool, true, false, Option, Some, None}
+use Rattle.std.specs.Prelude.{All, AllPairs, count_by, slice_get, option_and_then}
+use Rattle.events.specs.declared.event.Event.{Event}
+use Rattle.events.specs.declared.event.Event.TheVariants.{Take, Steal, Step, Replenish, Spawn}
+use Rattle.events.specs.declared.event.Event.TheVariants.{Open, Park, End, Pass, Resume}
+use Rattle.trace_layout.specs.declared.spells.Ending.{Ending}
+use Rattle.trace_layout.specs.declared.spells.Ending.TheVariants.{Parked, Ended, Left, Going}
+use Rattle.trace_layout.specs.declared.spells.Spell.{Spell}
+use Rattle.trace_layout.specs.declared.spells.Spells.{Spells}
+
+-- a task in a worker's hand
+pub record Hold : Type 0 where
+  pub worker : ℕ
+  pub path : List ℕ
+
+-- what is in a hand from this event on
+abbrev pub taken : Event → Option Hold
+taken (Take worker path) = Some (record { worker = worker; path = path.turns.items })
+taken (Steal worker from path) = None
+taken (Step path) = None
+taken (Replenish path) = None
+taken (Spawn path) = None
+taken (Open path) = None
+taken (Park path) = None
+taken (End path) = None
+taken (Pass scope) = None
+taken (Resume worker path) = Some (record { worker = worker; path = path.turns.items })
+
+abbrev pub is_taking : Event → Bool
+is_taking (Take worker path) = true
+is_taking (Steal worker from path) = false
+is_taking (Step path) = false
+is_taking (Replenish path) = false
+is_taking (Spawn path) = false
+is_taking (Open path) = false
+is_taking (Park path) = false
+is_taking (End path) = false
+is_taking (Pass scope) = false
+is_taking (Resume worker path) = true
+
+-- the task that parks
+abbrev pub parked : Event → Option (List ℕ)
+parked (Take worker path) = None
+parked (Steal worker from path) = None
+parked (Step path) = None
+parked (Replenish path) = None
+parked (Spawn path) = None
+parked (Open path) = None
+parked (Park path) = Some path.turns.items
+parked (End path) = None
+parked (Pass scope) = None
+parked (Resume worker path) = None
+
+-- the task that ends
+abbrev pub ended : Event → Option (List ℕ)
+ended (Take worker path) = None
+ended (Steal worker from path) = None
+ended (Step path) = None
+ended (Replenish path) = None
+ended (Spawn path) = None
+ended (Open path) = None
+ended (Park path) = None
+ended (End path) = Some path.turns.items
+ended (Pass scope) = None
+ended (Resume worker path) = None
+
+-- the same of the event with a number
+abbrev pub taken_at : List Event → ℕ → Option Hold
+taken_at es n = option_and_then taken (slice_get es n)
+
+abbrev pub parked_at : List Event → ℕ → Option (List ℕ)
+parked_at es n = option_and_then parked (slice_get es n)
+
+abbrev pub ended_at : List Event → ℕ → Option (List ℕ)
+ended_at es n = option_and_then ended (slice_get es n)
+
+-- what stands at the end of a spell, or right behind it
+abbrev pub IsEnding : List Event → Spell → Ending → Type 0
+IsEnding es s Parked = parked_at es s.last ≡ Some s.path.turns.items
+IsEnding es s Ended = ended_at es s.last ≡ Some s.path.turns.items
+IsEnding es s Left = (next : Hold) × (taken_at es (s.last + 1) ≡ Some next) × (next.worker ≡ s.worker)
+IsEnding es s Going = s.last + 1 ≡ length es
+
+-- a spell of a list of events
+pub record IsSpell (es : List Event) (s : Spell) : Type 0 where
+  -- it begins with the take or resume of its task by its worker
+  pub begins : taken_at es s.first ≡ Some (record { worker = s.worker; path = s.path.turns.items })
+  -- and ends as it says
+  pub ends : IsEnding es s s.ending
+  pub forward : s.first ≤ s.last
+  pub within : s.last < length es
+
+-- the earlier begins first
+abbrev pub AreInOrder : List Spell → Type 0
+AreInOrder = AllPairs (λ s t. s.first < t.first)
+
+-- no two of one worker overlap
+abbrev pub AreApart : List Spell → Type 0
+AreApart = AllPairs (λ s t. s.worker ≡ t.worker → s.last < t.first)
+
+-- all spells of a list of events
+pub record AreSpells (es : List Event) (r : Spells) : Type 0 where
+  pub each : All (IsSpell es) r.all.items
+  pub order : AreInOrder r.all.items
+  pub apart : AreApart r.all.items
+  -- one for each take and each resume
+  pub count : length r.all.items ≡ count_by is_taking es
+  pub places : length r.places.items ≡ length es

@@ -1,0 +1,160 @@
+//! What is in the workers' hands, event by event.
+
+ghost use Rattle.std.specs.Prelude.{ℕ, ◌≡◌, ◌+◌, ◌-◌, ◌<◌, ◌↔◌, List, All, IfSome, IsTrue, None, OnOk, Some};
+ghost use Rattle.std.specs.Prelude.{length, slice_get, slice_index_or};
+ghost use Rattle.events.specs.declared.event.Event.{Event as AnyEvent};
+ghost use Rattle.trace_layout.specs.Hands.{AreHands, IsEmptyHand, IsLeaving};
+ghost use Rattle.trace_layout.specs.Spells.{taken_at};
+ghost use Rattle.trace_layout.specs.declared.spells.Spell.{Spell as AnySpell};
+
+use crate::spells::{Beginning, Ending, Spell};
+use events::event::Event;
+use events::worker_id::WorkerId;
+use std::alloc::{AllocError, Global};
+use std::collections::HashMap;
+use types::path::Path;
+
+/// The spells so far, and what is in each hand.
+#[derive(Drop)]
+pub struct Hands {
+    pub spells: Vec<Spell>,
+    /// Of each task the number of its latest spell.
+    tasks: HashMap<Path, usize>,
+    /// Of each worker the number of its latest spell.
+    workers: [Option<usize>; 64],
+    /// The number of the list's last event.
+    last: usize,
+}
+
+impl Hands {
+    /// All hands are empty, before a list of so many events.
+    pub fn start(alloc: Global, events: usize) -> Hands
+        ensures { (es : List AnyEvent) → length es ≡ events → AreHands es 0 result }
+    {
+        Hands {
+            spells: Vec::new(alloc),
+            tasks: HashMap::new(alloc),
+            workers: [None; 64],
+            last: events.saturating_sub(1),
+        }
+    }
+
+    /// An event happens: the number of the spell to which it belongs.
+    pub fn happens(&mut self, number: usize, event: &Event) -> Result<Option<usize>, AllocError>
+        ensures { OnOk result ((es : List AnyEvent) → slice_get es number ≡ Some event.now
+            → AreHands es number self.old → AreHands es (number + 1) self.new) }
+    {
+        match event {
+            Event::Take { worker, path } => self.begin(number, *worker, path, Beginning::Taken),
+            Event::Resume { worker, path } => self.begin(number, *worker, path, Beginning::Resumed),
+            Event::Step { path }
+            | Event::Replenish { path }
+            | Event::Spawn { path }
+            | Event::Open { path } => Ok(self.go_on(path)),
+            Event::Park { path } => Ok(self.end(number, path, Ending::Parked)),
+            Event::End { path } => Ok(self.end(number, path, Ending::Ended)),
+            Event::Steal { .. } | Event::Pass { .. } => Ok(None),
+        }
+    }
+
+    /// A worker takes a task into its hand.
+    fn begin(
+        &mut self,
+        number: usize,
+        worker: WorkerId,
+        path: &Path,
+        beginning: Beginning,
+    ) -> Result<Option<usize>, AllocError>
+        ensures { OnOk result ((es : List AnyEvent)
+            → taken_at es number ≡ Some (record { worker = worker; path = path.now.turns.items })
+            → AreHands es number self.old → AreHands es (number + 1) self.new) }
+    {
+        self.leave(number, worker);
+        let place = self.spells.len();
+        self.spells.push(Spell {
+            path: path.clone()?,
+            worker,
+            beginning,
+            ending: Ending::Going,
+            first: number,
+            last: self.last,
+            own: 1,
+        })?;
+        self.tasks.insert(path.clone()?, place)?;
+        self.workers[worker.number() as usize] = Some(place);
+        Ok(Some(place))
+    }
+
+    /// Before this event a worker's hand is empty.
+    fn leave(&mut self, number: usize, worker: WorkerId)
+        ensures { (es : List AnyEvent) (path : List ℕ)
+            → taken_at es number ≡ Some (record { worker = worker; path = path })
+            → AreHands es number self.old → IsEmptyHand es number worker self.new }
+    {
+        let Some(place) = self.workers[worker.number() as usize] else {
+            return;
+        };
+        if place < self.spells.len() {
+            let spell = &mut self.spells[place];
+            spell.leave(number);
+        }
+    }
+
+    /// An event of a task, which stays in the hand.
+    fn go_on(&mut self, path: &Path) -> Option<usize>
+        ensures { (es : List AnyEvent) (n : ℕ) → AreHands es n self.old → AreHands es n self.new }
+    {
+        let place = self.going(path)?;
+        let spell = &mut self.spells[place];
+        spell.own = spell.own.saturating_add(1);
+        Some(place)
+    }
+
+    /// The event by which a task leaves its worker's hand.
+    fn end(&mut self, number: usize, path: &Path, ending: Ending) -> Option<usize>
+        ensures { (es : List AnyEvent) → IsLeaving es number path.now.turns.items ending
+            → AreHands es number self.old → AreHands es (number + 1) self.new }
+    {
+        let place = self.going(path)?;
+        let spell = &mut self.spells[place];
+        spell.own = spell.own.saturating_add(1);
+        spell.last = number;
+        spell.ending = ending;
+        Some(place)
+    }
+
+    /// The number of a task's spell, where that goes on.
+    fn going(&self, path: &Path) -> Option<usize>
+        ensures there { IfSome result (λ k. k < length self.now.spells.items) }
+        ensures going { IfSome result (λ k. (d : AnySpell)
+            → (slice_index_or self.now.spells.items k d).ending ≡ Ending.Going) }
+        ensures same { (es : List AnyEvent) (n : ℕ) → AreHands es n self.now
+            → IfSome result (λ k. (d : AnySpell)
+            → (slice_index_or self.now.spells.items k d).path.turns.items ≡ path.now.turns.items) }
+    {
+        let place = *self.tasks.get(path)?;
+        let spell = self.spells.get(place)?;
+        if spell.is_going() { Some(place) } else { None }
+    }
+}
+
+impl Spell {
+    /// Whether no event has ended it.
+    fn is_going(&self) -> bool
+        ensures { IsTrue result ↔ (self.now.ending ≡ Ending.Going) }
+    {
+        matches!(self.ending, Ending::Going)
+    }
+
+    /// It has ended before this event.
+    fn leave(&mut self, number: usize)
+        ensures going { self.old.ending ≡ Ending.Going
+            → self.new ≡ record self.old { ending = Ending.Left; last = number - 1 } }
+        ensures ended { (self.old.ending ≡ Ending.Going → ⊥) → self.new ≡ self.old }
+    {
+        if self.is_going() {
+            self.last = number.saturating_sub(1);
+            self.ending = Ending::Left;
+        }
+    }
+}

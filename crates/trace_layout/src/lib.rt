@@ -1,0 +1,15 @@
+//! A trace as what is drawn of it: plain data, with the numbers of events for times.
+
+#![tactic(auto)]
+
+pub mod axis;
+pub mod busy;
+pub mod chain;
+mod children;
+pub mod finishes;
+mod hands;
+pub mod layout;
+pub mod moves;
+pub mod rows;
+pub mod spells;
+pub mod stretch;

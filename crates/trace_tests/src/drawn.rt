@@ -1,0 +1,164 @@
+//! Pictures of traces.
+
+use events::event::Event;
+use pictures::timeline::draw;
+use serde_json::Value;
+use std::alloc::Global;
+use std::process::Abort;
+use trace_spans::chrome::spans;
+use trace_text::header::Header;
+use trace_text::read::read_lines;
+
+/// What two workers do over the program of two arrays.
+const TWO_WORKERS: &str = "{\"format\":1,\"nest\":100,\"steps\":1000000,\"w0\":8,\"workers\":2}
+{\"e\":\"take\",\"path\":\"0\",\"worker\":0}
+{\"e\":\"open\",\"path\":\"0\"}
+{\"e\":\"spawn\",\"path\":\"0\"}
+{\"e\":\"steal\",\"from\":0,\"path\":\"0.1\",\"worker\":1}
+{\"e\":\"take\",\"path\":\"0.1\",\"worker\":1}
+{\"e\":\"step\",\"path\":\"0\"}
+{\"e\":\"step\",\"path\":\"0.1\"}
+{\"e\":\"park\",\"path\":\"0\"}
+{\"e\":\"end\",\"path\":\"0.1\"}
+{\"e\":\"pass\",\"number\":1,\"owner\":\"0\"}
+{\"e\":\"resume\",\"path\":\"0\",\"worker\":1}
+{\"e\":\"step\",\"path\":\"0\"}
+{\"e\":\"park\",\"path\":\"0\"}
+{\"e\":\"pass\",\"number\":0,\"owner\":\"0\"}
+";
+
+/// Lines of its picture, each of which the description of the picture asks for.
+const LINES_OF_ITS_PICTURE: &[&str] = &[
+    "<text class=\"heading\" x=\"96\" y=\"24\">a &lt;b&gt; &amp; &quot;c&quot;</text>\n",
+    "2 workers · 14 events · 2 tasks · 2 finish scopes · 1 steal · work 5 steps · span 4 steps · parallelism 1.25<",
+    ">worker 1</text>\n",
+    ">event</text>\n",
+    "<rect class=\"p0\" x=\"96\" y=\"90\" width=\"112\" height=\"30\"><title>task 0, events 0 to 7, 5 of its own</title></rect>\n",
+    "<rect class=\"p1\" x=\"152\" y=\"164\" width=\"70\" height=\"30\"><title>task 0.1, events 4 to 8, 3 of its own</title></rect>\n",
+    "<rect class=\"p0\" x=\"236\" y=\"164\" width=\"42\" height=\"30\"><title>task 0, events 10 to 12, 3 of its own</title></rect>\n",
+    "<title>2 spawn 0</title>",
+    "<line class=\"steal\" x1=\"145\" y1=\"126\" x2=\"145\" y2=\"161\"/>\n",
+    "<line class=\"wait\" x1=\"201\" y1=\"266\" x2=\"236\" y2=\"266\"/>\n",
+    ">finish 0#1</text>\n",
+    ">depth 1</text>\n",
+    "</svg>\n",
+];
+
+/// Lines that no run makes: tasks that are taken twice or never, ends of nothing, workers that the run doesn't have.
+const NO_RUN: &str = "{\"format\":1,\"nest\":100,\"steps\":1000000,\"w0\":8,\"workers\":2}
+{\"e\":\"end\",\"path\":\"0.7\"}
+{\"e\":\"spawn\",\"path\":\"0.7\"}
+{\"e\":\"take\",\"path\":\"0\",\"worker\":3}
+{\"e\":\"take\",\"path\":\"0.1\",\"worker\":3}
+{\"e\":\"resume\",\"path\":\"0\",\"worker\":1}
+{\"e\":\"take\",\"path\":\"0\",\"worker\":2}
+{\"e\":\"steal\",\"from\":63,\"path\":\"0\",\"worker\":63}
+{\"e\":\"pass\",\"number\":4294967295,\"owner\":\"0.9\"}
+{\"e\":\"park\",\"path\":\"0\"}
+{\"e\":\"park\",\"path\":\"0\"}
+{\"e\":\"pass\",\"number\":0,\"owner\":\"0\"}
+{\"e\":\"open\",\"path\":\"0\"}
+";
+
+/// A trace, read.
+fn trace(rt: &impl Abort, alloc: Global, text: &str) -> (Header, Vec<Event>) {
+    read_lines(alloc, text).expect(rt, "a trace")
+}
+
+/// What the spans of a text are, in the order of the file: `0B0 0E8 1B4 ..` as worker, phase and time.
+fn told_spans(rt: &impl Abort, alloc: Global, text: &str) -> String {
+    let value = Value::from_str(alloc, text).expect(rt, "JSON");
+    let events = value
+        .get("traceEvents")
+        .and_then(Value::as_array)
+        .expect(rt, "events");
+    let mut told = String::new(alloc);
+    for event in events {
+        let phase = event
+            .get("ph")
+            .and_then(Value::as_str)
+            .expect(rt, "a phase");
+        if phase == "B" || phase == "E" {
+            let worker = event
+                .get("tid")
+                .and_then(Value::as_u64)
+                .expect(rt, "a worker");
+            let time = event.get("ts").and_then(Value::as_u64).expect(rt, "a time");
+            write!(told, "{worker}{phase}{time} ").expect(rt, "memory");
+        }
+    }
+    told
+}
+
+#[test]
+fn a_picture_has_its_bars_arrows_and_brackets(rt: HostRuntime) {
+    let alloc = rt.alloc();
+    let (header, events) = trace(&rt, alloc, TWO_WORKERS);
+    let picture = draw(alloc, "a <b> & \"c\"", &header, &events).expect(&rt, "memory");
+    for line in LINES_OF_ITS_PICTURE {
+        assert!(rt; picture.as_str().contains(*line), "{line}");
+    }
+}
+
+/// How many rectangles of a class a picture has.
+fn rectangles(picture: &str, class: &str) -> usize {
+    picture.matches(class).count()
+}
+
+#[test]
+fn as_many_cells_are_underlined_as_the_span_says(rt: HostRuntime) {
+    let alloc = rt.alloc();
+    let (header, events) = trace(&rt, alloc, TWO_WORKERS);
+    let picture = draw(alloc, "", &header, &events).expect(&rt, "memory");
+    // The legend has one more.
+    assert_eq!(rt; rectangles(picture.as_str(), "<rect class=\"chain\""), 5);
+    assert_eq!(rt; rectangles(picture.as_str(), "<circle class=\"back\""), 2);
+}
+
+#[test]
+fn spans_nest(rt: HostRuntime) {
+    let alloc = rt.alloc();
+    let (_, events) = trace(&rt, alloc, TWO_WORKERS);
+    let text = spans(alloc, &events).expect(&rt, "memory");
+    let told = told_spans(&rt, alloc, text.as_str());
+    assert_eq!(rt; told.as_str(), "0B0 0E8 1B4 1E9 1B10 1E13 ");
+}
+
+#[test]
+fn arrows_lead_from_spawns_to_takes(rt: HostRuntime) {
+    let alloc = rt.alloc();
+    let (_, events) = trace(&rt, alloc, TWO_WORKERS);
+    let text = spans(alloc, &events).expect(&rt, "memory");
+    let spawn =
+        "{\"ph\":\"s\",\"id\":\"0.1\",\"name\":\"spawn\",\"cat\":\"spawn\",\"pid\":0,\"tid\":0,\"ts\":2}";
+    let take =
+        "{\"ph\":\"f\",\"bp\":\"e\",\"id\":\"0.1\",\"name\":\"spawn\",\"cat\":\"spawn\",\"pid\":0,\"tid\":1,\"ts\":4}";
+    assert!(rt; text.as_str().contains(spawn));
+    assert!(rt; text.as_str().contains(take));
+}
+
+#[test]
+fn no_events_have_a_picture(rt: HostRuntime) {
+    let alloc = rt.alloc();
+    let (header, _) = trace(&rt, alloc, TWO_WORKERS);
+    let picture = draw(alloc, "", &header, &[]).expect(&rt, "memory");
+    assert!(rt;
+        picture.as_str().contains("2 workers · 0 events · 1 task · 1 finish scope · 0 steals")
+    );
+    assert!(rt; picture.as_str().ends_with("</svg>\n"));
+    let text = spans(alloc, &[]).expect(&rt, "memory");
+    let told = told_spans(&rt, alloc, text.as_str());
+    assert_eq!(rt; told.as_str(), "");
+}
+
+#[test]
+fn events_of_no_run_have_a_picture(rt: HostRuntime) {
+    let alloc = rt.alloc();
+    let (header, events) = trace(&rt, alloc, NO_RUN);
+    let picture = draw(alloc, "no run", &header, &events).expect(&rt, "memory");
+    assert!(rt; picture.as_str().contains(">worker 63</text>"));
+    assert!(rt; picture.as_str().ends_with("</svg>\n"));
+    let text = spans(alloc, &events).expect(&rt, "memory");
+    let told = told_spans(&rt, alloc, text.as_str());
+    assert_eq!(rt; told.as_str(), "3B2 3E3 3B3 3E12 1B4 1E12 2B5 2E9 ");
+}
