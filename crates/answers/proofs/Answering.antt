@@ -28,7 +28,7 @@ use Rattle.race_checker.specs.Clash.{IsAccepted}
 use Rattle.race_checker.specs.Races.{IsLeastRace, Race as ProgramRace}
 use Rattle.answers.specs.Answers.{Answers, AnswersCheck, AnswersExplore, AnswersList, AnswersPairs}
 use Rattle.answers.specs.Answers.{Explores, IsExplored}
-use Rattle.answers.specs.Answers.{Does, Explains, Failed, HasRace, IsCodeOf, IsRunBy, LooksForRaces, Shows}
+use Rattle.answers.specs.Answers.{Answer, Does, Done, Explains, Failed, HasRace, IsCodeOf, IsRunBy, LooksForRaces, Shows}
 use Rattle.answers.specs.Answers.{TellsNoCode, TellsNotAccepted, TellsRaceTo, TellsUnspelled, TestsRules}
 use Rattle.answers.specs.Answers.{AnswersLabels, AnswersPlaces, AnswersFormat, AnswersCheckFormat, NeedsLayout}
 use Rattle.layout.specs.Kept.{HaveSameTokens, IsLaidOut, KeepsAll}
@@ -52,6 +52,7 @@ use Rattle.intake.specs.declared.failure.Failure.TheVariants.{Run as RunFailed, 
 use Rattle.command_line.specs.declared.request.Command.{Command}
 use Rattle.command_line.specs.declared.request.Command.TheVariants.{Run, Serial, Check, Listing, Pairs, Explore}
 use Rattle.command_line.specs.declared.request.Command.TheVariants.{Labels, Places, Format, CheckFormat}
+use Rattle.command_line.specs.declared.request.Command.TheVariants.{View, Summary, Draw, Chrome}
 
 -- ---- failures
 
@@ -74,16 +75,42 @@ pub if_err_passed : {T : Type 0} (r : Result T Failure) (f : Failure) (Q : Failu
 if_err_passed (Ok x) f Q is fact = absurd is
 if_err_passed (Err y) f Q is fact = subst Q (sym is) fact
 
-module _ (c : Command) (s : Settings) (held : Held) (text : List ℕ) (b : Option (List ℕ)) where
+module _ (Is : Answer) (Why : Failure → Type 0) where
   -- a failure that comes before anything is written
-  pub refuses : (f : Failure) → Explains c s held text f → f ≢ CannotWriteOutput → Failed c s held text b b f
-  refuses f why other = record { why = why; silent = λ _. Keeps-refl b; begun = λ is. absurd (other is) }
+  pub refused : (b : Option (List ℕ)) (f : Failure) → Why f → f ≢ CannotWriteOutput → Failed Is Why b b f
+  refused b f why other = record { why = why; silent = λ _. Keeps-refl b; begun = λ is. absurd (other is) }
+
+  -- one that is passed on
+  pub passed_on : (b : Option (List ℕ)) (r : Result ℕ Failure) (f : Failure) → IsErrAnd r (λ y. y ≡ f) → Why f
+      → f ≢ CannotWriteOutput → Done Is Why b b r
+  passed_on b (Ok x) f is why other = absurd is
+  passed_on b (Err y) f is why other = subst (Failed Is Why b b) (sym is) (refused b f why other)
+
+  -- what was shown is the answer, or a beginning of it
+  pub answered : (old new : Option (List ℕ)) (r : Result ℕ Failure) (told : List ℕ) (status : ℕ) → Why CannotWriteOutput
+      → Is told status → Writes old new r told → IfOk r (λ x. x ≡ status) → IfErr r (λ f. f ≡ CannotWriteOutput)
+      → Done Is Why old new r
+  answered old new (Ok x) told status why answers written is only = record {
+    told = told;
+    answers = subst (Is told) (sym is) answers;
+    written = written;
+  }
+  answered old new (Err f) told status why answers written is only = record {
+    why = subst Why (sym only) why;
+    silent = λ other. absurd (other only);
+    begun = λ _. record { told = told; status = status; answers = answers; begun = written };
+  }
+
+module _ (c : Command) (s : Settings) (held : Held) (text : List ℕ) (b : Option (List ℕ)) where
+  -- a failure of a command that comes before anything is written
+  pub refuses : (f : Failure) → Explains c s held text f → f ≢ CannotWriteOutput
+      → Failed (Answers c s held text) (Explains c s held text) b b f
+  refuses f why other = refused (Answers c s held text) (Explains c s held text) b f why other
 
   -- one that is passed on
   pub passes_on : (r : Result ℕ Failure) (f : Failure) → IsErrAnd r (λ y. y ≡ f) → Explains c s held text f
       → f ≢ CannotWriteOutput → Does c s held text b b r
-  passes_on (Ok x) f is why other = absurd is
-  passes_on (Err y) f is why other = subst (Failed c s held text b b) (sym is) (refuses f why other)
+  passes_on r f is why other = passed_on (Answers c s held text) (Explains c s held text) b r f is why other
 
   -- ---- a text without a code
 
@@ -169,6 +196,10 @@ race_told Labels text procedure first second looks race = absurd looks
 race_told Places text procedure first second looks race = absurd looks
 race_told Format text procedure first second looks race = absurd looks
 race_told CheckFormat text procedure first second looks race = absurd looks
+race_told View text procedure first second looks race = race
+race_told Summary text procedure first second looks race = race
+race_told Draw text procedure first second looks race = race
+race_told Chrome text procedure first second looks race = race
 
 rules_tested : (c : Command) → LooksForRaces c → TestsRules c
 rules_tested Run looks = tt
@@ -181,6 +212,10 @@ rules_tested Labels looks = absurd looks
 rules_tested Places looks = absurd looks
 rules_tested Format looks = absurd looks
 rules_tested CheckFormat looks = absurd looks
+rules_tested View looks = tt
+rules_tested Summary looks = tt
+rules_tested Draw looks = tt
+rules_tested Chrome looks = tt
 
 module _ (c : Command) (looks : LooksForRaces c) (s : Settings) (held : Held) (text : List ℕ) (b : Option (List ℕ)) where
   not_accepted_explained : (f : Failure) → TellsNotAccepted text f → Explains c s held text f
@@ -344,16 +379,8 @@ pairs_answer text code kept list is_code are listed = record {
 pub shown : (c : Command) (s : Settings) (held : Held) (text : List ℕ) (old new : Option (List ℕ)) (r : Result ℕ Failure)
     (told : List ℕ) (status : ℕ) → Answers c s held text told status → Writes old new r told → IfOk r (λ x. x ≡ status)
     → IfErr r (λ f. f ≡ CannotWriteOutput) → Does c s held text old new r
-shown c s held text old new (Ok x) told status answers written is only = record {
-  told = told;
-  answers = subst (Answers c s held text told) (sym is) answers;
-  written = written;
-}
-shown c s held text old new (Err f) told status answers written is only = record {
-  why = subst (Explains c s held text) (sym only) tt;
-  silent = λ other. absurd (other only);
-  begun = λ _. record { told = told; status = status; answers = answers; begun = written };
-}
+shown c s held text old new r told status answers written is only =
+    answered (Answers c s held text) (Explains c s held text) old new r told status tt answers written is only
 
 pub outcome_shown : (arrays : Bool) (code : Program) (o p : Outcome) (declared : List Array) → o ≡ p → declared ≡ code.arrays
     → Shows arrays p code (outcome_text declared arrays o) (status_of o)
@@ -387,7 +414,7 @@ open_explored s held text leaves by some =
 
 -- a choice that names no leaf
 pub no_leaf : (s : Settings) (held : Held) (text : List ℕ) (b : Option (List ℕ)) (n : ℕ)
-    → Explores s held text (NoSuchChoice n) → Failed Explore s held text b b (NoLeaf n)
+    → Explores s held text (NoSuchChoice n) → Failed (Answers Explore s held text) (Explains Explore s held text) b b (NoLeaf n)
 no_leaf s held text b n by =
     refuses Explore s held text b (NoLeaf n) (record { by_choices = refl; explores = by }) (other_failure (NoLeaf n) tt)
 

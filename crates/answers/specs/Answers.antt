@@ -1,6 +1,6 @@
 -- What a command answers to the text of a program, and why it fails.
 use Rattle.std.specs.Prelude.{ℕ, ℤ, ◌≡◌, ◌≢◌, ◌<◌, ◌⊎◌, List, [], Bool, false, codes, IsTrue}
-use Rattle.std.specs.Prelude.{Option, Some, None, Result, MatchResult}
+use Rattle.std.specs.Prelude.{Option, Some, None, is_some, Result, MatchResult}
 use Rattle.std.specs.Io.KnownBytes.{Appends, Keeps}
 use Rattle.std.specs.List.{flat_map}
 use Rattle.std.specs.Str.{chars, IsUtf8}
@@ -43,10 +43,12 @@ use Rattle.intake.specs.declared.failure.Failure.TheVariants.{CannotRead, NotUtf
 use Rattle.intake.specs.declared.failure.Failure.TheVariants.{Race, NoMemoryInCheck, Input}
 use Rattle.intake.specs.declared.failure.Failure.TheVariants.{CannotWriteOutput, NoMemory}
 use Rattle.intake.specs.declared.failure.Failure.TheVariants.{ChoicesNotUnderstood, NoLeaf, NotLaidOut}
+use Rattle.intake.specs.declared.failure.Failure.TheVariants.{Trace, Illegal, StrangeEvents, CannotWrite}
 use Rattle.intake.specs.declared.failure.Failure.TheVariants.{Run as RunFailed}
 use Rattle.command_line.specs.declared.request.Command.{Command}
 use Rattle.command_line.specs.declared.request.Command.TheVariants.{Run, Serial, Check, Listing, Pairs, Explore}
 use Rattle.command_line.specs.declared.request.Command.TheVariants.{Labels, Places, Format, CheckFormat}
+use Rattle.command_line.specs.declared.request.Command.TheVariants.{View, Summary, Draw, Chrome}
 
 -- the text spells a program that breaks no rule, of which this is the code
 pub record IsCodeOf (text : List ℕ) (code : Program) : Type 0 where
@@ -67,6 +69,10 @@ IsRunBy Labels code = ⊥
 IsRunBy Places code = ⊥
 IsRunBy Format code = ⊥
 IsRunBy CheckFormat code = ⊥
+IsRunBy View code = IsAccepted code
+IsRunBy Summary code = IsAccepted code
+IsRunBy Draw code = IsAccepted code
+IsRunBy Chrome code = IsAccepted code
 
 -- ---- answers
 
@@ -174,7 +180,8 @@ pub record AnswersExplore (s : Settings) (held : Held) (text told : List ℕ) (s
   pub told_is : explored_text explores.run.code.arrays s.arrays comes_to ≡ Some told
   pub status_is : status ≡ explored_status comes_to
 
--- the text told, with its status, answers what is asked of a program's text
+-- the text told, with its status, answers what is asked of a program's text; what is answered of a trace
+-- stands in `viewing`
 abbrev pub Answers : Command → Settings → Held → (text told : List ℕ) → (status : ℕ) → Type 0
 Answers Run s held text told status = AnswersRun s held text told status
 Answers Serial s held text told status = AnswersSerial s held text told status
@@ -186,6 +193,10 @@ Answers Labels s held text told status = AnswersLabels text told status
 Answers Places s held text told status = AnswersPlaces text told status
 Answers Format s held text told status = AnswersFormat text told status
 Answers CheckFormat s held text told status = AnswersCheckFormat text told status
+Answers View s held text told status = ⊥
+Answers Summary s held text told status = ⊥
+Answers Draw s held text told status = ⊥
+Answers Chrome s held text told status = ⊥
 
 -- ---- failures
 
@@ -207,6 +218,10 @@ TestsRules Labels = ⊥
 TestsRules Places = ⊥
 TestsRules Format = ⊥
 TestsRules CheckFormat = ⊥
+TestsRules View = Unit {0}
+TestsRules Summary = Unit {0}
+TestsRules Draw = Unit {0}
+TestsRules Chrome = Unit {0}
 
 -- why a text has no code, memory aside: it spells no program, or one that breaks a rule
 abbrev pub TellsNoCode : (text : List ℕ) → Failure → Type 0
@@ -238,6 +253,10 @@ TellsRaceTo Labels text procedure first second = ⊥
 TellsRaceTo Places text procedure first second = ⊥
 TellsRaceTo Format text procedure first second = ⊥
 TellsRaceTo CheckFormat text procedure first second = ⊥
+TellsRaceTo View text procedure first second = HasRace text procedure first second
+TellsRaceTo Summary text procedure first second = HasRace text procedure first second
+TellsRaceTo Draw text procedure first second = HasRace text procedure first second
+TellsRaceTo Chrome text procedure first second = HasRace text procedure first second
 
 -- the command looks for races
 abbrev pub LooksForRaces : Command → Type 0
@@ -251,6 +270,10 @@ LooksForRaces Labels = ⊥
 LooksForRaces Places = ⊥
 LooksForRaces Format = ⊥
 LooksForRaces CheckFormat = ⊥
+LooksForRaces View = Unit {0}
+LooksForRaces Summary = Unit {0}
+LooksForRaces Draw = Unit {0}
+LooksForRaces Chrome = Unit {0}
 
 -- why a text has no accepted program, memory aside
 abbrev pub TellsNotAccepted : (text : List ℕ) → Failure → Type 0
@@ -288,7 +311,11 @@ pub record NeedsLayout (text : List ℕ) : Type 0 where
   pub spelled : AreTokensOf (chars text) (spelling program)
   pub not_laid : ¬ IsLaidOut (chars text) (chars text)
 
--- a failure is one of the text, for what was asked; only want of memory is free
+-- a file is named for the trace of a run
+abbrev pub IsTraced : Settings → Type 0
+IsTraced s = IsTrue (is_some s.trace)
+
+-- a failure is one of the text, for what was asked; only want of memory is free, and which file can't be written
 abbrev pub Explains : Command → Settings → Held → (text : List ℕ) → Failure → Type 0
 Explains c s held text (CannotRead name) =
     (LacksInput c s held text (CannotRead name)) ⊎ (LacksChoices c s held text (CannotRead name))
@@ -302,36 +329,46 @@ Explains c s held text (Input e) = LacksInput c s held text (Input e)
 Explains c s held text (RunFailed e) = (c ≡ Run) × IsCause s.spread.tasks e
 Explains c s held text ChoicesNotUnderstood = LacksChoices c s held text ChoicesNotUnderstood
 Explains c s held text (NoLeaf n) = LacksLeaf c s held text n
+Explains c s held text (Trace e) = ⊥
+Explains c s held text (Illegal n) = ⊥
+Explains c s held text StrangeEvents = (c ≡ Run) × IsTraced s
+Explains c s held text (CannotWrite name) = (c ≡ Run) × (s.trace ≡ Some (string_bytes name))
 Explains c s held text NotLaidOut = (c ≡ CheckFormat) × NeedsLayout text
 Explains c s held text CannotWriteOutput = Unit {0}
 Explains c s held text NoMemory = Unit {0}
 
 -- ---- what was done
 
+-- which text is an answer, with which status
+abbrev pub Answer : Type 1
+Answer = (told : List ℕ) → (status : ℕ) → Type 0
+
 -- an answer was written whole, and its status given
-pub record Wrote (c : Command) (s : Settings) (held : Held) (text : List ℕ)
-    (old new : Option (List ℕ)) (status : ℕ) : Type 0 where
+pub record Wrote (Is : Answer) (old new : Option (List ℕ)) (status : ℕ) : Type 0 where
   pub told : List ℕ
-  pub answers : Answers c s held text told status
+  pub answers : Is told status
   pub written : Appends old new told
 
 -- an answer was begun
-pub record Began (c : Command) (s : Settings) (held : Held) (text : List ℕ)
-    (old new : Option (List ℕ)) : Type 0 where
+pub record Began (Is : Answer) (old new : Option (List ℕ)) : Type 0 where
   pub told : List ℕ
   pub status : ℕ
-  pub answers : Answers c s held text told status
+  pub answers : Is told status
   pub begun : AppendsBeginning old new told
 
 -- there is a reason; nothing was written, or, where writing failed, a beginning of the answer
-pub record Failed (c : Command) (s : Settings) (held : Held) (text : List ℕ)
-    (old new : Option (List ℕ)) (f : Failure) : Type 0 where
-  pub why : Explains c s held text f
+pub record Failed (Is : Answer) (Why : Failure → Type 0) (old new : Option (List ℕ)) (f : Failure)
+    : Type 0 where
+  pub why : Why f
   pub silent : f ≢ CannotWriteOutput → Keeps old new
-  pub begun : f ≡ CannotWriteOutput → Began c s held text old new
+  pub begun : f ≡ CannotWriteOutput → Began Is old new
 
--- what is asked was done with the text of a program
+-- what is asked was done
+abbrev pub Done : Answer → (Why : Failure → Type 0) → (old new : Option (List ℕ)) → Result ℕ Failure
+    → Type 0
+Done Is Why old new r = MatchResult r (Wrote Is old new) (Failed Is Why old new)
+
+-- it was done with the text of a program
 abbrev pub Does : Command → Settings → Held → (text : List ℕ) → (old new : Option (List ℕ))
     → Result ℕ Failure → Type 0
-Does c s held text old new r =
-    MatchResult r (Wrote c s held text old new) (Failed c s held text old new)
+Does c s held text = Done (Answers c s held text) (Explains c s held text)

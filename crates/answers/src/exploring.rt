@@ -34,6 +34,7 @@ pub fn explored_by<F: FileSource>(
     ensures open { IfOk result (λ e. (leaves : ℕ) → explored_of e ≡ Open leaves → 0 < leaves) }
     ensures why { IfErr result
         (TellsNoChoices (option_map choosing_of choosing.entry) (F.held files.old)) }
+    ensures keeps { F.held files.new ≡ F.held files.old }
 {
     match choosing {
         None => by_choices(alloc, accepted, input, &[]),

@@ -35,8 +35,9 @@ pub fn run_serially<F: FileSource, O: Write, W: Watch>(
     out: &mut O,
     watch: &mut W,
 ) -> Result<u8, Failure>
-    ensures { Does Command.Serial (settings_of settings.entry) (F.held files.old) text.now
+    ensures done { Does Command.Serial (settings_of settings.entry) (F.held files.old) text.now
         (O.contents out.old) (O.contents out.new) result }
+    ensures keeps { F.held files.new ≡ F.held files.old }
 {
     let typed = typed_of(alloc, text)?;
     let input = input_of(alloc, files, &typed, settings.input)?;
@@ -74,8 +75,9 @@ pub fn run_by_choices<R: Threads + Sync, F: FileSource, O: Write>(
     files: &mut F,
     out: &mut O,
 ) -> Result<u8, Failure>
-    ensures { Does Command.Explore (settings_of settings.entry) (F.held files.old) text.now
+    ensures done { Does Command.Explore (settings_of settings.entry) (F.held files.old) text.now
         (O.contents out.old) (O.contents out.new) result }
+    ensures keeps { F.held files.new ≡ F.held files.old }
 {
     let accepted = accepted_of(rt, alloc, text)?;
     let input = input_of(alloc, files, accepted.typed(), settings.input)?;

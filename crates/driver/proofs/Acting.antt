@@ -11,12 +11,18 @@ use Rattle.std.proofs.KnownBytes.{Keeps-refl, Appends-kept}
 use Rattle.std.specs.Io.KnownBytes.{Keeps}
 use Rattle.std.specs.Prelude.{IsErrAnd}
 use Rattle.std.specs.Str.{IsUtf8}
-use Rattle.driver.specs.Acts.{Acts, ReadsAndPerforms, Reports, in_short, on_text, without_text}
-use Rattle.answers.specs.Answers.{Does, Explains, Wrote, Began, Failed}
+use Rattle.driver.specs.Acts.{Acts, AnswersAny, ExplainsAny, Leaves, Performs, ReadsAndPerforms, Reports, in_short}
+use Rattle.driver.specs.Acts.{on_text, without_text}
+use Rattle.driver.specs.Traced.{IsTraceOfText}
+use Rattle.driver.proofs.Leaving.{told_behind}
+use Rattle.answers.specs.Answers.{Answer, Done, Wrote}
+use Rattle.viewing.specs.Views.{IsDrawn, picture_name}
+use Rattle.viewing.proofs.Written.{wrote_anyway}
 use Rattle.texts.specs.Appending.{AppendsBeginning, Writes}
 use Rattle.intake.specs.Held.{Held, IsGiven, TellsNoProgram}
 use Rattle.command_line.specs.Requests.{Asked, Settings, asked_of}
 use Rattle.command_line.specs.declared.request.Command.{Command}
+use Rattle.command_line.specs.declared.request.Command.TheVariants.{Run, View, Summary, Draw, Chrome}
 use Rattle.intake.specs.declared.failure.Failure.{Failure}
 use Rattle.intake.specs.declared.failure.Failure.TheVariants.{CannotWriteOutput}
 use Rattle.command_line.specs.declared.request.Request.{Request}
@@ -27,17 +33,17 @@ begins a b (Ok x) t written = record { begun = t; rest = []; parts = sym (append
 begins a b (Err e) t begun = begun
 
 -- what was answered is handed on: whole, or a writer that fails has a beginning of it
-pub handed_over : (c : Command) (s : Settings) (held : Held) (text : List ℕ) (old mid new : Option (List ℕ)) (status : ℕ)
-    (r : Result ℕ Failure) → Wrote c s held text old mid status → Keeps mid new → IfOk r (λ n. n ≡ status)
-    → IfErr r (λ f. f ≡ CannotWriteOutput) → Does c s held text old new r
-handed_over c s held text old mid new status (Ok n) wrote keeps is _ =
-    subst (λ m. Wrote c s held text old new m) (sym is) (record {
+answered_on : (Is : Answer) (Why : Failure → Type 0) → Why CannotWriteOutput → (old mid new : Option (List ℕ)) (status : ℕ)
+    (r : Result ℕ Failure) → Wrote Is old mid status → Keeps mid new → IfOk r (λ n. n ≡ status)
+    → IfErr r (λ f. f ≡ CannotWriteOutput) → Done Is Why old new r
+answered_on Is Why why old mid new status (Ok n) wrote keeps is _ =
+    subst (λ m. Wrote Is old new m) (sym is) (record {
       told = wrote.told;
       answers = wrote.answers;
       written = Appends-kept old mid new wrote.told wrote.written keeps;
     })
-handed_over c s held text old mid new status (Err f) wrote keeps _ is = record {
-  why = subst (Explains c s held text) (sym is) tt;
+answered_on Is Why why old mid new status (Err f) wrote keeps _ is = record {
+  why = subst Why (sym is) why;
   silent = λ other. absurd (other is);
   begun = λ _. record {
     told = wrote.told;
@@ -52,26 +58,56 @@ handed_over c s held text old mid new status (Err f) wrote keeps _ is = record {
   };
 }
 
-module _ (a : Asked) (held later : Held) (keeps : later ≡ held) where
-  pub performed_on_text : (old new : Option (List ℕ)) (r : Result ℕ Failure) (text : List ℕ) → IsGiven (held a.file) (Ok text)
-      → IsUtf8 text → length text ≤ 1048576 → Does a.command a.settings later text old new r
-      → ReadsAndPerforms a held old new r
-  performed_on_text old new r text given is_text short does =
-      on_text text (record { given = given; is_text = is_text }) short
-      (subst (λ (h : Held). Does a.command a.settings h text old new r) keeps does)
+-- any command may fail by its output
+may_fail : (c : Command) (s : Settings) (held : Held) (text : List ℕ) → ExplainsAny c s held text CannotWriteOutput
+may_fail View s held text = tt
+may_fail Summary s held text = tt
+may_fail Draw s held text = tt
+may_fail Chrome s held text = tt
+may_fail _ s held text = tt
 
-pub performed_without_text : (a : Asked) (held : Held) (b : Option (List ℕ)) (r : Result ℕ Failure) (f : Failure)
-    → IsErrAnd r (λ y. y ≡ f) → TellsNoProgram held a.file f → ReadsAndPerforms a held b b r
-performed_without_text a held b (Ok x) f is told = absurd is
-performed_without_text a held b (Err y) f is told = without_text (subst (TellsNoProgram held a.file) (sym is) told) (Keeps-refl b)
+-- files aren't touched then
+leaves_on : (c : Command) (s : Settings) (text : List ℕ) (held later : Held) (status : ℕ) (r : Result ℕ Failure)
+    → IfErr r (λ f. f ≡ CannotWriteOutput) → Leaves c s text held later (Ok status) → Leaves c s text held later r
+leaves_on Run s text held later status r only w =
+    told_behind ℕ ℕ (IsTraceOfText s held text) (IsTraceOfText s held text) held later (λ bytes is. is) s.trace status r w only
+leaves_on Draw s text held later status r only w = wrote_anyway (picture_name s) (IsDrawn s held text) held later r w only
+leaves_on Chrome s text held later status r only w = wrote_anyway (picture_name s) (IsDrawn s held text) held later r w only
+leaves_on _ s text held later status r only w = w
+
+pub handed_over : (c : Command) (s : Settings) (text : List ℕ) (held later : Held) (old mid new : Option (List ℕ)) (status : ℕ)
+    (r : Result ℕ Failure) → Performs c s text held later old mid (Ok status) → Keeps mid new → IfOk r (λ n. n ≡ status)
+    → IfErr r (λ f. f ≡ CannotWriteOutput) → Performs c s text held later old new r
+handed_over c s text held later old mid new status r performs keeps is only = record {
+  done = answered_on (AnswersAny c s held text) (ExplainsAny c s held text) (may_fail c s held text) old mid new status r
+      performs.done keeps is only;
+  leaves = leaves_on c s text held later status r only performs.leaves;
+}
+
+-- files were read before, and are read behind it
+module _ (a : Asked) (held mid later last : Held) (before : mid ≡ held) (behind : last ≡ later) where
+  pub performed_on_text : (old new : Option (List ℕ)) (r : Result ℕ Failure) (text : List ℕ) → IsGiven (held a.file) (Ok text)
+      → IsUtf8 text → length text ≤ 1048576 → Performs a.command a.settings text mid later old new r
+      → ReadsAndPerforms a held last old new r
+  performed_on_text old new r text given is_text short performs =
+      on_text text (record { given = given; is_text = is_text }) short
+      (subst (λ (h : Held). Performs a.command a.settings text held h old new r) (sym behind)
+      (subst (λ (h : Held). Performs a.command a.settings text h later old new r) before performs))
+
+pub performed_without_text : (a : Asked) (held later : Held) (b : Option (List ℕ)) (r : Result ℕ Failure) (f : Failure)
+    → later ≡ held → IsErrAnd r (λ y. y ≡ f) → TellsNoProgram held a.file f → ReadsAndPerforms a held later b b r
+performed_without_text a held later b (Ok x) f keeps is told = absurd is
+performed_without_text a held later b (Err y) f keeps is told =
+    without_text (subst (TellsNoProgram held a.file) (sym is) told) (Keeps-refl b) keeps
 
 -- what was done by a request is what was asked
-pub acts : (a : Asked) (request : Request) → asked_of request ≡ a → (held : Held) (old new err_old err_new : Option (List ℕ))
-    (result : Result ℕ Failure) (status : ℕ) → ReadsAndPerforms (asked_of request) held old new result
-    → Reports request.explain err_old err_new result status → Acts a held old new err_old err_new status
-acts a request is held old new err_old err_new result status performs reports = record {
+pub acts : (a : Asked) (request : Request) → asked_of request ≡ a → (held later : Held)
+    (old new err_old err_new : Option (List ℕ)) (result : Result ℕ Failure) (status : ℕ)
+    → ReadsAndPerforms (asked_of request) held later old new result
+    → Reports request.explain err_old err_new result status → Acts a held later old new err_old err_new status
+acts a request is held later old new err_old err_new result status performs reports = record {
   result = result;
-  performs = subst (λ (b : Asked). ReadsAndPerforms b held old new result) is performs;
+  performs = subst (λ (b : Asked). ReadsAndPerforms b held later old new result) is performs;
   reports = subst (λ (b : Asked). Reports b.explain err_old err_new result status) is reports;
 }
 
@@ -83,11 +119,12 @@ pub reported : (explain : Bool) (old new : Option (List ℕ)) (r : Refusal) (sta
 reported explain old new r status bare is told = (is, record { more = string_bytes r.more; bare = bare; told = told })
 
 -- what was done is that of the same result
-pub short_of : (a : Asked) (held : Held) (old new : Option (List ℕ)) (r : Result ℕ Refusal) (s : Result ℕ Failure)
-    → in_short r ≡ s → ReadsAndPerforms a held old new s → ReadsAndPerforms a held old new (in_short r)
-short_of a held old new r s same done = subst (ReadsAndPerforms a held old new) (sym same) done
+pub short_of : (a : Asked) (held later : Held) (old new : Option (List ℕ)) (r : Result ℕ Refusal) (s : Result ℕ Failure)
+    → in_short r ≡ s → ReadsAndPerforms a held later old new s → ReadsAndPerforms a held later old new (in_short r)
+short_of a held later old new r s same done = subst (ReadsAndPerforms a held later old new) (sym same) done
 
 -- and that of a refusal with the same failure
-pub refused_of : (a : Asked) (held : Held) (old new : Option (List ℕ)) (r : Refusal) (f : Failure) → r.failure ≡ f
-    → ReadsAndPerforms a held old new (Err f) → ReadsAndPerforms a held old new (in_short (Err r))
-refused_of a held old new r f same done = subst (λ (g : Failure). ReadsAndPerforms a held old new (Err g)) (sym same) done
+pub refused_of : (a : Asked) (held later : Held) (old new : Option (List ℕ)) (r : Refusal) (f : Failure) → r.failure ≡ f
+    → ReadsAndPerforms a held later old new (Err f) → ReadsAndPerforms a held later old new (in_short (Err r))
+refused_of a held later old new r f same done =
+    subst (λ (g : Failure). ReadsAndPerforms a held later old new (Err g)) (sym same) done

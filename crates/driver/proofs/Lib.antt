@@ -1,1 +1,3 @@
 pub mod Acting
+pub mod Leaving
+pub mod TracedRuns

@@ -35,10 +35,10 @@ pub fn act<R: Threads + Wait + Sync, F: FileSource, O: Write, E: Write, W: Watch
     watch: &mut W,
 ) -> u8
     ensures asked { (a : Asked) → Asks (map string_bytes words.now) a
-        → Acts a (F.held files.old) (O.contents out.old) (O.contents out.new)
+        → Acts a (F.held files.old) (F.held files.new) (O.contents out.old) (O.contents out.new)
         (E.contents err.old) (E.contents err.new) result }
     ensures over_one { 1 < result → (a : Asked)
-        × Acts a (F.held files.old) (O.contents out.old) (O.contents out.new)
+        × Acts a (F.held files.old) (F.held files.new) (O.contents out.old) (O.contents out.new)
         (E.contents err.old) (E.contents err.new) result }
 {
     match request_of(alloc, words) {
@@ -71,7 +71,7 @@ fn perform<R: Threads + Wait + Sync, F: FileSource, O: Write, W: Watch>(
     out: &mut O,
     watch: &mut W,
 ) -> Result<u8, Refusal>
-    ensures done { ReadsAndPerforms (asked_of request.entry) (F.held files.old)
+    ensures done { ReadsAndPerforms (asked_of request.entry) (F.held files.old) (F.held files.new)
         (O.contents out.old) (O.contents out.new) (in_short result) }
     ensures bare { IfErr result
         (λ refusal. request.entry.explain ≡ false → string_bytes refusal.more ≡ []) }

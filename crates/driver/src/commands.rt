@@ -1,16 +1,18 @@
 //! What each command does with the text of its file.
 
-ghost use Rattle.std.specs.Prelude.{◌≡◌};
 ghost use Rattle.answers.specs.Answers.{Does};
 ghost use Rattle.command_line.specs.Requests.{settings as settings_of};
+ghost use Rattle.driver.specs.Acts.{Performs};
+ghost use Rattle.driver.specs.Traced.{IsTraceOfText, WritesTrace};
 
+use crate::tracing::outcome_of;
 use answers::formatting::{check_format, format};
 use answers::listing::{list_labels, list_places};
 use answers::programs::accepted_of;
 use answers::running::{run_by_choices, run_serially};
 use answers::showing::show;
 use answers::telling::{check, list, pairs};
-use command_line::request::{Command, Request, Settings, Spread};
+use command_line::request::{Command, Request, Settings};
 use intake::failure::Failure;
 use intake::files::FileSource;
 use intake::input_file::input_of;
@@ -19,9 +21,8 @@ use std::alloc::Global;
 use std::io::Write;
 use std::sync::Wait;
 use std::thread::Threads;
-use workers::gate::NoGate;
-use workers::run::run;
-use workers::settings::Settings as RunSettings;
+use viewing::drawing::{draw, draw_for_viewer};
+use viewing::tables::{view, view_numbers};
 
 /// What is asked of the text of a program.
 pub fn perform<R: Threads + Wait + Sync, F: FileSource, O: Write, W: Watch>(
@@ -33,8 +34,8 @@ pub fn perform<R: Threads + Wait + Sync, F: FileSource, O: Write, W: Watch>(
     out: &mut O,
     watch: &mut W,
 ) -> Result<u8, Failure>
-    ensures { Does request.entry.command (settings_of request.entry.settings)
-        (F.held files.old) text.now (O.contents out.old) (O.contents out.new) result }
+    ensures { Performs request.entry.command (settings_of request.entry.settings) text.now
+        (F.held files.old) (F.held files.new) (O.contents out.old) (O.contents out.new) result }
 {
     match request.command {
         Command::Run => run_as_tasks(rt, alloc, request.settings, text, files, out),
@@ -47,10 +48,15 @@ pub fn perform<R: Threads + Wait + Sync, F: FileSource, O: Write, W: Watch>(
         Command::CheckFormat => check_format(alloc, text, out),
         Command::Pairs => pairs(alloc, text, out),
         Command::Explore => run_by_choices(rt, alloc, request.settings, text, files, out),
+        Command::View => view(rt, alloc, request.settings, text, files, out),
+        Command::Summary => view_numbers(rt, alloc, request.settings, text, files, out),
+        Command::Draw => draw(rt, alloc, request.settings, text, files, out),
+        Command::Chrome => draw_for_viewer(rt, alloc, request.settings, text, files, out),
     }
 }
 
-/// `run`: runs the program as tasks, and writes its outcome; gives the exit status.
+/// `run`: runs the program as tasks, and writes its outcome, behind its trace where that is asked for; gives the exit
+/// status.
 fn run_as_tasks<R: Threads + Wait + Sync, F: FileSource, O: Write>(
     rt: &R,
     alloc: Global,
@@ -59,31 +65,18 @@ fn run_as_tasks<R: Threads + Wait + Sync, F: FileSource, O: Write>(
     files: &mut F,
     out: &mut O,
 ) -> Result<u8, Failure>
-    ensures { Does Command.Run (settings_of settings.entry) (F.held files.old) text.now
+    ensures done { Does Command.Run (settings_of settings.entry) (F.held files.old) text.now
         (O.contents out.old) (O.contents out.new) result }
+    ensures trace { let s = settings_of settings.entry in WritesTrace s.trace
+        (IsTraceOfText s (F.held files.old) text.now) (F.held files.old) (F.held files.new) result }
 {
     let accepted = accepted_of(rt, alloc, text)?;
     let input = input_of(alloc, files, accepted.typed(), settings.input)?;
-    let on = run_settings(settings);
-    match run(rt, alloc, &accepted, &input, on, &NoGate) {
-        Ok(outcome) => {
-            let arrays = &accepted.typed().code().arrays;
-            show(out, arrays, &outcome, settings.arrays)
-        }
-        Err(error) => Err(Failure::Run(error)),
-    }
-}
-
-/// What a run may spend, and on how many workers it goes, as it was asked.
-fn run_settings(settings: Settings<'_>) -> RunSettings
-    ensures budget { result.budget ≡ settings.entry.budget }
-    ensures tasks { result.tasks ≡ settings.entry.spread.tasks }
-    ensures w0 { result.w0 ≡ settings.entry.spread.w0 }
-    ensures workers { result.workers ≡ settings.entry.spread.workers }
-{
-    let Spread { tasks, w0, workers } = settings.spread;
-    match RunSettings::new(settings.budget, tasks, w0, workers) {
-        Some(on) => on,
-        None => unreachable!(),
-    }
+    let outcome = outcome_of(rt, alloc, settings, &accepted, &input, files)?;
+    show(
+        out,
+        &accepted.typed().code().arrays,
+        &outcome,
+        settings.arrays,
+    )
 }

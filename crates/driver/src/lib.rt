@@ -5,6 +5,7 @@
 pub mod act;
 pub mod commands;
 mod refusal;
+mod tracing;
 
 pub use intake::files;
 pub use texts::progress;

@@ -16,8 +16,8 @@ use Rattle.answers.proofs.Answering.{code_of_text, explores, is_explored, no_lea
 use Rattle.answers.proofs.Answering.{passes_no_choices, passes_no_input, shown}
 use Rattle.answers.proofs.running.run_by_choices.Goals as goal
 
-pub returns-in_err-input : goal.returns-in_err-input
-returns-in_err-input g c =
+pub returns-in_err-input-clause-done : goal.returns-in_err-input-clause-done
+returns-in_err-input-clause-done g c =
     let text = c.args.text.now in
     let typed = c.typed.result.now in
     let spelled = subst (λ (t : Typed). AreTokensOf (chars text) (spelling (program_of t))) (sym c.typed.ensures.field)
@@ -30,16 +30,16 @@ explored_by-requires g c =
     subst (λ (t : Typed). FitsArrays (code_of t).arrays (lists_of c.in_ok-input.input)) c.typed.ensures.field
     (FitsArrays-from_IsInput _ _ c.in_ok-input.ensures.fits)
 
-pub returns-in_err-explored : goal.returns-in_err-explored
-returns-in_err-explored g c =
+pub returns-in_err-explored-clause-done : goal.returns-in_err-explored-clause-done
+returns-in_err-explored-clause-done g c =
     let s = settings c.args.settings in let held = g.F.FileSource.held c.args.files.now in let text = c.args.text.now in
     let run = is_explored s held text c.in_ok-accepted.accepted.typed c.typed.result.now c.typed.ensures.field
     c.in_ok-accepted.ensures.spelled c.typed.ensures.no_clash (lists_of c.in_ok-input.input) c.in_ok-input.ensures.begins in
     passes_no_choices s held text run _ c.in_ok-input.ensures.keeps _ _ _ c.from_residual-in_err-explored.ensures.1
     c.in_err-explored.ensures.why
 
-pub returns-in-Ended : goal.returns-in-Ended
-returns-in-Ended g c =
+pub returns-in-Ended-clause-done : goal.returns-in-Ended-clause-done
+returns-in-Ended-clause-done g c =
     let s = settings c.args.settings in let held = g.F.FileSource.held c.args.files.now in let text = c.args.text.now in
     let kept = c.in_ok-accepted.accepted.typed in let input = lists_of c.in_ok-input.input in
     let o = outcome_of c.in-Ended.outcome in
@@ -53,8 +53,8 @@ returns-in-Ended g c =
     shown Explore s held text _ _ c.show.result _ _ (outcome_explored s held text o (map array c.deref.result.now) by arrays)
     c.show.ensures.text c.show.ensures.status c.show.ensures.failure
 
-pub returns-in-Open : goal.returns-in-Open
-returns-in-Open g c =
+pub returns-in-Open-clause-done : goal.returns-in-Open-clause-done
+returns-in-Open-clause-done g c =
     let s = settings c.args.settings in let held = g.F.FileSource.held c.args.files.now in let text = c.args.text.now in
     let kept = c.in_ok-accepted.accepted.typed in let input = lists_of c.in_ok-input.input in
     let leaves = c.in-Open.leaves in
@@ -65,8 +65,8 @@ returns-in-Open g c =
     (open_explored s held text leaves by (λ n is. c.in_ok-explored.ensures.open n (ap explored_of c.in-Open.is ∙ is)))
     c.show_open.ensures.text c.show_open.ensures.status c.show_open.ensures.failure
 
-pub returns : goal.returns
-returns g c =
+pub returns-clause-done : goal.returns-clause-done
+returns-clause-done g c =
     let s = settings c.args.settings in let held = g.F.FileSource.held c.args.files.now in let text = c.args.text.now in
     let kept = c.in_ok-accepted.accepted.typed in let input = lists_of c.in_ok-input.input in
     let n = c.in-NoSuchChoice.choice in

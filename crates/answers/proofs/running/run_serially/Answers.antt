@@ -8,14 +8,14 @@ use Rattle.command_line.specs.declared.request.Command.TheVariants.{Serial}
 use Rattle.answers.proofs.Answering.{outcome_shown, passes_no_input, shown}
 use Rattle.answers.proofs.running.run_serially.Goals as goal
 
-pub returns-in_err-input : goal.returns-in_err-input
-returns-in_err-input g c =
+pub returns-in_err-input-clause-done : goal.returns-in_err-input-clause-done
+returns-in_err-input-clause-done g c =
     passes_no_input Serial (settings c.args.settings) (g.F.FileSource.held c.args.files.now) c.args.text.now _
     (code_of c.in_ok-typed.typed) c.in_ok-typed.ensures.code tt _ _ c.from_residual-in_err-input.ensures.1
     c.in_err-input.ensures.why
 
-pub returns-in-Ok : goal.returns-in-Ok
-returns-in-Ok g c =
+pub returns-in-Ok-clause-done : goal.returns-in-Ok-clause-done
+returns-in-Ok-clause-done g c =
     let p = code_of c.in_ok-typed.typed in
     let input = lists_of c.in_ok-input.input in
     let arrays = ap (map array) c.deref.ensures.value ∙ ap (λ (q : _). map array q.arrays.items) c.code.ensures.field in

@@ -9,19 +9,19 @@ returns-in-Err-clause-asked g c a asks = absurd (c.in-Err.ensures a asks)
 
 pub returns-in-Ok-perform-clause-asked : goal.returns-in-Ok-perform-clause-asked
 returns-in-Ok-perform-clause-asked g c a asks =
-    acts a c.in-Ok.request (c.in-Ok.ensures a asks) (g.F.FileSource.held c.args.files.now) _ _ _ _ _ _
+    acts a c.in-Ok.request (c.in-Ok.ensures a asks) (g.F.FileSource.held c.args.files.now) _ _ _ _ _ _ _
     c.in-Ok-perform.ensures.done (refl, Keeps-refl _)
 
 pub returns-in-Ok-perform-clause-over_one : goal.returns-in-Ok-perform-clause-over_one
 returns-in-Ok-perform-clause-over_one g c large = (
   asked_of c.in-Ok.request,
-  acts _ c.in-Ok.request refl (g.F.FileSource.held c.args.files.now) _ _ _ _ _ _ c.in-Ok-perform.ensures.done
+  acts _ c.in-Ok.request refl (g.F.FileSource.held c.args.files.now) _ _ _ _ _ _ _ c.in-Ok-perform.ensures.done
       (refl, Keeps-refl _),
 )
 
 pub returns-in-Err-perform-clause-asked : goal.returns-in-Err-perform-clause-asked
 returns-in-Err-perform-clause-asked g c a asks =
-    acts a c.in-Ok.request (c.in-Ok.ensures a asks) (g.F.FileSource.held c.args.files.now) _ _ _ _ _ _
+    acts a c.in-Ok.request (c.in-Ok.ensures a asks) (g.F.FileSource.held c.args.files.now) _ _ _ _ _ _ _
     c.in-Err-perform.ensures.done
     (reported c.in-Ok.request.explain _ _ c.in-Err-perform.refusal _ c.in-Err-perform.ensures.bare c.tell.ensures.status
     c.tell.ensures.told)
@@ -29,7 +29,7 @@ returns-in-Err-perform-clause-asked g c a asks =
 pub returns-in-Err-perform-clause-over_one : goal.returns-in-Err-perform-clause-over_one
 returns-in-Err-perform-clause-over_one g c large = (
   asked_of c.in-Ok.request,
-  acts _ c.in-Ok.request refl (g.F.FileSource.held c.args.files.now) _ _ _ _ _ _ c.in-Err-perform.ensures.done
+  acts _ c.in-Ok.request refl (g.F.FileSource.held c.args.files.now) _ _ _ _ _ _ _ c.in-Err-perform.ensures.done
       (reported c.in-Ok.request.explain _ _ c.in-Err-perform.refusal _ c.in-Err-perform.ensures.bare
       c.tell.ensures.status c.tell.ensures.told),
 )

@@ -10,14 +10,14 @@ pub returns-in-Ok-perform-clause-done : goal.returns-in-Ok-perform-clause-done
 returns-in-Ok-perform-clause-done g c =
     let held = g.F.FileSource.held c.args.files.now in
     let text = c.in-Ok-from_utf8.ensures.cases in
-    short_of (asked_of c.args.request) held _ _ c.unexplained.result c.handed_on.result c.unexplained.ensures.same
-    (performed_on_text (asked_of c.args.request) held _ c.in-Ok.ensures.keeps _ _ c.handed_on.result
+    short_of (asked_of c.args.request) held _ _ _ c.unexplained.result c.handed_on.result c.unexplained.ensures.same
+    (performed_on_text (asked_of c.args.request) held _ _ _ c.in-Ok.ensures.keeps refl _ _ c.handed_on.result
     c.in-Ok-from_utf8.text.now
     (subst (λ (bs : List ℕ). IsGiven (held c.args.request.file.now) (Ok bs)) (sym (text.0 ∙ c.deref.ensures.value))
     c.in-Ok.ensures.given)
     (subst IsUtf8 (sym text.0) text.1)
     (subst (λ (bs : List ℕ). length bs ≤ 1048576) (sym (text.0 ∙ c.deref.ensures.value)) c.in-Ok.ensures.short)
-    (handed_over c.args.request.command (settings_of c.args.request.settings) _ c.in-Ok-from_utf8.text.now _ _ _
+    (handed_over c.args.request.command (settings_of c.args.request.settings) c.in-Ok-from_utf8.text.now _ _ _ _ _
     c.in-Ok-perform.status c.handed_on.result c.in-Ok-perform.ensures c.handed_on.ensures.keeps
     c.handed_on.ensures.status c.handed_on.ensures.failure))
 
@@ -25,8 +25,8 @@ pub returns-in-Ok-from_utf8-clause-done : goal.returns-in-Ok-from_utf8-clause-do
 returns-in-Ok-from_utf8-clause-done g c =
     let held = g.F.FileSource.held c.args.files.now in
     let text = c.in-Ok-from_utf8.ensures.cases in
-    refused_of (asked_of c.args.request) held _ _ c.explained.result c.in-Err-perform.failure c.explained.ensures.failure
-    (performed_on_text (asked_of c.args.request) held _ c.in-Ok.ensures.keeps _ _ (Err c.in-Err-perform.failure)
+    refused_of (asked_of c.args.request) held _ _ _ c.explained.result c.in-Err-perform.failure c.explained.ensures.failure
+    (performed_on_text (asked_of c.args.request) held _ _ _ c.in-Ok.ensures.keeps c.explained.ensures.keeps _ _ (Err c.in-Err-perform.failure)
     c.in-Ok-from_utf8.text.now
     (subst (λ (bs : List ℕ). IsGiven (held c.args.request.file.now) (Ok bs)) (sym (text.0 ∙ c.deref.ensures.value))
     c.in-Ok.ensures.given)
@@ -37,9 +37,9 @@ returns-in-Ok-from_utf8-clause-done g c =
 pub returns-clause-done : goal.returns-clause-done
 returns-clause-done g c =
     let held = g.F.FileSource.held c.args.files.now in
-    refused_of (asked_of c.args.request) held _ _ c.bare-in-Err-from_utf8.result c.not_utf8.result
+    refused_of (asked_of c.args.request) held _ _ _ c.bare-in-Err-from_utf8.result c.not_utf8.result
     c.bare-in-Err-from_utf8.ensures.failure
-    (performed_without_text (asked_of c.args.request) held _ (Err c.not_utf8.result) c.not_utf8.result refl
+    (performed_without_text (asked_of c.args.request) held _ _ (Err c.not_utf8.result) c.not_utf8.result c.in-Ok.ensures.keeps refl
     (no_program_text held c.args.request.file.now c.not_utf8.result c.not_utf8.ensures
     (record {
       bytes = c.deref.result.now;

@@ -1,0 +1,129 @@
+-- What files hold behind a run as tasks.
+use Rattle.std.proofs.Common.{◌≡◌, ℕ, ℤ, List, Option, Some, None, Result, Ok, Err, ap, ◌∙◌, refl, subst, sym}
+use Rattle.std.specs.Prelude.{IfErr, IsErrAnd}
+use Rattle.types.specs.Code.{Array, Program}
+use Rattle.types.specs.Outcome.{outcome}
+use Rattle.types.specs.declared.outcome.Outcome.{Outcome}
+use Rattle.command_line.specs.Requests.{Settings}
+use Rattle.intake.specs.Failures.{TellsUnwritten}
+use Rattle.intake.specs.Held.{Held, KeepsOthers, TellsNoInput}
+use Rattle.intake.specs.declared.failure.Failure.{Failure}
+use Rattle.intake.specs.declared.failure.Failure.TheVariants.{CannotRead, NotUtf8, Syntax, Types}
+use Rattle.intake.specs.declared.failure.Failure.TheVariants.{Race, NoMemoryInCheck, Input, NoMemory}
+use Rattle.intake.specs.declared.failure.Failure.TheVariants.{Run as RunFailed, StrangeEvents, CannotWrite, CannotWriteOutput}
+use Rattle.answers.specs.Answers.{Explains, TellsNotAccepted}
+use Rattle.answers.proofs.Answering.{IsOther}
+use Rattle.command_line.specs.declared.request.Command.TheVariants.{Run}
+use Rattle.viewing.specs.Files.{Wrote, WritesTo}
+use Rattle.viewing.proofs.Written.{others_kept, wrote_anyway}
+use Rattle.driver.specs.Traced.{IsTraceOf, IsTraceOfText, TellsNoOutcome, TellsNoRun, WritesTrace}
+
+-- ---- a run without an outcome
+
+pub no_outcome_no_run : (s : Settings) (f : Failure) → TellsNoOutcome s f → TellsNoRun s f
+no_outcome_no_run s (RunFailed e) told = told
+no_outcome_no_run s StrangeEvents told = told
+no_outcome_no_run s NoMemory told = tt
+no_outcome_no_run s _ told = absurd told
+
+pub not_written_no_run : (s : Settings) (name : List ℕ) (f : Failure) → s.trace ≡ Some name → TellsUnwritten name f
+    → TellsNoRun s f
+not_written_no_run s name (CannotWrite told) named is = named ∙ ap Some (sym is)
+not_written_no_run s name NoMemory named is = tt
+not_written_no_run s name _ named is = absurd is
+
+-- of a run
+pub no_run_explained : (s : Settings) (held : Held) (text : List ℕ) (f : Failure) → TellsNoRun s f
+    → Explains Run s held text f
+no_run_explained s held text (RunFailed e) told = (refl, told)
+no_run_explained s held text StrangeEvents told = (refl, told)
+no_run_explained s held text (CannotWrite name) told = (refl, told)
+no_run_explained s held text NoMemory told = tt
+no_run_explained s held text _ told = absurd told
+
+pub no_run_other : (s : Settings) (f : Failure) → TellsNoRun s f → IsOther f
+no_run_other s (RunFailed e) told = tt
+no_run_other s StrangeEvents told = tt
+no_run_other s (CannotWrite name) told = tt
+no_run_other s NoMemory told = tt
+no_run_other s _ told = absurd told
+
+-- ---- what is written
+
+-- a failure that comes before anything is written
+abbrev pub IsEarly : Failure → Type 0
+IsEarly CannotWriteOutput = ⊥
+IsEarly (CannotWrite told) = ⊥
+IsEarly _ = Unit {0}
+
+pub early_not_accepted : (text : List ℕ) (f : Failure) → TellsNotAccepted text f → IsEarly f
+early_not_accepted text CannotWriteOutput told = told
+early_not_accepted text (CannotWrite name) told = told
+early_not_accepted text _ told = tt
+
+pub early_no_input : (input : Option (List ℕ)) (held : Held) (arrays : List Array) (f : Failure)
+    → TellsNoInput input held arrays f → IsEarly f
+early_no_input input held arrays CannotWriteOutput told = told
+early_no_input input held arrays (CannotWrite name) told = told
+early_no_input input held arrays _ told = tt
+
+early_no_outcome : (s : Settings) (f : Failure) → TellsNoOutcome s f → IsEarly f
+early_no_outcome s CannotWriteOutput told = told
+early_no_outcome s (CannotWrite name) told = told
+early_no_outcome s _ told = tt
+
+module _ (T : Type 0) (AreRight : (bytes : List ℕ) → Type 0) (held later : Held) (keeps : later ≡ held) where
+  nothing_to : (name : List ℕ) (f : Failure) → IsEarly f → WritesTo {T = T} name AreRight held later (Err f)
+  nothing_to name CannotWriteOutput early = absurd early
+  nothing_to name (CannotWrite told) early = absurd early
+  nothing_to name NoMemory early = others_kept name held later keeps
+  nothing_to name _ early = keeps
+
+  nothing_written : (file : Option (List ℕ)) (f : Failure) → IsEarly f → WritesTrace {T = T} file AreRight held later (Err f)
+  nothing_written None f early = keeps
+  nothing_written (Some name) f early = nothing_to name f early
+
+  -- a failure that is passed on
+  pub passes_early : (file : Option (List ℕ)) (r : Result T Failure) (f : Failure) → IsErrAnd r (λ y. y ≡ f) → IsEarly f
+      → WritesTrace file AreRight held later r
+  passes_early file (Ok x) f is early = absurd is
+  passes_early file (Err y) f is early =
+      subst (λ (g : Failure). WritesTrace {T = T} file AreRight held later (Err g)) (sym is) (nothing_written file f early)
+
+  pub passes_no_outcome : (s : Settings) (file : Option (List ℕ)) (r : Result T Failure) (f : Failure)
+      → IsErrAnd r (λ y. y ≡ f) → TellsNoOutcome s f → WritesTrace file AreRight held later r
+  passes_no_outcome s file r f is told = passes_early file r f is (early_no_outcome s f told)
+
+-- what was written of a run is what was written of the program of a text
+module _ (T U : Type 0) (P Q : (bytes : List ℕ) → Type 0) (held later : Held) (so : (bytes : List ℕ) → P bytes → Q bytes) where
+  wrote_so : (name : List ℕ) → Wrote name P held later → Wrote name Q held later
+  wrote_so name w = record { bytes = w.bytes; right = so w.bytes w.right; given = w.given; others = w.others }
+
+  failed_so : (name : List ℕ) (f : Failure) → WritesTo {T = T} name P held later (Err f) → WritesTo {T = U} name Q held later (Err f)
+  failed_so name CannotWriteOutput w = wrote_so name w
+  failed_so name (CannotWrite told) w = w
+  failed_so name NoMemory w = w
+  failed_so name _ w = w
+
+  failed_by : (file : Option (List ℕ)) (f : Failure) → WritesTrace {T = T} file P held later (Err f)
+      → WritesTrace {T = U} file Q held later (Err f)
+  failed_by None f w = w
+  failed_by (Some name) f w = failed_so name f w
+
+  pub passes_failed : (file : Option (List ℕ)) (r : Result U Failure) (f : Failure) → IsErrAnd r (λ y. y ≡ f)
+      → WritesTrace {T = T} file P held later (Err f) → WritesTrace file Q held later r
+  passes_failed file (Ok x) f is w = absurd is
+  passes_failed file (Err y) f is w =
+      subst (λ (g : Failure). WritesTrace {T = U} file Q held later (Err g)) (sym is) (failed_by file f w)
+
+  pub told_behind : (file : Option (List ℕ)) (x : T) (r : Result U Failure) → WritesTrace file P held later (Ok x)
+      → IfErr r (λ f. f ≡ CannotWriteOutput) → WritesTrace file Q held later r
+  told_behind None x r w only = w
+  told_behind (Some name) x r w only = wrote_anyway name Q held later r (wrote_so name w) only
+
+-- files were read before
+pub traced_since : {T : Type 0} (AreRight : (bytes : List ℕ) → Type 0) (mid held later : Held) → mid ≡ held
+    → (file : Option (List ℕ)) (r : Result T Failure) → WritesTrace file AreRight mid later r
+    → WritesTrace file AreRight held later r
+traced_since AreRight mid held later keeps file r w =
+    subst (λ (h : Held). WritesTrace file AreRight h later r) keeps w

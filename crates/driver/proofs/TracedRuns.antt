@@ -1,0 +1,116 @@
+-- The trace of a run, and the file in which it is written.
+use Rattle.std.proofs.Common.{◌≡◌, ℕ, ℤ, List, Option, Some, None, Result, Ok, Err, ap, ◌∙◌, refl, subst, sym, map}
+use Rattle.std.specs.Prelude.{IfErr, IsErrAnd}
+use Rattle.types.specs.Code.{Program}
+use Rattle.types.specs.Outcome.{Budget, Outcome, outcome}
+use Rattle.types.specs.Translation.{budget}
+use Rattle.types.specs.declared.budget.Budget.{Budget as rBudget}
+use Rattle.events.specs.Events.{Event, event as event_of}
+use Rattle.interleave.specs.Jobs.{budget_of, lists_of, program_of}
+use Rattle.interleave.specs.Replay.{Legal}
+use Rattle.interleave.specs.World.{World}
+use Rattle.interleave.specs.Worlds.{outcome_of, replayed}
+use Rattle.interleave.specs.declared.job.Job.{Job}
+use Rattle.trace_text.specs.Headers.{TraceHeader, header_of as header_in}
+use Rattle.trace_text.specs.Lines.{trace_text}
+use Rattle.trace_text.specs.declared.header.Header.{Header}
+use Rattle.trace.specs.Logs.{Recorded}
+use Rattle.logged_run.specs.Ending.{LeadsToOutcome}
+use Rattle.command_line.specs.Requests.{Settings, settings}
+use Rattle.command_line.specs.declared.request.Settings.{Settings as rSettings}
+use Rattle.intake.specs.Failures.{TellsUnwritten}
+use Rattle.intake.specs.Held.{Held, IsGiven, KeepsOthers}
+use Rattle.intake.specs.declared.failure.Failure.{Failure}
+use Rattle.intake.specs.declared.failure.Failure.TheVariants.{CannotWrite, NoMemory}
+use Rattle.viewing.specs.Files.{WritesTo}
+use Rattle.driver.specs.Traced.{IsTraceOf, TellsNoOutcome, TellsNoRun, WritesTrace, header_of}
+use Rattle.driver.proofs.Leaving.{no_outcome_no_run, not_written_no_run}
+
+-- ---- why there is none
+
+module _ {T : Type 0} (s : Settings) where
+  pub if_no_outcome : (r : Result T Failure) → IfErr r (TellsNoOutcome s) → IfErr r (TellsNoRun s)
+  if_no_outcome (Ok x) told = tt
+  if_no_outcome (Err f) told = no_outcome_no_run s f told
+
+  pub passes_untold : (r : Result T Failure) (f : Failure) → IsErrAnd r (λ y. y ≡ f) → TellsNoOutcome s f
+      → IfErr r (TellsNoRun s)
+  passes_untold (Ok x) f is told = absurd is
+  passes_untold (Err y) f is told = subst (TellsNoRun s) (sym is) (no_outcome_no_run s f told)
+
+  pub passes_unwritten : (name : List ℕ) (r : Result T Failure) (f : Failure) → s.trace ≡ Some name
+      → IsErrAnd r (λ y. y ≡ f) → TellsUnwritten name f → IfErr r (TellsNoRun s)
+  passes_unwritten name (Ok x) f named is told = absurd is
+  passes_unwritten name (Err y) f named is told = subst (TellsNoRun s) (sym is) (not_written_no_run s name f named told)
+
+-- ---- the file
+
+-- none is named
+pub untraced : (T : Type 0) (AreRight : (bytes : List ℕ) → Type 0) (held : Held) (file : Option (List ℕ))
+    (r : Result T Failure) → file ≡ None → WritesTrace file AreRight held held r
+untraced T AreRight held file r is = subst (λ (f : Option (List ℕ)). WritesTrace {T = T} f AreRight held held r) (sym is) refl
+
+module _ (T : Type 0) (AreRight : (bytes : List ℕ) → Type 0) (held later : Held) where
+  not_to : (name : List ℕ) (f : Failure) → TellsUnwritten name f → KeepsOthers name held later
+      → WritesTo {T = T} name AreRight held later (Err f)
+  not_to name (CannotWrite told) why others = others
+  not_to name NoMemory why others = others
+  not_to name _ why others = absurd why
+
+  -- it can't be written
+  pub passes_failed_write : (file : Option (List ℕ)) (name : List ℕ) (r : Result T Failure) (f : Failure) → file ≡ Some name
+      → IsErrAnd r (λ y. y ≡ f) → TellsUnwritten name f → KeepsOthers name held later
+      → WritesTrace file AreRight held later r
+  passes_failed_write file name (Ok x) f named is why others = absurd is
+  passes_failed_write file name (Err y) f named is why others =
+      subst (λ (d : Option (List ℕ)). WritesTrace {T = T} d AreRight held later (Err y)) (sym named)
+      (subst (λ (g : Failure). WritesTo {T = T} name AreRight held later (Err g)) (sym is) (not_to name f why others))
+
+  -- it is written
+  pub traced_to : (file : Option (List ℕ)) (name : List ℕ) (x : T) (bytes : List ℕ) → file ≡ Some name → AreRight bytes
+      → IsGiven (later name) (Ok bytes) → KeepsOthers name held later → WritesTrace file AreRight held later (Ok x)
+  traced_to file name x bytes named right given others =
+      subst (λ (d : Option (List ℕ)). WritesTrace {T = T} d AreRight held later (Ok x)) (sym named)
+      (record { bytes = bytes; right = right; given = given; others = others })
+
+-- ---- its lines
+
+abbrev header_with : (b : rBudget) (w0 workers : ℕ) → TraceHeader
+header_with b w0 workers = record { steps = b.steps; nest = b.nest; w0 = w0; workers = workers }
+
+header_is : (h : Header) (s : rSettings) → h.budget ≡ s.budget → h.w0 ≡ s.spread.w0 → h.workers ≡ s.spread.workers
+    → header_in h ≡ header_of (settings s)
+header_is h s budget_is w0_is workers_is =
+    ap (λ (b : rBudget). header_with b h.w0 h.workers) budget_is ∙ ap (λ (w : ℕ). header_with s.budget w h.workers) w0_is
+    ∙ ap (header_with s.budget s.spread.w0) workers_is
+
+-- events lead to a world that tells this
+record Leads (p : Program) (input : List (List ℤ)) (es : List Event) (w : World) (o : Outcome) (w0 : ℕ) (b : Budget)
+    : Type 0 where
+  legal : replayed p w0 input b es ≡ Legal w
+  told : outcome_of p w0 b w ≡ Some o
+
+-- those of a log that leads to the run's outcome
+pub is_trace : (l : Recorded) (j : Job) (h : Header) (s : rSettings) (o : Outcome) (bytes : List ℕ) → l.world.job ≡ j
+    → j.budget ≡ s.budget → j.w0 ≡ s.spread.w0 → h.budget ≡ s.budget → h.w0 ≡ s.spread.w0 → h.workers ≡ s.spread.workers
+    → LeadsToOutcome l o → o ≡ outcome (program_of j) (lists_of j) (budget s.budget)
+    → bytes ≡ trace_text (header_in h) (map event_of l.events) → IsTraceOf (program_of j) (lists_of j) (settings s) bytes
+is_trace l j h s o bytes job_is budget_is w0_is header_budget header_w0 header_workers to told lines =
+    let p = program_of j in
+    let input = lists_of j in
+    let es = map event_of l.events in
+    let by_log : Leads (program_of l.world.job) (lists_of l.world.job) es to.world o l.world.job.w0 (budget_of l.world.job) =
+    record { legal = to.legal; told = to.is_told } in
+    let by_job : Leads p input es to.world o j.w0 (budget_of j) =
+    subst (λ (k : Job). Leads (program_of k) (lists_of k) es to.world o k.w0 (budget_of k)) job_is by_log in
+    let under : Leads p input es to.world o j.w0 (budget s.budget) =
+    subst (λ (b : rBudget). Leads p input es to.world o j.w0 (budget b)) budget_is by_job in
+    let leads : Leads p input es to.world o s.spread.w0 (budget s.budget) =
+    subst (λ (n : ℕ). Leads p input es to.world o n (budget s.budget)) w0_is under in
+    record {
+      events = es;
+      lines = lines ∙ ap (λ (t : TraceHeader). trace_text t es) (header_is h s header_budget header_w0 header_workers);
+      world = to.world;
+      legal = leads.legal;
+      told = leads.told ∙ ap Some told;
+    }

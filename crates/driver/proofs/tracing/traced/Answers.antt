@@ -1,0 +1,29 @@
+use Rattle.std.proofs.Common.{List, ap, ◌∙◌, map}
+use Rattle.std.specs.String.{string_bytes}
+use Rattle.types.specs.Outcome.{outcome}
+use Rattle.types.specs.Translation.{budget, input as lists_in, outcome as outcome_in}
+use Rattle.types.specs.Typed.{code_of}
+use Rattle.types.specs.declared.budget.Budget.{Budget}
+use Rattle.events.specs.Events.{event as event_of}
+use Rattle.events.specs.declared.event.Event.{Event}
+use Rattle.trace_text.specs.Headers.{header_of as header_in}
+use Rattle.trace_text.specs.Lines.{trace_text}
+use Rattle.driver.proofs.TracedRuns.{is_trace}
+use Rattle.driver.proofs.tracing.traced.Goals as goal
+
+pub returns-in-Ok-write_lines-clause-outcome : goal.returns-in-Ok-write_lines-clause-outcome
+returns-in-Ok-write_lines-clause-outcome g c =
+    c.in-Ok.ensures.outcome
+    ∙ ap (λ (b : Budget). outcome (code_of c.args.accepted.now.typed) (lists_in c.args.input.now) (budget b))
+    c.run_settings-on.ensures.budget
+
+pub returns-in-Ok-write_lines-clause-trace : goal.returns-in-Ok-write_lines-clause-trace
+returns-in-Ok-write_lines-clause-trace g c =
+    let on = c.run_settings-on.ensures in
+    let h = c.header_of.result in
+    is_trace c.in-Ok.logged.1 _ h c.args.settings (outcome_in c.in-Ok.logged.0) (string_bytes c.in-Ok-write_lines.lines)
+    c.in-Ok.ensures.job on.budget on.w0 (c.header_of.ensures.budget ∙ on.budget) (c.header_of.ensures.w0 ∙ on.w0)
+    (c.header_of.ensures.workers ∙ on.workers) c.in-Ok.ensures.told
+    (c.in-Ok.ensures.outcome
+    ∙ ap (λ (b : Budget). outcome (code_of c.args.accepted.now.typed) (lists_in c.args.input.now) (budget b)) on.budget)
+    (c.in-Ok-write_lines.ensures ∙ ap (λ (es : List Event). trace_text (header_in h) (map event_of es)) c.events.ensures)

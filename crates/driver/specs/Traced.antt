@@ -1,0 +1,58 @@
+-- The trace of a run as tasks, in the file that was named for it.
+use Rattle.std.specs.Prelude.{ℕ, ℤ, ◌≡◌, List, Option, Some, None, Result}
+use Rattle.std.specs.String.{string_bytes}
+use Rattle.types.specs.Code.{Program}
+use Rattle.types.specs.Outcome.{outcome}
+use Rattle.events.specs.Events.{Event}
+use Rattle.gather.specs.RunErrors.{IsCause}
+use Rattle.interleave.specs.World.{World}
+use Rattle.interleave.specs.Worlds.{LeadsTo, outcome_of}
+use Rattle.trace_text.specs.Headers.{TraceHeader}
+use Rattle.trace_text.specs.Lines.{trace_text}
+use Rattle.command_line.specs.Requests.{Settings}
+use Rattle.intake.specs.Held.{Held}
+use Rattle.intake.specs.declared.failure.Failure.{Failure}
+use Rattle.intake.specs.declared.failure.Failure.TheVariants.{Run as RunFailed, StrangeEvents, CannotWrite, NoMemory}
+use Rattle.answers.specs.Answers.{IsExplored, IsTraced}
+use Rattle.viewing.specs.Files.{WritesTo}
+
+-- what a run is asked for
+abbrev pub header_of : Settings → TraceHeader
+header_of s = record {
+  steps = s.budget.steps;
+  nest = s.budget.nest;
+  w0 = s.spread.w0;
+  workers = s.spread.workers;
+}
+
+-- the lines of a run of a program on an input: its events are legal from the start, one behind the other, and the
+-- world that they lead to has passed its root's scope, and tells the one-thread outcome
+pub record IsTraceOf (p : Program) (input : List (List ℤ)) (s : Settings) (bytes : List ℕ) : Type 0 where
+  pub events : List Event
+  pub lines : bytes ≡ trace_text (header_of s) events
+  pub world : World
+  pub legal : LeadsTo p s.spread.w0 input s.budget events world
+  pub told : outcome_of p s.spread.w0 s.budget world ≡ Some (outcome p input s.budget)
+
+-- the same, of the program of a text and the input that was given
+pub record IsTraceOfText (s : Settings) (held : Held) (text bytes : List ℕ) : Type 0 where
+  pub run : IsExplored s held text
+  pub trace : IsTraceOf run.code run.input s bytes
+
+-- where a file is named the right bytes are written to it, and to no other; else to none
+abbrev pub WritesTrace : {T : Type 0} → (file : Option (List ℕ)) → (AreRight : (bytes : List ℕ) → Type 0)
+    → (held later : Held) → Result T Failure → Type 0
+WritesTrace None AreRight held later r = later ≡ held
+WritesTrace (Some name) AreRight held later r = WritesTo name AreRight held later r
+
+-- why a run has no outcome; only want of memory is free
+abbrev pub TellsNoOutcome : Settings → Failure → Type 0
+TellsNoOutcome s (RunFailed e) = IsCause s.spread.tasks e
+TellsNoOutcome s StrangeEvents = IsTraced s
+TellsNoOutcome s NoMemory = Unit {0}
+TellsNoOutcome s _ = ⊥
+
+-- the same, or why its trace wasn't written
+abbrev pub TellsNoRun : Settings → Failure → Type 0
+TellsNoRun s (CannotWrite told) = s.trace ≡ Some (string_bytes told)
+TellsNoRun s f = TellsNoOutcome s f

@@ -1,0 +1,116 @@
+//! The run as tasks, whose trace is written where a file is named for it.
+
+ghost use Rattle.std.specs.Prelude.{◌≡◌, ◌<◌, IfErr, IfOk};
+ghost use Rattle.std.specs.String.{string_bytes};
+ghost use Rattle.types.specs.Contents.{FitsArrays};
+ghost use Rattle.types.specs.Outcome.{outcome as one_thread_outcome};
+ghost use Rattle.types.specs.Translation.{budget as budget_of};
+ghost use Rattle.types.specs.Translation.{input as lists_in, outcome as outcome_in};
+ghost use Rattle.types.specs.Typed.{code_of};
+ghost use Rattle.command_line.specs.Requests.{settings as settings_of};
+ghost use Rattle.answers.specs.Answers.{IsTraced};
+ghost use Rattle.driver.specs.Traced.{IsTraceOf, TellsNoOutcome, TellsNoRun, WritesTrace};
+
+use command_line::request::{Settings, Spread};
+use intake::failure::Failure;
+use intake::files::{FileSource, write_file};
+use logged_run::error::LoggedRunError;
+use logged_run::run::{header_of, run_logged};
+use race_checker::accepted::Accepted;
+use std::alloc::Global;
+use std::sync::Wait;
+use std::thread::Threads;
+use trace_text::write::write_lines;
+use types::input::Input;
+use types::outcome::Outcome;
+use workers::gate::NoGate;
+use workers::run::run;
+use workers::settings::Settings as RunSettings;
+
+/// The outcome of a run as tasks. Where a file is named for its trace, that is written before the outcome is told.
+pub fn outcome_of<R: Threads + Wait + Sync, F: FileSource>(
+    rt: &R,
+    alloc: Global,
+    settings: Settings<'_>,
+    accepted: &Accepted,
+    input: &Input,
+    files: &mut F,
+) -> Result<Outcome, Failure>
+    requires { FitsArrays (code_of accepted.now.typed).arrays (lists_in input.now) }
+    ensures outcome { IfOk result (λ o. outcome_in o ≡ one_thread_outcome
+        (code_of accepted.now.typed) (lists_in input.now) (budget_of settings.entry.budget)) }
+    ensures why { IfErr result (TellsNoRun (settings_of settings.entry)) }
+    ensures trace { let s = settings_of settings.entry in WritesTrace s.trace
+        (IsTraceOf (code_of accepted.now.typed) (lists_in input.now) s)
+        (F.held files.old) (F.held files.new) result }
+{
+    match settings.trace {
+        None => untraced(rt, alloc, settings, accepted, input),
+        Some(name) => {
+            let (outcome, trace) = traced(rt, alloc, settings, accepted, input)?;
+            write_file(alloc, files, name, trace.as_bytes())?;
+            Ok(outcome)
+        }
+    }
+}
+
+/// The outcome of a run of which nothing is noted.
+fn untraced<R: Threads + Wait + Sync>(
+    rt: &R,
+    alloc: Global,
+    settings: Settings<'_>,
+    accepted: &Accepted,
+    input: &Input,
+) -> Result<Outcome, Failure>
+    requires { FitsArrays (code_of accepted.now.typed).arrays (lists_in input.now) }
+    ensures outcome { IfOk result (λ o. outcome_in o ≡ one_thread_outcome
+        (code_of accepted.now.typed) (lists_in input.now) (budget_of settings.entry.budget)) }
+    ensures why { IfErr result (TellsNoOutcome (settings_of settings.entry)) }
+{
+    match run(rt, alloc, accepted, input, run_settings(settings), &NoGate) {
+        Ok(outcome) => Ok(outcome),
+        Err(error) => Err(Failure::Run(error)),
+    }
+}
+
+/// The outcome of a run, and the lines of its trace.
+fn traced<R: Threads + Wait + Sync>(
+    rt: &R,
+    alloc: Global,
+    settings: Settings<'_>,
+    accepted: &Accepted,
+    input: &Input,
+) -> Result<(Outcome, String), Failure>
+    requires fits { FitsArrays (code_of accepted.now.typed).arrays (lists_in input.now) }
+    requires traced { IsTraced (settings_of settings) }
+    ensures outcome { IfOk result (λ r. outcome_in r.0 ≡ one_thread_outcome
+        (code_of accepted.now.typed) (lists_in input.now) (budget_of settings.entry.budget)) }
+    ensures trace { IfOk result (λ r. IsTraceOf (code_of accepted.now.typed) (lists_in input.now)
+        (settings_of settings.entry) (string_bytes r.1)) }
+    ensures why { IfErr result (TellsNoOutcome (settings_of settings.entry)) }
+{
+    let on = run_settings(settings);
+    let (outcome, log) = match run_logged(rt, alloc, accepted, input, on, &NoGate) {
+        Ok(logged) => logged,
+        Err(LoggedRunError::Run(error)) => return Err(Failure::Run(error)),
+        Err(LoggedRunError::Unlogged) => return Err(Failure::StrangeEvents),
+    };
+    match write_lines(alloc, &header_of(on), log.events()) {
+        Ok(lines) => Ok((outcome, lines)),
+        Err(_) => Err(Failure::NoMemory),
+    }
+}
+
+/// What a run may spend, and on how many workers it goes, as it was asked.
+fn run_settings(settings: Settings<'_>) -> RunSettings
+    ensures budget { result.budget ≡ settings.entry.budget }
+    ensures tasks { result.tasks ≡ settings.entry.spread.tasks }
+    ensures w0 { result.w0 ≡ settings.entry.spread.w0 }
+    ensures workers { result.workers ≡ settings.entry.spread.workers }
+{
+    let Spread { tasks, w0, workers } = settings.spread;
+    match RunSettings::new(settings.budget, tasks, w0, workers) {
+        Some(on) => on,
+        None => unreachable!(),
+    }
+}

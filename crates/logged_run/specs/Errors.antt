@@ -1,0 +1,23 @@
+-- Why a run under a log has no outcome.
+use Rattle.std.specs.Prelude.{ℕ, List, codes}
+use Rattle.gather.specs.RunErrors.{IsCause, error_code as code_of_run}
+use Rattle.gather.specs.declared.run_error.RunError.TheVariants.{OutOfMemory}
+use Rattle.trace.specs.declared.log_error.LogError.{LogError}
+use Rattle.trace.specs.declared.log_error.LogError.TheVariants.{Illegal, NoMemory}
+use Rattle.logged_run.specs.declared.error.LoggedRunError.{LoggedRunError}
+use Rattle.logged_run.specs.declared.error.LoggedRunError.TheVariants.{Run, Unlogged}
+
+-- the code that the program prints
+abbrev pub error_code : LoggedRunError → List ℕ
+error_code (Run e) = code_of_run e
+error_code Unlogged = codes "E5"
+
+-- why a run is refused where its log refuses an event
+abbrev pub of_log : LogError → LoggedRunError
+of_log Illegal = Unlogged
+of_log NoMemory = Run OutOfMemory
+
+-- E2 has a ticket whose number is the most tasks that the run may have, or more
+abbrev pub IsCauseOrUnlogged : (tasks : ℕ) → LoggedRunError → Type 0
+IsCauseOrUnlogged tasks (Run e) = IsCause tasks e
+IsCauseOrUnlogged tasks Unlogged = Unit {0}

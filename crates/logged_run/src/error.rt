@@ -1,0 +1,52 @@
+//! Why a run under a log has no outcome.
+
+ghost use Rattle.std.specs.Prelude.{◌≡◌};
+ghost use Rattle.logged_run.specs.Errors.{error_code};
+
+use trace::log_error::LogError;
+use workers::error::RunError;
+
+/// Why a run under a log has no outcome: what came first.
+#[derive(PartialEq, Eq, Debug, Drop)]
+pub enum LoggedRunError {
+    /// `E1` to `E4`, as without a log: `E2` of `main { async { } }` where there may be one task. `E1` also where the log
+    /// finds no memory, as may be of `main { }`.
+    Run(RunError),
+    /// `E5`: what the workers did isn't legal, or doesn't lead to the end of the run. No run is known that comes to it.
+    Unlogged,
+}
+
+impl LoggedRunError {
+    /// The code that the program prints.
+    pub fn code(&self) -> &'static str
+        ensures { result.now ≡ error_code self.now }
+    {
+        match self {
+            LoggedRunError::Run(error) => error.code(),
+            LoggedRunError::Unlogged => "E5",
+        }
+    }
+}
+
+impl From<RunError> for LoggedRunError {
+    ghost use Rattle.logged_run.specs.declared.error.LoggedRunError.TheVariants.{Run};
+
+    ghost from_gives = { λ e r. r ≡ Run e };
+
+    fn from(error: RunError) -> LoggedRunError {
+        LoggedRunError::Run(error)
+    }
+}
+
+impl From<LogError> for LoggedRunError {
+    ghost use Rattle.logged_run.specs.Errors.{of_log};
+
+    ghost from_gives = { λ e r. r ≡ of_log e };
+
+    fn from(error: LogError) -> LoggedRunError {
+        match error {
+            LogError::Illegal => LoggedRunError::Unlogged,
+            LogError::NoMemory => LoggedRunError::Run(RunError::OutOfMemory),
+        }
+    }
+}

@@ -1,0 +1,93 @@
+//! The run of an accepted program on worker threads, with a log of what they did.
+
+ghost use Rattle.std.specs.Prelude.{◌≡◌, IfErr, IfOk, ℕ};
+ghost use Rattle.std.specs.Bool.{OnTrue};
+ghost use Rattle.types.specs.Contents.{FitsArrays};
+ghost use Rattle.types.specs.Outcome.{outcome as one_thread_outcome};
+ghost use Rattle.types.specs.Translation.{budget as budget_of, input as lists_in};
+ghost use Rattle.types.specs.Translation.{outcome as outcome_in};
+ghost use Rattle.types.specs.Typed.{code_of};
+ghost use Rattle.trace.specs.Logs.{IsClean};
+ghost use Rattle.logged_run.specs.Ending.{LeadsToOutcome, one_thread};
+ghost use Rattle.logged_run.specs.Errors.{IsCauseOrUnlogged};
+
+use crate::error::LoggedRunError;
+use events::event::Event;
+use race_checker::accepted::Accepted;
+use std::alloc::Global;
+use std::sync::Wait;
+use std::thread::Threads;
+use trace::log::Log;
+use trace_text::header::Header;
+use types::input::Input;
+use types::outcome::Outcome;
+use workers::gate::Gate;
+use workers::run::run_noted;
+use workers::settings::Settings;
+
+/// Runs a program on an input as `workers` does, and answers a log of what they did beside the outcome. Nothing is
+/// known of what they note: it is judged here, behind the run, by the world of events.
+pub fn run_logged<'p, G: Gate + Sync, R: Threads + Wait + Sync>(
+    rt: &R,
+    alloc: Global,
+    accepted: &'p Accepted,
+    input: &'p Input,
+    settings: Settings,
+    gate: &'p G,
+) -> Result<(Outcome, Log<'p>), LoggedRunError>
+    requires { FitsArrays (code_of accepted.now.typed).arrays (lists_in input.now) }
+    ensures outcome { IfOk result (λ r. outcome_in r.0 ≡ one_thread_outcome
+        (code_of accepted.now.typed) (lists_in input.now) (budget_of settings.budget)) }
+    ensures clean { IfOk result (λ r. IsClean r.1) }
+    ensures job { IfOk result (λ r. r.1.world.job ≡ record {
+      alloc = alloc;
+      accepted = accepted.entry;
+      input = input.entry;
+      budget = settings.budget;
+      w0 = settings.w0;
+    }) }
+    ensures told { IfOk result (λ r. LeadsToOutcome r.1 (outcome_in r.0)) }
+    ensures cause { IfErr result (IsCauseOrUnlogged settings.tasks) }
+{
+    let (outcome, events) = run_noted(rt, alloc, accepted, input, settings, gate)?;
+    let log = Log::new(alloc, &header_of(settings), accepted, input)?;
+    let log = recorded(log, events)?;
+    // The outcome and what is told of a world that has ended are both that of one thread, so they are never compared.
+    if has_ended(&log) {
+        Ok((outcome, log))
+    } else {
+        Err(LoggedRunError::Unlogged)
+    }
+}
+
+/// What a run of these settings was asked for, as its trace tells it.
+pub fn header_of(settings: Settings) -> Header
+    ensures budget { result.budget ≡ settings.budget }
+    ensures w0 { result.w0 ≡ settings.w0 }
+    ensures workers { result.workers ≡ settings.workers }
+{
+    match Header::new(settings.budget, settings.w0, settings.workers as u32) {
+        Some(header) => header,
+        None => unreachable!(),
+    }
+}
+
+/// A log with more events, one behind the other.
+fn recorded<'p>(log: Log<'p>, events: Vec<Event>) -> Result<Log<'p>, LoggedRunError>
+    ensures job { IfOk result (λ l. l.world.job ≡ log.entry.world.job) }
+    ensures cause { IfErr result (λ e. (tasks : ℕ) → IsCauseOrUnlogged tasks e) }
+{
+    let mut log = log;
+    'events: for event in events {
+        log.record(event)?;
+    }
+    Ok(log)
+}
+
+/// Whether the run has ended by the events of its log.
+fn has_ended(log: &Log<'_>) -> bool
+    ensures clean { IsClean log.now }
+    ensures ended { OnTrue result (LeadsToOutcome log.now (one_thread log.now.world.job)) }
+{
+    log.world().outcome().is_some()
+}

@@ -1,0 +1,133 @@
+-- From a trace that is there, or from why it isn't, to what was done.
+use Rattle.std.proofs.Common.{◌≡◌, inl, inr, ℕ, List, Option, Result, ap, ◌∙◌, refl, subst}
+use Rattle.std.specs.Prelude.{IsErrAnd}
+use Rattle.types.specs.Code.{Program}
+use Rattle.race_checker.specs.Clash.{IsAccepted}
+use Rattle.events.specs.declared.event.Event.{Event}
+use Rattle.interleave.specs.Replay.{IllegalAt}
+use Rattle.interleave.specs.Replaying.{comes, IsRefused}
+use Rattle.interleave.specs.declared.error.ReplayError.{ReplayError}
+use Rattle.interleave.specs.declared.error.ReplayError.TheVariants.{IllegalAt as rIllegalAt}
+use Rattle.interleave.specs.declared.job.Job.{Job}
+use Rattle.trace_text.specs.declared.header.Header.{Header}
+use Rattle.command_line.specs.Requests.{Settings}
+use Rattle.command_line.specs.declared.request.Command.{Command}
+use Rattle.intake.specs.Failures.{TellsNotUtf8, TellsUnwritten}
+use Rattle.intake.specs.Held.{Held, HasNoText, TellsNoInput}
+use Rattle.intake.specs.declared.failure.Failure.{Failure}
+use Rattle.intake.specs.declared.failure.Failure.TheVariants.{CannotRead, NotUtf8, Syntax, Types}
+use Rattle.intake.specs.declared.failure.Failure.TheVariants.{Race, NoMemoryInCheck, Input, NoMemory}
+use Rattle.intake.specs.declared.failure.Failure.TheVariants.{Trace, Illegal, CannotWrite}
+use Rattle.answers.specs.Answers.{IsCodeOf, IsExplored, TellsNotAccepted}
+use Rattle.answers.proofs.Answering.{IsOther, other_failure, passed_on}
+use Rattle.viewing.specs.Views.{AnswersTrace, Draws, ExplainsTrace, HasTrace, HoldsTrace, IsDrawnTo, TellsIllegal}
+use Rattle.viewing.specs.Views.{TellsNoLines, TellsNoTrace, Views, picture_name, trace_name}
+
+-- ---- a trace's file
+
+-- bytes that are no text
+pub no_text_no_lines : (held : Held) (name : List ℕ) (f : Failure) → TellsNotUtf8 name f → HasNoText held name
+    → TellsNoLines held name f
+no_text_no_lines held name (NotUtf8 told) is bytes = (is, bytes)
+no_text_no_lines held name NoMemory is bytes = tt
+no_text_no_lines held name _ is bytes = absurd is
+
+-- it holds the trace, whoever read other files before
+pub holds_so : (later held : Held) → later ≡ held → (name known : List ℕ) → name ≡ known → (h : Header) (es : List Event)
+    → HoldsTrace later name h es → HoldsTrace held known h es
+holds_so later held keeps name known same h es holds =
+    subst (λ (n : List ℕ). HoldsTrace held n h es) same (subst (λ (g : Held). HoldsTrace g name h es) keeps holds)
+
+-- ---- its events
+
+-- what they come to, whatever job is the same
+pub comes_same : (j k : Job) → j ≡ k → (es fs : List Event) → es ≡ fs → comes j es ≡ comes k fs
+comes_same j k same es fs are = ap (λ (i : Job). comes i es) same ∙ ap (comes k) are
+
+pub refused_at : (j : Job) (es : List Event) (e : ReplayError) (n : ℕ) → e ≡ rIllegalAt n → IsRefused j es e
+    → comes j es ≡ IllegalAt n
+refused_at j es e n is refused = subst (IsRefused j es) is refused
+
+module _ (s : Settings) (held : Held) (text : List ℕ) where
+  -- ---- why there is no trace
+
+  pub not_accepted : (f : Failure) → TellsNotAccepted text f → TellsNoTrace s held text f
+  not_accepted (Syntax e) told = told
+  not_accepted (Types e) told = told
+  not_accepted (Race procedure first second) told = told
+  not_accepted NoMemoryInCheck told = told
+  not_accepted _ told = absurd told
+
+  pub no_input : (code : Program) → IsCodeOf text code → IsAccepted code → (f : Failure)
+      → TellsNoInput s.input held code.arrays f → TellsNoTrace s held text f
+  no_input code is_code is_run (CannotRead name) told =
+      inl (record { code = code; is_code = is_code; is_run = is_run; why = told })
+  no_input code is_code is_run (NotUtf8 name) told =
+      inl (record { code = code; is_code = is_code; is_run = is_run; why = told })
+  no_input code is_code is_run (Input e) told = record { code = code; is_code = is_code; is_run = is_run; why = told }
+  no_input code is_code is_run NoMemory told = tt
+  no_input code is_code is_run _ told = absurd told
+
+  pub no_lines : IsExplored s held text → (f : Failure) → TellsNoLines held (trace_name s) f → TellsNoTrace s held text f
+  no_lines run (CannotRead name) told = inr (record { run = run; why = told })
+  no_lines run (NotUtf8 name) told = inr (record { run = run; why = told })
+  no_lines run (Trace e) told = record { run = run; why = told }
+  no_lines run NoMemory told = tt
+  no_lines run _ told = absurd told
+
+  pub not_legal : (run : IsExplored s held text) (h : Header) (es : List Event) → HoldsTrace held (trace_name s) h es
+      → (f : Failure) → TellsIllegal run.code run.input h es f → TellsNoTrace s held text f
+  not_legal run h es holds (Illegal n) told =
+      record { run = run; header = h; events = es; holds = holds; why = told }
+  not_legal run h es holds NoMemory told = tt
+  not_legal run h es holds _ told = absurd told
+
+  -- ---- what is answered then
+
+  explained : (c : Command) (f : Failure) → TellsNoTrace s held text f → ExplainsTrace c s held text f
+  explained c (CannotRead name) told = told
+  explained c (NotUtf8 name) told = told
+  explained c (Syntax e) told = told
+  explained c (Types e) told = told
+  explained c (Race procedure first second) told = told
+  explained c NoMemoryInCheck told = told
+  explained c (Input e) told = told
+  explained c (Trace e) told = told
+  explained c (Illegal n) told = told
+  explained c NoMemory told = tt
+  explained c _ told = absurd told
+
+  other : (f : Failure) → TellsNoTrace s held text f → IsOther f
+  other (CannotRead name) told = tt
+  other (NotUtf8 name) told = tt
+  other (Syntax e) told = tt
+  other (Types e) told = tt
+  other (Race procedure first second) told = tt
+  other NoMemoryInCheck told = tt
+  other (Input e) told = tt
+  other (Trace e) told = tt
+  other (Illegal n) told = tt
+  other NoMemory told = tt
+  other _ told = absurd told
+
+  pub views_no_trace : (c : Command) (b : Option (List ℕ)) (r : Result ℕ Failure) (f : Failure)
+      → IsErrAnd r (λ y. y ≡ f) → TellsNoTrace s held text f → Views c s held text b b r
+  views_no_trace c b r f is told =
+      passed_on (AnswersTrace c s held text) (ExplainsTrace c s held text) b r f is (explained c f told)
+      (other_failure f (other f told))
+
+  -- a picture that couldn't be written
+  unwritten : (c : Command) → Draws c → IsDrawnTo s held text (picture_name s) → (f : Failure)
+      → TellsUnwritten (picture_name s) f → ExplainsTrace c s held text f × IsOther f
+  unwritten c draws drawn (CannotWrite told) is =
+      ((draws, record { header = drawn.header; events = drawn.events; trace = drawn.trace; name = is }), tt)
+  unwritten c draws drawn NoMemory is = (tt, tt)
+  unwritten c draws drawn _ is = absurd is
+
+  pub views_unwritten : (c : Command) → Draws c → (h : Header) (es : List Event) → HasTrace s held text h es
+      → (name : List ℕ) → name ≡ picture_name s → (b : Option (List ℕ)) (r : Result ℕ Failure) (f : Failure)
+      → IsErrAnd r (λ y. y ≡ f) → TellsUnwritten name f → Views c s held text b b r
+  views_unwritten c draws h es trace name same b r f is tells =
+      let why = unwritten c draws (record { header = h; events = es; trace = trace; name = refl }) f
+      (subst (λ (n : List ℕ). TellsUnwritten n f) same tells) in
+      passed_on (AnswersTrace c s held text) (ExplainsTrace c s held text) b r f is why.0 (other_failure f why.1)

@@ -1,0 +1,170 @@
+-- What is answered of the trace of a run, and why there is no answer.
+use Rattle.std.specs.Prelude.{ℕ, ℤ, ◌≡◌, ◌⊎◌, List, [], Option, Result, codes, map, unwrap_or}
+use Rattle.std.specs.String.{string_bytes}
+use Rattle.types.specs.Code.{Program}
+use Rattle.types.specs.Translation.{budget}
+use Rattle.events.specs.Events.{event as event_of}
+use Rattle.events.specs.declared.event.Event.{Event}
+use Rattle.interleave.specs.World.{World}
+use Rattle.interleave.specs.Worlds.{IsFirstIllegal, LeadsTo}
+use Rattle.trace_numbers.specs.Summary.{IsSummary}
+use Rattle.trace_numbers.specs.Text.{summary_text}
+use Rattle.trace_numbers.specs.declared.summary.Summary.{Summary as Numbers}
+use Rattle.trace_text.specs.Headers.{header_of}
+use Rattle.trace_text.specs.Reading.{IsRefusal, IsTrace}
+use Rattle.trace_text.specs.Table.{table_text}
+use Rattle.trace_text.specs.declared.error.TraceError.{TraceError}
+use Rattle.trace_text.specs.declared.header.Header.{Header}
+use Rattle.command_line.specs.Requests.{Settings}
+use Rattle.command_line.specs.declared.request.Command.{Command}
+use Rattle.command_line.specs.declared.request.Command.TheVariants.{View, Summary, Draw, Chrome}
+use Rattle.intake.specs.Held.{Held, HasText, TellsNoText}
+use Rattle.intake.specs.declared.failure.Failure.{Failure}
+use Rattle.intake.specs.declared.failure.Failure.TheVariants.{CannotRead, NotUtf8, Input}
+use Rattle.intake.specs.declared.failure.Failure.TheVariants.{Trace, Illegal}
+use Rattle.intake.specs.declared.failure.Failure.TheVariants.{CannotWrite, CannotWriteOutput, NoMemory}
+use Rattle.answers.specs.Answers.{Answer, Done, IsExplored, LacksInput, TellsNotAccepted}
+
+-- ---- names
+
+-- the file of the trace: words that ask for a look at one always name it
+abbrev pub trace_name : Settings → List ℕ
+trace_name s = unwrap_or s.trace (codes "-")
+
+-- the file of the picture: words that ask for one always name it
+abbrev pub picture_name : Settings → List ℕ
+picture_name s = unwrap_or s.picture (codes "-")
+
+-- ---- traces
+
+-- the file of this name has the trace of a header and of events
+pub record HoldsTrace (held : Held) (name : List ℕ) (h : Header) (es : List Event) : Type 0 where
+  pub lines : List ℕ
+  pub has_text : HasText held name lines
+  pub is_trace : IsTrace (header_of h) (map event_of es) lines
+
+-- events are legal from the start of a program's run on an input, under the budget and with the weight of a header
+pub record AreLegal (p : Program) (input : List (List ℤ)) (h : Header) (es : List Event) : Type 0 where
+  pub world : World
+  pub legal : LeadsTo p h.w0 input (budget h.budget) (map event_of es) world
+
+-- the text's program has no race, and there is an input and a trace of the program's run on it
+pub record HasTrace (s : Settings) (held : Held) (text : List ℕ) (h : Header) (es : List Event) : Type 0 where
+  pub run : IsExplored s held text
+  pub holds : HoldsTrace held (trace_name s) h es
+  pub legal : AreLegal run.code run.input h es
+
+-- ---- answers
+
+-- `view`: the table of the trace's events
+pub record AnswersView (s : Settings) (held : Held) (text told : List ℕ) (status : ℕ) : Type 0 where
+  pub header : Header
+  pub events : List Event
+  pub trace : HasTrace s held text header events
+  pub told_is : told ≡ table_text (map event_of events)
+  pub status_is : status ≡ 0
+
+-- `view --summary`: its numbers
+pub record AnswersSummary (s : Settings) (held : Held) (text told : List ℕ) (status : ℕ) : Type 0 where
+  pub header : Header
+  pub events : List Event
+  pub trace : HasTrace s held text header events
+  pub numbers : Numbers
+  pub are : IsSummary events numbers
+  pub told_is : told ≡ summary_text header.workers numbers
+  pub status_is : status ≡ 0
+
+-- `view --svg` and `view --chrome`: nothing stands on the standard output
+pub record AnswersPicture (s : Settings) (held : Held) (text told : List ℕ) (status : ℕ) : Type 0 where
+  pub header : Header
+  pub events : List Event
+  pub trace : HasTrace s held text header events
+  pub told_is : told ≡ []
+  pub status_is : status ≡ 0
+
+-- the text told, with its status, answers what is asked of a trace
+abbrev pub AnswersTrace : Command → Settings → Held → (text : List ℕ) → Answer
+AnswersTrace View s held text = AnswersView s held text
+AnswersTrace Summary s held text = AnswersSummary s held text
+AnswersTrace Draw s held text = AnswersPicture s held text
+AnswersTrace Chrome s held text = AnswersPicture s held text
+AnswersTrace _ s held text = λ told status. ⊥
+
+-- ---- failures
+
+-- the file of this name has a text that is no trace, as the error says
+pub record HasNoTrace (held : Held) (name : List ℕ) (e : TraceError) : Type 0 where
+  pub lines : List ℕ
+  pub has_text : HasText held name lines
+  pub why : IsRefusal lines e
+
+-- why the file of this name has no trace; only want of memory is free
+abbrev pub TellsNoLines : Held → (name : List ℕ) → Failure → Type 0
+TellsNoLines held name (CannotRead told) = TellsNoText held name (CannotRead told)
+TellsNoLines held name (NotUtf8 told) = TellsNoText held name (NotUtf8 told)
+TellsNoLines held name (Trace e) = HasNoTrace held name e
+TellsNoLines held name NoMemory = Unit {0}
+TellsNoLines held name _ = ⊥
+
+-- why events aren't legal: the event of this number is the first that isn't; only want of memory is free
+abbrev pub TellsIllegal : Program → (input : List (List ℤ)) → Header → List Event → Failure → Type 0
+TellsIllegal p input h es (Illegal n) = IsFirstIllegal p h.w0 input (budget h.budget) (map event_of es) n
+TellsIllegal p input h es NoMemory = Unit {0}
+TellsIllegal p input h es _ = ⊥
+
+-- the text's program has no race, and an input, but there is no trace, as the failure says
+pub record LacksTrace (s : Settings) (held : Held) (text : List ℕ) (f : Failure) : Type 0 where
+  pub run : IsExplored s held text
+  pub why : TellsNoLines held (trace_name s) f
+
+-- there is a trace too, but it is none of the program's run on the input, as the failure says
+pub record HasIllegalTrace (s : Settings) (held : Held) (text : List ℕ) (f : Failure) : Type 0 where
+  pub run : IsExplored s held text
+  pub header : Header
+  pub events : List Event
+  pub holds : HoldsTrace held (trace_name s) header events
+  pub why : TellsIllegal run.code run.input header events f
+
+-- why there is no trace of the text's program; only want of memory is free
+abbrev pub TellsNoTrace : Settings → Held → (text : List ℕ) → Failure → Type 0
+TellsNoTrace s held text (CannotRead name) =
+    LacksInput View s held text (CannotRead name) ⊎ LacksTrace s held text (CannotRead name)
+TellsNoTrace s held text (NotUtf8 name) =
+    LacksInput View s held text (NotUtf8 name) ⊎ LacksTrace s held text (NotUtf8 name)
+TellsNoTrace s held text (Input e) = LacksInput View s held text (Input e)
+TellsNoTrace s held text (Trace e) = LacksTrace s held text (Trace e)
+TellsNoTrace s held text (Illegal n) = HasIllegalTrace s held text (Illegal n)
+TellsNoTrace s held text NoMemory = Unit {0}
+TellsNoTrace s held text f = TellsNotAccepted text f
+
+-- the command draws a trace in a file
+abbrev pub Draws : Command → Type 0
+Draws Draw = Unit {0}
+Draws Chrome = Unit {0}
+Draws _ = ⊥
+
+-- a trace is drawn, and the file of the picture has this name
+pub record IsDrawnTo (s : Settings) (held : Held) (text told : List ℕ) : Type 0 where
+  pub header : Header
+  pub events : List Event
+  pub trace : HasTrace s held text header events
+  pub name : told ≡ picture_name s
+
+-- why nothing is answered of a trace
+abbrev pub ExplainsTrace : Command → Settings → Held → (text : List ℕ) → Failure → Type 0
+ExplainsTrace c s held text (CannotWrite name) = Draws c × IsDrawnTo s held text (string_bytes name)
+ExplainsTrace c s held text CannotWriteOutput = Unit {0}
+ExplainsTrace c s held text f = TellsNoTrace s held text f
+
+-- what is asked of a trace was done
+abbrev pub Views : Command → Settings → Held → (text : List ℕ) → (old new : Option (List ℕ))
+    → Result ℕ Failure → Type 0
+Views c s held text = Done (AnswersTrace c s held text) (ExplainsTrace c s held text)
+
+-- ---- pictures
+
+-- what was drawn is a trace of the text's program; how it is drawn is said nowhere
+pub record IsDrawn (s : Settings) (held : Held) (text bytes : List ℕ) : Type 0 where
+  pub header : Header
+  pub events : List Event
+  pub trace : HasTrace s held text header events

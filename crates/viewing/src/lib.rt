@@ -1,0 +1,7 @@
+//! What is answered of the trace of a run.
+
+#![tactic(auto)]
+
+pub mod drawing;
+pub mod tables;
+mod traces;

@@ -1,0 +1,102 @@
+//! The trace that a file holds.
+
+ghost use Rattle.std.specs.Prelude.{◌≡◌, IfErr, IfOk, OnOk};
+ghost use Rattle.types.specs.Contents.{FitsArrays};
+ghost use Rattle.types.specs.Translation.{input as lists_in};
+ghost use Rattle.types.specs.Typed.{code_of};
+ghost use Rattle.command_line.specs.Requests.{settings as settings_of};
+ghost use Rattle.viewing.specs.Views.{AreLegal, HasTrace, HoldsTrace, TellsIllegal, TellsNoLines};
+ghost use Rattle.viewing.specs.Views.{TellsNoTrace, trace_name as name_of_trace};
+
+use answers::programs::accepted_of;
+use command_line::request::Settings;
+use events::event::Event;
+use intake::failure::Failure;
+use intake::files::{FileSource, read_file};
+use intake::input_file::input_of;
+use interleave::error::ReplayError;
+use interleave::job::Job;
+use interleave::laws::replays_refuse_the_first;
+use interleave::replay::replay;
+use race_checker::accepted::Accepted;
+use std::alloc::Global;
+use std::thread::Threads;
+use trace_text::header::Header;
+use trace_text::read::read_lines;
+use types::input::Input;
+
+/// What a run was asked for, and what it did.
+#[derive(Drop)]
+pub struct Trace {
+    pub header: Header,
+    pub events: Vec<Event>,
+}
+
+/// The trace that is asked for, where it is one of the text's program on the input.
+pub fn trace_of<R: Threads + Sync, F: FileSource>(
+    rt: &R,
+    alloc: Global,
+    settings: Settings<'_>,
+    text: &str,
+    files: &mut F,
+) -> Result<Trace, Failure>
+    ensures trace { IfOk result (λ t. HasTrace (settings_of settings.entry) (F.held files.old)
+        text.now t.header t.events.items) }
+    ensures why { IfErr result
+        (TellsNoTrace (settings_of settings.entry) (F.held files.old) text.now) }
+    ensures keeps { F.held files.new ≡ F.held files.old }
+{
+    let accepted = accepted_of(rt, alloc, text)?;
+    let input = input_of(alloc, files, accepted.typed(), settings.input)?;
+    let trace = trace_in(alloc, files, trace_name(settings))?;
+    judge(alloc, &accepted, &input, &trace)?;
+    Ok(trace)
+}
+
+/// The name of the trace's file.
+pub fn trace_name<'w>(settings: Settings<'w>) -> &'w str
+    ensures { result.now ≡ name_of_trace (settings_of settings.entry) }
+{
+    match settings.trace {
+        Some(name) => name,
+        None => "-",
+    }
+}
+
+/// The trace that the file of this name holds.
+fn trace_in<F: FileSource>(alloc: Global, files: &mut F, name: &str) -> Result<Trace, Failure>
+    ensures holds { IfOk result (λ t. HoldsTrace (F.held files.old) name.now t.header t.events.items) }
+    ensures why { IfErr result (TellsNoLines (F.held files.old) name.now) }
+    ensures keeps { F.held files.new ≡ F.held files.old }
+{
+    let bytes = read_file(alloc, files, name)?;
+    let Ok(text) = std::str::from_utf8(&bytes) else {
+        return Err(Failure::not_utf8(alloc, name));
+    };
+    match read_lines(alloc, text) {
+        Ok((header, events)) => Ok(Trace { header, events }),
+        Err(error) => Err(Failure::Trace(error)),
+    }
+}
+
+/// Finds whether the events of a trace are legal in a program's run on an input.
+fn judge(alloc: Global, accepted: &Accepted, input: &Input, trace: &Trace) -> Result<(), Failure>
+    requires { FitsArrays (code_of accepted.now.typed).arrays (lists_in input.now) }
+    ensures legal { OnOk result
+        (AreLegal (code_of accepted.now.typed) (lists_in input.now)
+        trace.now.header trace.now.events.items) }
+    ensures why { IfErr result
+        (TellsIllegal (code_of accepted.now.typed) (lists_in input.now)
+        trace.now.header trace.now.events.items) }
+{
+    replays_refuse_the_first();
+    let Header { budget, w0, .. } = trace.header;
+    let Some(job) = Job::new(alloc, accepted, input, budget, w0) else {
+        unreachable!()
+    };
+    match replay(job, &trace.events) {
+        Ok(_world) => Ok(()),
+        Err(ReplayError::IllegalAt(number)) => Err(Failure::Illegal(number)),
+        Err(ReplayError::NoMemory) => Err(Failure::NoMemory),
+    }
+}
