@@ -29,10 +29,11 @@ pub fn compare<R: Machine>(rt: &R) -> io::Result<()> {
 fn is_so<R: Machine>(rt: &R, page: &Page) -> io::Result<bool> {
     match page.example {
         Example::Nothing => Ok(true),
-        Example::Program(told) => tells(rt, told, ""),
-        Example::WithInput(given) => tells(rt, given.told, given.input),
+        Example::Program(told) => tells(rt, told, "", &[]),
+        Example::WithInput(given) => tells(rt, given.told, given.input, &[]),
+        Example::WithTrace(traced) => tells(rt, traced.told, "", traced.trace),
         Example::Shape(shape) => {
-            let mut shelf = shelf_with(rt, shape.lines, "")?;
+            let mut shelf = shelf_with(rt, shape.lines, "", &[])?;
             let check = format!(in rt.alloc(); "check {}.afx", shape.name)?;
             Ok(
                 status_of(rt, &mut shelf, "list program.afx")? == 0
@@ -42,9 +43,14 @@ fn is_so<R: Machine>(rt: &R, page: &Page) -> io::Result<bool> {
     }
 }
 
-/// Whether a program with an input tells its line, and nothing else.
-fn tells<R: Machine>(rt: &R, told: Told, input: &'static str) -> io::Result<bool> {
-    let mut shelf = shelf_with(rt, told.lines, input)?;
+/// Whether a program with an input and a trace tells its line, and nothing else.
+fn tells<R: Machine>(
+    rt: &R,
+    told: Told,
+    input: &'static str,
+    trace: &'static [&'static str],
+) -> io::Result<bool> {
+    let mut shelf = shelf_with(rt, told.lines, input, trace)?;
     let mut both = Output::new(rt.alloc(), Limit::Never);
     let mut err = Output::new(rt.alloc(), Limit::Never);
     done(rt, &mut shelf, told.command, &mut both, &mut err)?;
@@ -74,8 +80,13 @@ fn done<R: Machine>(
     Ok(act(rt, alloc, &words, shelf, out, err, &mut Unwatched))
 }
 
-/// The files of the machine, `program.afx` and `input.json`.
-fn shelf_with<'t, R: Machine>(rt: &'t R, lines: &[&str], input: &str) -> io::Result<Shelf<'t, R>> {
+/// The files of the machine, `program.afx`, `input.json` and `program.trace`.
+fn shelf_with<'t, R: Machine>(
+    rt: &'t R,
+    lines: &[&str],
+    input: &str,
+    trace: &[&str],
+) -> io::Result<Shelf<'t, R>> {
     let mut shelf = Shelf::new(rt);
     shelf.begin_file("program.afx")?;
     for line in lines {
@@ -83,5 +94,9 @@ fn shelf_with<'t, R: Machine>(rt: &'t R, lines: &[&str], input: &str) -> io::Res
     }
     shelf.begin_file("input.json")?;
     shelf.read_line(&format!(in rt.alloc(); "| {input}")?)?;
+    shelf.begin_file("program.trace")?;
+    for line in trace {
+        shelf.read_line(&format!(in rt.alloc(); "| {line}")?)?;
+    }
     Ok(shelf)
 }

@@ -72,7 +72,21 @@ impl Row<'_> {
         let out = Limit::of(self.wanted.out_left, end);
         let err = Limit::of(self.wanted.err_left, end);
         let told = self.told(rt, shelf, out, err)?;
-        self.compare(rt, &told, self.whole())
+        Ok(self.compare(rt, &told, self.whole())? && self.has_left(rt, shelf)?)
+    }
+
+    /// Whether the command has written the files that it must. Where it hasn't, the file is shown.
+    fn has_left<R: Machine>(&self, rt: &R, shelf: &Shelf<'_, R>) -> io::Result<bool> {
+        for file in &self.wanted.left {
+            let wanted = text_of(&file.bytes);
+            let left = shelf.written_to(&file.name).map(text_of);
+            if left != Some(wanted) {
+                println!(rt; "{}: {}", self.group, self.command)?;
+                println!(rt; "  left in {}: {left:?}, wanted: {wanted:?}", file.name)?;
+                return Ok(false);
+            }
+        }
+        Ok(true)
     }
 
     /// Whether the command tells what it must to an output that takes all, and a beginning of it to each that fails

@@ -1,4 +1,4 @@
-//! The files that a row's command is lent: those that its table gives, and the machine's.
+//! The files that a row's command is lent: those that its table gives or a command of its group wrote, and the machine's.
 
 use crate::bytes::{not_understood, push_spelled};
 use crate::machine::Machine;
@@ -23,12 +23,21 @@ struct TableFile<'t> {
     contents: Contents,
 }
 
-/// The files of a table, of which the last with a name counts, and those of the machine.
+/// A file that a command wrote.
+#[derive(Drop)]
+struct WrittenFile {
+    name: String,
+    bytes: Vec<u8>,
+}
+
+/// The files of a table, of which the last with a name counts, and those of the machine. What a command writes stands
+/// here alone.
 #[derive(Drop)]
 pub struct Shelf<'t, R> {
     alloc: Global,
     machine: MachineFiles<'t, R>,
     files: Vec<TableFile<'t>>,
+    written: Vec<WrittenFile>,
     /// How many stand before the first group, once it has begun.
     lasting: Option<usize>,
 }
@@ -40,6 +49,7 @@ impl<'t, R: Machine> Shelf<'t, R> {
             alloc: rt.alloc(),
             machine: MachineFiles::new(rt),
             files: Vec::new(rt.alloc()),
+            written: Vec::new(rt.alloc()),
             lasting: None,
         }
     }
@@ -67,10 +77,33 @@ impl<'t, R: Machine> Shelf<'t, R> {
 
     /// Forgets the files of the group before; those before the first group stay.
     pub fn begin_group(&mut self) {
+        self.written.clear();
         match self.lasting {
             None => self.lasting = Some(self.files.len()),
             Some(lasting) => self.files.truncate(lasting),
         }
+    }
+
+    /// Keeps what a command writes.
+    fn keep(&mut self, name: &str, bytes: &[u8]) -> Result<(), FileError> {
+        let bytes = copied(self.alloc, bytes)?;
+        let Ok(name) = String::from_str(self.alloc, name) else {
+            return Err(FileError::NoMemory);
+        };
+        match self.written.push(WrittenFile { name, bytes }) {
+            Ok(()) => Ok(()),
+            Err(_) => Err(FileError::NoMemory),
+        }
+    }
+
+    /// What a command wrote last to the file of a name.
+    pub fn written_to(&self, name: &str) -> Option<&[u8]> {
+        for file in self.written.iter().rev() {
+            if file.name.as_str() == name {
+                return Some(&file.bytes);
+            }
+        }
+        None
     }
 }
 
@@ -104,6 +137,9 @@ fn contents_of<'f>(files: &'f [TableFile<'_>], name: &str) -> Option<&'f Content
 
 impl<R: Machine> FileSource for Shelf<'_, R> {
     fn read(&mut self, name: &str) -> Result<Vec<u8>, FileError> {
+        if let Some(bytes) = self.written_to(name) {
+            return copied(self.alloc, bytes);
+        }
         match contents_of(&self.files, name) {
             None => self.machine.read(name),
             Some(Contents::Bytes(bytes)) => copied(self.alloc, bytes),
@@ -124,6 +160,18 @@ impl<R: Machine> FileSource for Shelf<'_, R> {
             Some(Contents::Endless) => {
                 Vec::from_elem(self.alloc, 0xff, most).map_err(|_| FileError::NoMemory)
             }
+        }
+    }
+
+    /// A file that has no memory finds none, and an endless one takes nothing; nor does the standard input.
+    fn write(&mut self, name: &str, bytes: &[u8]) -> Result<(), FileError> {
+        if name == "-" {
+            return Err(FileError::Failed);
+        }
+        match contents_of(&self.files, name) {
+            None | Some(Contents::Bytes(_)) => self.keep(name, bytes),
+            Some(Contents::NoMemory) => Err(FileError::NoMemory),
+            Some(Contents::Endless) => Err(FileError::Failed),
         }
     }
 }

@@ -4,6 +4,13 @@ use crate::bytes::{not_understood, number_in, push_spelled};
 use std::alloc::Global;
 use std::io;
 
+/// A file that a command must have written.
+#[derive(Drop)]
+pub struct LeftFile {
+    pub name: String,
+    pub bytes: Vec<u8>,
+}
+
 /// What a command must write and answer, and which outputs it has.
 #[derive(Drop)]
 pub struct Wanted {
@@ -17,6 +24,8 @@ pub struct Wanted {
     pub out_left: Option<usize>,
     /// How many bytes the standard error takes, if it ends.
     pub err_left: Option<usize>,
+    /// The files that it must have written.
+    pub left: Vec<LeftFile>,
     /// Whether the command is done with outputs that fail at each of their calls in turn.
     pub is_swept: bool,
 }
@@ -32,12 +41,13 @@ impl Wanted {
             looks: 0,
             out_left: None,
             err_left: None,
+            left: Vec::new(alloc),
             is_swept: false,
         }
     }
 
-    /// Takes a line: what is written (`>`, `!`), the status (`=`), how often a watch is told (`~`), or which outputs there
-    /// are (`%`).
+    /// Takes a line: what is written (`>`, `!`), the status (`=`), how often a watch is told (`~`), which outputs there
+    /// are (`%`), or a file that is written (`@`) with its lines (`|`).
     pub fn read(&mut self, line: &str) -> io::Result<()> {
         if let Some(spelled) = line.strip_prefix('>') {
             push_spelled(self.alloc, &mut self.out, spelled)
@@ -51,9 +61,25 @@ impl Wanted {
             Ok(())
         } else if let Some(outputs) = line.strip_prefix("% ") {
             self.lend(outputs)
+        } else if let Some(name) = line.strip_prefix("@ ") {
+            self.begin_left(name)
+        } else if let Some(spelled) = line.strip_prefix('|') {
+            match self.left.last_mut() {
+                Some(file) => push_spelled(self.alloc, &mut file.bytes, spelled),
+                None => Err(not_understood()),
+            }
         } else {
             Err(not_understood())
         }
+    }
+
+    /// Begins a file that must have been written.
+    fn begin_left(&mut self, name: &str) -> io::Result<()> {
+        self.left.push(LeftFile {
+            name: String::from_str(self.alloc, name)?,
+            bytes: Vec::new(self.alloc),
+        })?;
+        Ok(())
     }
 
     /// Takes which outputs there are: `out 3`, `err 6` or `sweep`.

@@ -5,6 +5,7 @@ mod completed_words;
 mod drawn_numbers;
 mod effects_of_programs;
 mod failures;
+mod held_blocks;
 mod held_places;
 mod inputs;
 mod layouts;
@@ -14,6 +15,7 @@ mod read_texts;
 mod scope_weights;
 mod section_trees;
 mod typing_rules;
+mod written_files;
 
 use std::alloc::Global;
 use std::fmt::Display;

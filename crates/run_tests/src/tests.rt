@@ -1,5 +1,6 @@
 //! What no clause says of runs, by rows: a table for each area, with the calls that its rows need.
 
+mod logged_runs;
 mod numbers;
 mod outcomes_of_tasks;
 mod progress_lines;

@@ -9,7 +9,10 @@ use std::rt::HostRuntime;
 
 /// Commands and their options, in their order.
 const ROWS: &[(&str, &str)] = &[
-    ("run", " input steps nest tasks w0 workers arrays explain"),
+    (
+        "run",
+        " input steps nest tasks w0 workers trace arrays explain",
+    ),
     ("serial", " input steps nest arrays progress explain"),
     ("check", " list explain"),
     ("list", " lines explain"),
@@ -19,6 +22,7 @@ const ROWS: &[(&str, &str)] = &[
         "explore",
         " input choices choices-from random arrays explain",
     ),
+    ("view", " input summary svg chrome explain"),
     ("explain", " list"),
     ("completions", ""),
     ("man", ""),

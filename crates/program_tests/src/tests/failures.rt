@@ -10,6 +10,7 @@ use std::rt::HostRuntime;
 use syntax::error::SyntaxError;
 use syntax::place::Place;
 use tickets::Tickets;
+use trace_text::error::TraceError;
 use types::error::TypeError;
 use types::input_error::InputError;
 use types::path::Path;
@@ -72,6 +73,10 @@ const PLAIN: &[(Plain, &str)] = &[
     (Plain::Types(TypeError::OverLimit), "Y9"),
     (Plain::Types(TypeError::OutOfMemory), "Y10"),
     (Plain::NoMemoryInCheck, "C2"),
+    (Plain::Trace(TraceError::NotALine(14)), "J1 line 14"),
+    (Plain::Trace(TraceError::NoMemory), "J2"),
+    (Plain::Illegal(7), "illegal at event 7"),
+    (Plain::StrangeEvents, "E5"),
     (Plain::ChoicesNotUnderstood, "choices not understood"),
     (Plain::NoLeaf(5), "no leaf at choice 5"),
     (Plain::CannotWriteOutput, "cannot write output"),
@@ -84,6 +89,9 @@ enum Plain {
     Syntax(SyntaxError),
     Types(TypeError),
     NoMemoryInCheck,
+    Trace(TraceError),
+    Illegal(usize),
+    StrangeEvents,
     ChoicesNotUnderstood,
     NoLeaf(usize),
     CannotWriteOutput,
@@ -96,6 +104,9 @@ fn failure_of(failure: Plain) -> Failure {
         Plain::Syntax(error) => Failure::Syntax(error),
         Plain::Types(error) => Failure::Types(error),
         Plain::NoMemoryInCheck => Failure::NoMemoryInCheck,
+        Plain::Trace(error) => Failure::Trace(error),
+        Plain::Illegal(event) => Failure::Illegal(event),
+        Plain::StrangeEvents => Failure::StrangeEvents,
         Plain::ChoicesNotUnderstood => Failure::ChoicesNotUnderstood,
         Plain::NoLeaf(choice) => Failure::NoLeaf(choice),
         Plain::CannotWriteOutput => Failure::CannotWriteOutput,
@@ -136,6 +147,8 @@ const NAMED: &[(Named, &str, &str)] = &[
     ),
     (Named::NotUtf8, "a.afx", "not UTF-8 a.afx"),
     (Named::NotUtf8, "\t", "not UTF-8 \\x09"),
+    (Named::CannotWrite, "-", "cannot write -"),
+    (Named::CannotWrite, "a\u{1b}.svg", "cannot write a\\x1b.svg"),
     (Named::UnknownArray, "z", "N3 z"),
     (Named::WrongLength, "a", "N4 a"),
     (Named::WrongElement, "a", "N5 a"),
@@ -146,6 +159,7 @@ const NAMED: &[(Named, &str, &str)] = &[
 enum Named {
     CannotRead,
     NotUtf8,
+    CannotWrite,
     UnknownArray,
     WrongLength,
     WrongElement,
@@ -156,6 +170,7 @@ fn failure_named(failure: Named, name: String) -> Failure {
     match failure {
         Named::CannotRead => Failure::CannotRead { name },
         Named::NotUtf8 => Failure::NotUtf8 { name },
+        Named::CannotWrite => Failure::CannotWrite { name },
         Named::UnknownArray => Failure::Input(InputError::UnknownArray { name }),
         Named::WrongLength => Failure::Input(InputError::WrongLength { name }),
         Named::WrongElement => Failure::Input(InputError::WrongElement { name }),

@@ -1,0 +1,239 @@
+//! Offsets of blocks that are carved out, shared, written and pasted.
+
+use crate::tests::compare;
+use blocks::block::Block;
+use std::alloc::Global;
+use std::process::Abort;
+
+/// What is done to the block with a number. New ones come behind the others.
+#[derive(Clone, Copy)]
+enum Step {
+    /// A block that owns 256 offsets, each with its own number.
+    Begin,
+    /// The offsets of a range are carved out of it.
+    Carve(usize, usize, usize),
+    /// Copies are made of the offsets of a range.
+    Share(usize, usize, usize),
+    /// A number is written at an offset.
+    Write(usize, usize, i64),
+    /// The last one is pasted into it.
+    Paste(usize),
+    /// It is made once more.
+    Again(usize),
+}
+
+use Step::{Again, Begin, Carve, Paste, Share, Write};
+
+/// A step, how many numbers were copied or whether an offset was written, and what is held then.
+type Row = (Step, &'static str, &'static str);
+
+/// Steps in turn. Of each block the numbers at a few offsets are shown, those in brackets as copies.
+const STORIES: &[&[Row]] = &[
+    // ---- a part carved out, written and pasted
+    &[
+        (Begin, "", "0 99 100 199 200 255 | "),
+        (
+            Carve(0, 100, 200),
+            "100",
+            "0 99 - - 200 255 | - - 100 199 - - | ",
+        ),
+        (
+            Write(0, 100, 5),
+            "false",
+            "0 99 - - 200 255 | - - 100 199 - - | ",
+        ),
+        (
+            Write(0, 99, 5),
+            "true",
+            "0 5 - - 200 255 | - - 100 199 - - | ",
+        ),
+        (
+            Write(1, 199, 6),
+            "true",
+            "0 5 - - 200 255 | - - 100 6 - - | ",
+        ),
+        (Paste(0), "100", "0 5 100 6 200 255 | "),
+    ],
+    // ---- a whole block moves
+    &[
+        (Begin, "", "0 99 100 199 200 255 | "),
+        (
+            Carve(0, 0, 256),
+            "0",
+            "- - - - - - | 0 99 100 199 200 255 | ",
+        ),
+        (Paste(0), "0", "0 99 100 199 200 255 | "),
+    ],
+    // ---- the last part that is held moves too
+    &[
+        (Begin, "", "0 99 100 199 200 255 | "),
+        (
+            Carve(0, 0, 100),
+            "100",
+            "- - 100 199 200 255 | 0 99 - - - - | ",
+        ),
+        (
+            Carve(0, 100, 256),
+            "0",
+            "- - - - - - | 0 99 - - - - | - - 100 199 200 255 | ",
+        ),
+        (Paste(1), "156", "- - - - - - | 0 99 100 199 200 255 | "),
+        (Paste(0), "0", "0 99 100 199 200 255 | "),
+    ],
+    // ---- copies keep their numbers, and are not written
+    &[
+        (Begin, "", "0 99 100 199 200 255 | "),
+        (
+            Share(0, 0, 256),
+            "",
+            "0 99 100 199 200 255 | (0) (99) (100) (199) (200) (255) | ",
+        ),
+        (
+            Write(0, 99, 7),
+            "true",
+            "0 7 100 199 200 255 | (0) (99) (100) (199) (200) (255) | ",
+        ),
+        (
+            Write(1, 99, 7),
+            "false",
+            "0 7 100 199 200 255 | (0) (99) (100) (199) (200) (255) | ",
+        ),
+        (
+            Carve(0, 0, 100),
+            "100",
+            "- - 100 199 200 255 | (0) (99) (100) (199) (200) (255) | 0 7 - - - - | ",
+        ),
+        (
+            Paste(1),
+            "100",
+            "- - 100 199 200 255 | 0 7 (100) (199) (200) (255) | ",
+        ),
+        (Paste(0), "100", "0 7 100 199 200 255 | "),
+    ],
+    // ---- a part of a block that others have too is carved out, and comes back
+    &[
+        (Begin, "", "0 99 100 199 200 255 | "),
+        (
+            Again(0),
+            "",
+            "0 99 100 199 200 255 | 0 99 100 199 200 255 | ",
+        ),
+        (
+            Carve(0, 200, 256),
+            "56",
+            "0 99 100 199 - - | 0 99 100 199 200 255 | - - - - 200 255 | ",
+        ),
+        (
+            Write(2, 200, 1),
+            "true",
+            "0 99 100 199 - - | 0 99 100 199 200 255 | - - - - 1 255 | ",
+        ),
+        (
+            Share(1, 100, 200),
+            "",
+            "0 99 100 199 - - | 0 99 100 199 200 255 | - - - - 1 255 | - - (100) (199) - - | ",
+        ),
+        (
+            Paste(2),
+            "0",
+            "0 99 100 199 - - | 0 99 100 199 200 255 | - - - - 1 255 | ",
+        ),
+    ],
+];
+
+const SHOWN: [usize; 6] = [0, 99, 100, 199, 200, 255];
+
+/// Does a step, and says how many numbers were copied or whether an offset was written.
+fn act(rt: &impl Abort, alloc: Global, step: Step, all: &mut Vec<Block>) -> String {
+    match step {
+        Begin => {
+            let mut numbers = Vec::new(alloc);
+            for number in 0..256 {
+                numbers.push(number).expect(rt, "memory");
+            }
+            assert!(rt; numbers.len() <= 256, "a block's numbers");
+            let block = Block::of_numbers(alloc, &numbers).expect(rt, "memory");
+            all.push(block).expect(rt, "memory");
+        }
+        Carve(of, from, to) => {
+            let own = all.get_mut(of).expect(rt, "a block");
+            assert!(rt; from < to && to <= 256, "offsets of a block");
+            assert!(rt; own.owns_all(from, to), "they are owned");
+            let cut = own.cut(alloc, from, to).expect(rt, "memory");
+            let copied = cut.copied;
+            let part = own.carve(cut, from, to);
+            all.push(part).expect(rt, "memory");
+            return format!(in alloc; "{copied}").expect(rt, "memory");
+        }
+        Share(of, from, to) => {
+            let own = all.get(of).expect(rt, "a block");
+            assert!(rt; from < to, "some offsets");
+            assert!(rt; own.holds_all(from, to), "they are held");
+            let part = own.share(alloc, from, to).expect(rt, "memory");
+            all.push(part).expect(rt, "memory");
+        }
+        Write(of, offset, number) => {
+            let own = all.get_mut(of).expect(rt, "a block");
+            let found = own.write(alloc, offset, number).expect(rt, "memory");
+            return format!(in alloc; "{found}").expect(rt, "memory");
+        }
+        Paste(of) => {
+            let last = all.pop().expect(rt, "a block");
+            let own = all.get_mut(of).expect(rt, "a block");
+            assert!(rt; own.is_apart(&last), "none is owned by both");
+            own.make_room(alloc, &last).expect(rt, "memory");
+            let copied = own.paste(alloc, last);
+            return format!(in alloc; "{copied}").expect(rt, "memory");
+        }
+        Again(of) => {
+            let own = all.get(of).expect(rt, "a block");
+            let again = own.again(alloc).expect(rt, "memory");
+            all.push(again).expect(rt, "memory");
+        }
+    }
+    String::new(alloc)
+}
+
+/// Shows what is held by all.
+fn shown(rt: &impl Abort, alloc: Global, all: &[Block]) -> String {
+    let mut text = String::new(alloc);
+    for block in all {
+        for offset in SHOWN {
+            match block.number(offset) {
+                None => write!(text, "- ").expect(rt, "memory"),
+                Some(number) if block.owns_all(offset, offset + 1) => {
+                    write!(text, "{number} ").expect(rt, "memory");
+                }
+                Some(number) => write!(text, "({number}) ").expect(rt, "memory"),
+            }
+        }
+        text.push_str("| ").expect(rt, "memory");
+    }
+    text
+}
+
+#[test]
+fn what_blocks_hold_after_each_step(rt: HostRuntime) {
+    let alloc = rt.alloc();
+    for story in STORIES {
+        let mut all = Vec::new(alloc);
+        for (step, answer, held) in *story {
+            let said = act(&rt, alloc, *step, &mut all);
+            compare(&rt, alloc, *held, said, answer);
+            compare(&rt, alloc, "blocks", shown(&rt, alloc, &all), held);
+        }
+    }
+}
+
+#[test]
+fn what_is_held_goes_into_a_row(rt: HostRuntime) {
+    let alloc = rt.alloc();
+    let mut all = Vec::new(alloc);
+    let _ = act(&rt, alloc, Begin, &mut all);
+    let _ = act(&rt, alloc, Carve(0, 1, 3), &mut all);
+    let mut row = [7, 7, 7, 7];
+    all.get(0).expect(&rt, "a block").copy_to(&mut row);
+    let [a, b, c, d] = row;
+    let said = format!(in alloc; "{a} {b} {c} {d}").expect(&rt, "memory");
+    compare(&rt, alloc, "a row", said, "0 7 7 3");
+}

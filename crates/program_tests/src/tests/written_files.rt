@@ -1,0 +1,80 @@
+//! Files of the machine that are written, and read again.
+
+use crate::tests::compare;
+use intake::files::{FileSource, MachineFiles, read_file, write_file};
+use std::alloc::Global;
+use std::fs;
+use std::process::Abort;
+use std::rt::HostRuntime;
+
+const NAME: &str = "program_tests.written";
+
+/// What is written, one after the other, to the same file.
+const TEXTS: &[&str] = &["", "0123456789\n", "shorter\n", "not cut\0short", "\u{e4}"];
+
+#[test]
+fn what_was_written_is_read(rt: HostRuntime) {
+    let alloc = rt.alloc();
+    let mut files = MachineFiles::new(&rt);
+    for text in TEXTS {
+        let row = format!(in alloc; "{text:?}").expect(&rt, "memory");
+        compare(
+            &rt,
+            alloc,
+            row,
+            kept(alloc, &mut files, text),
+            "as it was written",
+        );
+    }
+    let _ = fs::remove_file(&rt, NAME);
+}
+
+/// What a file holds behind the writing of a text.
+fn kept<F: FileSource>(alloc: Global, files: &mut F, text: &str) -> &'static str {
+    match write_file(alloc, files, NAME, text.as_bytes()) {
+        Ok(()) => {}
+        Err(_failure) => return "not written",
+    }
+    match read_file(alloc, files, NAME) {
+        Ok(bytes) => compared(&bytes, text),
+        Err(_failure) => "not read",
+    }
+}
+
+/// What was read, beside what was written.
+fn compared(bytes: &[u8], text: &str) -> &'static str {
+    if bytes == text.as_bytes() {
+        "as it was written"
+    } else {
+        "another text"
+    }
+}
+
+/// Names that can't be written.
+const UNWRITTEN: &[(&str, &str)] = &[
+    ("-", "cannot write -"),
+    (
+        "no_such_folder/written",
+        "cannot write no_such_folder/written",
+    ),
+    (".", "cannot write ."),
+];
+
+#[test]
+fn what_cannot_be_written(rt: HostRuntime) {
+    let alloc = rt.alloc();
+    let mut files = MachineFiles::new(&rt);
+    for (name, want) in UNWRITTEN {
+        let said = refused(&rt, alloc, &mut files, name);
+        compare(&rt, alloc, *name, said, want);
+    }
+}
+
+/// The failure of writing to a name.
+fn refused<F: FileSource>(rt: &impl Abort, alloc: Global, files: &mut F, name: &str) -> String {
+    let failure = match write_file(alloc, files, name, b"text") {
+        Ok(()) => return String::new(alloc),
+        Err(failure) => failure,
+    };
+    format!(in alloc; "{failure}").expect(rt, "memory")
+}

@@ -1,0 +1,172 @@
+//! Runs under a log: what the workers did is legal, stands in an order that it may have had, and is told by numbers.
+
+ghost use Rattle.types.specs.Contents.{FitsArrays};
+ghost use Rattle.types.specs.Translation.{input as lists_in};
+ghost use Rattle.types.specs.Typed.{code_of};
+
+use crate::tests::threads::{Holding, TWO_TASKS, Turns};
+use crate::tests::worlds::{HALVES, NESTED, STOPPING};
+use crate::tests::{FAULTS, TWO_ARRAYS, accepted, compare, one_thread_outcome, path};
+use events::event::Event;
+use logged_run::run::{header_of, run_logged};
+use race_checker::accepted::Accepted;
+use std::alloc::Global;
+use std::process::Abort;
+use std::sync::Wait;
+use std::thread::Threads;
+use trace::log::Log;
+use trace_text::read::read_lines;
+use trace_text::write::write_lines;
+use types::budget::Budget;
+use types::input::Input;
+use types::outcome::Outcome;
+use types::scope_id::ScopeId;
+use workers::gate::{Gate, NoGate};
+use workers::settings::Settings;
+
+/// A hundred tasks in one finish.
+const MANY: &str =
+    "main { var k = 0; finish { while k < 100 { async { skip; } k = k + 1; } } print k; }";
+
+/// A thousand of them.
+const A_THOUSAND: &str =
+    "main { var k = 0; finish { while k < 1000 { async { skip; } k = k + 1; } } }";
+
+/// A task whose child may end behind it.
+const OUTLIVED: &str = "main { finish { async { async { skip; } } } }";
+
+/// A program, a task that is held, and the one for which it waits.
+const ROWS: [(&str, Turns, Turns); 3] = [
+    (TWO_TASKS, &[1], &[2]),
+    (TWO_TASKS, &[2], &[1]),
+    (OUTLIVED, &[1, 1], &[1]),
+];
+
+/// A run under a log, which comes to an outcome.
+fn logged<'p>(
+    rt: &(impl Abort + Threads + Wait + Sync),
+    alloc: Global,
+    of: (&'p Accepted, &'p Input),
+    settings: Settings,
+    gate: &'p (impl Gate + Sync),
+) -> (Outcome, Log<'p>)
+    requires { FitsArrays (code_of of.0.now.typed).arrays (lists_in of.1.now) }
+{
+    let (program, input) = of;
+    run_logged(rt, alloc, program, input, settings, gate).expect(rt, "an outcome")
+}
+
+/// Settings of so many workers.
+fn settings(rt: &impl Abort, budget: Budget, w0: u64, workers: u64) -> Settings {
+    Settings::new(budget, 65_536, w0, workers).expect(rt, "settings")
+}
+
+/// A path's scope of this number.
+fn scope(rt: &impl Abort, alloc: Global, owner: Turns, number: u32) -> ScopeId {
+    ScopeId {
+        owner: path(rt, alloc, owner),
+        number,
+    }
+}
+
+/// Where an event stands for the first time.
+fn place_of(rt: &impl Abort, events: &[Event], event: &Event) -> usize {
+    events
+        .iter()
+        .position(|other| *other == *event)
+        .expect(rt, "the event")
+}
+
+#[test]
+fn what_workers_do_is_legal(rt: HostRuntime) {
+    let alloc = rt.alloc();
+    let budget = Budget::new(400, 100).expect(&rt, "a budget");
+    for text in [TWO_ARRAYS, HALVES, FAULTS, NESTED, STOPPING, MANY] {
+        let program = accepted(&rt, alloc, text);
+        let input = Input::zeros(alloc, program.typed()).expect(&rt, "memory");
+        let want = one_thread_outcome(&rt, alloc, &program, budget);
+        for workers in [1, 4, 64] {
+            for w0 in [1, 4_294_967_296] {
+                let settings = settings(&rt, budget, w0, workers);
+                let (outcome, log) = logged(&rt, alloc, (&program, &input), settings, &NoGate);
+                let outcome = format!(in alloc; "{outcome:?}").expect(&rt, "memory");
+                compare(&rt, alloc, text, outcome.as_str(), want.as_str());
+                let lines = write_lines(alloc, &header_of(settings), log.events());
+                let lines = lines.expect(&rt, "memory");
+                let (_, events) = read_lines(alloc, lines.as_str()).expect(&rt, "a trace");
+                assert!(rt;
+                    events.as_slice() == log.events(),
+                    "{text} is read otherwise"
+                );
+                let told = log.world().outcome().expect(&rt, "an end");
+                let told = format!(in alloc; "{told:?}").expect(&rt, "memory");
+                compare(&rt, alloc, text, told.as_str(), want.as_str());
+            }
+        }
+    }
+}
+
+/// Where the ends of two tasks stand in a run of two workers, the first of which is held until the other has left.
+fn ends(
+    rt: &(impl Abort + Threads + Wait + Sync),
+    alloc: Global,
+    text: &str,
+    held: Turns,
+    awaited: Turns,
+) -> (usize, usize, usize) {
+    let program = accepted(rt, alloc, text);
+    let input = Input::zeros(alloc, program.typed()).expect(rt, "memory");
+    let gate = Holding::new(held, awaited);
+    let settings = settings(rt, Budget::usual(), 8, 2);
+    let (_, log) = logged(rt, alloc, (&program, &input), settings, &gate);
+    assert!(*rt; !gate.gave_up(), "{held:?} waited in vain for {awaited:?}");
+    let end_of = |turns: Turns| {
+        let path = path(rt, alloc, turns);
+        place_of(rt, log.events(), &Event::End { path })
+    };
+    let scope = scope(rt, alloc, &[], 1);
+    let passes = place_of(rt, log.events(), &Event::Pass { scope });
+    (end_of(awaited), end_of(held), passes)
+}
+
+#[test]
+fn a_gate_shows_in_the_order_of_events(rt: HostRuntime) {
+    let alloc = rt.alloc();
+    for (text, held, awaited) in ROWS {
+        let (first, second, passes) = ends(&rt, alloc, text, held, awaited);
+        assert!(rt;
+            first < second && second < passes,
+            "{awaited:?} ended at {first}, {held:?} at {second}, the finish passed at {passes}"
+        );
+    }
+}
+
+/// What the scope of a finish with 1,000 tasks has issued and got back, and how often it was asked for more.
+fn book_of_many(
+    rt: &(impl Abort + Threads + Wait + Sync),
+    alloc: Global,
+    w0: u64,
+) -> (Option<(u64, u64)>, usize) {
+    let program = accepted(rt, alloc, A_THOUSAND);
+    let input = Input::zeros(alloc, program.typed()).expect(rt, "memory");
+    let settings = settings(rt, Budget::usual(), w0, 1);
+    let (_, log) = logged(rt, alloc, (&program, &input), settings, &NoGate);
+    let replenishings = log
+        .events()
+        .iter()
+        .filter(|event| matches!(event, Event::Replenish { .. }))
+        .count();
+    let book = log.world().book(&scope(rt, alloc, &[], 1));
+    (book, replenishings)
+}
+
+#[test]
+fn a_book_tells_how_much_weight_was_issued(rt: HostRuntime) {
+    let alloc = rt.alloc();
+    let (book, replenishings) = book_of_many(&rt, alloc, 1);
+    assert_eq!(rt; book, Some((1_001, 1_001)));
+    assert_eq!(rt; replenishings, 1_000);
+    let (book, replenishings) = book_of_many(&rt, alloc, 4_294_967_296);
+    assert_eq!(rt; book, Some((133_143_986_176, 133_143_986_176)));
+    assert_eq!(rt; replenishings, 30);
+}
