@@ -1,7 +1,7 @@
 #!/bin/sh
 # Prints the crates of crates.txt, lowest first, a line each: its name, and what it stands on, crates of the kit among
-# it. Then looks whether README.md (the table behind `## Crates`) and docs/ARCHITECTURE.md (the paragraphs behind
-# `## The crates, lowest first`, each of which begins with the crate's name in bold) name exactly these crates, each
+# it. Then looks whether README.md (the table behind `## Crates`, a crate or several a row) and docs/ARCHITECTURE.md (the
+# lines behind `## The crates, lowest first` that begin with a crate's name in bold) name exactly these crates, each
 # behind all that it stands on. A line on the standard error says what is wrong, and the status is then 1.
 set -eu
 cd "$(dirname "$0")/.."
@@ -45,10 +45,14 @@ function print_all(    left, at, found) {
     }
 }
 
-# The page that is read names a crate, between the first two backquotes of the line.
-function name_crate(    parts, crate) {
-    split($0, parts, "`")
-    crate = parts[2]
+# The page that is read names crates: each between two backquotes, before what the line says of them.
+function name_crates(    parts, number, at) {
+    split(substr($0, 3), parts, / \| |\*\*[:,]/)
+    number = split(parts[1], parts, "`")
+    for (at = 2; at <= number; at += 2) name_crate(parts[at])
+}
+
+function name_crate(crate) {
     if (!(crate in below)) wrong(FILENAME " names " crate ", which crates.txt does not have")
     else if ((FILENAME, crate) in has) wrong(FILENAME " names " crate " twice")
     else if (missing(FILENAME, crate) != "")
@@ -65,7 +69,7 @@ function is_whole(page,    at) {
 FILENAME == "crates.txt" { if (!/^#/ && /:/) take($0); next }
 FNR == 1 { listed = 0 }
 /^## / { listed = $0 == "## Crates" || $0 == "## The crates, lowest first" }
-listed && (/^\| `/ || /^\*\*`/) { name_crate() }
+listed && (/^\| `/ || /^\*\*`/) { name_crates() }
 
 END {
     print_all()
