@@ -84,26 +84,36 @@ impl<'t, R: Machine> Shelf<'t, R> {
         }
     }
 
-    /// Keeps what a command writes.
-    fn keep(&mut self, name: &str, bytes: &[u8]) -> Result<(), FileError> {
-        let bytes = copied(self.alloc, bytes)?;
-        let Ok(name) = String::from_str(self.alloc, name) else {
-            return Err(FileError::NoMemory);
-        };
-        match self.written.push(WrittenFile { name, bytes }) {
-            Ok(()) => Ok(()),
-            Err(_) => Err(FileError::NoMemory),
-        }
-    }
-
     /// What a command wrote last to the file of a name.
     pub fn written_to(&self, name: &str) -> Option<&[u8]> {
-        for file in self.written.iter().rev() {
-            if file.name.as_str() == name {
-                return Some(&file.bytes);
-            }
+        written_in(&self.written, name)
+    }
+}
+
+/// What was written last to the file of a name.
+fn written_in<'f>(files: &'f [WrittenFile], name: &str) -> Option<&'f [u8]> {
+    for file in files.iter().rev() {
+        if file.name.as_str() == name {
+            return Some(&file.bytes);
         }
-        None
+    }
+    None
+}
+
+/// Keeps what a command writes.
+fn keep(
+    alloc: Global,
+    files: &mut Vec<WrittenFile>,
+    name: &str,
+    bytes: &[u8],
+) -> Result<(), FileError> {
+    let bytes = copied(alloc, bytes)?;
+    let Ok(name) = String::from_str(alloc, name) else {
+        return Err(FileError::NoMemory);
+    };
+    match files.push(WrittenFile { name, bytes }) {
+        Ok(()) => Ok(()),
+        Err(_) => Err(FileError::NoMemory),
     }
 }
 
@@ -137,7 +147,7 @@ fn contents_of<'f>(files: &'f [TableFile<'_>], name: &str) -> Option<&'f Content
 
 impl<R: Machine> FileSource for Shelf<'_, R> {
     fn read(&mut self, name: &str) -> Result<Vec<u8>, FileError> {
-        if let Some(bytes) = self.written_to(name) {
+        if let Some(bytes) = written_in(&self.written, name) {
             return copied(self.alloc, bytes);
         }
         match contents_of(&self.files, name) {
@@ -169,7 +179,7 @@ impl<R: Machine> FileSource for Shelf<'_, R> {
             return Err(FileError::Failed);
         }
         match contents_of(&self.files, name) {
-            None | Some(Contents::Bytes(_)) => self.keep(name, bytes),
+            None | Some(Contents::Bytes(_)) => keep(self.alloc, &mut self.written, name, bytes),
             Some(Contents::NoMemory) => Err(FileError::NoMemory),
             Some(Contents::Endless) => Err(FileError::Failed),
         }
