@@ -1,0 +1,61 @@
+-- The run from its start to its end.
+use Rattle.std.proofs.Common.{◌≡◌, ℕ, List, [], ◌∷◌, ◌++◌, refl, sym, ap, ◌∙◌, Bor}
+use Rattle.std.specs.Prelude.{ℤ}
+use Rattle.types.specs.declared.code.Stmt.{Stmt}
+use Rattle.types.specs.Code.{Codes, Program}
+use Rattle.types.specs.Contents.{held_by}
+use Rattle.types.specs.Outcome.{start, outcome, outcome_by}
+use Rattle.types.specs.Run.{State, Block}
+use Rattle.types.specs.Translation.{codes, program, budget}
+use Rattle.serial_run.specs.declared.store.Store.{Store}
+use Rattle.serial_run.specs.declared.thread.Plan.{Plan}
+use Rattle.serial_run.specs.declared.thread.Thread.{Thread}
+use Rattle.serial_run.specs.Bounds.{IsInBounds}
+use Rattle.serial_run.specs.Lists.{lists_of}
+use Rattle.serial_run.specs.Standing.{state_of}
+use Rattle.serial_run.proofs.Ends.{outcome_at}
+use Rattle.cost.specs.declared.frame.Frame.{Frame}
+use Rattle.cost.specs.declared.frame.Frame.TheVariants.{Rest}
+use Rattle.cost.specs.declared.tally.Tally.{Tally}
+use Rattle.cost.specs.Costs.{nothing_done, tallied}
+use Rattle.cost.specs.Laws.{untallied, with_tally}
+use Rattle.cost.specs.Resume.{Standing, doing, resume, standing}
+use Rattle.cost.proofs.Frames.{resume-pushed}
+use Rattle.cost.proofs.Untallied.{untallied-tallied}
+
+-- where a whole run of `main` comes to
+abbrev pub end_of : Program → (steps nest : ℕ) → (input : List (List ℤ)) → Standing
+end_of p steps nest input = record {
+  state = tallied p steps nest (Block p.main.body) (start nothing_done p steps (held_by input));
+  nest = nest;
+}
+
+-- the body of `main` on top of the start is the whole run
+pub main_on_top : (p : Program) (steps nest : ℕ) (input : List (List ℤ)) (gs : List Frame) (b : Bor (List Stmt))
+    (t : Thread Store) (y : Tally) → gs ≡ [] ++ Rest b ∷ [] → codes b.now ≡ p.main.body
+    → state_of t ≡ start tt p steps (held_by input) → y ≡ nothing_done → t.nest ≡ nest
+    → resume p steps gs (standing y t) ≡ end_of p steps nest input
+main_on_top p steps nest input gs b t y g body state none same =
+    let begin : State Tally = start nothing_done p steps (held_by input) in
+    let at : State (Unit {0}) → Tally → ℕ → Standing = λ st y n. record { state = with_tally y st; nest = n } in
+    resume-pushed p steps [] gs (Rest b) (standing y t) g
+    ∙ ap (λ (c : Codes). doing p steps (Block c) (standing y t)) body
+    ∙ ap (λ (st : State (Unit {0})). doing p steps (Block p.main.body) (at st y t.nest)) state
+    ∙ ap (λ (y : Tally). doing p steps (Block p.main.body) (at (start tt p steps (held_by input)) y t.nest)) none
+    ∙ ap (λ (n : ℕ). doing p steps (Block p.main.body) (at (start tt p steps (held_by input)) nothing_done n)) same
+
+-- a thread that stands at the end tells the outcome
+pub told : (plan : Plan) (t : Thread Store) (y : Tally) (input : List (List ℤ)) → IsInBounds (program plan.program.now) t
+    → standing y t ≡ end_of (program plan.program.now) plan.budget.steps plan.budget.nest input
+    → outcome_by (state_of t).flow (record {
+      arrays = lists_of t.store;
+      lines = (state_of t).lines;
+      faults = (state_of t).faults;
+    }) ≡ outcome (program plan.program.now) input (budget plan.budget)
+told plan t y input bounds comes =
+    let p = program plan.program.now in
+    outcome_at p input (lists_of t.store) (budget plan.budget) (state_of t)
+    bounds.store refl
+    (ap (λ (s : Standing). untallied s.state) comes
+    ∙ untallied-tallied p plan.budget.steps plan.budget.nest (Block p.main.body)
+    (start nothing_done p plan.budget.steps (held_by input)))

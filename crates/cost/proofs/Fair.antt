@@ -1,0 +1,88 @@
+-- No chain is longer than the work, and no task and no finish begins without a step.
+use Rattle.std.proofs.Common.{◌≡◌, ℕ, zero, suc, ◌+◌, ◌≤◌, List, refl, sym, ap, subst, arith}
+use Rattle.std.proofs.Math.Nat.{max-le}
+use Rattle.std.specs.Prelude.{ℤ}
+use Rattle.types.specs.Code.{Codes, Program}
+use Rattle.types.specs.Contents.{held_by}
+use Rattle.types.specs.Meaning.{child}
+use Rattle.types.specs.Outcome.{Budget, start}
+use Rattle.types.specs.Run.{State, Block, run}
+use Rattle.types.specs.Laws.{IsKept}
+use Rattle.types.proofs.Keeps.{run_keeps}
+use Rattle.cost.specs.declared.tally.Tally.{Tally}
+use Rattle.cost.specs.Costs.{beginning, begin_tallied, nothing_done, tally_of, tallied_rules}
+use Rattle.cost.specs.Laws.{IsFair}
+
+-- one tally follows another fairly: it is fair where that was, and no less was done
+record Grows (t u : Tally) : Type 0 where
+  pub fair : IsFair t → IsFair u
+  pub more : t.work ≤ u.work
+
+abbrev Fairly : State Tally → State Tally → Type 0
+Fairly st to = Grows st.extra to.extra
+
+grows_same : (t u : Tally) → u ≡ t → Grows t u
+grows_same t u e = subst (λ (u : Tally). Grows t u) (sym e) (record { fair = λ f. f; more = omega arith })
+
+grows_further : (t u v : Tally) → Grows t u → Grows u v → Grows t v
+grows_further t u v g h = record { fair = λ f. h.fair (g.fair f); more = omega (arith, g.more, h.more) }
+
+module _ (p : Program) (fresh : ℕ) where
+  kept_by : (n : ℕ) → ((b : Codes) (st : State Tally) → Fairly st (begin_tallied p fresh n b st))
+      → IsKept (tallied_rules p fresh n) Fairly
+  kept_by n begins = record {
+    idle = λ st to path spawned extra there. grows_same st.extra to.extra extra;
+    further = λ a b c g h. grows_further a.extra b.extra c.extra g h;
+    stepped = λ st. record {
+      fair = λ f. record {
+        here = omega (arith, f.here);
+        ended = omega (arith, f.ended);
+        begun = omega (arith, f.begun);
+      };
+      more = omega arith;
+    };
+    begin = begins;
+    finish = λ st out g. record {
+      fair = λ f.
+          let inside : IsFair out.extra = g.fair (record {
+            here = omega (arith, f.here);
+            ended = omega arith;
+            begun = omega (arith, f.begun);
+          }) in
+          record {
+            here = max-le inside.here inside.ended;
+            ended = omega (arith, f.ended, g.more);
+            begun = inside.begun;
+          };
+      more = omega (arith, g.more);
+    };
+  }
+
+  begins_fairly : (n : ℕ) (b : Codes) (st : State Tally) → Fairly st (begin_tallied p fresh n b st)
+  begins_fairly zero b st = grows_same st.extra st.extra refl
+  begins_fairly (suc n) b st =
+      let begun = child fresh (beginning st) in
+      let out = run p (tallied_rules p fresh n) (Block b) begun in
+      let g = run_keeps p (tallied_rules p fresh n) Fairly (kept_by n (begins_fairly n)) (Block b) begun in
+      record {
+        fair = λ f.
+            let inside : IsFair out.extra = g.fair (record {
+              here = omega (arith, f.here);
+              ended = omega (arith, f.ended);
+              begun = omega (arith, f.begun);
+            }) in
+            record {
+              here = omega (arith, f.here, g.more);
+              ended = max-le inside.ended inside.here;
+              begun = inside.begun;
+            };
+        more = omega (arith, g.more);
+      }
+
+-- so whole runs are fair
+pub tally_is_fair : (p : Program) (input : List (List ℤ)) (b : Budget) → IsFair (tally_of p input b)
+tally_is_fair p input b =
+    let rules = tallied_rules p b.steps b.nest in
+    let g = run_keeps p rules Fairly (kept_by p b.steps b.nest (begins_fairly p b.steps b.nest)) (Block p.main.body)
+        (start nothing_done p b.steps (held_by input)) in
+    g.fair (record { here = omega arith; ended = omega arith; begun = omega arith })

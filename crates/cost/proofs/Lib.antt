@@ -1,0 +1,9 @@
+pub mod Beside
+pub mod Thrift
+pub mod Untallied
+pub mod Fair
+pub mod Turns
+pub mod Frames
+pub mod Waiting
+pub mod MachineLemmas
+pub mod EndLemmas

@@ -1,0 +1,29 @@
+-- What holds of tallies, whatever the program.
+use Rattle.std.specs.Prelude.{ℕ, ◌+◌, ◌≤◌}
+use Rattle.types.specs.Run.{State}
+use Rattle.cost.specs.declared.tally.Tally.{Tally}
+
+-- a state, with this kept beside
+abbrev pub with_tally : {X Y : Type 0} → Y → State X → State Y
+with_tally y st = record {
+  flow = st.flow;
+  environment = st.environment;
+  store = st.store;
+  lines = st.lines;
+  faults = st.faults;
+  steps = st.steps;
+  path = st.path;
+  spawned = st.spawned;
+  extra = y;
+}
+
+-- the same where nothing is kept beside
+abbrev pub untallied : State Tally → State (Unit {0})
+untallied = with_tally tt
+
+-- no chain is longer than all that was done; each task but the root, and each finish but that around `main`, took a
+-- step of its own
+pub record IsFair (t : Tally) : Type 0 where
+  pub here : t.here ≤ t.work
+  pub ended : t.ended ≤ t.work
+  pub begun : t.tasks + t.finishes ≤ t.work + 2

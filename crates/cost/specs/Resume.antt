@@ -1,0 +1,82 @@
+-- What the frames of a run stand for: a function from where the run stands to where it ends.
+use Rattle.std.specs.Prelude.{ℕ, ◌+◌, List, [], ◌∷◌, ◌++◌, map, ℤ}
+use Rattle.types.specs.Code.{Code, Program}
+use Rattle.types.specs.Meaning.{after_async, after_finish}
+use Rattle.types.specs.Run.{Fault, State, Work, Block, Turn, go_on, act}
+use Rattle.types.specs.Translation.{codes, truth, environment, fault}
+use Rattle.serial_run.specs.declared.store.Store.{Store}
+use Rattle.serial_run.specs.declared.thread.Thread.{Thread}
+use Rattle.serial_run.specs.Standing.{state_of}
+use Rattle.cost.specs.declared.frame.Frame.{Frame}
+use Rattle.cost.specs.declared.frame.Frame.TheVariants.{Rest, Again, EndFinish, EndAsync, EndCall}
+use Rattle.cost.specs.declared.frame.Outer.{Outer}
+use Rattle.cost.specs.declared.frame.Owner.{Owner}
+use Rattle.cost.specs.declared.frame.Told.{Told}
+use Rattle.cost.specs.declared.tally.Tally.{Tally}
+use Rattle.cost.specs.Costs.{ends_task, leaves_finish, tallied, tallied_rules}
+use Rattle.cost.specs.Laws.{with_tally}
+
+-- a state, and how many asyncs may still stand inside one another
+pub record Standing : Type 0 where
+  pub state : State Tally
+  pub nest : ℕ
+
+-- where a thread stands, of which this is the tally
+abbrev pub standing : Tally → Thread Store → Standing
+standing y t = record { state = with_tally y (state_of t); nest = t.nest }
+
+-- what was told, as the definitions see it
+abbrev pub lines_in : Told → List (List ℤ)
+lines_in o = map (λ v. v.items) o.lines.items
+
+abbrev pub faults_in : Told → List Fault
+faults_in o = map fault o.faults.items
+
+-- a finish at its end, before which this was told
+abbrev pub end_finish : Outer → State Tally → State Tally
+end_finish o out = record out {
+  flow = after_finish out.flow out.faults;
+  lines = lines_in o.told ++ out.lines;
+  faults = faults_in o.told ++ out.faults;
+  extra = leaves_finish o.ended out.extra;
+}
+
+-- the owner of an async goes on as it stood, behind the body
+abbrev pub end_async : Owner → State Tally → State Tally
+end_async o out = record {
+  flow = after_async out.flow;
+  environment = environment o.environment;
+  store = out.store;
+  lines = lines_in o.told ++ out.lines;
+  faults = faults_in o.told ++ out.faults;
+  steps = o.steps;
+  path = o.path.turns.items;
+  spawned = o.spawned;
+  extra = ends_task o.here out.extra;
+}
+
+module _ (p : Program) (fresh : ℕ) where
+  -- does work, where the flow is on
+  abbrev pub doing : Work → Standing → Standing
+  doing w s = record s { state = go_on (tallied p fresh s.nest w) s.state }
+
+  -- does a statement, whose step was taken and counted
+  abbrev pub acted : (label : ℕ) → Code → Standing → Standing
+  acted l c s =
+      record s {
+        state = act p (tallied_rules p fresh s.nest) (tallied p fresh s.nest) l c s.state;
+      }
+
+  -- what a frame does once those above it are done
+  abbrev pub frame : Frame → Standing → Standing
+  frame (Rest b) s = doing (Block (codes b.now)) s
+  frame (Again l t b) s = doing (Turn l (truth t.now) (codes b.now)) s
+  frame (EndFinish o) s = record s { state = end_finish o s.state }
+  frame (EndAsync owner) s =
+      record { state = end_async owner.value s.state; nest = owner.value.nest }
+  frame (EndCall env) s = record s { state = record s.state { environment = environment env } }
+
+  -- what all frames do, the last first
+  abbrev pub resume : List Frame → Standing → Standing
+  resume [] s = s
+  resume (f ∷ fs) s = frame f (resume fs s)

@@ -1,0 +1,10 @@
+//! What a run on one thread costs.
+
+#![tactic(auto)]
+
+pub mod cost;
+pub mod frame;
+pub mod laws;
+pub mod machine;
+pub mod tally;
+pub mod text;

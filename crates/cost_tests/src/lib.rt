@@ -1,0 +1,6 @@
+//! Tests of what runs cost.
+
+#![tactic(auto)]
+
+#[cfg(test)]
+mod tests;
