@@ -1,5 +1,5 @@
 -- The run from its start to its end.
-use Rattle.std.proofs.Common.{◌≡◌, ℕ, List, [], ◌∷◌, ◌++◌, refl, sym, ap, ◌∙◌, Bor}
+use Rattle.std.proofs.Common.{◌≡◌, ℕ, List, [], ◌∷◌, ◌++◌, refl, sym, ap, ◌∙◌, subst, Bor}
 use Rattle.std.specs.Prelude.{ℤ}
 use Rattle.types.specs.declared.code.Stmt.{Stmt}
 use Rattle.types.specs.Code.{Codes, Program}
@@ -20,8 +20,11 @@ use Rattle.cost.specs.declared.tally.Tally.{Tally}
 use Rattle.cost.specs.Costs.{nothing_done, tallied}
 use Rattle.cost.specs.Laws.{untallied, with_tally}
 use Rattle.cost.specs.Resume.{Standing, doing, resume, standing}
+use Rattle.cost.specs.declared.machine.Machine.{Machine}
+use Rattle.cost.specs.Machines.{HasEnded, IsSound, comes_to, nothing, stack, stands}
 use Rattle.cost.proofs.Frames.{resume-pushed}
 use Rattle.cost.proofs.Untallied.{untallied-tallied}
+use Rattle.cost.proofs.Waiting.{block_done}
 
 -- where a whole run of `main` comes to
 abbrev pub end_of : Program → (steps nest : ℕ) → (input : List (List ℤ)) → Standing
@@ -59,3 +62,44 @@ told plan t y input bounds comes =
     (ap (λ (s : Standing). untallied s.state) comes
     ∙ untallied-tallied p plan.budget.steps plan.budget.nest (Block p.main.body)
     (start nothing_done p plan.budget.steps (held_by input)))
+
+-- where nothing is left to do, the machine stands where it comes to
+pub ended : (old new : Machine) → HasEnded old new → stands new ≡ comes_to old nothing
+ended old new e =
+    let p = program old.plan.program.now in let fresh = old.plan.budget.steps in
+    ap (standing new.tally) e.thread
+    ∙ ap (λ (y : Tally). standing y old.thread) e.tally
+    ∙ sym (block_done p fresh [] old.block (stands old) e.block)
+    ∙ ap (λ (fs : List Frame). resume p fresh (fs ++ Rest old.block ∷ []) (stands old)) (sym e.frames)
+
+module _ (plan : Plan) (input : List (List ℤ)) (first m end : Machine) where
+  abbrev p : Program
+  p = program plan.program.now
+
+  -- a machine that began at `main`, and has nothing left to do
+  pub record HasRun : Type 0 where
+    pub plan : first.plan ≡ plan
+    pub state : state_of first.thread ≡ start tt p plan.budget.steps (held_by input)
+    pub nest : first.thread.nest ≡ plan.budget.nest
+    pub block : codes first.block.now ≡ p.main.body
+    pub frames : first.frames.items ≡ []
+    pub tally : first.tally ≡ nothing_done
+    pub same : m.plan ≡ first.plan
+    pub comes : comes_to m nothing ≡ comes_to first nothing
+    pub sound : IsSound m
+    pub ended : HasEnded m end
+
+  -- stands where the whole run comes to
+  pub stands_at_end : HasRun → stands end ≡ end_of p plan.budget.steps plan.budget.nest input
+  stands_at_end r =
+      ended m end r.ended
+      ∙ r.comes
+      ∙ ap (λ (q : Plan). resume (program q.program.now) q.budget.steps (stack first) (stands first)) r.plan
+      ∙ main_on_top p plan.budget.steps plan.budget.nest input (stack first) first.block first.thread first.tally
+      (ap (λ (fs : List Frame). fs ++ Rest first.block ∷ []) r.frames) r.block r.state r.tally r.nest
+
+  -- with all places there
+  pub bounds_at_end : HasRun → IsInBounds p end.thread
+  bounds_at_end r =
+      subst (λ (t : Thread Store). IsInBounds p t) (sym r.ended.thread)
+      (subst (λ (q : Plan). IsInBounds (program q.program.now) m.thread) (r.same ∙ r.plan) r.sound.thread)

@@ -1,8 +1,10 @@
+mod Examples
 pub mod Beside
 pub mod Thrift
 pub mod Untallied
 pub mod Fair
 pub mod Turns
+pub mod Owners
 pub mod Frames
 pub mod Waiting
 pub mod MachineLemmas

@@ -6,10 +6,12 @@ use Rattle.types.specs.Translation.{program, truth, codes}
 use Rattle.serial_run.specs.declared.store.Store.{Store}
 use Rattle.serial_run.specs.declared.thread.Thread.{Thread}
 use Rattle.cost.specs.Machines.{stack, statement, work}
-use Rattle.cost.specs.Resume.{acted, resume, standing}
-use Rattle.serial_run.specs.Standing.{flow}
+use Rattle.cost.specs.Resume.{Standing, acted, resume, standing}
+use Rattle.cost.specs.declared.tally.Tally.{Tally}
+use Rattle.serial_run.specs.Standing.{flow, state_of}
+use Rattle.cost.proofs.Beside.{beside, beside-stopped}
 use Rattle.cost.proofs.Frames.{again_on_top, turn_not_done}
-use Rattle.cost.proofs.MachineLemmas.{does_by, machine_of, step_sound, sound_with}
+use Rattle.cost.proofs.MachineLemmas.{does_by, machine_of, step_sound, step_tallied, sound_with}
 use Rattle.cost.proofs.Turns.{taken, missed, missed_on, turns-step, five-rate}
 use Rattle.cost.proofs.machine.Machine.again.Goals as goal
 
@@ -17,23 +19,26 @@ pub turn_loop-requires : goal.turn_loop-requires
 turn_loop-requires c =
     let m = c.args.self.now in
     let step = taken c.takes_step.result m.thread c.takes_step.new.self c.if-takes_step.true c.takes_step.ensures.taken in
-    step_sound m.plan m.tally m.thread c.takes_step.new.self m.block m.block m.frames step c.requires
+    step_tallied (machine_of m.plan m.tally c.takes_step.new.self m.block m.frames) c.one_more.new.self
+    (step_sound m.plan m.tally m.thread c.takes_step.new.self m.block m.block m.frames step c.requires)
 
-pub returns-then-takes_step-clause-does : goal.returns-then-takes_step-clause-does
-returns-then-takes_step-clause-does c =
+pub returns-in_ok-one_more-then-takes_step-clause-does : goal.returns-in_ok-one_more-then-takes_step-clause-does
+returns-in_ok-one_more-then-takes_step-clause-does c =
     let m = c.args.self.now in let p = program m.plan.program.now in let fresh = m.plan.budget.steps in
     let step = taken c.takes_step.result m.thread c.takes_step.new.self c.if-takes_step.true c.takes_step.ensures.taken in
     let guard = truth c.args.guard.now in let body = codes c.args.body.now in
+    let at : Tally → Thread Store → Standing = λ y t. resume p fresh (stack m) (acted p fresh c.args.label (While guard body) (standing y t)) in
     on_ok_weaker c.turn_loop.result
     (does_by (work (Turn c.args.label guard body)) (statement c.args.label (While guard body)) m
-    (machine_of m.plan m.tally c.takes_step.new.self m.block m.frames) c.turn_loop.new.self refl
-    (ap (λ (t : Thread Store). resume p fresh (stack m) (acted p fresh c.args.label (While guard body) (standing m.tally t))) step.same
+    (machine_of m.plan c.one_more.new.self c.takes_step.new.self m.block m.frames) c.turn_loop.new.self refl
+    (ap (at c.one_more.new.self) step.same
+    ∙ ap (λ y. at y (record m.thread { steps = c.takes_step.new.self.steps })) c.in_ok-one_more-then-takes_step.ensures
     ∙ again_on_top p fresh (stack m) c.args.label guard body c.takes_step.new.self.steps
     (standing m.tally m.thread) (ap flow step.on) step.less))
     c.turn_loop.ensures.does
 
-pub returns-then-takes_step-clause-ends : goal.returns-then-takes_step-clause-ends
-returns-then-takes_step-clause-ends c =
+pub returns-in_ok-one_more-then-takes_step-clause-ends : goal.returns-in_ok-one_more-then-takes_step-clause-ends
+returns-in_ok-one_more-then-takes_step-clause-ends c =
     let m = c.args.self.now in let fresh = m.plan.budget.steps in
     let step = taken c.takes_step.result m.thread c.takes_step.new.self c.if-takes_step.true c.takes_step.ensures.taken in
     on_ok_weaker c.turn_loop.result
@@ -59,5 +64,6 @@ returns-else-takes_step-clause-does c =
       comes =
           turn_not_done p m.plan.budget.steps (stack m) c.args.label (truth c.args.guard.now) (codes c.args.body.now)
           (standing m.tally m.thread) (standing m.tally c.takes_step.new.self)
-          (missed_on m.thread c.takes_step.new.self none) none.flow (ap (λ (t : Thread Store). t.nest) none.same);
+          (missed_on m.thread c.takes_step.new.self none)
+          (ap (beside m.tally) none.flow ∙ beside-stopped m.tally (flow m.thread.flow) (state_of m.thread)) (ap (λ (t : Thread Store). t.nest) none.same);
     }

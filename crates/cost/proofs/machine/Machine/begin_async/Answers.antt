@@ -1,14 +1,28 @@
-use Rattle.std.proofs.Common.{arith, ap, ◌∙◌, refl, sym, subst, ◌+◌, ◌*◌, ◌≤◌, [], ◌∷◌, ◌++◌}
+use Rattle.std.proofs.Common.{arith, ap, ◌∙◌, refl, sym, subst, ◌+◌, ◌-◌, ◌*◌, ◌≤◌, ◌≡◌, List, ℕ, Vec, Global, length, map, [], ◌∷◌, ◌++◌}
+use Rattle.std.specs.Prelude.{ℤ}
+use Rattle.types.specs.declared.fault.Fault.{Fault}
 use Rattle.types.specs.declared.path.Path.{Path}
-use Rattle.types.specs.Translation.{program, codes, environment}
-use Rattle.cost.specs.declared.frame.Frame.TheVariants.{Rest, EndAsync}
+use Rattle.types.specs.declared.value.Environment.{Environment as rEnvironment}
+use Rattle.types.specs.Contents.{FitsArrays}
+use Rattle.types.specs.Meaning.{child, hushed}
+use Rattle.types.specs.Run.{Flow, State}
+use Rattle.types.specs.Translation.{program, codes, environment, fault}
+use Rattle.serial_run.specs.declared.store.Store.{Store}
+use Rattle.serial_run.specs.declared.thread.Thread.{Thread}
 use Rattle.serial_run.specs.Bounds.{LiesInArrays}
-use Rattle.cost.specs.declared.frame.Owner.{Owner}
-use Rattle.cost.specs.Frames.{cost, costs, rate}
-use Rattle.cost.specs.Machines.{IsSoundFrame, stack}
+use Rattle.serial_run.specs.Lists.{lists_of}
 use Rattle.serial_run.specs.Standing.{state_of, flow}
+use Rattle.cost.specs.declared.frame.Frame.TheVariants.{Rest, EndAsync}
+use Rattle.cost.specs.declared.frame.Owner.{Owner}
+use Rattle.cost.specs.declared.tally.Tally.{Tally}
+use Rattle.cost.specs.Costs.{beginning, begins_task}
+use Rattle.cost.specs.Frames.{cost, costs, rate}
+use Rattle.cost.specs.Laws.{with_tally}
+use Rattle.cost.specs.Machines.{IsSoundFrame, stack}
+use Rattle.cost.specs.Resume.{standing}
 use Rattle.cost.proofs.Frames.{async_on_top}
 use Rattle.cost.proofs.MachineLemmas.{all_pushed}
+use Rattle.cost.proofs.Owners.{Waiting}
 use Rattle.cost.proofs.Turns.{async_within_step}
 use Rattle.cost.proofs.Waiting.{resume-frame_block, costs-frame_block}
 use Rattle.cost.proofs.machine.Machine.begin_async.Goals as goal
@@ -16,9 +30,12 @@ use Rattle.cost.proofs.machine.Machine.begin_async.Goals as goal
 pub returns-clause-does : goal.returns-clause-does
 returns-clause-does c =
     let m = c.args.self.now in let p = program m.plan.program.now in let fresh = m.plan.budget.steps in
-    let owner = c.replace-path.result in
+    let st = with_tally m.tally (state_of m.thread) in
+    let told = c.take_told.ensures in
+    let taken = c.take_told.new.thread in
+    let tally = c.begin_task.new.self in
     let caller = c.in_ok-environment.environment in
-    let spawned = m.thread.spawned + 1 in
+    let begun = record taken { steps = fresh; nest = taken.nest - 1; spawned = 0 } in
     let box = c.in_ok-owner.owner in
     let is_box = c.in_ok-owner.ensures.ok in
     let end = EndAsync box in
@@ -26,10 +43,25 @@ returns-clause-does c =
     let frames = c.push.new.self in let on_top = c.in_ok-push.ensures.items in
     let sound = c.requires.sound in
     let owner_sound = subst (LiesInArrays p) (sym c.in_ok-environment.ensures) sound.thread.windows in
+    let deeper : tally ≡ begins_task (length m.thread.path.turns.items + 1) m.tally
+    = c.in_ok-begin_task.ensures ∙ ap (λ (n : ℕ). begins_task (n + 1) m.tally) c.len.ensures in
+    let is_path = ap (λ (q : Path). q.turns.items) c.replace-path.ensures.after ∙ c.in_ok-child.ensures in
+    let at : Flow → List ℕ → Tally → State Tally = λ f q y.
+        with_tally y (record (hushed (state_of m.thread)) { flow = f; path = q; steps = fresh; spawned = 0 }) in
+    let is : (standing tally begun).state ≡ child fresh (beginning st)
+    = ap (λ (s : State (Unit {0})). with_tally tally (record s { steps = fresh; spawned = 0 })) told.nothing
+    ∙ ap (at (flow m.thread.flow) c.replace-path.new.dest.turns.items) deeper
+    ∙ ap (λ q. at (flow m.thread.flow) q (beginning st).extra) is_path
+    ∙ ap (λ f. at f (child fresh (beginning st)).path (beginning st).extra) (ap flow c.requires.on) in
     record {
       plan = refl;
       sound = record {
-        thread = record { store = sound.thread.store; windows = sound.thread.windows };
+        thread = record {
+          store = subst (λ (s : Store). FitsArrays p.arrays (lists_of s)) (sym (ap (λ (t : Thread Store). t.store) told.rest)) sound.thread.store;
+          windows =
+              subst (λ (e : rEnvironment). LiesInArrays p (environment e)) (sym (ap (λ (t : Thread Store). t.environment) told.rest))
+              sound.thread.windows;
+        };
         spawned = omega arith;
         frames =
             all_pushed (IsSoundFrame p fresh) below.items frames.items end on_top
@@ -37,22 +69,33 @@ returns-clause-does c =
             (owner_sound, omega (arith, c.requires.taken))) (waits.sound p fresh sound.frames);
       };
       comes =
-          resume-frame_block m.block m.frames.items p fresh below.items waits frames.items end c.args.body _ on_top
+          resume-frame_block m.block m.frames.items p fresh below.items waits frames.items end c.args.body (standing tally begun) on_top
           ∙ async_on_top p fresh (stack m) (stack m ++ end ∷ []) ((stack m ++ end ∷ []) ++ Rest c.args.body ∷ []) c.args.body
-          (codes c.args.body.now) 0 m.thread.nest m.thread.steps spawned owner caller box
-          c.replace-path.new.dest.turns.items (state_of m.thread) is_box
-          (ap flow c.requires.on) c.if-self-eq0.false refl refl
-          (ap (λ (q : Path). q.turns.items) c.replace-path.ensures.value) c.in_ok-environment.ensures
-          (ap (λ (q : Path). q.turns.items) c.replace-path.ensures.after ∙ c.in_ok-child.ensures)
-          refl refl refl;
+          (codes c.args.body.now) 0 m.thread.nest box st (standing tally begun) c.if-self-eq0.false
+          (subst (λ (o : Owner). Waiting o st m.thread.nest) (sym is_box) (record {
+            path = ap (λ (q : Path). q.turns.items) c.replace-path.ensures.value;
+            environment = c.in_ok-environment.ensures;
+            steps = refl;
+            spawned = refl;
+            lines = ap (λ (v : Vec (Vec ℤ Global) Global). map (λ (w : Vec ℤ Global). w.items) v.items) told.lines;
+            faults = ap (λ (v : Vec Fault Global). map fault v.items) told.faults;
+            here = ap (λ (y : Tally). y.here) deeper;
+            nest = refl;
+          }))
+          is (ap (λ (t : Thread Store). t.nest - 1) told.rest) refl refl refl;
     }
 
 pub returns-clause-ends : goal.returns-clause-ends
 returns-clause-ends c =
     let m = c.args.self.now in let fresh = m.plan.budget.steps in
     let end = EndAsync c.in_ok-owner.owner in
-    async_within_step fresh m.thread.steps m.thread.nest (costs fresh (stack m))
-    (costs fresh (c.push.new.self.items ++ Rest c.args.body ∷ [])) (cost fresh end) c.if-self-eq0.false
-    (ap (λ (o : Owner). 1 + o.steps * rate fresh o.nest) c.in_ok-owner.ensures.ok)
-    (costs-frame_block m.block m.frames.items fresh c.wait.new.frames.items c.in_ok-wait.ensures
-    c.push.new.self.items end c.args.body c.in_ok-push.ensures.items)
+    let same = ap (λ (t : Thread Store). fresh * rate fresh (t.nest - 1)) c.take_told.ensures.rest in
+    omega (
+      arith,
+      same,
+      async_within_step fresh m.thread.steps m.thread.nest (costs fresh (stack m))
+          (costs fresh (c.push.new.self.items ++ Rest c.args.body ∷ [])) (cost fresh end) c.if-self-eq0.false
+          (ap (λ (o : Owner). 1 + o.steps * rate fresh o.nest) c.in_ok-owner.ensures.ok)
+          (costs-frame_block m.block m.frames.items fresh c.wait.new.frames.items c.in_ok-wait.ensures
+              c.push.new.self.items end c.args.body c.in_ok-push.ensures.items),
+    )

@@ -1,42 +1,64 @@
-use Rattle.std.proofs.Common.{arith, ap, ◌∙◌, sym, refl, [], ◌∷◌, ◌++◌}
-use Rattle.std.proofs.lemmas.List.{length-map}
+use Rattle.std.proofs.Common.{arith, ap, ◌∙◌, refl, ◌+◌, ◌*◌, List, Vec, Global, map, [], ◌∷◌, ◌++◌}
+use Rattle.std.specs.Prelude.{ℤ}
+use Rattle.types.specs.declared.fault.Fault.{Fault}
+use Rattle.types.specs.Meaning.{hushed}
 use Rattle.types.specs.Translation.{program, codes, fault}
+use Rattle.serial_run.specs.declared.store.Store.{Store}
+use Rattle.serial_run.specs.declared.thread.Thread.{Thread}
+use Rattle.serial_run.specs.Standing.{flow, state_of}
 use Rattle.cost.specs.declared.frame.Frame.TheVariants.{Rest, EndFinish}
+use Rattle.cost.specs.declared.frame.Outer.{Outer}
+use Rattle.cost.specs.Frames.{rate}
+use Rattle.cost.specs.Laws.{with_tally}
 use Rattle.cost.specs.Machines.{stack}
-use Rattle.serial_run.specs.Standing.{flow}
+use Rattle.cost.specs.Resume.{standing}
 use Rattle.cost.proofs.Frames.{finish_on_top}
-use Rattle.cost.proofs.MachineLemmas.{sound_pushed, sound_waits}
+use Rattle.cost.proofs.MachineLemmas.{machine_of, sound_pushed, sound_tallied, sound_waits, sound_with}
 use Rattle.cost.proofs.Turns.{five-rate}
 use Rattle.cost.proofs.Waiting.{resume-frame_block, costs-frame_block}
-use Rattle.cost.specs.Resume.{standing}
 use Rattle.cost.proofs.machine.Machine.begin_finish.Goals as goal
 
 pub returns-clause-does : goal.returns-clause-does
 returns-clause-does c =
     let m = c.args.self.now in let p = program m.plan.program.now in let fresh = m.plan.budget.steps in
-    let end = EndFinish c.len-faults.result in
+    let told = c.take_told.ensures in
+    let thread = c.take_told.new.thread in
+    let tally = c.enter_finish.new.self in
+    let outer : Outer = record { told = c.take_told.result; ended = m.tally.ended } in
+    let end = EndFinish outer in
     let below = c.wait.new.frames in let waits = c.in_ok-wait.ensures in
     let frames = c.push.new.self in let on_top = c.in_ok-push.ensures.items in
+    let hushed_state = hushed (state_of m.thread) in
+    let steps = ap (λ (t : Thread Store). t.steps) told.rest in
+    let spawned = ap (λ (t : Thread Store). t.spawned) told.rest in
     record {
       plan = refl;
       sound =
-          sound_pushed m.plan m.tally m.thread m.block c.args.body below frames end on_top tt
-          (sound_waits m.plan m.tally m.thread m.block m.block m.frames below waits c.requires.sound);
+          sound_tallied (machine_of m.plan m.tally thread c.args.body frames) tally
+          (sound_pushed m.plan m.tally thread m.block c.args.body below frames end on_top tt
+          (sound_waits m.plan m.tally thread m.block m.block m.frames below waits
+          (sound_with m.plan m.tally m.thread thread m.block m.block m.frames (ap (λ (t : Thread Store). t.store) told.rest)
+          (ap (λ (t : Thread Store). t.environment) told.rest) (omega (arith, steps, spawned)) c.requires.sound)));
       comes =
-          resume-frame_block m.block m.frames.items p fresh below.items waits frames.items end c.args.body (standing m.tally m.thread) on_top
+          resume-frame_block m.block m.frames.items p fresh below.items waits frames.items end c.args.body (standing tally thread) on_top
           ∙ finish_on_top p fresh (stack m) (stack m ++ end ∷ []) ((stack m ++ end ∷ []) ++ Rest c.args.body ∷ [])
-          c.args.body (codes c.args.body.now) c.len-faults.result 0 (standing m.tally m.thread)
+          c.args.body (codes c.args.body.now) outer 0 (standing m.tally m.thread) (standing tally thread)
           (ap flow c.requires.on)
-          (c.len-faults.ensures ∙ m.thread.faults.ok.0 ∙ sym (length-map m.thread.faults.items fault))
+          (ap (λ (v : Vec (Vec ℤ Global) Global). map (λ (w : Vec ℤ Global). w.items) v.items) told.lines)
+          (ap (λ (v : Vec Fault Global). map fault v.items) told.faults) refl
+          (ap (with_tally tally) told.nothing ∙ ap (λ y. with_tally y hushed_state) c.in_ok-enter_finish.ensures)
+          (ap (λ (t : Thread Store). t.nest) told.rest)
           refl refl refl;
     }
 
 pub returns-clause-ends : goal.returns-clause-ends
 returns-clause-ends c =
     let m = c.args.self.now in let fresh = m.plan.budget.steps in
+    let outer : Outer = record { told = c.take_told.result; ended = m.tally.ended } in
     omega (
       arith,
       costs-frame_block m.block m.frames.items fresh c.wait.new.frames.items c.in_ok-wait.ensures c.push.new.self.items
-          (EndFinish c.len-faults.result) c.args.body c.in_ok-push.ensures.items,
+          (EndFinish outer) c.args.body c.in_ok-push.ensures.items,
+      ap (λ (t : Thread Store). t.steps * rate fresh t.nest) c.take_told.ensures.rest,
       five-rate fresh m.thread.nest,
     )

@@ -4,6 +4,7 @@ use Rattle.types.specs.Translation.{program, truth, codes}
 use Rattle.cost.specs.declared.frame.Frame.TheVariants.{Rest}
 use Rattle.cost.specs.Machines.{stack, statement}
 use Rattle.serial_run.specs.Standing.{flow}
+use Rattle.cost.proofs.Beside.{beside}
 use Rattle.cost.proofs.Frames.{chosen, other, choice_faults}
 use Rattle.cost.proofs.MachineLemmas.{sound_waits, does_fault}
 use Rattle.serial_run.proofs.Steps.{on_ok_both}
@@ -20,7 +21,7 @@ returns-in-Err-clause-does c =
     (does_fault m.plan m.tally m.thread c.fault.new.self m.block m.frames c.args.label c.in-Err.kind
     (statement c.args.label (If guard body rest)) c.requires.sound
     (λ st n. choice_faults p m.plan.budget.steps (stack m) guard body rest c.args.label c.in-Err.kind
-    (standing m.tally m.thread) (standing m.tally c.fault.new.self) (sym c.in-Err.is ∙ c.truth.ensures) st n))
+    (standing m.tally m.thread) (standing m.tally c.fault.new.self) (sym c.in-Err.is ∙ c.truth.ensures) (ap (beside m.tally) st) n))
     c.fault.ensures.state c.fault.ensures.task
 
 pub returns-in_ok-wait-in-Ok-true-clause-does : goal.returns-in_ok-wait-in-Ok-true-clause-does

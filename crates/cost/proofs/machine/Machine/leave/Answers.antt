@@ -1,4 +1,4 @@
-use Rattle.std.proofs.Common.{◌≡◌, arith, ap, ◌∙◌, refl, sym, subst}
+use Rattle.std.proofs.Common.{◌≡◌, arith, ap, ◌∙◌, refl, sym, subst, ◌++◌, ◌+◌, ◌≤◌}
 use Rattle.types.specs.declared.value.Environment.{Environment}
 use Rattle.types.specs.Translation.{program, environment}
 use Rattle.cost.specs.declared.frame.Frame.{Frame}
@@ -7,12 +7,20 @@ use Rattle.cost.specs.declared.machine.Machine.{Machine}
 use Rattle.cost.specs.declared.frame.Frame.TheVariants.{Rest, EndAsync}
 use Rattle.cost.specs.Frames.{cost}
 use Rattle.cost.specs.Machines.{Does, IsSoundFrame, stack, turn_of}
+use Rattle.types.specs.Contents.{FitsArrays}
 use Rattle.serial_run.specs.Bounds.{LiesInArrays}
-use Rattle.types.specs.Run.{Flow}
-use Rattle.cost.specs.Resume.{end_async, frame, resume, standing}
-use Rattle.serial_run.specs.Standing.{state_of}
-use Rattle.cost.proofs.Frames.{resume-push}
-use Rattle.cost.proofs.MachineLemmas.{machine_of}
+use Rattle.serial_run.specs.Lists.{lists_of}
+use Rattle.types.specs.Run.{Flow, State}
+use Rattle.cost.specs.Resume.{Standing, end_finish, faults_in, frame, lines_in, resume, standing}
+use Rattle.cost.specs.Costs.{ends_task, leaves_finish}
+use Rattle.cost.specs.Laws.{with_tally}
+use Rattle.cost.specs.declared.tally.Tally.{Tally}
+use Rattle.serial_run.specs.Standing.{flow, state_of}
+use Rattle.serial_run.specs.declared.store.Store.{Store}
+use Rattle.serial_run.specs.declared.thread.Thread.{Thread}
+use Rattle.cost.proofs.Frames.{resume-push, standing_by_state}
+use Rattle.cost.proofs.MachineLemmas.{machine_of, sound_tallied, sound_with, told_before}
+use Rattle.cost.proofs.Owners.{after_owner}
 use Rattle.cost.proofs.Turns.{costs-push}
 use Rattle.cost.proofs.Waiting.{block_done}
 use Rattle.cost.proofs.machine.Machine.leave.Goals as goal
@@ -63,36 +71,95 @@ returns-in_ok-push-in-EndCall-clause-does c =
         frames = c.requires.sound.frames;
       };
       comes =
-          ap (λ (e : Environment). resume p fresh (stack m) (standing (record m.thread { environment = e }))) is;
+          ap (λ (e : Environment). resume p fresh (stack m) (standing m.tally (record m.thread { environment = e }))) is;
     })
 
-pub returns-in-EndAsync-clause-does : goal.returns-in-EndAsync-clause-does
-returns-in-EndAsync-clause-does c =
+pub returns-in_ok-tell_before-in-EndFinish-clause-does : goal.returns-in_ok-tell_before-in-EndFinish-clause-does
+returns-in_ok-tell_before-in-EndFinish-clause-does c =
     let m = c.args.self.now in let p = program m.plan.program.now in let fresh = m.plan.budget.steps in
-    let box = c.in-EndAsync.owner in let o = box.value in
-    let fine = subst (IsSoundFrame p fresh) c.in-EndAsync.is c.requires.frame in
-    let ended = end_async o.path.turns.items (environment o.environment) o.steps o.spawned (state_of m.thread) in
-    let after : Owner → Machine = λ q. record m {
-      elsewhere = c.steps_beside-self.result;
-      thread = record m.thread {
-        flow = c.after_async-self.result;
-        path = q.path;
-        environment = q.environment;
-        steps = q.steps;
-        nest = q.nest;
-        spawned = q.spawned;
-      };
+    let o = c.in-EndFinish.outer in
+    let told = c.in_ok-tell_before-in-EndFinish.ensures in
+    let old = record m.thread { flow = c.after_finish-self.result } in
+    let thread = c.tell_before.new.thread in let tally = c.leave_finish.new.self in
+    let new = record m { thread = thread; tally = tally } in
+    let st = state_of m.thread in
+    let at : Flow → Tally → State Tally = λ f y. record (with_tally y st) {
+      flow = f;
+      lines = lines_in o.told ++ st.lines;
+      faults = faults_in o.told ++ st.faults;
     } in
-    subst (λ (f : Frame). Does (turn_of f) m (after c.into_inner-owner.result)) (sym c.in-EndAsync.is)
-    (subst (λ (q : Owner). Does (turn_of (EndAsync box)) m (after q)) (sym c.into_inner-owner.ensures)
+    let steps = ap (λ (t : Thread Store). t.steps) told.rest in
+    let spawned = ap (λ (t : Thread Store). t.spawned) told.rest in
+    subst (λ (f : Frame). Does (turn_of f) m new) (sym c.in-EndFinish.is)
+    (record {
+      plan = refl;
+      sound =
+          sound_tallied (machine_of m.plan m.tally thread m.block m.frames) tally
+          (sound_with m.plan m.tally m.thread thread m.block m.block m.frames (ap (λ (t : Thread Store). t.store) told.rest)
+          (ap (λ (t : Thread Store). t.environment) told.rest) (omega (arith, steps, spawned)) c.requires.sound);
+      comes =
+          ap (resume p fresh (stack m))
+          (standing_by_state (standing m.tally m.thread) (standing tally thread)
+          (end_finish o (standing m.tally m.thread).state)
+          (ap (with_tally tally) (told_before o.told old thread told)
+          ∙ ap (at (flow c.after_finish-self.result)) c.leave_finish.ensures
+          ∙ ap (λ f. at f (leaves_finish o.ended m.tally)) c.after_finish-self.ensures)
+          (ap (λ (t : Thread Store). t.nest) told.rest));
+    })
+
+pub returns-in_ok-tell_before-in-EndAsync-clause-does : goal.returns-in_ok-tell_before-in-EndAsync-clause-does
+returns-in_ok-tell_before-in-EndAsync-clause-does c =
+    let m = c.args.self.now in let p = program m.plan.program.now in let fresh = m.plan.budget.steps in
+    let box = c.in-EndAsync.owner in let q = c.into_inner-owner.result in
+    let unboxed = c.into_inner-owner.ensures in
+    let told = c.in_ok-tell_before-in-EndAsync.ensures in
+    let old = record m.thread { flow = c.after_async-self.result } in
+    let thread = c.tell_before-in-EndAsync.new.thread in let tally = c.end_task.new.self in
+    let goes : Thread Store = record thread {
+      path = q.path;
+      environment = q.environment;
+      steps = q.steps;
+      nest = q.nest;
+      spawned = q.spawned;
+    } in
+    let new = record m { thread = goes; tally = tally } in
+    let s = standing m.tally m.thread in
+    let at : State (Unit {0}) → Flow → Tally → Standing = λ st f y. record {
+      state = record {
+        flow = f;
+        environment = environment q.environment;
+        store = st.store;
+        lines = st.lines;
+        faults = st.faults;
+        steps = q.steps;
+        path = q.path.turns.items;
+        spawned = q.spawned;
+        extra = y;
+      };
+      nest = q.nest;
+    } in
+    let st = record (state_of old) {
+      lines = lines_in q.told ++ (state_of old).lines;
+      faults = faults_in q.told ++ (state_of old).faults;
+    } in
+    let fine = subst (λ (o : Owner). LiesInArrays p (environment o.environment) × (o.spawned + o.steps ≤ fresh)) (sym unboxed)
+    (subst (IsSoundFrame p fresh) c.in-EndAsync.is c.requires.frame) in
+    subst (λ (f : Frame). Does (turn_of f) m new) (sym c.in-EndAsync.is)
     (record {
       plan = refl;
       sound = record {
-        thread = record { store = c.requires.sound.thread.store; windows = fine.0 };
+        thread = record {
+          store =
+              subst (λ (s : Store). FitsArrays p.arrays (lists_of s)) (sym (ap (λ (t : Thread Store). t.store) told.rest))
+              c.requires.sound.thread.store;
+          windows = fine.0;
+        };
         spawned = fine.1;
         frames = c.requires.sound.frames;
       };
       comes =
-          ap (λ (f : Flow). resume p fresh (stack m) (record { state = record ended { flow = f }; nest = o.nest }))
-          c.after_async-self.ensures;
-    }))
+          ap (λ (s : State (Unit {0})). resume p fresh (stack m) (at s s.flow tally)) (told_before q.told old thread told)
+          ∙ ap (λ (y : Tally). resume p fresh (stack m) (at st (flow c.after_async-self.result) y)) c.end_task.ensures
+          ∙ ap (λ (f : Flow). resume p fresh (stack m) (at st f (ends_task q.here m.tally))) c.after_async-self.ensures
+          ∙ ap (λ (o : Owner). resume p fresh (stack m) (after_owner o s.state)) unboxed;
+    })

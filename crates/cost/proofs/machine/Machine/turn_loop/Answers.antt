@@ -4,6 +4,7 @@ use Rattle.types.specs.Translation.{program, truth, codes}
 use Rattle.cost.specs.declared.frame.Frame.TheVariants.{Rest, Again}
 use Rattle.cost.specs.Machines.{stack, statement}
 use Rattle.serial_run.specs.Standing.{flow}
+use Rattle.cost.proofs.Beside.{beside}
 use Rattle.cost.proofs.Frames.{turn_on_top, loop_faults}
 use Rattle.cost.proofs.MachineLemmas.{sound_pushed, sound_waits, does_fault}
 use Rattle.serial_run.proofs.Steps.{on_ok_both}
@@ -19,7 +20,7 @@ returns-in-Err-clause-does c =
     (does_fault m.plan m.tally m.thread c.fault.new.self m.block m.frames c.args.label c.in-Err.kind
     (statement c.args.label (While guard body)) c.requires.sound
     (λ st n. loop_faults p m.plan.budget.steps (stack m) guard body c.args.label c.in-Err.kind
-    (standing m.tally m.thread) (standing m.tally c.fault.new.self) (sym c.in-Err.is ∙ c.truth.ensures) st n))
+    (standing m.tally m.thread) (standing m.tally c.fault.new.self) (sym c.in-Err.is ∙ c.truth.ensures) (ap (beside m.tally) st) n))
     c.fault.ensures.state c.fault.ensures.task
 
 pub returns-in_ok-push-in-Ok-true-clause-does : goal.returns-in_ok-push-in-Ok-true-clause-does

@@ -1,0 +1,15 @@
+use Rattle.std.proofs.Common.{◌≡◌}
+use Rattle.cost.specs.Frames.{turns_left}
+use Rattle.cost.specs.Machines.{IsSound, comes_to, nothing, stack}
+use Rattle.cost.proofs.cost.measure.Given as goal
+
+-- the machine is sound, and comes to what it came to at first
+abbrev pub invariant-turns : goal.invariant-turns
+invariant-turns l = record {
+  sound : IsSound l.machine;
+  plan : l.machine.plan ≡ l.initial.machine.plan;
+  comes : comes_to l.machine nothing ≡ comes_to l.initial.machine nothing;
+}
+
+abbrev pub decreases-turns : goal.decreases-turns
+decreases-turns l = turns_left l.machine.plan.budget.steps l.machine.thread (stack l.machine)
