@@ -72,15 +72,15 @@ ended old new e =
     ∙ sym (block_done p fresh [] old.block (stands old) e.block)
     ∙ ap (λ (fs : List Frame). resume p fresh (fs ++ Rest old.block ∷ []) (stands old)) (sym e.frames)
 
-module _ (plan : Plan) (input : List (List ℤ)) (first m end : Machine) where
+module _ (job : Plan) (input : List (List ℤ)) (first m end : Machine) where
   abbrev p : Program
-  p = program plan.program.now
+  p = program job.program.now
 
   -- a machine that began at `main`, and has nothing left to do
   pub record HasRun : Type 0 where
-    pub plan : first.plan ≡ plan
-    pub state : state_of first.thread ≡ start tt p plan.budget.steps (held_by input)
-    pub nest : first.thread.nest ≡ plan.budget.nest
+    pub plan : first.plan ≡ job
+    pub state : state_of first.thread ≡ start tt p job.budget.steps (held_by input)
+    pub nest : first.thread.nest ≡ job.budget.nest
     pub block : codes first.block.now ≡ p.main.body
     pub frames : first.frames.items ≡ []
     pub tally : first.tally ≡ nothing_done
@@ -90,12 +90,12 @@ module _ (plan : Plan) (input : List (List ℤ)) (first m end : Machine) where
     pub ended : HasEnded m end
 
   -- stands where the whole run comes to
-  pub stands_at_end : HasRun → stands end ≡ end_of p plan.budget.steps plan.budget.nest input
+  pub stands_at_end : HasRun → stands end ≡ end_of p job.budget.steps job.budget.nest input
   stands_at_end r =
       ended m end r.ended
       ∙ r.comes
       ∙ ap (λ (q : Plan). resume (program q.program.now) q.budget.steps (stack first) (stands first)) r.plan
-      ∙ main_on_top p plan.budget.steps plan.budget.nest input (stack first) first.block first.thread first.tally
+      ∙ main_on_top p job.budget.steps job.budget.nest input (stack first) first.block first.thread first.tally
       (ap (λ (fs : List Frame). fs ++ Rest first.block ∷ []) r.frames) r.block r.state r.tally r.nest
 
   -- with all places there

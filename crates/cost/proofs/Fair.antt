@@ -84,5 +84,5 @@ pub tally_is_fair : (p : Program) (input : List (List ℤ)) (b : Budget) → IsF
 tally_is_fair p input b =
     let rules = tallied_rules p b.steps b.nest in
     let g = run_keeps p rules Fairly (kept_by p b.steps b.nest (begins_fairly p b.steps b.nest)) (Block p.main.body)
-        (start nothing_done p b.steps (held_by input)) in
+    (start nothing_done p b.steps (held_by input)) in
     g.fair (record { here = omega arith; ended = omega arith; begun = omega arith })

@@ -22,7 +22,7 @@ view_of i st = untallied st
 
 -- an equation alone
 same : {A : Type 0} {a b : A} → ⊥ ⊎ (a ≡ b) → a ≡ b
-same (inl no) = absurd no
+same (inl bad) = absurd bad
 same (inr e) = e
 
 module _ (p : Program) (fresh : ℕ) where
@@ -46,8 +46,8 @@ module _ (p : Program) (fresh : ℕ) where
       spends = spends;
       begin = begins;
       finish = λ go to h i st. inr (ap (s.leave (untallied st)) (same (h tt (r.enter st))));
-      lost = λ st go no. no;
-      lost_moved = λ st env no. no;
+      lost = λ st go bad. bad;
+      lost_moved = λ st env bad. bad;
     }
       where
         spends : (i : Unit {0}) (st : State Tally) (go : State Tally → State Tally)

@@ -62,7 +62,8 @@ pub fn measure(
     };
     let mut machine = Machine::at_start(plan, input)?;
     'turns: while machine.turn()? {}
-    let cost = machine.tally.cost();
-    let outcome = machine.thread.outcome();
-    Ok(Costed { outcome, cost })
+    Ok(Costed {
+        cost: machine.tally.cost(),
+        outcome: machine.thread.outcome(),
+    })
 }

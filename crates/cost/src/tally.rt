@@ -1,6 +1,6 @@
 //! What was done so far in a run, and what of it comes one behind the other.
 
-ghost use Rattle.std.specs.Prelude.{◌≡◌, OnOk};
+ghost use Rattle.std.specs.Prelude.{◌≡◌, ◌+◌, IfOk, OnOk};
 ghost use Rattle.types.specs.Translation.{code as plain_code};
 ghost use Rattle.cost.specs.Costs.{begins_task, cost_of, counted_in, ends_task, enters_finish};
 ghost use Rattle.cost.specs.Costs.{leaves_finish, nothing_done, one_more};

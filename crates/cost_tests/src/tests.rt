@@ -79,6 +79,9 @@ fn runs_cost_what_their_steps_say(rt: HostRuntime) {
     for (text, want) in ROWS {
         let costed = run(&rt, alloc, text, Budget::usual());
         let told = cost_text(alloc, &costed.cost).expect(&rt, "memory");
-        assert!(&rt; told.as_str() == want, "at {text}\nsaid: {told}\nwant: {want}");
+        assert!(&rt;
+            told.as_str() == want,
+            "at {text}\nsaid: {told}\nwant: {want}"
+        );
     }
 }

@@ -22,8 +22,8 @@ turn_loop-requires c =
     step_tallied (machine_of m.plan m.tally c.takes_step.new.self m.block m.frames) c.one_more.new.self
     (step_sound m.plan m.tally m.thread c.takes_step.new.self m.block m.block m.frames step c.requires)
 
-pub returns-in_ok-one_more-then-takes_step-clause-does : goal.returns-in_ok-one_more-then-takes_step-clause-does
-returns-in_ok-one_more-then-takes_step-clause-does c =
+pub returns-in_ok-one_more-clause-does : goal.returns-in_ok-one_more-clause-does
+returns-in_ok-one_more-clause-does c =
     let m = c.args.self.now in let p = program m.plan.program.now in let fresh = m.plan.budget.steps in
     let step = taken c.takes_step.result m.thread c.takes_step.new.self c.if-takes_step.true c.takes_step.ensures.taken in
     let guard = truth c.args.guard.now in let body = codes c.args.body.now in
@@ -32,13 +32,13 @@ returns-in_ok-one_more-then-takes_step-clause-does c =
     (does_by (work (Turn c.args.label guard body)) (statement c.args.label (While guard body)) m
     (machine_of m.plan c.one_more.new.self c.takes_step.new.self m.block m.frames) c.turn_loop.new.self refl
     (ap (at c.one_more.new.self) step.same
-    ∙ ap (λ y. at y (record m.thread { steps = c.takes_step.new.self.steps })) c.in_ok-one_more-then-takes_step.ensures
+    ∙ ap (λ y. at y (record m.thread { steps = c.takes_step.new.self.steps })) c.in_ok-one_more.ensures
     ∙ again_on_top p fresh (stack m) c.args.label guard body c.takes_step.new.self.steps
     (standing m.tally m.thread) (ap flow step.on) step.less))
     c.turn_loop.ensures.does
 
-pub returns-in_ok-one_more-then-takes_step-clause-ends : goal.returns-in_ok-one_more-then-takes_step-clause-ends
-returns-in_ok-one_more-then-takes_step-clause-ends c =
+pub returns-in_ok-one_more-clause-ends : goal.returns-in_ok-one_more-clause-ends
+returns-in_ok-one_more-clause-ends c =
     let m = c.args.self.now in let fresh = m.plan.budget.steps in
     let step = taken c.takes_step.result m.thread c.takes_step.new.self c.if-takes_step.true c.takes_step.ensures.taken in
     on_ok_weaker c.turn_loop.result

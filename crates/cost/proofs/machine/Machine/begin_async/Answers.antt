@@ -44,10 +44,10 @@ returns-clause-does c =
     let sound = c.requires.sound in
     let owner_sound = subst (LiesInArrays p) (sym c.in_ok-environment.ensures) sound.thread.windows in
     let deeper : tally ≡ begins_task (length m.thread.path.turns.items + 1) m.tally
-    = c.in_ok-begin_task.ensures ∙ ap (λ (n : ℕ). begins_task (n + 1) m.tally) c.len.ensures in
+    = c.in_ok-begin_task.ensures ∙ ap (λ (n : ℕ). begins_task (n + 1) m.tally) (c.len.ensures ∙ m.thread.path.turns.ok.0) in
     let is_path = ap (λ (q : Path). q.turns.items) c.replace-path.ensures.after ∙ c.in_ok-child.ensures in
     let at : Flow → List ℕ → Tally → State Tally = λ f q y.
-        with_tally y (record (hushed (state_of m.thread)) { flow = f; path = q; steps = fresh; spawned = 0 }) in
+    with_tally y (record (hushed (state_of m.thread)) { flow = f; path = q; steps = fresh; spawned = 0 }) in
     let is : (standing tally begun).state ≡ child fresh (beginning st)
     = ap (λ (s : State (Unit {0})). with_tally tally (record s { steps = fresh; spawned = 0 })) told.nothing
     ∙ ap (at (flow m.thread.flow) c.replace-path.new.dest.turns.items) deeper
@@ -97,5 +97,5 @@ returns-clause-ends c =
           (costs fresh (c.push.new.self.items ++ Rest c.args.body ∷ [])) (cost fresh end) c.if-self-eq0.false
           (ap (λ (o : Owner). 1 + o.steps * rate fresh o.nest) c.in_ok-owner.ensures.ok)
           (costs-frame_block m.block m.frames.items fresh c.wait.new.frames.items c.in_ok-wait.ensures
-              c.push.new.self.items end c.args.body c.in_ok-push.ensures.items),
+          c.push.new.self.items end c.args.body c.in_ok-push.ensures.items),
     )

@@ -1,11 +1,14 @@
-use Rattle.std.proofs.Common.{◌≡◌, arith, ap, ◌∙◌, refl, sym, subst, ◌++◌, ◌+◌, ◌≤◌}
+use Rattle.std.proofs.Common.{◌≡◌, arith, ap, ◌∙◌, refl, sym, subst, ◌++◌, ◌+◌, ◌*◌, ◌≤◌}
 use Rattle.types.specs.declared.value.Environment.{Environment}
-use Rattle.types.specs.Translation.{program, environment}
+use Rattle.std.specs.Prelude.{List, map}
+use Rattle.types.specs.declared.fault.Fault.{Fault}
+use Rattle.types.specs.Meaning.{after_finish}
+use Rattle.types.specs.Translation.{program, environment, fault}
 use Rattle.cost.specs.declared.frame.Frame.{Frame}
 use Rattle.cost.specs.declared.frame.Owner.{Owner}
 use Rattle.cost.specs.declared.machine.Machine.{Machine}
 use Rattle.cost.specs.declared.frame.Frame.TheVariants.{Rest, EndAsync}
-use Rattle.cost.specs.Frames.{cost}
+use Rattle.cost.specs.Frames.{cost, rate}
 use Rattle.cost.specs.Machines.{Does, IsSoundFrame, stack, turn_of}
 use Rattle.types.specs.Contents.{FitsArrays}
 use Rattle.serial_run.specs.Bounds.{LiesInArrays}
@@ -103,7 +106,8 @@ returns-in_ok-tell_before-in-EndFinish-clause-does c =
           (end_finish o (standing m.tally m.thread).state)
           (ap (with_tally tally) (told_before o.told old thread told)
           ∙ ap (at (flow c.after_finish-self.result)) c.leave_finish.ensures
-          ∙ ap (λ f. at f (leaves_finish o.ended m.tally)) c.after_finish-self.ensures)
+          ∙ ap (λ f. at f (leaves_finish o.ended m.tally)) (c.after_finish-self.ensures
+          ∙ ap (λ (xs : List Fault). after_finish (flow m.thread.flow) (map fault xs)) c.deref.ensures.value))
           (ap (λ (t : Thread Store). t.nest) told.rest));
     })
 
@@ -163,3 +167,21 @@ returns-in_ok-tell_before-in-EndAsync-clause-does c =
           ∙ ap (λ (f : Flow). resume p fresh (stack m) (at st f (ends_task q.here m.tally))) c.after_async-self.ensures
           ∙ ap (λ (o : Owner). resume p fresh (stack m) (after_owner o s.state)) unboxed;
     })
+
+pub returns-in_ok-tell_before-in-EndFinish-clause-ends : goal.returns-in_ok-tell_before-in-EndFinish-clause-ends
+returns-in_ok-tell_before-in-EndFinish-clause-ends c =
+    let m = c.args.self.now in let fresh = m.plan.budget.steps in
+    omega (
+      arith,
+      ap (λ (t : Thread Store). t.steps * rate fresh t.nest) c.in_ok-tell_before-in-EndFinish.ensures.rest,
+      ap (cost fresh) c.in-EndFinish.is,
+    )
+
+pub returns-in_ok-tell_before-in-EndAsync-clause-ends : goal.returns-in_ok-tell_before-in-EndAsync-clause-ends
+returns-in_ok-tell_before-in-EndAsync-clause-ends c =
+    let m = c.args.self.now in let fresh = m.plan.budget.steps in
+    omega (
+      arith,
+      ap (λ (o : Owner). o.steps * rate fresh o.nest) c.into_inner-owner.ensures,
+      ap (cost fresh) c.in-EndAsync.is,
+    )
