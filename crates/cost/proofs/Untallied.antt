@@ -1,16 +1,12 @@
 -- A run that keeps a tally is the run that keeps none, but for the tally.
-use Rattle.std.proofs.Common.{◌≡◌, ℕ, zero, suc, ◌+◌, List, refl, sym, ap, ◌∙◌, inl, inr}
-use Rattle.std.specs.Prelude.{ℤ, ◌⊎◌}
+use Rattle.std.proofs.Common.{◌≡◌, ℕ, zero, suc, ◌+◌, refl, sym, ap, inl, inr}
+use Rattle.std.specs.Prelude.{◌⊎◌}
 use Rattle.types.specs.Code.{Codes, Program}
-use Rattle.types.specs.Contents.{held_by}
-use Rattle.types.specs.Meaning.{after_body, begin_one, child, hushed, one, one_rules}
-use Rattle.types.specs.Outcome.{Budget, start}
+use Rattle.types.specs.Meaning.{after_body, begin_one, child, one, one_rules}
 use Rattle.types.specs.Run.{State, Rules, Work, Block, spend, with_step, within, run}
-use Rattle.types.proofs.Larger.{one_is_thrifty}
-use Rattle.types.proofs.Solutions.{solves}
-use Rattle.types.proofs.Views.{Follows, FollowsAt, IsView, begin_at, work_follows}
+use Rattle.types.proofs.Views.{Follows, FollowsAt, IsView, work_follows}
 use Rattle.cost.specs.declared.tally.Tally.{Tally}
-use Rattle.cost.specs.Costs.{after_task, beginning, begin_tallied, tallied, tallied_rules}
+use Rattle.cost.specs.Costs.{beginning, begin_tallied, tallied, tallied_rules}
 use Rattle.cost.specs.Laws.{untallied}
 
 -- whatever is left of a run, nothing of it is lost

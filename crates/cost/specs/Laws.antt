@@ -1,5 +1,5 @@
 -- What holds of tallies, whatever the program.
-use Rattle.std.specs.Prelude.{ℕ, ◌+◌, ◌≤◌}
+use Rattle.std.specs.Prelude.{◌+◌, ◌≤◌}
 use Rattle.types.specs.Run.{State}
 use Rattle.cost.specs.declared.tally.Tally.{Tally}
 

@@ -1,5 +1,5 @@
 -- What the frames of a run stand for: a function from where the run stands to where it ends.
-use Rattle.std.specs.Prelude.{ℕ, ◌+◌, List, [], ◌∷◌, ◌++◌, map, ℤ}
+use Rattle.std.specs.Prelude.{ℕ, List, [], ◌∷◌, ◌++◌, map, ℤ}
 use Rattle.types.specs.Code.{Code, Program}
 use Rattle.types.specs.Meaning.{after_async, after_finish}
 use Rattle.types.specs.Run.{Fault, State, Work, Block, Turn, go_on, act}

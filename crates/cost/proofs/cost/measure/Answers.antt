@@ -1,11 +1,10 @@
-use Rattle.std.proofs.Common.{◌≡◌, ap, ◌∙◌, subst}
+use Rattle.std.proofs.Common.{ap, ◌∙◌, subst}
 use Rattle.types.specs.Code.{Program}
 use Rattle.types.specs.Outcome.{outcome}
 use Rattle.types.specs.Translation.{input, budget}
 use Rattle.serial_run.specs.declared.thread.Plan.{Plan}
-use Rattle.cost.specs.declared.tally.Tally.{Tally}
 use Rattle.cost.specs.Costs.{cost_of, tally_of}
-use Rattle.cost.specs.Machines.{HasEnded, Turned}
+use Rattle.cost.specs.Machines.{Turned}
 use Rattle.cost.specs.Resume.{Standing}
 use Rattle.cost.proofs.EndLemmas.{HasRun, bounds_at_end, stands_at_end, told}
 use Rattle.cost.proofs.cost.measure.Goals as goal

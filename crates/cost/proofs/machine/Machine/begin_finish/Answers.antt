@@ -1,4 +1,4 @@
-use Rattle.std.proofs.Common.{arith, ap, ◌∙◌, refl, ◌+◌, ◌*◌, List, Vec, Global, map, [], ◌∷◌, ◌++◌}
+use Rattle.std.proofs.Common.{arith, ap, ◌∙◌, refl, ◌*◌, Vec, Global, map, [], ◌∷◌, ◌++◌}
 use Rattle.std.specs.Prelude.{ℤ}
 use Rattle.types.specs.declared.fault.Fault.{Fault}
 use Rattle.types.specs.Meaning.{hushed}

@@ -6,8 +6,7 @@ use Rattle.types.specs.Meaning.{after_finish}
 use Rattle.types.specs.Translation.{program, environment, fault}
 use Rattle.cost.specs.declared.frame.Frame.{Frame}
 use Rattle.cost.specs.declared.frame.Owner.{Owner}
-use Rattle.cost.specs.declared.machine.Machine.{Machine}
-use Rattle.cost.specs.declared.frame.Frame.TheVariants.{Rest, EndAsync}
+use Rattle.cost.specs.declared.frame.Frame.TheVariants.{Rest}
 use Rattle.cost.specs.Frames.{cost, rate}
 use Rattle.cost.specs.Machines.{Does, IsSoundFrame, stack, turn_of}
 use Rattle.types.specs.Contents.{FitsArrays}
