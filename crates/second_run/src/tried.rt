@@ -42,7 +42,7 @@ impl<'e> Tried<'e> {
     }
 
     /// The value of a number expression.
-    #[cycle(tried)]
+    #[cycle(value)]
     pub fn number(&mut self, number: &Number) -> Result<i64, Cause> {
         match number {
             Number::Literal(value) => Ok(*value),
@@ -75,7 +75,7 @@ impl<'e> Tried<'e> {
     }
 
     /// What becomes of a number by the operators and operands behind it.
-    #[cycle(tried)]
+    #[cycle(value)]
     fn chain(&mut self, first: i64, rest: &[Link]) -> Result<i64, Cause> {
         let mut value = first;
         for link in rest {
@@ -87,7 +87,7 @@ impl<'e> Tried<'e> {
     }
 
     /// The value of a truth expression.
-    #[cycle(tried)]
+    #[cycle(truth)]
     pub fn truth(&mut self, truth: &Truth) -> Result<bool, Cause> {
         match truth {
             Truth::Constant(value) => Ok(*value),
@@ -107,7 +107,7 @@ impl<'e> Tried<'e> {
     }
 
     /// Whether one of several is this value; the first that is ends it, and the value of all is that of the last.
-    #[cycle(tried)]
+    #[cycle(truth)]
     fn up_to(&mut self, operands: &[Truth], end: bool) -> Result<bool, Cause> {
         for operand in operands {
             if self.truth(operand)? == end {
