@@ -7,8 +7,13 @@ use Rattle.types.specs.Outcome.{Budget}
 use Rattle.types.specs.Translation.{budget as budget_of}
 use Rattle.command_line.specs.declared.request.Command.{Command}
 use Rattle.command_line.specs.declared.request.Command.TheVariants.{Run, Serial, Check, Listing, Pairs, Explore}
-use Rattle.command_line.specs.declared.request.Command.TheVariants.{Labels, Places, Format, CheckFormat}
+use Rattle.command_line.specs.declared.request.Command.TheVariants.{Labels, Places, Format, CheckFormat, WriteFormat}
 use Rattle.command_line.specs.declared.request.Command.TheVariants.{View, Summary, Draw, Chrome}
+use Rattle.command_line.specs.declared.request.Command.TheVariants.{Cost, Bench}
+use Rattle.command_line.specs.declared.manner.Manner.{Manner}
+use Rattle.command_line.specs.declared.request.Color.{Color}
+use Rattle.command_line.specs.declared.request.Color.TheVariants.{Auto, Always, Never}
+use Rattle.command_line.specs.declared.request.Telling.{Telling}
 use Rattle.command_line.specs.declared.request.Choosing.{Choosing as rChoosing}
 use Rattle.command_line.specs.declared.request.Choosing.TheVariants.{Listed as rListed, InFile as rInFile}
 use Rattle.command_line.specs.declared.request.Choosing.TheVariants.{Random as rRandom}
@@ -52,12 +57,12 @@ pub record Settings : Type 0 where
   pub arrays : Bool
   pub progress : Bool
 
--- what is to be done with the program of a file, and whether a refusal is explained
+-- what is to be done with the program of a file, and how it is told
 pub record Asked : Type 0 where
   pub command : Command
   pub file : List ℕ
   pub settings : Settings
-  pub explain : Bool
+  pub telling : Telling
 
 abbrev pub settings : rSettings → Settings
 settings s = record {
@@ -77,7 +82,7 @@ asked_of r = record {
   command = r.command;
   file = r.file.now;
   settings = settings r.settings;
-  explain = r.explain;
+  telling = r.telling;
 }
 
 -- the budget of a run that names none
@@ -100,6 +105,10 @@ usual = record {
   arrays = false;
   progress = false;
 }
+
+-- how a command line tells that says nothing of it
+abbrev pub usual_telling : Telling
+usual_telling = record { explain = false; color = Auto }
 
 -- ---- words
 
@@ -248,6 +257,11 @@ choosing_words_of t =
     (valued (codes "--choices") t.choices (valued (codes "--choices-from") t.choices_from
     (valued (codes "--random") t.random (flagged (codes "--arrays") t.arrays []))))
 
+-- those of a run that is measured, in this order: `--input FILE --steps N --nest N`
+abbrev pub measured_words_of : Texts → List (List ℕ)
+measured_words_of t =
+    valued (codes "--input") t.input (valued (codes "--steps") t.steps (valued (codes "--nest") t.nest []))
+
 -- a run has no budget
 pub record HasNoBudget (o : Options) : Type 0 where
   pub steps : o.steps ≡ None
@@ -284,6 +298,16 @@ pub record AreForExplore (o : Options) : Type 0 where
   pub budget : HasNoBudget o
   pub spread : HasNoSpread o
   pub trace : HasNoTrace o
+  pub progress : o.progress ≡ false
+
+-- of a run that is measured: it goes on no worker threads, not by choices, has no trace, shows no arrays, and
+-- nobody looks at it
+pub record AreForMeasuring (o : Options) : Type 0 where
+  pub right : AreRight o
+  pub spread : HasNoSpread o
+  pub choices : o.choices ≡ None
+  pub trace : HasNoTrace o
+  pub arrays : o.arrays ≡ false
   pub progress : o.progress ≡ false
 
 -- what they set; what isn't named is as usual
@@ -351,20 +375,16 @@ viewing_options v =
 
 -- a command with a file alone
 abbrev pub plain : Command → (file : List ℕ) → Asked
-plain command file = record { command = command; file = file; settings = usual; explain = false }
+plain command file =
+    record { command = command; file = file; settings = usual; telling = usual_telling }
 
 -- a command with a file and options behind it
 abbrev pub optioned : Command → (file : List ℕ) → Options → Asked
 optioned command file o =
-    record { command = command; file = file; settings = settings_by o; explain = false }
+    record { command = command; file = file; settings = settings_by o; telling = usual_telling }
 
--- the same, and a refusal is explained
-abbrev pub explained : Asked → Asked
-explained a = record a { explain = true }
-
--- the words ask this, in this order; no word is `run -`
+-- the words ask this, in this order, and say nothing of how it is told
 pub data AsksPlainly (words : List (List ℕ)) (a : Asked) : Type 0 where
-  by_no_word : words ≡ [] → a ≡ plain Run (codes "-") → AsksPlainly words a
   to_run : (file : List ℕ) (o : Options) → IsTrue (is_file_name file) → AreForRun o
       → words ≡ codes "run" ∷ file ∷ words_of (texts_by o) → a ≡ optioned Run file o → AsksPlainly words a
   to_run_on_one_thread : (file : List ℕ) (o : Options) → IsTrue (is_file_name file) → AreForSerial o
@@ -388,17 +408,52 @@ pub data AsksPlainly (words : List (List ℕ)) (a : Asked) : Type 0 where
       → words ≡ codes "fmt" ∷ codes "--check" ∷ file ∷ [] → a ≡ plain CheckFormat file → AsksPlainly words a
   to_check_format_behind : (file : List ℕ) → IsTrue (is_file_name file)
       → words ≡ codes "fmt" ∷ file ∷ codes "--check" ∷ [] → a ≡ plain CheckFormat file → AsksPlainly words a
+  to_write_format : (file : List ℕ) → IsTrue (is_file_name file)
+      → words ≡ codes "fmt" ∷ codes "--write" ∷ file ∷ [] → a ≡ plain WriteFormat file → AsksPlainly words a
+  to_write_format_behind : (file : List ℕ) → IsTrue (is_file_name file)
+      → words ≡ codes "fmt" ∷ file ∷ codes "--write" ∷ [] → a ≡ plain WriteFormat file → AsksPlainly words a
   to_pair : (file : List ℕ) → IsTrue (is_file_name file)
       → words ≡ codes "mhp" ∷ file ∷ [] → a ≡ plain Pairs file → AsksPlainly words a
+  to_cost : (file : List ℕ) (o : Options) → IsTrue (is_file_name file) → AreForMeasuring o
+      → words ≡ codes "cost" ∷ file ∷ measured_words_of (texts_by o) → a ≡ optioned Cost file o
+      → AsksPlainly words a
   to_explore : (file : List ℕ) (o : Options) → IsTrue (is_file_name file) → AreForExplore o
       → words ≡ codes "explore" ∷ file ∷ choosing_words_of (texts_by o) → a ≡ optioned Explore file o
       → AsksPlainly words a
   to_view : (file : List ℕ) (v : Viewing) → IsTrue (is_file_name file) → AreRight (viewing_options v)
       → words ≡ codes "view" ∷ file ∷ viewing_words v
       → a ≡ optioned (command_for v.shown) file (viewing_options v) → AsksPlainly words a
+  to_bench : (file : List ℕ) (o : Options) → IsTrue (is_file_name file) → AreForMeasuring o
+      → words ≡ codes "bench" ∷ file ∷ measured_words_of (texts_by o) → a ≡ optioned Bench file o
+      → AsksPlainly words a
 
--- the words ask this; where `--explain` stands behind the command, a refusal is explained
+-- ---- how it is told
+
+abbrev pub color_word : Color → List ℕ
+color_word Auto = codes "auto"
+color_word Always = codes "always"
+color_word Never = codes "never"
+
+-- nothing is said of it
+abbrev pub no_manner : Manner
+no_manner = record { explain = false; color = None }
+
+-- the words that say it, in this order: `--explain --color WHEN`, and others behind them
+abbrev pub manner_words : Manner → (behind : List (List ℕ)) → List (List ℕ)
+manner_words m behind =
+    flagged (codes "--explain") m.explain
+    (valued (codes "--color") (option_map color_word m.color) behind)
+
+-- what they set; what isn't named is as usual
+abbrev pub telling_by : Manner → Telling
+telling_by m = record { explain = m.explain; color = unwrap_or m.color Auto }
+
+-- the same, told so
+abbrev pub told_so : Manner → Asked → Asked
+told_so m a = record a { telling = telling_by m }
+
+-- the words ask this; behind the command stands how it is told. No word is `run -`
 pub data Asks (words : List (List ℕ)) (a : Asked) : Type 0 where
-  plainly : AsksPlainly words a → Asks words a
-  explaining : (command : List ℕ) (behind : List (List ℕ)) (b : Asked) → AsksPlainly (command ∷ behind) b
-      → words ≡ command ∷ codes "--explain" ∷ behind → a ≡ explained b → Asks words a
+  by_no_word : words ≡ [] → a ≡ plain Run (codes "-") → Asks words a
+  by_command : (command : List ℕ) (m : Manner) (behind : List (List ℕ)) (b : Asked)
+      → AsksPlainly (command ∷ behind) b → words ≡ command ∷ manner_words m behind → a ≡ told_so m b → Asks words a

@@ -27,6 +27,10 @@ pub enum Command {
     Format,
     /// `fmt --check`: tell whether its text is so laid out.
     CheckFormat,
+    /// `fmt --write`: write its text so laid out into its file.
+    WriteFormat,
+    /// `cost`: tell work, span and parallelism of its run.
+    Cost,
     /// `view`: write the events of a trace as a table.
     View,
     /// `view --summary`: write the numbers of a trace.
@@ -35,6 +39,42 @@ pub enum Command {
     Draw,
     /// `view --chrome OUT`: write a trace into a file for a trace viewer.
     Chrome,
+    /// `bench`: time its runs.
+    Bench,
+}
+
+/// When what explains a refusal has colours.
+#[derive(Clone, Copy, PartialEq, Eq, Debug)]
+pub enum Color {
+    /// `--color auto`: at a terminal, unless `NO_COLOR` is set.
+    Auto,
+    /// `--color always`
+    Always,
+    /// `--color never`
+    Never,
+}
+
+/// How a command tells what it has to tell.
+#[derive(Clone, Copy, PartialEq, Eq, Debug)]
+pub struct Telling {
+    /// `--explain`: behind the line of a refusal it is said where and why.
+    pub explain: bool,
+    /// `--color WHEN`
+    pub color: Color,
+}
+
+impl Telling {
+    ghost use Rattle.command_line.specs.Requests.{usual_telling};
+
+    /// That of a command line that says nothing of it: nothing is explained, and colours at a terminal.
+    pub fn usual() -> Telling
+        ensures { result ≡ usual_telling }
+    {
+        Telling {
+            explain: false,
+            color: Color::Auto,
+        }
+    }
 }
 
 /// How the leaves that step are chosen.
@@ -151,6 +191,5 @@ pub struct Request<'w> {
     /// The file of the program; `-` is the standard input.
     pub file: &'w str,
     pub settings: Settings<'w>,
-    /// `--explain`: behind the line of a refusal it is said where and why.
-    pub explain: bool,
+    pub telling: Telling,
 }

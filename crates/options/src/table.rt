@@ -41,6 +41,8 @@ enum Takes {
     Text(&'static str),
     /// The same, with which these options don't go.
     TextBut(&'static str, &'static [&'static str]),
+    /// An option with one of these words, of which the help says what they are.
+    OneOf(&'static str, &'static [&'static str]),
     /// An option with a number, from the first to the last.
     Number(i64, i64),
     /// An option with a number of 64 bits.
@@ -70,6 +72,12 @@ const LINES: Entry = Entry {
 const CHECK: Entry = Entry {
     name: "check",
     help: "Writes nothing, and tells by the exit status whether the file is so laid out",
+    takes: Takes::NothingBut(&["write"]),
+};
+
+const WRITE: Entry = Entry {
+    name: "write",
+    help: "Writes it into the file in place of the standard output; a file that is so laid out stays untouched",
     takes: Takes::Nothing,
 };
 
@@ -175,6 +183,12 @@ const EXPLAIN: Entry = Entry {
     takes: Takes::Nothing,
 };
 
+const COLOR: Entry = Entry {
+    name: "color",
+    help: "Whether that has colours; auto, which is usual: at a terminal, unless NO_COLOR is set",
+    takes: Takes::OneOf("WHEN", &["auto", "always", "never"]),
+};
+
 const WORD: Entry = Entry {
     name: "WORD",
     help: "A code, as Y5, or another word that has a page; without it a list of them",
@@ -204,9 +218,20 @@ const CHECK_EXAMPLE: &str = "Example: afx check examples/two_arrays.afx --list";
 
 const LIST_EXAMPLE: &str = "Example: afx list examples/race.afx --lines";
 
-const FORMAT_EXAMPLE: &str = "Example: afx fmt examples/race.afx --check";
+const LAYOUT_EXAMPLE: &str = "Example: afx fmt examples/race.afx --check";
 
 const PAIRS_EXAMPLE: &str = "Example: afx mhp examples/two_arrays.afx";
+
+const COST_EXAMPLE: &str =
+    "The run is on one thread, and the numbers are the same on every machine. Work is all steps of all tasks. Span is the
+longest chain of steps that must come one after another. No number of workers makes a run faster than work / span.
+
+Example: afx cost examples/doubling.afx --input examples/doubling.json";
+
+const BENCH_EXAMPLE: &str =
+    "The program runs five times on one thread, and five times as tasks on 1, 2 and 4 workers. Its outcome comes first.
+
+Example: afx bench examples/doubling.afx --input examples/doubling.json";
 
 const EXPLORE_EXAMPLE: &str =
     "A choice is the number of a part that steps next, of those that may, from the left and from 0.
@@ -231,7 +256,7 @@ const RUN: Row = Row {
     about: "Runs a program as tasks",
     example: RUN_EXAMPLE,
     entries: &[
-        FILE, INPUT, STEPS, NEST, TASKS, W0, WORKERS, TRACED, ARRAYS, EXPLAIN,
+        FILE, INPUT, STEPS, NEST, TASKS, W0, WORKERS, TRACED, ARRAYS, EXPLAIN, COLOR,
     ],
 };
 
@@ -239,49 +264,72 @@ const SERIAL: Row = Row {
     name: "serial",
     about: "Runs a program on one thread",
     example: SERIAL_EXAMPLE,
-    entries: &[FILE, INPUT, STEPS, NEST, ARRAYS, PROGRESS, EXPLAIN],
+    entries: &[FILE, INPUT, STEPS, NEST, ARRAYS, PROGRESS, EXPLAIN, COLOR],
 };
 
 const CHECKED: Row = Row {
     name: "check",
     about: "Tells whether a program would be run",
     example: CHECK_EXAMPLE,
-    entries: &[FILE, LIST, EXPLAIN],
+    entries: &[FILE, LIST, EXPLAIN, COLOR],
 };
 
 const LISTED: Row = Row {
     name: "list",
     about: "Writes a program, each statement behind its label",
     example: LIST_EXAMPLE,
-    entries: &[FILE, LINES, EXPLAIN],
+    entries: &[FILE, LINES, EXPLAIN, COLOR],
 };
 
 const FORMATTED: Row = Row {
     name: "fmt",
     about: "Writes a program's text in the canonical layout, with its comments",
-    example: FORMAT_EXAMPLE,
-    entries: &[FILE, CHECK, EXPLAIN],
+    example: LAYOUT_EXAMPLE,
+    entries: &[FILE, CHECK, WRITE, EXPLAIN, COLOR],
 };
 
 const PAIRED: Row = Row {
     name: "mhp",
     about: "Tells which labels of a program may run together",
     example: PAIRS_EXAMPLE,
-    entries: &[FILE, EXPLAIN],
+    entries: &[FILE, EXPLAIN, COLOR],
+};
+
+const COSTED: Row = Row {
+    name: "cost",
+    about: "Tells work, span and parallelism of a run, in steps",
+    example: COST_EXAMPLE,
+    entries: &[FILE, INPUT, STEPS, NEST, EXPLAIN, COLOR],
 };
 
 const EXPLORED: Row = Row {
     name: "explore",
     about: "Runs a program step by step, by given choices",
     example: EXPLORE_EXAMPLE,
-    entries: &[FILE, INPUT, CHOICES, CHOICES_FROM, RANDOM, ARRAYS, EXPLAIN],
+    entries: &[
+        FILE,
+        INPUT,
+        CHOICES,
+        CHOICES_FROM,
+        RANDOM,
+        ARRAYS,
+        EXPLAIN,
+        COLOR,
+    ],
 };
 
 const VIEWED: Row = Row {
     name: "view",
     about: "Shows the trace of a run: as a table, by its numbers, or as a picture",
     example: VIEW_EXAMPLE,
-    entries: &[FILE, TRACE, INPUT, SUMMARY, SVG, CHROME, EXPLAIN],
+    entries: &[FILE, TRACE, INPUT, SUMMARY, SVG, CHROME, EXPLAIN, COLOR],
+};
+
+const TIMED: Row = Row {
+    name: "bench",
+    about: "Times a program, on one thread and as tasks",
+    example: BENCH_EXAMPLE,
+    entries: &[FILE, INPUT, STEPS, NEST, EXPLAIN, COLOR],
 };
 
 const EXPLAINED: Row = Row {
@@ -306,8 +354,9 @@ const MANUAL: Row = Row {
 };
 
 /// All commands, in the order in which help tells them.
-const ROWS: [Row; 11] = [
-    RUN, SERIAL, CHECKED, LISTED, FORMATTED, PAIRED, EXPLORED, VIEWED, EXPLAINED, COMPLETED, MANUAL,
+const ROWS: [Row; 13] = [
+    RUN, SERIAL, CHECKED, LISTED, FORMATTED, PAIRED, COSTED, EXPLORED, VIEWED, TIMED, EXPLAINED,
+    COMPLETED, MANUAL,
 ];
 
 /// What stands behind the help of the program.
@@ -316,7 +365,7 @@ const STATUSES: &str = "No word is `run -`: the program is read from the standar
 Example: afx serial examples/doubling.afx --input examples/doubling.json --arrays
 
 Exit status:
-  0  the run ended; the program is accepted; a listing; pairs of labels; a text laid out; a trace shown; help
+  0  the run ended; the program is accepted; what was asked is shown or written; help
   1  refused: the command line, a file, the text, a rule, a race, the input, choices, the trace, the output; not laid out
   2  the run ended with faults
   3  the run was stopped over its budget; it has not ended by its choices
@@ -331,10 +380,12 @@ pub const CLOSING: Closing<'static> = Closing {
         SERIAL_EXAMPLE,
         CHECK_EXAMPLE,
         LIST_EXAMPLE,
-        FORMAT_EXAMPLE,
+        LAYOUT_EXAMPLE,
         PAIRS_EXAMPLE,
+        COST_EXAMPLE,
         EXPLORE_EXAMPLE,
         VIEW_EXAMPLE,
+        BENCH_EXAMPLE,
         EXPLAIN_EXAMPLE,
         COMPLETIONS_EXAMPLE,
         MAN_EXAMPLE,
@@ -386,6 +437,10 @@ fn argument<'w>(alloc: Global, entry: Entry) -> Result<Arg<'w>, AllocError> {
             let argument = argument.long(entry.name).value_name(value);
             argument.conflicts_with_all(others)?
         }
+        Takes::OneOf(value, words) => argument
+            .long(entry.name)
+            .value_name(value)
+            .value_parser(words),
         Takes::Number(least, most) => argument
             .long(entry.name)
             .value_name("N")

@@ -1,6 +1,6 @@
 use Rattle.std.proofs.Common.{ℕ, List, Option, Bor, sym, ap, ◌∙◌, option_map}
-use Rattle.command_line.proofs.Reading.{is_no_seed, is_random}
-use Rattle.command_line.proofs.settings.choosing_in.Goals as goal
+use Rattle.reading.proofs.Reading.{is_no_seed, is_random}
+use Rattle.reading.proofs.settings.choosing_in.Goals as goal
 
 pub returns-in-Ok : goal.returns-in-Ok
 returns-in-Ok c chosen right list file seed =

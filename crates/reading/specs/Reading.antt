@@ -3,13 +3,17 @@ use Rattle.std.specs.Prelude.{ℕ, ◌&&◌, List, [], ◌∷◌, Bool, true, fa
 use Rattle.std.specs.Prelude.{Option, Some, None, option_map}
 use Rattle.std.specs.Borrow.{Bor}
 use Rattle.std.specs.Str.{bytes_eq}
-use Rattle.command_line.specs.Requests.{Texts, is_file_name}
+use Rattle.command_line.specs.Requests.{Texts, is_file_name, no_manner}
+use Rattle.command_line.specs.declared.manner.Manner.{Manner}
+use Rattle.command_line.specs.declared.request.Color.{Color}
+use Rattle.command_line.specs.declared.request.Color.TheVariants.{Auto, Always, Never}
 use Rattle.command_line.specs.declared.request.Command.{Command}
 use Rattle.command_line.specs.declared.request.Command.TheVariants.{Run, Serial, Check, Listing, Pairs, Explore}
-use Rattle.command_line.specs.declared.request.Command.TheVariants.{Labels, Places, Format, CheckFormat}
+use Rattle.command_line.specs.declared.request.Command.TheVariants.{Labels, Places, Format, CheckFormat, WriteFormat}
 use Rattle.command_line.specs.declared.request.Command.TheVariants.{View, Summary, Draw, Chrome}
-use Rattle.command_line.specs.declared.plain.Line.{Line as rLine}
-use Rattle.command_line.specs.declared.plain.Texts.{Texts as rTexts}
+use Rattle.command_line.specs.declared.request.Command.TheVariants.{Cost, Bench}
+use Rattle.reading.specs.declared.plain.Line.{Line as rLine}
+use Rattle.reading.specs.declared.plain.Texts.{Texts as rTexts}
 
 -- a command, a file, and the texts behind options
 pub record Line : Type 0 where
@@ -36,6 +40,10 @@ texts_of t = record {
 
 abbrev pub line_of : rLine → Line
 line_of l = record { command = l.command; file = l.file.now; texts = texts_of l.texts }
+
+-- a line and how it is told
+abbrev pub told_line : rLine × Manner → Line × Manner
+told_line told = (line_of told.0, told.1)
 
 -- how a trace is shown, and the file in which it is drawn
 abbrev pub shown_of : Command × Option (Bor (List ℕ)) → Command × Option (List ℕ)
@@ -138,7 +146,15 @@ read_choosing words =
       arrays = arrays.0;
     }) arrays.1
 
--- the same, as words say it
+-- the options of a run that is measured
+abbrev pub read_measured : List (List ℕ) → Option Texts
+read_measured words =
+    let input = taken (codes "--input") words in
+    let steps = taken (codes "--steps") input.1 in
+    let nest = taken (codes "--nest") steps.1 in
+    read_whole (record no_texts { input = input.0; steps = steps.0; nest = nest.0 }) nest.1
+
+-- how a trace is shown, as words say it
 abbrev pub read_showing : List (List ℕ) → Option (Command × Option (List ℕ))
 read_showing [] = Some (View, None)
 read_showing (one ∷ []) = if bytes_eq one (codes "--summary") then Some (Summary, None) else None
@@ -175,6 +191,19 @@ read_flaggable command flag flagged one [] = read_file command one
 read_flaggable command flag flagged one (other ∷ []) = read_flagged flag flagged one other
 read_flaggable command flag flagged one (other ∷ third ∷ behind) = None
 
+-- the first of two lines, or the second where there is no first
+abbrev pub either : Option Line → Option Line → Option Line
+either None second = second
+either (Some first) second = Some first
+
+-- the words behind `fmt`
+abbrev pub read_format : (one : List ℕ) → (others : List (List ℕ)) → Option Line
+read_format one [] = read_file Format one
+read_format one (other ∷ []) =
+    either (read_flagged (codes "--check") CheckFormat one other)
+    (read_flagged (codes "--write") WriteFormat one other)
+read_format one (other ∷ third ∷ behind) = None
+
 -- the words behind a command that takes a file alone
 abbrev pub read_alone : Command → (file : List ℕ) → (behind : List (List ℕ)) → Option Line
 read_alone command file [] = read_file command file
@@ -207,33 +236,48 @@ read_behind command file behind =
     (if bytes_eq command (codes "check") then read_flaggable Check (codes "--list") Listing file behind else
     (if bytes_eq command (codes "list") then read_flaggable Labels (codes "--lines") Places file behind else
     (if bytes_eq command (codes "mhp") then read_alone Pairs file behind else
-    (if bytes_eq command (codes "fmt") then read_flaggable Format (codes "--check") CheckFormat file behind else
+    (if bytes_eq command (codes "fmt") then read_format file behind else
     (if bytes_eq command (codes "explore") then read_optioned Explore file (read_choosing behind) else
-    (if bytes_eq command (codes "view") then read_view file behind else None)))))))
+    (if bytes_eq command (codes "view") then read_view file behind else
+    (if bytes_eq command (codes "cost") then read_optioned Cost file (read_measured behind) else
+    (if bytes_eq command (codes "bench") then read_optioned Bench file (read_measured behind) else None)))))))))
 
--- the words of a command line
-abbrev pub read : List (List ℕ) → Option Line
-read [] = Some (bare Run (codes "-"))
-read (command ∷ []) = None
-read (command ∷ file ∷ behind) = read_behind command file behind
+-- the words behind a command, but for those that say how it is told
+abbrev pub read_words : (command : List ℕ) → (words : List (List ℕ)) → Option Line
+read_words command [] = None
+read_words command (file ∷ behind) = read_behind command file behind
 
--- ---- words that ask for refusals to be explained
+-- ---- how it is told
 
--- whether `--explain` stands behind the command
-abbrev pub has_explain : List (List ℕ) → Bool
-has_explain [] = false
-has_explain (command ∷ []) = false
-has_explain (command ∷ second ∷ behind) = bytes_eq second (codes "--explain")
+-- the colour of a word, where there is one
+abbrev pub read_color : Option (List ℕ) → Option (Option Color)
+read_color None = Some None
+read_color (Some word) =
+    if bytes_eq word (codes "auto") then Some (Some Auto) else
+    (if bytes_eq word (codes "always") then Some (Some Always) else
+    (if bytes_eq word (codes "never") then Some (Some Never) else None))
 
--- the words without their second
-abbrev pub without_second : List (List ℕ) → List (List ℕ)
-without_second [] = []
-without_second (command ∷ []) = command ∷ []
-without_second (command ∷ second ∷ behind) = command ∷ behind
+-- what was read, where the colour is one
+abbrev pub manner_if : (explain : Bool) → Option (Option Color) → (left : List (List ℕ))
+    → Option (Manner × List (List ℕ))
+manner_if explain None left = None
+manner_if explain (Some color) left =
+    Some ((let m : Manner = record { explain = explain; color = color } in m), left)
 
--- what stands around the second of some words, as a command line
-abbrev pub read_around : List (List ℕ) → Option Line
-read_around [] = None
-read_around (command ∷ []) = None
-read_around (command ∷ second ∷ []) = None
-read_around (command ∷ second ∷ file ∷ behind) = read_behind command file behind
+-- what words say of how it is told, and the words behind that
+abbrev pub read_manner : List (List ℕ) → Option (Manner × List (List ℕ))
+read_manner words =
+    let explain = flag_taken (codes "--explain") words in
+    let color = taken (codes "--color") explain.1 in
+    manner_if explain.0 (read_color color.0) color.1
+
+-- ---- the whole line
+
+abbrev pub read_by : (command : List ℕ) → Option (Manner × List (List ℕ)) → Option (Line × Manner)
+read_by command None = None
+read_by command (Some read) = option_map (λ l. (l, read.0)) (read_words command read.1)
+
+-- the words of a command line, and how it is told
+abbrev pub read : List (List ℕ) → Option (Line × Manner)
+read [] = Some (bare Run (codes "-"), no_manner)
+read (command ∷ behind) = read_by command (read_manner behind)

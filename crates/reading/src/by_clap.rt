@@ -1,10 +1,10 @@
 //! The words of a command line that `clap` reads.
 
-use crate::options::{CLOSING, commands};
-use crate::reply::{self, Reply};
-use crate::request::{Choosing, Command, Request, Settings, Spread};
 use clap::error::ErrorKind;
 use clap::{ArgMatches, Error};
+use command_line::request::{Choosing, Color, Command, Request, Settings, Spread, Telling};
+use options::reply::{self, Reply};
+use options::table::{CLOSING, commands};
 use std::alloc::Global;
 use types::budget::Budget;
 
@@ -37,14 +37,24 @@ fn request_asked<'w>(
             request(alloc, Command::Places, given)
         }
         Some(("list", given)) => request(alloc, Command::Labels, given),
-        Some(("fmt", given)) if given.get_flag("check") => {
-            request(alloc, Command::CheckFormat, given)
-        }
-        Some(("fmt", given)) => request(alloc, Command::Format, given),
+        Some(("fmt", given)) => request(alloc, formatting(given), given),
         Some(("mhp", given)) => request(alloc, Command::Pairs, given),
+        Some(("cost", given)) => request(alloc, Command::Cost, given),
         Some(("explore", given)) => request(alloc, Command::Explore, given),
         Some(("view", given)) => request(alloc, viewing(given), given),
+        Some(("bench", given)) => request(alloc, Command::Bench, given),
         _ => Err(commands(alloc)?.error(ErrorKind::MissingSubcommand, "no command")?),
+    }
+}
+
+/// What `fmt` does with a text; `clap` has seen that at most one option says it.
+fn formatting(given: &ArgMatches<'_>) -> Command {
+    if given.get_flag("check") {
+        Command::CheckFormat
+    } else if given.get_flag("write") {
+        Command::WriteFormat
+    } else {
+        Command::Format
     }
 }
 
@@ -80,8 +90,20 @@ fn request<'w>(
             arrays: given.get_flag("arrays"),
             progress: given.get_flag("progress"),
         },
-        explain: given.get_flag("explain"),
+        telling: telling(given),
     })
+}
+
+/// How a command is to tell; `clap` has seen that the words are some of their options'.
+fn telling(given: &ArgMatches<'_>) -> Telling {
+    Telling {
+        explain: given.get_flag("explain"),
+        color: match given.get_str("color") {
+            Some("always") => Color::Always,
+            Some("never") => Color::Never,
+            _ => Color::Auto,
+        },
+    }
 }
 
 /// How is chosen; `clap` has seen that at most one option says it.

@@ -1,5 +1,5 @@
-use Rattle.command_line.proofs.Reading.{parsed}
-use Rattle.command_line.proofs.settings.number_or.Goals as goal
+use Rattle.reading.proofs.Reading.{parsed}
+use Rattle.reading.proofs.settings.number_or.Goals as goal
 
 pub returns-in-Some : goal.returns-in-Some
 returns-in-Some c n small is =

@@ -1,6 +1,7 @@
 -- Words that ask plainly are read as what they ask.
 use Rattle.std.proofs.Common.{◌≡◌, ℕ, List, [], ◌∷◌, Option, Some, None, refl, sym, ap, ◌∙◌, subst, codes}
 use Rattle.std.specs.Prelude.{Bool, true, false, ◌&&◌, if◌then◌else◌, IsTrue, IfSome, IsSomeAnd, option_map}
+use Rattle.std.specs.Prelude.{map}
 use Rattle.std.specs.Prelude.{◌<◌, ◌^◌, Result, Ok, Err, unwrap_or}
 use Rattle.std.specs.Fmt.{decimal}
 use Rattle.std.specs.Result.{result_ok}
@@ -8,20 +9,29 @@ use Rattle.std.specs.Str.{bytes_eq}
 use Rattle.std.specs.Str.Parse.{ParsesUnsigned}
 use Rattle.std.proofs.lemmas.Fmt.{parse-decimal}
 use Rattle.std.proofs.Math.Bool.{and-false}
-use Rattle.command_line.specs.declared.plain.Line.{Line as rLine}
+use Rattle.reading.specs.declared.plain.Line.{Line as rLine}
 use Rattle.command_line.specs.declared.request.Command.{Command}
 use Rattle.command_line.specs.declared.request.Command.TheVariants.{Run, Serial, Check, Listing, Pairs, Explore}
-use Rattle.command_line.specs.declared.request.Command.TheVariants.{Labels, Places, Format, CheckFormat}
+use Rattle.command_line.specs.declared.request.Command.TheVariants.{Labels, Places, Format, CheckFormat, WriteFormat}
+use Rattle.command_line.specs.declared.request.Command.TheVariants.{Cost, Bench}
+use Rattle.command_line.specs.declared.request.Color.{Color}
+use Rattle.command_line.specs.declared.request.Color.TheVariants.{Auto, Always, Never}
+use Rattle.command_line.specs.declared.request.Telling.{Telling}
+use Rattle.command_line.specs.declared.manner.Manner.{Manner}
 use Rattle.command_line.specs.declared.request.Request.{Request}
-use Rattle.command_line.specs.Reading.{Line, bare, flag_taken, line_of, no_texts, read, read_choosing, read_file, read_whole}
+use Rattle.reading.specs.Reading.{Line, bare, flag_taken, line_of, no_texts, read, read_choosing, read_file, read_whole}
 use Rattle.std.proofs.Common.{true≢false}
 use Rattle.std.proofs.lemmas.Slice.Eq.{bytes_eq-Decides}
-use Rattle.command_line.specs.Reading.{has_explain, read_around, without_second}
-use Rattle.command_line.specs.Reading.{read_optioned, read_serial_texts, read_showing, read_texts, read_view, shown_if, taken}
+use Rattle.reading.specs.Reading.{told_line, manner_if, read_by, read_color, read_manner, read_words}
+use Rattle.reading.specs.Reading.{either, read_flagged, read_format, read_measured}
+use Rattle.reading.specs.Reading.{read_optioned, read_serial_texts, read_showing, read_texts, read_view, shown_if, taken}
 use Rattle.command_line.specs.Requests.{AreForExplore, AreForRun, AreForSerial, AreRight, Asked, Asks, AsksPlainly, Options, Settings, Texts}
 use Rattle.command_line.specs.Requests.{AsPicture, AsTable, ByNumbers, ForViewer, Showing, Viewing, command_for, no_options}
 use Rattle.command_line.specs.Requests.{picture_of, showing_words, to_view, viewing_options, viewing_words}
-use Rattle.command_line.specs.Requests.{is_file_name, optioned, plain, settings_by, flagged, valued, plainly, explaining, explained}
+use Rattle.command_line.specs.Requests.{is_file_name, optioned, plain, settings_by, flagged, valued, by_command}
+use Rattle.command_line.specs.Requests.{color_word, manner_words, no_manner, telling_by, told_so}
+use Rattle.command_line.specs.Requests.{AreForMeasuring, measured_words_of}
+use Rattle.command_line.specs.Requests.{to_write_format, to_write_format_behind, to_cost, to_bench}
 use Rattle.command_line.specs.Requests.{Choosing, Listed, InFile, Random, IsRightChoosing, choosing_words_of, file_of, list_of}
 use Rattle.command_line.specs.Requests.{asked_of, seed_of, serial_words_of, texts_by, words_of}
 use Rattle.command_line.specs.Requests.{to_label, to_place, to_place_behind, to_format, to_check_format, to_check_format_behind}
@@ -57,10 +67,15 @@ lacks_flag : (option other : List ℕ) (b : Bool) → bytes_eq other option ≡ 
 lacks_flag option other false differs = refl
 lacks_flag option other true differs = if_false (bytes_eq other option) _ _ differs
 
-takes : (option : List ℕ) (value : Option (List ℕ)) (behind : List (List ℕ)) → bytes_eq option option ≡ true
+lacks_flag_valued : (option other : List ℕ) (value : Option (List ℕ)) (behind : List (List ℕ))
+    → bytes_eq other option ≡ false → LacksFlag option behind → LacksFlag option (valued other value behind)
+lacks_flag_valued option other None behind differs lacks = lacks
+lacks_flag_valued option other (Some value) behind differs lacks = if_false (bytes_eq other option) _ _ differs
+
+takes_value : (option : List ℕ) (value : Option (List ℕ)) (behind : List (List ℕ)) → bytes_eq option option ≡ true
     → Lacks option behind → taken option (valued option value behind) ≡ (value, behind)
-takes option None behind same lacks = lacks
-takes option (Some value) behind same lacks = if_true (bytes_eq option option) _ _ same
+takes_value option None behind same lacks = lacks
+takes_value option (Some value) behind same lacks = if_true (bytes_eq option option) _ _ same
 
 takes_flag : (option : List ℕ) (b : Bool) (behind : List (List ℕ)) → bytes_eq option option ≡ true
     → LacksFlag option behind → flag_taken option (flagged option b behind) ≡ (b, behind)
@@ -125,6 +140,25 @@ from_steps input steps words =
 abbrev from_input : Option (List ℕ) → List (List ℕ) → Option Texts
 from_input input words =
     let t = taken (codes "--steps") words in from_steps input t.0 t.1
+
+abbrev measured_from_nest : (input steps : Option (List ℕ)) → Option (List ℕ) → List (List ℕ) → Option Texts
+measured_from_nest input steps nest words =
+    read_whole (record no_texts { input = input; steps = steps; nest = nest }) words
+
+abbrev measured_from_steps : (input : Option (List ℕ)) → Option (List ℕ) → List (List ℕ) → Option Texts
+measured_from_steps input steps words =
+    let t = taken (codes "--nest") words in measured_from_nest input steps t.0 t.1
+
+abbrev measured_from_input : Option (List ℕ) → List (List ℕ) → Option Texts
+measured_from_input input words =
+    let t = taken (codes "--steps") words in measured_from_steps input t.0 t.1
+
+abbrev from_color : (explain : Bool) → Option (List ℕ) → List (List ℕ) → Option (Manner × List (List ℕ))
+from_color explain color words = manner_if explain (read_color color) words
+
+abbrev from_explain : Bool → List (List ℕ) → Option (Manner × List (List ℕ))
+from_explain explain words =
+    let t = taken (codes "--color") words in from_color explain t.0 t.1
 
 abbrev serial_from_progress : (input steps nest : Option (List ℕ)) (arrays : Bool) → Bool → List (List ℕ) → Option Texts
 serial_from_progress input steps nest arrays progress words =
@@ -221,24 +255,24 @@ module _ (arrays : Bool) where
         let nest_words = valued (codes "--nest") nest tasks_words in
         let steps_words = valued (codes "--steps") steps nest_words in
         goes (codes "--input") (valued (codes "--input") input steps_words) input steps_words from_input
-        (takes (codes "--input") input steps_words refl
+        (takes_value (codes "--input") input steps_words refl
         (lacks_valued (codes "--input") (codes "--steps") steps nest_words refl
         (lacks_valued (codes "--input") (codes "--nest") nest tasks_words refl
         (lacks_tasks (codes "--input") (refl, (refl, (refl, (refl, (refl, tt)))))))))
         ∙ goes (codes "--steps") steps_words steps nest_words (from_steps input)
-        (takes (codes "--steps") steps nest_words refl
+        (takes_value (codes "--steps") steps nest_words refl
         (lacks_valued (codes "--steps") (codes "--nest") nest tasks_words refl
         (lacks_tasks (codes "--steps") (refl, (refl, (refl, (refl, (refl, tt))))))))
         ∙ goes (codes "--nest") nest_words nest tasks_words (from_nest input steps)
-        (takes (codes "--nest") nest tasks_words refl (lacks_tasks (codes "--nest") (refl, (refl, (refl, (refl, (refl, tt)))))))
+        (takes_value (codes "--nest") nest tasks_words refl (lacks_tasks (codes "--nest") (refl, (refl, (refl, (refl, (refl, tt)))))))
         ∙ goes (codes "--tasks") tasks_words tasks w0_words (from_tasks input steps nest)
-        (takes (codes "--tasks") tasks w0_words refl (lacks_w0 (codes "--tasks") (refl, (refl, (refl, (refl, tt))))))
+        (takes_value (codes "--tasks") tasks w0_words refl (lacks_w0 (codes "--tasks") (refl, (refl, (refl, (refl, tt))))))
         ∙ goes (codes "--w0") w0_words w0 workers_words (from_w0 input steps nest tasks)
-        (takes (codes "--w0") w0 workers_words refl (lacks_workers (codes "--w0") (refl, (refl, (refl, tt)))))
+        (takes_value (codes "--w0") w0 workers_words refl (lacks_workers (codes "--w0") (refl, (refl, (refl, tt)))))
         ∙ goes (codes "--workers") workers_words workers trace_words (from_workers input steps nest tasks w0)
-        (takes (codes "--workers") workers trace_words refl (lacks_trace (codes "--workers") (refl, (refl, tt))))
+        (takes_value (codes "--workers") workers trace_words refl (lacks_trace (codes "--workers") (refl, (refl, tt))))
         ∙ goes (codes "--trace") trace_words trace arrays_words (from_trace input steps nest tasks w0 workers)
-        (takes (codes "--trace") trace arrays_words refl
+        (takes_value (codes "--trace") trace arrays_words refl
         (lacks_flagged (codes "--trace") (codes "--arrays") arrays [] refl refl))
         ∙ goes_flag (codes "--arrays") arrays_words arrays [] (from_arrays input steps nest tasks w0 workers trace)
         (takes_flag (codes "--arrays") arrays [] refl refl)
@@ -258,23 +292,23 @@ module _ (arrays : Bool) where
       let file_words = valued (codes "--choices-from") (file_of choices) random_words in
       let list_words = valued (codes "--choices") (list_of choices) file_words in
       goes (codes "--input") (valued (codes "--input") input list_words) input list_words choosing_from_input
-      (takes (codes "--input") input list_words refl
+      (takes_value (codes "--input") input list_words refl
       (lacks_valued (codes "--input") (codes "--choices") (list_of choices) file_words refl
       (lacks_valued (codes "--input") (codes "--choices-from") (file_of choices) random_words refl
       (lacks_valued (codes "--input") (codes "--random") random arrays_words refl
       (lacks_flagged (codes "--input") (codes "--arrays") arrays [] refl refl)))))
       ∙ goes (codes "--choices") list_words (list_of choices) file_words (choosing_from_list input)
-      (takes (codes "--choices") (list_of choices) file_words refl
+      (takes_value (codes "--choices") (list_of choices) file_words refl
       (lacks_valued (codes "--choices") (codes "--choices-from") (file_of choices) random_words refl
       (lacks_valued (codes "--choices") (codes "--random") random arrays_words refl
       (lacks_flagged (codes "--choices") (codes "--arrays") arrays [] refl refl))))
       ∙ goes (codes "--choices-from") file_words (file_of choices) random_words (choosing_from_file input (list_of choices))
-      (takes (codes "--choices-from") (file_of choices) random_words refl
+      (takes_value (codes "--choices-from") (file_of choices) random_words refl
       (lacks_valued (codes "--choices-from") (codes "--random") random arrays_words refl
       (lacks_flagged (codes "--choices-from") (codes "--arrays") arrays [] refl refl)))
       ∙ goes (codes "--random") random_words random arrays_words
       (choosing_from_random input (list_of choices) (file_of choices))
-      (takes (codes "--random") random arrays_words refl
+      (takes_value (codes "--random") random arrays_words refl
       (lacks_flagged (codes "--random") (codes "--arrays") arrays [] refl refl))
       ∙ goes_flag (codes "--arrays") arrays_words arrays []
       (choosing_from_arrays input (list_of choices) (file_of choices) random)
@@ -303,22 +337,39 @@ module _ (arrays : Bool) where
         let nest_words = valued (codes "--nest") nest flags_words in
         let steps_words = valued (codes "--steps") steps nest_words in
         goes (codes "--input") (valued (codes "--input") input steps_words) input steps_words serial_from_input
-        (takes (codes "--input") input steps_words refl
+        (takes_value (codes "--input") input steps_words refl
         (lacks_valued (codes "--input") (codes "--steps") steps nest_words refl
         (lacks_valued (codes "--input") (codes "--nest") nest flags_words refl
         (lacks_flags (codes "--input") (refl, (refl, tt))))))
         ∙ goes (codes "--steps") steps_words steps nest_words (serial_from_steps input)
-        (takes (codes "--steps") steps nest_words refl
+        (takes_value (codes "--steps") steps nest_words refl
         (lacks_valued (codes "--steps") (codes "--nest") nest flags_words refl
         (lacks_flags (codes "--steps") (refl, (refl, tt)))))
         ∙ goes (codes "--nest") nest_words nest flags_words (serial_from_nest input steps)
-        (takes (codes "--nest") nest flags_words refl (lacks_flags (codes "--nest") (refl, (refl, tt))))
+        (takes_value (codes "--nest") nest flags_words refl (lacks_flags (codes "--nest") (refl, (refl, tt))))
         ∙ goes_flag (codes "--arrays") flags_words arrays (flagged (codes "--progress") progress [])
         (serial_from_arrays input steps nest)
         (takes_flag (codes "--arrays") arrays (flagged (codes "--progress") progress []) refl
         (lacks_flag (codes "--arrays") (codes "--progress") progress refl))
         ∙ goes_flag (codes "--progress") (flagged (codes "--progress") progress []) progress []
         (serial_from_progress input steps nest arrays) (takes_flag (codes "--progress") progress [] refl refl)
+
+-- those of a run that is measured
+read_measured_words : (input steps nest : Option (List ℕ))
+    → (let t : Texts = record no_texts { input = input; steps = steps; nest = nest } in
+    read_measured (measured_words_of t) ≡ Some t)
+read_measured_words input steps nest =
+    let nest_words = valued (codes "--nest") nest [] in
+    let steps_words = valued (codes "--steps") steps nest_words in
+    goes (codes "--input") (valued (codes "--input") input steps_words) input steps_words measured_from_input
+    (takes_value (codes "--input") input steps_words refl
+    (lacks_valued (codes "--input") (codes "--steps") steps nest_words refl
+    (lacks_valued (codes "--input") (codes "--nest") nest [] refl refl)))
+    ∙ goes (codes "--steps") steps_words steps nest_words (measured_from_steps input)
+    (takes_value (codes "--steps") steps nest_words refl
+    (lacks_valued (codes "--steps") (codes "--nest") nest [] refl refl))
+    ∙ goes (codes "--nest") nest_words nest [] (measured_from_nest input steps)
+    (takes_value (codes "--nest") nest [] refl refl)
 
 -- ---- lines
 
@@ -396,6 +447,34 @@ explore_options o for =
     (subst (λ p. P None None None None None None None p) (sym for.progress)
     (read_choosing_words o.arrays o.input o.choices))))))))
 
+-- of a run that is measured
+measured_options : (o : Options) → AreForMeasuring o → read_measured (measured_words_of (texts_by o)) ≡ Some (texts_by o)
+measured_options o for =
+    let P : (tasks w0 workers : Option ℕ) → Option Choosing → (trace picture : Option (List ℕ)) → (arrays progress : Bool)
+    → Type 0 =
+    λ tasks w0 workers c trace picture arrays progress.
+    let t : Texts = record (texts_by o) {
+      tasks = option_map decimal tasks;
+      w0 = option_map decimal w0;
+      workers = option_map decimal workers;
+      choices = list_of c;
+      choices_from = file_of c;
+      random = option_map decimal (seed_of c);
+      trace = trace;
+      picture = picture;
+      arrays = arrays;
+      progress = progress;
+    } in read_measured (measured_words_of t) ≡ Some t in
+    subst (λ n. P n o.w0 o.workers o.choices o.trace o.picture o.arrays o.progress) (sym for.spread.tasks)
+    (subst (λ n. P None n o.workers o.choices o.trace o.picture o.arrays o.progress) (sym for.spread.w0)
+    (subst (λ n. P None None n o.choices o.trace o.picture o.arrays o.progress) (sym for.spread.workers)
+    (subst (λ c. P None None None c o.trace o.picture o.arrays o.progress) (sym for.choices)
+    (subst (λ f. P None None None None f o.picture o.arrays o.progress) (sym for.trace.trace)
+    (subst (λ f. P None None None None None f o.arrays o.progress) (sym for.trace.picture)
+    (subst (λ b. P None None None None None None b o.progress) (sym for.arrays)
+    (subst (λ b. P None None None None None None false b) (sym for.progress)
+    (read_measured_words o.input (option_map decimal o.steps) (option_map decimal o.nest)))))))))
+
 -- how a trace is shown
 read_shown : (s : Showing) → read_showing (showing_words s) ≡ Some (command_for s, picture_of s)
 read_shown AsTable = refl
@@ -415,7 +494,7 @@ read_viewing : (file : List ℕ) (v : Viewing) → IsTrue (is_file_name file)
 read_viewing file v named =
     goes (codes "--input") (valued (codes "--input") v.input (showing_words v.shown)) v.input (showing_words v.shown)
     (λ input words. shown_if file v.trace input (read_showing words))
-    (takes (codes "--input") v.input (showing_words v.shown) refl (shown_without_input v.shown))
+    (takes_value (codes "--input") v.input (showing_words v.shown) refl (shown_without_input v.shown))
     ∙ ap (shown_if file v.trace v.input) (read_shown v.shown)
     ∙ read_with (command_for v.shown) file (texts_by (viewing_options v)) _ named refl
 
@@ -423,26 +502,81 @@ read_named : (command : Command) (file : List ℕ) → IsTrue (is_file_name file
     → read_file command file ≡ Some (bare command file)
 read_named command file named = if_true (is_file_name file) _ _ named
 
+-- the words of a command, but for those that say how it is told
+abbrev read_plain : List (List ℕ) → Option Line
+read_plain [] = None
+read_plain (command ∷ words) = read_words command words
+
 -- the option of `check` may stand last
 read_list_behind : (file : List ℕ) → IsTrue (is_file_name file)
-    → read (codes "check" ∷ file ∷ codes "--list" ∷ []) ≡ Some (bare Listing file)
+    → read_plain (codes "check" ∷ file ∷ codes "--list" ∷ []) ≡ Some (bare Listing file)
 read_list_behind file named =
     if_false (bytes_eq file (codes "--list") && false) _ _ (and-false (bytes_eq file (codes "--list")))
     ∙ read_named Listing file named
 
 -- and that of `list`
 read_places_behind : (file : List ℕ) → IsTrue (is_file_name file)
-    → read (codes "list" ∷ file ∷ codes "--lines" ∷ []) ≡ Some (bare Places file)
+    → read_plain (codes "list" ∷ file ∷ codes "--lines" ∷ []) ≡ Some (bare Places file)
 read_places_behind file named =
     if_false (bytes_eq file (codes "--lines") && false) _ _ (and-false (bytes_eq file (codes "--lines")))
     ∙ read_named Places file named
 
--- and that of `fmt`
-read_check_behind : (file : List ℕ) → IsTrue (is_file_name file)
-    → read (codes "fmt" ∷ file ∷ codes "--check" ∷ []) ≡ Some (bare CheckFormat file)
-read_check_behind file named =
+-- ---- names of files
+
+false_is_true : (let b : Bool = false in b) ≡ true → ⊥
+false_is_true is = true≢false (sym is)
+
+is_not : (b : Bool) → (b ≡ true → ⊥) → b ≡ false
+is_not true no = absurd (no refl)
+is_not false no = refl
+
+named_differs : (file option : List ℕ) → is_file_name option ≡ false → IsTrue (is_file_name file)
+    → bytes_eq file option ≡ false
+named_differs file option no named =
+    is_not (bytes_eq file option)
+    (λ is. true≢false
+    (sym (subst (λ (w : List ℕ). IsTrue (is_file_name w)) ((bytes_eq-Decides file option).0 is) named) ∙ no))
+
+-- ---- the options of `fmt`
+
+no_check_before : (file : List ℕ) → IsTrue (is_file_name file)
+    → read_flagged (codes "--check") CheckFormat (codes "--write") file ≡ None
+no_check_before file named =
+    if_false (bytes_eq file (codes "--check")) _ _ (named_differs file (codes "--check") refl named)
+
+no_check_behind : (file : List ℕ) → read_flagged (codes "--check") CheckFormat file (codes "--write") ≡ None
+no_check_behind file =
     if_false (bytes_eq file (codes "--check") && false) _ _ (and-false (bytes_eq file (codes "--check")))
-    ∙ read_named CheckFormat file named
+
+read_check_before : (file : List ℕ) → IsTrue (is_file_name file)
+    → read_plain (codes "fmt" ∷ codes "--check" ∷ file ∷ []) ≡ Some (bare CheckFormat file)
+read_check_before file named =
+    ap (λ (l : Option Line). either l (read_flagged (codes "--write") WriteFormat (codes "--check") file))
+    (if_true (is_file_name file) _ _ named)
+
+read_check_behind : (file : List ℕ) → IsTrue (is_file_name file)
+    → read_plain (codes "fmt" ∷ file ∷ codes "--check" ∷ []) ≡ Some (bare CheckFormat file)
+read_check_behind file named =
+    ap (λ (l : Option Line). either l (read_flagged (codes "--write") WriteFormat file (codes "--check")))
+    (if_false (bytes_eq file (codes "--check") && false) _ _ (and-false (bytes_eq file (codes "--check")))
+    ∙ read_named CheckFormat file named)
+
+read_write_before : (file : List ℕ) → IsTrue (is_file_name file)
+    → read_plain (codes "fmt" ∷ codes "--write" ∷ file ∷ []) ≡ Some (bare WriteFormat file)
+read_write_before file named =
+    ap (λ (l : Option Line). either l (read_flagged (codes "--write") WriteFormat (codes "--write") file))
+    (no_check_before file named)
+    ∙ if_true (is_file_name file) _ _ named
+
+read_write_behind : (file : List ℕ) → IsTrue (is_file_name file)
+    → read_plain (codes "fmt" ∷ file ∷ codes "--write" ∷ []) ≡ Some (bare WriteFormat file)
+read_write_behind file named =
+    ap (λ (l : Option Line). either l (read_flagged (codes "--write") WriteFormat file (codes "--write")))
+    (no_check_behind file)
+    ∙ if_false (bytes_eq file (codes "--write") && false) _ _ (and-false (bytes_eq file (codes "--write")))
+    ∙ read_named WriteFormat file named
+
+-- ---- plain words
 
 -- what words that ask are read as, and for which options that stands
 pub record IsLineOf (words : List (List ℕ)) (a : Asked) : Type 0 where
@@ -450,38 +584,40 @@ pub record IsLineOf (words : List (List ℕ)) (a : Asked) : Type 0 where
   pub file : List ℕ
   pub options : Options
   pub right : AreRight options
-  pub is_read : read words ≡ Some (line command file (texts_by options))
+  pub is_read : read_plain words ≡ Some (line command file (texts_by options))
   pub asked : a ≡ optioned command file options
 
-bare_line : (words : List (List ℕ)) (a : Asked) (command : Command) (file : List ℕ) → read words ≡ Some (bare command file)
-    → a ≡ plain command file → IsLineOf words a
+none_right : AreRight no_options
+none_right = record {
+  input = tt;
+  steps = tt;
+  nest = tt;
+  tasks = tt;
+  w0 = tt;
+  workers = tt;
+  choices = tt;
+  trace = tt;
+  picture = tt;
+}
+
+bare_line : (words : List (List ℕ)) (a : Asked) (command : Command) (file : List ℕ)
+    → read_plain words ≡ Some (bare command file) → a ≡ plain command file → IsLineOf words a
 bare_line words a command file is_read asked = record {
   command = command;
   file = file;
   options = no_options;
-  right = record {
-    input = tt;
-    steps = tt;
-    nest = tt;
-    tasks = tt;
-    w0 = tt;
-    workers = tt;
-    choices = tt;
-    trace = tt;
-    picture = tt;
-  };
+  right = none_right;
   is_read = is_read;
   asked = asked;
 }
 
-pub asks_line : (words : List (List ℕ)) (a : Asked) → AsksPlainly words a → IsLineOf words a
-asks_line words a (by_no_word is asked) = bare_line words a Run (codes "-") (ap read is) asked
+asks_line : (words : List (List ℕ)) (a : Asked) → AsksPlainly words a → IsLineOf words a
 asks_line words a (to_run file o named for is asked) = record {
   command = Run;
   file = file;
   options = o;
   right = for.right;
-  is_read = ap read is ∙ read_with Run file (texts_by o) _ named (run_options o for);
+  is_read = ap read_plain is ∙ read_with Run file (texts_by o) _ named (run_options o for);
   asked = asked;
 }
 asks_line words a (to_run_on_one_thread file o named for is asked) = record {
@@ -489,7 +625,7 @@ asks_line words a (to_run_on_one_thread file o named for is asked) = record {
   file = file;
   options = o;
   right = for.right;
-  is_read = ap read is ∙ read_with Serial file (texts_by o) _ named (serial_options o for);
+  is_read = ap read_plain is ∙ read_with Serial file (texts_by o) _ named (serial_options o for);
   asked = asked;
 }
 asks_line words a (to_explore file o named for is asked) = record {
@@ -497,7 +633,7 @@ asks_line words a (to_explore file o named for is asked) = record {
   file = file;
   options = o;
   right = for.right;
-  is_read = ap read is ∙ read_with Explore file (texts_by o) _ named (explore_options o for);
+  is_read = ap read_plain is ∙ read_with Explore file (texts_by o) _ named (explore_options o for);
   asked = asked;
 }
 asks_line words a (to_view file v named right is asked) = record {
@@ -505,129 +641,193 @@ asks_line words a (to_view file v named right is asked) = record {
   file = file;
   options = viewing_options v;
   right = right;
-  is_read = ap read is ∙ read_viewing file v named;
+  is_read = ap read_plain is ∙ read_viewing file v named;
   asked = asked;
 }
-asks_line words a (to_check file named is asked) = bare_line words a Check file (ap read is ∙ read_named Check file named) asked
+asks_line words a (to_check file named is asked) = bare_line words a Check file (ap read_plain is ∙ read_named Check file named) asked
 asks_line words a (to_list file named is asked) =
-    bare_line words a Listing file (ap read is ∙ if_true (is_file_name file) _ _ named) asked
+    bare_line words a Listing file (ap read_plain is ∙ if_true (is_file_name file) _ _ named) asked
 asks_line words a (to_list_behind file named is asked) =
-    bare_line words a Listing file (ap read is ∙ read_list_behind file named) asked
-asks_line words a (to_label file named is asked) = bare_line words a Labels file (ap read is ∙ read_named Labels file named) asked
+    bare_line words a Listing file (ap read_plain is ∙ read_list_behind file named) asked
+asks_line words a (to_label file named is asked) = bare_line words a Labels file (ap read_plain is ∙ read_named Labels file named) asked
 asks_line words a (to_place file named is asked) =
-    bare_line words a Places file (ap read is ∙ if_true (is_file_name file) _ _ named) asked
+    bare_line words a Places file (ap read_plain is ∙ if_true (is_file_name file) _ _ named) asked
 asks_line words a (to_place_behind file named is asked) =
-    bare_line words a Places file (ap read is ∙ read_places_behind file named) asked
-asks_line words a (to_format file named is asked) = bare_line words a Format file (ap read is ∙ read_named Format file named) asked
+    bare_line words a Places file (ap read_plain is ∙ read_places_behind file named) asked
+asks_line words a (to_format file named is asked) = bare_line words a Format file (ap read_plain is ∙ read_named Format file named) asked
 asks_line words a (to_check_format file named is asked) =
-    bare_line words a CheckFormat file (ap read is ∙ if_true (is_file_name file) _ _ named) asked
+    bare_line words a CheckFormat file (ap read_plain is ∙ read_check_before file named) asked
 asks_line words a (to_check_format_behind file named is asked) =
-    bare_line words a CheckFormat file (ap read is ∙ read_check_behind file named) asked
-asks_line words a (to_pair file named is asked) = bare_line words a Pairs file (ap read is ∙ read_named Pairs file named) asked
+    bare_line words a CheckFormat file (ap read_plain is ∙ read_check_behind file named) asked
+asks_line words a (to_pair file named is asked) = bare_line words a Pairs file (ap read_plain is ∙ read_named Pairs file named) asked
+asks_line words a (to_write_format file named is asked) =
+    bare_line words a WriteFormat file (ap read_plain is ∙ read_write_before file named) asked
+asks_line words a (to_write_format_behind file named is asked) =
+    bare_line words a WriteFormat file (ap read_plain is ∙ read_write_behind file named) asked
+asks_line words a (to_cost file o named for is asked) = record {
+  command = Cost;
+  file = file;
+  options = o;
+  right = for.right;
+  is_read = ap read_plain is ∙ read_with Cost file (texts_by o) _ named (measured_options o for);
+  asked = asked;
+}
+asks_line words a (to_bench file o named for is asked) = record {
+  command = Bench;
+  file = file;
+  options = o;
+  right = for.right;
+  is_read = ap read_plain is ∙ read_with Bench file (texts_by o) _ named (measured_options o for);
+  asked = asked;
+}
+
+-- ---- how it is told
+
+-- these words say nothing of it at first
+record HasNoManner (words : List (List ℕ)) : Type 0 where
+  pub explain : LacksFlag (codes "--explain") words
+  pub color : Lacks (codes "--color") words
+
+color_is_read : (color : Option Color) → read_color (option_map color_word color) ≡ Some color
+color_is_read None = refl
+color_is_read (Some Auto) = refl
+color_is_read (Some Always) = refl
+color_is_read (Some Never) = refl
+
+-- the words of a manner are read as it
+read_manner_words : (m : Manner) (behind : List (List ℕ)) → HasNoManner behind
+    → read_manner (manner_words m behind) ≡ Some (m, behind)
+read_manner_words m behind none =
+    let color = option_map color_word m.color in
+    let color_words = valued (codes "--color") color behind in
+    goes_flag (codes "--explain") (flagged (codes "--explain") m.explain color_words) m.explain color_words from_explain
+    (takes_flag (codes "--explain") m.explain color_words refl
+    (lacks_flag_valued (codes "--explain") (codes "--color") color behind refl none.explain))
+    ∙ goes (codes "--color") color_words color behind (from_color m.explain)
+    (takes_value (codes "--color") color behind refl none.color)
+    ∙ ap (λ (c : Option (Option Color)). manner_if m.explain c behind) (color_is_read m.color)
+
+-- the name of a file says nothing of it
+lacks_named : (option file : List ℕ) (behind : List (List ℕ)) → is_file_name option ≡ false → IsTrue (is_file_name file)
+    → Lacks option (file ∷ behind)
+lacks_named option file [] no named = refl
+lacks_named option file (word ∷ behind) no named = if_false (bytes_eq file option) _ _ (named_differs file option no named)
+
+named_first : (file : List ℕ) (behind : List (List ℕ)) → IsTrue (is_file_name file) → HasNoManner (file ∷ behind)
+named_first file behind named = record {
+  explain = if_false (bytes_eq file (codes "--explain")) _ _ (named_differs file (codes "--explain") refl named);
+  color = lacks_named (codes "--color") file behind refl named;
+}
+
+-- nor does what stands behind a command otherwise
+abbrev BeginsPlainly : List (List ℕ) → Type 0
+BeginsPlainly [] = Unit {0}
+BeginsPlainly (command ∷ behind) = HasNoManner behind
+
+begins : (words : List (List ℕ)) (command file : List ℕ) (behind : List (List ℕ)) → IsTrue (is_file_name file)
+    → words ≡ command ∷ file ∷ behind → BeginsPlainly words
+begins words command file behind named is = subst BeginsPlainly (sym is) (named_first file behind named)
+
+plainly_begun : (words : List (List ℕ)) (a : Asked) → AsksPlainly words a → BeginsPlainly words
+plainly_begun words a (to_run file o named for is asked) = begins words _ file _ named is
+plainly_begun words a (to_run_on_one_thread file o named for is asked) = begins words _ file _ named is
+plainly_begun words a (to_explore file o named for is asked) = begins words _ file _ named is
+plainly_begun words a (to_view file v named right is asked) = begins words _ file _ named is
+plainly_begun words a (to_cost file o named for is asked) = begins words _ file _ named is
+plainly_begun words a (to_bench file o named for is asked) = begins words _ file _ named is
+plainly_begun words a (to_check file named is asked) = begins words _ file _ named is
+plainly_begun words a (to_list_behind file named is asked) = begins words _ file _ named is
+plainly_begun words a (to_label file named is asked) = begins words _ file _ named is
+plainly_begun words a (to_place_behind file named is asked) = begins words _ file _ named is
+plainly_begun words a (to_format file named is asked) = begins words _ file _ named is
+plainly_begun words a (to_check_format_behind file named is asked) = begins words _ file _ named is
+plainly_begun words a (to_write_format_behind file named is asked) = begins words _ file _ named is
+plainly_begun words a (to_pair file named is asked) = begins words _ file _ named is
+plainly_begun words a (to_list file named is asked) =
+    subst BeginsPlainly (sym is) (record { explain = refl; color = refl })
+plainly_begun words a (to_place file named is asked) =
+    subst BeginsPlainly (sym is) (record { explain = refl; color = refl })
+plainly_begun words a (to_check_format file named is asked) =
+    subst BeginsPlainly (sym is) (record { explain = refl; color = refl })
+plainly_begun words a (to_write_format file named is asked) =
+    subst BeginsPlainly (sym is) (record { explain = refl; color = refl })
+
+-- ---- whole lines
+
+-- what words that ask are read as, for which options that stands, and how it is told
+record IsToldLineOf (words : List (List ℕ)) (a : Asked) : Type 0 where
+  pub command : Command
+  pub file : List ℕ
+  pub options : Options
+  pub manner : Manner
+  pub right : AreRight options
+  pub is_read : read words ≡ Some (line command file (texts_by options), manner)
+  pub asked : a ≡ told_so manner (optioned command file options)
+
+asks_told : (words : List (List ℕ)) (a : Asked) → Asks words a → IsToldLineOf words a
+asks_told words a (by_no_word is asked) = record {
+  command = Run;
+  file = codes "-";
+  options = no_options;
+  manner = no_manner;
+  right = none_right;
+  is_read = ap read is;
+  asked = asked;
+}
+asks_told words a (by_command command m behind b asks is asked) =
+    let l = asks_line (command ∷ behind) b asks in
+    record {
+      command = l.command;
+      file = l.file;
+      options = l.options;
+      manner = m;
+      right = l.right;
+      is_read = ap read is
+          ∙ ap (read_by command) (read_manner_words m behind (plainly_begun (command ∷ behind) b asks))
+          ∙ ap (option_map (λ (k : Line). (k, m))) l.is_read;
+      asked = asked ∙ ap (told_so m) l.asked;
+    }
 
 -- what was read
-abbrev IsRead : Line → Option Line → Type 0
+abbrev IsRead : Line × Manner → Option (Line × Manner) → Type 0
 IsRead l (Some m) = m ≡ l
 IsRead l None = ⊥
 
 -- words that ask are read
 pub asked_is_read : (words : List (List ℕ)) (a : Asked)
-    → option_map line_of (let o : Option rLine = None in o) ≡ read words → AsksPlainly words a → ⊥
+    → option_map told_line (let o : Option (rLine × Manner) = None in o) ≡ read words → Asks words a → ⊥
 asked_is_read words a unread asks =
-    let l = asks_line words a asks in subst (IsRead (line l.command l.file (texts_by l.options))) (sym (unread ∙ l.is_read)) refl
+    let l = asks_told words a asks in
+    subst (IsRead (line l.command l.file (texts_by l.options), l.manner)) (sym (unread ∙ l.is_read)) refl
 
--- and as what they ask
-pub read_is_asked : (words : List (List ℕ)) (a : Asked) (l : rLine) (asked : IsLineOf words a)
-    → option_map line_of (Some l) ≡ read words → line_of l ≡ line asked.command asked.file (texts_by asked.options)
-read_is_asked words a l asked is =
-    subst (IsRead (line asked.command asked.file (texts_by asked.options))) (sym (is ∙ asked.is_read)) refl
-
--- a line that was read, with the options that were asked
-pub record IsAskedBy (l : rLine) (a : Asked) : Type 0 where
+-- a line that was read, with the options that were asked, and told as was asked
+pub record IsAskedBy (l : rLine) (m : Manner) (a : Asked) : Type 0 where
   pub options : Options
   pub right : AreRight options
   pub texts : (line_of l).texts ≡ texts_by options
-  pub asked : optioned l.command l.file.now options ≡ a
+  pub asked : told_so m (optioned l.command l.file.now options) ≡ a
 
-pub asked_by : (words : List (List ℕ)) (a : Asked) (l : rLine) → AsksPlainly words a → option_map line_of (Some l) ≡ read words
-    → IsAskedBy l a
-asked_by words a l asks is =
-    let asked = asks_line words a asks in
-    let same = read_is_asked words a l asked is in
+pub asked_by : (words : List (List ℕ)) (a : Asked) (l : rLine) (m : Manner) → Asks words a
+    → option_map told_line (Some (l, m)) ≡ read words → IsAskedBy l m a
+asked_by words a l m asks is =
+    let told = asks_told words a asks in
+    let same : (line_of l, m) ≡ (line told.command told.file (texts_by told.options), told.manner) =
+    subst (IsRead (line told.command told.file (texts_by told.options), told.manner)) (sym (is ∙ told.is_read)) refl in
     record {
-      options = asked.options;
-      right = asked.right;
-      texts = ap (λ (m : Line). m.texts) same;
-      asked = ap (λ (m : Line). optioned m.command m.file asked.options) same ∙ sym asked.asked;
+      options = told.options;
+      right = told.right;
+      texts = ap (λ (p : Line × Manner). p.0.texts) same;
+      asked = ap (λ (p : Line × Manner). told_so p.1 (optioned p.0.command p.0.file told.options)) same
+          ∙ sym told.asked;
     }
 
 -- the settings that a line's texts say are those that are asked
-pub settled : (command : Command) (file : List ℕ) (explain : Bool) (o : Options) (s : Settings) → s ≡ settings_by o
-    → (let b : Asked = record { command = command; file = file; settings = s; explain = explain } in b)
-    ≡ record (optioned command file o) { explain = explain }
-settled command file explain o s set =
-    ap (λ (t : Settings). let b : Asked = record { command = command; file = file; settings = t; explain = explain } in b) set
-
--- ---- whether refusals are explained
-
-false_is_true : (let b : Bool = false in b) ≡ true → ⊥
-false_is_true is = true≢false (sym is)
-
-file_is_no_explain : (file : List ℕ) → IsTrue (is_file_name file) → bytes_eq file (codes "--explain") ≡ true → ⊥
-file_is_no_explain file named is =
-    false_is_true
-    (subst (λ (w : List ℕ). IsTrue (is_file_name w)) ((bytes_eq-Decides file (codes "--explain")).0 is) named)
-
--- no words that ask plainly have `--explain` behind the command
-not_plainly : (words : List (List ℕ)) (a : Asked) → AsksPlainly words a → has_explain words ≡ true → ⊥
-not_plainly words a (by_no_word is asked) explain = false_is_true (sym (ap has_explain is) ∙ explain)
-not_plainly words a (to_run file o named for is asked) explain =
-    file_is_no_explain file named (sym (ap has_explain is) ∙ explain)
-not_plainly words a (to_run_on_one_thread file o named for is asked) explain =
-    file_is_no_explain file named (sym (ap has_explain is) ∙ explain)
-not_plainly words a (to_explore file o named for is asked) explain =
-    file_is_no_explain file named (sym (ap has_explain is) ∙ explain)
-not_plainly words a (to_view file v named right is asked) explain =
-    file_is_no_explain file named (sym (ap has_explain is) ∙ explain)
-not_plainly words a (to_check file named is asked) explain = file_is_no_explain file named (sym (ap has_explain is) ∙ explain)
-not_plainly words a (to_list file named is asked) explain = false_is_true (sym (ap has_explain is) ∙ explain)
-not_plainly words a (to_list_behind file named is asked) explain =
-    file_is_no_explain file named (sym (ap has_explain is) ∙ explain)
-not_plainly words a (to_label file named is asked) explain = file_is_no_explain file named (sym (ap has_explain is) ∙ explain)
-not_plainly words a (to_place file named is asked) explain = false_is_true (sym (ap has_explain is) ∙ explain)
-not_plainly words a (to_place_behind file named is asked) explain =
-    file_is_no_explain file named (sym (ap has_explain is) ∙ explain)
-not_plainly words a (to_format file named is asked) explain = file_is_no_explain file named (sym (ap has_explain is) ∙ explain)
-not_plainly words a (to_check_format file named is asked) explain = false_is_true (sym (ap has_explain is) ∙ explain)
-not_plainly words a (to_check_format_behind file named is asked) explain =
-    file_is_no_explain file named (sym (ap has_explain is) ∙ explain)
-not_plainly words a (to_pair file named is asked) explain = file_is_no_explain file named (sym (ap has_explain is) ∙ explain)
-
--- what words ask that don't have it, and what those ask that do
-pub asks_plainly : (words : List (List ℕ)) (a : Asked) → Asks words a → has_explain words ≡ false → AsksPlainly words a
-asks_plainly words a (plainly asks) lacks = asks
-asks_plainly words a (explaining command behind b asks is asked) lacks =
-    absurd (true≢false (sym (ap has_explain is) ∙ lacks))
-
-pub record IsExplained (words : List (List ℕ)) (a : Asked) : Type 0 where
-  pub bare : Asked
-  pub asks : AsksPlainly (without_second words) bare
-  pub asked : a ≡ explained bare
-
-pub asks_explained : (words : List (List ℕ)) (a : Asked) → Asks words a → has_explain words ≡ true → IsExplained words a
-asks_explained words a (plainly asks) explain = absurd (not_plainly words a asks explain)
-asks_explained words a (explaining command behind b asks is asked) explain = record {
-  bare = b;
-  asks = subst (λ (w : List (List ℕ)). AsksPlainly w b) (sym (ap without_second is)) asks;
-  asked = asked;
-}
-
--- what is read around the second word is what is read without it
-pub read_is_around : (words : List (List ℕ)) → has_explain words ≡ true → read_around words ≡ read (without_second words)
-read_is_around [] explain = absurd (false_is_true explain)
-read_is_around (command ∷ []) explain = absurd (false_is_true explain)
-read_is_around (command ∷ second ∷ []) explain = refl
-read_is_around (command ∷ second ∷ file ∷ behind) explain = refl
+pub settled : (command : Command) (file : List ℕ) (telling : Telling) (o : Options) (s : Settings) → s ≡ settings_by o
+    → (let b : Asked = record { command = command; file = file; settings = s; telling = telling } in b)
+    ≡ record (optioned command file o) { telling = telling }
+settled command file telling o s set =
+    ap (λ (t : Settings). let b : Asked = record { command = command; file = file; settings = t; telling = telling } in b)
+    set
 
 -- a request that asks one thing asks what is the same
 pub is_some_and : {a b : Asked} (r : Option Request) → a ≡ b → IsSomeAnd r (λ q. asked_of q ≡ a)

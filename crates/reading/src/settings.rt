@@ -3,7 +3,7 @@
 ghost use Rattle.std.specs.Prelude.{◌≡◌, ◌<◌, ◌^◌, ℕ, Option, IfSome, IsSomeAnd, Some};
 ghost use Rattle.std.specs.Prelude.{option_map, true, unwrap_or};
 ghost use Rattle.std.specs.Fmt.{decimal};
-ghost use Rattle.command_line.specs.Reading.{texts_of};
+ghost use Rattle.reading.specs.Reading.{texts_of};
 ghost use Rattle.command_line.specs.Requests.{AreRight, Options, is_file_name as names_file};
 ghost use Rattle.command_line.specs.Requests.{Choosing as ChoosingOf, IsRightChoosing, file_of, list_of};
 ghost use Rattle.command_line.specs.Requests.{choosing as choosing_of, seed_of};
@@ -11,7 +11,7 @@ ghost use Rattle.command_line.specs.Requests.{settings as settings_of, settings_
 ghost use Rattle.command_line.specs.Requests.{spread as spread_of};
 
 use crate::plain::{Texts, is_file_name};
-use crate::request::{Choosing, Settings, Spread};
+use command_line::request::{Choosing, Settings, Spread};
 use types::budget::Budget;
 
 /// The settings that texts say, where they are right.

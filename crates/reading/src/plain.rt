@@ -2,15 +2,18 @@
 
 ghost use Rattle.std.specs.Prelude.{◌≡◌, map, option_map};
 ghost use Rattle.std.specs.String.{string_bytes};
-ghost use Rattle.command_line.specs.Reading.{has_explain as explains, read_around};
-ghost use Rattle.command_line.specs.Reading.{bare as bare_line, flag_taken, line_of, read};
-ghost use Rattle.command_line.specs.Reading.{read_alone, read_behind, read_choosing};
-ghost use Rattle.command_line.specs.Reading.{no_texts, read_file, read_flaggable, read_flagged};
-ghost use Rattle.command_line.specs.Reading.{read_optioned, read_serial_texts, read_texts, read_whole};
-ghost use Rattle.command_line.specs.Reading.{read_showing, read_view, shown_of, taken, texts_of};
+ghost use Rattle.reading.specs.Reading.{bare as bare_line, line_of, read, told_line};
+ghost use Rattle.reading.specs.Reading.{read_alone, read_behind, read_choosing, read_words};
+ghost use Rattle.reading.specs.Reading.{read_format, read_measured};
+ghost use Rattle.reading.specs.Reading.{no_texts, read_file, read_flaggable, read_flagged};
+ghost use Rattle.reading.specs.Reading.{read_optioned, read_serial_texts, read_texts, read_whole};
+ghost use Rattle.reading.specs.Reading.{read_showing, read_view, shown_of, texts_of};
 ghost use Rattle.command_line.specs.Requests.{is_file_name as names_file};
 
-use crate::request::Command;
+use crate::manners::manner_in;
+use crate::taking::{take, take_flag};
+use command_line::manner::Manner;
+use command_line::request::Command;
 
 /// A command line that names a command, a file and options behind it.
 #[derive(Clone, Copy)]
@@ -61,41 +64,31 @@ impl<'w> Texts<'w> {
     }
 }
 
-/// The line of words. No word at all means `run -`.
-pub fn line_in<'w>(words: &'w [String]) -> Option<Line<'w>>
-    ensures { option_map line_of result ≡ read (map string_bytes words.now) }
+/// The line of words, and how it is to be told. No word at all means `run -`.
+pub fn line_in<'w>(words: &'w [String]) -> Option<(Line<'w>, Manner)>
+    ensures { option_map told_line result ≡ read (map string_bytes words.now) }
 {
     match words {
-        [] => Some(bare(Command::Run, "-")),
-        [_] => None,
-        [command, file, behind @ ..] => line_behind(command.as_str(), file.as_str(), behind),
+        [] => Some((bare(Command::Run, "-"), Manner::none())),
+        [command, behind @ ..] => {
+            let (manner, behind) = manner_in(behind)?;
+            let line = line_of_words(command.as_str(), behind)?;
+            Some((line, manner))
+        }
     }
 }
 
-/// Whether `--explain` stands behind the command.
-pub fn has_explain(words: &[String]) -> bool
-    ensures { result ≡ explains (map string_bytes words.now) }
-{
-    match words {
-        [] => false,
-        [_] => false,
-        [_, second, ..] => second.as_str() == "--explain",
-    }
-}
-
-/// The line of words without their second.
-pub fn line_around<'w>(words: &'w [String]) -> Option<Line<'w>>
-    ensures { option_map line_of result ≡ read_around (map string_bytes words.now) }
+/// The line of a command and the words behind it, but for those that say how it is told.
+fn line_of_words<'w>(command: &str, words: &'w [String]) -> Option<Line<'w>>
+    ensures { option_map line_of result ≡ read_words command.now (map string_bytes words.now) }
 {
     match words {
         [] => None,
-        [_] => None,
-        [_, _] => None,
-        [command, _, file, behind @ ..] => line_behind(command.as_str(), file.as_str(), behind),
+        [file, behind @ ..] => line_behind(command, file.as_str(), behind),
     }
 }
 
-/// The line of a command and the words behind it.
+/// The line of a command, a file and the words behind it.
 fn line_behind<'w>(command: &str, file: &'w str, behind: &'w [String]) -> Option<Line<'w>>
     ensures { option_map line_of result
         ≡ read_behind command.now file.now (map string_bytes behind.now) }
@@ -111,17 +104,15 @@ fn line_behind<'w>(command: &str, file: &'w str, behind: &'w [String]) -> Option
     } else if command == "mhp" {
         alone_line(Command::Pairs, file, behind)
     } else if command == "fmt" {
-        flagged_line(
-            Command::Format,
-            "--check",
-            Command::CheckFormat,
-            file,
-            behind,
-        )
+        format_line(file, behind)
     } else if command == "explore" {
         optioned_line(Command::Explore, file, choosing_texts_in(behind))
     } else if command == "view" {
         view_line(file, behind)
+    } else if command == "cost" {
+        optioned_line(Command::Cost, file, measured_texts_in(behind))
+    } else if command == "bench" {
+        optioned_line(Command::Bench, file, measured_texts_in(behind))
     } else {
         None
     }
@@ -261,6 +252,22 @@ fn choosing_texts_in<'w>(words: &'w [String]) -> Option<Texts<'w>>
     whole(texts, words)
 }
 
+/// The texts behind options: `--input FILE --steps N --nest N`, each of which may be left out.
+fn measured_texts_in<'w>(words: &'w [String]) -> Option<Texts<'w>>
+    ensures { option_map texts_of result ≡ read_measured (map string_bytes words.now) }
+{
+    let (input, words) = take("--input", words);
+    let (steps, words) = take("--steps", words);
+    let (nest, words) = take("--nest", words);
+    let texts = Texts {
+        input,
+        steps,
+        nest,
+        ..Texts::none()
+    };
+    whole(texts, words)
+}
+
 /// These texts, where no word is left.
 fn whole<'w>(texts: Texts<'w>, left: &[String]) -> Option<Texts<'w>>
     ensures { option_map texts_of result
@@ -269,44 +276,6 @@ fn whole<'w>(texts: Texts<'w>, left: &[String]) -> Option<Texts<'w>>
     match left {
         [] => Some(texts),
         [_, ..] => None,
-    }
-}
-
-/// The value behind an option that stands first, and the words behind both.
-fn take<'w>(option: &str, words: &'w [String]) -> (Option<&'w str>, &'w [String])
-    ensures value { option_map (λ v. v.now) result.0
-        ≡ (taken option.now (map string_bytes words.now)).0 }
-    ensures behind { map string_bytes result.1.now
-        ≡ (taken option.now (map string_bytes words.now)).1 }
-{
-    match words {
-        [] => (None, words),
-        [_] => (None, words),
-        [first, value, behind @ ..] => {
-            if first.as_str() == option {
-                (Some(value.as_str()), behind)
-            } else {
-                (None, words)
-            }
-        }
-    }
-}
-
-/// Whether an option without a value stands first, and the words behind it.
-fn take_flag<'w>(option: &str, words: &'w [String]) -> (bool, &'w [String])
-    ensures stands { result.0 ≡ (flag_taken option.now (map string_bytes words.now)).0 }
-    ensures behind { map string_bytes result.1.now
-        ≡ (flag_taken option.now (map string_bytes words.now)).1 }
-{
-    match words {
-        [] => (false, words),
-        [first, behind @ ..] => {
-            if first.as_str() == option {
-                (true, behind)
-            } else {
-                (false, words)
-            }
-        }
     }
 }
 
@@ -338,6 +307,20 @@ fn flag_line<'w>(flag: &str, flagged: Command, one: &'w str, other: &'w str) -> 
         file_line(flagged, one)
     } else {
         None
+    }
+}
+
+/// A line of `fmt`, with one of its options or with none.
+fn format_line<'w>(one: &'w str, others: &'w [String]) -> Option<Line<'w>>
+    ensures { option_map line_of result ≡ read_format one.now (map string_bytes others.now) }
+{
+    match others {
+        [] => file_line(Command::Format, one),
+        [other] => match flag_line("--check", Command::CheckFormat, one, other.as_str()) {
+            Some(line) => Some(line),
+            None => flag_line("--write", Command::WriteFormat, one, other.as_str()),
+        },
+        [_, _, ..] => None,
     }
 }
 

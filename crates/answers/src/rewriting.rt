@@ -1,0 +1,34 @@
+//! `fmt --write`: the text of any program in the canonical layout, in its own file.
+
+ghost use Rattle.answers.specs.Answers.{Done};
+ghost use Rattle.answers.specs.Rewriting.{AnswersRewrite, ExplainsRewrite, LeavesRewritten};
+
+use crate::formatting::laid_of;
+use crate::programs::program_of;
+use crate::showing::answer;
+use intake::failure::Failure;
+use intake::files::{FileSource, write_file};
+use std::alloc::Global;
+use std::io::Write;
+
+/// Writes the text of a program into its file in the canonical layout, whatever rules it breaks. A text that is so laid
+/// out isn't written, so that its file stays as old as it is.
+pub fn rewrite<F: FileSource, O: Write>(
+    alloc: Global,
+    file: &str,
+    text: &str,
+    files: &mut F,
+    out: &mut O,
+) -> Result<u8, Failure>
+    ensures done { Done (AnswersRewrite text.now) (ExplainsRewrite file.now text.now)
+        (O.contents out.old) (O.contents out.new) result }
+    ensures leaves { LeavesRewritten file.now text.now (F.held files.old) (F.held files.new) result }
+{
+    let _program = program_of(alloc, text)?;
+    let laid = laid_of(alloc, text)?;
+    if laid.as_str() == text {
+        return answer(out, "");
+    }
+    write_file(alloc, files, file, laid.as_bytes())?;
+    answer(out, "")
+}
