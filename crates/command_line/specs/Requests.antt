@@ -9,7 +9,6 @@ use Rattle.command_line.specs.declared.request.Command.{Command}
 use Rattle.command_line.specs.declared.request.Command.TheVariants.{Run, Serial, Check, Listing, Pairs, Explore}
 use Rattle.command_line.specs.declared.request.Command.TheVariants.{Labels, Places, Format, CheckFormat, WriteFormat}
 use Rattle.command_line.specs.declared.request.Command.TheVariants.{View, Summary, Draw, Chrome}
-use Rattle.command_line.specs.declared.request.Command.TheVariants.{Cost, Bench}
 use Rattle.command_line.specs.declared.manner.Manner.{Manner}
 use Rattle.command_line.specs.declared.request.Color.{Color}
 use Rattle.command_line.specs.declared.request.Color.TheVariants.{Auto, Always, Never}
@@ -257,11 +256,6 @@ choosing_words_of t =
     (valued (codes "--choices") t.choices (valued (codes "--choices-from") t.choices_from
     (valued (codes "--random") t.random (flagged (codes "--arrays") t.arrays []))))
 
--- those of a run that is measured, in this order: `--input FILE --steps N --nest N`
-abbrev pub measured_words_of : Texts → List (List ℕ)
-measured_words_of t =
-    valued (codes "--input") t.input (valued (codes "--steps") t.steps (valued (codes "--nest") t.nest []))
-
 -- a run has no budget
 pub record HasNoBudget (o : Options) : Type 0 where
   pub steps : o.steps ≡ None
@@ -298,16 +292,6 @@ pub record AreForExplore (o : Options) : Type 0 where
   pub budget : HasNoBudget o
   pub spread : HasNoSpread o
   pub trace : HasNoTrace o
-  pub progress : o.progress ≡ false
-
--- of a run that is measured: it goes on no worker threads, not by choices, has no trace, shows no arrays, and
--- nobody looks at it
-pub record AreForMeasuring (o : Options) : Type 0 where
-  pub right : AreRight o
-  pub spread : HasNoSpread o
-  pub choices : o.choices ≡ None
-  pub trace : HasNoTrace o
-  pub arrays : o.arrays ≡ false
   pub progress : o.progress ≡ false
 
 -- what they set; what isn't named is as usual
@@ -414,18 +398,12 @@ pub data AsksPlainly (words : List (List ℕ)) (a : Asked) : Type 0 where
       → words ≡ codes "fmt" ∷ file ∷ codes "--write" ∷ [] → a ≡ plain WriteFormat file → AsksPlainly words a
   to_pair : (file : List ℕ) → IsTrue (is_file_name file)
       → words ≡ codes "mhp" ∷ file ∷ [] → a ≡ plain Pairs file → AsksPlainly words a
-  to_cost : (file : List ℕ) (o : Options) → IsTrue (is_file_name file) → AreForMeasuring o
-      → words ≡ codes "cost" ∷ file ∷ measured_words_of (texts_by o) → a ≡ optioned Cost file o
-      → AsksPlainly words a
   to_explore : (file : List ℕ) (o : Options) → IsTrue (is_file_name file) → AreForExplore o
       → words ≡ codes "explore" ∷ file ∷ choosing_words_of (texts_by o) → a ≡ optioned Explore file o
       → AsksPlainly words a
   to_view : (file : List ℕ) (v : Viewing) → IsTrue (is_file_name file) → AreRight (viewing_options v)
       → words ≡ codes "view" ∷ file ∷ viewing_words v
       → a ≡ optioned (command_for v.shown) file (viewing_options v) → AsksPlainly words a
-  to_bench : (file : List ℕ) (o : Options) → IsTrue (is_file_name file) → AreForMeasuring o
-      → words ≡ codes "bench" ∷ file ∷ measured_words_of (texts_by o) → a ≡ optioned Bench file o
-      → AsksPlainly words a
 
 -- ---- how it is told
 

@@ -29,8 +29,6 @@ pub enum Command {
     CheckFormat,
     /// `fmt --write`: write its text so laid out into its file.
     WriteFormat,
-    /// `cost`: tell work, span and parallelism of its run.
-    Cost,
     /// `view`: write the events of a trace as a table.
     View,
     /// `view --summary`: write the numbers of a trace.
@@ -39,8 +37,6 @@ pub enum Command {
     Draw,
     /// `view --chrome OUT`: write a trace into a file for a trace viewer.
     Chrome,
-    /// `bench`: time its runs.
-    Bench,
 }
 
 /// When what explains a refusal has colours.

@@ -7,32 +7,35 @@ ghost use Rattle.driver.specs.Acts.{Acts, ReadsAndPerforms, Reports, in_short};
 ghost use Rattle.intake.specs.Failures.{TellsNotUtf8};
 ghost use Rattle.intake.specs.declared.failure.Failure.{Failure as FailureOf};
 ghost use Rattle.command_line.specs.Requests.{Asked, Asks, asked_of};
+ghost use Rattle.command_line.specs.declared.request.Color.TheVariants.{Always, Never};
+ghost use Rattle.driver.specs.declared.paint.Paint.TheVariants.{Coloured, Plain};
 
 use crate::commands;
+use crate::paint::Paint;
 use crate::refusal::Refusal;
-use command_line::reply::Reply;
-use command_line::request::Request;
-use command_line::words::request_of;
+use command_line::request::{Color, Request, Telling};
 use intake::failure::Failure;
 use intake::files::{FileSource, read_program};
-use serial_run::watch::Watch;
+use options::reply::Reply;
+use reading::words::request_of;
 use std::alloc::{AllocError, Global};
 use std::io;
 use std::io::{ErrorKind, Write};
 use std::sync::Wait;
 use std::thread::Threads;
 use texts::emit::append;
+use texts::progress::Terminal;
 
 /// Does what the words behind the program's name ask, and answers the exit status. `--progress` has
-/// `watch` told how far a run has come.
-pub fn act<R: Threads + Wait + Sync, F: FileSource, O: Write, E: Write, W: Watch>(
+/// `terminal` told how far a run has come.
+pub fn act<R: Threads + Wait + Sync, F: FileSource, O: Write, E: Write, T: Terminal>(
     rt: &R,
     alloc: Global,
     words: &[String],
     files: &mut F,
     out: &mut O,
     err: &mut E,
-    watch: &mut W,
+    terminal: &mut T,
 ) -> u8
     ensures asked { (a : Asked) → Asks (map string_bytes words.now) a
         → Acts a (F.held files.old) (F.held files.new) (O.contents out.old) (O.contents out.new)
@@ -43,7 +46,7 @@ pub fn act<R: Threads + Wait + Sync, F: FileSource, O: Write, E: Write, W: Watch
 {
     match request_of(alloc, words) {
         Err(reply) => tell_command_line(alloc, &reply, out, err),
-        Ok(request) => match perform(rt, alloc, request, files, out, watch) {
+        Ok(request) => match perform(rt, alloc, request, files, out, terminal) {
             Ok(status) => status,
             Err(refusal) => refusal.tell(err),
         },
@@ -63,18 +66,18 @@ pub fn refuse_words<E: Write>(alloc: Global, error: &io::Error, err: &mut E) -> 
 }
 
 /// Does one command.
-fn perform<R: Threads + Wait + Sync, F: FileSource, O: Write, W: Watch>(
+fn perform<R: Threads + Wait + Sync, F: FileSource, O: Write, T: Terminal>(
     rt: &R,
     alloc: Global,
     request: Request<'_>,
     files: &mut F,
     out: &mut O,
-    watch: &mut W,
+    terminal: &mut T,
 ) -> Result<u8, Refusal>
     ensures done { ReadsAndPerforms (asked_of request.entry) (F.held files.old) (F.held files.new)
         (O.contents out.old) (O.contents out.new) (in_short result) }
     ensures bare { IfErr result
-        (λ refusal. request.entry.explain ≡ false → string_bytes refusal.more ≡ []) }
+        (λ refusal. request.entry.telling.explain ≡ false → string_bytes refusal.more ≡ []) }
 {
     let name = request.file;
     let bytes = match read_program(alloc, files, name) {
@@ -82,11 +85,31 @@ fn perform<R: Threads + Wait + Sync, F: FileSource, O: Write, W: Watch>(
         Err(failure) => return Err(Refusal::bare(alloc, failure)),
     };
     match std::str::from_utf8(&bytes) {
-        Ok(text) => match commands::perform(rt, alloc, request, text, files, out, watch) {
+        Ok(text) => match commands::perform(rt, alloc, request, text, files, out, terminal) {
             Ok(status) => unexplained(alloc, handed_on(out, status)),
-            Err(failure) => Err(Refusal::explained(alloc, files, request, text, failure)),
+            Err(failure) => {
+                let paint = paint_of(request.telling, terminal);
+                Err(Refusal::explained(alloc, files, request, text, paint, failure))
+            }
         },
         Err(_) => Err(Refusal::bare(alloc, Failure::not_utf8(alloc, name))),
+    }
+}
+
+/// Whether what explains a refusal is coloured.
+fn paint_of<T: Terminal>(telling: Telling, terminal: &T) -> Paint
+    ensures always { telling.entry.color ≡ Always → result ≡ Coloured }
+    ensures never { telling.entry.color ≡ Never → result ≡ Plain }
+{
+    let is_coloured = match telling.color {
+        Color::Always => true,
+        Color::Never => false,
+        Color::Auto => terminal.has_colours(),
+    };
+    if is_coloured {
+        Paint::Coloured
+    } else {
+        Paint::Plain
     }
 }
 

@@ -9,6 +9,7 @@ use crate::tracing::outcome_of;
 use answers::formatting::{check_format, format};
 use answers::listing::{list_labels, list_places};
 use answers::programs::accepted_of;
+use answers::rewriting::rewrite;
 use answers::running::{run_by_choices, run_serially};
 use answers::showing::show;
 use answers::telling::{check, list, pairs};
@@ -34,7 +35,8 @@ pub fn perform<R: Threads + Wait + Sync, F: FileSource, O: Write, W: Watch>(
     out: &mut O,
     watch: &mut W,
 ) -> Result<u8, Failure>
-    ensures { Performs request.entry.command (settings_of request.entry.settings) text.now
+    ensures { Performs request.entry.command request.entry.file.now
+        (settings_of request.entry.settings) text.now
         (F.held files.old) (F.held files.new) (O.contents out.old) (O.contents out.new) result }
 {
     match request.command {
@@ -46,6 +48,7 @@ pub fn perform<R: Threads + Wait + Sync, F: FileSource, O: Write, W: Watch>(
         Command::Places => list_places(alloc, text, out),
         Command::Format => format(alloc, text, out),
         Command::CheckFormat => check_format(alloc, text, out),
+        Command::WriteFormat => rewrite(alloc, request.file, text, files, out),
         Command::Pairs => pairs(alloc, text, out),
         Command::Explore => run_by_choices(rt, alloc, request.settings, text, files, out),
         Command::View => view(rt, alloc, request.settings, text, files, out),

@@ -4,6 +4,7 @@
 
 pub mod act;
 pub mod commands;
+mod paint;
 mod refusal;
 mod tracing;
 

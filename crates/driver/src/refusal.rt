@@ -6,6 +6,7 @@ ghost use Rattle.intake.specs.FailureStatus.{failure_status};
 ghost use Rattle.intake.specs.Messages.{failure_text};
 ghost use Rattle.texts.specs.Appending.{AppendsBeginning};
 
+use crate::paint::{Paint, painted};
 use answers::explaining::explanation;
 use command_line::request::Request;
 use intake::failure::Failure;
@@ -34,22 +35,23 @@ impl Refusal {
         }
     }
 
-    /// It is explained, where that is asked for and memory is there.
+    /// It is explained, so coloured, where that is asked for and memory is there.
     pub fn explained<F: FileSource>(
         alloc: Global,
         files: &mut F,
         request: Request<'_>,
         text: &str,
+        paint: Paint,
         failure: Failure,
     ) -> Refusal
         ensures failure { result.failure ≡ failure }
-        ensures more { request.entry.explain ≡ false → string_bytes result.more ≡ [] }
+        ensures more { request.entry.telling.explain ≡ false → string_bytes result.more ≡ [] }
         ensures keeps { F.held files.new ≡ F.held files.old }
     {
-        if !request.explain {
+        if !request.telling.explain {
             return Refusal::bare(alloc, failure);
         }
-        match explanation(alloc, files, text, request.settings.input, &failure) {
+        match coloured(alloc, files, text, request.settings.input, paint, &failure) {
             Ok(more) => Refusal { failure, more },
             Err(AllocError) => Refusal::bare(alloc, failure),
         }
@@ -70,4 +72,19 @@ impl Refusal {
             Err(_) => status,
         }
     }
+}
+
+/// What explains a failure, so coloured.
+fn coloured<F: FileSource>(
+    alloc: Global,
+    files: &mut F,
+    text: &str,
+    input: Option<&str>,
+    paint: Paint,
+    failure: &Failure,
+) -> Result<String, AllocError>
+    ensures { F.held files.new ≡ F.held files.old }
+{
+    let more = explanation(alloc, files, text, input, failure)?;
+    painted(alloc, more, paint)
 }

@@ -185,7 +185,7 @@ const EXPLAIN: Entry = Entry {
 
 const COLOR: Entry = Entry {
     name: "color",
-    help: "Whether that has colours; auto, which is usual: at a terminal, unless NO_COLOR is set",
+    help: "Whether that has colours; without it auto: at a terminal, unless NO_COLOR is set",
     takes: Takes::OneOf("WHEN", &["auto", "always", "never"]),
 };
 
@@ -221,17 +221,6 @@ const LIST_EXAMPLE: &str = "Example: afx list examples/race.afx --lines";
 const LAYOUT_EXAMPLE: &str = "Example: afx fmt examples/race.afx --check";
 
 const PAIRS_EXAMPLE: &str = "Example: afx mhp examples/two_arrays.afx";
-
-const COST_EXAMPLE: &str =
-    "The run is on one thread, and the numbers are the same on every machine. Work is all steps of all tasks. Span is the
-longest chain of steps that must come one after another. No number of workers makes a run faster than work / span.
-
-Example: afx cost examples/doubling.afx --input examples/doubling.json";
-
-const BENCH_EXAMPLE: &str =
-    "The program runs five times on one thread, and five times as tasks on 1, 2 and 4 workers. Its outcome comes first.
-
-Example: afx bench examples/doubling.afx --input examples/doubling.json";
 
 const EXPLORE_EXAMPLE: &str =
     "A choice is the number of a part that steps next, of those that may, from the left and from 0.
@@ -295,13 +284,6 @@ const PAIRED: Row = Row {
     entries: &[FILE, EXPLAIN, COLOR],
 };
 
-const COSTED: Row = Row {
-    name: "cost",
-    about: "Tells work, span and parallelism of a run, in steps",
-    example: COST_EXAMPLE,
-    entries: &[FILE, INPUT, STEPS, NEST, EXPLAIN, COLOR],
-};
-
 const EXPLORED: Row = Row {
     name: "explore",
     about: "Runs a program step by step, by given choices",
@@ -323,13 +305,6 @@ const VIEWED: Row = Row {
     about: "Shows the trace of a run: as a table, by its numbers, or as a picture",
     example: VIEW_EXAMPLE,
     entries: &[FILE, TRACE, INPUT, SUMMARY, SVG, CHROME, EXPLAIN, COLOR],
-};
-
-const TIMED: Row = Row {
-    name: "bench",
-    about: "Times a program, on one thread and as tasks",
-    example: BENCH_EXAMPLE,
-    entries: &[FILE, INPUT, STEPS, NEST, EXPLAIN, COLOR],
 };
 
 const EXPLAINED: Row = Row {
@@ -354,9 +329,8 @@ const MANUAL: Row = Row {
 };
 
 /// All commands, in the order in which help tells them.
-const ROWS: [Row; 13] = [
-    RUN, SERIAL, CHECKED, LISTED, FORMATTED, PAIRED, COSTED, EXPLORED, VIEWED, TIMED, EXPLAINED,
-    COMPLETED, MANUAL,
+const ROWS: [Row; 11] = [
+    RUN, SERIAL, CHECKED, LISTED, FORMATTED, PAIRED, EXPLORED, VIEWED, EXPLAINED, COMPLETED, MANUAL,
 ];
 
 /// What stands behind the help of the program.
@@ -382,10 +356,8 @@ pub const CLOSING: Closing<'static> = Closing {
         LIST_EXAMPLE,
         LAYOUT_EXAMPLE,
         PAIRS_EXAMPLE,
-        COST_EXAMPLE,
         EXPLORE_EXAMPLE,
         VIEW_EXAMPLE,
-        BENCH_EXAMPLE,
         EXPLAIN_EXAMPLE,
         COMPLETIONS_EXAMPLE,
         MAN_EXAMPLE,

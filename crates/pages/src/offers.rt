@@ -29,7 +29,7 @@ pub fn offer_of<'a>(alloc: Global, arg: &Arg<'a>) -> Result<Offer<'a>, AllocErro
     let value = value_name(alloc, arg)?;
     Ok(match value.as_str() {
         "FILE" if arg.is_positional() => Offer::Program,
-        "FILE" | "FOLDER" | "TRACE" | "OUT" => Offer::File,
+        "FILE" | "TRACE" | "OUT" => Offer::File,
         "JSON" => Offer::Input,
         "WORD" => Offer::Page,
         _ => Offer::Nothing,

@@ -23,13 +23,13 @@ pub returns-in-Err-perform-clause-asked : goal.returns-in-Err-perform-clause-ask
 returns-in-Err-perform-clause-asked g c a asks =
     acts a c.in-Ok.request (c.in-Ok.ensures a asks) (g.F.FileSource.held c.args.files.now) _ _ _ _ _ _ _
     c.in-Err-perform.ensures.done
-    (reported c.in-Ok.request.explain _ _ c.in-Err-perform.refusal _ c.in-Err-perform.ensures.bare c.tell.ensures.status
+    (reported c.in-Ok.request.telling.explain _ _ c.in-Err-perform.refusal _ c.in-Err-perform.ensures.bare c.tell.ensures.status
     c.tell.ensures.told)
 
 pub returns-in-Err-perform-clause-over_one : goal.returns-in-Err-perform-clause-over_one
 returns-in-Err-perform-clause-over_one g c large = (
   asked_of c.in-Ok.request,
   acts _ c.in-Ok.request refl (g.F.FileSource.held c.args.files.now) _ _ _ _ _ _ _ c.in-Err-perform.ensures.done
-      (reported c.in-Ok.request.explain _ _ c.in-Err-perform.refusal _ c.in-Err-perform.ensures.bare
+      (reported c.in-Ok.request.telling.explain _ _ c.in-Err-perform.refusal _ c.in-Err-perform.ensures.bare
       c.tell.ensures.status c.tell.ensures.told),
 )
