@@ -339,7 +339,7 @@ const STATUSES: &str = "No word is `run -`: the program is read from the standar
 Example: afx serial examples/doubling.afx --input examples/doubling.json --arrays
 
 Exit status:
-  0  the run ended; the program is accepted; what was asked is shown or written; help
+  0  the run ended; the program is accepted; a listing; pairs of labels; a text laid out; a trace shown; help
   1  refused: the command line, a file, the text, a rule, a race, the input, choices, the trace, the output; not laid out
   2  the run ended with faults
   3  the run was stopped over its budget; it has not ended by its choices
