@@ -27,7 +27,7 @@ impl Manner {
 
     /// What it sets; what isn't said is as usual.
     pub fn telling(self) -> Telling
-        ensures { result ≡ telling_by self.entry }
+        ensures { result ≡ telling_by self }
     {
         let usual = Telling::usual();
         Telling {

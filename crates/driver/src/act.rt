@@ -98,8 +98,8 @@ fn perform<R: Threads + Wait + Sync, F: FileSource, O: Write, T: Terminal>(
 
 /// Whether what explains a refusal is coloured.
 fn paint_of<T: Terminal>(telling: Telling, terminal: &T) -> Paint
-    ensures always { telling.entry.color ≡ Always → result ≡ Coloured }
-    ensures never { telling.entry.color ≡ Never → result ≡ Plain }
+    ensures always { telling.color ≡ Always → result ≡ Coloured }
+    ensures never { telling.color ≡ Never → result ≡ Plain }
 {
     let is_coloured = match telling.color {
         Color::Always => true,
