@@ -47,7 +47,7 @@ use Rattle.intake.specs.declared.failure.Failure.TheVariants.{Trace, Illegal, St
 use Rattle.intake.specs.declared.failure.Failure.TheVariants.{Run as RunFailed}
 use Rattle.command_line.specs.declared.request.Command.{Command}
 use Rattle.command_line.specs.declared.request.Command.TheVariants.{Run, Serial, Check, Listing, Pairs, Explore}
-use Rattle.command_line.specs.declared.request.Command.TheVariants.{Labels, Places, Format, CheckFormat, WriteFormat}
+use Rattle.command_line.specs.declared.request.Command.TheVariants.{Labels, Places, Format, CheckFormat}
 use Rattle.command_line.specs.declared.request.Command.TheVariants.{View, Summary, Draw, Chrome}
 
 -- the text spells a program that breaks no rule, of which this is the code
@@ -69,7 +69,6 @@ IsRunBy Labels code = ⊥
 IsRunBy Places code = ⊥
 IsRunBy Format code = ⊥
 IsRunBy CheckFormat code = ⊥
-IsRunBy WriteFormat code = ⊥
 IsRunBy View code = IsAccepted code
 IsRunBy Summary code = IsAccepted code
 IsRunBy Draw code = IsAccepted code
@@ -194,7 +193,6 @@ Answers Labels s held text told status = AnswersLabels text told status
 Answers Places s held text told status = AnswersPlaces text told status
 Answers Format s held text told status = AnswersFormat text told status
 Answers CheckFormat s held text told status = AnswersCheckFormat text told status
-Answers WriteFormat s held text told status = ⊥
 Answers View s held text told status = ⊥
 Answers Summary s held text told status = ⊥
 Answers Draw s held text told status = ⊥
@@ -220,7 +218,6 @@ TestsRules Labels = ⊥
 TestsRules Places = ⊥
 TestsRules Format = ⊥
 TestsRules CheckFormat = ⊥
-TestsRules WriteFormat = ⊥
 TestsRules View = Unit {0}
 TestsRules Summary = Unit {0}
 TestsRules Draw = Unit {0}
@@ -256,7 +253,6 @@ TellsRaceTo Labels text procedure first second = ⊥
 TellsRaceTo Places text procedure first second = ⊥
 TellsRaceTo Format text procedure first second = ⊥
 TellsRaceTo CheckFormat text procedure first second = ⊥
-TellsRaceTo WriteFormat text procedure first second = ⊥
 TellsRaceTo View text procedure first second = HasRace text procedure first second
 TellsRaceTo Summary text procedure first second = HasRace text procedure first second
 TellsRaceTo Draw text procedure first second = HasRace text procedure first second
@@ -274,7 +270,6 @@ LooksForRaces Labels = ⊥
 LooksForRaces Places = ⊥
 LooksForRaces Format = ⊥
 LooksForRaces CheckFormat = ⊥
-LooksForRaces WriteFormat = ⊥
 LooksForRaces View = Unit {0}
 LooksForRaces Summary = Unit {0}
 LooksForRaces Draw = Unit {0}

@@ -7,7 +7,6 @@ pub mod exploring;
 pub mod formatting;
 pub mod listing;
 pub mod programs;
-pub mod rewriting;
 pub mod running;
 pub mod showing;
 pub mod telling;

@@ -7,8 +7,10 @@ use Rattle.types.specs.Outcome.{Budget}
 use Rattle.types.specs.Translation.{budget as budget_of}
 use Rattle.command_line.specs.declared.request.Command.{Command}
 use Rattle.command_line.specs.declared.request.Command.TheVariants.{Run, Serial, Check, Listing, Pairs, Explore}
-use Rattle.command_line.specs.declared.request.Command.TheVariants.{Labels, Places, Format, CheckFormat, WriteFormat}
+use Rattle.command_line.specs.declared.request.Command.TheVariants.{Labels, Places, Format, CheckFormat}
 use Rattle.command_line.specs.declared.request.Command.TheVariants.{View, Summary, Draw, Chrome}
+use Rattle.command_line.specs.declared.request.Action.{Action}
+use Rattle.command_line.specs.declared.request.Action.TheVariants.{Answer, Rewrite}
 use Rattle.command_line.specs.declared.manner.Manner.{Manner}
 use Rattle.command_line.specs.declared.request.Color.{Color}
 use Rattle.command_line.specs.declared.request.Color.TheVariants.{Auto, Always, Never}
@@ -58,7 +60,7 @@ pub record Settings : Type 0 where
 
 -- what is to be done with the program of a file, and how it is told
 pub record Asked : Type 0 where
-  pub command : Command
+  pub action : Action
   pub file : List ℕ
   pub settings : Settings
   pub telling : Telling
@@ -78,7 +80,7 @@ settings s = record {
 -- what a request asks
 abbrev pub asked_of : Request → Asked
 asked_of r = record {
-  command = r.command;
+  action = r.action;
   file = r.file.now;
   settings = settings r.settings;
   telling = r.telling;
@@ -357,15 +359,22 @@ viewing_options v =
 
 -- ---- what is asked
 
+-- something is done with a file, by options
+abbrev pub acting : Action → (file : List ℕ) → Options → Asked
+acting action file o =
+    record { action = action; file = file; settings = settings_by o; telling = usual_telling }
+
 -- a command with a file alone
 abbrev pub plain : Command → (file : List ℕ) → Asked
-plain command file =
-    record { command = command; file = file; settings = usual; telling = usual_telling }
+plain command file = acting (Answer command) file no_options
 
 -- a command with a file and options behind it
 abbrev pub optioned : Command → (file : List ℕ) → Options → Asked
-optioned command file o =
-    record { command = command; file = file; settings = settings_by o; telling = usual_telling }
+optioned command file o = acting (Answer command) file o
+
+-- a text is laid out in its file
+abbrev pub rewriting : (file : List ℕ) → Asked
+rewriting file = acting Rewrite file no_options
 
 -- the words ask this, in this order, and say nothing of how it is told
 pub data AsksPlainly (words : List (List ℕ)) (a : Asked) : Type 0 where
@@ -392,10 +401,10 @@ pub data AsksPlainly (words : List (List ℕ)) (a : Asked) : Type 0 where
       → words ≡ codes "fmt" ∷ codes "--check" ∷ file ∷ [] → a ≡ plain CheckFormat file → AsksPlainly words a
   to_check_format_behind : (file : List ℕ) → IsTrue (is_file_name file)
       → words ≡ codes "fmt" ∷ file ∷ codes "--check" ∷ [] → a ≡ plain CheckFormat file → AsksPlainly words a
-  to_write_format : (file : List ℕ) → IsTrue (is_file_name file)
-      → words ≡ codes "fmt" ∷ codes "--write" ∷ file ∷ [] → a ≡ plain WriteFormat file → AsksPlainly words a
-  to_write_format_behind : (file : List ℕ) → IsTrue (is_file_name file)
-      → words ≡ codes "fmt" ∷ file ∷ codes "--write" ∷ [] → a ≡ plain WriteFormat file → AsksPlainly words a
+  to_rewrite : (file : List ℕ) → IsTrue (is_file_name file)
+      → words ≡ codes "fmt" ∷ codes "--write" ∷ file ∷ [] → a ≡ rewriting file → AsksPlainly words a
+  to_rewrite_behind : (file : List ℕ) → IsTrue (is_file_name file)
+      → words ≡ codes "fmt" ∷ file ∷ codes "--write" ∷ [] → a ≡ rewriting file → AsksPlainly words a
   to_pair : (file : List ℕ) → IsTrue (is_file_name file)
       → words ≡ codes "mhp" ∷ file ∷ [] → a ≡ plain Pairs file → AsksPlainly words a
   to_explore : (file : List ℕ) (o : Options) → IsTrue (is_file_name file) → AreForExplore o

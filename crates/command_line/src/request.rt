@@ -4,7 +4,7 @@ ghost use Rattle.std.specs.Prelude.{◌≡◌, ◌<◌, ◌≤◌, ◌⊎◌, �
 
 use types::budget::Budget;
 
-/// What is to be done with a program.
+/// What is to be told of a program, or drawn.
 #[derive(Clone, Copy, PartialEq, Eq, Debug)]
 pub enum Command {
     /// `run`: run it as tasks.
@@ -27,8 +27,6 @@ pub enum Command {
     Format,
     /// `fmt --check`: tell whether its text is so laid out.
     CheckFormat,
-    /// `fmt --write`: write its text so laid out into its file.
-    WriteFormat,
     /// `view`: write the events of a trace as a table.
     View,
     /// `view --summary`: write the numbers of a trace.
@@ -71,6 +69,15 @@ impl Telling {
             color: Color::Auto,
         }
     }
+}
+
+/// What is to be done with the file of a program.
+#[derive(Clone, Copy, PartialEq, Eq, Debug)]
+pub enum Action {
+    /// A command answers for its program.
+    Answer(Command),
+    /// `fmt --write`: its text is laid out in it.
+    Rewrite,
 }
 
 /// How the leaves that step are chosen.
@@ -183,7 +190,7 @@ impl<'w> Settings<'w> {
 /// What a command line asks.
 #[derive(Clone, Copy, PartialEq, Eq, Debug)]
 pub struct Request<'w> {
-    pub command: Command,
+    pub action: Action,
     /// The file of the program; `-` is the standard input.
     pub file: &'w str,
     pub settings: Settings<'w>,

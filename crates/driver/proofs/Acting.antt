@@ -12,18 +12,20 @@ use Rattle.std.specs.Io.KnownBytes.{Keeps}
 use Rattle.std.specs.Prelude.{IsErrAnd}
 use Rattle.std.specs.Str.{IsUtf8}
 use Rattle.driver.specs.Acts.{Acts, AnswersAny, ExplainsAny, Leaves, Performs, ReadsAndPerforms, Reports, in_short}
-use Rattle.driver.specs.Acts.{on_text, without_text}
+use Rattle.driver.specs.Acts.{on_text, without_text, AnswersTo, ExplainsTo, LeavesTo}
+use Rattle.command_line.specs.declared.request.Action.{Action}
+use Rattle.command_line.specs.declared.request.Action.TheVariants.{Answer as AnswerBy, Rewrite}
 use Rattle.driver.specs.Traced.{IsTraceOfText}
 use Rattle.driver.proofs.Leaving.{told_behind}
 use Rattle.answers.specs.Answers.{Answer, Done, Wrote}
-use Rattle.answers.specs.Rewriting.{LeavesLaidOut, LeavesRewritten}
+use Rattle.rewriting.specs.Rewriting.{LeavesLaidOut, LeavesRewritten}
 use Rattle.viewing.specs.Views.{IsDrawn, picture_name}
 use Rattle.viewing.proofs.Written.{wrote_anyway}
 use Rattle.texts.specs.Appending.{AppendsBeginning, Writes}
 use Rattle.intake.specs.Held.{Held, IsGiven, TellsNoProgram}
 use Rattle.command_line.specs.Requests.{Asked, Settings, asked_of}
 use Rattle.command_line.specs.declared.request.Command.{Command}
-use Rattle.command_line.specs.declared.request.Command.TheVariants.{Run, WriteFormat, View, Summary, Draw, Chrome}
+use Rattle.command_line.specs.declared.request.Command.TheVariants.{Run, View, Summary, Draw, Chrome}
 use Rattle.intake.specs.declared.failure.Failure.{Failure}
 use Rattle.intake.specs.declared.failure.Failure.TheVariants.{CannotWriteOutput}
 use Rattle.command_line.specs.declared.request.Request.{Request}
@@ -60,49 +62,58 @@ answered_on Is Why why old mid new status (Err f) wrote keeps _ is = record {
 }
 
 -- any command may fail by its output
-may_fail : (c : Command) (file : List ℕ) (s : Settings) (held : Held) (text : List ℕ)
-    → ExplainsAny c file s held text CannotWriteOutput
-may_fail WriteFormat file s held text = tt
-may_fail View file s held text = tt
-may_fail Summary file s held text = tt
-may_fail Draw file s held text = tt
-may_fail Chrome file s held text = tt
-may_fail _ file s held text = tt
-
-rewritten_anyway : (file text : List ℕ) (held later : Held) (r : Result ℕ Failure) → LeavesLaidOut file text held later
-    → IfErr r (λ f. f ≡ CannotWriteOutput) → LeavesRewritten file text held later r
-rewritten_anyway file text held later (Ok n) leaves only = leaves
-rewritten_anyway file text held later (Err f) leaves only =
-    subst (λ (g : Failure). LeavesRewritten file text held later (Err g)) (sym only) leaves
+may_fail : (c : Command) (s : Settings) (held : Held) (text : List ℕ) → ExplainsAny c s held text CannotWriteOutput
+may_fail View s held text = tt
+may_fail Summary s held text = tt
+may_fail Draw s held text = tt
+may_fail Chrome s held text = tt
+may_fail _ s held text = tt
 
 -- files aren't touched then
-leaves_on : (c : Command) (file : List ℕ) (s : Settings) (text : List ℕ) (held later : Held) (status : ℕ) (r : Result ℕ Failure)
-    → IfErr r (λ f. f ≡ CannotWriteOutput) → Leaves c file s text held later (Ok status) → Leaves c file s text held later r
-leaves_on WriteFormat file s text held later status r only w = rewritten_anyway file text held later r w only
-leaves_on Run file s text held later status r only w =
+leaves_on : (c : Command) (s : Settings) (text : List ℕ) (held later : Held) (status : ℕ) (r : Result ℕ Failure)
+    → IfErr r (λ f. f ≡ CannotWriteOutput) → Leaves c s text held later (Ok status) → Leaves c s text held later r
+leaves_on Run s text held later status r only w =
     told_behind ℕ ℕ (IsTraceOfText s held text) (IsTraceOfText s held text) held later (λ bytes is. is) s.trace status r w only
-leaves_on Draw file s text held later status r only w = wrote_anyway (picture_name s) (IsDrawn s held text) held later r w only
-leaves_on Chrome file s text held later status r only w = wrote_anyway (picture_name s) (IsDrawn s held text) held later r w only
-leaves_on _ file s text held later status r only w = w
+leaves_on Draw s text held later status r only w = wrote_anyway (picture_name s) (IsDrawn s held text) held later r w only
+leaves_on Chrome s text held later status r only w = wrote_anyway (picture_name s) (IsDrawn s held text) held later r w only
+leaves_on _ s text held later status r only w = w
 
-pub handed_over : (c : Command) (file : List ℕ) (s : Settings) (text : List ℕ) (held later : Held) (old mid new : Option (List ℕ)) (status : ℕ)
-    (r : Result ℕ Failure) → Performs c file s text held later old mid (Ok status) → Keeps mid new → IfOk r (λ n. n ≡ status)
-    → IfErr r (λ f. f ≡ CannotWriteOutput) → Performs c file s text held later old new r
-handed_over c file s text held later old mid new status r performs keeps is only = record {
-  done = answered_on (AnswersAny c s held text) (ExplainsAny c file s held text) (may_fail c file s held text) old mid new status r
+-- nor is there more than was written
+rewritten_on : (file text : List ℕ) (held later : Held) (r : Result ℕ Failure) → IfErr r (λ f. f ≡ CannotWriteOutput)
+    → LeavesLaidOut file text held later → LeavesRewritten file text held later r
+rewritten_on file text held later (Ok n) only leaves = leaves
+rewritten_on file text held later (Err f) only leaves =
+    subst (λ (g : Failure). LeavesRewritten file text held later (Err g)) (sym only) leaves
+
+may_fail_to : (x : Action) (file : List ℕ) (s : Settings) (held : Held) (text : List ℕ)
+    → ExplainsTo x file s held text CannotWriteOutput
+may_fail_to (AnswerBy c) file s held text = may_fail c s held text
+may_fail_to Rewrite file s held text = tt
+
+leaves_to : (x : Action) (file : List ℕ) (s : Settings) (text : List ℕ) (held later : Held) (status : ℕ)
+    (r : Result ℕ Failure) → IfErr r (λ f. f ≡ CannotWriteOutput) → LeavesTo x file s text held later (Ok status)
+    → LeavesTo x file s text held later r
+leaves_to (AnswerBy c) file s text held later status r only w = leaves_on c s text held later status r only w
+leaves_to Rewrite file s text held later status r only w = rewritten_on file text held later r only w
+
+pub handed_over : (x : Action) (file : List ℕ) (s : Settings) (text : List ℕ) (held later : Held) (old mid new : Option (List ℕ)) (status : ℕ)
+    (r : Result ℕ Failure) → Performs x file s text held later old mid (Ok status) → Keeps mid new → IfOk r (λ n. n ≡ status)
+    → IfErr r (λ f. f ≡ CannotWriteOutput) → Performs x file s text held later old new r
+handed_over x file s text held later old mid new status r performs keeps is only = record {
+  done = answered_on (AnswersTo x s held text) (ExplainsTo x file s held text) (may_fail_to x file s held text) old mid new status r
       performs.done keeps is only;
-  leaves = leaves_on c file s text held later status r only performs.leaves;
+  leaves = leaves_to x file s text held later status r only performs.leaves;
 }
 
 -- files were read before, and are read behind it
 module _ (a : Asked) (held mid later last : Held) (before : mid ≡ held) (behind : last ≡ later) where
   pub performed_on_text : (old new : Option (List ℕ)) (r : Result ℕ Failure) (text : List ℕ) → IsGiven (held a.file) (Ok text)
-      → IsUtf8 text → length text ≤ 1048576 → Performs a.command a.file a.settings text mid later old new r
+      → IsUtf8 text → length text ≤ 1048576 → Performs a.action a.file a.settings text mid later old new r
       → ReadsAndPerforms a held last old new r
   performed_on_text old new r text given is_text short performs =
       on_text text (record { given = given; is_text = is_text }) short
-      (subst (λ (h : Held). Performs a.command a.file a.settings text held h old new r) (sym behind)
-      (subst (λ (h : Held). Performs a.command a.file a.settings text h later old new r) before performs))
+      (subst (λ (h : Held). Performs a.action a.file a.settings text held h old new r) (sym behind)
+      (subst (λ (h : Held). Performs a.action a.file a.settings text h later old new r) before performs))
 
 pub performed_without_text : (a : Asked) (held later : Held) (b : Option (List ℕ)) (r : Result ℕ Failure) (f : Failure)
     → later ≡ held → IsErrAnd r (λ y. y ≡ f) → TellsNoProgram held a.file f → ReadsAndPerforms a held later b b r

@@ -3,7 +3,7 @@ use Rattle.std.specs.Prelude.{ℕ, ◌≡◌, ◌≤◌, List, [], ◌++◌, len
 use Rattle.std.specs.Prelude.{Bool, false}
 use Rattle.std.specs.Io.KnownBytes.{Keeps}
 use Rattle.answers.specs.Answers.{Answer, Answers, Done, Explains}
-use Rattle.answers.specs.Rewriting.{AnswersRewrite, ExplainsRewrite, LeavesRewritten}
+use Rattle.rewriting.specs.Rewriting.{AnswersRewrite, ExplainsRewrite, LeavesRewritten}
 use Rattle.viewing.specs.Files.{WritesTo}
 use Rattle.viewing.specs.Views.{AnswersTrace, ExplainsTrace, IsDrawn, picture_name}
 use Rattle.texts.specs.Appending.{AppendsBeginning}
@@ -11,15 +11,16 @@ use Rattle.intake.specs.FailureStatus.{failure_status}
 use Rattle.intake.specs.Held.{Held, HasText, TellsNoProgram}
 use Rattle.intake.specs.Messages.{failure_text}
 use Rattle.command_line.specs.Requests.{Asked, Settings}
+use Rattle.command_line.specs.declared.request.Action.{Action}
+use Rattle.command_line.specs.declared.request.Action.TheVariants.{Answer as AnswerBy, Rewrite}
 use Rattle.command_line.specs.declared.request.Command.{Command}
-use Rattle.command_line.specs.declared.request.Command.TheVariants.{Run, WriteFormat, View, Summary, Draw, Chrome}
+use Rattle.command_line.specs.declared.request.Command.TheVariants.{Run, View, Summary, Draw, Chrome}
 use Rattle.intake.specs.declared.failure.Failure.{Failure}
 use Rattle.driver.specs.Traced.{IsTraceOfText, WritesTrace}
 use Rattle.driver.specs.declared.refusal.Refusal.{Refusal}
 
 -- the text told, with its status, answers what is asked of a program's text, or of a trace of its run
 abbrev pub AnswersAny : Command → Settings → Held → (text : List ℕ) → Answer
-AnswersAny WriteFormat s held text = AnswersRewrite text
 AnswersAny View s held text = AnswersTrace View s held text
 AnswersAny Summary s held text = AnswersTrace Summary s held text
 AnswersAny Draw s held text = AnswersTrace Draw s held text
@@ -27,36 +28,52 @@ AnswersAny Chrome s held text = AnswersTrace Chrome s held text
 AnswersAny c s held text = Answers c s held text
 
 -- a failure is one of what is asked so
-abbrev pub ExplainsAny : Command → (file : List ℕ) → Settings → Held → (text : List ℕ) → Failure → Type 0
-ExplainsAny WriteFormat file s held text = ExplainsRewrite file text
-ExplainsAny View file s held text = ExplainsTrace View s held text
-ExplainsAny Summary file s held text = ExplainsTrace Summary s held text
-ExplainsAny Draw file s held text = ExplainsTrace Draw s held text
-ExplainsAny Chrome file s held text = ExplainsTrace Chrome s held text
-ExplainsAny c file s held text = Explains c s held text
+abbrev pub ExplainsAny : Command → Settings → Held → (text : List ℕ) → Failure → Type 0
+ExplainsAny View s held text = ExplainsTrace View s held text
+ExplainsAny Summary s held text = ExplainsTrace Summary s held text
+ExplainsAny Draw s held text = ExplainsTrace Draw s held text
+ExplainsAny Chrome s held text = ExplainsTrace Chrome s held text
+ExplainsAny c s held text = Explains c s held text
 
--- what files hold behind a command: the trace of a run in the file that was named for it, a picture in its file, a text
--- laid out in its own; and whatever else they held
-abbrev pub Leaves : Command → (file : List ℕ) → Settings → (text : List ℕ) → (held later : Held) → Result ℕ Failure
+-- what files hold behind a command: the trace of a run in the file that was named for it, a picture in its file; and
+-- whatever else they held
+abbrev pub Leaves : Command → Settings → (text : List ℕ) → (held later : Held) → Result ℕ Failure → Type 0
+Leaves Run s text held later r = WritesTrace s.trace (IsTraceOfText s held text) held later r
+Leaves Draw s text held later r = WritesTo (picture_name s) (IsDrawn s held text) held later r
+Leaves Chrome s text held later r = WritesTo (picture_name s) (IsDrawn s held text) held later r
+Leaves _ s text held later r = later ≡ held
+
+-- ---- what is done with a file
+
+-- the text told, with its status, answers what is asked of the text of a program: that of a command, or nothing of one
+-- that is laid out in its file
+abbrev pub AnswersTo : Action → Settings → Held → (text : List ℕ) → Answer
+AnswersTo (AnswerBy c) s held text = AnswersAny c s held text
+AnswersTo Rewrite s held text = AnswersRewrite text
+
+-- a failure is one of what is asked so
+abbrev pub ExplainsTo : Action → (file : List ℕ) → Settings → Held → (text : List ℕ) → Failure → Type 0
+ExplainsTo (AnswerBy c) file s held text = ExplainsAny c s held text
+ExplainsTo Rewrite file s held text = ExplainsRewrite file text
+
+-- what files hold behind it
+abbrev pub LeavesTo : Action → (file : List ℕ) → Settings → (text : List ℕ) → (held later : Held) → Result ℕ Failure
     → Type 0
-Leaves Run file s text held later r = WritesTrace s.trace (IsTraceOfText s held text) held later r
-Leaves WriteFormat file s text held later r = LeavesRewritten file text held later r
-Leaves Draw file s text held later r = WritesTo (picture_name s) (IsDrawn s held text) held later r
-Leaves Chrome file s text held later r = WritesTo (picture_name s) (IsDrawn s held text) held later r
-Leaves _ file s text held later r = later ≡ held
+LeavesTo (AnswerBy c) file s text held later r = Leaves c s text held later r
+LeavesTo Rewrite file s text held later r = LeavesRewritten file text held later r
 
 -- what is asked was done, and files hold what they should
-pub record Performs (c : Command) (file : List ℕ) (s : Settings) (text : List ℕ) (held later : Held)
+pub record Performs (x : Action) (file : List ℕ) (s : Settings) (text : List ℕ) (held later : Held)
     (old new : Option (List ℕ)) (r : Result ℕ Failure) : Type 0 where
-  pub done : Done (AnswersAny c s held text) (ExplainsAny c file s held text) old new r
-  pub leaves : Leaves c file s text held later r
+  pub done : Done (AnswersTo x s held text) (ExplainsTo x file s held text) old new r
+  pub leaves : LeavesTo x file s text held later r
 
 -- the file has a text of at most 1,048,576 bytes, and what is asked was done with it; or it has none, and
 -- nothing was written
 pub data ReadsAndPerforms (a : Asked) (held later : Held) (old new : Option (List ℕ))
     (r : Result ℕ Failure) : Type 0 where
   on_text : (text : List ℕ) → HasText held a.file text → length text ≤ 1048576
-      → Performs a.command a.file a.settings text held later old new r
+      → Performs a.action a.file a.settings text held later old new r
       → ReadsAndPerforms a held later old new r
   without_text : IsErrAnd r (TellsNoProgram held a.file) → Keeps old new → later ≡ held
       → ReadsAndPerforms a held later old new r

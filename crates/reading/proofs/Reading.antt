@@ -10,9 +10,10 @@ use Rattle.std.specs.Str.Parse.{ParsesUnsigned}
 use Rattle.std.proofs.lemmas.Fmt.{parse-decimal}
 use Rattle.std.proofs.Math.Bool.{and-false}
 use Rattle.reading.specs.declared.plain.Line.{Line as rLine}
-use Rattle.command_line.specs.declared.request.Command.{Command}
+use Rattle.command_line.specs.declared.request.Action.{Action}
+use Rattle.command_line.specs.declared.request.Action.TheVariants.{Answer, Rewrite}
 use Rattle.command_line.specs.declared.request.Command.TheVariants.{Run, Serial, Check, Listing, Pairs, Explore}
-use Rattle.command_line.specs.declared.request.Command.TheVariants.{Labels, Places, Format, CheckFormat, WriteFormat}
+use Rattle.command_line.specs.declared.request.Command.TheVariants.{Labels, Places, Format, CheckFormat}
 use Rattle.command_line.specs.declared.request.Color.{Color}
 use Rattle.command_line.specs.declared.request.Color.TheVariants.{Auto, Always, Never}
 use Rattle.command_line.specs.declared.request.Telling.{Telling}
@@ -29,7 +30,7 @@ use Rattle.command_line.specs.Requests.{AsPicture, AsTable, ByNumbers, ForViewer
 use Rattle.command_line.specs.Requests.{picture_of, showing_words, to_view, viewing_options, viewing_words}
 use Rattle.command_line.specs.Requests.{is_file_name, optioned, plain, settings_by, flagged, valued, by_command}
 use Rattle.command_line.specs.Requests.{color_word, manner_words, no_manner, telling_by, told_so}
-use Rattle.command_line.specs.Requests.{to_write_format, to_write_format_behind}
+use Rattle.command_line.specs.Requests.{acting, rewriting, to_rewrite, to_rewrite_behind}
 use Rattle.command_line.specs.Requests.{Choosing, Listed, InFile, Random, IsRightChoosing, choosing_words_of, file_of, list_of}
 use Rattle.command_line.specs.Requests.{asked_of, seed_of, serial_words_of, texts_by, words_of}
 use Rattle.command_line.specs.Requests.{to_label, to_place, to_place_behind, to_format, to_check_format, to_check_format_behind}
@@ -342,14 +343,14 @@ module _ (arrays : Bool) where
 
 -- ---- lines
 
-abbrev line : Command → (file : List ℕ) → Texts → Line
-line command file texts = record { command = command; file = file; texts = texts }
+abbrev line : Action → (file : List ℕ) → Texts → Line
+line action file texts = record { action = action; file = file; texts = texts }
 
 -- a command with right options
-read_with : (command : Command) (file : List ℕ) (texts : Texts) (read_as : Option Texts) → IsTrue (is_file_name file)
-    → read_as ≡ Some texts → read_optioned command file read_as ≡ Some (line command file texts)
-read_with command file texts read_as named is =
-    if_true (is_file_name file) _ _ named ∙ ap (option_map (line command file)) is
+read_with : (action : Action) (file : List ℕ) (texts : Texts) (read_as : Option Texts) → IsTrue (is_file_name file)
+    → read_as ≡ Some texts → read_optioned action file read_as ≡ Some (line action file texts)
+read_with action file texts read_as named is =
+    if_true (is_file_name file) _ _ named ∙ ap (option_map (line action file)) is
 
 -- options of a run as tasks
 run_options : (o : Options) → AreForRun o → read_texts (words_of (texts_by o)) ≡ Some (texts_by o)
@@ -417,7 +418,7 @@ explore_options o for =
     (read_choosing_words o.arrays o.input o.choices))))))))
 
 -- how a trace is shown
-read_shown : (s : Showing) → read_showing (showing_words s) ≡ Some (command_for s, picture_of s)
+read_shown : (s : Showing) → read_showing (showing_words s) ≡ Some (Answer (command_for s), picture_of s)
 read_shown AsTable = refl
 read_shown ByNumbers = refl
 read_shown (AsPicture out) = refl
@@ -431,17 +432,17 @@ shown_without_input (ForViewer out) = refl
 
 -- a trace that is looked at
 read_viewing : (file : List ℕ) (v : Viewing) → IsTrue (is_file_name file)
-    → read_view file (viewing_words v) ≡ Some (line (command_for v.shown) file (texts_by (viewing_options v)))
+    → read_view file (viewing_words v) ≡ Some (line (Answer (command_for v.shown)) file (texts_by (viewing_options v)))
 read_viewing file v named =
     goes (codes "--input") (valued (codes "--input") v.input (showing_words v.shown)) v.input (showing_words v.shown)
     (λ input words. shown_if file v.trace input (read_showing words))
     (takes_value (codes "--input") v.input (showing_words v.shown) refl (shown_without_input v.shown))
     ∙ ap (shown_if file v.trace v.input) (read_shown v.shown)
-    ∙ read_with (command_for v.shown) file (texts_by (viewing_options v)) _ named refl
+    ∙ read_with (Answer (command_for v.shown)) file (texts_by (viewing_options v)) _ named refl
 
-read_named : (command : Command) (file : List ℕ) → IsTrue (is_file_name file)
-    → read_file command file ≡ Some (bare command file)
-read_named command file named = if_true (is_file_name file) _ _ named
+read_named : (action : Action) (file : List ℕ) → IsTrue (is_file_name file)
+    → read_file action file ≡ Some (bare action file)
+read_named action file named = if_true (is_file_name file) _ _ named
 
 -- the words of a command, but for those that say how it is told
 abbrev read_plain : List (List ℕ) → Option Line
@@ -450,17 +451,17 @@ read_plain (command ∷ words) = read_words command words
 
 -- the option of `check` may stand last
 read_list_behind : (file : List ℕ) → IsTrue (is_file_name file)
-    → read_plain (codes "check" ∷ file ∷ codes "--list" ∷ []) ≡ Some (bare Listing file)
+    → read_plain (codes "check" ∷ file ∷ codes "--list" ∷ []) ≡ Some (bare (Answer Listing) file)
 read_list_behind file named =
     if_false (bytes_eq file (codes "--list") && false) _ _ (and-false (bytes_eq file (codes "--list")))
-    ∙ read_named Listing file named
+    ∙ read_named (Answer Listing) file named
 
 -- and that of `list`
 read_places_behind : (file : List ℕ) → IsTrue (is_file_name file)
-    → read_plain (codes "list" ∷ file ∷ codes "--lines" ∷ []) ≡ Some (bare Places file)
+    → read_plain (codes "list" ∷ file ∷ codes "--lines" ∷ []) ≡ Some (bare (Answer Places) file)
 read_places_behind file named =
     if_false (bytes_eq file (codes "--lines") && false) _ _ (and-false (bytes_eq file (codes "--lines")))
-    ∙ read_named Places file named
+    ∙ read_named (Answer Places) file named
 
 -- ---- names of files
 
@@ -481,52 +482,52 @@ named_differs file option no named =
 -- ---- the options of `fmt`
 
 no_check_before : (file : List ℕ) → IsTrue (is_file_name file)
-    → read_flagged (codes "--check") CheckFormat (codes "--write") file ≡ None
+    → read_flagged (codes "--check") (Answer CheckFormat) (codes "--write") file ≡ None
 no_check_before file named =
     if_false (bytes_eq file (codes "--check")) _ _ (named_differs file (codes "--check") refl named)
 
-no_check_behind : (file : List ℕ) → read_flagged (codes "--check") CheckFormat file (codes "--write") ≡ None
+no_check_behind : (file : List ℕ) → read_flagged (codes "--check") (Answer CheckFormat) file (codes "--write") ≡ None
 no_check_behind file =
     if_false (bytes_eq file (codes "--check") && false) _ _ (and-false (bytes_eq file (codes "--check")))
 
 read_check_before : (file : List ℕ) → IsTrue (is_file_name file)
-    → read_plain (codes "fmt" ∷ codes "--check" ∷ file ∷ []) ≡ Some (bare CheckFormat file)
+    → read_plain (codes "fmt" ∷ codes "--check" ∷ file ∷ []) ≡ Some (bare (Answer CheckFormat) file)
 read_check_before file named =
-    ap (λ (l : Option Line). either l (read_flagged (codes "--write") WriteFormat (codes "--check") file))
+    ap (λ (l : Option Line). either l (read_flagged (codes "--write") Rewrite (codes "--check") file))
     (if_true (is_file_name file) _ _ named)
 
 read_check_behind : (file : List ℕ) → IsTrue (is_file_name file)
-    → read_plain (codes "fmt" ∷ file ∷ codes "--check" ∷ []) ≡ Some (bare CheckFormat file)
+    → read_plain (codes "fmt" ∷ file ∷ codes "--check" ∷ []) ≡ Some (bare (Answer CheckFormat) file)
 read_check_behind file named =
-    ap (λ (l : Option Line). either l (read_flagged (codes "--write") WriteFormat file (codes "--check")))
+    ap (λ (l : Option Line). either l (read_flagged (codes "--write") Rewrite file (codes "--check")))
     (if_false (bytes_eq file (codes "--check") && false) _ _ (and-false (bytes_eq file (codes "--check")))
-    ∙ read_named CheckFormat file named)
+    ∙ read_named (Answer CheckFormat) file named)
 
 read_write_before : (file : List ℕ) → IsTrue (is_file_name file)
-    → read_plain (codes "fmt" ∷ codes "--write" ∷ file ∷ []) ≡ Some (bare WriteFormat file)
+    → read_plain (codes "fmt" ∷ codes "--write" ∷ file ∷ []) ≡ Some (bare Rewrite file)
 read_write_before file named =
-    ap (λ (l : Option Line). either l (read_flagged (codes "--write") WriteFormat (codes "--write") file))
+    ap (λ (l : Option Line). either l (read_flagged (codes "--write") Rewrite (codes "--write") file))
     (no_check_before file named)
     ∙ if_true (is_file_name file) _ _ named
 
 read_write_behind : (file : List ℕ) → IsTrue (is_file_name file)
-    → read_plain (codes "fmt" ∷ file ∷ codes "--write" ∷ []) ≡ Some (bare WriteFormat file)
+    → read_plain (codes "fmt" ∷ file ∷ codes "--write" ∷ []) ≡ Some (bare Rewrite file)
 read_write_behind file named =
-    ap (λ (l : Option Line). either l (read_flagged (codes "--write") WriteFormat file (codes "--write")))
+    ap (λ (l : Option Line). either l (read_flagged (codes "--write") Rewrite file (codes "--write")))
     (no_check_behind file)
     ∙ if_false (bytes_eq file (codes "--write") && false) _ _ (and-false (bytes_eq file (codes "--write")))
-    ∙ read_named WriteFormat file named
+    ∙ read_named Rewrite file named
 
 -- ---- plain words
 
 -- what words that ask are read as, and for which options that stands
 pub record IsLineOf (words : List (List ℕ)) (a : Asked) : Type 0 where
-  pub command : Command
+  pub action : Action
   pub file : List ℕ
   pub options : Options
   pub right : AreRight options
-  pub is_read : read_plain words ≡ Some (line command file (texts_by options))
-  pub asked : a ≡ optioned command file options
+  pub is_read : read_plain words ≡ Some (line action file (texts_by options))
+  pub asked : a ≡ acting action file options
 
 none_right : AreRight no_options
 none_right = record {
@@ -541,10 +542,10 @@ none_right = record {
   picture = tt;
 }
 
-bare_line : (words : List (List ℕ)) (a : Asked) (command : Command) (file : List ℕ)
-    → read_plain words ≡ Some (bare command file) → a ≡ plain command file → IsLineOf words a
-bare_line words a command file is_read asked = record {
-  command = command;
+bare_line : (words : List (List ℕ)) (a : Asked) (action : Action) (file : List ℕ)
+    → read_plain words ≡ Some (bare action file) → a ≡ acting action file no_options → IsLineOf words a
+bare_line words a action file is_read asked = record {
+  action = action;
   file = file;
   options = no_options;
   right = none_right;
@@ -554,57 +555,57 @@ bare_line words a command file is_read asked = record {
 
 asks_line : (words : List (List ℕ)) (a : Asked) → AsksPlainly words a → IsLineOf words a
 asks_line words a (to_run file o named for is asked) = record {
-  command = Run;
+  action = Answer Run;
   file = file;
   options = o;
   right = for.right;
-  is_read = ap read_plain is ∙ read_with Run file (texts_by o) _ named (run_options o for);
+  is_read = ap read_plain is ∙ read_with (Answer Run) file (texts_by o) _ named (run_options o for);
   asked = asked;
 }
 asks_line words a (to_run_on_one_thread file o named for is asked) = record {
-  command = Serial;
+  action = Answer Serial;
   file = file;
   options = o;
   right = for.right;
-  is_read = ap read_plain is ∙ read_with Serial file (texts_by o) _ named (serial_options o for);
+  is_read = ap read_plain is ∙ read_with (Answer Serial) file (texts_by o) _ named (serial_options o for);
   asked = asked;
 }
 asks_line words a (to_explore file o named for is asked) = record {
-  command = Explore;
+  action = Answer Explore;
   file = file;
   options = o;
   right = for.right;
-  is_read = ap read_plain is ∙ read_with Explore file (texts_by o) _ named (explore_options o for);
+  is_read = ap read_plain is ∙ read_with (Answer Explore) file (texts_by o) _ named (explore_options o for);
   asked = asked;
 }
 asks_line words a (to_view file v named right is asked) = record {
-  command = command_for v.shown;
+  action = Answer (command_for v.shown);
   file = file;
   options = viewing_options v;
   right = right;
   is_read = ap read_plain is ∙ read_viewing file v named;
   asked = asked;
 }
-asks_line words a (to_check file named is asked) = bare_line words a Check file (ap read_plain is ∙ read_named Check file named) asked
+asks_line words a (to_check file named is asked) = bare_line words a (Answer Check) file (ap read_plain is ∙ read_named (Answer Check) file named) asked
 asks_line words a (to_list file named is asked) =
-    bare_line words a Listing file (ap read_plain is ∙ if_true (is_file_name file) _ _ named) asked
+    bare_line words a (Answer Listing) file (ap read_plain is ∙ if_true (is_file_name file) _ _ named) asked
 asks_line words a (to_list_behind file named is asked) =
-    bare_line words a Listing file (ap read_plain is ∙ read_list_behind file named) asked
-asks_line words a (to_label file named is asked) = bare_line words a Labels file (ap read_plain is ∙ read_named Labels file named) asked
+    bare_line words a (Answer Listing) file (ap read_plain is ∙ read_list_behind file named) asked
+asks_line words a (to_label file named is asked) = bare_line words a (Answer Labels) file (ap read_plain is ∙ read_named (Answer Labels) file named) asked
 asks_line words a (to_place file named is asked) =
-    bare_line words a Places file (ap read_plain is ∙ if_true (is_file_name file) _ _ named) asked
+    bare_line words a (Answer Places) file (ap read_plain is ∙ if_true (is_file_name file) _ _ named) asked
 asks_line words a (to_place_behind file named is asked) =
-    bare_line words a Places file (ap read_plain is ∙ read_places_behind file named) asked
-asks_line words a (to_format file named is asked) = bare_line words a Format file (ap read_plain is ∙ read_named Format file named) asked
+    bare_line words a (Answer Places) file (ap read_plain is ∙ read_places_behind file named) asked
+asks_line words a (to_format file named is asked) = bare_line words a (Answer Format) file (ap read_plain is ∙ read_named (Answer Format) file named) asked
 asks_line words a (to_check_format file named is asked) =
-    bare_line words a CheckFormat file (ap read_plain is ∙ read_check_before file named) asked
+    bare_line words a (Answer CheckFormat) file (ap read_plain is ∙ read_check_before file named) asked
 asks_line words a (to_check_format_behind file named is asked) =
-    bare_line words a CheckFormat file (ap read_plain is ∙ read_check_behind file named) asked
-asks_line words a (to_pair file named is asked) = bare_line words a Pairs file (ap read_plain is ∙ read_named Pairs file named) asked
-asks_line words a (to_write_format file named is asked) =
-    bare_line words a WriteFormat file (ap read_plain is ∙ read_write_before file named) asked
-asks_line words a (to_write_format_behind file named is asked) =
-    bare_line words a WriteFormat file (ap read_plain is ∙ read_write_behind file named) asked
+    bare_line words a (Answer CheckFormat) file (ap read_plain is ∙ read_check_behind file named) asked
+asks_line words a (to_pair file named is asked) = bare_line words a (Answer Pairs) file (ap read_plain is ∙ read_named (Answer Pairs) file named) asked
+asks_line words a (to_rewrite file named is asked) =
+    bare_line words a Rewrite file (ap read_plain is ∙ read_write_before file named) asked
+asks_line words a (to_rewrite_behind file named is asked) =
+    bare_line words a Rewrite file (ap read_plain is ∙ read_write_behind file named) asked
 
 -- ---- how it is told
 
@@ -664,7 +665,7 @@ plainly_begun words a (to_label file named is asked) = begins words _ file _ nam
 plainly_begun words a (to_place_behind file named is asked) = begins words _ file _ named is
 plainly_begun words a (to_format file named is asked) = begins words _ file _ named is
 plainly_begun words a (to_check_format_behind file named is asked) = begins words _ file _ named is
-plainly_begun words a (to_write_format_behind file named is asked) = begins words _ file _ named is
+plainly_begun words a (to_rewrite_behind file named is asked) = begins words _ file _ named is
 plainly_begun words a (to_pair file named is asked) = begins words _ file _ named is
 plainly_begun words a (to_list file named is asked) =
     subst BeginsPlainly (sym is) (record { explain = refl; color = refl })
@@ -672,24 +673,24 @@ plainly_begun words a (to_place file named is asked) =
     subst BeginsPlainly (sym is) (record { explain = refl; color = refl })
 plainly_begun words a (to_check_format file named is asked) =
     subst BeginsPlainly (sym is) (record { explain = refl; color = refl })
-plainly_begun words a (to_write_format file named is asked) =
+plainly_begun words a (to_rewrite file named is asked) =
     subst BeginsPlainly (sym is) (record { explain = refl; color = refl })
 
 -- ---- whole lines
 
 -- what words that ask are read as, for which options that stands, and how it is told
 record IsToldLineOf (words : List (List ℕ)) (a : Asked) : Type 0 where
-  pub command : Command
+  pub action : Action
   pub file : List ℕ
   pub options : Options
   pub manner : Manner
   pub right : AreRight options
-  pub is_read : read words ≡ Some (line command file (texts_by options), manner)
-  pub asked : a ≡ told_so manner (optioned command file options)
+  pub is_read : read words ≡ Some (line action file (texts_by options), manner)
+  pub asked : a ≡ told_so manner (acting action file options)
 
 asks_told : (words : List (List ℕ)) (a : Asked) → Asks words a → IsToldLineOf words a
 asks_told words a (by_no_word is asked) = record {
-  command = Run;
+  action = Answer Run;
   file = codes "-";
   options = no_options;
   manner = no_manner;
@@ -700,7 +701,7 @@ asks_told words a (by_no_word is asked) = record {
 asks_told words a (by_command command m behind b asks is asked) =
     let l = asks_line (command ∷ behind) b asks in
     record {
-      command = l.command;
+      action = l.action;
       file = l.file;
       options = l.options;
       manner = m;
@@ -721,35 +722,35 @@ pub asked_is_read : (words : List (List ℕ)) (a : Asked)
     → option_map told_line (let o : Option (rLine × Manner) = None in o) ≡ read words → Asks words a → ⊥
 asked_is_read words a unread asks =
     let l = asks_told words a asks in
-    subst (IsRead (line l.command l.file (texts_by l.options), l.manner)) (sym (unread ∙ l.is_read)) refl
+    subst (IsRead (line l.action l.file (texts_by l.options), l.manner)) (sym (unread ∙ l.is_read)) refl
 
 -- a line that was read, with the options that were asked, and told as was asked
 pub record IsAskedBy (l : rLine) (m : Manner) (a : Asked) : Type 0 where
   pub options : Options
   pub right : AreRight options
   pub texts : (line_of l).texts ≡ texts_by options
-  pub asked : told_so m (optioned l.command l.file.now options) ≡ a
+  pub asked : told_so m (acting l.action l.file.now options) ≡ a
 
 pub asked_by : (words : List (List ℕ)) (a : Asked) (l : rLine) (m : Manner) → Asks words a
     → option_map told_line (Some (l, m)) ≡ read words → IsAskedBy l m a
 asked_by words a l m asks is =
     let told = asks_told words a asks in
-    let same : (line_of l, m) ≡ (line told.command told.file (texts_by told.options), told.manner) =
-    subst (IsRead (line told.command told.file (texts_by told.options), told.manner)) (sym (is ∙ told.is_read)) refl in
+    let same : (line_of l, m) ≡ (line told.action told.file (texts_by told.options), told.manner) =
+    subst (IsRead (line told.action told.file (texts_by told.options), told.manner)) (sym (is ∙ told.is_read)) refl in
     record {
       options = told.options;
       right = told.right;
       texts = ap (λ (p : Line × Manner). p.0.texts) same;
-      asked = ap (λ (p : Line × Manner). told_so p.1 (optioned p.0.command p.0.file told.options)) same
+      asked = ap (λ (p : Line × Manner). told_so p.1 (acting p.0.action p.0.file told.options)) same
           ∙ sym told.asked;
     }
 
 -- the settings that a line's texts say are those that are asked
-pub settled : (command : Command) (file : List ℕ) (telling : Telling) (o : Options) (s : Settings) → s ≡ settings_by o
-    → (let b : Asked = record { command = command; file = file; settings = s; telling = telling } in b)
-    ≡ record (optioned command file o) { telling = telling }
-settled command file telling o s set =
-    ap (λ (t : Settings). let b : Asked = record { command = command; file = file; settings = t; telling = telling } in b)
+pub settled : (action : Action) (file : List ℕ) (telling : Telling) (o : Options) (s : Settings) → s ≡ settings_by o
+    → (let b : Asked = record { action = action; file = file; settings = s; telling = telling } in b)
+    ≡ record (acting action file o) { telling = telling }
+settled action file telling o s set =
+    ap (λ (t : Settings). let b : Asked = record { action = action; file = file; settings = t; telling = telling } in b)
     set
 
 -- a request that asks one thing asks what is the same

@@ -7,16 +7,17 @@ use Rattle.command_line.specs.Requests.{Texts, is_file_name, no_manner}
 use Rattle.command_line.specs.declared.manner.Manner.{Manner}
 use Rattle.command_line.specs.declared.request.Color.{Color}
 use Rattle.command_line.specs.declared.request.Color.TheVariants.{Auto, Always, Never}
-use Rattle.command_line.specs.declared.request.Command.{Command}
+use Rattle.command_line.specs.declared.request.Action.{Action}
+use Rattle.command_line.specs.declared.request.Action.TheVariants.{Answer, Rewrite}
 use Rattle.command_line.specs.declared.request.Command.TheVariants.{Run, Serial, Check, Listing, Pairs, Explore}
-use Rattle.command_line.specs.declared.request.Command.TheVariants.{Labels, Places, Format, CheckFormat, WriteFormat}
+use Rattle.command_line.specs.declared.request.Command.TheVariants.{Labels, Places, Format, CheckFormat}
 use Rattle.command_line.specs.declared.request.Command.TheVariants.{View, Summary, Draw, Chrome}
 use Rattle.reading.specs.declared.plain.Line.{Line as rLine}
 use Rattle.reading.specs.declared.plain.Texts.{Texts as rTexts}
 
--- a command, a file, and the texts behind options
+-- what is done, a file, and the texts behind options
 pub record Line : Type 0 where
-  pub command : Command
+  pub action : Action
   pub file : List ℕ
   pub texts : Texts
 
@@ -38,14 +39,14 @@ texts_of t = record {
 }
 
 abbrev pub line_of : rLine → Line
-line_of l = record { command = l.command; file = l.file.now; texts = texts_of l.texts }
+line_of l = record { action = l.action; file = l.file.now; texts = texts_of l.texts }
 
 -- a line and how it is told
 abbrev pub told_line : rLine × Manner → Line × Manner
 told_line told = (line_of told.0, told.1)
 
 -- how a trace is shown, and the file in which it is drawn
-abbrev pub shown_of : Command × Option (Bor (List ℕ)) → Command × Option (List ℕ)
+abbrev pub shown_of : Action × Option (Bor (List ℕ)) → Action × Option (List ℕ)
 shown_of shown = (shown.0, option_map (λ name. name.now) shown.1)
 
 -- that there is no option
@@ -67,8 +68,8 @@ no_texts = record {
 }
 
 -- a line without options
-abbrev pub bare : Command → (file : List ℕ) → Line
-bare command file = record { command = command; file = file; texts = no_texts }
+abbrev pub bare : Action → (file : List ℕ) → Line
+bare action file = record { action = action; file = file; texts = no_texts }
 
 -- the value behind an option that stands first, and the words behind both
 abbrev pub taken : (option : List ℕ) → List (List ℕ) → Option (List ℕ) × List (List ℕ)
@@ -146,41 +147,41 @@ read_choosing words =
     }) arrays.1
 
 -- how a trace is shown, as words say it
-abbrev pub read_showing : List (List ℕ) → Option (Command × Option (List ℕ))
-read_showing [] = Some (View, None)
-read_showing (one ∷ []) = if bytes_eq one (codes "--summary") then Some (Summary, None) else None
+abbrev pub read_showing : List (List ℕ) → Option (Action × Option (List ℕ))
+read_showing [] = Some ((Answer View), None)
+read_showing (one ∷ []) = if bytes_eq one (codes "--summary") then Some ((Answer Summary), None) else None
 read_showing (option ∷ out ∷ []) =
-    if bytes_eq option (codes "--svg") then Some (Draw, Some out) else
-    (if bytes_eq option (codes "--chrome") then Some (Chrome, Some out) else None)
+    if bytes_eq option (codes "--svg") then Some ((Answer Draw), Some out) else
+    (if bytes_eq option (codes "--chrome") then Some ((Answer Chrome), Some out) else None)
 read_showing (option ∷ out ∷ third ∷ behind) = None
 
 -- the words behind a command that takes options: a file, and the texts that its options are read as
-abbrev pub read_optioned : Command → (file : List ℕ) → (read : Option Texts) → Option Line
-read_optioned command file read =
+abbrev pub read_optioned : Action → (file : List ℕ) → (read : Option Texts) → Option Line
+read_optioned action file read =
     if is_file_name file
     then option_map (λ texts. let line : Line = record {
-      command = command;
+      action = action;
       file = file;
       texts = texts;
     } in line) read else None
 
 -- a command with a file alone
-abbrev pub read_file : Command → (file : List ℕ) → Option Line
-read_file command file =
-    if is_file_name file then Some (bare command file) else None
+abbrev pub read_file : Action → (file : List ℕ) → Option Line
+read_file action file =
+    if is_file_name file then Some (bare action file) else None
 
 -- the two words behind a command, one of which is its option
-abbrev pub read_flagged : (flag : List ℕ) → (flagged : Command) → (one other : List ℕ) → Option Line
+abbrev pub read_flagged : (flag : List ℕ) → (flagged : Action) → (one other : List ℕ) → Option Line
 read_flagged flag flagged one other =
     if bytes_eq one flag && is_file_name other then Some (bare flagged other) else
     (if bytes_eq other flag then read_file flagged one else None)
 
 -- the words behind a command with one option, by which another is meant
-abbrev pub read_flaggable : Command → (flag : List ℕ) → (flagged : Command) → (one : List ℕ)
+abbrev pub read_flaggable : Action → (flag : List ℕ) → (flagged : Action) → (one : List ℕ)
     → (others : List (List ℕ)) → Option Line
-read_flaggable command flag flagged one [] = read_file command one
-read_flaggable command flag flagged one (other ∷ []) = read_flagged flag flagged one other
-read_flaggable command flag flagged one (other ∷ third ∷ behind) = None
+read_flaggable action flag flagged one [] = read_file action one
+read_flaggable action flag flagged one (other ∷ []) = read_flagged flag flagged one other
+read_flaggable action flag flagged one (other ∷ third ∷ behind) = None
 
 -- the first of two lines, or the second where there is no first
 abbrev pub either : Option Line → Option Line → Option Line
@@ -189,26 +190,26 @@ either (Some first) second = Some first
 
 -- the words behind `fmt`
 abbrev pub read_format : (one : List ℕ) → (others : List (List ℕ)) → Option Line
-read_format one [] = read_file Format one
+read_format one [] = read_file (Answer Format) one
 read_format one (other ∷ []) =
-    either (read_flagged (codes "--check") CheckFormat one other)
-    (read_flagged (codes "--write") WriteFormat one other)
+    either (read_flagged (codes "--check") (Answer CheckFormat) one other)
+    (read_flagged (codes "--write") Rewrite one other)
 read_format one (other ∷ third ∷ behind) = None
 
 -- the words behind a command that takes a file alone
-abbrev pub read_alone : Command → (file : List ℕ) → (behind : List (List ℕ)) → Option Line
-read_alone command file [] = read_file command file
-read_alone command file (other ∷ behind) = None
+abbrev pub read_alone : Action → (file : List ℕ) → (behind : List (List ℕ)) → Option Line
+read_alone action file [] = read_file action file
+read_alone action file (other ∷ behind) = None
 
 -- the words behind the trace that is looked at, shown so
-abbrev pub shown_line : (file trace : List ℕ) → (input : Option (List ℕ)) → Command × Option (List ℕ)
+abbrev pub shown_line : (file trace : List ℕ) → (input : Option (List ℕ)) → Action × Option (List ℕ)
     → Option Line
 shown_line file trace input shown =
     read_optioned shown.0 file
     (Some (record no_texts { input = input; trace = Some trace; picture = shown.1 }))
 
 abbrev pub shown_if : (file trace : List ℕ) → (input : Option (List ℕ))
-    → Option (Command × Option (List ℕ)) → Option Line
+    → Option (Action × Option (List ℕ)) → Option Line
 shown_if file trace input None = None
 shown_if file trace input (Some shown) = shown_line file trace input shown
 
@@ -222,13 +223,13 @@ read_view file (trace ∷ options) =
 -- the words behind a command
 abbrev pub read_behind : (command file : List ℕ) → (behind : List (List ℕ)) → Option Line
 read_behind command file behind =
-    if bytes_eq command (codes "run") then read_optioned Run file (read_texts behind) else
-    (if bytes_eq command (codes "serial") then read_optioned Serial file (read_serial_texts behind) else
-    (if bytes_eq command (codes "check") then read_flaggable Check (codes "--list") Listing file behind else
-    (if bytes_eq command (codes "list") then read_flaggable Labels (codes "--lines") Places file behind else
-    (if bytes_eq command (codes "mhp") then read_alone Pairs file behind else
+    if bytes_eq command (codes "run") then read_optioned (Answer Run) file (read_texts behind) else
+    (if bytes_eq command (codes "serial") then read_optioned (Answer Serial) file (read_serial_texts behind) else
+    (if bytes_eq command (codes "check") then read_flaggable (Answer Check) (codes "--list") (Answer Listing) file behind else
+    (if bytes_eq command (codes "list") then read_flaggable (Answer Labels) (codes "--lines") (Answer Places) file behind else
+    (if bytes_eq command (codes "mhp") then read_alone (Answer Pairs) file behind else
     (if bytes_eq command (codes "fmt") then read_format file behind else
-    (if bytes_eq command (codes "explore") then read_optioned Explore file (read_choosing behind) else
+    (if bytes_eq command (codes "explore") then read_optioned (Answer Explore) file (read_choosing behind) else
     (if bytes_eq command (codes "view") then read_view file behind else None)))))))
 
 -- the words behind a command, but for those that say how it is told
@@ -268,5 +269,5 @@ read_by command (Some read) = option_map (λ l. (l, read.0)) (read_words command
 
 -- the words of a command line, and how it is told
 abbrev pub read : List (List ℕ) → Option (Line × Manner)
-read [] = Some (bare Run (codes "-"), no_manner)
+read [] = Some (bare (Answer Run) (codes "-"), no_manner)
 read (command ∷ behind) = read_by command (read_manner behind)

@@ -2,7 +2,7 @@
 
 use clap::error::ErrorKind;
 use clap::{ArgMatches, Error};
-use command_line::request::{Choosing, Color, Command, Request, Settings, Spread, Telling};
+use command_line::request::{Action, Choosing, Color, Command, Request, Settings, Spread, Telling};
 use options::reply::{self, Reply};
 use options::table::{CLOSING, commands};
 use std::alloc::Global;
@@ -37,7 +37,7 @@ fn request_asked<'w>(
             request(alloc, Command::Places, given)
         }
         Some(("list", given)) => request(alloc, Command::Labels, given),
-        Some(("fmt", given)) => request(alloc, formatting(given), given),
+        Some(("fmt", given)) => asking(alloc, formatting(given), given),
         Some(("mhp", given)) => request(alloc, Command::Pairs, given),
         Some(("explore", given)) => request(alloc, Command::Explore, given),
         Some(("view", given)) => request(alloc, viewing(given), given),
@@ -46,13 +46,13 @@ fn request_asked<'w>(
 }
 
 /// What `fmt` does with a text; `clap` has seen that at most one option says it.
-fn formatting(given: &ArgMatches<'_>) -> Command {
+fn formatting(given: &ArgMatches<'_>) -> Action {
     if given.get_flag("check") {
-        Command::CheckFormat
+        Action::Answer(Command::CheckFormat)
     } else if given.get_flag("write") {
-        Command::WriteFormat
+        Action::Rewrite
     } else {
-        Command::Format
+        Action::Answer(Command::Format)
     }
 }
 
@@ -75,8 +75,13 @@ fn request<'w>(
     command: Command,
     given: &ArgMatches<'w>,
 ) -> Result<Request<'w>, Error> {
+    asking(alloc, Action::Answer(command), given)
+}
+
+/// The request of what is to be done.
+fn asking<'w>(alloc: Global, action: Action, given: &ArgMatches<'w>) -> Result<Request<'w>, Error> {
     Ok(Request {
-        command,
+        action,
         file: given.get_str("FILE").unwrap_or("-"),
         settings: Settings {
             input: given.get_str("input"),

@@ -13,12 +13,13 @@ ghost use Rattle.command_line.specs.Requests.{is_file_name as names_file};
 use crate::manners::manner_in;
 use crate::taking::{take, take_flag};
 use command_line::manner::Manner;
+use command_line::request::Action::{self, Answer};
 use command_line::request::Command;
 
 /// A command line that names a command, a file and options behind it.
 #[derive(Clone, Copy)]
 pub struct Line<'w> {
-    pub command: Command,
+    pub action: Action,
     pub file: &'w str,
     pub texts: Texts<'w>,
 }
@@ -69,7 +70,7 @@ pub fn line_in<'w>(words: &'w [String]) -> Option<(Line<'w>, Manner)>
     ensures { option_map told_line result ≡ read (map string_bytes words.now) }
 {
     match words {
-        [] => Some((bare(Command::Run, "-"), Manner::none())),
+        [] => Some((bare(Answer(Command::Run), "-"), Manner::none())),
         [command, behind @ ..] => {
             let (manner, behind) = manner_in(behind)?;
             let line = line_of_words(command.as_str(), behind)?;
@@ -94,19 +95,31 @@ fn line_behind<'w>(command: &str, file: &'w str, behind: &'w [String]) -> Option
         ≡ read_behind command.now file.now (map string_bytes behind.now) }
 {
     if command == "run" {
-        optioned_line(Command::Run, file, texts_in(behind))
+        optioned_line(Answer(Command::Run), file, texts_in(behind))
     } else if command == "serial" {
-        optioned_line(Command::Serial, file, serial_texts_in(behind))
+        optioned_line(Answer(Command::Serial), file, serial_texts_in(behind))
     } else if command == "check" {
-        flagged_line(Command::Check, "--list", Command::Listing, file, behind)
+        flagged_line(
+            Answer(Command::Check),
+            "--list",
+            Answer(Command::Listing),
+            file,
+            behind,
+        )
     } else if command == "list" {
-        flagged_line(Command::Labels, "--lines", Command::Places, file, behind)
+        flagged_line(
+            Answer(Command::Labels),
+            "--lines",
+            Answer(Command::Places),
+            file,
+            behind,
+        )
     } else if command == "mhp" {
-        alone_line(Command::Pairs, file, behind)
+        alone_line(Answer(Command::Pairs), file, behind)
     } else if command == "fmt" {
         format_line(file, behind)
     } else if command == "explore" {
-        optioned_line(Command::Explore, file, choosing_texts_in(behind))
+        optioned_line(Answer(Command::Explore), file, choosing_texts_in(behind))
     } else if command == "view" {
         view_line(file, behind)
     } else {
@@ -115,14 +128,14 @@ fn line_behind<'w>(command: &str, file: &'w str, behind: &'w [String]) -> Option
 }
 
 /// A line of a command that takes options.
-fn optioned_line<'w>(command: Command, file: &'w str, texts: Option<Texts<'w>>) -> Option<Line<'w>>
+fn optioned_line<'w>(action: Action, file: &'w str, texts: Option<Texts<'w>>) -> Option<Line<'w>>
     ensures { option_map line_of result
-        ≡ read_optioned command file.now (option_map texts_of texts.entry) }
+        ≡ read_optioned action file.now (option_map texts_of texts.entry) }
 {
     if is_file_name(file) {
         let texts = texts?;
         Some(Line {
-            command,
+            action,
             file,
             texts,
         })
@@ -140,37 +153,37 @@ fn view_line<'w>(file: &'w str, behind: &'w [String]) -> Option<Line<'w>>
         [] => None,
         [trace, options @ ..] => {
             let (input, options) = take("--input", options);
-            let (command, picture) = showing(options)?;
+            let (action, picture) = showing(options)?;
             let texts = Texts {
                 input,
                 trace: Some(trace.as_str()),
                 picture,
                 ..Texts::none()
             };
-            optioned_line(command, file, Some(texts))
+            optioned_line(action, file, Some(texts))
         }
     }
 }
 
 /// How a trace is shown, and the file in which it is drawn: by no word, `--summary`, `--svg OUT` or
 /// `--chrome OUT`.
-fn showing<'w>(words: &'w [String]) -> Option<(Command, Option<&'w str>)>
+fn showing<'w>(words: &'w [String]) -> Option<(Action, Option<&'w str>)>
     ensures { option_map shown_of result ≡ read_showing (map string_bytes words.now) }
 {
     match words {
-        [] => Some((Command::View, None)),
+        [] => Some((Answer(Command::View), None)),
         [one] => {
             if one.as_str() == "--summary" {
-                Some((Command::Summary, None))
+                Some((Answer(Command::Summary), None))
             } else {
                 None
             }
         }
         [option, out] => {
             if option.as_str() == "--svg" {
-                Some((Command::Draw, Some(out.as_str())))
+                Some((Answer(Command::Draw), Some(out.as_str())))
             } else if option.as_str() == "--chrome" {
-                Some((Command::Chrome, Some(out.as_str())))
+                Some((Answer(Command::Chrome), Some(out.as_str())))
             } else {
                 None
             }
@@ -261,24 +274,24 @@ fn whole<'w>(texts: Texts<'w>, left: &[String]) -> Option<Texts<'w>>
 
 /// A line of a command with one option, which may stand before the file or behind it.
 fn flagged_line<'w>(
-    command: Command,
+    action: Action,
     flag: &str,
-    flagged: Command,
+    flagged: Action,
     one: &'w str,
     others: &'w [String],
 ) -> Option<Line<'w>>
     ensures { option_map line_of result
-        ≡ read_flaggable command flag.now flagged one.now (map string_bytes others.now) }
+        ≡ read_flaggable action flag.now flagged one.now (map string_bytes others.now) }
 {
     match others {
-        [] => file_line(command, one),
+        [] => file_line(action, one),
         [other] => flag_line(flag, flagged, one, other.as_str()),
         [_, _, ..] => None,
     }
 }
 
 /// A line of a command with its option.
-fn flag_line<'w>(flag: &str, flagged: Command, one: &'w str, other: &'w str) -> Option<Line<'w>>
+fn flag_line<'w>(flag: &str, flagged: Action, one: &'w str, other: &'w str) -> Option<Line<'w>>
     ensures { option_map line_of result ≡ read_flagged flag.now flagged one.now other.now }
 {
     if one == flag && is_file_name(other) {
@@ -295,43 +308,43 @@ fn format_line<'w>(one: &'w str, others: &'w [String]) -> Option<Line<'w>>
     ensures { option_map line_of result ≡ read_format one.now (map string_bytes others.now) }
 {
     match others {
-        [] => file_line(Command::Format, one),
-        [other] => match flag_line("--check", Command::CheckFormat, one, other.as_str()) {
+        [] => file_line(Answer(Command::Format), one),
+        [other] => match flag_line("--check", Answer(Command::CheckFormat), one, other.as_str()) {
             Some(line) => Some(line),
-            None => flag_line("--write", Command::WriteFormat, one, other.as_str()),
+            None => flag_line("--write", Action::Rewrite, one, other.as_str()),
         },
         [_, _, ..] => None,
     }
 }
 
 /// A line of a command that takes a file alone.
-fn alone_line<'w>(command: Command, file: &'w str, behind: &'w [String]) -> Option<Line<'w>>
+fn alone_line<'w>(action: Action, file: &'w str, behind: &'w [String]) -> Option<Line<'w>>
     ensures { option_map line_of result
-        ≡ read_alone command file.now (map string_bytes behind.now) }
+        ≡ read_alone action file.now (map string_bytes behind.now) }
 {
     match behind {
-        [] => file_line(command, file),
+        [] => file_line(action, file),
         [_, ..] => None,
     }
 }
 
 /// A line of a command and a file alone.
-fn file_line<'w>(command: Command, file: &'w str) -> Option<Line<'w>>
-    ensures { option_map line_of result ≡ read_file command file.now }
+fn file_line<'w>(action: Action, file: &'w str) -> Option<Line<'w>>
+    ensures { option_map line_of result ≡ read_file action file.now }
 {
     if is_file_name(file) {
-        Some(bare(command, file))
+        Some(bare(action, file))
     } else {
         None
     }
 }
 
 /// A command and a file, without options.
-fn bare<'w>(command: Command, file: &'w str) -> Line<'w>
-    ensures { line_of result ≡ bare_line command file.now }
+fn bare<'w>(action: Action, file: &'w str) -> Line<'w>
+    ensures { line_of result ≡ bare_line action file.now }
 {
     Line {
-        command,
+        action,
         file,
         texts: Texts::none(),
     }

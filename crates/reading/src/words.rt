@@ -4,7 +4,7 @@ ghost use Rattle.std.specs.Prelude.{◌≡◌, IsOkAnd, IsSomeAnd, map, true};
 ghost use Rattle.std.specs.String.{string_bytes};
 ghost use Rattle.reading.specs.Reading.{line_of};
 ghost use Rattle.command_line.specs.Requests.{AreRight, Asked, Asks, Options, asked_of};
-ghost use Rattle.command_line.specs.Requests.{optioned, texts_by};
+ghost use Rattle.command_line.specs.Requests.{acting, texts_by};
 
 use crate::by_clap::request_by_clap;
 use crate::plain::{Line, line_in};
@@ -37,11 +37,11 @@ fn asked_in<'w>(words: &'w [String]) -> Option<Request<'w>>
 /// The request of a line, which is told so.
 fn request_in<'w>(line: Line<'w>, telling: Telling) -> Option<Request<'w>>
     ensures { (o : Options) → AreRight o → (line_of line.entry).texts ≡ texts_by o → IsSomeAnd result
-        (λ r. asked_of r ≡ record (optioned line.entry.command line.entry.file.now o) { telling = telling }) }
+        (λ r. asked_of r ≡ record (acting line.entry.action line.entry.file.now o) { telling = telling }) }
 {
     let settings = settings_in(line.texts)?;
     Some(Request {
-        command: line.command,
+        action: line.action,
         file: line.file,
         settings,
         telling,

@@ -17,7 +17,7 @@ returns-in-Ok-perform-clause-done g c =
     c.in-Ok.ensures.given)
     (subst IsUtf8 (sym text.0) text.1)
     (subst (λ (bs : List ℕ). length bs ≤ 1048576) (sym (text.0 ∙ c.deref.ensures.value)) c.in-Ok.ensures.short)
-    (handed_over c.args.request.command c.args.request.file.now (settings_of c.args.request.settings) c.in-Ok-from_utf8.text.now _ _ _ _ _
+    (handed_over c.args.request.action c.args.request.file.now (settings_of c.args.request.settings) c.in-Ok-from_utf8.text.now _ _ _ _ _
     c.in-Ok-perform.status c.handed_on.result c.in-Ok-perform.ensures c.handed_on.ensures.keeps
     c.handed_on.ensures.status c.handed_on.ensures.failure))
 

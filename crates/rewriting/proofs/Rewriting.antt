@@ -12,7 +12,7 @@ use Rattle.intake.specs.Held.{Held, IsGiven, KeepsOthers}
 use Rattle.intake.specs.declared.failure.Failure.{Failure}
 use Rattle.intake.specs.declared.failure.Failure.TheVariants.{Syntax, CannotWrite, CannotWriteOutput, NoMemory}
 use Rattle.answers.specs.Answers.{Done, NeedsLayout, TellsUnspelled}
-use Rattle.answers.specs.Rewriting.{AnswersRewrite, ExplainsRewrite, LeavesLaidOut, LeavesRewritten, Rewrote, was_laid_out, rewritten}
+use Rattle.rewriting.specs.Rewriting.{AnswersRewrite, ExplainsRewrite, LeavesLaidOut, LeavesRewritten, Rewrote, was_laid_out, rewritten}
 use Rattle.answers.proofs.Answering.{IsOther, answered, other_failure, passed_on}
 
 -- nothing is told
