@@ -5,6 +5,7 @@
 use driver::act::{act, refuse_words};
 use driver::files::MachineFiles;
 use driver::progress::Progress;
+use driver::terminal::Seen;
 use std::env::VarError;
 use std::io::{BufWriter, IsTerminal, Stderr, Stdout};
 use std::process::ExitCode;
@@ -19,7 +20,7 @@ fn main(rt: HostRuntime) -> ExitCode {
             let mut files = MachineFiles::new(&rt);
             let seen = terminal(&rt);
             let colours = seen.is_some() && !refuses_colours(&rt);
-            let mut progress = Progress::new(alloc, &rt, seen).with_colours(colours);
+            let mut progress = Seen::new(Progress::new(alloc, &rt, seen), colours);
             act(
                 &rt,
                 alloc,

@@ -13,6 +13,7 @@ ghost use Rattle.driver.specs.declared.paint.Paint.TheVariants.{Coloured, Plain}
 use crate::commands;
 use crate::paint::Paint;
 use crate::refusal::Refusal;
+use crate::terminal::Terminal;
 use command_line::request::{Color, Request, Telling};
 use intake::failure::Failure;
 use intake::files::{FileSource, read_program};
@@ -24,7 +25,6 @@ use std::io::{ErrorKind, Write};
 use std::sync::Wait;
 use std::thread::Threads;
 use texts::emit::append;
-use texts::progress::Terminal;
 
 /// Does what the words behind the program's name ask, and answers the exit status. `--progress` has
 /// `terminal` told how far a run has come.

@@ -6,6 +6,7 @@ pub mod act;
 pub mod commands;
 mod paint;
 mod refusal;
+pub mod terminal;
 mod tracing;
 
 pub use intake::files;

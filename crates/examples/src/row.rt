@@ -6,7 +6,7 @@ use crate::shelf::Shelf;
 use crate::transcript::words_of;
 use crate::wanted::Wanted;
 use driver::act::act;
-use driver::progress::Terminal;
+use driver::terminal::Terminal;
 use serial_run::watch::Watch;
 use std::io;
 

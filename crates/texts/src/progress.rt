@@ -9,12 +9,6 @@ use std::time::{Clock, Duration, Instant};
 /// The least time between two lines, in milliseconds.
 const BETWEEN: u64 = 500;
 
-/// Where a user looks at a run, and reads why a command failed.
-pub trait Terminal: Watch {
-    /// Whether what is told there may have colours.
-    fn has_colours(&self) -> bool;
-}
-
 /// Writes a line twice a second: how many steps are done, and how many seconds have gone by.
 #[derive(Drop)]
 pub struct Progress<C: Clock, W: Write> {
@@ -22,7 +16,6 @@ pub struct Progress<C: Clock, W: Write> {
     clock: C,
     /// None where nobody reads the lines.
     lines: Option<W>,
-    has_colours: bool,
     /// None where the clock can't be read.
     start: Option<Instant>,
     /// How long after the start the last line was written.
@@ -30,36 +23,21 @@ pub struct Progress<C: Clock, W: Write> {
 }
 
 impl<C: Clock + Drop, W: Write + Drop> Progress<C, W> {
-    /// Of a run that starts now, where there are no colours.
+    /// Of a run that starts now.
     pub fn new(alloc: Global, clock: C, lines: Option<W>) -> Progress<C, W> {
         let start = Instant::now(&clock).ok();
         Progress {
             alloc,
             clock,
             lines,
-            has_colours: false,
             start,
             told: Duration::ZERO,
-        }
-    }
-
-    /// The same, where there may be colours.
-    pub fn with_colours(self, has_colours: bool) -> Progress<C, W> {
-        Progress {
-            has_colours,
-            ..self
         }
     }
 
     /// What was written.
     pub fn into_lines(self) -> Option<W> {
         self.lines
-    }
-}
-
-impl<C: Clock, W: Write> Terminal for Progress<C, W> {
-    fn has_colours(&self) -> bool {
-        self.has_colours
     }
 }
 
