@@ -6,6 +6,7 @@ use crate::shelf::Shelf;
 use crate::transcript::words_of;
 use crate::wanted::Wanted;
 use driver::act::act;
+use driver::terminal::Terminal;
 use serial_run::watch::Watch;
 use std::io;
 
@@ -44,6 +45,12 @@ struct Counting {
 impl Watch for Counting {
     fn look(&mut self, _steps: u64) {
         self.looks = self.looks.saturating_add(1);
+    }
+}
+
+impl Terminal for Counting {
+    fn has_colours(&self) -> bool {
+        false
     }
 }
 
