@@ -5,7 +5,6 @@ ghost use Rattle.std.specs.String.{string_bytes};
 
 use crate::programs::typed_of;
 use command_line::request::{Command, Settings};
-pub use excerpts::paint::{Paint, painted};
 use gather::run_error::RunError;
 use intake::failure::Failure;
 use intake::files::FileSource;
