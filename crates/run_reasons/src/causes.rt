@@ -24,8 +24,8 @@ pub fn spot_of<'s>(
     cause: Cause,
 ) -> Result<Spot<'s>, AllocError> {
     match cause {
-        Cause::Index { nth, .. } => Ok(spot(statements.element(label, nth)?)),
-        Cause::SplitPoint { .. } => Ok(spot(statements.cut(label)?)),
+        Cause::Index { nth, .. } => Ok(named_spot(statements.element(label, nth)?)),
+        Cause::SplitPoint { .. } => Ok(named_spot(statements.cut(label)?)),
         Cause::Overflow { nth, .. } | Cause::Negative { nth } | Cause::ZeroDivisor { nth, .. } => {
             Ok(Spot {
                 at: statements.operator(label, nth),
@@ -37,7 +37,7 @@ pub fn spot_of<'s>(
 }
 
 /// The spot of a name.
-fn spot(named: Option<Named<'_>>) -> Spot<'_> {
+fn named_spot(named: Option<Named<'_>>) -> Spot<'_> {
     match named {
         Some(named) => Spot {
             at: Some(named.at),
