@@ -22,7 +22,7 @@ use Rattle.command_line.specs.declared.request.Request.{Request}
 use Rattle.reading.specs.Reading.{Line, bare, flag_taken, line_of, no_texts, read, read_choosing, read_file, read_whole}
 use Rattle.std.proofs.Common.{true≢false}
 use Rattle.std.proofs.lemmas.Slice.Eq.{bytes_eq-Decides}
-use Rattle.reading.specs.Reading.{told_line, manner_if, read_by, read_color, read_manner, read_words}
+use Rattle.reading.specs.Reading.{told_line, manner_if, read_by, read_color, read_manner, read_rest}
 use Rattle.reading.specs.Reading.{either, read_flagged, read_format}
 use Rattle.reading.specs.Reading.{read_optioned, read_serial_texts, read_showing, read_texts, read_view, shown_if, taken}
 use Rattle.command_line.specs.Requests.{AreForExplore, AreForRun, AreForSerial, AreRight, Asked, Asks, AsksPlainly, Options, Settings, Texts}
@@ -447,7 +447,7 @@ read_named action file named = if_true (is_file_name file) _ _ named
 -- the words of a command, but for those that say how it is told
 abbrev read_plain : List (List ℕ) → Option Line
 read_plain [] = None
-read_plain (command ∷ words) = read_words command words
+read_plain (command ∷ words) = read_rest command words
 
 -- the option of `check` may stand last
 read_list_behind : (file : List ℕ) → IsTrue (is_file_name file)
@@ -469,15 +469,15 @@ false_is_true : (let b : Bool = false in b) ≡ true → ⊥
 false_is_true is = true≢false (sym is)
 
 is_not : (b : Bool) → (b ≡ true → ⊥) → b ≡ false
-is_not true no = absurd (no refl)
-is_not false no = refl
+is_not true never = absurd (never refl)
+is_not false never = refl
 
 named_differs : (file option : List ℕ) → is_file_name option ≡ false → IsTrue (is_file_name file)
     → bytes_eq file option ≡ false
-named_differs file option no named =
+named_differs file option dashed named =
     is_not (bytes_eq file option)
     (λ is. true≢false
-    (sym (subst (λ (w : List ℕ). IsTrue (is_file_name w)) ((bytes_eq-Decides file option).0 is) named) ∙ no))
+    (sym (subst (λ (w : List ℕ). IsTrue (is_file_name w)) ((bytes_eq-Decides file option).0 is) named) ∙ dashed))
 
 -- ---- the options of `fmt`
 
@@ -636,8 +636,9 @@ read_manner_words m behind none =
 -- the name of a file says nothing of it
 lacks_named : (option file : List ℕ) (behind : List (List ℕ)) → is_file_name option ≡ false → IsTrue (is_file_name file)
     → Lacks option (file ∷ behind)
-lacks_named option file [] no named = refl
-lacks_named option file (word ∷ behind) no named = if_false (bytes_eq file option) _ _ (named_differs file option no named)
+lacks_named option file [] dashed named = refl
+lacks_named option file (word ∷ behind) dashed named =
+    if_false (bytes_eq file option) _ _ (named_differs file option dashed named)
 
 named_first : (file : List ℕ) (behind : List (List ℕ)) → IsTrue (is_file_name file) → HasNoManner (file ∷ behind)
 named_first file behind named = record {

@@ -233,9 +233,9 @@ read_behind command file behind =
     (if bytes_eq command (codes "view") then read_view file behind else None)))))))
 
 -- the words behind a command, but for those that say how it is told
-abbrev pub read_words : (command : List ℕ) → (words : List (List ℕ)) → Option Line
-read_words command [] = None
-read_words command (file ∷ behind) = read_behind command file behind
+abbrev pub read_rest : (command : List ℕ) → (words : List (List ℕ)) → Option Line
+read_rest command [] = None
+read_rest command (file ∷ behind) = read_behind command file behind
 
 -- ---- how it is told
 
@@ -265,7 +265,7 @@ read_manner words =
 
 abbrev pub read_by : (command : List ℕ) → Option (Manner × List (List ℕ)) → Option (Line × Manner)
 read_by command None = None
-read_by command (Some read) = option_map (λ l. (l, read.0)) (read_words command read.1)
+read_by command (Some read) = option_map (λ l. (l, read.0)) (read_rest command read.1)
 
 -- the words of a command line, and how it is told
 abbrev pub read : List (List ℕ) → Option (Line × Manner)

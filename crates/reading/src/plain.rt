@@ -3,7 +3,7 @@
 ghost use Rattle.std.specs.Prelude.{◌≡◌, map, option_map};
 ghost use Rattle.std.specs.String.{string_bytes};
 ghost use Rattle.reading.specs.Reading.{bare as bare_line, line_of, read, told_line};
-ghost use Rattle.reading.specs.Reading.{read_alone, read_behind, read_choosing, read_words};
+ghost use Rattle.reading.specs.Reading.{read_alone, read_behind, read_choosing, read_rest};
 ghost use Rattle.reading.specs.Reading.{read_format};
 ghost use Rattle.reading.specs.Reading.{no_texts, read_file, read_flaggable, read_flagged};
 ghost use Rattle.reading.specs.Reading.{read_optioned, read_serial_texts, read_texts, read_whole};
@@ -81,7 +81,7 @@ pub fn line_in<'w>(words: &'w [String]) -> Option<(Line<'w>, Manner)>
 
 /// The line of a command and the words behind it, but for those that say how it is told.
 fn line_of_words<'w>(command: &str, words: &'w [String]) -> Option<Line<'w>>
-    ensures { option_map line_of result ≡ read_words command.now (map string_bytes words.now) }
+    ensures { option_map line_of result ≡ read_rest command.now (map string_bytes words.now) }
 {
     match words {
         [] => None,
