@@ -5,6 +5,8 @@
 use driver::act::{act, refuse_words};
 use driver::files::MachineFiles;
 use driver::progress::Progress;
+use driver::terminal::Seen;
+use std::env::VarError;
 use std::io::{BufWriter, IsTerminal, Stderr, Stdout};
 use std::process::ExitCode;
 use std::{env, io};
@@ -16,7 +18,9 @@ fn main(rt: HostRuntime) -> ExitCode {
     let status = match lent(&rt) {
         Ok((words, mut out)) => {
             let mut files = MachineFiles::new(&rt);
-            let mut progress = Progress::new(alloc, &rt, terminal(&rt));
+            let seen = terminal(&rt);
+            let colours = seen.is_some() && !refuses_colours(&rt);
+            let mut progress = Seen::new(Progress::new(alloc, &rt, seen), colours);
             act(
                 &rt,
                 alloc,
@@ -36,6 +40,15 @@ fn main(rt: HostRuntime) -> ExitCode {
 fn terminal(rt: &HostRuntime) -> Option<Stderr> {
     let err = rt.stderr();
     if err.is_terminal() { Some(err) } else { None }
+}
+
+/// Whether `NO_COLOR` is set, and not empty.
+fn refuses_colours(rt: &HostRuntime) -> bool {
+    match env::var(rt, "NO_COLOR") {
+        Ok(value) => !value.is_empty(),
+        Err(VarError::NotPresent) => false,
+        Err(_) => true,
+    }
 }
 
 /// The words behind the program's name, and where the answer goes, in large pieces. No word at a terminal asks for

@@ -1,24 +1,36 @@
-//! `--explain`: what is said behind the line of a failure.
+//! `--explain`: what is said behind the line of a failure, and behind an outcome.
 
-ghost use Rattle.std.specs.Prelude.{◌≡◌};
+ghost use Rattle.std.specs.Prelude.{◌≡◌, ◌≤◌, [], IfOk};
+ghost use Rattle.std.specs.String.{string_bytes};
 
 use crate::programs::typed_of;
+use command_line::request::{Command, Settings};
+use gather::run_error::RunError;
 use intake::failure::Failure;
 use intake::files::FileSource;
+use intake::input_file::input_of;
 use reasons::input_errors::explained_input;
 use reasons::races::explained_race;
 use reasons::rule_errors::explained_rule;
 use reasons::syntax_errors::explained_syntax;
+use run_reasons::runs::explained_run;
+use run_reasons::tasks::explained_tasks;
+use run_reasons::traces::{Wrong, explained_trace};
+use second_run::run::seen_again;
 use std::alloc::{AllocError, Global};
+use std::thread::Threads;
+use trace_text::error::TraceError;
+use types::budget::{Budget, MOST_NEST, MOST_STEPS};
 use types::input_error::InputError;
 
-/// What went wrong, why, and what would be right: in the text of a program, or in the file of its input. Nothing where
-/// more can't be said than the failure's line does.
-pub fn explanation<F: FileSource>(
+/// What went wrong, why, and what would be right: in the text of a program, in the file of its input or in that of a
+/// trace. Nothing where more can't be said than the failure's line does.
+pub fn explanation<R: Threads + Sync, F: FileSource>(
+    _rt: &R,
     alloc: Global,
     files: &mut F,
+    settings: Settings<'_>,
     text: &str,
-    input: Option<&str>,
     failure: &Failure,
 ) -> Result<String, AllocError>
     ensures { F.held files.new ≡ F.held files.old }
@@ -27,10 +39,15 @@ pub fn explanation<F: FileSource>(
         Failure::Syntax(error) => explained_syntax(alloc, text, error),
         Failure::Types(error) => explained_rule(alloc, text, *error),
         Failure::Race { first, second, .. } => explained_race(alloc, text, first, second),
-        Failure::Input(error) => match input {
+        Failure::Input(error) => match settings.input {
             Some(name) => input_explained(alloc, files, text, name, error),
             None => Ok(String::new(alloc)),
         },
+        Failure::Run(RunError::TooManyTasks(_)) => explained_tasks(alloc, settings.spread.tasks),
+        Failure::Trace(TraceError::NotALine(line)) => {
+            trace_explained(alloc, files, settings, Wrong::Line(*line))
+        }
+        Failure::Illegal(event) => trace_explained(alloc, files, settings, Wrong::Event(*event)),
         _ => Ok(String::new(alloc)),
     }
 }
@@ -55,4 +72,78 @@ fn input_explained<F: FileSource>(
         return Ok(String::new(alloc));
     };
     explained_input(alloc, &typed.code().arrays, input, error)
+}
+
+/// What is wrong with the file of a trace, which is read again.
+fn trace_explained<F: FileSource>(
+    alloc: Global,
+    files: &mut F,
+    settings: Settings<'_>,
+    wrong: Wrong,
+) -> Result<String, AllocError>
+    ensures { F.held files.new ≡ F.held files.old }
+{
+    let Some(name) = settings.trace else {
+        return Ok(String::new(alloc));
+    };
+    let Ok(bytes) = files.read(name) else {
+        return Ok(String::new(alloc));
+    };
+    match std::str::from_utf8(&bytes) {
+        Ok(trace) => explained_trace(alloc, trace, wrong),
+        Err(_) => Ok(String::new(alloc)),
+    }
+}
+
+/// What made the faults of a run, or which task was over its budget, behind an outcome with this status. The program is run
+/// once more, on one thread; files are read again. Nothing behind any other answer, and where files can't be had again.
+pub fn run_explanation<F: FileSource>(
+    alloc: Global,
+    files: &mut F,
+    command: Command,
+    settings: Settings<'_>,
+    text: &str,
+    status: u8,
+) -> Result<String, AllocError>
+    ensures calm { status ≤ 1 → IfOk result (λ more. string_bytes more ≡ []) }
+    ensures keeps { F.held files.new ≡ F.held files.old }
+{
+    if status < 2 {
+        return Ok(String::new(alloc));
+    }
+    match budget_of(command, settings, status) {
+        None => Ok(String::new(alloc)),
+        Some(budget) => run_again(alloc, files, settings, text, budget),
+    }
+}
+
+/// What a run of a command that ended with this status may spend; None where no run has ended. A run by choices has no
+/// budget, and with status 3 it is open.
+fn budget_of(command: Command, settings: Settings<'_>, status: u8) -> Option<Budget> {
+    match command {
+        Command::Run => Some(settings.budget),
+        Command::Serial => Some(settings.budget),
+        Command::Explore if status == 2 => Budget::new(u64::from(MOST_STEPS), u64::from(MOST_NEST)),
+        _ => None,
+    }
+}
+
+/// What is seen of a run under a budget, said at length.
+fn run_again<F: FileSource>(
+    alloc: Global,
+    files: &mut F,
+    settings: Settings<'_>,
+    text: &str,
+    budget: Budget,
+) -> Result<String, AllocError>
+    ensures { F.held files.new ≡ F.held files.old }
+{
+    let Ok(typed) = typed_of(alloc, text) else {
+        return Ok(String::new(alloc));
+    };
+    let Ok(input) = input_of(alloc, files, &typed, settings.input) else {
+        return Ok(String::new(alloc));
+    };
+    let seen = seen_again(alloc, &typed, &input, budget)?;
+    explained_run(alloc, text, typed.code(), budget, &seen)
 }

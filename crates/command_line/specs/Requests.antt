@@ -9,6 +9,12 @@ use Rattle.command_line.specs.declared.request.Command.{Command}
 use Rattle.command_line.specs.declared.request.Command.TheVariants.{Run, Serial, Check, Listing, Pairs, Explore}
 use Rattle.command_line.specs.declared.request.Command.TheVariants.{Labels, Places, Format, CheckFormat}
 use Rattle.command_line.specs.declared.request.Command.TheVariants.{View, Summary, Draw, Chrome}
+use Rattle.command_line.specs.declared.request.Action.{Action}
+use Rattle.command_line.specs.declared.request.Action.TheVariants.{Answer, Rewrite}
+use Rattle.command_line.specs.declared.manner.Manner.{Manner}
+use Rattle.command_line.specs.declared.request.Color.{Color}
+use Rattle.command_line.specs.declared.request.Color.TheVariants.{Auto, Always, Never}
+use Rattle.command_line.specs.declared.request.Telling.{Telling}
 use Rattle.command_line.specs.declared.request.Choosing.{Choosing as rChoosing}
 use Rattle.command_line.specs.declared.request.Choosing.TheVariants.{Listed as rListed, InFile as rInFile}
 use Rattle.command_line.specs.declared.request.Choosing.TheVariants.{Random as rRandom}
@@ -52,12 +58,12 @@ pub record Settings : Type 0 where
   pub arrays : Bool
   pub progress : Bool
 
--- what is to be done with the program of a file, and whether a refusal is explained
+-- what is to be done with the program of a file, and how it is told
 pub record Asked : Type 0 where
-  pub command : Command
+  pub action : Action
   pub file : List ℕ
   pub settings : Settings
-  pub explain : Bool
+  pub telling : Telling
 
 abbrev pub settings : rSettings → Settings
 settings s = record {
@@ -74,10 +80,10 @@ settings s = record {
 -- what a request asks
 abbrev pub asked_of : Request → Asked
 asked_of r = record {
-  command = r.command;
+  action = r.action;
   file = r.file.now;
   settings = settings r.settings;
-  explain = r.explain;
+  telling = r.telling;
 }
 
 -- the budget of a run that names none
@@ -100,6 +106,10 @@ usual = record {
   arrays = false;
   progress = false;
 }
+
+-- how a command line tells that says nothing of it
+abbrev pub usual_telling : Telling
+usual_telling = record { explain = false; color = Auto }
 
 -- ---- words
 
@@ -349,22 +359,25 @@ viewing_options v =
 
 -- ---- what is asked
 
+-- something is done with a file, by options
+abbrev pub acting : Action → (file : List ℕ) → Options → Asked
+acting action file o =
+    record { action = action; file = file; settings = settings_by o; telling = usual_telling }
+
 -- a command with a file alone
 abbrev pub plain : Command → (file : List ℕ) → Asked
-plain command file = record { command = command; file = file; settings = usual; explain = false }
+plain command file = acting (Answer command) file no_options
 
 -- a command with a file and options behind it
 abbrev pub optioned : Command → (file : List ℕ) → Options → Asked
-optioned command file o =
-    record { command = command; file = file; settings = settings_by o; explain = false }
+optioned command file o = acting (Answer command) file o
 
--- the same, and a refusal is explained
-abbrev pub explained : Asked → Asked
-explained a = record a { explain = true }
+-- a text is laid out in its file
+abbrev pub rewriting : (file : List ℕ) → Asked
+rewriting file = acting Rewrite file no_options
 
--- the words ask this, in this order; no word is `run -`
+-- the words ask this, in this order, and say nothing of how it is told
 pub data AsksPlainly (words : List (List ℕ)) (a : Asked) : Type 0 where
-  by_no_word : words ≡ [] → a ≡ plain Run (codes "-") → AsksPlainly words a
   to_run : (file : List ℕ) (o : Options) → IsTrue (is_file_name file) → AreForRun o
       → words ≡ codes "run" ∷ file ∷ words_of (texts_by o) → a ≡ optioned Run file o → AsksPlainly words a
   to_run_on_one_thread : (file : List ℕ) (o : Options) → IsTrue (is_file_name file) → AreForSerial o
@@ -388,6 +401,10 @@ pub data AsksPlainly (words : List (List ℕ)) (a : Asked) : Type 0 where
       → words ≡ codes "fmt" ∷ codes "--check" ∷ file ∷ [] → a ≡ plain CheckFormat file → AsksPlainly words a
   to_check_format_behind : (file : List ℕ) → IsTrue (is_file_name file)
       → words ≡ codes "fmt" ∷ file ∷ codes "--check" ∷ [] → a ≡ plain CheckFormat file → AsksPlainly words a
+  to_rewrite : (file : List ℕ) → IsTrue (is_file_name file)
+      → words ≡ codes "fmt" ∷ codes "--write" ∷ file ∷ [] → a ≡ rewriting file → AsksPlainly words a
+  to_rewrite_behind : (file : List ℕ) → IsTrue (is_file_name file)
+      → words ≡ codes "fmt" ∷ file ∷ codes "--write" ∷ [] → a ≡ rewriting file → AsksPlainly words a
   to_pair : (file : List ℕ) → IsTrue (is_file_name file)
       → words ≡ codes "mhp" ∷ file ∷ [] → a ≡ plain Pairs file → AsksPlainly words a
   to_explore : (file : List ℕ) (o : Options) → IsTrue (is_file_name file) → AreForExplore o
@@ -397,8 +414,33 @@ pub data AsksPlainly (words : List (List ℕ)) (a : Asked) : Type 0 where
       → words ≡ codes "view" ∷ file ∷ viewing_words v
       → a ≡ optioned (command_for v.shown) file (viewing_options v) → AsksPlainly words a
 
--- the words ask this; where `--explain` stands behind the command, a refusal is explained
+-- ---- how it is told
+
+abbrev pub color_word : Color → List ℕ
+color_word Auto = codes "auto"
+color_word Always = codes "always"
+color_word Never = codes "never"
+
+-- nothing is said of it
+abbrev pub no_manner : Manner
+no_manner = record { explain = false; color = None }
+
+-- the words that say it, in this order: `--explain --color WHEN`, and others behind them
+abbrev pub manner_words : Manner → (behind : List (List ℕ)) → List (List ℕ)
+manner_words m behind =
+    flagged (codes "--explain") m.explain
+    (valued (codes "--color") (option_map color_word m.color) behind)
+
+-- what they set; what isn't named is as usual
+abbrev pub telling_by : Manner → Telling
+telling_by m = record { explain = m.explain; color = unwrap_or m.color Auto }
+
+-- the same, told so
+abbrev pub told_so : Manner → Asked → Asked
+told_so m a = record a { telling = telling_by m }
+
+-- the words ask this; behind the command stands how it is told. No word is `run -`
 pub data Asks (words : List (List ℕ)) (a : Asked) : Type 0 where
-  plainly : AsksPlainly words a → Asks words a
-  explaining : (command : List ℕ) (behind : List (List ℕ)) (b : Asked) → AsksPlainly (command ∷ behind) b
-      → words ≡ command ∷ codes "--explain" ∷ behind → a ≡ explained b → Asks words a
+  by_no_word : words ≡ [] → a ≡ plain Run (codes "-") → Asks words a
+  by_command : (command : List ℕ) (m : Manner) (behind : List (List ℕ)) (b : Asked)
+      → AsksPlainly (command ∷ behind) b → words ≡ command ∷ manner_words m behind → a ≡ told_so m b → Asks words a

@@ -2,10 +2,5 @@
 
 #![tactic(auto)]
 
-pub mod by_clap;
-mod options;
-pub mod plain;
-pub mod reply;
+pub mod manner;
 pub mod request;
-pub mod settings;
-pub mod words;

@@ -4,7 +4,7 @@ ghost use Rattle.std.specs.Prelude.{◌≡◌, ◌<◌, ◌≤◌, ◌⊎◌, �
 
 use types::budget::Budget;
 
-/// What is to be done with a program.
+/// What is to be told of a program, or drawn.
 #[derive(Clone, Copy, PartialEq, Eq, Debug)]
 pub enum Command {
     /// `run`: run it as tasks.
@@ -35,6 +35,49 @@ pub enum Command {
     Draw,
     /// `view --chrome OUT`: write a trace into a file for a trace viewer.
     Chrome,
+}
+
+/// When what explains a refusal has colours.
+#[derive(Clone, Copy, PartialEq, Eq, Debug)]
+pub enum Color {
+    /// `--color auto`: at a terminal, unless `NO_COLOR` is set.
+    Auto,
+    /// `--color always`
+    Always,
+    /// `--color never`
+    Never,
+}
+
+/// How a command tells what it has to tell.
+#[derive(Clone, Copy, PartialEq, Eq, Debug)]
+pub struct Telling {
+    /// `--explain`: behind the line of a refusal it is said where and why.
+    pub explain: bool,
+    /// `--color WHEN`
+    pub color: Color,
+}
+
+impl Telling {
+    ghost use Rattle.command_line.specs.Requests.{usual_telling};
+
+    /// That of a command line that says nothing of it: nothing is explained, and colours at a terminal.
+    pub fn usual() -> Telling
+        ensures { result ≡ usual_telling }
+    {
+        Telling {
+            explain: false,
+            color: Color::Auto,
+        }
+    }
+}
+
+/// What is to be done with the file of a program.
+#[derive(Clone, Copy, PartialEq, Eq, Debug)]
+pub enum Action {
+    /// A command answers for its program.
+    Answer(Command),
+    /// `fmt --write`: its text is laid out in it.
+    Rewrite,
 }
 
 /// How the leaves that step are chosen.
@@ -147,10 +190,9 @@ impl<'w> Settings<'w> {
 /// What a command line asks.
 #[derive(Clone, Copy, PartialEq, Eq, Debug)]
 pub struct Request<'w> {
-    pub command: Command,
+    pub action: Action,
     /// The file of the program; `-` is the standard input.
     pub file: &'w str,
     pub settings: Settings<'w>,
-    /// `--explain`: behind the line of a refusal it is said where and why.
-    pub explain: bool,
+    pub telling: Telling,
 }

@@ -4,6 +4,7 @@ use Rattle.std.specs.Prelude.{Bool, false}
 use Rattle.std.specs.String.{string_bytes}
 use Rattle.intake.specs.FailureStatus.{failure_status}
 use Rattle.intake.specs.Messages.{failure_text}
+use Rattle.driver.specs.declared.answered.Answered.{Answered}
 use Rattle.driver.specs.declared.refusal.Refusal.{Refusal}
 use Rattle.std.proofs.Common.{◌≡◌, ℕ, ◌≤◌, length, List, [], Option, Result, Ok, Err, IfOk, IfErr, sym, subst}
 use Rattle.std.proofs.lemmas.List.{append-nil}
@@ -12,10 +13,13 @@ use Rattle.std.specs.Io.KnownBytes.{Keeps}
 use Rattle.std.specs.Prelude.{IsErrAnd}
 use Rattle.std.specs.Str.{IsUtf8}
 use Rattle.driver.specs.Acts.{Acts, AnswersAny, ExplainsAny, Leaves, Performs, ReadsAndPerforms, Reports, in_short}
-use Rattle.driver.specs.Acts.{on_text, without_text}
+use Rattle.driver.specs.Acts.{on_text, without_text, AnswersTo, ExplainsTo, LeavesTo}
+use Rattle.command_line.specs.declared.request.Action.{Action}
+use Rattle.command_line.specs.declared.request.Action.TheVariants.{Answer as AnswerBy, Rewrite}
 use Rattle.driver.specs.Traced.{IsTraceOfText}
 use Rattle.driver.proofs.Leaving.{told_behind}
 use Rattle.answers.specs.Answers.{Answer, Done, Wrote}
+use Rattle.rewriting.specs.Rewriting.{LeavesLaidOut, LeavesRewritten}
 use Rattle.viewing.specs.Views.{IsDrawn, picture_name}
 use Rattle.viewing.proofs.Written.{wrote_anyway}
 use Rattle.texts.specs.Appending.{AppendsBeginning, Writes}
@@ -75,24 +79,42 @@ leaves_on Draw s text held later status r only w = wrote_anyway (picture_name s)
 leaves_on Chrome s text held later status r only w = wrote_anyway (picture_name s) (IsDrawn s held text) held later r w only
 leaves_on _ s text held later status r only w = w
 
-pub handed_over : (c : Command) (s : Settings) (text : List ℕ) (held later : Held) (old mid new : Option (List ℕ)) (status : ℕ)
-    (r : Result ℕ Failure) → Performs c s text held later old mid (Ok status) → Keeps mid new → IfOk r (λ n. n ≡ status)
-    → IfErr r (λ f. f ≡ CannotWriteOutput) → Performs c s text held later old new r
-handed_over c s text held later old mid new status r performs keeps is only = record {
-  done = answered_on (AnswersAny c s held text) (ExplainsAny c s held text) (may_fail c s held text) old mid new status r
+-- nor is there more than was written
+rewritten_on : (file text : List ℕ) (held later : Held) (r : Result ℕ Failure) → IfErr r (λ f. f ≡ CannotWriteOutput)
+    → LeavesLaidOut file text held later → LeavesRewritten file text held later r
+rewritten_on file text held later (Ok n) only leaves = leaves
+rewritten_on file text held later (Err f) only leaves =
+    subst (λ (g : Failure). LeavesRewritten file text held later (Err g)) (sym only) leaves
+
+may_fail_to : (x : Action) (file : List ℕ) (s : Settings) (held : Held) (text : List ℕ)
+    → ExplainsTo x file s held text CannotWriteOutput
+may_fail_to (AnswerBy c) file s held text = may_fail c s held text
+may_fail_to Rewrite file s held text = tt
+
+leaves_to : (x : Action) (file : List ℕ) (s : Settings) (text : List ℕ) (held later : Held) (status : ℕ)
+    (r : Result ℕ Failure) → IfErr r (λ f. f ≡ CannotWriteOutput) → LeavesTo x file s text held later (Ok status)
+    → LeavesTo x file s text held later r
+leaves_to (AnswerBy c) file s text held later status r only w = leaves_on c s text held later status r only w
+leaves_to Rewrite file s text held later status r only w = rewritten_on file text held later r only w
+
+pub handed_over : (x : Action) (file : List ℕ) (s : Settings) (text : List ℕ) (held later : Held) (old mid new : Option (List ℕ)) (status : ℕ)
+    (r : Result ℕ Failure) → Performs x file s text held later old mid (Ok status) → Keeps mid new → IfOk r (λ n. n ≡ status)
+    → IfErr r (λ f. f ≡ CannotWriteOutput) → Performs x file s text held later old new r
+handed_over x file s text held later old mid new status r performs keeps is only = record {
+  done = answered_on (AnswersTo x s held text) (ExplainsTo x file s held text) (may_fail_to x file s held text) old mid new status r
       performs.done keeps is only;
-  leaves = leaves_on c s text held later status r only performs.leaves;
+  leaves = leaves_to x file s text held later status r only performs.leaves;
 }
 
 -- files were read before, and are read behind it
 module _ (a : Asked) (held mid later last : Held) (before : mid ≡ held) (behind : last ≡ later) where
   pub performed_on_text : (old new : Option (List ℕ)) (r : Result ℕ Failure) (text : List ℕ) → IsGiven (held a.file) (Ok text)
-      → IsUtf8 text → length text ≤ 1048576 → Performs a.command a.settings text mid later old new r
+      → IsUtf8 text → length text ≤ 1048576 → Performs a.action a.file a.settings text mid later old new r
       → ReadsAndPerforms a held last old new r
   performed_on_text old new r text given is_text short performs =
       on_text text (record { given = given; is_text = is_text }) short
-      (subst (λ (h : Held). Performs a.command a.settings text held h old new r) (sym behind)
-      (subst (λ (h : Held). Performs a.command a.settings text h later old new r) before performs))
+      (subst (λ (h : Held). Performs a.action a.file a.settings text held h old new r) (sym behind)
+      (subst (λ (h : Held). Performs a.action a.file a.settings text h later old new r) before performs))
 
 pub performed_without_text : (a : Asked) (held later : Held) (b : Option (List ℕ)) (r : Result ℕ Failure) (f : Failure)
     → later ≡ held → IsErrAnd r (λ y. y ≡ f) → TellsNoProgram held a.file f → ReadsAndPerforms a held later b b r
@@ -104,11 +126,11 @@ performed_without_text a held later b (Err y) f keeps is told =
 pub acts : (a : Asked) (request : Request) → asked_of request ≡ a → (held later : Held)
     (old new err_old err_new : Option (List ℕ)) (result : Result ℕ Failure) (status : ℕ)
     → ReadsAndPerforms (asked_of request) held later old new result
-    → Reports request.explain err_old err_new result status → Acts a held later old new err_old err_new status
+    → Reports request.telling.explain err_old err_new result status → Acts a held later old new err_old err_new status
 acts a request is held later old new err_old err_new result status performs reports = record {
   result = result;
   performs = subst (λ (b : Asked). ReadsAndPerforms b held later old new result) is performs;
-  reports = subst (λ (b : Asked). Reports b.explain err_old err_new result status) is reports;
+  reports = subst (λ (b : Asked). Reports b.telling.explain err_old err_new result status) is reports;
 }
 
 -- a refusal that was told
@@ -118,8 +140,15 @@ pub reported : (explain : Bool) (old new : Option (List ℕ)) (r : Refusal) (sta
     → Reports explain old new (Err r.failure) status
 reported explain old new r status bare is told = (is, record { more = string_bytes r.more; bare = bare; told = told })
 
+-- an answer, and what was said behind it
+pub followed : (explain : Bool) (old new : Option (List ℕ)) (a : Answered) (status : ℕ)
+    → (explain ≡ false → string_bytes a.more ≡ []) → (a.status ≤ 1 → string_bytes a.more ≡ []) → status ≡ a.status
+    → AppendsBeginning old new (string_bytes a.more) → Reports explain old new (Ok a.status) status
+followed explain old new a status bare calm is told =
+    (is, record { more = string_bytes a.more; bare = bare; calm = calm; told = told })
+
 -- what was done is that of the same result
-pub short_of : (a : Asked) (held later : Held) (old new : Option (List ℕ)) (r : Result ℕ Refusal) (s : Result ℕ Failure)
+pub short_of : (a : Asked) (held later : Held) (old new : Option (List ℕ)) (r : Result Answered Refusal) (s : Result ℕ Failure)
     → in_short r ≡ s → ReadsAndPerforms a held later old new s → ReadsAndPerforms a held later old new (in_short r)
 short_of a held later old new r s same done = subst (ReadsAndPerforms a held later old new) (sym same) done
 

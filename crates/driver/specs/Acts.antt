@@ -3,6 +3,7 @@ use Rattle.std.specs.Prelude.{ℕ, ◌≡◌, ◌≤◌, List, [], ◌++◌, len
 use Rattle.std.specs.Prelude.{Bool, false}
 use Rattle.std.specs.Io.KnownBytes.{Keeps}
 use Rattle.answers.specs.Answers.{Answer, Answers, Done, Explains}
+use Rattle.rewriting.specs.Rewriting.{AnswersRewrite, ExplainsRewrite, LeavesRewritten}
 use Rattle.viewing.specs.Files.{WritesTo}
 use Rattle.viewing.specs.Views.{AnswersTrace, ExplainsTrace, IsDrawn, picture_name}
 use Rattle.texts.specs.Appending.{AppendsBeginning}
@@ -10,10 +11,13 @@ use Rattle.intake.specs.FailureStatus.{failure_status}
 use Rattle.intake.specs.Held.{Held, HasText, TellsNoProgram}
 use Rattle.intake.specs.Messages.{failure_text}
 use Rattle.command_line.specs.Requests.{Asked, Settings}
+use Rattle.command_line.specs.declared.request.Action.{Action}
+use Rattle.command_line.specs.declared.request.Action.TheVariants.{Answer as AnswerBy, Rewrite}
 use Rattle.command_line.specs.declared.request.Command.{Command}
 use Rattle.command_line.specs.declared.request.Command.TheVariants.{Run, View, Summary, Draw, Chrome}
 use Rattle.intake.specs.declared.failure.Failure.{Failure}
 use Rattle.driver.specs.Traced.{IsTraceOfText, WritesTrace}
+use Rattle.driver.specs.declared.answered.Answered.{Answered}
 use Rattle.driver.specs.declared.refusal.Refusal.{Refusal}
 
 -- the text told, with its status, answers what is asked of a program's text, or of a trace of its run
@@ -40,18 +44,37 @@ Leaves Draw s text held later r = WritesTo (picture_name s) (IsDrawn s held text
 Leaves Chrome s text held later r = WritesTo (picture_name s) (IsDrawn s held text) held later r
 Leaves _ s text held later r = later ≡ held
 
+-- ---- what is done with a file
+
+-- the text told, with its status, answers what is asked of the text of a program: that of a command, or nothing of one
+-- that is laid out in its file
+abbrev pub AnswersTo : Action → Settings → Held → (text : List ℕ) → Answer
+AnswersTo (AnswerBy c) s held text = AnswersAny c s held text
+AnswersTo Rewrite s held text = AnswersRewrite text
+
+-- a failure is one of what is asked so
+abbrev pub ExplainsTo : Action → (file : List ℕ) → Settings → Held → (text : List ℕ) → Failure → Type 0
+ExplainsTo (AnswerBy c) file s held text = ExplainsAny c s held text
+ExplainsTo Rewrite file s held text = ExplainsRewrite file text
+
+-- what files hold behind it
+abbrev pub LeavesTo : Action → (file : List ℕ) → Settings → (text : List ℕ) → (held later : Held) → Result ℕ Failure
+    → Type 0
+LeavesTo (AnswerBy c) file s text held later r = Leaves c s text held later r
+LeavesTo Rewrite file s text held later r = LeavesRewritten file text held later r
+
 -- what is asked was done, and files hold what they should
-pub record Performs (c : Command) (s : Settings) (text : List ℕ) (held later : Held) (old new : Option (List ℕ))
-    (r : Result ℕ Failure) : Type 0 where
-  pub done : Done (AnswersAny c s held text) (ExplainsAny c s held text) old new r
-  pub leaves : Leaves c s text held later r
+pub record Performs (x : Action) (file : List ℕ) (s : Settings) (text : List ℕ) (held later : Held)
+    (old new : Option (List ℕ)) (r : Result ℕ Failure) : Type 0 where
+  pub done : Done (AnswersTo x s held text) (ExplainsTo x file s held text) old new r
+  pub leaves : LeavesTo x file s text held later r
 
 -- the file has a text of at most 1,048,576 bytes, and what is asked was done with it; or it has none, and
 -- nothing was written
 pub data ReadsAndPerforms (a : Asked) (held later : Held) (old new : Option (List ℕ))
     (r : Result ℕ Failure) : Type 0 where
   on_text : (text : List ℕ) → HasText held a.file text → length text ≤ 1048576
-      → Performs a.command a.settings text held later old new r
+      → Performs a.action a.file a.settings text held later old new r
       → ReadsAndPerforms a held later old new r
   without_text : IsErrAnd r (TellsNoProgram held a.file) → Keeps old new → later ≡ held
       → ReadsAndPerforms a held later old new r
@@ -62,15 +85,23 @@ pub record IsTold (explain : Bool) (old new : Option (List ℕ)) (f : Failure) :
   pub bare : explain ≡ false → more ≡ []
   pub told : AppendsBeginning old new ((failure_text f ++ codes "\n") ++ more)
 
+-- behind an answer nothing is said, unless that is asked for, and a run ended with faults or was stopped: then what
+-- explains its outcome was appended, as far as it was taken
+pub record IsFollowed (explain : Bool) (answered : ℕ) (old new : Option (List ℕ)) : Type 0 where
+  pub more : List ℕ
+  pub bare : explain ≡ false → more ≡ []
+  pub calm : answered ≤ 1 → more ≡ []
+  pub told : AppendsBeginning old new more
+
 -- the status of what was answered; or that of a failure, which is told
 abbrev pub Reports : (explain : Bool) → (old new : Option (List ℕ)) → Result ℕ Failure → (status : ℕ)
     → Type 0
-Reports explain old new (Ok answered) status = (status ≡ answered) × Keeps old new
+Reports explain old new (Ok answered) status = (status ≡ answered) × IsFollowed explain answered old new
 Reports explain old new (Err f) status = (status ≡ failure_status f) × IsTold explain old new f
 
--- a refusal's failure, without what explains it
-abbrev pub in_short : Result ℕ Refusal → Result ℕ Failure
-in_short (Ok status) = Ok status
+-- a status, or a refusal's failure, without what explains it
+abbrev pub in_short : Result Answered Refusal → Result ℕ Failure
+in_short (Ok answered) = Ok answered.status
 in_short (Err refusal) = Err refusal.failure
 
 -- what is asked was done, and reported
@@ -78,4 +109,4 @@ pub record Acts (a : Asked) (held later : Held) (old new : Option (List ℕ))
     (err_old err_new : Option (List ℕ)) (status : ℕ) : Type 0 where
   pub result : Result ℕ Failure
   pub performs : ReadsAndPerforms a held later old new result
-  pub reports : Reports a.explain err_old err_new result status
+  pub reports : Reports a.telling.explain err_old err_new result status

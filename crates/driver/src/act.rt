@@ -7,15 +7,19 @@ ghost use Rattle.driver.specs.Acts.{Acts, ReadsAndPerforms, Reports, in_short};
 ghost use Rattle.intake.specs.Failures.{TellsNotUtf8};
 ghost use Rattle.intake.specs.declared.failure.Failure.{Failure as FailureOf};
 ghost use Rattle.command_line.specs.Requests.{Asked, Asks, asked_of};
+ghost use Rattle.command_line.specs.declared.request.Color.TheVariants.{Always, Never};
+ghost use Rattle.excerpts.specs.declared.paint.Paint.TheVariants.{Coloured, Plain};
 
+use crate::answered::Answered;
 use crate::commands;
 use crate::refusal::Refusal;
-use command_line::reply::Reply;
-use command_line::request::Request;
-use command_line::words::request_of;
+use crate::terminal::Terminal;
+use command_line::request::{Color, Request, Telling};
+use excerpts::paint::Paint;
 use intake::failure::Failure;
 use intake::files::{FileSource, read_program};
-use serial_run::watch::Watch;
+use options::reply::Reply;
+use reading::words::request_of;
 use std::alloc::{AllocError, Global};
 use std::io;
 use std::io::{ErrorKind, Write};
@@ -24,15 +28,15 @@ use std::thread::Threads;
 use texts::emit::append;
 
 /// Does what the words behind the program's name ask, and answers the exit status. `--progress` has
-/// `watch` told how far a run has come.
-pub fn act<R: Threads + Wait + Sync, F: FileSource, O: Write, E: Write, W: Watch>(
+/// `terminal` told how far a run has come.
+pub fn act<R: Threads + Wait + Sync, F: FileSource, O: Write, E: Write, T: Terminal>(
     rt: &R,
     alloc: Global,
     words: &[String],
     files: &mut F,
     out: &mut O,
     err: &mut E,
-    watch: &mut W,
+    terminal: &mut T,
 ) -> u8
     ensures asked { (a : Asked) → Asks (map string_bytes words.now) a
         → Acts a (F.held files.old) (F.held files.new) (O.contents out.old) (O.contents out.new)
@@ -43,8 +47,8 @@ pub fn act<R: Threads + Wait + Sync, F: FileSource, O: Write, E: Write, W: Watch
 {
     match request_of(alloc, words) {
         Err(reply) => tell_command_line(alloc, &reply, out, err),
-        Ok(request) => match perform(rt, alloc, request, files, out, watch) {
-            Ok(status) => status,
+        Ok(request) => match perform(rt, alloc, request, files, out, terminal) {
+            Ok(answered) => answered.follow(err),
             Err(refusal) => refusal.tell(err),
         },
     }
@@ -63,40 +67,74 @@ pub fn refuse_words<E: Write>(alloc: Global, error: &io::Error, err: &mut E) -> 
 }
 
 /// Does one command.
-fn perform<R: Threads + Wait + Sync, F: FileSource, O: Write, W: Watch>(
+fn perform<R: Threads + Wait + Sync, F: FileSource, O: Write, T: Terminal>(
     rt: &R,
     alloc: Global,
     request: Request<'_>,
     files: &mut F,
     out: &mut O,
-    watch: &mut W,
-) -> Result<u8, Refusal>
+    terminal: &mut T,
+) -> Result<Answered, Refusal>
     ensures done { ReadsAndPerforms (asked_of request.entry) (F.held files.old) (F.held files.new)
         (O.contents out.old) (O.contents out.new) (in_short result) }
     ensures bare { IfErr result
-        (λ refusal. request.entry.explain ≡ false → string_bytes refusal.more ≡ []) }
+        (λ refusal. request.entry.telling.explain ≡ false → string_bytes refusal.more ≡ []) }
+    ensures quiet { IfOk result
+        (λ answered. request.entry.telling.explain ≡ false → string_bytes answered.more ≡ []) }
+    ensures calm { IfOk result (λ answered. answered.status ≤ 1 → string_bytes answered.more ≡ []) }
 {
     let name = request.file;
     let bytes = match read_program(alloc, files, name) {
         Ok(bytes) => bytes,
         Err(failure) => return Err(Refusal::bare(alloc, failure)),
     };
+    let paint = paint_of(request.telling, terminal);
     match std::str::from_utf8(&bytes) {
-        Ok(text) => match commands::perform(rt, alloc, request, text, files, out, watch) {
-            Ok(status) => unexplained(alloc, handed_on(out, status)),
-            Err(failure) => Err(Refusal::explained(alloc, files, request, text, failure)),
+        Ok(text) => match commands::perform(rt, alloc, request, text, files, out, terminal) {
+            Ok(status) => followed(alloc, files, request, text, paint, handed_on(out, status)),
+            Err(failure) => Err(Refusal::explained(
+                rt, alloc, files, request, text, paint, failure,
+            )),
         },
         Err(_) => Err(Refusal::bare(alloc, Failure::not_utf8(alloc, name))),
     }
 }
 
-/// The same, with nothing said behind the line of a failure.
-fn unexplained(alloc: Global, done: Result<u8, Failure>) -> Result<u8, Refusal>
+/// Whether what explains a refusal is coloured.
+fn paint_of<T: Terminal>(telling: Telling, terminal: &T) -> Paint
+    ensures always { telling.color ≡ Always → result ≡ Coloured }
+    ensures never { telling.color ≡ Never → result ≡ Plain }
+{
+    let is_coloured = match telling.color {
+        Color::Always => true,
+        Color::Never => false,
+        Color::Auto => terminal.has_colours(),
+    };
+    if is_coloured {
+        Paint::Coloured
+    } else {
+        Paint::Plain
+    }
+}
+
+/// The same, with what explains an outcome behind its status, and nothing behind the line of a failure.
+fn followed<F: FileSource>(
+    alloc: Global,
+    files: &mut F,
+    request: Request<'_>,
+    text: &str,
+    paint: Paint,
+    done: Result<u8, Failure>,
+) -> Result<Answered, Refusal>
     ensures same { in_short result ≡ done }
     ensures bare { IfErr result (λ refusal. string_bytes refusal.more ≡ []) }
+    ensures quiet { IfOk result
+        (λ answered. request.entry.telling.explain ≡ false → string_bytes answered.more ≡ []) }
+    ensures calm { IfOk result (λ answered. answered.status ≤ 1 → string_bytes answered.more ≡ []) }
+    ensures keeps { F.held files.new ≡ F.held files.old }
 {
     match done {
-        Ok(status) => Ok(status),
+        Ok(status) => Ok(Answered::explained(alloc, files, request, text, paint, status)),
         Err(failure) => Err(Refusal::bare(alloc, failure)),
     }
 }

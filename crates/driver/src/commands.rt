@@ -12,10 +12,11 @@ use answers::programs::accepted_of;
 use answers::running::{run_by_choices, run_serially};
 use answers::showing::show;
 use answers::telling::{check, list, pairs};
-use command_line::request::{Command, Request, Settings};
+use command_line::request::{Action, Command, Request, Settings};
 use intake::failure::Failure;
 use intake::files::FileSource;
 use intake::input_file::input_of;
+use rewriting::rewrite::rewrite;
 use serial_run::watch::Watch;
 use std::alloc::Global;
 use std::io::Write;
@@ -34,24 +35,28 @@ pub fn perform<R: Threads + Wait + Sync, F: FileSource, O: Write, W: Watch>(
     out: &mut O,
     watch: &mut W,
 ) -> Result<u8, Failure>
-    ensures { Performs request.entry.command (settings_of request.entry.settings) text.now
+    ensures { Performs request.entry.action request.entry.file.now
+        (settings_of request.entry.settings) text.now
         (F.held files.old) (F.held files.new) (O.contents out.old) (O.contents out.new) result }
 {
-    match request.command {
-        Command::Run => run_as_tasks(rt, alloc, request.settings, text, files, out),
-        Command::Serial => run_serially(alloc, request.settings, text, files, out, watch),
-        Command::Check => check(rt, alloc, text, out),
-        Command::Listing => list(rt, alloc, text, out),
-        Command::Labels => list_labels(alloc, text, out),
-        Command::Places => list_places(alloc, text, out),
-        Command::Format => format(alloc, text, out),
-        Command::CheckFormat => check_format(alloc, text, out),
-        Command::Pairs => pairs(alloc, text, out),
-        Command::Explore => run_by_choices(rt, alloc, request.settings, text, files, out),
-        Command::View => view(rt, alloc, request.settings, text, files, out),
-        Command::Summary => view_numbers(rt, alloc, request.settings, text, files, out),
-        Command::Draw => draw(rt, alloc, request.settings, text, files, out),
-        Command::Chrome => draw_for_viewer(rt, alloc, request.settings, text, files, out),
+    match request.action {
+        Action::Rewrite => rewrite(alloc, request.file, text, files, out),
+        Action::Answer(command) => match command {
+            Command::Run => run_as_tasks(rt, alloc, request.settings, text, files, out),
+            Command::Serial => run_serially(alloc, request.settings, text, files, out, watch),
+            Command::Check => check(rt, alloc, text, out),
+            Command::Listing => list(rt, alloc, text, out),
+            Command::Labels => list_labels(alloc, text, out),
+            Command::Places => list_places(alloc, text, out),
+            Command::Format => format(alloc, text, out),
+            Command::CheckFormat => check_format(alloc, text, out),
+            Command::Pairs => pairs(alloc, text, out),
+            Command::Explore => run_by_choices(rt, alloc, request.settings, text, files, out),
+            Command::View => view(rt, alloc, request.settings, text, files, out),
+            Command::Summary => view_numbers(rt, alloc, request.settings, text, files, out),
+            Command::Draw => draw(rt, alloc, request.settings, text, files, out),
+            Command::Chrome => draw_for_viewer(rt, alloc, request.settings, text, files, out),
+        },
     }
 }
 

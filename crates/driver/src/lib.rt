@@ -3,8 +3,10 @@
 #![tactic(auto)]
 
 pub mod act;
+mod answered;
 pub mod commands;
 mod refusal;
+pub mod terminal;
 mod tracing;
 
 pub use intake::files;

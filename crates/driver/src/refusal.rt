@@ -7,12 +7,14 @@ ghost use Rattle.intake.specs.Messages.{failure_text};
 ghost use Rattle.texts.specs.Appending.{AppendsBeginning};
 
 use answers::explaining::explanation;
-use command_line::request::Request;
+use command_line::request::{Request, Settings};
+use excerpts::paint::{Paint, painted};
 use intake::failure::Failure;
 use intake::files::FileSource;
 use intake::message::emit_message;
 use std::alloc::{AllocError, Global};
 use std::io::Write;
+use std::thread::Threads;
 use texts::emit::append;
 
 /// Why a command ended without its answer, and what is said behind the line that tells it.
@@ -34,22 +36,24 @@ impl Refusal {
         }
     }
 
-    /// It is explained, where that is asked for and memory is there.
-    pub fn explained<F: FileSource>(
+    /// It is explained, so coloured, where that is asked for and memory is there.
+    pub fn explained<R: Threads + Sync, F: FileSource>(
+        rt: &R,
         alloc: Global,
         files: &mut F,
         request: Request<'_>,
         text: &str,
+        paint: Paint,
         failure: Failure,
     ) -> Refusal
         ensures failure { result.failure ≡ failure }
-        ensures more { request.entry.explain ≡ false → string_bytes result.more ≡ [] }
+        ensures more { request.entry.telling.explain ≡ false → string_bytes result.more ≡ [] }
         ensures keeps { F.held files.new ≡ F.held files.old }
     {
-        if !request.explain {
+        if !request.telling.explain {
             return Refusal::bare(alloc, failure);
         }
-        match explanation(alloc, files, text, request.settings.input, &failure) {
+        match coloured(rt, alloc, files, request.settings, text, paint, &failure) {
             Ok(more) => Refusal { failure, more },
             Err(AllocError) => Refusal::bare(alloc, failure),
         }
@@ -70,4 +74,20 @@ impl Refusal {
             Err(_) => status,
         }
     }
+}
+
+/// What explains a failure, so coloured.
+fn coloured<R: Threads + Sync, F: FileSource>(
+    rt: &R,
+    alloc: Global,
+    files: &mut F,
+    settings: Settings<'_>,
+    text: &str,
+    paint: Paint,
+    failure: &Failure,
+) -> Result<String, AllocError>
+    ensures { F.held files.new ≡ F.held files.old }
+{
+    let more = explanation(rt, alloc, files, settings, text, failure)?;
+    painted(alloc, more, paint)
 }

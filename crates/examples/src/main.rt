@@ -2,6 +2,7 @@
 
 #![tactic(auto)]
 
+mod both_ways;
 mod bytes;
 mod machine;
 mod output;
@@ -12,16 +13,18 @@ mod table;
 mod transcript;
 mod wanted;
 
+use crate::table::Way;
 use std::{env, io};
 
-/// Does each of the words behind the program's name: `rows checks.rows` is a table, `pages` are those of `explain`, all
-/// else is a command line, as `run two_arrays.afx`.
+/// Does each of the words behind the program's name: `rows checks.rows` is a table, `explained checks.rows` is one whose
+/// commands have `--explain` too, `pages` are those of `explain`, all else is a command line, as `run two_arrays.afx`.
 fn main(rt: HostRuntime) -> io::Result<()> {
     for line in env::args(&rt)?.skip(1) {
-        match line.strip_prefix("rows ") {
-            Some(name) => table::compare(&rt, name)?,
+        match line.split_once(' ') {
+            Some(("rows", name)) => table::compare(&rt, name, Way::Plain)?,
+            Some(("explained", name)) => table::compare(&rt, name, Way::Explained)?,
             None if line.as_str() == "pages" => pages_told::compare(&rt)?,
-            None => transcript::show(&rt, &line)?,
+            _ => transcript::show(&rt, &line)?,
         }
     }
     Ok(())

@@ -6,6 +6,7 @@ use crate::shelf::Shelf;
 use crate::transcript::words_of;
 use crate::wanted::Wanted;
 use driver::act::act;
+use driver::terminal::Terminal;
 use serial_run::watch::Watch;
 use std::io;
 
@@ -19,16 +20,16 @@ pub struct Row<'a> {
 
 /// What a command told.
 #[derive(Drop)]
-struct Told {
-    out: Output,
-    err: Output,
-    status: usize,
+pub struct Told {
+    pub out: Output,
+    pub err: Output,
+    pub status: usize,
     looks: usize,
 }
 
 /// Two texts, a status, and how often a watch was told, as they are or as they are wanted.
 #[derive(Clone, Copy)]
-struct Answer<'a> {
+pub struct Answer<'a> {
     out: &'a [u8],
     err: &'a [u8],
     status: usize,
@@ -44,6 +45,12 @@ struct Counting {
 impl Watch for Counting {
     fn look(&mut self, _steps: u64) {
         self.looks = self.looks.saturating_add(1);
+    }
+}
+
+impl Terminal for Counting {
+    fn has_colours(&self) -> bool {
+        false
     }
 }
 
@@ -76,7 +83,7 @@ impl Row<'_> {
     }
 
     /// Whether the command has written the files that it must. Where it hasn't, the file is shown.
-    fn has_left<R: Machine>(&self, rt: &R, shelf: &Shelf<'_, R>) -> io::Result<bool> {
+    pub fn has_left<R: Machine>(&self, rt: &R, shelf: &Shelf<'_, R>) -> io::Result<bool> {
         for file in &self.wanted.left {
             let wanted = text_of(&file.bytes);
             let left = shelf.written_to(&file.name).map(text_of);
@@ -124,12 +131,24 @@ impl Row<'_> {
         out: Limit,
         err: Limit,
     ) -> io::Result<Told> {
+        let words = words_of(rt.alloc(), self.command)?;
+        self.told_by(rt, shelf, &words, out, err)
+    }
+
+    /// What these words do with such outputs.
+    pub fn told_by<R: Machine>(
+        &self,
+        rt: &R,
+        shelf: &mut Shelf<'_, R>,
+        words: &[String],
+        out: Limit,
+        err: Limit,
+    ) -> io::Result<Told> {
         let alloc = rt.alloc();
-        let words = words_of(alloc, self.command)?;
         let mut out = Output::new(alloc, out);
         let mut err = Output::new(alloc, err);
         let mut watch = Counting { looks: 0 };
-        let status = act(rt, alloc, &words, shelf, &mut out, &mut err, &mut watch);
+        let status = act(rt, alloc, words, shelf, &mut out, &mut err, &mut watch);
         Ok(Told {
             out,
             err,
@@ -139,7 +158,7 @@ impl Row<'_> {
     }
 
     /// All that the command must tell.
-    fn whole(&self) -> Answer<'_> {
+    pub fn whole(&self) -> Answer<'_> {
         Answer {
             out: &self.wanted.out,
             err: &self.wanted.err,
@@ -159,7 +178,7 @@ impl Row<'_> {
     }
 
     /// Whether what was told is what is wanted. Where it isn't, both are shown.
-    fn compare<R: Machine>(&self, rt: &R, told: &Told, wanted: Answer<'_>) -> io::Result<bool> {
+    pub fn compare<R: Machine>(&self, rt: &R, told: &Told, wanted: Answer<'_>) -> io::Result<bool> {
         let told = Answer {
             out: &told.out.taken,
             err: &told.err.taken,

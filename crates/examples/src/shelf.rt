@@ -1,5 +1,7 @@
 //! The files that a row's command is lent: those that its table gives or a command of its group wrote, and the machine's.
 
+ghost use Rattle.std.specs.Prelude.{◌≤◌, IfOk, length};
+
 use crate::bytes::{not_understood, push_spelled};
 use crate::machine::Machine;
 use driver::files::{FileError, FileSource, MachineFiles};
@@ -159,13 +161,12 @@ impl<R: Machine> FileSource for Shelf<'_, R> {
     }
 
     fn read_first(&mut self, name: &str, most: usize) -> Result<Vec<u8>, FileError> {
+        if let Some(bytes) = written_in(&self.written, name) {
+            return first_of(self.alloc, bytes, most);
+        }
         match contents_of(&self.files, name) {
             None => self.machine.read_first(name, most),
-            Some(Contents::Bytes(bytes)) => {
-                let mut first = copied(self.alloc, bytes)?;
-                first.truncate(most);
-                Ok(first)
-            }
+            Some(Contents::Bytes(bytes)) => first_of(self.alloc, bytes, most),
             Some(Contents::NoMemory) => Err(FileError::NoMemory),
             Some(Contents::Endless) => {
                 Vec::from_elem(self.alloc, 0xff, most).map_err(|_| FileError::NoMemory)
@@ -184,6 +185,15 @@ impl<R: Machine> FileSource for Shelf<'_, R> {
             Some(Contents::Endless) => Err(FileError::Failed),
         }
     }
+}
+
+/// The first bytes once more, so many at most.
+fn first_of(alloc: Global, bytes: &[u8], most: usize) -> Result<Vec<u8>, FileError>
+    ensures { IfOk result (λ v. length v.items ≤ most) }
+{
+    let mut first = copied(alloc, bytes)?;
+    first.truncate(most);
+    Ok(first)
 }
 
 /// The bytes once more.

@@ -8,11 +8,20 @@ use crate::wanted::Wanted;
 use std::io::ErrorKind;
 use std::{fs, io};
 
+/// How the commands of a table are done.
+#[derive(Clone, Copy, PartialEq, Eq)]
+pub enum Way {
+    /// As they stand.
+    Plain,
+    /// With `--explain`, where they take it.
+    Explained,
+}
+
 /// Does the rows of a table of the folder `rows`, and tells how many there are, or which of them answer otherwise.
-pub fn compare<R: Machine>(rt: &R, name: &str) -> io::Result<()> {
+pub fn compare<R: Machine>(rt: &R, name: &str, way: Way) -> io::Result<()> {
     let path = format!(in rt.alloc(); "rows/{name}")?;
     let text = fs::read_to_string(rt, path.as_str())?;
-    let mut table = Table::new(rt);
+    let mut table = Table::new(rt, way);
     let mut number = 0u64;
     for line in text.split('\n') {
         number = number.saturating_add(1);
@@ -22,6 +31,9 @@ pub fn compare<R: Machine>(rt: &R, name: &str) -> io::Result<()> {
     }
     table.end()?;
     match table.wrong {
+        0 if way == Way::Explained => {
+            println!(rt; "{name}: {} rows tell the same with --explain", table.rows)
+        }
         0 => println!(rt; "{name}: {} rows answer as they say", table.rows),
         wrong => println!(rt; "{name}: {wrong} of {} rows answer otherwise", table.rows),
     }
@@ -54,6 +66,7 @@ enum Open {
 #[derive(Drop)]
 struct Table<'t, R> {
     rt: &'t R,
+    way: Way,
     shelf: Shelf<'t, R>,
     group: &'t str,
     /// Commands that must tell the same.
@@ -67,9 +80,10 @@ struct Table<'t, R> {
 
 impl<'t, R: Machine> Table<'t, R> {
     /// Nothing yet.
-    fn new(rt: &'t R) -> Table<'t, R> {
+    fn new(rt: &'t R, way: Way) -> Table<'t, R> {
         Table {
             rt,
+            way,
             shelf: Shelf::new(rt),
             group: "",
             commands: Vec::new(rt.alloc()),
@@ -143,7 +157,11 @@ impl<'t, R: Machine> Table<'t, R> {
                 wanted: &self.wanted,
             };
             self.rows = self.rows.saturating_add(1);
-            if !row.is_so(self.rt, &mut self.shelf)? {
+            let is_so = match self.way {
+                Way::Plain => row.is_so(self.rt, &mut self.shelf)?,
+                Way::Explained => row.is_so_explained(self.rt, &mut self.shelf)?,
+            };
+            if !is_so {
                 self.wrong = self.wrong.saturating_add(1);
             }
         }

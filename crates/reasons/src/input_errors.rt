@@ -1,6 +1,6 @@
 //! Inputs that don't fit their program.
 
-use crate::source::push_line;
+use excerpts::source::push_line;
 use serde_json::Value;
 use std::alloc::{AllocError, Global};
 use syntax::Place;

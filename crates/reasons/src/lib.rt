@@ -2,13 +2,9 @@
 
 #![tactic(auto)]
 
-mod arguments;
-mod declared;
 mod expected;
 pub mod input_errors;
-mod named;
 pub mod races;
 pub mod rule_errors;
 mod rule_texts;
-mod source;
 pub mod syntax_errors;

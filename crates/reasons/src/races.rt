@@ -1,6 +1,6 @@
 //! Programs that have a race.
 
-use crate::source::push_line;
+use excerpts::source::push_line;
 use places::statement_places;
 use std::alloc::{AllocError, Global};
 use syntax::Place;

@@ -2,11 +2,11 @@
 
 ghost use Rattle.std.specs.Prelude.{◌≤◌, length};
 
-use crate::arguments::{Argument, Parameter, Procedure, arguments, procedure_of};
-use crate::declared::{Declared, Kind, Scope, find};
-use crate::named::{Named, Role, head, names};
+use excerpts::arguments::{Argument, Parameter, Procedure, arguments, procedure_of};
+use excerpts::declared::{Declared, Kind, Scope, find};
+use excerpts::named::{Named, Role, head, names};
 use crate::rule_texts;
-use crate::source::{Source, push_line};
+use excerpts::source::{Source, push_line};
 use places::statement_places;
 use std::alloc::{AllocError, Global};
 use syntax::Place;

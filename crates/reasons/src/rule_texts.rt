@@ -1,8 +1,8 @@
 //! Texts of rules that are broken, where no statement has to be looked at.
 
-use crate::arguments::Parameter;
-use crate::named::begins_with;
-use crate::source::{Source, push_line};
+use excerpts::arguments::Parameter;
+use excerpts::named::begins_with;
+use excerpts::source::{Source, push_line};
 use std::alloc::AllocError;
 use syntax::token::{Mark, Spanned, Token, Word};
 use types::error::TypeError;

@@ -1,7 +1,7 @@
 //! Texts that spell no program.
 
 use crate::expected::{Front, WORDS, mark_text, word_text};
-use crate::source::push_line;
+use excerpts::source::push_line;
 use std::alloc::{AllocError, Global};
 use syntax::cursor::Stuck;
 use syntax::error::SyntaxError;

@@ -1,8 +1,8 @@
 //! Completions and the manual name just the options that help names.
 
 use crate::tests::compare;
-use command_line::reply::Reply;
-use command_line::words::request_of;
+use options::reply::Reply;
+use reading::words::request_of;
 use std::alloc::Global;
 use std::process::Abort;
 use std::rt::HostRuntime;
@@ -11,18 +11,18 @@ use std::rt::HostRuntime;
 const ROWS: &[(&str, &str)] = &[
     (
         "run",
-        " input steps nest tasks w0 workers trace arrays explain",
+        " input steps nest tasks w0 workers trace arrays explain color",
     ),
-    ("serial", " input steps nest arrays progress explain"),
-    ("check", " list explain"),
-    ("list", " lines explain"),
-    ("fmt", " check explain"),
-    ("mhp", " explain"),
+    ("serial", " input steps nest arrays progress explain color"),
+    ("check", " list explain color"),
+    ("list", " lines explain color"),
+    ("fmt", " check write explain color"),
+    ("mhp", " explain color"),
     (
         "explore",
-        " input choices choices-from random arrays explain",
+        " input choices choices-from random arrays explain color",
     ),
-    ("view", " input summary svg chrome explain"),
+    ("view", " input summary svg chrome explain color"),
     ("explain", " list"),
     ("completions", ""),
     ("man", ""),

@@ -10,14 +10,14 @@ pub returns-in-Ok-perform-clause-done : goal.returns-in-Ok-perform-clause-done
 returns-in-Ok-perform-clause-done g c =
     let held = g.F.FileSource.held c.args.files.now in
     let text = c.in-Ok-from_utf8.ensures.cases in
-    short_of (asked_of c.args.request) held _ _ _ c.unexplained.result c.handed_on.result c.unexplained.ensures.same
-    (performed_on_text (asked_of c.args.request) held _ _ _ c.in-Ok.ensures.keeps refl _ _ c.handed_on.result
+    short_of (asked_of c.args.request) held _ _ _ c.followed.result c.handed_on.result c.followed.ensures.same
+    (performed_on_text (asked_of c.args.request) held _ _ _ c.in-Ok.ensures.keeps c.followed.ensures.keeps _ _ c.handed_on.result
     c.in-Ok-from_utf8.text.now
     (subst (λ (bs : List ℕ). IsGiven (held c.args.request.file.now) (Ok bs)) (sym (text.0 ∙ c.deref.ensures.value))
     c.in-Ok.ensures.given)
     (subst IsUtf8 (sym text.0) text.1)
     (subst (λ (bs : List ℕ). length bs ≤ 1048576) (sym (text.0 ∙ c.deref.ensures.value)) c.in-Ok.ensures.short)
-    (handed_over c.args.request.command (settings_of c.args.request.settings) c.in-Ok-from_utf8.text.now _ _ _ _ _
+    (handed_over c.args.request.action c.args.request.file.now (settings_of c.args.request.settings) c.in-Ok-from_utf8.text.now _ _ _ _ _
     c.in-Ok-perform.status c.handed_on.result c.in-Ok-perform.ensures c.handed_on.ensures.keeps
     c.handed_on.ensures.status c.handed_on.ensures.failure))
 

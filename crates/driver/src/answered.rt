@@ -1,0 +1,81 @@
+//! A status, with what explains the outcome that was written.
+
+ghost use Rattle.std.specs.Prelude.{◌≡◌, ◌≤◌, [], false};
+ghost use Rattle.std.specs.String.{string_bytes};
+ghost use Rattle.texts.specs.Appending.{AppendsBeginning};
+
+use answers::explaining::run_explanation;
+use command_line::request::{Action, Request};
+use excerpts::paint::{Paint, painted};
+use intake::files::FileSource;
+use std::alloc::{AllocError, Global};
+use std::io::Write;
+use texts::emit::append;
+
+/// The status of an answer that was written, and what is said behind it on the standard error.
+#[derive(Drop)]
+pub struct Answered {
+    pub status: u8,
+    pub more: String,
+}
+
+impl Answered {
+    /// A run that ended with faults or was stopped is explained, so coloured, where that is asked for and memory is there.
+    pub fn explained<F: FileSource>(
+        alloc: Global,
+        files: &mut F,
+        request: Request<'_>,
+        text: &str,
+        paint: Paint,
+        status: u8,
+    ) -> Answered
+        ensures status { result.status ≡ status }
+        ensures bare { request.entry.telling.explain ≡ false → string_bytes result.more ≡ [] }
+        ensures calm { status ≤ 1 → string_bytes result.more ≡ [] }
+        ensures keeps { F.held files.new ≡ F.held files.old }
+    {
+        if !request.telling.explain || status < 2 {
+            return Answered {
+                status,
+                more: String::new(alloc),
+            };
+        }
+        match coloured(alloc, files, request, text, paint, status) {
+            Ok(more) => Answered { status, more },
+            Err(AllocError) => Answered {
+                status,
+                more: String::new(alloc),
+            },
+        }
+    }
+
+    /// Writes what is said behind the answer, as far as it is taken, and answers the status.
+    pub fn follow<E: Write>(&self, err: &mut E) -> u8
+        ensures status { result ≡ self.now.status }
+        ensures told { AppendsBeginning (E.contents err.old) (E.contents err.new)
+            (string_bytes self.now.more) }
+    {
+        let _ = append(err, self.more.as_bytes());
+        self.status
+    }
+}
+
+/// What explains an outcome, so coloured.
+fn coloured<F: FileSource>(
+    alloc: Global,
+    files: &mut F,
+    request: Request<'_>,
+    text: &str,
+    paint: Paint,
+    status: u8,
+) -> Result<String, AllocError>
+    ensures { F.held files.new ≡ F.held files.old }
+{
+    match request.action {
+        Action::Rewrite => Ok(String::new(alloc)),
+        Action::Answer(command) => {
+            let more = run_explanation(alloc, files, command, request.settings, text, status)?;
+            painted(alloc, more, paint)
+        }
+    }
+}

@@ -1,0 +1,56 @@
+//! Rows with `--explain`: it adds to what a row tells, behind it and on the standard error alone.
+
+use crate::machine::Machine;
+use crate::output::{End, Limit};
+use crate::row::Row;
+use crate::shelf::Shelf;
+use crate::transcript::words_of;
+use std::alloc::Global;
+use std::io;
+
+impl Row<'_> {
+    /// Whether the command, asked to explain itself, tells the same, leaves the same files, and writes more to the standard
+    /// error alone, behind what it writes there without that; and none where its status is 0. So are commands that don't
+    /// take the word, and mistakes in words, of which `clap` tells by all of them.
+    pub fn is_so_explained<R: Machine>(
+        &self,
+        rt: &R,
+        shelf: &mut Shelf<'_, R>,
+    ) -> io::Result<bool> {
+        let Some(words) = explaining_words(rt.alloc(), self.command)? else {
+            return self.is_so(rt, shelf);
+        };
+        if self.wanted.err.starts_with(b"error: ") {
+            return Ok(true);
+        }
+        let out = Limit::of(self.wanted.out_left, End::Fails);
+        let err = Limit::of(self.wanted.err_left, End::Fails);
+        let mut told = self.told_by(rt, shelf, &words, out, err)?;
+        if told.status != 0 && told.err.taken.starts_with(&self.wanted.err) {
+            told.err.taken.truncate(self.wanted.err.len());
+        }
+        Ok(self.compare(rt, &told, self.whole())? && self.has_left(rt, shelf)?)
+    }
+}
+
+/// The words of a command line with `--explain` behind the command; None where that takes none, or has it already.
+fn explaining_words(alloc: Global, command: &str) -> io::Result<Option<Vec<String>>> {
+    let mut words = words_of(alloc, command)?;
+    match words.first() {
+        Some(first) if takes_explain(first.as_str()) => {}
+        _ => return Ok(None),
+    }
+    if words.iter().any(|word| word.as_str() == "--explain") {
+        return Ok(None);
+    }
+    words.insert(1, String::from_str(alloc, "--explain")?)?;
+    Ok(Some(words))
+}
+
+/// Whether a command takes `--explain`.
+fn takes_explain(command: &str) -> bool {
+    match command {
+        "check" | "fmt" | "list" | "mhp" | "run" | "serial" | "explore" | "view" => true,
+        _ => false,
+    }
+}

@@ -1,0 +1,160 @@
+//! The words of a command line that `clap` reads.
+
+use clap::error::ErrorKind;
+use clap::{ArgMatches, Error};
+use command_line::request::{Action, Choosing, Color, Command, Request, Settings, Spread, Telling};
+use options::reply::{self, Reply};
+use options::table::{CLOSING, commands};
+use std::alloc::Global;
+use types::budget::Budget;
+
+/// The request that `clap` finds in the words, or the reply to them.
+pub fn request_by_clap<'w>(alloc: Global, words: &'w [String]) -> Result<Request<'w>, Reply> {
+    let matches = commands(alloc)?.try_get_matches_from(words)?;
+    match matches.subcommand() {
+        Some(("explain", given)) => Err(reply::explained(alloc, given)?),
+        Some(("completions", given)) => {
+            Err(reply::completions(alloc, given, &commands(alloc)?)?)
+        }
+        Some(("man", _)) => Err(reply::manual(alloc, &commands(alloc)?, CLOSING)?),
+        asked => Ok(request_asked(alloc, asked)?),
+    }
+}
+
+/// The request of a command that asks something of a program.
+fn request_asked<'w>(
+    alloc: Global,
+    asked: Option<(&str, &ArgMatches<'w>)>,
+) -> Result<Request<'w>, Error> {
+    match asked {
+        Some(("run", given)) => request(alloc, Command::Run, given),
+        Some(("serial", given)) => request(alloc, Command::Serial, given),
+        Some(("check", given)) if given.get_flag("list") => {
+            request(alloc, Command::Listing, given)
+        }
+        Some(("check", given)) => request(alloc, Command::Check, given),
+        Some(("list", given)) if given.get_flag("lines") => {
+            request(alloc, Command::Places, given)
+        }
+        Some(("list", given)) => request(alloc, Command::Labels, given),
+        Some(("fmt", given)) => asking(alloc, formatting(given), given),
+        Some(("mhp", given)) => request(alloc, Command::Pairs, given),
+        Some(("explore", given)) => request(alloc, Command::Explore, given),
+        Some(("view", given)) => request(alloc, viewing(given), given),
+        _ => Err(commands(alloc)?.error(ErrorKind::MissingSubcommand, "no command")?),
+    }
+}
+
+/// What `fmt` does with a text; `clap` has seen that at most one option says it.
+fn formatting(given: &ArgMatches<'_>) -> Action {
+    if given.get_flag("check") {
+        Action::Answer(Command::CheckFormat)
+    } else if given.get_flag("write") {
+        Action::Rewrite
+    } else {
+        Action::Answer(Command::Format)
+    }
+}
+
+/// How `view` shows a trace; `clap` has seen that at most one option says it.
+fn viewing(given: &ArgMatches<'_>) -> Command {
+    if given.get_flag("summary") {
+        Command::Summary
+    } else if given.get_str("svg").is_some() {
+        Command::Draw
+    } else if given.get_str("chrome").is_some() {
+        Command::Chrome
+    } else {
+        Command::View
+    }
+}
+
+/// The request of a command that was read.
+fn request<'w>(
+    alloc: Global,
+    command: Command,
+    given: &ArgMatches<'w>,
+) -> Result<Request<'w>, Error> {
+    asking(alloc, Action::Answer(command), given)
+}
+
+/// The request of what is to be done.
+fn asking<'w>(alloc: Global, action: Action, given: &ArgMatches<'w>) -> Result<Request<'w>, Error> {
+    Ok(Request {
+        action,
+        file: given.get_str("FILE").unwrap_or("-"),
+        settings: Settings {
+            input: given.get_str("input"),
+            budget: budget(alloc, given)?,
+            spread: spread(alloc, given)?,
+            choices: choosing(given),
+            trace: trace(given),
+            picture: picture(given),
+            arrays: given.get_flag("arrays"),
+            progress: given.get_flag("progress"),
+        },
+        telling: telling(given),
+    })
+}
+
+/// How a command is to tell; `clap` has seen that the words are some of their options'.
+fn telling(given: &ArgMatches<'_>) -> Telling {
+    Telling {
+        explain: given.get_flag("explain"),
+        color: match given.get_str("color") {
+            Some("always") => Color::Always,
+            Some("never") => Color::Never,
+            _ => Color::Auto,
+        },
+    }
+}
+
+/// How is chosen; `clap` has seen that at most one option says it.
+fn choosing<'w>(given: &ArgMatches<'w>) -> Option<Choosing<'w>> {
+    if let Some(list) = given.get_str("choices") {
+        return Some(Choosing::Listed(list));
+    }
+    if let Some(file) = given.get_str("choices-from") {
+        return Some(Choosing::InFile(file));
+    }
+    given.get_one("random").map(|seed| Choosing::Random(seed))
+}
+
+/// The file of the trace: that of an option of `run`, or the second one of `view`.
+fn trace<'w>(given: &ArgMatches<'w>) -> Option<&'w str> {
+    match given.get_str("trace") {
+        Some(file) => Some(file),
+        None => given.get_str("TRACE"),
+    }
+}
+
+/// The file of a picture; `clap` has seen that at most one option names it.
+fn picture<'w>(given: &ArgMatches<'w>) -> Option<&'w str> {
+    match given.get_str("svg") {
+        Some(file) => Some(file),
+        None => given.get_str("chrome"),
+    }
+}
+
+/// The budget that is given; `clap` has seen that its numbers are in their ranges.
+fn budget(alloc: Global, given: &ArgMatches<'_>) -> Result<Budget, Error> {
+    let usual = Budget::usual();
+    let steps = given.get_one("steps").unwrap_or(u64::from(usual.steps));
+    let nest = given.get_one("nest").unwrap_or(u64::from(usual.nest));
+    match Budget::new(steps, nest) {
+        Some(budget) => Ok(budget),
+        None => Err(commands(alloc)?.error(ErrorKind::ValueValidation, "no budget")?),
+    }
+}
+
+/// How a run goes on worker threads; `clap` has seen that its numbers are in their ranges.
+fn spread(alloc: Global, given: &ArgMatches<'_>) -> Result<Spread, Error> {
+    let usual = Spread::usual();
+    let tasks = given.get_one("tasks").unwrap_or(usual.tasks);
+    let w0 = given.get_one("w0").unwrap_or(usual.w0);
+    let workers = given.get_one("workers").unwrap_or(usual.workers);
+    match Spread::new(tasks, w0, workers) {
+        Some(spread) => Ok(spread),
+        None => Err(commands(alloc)?.error(ErrorKind::ValueValidation, "no workers")?),
+    }
+}

@@ -1,0 +1,10 @@
+//! The words of a command line, read as what they ask.
+
+#![tactic(auto)]
+
+pub mod by_clap;
+pub mod manners;
+pub mod plain;
+pub mod settings;
+mod taking;
+pub mod words;

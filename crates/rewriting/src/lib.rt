@@ -1,0 +1,5 @@
+//! What is done with the text of a program in its own file.
+
+#![tactic(auto)]
+
+pub mod rewrite;

@@ -1,0 +1,54 @@
+//! `fmt --write`: the text of any program in the canonical layout, in its own file.
+
+ghost use Rattle.std.specs.Prelude.{◌≡◌, List, IfErr, IfOk};
+ghost use Rattle.std.specs.Str.{chars};
+ghost use Rattle.std.specs.String.{string_bytes};
+ghost use Rattle.syntax.specs.Lexical.{AreTokensOf};
+ghost use Rattle.syntax.specs.Token.{Token};
+ghost use Rattle.layout.specs.Kept.{HaveSameTokens, IsLaidOut, KeepsAll};
+ghost use Rattle.answers.specs.Answers.{Done};
+ghost use Rattle.rewriting.specs.Rewriting.{AnswersRewrite, ExplainsRewrite, LeavesRewritten};
+
+use answers::programs::program_of;
+use answers::showing::answer;
+use intake::failure::Failure;
+use intake::files::{FileSource, write_file};
+use std::alloc::Global;
+use std::io::Write;
+
+/// Writes the text of a program into its file in the canonical layout, whatever rules it breaks. A text that is so laid
+/// out isn't written, so that its file stays as old as it is.
+pub fn rewrite<F: FileSource, O: Write>(
+    alloc: Global,
+    file: &str,
+    text: &str,
+    files: &mut F,
+    out: &mut O,
+) -> Result<u8, Failure>
+    ensures done { Done (AnswersRewrite text.now) (ExplainsRewrite file.now text.now)
+        (O.contents out.old) (O.contents out.new) result }
+    ensures leaves { LeavesRewritten file.now text.now (F.held files.old) (F.held files.new) result }
+{
+    let _program = program_of(alloc, text)?;
+    let laid = laid_of(alloc, text)?;
+    if laid.as_str() == text {
+        return answer(out, "");
+    }
+    write_file(alloc, files, file, laid.as_bytes())?;
+    answer(out, "")
+}
+
+/// A text laid out that has tokens.
+fn laid_of(alloc: Global, text: &str) -> Result<String, Failure>
+    requires { (ts : List Token) × AreTokensOf (chars text.now) ts }
+    ensures laid { IfOk result (λ laid. IsLaidOut (chars text.now) (chars (string_bytes laid))) }
+    ensures kept { IfOk result (λ laid. KeepsAll (chars text.now) (chars (string_bytes laid))) }
+    ensures tokens { IfOk result
+        (λ laid. HaveSameTokens (chars text.now) (chars (string_bytes laid))) }
+    ensures why { IfErr result (λ failure. failure ≡ Failure.NoMemory) }
+{
+    match layout::laid_out(alloc, text) {
+        Ok(laid) => Ok(laid),
+        Err(_) => Err(Failure::NoMemory),
+    }
+}

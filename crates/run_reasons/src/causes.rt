@@ -1,0 +1,168 @@
+//! What faults come from, in words.
+
+use crate::statements::Statements;
+use excerpts::named::Named;
+use second_run::cause::Cause;
+use sections::id::ArrayId;
+use sections::window::Window;
+use std::alloc::AllocError;
+use types::code::{Label, Operator, Program};
+
+/// Where a fault stands in its statement.
+#[derive(Clone, Copy)]
+pub struct Spot<'t> {
+    /// The number of the character, if it is another than the statement's first.
+    pub at: Option<usize>,
+    /// The name of the section that has no such element, or no such split point.
+    name: &'t str,
+}
+
+/// Where a fault of a statement stands in it.
+pub fn spot_of<'s>(
+    statements: &'s Statements<'_>,
+    label: Label,
+    cause: Cause,
+) -> Result<Spot<'s>, AllocError> {
+    match cause {
+        Cause::Index { nth, .. } => Ok(named_spot(statements.element(label, nth)?)),
+        Cause::SplitPoint { .. } => Ok(named_spot(statements.cut(label)?)),
+        Cause::Overflow { nth, .. } | Cause::Negative { nth } | Cause::ZeroDivisor { nth, .. } => {
+            Ok(Spot {
+                at: statements.operator(label, nth),
+                name: "",
+            })
+        }
+        Cause::OutOfElement { .. } | Cause::Raised(_) => Ok(Spot { at: None, name: "" }),
+    }
+}
+
+/// The spot of a name.
+fn named_spot(named: Option<Named<'_>>) -> Spot<'_> {
+    match named {
+        Some(named) => Spot {
+            at: Some(named.at),
+            name: named.name,
+        },
+        None => Spot { at: None, name: "" },
+    }
+}
+
+/// Adds the values from which a fault comes.
+pub fn push_cause(
+    told: &mut String,
+    code: &Program,
+    spot: Spot<'_>,
+    cause: Cause,
+) -> Result<(), AllocError> {
+    let name = spot.name;
+    match cause {
+        Cause::Index { index, window, .. } => push_index(told, code, name, index, window),
+        Cause::Overflow {
+            left,
+            operator,
+            right,
+            ..
+        } => {
+            let sign = sign_of(operator);
+            write!(
+                told,
+                "What {left} {sign} {right} gives doesn't fit in an int.\n"
+            )
+        }
+        Cause::Negative { .. } => told.push_str("9223372036854775808 doesn't fit in an int.\n"),
+        Cause::ZeroDivisor { left, operator, .. } => {
+            let sign = sign_of(operator);
+            write!(told, "{left} {sign} 0: the divisor is 0.\n")
+        }
+        Cause::OutOfElement { array, value } => push_value(told, code, array, value),
+        Cause::SplitPoint { point, length } => write!(
+            told,
+            "Split point {point}, length {length}: `{name}` can be split at 0 to {length}.\n"
+        ),
+        Cause::Raised(number) => {
+            write!(
+                told,
+                "The statement itself raises the fault, with {number}.\n"
+            )
+        }
+    }
+}
+
+/// Adds an index that is no element's.
+fn push_index(
+    told: &mut String,
+    code: &Program,
+    name: &str,
+    index: i64,
+    window: Window,
+) -> Result<(), AllocError> {
+    let length = window.len;
+    write!(told, "Index {index}, length {length}: `{name}` has ")?;
+    if length == 0 {
+        return told.push_str("no elements here.\n");
+    }
+    let last = length - 1;
+    write!(told, "the elements 0 to {last}")?;
+    if let Some(array) = code.arrays.get(window.array.number) {
+        if array.length != length {
+            let whole = array.name.as_str();
+            let from = window.at;
+            let to = from.saturating_add(last);
+            write!(told, ", which are {from} to {to} of the array `{whole}`")?;
+        }
+    }
+    told.push_str(".\n")
+}
+
+/// Adds a number that an array doesn't hold.
+fn push_value(
+    told: &mut String,
+    code: &Program,
+    array: ArrayId,
+    value: i64,
+) -> Result<(), AllocError> {
+    write!(told, "The value is {value}")?;
+    if let Some(array) = code.arrays.get(array.number) {
+        let name = array.name.as_str();
+        write!(told, ", and the array `{name}` holds bytes, 0 to 255")?;
+    }
+    told.push_str(".\n")
+}
+
+/// Adds what would be right.
+pub fn push_mend(told: &mut String, spot: Spot<'_>, cause: Cause) -> Result<(), AllocError> {
+    let name = spot.name;
+    told.push_str("To mend it: ")?;
+    match cause {
+        Cause::Index { .. } => write!(
+            told,
+            "test the index before, as `if 0 <= i and i < len({name}) {{ .. }}`, or give the array more elements.\n"
+        ),
+        Cause::Overflow { .. } | Cause::Negative { .. } => told.push_str(SMALLER),
+        Cause::ZeroDivisor { .. } => {
+            told.push_str("test the divisor before, as `if d != 0 { .. }`.\n")
+        }
+        Cause::OutOfElement { .. } => told.push_str(
+            "store a number from 0 to 255, or declare the array with elements of `int`.\n",
+        ),
+        Cause::SplitPoint { .. } => write!(
+            told,
+            "split at a number from 0 to the length, as at `len({name}) / 2`.\n"
+        ),
+        Cause::Raised(_) => told.push_str("look what leads the run here: such a fault is meant.\n"),
+    }
+}
+
+const SMALLER: &str =
+    "keep the numbers from -9223372036854775808 to 9223372036854775807, by a test before, or by `%`.\n";
+
+/// An operator as it is written.
+fn sign_of(operator: Operator) -> char {
+    match operator {
+        Operator::Plus => '+',
+        Operator::Minus => '-',
+        Operator::Times => '*',
+        Operator::Over => '/',
+        Operator::Modulo => '%',
+    }
+}

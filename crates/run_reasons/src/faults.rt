@@ -1,0 +1,58 @@
+//! Faults.
+
+use crate::causes::{push_cause, push_mend, spot_of};
+use crate::statements::Statements;
+use second_run::seen::{Seen, SeenFault};
+use std::alloc::AllocError;
+use types::code::{Label, Program};
+
+/// Adds the faults that were seen, and how many more there are.
+pub fn push_faults(
+    told: &mut String,
+    statements: &Statements<'_>,
+    code: &Program,
+    seen: &Seen,
+) -> Result<(), AllocError> {
+    let mut more = seen.many;
+    for fault in &seen.faults {
+        push_fault(told, statements, code, fault)?;
+        more = more.saturating_sub(1);
+    }
+    if more > 0 {
+        write!(told, "\nFaults behind these: {more}\n")?;
+    }
+    Ok(())
+}
+
+/// Adds one fault: where, from which values, and what would be right.
+fn push_fault(
+    told: &mut String,
+    statements: &Statements<'_>,
+    code: &Program,
+    fault: &SeenFault,
+) -> Result<(), AllocError> {
+    let path = &fault.path;
+    let label = fault.label;
+    let kind = fault.cause.kind();
+    write!(told, "\nfault {path} at {label}: {kind}\n")?;
+    let spot = spot_of(statements, label, fault.cause)?;
+    statements.push_at(told, label, spot.at)?;
+    push_cause(told, code, spot, fault.cause)?;
+    push_call(told, statements, fault.call)?;
+    push_mend(told, spot, fault.cause)
+}
+
+/// Adds in which call a statement stands.
+pub fn push_call(
+    told: &mut String,
+    statements: &Statements<'_>,
+    call: Option<Label>,
+) -> Result<(), AllocError> {
+    let Some(label) = call else {
+        return Ok(());
+    };
+    match statements.place(label) {
+        Some(place) => write!(told, "It was called at {place}, label {label}.\n"),
+        None => Ok(()),
+    }
+}

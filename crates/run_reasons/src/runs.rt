@@ -1,0 +1,29 @@
+//! Runs that had faults, or were stopped.
+
+use crate::faults::push_faults;
+use crate::statements::Statements;
+use crate::stops::push_overrun;
+use second_run::seen::Seen;
+use std::alloc::{AllocError, Global};
+use types::budget::Budget;
+use types::code::Program;
+
+/// What stands behind the outcome of a run with faults, or of one that was stopped: where, why, and what would be right.
+/// The text is that of the program, the budget is that of the run. Nothing of a run that ended without faults.
+pub fn explained_run(
+    alloc: Global,
+    text: &str,
+    code: &Program,
+    budget: Budget,
+    seen: &Seen,
+) -> Result<String, AllocError> {
+    let mut told = String::new(alloc);
+    let Some(statements) = Statements::of(alloc, text)? else {
+        return Ok(told);
+    };
+    match &seen.overrun {
+        Some(overrun) => push_overrun(&mut told, &statements, budget, overrun)?,
+        None => push_faults(&mut told, &statements, code, seen)?,
+    }
+    Ok(told)
+}

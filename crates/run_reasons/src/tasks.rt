@@ -1,0 +1,25 @@
+//! Runs with more tasks than they may have.
+
+use std::alloc::{AllocError, Global};
+
+/// The most tasks that `--tasks` allows.
+const MOST_TASKS: u64 = 1_048_576;
+
+/// What stands behind the line of a run that would have begun more tasks than it was allowed.
+pub fn explained_tasks(alloc: Global, tasks: u64) -> Result<String, AllocError> {
+    let mut told = String::new(alloc);
+    write!(
+        told,
+        "\nThe run would have begun more than {tasks} tasks.\n"
+    )?;
+    if tasks >= MOST_TASKS {
+        told.push_str("To mend it: begin fewer tasks, each with more to do; no run has more.\n")?;
+    } else {
+        let more = tasks.saturating_mul(2).min(MOST_TASKS);
+        write!(
+            told,
+            "To mend it: allow more, as by `--tasks {more}`; or begin fewer tasks, each with more to do.\n"
+        )?;
+    }
+    Ok(told)
+}

@@ -1,0 +1,70 @@
+//! Traces that aren't those of a run.
+
+use crate::trace_lines::{push_kind_rule, push_line_form};
+use excerpts::source::push_line;
+use std::alloc::{AllocError, Global};
+use syntax::Place;
+
+/// What is wrong with a trace.
+#[derive(Clone, Copy, PartialEq, Eq, Debug)]
+pub enum Wrong {
+    /// The line of this number, from 1, is none.
+    Line(usize),
+    /// The event of this number, from 0, can't come where it stands.
+    Event(usize),
+}
+
+/// What stands behind the line that tells what is wrong with a trace.
+pub fn explained_trace(alloc: Global, trace: &str, wrong: Wrong) -> Result<String, AllocError> {
+    let mut told = String::new(alloc);
+    match wrong {
+        Wrong::Line(number) => push_no_line(&mut told, trace, number)?,
+        Wrong::Event(event) => push_event(&mut told, trace, event)?,
+    }
+    Ok(told)
+}
+
+/// A line that is none.
+fn push_no_line(told: &mut String, trace: &str, number: usize) -> Result<(), AllocError> {
+    told.push('\n')?;
+    push_line(told, trace, beginning(number))?;
+    if is_cut(trace, number) {
+        told.push_str(
+            "Each line of a trace ends with a line feed, and this one, the last, doesn't.\n",
+        )?;
+    }
+    push_line_form(told, line_of(trace, number), number)?;
+    told.push_str("To mend it: write the trace anew, by `run --trace`.\n")
+}
+
+/// An event that can't come where it stands.
+fn push_event(told: &mut String, trace: &str, event: usize) -> Result<(), AllocError> {
+    let number = event.saturating_add(2);
+    told.push('\n')?;
+    push_line(told, trace, beginning(number))?;
+    told.push_str(
+        "All before it can happen in a run of this program on this input, and this can't come next.\n",
+    )?;
+    push_kind_rule(told, line_of(trace, number))?;
+    told.push_str(
+        "To mend it: give the program, the input and the trace of one run; or write the trace anew, by `run --trace`.\n",
+    )
+}
+
+/// The beginning of a line.
+fn beginning(number: usize) -> Place {
+    Place {
+        line: u32::try_from(number).unwrap_or(u32::MAX),
+        column: 1,
+    }
+}
+
+/// The line of a number, from 1, or nothing behind the last.
+fn line_of(text: &str, number: usize) -> &str {
+    text.lines().nth(number.saturating_sub(1)).unwrap_or("")
+}
+
+/// Whether a line is the last, and has no line feed.
+fn is_cut(text: &str, number: usize) -> bool {
+    !text.is_empty() && !text.ends_with('\n') && text.lines().count() == number
+}

@@ -1,0 +1,64 @@
+//! What makes a statement fault.
+
+ghost use Rattle.std.specs.Prelude.{◌≡◌};
+
+use sections::id::ArrayId;
+use sections::window::Window;
+use types::code::Operator;
+use types::fault::FaultKind;
+
+/// The values from which a fault comes. Of several elements or operators in one statement, `nth` is which one it was, from
+/// 0 in the order of the text.
+#[derive(Clone, Copy, PartialEq, Eq, Debug)]
+pub enum Cause {
+    /// `a[5]`, where `a` has 3 elements.
+    Index {
+        nth: usize,
+        index: i64,
+        window: Window,
+    },
+    /// `x + 1`, where `x` is 9223372036854775807.
+    Overflow {
+        nth: usize,
+        left: i64,
+        operator: Operator,
+        right: i64,
+    },
+    /// `-x`, where `x` is -9223372036854775808.
+    Negative {
+        nth: usize,
+    },
+    /// `x / 0` or `x % 0`.
+    ZeroDivisor {
+        nth: usize,
+        left: i64,
+        operator: Operator,
+    },
+    /// `b[0] = 256;`, where `b` is an array of bytes.
+    OutOfElement {
+        array: ArrayId,
+        value: i64,
+    },
+    /// `split s at 4 as l, r { }`, where `s` has 3 elements.
+    SplitPoint {
+        point: i64,
+        length: usize,
+    },
+    /// `fault 3;`
+    Raised(i64),
+}
+
+impl Cause {
+    /// The kind of the fault.
+    pub fn kind(self) -> FaultKind {
+        match self {
+            Cause::Index { .. } => FaultKind::Index,
+            Cause::Overflow { .. } => FaultKind::Overflow,
+            Cause::Negative { .. } => FaultKind::Overflow,
+            Cause::ZeroDivisor { .. } => FaultKind::ZeroDivisor,
+            Cause::OutOfElement { .. } => FaultKind::OutOfElement,
+            Cause::SplitPoint { .. } => FaultKind::SplitPoint,
+            Cause::Raised(number) => FaultKind::Raised(number),
+        }
+    }
+}

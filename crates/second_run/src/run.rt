@@ -1,0 +1,31 @@
+//! The run.
+
+use crate::machine::Machine;
+use crate::seen::Seen;
+use serial_run::thread::Plan;
+use std::alloc::{AllocError, Global};
+use types::budget::Budget;
+use types::input::Input;
+use types::typed::Typed;
+
+/// Runs a program on one thread, each async's body where it stands, up to its end or to the first task that is over its
+/// budget, and tells what was seen.
+pub fn seen_again(
+    alloc: Global,
+    typed: &Typed,
+    input: &Input,
+    budget: Budget,
+) -> Result<Seen, AllocError> {
+    let plan = Plan {
+        alloc,
+        program: typed.code(),
+        budget,
+    };
+    let mut machine = Machine::new(plan, input)?;
+    for _ in 0..u64::MAX {
+        if !machine.advance()? {
+            break;
+        }
+    }
+    Ok(machine.into_seen())
+}

@@ -1,0 +1,137 @@
+//! Expressions, evaluated up to a fault, of which it is told what it comes from.
+
+use crate::cause::Cause;
+use sections::id::SectionId;
+use serial_run::store::Store;
+use types::code::{Link, Number, Operator, Truth};
+use types::fault::FaultKind;
+use types::value::{Environment, Places, holds, operate};
+
+/// Where expressions of a statement are evaluated, and how many elements and operators stand before in its text.
+#[derive(Drop)]
+pub struct Tried<'e> {
+    environment: &'e Environment,
+    store: &'e Store,
+    elements: usize,
+    operators: usize,
+}
+
+impl<'e> Tried<'e> {
+    /// Before the first expression of a statement.
+    pub fn new(environment: &'e Environment, store: &'e Store) -> Tried<'e> {
+        Tried {
+            environment,
+            store,
+            elements: 0,
+            operators: 0,
+        }
+    }
+
+    /// The number of the next element in the text.
+    pub fn next_element(&mut self) -> usize {
+        let nth = self.elements;
+        self.elements = nth.saturating_add(1);
+        nth
+    }
+
+    /// The number of the next operator in the text.
+    fn next_operator(&mut self) -> usize {
+        let nth = self.operators;
+        self.operators = nth.saturating_add(1);
+        nth
+    }
+
+    /// The value of a number expression.
+    #[cycle(value)]
+    pub fn number(&mut self, number: &Number) -> Result<i64, Cause> {
+        match number {
+            Number::Literal(value) => Ok(*value),
+            Number::Scalar { slot } => Ok(self.environment.scalar(*slot)),
+            Number::Element { section, index } => {
+                let nth = self.next_element();
+                let index = self.number(index)?;
+                self.element(nth, *section, index)
+            }
+            Number::Length { section } => Ok(self.environment.window(*section).len as i64),
+            Number::Negative(operand) => {
+                let nth = self.next_operator();
+                let value = self.number(operand)?;
+                value.checked_neg().ok_or(Cause::Negative { nth })
+            }
+            Number::Chain { first, rest } => {
+                let value = self.number(first)?;
+                self.chain(value, rest)
+            }
+        }
+    }
+
+    /// The number of an element of a section.
+    fn element(&self, nth: usize, section: SectionId, index: i64) -> Result<i64, Cause> {
+        let window = self.environment.window(section);
+        match window.place(index) {
+            Some(place) => Ok(self.store.read(place)),
+            None => Err(Cause::Index { nth, index, window }),
+        }
+    }
+
+    /// What becomes of a number by the operators and operands behind it.
+    #[cycle(value)]
+    fn chain(&mut self, first: i64, rest: &[Link]) -> Result<i64, Cause> {
+        let mut value = first;
+        for link in rest {
+            let nth = self.next_operator();
+            let operand = self.number(&link.operand)?;
+            value = operated(nth, value, link.operator, operand)?;
+        }
+        Ok(value)
+    }
+
+    /// The value of a truth expression.
+    #[cycle(truth)]
+    pub fn truth(&mut self, truth: &Truth) -> Result<bool, Cause> {
+        match truth {
+            Truth::Constant(value) => Ok(*value),
+            Truth::Compare {
+                relation,
+                left,
+                right,
+            } => {
+                let left = self.number(left)?;
+                let right = self.number(right)?;
+                Ok(holds(*relation, left, right))
+            }
+            Truth::Not(operand) => Ok(!self.truth(operand)?),
+            Truth::Both(operands) => self.up_to(operands, false),
+            Truth::Either(operands) => self.up_to(operands, true),
+        }
+    }
+
+    /// Whether one of several is this value; the first that is ends it, and the value of all is that of the last.
+    #[cycle(truth)]
+    fn up_to(&mut self, operands: &[Truth], end: bool) -> Result<bool, Cause> {
+        for operand in operands {
+            if self.truth(operand)? == end {
+                return Ok(end);
+            }
+        }
+        Ok(!end)
+    }
+}
+
+/// What one operator makes of two numbers.
+fn operated(nth: usize, left: i64, operator: Operator, right: i64) -> Result<i64, Cause> {
+    match operate(operator, left, right) {
+        Ok(value) => Ok(value),
+        Err(FaultKind::ZeroDivisor) => Err(Cause::ZeroDivisor {
+            nth,
+            left,
+            operator,
+        }),
+        Err(_) => Err(Cause::Overflow {
+            nth,
+            left,
+            operator,
+            right,
+        }),
+    }
+}
