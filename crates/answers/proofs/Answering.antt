@@ -51,7 +51,7 @@ use Rattle.intake.specs.declared.failure.Failure.TheVariants.{Race, NoMemoryInCh
 use Rattle.intake.specs.declared.failure.Failure.TheVariants.{Run as RunFailed, ChoicesNotUnderstood, NoLeaf}
 use Rattle.command_line.specs.declared.request.Command.{Command}
 use Rattle.command_line.specs.declared.request.Command.TheVariants.{Run, Serial, Check, Listing, Pairs, Explore}
-use Rattle.command_line.specs.declared.request.Command.TheVariants.{Labels, Places, Format, CheckFormat}
+use Rattle.command_line.specs.declared.request.Command.TheVariants.{Labels, Places, Format, CheckFormat, Cost}
 use Rattle.command_line.specs.declared.request.Command.TheVariants.{View, Summary, Draw, Chrome}
 
 -- ---- failures
@@ -196,6 +196,7 @@ race_told Labels text procedure first second looks race = absurd looks
 race_told Places text procedure first second looks race = absurd looks
 race_told Format text procedure first second looks race = absurd looks
 race_told CheckFormat text procedure first second looks race = absurd looks
+race_told Cost text procedure first second looks race = absurd looks
 race_told View text procedure first second looks race = race
 race_told Summary text procedure first second looks race = race
 race_told Draw text procedure first second looks race = race
@@ -212,6 +213,7 @@ rules_tested Labels looks = absurd looks
 rules_tested Places looks = absurd looks
 rules_tested Format looks = absurd looks
 rules_tested CheckFormat looks = absurd looks
+rules_tested Cost looks = absurd looks
 rules_tested View looks = tt
 rules_tested Summary looks = tt
 rules_tested Draw looks = tt

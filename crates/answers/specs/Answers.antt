@@ -24,6 +24,9 @@ use Rattle.types.specs.Told.{Told}
 use Rattle.types.specs.TreeRuns.{Explored, Open, NoSuchChoice}
 use Rattle.types.specs.Typed.{code_of}
 use Rattle.types.specs.declared.error.TypeError.{TypeError}
+use Rattle.cost.specs.Costs.{cost_of, tally_of}
+use Rattle.cost.specs.Text.{cost_text}
+use Rattle.cost.specs.declared.cost.Cost.{Cost as Numbers}
 use Rattle.parallel_relation.specs.Pairs.{AreListed}
 use Rattle.parallel_relation.specs.Together.{LabelsMeet}
 use Rattle.race_checker.specs.Clash.{IsAccepted}
@@ -48,7 +51,7 @@ use Rattle.intake.specs.declared.failure.Failure.TheVariants.{Run as RunFailed}
 use Rattle.command_line.specs.declared.request.Command.{Command}
 use Rattle.command_line.specs.declared.request.Command.TheVariants.{Run, Serial, Check, Listing, Pairs, Explore}
 use Rattle.command_line.specs.declared.request.Command.TheVariants.{Labels, Places, Format, CheckFormat}
-use Rattle.command_line.specs.declared.request.Command.TheVariants.{View, Summary, Draw, Chrome}
+use Rattle.command_line.specs.declared.request.Command.TheVariants.{View, Summary, Draw, Chrome, Cost}
 
 -- the text spells a program that breaks no rule, of which this is the code
 pub record IsCodeOf (text : List ℕ) (code : Program) : Type 0 where
@@ -69,6 +72,7 @@ IsRunBy Labels code = ⊥
 IsRunBy Places code = ⊥
 IsRunBy Format code = ⊥
 IsRunBy CheckFormat code = ⊥
+IsRunBy Cost code = Unit {0}
 IsRunBy View code = IsAccepted code
 IsRunBy Summary code = IsAccepted code
 IsRunBy Draw code = IsAccepted code
@@ -89,6 +93,19 @@ pub record AnswersSerial (s : Settings) (held : Held) (text told : List ℕ) (st
   pub input : List (List ℤ)
   pub begins : BeginsWith s.input held code.arrays input
   pub shows : Shows s.arrays (outcome code input s.budget) code told status
+
+-- what is told of a run that ended without faults is what it cost; of any other its outcome
+pub data TellsCost (code : Program) (o : Outcome) (c : Numbers) (told : List ℕ) (status : ℕ) : Type 0 where
+  numbers : status_of o ≡ 0 → told ≡ cost_text c → status ≡ 0 → TellsCost code o c told status
+  not_ended : status_of o ≢ 0 → Shows false o code told status → TellsCost code o c told status
+
+-- `cost`: what the run on one thread cost, of the text's program on the input and under the budget given
+pub record AnswersCost (s : Settings) (held : Held) (text told : List ℕ) (status : ℕ) : Type 0 where
+  pub code : Program
+  pub is_code : IsCodeOf text code
+  pub input : List (List ℤ)
+  pub begins : BeginsWith s.input held code.arrays input
+  pub tells : TellsCost code (outcome code input s.budget) (cost_of (tally_of code input s.budget)) told status
 
 -- `run`: the text's program has no race; the same outcome
 pub record AnswersRun (s : Settings) (held : Held) (text told : List ℕ) (status : ℕ) : Type 0 where
@@ -193,6 +210,7 @@ Answers Labels s held text told status = AnswersLabels text told status
 Answers Places s held text told status = AnswersPlaces text told status
 Answers Format s held text told status = AnswersFormat text told status
 Answers CheckFormat s held text told status = AnswersCheckFormat text told status
+Answers Cost s held text told status = AnswersCost s held text told status
 Answers View s held text told status = ⊥
 Answers Summary s held text told status = ⊥
 Answers Draw s held text told status = ⊥
@@ -218,6 +236,7 @@ TestsRules Labels = ⊥
 TestsRules Places = ⊥
 TestsRules Format = ⊥
 TestsRules CheckFormat = ⊥
+TestsRules Cost = Unit {0}
 TestsRules View = Unit {0}
 TestsRules Summary = Unit {0}
 TestsRules Draw = Unit {0}
@@ -253,6 +272,7 @@ TellsRaceTo Labels text procedure first second = ⊥
 TellsRaceTo Places text procedure first second = ⊥
 TellsRaceTo Format text procedure first second = ⊥
 TellsRaceTo CheckFormat text procedure first second = ⊥
+TellsRaceTo Cost text procedure first second = ⊥
 TellsRaceTo View text procedure first second = HasRace text procedure first second
 TellsRaceTo Summary text procedure first second = HasRace text procedure first second
 TellsRaceTo Draw text procedure first second = HasRace text procedure first second
@@ -270,6 +290,7 @@ LooksForRaces Labels = ⊥
 LooksForRaces Places = ⊥
 LooksForRaces Format = ⊥
 LooksForRaces CheckFormat = ⊥
+LooksForRaces Cost = ⊥
 LooksForRaces View = Unit {0}
 LooksForRaces Summary = Unit {0}
 LooksForRaces Draw = Unit {0}

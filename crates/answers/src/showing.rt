@@ -32,9 +32,16 @@ pub fn show<O: Write>(
     if emit(out, outcome, declared, arrays).is_err() {
         return Err(Failure::CannotWriteOutput);
     }
+    Ok(status(outcome))
+}
+
+/// The exit status of an outcome: 0 ended, 2 ended with faults, 3 stopped.
+pub fn status(outcome: &Outcome) -> u8
+    ensures { result ≡ status_of (outcome_of outcome.now) }
+{
     match outcome {
-        Outcome::Stopped => Ok(3),
-        Outcome::Ended { faults, .. } => Ok(if faults.is_empty() { 0 } else { 2 }),
+        Outcome::Stopped => 3,
+        Outcome::Ended { faults, .. } => { if faults.is_empty() { 0 } else { 2 } }
     }
 }
 

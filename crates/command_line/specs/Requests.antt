@@ -8,7 +8,7 @@ use Rattle.types.specs.Translation.{budget as budget_of}
 use Rattle.command_line.specs.declared.request.Command.{Command}
 use Rattle.command_line.specs.declared.request.Command.TheVariants.{Run, Serial, Check, Listing, Pairs, Explore}
 use Rattle.command_line.specs.declared.request.Command.TheVariants.{Labels, Places, Format, CheckFormat}
-use Rattle.command_line.specs.declared.request.Command.TheVariants.{View, Summary, Draw, Chrome}
+use Rattle.command_line.specs.declared.request.Command.TheVariants.{View, Summary, Draw, Chrome, Cost}
 use Rattle.command_line.specs.declared.request.Action.{Action}
 use Rattle.command_line.specs.declared.request.Action.TheVariants.{Answer, Rewrite}
 use Rattle.command_line.specs.declared.manner.Manner.{Manner}
@@ -258,6 +258,11 @@ choosing_words_of t =
     (valued (codes "--choices") t.choices (valued (codes "--choices-from") t.choices_from
     (valued (codes "--random") t.random (flagged (codes "--arrays") t.arrays []))))
 
+-- those of a run that is measured, in this order: `--input FILE --steps N --nest N`
+abbrev pub measured_words_of : Texts → List (List ℕ)
+measured_words_of t =
+    valued (codes "--input") t.input (valued (codes "--steps") t.steps (valued (codes "--nest") t.nest []))
+
 -- a run has no budget
 pub record HasNoBudget (o : Options) : Type 0 where
   pub steps : o.steps ≡ None
@@ -294,6 +299,16 @@ pub record AreForExplore (o : Options) : Type 0 where
   pub budget : HasNoBudget o
   pub spread : HasNoSpread o
   pub trace : HasNoTrace o
+  pub progress : o.progress ≡ false
+
+-- of a run that is measured: it goes on no worker threads, not by choices, has no trace, shows no arrays, and
+-- nobody looks at it
+pub record AreForMeasuring (o : Options) : Type 0 where
+  pub right : AreRight o
+  pub spread : HasNoSpread o
+  pub choices : o.choices ≡ None
+  pub trace : HasNoTrace o
+  pub arrays : o.arrays ≡ false
   pub progress : o.progress ≡ false
 
 -- what they set; what isn't named is as usual
@@ -407,6 +422,9 @@ pub data AsksPlainly (words : List (List ℕ)) (a : Asked) : Type 0 where
       → words ≡ codes "fmt" ∷ file ∷ codes "--write" ∷ [] → a ≡ rewriting file → AsksPlainly words a
   to_pair : (file : List ℕ) → IsTrue (is_file_name file)
       → words ≡ codes "mhp" ∷ file ∷ [] → a ≡ plain Pairs file → AsksPlainly words a
+  to_cost : (file : List ℕ) (o : Options) → IsTrue (is_file_name file) → AreForMeasuring o
+      → words ≡ codes "cost" ∷ file ∷ measured_words_of (texts_by o) → a ≡ optioned Cost file o
+      → AsksPlainly words a
   to_explore : (file : List ℕ) (o : Options) → IsTrue (is_file_name file) → AreForExplore o
       → words ≡ codes "explore" ∷ file ∷ choosing_words_of (texts_by o) → a ≡ optioned Explore file o
       → AsksPlainly words a

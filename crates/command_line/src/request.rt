@@ -27,6 +27,8 @@ pub enum Command {
     Format,
     /// `fmt --check`: tell whether its text is so laid out.
     CheckFormat,
+    /// `cost`: tell work, span and parallelism of its run.
+    Cost,
     /// `view`: write the events of a trace as a table.
     View,
     /// `view --summary`: write the numbers of a trace.

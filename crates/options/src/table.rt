@@ -222,6 +222,12 @@ const LAYOUT_EXAMPLE: &str = "Example: afx fmt examples/race.afx --check";
 
 const PAIRS_EXAMPLE: &str = "Example: afx mhp examples/two_arrays.afx";
 
+const COST_EXAMPLE: &str =
+    "The run is on one thread, and the numbers are the same on every machine. Work is all steps of all tasks. Span is the
+longest chain of steps that must come one after another. No number of workers makes a run faster than work / span.
+
+Example: afx cost examples/doubling.afx --input examples/doubling.json";
+
 const EXPLORE_EXAMPLE: &str =
     "A choice is the number of a part that steps next, of those that may, from the left and from 0.
 
@@ -284,6 +290,13 @@ const PAIRED: Row = Row {
     entries: &[FILE, EXPLAIN, COLOR],
 };
 
+const COSTED: Row = Row {
+    name: "cost",
+    about: "Tells work, span and parallelism of a run, in steps",
+    example: COST_EXAMPLE,
+    entries: &[FILE, INPUT, STEPS, NEST, EXPLAIN, COLOR],
+};
+
 const EXPLORED: Row = Row {
     name: "explore",
     about: "Runs a program step by step, by given choices",
@@ -329,8 +342,9 @@ const MANUAL: Row = Row {
 };
 
 /// All commands, in the order in which help tells them.
-const ROWS: [Row; 11] = [
-    RUN, SERIAL, CHECKED, LISTED, FORMATTED, PAIRED, EXPLORED, VIEWED, EXPLAINED, COMPLETED, MANUAL,
+const ROWS: [Row; 12] = [
+    RUN, SERIAL, CHECKED, LISTED, FORMATTED, PAIRED, COSTED, EXPLORED, VIEWED, EXPLAINED,
+    COMPLETED, MANUAL,
 ];
 
 /// What stands behind the help of the program.
@@ -356,6 +370,7 @@ pub const CLOSING: Closing<'static> = Closing {
         LIST_EXAMPLE,
         LAYOUT_EXAMPLE,
         PAIRS_EXAMPLE,
+        COST_EXAMPLE,
         EXPLORE_EXAMPLE,
         VIEW_EXAMPLE,
         EXPLAIN_EXAMPLE,

@@ -13,7 +13,7 @@ use Rattle.reading.specs.declared.plain.Line.{Line as rLine}
 use Rattle.command_line.specs.declared.request.Action.{Action}
 use Rattle.command_line.specs.declared.request.Action.TheVariants.{Answer, Rewrite}
 use Rattle.command_line.specs.declared.request.Command.TheVariants.{Run, Serial, Check, Listing, Pairs, Explore}
-use Rattle.command_line.specs.declared.request.Command.TheVariants.{Labels, Places, Format, CheckFormat}
+use Rattle.command_line.specs.declared.request.Command.TheVariants.{Labels, Places, Format, CheckFormat, Cost}
 use Rattle.command_line.specs.declared.request.Color.{Color}
 use Rattle.command_line.specs.declared.request.Color.TheVariants.{Auto, Always, Never}
 use Rattle.command_line.specs.declared.request.Telling.{Telling}
@@ -23,14 +23,14 @@ use Rattle.reading.specs.Reading.{Line, bare, flag_taken, line_of, no_texts, rea
 use Rattle.std.proofs.Common.{true≢false}
 use Rattle.std.proofs.lemmas.Slice.Eq.{bytes_eq-Decides}
 use Rattle.reading.specs.Reading.{told_line, manner_if, read_by, read_color, read_manner, read_rest}
-use Rattle.reading.specs.Reading.{either, read_flagged, read_format}
+use Rattle.reading.specs.Reading.{either, read_flagged, read_format, read_measured}
 use Rattle.reading.specs.Reading.{read_optioned, read_serial_texts, read_showing, read_texts, read_view, shown_if, taken}
 use Rattle.command_line.specs.Requests.{AreForExplore, AreForRun, AreForSerial, AreRight, Asked, Asks, AsksPlainly, Options, Settings, Texts}
 use Rattle.command_line.specs.Requests.{AsPicture, AsTable, ByNumbers, ForViewer, Showing, Viewing, command_for, no_options}
 use Rattle.command_line.specs.Requests.{picture_of, showing_words, to_view, viewing_options, viewing_words}
 use Rattle.command_line.specs.Requests.{is_file_name, optioned, plain, settings_by, flagged, valued, by_command}
 use Rattle.command_line.specs.Requests.{color_word, manner_words, no_manner, telling_by, told_so}
-use Rattle.command_line.specs.Requests.{acting, rewriting, to_rewrite, to_rewrite_behind}
+use Rattle.command_line.specs.Requests.{acting, rewriting, to_rewrite, to_rewrite_behind, to_cost, AreForMeasuring, measured_words_of}
 use Rattle.command_line.specs.Requests.{Choosing, Listed, InFile, Random, IsRightChoosing, choosing_words_of, file_of, list_of}
 use Rattle.command_line.specs.Requests.{asked_of, seed_of, serial_words_of, texts_by, words_of}
 use Rattle.command_line.specs.Requests.{to_label, to_place, to_place_behind, to_format, to_check_format, to_check_format_behind}
@@ -139,6 +139,18 @@ from_steps input steps words =
 abbrev from_input : Option (List ℕ) → List (List ℕ) → Option Texts
 from_input input words =
     let t = taken (codes "--steps") words in from_steps input t.0 t.1
+
+abbrev measured_from_nest : (input steps : Option (List ℕ)) → Option (List ℕ) → List (List ℕ) → Option Texts
+measured_from_nest input steps nest words =
+    read_whole (record no_texts { input = input; steps = steps; nest = nest }) words
+
+abbrev measured_from_steps : (input : Option (List ℕ)) → Option (List ℕ) → List (List ℕ) → Option Texts
+measured_from_steps input steps words =
+    let t = taken (codes "--nest") words in measured_from_nest input steps t.0 t.1
+
+abbrev measured_from_input : Option (List ℕ) → List (List ℕ) → Option Texts
+measured_from_input input words =
+    let t = taken (codes "--steps") words in measured_from_steps input t.0 t.1
 
 abbrev from_color : (explain : Bool) → Option (List ℕ) → List (List ℕ) → Option (Manner × List (List ℕ))
 from_color explain color words = manner_if explain (read_color color) words
@@ -341,6 +353,23 @@ module _ (arrays : Bool) where
         ∙ goes_flag (codes "--progress") (flagged (codes "--progress") progress []) progress []
         (serial_from_progress input steps nest arrays) (takes_flag (codes "--progress") progress [] refl refl)
 
+-- those of a run that is measured
+read_measured_words : (input steps nest : Option (List ℕ))
+    → (let t : Texts = record no_texts { input = input; steps = steps; nest = nest } in
+    read_measured (measured_words_of t) ≡ Some t)
+read_measured_words input steps nest =
+    let nest_words = valued (codes "--nest") nest [] in
+    let steps_words = valued (codes "--steps") steps nest_words in
+    goes (codes "--input") (valued (codes "--input") input steps_words) input steps_words measured_from_input
+    (takes_value (codes "--input") input steps_words refl
+    (lacks_valued (codes "--input") (codes "--steps") steps nest_words refl
+    (lacks_valued (codes "--input") (codes "--nest") nest [] refl refl)))
+    ∙ goes (codes "--steps") steps_words steps nest_words (measured_from_steps input)
+    (takes_value (codes "--steps") steps nest_words refl
+    (lacks_valued (codes "--steps") (codes "--nest") nest [] refl refl))
+    ∙ goes (codes "--nest") nest_words nest [] (measured_from_nest input steps)
+    (takes_value (codes "--nest") nest [] refl refl)
+
 -- ---- lines
 
 abbrev line : Action → (file : List ℕ) → Texts → Line
@@ -416,6 +445,34 @@ explore_options o for =
     (subst (λ f. P None None None None None None f o.progress) (sym for.trace.picture)
     (subst (λ p. P None None None None None None None p) (sym for.progress)
     (read_choosing_words o.arrays o.input o.choices))))))))
+
+-- of a run that is measured
+measured_options : (o : Options) → AreForMeasuring o → read_measured (measured_words_of (texts_by o)) ≡ Some (texts_by o)
+measured_options o for =
+    let P : (tasks w0 workers : Option ℕ) → Option Choosing → (trace picture : Option (List ℕ)) → (arrays progress : Bool)
+    → Type 0 =
+    λ tasks w0 workers c trace picture arrays progress.
+    let t : Texts = record (texts_by o) {
+      tasks = option_map decimal tasks;
+      w0 = option_map decimal w0;
+      workers = option_map decimal workers;
+      choices = list_of c;
+      choices_from = file_of c;
+      random = option_map decimal (seed_of c);
+      trace = trace;
+      picture = picture;
+      arrays = arrays;
+      progress = progress;
+    } in read_measured (measured_words_of t) ≡ Some t in
+    subst (λ n. P n o.w0 o.workers o.choices o.trace o.picture o.arrays o.progress) (sym for.spread.tasks)
+    (subst (λ n. P None n o.workers o.choices o.trace o.picture o.arrays o.progress) (sym for.spread.w0)
+    (subst (λ n. P None None n o.choices o.trace o.picture o.arrays o.progress) (sym for.spread.workers)
+    (subst (λ c. P None None None c o.trace o.picture o.arrays o.progress) (sym for.choices)
+    (subst (λ f. P None None None None f o.picture o.arrays o.progress) (sym for.trace.trace)
+    (subst (λ f. P None None None None None f o.arrays o.progress) (sym for.trace.picture)
+    (subst (λ b. P None None None None None None b o.progress) (sym for.arrays)
+    (subst (λ b. P None None None None None None false b) (sym for.progress)
+    (read_measured_words o.input (option_map decimal o.steps) (option_map decimal o.nest)))))))))
 
 -- how a trace is shown
 read_shown : (s : Showing) → read_showing (showing_words s) ≡ Some (Answer (command_for s), picture_of s)
@@ -606,6 +663,14 @@ asks_line words a (to_rewrite file named is asked) =
     bare_line words a Rewrite file (ap read_plain is ∙ read_write_before file named) asked
 asks_line words a (to_rewrite_behind file named is asked) =
     bare_line words a Rewrite file (ap read_plain is ∙ read_write_behind file named) asked
+asks_line words a (to_cost file o named for is asked) = record {
+  action = Answer Cost;
+  file = file;
+  options = o;
+  right = for.right;
+  is_read = ap read_plain is ∙ read_with (Answer Cost) file (texts_by o) _ named (measured_options o for);
+  asked = asked;
+}
 
 -- ---- how it is told
 
@@ -658,6 +723,7 @@ begins words command file behind named is = subst BeginsPlainly (sym is) (named_
 plainly_begun : (words : List (List ℕ)) (a : Asked) → AsksPlainly words a → BeginsPlainly words
 plainly_begun words a (to_run file o named for is asked) = begins words _ file _ named is
 plainly_begun words a (to_run_on_one_thread file o named for is asked) = begins words _ file _ named is
+plainly_begun words a (to_cost file o named for is asked) = begins words _ file _ named is
 plainly_begun words a (to_explore file o named for is asked) = begins words _ file _ named is
 plainly_begun words a (to_view file v named right is asked) = begins words _ file _ named is
 plainly_begun words a (to_check file named is asked) = begins words _ file _ named is

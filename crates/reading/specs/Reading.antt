@@ -11,7 +11,7 @@ use Rattle.command_line.specs.declared.request.Action.{Action}
 use Rattle.command_line.specs.declared.request.Action.TheVariants.{Answer, Rewrite}
 use Rattle.command_line.specs.declared.request.Command.TheVariants.{Run, Serial, Check, Listing, Pairs, Explore}
 use Rattle.command_line.specs.declared.request.Command.TheVariants.{Labels, Places, Format, CheckFormat}
-use Rattle.command_line.specs.declared.request.Command.TheVariants.{View, Summary, Draw, Chrome}
+use Rattle.command_line.specs.declared.request.Command.TheVariants.{View, Summary, Draw, Chrome, Cost}
 use Rattle.reading.specs.declared.plain.Line.{Line as rLine}
 use Rattle.reading.specs.declared.plain.Texts.{Texts as rTexts}
 
@@ -146,6 +146,14 @@ read_choosing words =
       arrays = arrays.0;
     }) arrays.1
 
+-- the options of a run that is measured
+abbrev pub read_measured : List (List ℕ) → Option Texts
+read_measured words =
+    let input = taken (codes "--input") words in
+    let steps = taken (codes "--steps") input.1 in
+    let nest = taken (codes "--nest") steps.1 in
+    read_whole (record no_texts { input = input.0; steps = steps.0; nest = nest.0 }) nest.1
+
 -- how a trace is shown, as words say it
 abbrev pub read_showing : List (List ℕ) → Option (Action × Option (List ℕ))
 read_showing [] = Some ((Answer View), None)
@@ -230,7 +238,8 @@ read_behind command file behind =
     (if bytes_eq command (codes "mhp") then read_alone (Answer Pairs) file behind else
     (if bytes_eq command (codes "fmt") then read_format file behind else
     (if bytes_eq command (codes "explore") then read_optioned (Answer Explore) file (read_choosing behind) else
-    (if bytes_eq command (codes "view") then read_view file behind else None)))))))
+    (if bytes_eq command (codes "view") then read_view file behind else
+    (if bytes_eq command (codes "cost") then read_optioned (Answer Cost) file (read_measured behind) else None))))))))
 
 -- the words behind a command, but for those that say how it is told
 abbrev pub read_rest : (command : List ℕ) → (words : List (List ℕ)) → Option Line

@@ -39,6 +39,7 @@ fn request_asked<'w>(
         Some(("list", given)) => request(alloc, Command::Labels, given),
         Some(("fmt", given)) => asking(alloc, formatting(given), given),
         Some(("mhp", given)) => request(alloc, Command::Pairs, given),
+        Some(("cost", given)) => request(alloc, Command::Cost, given),
         Some(("explore", given)) => request(alloc, Command::Explore, given),
         Some(("view", given)) => request(alloc, viewing(given), given),
         _ => Err(commands(alloc)?.error(ErrorKind::MissingSubcommand, "no command")?),

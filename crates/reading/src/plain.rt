@@ -4,7 +4,7 @@ ghost use Rattle.std.specs.Prelude.{◌≡◌, map, option_map};
 ghost use Rattle.std.specs.String.{string_bytes};
 ghost use Rattle.reading.specs.Reading.{bare as bare_line, line_of, read, told_line};
 ghost use Rattle.reading.specs.Reading.{read_alone, read_behind, read_choosing, read_rest};
-ghost use Rattle.reading.specs.Reading.{read_format};
+ghost use Rattle.reading.specs.Reading.{read_format, read_measured};
 ghost use Rattle.reading.specs.Reading.{no_texts, read_file, read_flaggable, read_flagged};
 ghost use Rattle.reading.specs.Reading.{read_optioned, read_serial_texts, read_texts, read_whole};
 ghost use Rattle.reading.specs.Reading.{read_showing, read_view, shown_of, texts_of};
@@ -122,6 +122,8 @@ fn line_behind<'w>(command: &str, file: &'w str, behind: &'w [String]) -> Option
         optioned_line(Answer(Command::Explore), file, choosing_texts_in(behind))
     } else if command == "view" {
         view_line(file, behind)
+    } else if command == "cost" {
+        optioned_line(Answer(Command::Cost), file, measured_texts_in(behind))
     } else {
         None
     }
@@ -256,6 +258,22 @@ fn choosing_texts_in<'w>(words: &'w [String]) -> Option<Texts<'w>>
         choices_from,
         random,
         arrays,
+        ..Texts::none()
+    };
+    whole(texts, words)
+}
+
+/// The texts behind options: `--input FILE --steps N --nest N`, each of which may be left out.
+fn measured_texts_in<'w>(words: &'w [String]) -> Option<Texts<'w>>
+    ensures { option_map texts_of result ≡ read_measured (map string_bytes words.now) }
+{
+    let (input, words) = take("--input", words);
+    let (steps, words) = take("--steps", words);
+    let (nest, words) = take("--nest", words);
+    let texts = Texts {
+        input,
+        steps,
+        nest,
         ..Texts::none()
     };
     whole(texts, words)

@@ -18,6 +18,7 @@ const ROWS: &[(&str, &str)] = &[
     ("list", " lines explain color"),
     ("fmt", " check write explain color"),
     ("mhp", " explain color"),
+    ("cost", " input steps nest explain color"),
     (
         "explore",
         " input choices choices-from random arrays explain color",
