@@ -1,0 +1,7 @@
+pub mod Faults
+pub mod Outcomes
+pub mod Pieces
+pub mod Places
+pub mod Programs
+pub mod Races
+pub mod Refusals

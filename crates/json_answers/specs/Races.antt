@@ -1,0 +1,46 @@
+-- What is told of a race.
+use Rattle.std.specs.Prelude.{ℕ, List, [], ◌∷◌, codes}
+use Rattle.serde_json.specs.Data.{Data, null, string}
+use Rattle.syntax.specs.declared.place.Place.{Place}
+use Rattle.types.specs.Code.{Procedure, Program}
+use Rattle.effects.specs.Accesses.{Access}
+use Rattle.race_checker.specs.Races.{Race}
+use Rattle.texts.specs.Reasons.{race_text}
+use Rattle.intake.specs.Failures.{kind_of, section_name, section_text, told_procedure}
+use Rattle.json_answers.specs.Pieces.{natural, object_of, or_null}
+use Rattle.json_answers.specs.Places.{column_of, line_of, place_at}
+
+-- the statement and where it begins, what it does, and the section, by its name in the procedure
+abbrev pub access_json : List Place → Procedure → Access → Data
+access_json places g a =
+    let place = place_at places a.label in
+    object_of (
+    (codes "column", or_null natural (column_of place))
+    ∷ (codes "kind", string (kind_of a.write))
+    ∷ (codes "label", natural a.label)
+    ∷ (codes "line", or_null natural (line_of place))
+    ∷ (codes "section", string (section_name g a.section)) ∷ [])
+
+-- the line of a race
+abbrev pub race_message : Program → Race → List ℕ
+race_message p r =
+    let g = told_procedure p r.procedure in
+    race_text g.name (section_text g r.first) (section_text g r.second)
+
+-- what a refusal tells, with the label and the place of the first access, and with the procedure and both accesses
+abbrev pub race_json : (file : List ℕ) → List Place → Program → Race → Data
+race_json file places p r =
+    let g = told_procedure p r.procedure in
+    let place = place_at places r.first.label in
+    object_of (
+    (codes "array", null)
+    ∷ (codes "code", string (codes "C1"))
+    ∷ (codes "column", or_null natural (column_of place))
+    ∷ (codes "file", string file)
+    ∷ (codes "first", access_json places g r.first)
+    ∷ (codes "label", natural r.first.label)
+    ∷ (codes "line", or_null natural (line_of place))
+    ∷ (codes "message", string (race_message p r))
+    ∷ (codes "procedure", string g.name)
+    ∷ (codes "second", access_json places g r.second)
+    ∷ (codes "status", natural 1) ∷ [])
