@@ -28,13 +28,15 @@ raised_number SplitPoint = None
 raised_number (Raised n) = Some n
 
 -- the task, the statement and where it begins, the kind, and the number of one that was raised
-abbrev pub fault_json : List Place → Fault → Data
-fault_json places f =
+abbrev pub fault_members : List Place → Fault → List (List ℕ × Data)
+fault_members places f =
     let place = place_at places f.label in
-    object_of (
     (codes "column", or_null natural (column_of place))
     ∷ (codes "kind", string (fault_code f.kind))
     ∷ (codes "label", natural f.label)
     ∷ (codes "line", or_null natural (line_of place))
     ∷ (codes "number", or_null integer (raised_number f.kind))
-    ∷ (codes "path", string (path_text f.path)) ∷ [])
+    ∷ (codes "path", string (path_text f.path)) ∷ []
+
+abbrev pub fault_json : List Place → Fault → Data
+fault_json places f = object_of (fault_members places f)

@@ -1,4 +1,5 @@
 pub mod Faults
+pub mod Given
 pub mod Outcomes
 pub mod Pieces
 pub mod Places

@@ -22,14 +22,16 @@ abbrev pub arrays_json : (declared : List Array) → List (List ℤ) → Data
 arrays_json declared contents = object (put_arrays (zip declared contents) no_members)
 
 -- the arrays, the faults, the printed lines, and the exit status
-abbrev pub ended_json : (declared : List Array) → List Place → Ending → Data
-ended_json declared places e =
-    object_of (
+abbrev pub ended_members : (declared : List Array) → List Place → Ending → List (List ℕ × Data)
+ended_members declared places e =
     (codes "arrays", arrays_json declared e.arrays)
     ∷ (codes "faults", list_by (fault_json places) e.faults)
     ∷ (codes "lines", list_by numbers_json e.lines)
     ∷ (codes "status", natural (status_by e.faults))
-    ∷ (codes "stopped", boolean false) ∷ [])
+    ∷ (codes "stopped", boolean false) ∷ []
+
+abbrev pub ended_json : (declared : List Array) → List Place → Ending → Data
+ended_json declared places e = object_of (ended_members declared places e)
 
 -- nothing but that the run was stopped
 abbrev pub stopped_json : Data

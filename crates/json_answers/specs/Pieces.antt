@@ -1,7 +1,8 @@
 -- Values of JSON: numbers, lists and objects, and the line that tells a value.
-use Rattle.std.specs.Prelude.{ℕ, ℤ, List, [], ◌∷◌, ◌++◌, codes, map, Option, None, Some}
+use Rattle.std.specs.Prelude.{ℕ, ℤ, ◌≡◌, List, [], ◌∷◌, ◌++◌, codes, map, Option, None, Some}
 use Rattle.serde_json.specs.Data.{Data, null, number, array, object, unsigned, Members, no_members, member}
 use Rattle.serde_json.specs.Find.{of_integer}
+use Rattle.serde_json.specs.Read.{read}
 use Rattle.serde_json.specs.View.{items_of}
 use Rattle.serde_json.specs.Written.{compact_text}
 
@@ -31,3 +32,7 @@ object_of ms = object (members_by ms)
 -- the compact text of a value, and a line feed
 unfoldable pub line : Data → List ℕ
 line d = compact_text d ++ codes "\n"
+
+-- a reader reads the compact text of a value as the value
+abbrev pub IsReadBack : Data → Type 0
+IsReadBack d = read (compact_text d) ≡ Some d

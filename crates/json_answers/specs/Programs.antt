@@ -18,6 +18,8 @@ abbrev pub pair_json : ℕ × ℕ → Data
 pair_json pair = list_by natural (pair.0 ∷ pair.1 ∷ [])
 
 -- pairs of labels that may run together
+abbrev pub pairs_members : List (ℕ × ℕ) → List (List ℕ × Data)
+pairs_members pairs = (codes "pairs", list_by pair_json pairs) ∷ (codes "status", natural 0) ∷ []
+
 abbrev pub pairs_json : List (ℕ × ℕ) → Data
-pairs_json pairs =
-    object_of ((codes "pairs", list_by pair_json pairs) ∷ (codes "status", natural 0) ∷ [])
+pairs_json pairs = object_of (pairs_members pairs)

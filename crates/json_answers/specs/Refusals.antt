@@ -55,10 +55,9 @@ failure_array (Input e) = input_name e
 failure_array _ = None
 
 -- its code, its line and its status, and what else is known; `file` is that of the program
-abbrev pub refusal_json : (file : List ℕ) → List Place → Failure → Data
-refusal_json file places f =
+abbrev pub refusal_members : (file : List ℕ) → List Place → Failure → List (List ℕ × Data)
+refusal_members file places f =
     let place = failure_place places f in
-    object_of (
     (codes "array", or_null string (failure_array f))
     ∷ (codes "code", or_null string (failure_code f))
     ∷ (codes "column", or_null natural (column_of place))
@@ -66,4 +65,7 @@ refusal_json file places f =
     ∷ (codes "label", or_null natural (failure_label f))
     ∷ (codes "line", or_null natural (line_of place))
     ∷ (codes "message", string (failure_text f))
-    ∷ (codes "status", natural (failure_status f)) ∷ [])
+    ∷ (codes "status", natural (failure_status f)) ∷ []
+
+abbrev pub refusal_json : (file : List ℕ) → List Place → Failure → Data
+refusal_json file places f = object_of (refusal_members file places f)

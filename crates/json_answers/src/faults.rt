@@ -5,7 +5,7 @@ ghost use Rattle.serde_json.specs.View.{view};
 ghost use Rattle.types.specs.Translation.{fault as fault_of};
 ghost use Rattle.json_answers.specs.Faults.{fault_code, fault_json, raised_number};
 
-use crate::places::{column_in, line_in, place_at};
+use crate::text_places::{column_in, line_in, place_at};
 use serde_json::{Value, json};
 use std::alloc::{AllocError, Global};
 use syntax::Place;

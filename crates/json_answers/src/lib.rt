@@ -3,12 +3,11 @@
 #![tactic(auto)]
 
 pub mod faults;
+pub mod laws;
 pub mod line;
 pub mod outcomes;
-pub mod places;
 pub mod programs;
 pub mod races;
 pub mod refusals;
-#[cfg(test)]
-mod tests;
+pub mod text_places;
 pub mod told;

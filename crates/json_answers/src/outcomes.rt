@@ -1,13 +1,13 @@
 //! What a run comes to.
 
-ghost use Rattle.std.specs.Prelude.{◌≡◌, IfOk, map};
+ghost use Rattle.std.specs.Prelude.{◌≡◌, IfOk, OnOk, map};
 ghost use Rattle.std.specs.String.{string_bytes};
 ghost use Rattle.serde_json.specs.View.{view};
 ghost use Rattle.types.specs.Translation.{array, fault as fault_of, outcome as outcome_of};
-ghost use Rattle.json_answers.specs.Pieces.{line, list_by};
+ghost use Rattle.texts.specs.OutcomeText.{status_by};
+ghost use Rattle.json_answers.specs.Pieces.{IsReadBack, line, list_by};
 ghost use Rattle.json_answers.specs.Faults.{fault_json};
-ghost use Rattle.json_answers.specs.Outcomes.{arrays_json, ended_json, numbers_json, outcome_json};
-ghost use Rattle.json_answers.specs.Outcomes.{stopped_json};
+ghost use Rattle.json_answers.specs.Outcomes.{arrays_json, numbers_json, outcome_json};
 
 use crate::faults::fault_value;
 use crate::line::line_of;
@@ -27,8 +27,10 @@ pub fn outcome_object(
     places: &[Place],
     outcome: &Outcome,
 ) -> Result<String, AllocError>
-    ensures { IfOk result (λ text. string_bytes text
+    ensures text { IfOk result (λ text. string_bytes text
         ≡ line (outcome_json (map array declared.now) places.now (outcome_of outcome.now))) }
+    ensures reads { OnOk result (IsReadBack
+        (outcome_json (map array declared.now) places.now (outcome_of outcome.now))) }
 {
     let value = outcome_value(alloc, declared, places, outcome)?;
     line_of(alloc, &value)
@@ -53,7 +55,7 @@ fn outcome_value(
         } => {
             let arrays = arrays_value(alloc, declared, arrays)?;
             let lines = lines_value(alloc, lines)?;
-            let status = if faults.is_empty() { 0u8 } else { 2 };
+            let status = status_of(faults);
             let faults = faults_value(alloc, places, faults)?;
             json!(in alloc; {
                 "arrays": arrays,
@@ -64,6 +66,13 @@ fn outcome_value(
             })
         }
     }
+}
+
+/// The exit status of a run that ended with these faults.
+fn status_of(faults: &[Fault]) -> u8
+    ensures { result ≡ status_by (map fault_of faults.now) }
+{
+    if faults.is_empty() { 0 } else { 2 }
 }
 
 /// `{"a":[2,4]}`: the arrays that are declared, under their names.

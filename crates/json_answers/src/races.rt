@@ -1,6 +1,6 @@
 //! Races.
 
-ghost use Rattle.std.specs.Prelude.{◌≡◌, IfOk};
+ghost use Rattle.std.specs.Prelude.{◌≡◌, IfOk, OnOk};
 ghost use Rattle.std.specs.String.{string_bytes};
 ghost use Rattle.serde_json.specs.View.{view};
 ghost use Rattle.types.specs.Translation.{procedure as procedure_of, program};
@@ -8,11 +8,11 @@ ghost use Rattle.effects.specs.Translation.{access as access_of};
 ghost use Rattle.race_checker.specs.Translation.{race as race_of};
 ghost use Rattle.intake.specs.Failures.{kind_of as kind_text, section_name as name_of_section};
 ghost use Rattle.intake.specs.Failures.{told_procedure};
-ghost use Rattle.json_answers.specs.Pieces.{line};
-ghost use Rattle.json_answers.specs.Races.{access_json, race_json, race_message};
+ghost use Rattle.json_answers.specs.Pieces.{IsReadBack, line};
+ghost use Rattle.json_answers.specs.Races.{access_json, accesses_json, race_json, race_message};
 
 use crate::line::line_of;
-use crate::places::{column_in, line_in, place_at};
+use crate::text_places::{column_in, line_in, place_at};
 use crate::told::message_of;
 use effects::access::Access;
 use intake::failure::Failure;
@@ -33,8 +33,10 @@ pub fn race_object(
     code: &Program,
     race: Race,
 ) -> Result<String, AllocError>
-    ensures { IfOk result (λ text. string_bytes text
+    ensures text { IfOk result (λ text. string_bytes text
         ≡ line (race_json file.now places.now (program code.now) (race_of race))) }
+    ensures reads { OnOk result
+        (IsReadBack (race_json file.now places.now (program code.now) (race_of race))) }
 {
     let value = race_value(alloc, file, places, code, race)?;
     line_of(alloc, &value)
@@ -51,23 +53,38 @@ fn race_value(
     ensures { IfOk result (λ v. view v
         ≡ race_json file.now places.now (program code.now) (race_of race)) }
 {
-    let procedure = procedure_in(code, race.procedure);
     let place = place_at(places, race.first.label);
-    let first = access_value(alloc, places, procedure, race.first)?;
-    let second = access_value(alloc, places, procedure, race.second)?;
+    let accesses = accesses_value(alloc, places, procedure_in(code, race.procedure), race)?;
     let message = message_of_race(alloc, code, race)?;
     json!(in alloc; {
         "array": null,
         "code": "C1",
         "column": column_in(place),
         "file": file,
-        "first": first,
         "label": race.first.label,
         "line": line_in(place),
         "message": message,
+        "race": accesses,
+        "status": 1u8,
+    })
+}
+
+/// Both accesses of a race, and the procedure that has it.
+fn accesses_value(
+    alloc: Global,
+    places: &[Place],
+    procedure: &Procedure,
+    race: Race,
+) -> Result<Value, AllocError>
+    ensures { IfOk result (λ v. view v
+        ≡ accesses_json places.now (procedure_of procedure.now) (race_of race)) }
+{
+    let first = access_value(alloc, places, procedure, race.first)?;
+    let second = access_value(alloc, places, procedure, race.second)?;
+    json!(in alloc; {
+        "first": first,
         "procedure": procedure.name.as_str(),
         "second": second,
-        "status": 1u8,
     })
 }
 

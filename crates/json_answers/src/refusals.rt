@@ -1,14 +1,14 @@
 //! Why a command has no answer.
 
-ghost use Rattle.std.specs.Prelude.{◌≡◌, IfOk, option_map};
+ghost use Rattle.std.specs.Prelude.{◌≡◌, IfOk, OnOk, option_map};
 ghost use Rattle.std.specs.String.{string_bytes};
 ghost use Rattle.serde_json.specs.Data.{string};
 ghost use Rattle.serde_json.specs.View.{view};
-ghost use Rattle.json_answers.specs.Pieces.{line, or_null};
+ghost use Rattle.json_answers.specs.Pieces.{IsReadBack, line, or_null};
 ghost use Rattle.json_answers.specs.Refusals.{refusal_json};
 
 use crate::line::line_of;
-use crate::places::{column_in, line_in};
+use crate::text_places::{column_in, line_in};
 use crate::told::{array_of, code_of, label_of, message_of, place_of};
 use intake::failure::Failure;
 use serde_json::{Value, json};
@@ -24,8 +24,9 @@ pub fn refusal_object(
     places: &[Place],
     failure: &Failure,
 ) -> Result<String, AllocError>
-    ensures { IfOk result (λ text. string_bytes text
+    ensures text { IfOk result (λ text. string_bytes text
         ≡ line (refusal_json file.now places.now failure.now)) }
+    ensures reads { OnOk result (IsReadBack (refusal_json file.now places.now failure.now)) }
 {
     let value = refusal_value(alloc, file, places, failure)?;
     line_of(alloc, &value)

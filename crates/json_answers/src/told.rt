@@ -6,7 +6,7 @@ ghost use Rattle.syntax.specs.declared.place.Place.{Place as AnyPlace};
 ghost use Rattle.intake.specs.Messages.{failure_text};
 ghost use Rattle.json_answers.specs.Refusals.{failure_array, failure_code, failure_label, failure_place};
 
-use crate::places::place_at;
+use crate::text_places::place_at;
 use intake::failure::Failure;
 use intake::message::emit_message;
 use std::alloc::{AllocError, Global};
