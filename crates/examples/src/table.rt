@@ -2,27 +2,17 @@
 
 use crate::bytes::not_understood;
 use crate::machine::Machine;
-use crate::objects;
 use crate::row::Row;
 use crate::shelf::Shelf;
 use crate::wanted::Wanted;
 use std::io::ErrorKind;
 use std::{fs, io};
 
-/// How the rows of a table are done.
-#[derive(Clone, Copy)]
-pub enum Asked {
-    /// As they stand.
-    Plainly,
-    /// Those whose commands can tell an object, with `--format json`.
-    AsObjects,
-}
-
 /// Does the rows of a table of the folder `rows`, and tells how many there are, or which of them answer otherwise.
-pub fn compare<R: Machine>(rt: &R, name: &str, asked: Asked) -> io::Result<()> {
+pub fn compare<R: Machine>(rt: &R, name: &str) -> io::Result<()> {
     let path = format!(in rt.alloc(); "rows/{name}")?;
     let text = fs::read_to_string(rt, path.as_str())?;
-    let mut table = Table::new(rt, asked);
+    let mut table = Table::new(rt);
     let mut number = 0u64;
     for line in text.split('\n') {
         number = number.saturating_add(1);
@@ -31,13 +21,9 @@ pub fn compare<R: Machine>(rt: &R, name: &str, asked: Asked) -> io::Result<()> {
         }
     }
     table.end()?;
-    let what = match asked {
-        Asked::Plainly => "rows",
-        Asked::AsObjects => "objects",
-    };
     match table.wrong {
-        0 => println!(rt; "{name}: {} {what} answer as they say", table.rows),
-        wrong => println!(rt; "{name}: {wrong} of {} {what} answer otherwise", table.rows),
+        0 => println!(rt; "{name}: {} rows answer as they say", table.rows),
+        wrong => println!(rt; "{name}: {wrong} of {} rows answer otherwise", table.rows),
     }
 }
 
@@ -68,7 +54,6 @@ enum Open {
 #[derive(Drop)]
 struct Table<'t, R> {
     rt: &'t R,
-    asked: Asked,
     shelf: Shelf<'t, R>,
     group: &'t str,
     /// Commands that must tell the same.
@@ -82,10 +67,9 @@ struct Table<'t, R> {
 
 impl<'t, R: Machine> Table<'t, R> {
     /// Nothing yet.
-    fn new(rt: &'t R, asked: Asked) -> Table<'t, R> {
+    fn new(rt: &'t R) -> Table<'t, R> {
         Table {
             rt,
-            asked,
             shelf: Shelf::new(rt),
             group: "",
             commands: Vec::new(rt.alloc()),
@@ -158,13 +142,8 @@ impl<'t, R: Machine> Table<'t, R> {
                 command: *command,
                 wanted: &self.wanted,
             };
-            let is_so = match self.asked {
-                Asked::Plainly => row.is_so(self.rt, &mut self.shelf)?,
-                Asked::AsObjects if !objects::has_object(&row) => continue,
-                Asked::AsObjects => objects::is_told(self.rt, &row, &mut self.shelf)?,
-            };
             self.rows = self.rows.saturating_add(1);
-            if !is_so {
+            if !row.is_so(self.rt, &mut self.shelf)? {
                 self.wrong = self.wrong.saturating_add(1);
             }
         }
