@@ -164,19 +164,16 @@ race_has_none file places p r =
     object_has_none (race_members file places p r) (
       refl,
       (
-        refl,
+        or_null_has_none natural (column_of place) natural_has_none,
         (
-          or_null_has_none natural (column_of place) natural_has_none,
+          refl,
           (
             refl,
             (
-              refl,
+              or_null_has_none natural (line_of place) natural_has_none,
               (
-                or_null_has_none natural (line_of place) natural_has_none,
-                (
-                  refl,
-                  (accesses_have_none places (told_procedure p r.procedure) r, (refl, tt)),
-                ),
+                refl,
+                (accesses_have_none places (told_procedure p r.procedure) r, (refl, tt)),
               ),
             ),
           ),

@@ -175,19 +175,16 @@ race_within file places p r =
     let whole = object_within 2 (race_members file places p r) (
       omega arith,
       (
-        omega arith,
+        or_null_in_two (column_of place),
         (
-          or_null_in_two (column_of place),
+          omega arith,
           (
             omega arith,
             (
-              omega arith,
+              or_null_in_two (line_of place),
               (
-                or_null_in_two (line_of place),
-                (
-                  omega arith,
-                  (accesses_within places (told_procedure p r.procedure) r, (omega arith, tt)),
-                ),
+                omega arith,
+                (accesses_within places (told_procedure p r.procedure) r, (omega arith, tt)),
               ),
             ),
           ),

@@ -1,6 +1,6 @@
 -- What is told of a race.
-use Rattle.std.specs.Prelude.{ℕ, List, [], ◌∷◌, codes}
-use Rattle.serde_json.specs.Data.{Data, null, string}
+use Rattle.std.specs.Prelude.{ℕ, List, [], ◌∷◌, codes, Option}
+use Rattle.serde_json.specs.Data.{Data, string}
 use Rattle.syntax.specs.declared.place.Place.{Place}
 use Rattle.types.specs.Code.{Procedure, Program}
 use Rattle.effects.specs.Accesses.{Access}
@@ -39,19 +39,23 @@ accesses_members places g r =
 abbrev pub accesses_json : List Place → Procedure → Race → Data
 accesses_json places g r = object_of (accesses_members places g r)
 
--- what a refusal tells, with the label and the place of the first access, and both accesses
-abbrev pub race_members : (file : List ℕ) → List Place → Program → Race → List (List ℕ × Data)
-race_members file places p r =
-    let place = place_at places r.first.label in
-    (codes "array", null)
-    ∷ (codes "code", string (codes "C1"))
+-- what a refusal by a race tells, in place of an array the accesses, with the label and the place of the first
+abbrev pub told_members : (file : List ℕ) → Option Place → (label : ℕ) → (message : List ℕ) → (accesses : Data)
+    → List (List ℕ × Data)
+told_members file place label message accesses =
+    (codes "code", string (codes "C1"))
     ∷ (codes "column", or_null natural (column_of place))
     ∷ (codes "file", string file)
-    ∷ (codes "label", natural r.first.label)
+    ∷ (codes "label", natural label)
     ∷ (codes "line", or_null natural (line_of place))
-    ∷ (codes "message", string (race_message p r))
-    ∷ (codes "race", accesses_json places (told_procedure p r.procedure) r)
+    ∷ (codes "message", string message)
+    ∷ (codes "race", accesses)
     ∷ (codes "status", natural 1) ∷ []
+
+abbrev pub race_members : (file : List ℕ) → List Place → Program → Race → List (List ℕ × Data)
+race_members file places p r =
+    told_members file (place_at places r.first.label) r.first.label (race_message p r)
+    (accesses_json places (told_procedure p r.procedure) r)
 
 abbrev pub race_json : (file : List ℕ) → List Place → Program → Race → Data
 race_json file places p r = object_of (race_members file places p r)

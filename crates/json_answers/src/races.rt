@@ -8,8 +8,9 @@ ghost use Rattle.effects.specs.Translation.{access as access_of};
 ghost use Rattle.race_checker.specs.Translation.{race as race_of};
 ghost use Rattle.intake.specs.Failures.{kind_of as kind_text, section_name as name_of_section};
 ghost use Rattle.intake.specs.Failures.{told_procedure};
-ghost use Rattle.json_answers.specs.Pieces.{IsReadBack, line};
+ghost use Rattle.json_answers.specs.Pieces.{IsReadBack, line, object_of};
 ghost use Rattle.json_answers.specs.Races.{access_json, accesses_json, race_json, race_message};
+ghost use Rattle.json_answers.specs.Races.{told_members};
 
 use crate::line::line_of;
 use crate::text_places::{column_in, line_in, place_at};
@@ -21,7 +22,7 @@ use sections::id::SectionId;
 use serde_json::{Value, json};
 use std::alloc::{AllocError, Global};
 use syntax::Place;
-use types::code::{Procedure, Program};
+use types::code::{Label, Procedure, Program};
 use types::ids::ProcedureId;
 
 /// A race of a program, as the refusal that it is: with both accesses, in the names of the procedure that has it, and
@@ -53,15 +54,30 @@ fn race_value(
     ensures { IfOk result (λ v. view v
         ≡ race_json file.now places.now (program code.now) (race_of race)) }
 {
-    let place = place_at(places, race.first.label);
-    let accesses = accesses_value(alloc, places, procedure_in(code, race.procedure), race)?;
+    let procedure = procedure_in(code, race.procedure);
+    let accesses = accesses_value(alloc, places, procedure, race)?;
     let message = message_of_race(alloc, code, race)?;
+    let place = place_at(places, race.first.label);
+    told_value(alloc, file, place, race.first.label, message, accesses)
+}
+
+/// A refusal by a race, of what is told of it.
+fn told_value(
+    alloc: Global,
+    file: &str,
+    place: Option<Place>,
+    label: Label,
+    message: String,
+    accesses: Value,
+) -> Result<Value, AllocError>
+    ensures { IfOk result (λ v. view v
+        ≡ object_of (told_members file.now place label (string_bytes message) (view accesses))) }
+{
     json!(in alloc; {
-        "array": null,
         "code": "C1",
         "column": column_in(place),
         "file": file,
-        "label": race.first.label,
+        "label": label,
         "line": line_in(place),
         "message": message,
         "race": accesses,

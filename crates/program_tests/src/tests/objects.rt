@@ -136,7 +136,7 @@ fn races_are_told(rt: HostRuntime) -> Result<(), Fail> {
     match check(&rt, alloc, typed) {
         Err(Refused::Race { race, typed }) => {
             let told = race_object(alloc, "r.afx", &places, typed.code(), race)?;
-            let wanted = "{\"array\":null,\"code\":\"C1\",\"column\":3,\"file\":\"r.afx\",\
+            let wanted = "{\"code\":\"C1\",\"column\":3,\"file\":\"r.afx\",\
                 \"label\":1,\"line\":2,\"message\":\"C1 race in main: 1 write a, 4 write a\",\
                 \"race\":{\"first\":{\"column\":3,\"kind\":\"write\",\"label\":1,\"line\":2,\
                 \"section\":\"a\"},\"procedure\":\"main\",\"second\":{\"column\":3,\
