@@ -1,18 +1,17 @@
 -- What is told of arrays, read as an input.
-use Rattle.std.proofs.Common.{◌≡◌, ◌+◌, ◌-◌, ◌<◌, ℕ, zero, suc, List, [], ◌∷◌, ◌++◌, length, map, Option, None, Some, Ok, Err}
+use Rattle.std.proofs.Common.{◌≡◌, ◌-◌, ℕ, List, [], ◌∷◌, ◌++◌, length, map, Option, None, Some, Ok, Err}
 use Rattle.std.proofs.Common.{Bool, true, false, refl, sym, ap, ◌∙◌, arith, rules, subst, true≢false}
-use Rattle.std.proofs.Common.{Ordering, Less, Equal, Greater, nat_cmp, option_map}
+use Rattle.std.proofs.Common.{Less, Equal, Greater, nat_cmp, option_map}
 use Rattle.std.proofs.lemmas.Bool.{and_parts}
 use Rattle.std.proofs.lemmas.Slice.Eq.{bytes_eq-Decides}
-use Rattle.std.specs.Prelude.{ℤ, pos, negsuc, ◌^◌, ◌&&◌, ◌||◌, nat_eq, nat_lt, int_le, int_lt, is_some, option_and_then}
+use Rattle.std.specs.Prelude.{ℤ, pos, negsuc, ◌^◌, ◌||◌, nat_eq, nat_lt, int_le, int_lt, is_some, option_and_then}
 use Rattle.std.specs.Prelude.{if◌then◌else◌, ok_or}
 use Rattle.std.specs.Cmp.Lexicographic.{pointwise, slice_cmp}
-use Rattle.std.specs.List.{AllByRecursion, list_all, list_any, zip}
+use Rattle.std.specs.List.{AllByRecursion, list_all, zip}
 use Rattle.std.specs.Ordering.{match_ordering}
 use Rattle.std.specs.Str.{bytes_eq}
-use Rattle.serde_json.specs.Data.{Data, Items, Members, no_members, member, object, put}
-use Rattle.serde_json.specs.Find.{as_i64, as_number, get_member, of_integer}
-use Rattle.serde_json.specs.Read.{read}
+use Rattle.serde_json.specs.Data.{Data, Members, no_members, member, put}
+use Rattle.serde_json.specs.Find.{as_i64, get_member, of_integer}
 use Rattle.serde_json.specs.View.{items_of}
 use Rattle.serde_json.proofs.Views.{get_member-put, get_member-put_other}
 use Rattle.syntax_tree.specs.Tree as tree

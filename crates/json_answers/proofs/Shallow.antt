@@ -1,7 +1,7 @@
 -- The values nest no deeper than a reader goes.
-use Rattle.std.proofs.Common.{◌≡◌, ◌≤◌, ◌+◌, ℕ, suc, max, List, [], ◌∷◌, map, Option, None, Some, arith}
-use Rattle.std.proofs.Common.{Ordering, Less, Equal, Greater, nat_cmp}
-use Rattle.std.specs.Prelude.{ℤ, pos, negsuc}
+use Rattle.std.proofs.Common.{◌≤◌, ℕ, suc, List, [], ◌∷◌, map, Option, None, Some, arith}
+use Rattle.std.proofs.Common.{Less, Equal, Greater, nat_cmp}
+use Rattle.std.specs.Prelude.{ℤ}
 use Rattle.std.specs.Cmp.Lexicographic.{slice_cmp}
 use Rattle.std.specs.List.{AllByRecursion, zip}
 use Rattle.std.specs.Ordering.{match_ordering}

@@ -2,11 +2,8 @@
 use Rattle.std.specs.Prelude.{ℕ, ℤ, ◌≡◌, List, true, Ok, Some}
 use Rattle.std.specs.List.{list_all}
 use Rattle.serde_json.specs.Read.{read}
-use Rattle.syntax_tree.specs.Tree.{Program as Text}
-use Rattle.types.specs.Code.{Array, Program}
+use Rattle.types.specs.Code.{Array}
 use Rattle.types.specs.Inputs.{IsInput, text_says}
-use Rattle.types.specs.Resolution.{resolution}
-use Rattle.types.specs.Rules.{BreaksNoRule}
 use Rattle.types.specs.Value.{fits_64_bits}
 use Rattle.json_answers.specs.Outcomes.{arrays_json}
 

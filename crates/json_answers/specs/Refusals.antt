@@ -9,7 +9,6 @@ use Rattle.types.specs.InputErrors.{error_code as input_code}
 use Rattle.types.specs.declared.input_error.InputError.{InputError}
 use Rattle.types.specs.declared.input_error.InputError.TheVariants.{UnknownArray, WrongLength, WrongElement}
 use Rattle.gather.specs.RunErrors.{error_code as run_code}
-use Rattle.trace_text.specs.declared.error.TraceError.{TraceError}
 use Rattle.trace_text.specs.declared.error.TraceError.TheVariants.{NotALine, NoMemory as MemoryInTrace}
 use Rattle.intake.specs.FailureStatus.{failure_status}
 use Rattle.intake.specs.Messages.{failure_text}

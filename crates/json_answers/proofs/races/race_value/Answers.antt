@@ -1,7 +1,7 @@
 use Rattle.std.proofs.Common.{ap, ◌∙◌, string_bytes}
 use Rattle.std.proofs.lemmas.Result.{IfOk-weaker}
 use Rattle.serde_json.specs.View.{view}
-use Rattle.types.specs.Translation.{procedure, program}
+use Rattle.types.specs.Translation.{program}
 use Rattle.race_checker.specs.Translation.{race}
 use Rattle.json_answers.specs.Pieces.{object_of}
 use Rattle.json_answers.specs.Places.{place_at}
