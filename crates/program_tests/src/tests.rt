@@ -10,6 +10,7 @@ mod held_places;
 mod inputs;
 mod layouts;
 mod meetings_of_programs;
+mod objects;
 mod outputs;
 mod read_texts;
 mod scope_weights;

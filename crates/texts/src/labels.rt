@@ -22,7 +22,7 @@ pub fn accepted_line(alloc: Global, code: &Program) -> Result<String, AllocError
 
 /// How many labels a program has: one for each statement. None where 64 bits don't hold it, which no memory
 /// holds.
-fn labels(code: &Program) -> Option<u64>
+pub fn labels(code: &Program) -> Option<u64>
     ensures { IfSome result (λ n. n ≡ labels_in (program code.now)) }
 {
     let all = in_procedures(&code.procedures).saturating_add(in_block(&code.main.body));

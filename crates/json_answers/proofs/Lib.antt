@@ -1,0 +1,4 @@
+pub mod NoFloats
+pub mod Shallow
+pub mod Seen
+pub mod GivenBack

@@ -1,0 +1,182 @@
+-- None of the values has a float, so that each has one compact text.
+use Rattle.std.proofs.Common.{◌≡◌, ℕ, List, [], ◌∷◌, map, Option, None, Some, Bool, true, false, refl, ap, ◌∙◌}
+use Rattle.std.proofs.Common.{Ordering, Less, Equal, Greater, nat_cmp}
+use Rattle.std.specs.Prelude.{ℤ, pos, negsuc, ◌||◌}
+use Rattle.std.specs.Cmp.Lexicographic.{slice_cmp}
+use Rattle.std.specs.List.{AllByRecursion, zip}
+use Rattle.std.specs.Ordering.{match_ordering}
+use Rattle.serde_json.specs.Data.{Data, string, Members, no_members, member, put}
+use Rattle.serde_json.specs.View.{items_of}
+use Rattle.serde_json.specs.Written.{has_float, items_have_float, members_have_float}
+use Rattle.syntax.specs.declared.place.Place.{Place}
+use Rattle.types.specs.Code.{Array, Procedure, Program}
+use Rattle.types.specs.Outcome.{Outcome, Ended, Stopped}
+use Rattle.types.specs.Run.{Fault}
+use Rattle.effects.specs.Accesses.{Access}
+use Rattle.race_checker.specs.Races.{Race}
+use Rattle.intake.specs.Failures.{told_procedure}
+use Rattle.intake.specs.declared.failure.Failure.{Failure}
+use Rattle.json_answers.specs.Faults.{fault_json, fault_members, raised_number}
+use Rattle.json_answers.specs.Outcomes.{ended_members, numbers_json, put_arrays, outcome_json}
+use Rattle.json_answers.specs.Pieces.{integer, natural, list_by, or_null, members_by, object_of}
+use Rattle.json_answers.specs.Places.{column_of, line_of, place_at}
+use Rattle.json_answers.specs.Programs.{pair_json, pairs_json, pairs_members}
+use Rattle.json_answers.specs.Races.{access_json, access_members, accesses_json, accesses_members, race_json, race_members}
+use Rattle.json_answers.specs.Refusals.{failure_array, failure_code, failure_label, failure_place, refusal_json, refusal_members}
+
+abbrev pub HasNoFloat : Data → Type 0
+HasNoFloat d = has_float d ≡ false
+
+neither : (a b : Bool) → a ≡ false → b ≡ false → (a || b) ≡ false
+neither a b p q = ap (λ x. x || b) p ∙ q
+
+both_false : (a b : Bool) → (a || b) ≡ false → (a ≡ false) × (b ≡ false)
+both_false true b e = cc
+both_false false b e = (refl, e)
+
+pub integer_has_none : (z : ℤ) → HasNoFloat (integer z)
+integer_has_none (pos n) = refl
+integer_has_none (negsuc n) = refl
+
+pub natural_has_none : (n : ℕ) → HasNoFloat (natural n)
+natural_has_none n = refl
+
+pub string_has_none : (s : List ℕ) → HasNoFloat (string s)
+string_has_none s = refl
+
+pub or_null_has_none : {X : Type 0} (f : X → Data) (o : Option X) → ((x : X) → HasNoFloat (f x))
+    → HasNoFloat (or_null f o)
+or_null_has_none f None none = refl
+or_null_has_none f (Some x) none = none x
+
+pub list_has_none : {X : Type 0} (f : X → Data) (xs : List X) → ((x : X) → HasNoFloat (f x))
+    → HasNoFloat (list_by f xs)
+list_has_none f [] none = refl
+list_has_none f (x ∷ xs) none =
+    neither (has_float (f x)) (items_have_float (items_of (map f xs))) (none x) (list_has_none f xs none)
+
+-- an object has none where no value under a key has one
+pub object_has_none : (ms : List (List ℕ × Data)) → AllByRecursion (λ m. HasNoFloat m.1) ms → HasNoFloat (object_of ms)
+object_has_none [] all = refl
+object_has_none (m ∷ ms) all =
+    neither (has_float m.1) (members_have_float (members_by ms)) all.0 (object_has_none ms all.1)
+
+put_has_none : (k : List ℕ) (d : Data) (ms : Members) → HasNoFloat d → members_have_float ms ≡ false
+    → members_have_float (put k d ms) ≡ false
+put_has_none k d no_members none others = neither (has_float d) false none refl
+put_has_none k d (member l e ms) none others =
+    let parts = both_false (has_float e) (members_have_float ms) others in
+    by_order (slice_cmp nat_cmp k l) parts.0 parts.1 (put_has_none k d ms none parts.1)
+  where
+    by_order : (o : Ordering) → has_float e ≡ false → members_have_float ms ≡ false
+        → members_have_float (put k d ms) ≡ false
+        → members_have_float (match_ordering o (member k d (member l e ms)) (member l d ms) (member l e (put k d ms))) ≡ false
+    by_order Less p q r = neither (has_float d) (has_float e || members_have_float ms) none (neither (has_float e) (members_have_float ms) p q)
+    by_order Equal p q r = neither (has_float d) (members_have_float ms) none q
+    by_order Greater p q r = neither (has_float e) (members_have_float (put k d ms)) p r
+
+numbers_have_none : (numbers : List ℤ) → HasNoFloat (numbers_json numbers)
+numbers_have_none numbers = list_has_none integer numbers integer_has_none
+
+arrays_have_none : (xs : List (Array × List ℤ)) (ms : Members) → members_have_float ms ≡ false
+    → members_have_float (put_arrays xs ms) ≡ false
+arrays_have_none [] ms none = none
+arrays_have_none (x ∷ xs) ms none =
+    arrays_have_none xs (put x.0.name (numbers_json x.1) ms)
+    (put_has_none x.0.name (numbers_json x.1) ms (numbers_have_none x.1) none)
+
+fault_has_none : (places : List Place) (f : Fault) → HasNoFloat (fault_json places f)
+fault_has_none places f =
+    let place = place_at places f.label in
+    object_has_none (fault_members places f) (
+      or_null_has_none natural (column_of place) natural_has_none,
+      (
+        refl,
+        (
+          refl,
+          (
+            or_null_has_none natural (line_of place) natural_has_none,
+            (or_null_has_none integer (raised_number f.kind) integer_has_none, (refl, tt)),
+          ),
+        ),
+      ),
+    )
+
+pub outcome_has_none : (declared : List Array) (places : List Place) (o : Outcome)
+    → HasNoFloat (outcome_json declared places o)
+outcome_has_none declared places (Ended e) =
+    object_has_none (ended_members declared places e) (
+      arrays_have_none (zip declared e.arrays) no_members refl,
+      (
+        list_has_none (fault_json places) e.faults (fault_has_none places),
+        (list_has_none numbers_json e.lines numbers_have_none, (refl, (refl, tt))),
+      ),
+    )
+outcome_has_none declared places Stopped = refl
+
+pub pairs_have_none : (pairs : List (ℕ × ℕ)) → HasNoFloat (pairs_json pairs)
+pairs_have_none pairs =
+    object_has_none (pairs_members pairs)
+    (list_has_none pair_json pairs (λ pair. list_has_none natural (pair.0 ∷ pair.1 ∷ []) natural_has_none), (refl, tt))
+
+pub refusal_has_none : (file : List ℕ) (places : List Place) (f : Failure) → HasNoFloat (refusal_json file places f)
+refusal_has_none file places f =
+    let place = failure_place places f in
+    object_has_none (refusal_members file places f) (
+      or_null_has_none string (failure_array f) string_has_none,
+      (
+        or_null_has_none string (failure_code f) string_has_none,
+        (
+          or_null_has_none natural (column_of place) natural_has_none,
+          (
+            refl,
+            (
+              or_null_has_none natural (failure_label f) natural_has_none,
+              (or_null_has_none natural (line_of place) natural_has_none, (refl, (refl, tt))),
+            ),
+          ),
+        ),
+      ),
+    )
+
+access_has_none : (places : List Place) (g : Procedure) (a : Access) → HasNoFloat (access_json places g a)
+access_has_none places g a =
+    let place = place_at places a.label in
+    object_has_none (access_members places g a) (
+      or_null_has_none natural (column_of place) natural_has_none,
+      (
+        refl,
+        (
+          refl,
+          (or_null_has_none natural (line_of place) natural_has_none, (refl, tt)),
+        ),
+      ),
+    )
+
+accesses_have_none : (places : List Place) (g : Procedure) (r : Race) → HasNoFloat (accesses_json places g r)
+accesses_have_none places g r =
+    object_has_none (accesses_members places g r)
+    (access_has_none places g r.first, (refl, (access_has_none places g r.second, tt)))
+
+pub race_has_none : (file : List ℕ) (places : List Place) (p : Program) (r : Race) → HasNoFloat (race_json file places p r)
+race_has_none file places p r =
+    let place = place_at places r.first.label in
+    object_has_none (race_members file places p r) (
+      refl,
+      (
+        or_null_has_none natural (column_of place) natural_has_none,
+        (
+          refl,
+          (
+            refl,
+            (
+              or_null_has_none natural (line_of place) natural_has_none,
+              (
+                refl,
+                (accesses_have_none places (told_procedure p r.procedure) r, (refl, tt)),
+              ),
+            ),
+          ),
+        ),
+      ),
+    )

@@ -1,0 +1,194 @@
+-- The values nest no deeper than a reader goes.
+use Rattle.std.proofs.Common.{◌≤◌, ℕ, suc, List, [], ◌∷◌, map, Option, None, Some, arith}
+use Rattle.std.proofs.Common.{Less, Equal, Greater, nat_cmp}
+use Rattle.std.specs.Prelude.{ℤ}
+use Rattle.std.specs.Cmp.Lexicographic.{slice_cmp}
+use Rattle.std.specs.List.{AllByRecursion, zip}
+use Rattle.std.specs.Ordering.{match_ordering}
+use Rattle.serde_json.specs.Data.{Data, string, Members, no_members, member, put, depth, items_depth, members_depth}
+use Rattle.serde_json.specs.Read.{max_depth}
+use Rattle.serde_json.specs.View.{items_of}
+use Rattle.syntax.specs.declared.place.Place.{Place}
+use Rattle.types.specs.Code.{Array, Procedure, Program}
+use Rattle.types.specs.Outcome.{Outcome, Ended, Stopped}
+use Rattle.types.specs.Run.{Fault}
+use Rattle.effects.specs.Accesses.{Access}
+use Rattle.race_checker.specs.Races.{Race}
+use Rattle.intake.specs.Failures.{told_procedure}
+use Rattle.intake.specs.declared.failure.Failure.{Failure}
+use Rattle.json_answers.specs.Faults.{fault_json, fault_members, raised_number}
+use Rattle.json_answers.specs.Outcomes.{ended_members, numbers_json, put_arrays, outcome_json}
+use Rattle.json_answers.specs.Pieces.{integer, natural, list_by, or_null, members_by, object_of}
+use Rattle.json_answers.specs.Places.{column_of, line_of, place_at}
+use Rattle.json_answers.specs.Programs.{accepted_json, pair_json, pairs_json, pairs_members}
+use Rattle.json_answers.specs.Races.{access_json, access_members, accesses_json, accesses_members, race_json, race_members}
+use Rattle.json_answers.specs.Refusals.{failure_array, failure_code, failure_label, failure_place, refusal_json, refusal_members}
+
+-- it nests no deeper
+abbrev pub Within : ℕ → Data → Type 0
+Within n d = depth d ≤ n
+
+pub or_null_within : {X : Type 0} (n : ℕ) (f : X → Data) (o : Option X) → ((x : X) → Within n (f x))
+    → Within n (or_null f o)
+or_null_within n f None within = omega arith
+or_null_within n f (Some x) within = within x
+
+items_within : {X : Type 0} (n : ℕ) (f : X → Data) (xs : List X) → ((x : X) → Within n (f x))
+    → items_depth (items_of (map f xs)) ≤ n
+items_within n f [] within = omega arith
+items_within n f (x ∷ xs) within =
+    let here = within x in
+    let rest = items_within n f xs within in
+    omega arith
+
+pub list_within : {X : Type 0} (n : ℕ) (f : X → Data) (xs : List X) → ((x : X) → Within n (f x))
+    → Within (suc n) (list_by f xs)
+list_within n f xs within = let all = items_within n f xs within in omega arith
+
+members_within : (n : ℕ) (ms : List (List ℕ × Data)) → AllByRecursion (λ m. Within n m.1) ms
+    → members_depth (members_by ms) ≤ n
+members_within n [] all = omega arith
+members_within n (m ∷ ms) all =
+    let here = all.0 in
+    let rest = members_within n ms all.1 in
+    omega arith
+
+pub object_within : (n : ℕ) (ms : List (List ℕ × Data)) → AllByRecursion (λ m. Within n m.1) ms
+    → Within (suc n) (object_of ms)
+object_within n ms all = let within = members_within n ms all in omega arith
+
+put_within : (n : ℕ) (k : List ℕ) (d : Data) (ms : Members) → Within n d → members_depth ms ≤ n
+    → members_depth (put k d ms) ≤ n
+put_within n k d no_members within others = omega arith
+put_within n k d (member l e ms) within others =
+    let rest : members_depth ms ≤ n = omega arith in
+    let later = put_within n k d ms within rest in
+    elim (slice_cmp nat_cmp k l) as (λ o. members_depth
+    (match_ordering o (member k d (member l e ms)) (member l d ms) (member l e (put k d ms))) ≤ n)
+    [ Less ↦ omega arith | Equal ↦ omega arith | Greater ↦ omega arith ]
+
+natural_within : (n : ℕ) → Within 0 (natural n)
+natural_within n = omega arith
+
+integer_within : (z : ℤ) → Within 0 (integer z)
+integer_within z = omega arith
+
+numbers_within : (numbers : List ℤ) → Within 1 (numbers_json numbers)
+numbers_within numbers = list_within 0 integer numbers integer_within
+
+arrays_within : (xs : List (Array × List ℤ)) (ms : Members) → members_depth ms ≤ 1
+    → members_depth (put_arrays xs ms) ≤ 1
+arrays_within [] ms within = within
+arrays_within (x ∷ xs) ms within =
+    arrays_within xs (put x.0.name (numbers_json x.1) ms)
+    (put_within 1 x.0.name (numbers_json x.1) ms (numbers_within x.1) within)
+
+pub fault_within : (places : List Place) (f : Fault) → Within 1 (fault_json places f)
+fault_within places f =
+    let place = place_at places f.label in
+    object_within 0 (fault_members places f) (
+      or_null_within 0 natural (column_of place) natural_within,
+      (
+        omega arith,
+        (
+          omega arith,
+          (
+            or_null_within 0 natural (line_of place) natural_within,
+            (or_null_within 0 integer (raised_number f.kind) integer_within, (omega arith, tt)),
+          ),
+        ),
+      ),
+    )
+
+pub outcome_within : (declared : List Array) (places : List Place) (o : Outcome)
+    → depth (outcome_json declared places o) ≤ max_depth
+outcome_within declared places (Ended e) =
+    let arrays = arrays_within (zip declared e.arrays) no_members (omega arith) in
+    let whole = object_within 2 (ended_members declared places e) (
+      omega arith,
+      (
+        list_within 1 (fault_json places) e.faults (fault_within places),
+        (list_within 1 numbers_json e.lines numbers_within, (omega arith, (omega arith, tt))),
+      ),
+    ) in
+    omega arith
+outcome_within declared places Stopped = omega arith
+
+pub accepted_within : (p : Program) → depth (accepted_json p) ≤ max_depth
+accepted_within p = omega arith
+
+pub pairs_within : (pairs : List (ℕ × ℕ)) → depth (pairs_json pairs) ≤ max_depth
+pairs_within pairs =
+    let whole = object_within 2 (pairs_members pairs)
+    (list_within 1 pair_json pairs (λ pair. list_within 0 natural (pair.0 ∷ pair.1 ∷ []) natural_within), (omega arith, tt)) in
+    omega arith
+
+string_within : (s : List ℕ) → Within 0 (string s)
+string_within s = omega arith
+
+pub refusal_within : (file : List ℕ) (places : List Place) (f : Failure) → depth (refusal_json file places f) ≤ max_depth
+refusal_within file places f =
+    let place = failure_place places f in
+    let whole = object_within 0 (refusal_members file places f) (
+      or_null_within 0 string (failure_array f) string_within,
+      (
+        or_null_within 0 string (failure_code f) string_within,
+        (
+          or_null_within 0 natural (column_of place) natural_within,
+          (
+            string_within file,
+            (
+              or_null_within 0 natural (failure_label f) natural_within,
+              (or_null_within 0 natural (line_of place) natural_within, (omega arith, (omega arith, tt))),
+            ),
+          ),
+        ),
+      ),
+    ) in
+    omega arith
+
+access_within : (places : List Place) (g : Procedure) (a : Access) → Within 1 (access_json places g a)
+access_within places g a =
+    let place = place_at places a.label in
+    object_within 0 (access_members places g a) (
+      or_null_within 0 natural (column_of place) natural_within,
+      (
+        omega arith,
+        (
+          omega arith,
+          (or_null_within 0 natural (line_of place) natural_within, (omega arith, tt)),
+        ),
+      ),
+    )
+
+accesses_within : (places : List Place) (g : Procedure) (r : Race) → Within 2 (accesses_json places g r)
+accesses_within places g r =
+    object_within 1 (accesses_members places g r)
+    (access_within places g r.first, (omega arith, (access_within places g r.second, tt)))
+
+or_null_in_two : (o : Option ℕ) → Within 2 (or_null natural o)
+or_null_in_two o = let within = or_null_within 0 natural o natural_within in omega arith
+
+pub race_within : (file : List ℕ) (places : List Place) (p : Program) (r : Race) → depth (race_json file places p r) ≤ max_depth
+race_within file places p r =
+    let place = place_at places r.first.label in
+    let whole = object_within 2 (race_members file places p r) (
+      omega arith,
+      (
+        or_null_in_two (column_of place),
+        (
+          omega arith,
+          (
+            omega arith,
+            (
+              or_null_in_two (line_of place),
+              (
+                omega arith,
+                (accesses_within places (told_procedure p r.procedure) r, (omega arith, tt)),
+              ),
+            ),
+          ),
+        ),
+      ),
+    ) in
+    omega arith

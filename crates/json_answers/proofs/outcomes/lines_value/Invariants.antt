@@ -1,0 +1,7 @@
+use Rattle.json_answers.specs.Outcomes.{numbers_json}
+use Rattle.json_answers.proofs.Seen.{SeenFirst}
+use Rattle.json_answers.proofs.outcomes.lines_value.Given as goal
+
+-- the values so far stand for the first
+abbrev pub invariant-loop-line : goal.invariant-loop-line
+invariant-loop-line l = SeenFirst (λ v. numbers_json v.items) l.lines l.line-index l.list.items

@@ -1,0 +1,8 @@
+pub mod Faults
+pub mod Given
+pub mod Outcomes
+pub mod Pieces
+pub mod Places
+pub mod Programs
+pub mod Races
+pub mod Refusals

@@ -1,0 +1,13 @@
+-- The places at which statements begin, by their labels.
+use Rattle.std.specs.Prelude.{ℕ, ◌-◌, List, Option, option_map, slice_get}
+use Rattle.syntax.specs.declared.place.Place.{Place}
+
+-- the place of the statement with a label, where it is known; labels are counted from 1
+abbrev pub place_at : List Place → (label : ℕ) → Option Place
+place_at places label = slice_get places (label - 1)
+
+abbrev pub line_of : Option Place → Option ℕ
+line_of = option_map (λ p. p.line)
+
+abbrev pub column_of : Option Place → Option ℕ
+column_of = option_map (λ p. p.column)

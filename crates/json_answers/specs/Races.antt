@@ -1,0 +1,61 @@
+-- What is told of a race.
+use Rattle.std.specs.Prelude.{ℕ, List, [], ◌∷◌, codes, Option}
+use Rattle.serde_json.specs.Data.{Data, string}
+use Rattle.syntax.specs.declared.place.Place.{Place}
+use Rattle.types.specs.Code.{Procedure, Program}
+use Rattle.effects.specs.Accesses.{Access}
+use Rattle.race_checker.specs.Races.{Race}
+use Rattle.texts.specs.Reasons.{race_text}
+use Rattle.intake.specs.Failures.{kind_of, section_name, section_text, told_procedure}
+use Rattle.json_answers.specs.Pieces.{natural, object_of, or_null}
+use Rattle.json_answers.specs.Places.{column_of, line_of, place_at}
+
+-- the statement and where it begins, what it does, and the section, by its name in the procedure
+abbrev pub access_members : List Place → Procedure → Access → List (List ℕ × Data)
+access_members places g a =
+    let place = place_at places a.label in
+    (codes "column", or_null natural (column_of place))
+    ∷ (codes "kind", string (kind_of a.write))
+    ∷ (codes "label", natural a.label)
+    ∷ (codes "line", or_null natural (line_of place))
+    ∷ (codes "section", string (section_name g a.section)) ∷ []
+
+abbrev pub access_json : List Place → Procedure → Access → Data
+access_json places g a = object_of (access_members places g a)
+
+-- the line of a race
+abbrev pub race_message : Program → Race → List ℕ
+race_message p r =
+    let g = told_procedure p r.procedure in
+    race_text g.name (section_text g r.first) (section_text g r.second)
+
+-- the procedure that has it, and both accesses
+abbrev pub accesses_members : List Place → Procedure → Race → List (List ℕ × Data)
+accesses_members places g r =
+    (codes "first", access_json places g r.first)
+    ∷ (codes "procedure", string g.name)
+    ∷ (codes "second", access_json places g r.second) ∷ []
+
+abbrev pub accesses_json : List Place → Procedure → Race → Data
+accesses_json places g r = object_of (accesses_members places g r)
+
+-- what a refusal by a race tells, in place of an array the accesses, with the label and the place of the first
+abbrev pub told_members : (file : List ℕ) → Option Place → (label : ℕ) → (message : List ℕ) → (accesses : Data)
+    → List (List ℕ × Data)
+told_members file place label message accesses =
+    (codes "code", string (codes "C1"))
+    ∷ (codes "column", or_null natural (column_of place))
+    ∷ (codes "file", string file)
+    ∷ (codes "label", natural label)
+    ∷ (codes "line", or_null natural (line_of place))
+    ∷ (codes "message", string message)
+    ∷ (codes "race", accesses)
+    ∷ (codes "status", natural 1) ∷ []
+
+abbrev pub race_members : (file : List ℕ) → List Place → Program → Race → List (List ℕ × Data)
+race_members file places p r =
+    told_members file (place_at places r.first.label) r.first.label (race_message p r)
+    (accesses_json places (told_procedure p r.procedure) r)
+
+abbrev pub race_json : (file : List ℕ) → List Place → Program → Race → Data
+race_json file places p r = object_of (race_members file places p r)

@@ -1,0 +1,70 @@
+-- What is told of a failure.
+use Rattle.std.specs.Prelude.{ℕ, List, [], ◌∷◌, codes, Option, None, Some, option_and_then}
+use Rattle.std.specs.String.{string_bytes}
+use Rattle.serde_json.specs.Data.{Data, string}
+use Rattle.syntax.specs.declared.place.Place.{Place}
+use Rattle.syntax.specs.Refusals.{error_code as syntax_code, place_of}
+use Rattle.types.specs.Codes.{error_code as rule_code, label_of}
+use Rattle.types.specs.InputErrors.{error_code as input_code}
+use Rattle.types.specs.declared.input_error.InputError.{InputError}
+use Rattle.types.specs.declared.input_error.InputError.TheVariants.{UnknownArray, WrongLength, WrongElement}
+use Rattle.gather.specs.RunErrors.{error_code as run_code}
+use Rattle.trace_text.specs.declared.error.TraceError.TheVariants.{NotALine, NoMemory as MemoryInTrace}
+use Rattle.intake.specs.FailureStatus.{failure_status}
+use Rattle.intake.specs.Messages.{failure_text}
+use Rattle.intake.specs.declared.failure.Failure.{Failure}
+use Rattle.intake.specs.declared.failure.Failure.TheVariants.{Syntax, Types, Race, NoMemoryInCheck, Input}
+use Rattle.intake.specs.declared.failure.Failure.TheVariants.{Run, Trace, StrangeEvents}
+use Rattle.json_answers.specs.Pieces.{natural, object_of, or_null}
+use Rattle.json_answers.specs.Places.{column_of, line_of, place_at}
+
+-- the code that its line has
+abbrev pub failure_code : Failure → Option (List ℕ)
+failure_code (Syntax e) = Some (syntax_code e)
+failure_code (Types e) = Some (rule_code e)
+failure_code (Race procedure first second) = Some (codes "C1")
+failure_code NoMemoryInCheck = Some (codes "C2")
+failure_code (Input e) = Some (input_code e)
+failure_code (Run e) = Some (run_code e)
+failure_code (Trace (NotALine n)) = Some (codes "J1")
+failure_code (Trace MemoryInTrace) = Some (codes "J2")
+failure_code StrangeEvents = Some (codes "E5")
+failure_code _ = None
+
+-- the label that its line has, but for those of a race
+abbrev pub failure_label : Failure → Option ℕ
+failure_label (Types e) = label_of e
+failure_label _ = None
+
+-- where it stands: where the text goes wrong, or where the statement with its label begins
+abbrev pub failure_place : List Place → Failure → Option Place
+failure_place places (Syntax e) = place_of e
+failure_place places (Types e) = option_and_then (place_at places) (label_of e)
+failure_place places _ = None
+
+-- the name that an error of an input tells
+abbrev pub input_name : InputError → Option (List ℕ)
+input_name (UnknownArray name) = Some (string_bytes name)
+input_name (WrongLength name) = Some (string_bytes name)
+input_name (WrongElement name) = Some (string_bytes name)
+input_name _ = None
+
+abbrev pub failure_array : Failure → Option (List ℕ)
+failure_array (Input e) = input_name e
+failure_array _ = None
+
+-- its code, its line and its status, and what else is known; `file` is that of the program
+abbrev pub refusal_members : (file : List ℕ) → List Place → Failure → List (List ℕ × Data)
+refusal_members file places f =
+    let place = failure_place places f in
+    (codes "array", or_null string (failure_array f))
+    ∷ (codes "code", or_null string (failure_code f))
+    ∷ (codes "column", or_null natural (column_of place))
+    ∷ (codes "file", string file)
+    ∷ (codes "label", or_null natural (failure_label f))
+    ∷ (codes "line", or_null natural (line_of place))
+    ∷ (codes "message", string (failure_text f))
+    ∷ (codes "status", natural (failure_status f)) ∷ []
+
+abbrev pub refusal_json : (file : List ℕ) → List Place → Failure → Data
+refusal_json file places f = object_of (refusal_members file places f)

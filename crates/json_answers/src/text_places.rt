@@ -1,0 +1,34 @@
+//! The places at which statements begin, by their labels.
+
+ghost use Rattle.std.specs.Prelude.{◌≡◌};
+ghost use Rattle.json_answers.specs.Places.{column_of, line_of, place_at as place_of_label};
+
+use syntax::Place;
+use types::code::Label;
+
+/// The place at which the statement with a label begins, where it is known.
+pub(crate) fn place_at(places: &[Place], label: Label) -> Option<Place>
+    ensures { result ≡ place_of_label places.now label }
+{
+    places.get((label as usize).saturating_sub(1)).copied()
+}
+
+/// The line of a place.
+pub(crate) fn line_in(place: Option<Place>) -> Option<u32>
+    ensures { result ≡ line_of place }
+{
+    match place {
+        Some(place) => Some(place.line),
+        None => None,
+    }
+}
+
+/// The column of a place.
+pub(crate) fn column_in(place: Option<Place>) -> Option<u32>
+    ensures { result ≡ column_of place }
+{
+    match place {
+        Some(place) => Some(place.column),
+        None => None,
+    }
+}

@@ -1,0 +1,88 @@
+//! What a failure tells, piece by piece.
+
+ghost use Rattle.std.specs.Prelude.{◌≡◌, IfOk, option_map};
+ghost use Rattle.std.specs.String.{string_bytes};
+ghost use Rattle.syntax.specs.declared.place.Place.{Place as AnyPlace};
+ghost use Rattle.intake.specs.Messages.{failure_text};
+ghost use Rattle.json_answers.specs.Refusals.{failure_array, failure_code, failure_label, failure_place};
+
+use crate::text_places::place_at;
+use intake::failure::Failure;
+use intake::message::emit_message;
+use std::alloc::{AllocError, Global};
+use syntax::Place;
+use trace_text::error::TraceError;
+use types::code::Label;
+use types::input_error::InputError;
+
+/// Its code, as `Y5`, where it has one.
+pub(crate) fn code_of(failure: &Failure) -> Option<&'static str>
+    ensures { option_map (λ code. code.now) result ≡ failure_code failure.now }
+{
+    match failure {
+        Failure::Syntax(error) => Some(error.code()),
+        Failure::Types(error) => Some(error.code()),
+        Failure::Race { .. } => Some("C1"),
+        Failure::NoMemoryInCheck => Some("C2"),
+        Failure::Input(error) => Some(error.code()),
+        Failure::Run(error) => Some(error.code()),
+        Failure::Trace(TraceError::NotALine(_)) => Some("J1"),
+        Failure::Trace(TraceError::NoMemory) => Some("J2"),
+        Failure::StrangeEvents => Some("E5"),
+        _ => None,
+    }
+}
+
+/// The label of the statement that breaks a rule.
+pub(crate) fn label_of(failure: &Failure) -> Option<Label>
+    ensures { result ≡ failure_label failure.now }
+{
+    match failure {
+        Failure::Types(error) => error.label(),
+        _ => None,
+    }
+}
+
+/// Where it stands in the text of the program: where the text goes wrong, or where the statement begins.
+pub(crate) fn place_of(failure: &Failure, places: &[Place]) -> Option<Place>
+    ensures { result ≡ failure_place places.now failure.now }
+{
+    match failure {
+        Failure::Syntax(error) => error.place(),
+        _ => match label_of(failure) {
+            Some(label) => place_at(places, label),
+            None => None,
+        },
+    }
+}
+
+/// The name that an error of an input tells.
+pub(crate) fn array_of(failure: &Failure) -> Option<&str>
+    ensures { option_map (λ name. name.now) result ≡ failure_array failure.now }
+{
+    let Failure::Input(error) = failure else {
+        return None;
+    };
+    match error {
+        InputError::UnknownArray { name } => Some(name.as_str()),
+        InputError::WrongLength { name } => Some(name.as_str()),
+        InputError::WrongElement { name } => Some(name.as_str()),
+        _ => None,
+    }
+}
+
+/// Its line, without the line feed.
+pub(crate) fn message_of(alloc: Global, failure: &Failure) -> Result<String, AllocError>
+    ensures { IfOk result (λ text. string_bytes text ≡ failure_text failure.now) }
+{
+    let mut bytes = Vec::new(alloc);
+    if emit_message(&mut bytes, failure).is_err() {
+        return Err(AllocError);
+    }
+    let _feed = bytes.pop();
+    match String::from_utf8(bytes) {
+        Ok(text) => Ok(text),
+        // No clause says that a message is text; it is put together of texts.
+        Err(_) => Err(AllocError),
+    }
+}

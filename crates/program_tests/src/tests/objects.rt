@@ -1,0 +1,201 @@
+//! What commands answer as JSON.
+
+use effects::laws::typed_programs_are_sound;
+use effects::summaries::summarize;
+use intake::failure::Failure;
+use json_answers::outcomes::outcome_object;
+use json_answers::programs::{accepted_object, pairs_object};
+use json_answers::races::race_object;
+use json_answers::refusals::refusal_object;
+use parallel_relation::pairs::may_run_together;
+use places::statement_places;
+use race_checker::check::{Refused, check};
+use serde_json::Value;
+use std::alloc::Global;
+use std::process::Abort;
+use std::rt::HostRuntime;
+use std::test::Fail;
+use syntax::Place;
+use types::check::type_check;
+use types::fault::{Fault, FaultKind};
+use types::input::Input;
+use types::outcome::Outcome;
+use types::path::Path;
+use types::typed::Typed;
+
+/// Its labels: 1 at 4:3, 2 at 5:3, 3 at 5:11, 4 at 6:3.
+const PROGRAM: &str = "main {
+  array z: int[2];
+  array a: byte[1];
+  print 1, -2;
+  async { z[0] = 7; }
+  a[0] = 256;
+}
+";
+
+/// A race of 1 or 2, in `fill`, with 4.
+const RACY: &str = "proc fill(mut s: int) {
+  s[0] = 1;
+}
+main {
+  array a: int[1];
+  async { fill(a); }
+  a[0] = 2;
+}
+";
+
+/// The program of a text.
+fn typed_of(rt: &impl Abort, alloc: Global, text: &str) -> Typed {
+    let program = syntax::parse(alloc, text).expect(rt, "a program");
+    type_check(alloc, program).expect(rt, "its rules")
+}
+
+/// Where its statements begin.
+fn places_of(rt: &impl Abort, alloc: Global, text: &str) -> Vec<Place> {
+    statement_places(alloc, text).expect(rt, "tokens")
+}
+
+/// The least and the largest number, a byte, two lines, and two faults.
+fn ended(alloc: Global) -> Result<Outcome, Fail> {
+    let first = Fault {
+        path: Path {
+            turns: vec![in alloc; 1]?,
+        },
+        label: 3,
+        kind: FaultKind::Raised(-7),
+    };
+    let second = Fault {
+        path: Path {
+            turns: Vec::new(alloc),
+        },
+        label: 4,
+        kind: FaultKind::OutOfElement,
+    };
+    let ints = vec![in alloc; i64::MIN, i64::MAX]?;
+    let bytes = vec![in alloc; 255]?;
+    Ok(Outcome::Ended {
+        arrays: vec![in alloc; ints, bytes]?,
+        lines: vec![in alloc; vec![in alloc; 1, -2]?, Vec::new(alloc)]?,
+        faults: vec![in alloc; first, second]?,
+    })
+}
+
+#[test]
+fn outcomes_are_told(rt: HostRuntime) -> Result<(), Fail> {
+    let alloc = rt.alloc();
+    let typed = typed_of(&rt, alloc, PROGRAM);
+    let places = places_of(&rt, alloc, PROGRAM);
+    let told = outcome_object(alloc, &typed.code().arrays, &places, &ended(alloc)?)?;
+    let wanted = "{\"arrays\":{\"a\":[255],\"z\":[-9223372036854775808,9223372036854775807]},\
+        \"faults\":[{\"column\":11,\"kind\":\"F6\",\"label\":3,\"line\":5,\"number\":-7,\"path\":\"0.1\"},\
+        {\"column\":3,\"kind\":\"F4\",\"label\":4,\"line\":6,\"number\":null,\"path\":\"0\"}],\
+        \"lines\":[[1,-2],[]],\"status\":2,\"stopped\":false}\n";
+    assert_eq!(rt; told.as_str(), wanted);
+    let told = outcome_object(alloc, &typed.code().arrays, &places, &Outcome::Stopped)?;
+    assert_eq!(rt; told.as_str(), "{\"status\":3,\"stopped\":true}\n");
+    Ok(())
+}
+
+#[test]
+fn told_arrays_are_an_input(rt: HostRuntime) -> Result<(), Fail> {
+    let alloc = rt.alloc();
+    let typed = typed_of(&rt, alloc, PROGRAM);
+    let outcome = ended(alloc)?;
+    let told = outcome_object(alloc, &typed.code().arrays, &[], &outcome)?;
+    let object = Value::from_str(alloc, told.as_str()).expect(&rt, "an object");
+    let arrays = object.get("arrays").expect(&rt, "arrays").to_string(alloc)?;
+    let input = Input::from_json(alloc, &typed, arrays.as_str()).expect(&rt, "an input");
+    match &outcome {
+        Outcome::Ended { arrays, .. } => assert!(rt; input.arrays == *arrays),
+        Outcome::Stopped => assert!(rt; false),
+    }
+    Ok(())
+}
+
+#[test]
+fn programs_are_told(rt: HostRuntime) -> Result<(), Fail> {
+    let alloc = rt.alloc();
+    let typed = typed_of(&rt, alloc, RACY);
+    let told = accepted_object(alloc, typed.code())?;
+    let wanted = "{\"accepted\":true,\"labels\":4,\"procedures\":1,\"status\":0}\n";
+    assert_eq!(rt; told.as_str(), wanted);
+    typed_programs_are_sound(&typed);
+    let summaries = summarize(alloc, &typed)?;
+    let pairs = may_run_together(alloc, &typed, &summaries)?;
+    let told = pairs_object(alloc, pairs.list())?;
+    assert_eq!(rt; told.as_str(), "{\"pairs\":[[1,4],[3,4]],\"status\":0}\n");
+    Ok(())
+}
+
+#[test]
+fn races_are_told(rt: HostRuntime) -> Result<(), Fail> {
+    let alloc = rt.alloc();
+    let typed = typed_of(&rt, alloc, RACY);
+    typed_programs_are_sound(&typed);
+    let places = places_of(&rt, alloc, RACY);
+    match check(&rt, alloc, typed) {
+        Err(Refused::Race { race, typed }) => {
+            let told = race_object(alloc, "r.afx", &places, typed.code(), race)?;
+            let wanted = "{\"code\":\"C1\",\"column\":3,\"file\":\"r.afx\",\
+                \"label\":1,\"line\":2,\"message\":\"C1 race in main: 1 write a, 4 write a\",\
+                \"race\":{\"first\":{\"column\":3,\"kind\":\"write\",\"label\":1,\"line\":2,\
+                \"section\":\"a\"},\"procedure\":\"main\",\"second\":{\"column\":3,\
+                \"kind\":\"write\",\"label\":4,\"line\":7,\"section\":\"a\"}},\"status\":1}\n";
+            assert_eq!(rt; told.as_str(), wanted);
+        }
+        _ => assert!(rt; false),
+    }
+    Ok(())
+}
+
+#[test]
+fn refusals_are_told(rt: HostRuntime) -> Result<(), Fail> {
+    let alloc = rt.alloc();
+    let text = "main { var x = 1; async { x = 2; } }";
+    let places = places_of(&rt, alloc, text);
+    let program = syntax::parse(alloc, text).expect(&rt, "a program");
+    match type_check(alloc, program) {
+        Err(error) => {
+            let told = refusal_object(alloc, "d.afx", &places, &Failure::Types(error))?;
+            let wanted = "{\"array\":null,\"code\":\"Y5\",\"column\":27,\"file\":\"d.afx\",\
+                \"label\":3,\"line\":1,\"message\":\"Y5 at label 3\",\"status\":1}\n";
+            assert_eq!(rt; told.as_str(), wanted);
+        }
+        Ok(_) => assert!(rt; false),
+    }
+    let told = refusal_object(
+        alloc,
+        "a\"b.afx",
+        &[],
+        &Failure::cannot_read(alloc, "a\"b.afx"),
+    )?;
+    let wanted = "{\"array\":null,\"code\":null,\"column\":null,\"file\":\"a\\\"b.afx\",\
+        \"label\":null,\"line\":null,\"message\":\"cannot read a\\\"b.afx\",\"status\":1}\n";
+    assert_eq!(rt; told.as_str(), wanted);
+    Ok(())
+}
+
+#[test]
+fn errors_of_texts_and_inputs_are_told(rt: HostRuntime) -> Result<(), Fail> {
+    let alloc = rt.alloc();
+    match syntax::parse(alloc, "main { skip }") {
+        Err(error) => {
+            let told = refusal_object(alloc, "-", &[], &Failure::Syntax(error))?;
+            let wanted = "{\"array\":null,\"code\":\"S2\",\"column\":13,\"file\":\"-\",\
+                \"label\":null,\"line\":1,\"message\":\"S2 at 1:13\",\"status\":1}\n";
+            assert_eq!(rt; told.as_str(), wanted);
+        }
+        Ok(_) => assert!(rt; false),
+    }
+    let typed = typed_of(&rt, alloc, PROGRAM);
+    match Input::from_json(alloc, &typed, "{\"q\": []}") {
+        Err(error) => {
+            let told = refusal_object(alloc, "p.afx", &[], &Failure::Input(error))?;
+            let wanted = "{\"array\":\"q\",\"code\":\"N3\",\"column\":null,\"file\":\"p.afx\",\
+                \"label\":null,\"line\":null,\"message\":\"N3 q\",\"status\":1}\n";
+            assert_eq!(rt; told.as_str(), wanted);
+        }
+        Ok(_) => assert!(rt; false),
+    }
+    Ok(())
+}

@@ -1,0 +1,11 @@
+" `:compiler afx`, then `:make`: what `afx check` refuses, by the object that it writes with `--format json`.
+if exists("current_compiler")
+  finish
+endif
+let current_compiler = "afx"
+CompilerSet makeprg=afx\ check\ --format\ json\ %:S
+" A race, another refusal with a place, one without, and other lines, which are left out.
+CompilerSet errorformat=%.%#\"column\":%c\\,\"file\":\"%f\"\\,%.%#\"line\":%l\\,\"message\":\"%m\"\\,\"race\"%.%#
+CompilerSet errorformat+=%.%#\"column\":%c\\,\"file\":\"%f\"\\,%.%#\"line\":%l\\,\"message\":\"%m\"\\,\"status\"%.%#
+CompilerSet errorformat+=%.%#\"column\":null\\,\"file\":\"%f\"\\,%.%#\"message\":\"%m\"\\,\"status\"%.%#
+CompilerSet errorformat+=%-G%.%#
