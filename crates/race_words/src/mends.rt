@@ -1,0 +1,94 @@
+//! Why two sections share places, and what would be right.
+
+use crate::lines::Page;
+use crate::names::{procedure_of, section_name};
+use crate::ways::is_begun;
+use race_checker::race::Race;
+use std::alloc::AllocError;
+use types::code::Program;
+use witness::crossing::Meeting;
+use witness::sharing::Sharing;
+use witness::step::Step;
+use witness::witness::Witness;
+
+/// Adds that no finish waits for the task.
+pub fn push_unfinished(told: &mut String, witness: &Witness) -> Result<(), AllocError> {
+    match witness.meeting {
+        Meeting::Turns => told.push_str("  No finish closes inside the loop.\n"),
+        Meeting::Follows => {
+            let first = first_label(&witness.pending);
+            let second = first_label(&witness.later);
+            write!(
+                told,
+                "  No finish closes between {first} and {second}, so that task may still run.\n"
+            )
+        }
+    }
+}
+
+/// Adds why the sections of a race share places.
+pub fn push_sharing(
+    told: &mut String,
+    code: &Program,
+    race: Race,
+    sharing: Sharing,
+) -> Result<(), AllocError> {
+    let procedure = procedure_of(code, race.procedure);
+    let first = section_name(procedure, race.first.section);
+    let second = section_name(procedure, race.second.section);
+    match sharing {
+        Sharing::Same => write!(told, "  Both are the section {first}. {WHOLE}"),
+        Sharing::FirstIsPart => write!(told, "  {first} is a part of {second}. {WHOLE}"),
+        Sharing::SecondIsPart => write!(told, "  {second} is a part of {first}. {WHOLE}"),
+        Sharing::OfSplits { section } => {
+            let common = section_name(procedure, section);
+            write!(
+                told,
+                "  {first} and {second} lie in sides of different splits of {common}: they may share places. {SIDES}"
+            )
+        }
+    }
+}
+
+const WHOLE: &str = "The check sees whole sections, whatever the indices are.\n";
+
+const SIDES: &str = "Only the two sides of one split are known to be apart.\n";
+
+/// Adds what would be right.
+pub fn push_mend(told: &mut String, page: &Page<'_>, witness: &Witness) -> Result<(), AllocError> {
+    if matches!(witness.meeting, Meeting::Turns) {
+        return told.push_str(LOOP);
+    }
+    let first = first_label(&witness.pending);
+    let second = first_label(&witness.later);
+    let line = match page.place_of(first) {
+        Some(place) => place.line,
+        None => 0,
+    };
+    write!(
+        told,
+        "To mend it: put {first} (line {line}) into a finish: then {second} waits for its tasks"
+    )?;
+    told.push_str(match witness.sharing {
+        Sharing::OfSplits { .. } => "; or name the parts by one split.\n",
+        _ => {
+            if is_begun(&witness.later) {
+                "; or give each task a part of its own by split.\n"
+            } else {
+                ".\n"
+            }
+        }
+    })
+}
+
+const LOOP: &str =
+    "To mend it: give each task a part of its own by split, half by half; or put the loop's body into a finish: then its
+turns come one after another.\n";
+
+/// The label of a way's first step.
+fn first_label(way: &[Step]) -> u32 {
+    match way.first() {
+        Some(step) => step.label,
+        None => 0,
+    }
+}

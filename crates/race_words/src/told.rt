@@ -1,0 +1,160 @@
+//! What stands behind the line of a race.
+
+use crate::lines::{Page, push_lines};
+use crate::mends::{push_mend, push_sharing, push_unfinished};
+use crate::names::{kind_word, procedure_name, procedure_of, section_name};
+use crate::ways::{Line, end_of, push_way};
+use effects::access::Access;
+use excerpts::source::push_line;
+use places::statement_places;
+use race_checker::race::Race;
+use std::alloc::{AllocError, Global};
+use syntax::lexer::Unread;
+use types::code::Program;
+use types::ids::ProcedureId;
+use types::typed::Typed;
+use witness::crossing::Meeting;
+use witness::step::Step;
+use witness::witness::Witness;
+
+/// Where both accesses of a race stand, how they come to run together, why they share places, and what would be right.
+/// Nothing of a text over a mebibyte.
+pub fn explained(
+    alloc: Global,
+    text: &str,
+    typed: &Typed,
+    race: Race,
+    witness: &Witness,
+) -> Result<String, AllocError> {
+    let mut told = String::new(alloc);
+    if text.len() > 1_048_576 {
+        return Ok(told);
+    }
+    let places = match statement_places(alloc, text) {
+        Ok(places) => places,
+        Err(Unread::OutOfMemory) => return Err(AllocError),
+        Err(_) => return Ok(told),
+    };
+    let page = Page {
+        text,
+        places: &places,
+    };
+    let code = typed.code();
+    told.push('\n')?;
+    push_accesses(&mut told, &page, code, race, witness)?;
+    told.push_str("They may run together:\n")?;
+    push_ways(alloc, &mut told, &page, code, race, witness)?;
+    push_unfinished(&mut told, witness)?;
+    push_sharing(&mut told, code, race, witness.sharing)?;
+    push_mend(&mut told, &page, witness)?;
+    Ok(told)
+}
+
+/// Adds both accesses.
+fn push_accesses(
+    told: &mut String,
+    page: &Page<'_>,
+    code: &Program,
+    race: Race,
+    witness: &Witness,
+) -> Result<(), AllocError> {
+    let (first, second) = if witness.first_pends {
+        (&witness.pending, &witness.later)
+    } else {
+        (&witness.later, &witness.pending)
+    };
+    push_access(told, code, race.procedure, race.first, first)?;
+    push_place(told, page, race.first.label)?;
+    push_access(told, code, race.procedure, race.second, second)?;
+    push_place(told, page, race.second.label)
+}
+
+/// Adds what an access of a procedure does, and its section's name where it is made.
+fn push_access(
+    told: &mut String,
+    code: &Program,
+    procedure: ProcedureId,
+    access: Access,
+    way: &[Step],
+) -> Result<(), AllocError> {
+    let label = access.label;
+    let kind = kind_word(access.write);
+    let name = section_name(procedure_of(code, procedure), access.section);
+    write!(told, "{label} {kind} {name}")?;
+    let end = end_of(procedure, way);
+    let there = section_name(procedure_of(code, end.procedure), end.section);
+    if end.procedure != procedure {
+        let called = procedure_name(code, end.procedure);
+        write!(told, ", by its name {there} in {called}")?;
+    } else if end.section != access.section {
+        write!(told, ", by its name {there}")?;
+    }
+    told.push_str(":\n")
+}
+
+/// Adds the line of a statement, with a caret.
+fn push_place(told: &mut String, page: &Page<'_>, label: u32) -> Result<(), AllocError> {
+    match page.place_of(label) {
+        Some(place) => push_line(told, page.text, *place),
+        None => Ok(()),
+    }
+}
+
+/// Adds the ways to both accesses; the second only where it is more than the access.
+fn push_ways(
+    alloc: Global,
+    told: &mut String,
+    page: &Page<'_>,
+    code: &Program,
+    race: Race,
+    witness: &Witness,
+) -> Result<(), AllocError> {
+    let (pending, later) = if witness.first_pends {
+        (race.first, race.second)
+    } else {
+        (race.second, race.first)
+    };
+    let mut lines = Vec::new(alloc);
+    push_loop(alloc, witness, &mut lines)?;
+    push_way(
+        alloc,
+        code,
+        race.procedure,
+        &witness.pending,
+        pending.write,
+        &mut lines,
+    )?;
+    push_lines(told, page, &lines)?;
+    if witness.later.len() < 2 || (pending == later && witness.pending == witness.later) {
+        return Ok(());
+    }
+    told.push_str("         and meanwhile\n")?;
+    let mut lines = Vec::new(alloc);
+    push_way(
+        alloc,
+        code,
+        race.procedure,
+        &witness.later,
+        later.write,
+        &mut lines,
+    )?;
+    push_lines(told, page, &lines)
+}
+
+/// Adds the line of the loop in whose turns the two meet.
+fn push_loop(alloc: Global, witness: &Witness, lines: &mut Vec<Line>) -> Result<(), AllocError> {
+    if matches!(witness.meeting, Meeting::Follows) {
+        return Ok(());
+    }
+    match witness.pending.first() {
+        Some(step) => {
+            let label = step.label;
+            let words = format!(in alloc;
+                "{label} goes round while tasks of earlier turns may still run"
+            )?;
+            lines.push(Line { label, words })?;
+            Ok(())
+        }
+        None => Ok(()),
+    }
+}

@@ -1,0 +1,113 @@
+//! What the steps of a way do.
+
+use crate::names::{kind_word, procedure_name, procedure_of, section_name};
+use sections::id::SectionId;
+use std::alloc::{AllocError, Global};
+use types::code::{Label, Program};
+use types::ids::ProcedureId;
+use witness::step::{Rule, Step};
+
+/// A line of a way: the statement with this label does that.
+#[derive(Drop)]
+pub struct Line {
+    pub label: Label,
+    pub words: String,
+}
+
+/// Where the access of a way is made: in this procedure, to what is this section there.
+#[derive(Clone, Copy)]
+pub struct End {
+    pub procedure: ProcedureId,
+    pub section: SectionId,
+}
+
+/// The end of a way that begins in a procedure.
+pub fn end_of(procedure: ProcedureId, way: &[Step]) -> End {
+    let mut end = End {
+        procedure,
+        section: SectionId { number: 0 },
+    };
+    for step in way {
+        end.section = step.section;
+        if let Rule::Enter { procedure } = step.rule {
+            end.procedure = procedure;
+        }
+    }
+    end
+}
+
+/// Whether a way goes through an async.
+pub fn is_begun(way: &[Step]) -> bool {
+    for step in way {
+        if matches!(step.rule, Rule::Begin) {
+            return true;
+        }
+    }
+    false
+}
+
+/// Adds the lines of a way that begins in a procedure: of its calls, tasks and splits, and of its access.
+pub fn push_way(
+    alloc: Global,
+    code: &Program,
+    procedure: ProcedureId,
+    way: &[Step],
+    write: bool,
+    lines: &mut Vec<Line>,
+) -> Result<(), AllocError> {
+    let mut procedure = procedure;
+    let mut left = way;
+    'steps: while let [step, behind @ ..] = left {
+        let inside = match behind.first() {
+            Some(next) => next.section,
+            None => step.section,
+        };
+        let words = words_of(alloc, code, procedure, *step, inside, write)?;
+        if !words.is_empty() {
+            lines.push(Line {
+                label: step.label,
+                words,
+            })?;
+        }
+        if let Rule::Enter { procedure: callee } = step.rule {
+            procedure = callee;
+        }
+        left = behind;
+    }
+    Ok(())
+}
+
+/// What a step in a procedure does, where the section of the access has the name of `inside` behind it. Nothing of a
+/// step that only goes into a block.
+fn words_of(
+    alloc: Global,
+    code: &Program,
+    procedure: ProcedureId,
+    step: Step,
+    inside: SectionId,
+    write: bool,
+) -> Result<String, AllocError> {
+    let here = procedure_of(code, procedure);
+    let label = step.label;
+    let name = section_name(here, step.section);
+    match step.rule {
+        Rule::Own => {
+            let kind = kind_word(write);
+            format!(in alloc; "{label} {kind} {name}")
+        }
+        Rule::Begin => format!(in alloc; "{label} starts a task"),
+        Rule::Enter { procedure: callee } => {
+            let called = procedure_name(code, callee);
+            let parameter = section_name(procedure_of(code, callee), inside);
+            format!(in alloc; "{label} calls {called}, with {name} as {parameter}")
+        }
+        Rule::Side => {
+            if inside == step.section {
+                return Ok(String::new(alloc));
+            }
+            let side = section_name(here, inside);
+            format!(in alloc; "{label} names {side}, a part of {name}")
+        }
+        _ => Ok(String::new(alloc)),
+    }
+}

@@ -1,0 +1,72 @@
+-- Two ways that meet show each race.
+use Rattle.std.proofs.Common.{◌≡◌, ◌⊎◌, inl, inr, ℕ, List, [], ◌∷◌}
+use Rattle.std.specs.Prelude.{Bool, true, false}
+use Rattle.types.specs.Code.{Code, Codes, Procedure, Program}
+use Rattle.effects.specs.Accesses.{Access}
+use Rattle.effects.specs.Effects.{accesses}
+use Rattle.effects.specs.Sound.{IsSound, Follows, FollowsOf}
+use Rattle.effects.specs.Statements.{Block}
+use Rattle.parallel_relation.specs.Together.{Together}
+use Rattle.race_checker.specs.Races.{Race, IsRace, numbered}
+use Rattle.race_checker.proofs.Judging.{numbered_stands}
+use Rattle.witness.specs.Ways.{Way, WayOf, Meets}
+use Rattle.witness.specs.Witness.{IsShown}
+use Rattle.witness.specs.declared.crossing.Meeting.{Meeting}
+use Rattle.witness.specs.declared.step.Step.{Step}
+use Rattle.witness.proofs.HasWays.{done, done_of, left_of, leads_of, leads_in}
+
+module _ (p : Program) (sound : IsSound p) where
+  -- two ways meet in a list
+  record HaveMet (b : Codes) (x y : Access) : Type 0 where
+    kind : Meeting
+    one : List Step
+    other : List Step
+    meets : Meets p b kind one other x y
+
+  -- a block of a statement follows the rules where it stands
+  record BlockFollows (g : Procedure) (b : Codes) : Type 0 where
+    scope : List ℕ
+    follows : Follows p g scope b
+
+  block_follows : {s : Code} {b : Codes} → Block s b → (g : Procedure) (scope : List ℕ) → FollowsOf p g scope s → BlockFollows g b
+  block_follows Block.if_body g scope h = record { scope = scope; follows = h.1 }
+  block_follows Block.if_other g scope h = record { scope = scope; follows = h.2 }
+  block_follows Block.while g scope h = record { scope = scope; follows = h.1 }
+  block_follows (Block.split {s} {e} {l} {r} {b}) g scope h = record { scope = l ∷ r ∷ scope; follows = h.2 }
+  block_follows Block.async g scope h = record { scope = scope; follows = h }
+  block_follows Block.finish g scope h = record { scope = scope; follows = h }
+
+  met : {b : Codes} {x y : Access} → Together p accesses b x y → (g : Procedure) (scope : List ℕ) → Follows p g scope b → HaveMet b x y
+  met (Together.follows h k) g scope f =
+      let w = left_of p sound h g scope f.0 in
+      let v = done p sound k g scope f.1 in
+      record { kind = _; one = w.steps; other = v.steps; meets = Meets.follows w.leads v.leads }
+  met (Together.turns h k) g scope f =
+      let w = left_of p sound h g scope f.0 in
+      let v = done_of p sound k g scope f.0 in
+      record { kind = _; one = w.steps; other = v.steps; meets = Meets.turns w.leads v.leads }
+  met (Together.inside blk h) g scope f =
+      let r = block_follows blk g scope f.0 in
+      let m = met h g r.scope r.follows in
+      record { kind = m.kind; one = m.one; other = m.other; meets = Meets.inside blk m.meets }
+  met (Together.later h) g scope f =
+      let m = met h g scope f.1 in
+      record { kind = m.kind; one = m.one; other = m.other; meets = Meets.later m.meets }
+
+  pub shown : (r : Race) → IsRace p r → IsShown p r
+  shown r race =
+      let st = numbered_stands p r.procedure sound in
+      elim race.pair [
+        | inl h ↦ (let m = met h st.around.procedure st.around.scope st.follows in
+            record { first_pends = true; meeting = m.kind; pending = m.one; later = m.other; shows = m.meets })
+        | inr h ↦ (let m = met h st.around.procedure st.around.scope st.follows in
+            record { first_pends = false; meeting = m.kind; pending = m.one; later = m.other; shows = m.meets })
+      ]
+
+-- where two ways meet, what they lead to may run together
+pub together : (p : Program) {b : Codes} {kind : Meeting} {one other : List Step} {x y : Access} → Meets p b kind one other x y
+    → Together p accesses b x y
+together p (Meets.follows w v) = Together.follows (leads_of p w) (leads_in p v)
+together p (Meets.turns w v) = Together.turns (leads_of p w) (leads_of p v)
+together p (Meets.inside blk m) = Together.inside blk (together p m)
+together p (Meets.later m) = Together.later (together p m)

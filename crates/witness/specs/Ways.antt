@@ -1,0 +1,96 @@
+-- Ways: from statements down to an access that they may do, or leave pending, step by step.
+use Rattle.std.specs.Prelude.{ℕ, ◌≡◌, ◌<◌, Bool, true, false, List, [], ◌∷◌, length, Some, slice_get}
+use Rattle.sections.specs.Member.{Member}
+use Rattle.types.specs.Code.{Number, Truth, Code, If, While, Split, Call, Async, Finish, Codes, Then}
+use Rattle.types.specs.Code.{Program}
+use Rattle.types.specs.Run.{procedure_of}
+use Rattle.effects.specs.Accesses.{Access, own_accesses}
+use Rattle.effects.specs.Effects.{past_split}
+use Rattle.effects.specs.Statements.{Block}
+use Rattle.witness.specs.declared.step.Rule.{Rule}
+use Rattle.witness.specs.declared.step.Rule.TheVariants.{Own, Body, Other, Turn, Side, Enter}
+use Rattle.witness.specs.declared.step.Rule.TheVariants.{Begin, Await}
+use Rattle.witness.specs.declared.step.Step.{Step}
+use Rattle.witness.specs.declared.crossing.Meeting.{Meeting}
+use Rattle.witness.specs.declared.crossing.Meeting.TheVariants.{Follows, Turns}
+
+-- the step at the statement with this label, where the section has this name
+abbrev pub step : (label : ℕ) → Rule → (section : ℕ) → Step
+step l rule s = record { label = l; rule = rule; section = record { number = s } }
+
+module _ (p : Program) where
+  -- the rules of the table: a statement does, or leaves pending, to the section `outer` what a list
+  -- of statements does, or leaves pending, to what has the name `inner` there
+  pub data Goes : (pending : Bool) → Code → Rule → (inside : Bool) → Codes → (outer inner : ℕ)
+      → Type 0 where
+    body : {m : Bool} {t : Truth} {b c : Codes} {s : ℕ} → Goes m (If t b c) Body m b s s
+    other : {m : Bool} {t : Truth} {b c : Codes} {s : ℕ} → Goes m (If t b c) Other m c s s
+    turn : {m : Bool} {t : Truth} {b : Codes} {s : ℕ} → Goes m (While t b) Turn m b s s
+    -- both sides of a split are what was split
+    side : {m : Bool} {s : ℕ} {e : Number} {l r : ℕ} {b : Codes} {x : ℕ}
+        → Goes m (Split s e l r b) Side m b (past_split s l r x) x
+    -- parameter k is the section that is passed for it
+    enter : {m : Bool} {f : ℕ} {es : List Number} {ss : List ℕ} {s k : ℕ}
+        → slice_get ss k ≡ Some s → k < length (procedure_of p f).parameters
+        → Goes m (Call f es ss) (Enter (record { number = f })) m (procedure_of p f).body s k
+    -- an async leaves pending all that its body does
+    begin : {m : Bool} {b : Codes} {s : ℕ} → Goes m (Async b) Begin false b s s
+    -- a finish leaves nothing pending
+    await : {b : Codes} {s : ℕ} → Goes false (Finish b) Await false b s s
+
+  -- a statement calls this procedure, and passes the section of x for the one of y, a parameter
+  pub record IsPassedAs (s : Code) (f : ℕ) (x y : Access) : Type 0 where
+    pub values : List Number
+    pub sections : List ℕ
+    pub calls : s ≡ Call f values sections
+    pub passed : slice_get sections y.section ≡ Some x.section
+    pub parameter : y.section < length (procedure_of p f).parameters
+    pub same : y ≡ record x { section = y.section }
+
+  mutual
+    -- these steps lead from a statement to an access that it may do, or leave pending
+    pub data WayOf : (pending : Bool) → (label : ℕ) → Code → List Step → Access → Type 0 where
+      -- its own expressions make the access
+      own : {l : ℕ} {s : Code} {x : Access} → Member x (own_accesses l s)
+          → WayOf false l s (step l Own x.section ∷ []) x
+      -- or statements inside it do, or those of the procedure that it calls
+      by : {m n : Bool} {l : ℕ} {s : Code} {rule : Rule} {b : Codes} {inner : ℕ}
+          {steps : List Step} {x : Access}
+          → Goes m s rule n b x.section inner → Way n b steps (record x { section = inner })
+          → WayOf m l s (step l rule x.section ∷ steps) x
+
+    -- and from a list of statements: from one of them
+    pub data Way : (pending : Bool) → Codes → List Step → Access → Type 0 where
+      here : {m : Bool} {l : ℕ} {s : Code} {rest : Codes} {steps : List Step} {x : Access}
+          → WayOf m l s steps x → Way m (Then l s rest) steps x
+      later : {m : Bool} {l : ℕ} {s : Code} {rest : Codes} {steps : List Step} {x : Access}
+          → Way m rest steps x → Way m (Then l s rest) steps x
+
+  -- two ways, to x and to y, begin at a statement that leaves x pending and at one behind it in its
+  -- list, or at a loop for two of its turns
+  pub data Meets : Codes → Meeting → (pending later : List Step) → (x y : Access) → Type 0 where
+    follows : {l : ℕ} {s : Code} {rest : Codes} {first second : List Step} {x y : Access}
+        → WayOf true l s first x → Way false rest second y
+        → Meets (Then l s rest) Follows first second x y
+    turns : {l : ℕ} {t : Truth} {b rest : Codes} {first second : List Step} {x y : Access}
+        → WayOf true l (While t b) first x → WayOf false l (While t b) second y
+        → Meets (Then l (While t b) rest) Turns first second x y
+    inside : {l : ℕ} {s : Code} {b rest : Codes} {kind : Meeting} {first second : List Step}
+        {x y : Access} → Block s b → Meets b kind first second x y
+        → Meets (Then l s rest) kind first second x y
+    later : {l : ℕ} {s : Code} {rest : Codes} {kind : Meeting} {first second : List Step}
+        {x y : Access} → Meets rest kind first second x y
+        → Meets (Then l s rest) kind first second x y
+
+  -- so they do inside a statement
+  pub record MeetsInside (s : Code) (kind : Meeting) (first second : List Step) (x y : Access)
+      : Type 0 where
+    pub block : Codes
+    pub stands : Block s block
+    pub meets : Meets block kind first second x y
+
+-- a statement is a loop
+pub record IsLoop (s : Code) : Type 0 where
+  pub guard : Truth
+  pub body : Codes
+  pub is : s ≡ While guard body

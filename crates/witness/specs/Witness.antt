@@ -1,0 +1,37 @@
+-- What shows that a race is one.
+use Rattle.std.specs.Prelude.{Bool, List, if◌then◌else◌}
+use Rattle.types.specs.Code.{Program}
+use Rattle.effects.specs.Accesses.{Access}
+use Rattle.race_checker.specs.Races.{Race, numbered}
+use Rattle.witness.specs.Sharing.{Shares}
+use Rattle.witness.specs.Ways.{Meets}
+use Rattle.witness.specs.declared.crossing.Meeting.{Meeting}
+use Rattle.witness.specs.declared.step.Step.{Step}
+use Rattle.witness.specs.declared.witness.Witness.{Witness}
+
+-- the access of a race that is left pending, and the one that is done behind it
+abbrev pub pending_one : (first_pends : Bool) → Race → Access
+pending_one first_pends r = if first_pends then r.first else r.second
+
+abbrev pub later_one : (first_pends : Bool) → Race → Access
+later_one first_pends r = if first_pends then r.second else r.first
+
+-- two ways show a race: by the rules of the table they lead to its two accesses
+abbrev pub Shows : Program → Race → (first_pends : Bool) → Meeting → (pending later : List Step)
+    → Type 0
+Shows p r first_pends kind pending later =
+    Meets p (numbered p r.procedure).body kind pending later
+    (pending_one first_pends r) (later_one first_pends r)
+
+-- a witness of a race
+pub record IsWitness (p : Program) (r : Race) (w : Witness) : Type 0 where
+  pub shows : Shows p r w.first_pends w.meeting w.pending.items w.later.items
+  pub sharing : Shares (numbered p r.procedure).sections r.first.section r.second.section w.sharing
+
+-- two ways show the race, whichever of its accesses is left pending
+pub record IsShown (p : Program) (r : Race) : Type 0 where
+  pub first_pends : Bool
+  pub meeting : Meeting
+  pub pending : List Step
+  pub later : List Step
+  pub shows : Shows p r first_pends meeting pending later

@@ -1,0 +1,84 @@
+//! How two sections of one procedure come to share places.
+
+ghost use Rattle.std.specs.Prelude.{◌↔◌, ◌<◌, IfSome, IsTrue, length};
+ghost use Rattle.sections.specs.Tree.{origins_of};
+ghost use Rattle.witness.specs.Sharing.{LiesIn, Shares};
+
+use sections::id::SectionId;
+use sections::origin::Origin;
+use sections::tree::SectionTree;
+
+/// Why two sections may share places.
+#[derive(Clone, Copy, PartialEq, Eq, Debug)]
+pub enum Sharing {
+    /// They are one.
+    Same,
+    /// The first is a part of the second.
+    FirstIsPart,
+    /// The second is a part of the first.
+    SecondIsPart,
+    /// They lie in sides of different splits of this section, the nearest one of which both are parts.
+    OfSplits { section: SectionId },
+}
+
+/// Why two sections may share places. None where they lie in no section together.
+pub(crate) fn sharing_of(
+    sections: &SectionTree,
+    first: SectionId,
+    second: SectionId,
+) -> Option<Sharing>
+    requires first { first.number < length (origins_of sections.now) }
+    requires second { second.number < length (origins_of sections.now) }
+    ensures { IfSome result (Shares (origins_of sections.now) first.number second.number) }
+{
+    if first.number == second.number {
+        return Some(Sharing::Same);
+    }
+    if lies_in(sections, first, second) {
+        return Some(Sharing::FirstIsPart);
+    }
+    if lies_in(sections, second, first) {
+        return Some(Sharing::SecondIsPart);
+    }
+    let section = nearest(sections, first, second);
+    if lies_in(sections, first, section) && lies_in(sections, second, section) {
+        Some(Sharing::OfSplits { section })
+    } else {
+        None
+    }
+}
+
+/// Whether a section is another one, or a part of it: walks up from it.
+fn lies_in(sections: &SectionTree, inner: SectionId, outer: SectionId) -> bool
+    requires { inner.number < length (origins_of sections.now) }
+    ensures { IsTrue result ↔ LiesIn (origins_of sections.now) inner.number outer.number }
+{
+    if inner.number == outer.number {
+        return true;
+    }
+    match sections.origin(inner) {
+        Origin::Root => false,
+        Origin::Left { parent } => lies_in(sections, parent, outer),
+        Origin::Right { parent } => lies_in(sections, parent, outer),
+    }
+}
+
+/// The nearest section in which both lie, where there is one: walks up from the one with the larger number.
+fn nearest(sections: &SectionTree, first: SectionId, second: SectionId) -> SectionId
+    requires first { first.number < length (origins_of sections.now) }
+    requires second { second.number < length (origins_of sections.now) }
+{
+    if first.number == second.number {
+        return first;
+    }
+    let (low, high) = if first.number < second.number {
+        (first, second)
+    } else {
+        (second, first)
+    };
+    match sections.origin(high) {
+        Origin::Root => high,
+        Origin::Left { parent } => nearest(sections, parent, low),
+        Origin::Right { parent } => nearest(sections, parent, low),
+    }
+}
