@@ -9,6 +9,8 @@ use gather::run_error::RunError;
 use intake::failure::Failure;
 use intake::files::FileSource;
 use intake::input_file::input_of;
+use race_checker::check::{Refused, check};
+use race_words::told::explained;
 use reasons::input_errors::explained_input;
 use reasons::races::explained_race;
 use reasons::rule_errors::explained_rule;
@@ -22,11 +24,12 @@ use std::thread::Threads;
 use trace_text::error::TraceError;
 use types::budget::{Budget, MOST_NEST, MOST_STEPS};
 use types::input_error::InputError;
+use witness::witness::witness_of;
 
 /// What went wrong, why, and what would be right: in the text of a program, in the file of its input or in that of a
 /// trace. Nothing where more can't be said than the failure's line does.
 pub fn explanation<R: Threads + Sync, F: FileSource>(
-    _rt: &R,
+    rt: &R,
     alloc: Global,
     files: &mut F,
     settings: Settings<'_>,
@@ -38,7 +41,7 @@ pub fn explanation<R: Threads + Sync, F: FileSource>(
     match failure {
         Failure::Syntax(error) => explained_syntax(alloc, text, error),
         Failure::Types(error) => explained_rule(alloc, text, *error),
-        Failure::Race { first, second, .. } => explained_race(alloc, text, first, second),
+        Failure::Race { first, second, .. } => race_explained(rt, alloc, text, first, second),
         Failure::Input(error) => match settings.input {
             Some(name) => input_explained(alloc, files, text, name, error),
             None => Ok(String::new(alloc)),
@@ -49,6 +52,26 @@ pub fn explanation<R: Threads + Sync, F: FileSource>(
         }
         Failure::Illegal(event) => trace_explained(alloc, files, settings, Wrong::Event(*event)),
         _ => Ok(String::new(alloc)),
+    }
+}
+
+/// Why the least race of a program is one, which is looked for again.
+fn race_explained<R: Threads + Sync>(
+    rt: &R,
+    alloc: Global,
+    text: &str,
+    first: &str,
+    second: &str,
+) -> Result<String, AllocError> {
+    let Ok(typed) = typed_of(alloc, text) else {
+        return explained_race(alloc, text, first, second);
+    };
+    match check(rt, alloc, typed) {
+        Err(Refused::Race { race, typed }) => match witness_of(alloc, &typed, race)? {
+            Some(witness) => explained(alloc, text, &typed, race, &witness),
+            None => explained_race(alloc, text, first, second),
+        },
+        _ => explained_race(alloc, text, first, second),
     }
 }
 
