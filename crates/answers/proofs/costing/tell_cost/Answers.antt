@@ -1,4 +1,4 @@
-use Rattle.std.proofs.Common.{ap, ◌∙◌, map, refl, sym}
+use Rattle.std.proofs.Common.{ap, ◌∙◌, false, map, refl, sym}
 use Rattle.types.specs.Outcome.{outcome}
 use Rattle.types.specs.Translation.{array, budget, input as lists_of, outcome as outcome_of}
 use Rattle.types.specs.Typed.{code_of}
