@@ -1,0 +1,18 @@
+use Rattle.std.proofs.Common.{sym, ap}
+use Rattle.interleave.specs.Shown.{IsTaskOf}
+use Rattle.interleave.proofs.Staying.{stays_back}
+use Rattle.interleave.proofs.Tables.{there}
+use Rattle.interleave.proofs.world.World.look_ahead.Goals as goal
+
+pub known-requires-clause-task : goal.known-requires-clause-task
+known-requires-clause-task c =
+    let r = c.args.self.now in
+    let path = c.args.path.now in
+    let t = there (IsTaskOf r.job) c.in-Some.task _ _ (c.requires.shows.tasks path) (sym c.remove_entry.ensures.value) in
+    (t.0, t.2)
+
+pub returns-clause-stays : goal.returns-clause-stays
+returns-clause-stays c =
+    stays_back c.args.self.now c.args.path.now c.in-Some.name c.in-Some.task c.in_ok-task.task c.remove_entry.new.self
+    c.insert.new.self (sym c.remove_entry.ensures.value) c.remove_entry.ensures.same_key c.in_ok-task.ensures.stays
+    c.remove_entry.ensures.updates.0 c.in_ok-insert.ensures.updates.0
