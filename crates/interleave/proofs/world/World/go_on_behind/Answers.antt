@@ -1,0 +1,29 @@
+use Rattle.std.proofs.Common.{◌∙◌, refl, sym}
+use Rattle.interleave.specs.declared.world.World.{World as rWorld}
+use Rattle.interleave.proofs.Behind.{may_go, results_of, resumed, roomy_stands}
+use Rattle.interleave.proofs.world.World.go_on_behind.Goals as goal
+
+pub returns-then-not-may_leave-clause-refused : goal.returns-then-not-may_leave-clause-refused
+returns-then-not-may_leave-clause-refused c = λ is w h. c.if-not-may_leave.ensures.not w c.args.worker h
+
+pub leave-requires-clause-stands : goal.leave-requires-clause-stands
+leave-requires-clause-stands c = c.if-not-may_leave.ensures.may.at
+
+pub leave-requires-clause-may : goal.leave-requires-clause-may
+leave-requires-clause-may c =
+    let old = c.args.self.now in
+    may_go old c.requires.job c.args.path.now c.if-not-may_leave.ensures.may old (λ v. refl) c.requires.world c.requires.shows
+
+pub returns-clause-resumed : goal.returns-clause-resumed
+returns-clause-resumed c =
+    let old : rWorld = c.args.self.now in
+    let path = c.args.path.now in
+    let m = c.if-not-may_leave.ensures.may in
+    let left = c.in_ok-leave.ensures.left m.at in
+    let r2 : rWorld = record old { scopes = c.leave.new.self.scopes } in
+    let r3 : rWorld = record old { scopes = c.leave.new.self.scopes; tasks = c.leave.new.self.tasks } in
+    let last : rWorld = record r3 { hands = c.insert.new.self } in
+    resumed old c.requires.job path m old (λ v. refl) r2 refl left.scope left.results.items
+    (λ b h. results_of m.at.book.results left.results b left.kept h)
+    r3 refl c.args.worker (sym c.contains.ensures ∙ c.if-contains.false)
+    left.task last c.in_ok-insert.ensures.updates.0
