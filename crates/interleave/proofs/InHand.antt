@@ -58,15 +58,6 @@ pub its_doing : (j : Job) (k : rTask) (t : Live) (v : ℕ) → IsTaskOf j k t �
     → IsDoing j (course_of t) k.doing
 its_doing j k t v is e = doing_there j t.place v (course_of t) k.doing (ap hand_of (sym is.place) ∙ e) is.doing
 
--- what it is about to do, wherever it is
-pub some_doing : (j : Job) (k : rTask) (t : Live) → IsTaskOf j k t → (c : Course) × IsDoing j c k.doing
-some_doing j k t is = by_place t.place is.doing
-  where
-    by_place : (q : Whereabouts) → IsDoingThere j q (course_of t) k.doing → (c : Course) × IsDoing j c k.doing
-    by_place (Queue v) h = (course_of t, h)
-    by_place (Hand v) h = (course_of t, h)
-    by_place Parked h = (h.before, h.at)
-
 -- ---- tables that show the same world
 pick : {A B : Type 0} (Are : A → B → Type 0) (b : Bool) (x u : Option A) (y v : Option B) → AreBoth Are x y → AreBoth Are u v
     → AreBoth Are (if b then x else u) (if b then y else v)

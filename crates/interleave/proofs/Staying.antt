@@ -208,27 +208,6 @@ stays_put r path k new tasks scopes at s each kept = record {
   told = refl;
 }
 
--- what was taken out is put back under its name
-pub each_back : (path name : Path) (new : rTask) (old without tasks : _) → is_path path name ≡ true
-    → ((q : Path) → get is_path without q ≡ (if is_path path q then None else get is_path old q))
-    → ((q : Path) → get is_path tasks q ≡ (if is_path name q then Some new else get is_path without q))
-    → (q : Path) → get is_path tasks q ≡ (if is_path path q then Some new else get is_path old q)
-each_back path name new old without tasks same out back q =
-    back q
-    ∙ ap (λ (xs : List ℕ). if pointwise nat_eq xs q.turns.items then Some new else get is_path without q)
-    (sym (paths_same path.turns.items name.turns.items same))
-    ∙ by_test (λ b. (if b then Some new else get is_path without q) ≡ (if b then Some new else get is_path old q)) (is_path path q)
-    (λ e. refl) (λ e. out q ∙ ap (λ b. if b then None else get is_path old q) e)
-
--- with one task that was taken out and is put back
-pub stays_back : (r : rWorld) (path name : Path) (k new : rTask) (without tasks : _) → get is_path r.tasks path ≡ Some k
-    → is_path path name ≡ true → TaskStays r.job k new
-    → ((q : Path) → get is_path without q ≡ (if is_path path q then None else get is_path r.tasks q))
-    → ((q : Path) → get is_path tasks q ≡ (if is_path name q then Some new else get is_path without q))
-    → WorldStays r (record r { tasks = tasks })
-stays_back r path name k new without tasks at same s out back =
-    stays_put r path k new tasks r.scopes at s (each_back path name new r.tasks without tasks same out back) (λ q. refl)
-
 -- with one scope that stays
 pub stays_book : (r : rWorld) (id : rScopeId) (s to : rScope) (scopes : _) → get is_scope r.scopes id ≡ Some s → ScopeStays s to
     → ((q : rScopeId) → get is_scope scopes q ≡ (if is_scope id q then Some to else get is_scope r.scopes q))

@@ -174,10 +174,3 @@ pub record IsBehind (worker : ℕ) (results : List TaskResult) (old new : rTask)
   pub place : new.place ≡ rHand worker
   pub opened : new.opened ≡ old.opened
   pub stakes : new.stakes.items ≡ drop 1 old.stakes.items
-
--- a task has gone on behind its finish, and its innermost scope gave up for it what it kept
-pub record HasLeft (old new : rWorld) (path : Path) (worker : ℕ) (a : StandsAt old path) : Type 0 where
-  pub results : Vec Made Global
-  pub kept : a.book.results ≡ Some results
-  pub task : TaskBecomes old new path (IsBehind worker (map task_result results.items) a.its)
-  pub scope : ScopeBecomes old new a.inner.scope (λ to. to ≡ record a.book { results = None })

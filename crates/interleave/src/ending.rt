@@ -6,12 +6,12 @@ ghost use Rattle.std.specs.HashMap.{get};
 ghost use Rattle.own_run.specs.Translation.{task_result};
 ghost use Rattle.own_run.specs.declared.result.TaskResult.{TaskResult as Made};
 ghost use Rattle.gather.specs.GivesBack.{GiveBack};
-ghost use Rattle.interleave.specs.Ending.{GivesBack, GoesBehind, HasLeft, HasMade, IsGoneOn};
-ghost use Rattle.interleave.specs.Ending.{IsOutside};
+ghost use Rattle.interleave.specs.Ending.{GivesBack, GoesBehind, HasMade, IsGoneOn, IsOutside};
 ghost use Rattle.interleave.specs.Ending.{IsSetDown, MayGoOn, MayLeave, NoneIsLate};
 ghost use Rattle.interleave.specs.Ending.{ScopeBecomes, StandsAt, TaskBecomes};
 ghost use Rattle.interleave.specs.Ending.{has_ended, is_waiting};
 ghost use Rattle.interleave.specs.Events.{Ends as IsEnd, Parks as IsPark, Resume as IsResume};
+ghost use Rattle.interleave.specs.Leaving.{HasLeft};
 ghost use Rattle.interleave.specs.Shown.{Becomes, IsWorld, Refuses, ScopeStays, Shows, is_path};
 ghost use Rattle.interleave.specs.Shown.{next_world};
 ghost use Rattle.interleave.specs.Walks.{IsIllegal};
@@ -382,8 +382,8 @@ fn settled_on<'p>(
     results: Vec<TaskResult>,
 ) -> Result<Run<'p>, EventError>
     requires { GiveBack (task_result made) (map task_result results.items) }
-    ensures goes { IfOk result (GoesBehind paused.entry made.entry
-        (map task_result results.entry.items)) }
+    ensures goes { IfOk result (GoesBehind paused.entry made
+        (map task_result results.items)) }
     ensures refused { IfErr result (λ e. e ≡ NoMemory) }
 {
     let Ok(settled) = settle(alloc, made, results) else {

@@ -83,7 +83,7 @@ impl<'p> Log<'p> {
         events: Vec<Event>,
     ) -> Result<Log<'p>, LogError>
         requires { FitsArrays (code_of accepted.now.typed).arrays (lists_in input.now) }
-        ensures events { IfOk result (λ l. l.events ≡ events.entry.items) }
+        ensures events { IfOk result (λ l. l.events ≡ events.items) }
         ensures job { IfOk result (λ l. l.world.job ≡ record {
           alloc = alloc;
           accepted = accepted.entry;
@@ -97,7 +97,7 @@ impl<'p> Log<'p> {
           input = input.entry;
           budget = header.now.budget;
           w0 = header.now.w0;
-        }) events.entry.items) }
+        }) events.items) }
     {
         let Some(job) = Job::new(alloc, accepted, input, header.budget, header.w0) else {
             unreachable!()

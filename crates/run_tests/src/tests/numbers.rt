@@ -119,7 +119,10 @@ fn walks_come_to_one_work_and_one_span(rt: HostRuntime) {
             let job = job.expect(&rt, "a weight");
             let walk = random_walk(job, workers, u64::from(seed), 1_000_000).expect(&rt, "memory");
             let told = work_and_span(&rt, alloc, &walk.events);
-            assert!(rt; told == want, "walk {seed} of {text}: {told:?}, and not {want:?}");
+            assert!(rt;
+                told == want,
+                "walk {seed} of {text}: {told:?}, and not {want:?}"
+            );
         }
     }
 }

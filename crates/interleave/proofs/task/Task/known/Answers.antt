@@ -1,4 +1,4 @@
-use Rattle.interleave.proofs.InHand.{some_doing}
+use Rattle.interleave.proofs.LookingAhead.{some_doing}
 use Rattle.interleave.proofs.task.Task.known.Goals as goal
 
 pub known-requires-clause-task : goal.known-requires-clause-task

@@ -1,7 +1,8 @@
 use Rattle.std.proofs.Common.{sym, ap}
 use Rattle.interleave.specs.Shown.{IsTaskOf}
-use Rattle.interleave.proofs.Staying.{stays_back}
+use Rattle.interleave.proofs.LookingAhead.{stays_back}
 use Rattle.interleave.proofs.Tables.{there}
+use Rattle.interleave.specs.declared.world.World.{World as rWorld}
 use Rattle.interleave.proofs.world.World.look_ahead.Goals as goal
 
 pub known-requires-clause-task : goal.known-requires-clause-task
@@ -13,6 +14,7 @@ known-requires-clause-task c =
 
 pub returns-clause-stays : goal.returns-clause-stays
 returns-clause-stays c =
-    stays_back c.args.self.now c.args.path.now c.in-Some.name c.in-Some.task c.in_ok-task.task c.remove_entry.new.self
-    c.insert.new.self (sym c.remove_entry.ensures.value) c.remove_entry.ensures.same_key c.in_ok-task.ensures.stays
+    let r : rWorld = c.args.self.now in
+    stays_back r c.args.path.now c.in-Some.name c.in-Some.task c.in_ok-task.task (record r { tasks = c.remove_entry.new.self })
+    (record r { tasks = c.insert.new.self }) (sym c.remove_entry.ensures.value) c.remove_entry.ensures.same_key c.in_ok-task.ensures.stays
     c.remove_entry.ensures.updates.0 c.in_ok-insert.ensures.updates.0
