@@ -48,9 +48,10 @@ impl<'p> World<'p> {
         if let Event::Resume { worker, path } = event {
             return self.go_on_behind(*worker, path);
         }
-        if let Some(path) = actor(event) {
-            self.look_ahead(path)?;
-        }
+        let Some(path) = actor(event) else {
+            return self.event(event);
+        };
+        self.look_ahead(path)?;
         self.event(event)
     }
 }

@@ -23,7 +23,8 @@ returns-clause-resumed c =
     let r2 : rWorld = record old { scopes = c.leave.new.self.scopes } in
     let r3 : rWorld = record old { scopes = c.leave.new.self.scopes; tasks = c.leave.new.self.tasks } in
     let last : rWorld = record r3 { hands = c.insert.new.self } in
-    resumed old c.requires.job path m old (λ v. refl) r2 refl left.scope left.results.items
+    resumed old c.requires.job path m old (λ v. refl) r2 refl
+    (record { to = left.scope.to; fits = left.scope.fits; each = left.scope.each }) left.results.items
     (λ b h. results_of m.at.book.results left.results b left.kept h)
     r3 refl c.args.worker (sym c.contains.ensures ∙ c.if-contains.false)
-    left.task last c.in_ok-insert.ensures.updates.0
+    (record { to = left.task.to; fits = left.task.fits; each = left.task.each }) last c.in_ok-insert.ensures.updates.0
