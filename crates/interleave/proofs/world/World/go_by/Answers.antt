@@ -11,13 +11,8 @@ returns-in-Resume-clause-legal c =
     subst (λ e. OnOk c.go_on_behind.result (Becomes (event e) c.args.self.now c.go_on_behind.new.self)) (sym c.in-Resume.is)
     c.go_on_behind.ensures.resumed
 
-pub returns-in-None-clause-refused : goal.returns-in-None-clause-refused
-returns-in-None-clause-refused c =
-    IfErr-weaker c.event.result _ _ (λ x r is. illegal_by c.args.self.now c.event.new.self (event c.args.event.now) x r is)
-    c.event.ensures.refused
-
-pub event-2-requires : goal.event-2-requires
-event-2-requires c = still_world c.args.self.now c.look_ahead.new.self c.requires c.in_ok-look_ahead.ensures.stays
+pub event-requires-2 : goal.event-2-requires
+event-requires-2 c = still_world c.args.self.now c.look_ahead.new.self c.requires c.in_ok-look_ahead.ensures.stays
 
 pub returns-clause-legal : goal.returns-clause-legal
 returns-clause-legal c =
