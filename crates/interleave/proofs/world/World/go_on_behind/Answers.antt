@@ -4,7 +4,7 @@ use Rattle.std.specs.Prelude.{if◌then◌else◌, nat_eq, true}
 use Rattle.interleave.specs.Events.{Resume}
 use Rattle.interleave.specs.Shown.{Becomes}
 use Rattle.interleave.specs.declared.world.World.{World as rWorld}
-use Rattle.interleave.proofs.Behind.{may_go, results_of, resumed, roomy_stands}
+use Rattle.interleave.proofs.Behind.{may_go, results_of, resumed}
 use Rattle.interleave.proofs.world.World.go_on_behind.Goals as goal
 
 pub returns-then-not-may_leave-clause-refused : goal.returns-then-not-may_leave-clause-refused

@@ -1,4 +1,4 @@
-use Rattle.std.proofs.Common.{◌∙◌, ap, drop, map, refl, rules, sym, subst, None, Some}
+use Rattle.std.proofs.Common.{◌∙◌, ap, drop, refl, rules, sym, None, Some}
 use Rattle.std.proofs.lemmas.Option.{same_Some}
 use Rattle.std.specs.Prelude.{if◌then◌else◌}
 use Rattle.std.specs.HashMap.{get}
