@@ -11,7 +11,7 @@ returns-in-Resume-clause-legal c =
     subst (λ e. OnOk c.go_on_behind.result (Becomes (event e) c.args.self.now c.go_on_behind.new.self)) (sym c.in-Resume.is)
     c.go_on_behind.ensures.resumed
 
-pub event-requires-2 : goal.event-2-requires
+pub event-requires-2 : goal.event-requires-2
 event-requires-2 c = still_world c.args.self.now c.look_ahead.new.self c.requires c.in_ok-look_ahead.ensures.stays
 
 pub returns-clause-legal : goal.returns-clause-legal
