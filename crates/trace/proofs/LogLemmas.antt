@@ -63,14 +63,7 @@ left_by e old new x y same events r = record {
   world = subst (Refuses (event e) old.world new.world) (sym same) r;
 }
 
--- events that were replayed
-pub clean_by : (j : Job) (es fs : List Event) (w : World) → IsJob j → IsReplayed j es w → es ≡ fs → IsClean (recorded w fs)
-clean_by j es fs w ok r same = record {
-  job = subst IsJob (sym r.job) ok;
-  replayed = subst (λ k. IsReplayed k fs w) (sym r.job) (subst (λ l. IsReplayed j l w) same r);
-}
-
--- events that weren't
+-- events that were refused
 pub refused_by : (j k : Job) (es fs : List Event) (x : ReplayError) (n : ℕ) → IsRefused j es x → x ≡ IllegalAt n → j ≡ k
     → es ≡ fs → (m : ℕ) × (comes k fs ≡ IsIllegalAt m)
 refused_by j k es fs x n r is same items = (
