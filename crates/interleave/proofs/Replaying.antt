@@ -4,10 +4,9 @@ use Rattle.effects.specs.Rounds.{needs_of}
 use Rattle.interleave.specs.Jobs.{program_of, budget_of}
 use Rattle.interleave.specs.Replay.{Replayed, IllegalAt, go_or, replay_from}
 use Rattle.interleave.specs.Replaying.{event}
-use Rattle.interleave.specs.Shown.{Becomes, Refuses, Shows, next_world}
+use Rattle.interleave.specs.Shown.{Becomes, Shows, next_world}
+use Rattle.interleave.specs.Walks.{IsIllegal}
 use Rattle.interleave.specs.World.{World}
-use Rattle.interleave.specs.declared.error.EventError.{EventError}
-use Rattle.interleave.specs.declared.error.EventError.TheVariants.{Illegal}
 use Rattle.events.specs.declared.event.Event.{Event as rEvent}
 use Rattle.interleave.specs.declared.job.Job.{Job}
 use Rattle.interleave.specs.declared.world.World.{World as rWorld}
@@ -31,8 +30,7 @@ module _ (j : Job) (old : rWorld) (same : old.job ≡ j) (w : World) (h : Shows 
       )
 
   -- one that isn't is the first of those that are left
-  pub stops_at : (x : EventError) → x ≡ Illegal → Refuses (event e) old new x → left_comes j n (e ∷ es) w ≡ IllegalAt n
-  stops_at x is r =
-      let s = subst (Refuses (event e) old new) is r in
+  pub stops_at : IsIllegal old (event e) → left_comes j n (e ∷ es) w ≡ IllegalAt n
+  stops_at none =
       ap (go_or n (replay_from (program_of j) (needs_of (program_of j)) (budget_of j).steps j.w0 (n + 1) (map event es)))
-      (ap (λ i. next_world i (event e) w) (sym same) ∙ s.1 w h)
+      (ap (λ i. next_world i (event e) w) (sym same) ∙ none w h)

@@ -5,6 +5,7 @@ pub mod Ending
 pub mod Events
 pub mod History
 pub mod Jobs
+pub mod Leaving
 pub mod Replay
 pub mod Replaying
 pub mod Shown

@@ -14,7 +14,7 @@ ghost use Rattle.interleave.specs.Jobs.{IsJob};
 ghost use Rattle.interleave.specs.Shown.{Becomes, IsTaskOf, IsWorld, Refuses, TaskStays, WorldStays};
 ghost use Rattle.interleave.specs.Shown.{is_path, scope_id, stake, whereabouts};
 ghost use Rattle.interleave.specs.World.{Live, hand_of};
-ghost use Rattle.interleave.specs.declared.error.EventError.TheVariants.{Illegal};
+ghost use Rattle.interleave.specs.declared.error.EventError.TheVariants.{Illegal, NoMemory};
 ghost use Rattle.types.specs.declared.scope_id.ScopeId.{ScopeId as AnyScopeId};
 ghost use Rattle.interleave.specs.declared.task.Stake.{Stake as AnyStake};
 ghost use Rattle.interleave.specs.declared.task.Task.{Task as AnyTask};
@@ -116,6 +116,22 @@ impl<'p> World<'p> {
         }
     }
 
+    /// A task's next action becomes known. It leaves the table while its run turns, and no copy of it does: after
+    /// an error it is gone.
+    pub(crate) fn look_ahead(&mut self, path: &Path) -> Result<(), EventError>
+        requires { IsWorld self.old }
+        ensures stays { OnOk result (WorldStays self.old self.new) }
+        ensures refused { IfErr result (λ e. e ≡ NoMemory) }
+    {
+        let job = self.job;
+        let Some((name, task)) = self.tasks.remove_entry(path) else {
+            return Ok(());
+        };
+        let task = task.known(job)?;
+        self.tasks.insert(name, task)?;
+        Ok(())
+    }
+
     /// Whether a task is to begin another and weighs 1, and its innermost scope may issue.
     fn is_short(&self, path: &Path) -> bool
         requires { self.now.job.w0 ≤ 4294967296 }
@@ -176,6 +192,29 @@ impl<'p> Task<'p> {
             self.doing = known;
         }
         Ok(worker)
+    }
+
+    /// The same with its next action.
+    fn known(self, job: Job<'p>) -> Result<Task<'p>, EventError>
+        requires job { IsJob job }
+        requires task { (t : Live) × IsTaskOf job self t }
+        ensures stays { IfOk result (TaskStays job.entry self.entry) }
+        ensures known { IfOk result (λ k. IsKnown k.doing) }
+        ensures refused { IfErr result (λ e. e ≡ NoMemory) }
+    {
+        let Task {
+            doing,
+            opened,
+            stakes,
+            place,
+        } = self;
+        let doing = doing.known(job)?;
+        Ok(Task {
+            doing,
+            opened,
+            stakes,
+            place,
+        })
     }
 
     /// It has done what it was to do. What the task starts with that it began by that.

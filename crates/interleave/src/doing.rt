@@ -1,6 +1,6 @@
 //! What a live task is about to do.
 
-ghost use Rattle.std.specs.Prelude.{◌≡◌, IfErr, IfOk, MatchOption};
+ghost use Rattle.std.specs.Prelude.{◌≡◌, ◌⊎◌, IfErr, IfOk, MatchOption};
 ghost use Rattle.interleave.specs.Courses.{Course, IsDoing, IsKnown, IsLooked, IsRunOf};
 ghost use Rattle.interleave.specs.Courses.{behind, begun_by};
 ghost use Rattle.interleave.specs.Jobs.{IsJob};
@@ -59,6 +59,29 @@ impl<'p> Doing<'p> {
             Doing::Opens(_) => Ok(None),
             Doing::AtFinish(_, _) => Ok(None),
             Doing::AtEnd(_) => Ok(None),
+        }
+    }
+
+    /// The same with its next action, where that isn't known yet. It is the run itself that turns, so want
+    /// of memory takes it away.
+    pub fn known(self, job: Job<'p>) -> Result<Doing<'p>, EventError>
+        requires job { IsJob job }
+        requires task { (c : Course) × IsDoing job c self }
+        ensures same { IfOk result (λ d. (d ≡ self.entry) ⊎ IsLooked job.entry self.entry d) }
+        ensures known { IfOk result IsKnown }
+        ensures refused { IfErr result (λ e. e ≡ NoMemory) }
+    {
+        match self {
+            Doing::Starts(start) => {
+                let run = Run::begin(job.plan(), start)?;
+                ahead(job, run)
+            }
+            Doing::Runs(run) => ahead(job, run),
+            Doing::Steps(run) => Ok(Doing::Steps(run)),
+            Doing::Spawns(run, start) => Ok(Doing::Spawns(run, start)),
+            Doing::Opens(run) => Ok(Doing::Opens(run)),
+            Doing::AtFinish(paused, made) => Ok(Doing::AtFinish(paused, made)),
+            Doing::AtEnd(made) => Ok(Doing::AtEnd(made)),
         }
     }
 

@@ -11,11 +11,13 @@ ghost use Rattle.interleave.specs.Ending.{IsSetDown, MayGoOn, MayLeave, NoneIsLa
 ghost use Rattle.interleave.specs.Ending.{ScopeBecomes, StandsAt, TaskBecomes};
 ghost use Rattle.interleave.specs.Ending.{has_ended, is_waiting};
 ghost use Rattle.interleave.specs.Events.{Ends as IsEnd, Parks as IsPark, Resume as IsResume};
+ghost use Rattle.interleave.specs.Leaving.{HasLeft};
 ghost use Rattle.interleave.specs.Shown.{Becomes, IsWorld, Refuses, ScopeStays, Shows, is_path};
 ghost use Rattle.interleave.specs.Shown.{next_world};
+ghost use Rattle.interleave.specs.Walks.{IsIllegal};
 ghost use Rattle.interleave.specs.World.{World as AnyWorld};
 ghost use Rattle.interleave.specs.declared.doing.Doing.TheVariants.{AtEnd as IsAtEnd};
-ghost use Rattle.interleave.specs.declared.error.EventError.TheVariants.{NoMemory};
+ghost use Rattle.interleave.specs.declared.error.EventError.TheVariants.{Illegal, NoMemory};
 ghost use Rattle.interleave.specs.declared.task.Task.{Task as AnyTask};
 
 use crate::doing::Doing;
@@ -88,6 +90,68 @@ impl<'p> World<'p> {
         self.drop_results(path);
         self.go_behind(worker, path, run);
         self.hands.insert(worker)?;
+        Ok(())
+    }
+
+    /// The same in a world that is given up by an error: what came of the finish is moved, and no copy is.
+    pub(crate) fn go_on_behind(&mut self, worker: WorkerId, path: &Path) -> Result<(), EventError>
+        requires { IsWorld self.old }
+        ensures resumed { OnOk result
+            (Becomes (IsResume worker path.now.turns.items) self.old self.new) }
+        ensures refused { IfErr result (λ e. e ≡ Illegal
+            → IsIllegal self.old (IsResume worker path.now.turns.items)) }
+        ensures job { OnOk result (self.new.job ≡ self.old.job) }
+    {
+        if self.hands.contains(&worker) {
+            return Err(EventError::Illegal);
+        }
+        if !self.may_leave(path) {
+            return Err(EventError::Illegal);
+        }
+        self.leave(worker, path)?;
+        self.hands.insert(worker)?;
+        Ok(())
+    }
+
+    /// A task goes on behind its finish, with what its innermost scope keeps. After an error both are gone.
+    fn leave(&mut self, worker: WorkerId, path: &Path) -> Result<(), EventError>
+        requires stands { StandsAt self.old path.now }
+        requires may { MayGoOn self.old path.now }
+        ensures others { OnOk result (self.new
+            ≡ record self.old { tasks = self.new.tasks; scopes = self.new.scopes }) }
+        ensures left { OnOk result ((a : StandsAt self.old path.now)
+            → HasLeft self.old self.new path.now worker a) }
+        ensures refused { IfErr result (λ e. e ≡ NoMemory) }
+    {
+        let alloc = self.job.alloc;
+        let Some((name, task)) = self.tasks.remove_entry(path) else {
+            unreachable!()
+        };
+        let Task {
+            doing,
+            opened,
+            stakes,
+            ..
+        } = task;
+        let mut stakes = stakes;
+        let Some(stake) = stakes.pop_front() else {
+            unreachable!()
+        };
+        let Some(scope) = self.scopes.get_mut(&stake.scope) else {
+            unreachable!()
+        };
+        let kept = scope.results.take();
+        let (Doing::AtFinish(paused, made), Some(results)) = (doing, kept) else {
+            return Err(EventError::NoMemory);
+        };
+        let run = settled_on(alloc, paused, made, results)?;
+        let task = Task {
+            doing: Doing::Runs(run),
+            opened,
+            stakes,
+            place: Whereabouts::Hand(worker),
+        };
+        self.tasks.insert(name, task)?;
         Ok(())
     }
 
@@ -307,10 +371,25 @@ fn run_behind<'p>(
 {
     let made = made.clone(alloc)?;
     let results = copies(alloc, results)?;
+    settled_on(alloc, paused.clone()?, made, results)
+}
+
+/// The same of what is given up for it.
+fn settled_on<'p>(
+    alloc: Global,
+    paused: Paused<'p>,
+    made: TaskResult,
+    results: Vec<TaskResult>,
+) -> Result<Run<'p>, EventError>
+    requires { GiveBack (task_result made) (map task_result results.items) }
+    ensures goes { IfOk result (GoesBehind paused.entry made
+        (map task_result results.items)) }
+    ensures refused { IfErr result (λ e. e ≡ NoMemory) }
+{
     let Ok(settled) = settle(alloc, made, results) else {
         return Err(EventError::NoMemory);
     };
-    let run = paused.clone()?.go_on(settled)?;
+    let run = paused.go_on(settled)?;
     Ok(run)
 }
 

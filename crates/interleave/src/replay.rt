@@ -4,11 +4,14 @@ ghost use Rattle.std.specs.Prelude.{◌≡◌, IfErr, IfOk, OnOk};
 ghost use Rattle.interleave.specs.Jobs.{IsJob};
 ghost use Rattle.interleave.specs.Replaying.{IsRefused, IsReplayed, event as event_of};
 ghost use Rattle.interleave.specs.Shown.{Becomes, IsWorld, Refuses};
+ghost use Rattle.interleave.specs.Walks.{IsIllegal};
+ghost use Rattle.interleave.specs.declared.error.EventError.TheVariants.{Illegal};
 
 use crate::error::{EventError, ReplayError};
 use crate::job::Job;
 use crate::world::World;
 use events::event::Event;
+use types::path::Path;
 
 impl<'p> World<'p> {
     /// What happens next. After an error the world is as it was.
@@ -33,6 +36,40 @@ impl<'p> World<'p> {
     }
 }
 
+impl<'p> World<'p> {
+    /// The same in a world that is given up by an error: no task is copied before it acts.
+    fn go_by(&mut self, event: &Event) -> Result<(), EventError>
+        requires { IsWorld self.old }
+        ensures legal { OnOk result (Becomes (event_of event.now) self.old self.new) }
+        ensures refused { IfErr result
+            (λ e. e ≡ Illegal → IsIllegal self.old (event_of event.now)) }
+        ensures job { OnOk result (self.new.job ≡ self.old.job) }
+    {
+        if let Event::Resume { worker, path } = event {
+            return self.go_on_behind(*worker, path);
+        }
+        let Some(path) = actor(event) else {
+            return self.event(event);
+        };
+        self.look_ahead(path)?;
+        self.event(event)
+    }
+}
+
+/// The task whose next action the event is to be.
+fn actor(event: &Event) -> Option<&Path> {
+    match event {
+        Event::Step { path } => Some(path),
+        Event::Replenish { path } => Some(path),
+        Event::Spawn { path } => Some(path),
+        Event::Open { path } => Some(path),
+        Event::Park { path } => Some(path),
+        Event::End { path } => Some(path),
+        Event::Take { .. } | Event::Steal { .. } => None,
+        Event::Pass { .. } | Event::Resume { .. } => None,
+    }
+}
+
 /// The world that events lead to from the start, one after the other.
 pub fn replay<'p>(job: Job<'p>, events: &[Event]) -> Result<World<'p>, ReplayError>
     requires { IsJob job }
@@ -45,7 +82,7 @@ pub fn replay<'p>(job: Job<'p>, events: &[Event]) -> Result<World<'p>, ReplayErr
     };
     let mut world = start;
     'events: for (number, event) in events.iter().enumerate() {
-        match world.event(event) {
+        match world.go_by(event) {
             Ok(()) => {}
             Err(EventError::Illegal) => return Err(ReplayError::IllegalAt(number)),
             Err(EventError::NoMemory) => return Err(ReplayError::NoMemory),

@@ -1,5 +1,5 @@
 -- A log whose world has ended.
-use Rattle.std.proofs.Common.{◌≡◌, Option, Some, None, Bool, true, ap, ◌∙◌, subst, sym}
+use Rattle.std.proofs.Common.{◌≡◌, ℕ, Option, Some, None, Bool, true, ap, ◌∙◌, subst, sym}
 use Rattle.std.proofs.lemmas.Bool.{OnTrue_from}
 use Rattle.std.specs.Bool.{OnTrue}
 use Rattle.std.specs.Borrow.{Bor}
@@ -13,7 +13,10 @@ use Rattle.interleave.specs.World.{World}
 use Rattle.interleave.specs.Worlds.{outcome_of as told_in}
 use Rattle.interleave.specs.declared.world.World.{World as rWorld}
 use Rattle.trace.specs.Logs.{IsClean, Recorded}
+use Rattle.trace.specs.declared.log_error.LogError.{LogError}
+use Rattle.trace.specs.declared.log_error.LogError.TheVariants.{Illegal, NoMemory}
 use Rattle.logged_run.specs.Ending.{LeadsToOutcome, one_thread}
+use Rattle.logged_run.specs.Errors.{IsCauseOrUnlogged, of_log}
 
 -- what is told of a world is that of its job, once its root's scope has passed
 module _ (told : Option (Bor Outcome)) (r : rWorld) where
@@ -41,3 +44,8 @@ pub has_ended : (l : Recorded) (r : rWorld) → r ≡ l.world → IsClean l → 
 has_ended l r shown clean told is same ended asked =
     OnTrue_from ended (LeadsToOutcome l (one_thread l.world.job))
     (λ yes. leads l clean told (subst (IsToldOf told) shown is) (subst (IsOneThread told) shown same) (sym asked ∙ yes))
+
+-- whatever a log refuses is a cause
+pub any_cause : (tasks : ℕ) (e : LogError) → IsCauseOrUnlogged tasks (of_log e)
+any_cause tasks Illegal = tt
+any_cause tasks NoMemory = tt

@@ -1,6 +1,6 @@
 //! The run of an accepted program on worker threads, with a log of what they did.
 
-ghost use Rattle.std.specs.Prelude.{◌≡◌, IfErr, IfOk, ℕ};
+ghost use Rattle.std.specs.Prelude.{◌≡◌, IfErr, IfOk};
 ghost use Rattle.std.specs.Bool.{OnTrue};
 ghost use Rattle.types.specs.Contents.{FitsArrays};
 ghost use Rattle.types.specs.Outcome.{outcome as one_thread_outcome};
@@ -12,7 +12,6 @@ ghost use Rattle.logged_run.specs.Ending.{LeadsToOutcome, one_thread};
 ghost use Rattle.logged_run.specs.Errors.{IsCauseOrUnlogged};
 
 use crate::error::LoggedRunError;
-use events::event::Event;
 use race_checker::accepted::Accepted;
 use std::alloc::Global;
 use std::sync::Wait;
@@ -50,8 +49,7 @@ pub fn run_logged<'p, G: Gate + Sync, R: Threads + Wait + Sync>(
     ensures cause { IfErr result (IsCauseOrUnlogged settings.tasks) }
 {
     let (outcome, events) = run_noted(rt, alloc, accepted, input, settings, gate)?;
-    let log = Log::new(alloc, &header_of(settings), accepted, input)?;
-    let log = recorded(log, events)?;
+    let log = Log::of_events(alloc, &header_of(settings), accepted, input, events)?;
     // The outcome and what is told of a world that has ended are both that of one thread, so they are never compared.
     if has_ended(&log) {
         Ok((outcome, log))
@@ -70,18 +68,6 @@ pub fn header_of(settings: Settings) -> Header
         Some(header) => header,
         None => unreachable!(),
     }
-}
-
-/// A log with more events, one behind the other.
-fn recorded<'p>(log: Log<'p>, events: Vec<Event>) -> Result<Log<'p>, LoggedRunError>
-    ensures job { IfOk result (λ l. l.world.job ≡ log.entry.world.job) }
-    ensures cause { IfErr result (λ e. (tasks : ℕ) → IsCauseOrUnlogged tasks e) }
-{
-    let mut log = log;
-    'events: for event in events {
-        log.record(event)?;
-    }
-    Ok(log)
 }
 
 /// Whether the run has ended by the events of its log.

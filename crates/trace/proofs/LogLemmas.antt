@@ -1,12 +1,16 @@
 -- Logs stay clean.
-use Rattle.std.proofs.Common.{◌≡◌, List, [], ◌∷◌, ◌++◌, sym, subst}
+use Rattle.std.proofs.Common.{◌≡◌, ℕ, List, [], ◌∷◌, ◌++◌, sym, subst}
 use Rattle.std.specs.Prelude.{Result, Ok, Err, IfErr, IsErrAnd}
 use Rattle.interleave.specs.Jobs.{IsJob}
-use Rattle.interleave.specs.Replaying.{IsReplayed, event}
+use Rattle.interleave.specs.Replay.{IllegalAt as IsIllegalAt}
+use Rattle.interleave.specs.Replaying.{IsRefused, IsReplayed, comes, event}
 use Rattle.interleave.specs.Shown.{Becomes, Refuses, WorldStays}
 use Rattle.interleave.specs.declared.error.EventError.{EventError}
 use Rattle.interleave.specs.declared.error.EventError.TheVariants.{Illegal as IsIllegal}
 use Rattle.interleave.specs.declared.error.EventError.TheVariants.{NoMemory as IsNoMemory}
+use Rattle.interleave.specs.declared.error.ReplayError.{ReplayError}
+use Rattle.interleave.specs.declared.error.ReplayError.TheVariants.{IllegalAt}
+use Rattle.interleave.specs.declared.job.Job.{Job}
 use Rattle.events.specs.declared.event.Event.{Event}
 use Rattle.interleave.specs.declared.world.World.{World}
 use Rattle.interleave.proofs.Staying.{stays_shown}
@@ -58,3 +62,11 @@ left_by e old new x y same events r = record {
   events = events;
   world = subst (Refuses (event e) old.world new.world) (sym same) r;
 }
+
+-- events that were refused
+pub refused_by : (j k : Job) (es fs : List Event) (x : ReplayError) (n : ℕ) → IsRefused j es x → x ≡ IllegalAt n → j ≡ k
+    → es ≡ fs → (m : ℕ) × (comes k fs ≡ IsIllegalAt m)
+refused_by j k es fs x n r is same items = (
+  n,
+  subst (λ i. comes i fs ≡ IsIllegalAt n) same (subst (λ l. comes j l ≡ IsIllegalAt n) items (subst (IsRefused j es) is r)),
+)

@@ -1,12 +1,14 @@
 -- Logs: the events of a run so far, and the world that they led to.
 use Rattle.std.specs.Prelude.{ℕ, ◌≡◌, List, codes}
 use Rattle.interleave.specs.Jobs.{IsJob}
-use Rattle.interleave.specs.Replaying.{IsReplayed, event}
+use Rattle.interleave.specs.Replay.{IllegalAt}
+use Rattle.interleave.specs.Replaying.{IsReplayed, comes, event}
 use Rattle.interleave.specs.Shown.{Refuses}
 use Rattle.interleave.specs.declared.error.EventError.{EventError}
 use Rattle.interleave.specs.declared.error.EventError.TheVariants.{Illegal as IsIllegal}
 use Rattle.interleave.specs.declared.error.EventError.TheVariants.{NoMemory as IsNoMemory}
 use Rattle.events.specs.declared.event.Event.{Event}
+use Rattle.interleave.specs.declared.job.Job.{Job}
 use Rattle.interleave.specs.declared.world.World.{World}
 use Rattle.trace.specs.declared.log_error.LogError.{LogError}
 use Rattle.trace.specs.declared.log_error.LogError.TheVariants.{Illegal, NoMemory}
@@ -31,6 +33,11 @@ world_error NoMemory = IsNoMemory
 pub record Leaves (e : Event) (old new : Recorded) (error : LogError) : Type 0 where
   pub events : new.events ≡ old.events
   pub world : Refuses (event e) old.world new.world (world_error error)
+
+-- events that lead to no log: some first one isn't legal; or memory was missing
+abbrev pub IsRefusedBy : Job → List Event → LogError → Type 0
+IsRefusedBy j es Illegal = (n : ℕ) × (comes j es ≡ IllegalAt n)
+IsRefusedBy j es NoMemory = Unit {0}
 
 abbrev pub log_error_text : LogError → List ℕ
 log_error_text Illegal = codes "I1"

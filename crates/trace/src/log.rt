@@ -6,12 +6,14 @@ ghost use Rattle.types.specs.Translation.{input as lists_in};
 ghost use Rattle.types.specs.Typed.{code_of};
 ghost use Rattle.interleave.specs.Replaying.{event as event_of};
 ghost use Rattle.interleave.specs.Shown.{Becomes};
-ghost use Rattle.trace.specs.Logs.{IsClean, Leaves};
+ghost use Rattle.trace.specs.Logs.{IsClean, IsRefusedBy, Leaves};
 ghost use Rattle.trace.specs.declared.log_error.LogError.TheVariants.{NoMemory};
 
 use crate::log_error::LogError;
 use events::event::Event;
+use interleave::error::ReplayError;
 use interleave::job::Job;
+use interleave::replay::replay;
 use interleave::world::World;
 use race_checker::accepted::Accepted;
 use std::alloc::Global;
@@ -69,6 +71,42 @@ impl<'p> Log<'p> {
             world,
             events: Vec::new(alloc),
         })
+    }
+
+    /// The log of a run that is over, whose events are these. No task is copied before it acts, as it is where
+    /// they are recorded one by one.
+    pub fn of_events(
+        alloc: Global,
+        header: &Header,
+        accepted: &'p Accepted,
+        input: &'p Input,
+        events: Vec<Event>,
+    ) -> Result<Log<'p>, LogError>
+        requires { FitsArrays (code_of accepted.now.typed).arrays (lists_in input.now) }
+        ensures events { IfOk result (λ l. l.events ≡ events.items) }
+        ensures job { IfOk result (λ l. l.world.job ≡ record {
+          alloc = alloc;
+          accepted = accepted.entry;
+          input = input.entry;
+          budget = header.now.budget;
+          w0 = header.now.w0;
+        }) }
+        ensures refused { IfErr result (IsRefusedBy (record {
+          alloc = alloc;
+          accepted = accepted.entry;
+          input = input.entry;
+          budget = header.now.budget;
+          w0 = header.now.w0;
+        }) events.items) }
+    {
+        let Some(job) = Job::new(alloc, accepted, input, header.budget, header.w0) else {
+            unreachable!()
+        };
+        match replay(job, &events) {
+            Ok(world) => Ok(Log { world, events }),
+            Err(ReplayError::IllegalAt(_)) => Err(LogError::Illegal),
+            Err(ReplayError::NoMemory) => Err(LogError::NoMemory),
+        }
     }
 
     /// An event happens: it is added to the list, and the world goes on by it.

@@ -28,9 +28,9 @@ use workers::settings::Settings;
 const MANY: &str =
     "main { var k = 0; finish { while k < 100 { async { skip; } k = k + 1; } } print k; }";
 
-/// A thousand of them.
-const A_THOUSAND: &str =
-    "main { var k = 0; finish { while k < 1000 { async { skip; } k = k + 1; } } }";
+/// Ten thousand of them.
+const TEN_THOUSAND: &str =
+    "main { var k = 0; finish { while k < 10000 { async { skip; } k = k + 1; } } }";
 
 /// A task whose child may end behind it.
 const OUTLIVED: &str = "main { finish { async { async { skip; } } } }";
@@ -141,13 +141,13 @@ fn a_gate_shows_in_the_order_of_events(rt: HostRuntime) {
     }
 }
 
-/// What the scope of a finish with 1,000 tasks has issued and got back, and how often it was asked for more.
+/// What the scope of a finish with 10,000 tasks has issued and got back, and how often it was asked for more.
 fn book_of_many(
     rt: &(impl Abort + Threads + Wait + Sync),
     alloc: Global,
     w0: u64,
 ) -> (Option<(u64, u64)>, usize) {
-    let program = accepted(rt, alloc, A_THOUSAND);
+    let program = accepted(rt, alloc, TEN_THOUSAND);
     let input = Input::zeros(alloc, program.typed()).expect(rt, "memory");
     let settings = settings(rt, Budget::usual(), w0, 1);
     let (_, log) = logged(rt, alloc, (&program, &input), settings, &NoGate);
@@ -164,9 +164,9 @@ fn book_of_many(
 fn a_book_tells_how_much_weight_was_issued(rt: HostRuntime) {
     let alloc = rt.alloc();
     let (book, replenishings) = book_of_many(&rt, alloc, 1);
-    assert_eq!(rt; book, Some((1_001, 1_001)));
-    assert_eq!(rt; replenishings, 1_000);
+    assert_eq!(rt; book, Some((10_001, 10_001)));
+    assert_eq!(rt; replenishings, 10_000);
     let (book, replenishings) = book_of_many(&rt, alloc, 4_294_967_296);
-    assert_eq!(rt; book, Some((133_143_986_176, 133_143_986_176)));
-    assert_eq!(rt; replenishings, 30);
+    assert_eq!(rt; book, Some((1_305_670_057_984, 1_305_670_057_984)));
+    assert_eq!(rt; replenishings, 303);
 }

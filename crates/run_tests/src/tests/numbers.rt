@@ -1,6 +1,10 @@
 //! Numbers of runs: steps and span are those that are known, on any number of workers.
 
-use crate::tests::{accepted, compare};
+use crate::tests::worlds::{HALVES, NESTED};
+use crate::tests::{FAULTS, accepted, compare};
+use events::event::Event;
+use interleave::job::Job;
+use interleave::walk::random_walk;
 use std::alloc::Global;
 use std::process::Abort;
 use std::sync::Wait;
@@ -52,6 +56,9 @@ const ROWS: [(&str, &str); 4] = [
     ),
 ];
 
+/// Programs all of whose runs end within 60 steps a task.
+const ENDING: [&str; 4] = [DOUBLING, FAULTS, HALVES, NESTED];
+
 /// What is told of a run on zeros.
 fn told(
     rt: &(impl Abort + Threads + Wait + Sync),
@@ -74,7 +81,7 @@ fn told(
 fn steps_and_span_are_those_of_the_program(rt: HostRuntime) {
     let alloc = rt.alloc();
     for (text, want) in ROWS {
-        for workers in [1u32, 2, 8] {
+        for workers in [1u32, 2, 8, 64] {
             let told = told(&rt, alloc, text, workers);
             let first = told.as_str().get(..want.len()).unwrap_or("");
             compare(&rt, alloc, text, first, want);
@@ -87,4 +94,35 @@ fn one_worker_does_all(rt: HostRuntime) {
     let alloc = rt.alloc();
     let told = told(&rt, alloc, DOUBLING, 1);
     compare(&rt, alloc, DOUBLING, told.as_str(), DONE_BY_ONE);
+}
+
+/// The work and the span of events.
+fn work_and_span(rt: &impl Abort, alloc: Global, events: &[Event]) -> (usize, usize) {
+    let summary = summarize(alloc, events).expect(rt, "memory");
+    (summary.steps, summary.span)
+}
+
+#[test]
+fn walks_come_to_one_work_and_one_span(rt: HostRuntime) {
+    let alloc = rt.alloc();
+    let budget = Budget::new(60, 100).expect(&rt, "a budget");
+    let settings = Settings::new(budget, 64, 8, 1).expect(&rt, "settings");
+    for text in ENDING {
+        let program = accepted(&rt, alloc, text);
+        let input = Input::zeros(alloc, program.typed()).expect(&rt, "memory");
+        let noted = run_noted(&rt, alloc, &program, &input, settings, &NoGate);
+        let (_, events) = noted.expect(&rt, "an outcome");
+        let want = work_and_span(&rt, alloc, &events);
+        for seed in 0..50u32 {
+            let workers = seed * 9 % 64 + 1;
+            let job = Job::new(alloc, &program, &input, budget, u64::from(seed % 9 + 1));
+            let job = job.expect(&rt, "a weight");
+            let walk = random_walk(job, workers, u64::from(seed), 1_000_000).expect(&rt, "memory");
+            let told = work_and_span(&rt, alloc, &walk.events);
+            assert!(rt;
+                told == want,
+                "walk {seed} of {text}: {told:?}, and not {want:?}"
+            );
+        }
+    }
 }

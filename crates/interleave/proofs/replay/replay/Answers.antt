@@ -14,8 +14,8 @@ returns-in-Err-Illegal-clause-refused c =
     let e = c.index-events-number.result in
     let split = drop_more es n e c.events-test.true ∙ ap (λ x. x ∷ drop (n + 1) es) (sym c.index-events-number.is) in
     i.same ∙ ap (λ l. left_comes c.args.job n l i.at) split
-    ∙ stops_at c.args.job c.events.world i.job i.at i.shows n e (drop (n + 1) es) c.event.new.self c.in-Err-Illegal.field-0
-    c.in-Err-Illegal.field-0-is c.in-Err-Illegal.ensures.refused
+    ∙ stops_at c.args.job c.events.world i.job i.at i.shows n e (drop (n + 1) es) c.go_by.new.self
+    (c.in-Err-Illegal.ensures.refused c.in-Err-Illegal.field-0-is)
 
 pub events-preserved : goal.events-preserved
 events-preserved c =
@@ -24,10 +24,10 @@ events-preserved c =
     let es = c.args.events.now in
     let e = c.index-events-number.result in
     let split = drop_more es n e c.events-test.true ∙ ap (λ x. x ∷ drop (n + 1) es) (sym c.index-events-number.is) in
-    let s = goes_on c.args.job c.events.world i.job i.at i.shows n e (drop (n + 1) es) c.event.new.self c.in-Ok-event.ensures.legal in
+    let s = goes_on c.args.job c.events.world i.job i.at i.shows n e (drop (n + 1) es) c.go_by.new.self c.in-Ok-go_by.ensures.legal in
     record {
       ok = i.ok;
-      job = c.event.ensures.job ∙ i.job;
+      job = c.in-Ok-go_by.ensures.job ∙ i.job;
       at = s.0;
       shows = s.2;
       same = i.same ∙ ap (λ l. left_comes c.args.job n l i.at) split ∙ s.1;

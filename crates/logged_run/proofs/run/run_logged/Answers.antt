@@ -6,19 +6,20 @@ use Rattle.types.specs.declared.budget.Budget.{Budget}
 use Rattle.trace.proofs.LogLemmas.{if_error_then}
 use Rattle.logged_run.specs.Ending.{LeadsToOutcome, one_thread}
 use Rattle.logged_run.specs.Errors.{IsCauseOrUnlogged}
+use Rattle.logged_run.proofs.Ended.{any_cause}
 use Rattle.logged_run.proofs.run.run_logged.Goals as goal
 
-pub returns-in_err-log-2-clause-cause : goal.returns-in_err-log-2-clause-cause
-returns-in_err-log-2-clause-cause g c =
+pub returns-in_err-log-clause-cause : goal.returns-in_err-log-clause-cause
+returns-in_err-log-clause-cause g c =
     let tasks = c.args.settings.tasks in
-    if_error_then c.from_residual-in_err-log-2.result c.from_residual-in_err-log-2.ensures.1
-    (λ e same. subst (IsCauseOrUnlogged tasks) (sym same) (c.in_err-log-2.ensures.cause tasks))
+    if_error_then c.from_residual-in_err-log.result c.from_residual-in_err-log.ensures.1
+    (λ e same. subst (IsCauseOrUnlogged tasks) (sym same) (any_cause tasks c.in_err-log.field-0.0))
 
 pub returns-then-has_ended-clause-told : goal.returns-then-has_ended-clause-told
 returns-then-has_ended-clause-told g c =
     let told = one_thread_outcome (code_of c.args.accepted.now.typed) (lists_in c.args.input.now) in
-    subst (LeadsToOutcome c.in_ok-log-2.log)
-    (ap one_thread (c.in_ok-log-2.ensures.job ∙ c.in_ok-log.ensures.job)
+    subst (LeadsToOutcome c.in_ok-log.log)
+    (ap one_thread c.in_ok-log.ensures.job
     ∙ ap (λ (b : Budget). told (budget_of b)) c.header_of.ensures.budget
     ∙ sym c.in_ok-outcome.ensures.outcome)
     c.if-has_ended.ensures.ended
