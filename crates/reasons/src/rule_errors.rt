@@ -2,10 +2,10 @@
 
 ghost use Rattle.std.specs.Prelude.{◌≤◌, length};
 
+use crate::rule_texts;
 use excerpts::arguments::{Argument, Parameter, Procedure, arguments, procedure_of};
 use excerpts::declared::{Declared, Kind, Scope, find};
 use excerpts::named::{Named, Role, head, names};
-use crate::rule_texts;
 use excerpts::source::{Source, push_line};
 use places::statement_places;
 use std::alloc::{AllocError, Global};

@@ -46,6 +46,6 @@ returns-clause-done g c =
       begins = c.in_ok-input.ensures.begins;
       tells = not_ended (λ is. c.if-status-eq0.false (c.status.ensures ∙ ap status_of c.in-Ok.ensures.outcome ∙ is))
           (outcome_shown false p (outcome_of c.in-Ok.costed.outcome) (outcome p input (budget c.args.settings.budget))
-              (map array c.deref.result.now) c.in-Ok.ensures.outcome arrays);
+          (map array c.deref.result.now) c.in-Ok.ensures.outcome arrays);
     })
     c.show.ensures.text c.show.ensures.status c.show.ensures.failure
