@@ -143,7 +143,8 @@ fn races_are_told(rt: HostRuntime) -> Result<(), Fail> {
                 \"kind\":\"write\",\"label\":4,\"line\":7,\"section\":\"a\"}},\"status\":1}\n";
             assert_eq!(rt; told.as_str(), wanted);
         }
-        _ => assert!(rt; false),
+        Err(_other) => assert!(rt; false),
+        Ok(_accepted) => assert!(rt; false),
     }
     Ok(())
 }
