@@ -104,7 +104,7 @@ fn walked(rt: &impl Abort, alloc: Global, program: &Accepted, seed: u32) -> Summ
         u64::from(seed % 9 + 1),
     );
     let job = job.expect(rt, "a weight");
-    let workers = seed * 9 % 64 + 1;
+    let workers = seed % 64 + 1;
     let walk = random_walk(job, workers, u64::from(seed), 1_000_000).expect(rt, "memory");
     summarize(alloc, &walk.events).expect(rt, "memory")
 }
