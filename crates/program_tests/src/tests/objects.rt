@@ -52,6 +52,9 @@ fn typed_of(rt: &impl Abort, alloc: Global, text: &str) -> Typed {
 
 /// Where its statements begin.
 fn places_of(rt: &impl Abort, alloc: Global, text: &str) -> Vec<Place> {
+    if text.len() > 1_048_576 {
+        return Vec::new(alloc);
+    }
     statement_places(alloc, text).expect(rt, "tokens")
 }
 
