@@ -16,6 +16,8 @@ use Rattle.effects.specs.Accesses.{Access}
 use Rattle.race_checker.specs.Races.{Race}
 use Rattle.intake.specs.Failures.{told_procedure}
 use Rattle.intake.specs.declared.failure.Failure.{Failure}
+use Rattle.cost.specs.declared.cost.Cost.{Cost}
+use Rattle.json_answers.specs.Costs.{cost_json}
 use Rattle.json_answers.specs.Faults.{fault_json, fault_members, raised_number}
 use Rattle.json_answers.specs.Outcomes.{ended_members, numbers_json, put_arrays, outcome_json}
 use Rattle.json_answers.specs.Pieces.{integer, natural, list_by, or_null, members_by, object_of}
@@ -116,6 +118,9 @@ outcome_within declared places Stopped = omega arith
 
 pub accepted_within : (p : Program) → depth (accepted_json p) ≤ max_depth
 accepted_within p = omega arith
+
+pub cost_within : (c : Cost) → depth (cost_json c) ≤ max_depth
+cost_within c = omega arith
 
 pub pairs_within : (pairs : List (ℕ × ℕ)) → depth (pairs_json pairs) ≤ max_depth
 pairs_within pairs =

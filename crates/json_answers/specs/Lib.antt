@@ -1,3 +1,4 @@
+pub mod Costs
 pub mod Faults
 pub mod Given
 pub mod Outcomes

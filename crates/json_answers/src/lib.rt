@@ -2,6 +2,7 @@
 
 #![tactic(auto)]
 
+pub mod costs;
 pub mod faults;
 pub mod laws;
 pub mod line;

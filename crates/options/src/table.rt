@@ -27,7 +27,7 @@ struct Entry {
 /// What an entry is or takes.
 #[derive(Clone, Copy)]
 enum Takes {
-    /// It is the name of a file, which must stand there.
+    /// It is the name of a file or of a folder, which must stand there.
     File,
     /// It is the name of a shell, which must stand there.
     Shell,
@@ -57,10 +57,16 @@ const FILE: Entry = Entry {
     takes: Takes::File,
 };
 
+const FOLDER: Entry = Entry {
+    name: "FOLDER",
+    help: "The folder: NAME.out is what NAME.afx should tell, NAME.json its input, if it has one",
+    takes: Takes::File,
+};
+
 const LIST: Entry = Entry {
     name: "list",
     help: "Writes the program, each statement behind its label",
-    takes: Takes::Nothing,
+    takes: Takes::NothingBut(&["format"]),
 };
 
 const LINES: Entry = Entry {
@@ -189,6 +195,12 @@ const COLOR: Entry = Entry {
     takes: Takes::OneOf("WHEN", &["auto", "always", "never"]),
 };
 
+const FORMAT: Entry = Entry {
+    name: "format",
+    help: "Whether the answer, or the refusal, is lines of text, or one object; without it text",
+    takes: Takes::OneOf("KIND", &["text", "json"]),
+};
+
 const WORD: Entry = Entry {
     name: "WORD",
     help: "A code, as Y5, or another word that has a page; without it a list of them",
@@ -228,6 +240,16 @@ longest chain of steps that must come one after another. No number of workers ma
 
 Example: afx cost examples/doubling.afx --input examples/doubling.json";
 
+const BENCH_EXAMPLE: &str =
+    "Each run is timed five times: the least and the middle of its times stand beside how often they are that of one thread.
+
+Example: afx bench examples/doubling.afx --input examples/doubling.json";
+
+const TEST_EXAMPLE: &str =
+    "Each program is run on one thread, and as tasks on 1 and on 4 threads. A line tells of each that tells otherwise.
+
+Example: afx test examples/tested";
+
 const EXPLORE_EXAMPLE: &str =
     "A choice is the number of a part that steps next, of those that may, from the left and from 0.
 
@@ -251,7 +273,7 @@ const RUN: Row = Row {
     about: "Runs a program as tasks",
     example: RUN_EXAMPLE,
     entries: &[
-        FILE, INPUT, STEPS, NEST, TASKS, W0, WORKERS, TRACED, ARRAYS, EXPLAIN, COLOR,
+        FILE, INPUT, STEPS, NEST, TASKS, W0, WORKERS, TRACED, ARRAYS, FORMAT, EXPLAIN, COLOR,
     ],
 };
 
@@ -259,14 +281,16 @@ const SERIAL: Row = Row {
     name: "serial",
     about: "Runs a program on one thread",
     example: SERIAL_EXAMPLE,
-    entries: &[FILE, INPUT, STEPS, NEST, ARRAYS, PROGRESS, EXPLAIN, COLOR],
+    entries: &[
+        FILE, INPUT, STEPS, NEST, ARRAYS, PROGRESS, FORMAT, EXPLAIN, COLOR,
+    ],
 };
 
 const CHECKED: Row = Row {
     name: "check",
     about: "Tells whether a program would be run",
     example: CHECK_EXAMPLE,
-    entries: &[FILE, LIST, EXPLAIN, COLOR],
+    entries: &[FILE, LIST, FORMAT, EXPLAIN, COLOR],
 };
 
 const LISTED: Row = Row {
@@ -287,14 +311,28 @@ const PAIRED: Row = Row {
     name: "mhp",
     about: "Tells which labels of a program may run together",
     example: PAIRS_EXAMPLE,
-    entries: &[FILE, EXPLAIN, COLOR],
+    entries: &[FILE, FORMAT, EXPLAIN, COLOR],
 };
 
 const COSTED: Row = Row {
     name: "cost",
     about: "Tells work, span and parallelism of a run, in steps",
     example: COST_EXAMPLE,
+    entries: &[FILE, INPUT, STEPS, NEST, FORMAT, EXPLAIN, COLOR],
+};
+
+const BENCHED: Row = Row {
+    name: "bench",
+    about: "Times a program on one thread and as tasks",
+    example: BENCH_EXAMPLE,
     entries: &[FILE, INPUT, STEPS, NEST, EXPLAIN, COLOR],
+};
+
+const TESTED: Row = Row {
+    name: "test",
+    about: "Runs the programs of a folder, and compares what they tell",
+    example: TEST_EXAMPLE,
+    entries: &[FOLDER, EXPLAIN, COLOR],
 };
 
 const EXPLORED: Row = Row {
@@ -342,9 +380,9 @@ const MANUAL: Row = Row {
 };
 
 /// All commands, in the order in which help tells them.
-const ROWS: [Row; 12] = [
-    RUN, SERIAL, CHECKED, LISTED, FORMATTED, PAIRED, COSTED, EXPLORED, VIEWED, EXPLAINED,
-    COMPLETED, MANUAL,
+const ROWS: [Row; 14] = [
+    RUN, SERIAL, CHECKED, LISTED, FORMATTED, PAIRED, COSTED, BENCHED, TESTED, EXPLORED, VIEWED,
+    EXPLAINED, COMPLETED, MANUAL,
 ];
 
 /// What stands behind the help of the program.
@@ -353,8 +391,8 @@ const STATUSES: &str = "No word is `run -`: the program is read from the standar
 Example: afx serial examples/doubling.afx --input examples/doubling.json --arrays
 
 Exit status:
-  0  the run ended; the program is accepted; a listing; pairs of labels; a text laid out; a trace shown; help
-  1  refused: the command line, a file, the text, a rule, a race, the input, choices, the trace, the output; not laid out
+  0  the run ended; the program is accepted; a listing; pairs of labels; a text laid out; a trace shown; no test failed; help
+  1  refused: the command line, a file, the text, a rule, a race, the input, choices, the trace, the output; not laid out; a test failed
   2  the run ended with faults
   3  the run was stopped over its budget; it has not ended by its choices
   4  no memory; more tasks than the run may have
@@ -371,6 +409,8 @@ pub const CLOSING: Closing<'static> = Closing {
         LAYOUT_EXAMPLE,
         PAIRS_EXAMPLE,
         COST_EXAMPLE,
+        BENCH_EXAMPLE,
+        TEST_EXAMPLE,
         EXPLORE_EXAMPLE,
         VIEW_EXAMPLE,
         EXPLAIN_EXAMPLE,

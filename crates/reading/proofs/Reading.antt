@@ -674,10 +674,11 @@ asks_line words a (to_cost file o named for is asked) = record {
 
 -- ---- how it is told
 
--- these words say nothing of it at first
+-- these words say nothing of it at first, and no form
 record HasNoManner (words : List (List ℕ)) : Type 0 where
   pub explain : LacksFlag (codes "--explain") words
   pub color : Lacks (codes "--color") words
+  pub form : Lacks (codes "--format") words
 
 color_is_read : (color : Option Color) → read_color (option_map color_word color) ≡ Some color
 color_is_read None = refl
@@ -709,6 +710,7 @@ named_first : (file : List ℕ) (behind : List (List ℕ)) → IsTrue (is_file_n
 named_first file behind named = record {
   explain = if_false (bytes_eq file (codes "--explain")) _ _ (named_differs file (codes "--explain") refl named);
   color = lacks_named (codes "--color") file behind refl named;
+  form = lacks_named (codes "--format") file behind refl named;
 }
 
 -- nor does what stands behind a command otherwise
@@ -735,13 +737,13 @@ plainly_begun words a (to_check_format_behind file named is asked) = begins word
 plainly_begun words a (to_rewrite_behind file named is asked) = begins words _ file _ named is
 plainly_begun words a (to_pair file named is asked) = begins words _ file _ named is
 plainly_begun words a (to_list file named is asked) =
-    subst BeginsPlainly (sym is) (record { explain = refl; color = refl })
+    subst BeginsPlainly (sym is) (record { explain = refl; color = refl; form = refl })
 plainly_begun words a (to_place file named is asked) =
-    subst BeginsPlainly (sym is) (record { explain = refl; color = refl })
+    subst BeginsPlainly (sym is) (record { explain = refl; color = refl; form = refl })
 plainly_begun words a (to_check_format file named is asked) =
-    subst BeginsPlainly (sym is) (record { explain = refl; color = refl })
+    subst BeginsPlainly (sym is) (record { explain = refl; color = refl; form = refl })
 plainly_begun words a (to_rewrite file named is asked) =
-    subst BeginsPlainly (sym is) (record { explain = refl; color = refl })
+    subst BeginsPlainly (sym is) (record { explain = refl; color = refl; form = refl })
 
 -- ---- whole lines
 
@@ -778,6 +780,55 @@ asks_told words a (by_command command m behind b asks is asked) =
           ∙ ap (option_map (λ (k : Line). (k, m))) l.is_read;
       asked = asked ∙ ap (told_so m) l.asked;
     }
+
+-- ---- words that ask nothing of one program, or say a form
+
+-- behind the command of words that ask stands no form
+abbrev pub SaysNoForm : List (List ℕ) → Type 0
+SaysNoForm [] = Unit {0}
+SaysNoForm (command ∷ behind) = Lacks (codes "--format") behind
+
+formless_manner : (m : Manner) (behind : List (List ℕ)) → HasNoManner behind
+    → Lacks (codes "--format") (manner_words m behind)
+formless_manner m behind none =
+    let color = option_map color_word m.color in
+    lacks_flagged (codes "--format") (codes "--explain") m.explain (valued (codes "--color") color behind) refl
+    (lacks_valued (codes "--format") (codes "--color") color behind refl none.form)
+
+pub asks_no_form : (words : List (List ℕ)) (a : Asked) → Asks words a → SaysNoForm words
+asks_no_form words a (by_no_word is asked) = subst SaysNoForm (sym is) tt
+asks_no_form words a (by_command command m behind b asks is asked) =
+    subst SaysNoForm (sym is) (formless_manner m behind (plainly_begun (command ∷ behind) b asks))
+
+-- no words behind this command ask
+abbrev IsNoCommand : List ℕ → Type 0
+IsNoCommand command = (words : List (List ℕ)) → read_rest command words ≡ None
+
+unread_by : (command : List ℕ) → IsNoCommand command → (r : Option (Manner × List (List ℕ))) → read_by command r ≡ None
+unread_by command none None = refl
+unread_by command none (Some (m, words)) = ap (option_map (λ (l : Line). (l, m))) (none words)
+
+none_is_some : (l : Line × Manner) → (let o : Option (Line × Manner) = None in o) ≡ Some l → ⊥
+none_is_some l is = cc
+
+asks_none : (command : List ℕ) (behind : List (List ℕ)) (a : Asked) → IsNoCommand command → Asks (command ∷ behind) a → ⊥
+asks_none command behind a none asks =
+    let l = asks_told (command ∷ behind) a asks in
+    none_is_some _ (sym (unread_by command none (read_manner behind)) ∙ l.is_read)
+
+no_test : IsNoCommand (codes "test")
+no_test [] = refl
+no_test (file ∷ behind) = refl
+
+no_bench : IsNoCommand (codes "bench")
+no_bench [] = refl
+no_bench (file ∷ behind) = refl
+
+pub test_asks_nothing : (behind : List (List ℕ)) (a : Asked) → Asks (codes "test" ∷ behind) a → ⊥
+test_asks_nothing behind a asks = asks_none (codes "test") behind a no_test asks
+
+pub bench_asks_nothing : (behind : List (List ℕ)) (a : Asked) → Asks (codes "bench" ∷ behind) a → ⊥
+bench_asks_nothing behind a asks = asks_none (codes "bench") behind a no_bench asks
 
 -- what was read
 abbrev IsRead : Line × Manner → Option (Line × Manner) → Type 0

@@ -1,5 +1,6 @@
 //! The words of a command line that `clap` reads.
 
+use crate::order::{Order, Subject};
 use clap::error::ErrorKind;
 use clap::{ArgMatches, Error};
 use command_line::request::{Action, Choosing, Color, Command, Request, Settings, Spread, Telling};
@@ -8,8 +9,8 @@ use options::table::{CLOSING, commands};
 use std::alloc::Global;
 use types::budget::Budget;
 
-/// The request that `clap` finds in the words, or the reply to them.
-pub fn request_by_clap<'w>(alloc: Global, words: &'w [String]) -> Result<Request<'w>, Reply> {
+/// The order that `clap` finds in the words, or the reply to them.
+pub fn order_by_clap<'w>(alloc: Global, words: &'w [String]) -> Result<Order<'w>, Reply> {
     let matches = commands(alloc)?.try_get_matches_from(words)?;
     match matches.subcommand() {
         Some(("explain", given)) => Err(reply::explained(alloc, given)?),
@@ -17,7 +18,21 @@ pub fn request_by_clap<'w>(alloc: Global, words: &'w [String]) -> Result<Request
             Err(reply::completions(alloc, given, &commands(alloc)?)?)
         }
         Some(("man", _)) => Err(reply::manual(alloc, &commands(alloc)?, CLOSING)?),
-        asked => Ok(request_asked(alloc, asked)?),
+        Some(("bench", given)) => Ok(Order::Times(request(alloc, Command::Cost, given)?)),
+        Some(("test", given)) => Ok(Order::Tests(given.get_str("FOLDER").unwrap_or("-"))),
+        asked => Ok(told(asked, request_asked(alloc, asked)?)),
+    }
+}
+
+/// A request, told in the form that is said; `clap` has seen that only what can be told as an object has one.
+fn told<'w>(asked: Option<(&str, &ArgMatches<'w>)>, request: Request<'w>) -> Order<'w> {
+    let form = match asked {
+        Some((_, given)) => given.get_str("format"),
+        None => None,
+    };
+    match (form, Subject::of(request.action)) {
+        (Some("json"), Some(subject)) => Order::AsObject(subject, request),
+        _ => Order::AsText(request),
     }
 }
 

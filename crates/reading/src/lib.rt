@@ -4,6 +4,7 @@
 
 pub mod by_clap;
 pub mod manners;
+pub mod order;
 pub mod plain;
 pub mod settings;
 mod taking;

@@ -1,6 +1,6 @@
 //! Words that name a command, a file and options behind it, in their order.
 
-ghost use Rattle.std.specs.Prelude.{◌≡◌, map, option_map};
+ghost use Rattle.std.specs.Prelude.{◌≡◌, ◌∷◌, [], map, option_map, Some};
 ghost use Rattle.std.specs.String.{string_bytes};
 ghost use Rattle.reading.specs.Reading.{bare as bare_line, line_of, read, told_line};
 ghost use Rattle.reading.specs.Reading.{read_alone, read_behind, read_choosing, read_rest};
@@ -65,18 +65,20 @@ impl<'w> Texts<'w> {
     }
 }
 
-/// The line of words, and how it is to be told. No word at all means `run -`.
-pub fn line_in<'w>(words: &'w [String]) -> Option<(Line<'w>, Manner)>
-    ensures { option_map told_line result ≡ read (map string_bytes words.now) }
+/// The line of no word, which is `run -`, and how it is to be told.
+pub fn line_of_none<'w>() -> (Line<'w>, Manner)
+    ensures { Some (told_line result) ≡ read [] }
 {
-    match words {
-        [] => Some((bare(Answer(Command::Run), "-"), Manner::none())),
-        [command, behind @ ..] => {
-            let (manner, behind) = manner_in(behind)?;
-            let line = line_of_words(command.as_str(), behind)?;
-            Some((line, manner))
-        }
-    }
+    (bare(Answer(Command::Run), "-"), Manner::none())
+}
+
+/// The line of a command and the words behind it, and how it is to be told.
+pub fn line_in<'w>(command: &str, behind: &'w [String]) -> Option<(Line<'w>, Manner)>
+    ensures { option_map told_line result ≡ read (command.now ∷ map string_bytes behind.now) }
+{
+    let (manner, behind) = manner_in(behind)?;
+    let line = line_of_words(command, behind)?;
+    Some((line, manner))
 }
 
 /// The line of a command and the words behind it, but for those that say how it is told.

@@ -1,36 +1,122 @@
 //! The words of a command line.
 
-ghost use Rattle.std.specs.Prelude.{◌≡◌, IsOkAnd, IsSomeAnd, map, true};
+ghost use Rattle.std.specs.Prelude.{ℕ, ◌≡◌, ◌∷◌, [], IsOkAnd, IsSomeAnd, List, map, Some, true};
 ghost use Rattle.std.specs.String.{string_bytes};
+ghost use Rattle.reading.specs.Orders.{AsText, AsObject, Tests, Order as OrderIn, Orders};
+ghost use Rattle.reading.specs.Orders.{AsksForObject, order as order_said, subject_of};
+ghost use Rattle.reading.specs.declared.order.Subject.{Subject as SubjectOf};
 ghost use Rattle.reading.specs.Reading.{line_of};
 ghost use Rattle.command_line.specs.Requests.{AreRight, Asked, Asks, Options, asked_of};
-ghost use Rattle.command_line.specs.Requests.{acting, texts_by};
+ghost use Rattle.command_line.specs.Requests.{acting, is_file_name as names_file, texts_by};
 
-use crate::by_clap::request_by_clap;
-use crate::plain::{Line, line_in};
+use crate::by_clap::order_by_clap;
+use crate::order::{Order, Subject};
+use crate::plain::{Line, is_file_name, line_in, line_of_none};
 use crate::settings::settings_in;
+use crate::taking::take;
 use command_line::request::{Request, Telling};
 use options::reply::Reply;
 use std::alloc::Global;
 
 /// Reads the words behind the program's name. What names a command, how it is told, a file and options behind it, in
 /// their order, is read here; all else, as other orders, help, pages and mistakes, by `clap`.
-pub fn request_of<'w>(alloc: Global, words: &'w [String]) -> Result<Request<'w>, Reply>
-    ensures { (a : Asked) → Asks (map string_bytes words.now) a
-        → IsOkAnd result (λ r. asked_of r ≡ a) }
+pub fn order_of<'w>(alloc: Global, words: &'w [String]) -> Result<Order<'w>, Reply>
+    ensures { (o : OrderIn) → Orders (map string_bytes words.now) o
+        → IsOkAnd result (λ r. order_said r ≡ o) }
 {
-    match asked_in(words) {
-        Some(request) => Ok(request),
-        None => request_by_clap(alloc, words),
+    match order_in(words) {
+        Some(order) => Ok(order),
+        None => order_by_clap(alloc, words),
     }
 }
 
-/// The request of words that ask in this order.
-fn asked_in<'w>(words: &'w [String]) -> Option<Request<'w>>
-    ensures { (a : Asked) → Asks (map string_bytes words.now) a
+/// The order of words that stand in this order.
+fn order_in<'w>(words: &'w [String]) -> Option<Order<'w>>
+    ensures { (o : OrderIn) → Orders (map string_bytes words.now) o
+        → IsSomeAnd result (λ r. order_said r ≡ o) }
+{
+    match words {
+        [] => Some(Order::AsText(asked_by_none()?)),
+        [command, behind @ ..] => order_behind(command.as_str(), behind),
+    }
+}
+
+/// The order of a command and the words behind it.
+fn order_behind<'w>(command: &str, behind: &'w [String]) -> Option<Order<'w>>
+    ensures { (o : OrderIn) → Orders (command.now ∷ map string_bytes behind.now) o
+        → IsSomeAnd result (λ r. order_said r ≡ o) }
+{
+    if command == "test" {
+        tests_in(behind)
+    } else if command == "bench" {
+        Some(Order::Times(asked_in("cost", behind)?))
+    } else {
+        told_in(command, behind)
+    }
+}
+
+/// The order of words that ask something of one program, told as text or as one object.
+fn told_in<'w>(command: &str, behind: &'w [String]) -> Option<Order<'w>>
+    ensures text { (a : Asked) → Asks (command.now ∷ map string_bytes behind.now) a
+        → IsSomeAnd result (λ r. order_said r ≡ AsText a) }
+    ensures object { (x : SubjectOf) (a : Asked)
+        → AsksForObject (command.now ∷ map string_bytes behind.now) x a
+        → IsSomeAnd result (λ r. order_said r ≡ AsObject x a) }
+{
+    let (form, rest) = take("--format", behind);
+    match form {
+        None => Some(Order::AsText(asked_in(command, behind)?)),
+        Some(form) => {
+            if form == "json" {
+                object_in(command, rest)
+            } else {
+                None
+            }
+        }
+    }
+}
+
+/// The order of words that ask something of one program, told as one object.
+fn object_in<'w>(command: &str, behind: &'w [String]) -> Option<Order<'w>>
+    ensures { (x : SubjectOf) (a : Asked) → Asks (command.now ∷ map string_bytes behind.now) a
+        → subject_of a.action ≡ Some x → IsSomeAnd result (λ r. order_said r ≡ AsObject x a) }
+{
+    let request = asked_in(command, behind)?;
+    let subject = Subject::of(request.action)?;
+    Some(Order::AsObject(subject, request))
+}
+
+/// The order of the words behind `test`.
+fn tests_in<'w>(behind: &'w [String]) -> Option<Order<'w>>
+    ensures { (folder : List ℕ) → names_file folder ≡ true → map string_bytes behind.now ≡ folder ∷ []
+        → IsSomeAnd result (λ r. order_said r ≡ Tests folder) }
+{
+    match behind {
+        [folder] => {
+            if is_file_name(folder.as_str()) {
+                Some(Order::Tests(folder.as_str()))
+            } else {
+                None
+            }
+        }
+        _ => None,
+    }
+}
+
+/// The request of no word.
+fn asked_by_none<'w>() -> Option<Request<'w>>
+    ensures { (a : Asked) → Asks [] a → IsSomeAnd result (λ r. asked_of r ≡ a) }
+{
+    let (line, manner) = line_of_none();
+    request_in(line, manner.telling())
+}
+
+/// The request of a command and the words behind it, in their order.
+fn asked_in<'w>(command: &str, behind: &'w [String]) -> Option<Request<'w>>
+    ensures { (a : Asked) → Asks (command.now ∷ map string_bytes behind.now) a
         → IsSomeAnd result (λ r. asked_of r ≡ a) }
 {
-    let (line, manner) = line_in(words)?;
+    let (line, manner) = line_in(command, behind)?;
     request_in(line, manner.telling())
 }
 

@@ -1,0 +1,16 @@
+-- What is told of the cost of a run.
+use Rattle.std.specs.Prelude.{ℕ, List, [], ◌∷◌, codes}
+use Rattle.serde_json.specs.Data.{Data}
+use Rattle.cost.specs.declared.cost.Cost.{Cost}
+use Rattle.json_answers.specs.Pieces.{natural, object_of}
+
+-- its numbers, and the exit status
+abbrev pub cost_json : Cost → Data
+cost_json c =
+    object_of (
+    (codes "deepest_nest", natural c.deepest_nest)
+    ∷ (codes "finishes", natural c.finishes)
+    ∷ (codes "span", natural c.span)
+    ∷ (codes "status", natural 0)
+    ∷ (codes "tasks", natural c.tasks)
+    ∷ (codes "work", natural c.work) ∷ [])

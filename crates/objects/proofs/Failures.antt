@@ -1,0 +1,48 @@
+-- Why there is no object, and that it isn't that none could be written.
+use Rattle.std.proofs.Common.{◌≡◌, ◌≢◌, ℕ, List, Option, None, Result, Ok, Err, sym, subst, ◌∙◌}
+use Rattle.std.proofs.KnownBytes.{Keeps-refl, Appends-kept}
+use Rattle.std.specs.Io.KnownBytes.{Keeps}
+use Rattle.std.specs.Prelude.{IfErr, IsErrAnd}
+use Rattle.types.specs.Code.{Program}
+use Rattle.command_line.specs.Requests.{Settings}
+use Rattle.command_line.specs.declared.request.Command.{Command}
+use Rattle.texts.specs.Appending.{AppendsBeginning, Writes}
+use Rattle.intake.specs.Held.{Held, TellsNoInput}
+use Rattle.intake.specs.declared.failure.Failure.{Failure}
+use Rattle.intake.specs.declared.failure.Failure.TheVariants.{CannotWriteOutput, NoMemory}
+use Rattle.answers.specs.Answers.{Explains, IsCodeOf, IsRunBy, LooksForRaces, TellsNoCode, TellsNotAccepted, TestsRules}
+use Rattle.answers.proofs.Answering.{IsOther, other_failure, if_err_passed}
+use Rattle.answers.proofs.Answering.{no_code_explained, no_code_other, no_input_explained, no_input_other}
+use Rattle.answers.proofs.Answering.{not_accepted_explained, not_accepted_other}
+use Rattle.objects.specs.Objects.{FailsEarly}
+use Rattle.objects.specs.Failing.{IsToldAsObject, told, untold}
+
+module _ (c : Command) (s : Settings) (held : Held) (text : List ℕ) where
+  early : (f : Failure) → Explains c s held text f → IsOther f → FailsEarly c s held text f
+  early f why other = record { why = why; early = other_failure f other }
+
+  -- a text without a code
+  pub no_code_early : TestsRules c → (f : Failure) → TellsNoCode text f → FailsEarly c s held text f
+  no_code_early tests f told =
+      early f (no_code_explained c s held text None tests f told) (no_code_other c s held text None f told)
+
+  -- a program without an input
+  pub no_input_early : (code : Program) → IsCodeOf text code → IsRunBy c code → (f : Failure)
+      → TellsNoInput s.input held code.arrays f → FailsEarly c s held text f
+  no_input_early code is_code is_run f told =
+      early f (no_input_explained c s held text None code is_code is_run f told)
+      (no_input_other c s held text None code is_code is_run f told)
+
+  -- a text without an accepted program
+  pub not_accepted_early : LooksForRaces c → (f : Failure) → TellsNotAccepted text f → FailsEarly c s held text f
+  not_accepted_early looks f told =
+      early f (not_accepted_explained c looks s held text None f told) (not_accepted_other c looks s held text None f told)
+
+  pub memory_early : FailsEarly c s held text NoMemory
+  memory_early = early NoMemory tt tt
+
+  -- want of memory that is passed on
+  pub memory_passed : {T : Type 0} (r : Result T Failure) → IfErr r (λ f. f ≡ NoMemory)
+      → IfErr r (FailsEarly c s held text)
+  memory_passed (Ok x) only = tt
+  memory_passed (Err f) only = subst (FailsEarly c s held text) (sym only) memory_early

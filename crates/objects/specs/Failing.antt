@@ -1,0 +1,48 @@
+-- The object that tells why a command has no answer.
+use Rattle.std.specs.Prelude.{ℕ, ◌≡◌, ◌≢◌, List, [], Option}
+use Rattle.std.specs.Io.KnownBytes.{Keeps}
+use Rattle.syntax.specs.declared.place.Place.{Place}
+use Rattle.types.specs.Code.{Program}
+use Rattle.race_checker.specs.Races.{IsLeastRace, Race as ProgramRace}
+use Rattle.texts.specs.Appending.{AppendsBeginning}
+use Rattle.intake.specs.declared.failure.Failure.{Failure}
+use Rattle.intake.specs.declared.failure.Failure.TheVariants.{Types, Race, CannotWriteOutput}
+use Rattle.json_answers.specs.Pieces.{line}
+use Rattle.json_answers.specs.Races.{race_json}
+use Rattle.json_answers.specs.Refusals.{refusal_json}
+use Rattle.answers.specs.Answers.{Answer, Began, IsCodeOf}
+use Rattle.objects.specs.Objects.{ArePlaces}
+
+-- the least race of the text's program
+pub record TellsRace (file text told : List ℕ) : Type 0 where
+  pub code : Program
+  pub is_code : IsCodeOf text code
+  pub race : ProgramRace
+  pub least : IsLeastRace code race
+  pub places : List Place
+  pub begun : ArePlaces text places
+  pub told_is : told ≡ line (race_json file places code race)
+
+-- a failure at a statement of the text's program
+pub record TellsPlaced (file text : List ℕ) (f : Failure) (told : List ℕ) : Type 0 where
+  pub places : List Place
+  pub begun : ArePlaces text places
+  pub told_is : told ≡ line (refusal_json file places f)
+
+-- the object of a failure; only a race and a rule are told with statements
+abbrev pub TellsFailure : (file text : List ℕ) → Failure → (told : List ℕ) → Type 0
+TellsFailure file text (Race procedure first second) told = TellsRace file text told
+TellsFailure file text (Types e) told = TellsPlaced file text (Types e) told
+TellsFailure file text f told = told ≡ line (refusal_json file [] f)
+
+-- the object was appended as far as it was taken; or there was no memory for it
+pub data IsToldAsObject (Tells : (told : List ℕ) → Type 0) (old new : Option (List ℕ)) : Type 0 where
+  untold : Keeps old new → IsToldAsObject Tells old new
+  told : (object : List ℕ) → Tells object → AppendsBeginning old new object → IsToldAsObject Tells old new
+
+-- there is a reason, and its object was told; or, where writing failed, a beginning of the answer was
+pub record FailedAsObject (Is : Answer) (Why : Failure → Type 0) (Tells : Failure → (told : List ℕ) → Type 0)
+    (old new : Option (List ℕ)) (f : Failure) : Type 0 where
+  pub why : Why f
+  pub told : f ≢ CannotWriteOutput → IsToldAsObject (Tells f) old new
+  pub begun : f ≡ CannotWriteOutput → Began Is old new

@@ -1,0 +1,55 @@
+//! The object of an outcome.
+
+ghost use Rattle.std.specs.Prelude.{◌≡◌, map, IfErr, IfOk};
+ghost use Rattle.std.specs.String.{string_bytes};
+ghost use Rattle.types.specs.Translation.{array, outcome as outcome_in};
+ghost use Rattle.objects.specs.Objects.{ArePlaces, TellsOutcome};
+
+use crate::told::Told;
+use answers::showing::status;
+use intake::failure::Failure;
+use json_answers::outcomes::outcome_object;
+use places::statement_places;
+use std::alloc::{AllocError, Global};
+use syntax::Place;
+use types::code::Array;
+use types::outcome::Outcome;
+
+/// The most bytes of a text that spells a program.
+const MOST_BYTES: usize = 1_048_576;
+
+/// An outcome of a text's program, whose arrays are `declared`.
+pub fn outcome_told(
+    alloc: Global,
+    text: &str,
+    declared: &[Array],
+    outcome: &Outcome,
+) -> Result<Told, Failure>
+    ensures object { IfOk result (λ t. TellsOutcome (map array declared.now) (outcome_in outcome.now)
+        text.now (string_bytes t.line) t.status) }
+    ensures why { IfErr result (λ f. f ≡ Failure.NoMemory) }
+{
+    let Ok(places) = places_in(alloc, text) else {
+        return Err(Failure::NoMemory);
+    };
+    match outcome_object(alloc, declared, &places, outcome) {
+        Ok(line) => Ok(Told {
+            line,
+            status: status(outcome),
+        }),
+        Err(_) => Err(Failure::NoMemory),
+    }
+}
+
+/// Where the statements of a text's program begin. A longer text spells none, so it has no places.
+pub(crate) fn places_in(alloc: Global, text: &str) -> Result<Vec<Place>, AllocError>
+    ensures { IfOk result (λ places. ArePlaces text.now places.items) }
+{
+    if text.len() > MOST_BYTES {
+        return Err(AllocError);
+    }
+    match statement_places(alloc, text) {
+        Ok(places) => Ok(places),
+        Err(_) => Err(AllocError),
+    }
+}

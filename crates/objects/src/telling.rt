@@ -1,0 +1,39 @@
+//! The commands that tell of a program without a run.
+
+ghost use Rattle.std.specs.Prelude.{IfErr, IfOk};
+ghost use Rattle.std.specs.String.{string_bytes};
+ghost use Rattle.command_line.specs.Requests.{Settings as SettingsOf};
+ghost use Rattle.intake.specs.Held.{Held};
+ghost use Rattle.objects.specs.Objects.{FailsEarly, ObjectOf};
+
+use crate::told::{Told, told_or_no_memory};
+use answers::programs::{accepted_of, typed_of};
+use answers::telling::pairs_of;
+use command_line::request::Command;
+use intake::failure::Failure;
+use json_answers::programs::{accepted_object, pairs_object};
+use std::alloc::Global;
+use std::thread::Threads;
+
+/// `check`: how many procedures and labels an accepted program has.
+pub fn check_told<R: Threads + Sync>(rt: &R, alloc: Global, text: &str) -> Result<Told, Failure>
+    ensures object { (s : SettingsOf) (held : Held)
+        → IfOk result (λ t. ObjectOf Command.Check s held text.now (string_bytes t.line) t.status) }
+    ensures why { (s : SettingsOf) (held : Held) → IfErr result (FailsEarly Command.Check s held text.now) }
+{
+    let accepted = accepted_of(rt, alloc, text)?;
+    told_or_no_memory(accepted_object(alloc, accepted.typed().code()), 0)
+}
+
+/// `mhp`: the pairs of labels of a program that may run together.
+pub fn pairs_told(alloc: Global, text: &str) -> Result<Told, Failure>
+    ensures object { (s : SettingsOf) (held : Held)
+        → IfOk result (λ t. ObjectOf Command.Pairs s held text.now (string_bytes t.line) t.status) }
+    ensures why { (s : SettingsOf) (held : Held) → IfErr result (FailsEarly Command.Pairs s held text.now) }
+{
+    let typed = typed_of(alloc, text)?;
+    match pairs_of(alloc, &typed) {
+        Ok(pairs) => told_or_no_memory(pairs_object(alloc, pairs.list()), 0),
+        Err(_) => Err(Failure::NoMemory),
+    }
+}

@@ -1,0 +1,29 @@
+//! An object, and the status that it tells.
+
+ghost use Rattle.std.specs.Prelude.{◌≡◌, IfOk, IfErr};
+ghost use Rattle.std.specs.String.{string_bytes};
+
+use intake::failure::Failure;
+use std::alloc::AllocError;
+
+/// The line of an object, with its line feed, and the exit status of the command.
+#[derive(Drop)]
+pub struct Told {
+    pub line: String,
+    pub status: u8,
+}
+
+/// A line and its status, or want of memory.
+pub(crate) fn told_or_no_memory(
+    line: Result<String, AllocError>,
+    status: u8,
+) -> Result<Told, Failure>
+    ensures line { IfOk result (λ t. line.entry ≡ Result.Ok t.line) }
+    ensures status { IfOk result (λ t. t.status ≡ status) }
+    ensures why { IfErr result (λ f. f ≡ Failure.NoMemory) }
+{
+    match line {
+        Ok(line) => Ok(Told { line, status }),
+        Err(_) => Err(Failure::NoMemory),
+    }
+}

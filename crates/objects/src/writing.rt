@@ -1,0 +1,44 @@
+//! Objects, written to the standard output.
+
+ghost use Rattle.std.specs.Prelude.{◌≡◌, IfErr, IfOk};
+ghost use Rattle.std.specs.String.{string_bytes};
+ghost use Rattle.texts.specs.Appending.{Writes};
+ghost use Rattle.objects.specs.Failing.{IsToldAsObject, TellsFailure};
+
+use crate::refusals::refusal_line;
+use crate::told::Told;
+use intake::failure::Failure;
+use std::alloc::Global;
+use std::io::Write;
+use std::thread::Threads;
+use texts::emit::append;
+
+/// Writes an answer, and gives its exit status.
+pub fn answer_object<O: Write>(out: &mut O, told: &Told) -> Result<u8, Failure>
+    ensures text { Writes (O.contents out.old) (O.contents out.new) result (string_bytes told.now.line) }
+    ensures status { IfOk result (λ status. status ≡ told.now.status) }
+    ensures failure { IfErr result (λ failure. failure ≡ Failure.CannotWriteOutput) }
+{
+    match append(out, told.line.as_bytes()) {
+        Ok(()) => Ok(told.status),
+        Err(_) => Err(Failure::CannotWriteOutput),
+    }
+}
+
+/// Writes why there is no answer, as far as it is taken, where memory is there.
+pub fn tell_refusal<R: Threads + Sync, O: Write>(
+    rt: &R,
+    alloc: Global,
+    file: &str,
+    text: &str,
+    failure: &Failure,
+    out: &mut O,
+)
+    ensures { IsToldAsObject (TellsFailure file.now text.now failure.now)
+        (O.contents out.old) (O.contents out.new) }
+{
+    if let Ok(line) = refusal_line(rt, alloc, file, text, failure) {
+        let _ = append(out, line.as_bytes());
+        let _ = out.flush();
+    }
+}

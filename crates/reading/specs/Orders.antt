@@ -1,0 +1,72 @@
+-- What the words of a command line order: what they ask of one program, told as text or as one object; that its runs
+-- are timed; or that the programs of a folder are tested.
+use Rattle.std.specs.Prelude.{ℕ, ◌≡◌, List, [], ◌∷◌, Option, None, Some, IsTrue, codes}
+use Rattle.command_line.specs.Requests.{Asked, Asks, asked_of, is_file_name}
+use Rattle.command_line.specs.declared.request.Action.{Action}
+use Rattle.command_line.specs.declared.request.Action.TheVariants.{Answer, Rewrite}
+use Rattle.command_line.specs.declared.request.Command.{Command}
+use Rattle.command_line.specs.declared.request.Command.TheVariants.{Run, Serial, Check, Pairs, Cost}
+use Rattle.reading.specs.declared.order.Order.{Order as rOrder}
+use Rattle.reading.specs.declared.order.Order.TheVariants.{AsText as rAsText, AsObject as rAsObject}
+use Rattle.reading.specs.declared.order.Order.TheVariants.{Times as rTimes, Tests as rTests}
+use Rattle.reading.specs.declared.order.Subject.{Subject}
+use Rattle.reading.specs.declared.order.Subject.TheVariants.{Run as RunTold, Serial as SerialTold}
+use Rattle.reading.specs.declared.order.Subject.TheVariants.{Check as CheckTold, Cost as CostTold, Pairs as PairsTold}
+
+pub data Order : Type 0 where
+  AsText : (a : Asked) → Order
+  AsObject : (x : Subject) → (a : Asked) → Order
+  Times : (a : Asked) → Order
+  Tests : (folder : List ℕ) → Order
+
+abbrev pub order : rOrder → Order
+order (rAsText request) = AsText (asked_of request)
+order (rAsObject x request) = AsObject x (asked_of request)
+order (rTimes request) = Times (asked_of request)
+order (rTests folder) = Tests folder.now
+
+-- a command whose answer can be told as one object
+abbrev pub answer_told : Command → Option Subject
+answer_told Run = Some RunTold
+answer_told Serial = Some SerialTold
+answer_told Check = Some CheckTold
+answer_told Cost = Some CostTold
+answer_told Pairs = Some PairsTold
+answer_told _ = None
+
+abbrev pub subject_of : Action → Option Subject
+subject_of (Answer c) = answer_told c
+subject_of Rewrite = None
+
+abbrev pub command_of : Subject → Command
+command_of RunTold = Run
+command_of SerialTold = Serial
+command_of CheckTold = Check
+command_of CostTold = Cost
+command_of PairsTold = Pairs
+
+-- the words ask this, with `--format json` behind the command
+pub record AsksForObject (words : List (List ℕ)) (x : Subject) (a : Asked) : Type 0 where
+  pub command : List ℕ
+  pub behind : List (List ℕ)
+  pub asks : Asks (command ∷ behind) a
+  pub told : subject_of a.action ≡ Some x
+  pub words_are : words ≡ command ∷ codes "--format" ∷ codes "json" ∷ behind
+
+-- behind `bench` stands what may stand behind `cost`
+pub record AsksToTime (words : List (List ℕ)) (a : Asked) : Type 0 where
+  pub behind : List (List ℕ)
+  pub asks : Asks (codes "cost" ∷ behind) a
+  pub words_are : words ≡ codes "bench" ∷ behind
+
+-- behind `test` stands the name of a folder
+pub record AsksToTest (words : List (List ℕ)) (folder : List ℕ) : Type 0 where
+  pub named : IsTrue (is_file_name folder)
+  pub words_are : words ≡ codes "test" ∷ folder ∷ []
+
+-- the words order this
+abbrev pub Orders : (words : List (List ℕ)) → Order → Type 0
+Orders words (AsText a) = Asks words a
+Orders words (AsObject x a) = AsksForObject words x a
+Orders words (Times a) = AsksToTime words a
+Orders words (Tests folder) = AsksToTest words folder

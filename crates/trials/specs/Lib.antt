@@ -1,0 +1,3 @@
+pub mod Folder
+pub mod Runs
+pub mod Times
