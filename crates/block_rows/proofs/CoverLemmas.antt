@@ -76,3 +76,10 @@ copies-split m ws n cover most lengths vs within of =
     let same : map window_of ws ≡ vs = same_cover (map window_of ws) vs cover of.form (λ q. sym (of.places q)) in
     let e : split_in lengths (map window_of ws) ≡ split_in lengths vs = ap (split_in lengths) same in
     omega (arith, most lengths within, e)
+
+-- what was copied beside what was before, for the same places
+pub copies-from : {A : Type 0} (m : Map A) (set other : Place → Bool) (n old new : ℕ) → ((q : Place) → set q ≡ other q)
+    → CopiesSplit m set 0 n → new ≤ old + n → CopiesSplit m other old new
+copies-from m set other n old new same copies less lengths ws within of =
+    let most = copies lengths ws within (record { form = of.form; places = λ q. of.places q ∙ sym (same q) }) in
+    omega (arith, most, less)
