@@ -1,14 +1,18 @@
-use Rattle.std.proofs.Common.{◌≡◌, ◌∙◌, ◌≤◌, ◌<◌, ◌/◌, ◌%◌, ◌+◌, ◌*◌, ℕ, Bool, true, false, Option, Some, None, option_map, ap, arith, is_some, refl, rules, subst, sym}
+use Rattle.std.proofs.Common.{◌≡◌, ◌∙◌, ◌≤◌, ◌<◌, ◌/◌, ◌%◌, ◌+◌, ◌*◌, ℕ, List, Bool, true, false, Option, Some, None, option_map, ap, arith, is_some, refl, rules, subst, sym, inl, inr, ◌⊎◌}
 use Rattle.std.proofs.lemmas.Bool.{and_from, eq-eqb, leb-false, leb-true, ltb-true}
 use Rattle.std.proofs.lemmas.Option.{same_Some}
 use Rattle.std.specs.Prelude.{ℤ, ◌&&◌, nat_eq, nat_le, nat_lt, if◌then◌else◌}
 use Rattle.sections.specs.Place.{Place}
-use Rattle.blocks.specs.Blocks.{held_at, owned_at}
+use Rattle.std.specs.Arc.{arc_value}
+use Rattle.std.specs.declared.alloc.Global.{Global}
+use Rattle.std.specs.declared.sync.Arc.{Arc}
+use Rattle.blocks.specs.Blocks.{held_at, number_in, owned_at}
 use Rattle.blocks.specs.Held.{Held, Map, Owned, Shared, first_of, owned_number}
 use Rattle.blocks.specs.Offsets.{IsWithin}
 use Rattle.blocks.specs.Ready.{CanTake}
 use Rattle.blocks.specs.declared.block.Block.{Block}
 use Rattle.blocks.specs.declared.block.Block.TheVariants.{Empty, Mixed, Owned as AllOwned, Shared as AllShared}
+use Rattle.blocks.specs.declared.numbers.Numbers.{Numbers}
 use Rattle.blocks.proofs.BlockLemmas.{held_at-behind}
 use Rattle.block_rows.specs.Rooms.{HasRoom, TakesIn}
 use Rattle.block_rows.specs.Rows.{block_of, held_in_list, in_block}
@@ -29,6 +33,10 @@ nothing_pasted own a m b none q = by_here (in_block a m q)
 no_copy : (o : Option ℤ) → owned_number (option_map Shared o) ≡ None
 no_copy None = refl
 no_copy (Some v) = refl
+
+owns_none : (b : Block) → (b ≡ Empty) ⊎ ((n : Arc Numbers Global) × (b ≡ AllShared n)) → (k : ℕ) → owned_at b k ≡ None
+owns_none b (inl e) k = ap (λ x. owned_at x k) e
+owns_none b (inr w) k = ap (λ x. owned_at x k) w.1 ∙ no_copy (number_in (arc_value w.0) k)
 
 -- where there is room for a block that may own something, a block stands
 takes_in : (rs : List Row) (a b : ℕ) (theirs : Block) → (theirs ≡ Empty → ⊥) → ((n : _) → theirs ≡ AllShared n → ⊥)
@@ -66,5 +74,43 @@ at_most all r n moved counted = by_le (nat_le r n) refl
         let ne : all → ⊥ = λ w. omega (arith, gt, moved w) in
         absurd (omega (arith, gt, counted ne))
 
+pub returns-in-Empty : goal.returns-in-Empty
+returns-in-Empty c = record {
+  pasted = nothing_pasted (held_in_list c.args.self.now.list.items) c.args.array c.args.number c.args.theirs (owns_none c.args.theirs c.in-Empty.is);
+  moved = λ all. refl;
+  most = omega arith;
+  keeps = λ i j b h e. h;
+}
+
+pub swap-mine-requires : goal.swap-mine-requires
+swap-mine-requires c =
+    let room = takes_in c.args.self.now.list.items c.args.array c.args.number c.args.theirs c.in_default.not-Empty c.in_default.not-Shared c.requires in
+    ap is_some room.there
+
+pub paste-copied-requires : goal.paste-copied-requires
+paste-copied-requires c =
+    let room = takes_in c.args.self.now.list.items c.args.array c.args.number c.args.theirs c.in_default.not-Empty c.in_default.not-Shared c.requires in
+    subst (λ b. CanTake b c.args.theirs) (same_Some _ _ (sym room.there ∙ c.swap-mine.ensures.old)) room.room
+
+pub swap-requires : goal.swap-requires
+swap-requires c =
+    ap is_some (replaced-here c.args.array c.args.number Empty c.args.self.now.list.items c.swap-mine.new.self.list.items c.swap-mine.ensures.new)
+
 pub returns-in_default : goal.returns-in_default
-returns-in_default c = ?
+returns-in_default c =
+    let old = c.args.self.now.list.items in
+    let mid = c.swap-mine.new.self.list.items in
+    let new = c.swap.new.self.list.items in
+    let a = c.args.array in
+    let m = c.args.number in
+    let theirs = c.args.theirs in
+    let mine = c.swap-mine.result in
+    let s = c.paste-copied.new.self in
+    let is = c.swap-mine.ensures.old in
+    let back = replaced-twice a m Empty s old mid new c.swap-mine.ensures.new c.swap.ensures.new in
+    record {
+      pasted = took_in a m mine s old new (owned_at theirs) is back c.paste-copied.ensures.pasted;
+      moved = λ all. c.paste-copied.ensures.moved (within old a m mine theirs is all);
+      most = at_most _ _ _ c.paste-copied.ensures.moved c.paste-copied.ensures.counted;
+      keeps = λ i j b h e. room-elsewhere a m s old new back i j b e h;
+    }
