@@ -206,12 +206,12 @@ none-has lengths a (w ∷ ws) b none =
 
     at : (nat_eq w.array a && has_block (lengths a) w b) ≡ false → (i : ℕ) (c : Bool) → in_block a b (record { array = w.array; index = i }) ≡ c
         → one c ≤ one (c && not (has_block (lengths w.array) w (i / 256)))
-    at no i false e = omega arith
-    at no i true e =
+    at free i false e = omega arith
+    at free i true e =
         let place = and_parts (nat_eq w.array a) (nat_eq (i / 256) b) e in
         let array = eqb-true w.array a place.0 in
         let block = eqb-true (i / 256) b place.1 in
-        let none : has_block (lengths a) w b ≡ false = ap (λ c. c && has_block (lengths a) w b) (sym place.0) ∙ no in
+        let none : has_block (lengths a) w b ≡ false = ap (λ c. c && has_block (lengths a) w b) (sym place.0) ∙ free in
         let same : has_block (lengths w.array) w (i / 256) ≡ false =
         ap (λ n. has_block (lengths n) w (i / 256)) array ∙ ap (has_block (lengths a) w) block ∙ none in
         omega (arith, ap (λ c. one (not c)) same)

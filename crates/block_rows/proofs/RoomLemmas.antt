@@ -62,6 +62,13 @@ pub row_room-more : (own own' : List Row) (a : ℕ) (r : Row) (n : ℕ) (b : Blo
     → (j : ℕ) (theirs : Block) → j < r.first + (n + 1) → block_in r j ≡ Some theirs → HasRoom own' a j theirs
 row_room-more own own' a r n b lt is before keeps here j theirs low there = by_eq (cases_eq j (r.first + n))
   where
+    ne_test : (x y : ℕ) → (x ≡ y → ⊥) → nat_eq x y ≡ false
+    ne_test x y h = search rules
+
+    and_false : (c : Bool) → (c && false) ≡ false
+    and_false true = refl
+    and_false false = refl
+
     by_eq : (j ≡ r.first + n) ⊎ (j ≡ r.first + n → ⊥) → HasRoom own' a j theirs
     by_eq (inl e) =
         let same : b ≡ theirs = same_Some _ _ (sym (row-nth r n b lt is) ∙ ap (block_in r) (sym e) ∙ there) in
@@ -69,13 +76,6 @@ row_room-more own own' a r n b lt is before keeps here j theirs low there = by_e
     by_eq (inr ne) =
         let other : (nat_eq a a && nat_eq j (r.first + n)) ≡ false = ap (λ c. nat_eq a a && c) (ne_test j (r.first + n) ne) ∙ and_false (nat_eq a a) in
         keeps a j theirs (before j theirs (omega (arith, low, ne)) there) other
-
-    ne_test : (x y : ℕ) → (x ≡ y → ⊥) → nat_eq x y ≡ false
-    ne_test x y h = search rules
-
-    and_false : (c : Bool) → (c && false) ≡ false
-    and_false true = refl
-    and_false false = refl
 
 pub row_room-done : (own : List Row) (a : ℕ) (r : Row) (n : ℕ) → length r.blocks.items ≤ n
     → ((j : ℕ) (theirs : Block) → j < r.first + n → block_in r j ≡ Some theirs → HasRoom own a j theirs) → HasRowRoom own a r

@@ -145,7 +145,7 @@ impl Rows {
         let mut copied = 0u64;
         let first = row.first;
         let mut blocks = row.blocks;
-        'blocks: while let Some(theirs) = blocks.pop() {
+        'pasting: while let Some(theirs) = blocks.pop() {
             copied = copied.saturating_add(self.paste_in(array, first + blocks.len(), theirs));
         }
         copied

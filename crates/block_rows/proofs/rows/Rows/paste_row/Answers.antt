@@ -5,26 +5,26 @@ use Rattle.block_rows.specs.Rows.{held_in}
 use Rattle.block_rows.proofs.PasteLemmas.{PasteSoFar, PastedIn, no-blocks, paste-begun, paste-on, paste-room, pasted-row, row-costs}
 use Rattle.block_rows.proofs.rows.Rows.paste_row.Goals as goal
 
-pub blocks-init : goal.blocks-init
-blocks-init c = paste-begun c.args.self.now.list.items c.args.array c.args.row c.requires
+pub pasting-init : goal.pasting-init
+pasting-init c = paste-begun c.args.self.now.list.items c.args.array c.args.row c.requires
 
 pub paste_in-requires : goal.paste_in-requires
 paste_in-requires c =
     let r = c.args.row in
     let xs = c.pop.new.self.items in
     let b = c.in-Some.theirs in
-    let own = c.blocks.self.list.items in
+    let own = c.pasting.self.list.items in
     let at : r.first + c.len.result ≡ r.first + length xs = omega (arith, c.len.ensures) in
     subst (λ m. HasRoom own c.args.array m b) (sym at)
-    (paste-room (held_in c.args.self.now) c.args.self.now.list.items own c.args.array r xs b c.blocks.copied
-    (subst (λ (l : List Block). PasteSoFar (held_in c.args.self.now) c.args.self.now.list.items own c.args.array r l c.blocks.copied)
-    c.in-Some.ensures.items c.blocks.invariant))
+    (paste-room (held_in c.args.self.now) c.args.self.now.list.items own c.args.array r xs b c.pasting.copied
+    (subst (λ (l : List Block). PasteSoFar (held_in c.args.self.now) c.args.self.now.list.items own c.args.array r l c.pasting.copied)
+    c.in-Some.ensures.items c.pasting.invariant))
 
-pub blocks-preserved : goal.blocks-preserved
-blocks-preserved c =
+pub pasting-preserved : goal.pasting-preserved
+pasting-preserved c =
     let first = held_in c.args.self.now in
     let start = c.args.self.now.list.items in
-    let own = c.blocks.self.list.items in
+    let own = c.pasting.self.list.items in
     let new_own = c.paste_in.new.self.list.items in
     let r = c.args.row in
     let xs = c.pop.new.self.items in
@@ -37,19 +37,19 @@ blocks-preserved c =
       most = c.paste_in.ensures.most;
       keeps = c.paste_in.ensures.keeps;
     }) in
-    paste-on first start own new_own c.args.array r xs b c.blocks.copied c.paste_in.result c.saturating_add-copied.result
-    (subst (λ (l : List Block). PasteSoFar first start own c.args.array r l c.blocks.copied) c.in-Some.ensures.items c.blocks.invariant)
+    paste-on first start own new_own c.args.array r xs b c.pasting.copied c.paste_in.result c.saturating_add-copied.result
+    (subst (λ (l : List Block). PasteSoFar first start own c.args.array r l c.pasting.copied) c.in-Some.ensures.items c.pasting.invariant)
     one (omega (arith, c.saturating_add-copied.ensures))
 
 pub returns-clause-pasted : goal.returns-clause-pasted
 returns-clause-pasted c =
-    pasted-row (held_in c.args.self.now) c.args.self.now.list.items c.blocks.self.list.items c.args.array c.args.row c.blocks.copied
-    (no-blocks _ _ _ _ _ c.blocks.blocks.items _ c.blocks.invariant (omega (arith, c.in_default.ensures.cases.0)))
+    pasted-row (held_in c.args.self.now) c.args.self.now.list.items c.pasting.self.list.items c.args.array c.args.row c.pasting.copied
+    (no-blocks _ _ _ _ _ c.pasting.blocks.items _ c.pasting.invariant (omega (arith, c.in_default.ensures.cases.0)))
 
 pub returns-clause-copied : goal.returns-clause-copied
 returns-clause-copied c =
-    row-costs (held_in c.args.self.now) c.args.self.now.list.items c.blocks.self.list.items c.args.array c.args.row c.blocks.copied
-    (no-blocks _ _ _ _ _ c.blocks.blocks.items _ c.blocks.invariant (omega (arith, c.in_default.ensures.cases.0)))
+    row-costs (held_in c.args.self.now) c.args.self.now.list.items c.pasting.self.list.items c.args.array c.args.row c.pasting.copied
+    (no-blocks _ _ _ _ _ c.pasting.blocks.items _ c.pasting.invariant (omega (arith, c.in_default.ensures.cases.0)))
 
 pub returns-clause-keeps : goal.returns-clause-keeps
-returns-clause-keeps c = c.blocks.invariant.keeps
+returns-clause-keeps c = c.pasting.invariant.keeps

@@ -4,9 +4,9 @@ use Rattle.block_rows.proofs.PasteLemmas.{PasteSoFar}
 use Rattle.block_rows.proofs.rows.Rows.paste_row.Given as goal
 
 -- the blocks that aren't left have come in
-abbrev pub invariant-blocks : goal.invariant-blocks
-invariant-blocks l =
+abbrev pub invariant-pasting : goal.invariant-pasting
+invariant-pasting l =
     PasteSoFar (held_in l.initial.self) l.initial.self.list.items l.self.list.items l.array l.fn.row l.blocks.items l.copied
 
-abbrev pub decreases-blocks : goal.decreases-blocks
-decreases-blocks l = length l.blocks.items
+abbrev pub decreases-pasting : goal.decreases-pasting
+decreases-pasting l = length l.blocks.items
