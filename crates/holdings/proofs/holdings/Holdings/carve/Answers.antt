@@ -1,10 +1,11 @@
-use Rattle.std.proofs.Common.{◌≡◌, ◌∙◌, ap, arith, map, subst, sym, None}
+use Rattle.std.proofs.Common.{◌≡◌, ◌≤◌, ◌+◌, ◌∙◌, Bool, ap, arith, map, subst, sym, None}
 use Rattle.sections.specs.Covers.{has}
 use Rattle.sections.specs.Place.{Place}
 use Rattle.sections.specs.Translation.{window as window_of}
 use Rattle.blocks.specs.Held.{Held, IsThere, Map, only, owned, without}
 use Rattle.block_rows.specs.Carvings.{copied_places, cut_places, moved_places}
 use Rattle.block_rows.specs.Pieces.{taking}
+use Rattle.block_rows.proofs.CoverLemmas.{copies-from}
 use Rattle.block_rows.proofs.MapLemmas.{taken-only}
 use Rattle.block_rows.specs.Rows.{held_in}
 use Rattle.holdings.specs.Holdings.{held}
@@ -24,3 +25,22 @@ returns-clause-taken c =
     ∙ ap (taking (moved_places cs) own) c.in_ok-carvings.ensures.taken
     ∙ taken-only (moved_places cs) (copied_places cs) (has (map window_of c.args.windows.now)) own
     (λ q. sym (ap (λ ws. has (map window_of ws) q) c.deref.ensures.value ∙ c.in_ok-places.ensures.places q) ∙ c.in_ok-carvings.ensures.places q)
+
+pub returns-clause-left : goal.returns-clause-left
+returns-clause-left c =
+    let own = held c.args.self.now in
+    let cs = c.in_ok-carvings.carvings.list.items in
+    let places : cut_places cs ≡ has (map window_of c.args.windows.now) = λ t q.
+    (sym (c.in_ok-carvings.ensures.places q)
+    ∙ ap (λ ws. has (map window_of ws) q) c.deref.ensures.value ∙ c.in_ok-places.ensures.places q) t in
+    c.carve_all.ensures.left
+    ∙ ap (without (cut_places cs)) c.in_ok-carvings.ensures.same
+    ∙ ap (λ (set : Place → Bool). without set own) places
+
+pub returns-clause-copied : goal.returns-clause-copied
+returns-clause-copied c =
+    let cs = c.in_ok-carvings.carvings in
+    copies-from (held c.args.self.now) (has (map window_of c.deref.result.now)) (has (map window_of c.args.windows.now)) cs.copied
+    c.args.self.now.copied c.saturating_add.result
+    (λ q. ap (λ ws. has (map window_of ws) q) c.deref.ensures.value ∙ c.in_ok-places.ensures.places q)
+    c.in_ok-carvings.ensures.copied (omega (arith, c.saturating_add.ensures))

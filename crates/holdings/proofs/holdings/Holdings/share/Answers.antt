@@ -5,6 +5,7 @@ use Rattle.sections.specs.Translation.{window as window_of}
 use Rattle.blocks.specs.Held.{Held, Map, as_shared, numbers}
 use Rattle.holdings.specs.Holdings.{held}
 use Rattle.block_rows.specs.Pieces.{taking}
+use Rattle.block_rows.specs.Rows.{held_in}
 use Rattle.block_rows.proofs.MapLemmas.{numbers-there, shared-only, there-numbers}
 use Rattle.holdings.proofs.holdings.Holdings.share.Goals as goal
 
@@ -14,8 +15,9 @@ share_all-requires c = c.has_all.ensures.0 c.if-not-has_all.false
 pub returns-clause-shared : goal.returns-clause-shared
 returns-clause-shared c =
     let set = has (map window_of c.args.windows.now) in
+    let none : held_in c.new-rows.result ≡ (λ q. None) = λ t q. c.new-rows.ensures.holds q t in
     c.in_ok-share_all.ensures
-    ∙ ap (taking set (as_shared (numbers (held c.args.self.now)))) c.new-rows.ensures
+    ∙ ap (taking set (as_shared (numbers (held c.args.self.now)))) none
     ∙ shared-only set (numbers (held c.args.self.now))
 
 pub returns-clause-held : goal.returns-clause-held
