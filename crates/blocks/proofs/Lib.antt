@@ -1,3 +1,4 @@
+pub mod AddingLemmas
 pub mod BlockLemmas
 pub mod RowLemmas
 pub mod WalkLemmas

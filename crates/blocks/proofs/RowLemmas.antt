@@ -1,15 +1,17 @@
 -- Rows of elements behind an offset.
-use Rattle.std.proofs.Common.{◌≡◌, ℕ, ◌+◌, ◌-◌, ◌<◌, ◌≤◌, List, [], ◌∷◌, ◌++◌, length, get_or, set}
-use Rattle.std.proofs.Common.{Option, Some, None, Bool, true, false, refl, sym, ap, ◌∙◌, arith, rules, ◌⊎◌, inl, inr}
+use Rattle.std.proofs.Common.{◌≡◌, ℕ, zero, suc, ◌+◌, ◌-◌, ◌<◌, ◌≤◌, List, [], ◌∷◌, ◌++◌, length, get_or, set}
+use Rattle.std.proofs.Common.{Option, Some, None, Bool, true, false, refl, sym, ap, ◌∙◌, arith, rules, subst, ◌⊎◌, inl, inr}
 use Rattle.std.proofs.lemmas.Bool.{eqb-true, eqb-false, leb-true, leb-false, ltb-true}
 use Rattle.std.proofs.lemmas.Grind.{common_steps, get_or-set_at}
+use Rattle.std.proofs.lemmas.Bool.Decides.{nat_tests}
 use Rattle.std.proofs.lemmas.List.{get_or-set_other, length-set}
 use Rattle.std.proofs.Math.ListN.{get_or-append}
 use Rattle.std.proofs.Math.Seq.{get_or-append_seam}
-use Rattle.std.proofs.lemmas.Option.{slice_get_past, slice_get-get_or}
-use Rattle.std.specs.Prelude.{ℤ, pos, nat_eq, nat_le, nat_lt, slice_get, if◌then◌else◌}
+use Rattle.std.proofs.lemmas.Option.{slice_get_past, slice_get-get_or, gets}
+use Rattle.std.specs.Prelude.{ℤ, pos, ◌&&◌, nat_eq, nat_le, nat_lt, slice_get, if◌then◌else◌, option_map}
 use Rattle.blocks.specs.Blocks.{row_from, held_as}
 use Rattle.blocks.specs.Held.{Held, Owned}
+use Rattle.blocks.specs.Offsets.{in_range}
 use Rattle.blocks.specs.declared.kind.Kind.{Kind}
 use Rattle.blocks.specs.declared.kind.Kind.TheVariants.{Absent, Own, Copied}
 

@@ -1,4 +1,5 @@
 pub mod Blocks
+pub mod Copies
 pub mod Counts
 pub mod Held
 pub mod Offsets

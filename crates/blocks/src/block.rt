@@ -63,8 +63,7 @@ impl Block {
         ensures found { IfOk result (λ f. f ≡ is_some (owned_at self.old offset)) }
         ensures written { IfOk result (λ f. IsTrue f
             → Agree (held_at self.new) (put_at offset (Owned value) (held_at self.old))) }
-        ensures missed { IfOk result (λ f. (f ≡ false)
-            → Agree (held_at self.new) (held_at self.old)) }
+        ensures missed { IfOk result (λ f. (f ≡ false) → Agree (held_at self.new) (held_at self.old)) }
         ensures same { OnErr result (Agree (held_at self.new) (held_at self.old)) }
         ensures owned { OnErr result (owned_at self.old offset ≡ None → ⊥) }
     {

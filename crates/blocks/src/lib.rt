@@ -2,6 +2,7 @@
 
 #![tactic(auto)]
 
+mod adding;
 pub mod block;
 pub mod cut;
 pub mod kind;

@@ -30,6 +30,7 @@ impl Block {
         ensures moved { IfOk result (λ c. HasOnly from to (held_at self.old) → c.copied ≡ 0) }
         ensures counted { IfOk result (λ c. (HasOnly from to (held_at self.old) → ⊥)
             → c.copied ≡ to - from) }
+        ensures whole { IfOk result (λ c. c.copied ≡ 0 → c.numbers ≡ None) }
         ensures keeps { (f t : ℕ) (c : CutOf) → IsReady self.old f t c → IsReady self.new f t c }
     {
         if self.holds_only(from, to) {
