@@ -71,7 +71,7 @@ may_fail Chrome s held text = tt
 may_fail _ s held text = tt
 
 -- files aren't touched then
-leaves_on : (c : Command) (s : Settings) (text : List ℕ) (held later : Held) (status : ℕ) (r : Result ℕ Failure)
+pub leaves_on : (c : Command) (s : Settings) (text : List ℕ) (held later : Held) (status : ℕ) (r : Result ℕ Failure)
     → IfErr r (λ f. f ≡ CannotWriteOutput) → Leaves c s text held later (Ok status) → Leaves c s text held later r
 leaves_on Run s text held later status r only w =
     told_behind ℕ ℕ (IsTraceOfText s held text) (IsTraceOfText s held text) held later (λ bytes is. is) s.trace status r w only

@@ -1,3 +1,4 @@
+pub mod Objects
 pub mod Acting
 pub mod Leaving
 pub mod TracedRuns

@@ -1,2 +1,4 @@
 pub mod Acts
+pub mod Objects
+pub mod Orders
 pub mod Traced

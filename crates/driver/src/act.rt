@@ -7,10 +7,14 @@ ghost use Rattle.driver.specs.Acts.{Acts, ReadsAndPerforms, Reports, in_short};
 ghost use Rattle.intake.specs.Failures.{TellsNotUtf8};
 ghost use Rattle.intake.specs.declared.failure.Failure.{Failure as FailureOf};
 ghost use Rattle.command_line.specs.Requests.{Asked, Asks, asked_of};
+ghost use Rattle.reading.specs.Orders.{AsksForObject, Order as OrderIn, order as order_said};
+ghost use Rattle.reading.specs.declared.order.Subject.{Subject};
+ghost use Rattle.driver.specs.Orders.{ActsOn, TellsAs};
 ghost use Rattle.command_line.specs.declared.request.Color.TheVariants.{Always, Never};
 ghost use Rattle.excerpts.specs.declared.paint.Paint.TheVariants.{Coloured, Plain};
 
 use crate::answered::Answered;
+use crate::as_object::perform_as_object;
 use crate::commands;
 use crate::refusal::Refusal;
 use crate::terminal::Terminal;
@@ -19,7 +23,8 @@ use excerpts::paint::Paint;
 use intake::failure::Failure;
 use intake::files::{FileSource, read_program};
 use options::reply::Reply;
-use reading::words::request_of;
+use reading::order::Order;
+use reading::words::order_of;
 use std::alloc::{AllocError, Global};
 use std::io;
 use std::io::{ErrorKind, Write};
@@ -27,7 +32,7 @@ use std::sync::Wait;
 use std::thread::Threads;
 use texts::emit::append;
 
-/// Does what the words behind the program's name ask, and answers the exit status. `--progress` has
+/// Does what the words behind the program's name order, and answers the exit status. `--progress` has
 /// `terminal` told how far a run has come.
 pub fn act<R: Threads + Wait + Sync, F: FileSource, O: Write, E: Write, T: Terminal>(
     rt: &R,
@@ -41,16 +46,54 @@ pub fn act<R: Threads + Wait + Sync, F: FileSource, O: Write, E: Write, T: Termi
     ensures asked { (a : Asked) → Asks (map string_bytes words.now) a
         → Acts a (F.held files.old) (F.held files.new) (O.contents out.old) (O.contents out.new)
         (E.contents err.old) (E.contents err.new) result }
-    ensures over_one { 1 < result → (a : Asked)
-        × Acts a (F.held files.old) (F.held files.new) (O.contents out.old) (O.contents out.new)
+    ensures as_object { (x : Subject) (a : Asked) → AsksForObject (map string_bytes words.now) x a
+        → TellsAs x a (F.held files.old) (F.held files.new) (O.contents out.old) (O.contents out.new)
+        (E.contents err.old) (E.contents err.new) result }
+    ensures over_one { 1 < result → (o : OrderIn)
+        × ActsOn o (F.held files.old) (F.held files.new) (O.contents out.old) (O.contents out.new)
         (E.contents err.old) (E.contents err.new) result }
 {
-    match request_of(alloc, words) {
+    match order_of(alloc, words) {
         Err(reply) => tell_command_line(alloc, &reply, out, err),
-        Ok(request) => match perform(rt, alloc, request, files, out, terminal) {
-            Ok(answered) => answered.follow(err),
-            Err(refusal) => refusal.tell(err),
-        },
+        Ok(order) => carry_out(rt, alloc, order, files, out, err, terminal),
+    }
+}
+
+/// Does what was ordered, and answers the exit status.
+fn carry_out<R: Threads + Wait + Sync, F: FileSource, O: Write, E: Write, T: Terminal>(
+    rt: &R,
+    alloc: Global,
+    order: Order<'_>,
+    files: &mut F,
+    out: &mut O,
+    err: &mut E,
+    terminal: &mut T,
+) -> u8
+    ensures { ActsOn (order_said order.entry) (F.held files.old) (F.held files.new)
+        (O.contents out.old) (O.contents out.new) (E.contents err.old) (E.contents err.new) result }
+{
+    match order {
+        Order::AsText(request) => {
+            let done = perform(rt, alloc, request, files, out, terminal);
+            report(done, request.telling.explain, err)
+        }
+        Order::AsObject(subject, request) => {
+            let done = perform_as_object(rt, alloc, subject, request, files, out, terminal);
+            report(done, request.telling.explain, err)
+        }
+    }
+}
+
+/// Says on the standard error what stands behind an answer, or why there is none; `explain` says whether more was asked.
+fn report<E: Write>(done: Result<Answered, Refusal>, explain: bool, err: &mut E) -> u8
+    requires bare { IfErr done (λ refusal. explain ≡ false → string_bytes refusal.more ≡ []) }
+    requires quiet { IfOk done (λ answered. explain ≡ false → string_bytes answered.more ≡ []) }
+    requires calm { IfOk done (λ answered. answered.status ≤ 1 → string_bytes answered.more ≡ []) }
+    ensures { Reports explain (E.contents err.old) (E.contents err.new) (in_short done.entry) result }
+{
+    match done {
+        Ok(answered) => answered.follow(err),
+        Err(refusal) => refusal.tell(err),
     }
 }
 
@@ -101,7 +144,7 @@ fn perform<R: Threads + Wait + Sync, F: FileSource, O: Write, T: Terminal>(
 }
 
 /// Whether what explains a refusal is coloured.
-fn paint_of<T: Terminal>(telling: Telling, terminal: &T) -> Paint
+pub(crate) fn paint_of<T: Terminal>(telling: Telling, terminal: &T) -> Paint
     ensures always { telling.color ≡ Always → result ≡ Coloured }
     ensures never { telling.color ≡ Never → result ≡ Plain }
 {
@@ -118,7 +161,7 @@ fn paint_of<T: Terminal>(telling: Telling, terminal: &T) -> Paint
 }
 
 /// The same, with what explains an outcome behind its status, and nothing behind the line of a failure.
-fn followed<F: FileSource>(
+pub(crate) fn followed<F: FileSource>(
     alloc: Global,
     files: &mut F,
     request: Request<'_>,

@@ -4,6 +4,7 @@
 
 pub mod act;
 mod answered;
+mod as_object;
 pub mod commands;
 mod refusal;
 pub mod terminal;

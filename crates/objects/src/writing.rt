@@ -13,15 +13,16 @@ use std::io::Write;
 use std::thread::Threads;
 use texts::emit::append;
 
-/// Writes an answer, and gives its exit status.
+/// Writes an answer, hands on what the writer keeps back, and gives its exit status.
 pub fn answer_object<O: Write>(out: &mut O, told: &Told) -> Result<u8, Failure>
     ensures text { Writes (O.contents out.old) (O.contents out.new) result (string_bytes told.now.line) }
     ensures status { IfOk result (λ status. status ≡ told.now.status) }
     ensures failure { IfErr result (λ failure. failure ≡ Failure.CannotWriteOutput) }
 {
-    match append(out, told.line.as_bytes()) {
-        Ok(()) => Ok(told.status),
-        Err(_) => Err(Failure::CannotWriteOutput),
+    if append(out, told.line.as_bytes()).is_ok() && out.flush().is_ok() {
+        Ok(told.status)
+    } else {
+        Err(Failure::CannotWriteOutput)
     }
 }
 

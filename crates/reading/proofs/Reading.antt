@@ -45,7 +45,7 @@ if_false b x y e = ap (λ (c : Bool). if c then x else y) e
 -- ---- options in their order
 
 -- these words don't begin with an option and its value
-abbrev Lacks : (option : List ℕ) → List (List ℕ) → Type 0
+abbrev pub Lacks : (option : List ℕ) → List (List ℕ) → Type 0
 Lacks option words = taken option words ≡ (None, words)
 
 abbrev LacksFlag : (option : List ℕ) → List (List ℕ) → Type 0

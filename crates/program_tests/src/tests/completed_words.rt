@@ -2,7 +2,7 @@
 
 use crate::tests::compare;
 use options::reply::Reply;
-use reading::words::request_of;
+use reading::words::order_of;
 use std::alloc::Global;
 use std::process::Abort;
 use std::rt::HostRuntime;
@@ -128,8 +128,8 @@ fn reply_to(rt: &impl Abort, alloc: Global, line: &str) -> String {
             .push(String::from_str(alloc, word).expect(rt, "memory"))
             .expect(rt, "memory");
     }
-    let text = match request_of(alloc, &words) {
-        Ok(_request) => String::new(alloc),
+    let text = match order_of(alloc, &words) {
+        Ok(_order) => String::new(alloc),
         Err(reply) => told(rt, alloc, reply),
     };
     text.replace(alloc, "\\-", "-").expect(rt, "memory")

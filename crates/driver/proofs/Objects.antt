@@ -1,0 +1,85 @@
+-- From a file and a command to the object that the program told.
+use Rattle.std.proofs.Common.{◌≡◌, ◌≢◌, ℕ, ◌≤◌, length, List, [], Option, Some, None, Result, Ok, Err, IfOk, IfErr, sym, subst}
+use Rattle.std.specs.Prelude.{IsErrAnd}
+use Rattle.std.specs.Str.{IsUtf8}
+use Rattle.texts.specs.Appending.{Writes}
+use Rattle.command_line.specs.Requests.{Asked, Settings}
+use Rattle.command_line.specs.declared.request.Command.TheVariants.{Run}
+use Rattle.intake.specs.Held.{Held, IsGiven, TellsNoProgram}
+use Rattle.intake.specs.declared.failure.Failure.{Failure}
+use Rattle.intake.specs.declared.failure.Failure.TheVariants.{CannotWriteOutput, NoMemory}
+use Rattle.answers.specs.Answers.{Explains}
+use Rattle.objects.specs.Objects.{FailsEarly, ObjectOf}
+use Rattle.objects.specs.Failing.{IsToldAsObject, TellsFailure}
+use Rattle.objects.specs.declared.told.Told.{Told}
+use Rattle.objects.proofs.Told.{object_answered, object_refused}
+use Rattle.reading.specs.Orders.{command_of}
+use Rattle.reading.specs.declared.order.Subject.{Subject}
+use Rattle.viewing.specs.Files.{Wrote, WritesTo}
+use Rattle.driver.specs.Acts.{ExplainsAny, Leaves}
+use Rattle.driver.specs.Objects.{ReadsAndTells, TellsObject, TellsUnread, on_text, without_text, status_in}
+use Rattle.driver.specs.Traced.{WritesTrace}
+use Rattle.driver.proofs.Acting.{leaves_on}
+
+module _ (x : Subject) (file : List ℕ) (s : Settings) (text : List ℕ) (held later : Held) (old new : Option (List ℕ)) where
+  -- an object that was written, or a beginning of it
+  pub object_told : (r : Result ℕ Failure) (object : List ℕ) (status : ℕ) → ObjectOf (command_of x) s held text object status
+      → Writes old new r object → IfOk r (λ n. n ≡ status) → IfErr r (λ f. f ≡ CannotWriteOutput)
+      → Leaves (command_of x) s text held later (Ok status) → TellsObject x file s text held later old new r
+  object_told r object status answers written is only leaves = record {
+    done = object_answered (ObjectOf (command_of x) s held text) (Explains (command_of x) s held text)
+        (TellsFailure file text) old new r object status tt answers written is only;
+    leaves = leaves_on (command_of x) s text held later status r only leaves;
+  }
+
+  -- a failure whose object was told
+  pub refusal_told : (f : Failure) → FailsEarly (command_of x) s held text f → IsToldAsObject (TellsFailure file text f) old new
+      → Leaves (command_of x) s text held later (Err f) → TellsObject x file s text held later old new (Err f)
+  refusal_told f fails told leaves = record {
+    done = object_refused (ObjectOf (command_of x) s held text) (Explains (command_of x) s held text)
+        (TellsFailure file text) old new f fails.why fails.early told;
+    leaves = leaves;
+  }
+
+-- files were read before, and are read behind it
+module _ (x : Subject) (a : Asked) (held mid later last : Held) (before : mid ≡ held) (behind : last ≡ later) where
+  pub told_on_text : (old new : Option (List ℕ)) (r : Result ℕ Failure) (text : List ℕ) → IsGiven (held a.file) (Ok text)
+      → IsUtf8 text → length text ≤ 1048576 → TellsObject x a.file a.settings text mid later old new r
+      → ReadsAndTells x a held last old new r
+  told_on_text old new r text given is_text short tells =
+      on_text text (record { given = given; is_text = is_text }) short
+      (subst (λ (h : Held). TellsObject x a.file a.settings text held h old new r) (sym behind)
+      (subst (λ (h : Held). TellsObject x a.file a.settings text h later old new r) before tells))
+
+pub told_without_text : (x : Subject) (a : Asked) (held later : Held) (old new : Option (List ℕ)) (f : Failure)
+    → later ≡ held → TellsNoProgram held a.file f → IsToldAsObject (TellsFailure a.file [] f) old new
+    → ReadsAndTells x a held later old new (Err f)
+told_without_text x a held later old new f keeps why told = without_text (record { why = why; told = told }) keeps
+
+-- what was done is that of the same result
+pub tells_short : (x : Subject) (a : Asked) (held later : Held) (old new : Option (List ℕ)) (r s : Result ℕ Failure)
+    → r ≡ s → ReadsAndTells x a held later old new s → ReadsAndTells x a held later old new r
+tells_short x a held later old new r s same done = subst (ReadsAndTells x a held later old new) (sym same) done
+
+pub tells_refused : (x : Subject) (a : Asked) (held later : Held) (old new : Option (List ℕ)) (g f : Failure)
+    → g ≡ f → ReadsAndTells x a held later old new (Err f) → ReadsAndTells x a held later old new (Err g)
+tells_refused x a held later old new g f same done =
+    subst (λ (h : Failure). ReadsAndTells x a held later old new (Err h)) (sym same) done
+
+-- ---- the trace of a run whose object is told
+
+module _ (T : Type 0) (P Q : (bytes : List ℕ) → Type 0) (held later : Held) (so : (bytes : List ℕ) → P bytes → Q bytes) where
+  wrote_so : (name : List ℕ) → Wrote name P held later → Wrote name Q held later
+  wrote_so name w = record { bytes = w.bytes; right = so w.bytes w.right; given = w.given; others = w.others }
+
+  written_behind : (name : List ℕ) (r : Result Told Failure) → Wrote name P held later → IfErr r (λ f. f ≡ NoMemory)
+      → WritesTo name Q held later (status_in r)
+  written_behind name (Ok t) w only = wrote_so name w
+  written_behind name (Err f) w only =
+      subst (λ (g : Failure). WritesTo {T = ℕ} name Q held later (Err g)) (sym only) w.others
+
+  -- it stands whether or not there was memory for the object
+  pub traced_behind : (file : Option (List ℕ)) (x : T) (r : Result Told Failure) → WritesTrace file P held later (Ok x)
+      → IfErr r (λ f. f ≡ NoMemory) → WritesTrace file Q held later (status_in r)
+  traced_behind None x r w only = w
+  traced_behind (Some name) x r w only = written_behind name r w only

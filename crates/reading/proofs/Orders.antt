@@ -1,0 +1,128 @@
+-- Words that order are read as what they order.
+use Rattle.std.proofs.Common.{◌≡◌, ℕ, ◌<◌, List, [], ◌∷◌, Option, Some, None, Bor, arith, length, map, refl, sym, ap, ◌∙◌, subst, codes}
+use Rattle.std.specs.Prelude.{Bool, true, false, option_map, IsSomeAnd}
+use Rattle.std.specs.Str.{bytes_eq}
+use Rattle.std.specs.String.{string_bytes}
+use Rattle.std.proofs.Common.{true≢false, String}
+use Rattle.std.proofs.lemmas.Slice.Eq.{bytes_eq-Decides}
+use Rattle.command_line.specs.Requests.{Asked, Asks}
+use Rattle.reading.specs.Orders.{Order, AsText, AsObject, Times, Tests, Orders, AsksForObject, AsksToTime, AsksToTest}
+use Rattle.reading.specs.Orders.{subject_of, order}
+use Rattle.reading.specs.Reading.{taken}
+use Rattle.reading.specs.declared.order.Subject.{Subject}
+use Rattle.reading.specs.declared.order.Order.{Order as rOrder}
+use Rattle.reading.proofs.Reading.{Lacks, asks_no_form, bench_asks_nothing, test_asks_nothing}
+
+-- ---- lists and options
+
+head_is : (x y : List ℕ) (xs ys : List (List ℕ)) → x ∷ xs ≡ y ∷ ys → x ≡ y
+head_is x y xs ys is = cc
+
+tail_is : (x y : List ℕ) (xs ys : List (List ℕ)) → x ∷ xs ≡ y ∷ ys → xs ≡ ys
+tail_is x y xs ys is = cc
+
+none_begins : (y : List ℕ) (ys : List (List ℕ)) → (let xs : List (List ℕ) = [] in xs) ≡ y ∷ ys → ⊥
+none_begins y ys is = cc
+
+test_is_bench : codes "test" ≡ codes "bench" → ⊥
+test_is_bench is = cc
+
+no_subject_is : (x : Subject) → (let o : Option Subject = None in o) ≡ Some x → ⊥
+no_subject_is x is = cc
+
+subject_is : (x y : Subject) → Some x ≡ Some y → x ≡ y
+subject_is x y is = cc
+
+no_text_is : (text : List ℕ) → Some text ≡ (let o : Option (List ℕ) = None in o) → ⊥
+no_text_is text is = cc
+
+-- a word that was found to be another
+pub is_word : (b : Bool) (word other : List ℕ) → b ≡ bytes_eq word other → b ≡ true → word ≡ other
+is_word b word other of is = (bytes_eq-Decides word other).0 (sym of ∙ is)
+
+pub is_not_word : (b : Bool) (word other : List ℕ) → b ≡ bytes_eq word other → b ≡ false → word ≡ other → ⊥
+is_not_word b word other of is same = true≢false (sym ((bytes_eq-Decides word other).1 same) ∙ sym of ∙ is)
+
+-- ---- one object
+
+pub no_subject : (x : Subject) (r a : Asked) → r ≡ a → (let o : Option Subject = None in o) ≡ subject_of r.action
+    → subject_of a.action ≡ Some x → ⊥
+no_subject x r a same none told = no_subject_is x (none ∙ ap (λ (b : Asked). subject_of b.action) same ∙ told)
+
+pub object_is : (x y : Subject) (r a : Asked) → r ≡ a → Some y ≡ subject_of r.action → subject_of a.action ≡ Some x
+    → AsObject y r ≡ AsObject x a
+object_is x y r a same is told =
+    ap (λ (z : Subject). AsObject z r) (subject_is y x (is ∙ ap (λ (b : Asked). subject_of b.action) same ∙ told))
+    ∙ ap (AsObject x) same
+
+-- a form that is said doesn't stand in words that ask
+pub form_said : (command : List ℕ) (behind : List (List ℕ)) (a : Asked) (t : Option (Bor (List ℕ))) (form : Bor (List ℕ))
+    → option_map (λ v. v.now) t ≡ (taken (codes "--format") behind).0 → t ≡ Some form → Asks (command ∷ behind) a → ⊥
+form_said command behind a t form said is asks =
+    let lacks : Lacks (codes "--format") behind = asks_no_form (command ∷ behind) a asks in
+    no_text_is form.now
+    (sym (ap (option_map (λ (v : Bor (List ℕ)). v.now)) is) ∙ said
+    ∙ ap (λ (p : Option (List ℕ) × List (List ℕ)). p.0) lacks)
+
+-- what is asked behind the form
+pub object_asked : (command : List ℕ) (behind rest : List (List ℕ)) (x : Subject) (a : Asked)
+    → rest ≡ (taken (codes "--format") behind).1 → (p : AsksForObject (command ∷ behind) x a) → Asks (command ∷ rest) a
+object_asked command behind rest x a is p =
+    let first = head_is command p.command behind (codes "--format" ∷ codes "json" ∷ p.behind) p.words_are in
+    let others = tail_is command p.command behind (codes "--format" ∷ codes "json" ∷ p.behind) p.words_are in
+    let left : rest ≡ p.behind = is ∙ ap (λ (ws : List (List ℕ)). (taken (codes "--format") ws).1) others in
+    subst (λ (ws : List (List ℕ)). Asks (command ∷ ws) a) (sym left)
+    (subst (λ (c : List ℕ). Asks (c ∷ p.behind) a) (sym first) p.asks)
+
+-- ---- no word
+
+-- no word orders what it asks
+pub record IsAsked (words : List (List ℕ)) (o : Order) : Type 0 where
+  pub a : Asked
+  pub is : o ≡ AsText a
+  pub asks : Asks words a
+
+pub none_asked : (o : Order) → Orders [] o → IsAsked [] o
+none_asked (AsText a) asks = record { a = a; is = refl; asks = asks }
+none_asked (AsObject x a) p = absurd (none_begins p.command (codes "--format" ∷ codes "json" ∷ p.behind) p.words_are)
+none_asked (Times a) p = absurd (none_begins (codes "bench") p.behind p.words_are)
+none_asked (Tests folder) p = absurd (none_begins (codes "test") (folder ∷ []) p.words_are)
+
+pub no_words : (ws : List String) → length ws < 1 → map string_bytes ws ≡ []
+no_words [] short = refl
+no_words (w ∷ ws) short = omega arith
+
+-- ---- a program that is timed, and folders
+
+pub record IsTimed (behind : List (List ℕ)) (o : Order) : Type 0 where
+  pub a : Asked
+  pub is : o ≡ Times a
+  pub asks : Asks (codes "cost" ∷ behind) a
+
+module _ (command : List ℕ) (behind : List (List ℕ)) where
+  pub bench_is_timed : command ≡ codes "bench" → (o : Order) → Orders (command ∷ behind) o → IsTimed behind o
+  bench_is_timed is (AsText a) asks =
+      absurd (bench_asks_nothing behind a (subst (λ (c : List ℕ). Asks (c ∷ behind) a) is asks))
+  bench_is_timed is (AsObject x a) p =
+      let first = head_is command p.command behind (codes "--format" ∷ codes "json" ∷ p.behind) p.words_are in
+      absurd (bench_asks_nothing p.behind a (subst (λ (c : List ℕ). Asks (c ∷ p.behind) a) (sym first ∙ is) p.asks))
+  bench_is_timed is (Times a) p = record {
+    a = a;
+    is = refl;
+    asks = subst (λ (ws : List (List ℕ)). Asks (codes "cost" ∷ ws) a)
+        (sym (tail_is command (codes "bench") behind p.behind p.words_are)) p.asks;
+  }
+  bench_is_timed is (Tests folder) p =
+      absurd (test_is_bench (sym (head_is command (codes "test") behind (folder ∷ []) p.words_are) ∙ is))
+
+  -- no other command orders a timing or a test
+  pub told_only : (P : Order → Type 0) → (command ≡ codes "test" → ⊥) → (command ≡ codes "bench" → ⊥)
+      → ((a : Asked) → Asks (command ∷ behind) a → P (AsText a))
+      → ((x : Subject) (a : Asked) → AsksForObject (command ∷ behind) x a → P (AsObject x a))
+      → (o : Order) → Orders (command ∷ behind) o → P o
+  told_only P no_test no_bench text object (AsText a) asks = text a asks
+  told_only P no_test no_bench text object (AsObject x a) p = object x a p
+  told_only P no_test no_bench text object (Times a) p =
+      absurd (no_bench (head_is command (codes "bench") behind p.behind p.words_are))
+  told_only P no_test no_bench text object (Tests folder) p =
+      absurd (no_test (head_is command (codes "test") behind (folder ∷ []) p.words_are))
