@@ -3,7 +3,7 @@ use Rattle.std.proofs.Common.{◌≡◌, ℕ, ◌<◌, List, [], ◌∷◌, Opti
 use Rattle.std.specs.Prelude.{Bool, true, false, option_map, IsSomeAnd}
 use Rattle.std.specs.Str.{bytes_eq}
 use Rattle.std.specs.String.{string_bytes}
-use Rattle.std.proofs.Common.{true≢false, String}
+use Rattle.std.proofs.Common.{true≢false, Global, String}
 use Rattle.std.proofs.lemmas.Slice.Eq.{bytes_eq-Decides}
 use Rattle.command_line.specs.Requests.{Asked, Asks}
 use Rattle.reading.specs.Orders.{Order, AsText, AsObject, Times, Tests, Orders, AsksForObject, AsksToTime, AsksToTest}
@@ -88,9 +88,9 @@ none_asked (AsObject x a) p = absurd (none_begins p.command (codes "--format" �
 none_asked (Times a) p = absurd (none_begins (codes "bench") p.behind p.words_are)
 none_asked (Tests folder) p = absurd (none_begins (codes "test") (folder ∷ []) p.words_are)
 
-pub no_words : (ws : List String) → length ws < 1 → map string_bytes ws ≡ []
+pub no_words : (ws : List (String Global)) → length ws < 1 → map string_bytes ws ≡ []
 no_words [] short = refl
-no_words (w ∷ ws) short = omega arith
+no_words (w ∷ ws) short = let never : ⊥ = omega arith in absurd never
 
 -- ---- a program that is timed, and folders
 
