@@ -119,7 +119,7 @@ module _ (c : Command) (s : Settings) (held : Held) (text : List ℕ) (b : Optio
   no_code_explained tests (Types e) told = (tests, told)
   no_code_explained tests _ told = absurd told
 
-  no_code_other : (f : Failure) → TellsNoCode text f → IsOther f
+  pub no_code_other : (f : Failure) → TellsNoCode text f → IsOther f
   no_code_other CannotWriteOutput told = told
   no_code_other _ told = tt
 
@@ -145,14 +145,14 @@ module _ (c : Command) (s : Settings) (held : Held) (text : List ℕ) (b : Optio
   -- ---- a run without an input
 
   module _ (code : Program) (is_code : IsCodeOf text code) (is_run : IsRunBy c code) where
-    no_input_explained : (f : Failure) → TellsNoInput s.input held code.arrays f → Explains c s held text f
+    pub no_input_explained : (f : Failure) → TellsNoInput s.input held code.arrays f → Explains c s held text f
     no_input_explained (CannotRead name) told = inl (record { code = code; is_code = is_code; is_run = is_run; why = told })
     no_input_explained (NotUtf8 name) told = record { code = code; is_code = is_code; is_run = is_run; why = told }
     no_input_explained (Input e) told = record { code = code; is_code = is_code; is_run = is_run; why = told }
     no_input_explained NoMemory told = tt
     no_input_explained _ told = absurd told
 
-    no_input_other : (f : Failure) → TellsNoInput s.input held code.arrays f → IsOther f
+    pub no_input_other : (f : Failure) → TellsNoInput s.input held code.arrays f → IsOther f
     no_input_other CannotWriteOutput told = told
     no_input_other _ told = tt
 
@@ -220,14 +220,14 @@ rules_tested Draw looks = tt
 rules_tested Chrome looks = tt
 
 module _ (c : Command) (looks : LooksForRaces c) (s : Settings) (held : Held) (text : List ℕ) (b : Option (List ℕ)) where
-  not_accepted_explained : (f : Failure) → TellsNotAccepted text f → Explains c s held text f
+  pub not_accepted_explained : (f : Failure) → TellsNotAccepted text f → Explains c s held text f
   not_accepted_explained (Syntax e) told = told
   not_accepted_explained (Types e) told = (rules_tested c looks, told)
   not_accepted_explained (Race procedure first second) told = race_told c text _ _ _ looks told
   not_accepted_explained NoMemoryInCheck told = looks
   not_accepted_explained _ told = absurd told
 
-  not_accepted_other : (f : Failure) → TellsNotAccepted text f → IsOther f
+  pub not_accepted_other : (f : Failure) → TellsNotAccepted text f → IsOther f
   not_accepted_other CannotWriteOutput told = told
   not_accepted_other _ told = tt
 

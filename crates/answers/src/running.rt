@@ -48,7 +48,7 @@ pub fn run_serially<F: FileSource, O: Write, W: Watch>(
 }
 
 /// The run on one thread. Where that is asked for, `watch` is told how far it has come.
-fn on_one_thread<W: Watch>(
+pub fn on_one_thread<W: Watch>(
     alloc: Global,
     typed: &Typed,
     input: &Input,

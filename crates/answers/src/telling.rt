@@ -67,7 +67,7 @@ pub fn pairs<O: Write>(alloc: Global, text: &str, out: &mut O) -> Result<u8, Fai
 }
 
 /// The pairs of labels of a program that may run together.
-fn pairs_of(alloc: Global, typed: &Typed) -> Result<Pairs, AllocError>
+pub fn pairs_of(alloc: Global, typed: &Typed) -> Result<Pairs, AllocError>
     ensures { IfOk result (ArePairs (code_of typed.now)) }
 {
     typed_programs_are_sound(typed);

@@ -12,7 +12,7 @@ use Rattle.answers.specs.Answers.{Explains}
 use Rattle.objects.specs.Objects.{FailsEarly, ObjectOf}
 use Rattle.objects.specs.Failing.{IsToldAsObject, TellsFailure}
 use Rattle.objects.specs.declared.told.Told.{Told}
-use Rattle.objects.proofs.Told.{object_answered, object_refused}
+use Rattle.objects.proofs.Written.{object_answered, object_refused}
 use Rattle.reading.specs.Orders.{command_of}
 use Rattle.reading.specs.declared.order.Subject.{Subject}
 use Rattle.viewing.specs.Files.{Wrote, WritesTo}

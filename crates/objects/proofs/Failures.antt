@@ -1,21 +1,17 @@
 -- Why there is no object, and that it isn't that none could be written.
 use Rattle.std.proofs.Common.{◌≡◌, ◌≢◌, ℕ, List, Option, None, Result, Ok, Err, sym, subst, ◌∙◌}
-use Rattle.std.proofs.KnownBytes.{Keeps-refl, Appends-kept}
-use Rattle.std.specs.Io.KnownBytes.{Keeps}
-use Rattle.std.specs.Prelude.{IfErr, IsErrAnd}
+use Rattle.std.specs.Prelude.{IfErr}
 use Rattle.types.specs.Code.{Program}
 use Rattle.command_line.specs.Requests.{Settings}
 use Rattle.command_line.specs.declared.request.Command.{Command}
-use Rattle.texts.specs.Appending.{AppendsBeginning, Writes}
 use Rattle.intake.specs.Held.{Held, TellsNoInput}
 use Rattle.intake.specs.declared.failure.Failure.{Failure}
 use Rattle.intake.specs.declared.failure.Failure.TheVariants.{CannotWriteOutput, NoMemory}
 use Rattle.answers.specs.Answers.{Explains, IsCodeOf, IsRunBy, LooksForRaces, TellsNoCode, TellsNotAccepted, TestsRules}
-use Rattle.answers.proofs.Answering.{IsOther, other_failure, if_err_passed}
+use Rattle.answers.proofs.Answering.{IsOther, other_failure}
 use Rattle.answers.proofs.Answering.{no_code_explained, no_code_other, no_input_explained, no_input_other}
 use Rattle.answers.proofs.Answering.{not_accepted_explained, not_accepted_other}
 use Rattle.objects.specs.Objects.{FailsEarly}
-use Rattle.objects.specs.Failing.{IsToldAsObject, told, untold}
 
 module _ (c : Command) (s : Settings) (held : Held) (text : List ℕ) where
   early : (f : Failure) → Explains c s held text f → IsOther f → FailsEarly c s held text f

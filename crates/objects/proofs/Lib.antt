@@ -1,2 +1,2 @@
 pub mod Failures
-pub mod Told
+pub mod Written

@@ -1,7 +1,6 @@
 //! An object, and the status that it tells.
 
-ghost use Rattle.std.specs.Prelude.{◌≡◌, IfOk, IfErr};
-ghost use Rattle.std.specs.String.{string_bytes};
+ghost use Rattle.std.specs.Prelude.{◌≡◌, IfOk, IfErr, Ok};
 
 use intake::failure::Failure;
 use std::alloc::AllocError;
@@ -18,7 +17,7 @@ pub(crate) fn told_or_no_memory(
     line: Result<String, AllocError>,
     status: u8,
 ) -> Result<Told, Failure>
-    ensures line { IfOk result (λ t. line.entry ≡ Result.Ok t.line) }
+    ensures line { IfOk result (λ t. line.entry ≡ Ok t.line) }
     ensures status { IfOk result (λ t. t.status ≡ status) }
     ensures why { IfErr result (λ f. f ≡ Failure.NoMemory) }
 {

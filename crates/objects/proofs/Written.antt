@@ -4,11 +4,20 @@ use Rattle.std.proofs.KnownBytes.{Keeps-refl, Appends-kept}
 use Rattle.std.proofs.lemmas.List.{append-nil}
 use Rattle.std.specs.Io.KnownBytes.{Keeps}
 use Rattle.std.specs.Prelude.{IfErr, IfOk, MatchResult}
+use Rattle.syntax.specs.declared.place.Place.{Place}
+use Rattle.types.specs.Code.{Program}
+use Rattle.types.specs.Typed.{code_of}
+use Rattle.types.specs.declared.typed.Typed.{Typed}
+use Rattle.race_checker.specs.Races.{IsLeastRace, Race as ProgramRace}
 use Rattle.texts.specs.Appending.{AppendsBeginning, Writes}
 use Rattle.intake.specs.declared.failure.Failure.{Failure}
 use Rattle.intake.specs.declared.failure.Failure.TheVariants.{CannotWriteOutput}
-use Rattle.answers.specs.Answers.{Answer, Wrote}
-use Rattle.objects.specs.Failing.{FailedAsObject, IsToldAsObject, told, untold}
+use Rattle.answers.specs.Answers.{Answer, IsCodeOf, Wrote}
+use Rattle.json_answers.specs.Pieces.{line}
+use Rattle.json_answers.specs.Races.{race_json}
+use Rattle.json_answers.specs.Refusals.{refusal_json}
+use Rattle.objects.specs.Objects.{ArePlaces}
+use Rattle.objects.specs.Failing.{FailedAsObject, IsToldAsObject, TellsPlaced, TellsRace, told, untold}
 
 -- whether or not all was taken, a beginning was appended, also where the rest was flushed
 begun_by : {T E : Type 0} (a b : Option (List ℕ)) (r : Result T E) (t : List ℕ) → Writes a b r t → AppendsBeginning a b t
@@ -31,6 +40,31 @@ flushed Tells a b c r t tells written keeps = told t tells (kept_begun a b c t (
 -- none was
 pub silent : (Tells : List ℕ → Type 0) (a : Option (List ℕ)) → IsToldAsObject Tells a a
 silent Tells a = untold (Keeps-refl a)
+
+-- a failure that is told with the places of the text's program
+pub placed_told : (file text object : List ℕ) (f : Failure) (places shown : List Place) → shown ≡ places
+    → ArePlaces text places → object ≡ line (refusal_json file shown f) → TellsPlaced file text f object
+placed_told file text object f places shown same begun is = record {
+  places = places;
+  begun = begun;
+  told_is = is ∙ ap (λ (ps : List Place). line (refusal_json file ps f)) same;
+}
+
+-- a race that was found once more
+pub race_told : (file text object : List ℕ) (typed back : Typed) (code : Program) (race : ProgramRace)
+    (places shown : List Place) → IsCodeOf text (code_of typed) → back ≡ typed → code ≡ code_of back
+    → IsLeastRace (code_of typed) race → shown ≡ places → ArePlaces text places
+    → object ≡ line (race_json file shown code race) → TellsRace file text object
+race_told file text object typed back code race places shown is_code same_typed of least same begun is = record {
+  code = code_of typed;
+  is_code = is_code;
+  race = race;
+  least = least;
+  places = places;
+  begun = begun;
+  told_is = is ∙ ap (λ (ps : List Place). line (race_json file ps code race)) same
+      ∙ ap (λ (p : Program). line (race_json file places p race)) (of ∙ ap code_of same_typed);
+}
 
 module _ (Is : Answer) (Why : Failure → Type 0) (Tells : Failure → (told : List ℕ) → Type 0) where
   -- an object that was written, or a beginning of it
