@@ -1,5 +1,6 @@
 -- From the line of an object to what it tells.
 use Rattle.std.proofs.Common.{◌≡◌, ◌≢◌, ℕ, List, [], ◌++◌, Option, Result, Ok, Err, ap, sym, refl, subst, ◌∙◌}
+use Rattle.std.proofs.Common.{AllocError, Global, String, string_bytes}
 use Rattle.std.proofs.KnownBytes.{Keeps-refl, Appends-kept}
 use Rattle.std.proofs.lemmas.List.{append-nil}
 use Rattle.std.specs.Io.KnownBytes.{Keeps}
@@ -8,7 +9,15 @@ use Rattle.syntax.specs.declared.place.Place.{Place}
 use Rattle.types.specs.Code.{Program}
 use Rattle.types.specs.Typed.{code_of}
 use Rattle.types.specs.declared.typed.Typed.{Typed}
+use Rattle.parallel_relation.specs.Pairs.{ArePairs, AreListed, HasPair}
+use Rattle.parallel_relation.specs.declared.pairs.Pairs.{Pairs as KeptPairs}
 use Rattle.race_checker.specs.Races.{IsLeastRace, Race as ProgramRace}
+use Rattle.race_checker.specs.Refusal.{IsRefusalOf}
+use Rattle.race_checker.specs.Translation.{race as race_of}
+use Rattle.race_checker.specs.declared.accepted.Accepted.{Accepted}
+use Rattle.race_checker.specs.declared.check.Refused.{Refused}
+use Rattle.race_checker.specs.declared.check.Refused.TheVariants.{Race}
+use Rattle.race_checker.specs.declared.race.Race.{Race as FoundRace}
 use Rattle.texts.specs.Appending.{AppendsBeginning, Writes}
 use Rattle.intake.specs.declared.failure.Failure.{Failure}
 use Rattle.intake.specs.declared.failure.Failure.TheVariants.{CannotWriteOutput}
@@ -16,8 +25,17 @@ use Rattle.answers.specs.Answers.{Answer, IsCodeOf, Wrote}
 use Rattle.json_answers.specs.Pieces.{line}
 use Rattle.json_answers.specs.Races.{race_json}
 use Rattle.json_answers.specs.Refusals.{refusal_json}
-use Rattle.objects.specs.Objects.{ArePlaces}
+use Rattle.json_answers.specs.Programs.{pairs_json}
+use Rattle.answers.proofs.Answering.{pairs_answer}
+use Rattle.objects.specs.Objects.{ArePlaces, ObjectOfPairs}
+use Rattle.objects.specs.declared.told.Told.{Told}
 use Rattle.objects.specs.Failing.{FailedAsObject, IsToldAsObject, TellsPlaced, TellsRace, told, untold}
+
+ok_is_no_error : {A E : Type 0} (x : A) (e : E) → (let r : Result A E = Ok x in r) ≡ Err e → ⊥
+ok_is_no_error x e is = cc
+
+error_is : {A E : Type 0} (d e : E) → (let r : Result A E = Err d in r) ≡ Err e → d ≡ e
+error_is d e is = cc
 
 -- whether or not all was taken, a beginning was appended, also where the rest was flushed
 begun_by : {T E : Type 0} (a b : Option (List ℕ)) (r : Result T E) (t : List ℕ) → Writes a b r t → AppendsBeginning a b t
@@ -50,6 +68,12 @@ placed_told file text object f places shown same begun is = record {
   told_is = is ∙ ap (λ (ps : List Place). line (refusal_json file ps f)) same;
 }
 
+-- what a check that refuses says
+pub refusal_of : (typed back : Typed) (race : FoundRace) (e : Refused) (r : Result Accepted Refused) → r ≡ Err e
+    → e ≡ Race race back → IfErr r (IsRefusalOf typed) → (back ≡ typed) × IsLeastRace (code_of typed) (race_of race)
+refusal_of typed back race e (Ok x) is of refused = absurd (ok_is_no_error x e is)
+refusal_of typed back race e (Err d) is of refused = subst (IsRefusalOf typed) (error_is d e is ∙ of) refused
+
 -- a race that was found once more
 pub race_told : (file text object : List ℕ) (typed back : Typed) (code : Program) (race : ProgramRace)
     (places shown : List Place) → IsCodeOf text (code_of typed) → back ≡ typed → code ≡ code_of back
@@ -65,6 +89,23 @@ race_told file text object typed back code race places shown is_code same_typed 
   told_is = is ∙ ap (λ (ps : List Place). line (race_json file ps code race)) same
       ∙ ap (λ (p : Program). line (race_json file places p race)) (of ∙ ap code_of same_typed);
 }
+
+-- the pairs of a program
+pub told_pairs : (text : List ℕ) (code : Program) (kept : KeptPairs) (list : List (ℕ × ℕ)) (r : Result Told Failure)
+    (l : Result (String Global) AllocError) → IsCodeOf text code → ArePairs code kept → AreListed (HasPair kept) list
+    → IfOk r (λ t. l ≡ Ok t.line) → IfOk r (λ t. t.status ≡ 0) → IfOk l (λ x. string_bytes x ≡ line (pairs_json list))
+    → IfOk r (λ t. ObjectOfPairs text (string_bytes t.line) t.status)
+told_pairs text code kept list (Err f) l is_code are listed is status object = tt
+told_pairs text code kept list (Ok t) l is_code are listed is status object =
+    let answer = pairs_answer text code kept list is_code are listed in
+    record {
+      code = code;
+      is_code = is_code;
+      pairs = list;
+      listed = answer.listed;
+      told_is = subst (λ (m : Result (String Global) AllocError). IfOk m (λ x. string_bytes x ≡ line (pairs_json list))) is object;
+      status_is = status;
+    }
 
 module _ (Is : Answer) (Why : Failure → Type 0) (Tells : Failure → (told : List ℕ) → Type 0) where
   -- an object that was written, or a beginning of it

@@ -17,7 +17,7 @@ pub(crate) fn told_or_no_memory(
     line: Result<String, AllocError>,
     status: u8,
 ) -> Result<Told, Failure>
-    ensures line { IfOk result (λ t. line.entry ≡ Ok t.line) }
+    ensures line { IfOk result (λ t. line ≡ Ok t.line) }
     ensures status { IfOk result (λ t. t.status ≡ status) }
     ensures why { IfErr result (λ f. f ≡ Failure.NoMemory) }
 {
