@@ -7,11 +7,12 @@ use Rattle.std.proofs.lemmas.Option.{same_Some}
 use Rattle.std.specs.Prelude.{ℤ, ◌&&◌, nat_eq, nat_le, nat_lt, slice_get, option_and_then, if◌then◌else◌}
 use Rattle.sections.specs.Covers.{has, is_cover}
 use Rattle.sections.specs.Place.{Place, Window}
-use Rattle.blocks.specs.Blocks.{held_at, owned_at, row_from}
-use Rattle.blocks.specs.Counts.{how_many}
+use Rattle.block_numbers.specs.Numbers.{row_from}
+use Rattle.blocks.specs.Blocks.{held_at, owned_at}
+use Rattle.block_numbers.specs.Counts.{how_many}
 use Rattle.blocks.specs.Held.{Held, Map, Owned, as_owned, first_of, over, owned, owned_number}
 use Rattle.blocks.specs.declared.block.Block.{Block}
-use Rattle.blocks.proofs.RowLemmas.{row_from-before, row_from-behind, row_from-push}
+use Rattle.block_numbers.proofs.RowLemmas.{row_from-before, row_from-behind, row_from-push}
 use Rattle.block_rows.specs.Copied.{CopiesSplit, IsCoverOf, LiesWithin, split_where}
 use Rattle.block_rows.specs.Rooms.{HasAllRoom, HasRoom, HasRowRoom}
 use Rattle.block_rows.specs.Rows.{block_in, block_of, held_in_list, held_of, in_block, in_row}

@@ -8,9 +8,9 @@ use Rattle.std.specs.Prelude.{ℤ, ◌&&◌, ◌||◌, ◌⊎◌, min, not, nat_
 use Rattle.sections.specs.Covers.{has, is_in}
 use Rattle.sections.specs.Place.{In, Place, Window, same_place}
 use Rattle.sections.proofs.Covering.{in_window, is_in-from}
-use Rattle.blocks.specs.Counts.{how_many}
-use Rattle.blocks.specs.Offsets.{Offsets}
-use Rattle.blocks.proofs.WalkLemmas.{how_many-none, how_many-skip, how_many-some}
+use Rattle.block_numbers.specs.Counts.{how_many}
+use Rattle.block_numbers.specs.Offsets.{Offsets}
+use Rattle.block_numbers.proofs.WalkLemmas.{how_many-none, how_many-skip, how_many-some}
 use Rattle.block_rows.specs.Copied.{has_block, split_in, split_places, split_where}
 use Rattle.block_rows.specs.Rows.{in_block}
 use Rattle.block_rows.proofs.CountLemmas.{count-cons}

@@ -8,9 +8,9 @@ use Rattle.sections.specs.Place.{Place, Window, In}
 use Rattle.sections.proofs.Covering.{in_window, is_in-from}
 use Rattle.blocks.specs.Blocks.{held_at, owned_at}
 use Rattle.blocks.specs.Held.{Held, IsThere, Map, number_of, owned_number}
-use Rattle.blocks.specs.Offsets.{HasAll, in_range}
+use Rattle.block_numbers.specs.Offsets.{HasAll, in_range}
 use Rattle.blocks.specs.declared.block.Block.{Block}
-use Rattle.blocks.proofs.WalkLemmas.{in_range-cases, in_range-true, in_range-low, in_range-high}
+use Rattle.block_numbers.proofs.WalkLemmas.{in_range-cases, in_range-true, in_range-low, in_range-high}
 use Rattle.block_rows.specs.Pieces.{behind_piece, piece, taking}
 use Rattle.block_rows.specs.Rows.{block_of, held_in_list, held_of, in_block}
 use Rattle.block_rows.specs.Wanted.{wanted}

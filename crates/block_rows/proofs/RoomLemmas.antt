@@ -7,12 +7,12 @@ use Rattle.std.specs.Prelude.{◌&&◌, nat_eq, nat_lt, if◌then◌else◌}
 use Rattle.sections.specs.Place.{Place}
 use Rattle.blocks.specs.Blocks.{held_at, owned_at}
 use Rattle.blocks.specs.Held.{AreApart, Held, owned, owned_number}
-use Rattle.blocks.specs.Offsets.{StandApart}
+use Rattle.block_numbers.specs.Offsets.{StandApart}
 use Rattle.blocks.specs.Ready.{CanTake}
 use Rattle.blocks.specs.declared.block.Block.{Block}
 use Rattle.blocks.specs.declared.block.Block.TheVariants.{Empty, Mixed, Owned as AllOwned, Shared as AllShared}
 use Rattle.blocks.proofs.BlockLemmas.{held_at-behind}
-use Rattle.blocks.proofs.RowLemmas.{row_from-before, row_from-behind, row_from-in}
+use Rattle.block_numbers.proofs.RowLemmas.{row_from-before, row_from-behind, row_from-in}
 use Rattle.block_rows.specs.Rooms.{HasAllRoom, HasRoom, HasRowRoom, TakesIn}
 use Rattle.block_rows.specs.Rows.{IsAsBefore, Replaces, Widens, block_in, block_of, held_in_list, held_of}
 use Rattle.block_rows.specs.declared.row.Row.{Row}

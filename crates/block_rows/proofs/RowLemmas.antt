@@ -9,7 +9,7 @@ use Rattle.sections.specs.Place.{Place, Window}
 use Rattle.sections.proofs.Covering.{in_window}
 use Rattle.blocks.specs.Blocks.{held_at}
 use Rattle.blocks.specs.Held.{Held, Map}
-use Rattle.blocks.specs.Offsets.{in_range}
+use Rattle.block_numbers.specs.Offsets.{in_range}
 use Rattle.blocks.specs.declared.block.Block.{Block}
 use Rattle.block_rows.specs.Pieces.{taking}
 use Rattle.block_rows.proofs.WritingLemmas.{held_of-if}

@@ -17,9 +17,9 @@ impl Rows {
     ghost use Rattle.sections.specs.Covers.{has, is_cover};
     ghost use Rattle.sections.specs.Place.{Place, Window};
     ghost use Rattle.blocks.specs.Blocks.{owned_at};
-    ghost use Rattle.blocks.specs.Counts.{how_many};
+    ghost use Rattle.block_numbers.specs.Counts.{how_many};
     ghost use Rattle.blocks.specs.Held.{Owned as OwnedAs, first_of, owned_number};
-    ghost use Rattle.blocks.specs.Offsets.{StandApart};
+    ghost use Rattle.block_numbers.specs.Offsets.{StandApart};
     ghost use Rattle.blocks.specs.declared.block.Block.{Block as BlockOf};
     ghost use Rattle.block_rows.specs.Copied.{split_where};
     ghost use Rattle.block_rows.specs.Rooms.{HasRowRoom};

@@ -4,7 +4,7 @@ use Rattle.sections.specs.Place.{Place, Window}
 use Rattle.sections.specs.Translation.{window as window_of}
 use Rattle.blocks.specs.Blocks.{owned_at}
 use Rattle.blocks.specs.Held.{Held, Map}
-use Rattle.blocks.specs.Offsets.{HasAll}
+use Rattle.block_numbers.specs.Offsets.{HasAll}
 use Rattle.blocks.specs.declared.block.Block.{Block}
 use Rattle.blocks.specs.declared.block.Block.TheVariants.{Empty}
 use Rattle.block_rows.specs.Rows.{Replaces, block_of, held_in, held_in_list}
