@@ -41,6 +41,6 @@ pub returns-clause-copied : goal.returns-clause-copied
 returns-clause-copied c =
     let cs = c.in_ok-carvings.carvings in
     copies-from (held c.args.self.now) (has (map window_of c.deref.result.now)) (has (map window_of c.args.windows.now)) cs.copied
-    c.args.self.now.copied c.saturating_add.result
+    c.args.self.now.copied c.saturating_add-self.result
     (λ q. ap (λ ws. has (map window_of ws) q) c.deref.ensures.value ∙ c.in_ok-places.ensures.places q)
-    c.in_ok-carvings.ensures.copied (omega (arith, c.saturating_add.ensures))
+    c.in_ok-carvings.ensures.copied (omega (arith, c.saturating_add-self.ensures))

@@ -6,8 +6,8 @@ use Rattle.holdings.specs.Holdings.{listed}
 use Rattle.holdings.proofs.InputLemmas.{IsShort, short_lists}
 use Rattle.holdings.proofs.holdings.Holdings.of_input.Goals as goal
 
-pub of_lists-rows-requires : goal.of_lists-rows-requires
-of_lists-rows-requires c =
+pub of_lists-requires : goal.of_lists-requires
+of_lists-requires c =
     subst (All IsShort) (sym c.deref.ensures.value)
     (short_lists c.args._typed.now.code.arrays.items c.args.input.now.arrays.items c.requires)
 
