@@ -18,9 +18,8 @@ pub struct Numbers {
 impl Numbers {
     ghost use Rattle.std.specs.Prelude.{◌≡◌, ◌-◌, ◌<◌, ◌↔◌, IfOk, IsTrue, false, is_some};
     ghost use Rattle.std.specs.Prelude.{[]};
-    ghost use Rattle.block_numbers.specs.Numbers.{number_in};
+    ghost use Rattle.block_numbers.specs.Numbers.{ReachOver, number_in};
     ghost use Rattle.block_numbers.specs.Offsets.{Agree, HasAll, inside, put_at};
-    ghost use Rattle.block_numbers.specs.Numbers.{ReachOver};
 
     /// No numbers.
     pub fn none(alloc: Global) -> Numbers

@@ -1,8 +1,8 @@
 -- Copies of the places of windows.
-use Rattle.std.proofs.Common.{◌≡◌, ℕ, ◌+◌, ◌-◌, ◌/◌, ◌%◌, ◌<◌, ◌≤◌, List, Option, Some, None, Bool, true, false, refl, sym, ap, ◌∙◌, arith, option_map}
-use Rattle.std.specs.Prelude.{ℤ, if◌then◌else◌}
+use Rattle.std.proofs.Common.{◌≡◌, ℕ, ◌+◌, ◌/◌, ◌%◌, ◌<◌, ◌≤◌, List, Option, Some, None, refl, sym, ap, ◌∙◌, arith, option_map}
+use Rattle.std.specs.Prelude.{if◌then◌else◌}
 use Rattle.sections.specs.Covers.{is_in}
-use Rattle.sections.specs.Place.{Place, Window}
+use Rattle.sections.specs.Place.{Window}
 use Rattle.blocks.specs.Blocks.{held_at, number_at}
 use Rattle.blocks.specs.Held.{Held, IsThere, Shared, as_shared, number_of, numbers}
 use Rattle.block_numbers.specs.Offsets.{HasAll, in_range}

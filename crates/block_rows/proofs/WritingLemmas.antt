@@ -1,13 +1,13 @@
 -- A block, or a row, in the place of another.
-use Rattle.std.proofs.Common.{◌≡◌, ℕ, ◌+◌, ◌-◌, ◌*◌, ◌/◌, ◌%◌, ◌<◌, ◌≤◌, List, [], ◌∷◌, ◌++◌, length, get_or, set, IsSome, is_some}
+use Rattle.std.proofs.Common.{◌≡◌, ℕ, ◌+◌, ◌-◌, ◌/◌, ◌%◌, ◌<◌, ◌≤◌, List, [], ◌∷◌, ◌++◌, length, get_or, set, IsSome}
 use Rattle.std.proofs.Common.{Option, Some, None, Bool, true, false, inl, inr, refl, sym, ap, ◌∙◌, arith, rules, ◌⊎◌}
 use Rattle.std.proofs.lemmas.Bool.{cases_eq, eqb-true, eqb-false, eq-eqb, ne_eqb, ltb-true, and_from}
 use Rattle.std.proofs.lemmas.Option.{slice_get_past, slice_get_read}
 use Rattle.std.specs.Prelude.{◌&&◌, nat_eq, nat_le, nat_lt, slice_get, option_and_then, if◌then◌else◌}
-use Rattle.sections.specs.Place.{Place, same_place}
+use Rattle.sections.specs.Place.{Place}
 use Rattle.block_numbers.specs.Numbers.{row_from}
 use Rattle.blocks.specs.Blocks.{held_at}
-use Rattle.blocks.specs.Held.{Held, Map, put}
+use Rattle.blocks.specs.Held.{Held, put}
 use Rattle.block_numbers.specs.Offsets.{Agree, put_at}
 use Rattle.blocks.specs.declared.block.Block.{Block}
 use Rattle.block_numbers.proofs.RowLemmas.{row_from-in, row_from-push, row_from-set}

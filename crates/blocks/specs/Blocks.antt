@@ -1,5 +1,5 @@
 -- What a block holds.
-use Rattle.std.specs.Prelude.{ℕ, ◌-◌, get_or, ℤ}
+use Rattle.std.specs.Prelude.{◌-◌, get_or, ℤ}
 use Rattle.std.specs.Prelude.{Option, Some, None, option_map}
 use Rattle.std.specs.Arc.{arc_value}
 use Rattle.std.specs.Box.{box_value}
@@ -12,7 +12,6 @@ use Rattle.blocks.specs.declared.block.Block.TheVariants.{Owned as AllOwned, Sha
 use Rattle.block_numbers.specs.declared.kind.Kind.{Kind}
 use Rattle.block_numbers.specs.declared.kind.Kind.TheVariants.{Absent, Own, Copied}
 use Rattle.blocks.specs.declared.mixed.Mixed.{Mixed}
-use Rattle.block_numbers.specs.declared.numbers.Numbers.{Numbers}
 
 -- a number as what is held of it
 abbrev pub held_as : Kind → Option ℤ → Option Held

@@ -2,8 +2,8 @@
 
 use crate::block::Block;
 use crate::cut::Cut;
-use block_numbers::kind::Kind;
 use crate::mixed::Mixed;
+use block_numbers::kind::Kind;
 use std::alloc::{AllocError, Global};
 use std::sync::Arc;
 
@@ -42,11 +42,10 @@ impl Block {
 
 impl Mixed {
     ghost use Rattle.std.specs.Prelude.{◌≡◌, ◌<◌, None, option_map, if◌then◌else◌};
-    ghost use Rattle.block_numbers.specs.Numbers.{number_in};
+    ghost use Rattle.block_numbers.specs.Numbers.{IsAsWide, number_in};
     ghost use Rattle.blocks.specs.Blocks.{held_at, held_in, number_at};
     ghost use Rattle.blocks.specs.Held.{Shared};
     ghost use Rattle.block_numbers.specs.Offsets.{Agree, HasAll, in_range, put_at};
-    ghost use Rattle.block_numbers.specs.Numbers.{IsAsWide};
 
     /// Makes the number at an offset with room a copy.
     fn put_copy(&mut self, offset: usize, value: i64)

@@ -5,8 +5,8 @@ ghost use Rattle.std.specs.Arc.{arc_value};
 ghost use Rattle.block_numbers.specs.Numbers.{number_in};
 ghost use Rattle.block_numbers.specs.Offsets.{Agree, put_at};
 
-use block_numbers::kind::Kind;
 use crate::mixed::Mixed;
+use block_numbers::kind::Kind;
 use block_numbers::numbers::{Numbers, PLACES};
 use std::alloc::{AllocError, Global};
 use std::sync::Arc;
@@ -32,8 +32,8 @@ impl Block {
     ghost use Rattle.block_numbers.specs.Numbers.{number_in};
     ghost use Rattle.blocks.specs.Blocks.{held_at, kind_of, number_at, owned_at};
     ghost use Rattle.blocks.specs.Held.{Owned, Shared};
-    ghost use Rattle.block_numbers.specs.Offsets.{Agree, HasAll, HasOnly, StandApart, in_range, inside};
-    ghost use Rattle.block_numbers.specs.Offsets.{put_at};
+    ghost use Rattle.block_numbers.specs.Offsets.{Agree, HasAll, HasOnly, StandApart, in_range};
+    ghost use Rattle.block_numbers.specs.Offsets.{inside, put_at};
     ghost use Rattle.blocks.specs.Ready.{room_at};
 
     /// Owned numbers, from the first offset on.

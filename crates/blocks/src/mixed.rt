@@ -17,11 +17,10 @@ pub struct Mixed {
 
 impl Mixed {
     ghost use Rattle.std.specs.Prelude.{◌-◌, ◌+◌, ◌↔◌, IfOk, IsTrue, None, is_some, false, option_map};
-    ghost use Rattle.block_numbers.specs.Numbers.{number_in};
+    ghost use Rattle.block_numbers.specs.Numbers.{IsAsWide, number_in};
     ghost use Rattle.blocks.specs.Blocks.{held_in, kind_of};
     ghost use Rattle.blocks.specs.Held.{Owned, number_of, owned_number};
     ghost use Rattle.block_numbers.specs.Offsets.{Agree, outside, put_at, without_at};
-    ghost use Rattle.block_numbers.specs.Numbers.{IsAsWide};
 
     /// Nothing.
     pub(crate) fn nothing(alloc: Global) -> Mixed {

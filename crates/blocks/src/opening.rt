@@ -2,8 +2,8 @@
 
 use crate::block::Block;
 use crate::cut::Cut;
-use block_numbers::kind::Kind;
 use crate::mixed::Mixed;
+use block_numbers::kind::Kind;
 use block_numbers::numbers::Numbers;
 use std::alloc::{AllocError, Global};
 use std::mem;
@@ -12,11 +12,10 @@ use std::sync::Arc;
 impl Block {
     ghost use Rattle.std.specs.Prelude.{◌≡◌, ◌<◌, ◌≤◌, ◌-◌, ℕ, IfOk, IfSome, None, OnErr, OnOk};
     ghost use Rattle.std.specs.Prelude.{false, true};
-    ghost use Rattle.block_numbers.specs.Numbers.{number_in};
+    ghost use Rattle.block_numbers.specs.Numbers.{ReachOver, number_in};
     ghost use Rattle.blocks.specs.Blocks.{held_at, held_in, owned_at};
-    ghost use Rattle.block_numbers.specs.Offsets.{Agree, HasAll, HasOnly, IsWithin, in_range, inside};
-    ghost use Rattle.block_numbers.specs.Offsets.{outside};
-    ghost use Rattle.block_numbers.specs.Numbers.{ReachOver};
+    ghost use Rattle.block_numbers.specs.Offsets.{Agree, HasAll, HasOnly, IsWithin, in_range};
+    ghost use Rattle.block_numbers.specs.Offsets.{inside, outside};
     ghost use Rattle.blocks.specs.Ready.{IsReady, room_at};
     ghost use Rattle.blocks.specs.declared.cut.Cut.{Cut as CutOf};
 

@@ -1,4 +1,4 @@
-use Rattle.std.proofs.Common.{◌↔◌, IsTrue, Option, None, ap, sym, refl, subst}
+use Rattle.std.proofs.Common.{◌↔◌, IsTrue, Option, ap, sym, refl, subst}
 use Rattle.blocks.specs.Blocks.{owned_at}
 use Rattle.blocks.specs.Held.{owned_number}
 use Rattle.block_numbers.specs.Offsets.{StandApart}

@@ -1,4 +1,3 @@
-use Rattle.std.proofs.Common.{◌≡◌, ◌≤◌}
 use Rattle.std.specs.Prelude.{option_map, if◌then◌else◌}
 use Rattle.blocks.specs.Blocks.{held_in, number_at}
 use Rattle.blocks.specs.Held.{Shared}
