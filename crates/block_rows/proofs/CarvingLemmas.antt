@@ -1,6 +1,6 @@
 -- What is cut out of blocks, and moves.
-use Rattle.std.proofs.Common.{◌≡◌, ℕ, ◌+◌, ◌-◌, ◌*◌, ◌/◌, ◌%◌, ◌<◌, ◌≤◌, List, [], ◌∷◌, ◌++◌, length, IsSome, is_some}
-use Rattle.std.proofs.Common.{Option, Some, None, Bool, true, false, inl, inr, refl, sym, ap, ◌∙◌, arith, rules, subst, ◌⊎◌, option_map}
+use Rattle.std.proofs.Common.{◌≡◌, ℕ, ◌+◌, ◌-◌, ◌*◌, ◌/◌, ◌%◌, ◌<◌, ◌≤◌, List, length, IsSome, is_some}
+use Rattle.std.proofs.Common.{Option, Some, None, Bool, true, false, refl, sym, ap, ◌∙◌, arith, rules, subst, option_map}
 use Rattle.std.proofs.lemmas.Bool.{and_parts, and_from, eqb-true, eqb-false, eq-eqb, false≢true, leb-true, ltb-true}
 use Rattle.std.proofs.lemmas.Option.{same_Some}
 use Rattle.std.specs.Arc.{arc_value}
@@ -9,17 +9,18 @@ use Rattle.std.specs.declared.alloc.Global.{Global}
 use Rattle.std.specs.declared.sync.Arc.{Arc}
 use Rattle.sections.specs.Covers.{is_in}
 use Rattle.sections.specs.Place.{In, Place, Window}
-use Rattle.sections.proofs.Covering.{in_window, is_in-from}
-use Rattle.blocks.specs.Blocks.{held_at, number_in, owned_at}
+use Rattle.sections.proofs.Covering.{is_in-from}
+use Rattle.block_numbers.specs.Numbers.{number_in}
+use Rattle.blocks.specs.Blocks.{held_at, owned_at}
 use Rattle.blocks.specs.Copies.{OwnsCopies}
 use Rattle.blocks.specs.Held.{Held, IsThere, Map, Owned, first_of, owned, owned_number, without}
-use Rattle.blocks.specs.Offsets.{Agree, HasAll, HasOnly, in_range, inside, outside}
+use Rattle.block_numbers.specs.Offsets.{Agree, HasAll, HasOnly, in_range, inside, outside}
 use Rattle.blocks.specs.Ready.{IsCutOut, IsReady}
 use Rattle.blocks.specs.declared.block.Block.{Block}
 use Rattle.blocks.specs.declared.cut.Cut.{Cut}
-use Rattle.blocks.specs.declared.numbers.Numbers.{Numbers}
+use Rattle.block_numbers.specs.declared.numbers.Numbers.{Numbers}
 use Rattle.blocks.proofs.BlockLemmas.{held_at-behind, owned_number-owned}
-use Rattle.blocks.proofs.WalkLemmas.{in_range-cases, in_range-high, in_range-low, in_range-true}
+use Rattle.block_numbers.proofs.WalkLemmas.{in_range-high, in_range-low, in_range-true}
 use Rattle.block_rows.specs.Carvings.{CanMove, IsMovable, IsPiece, IsWhole, StandClear, moves, piece_of}
 use Rattle.block_rows.specs.Pieces.{taking}
 use Rattle.block_rows.specs.Rows.{Replaces, Widens, block_of, held_in_list, held_of, in_block}

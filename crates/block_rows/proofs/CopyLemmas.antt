@@ -1,11 +1,11 @@
 -- Lists of blocks and rows that hold the same as others.
-use Rattle.std.proofs.Common.{◌≡◌, ℕ, ◌+◌, ◌-◌, ◌*◌, ◌/◌, ◌%◌, ◌<◌, ◌≤◌, List, [], ◌∷◌, ◌++◌, length, get_or, take}
-use Rattle.std.proofs.Common.{Option, Some, None, Bool, true, false, refl, sym, ap, ◌∙◌, arith, rules, subst}
-use Rattle.std.proofs.lemmas.List.{take_more, take_all, length-take-le}
+use Rattle.std.proofs.Common.{◌≡◌, ℕ, ◌+◌, ◌-◌, ◌/◌, ◌%◌, ◌<◌, List, [], ◌∷◌, ◌++◌, length, get_or, take}
+use Rattle.std.proofs.Common.{Some, None, Bool, true, false, refl, sym, ap, ◌∙◌, arith, subst}
+use Rattle.std.proofs.lemmas.List.{take_more, length-take-le}
 use Rattle.std.specs.Prelude.{nat_eq, nat_le, slice_get, option_and_then, if◌then◌else◌}
-use Rattle.blocks.specs.Blocks.{held_at, row_from}
-use Rattle.blocks.specs.Held.{Held}
-use Rattle.blocks.specs.Offsets.{Agree}
+use Rattle.block_numbers.specs.Numbers.{row_from}
+use Rattle.blocks.specs.Blocks.{held_at}
+use Rattle.block_numbers.specs.Offsets.{Agree}
 use Rattle.blocks.specs.declared.block.Block.{Block}
 use Rattle.block_rows.specs.Rows.{block_in, block_of, held_in_list, held_of}
 use Rattle.block_rows.specs.declared.row.Row.{Row}

@@ -1,14 +1,13 @@
 -- How many places of windows lie in blocks that aren't wholly inside them.
-use Rattle.std.proofs.Common.{◌≡◌, ℕ, zero, suc, ◌+◌, ◌-◌, ◌*◌, ◌/◌, ◌%◌, ◌<◌, ◌≤◌, min, List, [], ◌∷◌, ◌++◌, length, map}
-use Rattle.std.proofs.Common.{Option, Some, None, Bool, inl, inr, true, false, refl, sym, ap, ◌∙◌, arith, rules, subst, cond}
-use Rattle.std.proofs.lemmas.Bool.{eqb-true, leb-true, ltb-true, lt-leb, le-leb, lt-ltb, le-ltb, and_parts, and_from}
-use Rattle.std.proofs.lemmas.Bool.Decides.{nat_tests}
+use Rattle.std.proofs.Common.{◌≡◌, ℕ, zero, suc, ◌+◌, ◌-◌, ◌*◌, ◌/◌, ◌%◌, ◌<◌, ◌≤◌, min, List, ◌∷◌, ◌++◌, length}
+use Rattle.std.proofs.Common.{Bool, inl, inr, true, false, refl, ap, ◌∙◌, arith, subst, cond}
+use Rattle.std.proofs.lemmas.Bool.{eqb-true, leb-true, and_parts}
 use Rattle.std.proofs.lemmas.List.Sums.{sum_by-cons, sum_by-append}
-use Rattle.std.specs.List.{count_by, range_with_len, sum_by}
-use Rattle.std.specs.Prelude.{◌&&◌, ◌||◌, ◌⊎◌, not, nat_eq, nat_le, nat_lt, if◌then◌else◌}
-use Rattle.sections.specs.Covers.{has, is_cover, is_in}
-use Rattle.sections.specs.Place.{Place, Window}
-use Rattle.block_rows.specs.Copied.{IsCoverOf, LiesWithin, has_block, split_in, split_places}
+use Rattle.std.specs.List.{count_by, range_with_len}
+use Rattle.std.specs.Prelude.{◌⊎◌, not, nat_eq}
+use Rattle.sections.specs.Covers.{has}
+use Rattle.sections.specs.Place.{Window}
+use Rattle.block_rows.specs.Copied.{LiesWithin, has_block}
 use Rattle.sections.proofs.Covering.{is_in-from}
 use Rattle.blocks.specs.Held.{Held, Map}
 use Rattle.block_rows.specs.Carvings.{IsWhole}

@@ -1,12 +1,11 @@
 -- Windows of covers stand clear of each other, and what they cost.
 use Rattle.std.proofs.Common.{◌≡◌, ℕ, zero, suc, ◌+◌, ◌<◌, ◌≤◌, List, [], ◌∷◌, ◌++◌, length, get_or, map, take}
-use Rattle.std.proofs.Common.{None, Bool, true, false, inl, inr, refl, sym, ap, ◌∙◌, arith, ◌⊎◌, subst}
+use Rattle.std.proofs.Common.{Bool, true, false, inl, inr, refl, sym, ap, ◌∙◌, arith}
 use Rattle.std.proofs.lemmas.Bool.{and_parts, false≢true, or_cases}
-use Rattle.std.proofs.lemmas.List.{take_more, take_all}
+use Rattle.std.proofs.lemmas.List.{take_more}
 use Rattle.std.proofs.lemmas.List.Sums.{sum_by-cons, sum_by-append}
 use Rattle.std.specs.List.{list_all, sum_by}
-use Rattle.std.specs.Prelude.{◌||◌, ◌&&◌}
-use Rattle.sections.specs.Covers.{ends_before, has, has_places, is_cover, is_in}
+use Rattle.sections.specs.Covers.{ends_before, has, is_cover, is_in}
 use Rattle.sections.specs.Place.{Place, Window}
 use Rattle.sections.specs.Translation.{window as window_of}
 use Rattle.sections.specs.declared.window.Window.{Window as rWindow}
@@ -14,7 +13,7 @@ use Rattle.sections.proofs.Covering.{ends_cases, in_window}
 use Rattle.sections.proofs.Cutting.{covered}
 use Rattle.sections.proofs.Unique.{same_cover}
 use Rattle.blocks.specs.Held.{Map}
-use Rattle.block_rows.specs.Copied.{CopiesSplit, IsCoverOf, LiesWithin, split_in, split_places}
+use Rattle.block_rows.specs.Copied.{CopiesSplit, LiesWithin, split_in, split_places}
 
 -- ---- windows of a cover
 

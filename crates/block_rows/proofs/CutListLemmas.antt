@@ -1,12 +1,12 @@
 -- Lists of what was cut out, which grow and shrink at the end.
-use Rattle.std.proofs.Common.{◌≡◌, ℕ, zero, suc, ◌+◌, ◌<◌, ◌≤◌, List, [], ◌∷◌, ◌++◌, length, get_or}
-use Rattle.std.proofs.Common.{Option, Some, None, Bool, true, false, inl, inr, refl, sym, ap, ◌∙◌, arith, subst, ◌⊎◌}
+use Rattle.std.proofs.Common.{◌≡◌, ℕ, zero, suc, ◌<◌, List, [], ◌∷◌, ◌++◌, length, get_or}
+use Rattle.std.proofs.Common.{Option, None, Bool, true, false, inl, inr, refl, sym, ap, ◌∙◌, arith, subst, ◌⊎◌}
 use Rattle.std.proofs.Math.Seq.{get_or-append_seam}
-use Rattle.std.proofs.lemmas.Bool.{cases_eq, or_cases, or_left, or_right, false≢true}
+use Rattle.std.proofs.lemmas.Bool.{cases_eq, or_cases, or_left, or_right}
 use Rattle.std.proofs.lemmas.List.{get_or_append_left, length-append}
 use Rattle.std.specs.Prelude.{◌&&◌, ◌||◌, not, if◌then◌else◌}
 use Rattle.sections.specs.Covers.{is_in}
-use Rattle.sections.specs.Place.{Place, Window}
+use Rattle.sections.specs.Place.{Place}
 use Rattle.blocks.specs.Held.{Held, Map, only, without}
 use Rattle.block_rows.specs.Carvings.{IsCut, IsMovable, StandClear, copied_places, cut_places, moved_places, moves, piece_of}
 use Rattle.block_rows.specs.Pieces.{taking}

@@ -1,17 +1,18 @@
 -- Rows of blocks made from lists of numbers.
 use Rattle.std.proofs.Common.{◌≡◌, ℕ, zero, suc, ◌+◌, ◌-◌, ◌*◌, ◌/◌, ◌%◌, ◌<◌, ◌≤◌, min, List, [], ◌∷◌, ◌++◌, length, get_or, take, drop, map, Vec, Global}
-use Rattle.std.proofs.Common.{Option, Some, None, Bool, true, false, refl, sym, ap, ◌∙◌, arith, rules, option_map, slice_get, ◌⊎◌, inl, inr}
-use Rattle.std.proofs.lemmas.Bool.{cases_eq, eqb-true, eqb-false, ltb-true}
+use Rattle.std.proofs.Common.{Option, None, Bool, true, false, refl, sym, ap, ◌∙◌, arith, rules, option_map, slice_get}
+use Rattle.std.proofs.lemmas.Bool.{eqb-true, eqb-false, ltb-true}
 use Rattle.std.proofs.lemmas.List.{length-append, length-take, take_more}
 use Rattle.std.proofs.lemmas.Option.{slice_get_past}
 use Rattle.std.specs.List.{slice_range}
 use Rattle.std.specs.Prelude.{ℤ, nat_eq, nat_lt, slice_index_or, if◌then◌else◌}
 use Rattle.sections.specs.Place.{Place}
-use Rattle.blocks.specs.Blocks.{held_at, row_from}
-use Rattle.blocks.specs.Held.{Held, Map, Owned, as_owned}
-use Rattle.blocks.specs.Offsets.{Agree}
+use Rattle.block_numbers.specs.Numbers.{row_from}
+use Rattle.blocks.specs.Blocks.{held_at}
+use Rattle.blocks.specs.Held.{Held, Owned, as_owned}
+use Rattle.block_numbers.specs.Offsets.{Agree}
 use Rattle.blocks.specs.declared.block.Block.{Block}
-use Rattle.blocks.proofs.RowLemmas.{row_from-before, row_from-behind}
+use Rattle.block_numbers.proofs.RowLemmas.{row_from-before, row_from-behind}
 use Rattle.block_rows.specs.Lists.{listed}
 use Rattle.block_rows.specs.Rows.{block_in, block_of, held_in_list, held_of, in_row}
 use Rattle.block_rows.specs.declared.row.Row.{Row}

@@ -1,9 +1,9 @@
 -- Maps of held places.
-use Rattle.std.proofs.Common.{◌≡◌, ◌↔◌, ℕ, ◌/◌, ◌%◌, List, Option, Some, None, Bool, true, false, refl, sym, ap, ◌∙◌}
-use Rattle.std.specs.Prelude.{ℤ, ◌||◌, is_some, option_map, if◌then◌else◌}
+use Rattle.std.proofs.Common.{◌≡◌, Option, Some, None, Bool, true, false, refl, sym, ap}
+use Rattle.std.specs.Prelude.{ℤ, ◌||◌, option_map, if◌then◌else◌}
 use Rattle.sections.specs.Place.{Place}
-use Rattle.blocks.specs.Held.{Held, Map, Owned, Shared, first_of, only, over, without, IsThere, AreApart}
-use Rattle.blocks.specs.Held.{number_of, numbers, owned_number, owned, as_owned, as_shared}
+use Rattle.blocks.specs.Held.{Held, Map, Shared, only, IsThere}
+use Rattle.blocks.specs.Held.{number_of, numbers, owned_number, owned, as_shared}
 use Rattle.block_rows.specs.Pieces.{taking}
 
 -- ---- numbers that are there

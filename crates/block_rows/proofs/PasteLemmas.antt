@@ -1,17 +1,17 @@
 -- What comes in, the last first.
-use Rattle.std.proofs.Common.{◌≡◌, ℕ, ◌+◌, ◌-◌, ◌*◌, ◌/◌, ◌%◌, ◌<◌, ◌≤◌, List, [], ◌∷◌, ◌++◌, length, get_or, IsSome, is_some, cond}
-use Rattle.std.proofs.Common.{Option, Some, None, Bool, true, false, inl, inr, refl, sym, ap, ◌∙◌, arith, rules, subst, ◌⊎◌, option_map}
-use Rattle.std.proofs.lemmas.Bool.{and_from, and_parts, cases_eq, eq-eqb, eqb-false, eqb-true, false≢true, leb-true, le-leb, ltb-true}
+use Rattle.std.proofs.Common.{◌≡◌, ℕ, ◌+◌, ◌*◌, ◌/◌, ◌%◌, ◌<◌, ◌≤◌, List, [], ◌∷◌, ◌++◌, length, is_some, cond}
+use Rattle.std.proofs.Common.{Option, Some, None, Bool, true, false, refl, sym, ap, ◌∙◌, arith, rules, subst, option_map}
+use Rattle.std.proofs.lemmas.Bool.{and_from, and_parts, eq-eqb, eqb-false, eqb-true, false≢true, leb-true, le-leb, ltb-true}
 use Rattle.std.proofs.lemmas.List.{length-append}
-use Rattle.std.proofs.lemmas.Option.{same_Some}
-use Rattle.std.specs.Prelude.{ℤ, ◌&&◌, nat_eq, nat_le, nat_lt, slice_get, option_and_then, if◌then◌else◌}
+use Rattle.std.specs.Prelude.{◌&&◌, nat_eq, nat_le, nat_lt, if◌then◌else◌}
 use Rattle.sections.specs.Covers.{has, is_cover}
 use Rattle.sections.specs.Place.{Place, Window}
-use Rattle.blocks.specs.Blocks.{held_at, owned_at, row_from}
-use Rattle.blocks.specs.Counts.{how_many}
+use Rattle.block_numbers.specs.Numbers.{row_from}
+use Rattle.blocks.specs.Blocks.{held_at, owned_at}
+use Rattle.block_numbers.specs.Counts.{how_many}
 use Rattle.blocks.specs.Held.{Held, Map, Owned, as_owned, first_of, over, owned, owned_number}
 use Rattle.blocks.specs.declared.block.Block.{Block}
-use Rattle.blocks.proofs.RowLemmas.{row_from-before, row_from-behind, row_from-push}
+use Rattle.block_numbers.proofs.RowLemmas.{row_from-before, row_from-behind, row_from-push}
 use Rattle.block_rows.specs.Copied.{CopiesSplit, IsCoverOf, LiesWithin, split_where}
 use Rattle.block_rows.specs.Rooms.{HasAllRoom, HasRoom, HasRowRoom}
 use Rattle.block_rows.specs.Rows.{block_in, block_of, held_in_list, held_of, in_block, in_row}

@@ -1,16 +1,16 @@
 -- How many places a paste copies, block after block.
-use Rattle.std.proofs.Common.{◌≡◌, ℕ, zero, suc, ◌+◌, ◌-◌, ◌*◌, ◌/◌, ◌%◌, ◌<◌, ◌≤◌, List, [], ◌∷◌, Option, Some, None, is_some}
-use Rattle.std.proofs.Common.{Bool, inl, inr, true, false, refl, sym, ap, ◌∙◌, arith, rules, subst, cond}
-use Rattle.std.proofs.lemmas.Bool.{and_parts, and_from, cases_eq, eq-eqb, eqb-false, eqb-true, false≢true, leb-true, lt-ltb, ltb-true, or_cases, or_left, or_right}
+use Rattle.std.proofs.Common.{◌≡◌, ℕ, zero, suc, ◌+◌, ◌*◌, ◌/◌, ◌%◌, ◌<◌, ◌≤◌, List, [], ◌∷◌, Option, Some, None}
+use Rattle.std.proofs.Common.{Bool, inl, inr, true, false, refl, sym, ap, ◌∙◌, arith, rules, cond}
+use Rattle.std.proofs.lemmas.Bool.{and_parts, and_from, cases_eq, eq-eqb, eqb-true, false≢true, leb-true, lt-ltb, ltb-true, or_cases, or_left, or_right}
 use Rattle.std.proofs.lemmas.List.Sums.{sum_by-cons}
 use Rattle.std.specs.List.{count_by, list_any, range_with_len, sum_by}
 use Rattle.std.specs.Prelude.{ℤ, ◌&&◌, ◌||◌, ◌⊎◌, min, not, nat_eq, nat_le, nat_lt}
 use Rattle.sections.specs.Covers.{has, is_in}
 use Rattle.sections.specs.Place.{In, Place, Window, same_place}
 use Rattle.sections.proofs.Covering.{in_window, is_in-from}
-use Rattle.blocks.specs.Counts.{how_many}
-use Rattle.blocks.specs.Offsets.{Offsets}
-use Rattle.blocks.proofs.WalkLemmas.{how_many-none, how_many-skip, how_many-some}
+use Rattle.block_numbers.specs.Counts.{how_many}
+use Rattle.block_numbers.specs.Offsets.{Offsets}
+use Rattle.block_numbers.proofs.WalkLemmas.{how_many-none, how_many-skip, how_many-some}
 use Rattle.block_rows.specs.Copied.{has_block, split_in, split_places, split_where}
 use Rattle.block_rows.specs.Rows.{in_block}
 use Rattle.block_rows.proofs.CountLemmas.{count-cons}

@@ -1,18 +1,18 @@
 -- Whether places of windows are there, piece by piece.
-use Rattle.std.proofs.Common.{◌≡◌, ◌↔◌, ℕ, zero, suc, ◌+◌, ◌-◌, ◌*◌, ◌/◌, ◌%◌, ◌<◌, ◌≤◌, List, [], ◌∷◌, map, get_or, take, length}
-use Rattle.std.proofs.Common.{Option, Some, None, Bool, true, false, inl, inr, refl, sym, ap, ◌∙◌, arith, rules, subst, ⊎_elim}
+use Rattle.std.proofs.Common.{◌≡◌, ℕ, zero, suc, ◌+◌, ◌-◌, ◌/◌, ◌%◌, ◌≤◌, List}
+use Rattle.std.proofs.Common.{Option, Some, None, true, inl, inr, refl, sym, ap, ◌∙◌, arith, subst}
 use Rattle.std.proofs.lemmas.Bool.{or_cases, or_left, or_right, false≢true}
-use Rattle.std.specs.Prelude.{ℤ, ◌||◌, ◌⊎◌, option_map}
-use Rattle.sections.specs.Covers.{has, is_in}
+use Rattle.std.specs.Prelude.{ℤ, ◌⊎◌, option_map}
+use Rattle.sections.specs.Covers.{is_in}
 use Rattle.sections.specs.Place.{Place, Window, In}
-use Rattle.sections.proofs.Covering.{in_window, is_in-from}
+use Rattle.sections.proofs.Covering.{is_in-from}
 use Rattle.blocks.specs.Blocks.{held_at, owned_at}
 use Rattle.blocks.specs.Held.{Held, IsThere, Map, number_of, owned_number}
-use Rattle.blocks.specs.Offsets.{HasAll, in_range}
+use Rattle.block_numbers.specs.Offsets.{HasAll}
 use Rattle.blocks.specs.declared.block.Block.{Block}
-use Rattle.blocks.proofs.WalkLemmas.{in_range-cases, in_range-true, in_range-low, in_range-high}
-use Rattle.block_rows.specs.Pieces.{behind_piece, piece, taking}
-use Rattle.block_rows.specs.Rows.{block_of, held_in_list, held_of, in_block}
+use Rattle.block_numbers.proofs.WalkLemmas.{in_range-low, in_range-high}
+use Rattle.block_rows.specs.Pieces.{behind_piece, piece}
+use Rattle.block_rows.specs.Rows.{block_of, held_in_list, held_of}
 use Rattle.block_rows.specs.Wanted.{wanted}
 use Rattle.block_rows.specs.declared.presence.Wanted.{Wanted}
 use Rattle.block_rows.specs.declared.presence.Wanted.TheVariants.{Owned as AsOwned, Held as AsHeld}

@@ -1,22 +1,22 @@
 -- Rooms for what comes in, and what stands apart.
 use Rattle.std.proofs.Common.{◌≡◌, ℕ, ◌+◌, ◌-◌, ◌*◌, ◌/◌, ◌%◌, ◌<◌, ◌≤◌, List, length, get_or, IsSome, is_some}
-use Rattle.std.proofs.Common.{Option, Some, None, Bool, true, false, inl, inr, refl, sym, ap, ◌∙◌, arith, rules, subst, ◌⊎◌, option_map}
-use Rattle.std.proofs.lemmas.Bool.{and_from, cases_eq, eq-eqb, eqb-false, eqb-true, ltb-true}
+use Rattle.std.proofs.Common.{Option, Some, None, Bool, true, false, inl, inr, refl, sym, ap, ◌∙◌, arith, rules, subst, ◌⊎◌}
+use Rattle.std.proofs.lemmas.Bool.{cases_eq, ltb-true}
 use Rattle.std.proofs.lemmas.Option.{same_Some}
-use Rattle.std.specs.Prelude.{◌&&◌, nat_eq, nat_lt, if◌then◌else◌}
+use Rattle.std.specs.Prelude.{◌&&◌, nat_eq, nat_lt}
 use Rattle.sections.specs.Place.{Place}
-use Rattle.blocks.specs.Blocks.{held_at, owned_at}
-use Rattle.blocks.specs.Held.{AreApart, Held, owned, owned_number}
-use Rattle.blocks.specs.Offsets.{StandApart}
+use Rattle.blocks.specs.Blocks.{owned_at}
+use Rattle.blocks.specs.Held.{AreApart, owned, owned_number}
+use Rattle.block_numbers.specs.Offsets.{StandApart}
 use Rattle.blocks.specs.Ready.{CanTake}
 use Rattle.blocks.specs.declared.block.Block.{Block}
 use Rattle.blocks.specs.declared.block.Block.TheVariants.{Empty, Mixed, Owned as AllOwned, Shared as AllShared}
 use Rattle.blocks.proofs.BlockLemmas.{held_at-behind}
-use Rattle.blocks.proofs.RowLemmas.{row_from-before, row_from-behind, row_from-in}
+use Rattle.block_numbers.proofs.RowLemmas.{row_from-before, row_from-behind, row_from-in}
 use Rattle.block_rows.specs.Rooms.{HasAllRoom, HasRoom, HasRowRoom, TakesIn}
-use Rattle.block_rows.specs.Rows.{IsAsBefore, Replaces, Widens, block_in, block_of, held_in_list, held_of}
+use Rattle.block_rows.specs.Rows.{Replaces, Widens, block_in, block_of, held_in_list, held_of}
 use Rattle.block_rows.specs.declared.row.Row.{Row}
-use Rattle.block_rows.proofs.CarvingLemmas.{replaced-here, replaced-there}
+use Rattle.block_rows.proofs.CarvingLemmas.{replaced-there}
 use Rattle.block_rows.proofs.WideningLemmas.{before-kept}
 use Rattle.block_rows.proofs.WritingLemmas.{block_of-item, block_of-past}
 

@@ -1,15 +1,15 @@
 -- What rows hold, block by block.
-use Rattle.std.proofs.Common.{◌≡◌, ℕ, ◌+◌, ◌-◌, ◌*◌, ◌/◌, ◌%◌, ◌<◌, ◌≤◌, List, [], ◌∷◌}
-use Rattle.std.proofs.Common.{Option, Some, None, Bool, true, false, inl, inr, refl, sym, ap, ◌∙◌, arith, rules, subst}
-use Rattle.std.proofs.lemmas.Bool.{and_parts, and_from, eqb-true, eqb-false, eq-eqb, ne_eqb, leb-true, ltb-true, le-leb, lt-leb, lt-ltb, le-ltb}
+use Rattle.std.proofs.Common.{◌≡◌, ℕ, ◌+◌, ◌-◌, ◌/◌, ◌%◌, ◌<◌, ◌≤◌, List}
+use Rattle.std.proofs.Common.{Option, Some, Bool, true, false, refl, sym, ap, ◌∙◌, arith}
+use Rattle.std.proofs.lemmas.Bool.{and_parts, and_from, eqb-true, eq-eqb}
 use Rattle.std.proofs.lemmas.Bool.Decides.{nat_tests}
-use Rattle.std.specs.Prelude.{◌&&◌, ◌⊎◌, nat_eq, nat_le, nat_lt, if◌then◌else◌}
-use Rattle.sections.specs.Covers.{has, is_in}
+use Rattle.std.specs.Prelude.{◌&&◌, nat_eq, nat_le, nat_lt, if◌then◌else◌}
+use Rattle.sections.specs.Covers.{is_in}
 use Rattle.sections.specs.Place.{Place, Window}
 use Rattle.sections.proofs.Covering.{in_window}
 use Rattle.blocks.specs.Blocks.{held_at}
-use Rattle.blocks.specs.Held.{Held, Map}
-use Rattle.blocks.specs.Offsets.{in_range}
+use Rattle.blocks.specs.Held.{Held}
+use Rattle.block_numbers.specs.Offsets.{in_range}
 use Rattle.blocks.specs.declared.block.Block.{Block}
 use Rattle.block_rows.specs.Pieces.{taking}
 use Rattle.block_rows.proofs.WritingLemmas.{held_of-if}

@@ -1,11 +1,11 @@
 -- Copies of the places of windows.
-use Rattle.std.proofs.Common.{◌≡◌, ℕ, ◌+◌, ◌-◌, ◌/◌, ◌%◌, ◌<◌, ◌≤◌, List, Option, Some, None, Bool, true, false, refl, sym, ap, ◌∙◌, arith, option_map}
-use Rattle.std.specs.Prelude.{ℤ, if◌then◌else◌}
+use Rattle.std.proofs.Common.{◌≡◌, ℕ, ◌+◌, ◌/◌, ◌%◌, ◌<◌, ◌≤◌, List, Option, Some, None, refl, sym, ap, ◌∙◌, arith, option_map}
+use Rattle.std.specs.Prelude.{if◌then◌else◌}
 use Rattle.sections.specs.Covers.{is_in}
-use Rattle.sections.specs.Place.{Place, Window}
+use Rattle.sections.specs.Place.{Window}
 use Rattle.blocks.specs.Blocks.{held_at, number_at}
 use Rattle.blocks.specs.Held.{Held, IsThere, Shared, as_shared, number_of, numbers}
-use Rattle.blocks.specs.Offsets.{HasAll, in_range}
+use Rattle.block_numbers.specs.Offsets.{HasAll, in_range}
 use Rattle.blocks.specs.declared.block.Block.{Block}
 use Rattle.block_rows.specs.Pieces.{taking}
 use Rattle.block_rows.specs.Rows.{Replaces, block_of, held_in_list, held_of}

@@ -1,16 +1,15 @@
 -- Rows with more blocks, which hold nothing.
 use Rattle.std.proofs.Common.{◌≡◌, ℕ, ◌+◌, ◌-◌, ◌<◌, ◌≤◌, List, [], ◌∷◌, ◌++◌, length, get_or}
 use Rattle.std.proofs.Common.{Option, Some, None, Bool, true, false, inl, inr, refl, sym, ap, ◌∙◌, arith, rules, ◌⊎◌, IsSome, is_some}
-use Rattle.std.proofs.lemmas.Bool.{eqb-true, eqb-false, leb-true, ltb-true, false≢true}
-use Rattle.std.proofs.lemmas.Grind.{common_steps}
+use Rattle.std.proofs.lemmas.Bool.{eqb-true, leb-true, ltb-true, false≢true}
 use Rattle.std.proofs.lemmas.List.{length-append}
 use Rattle.std.proofs.lemmas.List.{get_or-append-add, get_or_append_left}
 use Rattle.std.proofs.lemmas.Option.{slice_get_past}
 use Rattle.std.specs.Prelude.{nat_eq, nat_le, nat_lt, slice_get, if◌then◌else◌}
-use Rattle.blocks.specs.Blocks.{row_from}
+use Rattle.block_numbers.specs.Numbers.{row_from}
 use Rattle.blocks.specs.declared.block.Block.{Block}
 use Rattle.blocks.specs.declared.block.Block.TheVariants.{Empty}
-use Rattle.blocks.proofs.RowLemmas.{row_from-in, row_from-before, row_from-behind, row_from-push, row_from-there}
+use Rattle.block_numbers.proofs.RowLemmas.{row_from-in, row_from-before, row_from-behind, row_from-push}
 use Rattle.block_rows.specs.Rows.{held_of, block_of, IsAsBefore, Widens}
 use Rattle.block_rows.specs.declared.row.Row.{Row}
 

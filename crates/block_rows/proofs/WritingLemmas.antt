@@ -1,15 +1,16 @@
 -- A block, or a row, in the place of another.
-use Rattle.std.proofs.Common.{◌≡◌, ℕ, ◌+◌, ◌-◌, ◌*◌, ◌/◌, ◌%◌, ◌<◌, ◌≤◌, List, [], ◌∷◌, ◌++◌, length, get_or, set, IsSome, is_some}
+use Rattle.std.proofs.Common.{◌≡◌, ℕ, ◌+◌, ◌-◌, ◌/◌, ◌%◌, ◌<◌, ◌≤◌, List, [], ◌∷◌, ◌++◌, length, get_or, set, IsSome}
 use Rattle.std.proofs.Common.{Option, Some, None, Bool, true, false, inl, inr, refl, sym, ap, ◌∙◌, arith, rules, ◌⊎◌}
 use Rattle.std.proofs.lemmas.Bool.{cases_eq, eqb-true, eqb-false, eq-eqb, ne_eqb, ltb-true, and_from}
 use Rattle.std.proofs.lemmas.Option.{slice_get_past, slice_get_read}
 use Rattle.std.specs.Prelude.{◌&&◌, nat_eq, nat_le, nat_lt, slice_get, option_and_then, if◌then◌else◌}
-use Rattle.sections.specs.Place.{Place, same_place}
-use Rattle.blocks.specs.Blocks.{held_at, row_from}
-use Rattle.blocks.specs.Held.{Held, Map, put}
-use Rattle.blocks.specs.Offsets.{Agree, put_at}
+use Rattle.sections.specs.Place.{Place}
+use Rattle.block_numbers.specs.Numbers.{row_from}
+use Rattle.blocks.specs.Blocks.{held_at}
+use Rattle.blocks.specs.Held.{Held, put}
+use Rattle.block_numbers.specs.Offsets.{Agree, put_at}
 use Rattle.blocks.specs.declared.block.Block.{Block}
-use Rattle.blocks.proofs.RowLemmas.{row_from-in, row_from-push, row_from-set}
+use Rattle.block_numbers.proofs.RowLemmas.{row_from-in, row_from-push, row_from-set}
 use Rattle.block_rows.specs.Rows.{IsAsBefore, Replaces, Widens, block_in, block_of, held_in_list, held_of}
 use Rattle.block_rows.specs.declared.row.Row.{Row}
 use Rattle.block_rows.proofs.WideningLemmas.{before-same, some_not_none}

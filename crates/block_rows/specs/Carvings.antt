@@ -1,6 +1,6 @@
 -- What is to move out, and what can move without memory.
 use Rattle.std.specs.Prelude.{ℕ, ◌+◌, ◌/◌, ◌%◌, ◌<◌, ◌≤◌, ◌≡◌, nat_eq, not, Bool, true, false}
-use Rattle.std.specs.Prelude.{List, [], ◌∷◌, ◌&&◌, ◌||◌, length, Option, Some, None, IsSome, get_or}
+use Rattle.std.specs.Prelude.{List, [], ◌∷◌, ◌&&◌, ◌||◌, length, Some, None, IsSome, get_or}
 use Rattle.sections.specs.Covers.{is_in}
 use Rattle.sections.specs.Place.{Place, Window}
 use Rattle.sections.specs.Translation.{window as window_of}
@@ -19,7 +19,8 @@ pub record IsPiece (w : Window) : Type 0 where
 
 -- all that is held of a piece's block are places of the piece
 abbrev pub IsWhole : Map Held → (piece : Window) → Type 0
-IsWhole m w = (q : Place) → in_block w.array (w.at / 256) q ≡ true → (m q ≡ None → ⊥) → is_in w q ≡ true
+IsWhole m w = (q : Place) → in_block w.array (w.at / 256) q ≡ true → (m q ≡ None → ⊥)
+    → is_in w q ≡ true
 
 -- two windows have no place together
 abbrev pub StandClear : (v w : Window) → Type 0

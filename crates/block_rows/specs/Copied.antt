@@ -31,7 +31,8 @@ split_in lengths ws = sum_by (split_places lengths) ws
 -- how many of their places that pass a test do
 abbrev pub split_where : (Place → Bool) → (lengths : ℕ → ℕ) → List Window → ℕ
 split_where test lengths ws = sum_by (λ w. count_by
-    (λ i. test (record { array = w.array; index = i }) && not (has_block (lengths w.array) w (i / 256)))
+    (λ i. test (record { array = w.array; index = i })
+    && not (has_block (lengths w.array) w (i / 256)))
     (range_with_len w.at w.length)) ws
 
 -- so many more are copied at most as places of a set lie in blocks that aren't wholly inside it,

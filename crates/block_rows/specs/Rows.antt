@@ -1,6 +1,6 @@
 -- What rows of blocks hold.
 use Rattle.std.specs.Prelude.{ℕ, ◌-◌, ◌/◌, ◌%◌, ◌≡◌, ◌&&◌, nat_eq, nat_le, Bool, List, slice_get}
-use Rattle.std.specs.Prelude.{Option, Some, None, IsSome, ◌⊎◌, option_and_then, if◌then◌else◌}
+use Rattle.std.specs.Prelude.{Option, Some, None, ◌⊎◌, option_and_then, if◌then◌else◌}
 use Rattle.sections.specs.Place.{Place}
 use Rattle.blocks.specs.Blocks.{held_at}
 use Rattle.blocks.specs.Held.{Held, Map}

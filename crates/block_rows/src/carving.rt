@@ -1,12 +1,14 @@
 //! Places that move out.
 
-ghost use Rattle.std.specs.Prelude.{◌≡◌, ◌≤◌, ◌<◌, ◌+◌, ◌%◌, ◌||◌, ℕ, true, false, IfOk, IsSome, None};
+ghost use Rattle.std.specs.Prelude.{◌≡◌, ◌≤◌, ◌<◌, ◌+◌, ◌%◌, ◌||◌, ℕ, true, false, IfOk, IsSome};
+ghost use Rattle.std.specs.Prelude.{None};
 ghost use Rattle.std.specs.Prelude.{MatchOption, OnOk, map, nat_eq, if◌then◌else◌};
 ghost use Rattle.sections.specs.Covers.{has, is_cover, is_in};
 ghost use Rattle.sections.specs.Place.{Place};
 ghost use Rattle.sections.specs.Translation.{window as window_of};
 ghost use Rattle.std.specs.Arc.{arc_value};
-ghost use Rattle.blocks.specs.Blocks.{number_in, owned_at};
+ghost use Rattle.block_numbers.specs.Numbers.{number_in};
+ghost use Rattle.blocks.specs.Blocks.{owned_at};
 ghost use Rattle.blocks.specs.Held.{IsThere, as_owned, first_of, only, owned, without};
 ghost use Rattle.block_rows.specs.Copied.{CopiesSplit};
 ghost use Rattle.block_rows.specs.Pieces.{taking};
@@ -36,7 +38,8 @@ impl Rows {
     ghost use Rattle.std.specs.Prelude.{◌&&◌, get_or, length, option_map};
     ghost use Rattle.blocks.specs.Held.{Owned as OwnedAs};
     ghost use Rattle.block_rows.specs.Carvings.{IsCut, IsMovable, IsPiece, IsWhole, StandClear};
-    ghost use Rattle.block_rows.specs.Carvings.{copied_places, cut_places, moved_places, moves, piece_of};
+    ghost use Rattle.block_rows.specs.Carvings.{copied_places, cut_places, moved_places, moves};
+    ghost use Rattle.block_rows.specs.Carvings.{piece_of};
     ghost use Rattle.block_rows.specs.Copied.{LiesWithin, split_places};
     ghost use Rattle.block_rows.specs.Rows.{block_of, held_in, in_block};
     ghost use Rattle.block_rows.specs.declared.carving.Carving.{Carving as CarvingOf};
@@ -48,7 +51,8 @@ impl Rows {
         requires owned { IsThere (has (map window_of windows.now)) (owned (held_in self.old)) }
         requires none { (q : Place) → held_in others.old q ≡ None }
         ensures same { held_in self.new ≡ held_in self.old }
-        ensures cut { IfOk result (λ c. IsCut self.new.list.items others.new.list.items c.list.items) }
+        ensures cut { IfOk result
+            (λ c. IsCut self.new.list.items others.new.list.items c.list.items) }
         ensures places { IfOk result (λ c. (q : Place) → has (map window_of windows.now) q
             ≡ cut_places c.list.items q) }
         ensures taken { IfOk result (λ c. held_in others.new
@@ -100,7 +104,7 @@ impl Rows {
         Ok(())
     }
 
-    /// The same of a piece of one block, of which others hold nothing but what these hold elsewhere.
+    /// The same of a piece of one block; others hold nothing of it, and elsewhere what these hold.
     fn cut_piece(&mut self, others: &mut Rows, piece: Window) -> Result<Cut, AllocError>
         requires piece { IsPiece (window_of piece) }
         requires owned { IsThere (is_in (window_of piece)) (owned (held_in self.old)) }
@@ -118,7 +122,8 @@ impl Rows {
             then held_in others.old
             else taking (is_in (window_of piece)) (held_in self.old) (held_in others.old))) }
         ensures most { IfOk result (λ c. c.copied ≤ piece.len) }
-        ensures moved { IfOk result (λ c. IsWhole (held_in self.old) (window_of piece) → c.copied ≡ 0) }
+        ensures moved { IfOk result
+            (λ c. IsWhole (held_in self.old) (window_of piece) → c.copied ≡ 0) }
     {
         let (array, number) = (piece.array.number, block_number(piece));
         let (from, to) = offsets(piece);

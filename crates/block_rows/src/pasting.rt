@@ -12,14 +12,15 @@ use blocks::block::Block;
 use std::alloc::AllocError;
 
 impl Rows {
-    ghost use Rattle.std.specs.Prelude.{ℕ, ◌<◌, ◌≤◌, ◌&&◌, ◌%◌, IsSome, None, Some, List, false, true, nat_eq};
+    ghost use Rattle.std.specs.Prelude.{ℕ, ◌<◌, ◌≤◌, ◌&&◌, ◌%◌, IsSome, None, Some, List, false};
+    ghost use Rattle.std.specs.Prelude.{true, nat_eq};
     ghost use Rattle.std.specs.Prelude.{option_map, if◌then◌else◌};
     ghost use Rattle.sections.specs.Covers.{has, is_cover};
     ghost use Rattle.sections.specs.Place.{Place, Window};
     ghost use Rattle.blocks.specs.Blocks.{owned_at};
-    ghost use Rattle.blocks.specs.Counts.{how_many};
+    ghost use Rattle.block_numbers.specs.Counts.{how_many};
     ghost use Rattle.blocks.specs.Held.{Owned as OwnedAs, first_of, owned_number};
-    ghost use Rattle.blocks.specs.Offsets.{StandApart};
+    ghost use Rattle.block_numbers.specs.Offsets.{StandApart};
     ghost use Rattle.blocks.specs.declared.block.Block.{Block as BlockOf};
     ghost use Rattle.block_rows.specs.Copied.{split_where};
     ghost use Rattle.block_rows.specs.Rooms.{HasRowRoom};
@@ -114,7 +115,8 @@ impl Rows {
     /// Takes what others own in, for which there is room, and tells how many places were copied.
     pub fn paste_all(&mut self, others: Rows) -> u64
         requires { HasAllRoom self.old.list.items others.list.items }
-        ensures pasted { held_in self.new ≡ over (as_owned (owned (held_in others))) (held_in self.old) }
+        ensures pasted { held_in self.new
+            ≡ over (as_owned (owned (held_in others))) (held_in self.old) }
         ensures copied { CopiesSplit (held_in self.old) (λ q. is_some (owned (held_in others) q))
             0 result }
     {
@@ -130,7 +132,8 @@ impl Rows {
     fn paste_row(&mut self, array: usize, row: Row) -> u64
         requires { HasRowRoom self.old.list.items array row }
         ensures pasted { (q : Place) → held_in self.new q ≡ (if nat_eq q.array array
-            then first_of (option_map OwnedAs (owned_number (in_row row q.index))) (held_in self.old q)
+            then first_of (option_map OwnedAs (owned_number (in_row row q.index)))
+            (held_in self.old q)
             else held_in self.old q) }
         ensures copied { (lengths : ℕ → ℕ) (ws : List Window)
             → ((q : Place) → nat_eq q.array array ≡ true → (held_in self.old q ≡ None → ⊥)
@@ -155,7 +158,8 @@ impl Rows {
     fn paste_in(&mut self, array: usize, number: usize, theirs: Block) -> u64
         requires { HasRoom self.old.list.items array number theirs }
         ensures pasted { (q : Place) → held_in self.new q ≡ (if in_block array number q
-            then first_of (option_map OwnedAs (owned_at theirs (q.index % 256))) (held_in self.old q)
+            then first_of (option_map OwnedAs (owned_at theirs (q.index % 256)))
+            (held_in self.old q)
             else held_in self.old q) }
         ensures moved { ((q : Place) → in_block array number q ≡ true
             → (held_in self.old q ≡ None → ⊥) → owned_at theirs (q.index % 256) ≡ None → ⊥)

@@ -36,7 +36,8 @@ impl Rows {
 
     /// Whether all places of a window are.
     fn has_window(&self, window: Window, want: Wanted) -> bool
-        ensures { IsTrue result ↔ IsThere (is_in (window_of window)) (wanted want (held_in self.now)) }
+        ensures { IsTrue result
+            ↔ IsThere (is_in (window_of window)) (wanted want (held_in self.now)) }
     {
         let mut rest = window;
         'pieces: while rest.len > 0 {
@@ -52,7 +53,8 @@ impl Rows {
     /// Whether all places of a piece of one block are.
     fn has_piece(&self, piece: Window, want: Wanted) -> bool
         requires { piece.at % 256 + piece.len ≤ 256 }
-        ensures { IsTrue result ↔ IsThere (is_in (window_of piece)) (wanted want (held_in self.now)) }
+        ensures { IsTrue result
+            ↔ IsThere (is_in (window_of piece)) (wanted want (held_in self.now)) }
     {
         let (from, to) = offsets(piece);
         match self.block(piece.array.number, block_number(piece)) {

@@ -1,13 +1,15 @@
 -- Copies that come into blocks.
 use Rattle.std.proofs.Common.{◌≡◌, ℕ, ◌+◌, ◌-◌, ◌<◌, ◌≤◌, List, length, get_or, set}
-use Rattle.std.proofs.Common.{Option, Some, None, Bool, true, false, refl, sym, ap, ◌∙◌, arith}
+use Rattle.std.proofs.Common.{Option, Some, None, Bool, true, false, refl, ap, ◌∙◌, arith}
 use Rattle.std.proofs.lemmas.List.{length-set}
 use Rattle.std.specs.Prelude.{ℤ, nat_eq, option_map, if◌then◌else◌}
-use Rattle.blocks.specs.Blocks.{row_from, held_as}
+use Rattle.block_numbers.specs.Numbers.{row_from}
+use Rattle.blocks.specs.Blocks.{held_as}
 use Rattle.blocks.specs.Held.{Held, Shared, number_of}
-use Rattle.blocks.specs.declared.kind.Kind.{Kind}
-use Rattle.blocks.specs.declared.kind.Kind.TheVariants.{Absent, Copied}
-use Rattle.blocks.proofs.RowLemmas.{held_row, held_row-kind, row_from-set}
+use Rattle.block_numbers.specs.declared.kind.Kind.{Kind}
+use Rattle.block_numbers.specs.declared.kind.Kind.TheVariants.{Absent, Copied}
+use Rattle.block_numbers.proofs.RowLemmas.{row_from-set}
+use Rattle.blocks.proofs.KindLemmas.{held_row, held_row-kind}
 
 -- a number written as a copy
 pub held_row-copy : (first : ℕ) (kinds : List Kind) (xs : List ℤ) (o : ℕ) (v : ℤ) → length kinds ≡ length xs

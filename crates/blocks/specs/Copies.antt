@@ -3,12 +3,13 @@ use Rattle.std.specs.Prelude.{Option, Some, None, option_map}
 use Rattle.std.specs.Arc.{arc_value}
 use Rattle.std.specs.declared.alloc.Global.{Global}
 use Rattle.std.specs.declared.sync.Arc.{Arc}
-use Rattle.blocks.specs.Blocks.{held_at, number_in}
+use Rattle.block_numbers.specs.Numbers.{number_in}
+use Rattle.blocks.specs.Blocks.{held_at}
 use Rattle.blocks.specs.Held.{Owned}
-use Rattle.blocks.specs.Offsets.{Agree}
+use Rattle.block_numbers.specs.Offsets.{Agree}
 use Rattle.blocks.specs.declared.block.Block.{Block}
 use Rattle.blocks.specs.declared.cut.Cut.{Cut}
-use Rattle.blocks.specs.declared.numbers.Numbers.{Numbers}
+use Rattle.block_numbers.specs.declared.numbers.Numbers.{Numbers}
 
 -- a block owns the copies, which there are
 abbrev pub OwnsCopies : Option (Arc Numbers Global) → Block → Type 0

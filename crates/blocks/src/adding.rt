@@ -2,8 +2,8 @@
 
 use crate::block::Block;
 use crate::cut::Cut;
-use crate::kind::Kind;
 use crate::mixed::Mixed;
+use block_numbers::kind::Kind;
 use std::alloc::{AllocError, Global};
 use std::sync::Arc;
 
@@ -11,7 +11,7 @@ impl Block {
     ghost use Rattle.std.specs.Prelude.{◌≡◌, ◌<◌, ◌≤◌, OnOk, option_map, if◌then◌else◌};
     ghost use Rattle.blocks.specs.Blocks.{held_at, number_at};
     ghost use Rattle.blocks.specs.Held.{Shared};
-    ghost use Rattle.blocks.specs.Offsets.{Agree, HasAll, in_range};
+    ghost use Rattle.block_numbers.specs.Offsets.{Agree, HasAll, in_range};
 
     /// Takes copies of a range of another block in, all of which is held there, in the place of what
     /// is held.
@@ -42,10 +42,10 @@ impl Block {
 
 impl Mixed {
     ghost use Rattle.std.specs.Prelude.{◌≡◌, ◌<◌, None, option_map, if◌then◌else◌};
-    ghost use Rattle.blocks.specs.Blocks.{held_at, held_in, number_at, number_in};
+    ghost use Rattle.block_numbers.specs.Numbers.{IsAsWide, number_in};
+    ghost use Rattle.blocks.specs.Blocks.{held_at, held_in, number_at};
     ghost use Rattle.blocks.specs.Held.{Shared};
-    ghost use Rattle.blocks.specs.Offsets.{Agree, HasAll, in_range, put_at};
-    ghost use Rattle.blocks.specs.Ready.{IsAsWide};
+    ghost use Rattle.block_numbers.specs.Offsets.{Agree, HasAll, in_range, put_at};
 
     /// Makes the number at an offset with room a copy.
     fn put_copy(&mut self, offset: usize, value: i64)

@@ -5,8 +5,6 @@
 mod adding;
 pub mod block;
 pub mod cut;
-pub mod kind;
 pub mod mixed;
-pub mod numbers;
 mod opening;
 mod pasting;

@@ -1,5 +1,5 @@
 -- The lists of an input.
-use Rattle.std.proofs.Common.{ℕ, ◌≤◌, List, [], ◌∷◌, length, map, Vec, Global, arith}
+use Rattle.std.proofs.Common.{◌≤◌, List, [], ◌∷◌, length, map, Vec, Global, arith}
 use Rattle.std.proofs.lemmas.List.Elements.{All-cons, All-nil}
 use Rattle.std.specs.List.{All}
 use Rattle.std.specs.Prelude.{ℤ}

@@ -22,8 +22,8 @@ impl Holdings {
     ghost use Rattle.std.specs.Prelude.{◌≡◌, IfErr, IfOk, IsSome, OnErr, OnOk, is_some, map, ok_or};
     ghost use Rattle.sections.specs.Covers.{has};
     ghost use Rattle.sections.specs.Translation.{window as window_of};
-    ghost use Rattle.blocks.specs.Held.{AreApart, IsThere, Owned, as_owned, as_shared, numbers, only};
-    ghost use Rattle.blocks.specs.Held.{over, owned, put, without};
+    ghost use Rattle.blocks.specs.Held.{AreApart, IsThere, Owned, as_owned, as_shared, numbers};
+    ghost use Rattle.blocks.specs.Held.{only, over, owned, put, without};
     ghost use Rattle.block_rows.specs.Copied.{CopiesSplit};
     ghost use Rattle.holdings.specs.Holdings.{held, listed};
     ghost use Rattle.holdings.specs.Errors.{RefusesPlaces, RefusesOwned};

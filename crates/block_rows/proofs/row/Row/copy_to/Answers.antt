@@ -1,9 +1,9 @@
-use Rattle.std.proofs.Common.{◌≡◌, ◌≤◌, ◌<◌, ◌+◌, ◌*◌, ◌/◌, ◌%◌, ℕ, List, Some, None, Option, ◌-◌, drop, length, get_or, option_map, pos, unwrap_or, refl, sym, ap, ◌∙◌, arith, subst}
+use Rattle.std.proofs.Common.{◌≡◌, ◌≤◌, ◌<◌, ◌+◌, ◌*◌, ℕ, List, Some, Option, ◌-◌, drop, length, get_or, option_map, pos, unwrap_or, refl, sym, ap, ◌∙◌, arith, subst}
 use Rattle.std.proofs.lemmas.List.{length-drop, length-take-le}
 use Rattle.std.specs.List.{slice_range}
 use Rattle.blocks.specs.Held.{Held, number_of}
 use Rattle.blocks.specs.declared.block.Block.{Block}
-use Rattle.blocks.proofs.RowLemmas.{row_from-in}
+use Rattle.block_numbers.proofs.RowLemmas.{row_from-in}
 use Rattle.block_rows.specs.Rows.{block_in}
 use Rattle.block_rows.proofs.CopyingLemmas.{IsCopied, copied-more, copied-past}
 use Rattle.block_rows.proofs.MakingLemmas.{row_to-begun, row_to-done}

@@ -1,4 +1,4 @@
-use Rattle.std.proofs.Common.{◌≡◌, ◌≤◌, ◌+◌, ◌-◌, ℕ, length}
+use Rattle.std.proofs.Common.{◌≡◌, ◌+◌, ◌-◌, ℕ, length}
 use Rattle.block_rows.specs.Rows.{IsAsBefore, block_in}
 use Rattle.block_rows.proofs.row.Row.make_room.Given as goal
 

@@ -1,4 +1,4 @@
-use Rattle.std.proofs.Common.{◌≡◌, ◌≤◌, ◌<◌, ◌+◌, ◌*◌, ◌/◌, ◌%◌, ℕ, List, length, min, sym, ap, ◌∙◌, arith, subst}
+use Rattle.std.proofs.Common.{◌≡◌, ◌≤◌, ◌+◌, ◌*◌, List, length, min, sym, arith, subst}
 use Rattle.blocks.specs.declared.block.Block.{Block}
 use Rattle.block_rows.proofs.MakingLemmas.{IsCutFrom, cut-all, cut-more}
 use Rattle.block_rows.proofs.row.Row.of_numbers.Goals as goal

@@ -1,7 +1,7 @@
-use Rattle.std.proofs.Common.{◌≡◌, ◌≤◌, ◌<◌, ◌+◌, ℕ, Some, arith, ap, ◌∙◌}
+use Rattle.std.proofs.Common.{Some, ap, ◌∙◌}
 use Rattle.std.specs.Prelude.{nat_eq, if◌then◌else◌}
 use Rattle.blocks.specs.declared.block.Block.{Block}
-use Rattle.blocks.proofs.RowLemmas.{row_from-there}
+use Rattle.block_numbers.proofs.RowLemmas.{row_from-there}
 use Rattle.block_rows.specs.Rows.{block_in}
 use Rattle.block_rows.proofs.WideningLemmas.{some_not_none}
 use Rattle.block_rows.proofs.WritingLemmas.{row-set}

@@ -1,6 +1,6 @@
-use Rattle.std.proofs.Common.{◌≡◌, ◌+◌, ◌-◌, ◌<◌, ◌≤◌, ◌++◌, ℕ, List, length, arith, ap, sym, ◌∙◌, subst}
+use Rattle.std.proofs.Common.{◌≡◌, ◌+◌, List, length, arith, ap, sym, ◌∙◌, subst}
 use Rattle.std.proofs.lemmas.List.{length-append}
-use Rattle.blocks.specs.Blocks.{row_from}
+use Rattle.block_numbers.specs.Numbers.{row_from}
 use Rattle.blocks.specs.declared.block.Block.{Block}
 use Rattle.block_rows.specs.Rows.{IsAsBefore, block_in}
 use Rattle.block_rows.proofs.WideningLemmas.{before-append, empty-row, row-there}

@@ -1,4 +1,4 @@
-use Rattle.std.proofs.Common.{◌≡◌, ◌≤◌, ◌<◌, ◌+◌, ◌-◌, ◌&&◌, ℕ, Some, None, Option, Bool, arith, ap, ◌∙◌, sym, subst, IfOk, OnErr, IsTrue, false, is_some, length, w64, of_z, to_z}
+use Rattle.std.proofs.Common.{◌≡◌, ◌≤◌, ◌<◌, ◌+◌, ◌&&◌, Some, None, Option, arith, ap, ◌∙◌, sym, subst, IfOk, OnErr, is_some, length, w64, of_z, to_z}
 use Rattle.std.proofs.lemmas.Result.{IfOk-weaker, on_err_weaker}
 use Rattle.std.proofs.lemmas.Int.{to_z-of_z}
 use Rattle.std.specs.Prelude.{ℤ, nat_eq, if◌then◌else◌}

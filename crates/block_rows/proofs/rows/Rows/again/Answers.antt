@@ -1,4 +1,4 @@
-use Rattle.std.proofs.Common.{◌≡◌, ◌≤◌, ◌<◌, ◌+◌, ℕ, List, [], ◌∷◌, length, get_or, sym, ap, ◌∙◌, arith, subst, take}
+use Rattle.std.proofs.Common.{◌≡◌, ◌≤◌, ◌<◌, ◌+◌, List, [], ◌∷◌, length, get_or, ap, ◌∙◌, subst, take}
 use Rattle.std.proofs.lemmas.List.{length-append, take_all}
 use Rattle.block_rows.specs.Rows.{block_of, held_of}
 use Rattle.block_rows.specs.declared.row.Row.{Row}

@@ -1,4 +1,4 @@
-use Rattle.std.proofs.Common.{◌≡◌, ◌++◌, ◌∷◌, [], List, length, subst, arith}
+use Rattle.std.proofs.Common.{subst, arith}
 use Rattle.block_rows.specs.Rows.{held_in}
 use Rattle.block_rows.proofs.CarveListLemmas.{CarveSoFar, carve-left, carve-on, carve-taken}
 use Rattle.block_rows.proofs.rows.Rows.carve_all.Goals as goal

@@ -1,16 +1,14 @@
-use Rattle.std.proofs.Common.{◌≡◌, ◌+◌, ◌/◌, ◌%◌, ◌∙◌, ℕ, Some, ap, is_some, subst, sym, IsSome, refl, Option}
+use Rattle.std.proofs.Common.{◌≡◌, ◌+◌, ◌/◌, ◌%◌, ◌∙◌, ap, is_some, subst, sym, IsSome, refl}
 use Rattle.std.proofs.lemmas.Bool.{eq-eqb, ne_eqb}
 use Rattle.std.proofs.lemmas.Option.{same_Some}
 use Rattle.std.specs.Prelude.{if◌then◌else◌}
 use Rattle.sections.specs.Covers.{is_in}
-use Rattle.sections.specs.Place.{Place, Window}
 use Rattle.blocks.specs.Ready.{IsReady}
-use Rattle.blocks.specs.declared.block.Block.{Block}
 use Rattle.blocks.specs.declared.block.Block.TheVariants.{Empty}
 use Rattle.block_rows.specs.Carvings.{piece_of}
 use Rattle.block_rows.specs.Pieces.{taking}
 use Rattle.block_rows.specs.Rows.{Replaces, block_of, held_in}
-use Rattle.block_rows.proofs.CarvingLemmas.{HasCarved, carve_keeps, has_carved, held-elsewhere, held-left, held-taken, replaced-here, replaced-some}
+use Rattle.block_rows.proofs.CarvingLemmas.{carve_keeps, has_carved, held-elsewhere, held-left, held-taken, replaced-here, replaced-some}
 use Rattle.block_rows.proofs.rows.Rows.carve_piece.Goals as goal
 
 pub swap-mine-requires : goal.swap-mine-requires

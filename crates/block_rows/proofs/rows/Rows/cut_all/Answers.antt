@@ -1,7 +1,7 @@
-use Rattle.std.proofs.Common.{◌≡◌, ◌≤◌, ◌<◌, ◌+◌, ℕ, List, arith, subst, sym, ap, ◌∙◌, map, take}
+use Rattle.std.proofs.Common.{◌≤◌, List, arith, subst, sym, ap, ◌∙◌, map}
 use Rattle.std.proofs.lemmas.List.{take_all}
 use Rattle.std.specs.Prelude.{◌||◌}
-use Rattle.sections.specs.Covers.{has, is_in}
+use Rattle.sections.specs.Covers.{is_in}
 use Rattle.sections.specs.Translation.{window as window_of}
 use Rattle.blocks.specs.Held.{Held, IsThere, Map, only, owned}
 use Rattle.block_rows.specs.Carvings.{copied_places}

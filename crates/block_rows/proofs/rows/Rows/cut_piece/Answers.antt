@@ -1,14 +1,10 @@
-use Rattle.std.proofs.Common.{◌≡◌, ◌≤◌, ◌<◌, ◌+◌, ◌-◌, ◌/◌, ◌%◌, ◌∙◌, ℕ, List, Some, ap, arith, is_some, subst, sym, IsSome, refl, MatchOption, Option}
-use Rattle.sections.specs.Covers.{is_in}
-use Rattle.sections.specs.Place.{Place, Window}
+use Rattle.std.proofs.Common.{◌≡◌, ◌/◌, ◌%◌, ◌∙◌, Some, ap, arith, is_some, subst, sym, IsSome, refl}
 use Rattle.sections.specs.Translation.{window as window_of}
 use Rattle.blocks.specs.Blocks.{owned_at}
-use Rattle.blocks.specs.Held.{Held, Map}
-use Rattle.blocks.specs.Offsets.{HasAll}
-use Rattle.blocks.specs.declared.block.Block.{Block}
+use Rattle.block_numbers.specs.Offsets.{HasAll}
 use Rattle.blocks.specs.declared.block.Block.TheVariants.{Empty}
-use Rattle.block_rows.specs.Rows.{Replaces, block_of, held_in, held_in_list}
-use Rattle.block_rows.proofs.CarvingLemmas.{HasCopies, HasCut, cut_keeps, cut_most, cut_movable, cut_taken, has_copies, has_cut, held-same, piece_block, piece_owned, replaced-here, replaced-twice, whole_only}
+use Rattle.block_rows.specs.Rows.{block_of}
+use Rattle.block_rows.proofs.CarvingLemmas.{cut_keeps, cut_most, cut_movable, cut_taken, has_copies, has_cut, held-same, piece_block, piece_owned, replaced-here, replaced-twice, whole_only}
 use Rattle.block_rows.proofs.rows.Rows.cut_piece.Goals as goal
 
 pub swap-mine-requires : goal.swap-mine-requires

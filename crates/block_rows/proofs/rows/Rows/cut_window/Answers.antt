@@ -1,4 +1,4 @@
-use Rattle.std.proofs.Common.{◌≡◌, ◌<◌, ◌≤◌, ◌+◌, ◌%◌, ◌++◌, ◌∷◌, [], ℕ, List, arith, subst, sym, refl, ap, ◌∙◌}
+use Rattle.std.proofs.Common.{◌<◌, ◌≤◌, ◌++◌, ◌∷◌, [], List, arith, subst, sym, refl, ap, ◌∙◌}
 use Rattle.sections.specs.Covers.{is_in}
 use Rattle.sections.specs.Place.{Window}
 use Rattle.sections.specs.Translation.{window as window_of}

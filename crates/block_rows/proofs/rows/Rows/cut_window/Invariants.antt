@@ -1,4 +1,3 @@
-use Rattle.std.proofs.Common.{◌≡◌}
 use Rattle.sections.specs.Covers.{is_in}
 use Rattle.sections.specs.Translation.{window as window_of}
 use Rattle.blocks.specs.Held.{IsThere, owned}

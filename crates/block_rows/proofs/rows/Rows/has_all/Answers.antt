@@ -1,4 +1,4 @@
-use Rattle.std.proofs.Common.{false, true, take, map, List, length, subst, refl, ◌≡◌, ◌≤◌}
+use Rattle.std.proofs.Common.{map, List, subst, refl}
 use Rattle.std.proofs.lemmas.List.{take_all}
 use Rattle.sections.specs.Covers.{has}
 use Rattle.sections.specs.Translation.{window as window_of}

@@ -1,4 +1,4 @@
-use Rattle.std.proofs.Common.{◌≡◌, ◌≤◌, ◌+◌, ◌/◌, ◌%◌, Some, None, ap, sym, ◌∙◌, arith, IsTrue, true}
+use Rattle.std.proofs.Common.{◌≡◌, ◌/◌, Some, None, ap, sym, ◌∙◌, arith}
 use Rattle.std.proofs.lemmas.Bool.{le-leb, leb-true}
 use Rattle.sections.specs.Translation.{window as window_of}
 use Rattle.block_rows.specs.Rows.{block_of, held_in}

@@ -1,4 +1,4 @@
-use Rattle.std.proofs.Common.{◌≡◌, ◌+◌, ◌%◌, ◌<◌, ◌≤◌, false, true, arith, subst, sym, refl, ap}
+use Rattle.std.proofs.Common.{◌≡◌, ◌+◌, ◌%◌, ◌<◌, ◌≤◌, arith, subst, sym, refl}
 use Rattle.sections.specs.Covers.{is_in}
 use Rattle.sections.specs.Place.{Window}
 use Rattle.sections.specs.Translation.{window as window_of}

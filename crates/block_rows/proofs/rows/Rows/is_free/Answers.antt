@@ -1,7 +1,7 @@
-use Rattle.std.proofs.Common.{◌↔◌, IsTrue, Option, None, ap, sym, refl, subst}
+use Rattle.std.proofs.Common.{◌↔◌, IsTrue, Option, ap, sym, refl, subst}
 use Rattle.blocks.specs.Blocks.{owned_at}
 use Rattle.blocks.specs.Held.{owned_number}
-use Rattle.blocks.specs.Offsets.{StandApart}
+use Rattle.block_numbers.specs.Offsets.{StandApart}
 use Rattle.blocks.specs.declared.block.Block.{Block}
 use Rattle.block_rows.specs.Rows.{held_of}
 use Rattle.block_rows.proofs.rows.Rows.is_free.Goals as goal

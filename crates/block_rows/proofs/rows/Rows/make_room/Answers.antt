@@ -1,10 +1,9 @@
-use Rattle.std.proofs.Common.{◌≡◌, ◌<◌, ◌≤◌, ◌+◌, ◌-◌, ◌++◌, ◌∷◌, [], ℕ, List, Some, None, length, ap, sym, ◌∙◌, is_some, arith, refl, subst}
+use Rattle.std.proofs.Common.{◌∷◌, [], length, ap, sym, ◌∙◌, is_some, arith, refl, subst}
 use Rattle.std.proofs.lemmas.Bool.{eq-eqb}
 use Rattle.std.proofs.lemmas.List.{length-append}
 use Rattle.std.proofs.lemmas.Result.{on_ok_weaker}
 use Rattle.std.specs.Prelude.{if◌then◌else◌}
 use Rattle.block_rows.specs.Rows.{Widens, block_in, block_of}
-use Rattle.block_rows.specs.declared.row.Row.{Row}
 use Rattle.block_rows.proofs.WideningLemmas.{widens-trans}
 use Rattle.block_rows.proofs.WritingLemmas.{block_of-set, widens-push, widens-set}
 use Rattle.block_rows.proofs.rows.Rows.make_room.Goals as goal

@@ -1,4 +1,4 @@
-use Rattle.std.proofs.Common.{◌≡◌, ◌≤◌, ◌+◌, ◌-◌, ℕ, length}
+use Rattle.std.proofs.Common.{◌+◌, ◌-◌, length}
 use Rattle.block_rows.specs.Rows.{Widens}
 use Rattle.block_rows.proofs.rows.Rows.make_room.Given as goal
 

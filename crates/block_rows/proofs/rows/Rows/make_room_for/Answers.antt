@@ -1,4 +1,4 @@
-use Rattle.std.proofs.Common.{◌≡◌, ◌<◌, ◌≤◌, ◌∙◌, ℕ, List, length, get_or, ap, arith, refl, subst}
+use Rattle.std.proofs.Common.{◌≡◌, ◌<◌, ◌≤◌, ◌∙◌, List, length, get_or, ap, arith, refl, subst}
 use Rattle.block_rows.specs.declared.row.Row.{Row}
 use Rattle.block_rows.proofs.RoomLemmas.{all_room-done, all_room-more}
 use Rattle.block_rows.proofs.rows.Rows.make_room_for.Goals as goal

@@ -1,4 +1,4 @@
-use Rattle.std.proofs.Common.{◌≡◌, ◌<◌, ◌≤◌, ◌∙◌, ◌+◌, ℕ, List, length, get_or, ap, refl, subst}
+use Rattle.std.proofs.Common.{◌≡◌, ◌<◌, ◌≤◌, ◌∙◌, ◌+◌, List, length, get_or, ap, refl, subst}
 use Rattle.std.specs.Prelude.{◌&&◌, nat_eq}
 use Rattle.blocks.specs.declared.block.Block.{Block}
 use Rattle.block_rows.proofs.RoomLemmas.{row_room-begun, row_room-done, row_room-more}

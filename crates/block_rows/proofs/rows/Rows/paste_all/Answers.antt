@@ -1,4 +1,4 @@
-use Rattle.std.proofs.Common.{◌≡◌, ◌≤◌, ◌+◌, ◌++◌, ◌∷◌, [], ℕ, List, false, length, option_map, subst, sym, arith}
+use Rattle.std.proofs.Common.{◌≡◌, ℕ, List, false, length, option_map, subst, sym, arith}
 use Rattle.std.specs.Prelude.{nat_eq, if◌then◌else◌}
 use Rattle.sections.specs.Place.{Place}
 use Rattle.blocks.specs.Held.{Owned, first_of, owned_number}

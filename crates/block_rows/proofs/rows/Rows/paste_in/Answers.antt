@@ -1,18 +1,19 @@
-use Rattle.std.proofs.Common.{◌≡◌, ◌∙◌, ◌≤◌, ◌<◌, ◌/◌, ◌%◌, ◌+◌, ◌*◌, ℕ, List, Bool, true, false, Option, Some, None, option_map, ap, arith, is_some, refl, rules, subst, sym, inl, inr, ◌⊎◌}
+use Rattle.std.proofs.Common.{◌≡◌, ◌∙◌, ◌≤◌, ◌/◌, ◌%◌, ◌+◌, ◌*◌, ℕ, List, Bool, true, false, Option, Some, None, option_map, ap, arith, is_some, refl, rules, subst, sym, inl, inr, ◌⊎◌}
 use Rattle.std.proofs.lemmas.Bool.{and_from, eq-eqb, leb-false, leb-true, ltb-true}
 use Rattle.std.proofs.lemmas.Option.{same_Some}
-use Rattle.std.specs.Prelude.{ℤ, ◌&&◌, nat_eq, nat_le, nat_lt, if◌then◌else◌}
+use Rattle.std.specs.Prelude.{ℤ, nat_le, nat_lt, if◌then◌else◌}
 use Rattle.sections.specs.Place.{Place}
 use Rattle.std.specs.Arc.{arc_value}
 use Rattle.std.specs.declared.alloc.Global.{Global}
 use Rattle.std.specs.declared.sync.Arc.{Arc}
-use Rattle.blocks.specs.Blocks.{held_at, number_in, owned_at}
+use Rattle.block_numbers.specs.Numbers.{number_in}
+use Rattle.blocks.specs.Blocks.{held_at, owned_at}
 use Rattle.blocks.specs.Held.{Held, Map, Owned, Shared, first_of, owned_number}
-use Rattle.blocks.specs.Offsets.{IsWithin}
+use Rattle.block_numbers.specs.Offsets.{IsWithin}
 use Rattle.blocks.specs.Ready.{CanTake}
 use Rattle.blocks.specs.declared.block.Block.{Block}
 use Rattle.blocks.specs.declared.block.Block.TheVariants.{Empty, Mixed, Owned as AllOwned, Shared as AllShared}
-use Rattle.blocks.specs.declared.numbers.Numbers.{Numbers}
+use Rattle.block_numbers.specs.declared.numbers.Numbers.{Numbers}
 use Rattle.blocks.proofs.BlockLemmas.{held_at-behind}
 use Rattle.block_rows.specs.Rooms.{HasRoom, TakesIn}
 use Rattle.block_rows.specs.Rows.{block_of, held_in_list, in_block}

@@ -1,4 +1,4 @@
-use Rattle.std.proofs.Common.{◌≡◌, ◌≤◌, ◌<◌, ◌+◌, List, arith, subst, sym, ap, ◌∙◌, map, take}
+use Rattle.std.proofs.Common.{◌+◌, List, ap, ◌∙◌, map, take}
 use Rattle.std.proofs.lemmas.List.{take_all}
 use Rattle.sections.specs.Covers.{has, is_in}
 use Rattle.sections.specs.Translation.{window as window_of}

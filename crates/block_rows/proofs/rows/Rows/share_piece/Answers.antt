@@ -1,10 +1,10 @@
-use Rattle.std.proofs.Common.{◌≡◌, ◌≤◌, ◌<◌, ◌+◌, ◌/◌, ◌%◌, ℕ, Some, None, Option, ap, sym, ◌∙◌, arith, subst, option_map}
+use Rattle.std.proofs.Common.{◌≡◌, ◌+◌, ◌/◌, ◌%◌, ℕ, Some, None, ap, sym, ◌∙◌, subst, option_map}
 use Rattle.std.specs.Prelude.{if◌then◌else◌}
 use Rattle.sections.specs.Covers.{is_in}
 use Rattle.sections.specs.Translation.{window as window_of}
 use Rattle.blocks.specs.Blocks.{held_at, number_at}
-use Rattle.blocks.specs.Held.{Held, Shared, as_shared, numbers}
-use Rattle.blocks.specs.Offsets.{HasAll, in_range}
+use Rattle.blocks.specs.Held.{Shared, as_shared, numbers}
+use Rattle.block_numbers.specs.Offsets.{HasAll, in_range}
 use Rattle.blocks.specs.declared.block.Block.TheVariants.{Empty}
 use Rattle.block_rows.specs.Pieces.{taking}
 use Rattle.block_rows.specs.Rows.{Replaces, block_of, held_in}

@@ -1,8 +1,8 @@
-use Rattle.std.proofs.Common.{◌≡◌, ◌≤◌, ◌<◌, arith, subst, sym, refl, ap, ◌∙◌}
+use Rattle.std.proofs.Common.{◌≡◌, arith, subst, sym, refl, ap, ◌∙◌}
 use Rattle.sections.specs.Covers.{is_in}
 use Rattle.sections.specs.Place.{Window}
 use Rattle.sections.specs.Translation.{window as window_of}
-use Rattle.blocks.specs.Held.{Held, IsThere, Map, as_shared, numbers}
+use Rattle.blocks.specs.Held.{IsThere, as_shared, numbers}
 use Rattle.block_rows.specs.Pieces.{behind_piece, piece, taking}
 use Rattle.block_rows.specs.Rows.{held_in}
 use Rattle.block_rows.proofs.PieceLemmas.{is_in-cut, is_in-empty, taking-both, taking-none}

@@ -1,4 +1,4 @@
-use Rattle.std.proofs.Common.{◌≡◌, ◌<◌, ap, sym, ◌∙◌, is_some, arith}
+use Rattle.std.proofs.Common.{ap, sym, ◌∙◌, is_some, arith}
 use Rattle.block_rows.proofs.WritingLemmas.{block_of-item, block_of-within, rows-replaced}
 use Rattle.block_rows.proofs.rows.Rows.swap.Goals as goal
 

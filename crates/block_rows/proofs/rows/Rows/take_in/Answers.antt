@@ -1,7 +1,6 @@
-use Rattle.std.proofs.Common.{◌≡◌, ◌∙◌, ◌%◌, ℕ, Option, Some, option_map, ap, is_some}
-use Rattle.std.specs.Prelude.{ℤ}
+use Rattle.std.proofs.Common.{◌≡◌, ◌∙◌, ℕ, option_map, ap, is_some}
 use Rattle.blocks.specs.Blocks.{held_at, owned_at}
-use Rattle.blocks.specs.Held.{Held, Owned, first_of}
+use Rattle.blocks.specs.Held.{Owned, first_of}
 use Rattle.blocks.specs.declared.block.Block.TheVariants.{Empty}
 use Rattle.block_rows.proofs.CarvingLemmas.{replaced-here, replaced-some, replaced-twice, took_in}
 use Rattle.block_rows.proofs.rows.Rows.take_in.Goals as goal

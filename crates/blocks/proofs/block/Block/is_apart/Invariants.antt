@@ -1,4 +1,4 @@
-use Rattle.std.proofs.Common.{◌≡◌, ℕ, ◌≤◌, ◌<◌, None}
+use Rattle.std.proofs.Common.{◌≡◌, ℕ, ◌<◌, None}
 use Rattle.blocks.specs.Blocks.{owned_at}
 use Rattle.blocks.proofs.block.Block.is_apart.Given as goal
 

@@ -1,12 +1,12 @@
-use Rattle.std.proofs.Common.{◌≡◌, ◌+◌, ◌-◌, ◌≤◌, ◌<◌, ◌++◌, ◌∷◌, [], ℕ, length, Some, arith, ap, ◌∙◌, sym, rules, w64, FitsSigned, to_z, of_z}
+use Rattle.std.proofs.Common.{◌≡◌, ◌≤◌, ◌++◌, ◌∷◌, [], arith, ap, ◌∙◌, sym, rules, w64, FitsSigned, to_z, of_z}
 use Rattle.std.proofs.lemmas.Grind.{common_steps}
 use Rattle.std.proofs.lemmas.Int.{to_z-of_z}
 use Rattle.std.specs.Prelude.{pos, unwrap_or, option_map}
-use Rattle.blocks.specs.Blocks.{held_as, held_at, kind_of, number_at}
+use Rattle.blocks.specs.Blocks.{held_at, kind_of}
 use Rattle.blocks.specs.Held.{number_of}
 use Rattle.blocks.proofs.BlockLemmas.{held_by_kind, spread_keeps}
-use Rattle.blocks.proofs.RowLemmas.{held_row, held_row-push}
-use Rattle.blocks.proofs.WalkLemmas.{inside-more}
+use Rattle.blocks.proofs.KindLemmas.{held_row, held_row-push}
+use Rattle.block_numbers.proofs.WalkLemmas.{inside-more}
 use Rattle.blocks.proofs.block.Block.spread.Goals as goal
 
 pub loop-offset-preserved : goal.loop-offset-preserved

@@ -1,7 +1,8 @@
 use Rattle.std.proofs.Common.{ap, ◌∙◌, ◌-◌, w64, set}
 use Rattle.std.proofs.lemmas.Int.{to_z-of_z}
 use Rattle.blocks.proofs.AddingLemmas.{held_row-copy}
-use Rattle.blocks.proofs.RowLemmas.{held_row, row_from-there}
+use Rattle.block_numbers.proofs.RowLemmas.{row_from-there}
+use Rattle.blocks.proofs.KindLemmas.{held_row}
 use Rattle.blocks.proofs.mixed.Mixed.put_copy.Goals as goal
 
 pub returns-clause-held : goal.returns-clause-held

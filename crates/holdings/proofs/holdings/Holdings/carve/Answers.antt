@@ -1,8 +1,8 @@
-use Rattle.std.proofs.Common.{◌≡◌, ◌≤◌, ◌+◌, ◌∙◌, Bool, ap, arith, map, subst, sym, None}
+use Rattle.std.proofs.Common.{◌≡◌, ◌∙◌, Bool, ap, arith, map, sym}
 use Rattle.sections.specs.Covers.{has}
 use Rattle.sections.specs.Place.{Place}
 use Rattle.sections.specs.Translation.{window as window_of}
-use Rattle.blocks.specs.Held.{Held, IsThere, Map, only, owned, without}
+use Rattle.blocks.specs.Held.{Held, Map, without}
 use Rattle.block_rows.specs.Carvings.{copied_places, cut_places, moved_places}
 use Rattle.block_rows.specs.Pieces.{taking}
 use Rattle.block_rows.proofs.CoverLemmas.{copies-from}

@@ -1,4 +1,4 @@
-use Rattle.std.proofs.Common.{◌≡◌, ◌∙◌, ap, map, subst, sym, List, Vec, Global}
+use Rattle.std.proofs.Common.{◌∙◌, ap, map, subst, sym, List, Vec, Global}
 use Rattle.std.specs.List.{All}
 use Rattle.std.specs.Prelude.{ℤ}
 use Rattle.blocks.specs.Held.{as_owned}

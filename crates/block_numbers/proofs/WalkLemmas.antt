@@ -1,9 +1,9 @@
 -- Maps that a loop changes, offset by offset.
-use Rattle.std.proofs.Common.{◌≡◌, ℕ, zero, suc, ◌+◌, ◌-◌, ◌<◌, ◌≤◌, Option, Some, None, Bool, true, false, refl, sym, ap, ◌∙◌, arith, rules, ◌⊎◌, inl, inr}
+use Rattle.std.proofs.Common.{◌≡◌, ℕ, zero, suc, ◌+◌, ◌<◌, ◌≤◌, Option, Some, None, Bool, true, false, refl, sym, ap, ◌∙◌, arith, rules, ◌⊎◌, inl, inr}
 use Rattle.std.proofs.lemmas.Bool.{eqb-true, eqb-false, leb-true, leb-false, ltb-true}
 use Rattle.std.specs.Prelude.{◌&&◌, nat_eq, nat_le, nat_lt, is_some, if◌then◌else◌}
-use Rattle.blocks.specs.Counts.{how_many}
-use Rattle.blocks.specs.Offsets.{Offsets, Agree, in_range, inside}
+use Rattle.block_numbers.specs.Counts.{how_many}
+use Rattle.block_numbers.specs.Offsets.{Offsets, Agree, in_range, inside}
 
 lt_test : (n m : ℕ) → n < m → nat_lt n m ≡ true
 lt_test n m e = search rules

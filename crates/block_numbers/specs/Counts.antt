@@ -1,6 +1,6 @@
 -- How many offsets have something.
 use Rattle.std.specs.Prelude.{ℕ, zero, suc, ◌+◌, is_some, if◌then◌else◌}
-use Rattle.blocks.specs.Offsets.{Offsets}
+use Rattle.block_numbers.specs.Offsets.{Offsets}
 
 -- how many of the first n offsets have something
 unfoldable pub how_many : {A : Type 0} → Offsets A → ℕ → ℕ

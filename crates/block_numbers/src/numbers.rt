@@ -18,9 +18,8 @@ pub struct Numbers {
 impl Numbers {
     ghost use Rattle.std.specs.Prelude.{◌≡◌, ◌-◌, ◌<◌, ◌↔◌, IfOk, IsTrue, false, is_some};
     ghost use Rattle.std.specs.Prelude.{[]};
-    ghost use Rattle.blocks.specs.Blocks.{number_in};
-    ghost use Rattle.blocks.specs.Offsets.{Agree, HasAll, inside, put_at};
-    ghost use Rattle.blocks.specs.Ready.{ReachOver};
+    ghost use Rattle.block_numbers.specs.Numbers.{ReachOver, number_in};
+    ghost use Rattle.block_numbers.specs.Offsets.{Agree, HasAll, inside, put_at};
 
     /// No numbers.
     pub fn none(alloc: Global) -> Numbers

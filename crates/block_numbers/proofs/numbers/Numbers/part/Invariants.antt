@@ -1,7 +1,7 @@
 use Rattle.std.proofs.Common.{◌≡◌, ◌+◌, length}
-use Rattle.blocks.specs.Blocks.{number_in, row_from}
-use Rattle.blocks.specs.Offsets.{Agree, inside}
-use Rattle.blocks.proofs.numbers.Numbers.part.Given as goal
+use Rattle.block_numbers.specs.Numbers.{number_in, row_from}
+use Rattle.block_numbers.specs.Offsets.{Agree, inside}
+use Rattle.block_numbers.proofs.numbers.Numbers.part.Given as goal
 
 -- the numbers so far are copied, and were counted
 abbrev pub invariant-loop-offset : goal.invariant-loop-offset

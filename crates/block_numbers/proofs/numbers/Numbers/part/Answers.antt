@@ -1,10 +1,10 @@
-use Rattle.std.proofs.Common.{◌+◌, ◌-◌, ◌≤◌, ◌<◌, ◌++◌, ◌∷◌, [], length, Some, arith, ap, ◌∙◌, sym, rules, w64, FitsSigned}
+use Rattle.std.proofs.Common.{◌+◌, ◌≤◌, ◌<◌, ◌++◌, ◌∷◌, [], length, Some, arith, ap, ◌∙◌, sym, rules, w64, FitsSigned}
 use Rattle.std.proofs.lemmas.Grind.{common_steps}
 use Rattle.std.proofs.lemmas.Int.{to_z-of_z}
-use Rattle.blocks.specs.Blocks.{number_in, row_from}
-use Rattle.blocks.proofs.RowLemmas.{row_from-in, row_from-push}
-use Rattle.blocks.proofs.WalkLemmas.{inside-more}
-use Rattle.blocks.proofs.numbers.Numbers.part.Goals as goal
+use Rattle.block_numbers.specs.Numbers.{number_in, row_from}
+use Rattle.block_numbers.proofs.RowLemmas.{row_from-in, row_from-push}
+use Rattle.block_numbers.proofs.WalkLemmas.{inside-more}
+use Rattle.block_numbers.proofs.numbers.Numbers.part.Goals as goal
 
 pub loop-offset-preserved : goal.loop-offset-preserved
 loop-offset-preserved c =
