@@ -15,6 +15,8 @@ pub enum Way {
     Plain,
     /// With `--explain`, where they take it.
     Explained,
+    /// With `--format json`, those that can tell an object.
+    AsObjects,
 }
 
 /// Does the rows of a table of the folder `rows`, and tells how many there are, or which of them answer otherwise.
@@ -33,6 +35,9 @@ pub fn compare<R: Machine>(rt: &R, name: &str, way: Way) -> io::Result<()> {
     match table.wrong {
         0 if way == Way::Explained => {
             println!(rt; "{name}: {} rows tell the same with --explain", table.rows)
+        }
+        0 if way == Way::AsObjects => {
+            println!(rt; "{name}: {} objects say what their rows say", table.rows)
         }
         0 => println!(rt; "{name}: {} rows answer as they say", table.rows),
         wrong => println!(rt; "{name}: {wrong} of {} rows answer otherwise", table.rows),
@@ -156,11 +161,13 @@ impl<'t, R: Machine> Table<'t, R> {
                 command: *command,
                 wanted: &self.wanted,
             };
-            self.rows = self.rows.saturating_add(1);
             let is_so = match self.way {
                 Way::Plain => row.is_so(self.rt, &mut self.shelf)?,
                 Way::Explained => row.is_so_explained(self.rt, &mut self.shelf)?,
+                Way::AsObjects if !row.has_object() => continue,
+                Way::AsObjects => row.is_so_as_object(self.rt, &mut self.shelf)?,
             };
+            self.rows = self.rows.saturating_add(1);
             if !is_so {
                 self.wrong = self.wrong.saturating_add(1);
             }

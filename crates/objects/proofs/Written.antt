@@ -1,6 +1,7 @@
 -- From the line of an object to what it tells.
 use Rattle.std.proofs.Common.{◌≡◌, ◌≢◌, ℕ, List, [], ◌++◌, Option, Result, Ok, Err, ap, sym, refl, subst, ◌∙◌}
-use Rattle.std.proofs.Common.{AllocError, Global, String, string_bytes}
+use Rattle.std.proofs.Common.{Global, String, string_bytes}
+use Rattle.std.specs.declared.alloc.AllocError.{AllocError}
 use Rattle.std.proofs.KnownBytes.{Keeps-refl, Appends-kept}
 use Rattle.std.proofs.lemmas.List.{append-nil}
 use Rattle.std.specs.Io.KnownBytes.{Keeps}
