@@ -356,7 +356,7 @@ needs_layout text laid program spelled utf8 laid_utf8 other laid_out = record {
 }
 
 -- pairs as they are kept are listed as those of the program
-listed_as : (has meets : ℕ → ℕ → Type 0) → ((x y : ℕ) → has x y ↔ meets x y) → (pairs : List (ℕ × ℕ))
+pub listed_as : (has meets : ℕ → ℕ → Type 0) → ((x y : ℕ) → has x y ↔ meets x y) → (pairs : List (ℕ × ℕ))
     → AreListed has pairs → AreListed meets pairs
 listed_as has meets same pairs listed = record {
   smaller_first = listed.smaller_first;

@@ -11,6 +11,7 @@ use Rattle.types.specs.Code.{Program}
 use Rattle.types.specs.Typed.{code_of}
 use Rattle.types.specs.declared.typed.Typed.{Typed}
 use Rattle.parallel_relation.specs.Pairs.{ArePairs, AreListed, HasPair}
+use Rattle.parallel_relation.specs.Together.{LabelsMeet}
 use Rattle.parallel_relation.specs.declared.pairs.Pairs.{Pairs as KeptPairs}
 use Rattle.race_checker.specs.Races.{IsLeastRace, Race as ProgramRace}
 use Rattle.race_checker.specs.Refusal.{IsRefusalOf}
@@ -27,7 +28,7 @@ use Rattle.json_answers.specs.Pieces.{line}
 use Rattle.json_answers.specs.Races.{race_json}
 use Rattle.json_answers.specs.Refusals.{refusal_json}
 use Rattle.json_answers.specs.Programs.{pairs_json}
-use Rattle.answers.proofs.Answering.{pairs_answer}
+use Rattle.answers.proofs.Answering.{listed_as}
 use Rattle.objects.specs.Objects.{ArePlaces, ObjectOfPairs}
 use Rattle.objects.specs.declared.told.Told.{Told}
 use Rattle.objects.specs.Failing.{FailedAsObject, IsToldAsObject, TellsPlaced, TellsRace, told, untold}
@@ -98,12 +99,11 @@ pub told_pairs : (text : List ℕ) (code : Program) (kept : KeptPairs) (list : L
     → IfOk r (λ t. ObjectOfPairs text (string_bytes t.line) t.status)
 told_pairs text code kept list (Err f) l is_code are listed is status object = tt
 told_pairs text code kept list (Ok t) l is_code are listed is status object =
-    let answer = pairs_answer text code kept list is_code are listed in
     record {
       code = code;
       is_code = is_code;
       pairs = list;
-      listed = answer.listed;
+      listed = listed_as (HasPair kept) (LabelsMeet code) are list listed;
       told_is = subst (λ (m : Result (String Global) AllocError). IfOk m (λ x. string_bytes x ≡ line (pairs_json list))) is object;
       status_is = status;
     }

@@ -27,7 +27,7 @@ struct Entry {
 /// What an entry is or takes.
 #[derive(Clone, Copy)]
 enum Takes {
-    /// It is the name of a file or of a folder, which must stand there.
+    /// It is the name of a file, which must stand there.
     File,
     /// It is the name of a shell, which must stand there.
     Shell,
@@ -54,12 +54,6 @@ enum Takes {
 const FILE: Entry = Entry {
     name: "FILE",
     help: "The program; - is the standard input",
-    takes: Takes::File,
-};
-
-const FOLDER: Entry = Entry {
-    name: "FOLDER",
-    help: "The folder: NAME.out is what NAME.afx should tell, NAME.json its input, if it has one",
     takes: Takes::File,
 };
 
@@ -240,16 +234,6 @@ longest chain of steps that must come one after another. No number of workers ma
 
 Example: afx cost examples/doubling.afx --input examples/doubling.json";
 
-const BENCH_EXAMPLE: &str =
-    "Each run is timed five times: the least and the middle of its times stand beside how often they are that of one thread.
-
-Example: afx bench examples/doubling.afx --input examples/doubling.json";
-
-const TEST_EXAMPLE: &str =
-    "Each program is run on one thread, and as tasks on 1 and on 4 threads. A line tells of each that tells otherwise.
-
-Example: afx test examples/tested";
-
 const EXPLORE_EXAMPLE: &str =
     "A choice is the number of a part that steps next, of those that may, from the left and from 0.
 
@@ -321,20 +305,6 @@ const COSTED: Row = Row {
     entries: &[FILE, INPUT, STEPS, NEST, FORMAT, EXPLAIN, COLOR],
 };
 
-const BENCHED: Row = Row {
-    name: "bench",
-    about: "Times a program on one thread and as tasks",
-    example: BENCH_EXAMPLE,
-    entries: &[FILE, INPUT, STEPS, NEST, EXPLAIN, COLOR],
-};
-
-const TESTED: Row = Row {
-    name: "test",
-    about: "Runs the programs of a folder, and compares what they tell",
-    example: TEST_EXAMPLE,
-    entries: &[FOLDER, EXPLAIN, COLOR],
-};
-
 const EXPLORED: Row = Row {
     name: "explore",
     about: "Runs a program step by step, by given choices",
@@ -380,9 +350,9 @@ const MANUAL: Row = Row {
 };
 
 /// All commands, in the order in which help tells them.
-const ROWS: [Row; 14] = [
-    RUN, SERIAL, CHECKED, LISTED, FORMATTED, PAIRED, COSTED, BENCHED, TESTED, EXPLORED, VIEWED,
-    EXPLAINED, COMPLETED, MANUAL,
+const ROWS: [Row; 12] = [
+    RUN, SERIAL, CHECKED, LISTED, FORMATTED, PAIRED, COSTED, EXPLORED, VIEWED, EXPLAINED,
+    COMPLETED, MANUAL,
 ];
 
 /// What stands behind the help of the program.
@@ -391,8 +361,8 @@ const STATUSES: &str = "No word is `run -`: the program is read from the standar
 Example: afx serial examples/doubling.afx --input examples/doubling.json --arrays
 
 Exit status:
-  0  the run ended; the program is accepted; a listing; pairs of labels; a text laid out; a trace shown; no test failed; help
-  1  refused: the command line, a file, the text, a rule, a race, the input, choices, the trace, the output; not laid out; a test failed
+  0  the run ended; the program is accepted; a listing; pairs of labels; a text laid out; a trace shown; help
+  1  refused: the command line, a file, the text, a rule, a race, the input, choices, the trace, the output; not laid out
   2  the run ended with faults
   3  the run was stopped over its budget; it has not ended by its choices
   4  no memory; more tasks than the run may have
@@ -409,8 +379,6 @@ pub const CLOSING: Closing<'static> = Closing {
         LAYOUT_EXAMPLE,
         PAIRS_EXAMPLE,
         COST_EXAMPLE,
-        BENCH_EXAMPLE,
-        TEST_EXAMPLE,
         EXPLORE_EXAMPLE,
         VIEW_EXAMPLE,
         EXPLAIN_EXAMPLE,

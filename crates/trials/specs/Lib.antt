@@ -1,3 +1,0 @@
-pub mod Folder
-pub mod Runs
-pub mod Times
