@@ -3,23 +3,28 @@ use Rattle.std.proofs.Common.{◌≡◌, ◌≢◌, ℕ, ◌≤◌, length, List
 use Rattle.std.specs.Prelude.{IsErrAnd}
 use Rattle.std.specs.Str.{IsUtf8}
 use Rattle.texts.specs.Appending.{Writes}
+use Rattle.types.specs.Code.{Array}
+use Rattle.types.specs.Outcome.{Outcome}
 use Rattle.command_line.specs.Requests.{Asked, Settings}
 use Rattle.command_line.specs.declared.request.Command.TheVariants.{Run}
 use Rattle.intake.specs.Held.{Held, IsGiven, TellsNoProgram}
 use Rattle.intake.specs.declared.failure.Failure.{Failure}
 use Rattle.intake.specs.declared.failure.Failure.TheVariants.{CannotWriteOutput, NoMemory}
 use Rattle.answers.specs.Answers.{Explains}
-use Rattle.objects.specs.Objects.{FailsEarly, ObjectOf}
+use Rattle.answers.proofs.Answering.{other_failure}
+use Rattle.objects.specs.Objects.{FailsEarly, ObjectOf, TellsOutcome}
 use Rattle.objects.specs.Failing.{IsToldAsObject, TellsFailure}
 use Rattle.objects.specs.declared.told.Told.{Told}
 use Rattle.objects.proofs.Written.{object_answered, object_refused}
-use Rattle.reading.specs.Orders.{command_of}
+use Rattle.reading.specs.Orders.{Order, command_of}
 use Rattle.reading.specs.declared.order.Subject.{Subject}
 use Rattle.viewing.specs.Files.{Wrote, WritesTo}
-use Rattle.driver.specs.Acts.{ExplainsAny, Leaves}
+use Rattle.driver.specs.Acts.{Acts, Leaves, ReadsAndPerforms, Reports}
 use Rattle.driver.specs.Objects.{ReadsAndTells, TellsObject, TellsUnread, on_text, without_text, status_in}
-use Rattle.driver.specs.Traced.{WritesTrace}
+use Rattle.driver.specs.Orders.{ActsOn, TellsAs}
+use Rattle.driver.specs.Traced.{TellsNoRun, WritesTrace}
 use Rattle.driver.proofs.Acting.{leaves_on}
+use Rattle.driver.proofs.Leaving.{no_run_explained, no_run_other}
 
 module _ (x : Subject) (file : List ℕ) (s : Settings) (text : List ℕ) (held later : Held) (old new : Option (List ℕ)) where
   -- an object that was written, or a beginning of it
@@ -65,6 +70,39 @@ pub tells_refused : (x : Subject) (a : Asked) (held later : Held) (old new : Opt
     → g ≡ f → ReadsAndTells x a held later old new (Err f) → ReadsAndTells x a held later old new (Err g)
 tells_refused x a held later old new g f same done =
     subst (λ (h : Failure). ReadsAndTells x a held later old new (Err h)) (sym same) done
+
+-- a failure that is passed on is one of the status
+pub status_err : (r : Result Told Failure) (Q : Failure → Type 0) → IsErrAnd r Q → IsErrAnd (status_in r) Q
+status_err (Ok t) Q is = is
+status_err (Err f) Q is = is
+
+-- the object of the same outcome
+pub same_outcome : (declared known : List Array) (o p : Outcome) (text object : List ℕ) (status : ℕ) → declared ≡ known → o ≡ p
+    → TellsOutcome declared o text object status → TellsOutcome known p text object status
+same_outcome declared known o p text object status are same tells =
+    subst (λ (d : List Array). TellsOutcome d p text object status) are
+    (subst (λ (q : Outcome). TellsOutcome declared q text object status) same tells)
+
+-- a run without an outcome
+pub no_run_early : (s : Settings) (held : Held) (text : List ℕ) (f : Failure) → TellsNoRun s f → FailsEarly Run s held text f
+no_run_early s held text f why =
+    record { why = no_run_explained s held text f why; early = other_failure f (no_run_other s f why) }
+
+-- ---- what was ordered
+
+module _ (held later : Held) (old new err_old err_new : Option (List ℕ)) (status : ℕ) where
+  pub acted : (a : Asked) (r : Result ℕ Failure) → ReadsAndPerforms a held later old new r
+      → Reports a.telling.explain err_old err_new r status → Acts a held later old new err_old err_new status
+  acted a r performs reports = record { result = r; performs = performs; reports = reports }
+
+  pub told_as : (x : Subject) (a : Asked) (r : Result ℕ Failure) → ReadsAndTells x a held later old new r
+      → Reports a.telling.explain err_old err_new r status → TellsAs x a held later old new err_old err_new status
+  told_as x a r does reports = record { result = r; does = does; reports = reports }
+
+  -- one order is another
+  pub ordered : (o p : Order) → o ≡ p → ActsOn o held later old new err_old err_new status
+      → ActsOn p held later old new err_old err_new status
+  ordered o p same acts = subst (λ (q : Order). ActsOn q held later old new err_old err_new status) same acts
 
 -- ---- the trace of a run whose object is told
 

@@ -89,7 +89,7 @@ fn report<E: Write>(done: Result<Answered, Refusal>, explain: bool, err: &mut E)
     requires bare { IfErr done (λ refusal. explain ≡ false → string_bytes refusal.more ≡ []) }
     requires quiet { IfOk done (λ answered. explain ≡ false → string_bytes answered.more ≡ []) }
     requires calm { IfOk done (λ answered. answered.status ≤ 1 → string_bytes answered.more ≡ []) }
-    ensures { Reports explain (E.contents err.old) (E.contents err.new) (in_short done.entry) result }
+    ensures { Reports explain (E.contents err.old) (E.contents err.new) (in_short done) result }
 {
     match done {
         Ok(answered) => answered.follow(err),

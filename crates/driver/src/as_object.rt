@@ -16,7 +16,7 @@ use crate::refusal::Refusal;
 use crate::terminal::Terminal;
 use crate::tracing::outcome_of;
 use answers::programs::accepted_of;
-use command_line::request::{Request, Settings};
+use command_line::request::{Command, Request, Settings};
 use intake::failure::Failure;
 use intake::files::{FileSource, read_program};
 use intake::input_file::input_of;

@@ -1,0 +1,12 @@
+use Rattle.driver.proofs.Acting.{followed, reported}
+use Rattle.driver.proofs.act.report.Goals as goal
+
+pub returns-in-Ok : goal.returns-in-Ok
+returns-in-Ok g c =
+    followed c.args.explain _ _ c.in-Ok.answered _ (rw c.in-Ok.is at c.requires.quiet) (rw c.in-Ok.is at c.requires.calm)
+    c.follow.ensures.status c.follow.ensures.told
+
+pub returns-in-Err : goal.returns-in-Err
+returns-in-Err g c =
+    reported c.args.explain _ _ c.in-Err.refusal _ (rw c.in-Err.is at c.requires.bare) c.tell.ensures.status
+    c.tell.ensures.told
