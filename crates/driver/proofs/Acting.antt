@@ -157,3 +157,9 @@ pub refused_of : (a : Asked) (held later : Held) (old new : Option (List ℕ)) (
     → ReadsAndPerforms a held later old new (Err f) → ReadsAndPerforms a held later old new (in_short (Err r))
 refused_of a held later old new r f same done =
     subst (λ (g : Failure). ReadsAndPerforms a held later old new (Err g)) (sym same) done
+
+-- what is reported of a result is reported of the same
+pub reported_by : (explain : Bool) (old new : Option (List ℕ)) (r s : Result Answered Refusal) (status : ℕ) → r ≡ s
+    → Reports explain old new (in_short s) status → Reports explain old new (in_short r) status
+reported_by explain old new r s status same reports =
+    subst (λ (t : Result Answered Refusal). Reports explain old new (in_short t) status) (sym same) reports

@@ -40,9 +40,9 @@ module _ (x : Subject) (file : List ℕ) (s : Settings) (text : List ℕ) (held 
   -- a failure whose object was told
   pub refusal_told : (f : Failure) → FailsEarly (command_of x) s held text f → IsToldAsObject (TellsFailure file text f) old new
       → Leaves (command_of x) s text held later (Err f) → TellsObject x file s text held later old new (Err f)
-  refusal_told f fails told leaves = record {
+  refusal_told f fails is_told leaves = record {
     done = object_refused (ObjectOf (command_of x) s held text) (Explains (command_of x) s held text)
-        (TellsFailure file text) old new f fails.why fails.early told;
+        (TellsFailure file text) old new f fails.why fails.early is_told;
     leaves = leaves;
   }
 
@@ -59,7 +59,7 @@ module _ (x : Subject) (a : Asked) (held mid later last : Held) (before : mid �
 pub told_without_text : (x : Subject) (a : Asked) (held later : Held) (old new : Option (List ℕ)) (f : Failure)
     → later ≡ held → TellsNoProgram held a.file f → IsToldAsObject (TellsFailure a.file [] f) old new
     → ReadsAndTells x a held later old new (Err f)
-told_without_text x a held later old new f keeps why told = without_text (record { why = why; told = told }) keeps
+told_without_text x a held later old new f keeps why is_told = without_text (record { why = why; told = is_told }) keeps
 
 -- what was done is that of the same result
 pub tells_short : (x : Subject) (a : Asked) (held later : Held) (old new : Option (List ℕ)) (r s : Result ℕ Failure)

@@ -47,7 +47,7 @@ impl Row<'_> {
     /// The listing with places of the command's program; nothing where it has none.
     fn listing<R: Machine>(&self, rt: &R, shelf: &mut Shelf<'_, R>) -> io::Result<String> {
         let alloc = rt.alloc();
-        let file = self.command.split(' ').nth(3).unwrap_or("-");
+        let file = file_in(self.command);
         let words = words_of(alloc, &format!(in alloc; "$ afx list --lines {file}")?)?;
         let told = self.told_by(rt, shelf, &words, Limit::Never, Limit::Never)?;
         Ok(String::from_str(alloc, text_of(&told.out.taken))?)
@@ -73,6 +73,16 @@ impl Row<'_> {
             None => Ok(plain_of(alloc, object, out)?.as_str() == out),
         }
     }
+}
+
+/// The file of the program that a command names.
+fn file_in(command: &str) -> &str {
+    for word in command.split(' ').skip(3) {
+        if word.ends_with(".afx") {
+            return word;
+        }
+    }
+    "-"
 }
 
 /// Whether a command can tell an object.
