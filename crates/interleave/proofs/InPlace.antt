@@ -38,18 +38,18 @@ module _ (r : rWorld) (path : Path) (k : rTask) (at : get is_path r.tasks path �
       t = there (IsTaskOf r.job) k (get is_path r.tasks path) (task path.turns.items w.live) (h.tasks path) at
 
       go : Live → Action → Option World
-      go t = by_step r.job.w0 actions handed t w
+      go its = by_step r.job.w0 actions handed its w
 
       by_task : Live → Option World
-      by_task t = and_then (hand_of t.place) (λ v. and_then (next_action r.job.w0 actions handed t) (go t))
+      by_task its = and_then (hand_of its.place) (λ v. and_then (next_action r.job.w0 actions handed its) (go its))
 
       by_action : (o : Option Action) → (o ≡ Some Step → ⊥) → and_then o (go t.0) ≡ None
-      by_action None no = refl
-      by_action (Some Step) no = absurd (no refl)
-      by_action (Some (Spawn c)) no = refl
-      by_action (Some EnterFinish) no = refl
-      by_action (Some EndFinish) no = refl
-      by_action (Some EndTask) no = refl
+      by_action None other = refl
+      by_action (Some Step) other = absurd (other refl)
+      by_action (Some (Spawn c)) other = refl
+      by_action (Some EnterFinish) other = refl
+      by_action (Some EndFinish) other = refl
+      by_action (Some EndTask) other = refl
 
       by_hand : (o : Option ℕ) → hand_of t.0.place ≡ o
           → and_then o (λ v. and_then (next_action r.job.w0 actions handed t.0) (go t.0)) ≡ None
