@@ -239,20 +239,19 @@ module _ (j : Job) (ok : IsJob j) where
     by_frames (Spawns q x) (AtEnd before ∷ fs) st steps come stay h = absurd h
     by_frames (EntersFinish q) (AtEnd before ∷ fs) st steps come stay h = absurd h
     by_frames (Over q) (AtEnd before ∷ fs) st steps come stay h = absurd h
-    by_frames (EndsFinish w x) (AtEnd before ∷ fs) st steps come stay h =
-        (
-          ends_finish c before fs st come,
-          record {
-            program = ap (λ plan. program plan.program.now) h.1 ∙ is;
-            nest = h.2 ∙ nest;
-            frames = fs;
-            before = before;
-            state = st;
-            waits = h.0;
-            come = come;
-            made = h.3;
-          },
-        )
+    by_frames (EndsFinish w x) (AtEnd before ∷ fs) st steps come stay h = (
+      ends_finish c before fs st come,
+      record {
+        program = ap (λ plan. program plan.program.now) h.1 ∙ is;
+        nest = h.2 ∙ nest;
+        frames = fs;
+        before = before;
+        state = st;
+        waits = h.0;
+        come = come;
+        made = h.3;
+      },
+    )
     by_frames (Ended x) (AtEnd before ∷ fs) st steps come stay h = absurd h
     by_frames (Going q) [] st steps come stay h = absurd h
     by_frames (Spawns q x) [] st steps come stay h = absurd h
