@@ -7,7 +7,7 @@ use Rattle.types.specs.declared.path.Path.{Path}
 use Rattle.effects.specs.Rounds.{needs_of}
 use Rattle.own_run.specs.OwnRun.{Action, Step, Spawn, EnterFinish, EndFinish, EndTask, Start}
 use Rattle.own_run.specs.Results.{TaskResult, and_then}
-use Rattle.interleave.specs.Acting.{IsReady, SteppedIf, TookStep, TookStepIf}
+use Rattle.interleave.specs.Acting.{SteppedIf, TookStep, TookStepIf}
 use Rattle.interleave.specs.Courses.{IsNotToStep, course_of}
 use Rattle.interleave.specs.Events.{Steps, by_step, next_action}
 use Rattle.interleave.specs.Jobs.{program_of, budget_of}

@@ -134,7 +134,8 @@ impl<'p> World<'p> {
         Ok(())
     }
 
-    /// A task does one step in a world that is given up by an error: its run turns where it is, wherever it can.
+    /// A task does one step in a world that is given up by an error: wherever it can, its run turns
+    /// where it is.
     pub(crate) fn step_ahead(&mut self, path: &Path) -> Result<(), EventError>
         requires { IsWorld self.old }
         ensures job { OnOk result (self.new.job ≡ self.old.job) }
@@ -149,8 +150,8 @@ impl<'p> World<'p> {
         self.step(path)
     }
 
-    /// Whether a task's run took a step where it is, as one in a hand does whose next action isn't looked at yet.
-    /// After an error the run is worth nothing.
+    /// Whether a task's run took a step where it is, as one in a hand does whose next action isn't
+    /// looked at yet. After an error the run is worth nothing.
     fn take_step(&mut self, path: &Path) -> Result<bool, EventError>
         requires { IsWorld self.old }
         ensures job { self.new.job ≡ self.old.job }

@@ -131,8 +131,8 @@ fn ahead<'p>(job: Job<'p>, run: Run<'p>) -> Result<Doing<'p>, EventError>
     }
 }
 
-/// A run goes on where it is, up to the first action of its own, which is to be a step. After an error it is worth
-/// nothing.
+/// A run goes on where it is, up to the first action of its own, which is to be a step. After an
+/// error it is worth nothing.
 pub(crate) fn take_step<'p>(job: Job<'p>, run: &mut Run<'p>) -> Result<(), EventError>
     requires job { IsJob job }
     requires task { (c : Course) × IsRunOf job c run.old }

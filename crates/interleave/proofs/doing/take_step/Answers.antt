@@ -1,6 +1,6 @@
 use Rattle.std.proofs.Common.{◌≡◌, arith, subst}
 use Rattle.effects.specs.Rounds.{needs_of}
-use Rattle.own_run.specs.RunTurns.{IsAtEnd, IsStep, IsTurn, turn_of}
+use Rattle.own_run.specs.RunTurns.{IsStep, IsTurn, turn_of}
 use Rattle.own_run.specs.declared.run.Run.{Run}
 use Rattle.own_run.specs.declared.turn.Done.{Done}
 use Rattle.own_run.specs.declared.turn.Step.{Step}

@@ -1,5 +1,5 @@
 use Rattle.std.proofs.Common.{◌∙◌, refl, subst, sym}
-use Rattle.interleave.specs.Courses.{IsDoing, IsLooked, IsNotToStep, course_of}
+use Rattle.interleave.specs.Courses.{IsDoing, IsLooked, course_of}
 use Rattle.interleave.specs.declared.doing.Doing.{Doing}
 use Rattle.interleave.specs.declared.doing.Doing.TheVariants.{Steps}
 use Rattle.interleave.proofs.InHand.{its_doing}

@@ -1,4 +1,4 @@
-use Rattle.std.proofs.Common.{false, subst, sym, true}
+use Rattle.std.proofs.Common.{subst}
 use Rattle.std.proofs.lemmas.Result.{on_ok_weaker, IfErr-weaker}
 use Rattle.interleave.specs.Acting.{SteppedIf}
 use Rattle.interleave.specs.Events.{Steps}
