@@ -1,3 +1,3 @@
+pub mod AddingLemmas
 pub mod BlockLemmas
-pub mod RowLemmas
-pub mod WalkLemmas
+pub mod KindLemmas

@@ -1,25 +1,17 @@
 -- What a block holds.
-use Rattle.std.specs.Prelude.{ℕ, ◌-◌, List, get_or, slice_get, nat_le, ℤ}
-use Rattle.std.specs.Prelude.{Option, Some, None, option_map, if◌then◌else◌}
+use Rattle.std.specs.Prelude.{◌-◌, get_or, ℤ}
+use Rattle.std.specs.Prelude.{Option, Some, None, option_map}
 use Rattle.std.specs.Arc.{arc_value}
 use Rattle.std.specs.Box.{box_value}
 use Rattle.blocks.specs.Held.{Held, Owned, Shared, owned_number, number_of}
-use Rattle.blocks.specs.Offsets.{Offsets}
+use Rattle.block_numbers.specs.Numbers.{number_in}
+use Rattle.block_numbers.specs.Offsets.{Offsets}
 use Rattle.blocks.specs.declared.block.Block.{Block}
 use Rattle.blocks.specs.declared.block.Block.TheVariants.{Empty, Mixed as InParts}
 use Rattle.blocks.specs.declared.block.Block.TheVariants.{Owned as AllOwned, Shared as AllShared}
-use Rattle.blocks.specs.declared.kind.Kind.{Kind}
-use Rattle.blocks.specs.declared.kind.Kind.TheVariants.{Absent, Own, Copied}
+use Rattle.block_numbers.specs.declared.kind.Kind.{Kind}
+use Rattle.block_numbers.specs.declared.kind.Kind.TheVariants.{Absent, Own, Copied}
 use Rattle.blocks.specs.declared.mixed.Mixed.{Mixed}
-use Rattle.blocks.specs.declared.numbers.Numbers.{Numbers}
-
--- the elements of a list at neighbouring offsets, the first of them at `first`
-abbrev pub row_from : {A : Type 0} → (first : ℕ) → List A → Offsets A
-row_from first xs k = if nat_le first k then slice_get xs (k - first) else None
-
--- the numbers of neighbouring offsets
-abbrev pub number_in : Numbers → Offsets ℤ
-number_in n k = row_from n.first n.list.items k
 
 -- a number as what is held of it
 abbrev pub held_as : Kind → Option ℤ → Option Held

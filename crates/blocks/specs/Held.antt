@@ -1,5 +1,5 @@
 -- What is held of the arrays: at some places a number, owned or as a copy.
-use Rattle.std.specs.Prelude.{ℕ, ◌≡◌, ◌<◌, ◌≤◌, Bool, true, ℤ}
+use Rattle.std.specs.Prelude.{◌≡◌, Bool, true, ℤ}
 use Rattle.std.specs.Prelude.{Option, Some, None, option_map, if◌then◌else◌}
 use Rattle.sections.specs.Place.{Place, same_place}
 
@@ -39,15 +39,6 @@ put p x m q = if same_place p q then Some x else m q
 abbrev pub IsThere : {A : Type 0} → (Place → Bool) → Map A → Type 0
 IsThere set m = (q : Place) → set q ≡ true → m q ≡ None → ⊥
 
--- there is nothing at a place of a set
-abbrev pub IsFree : {A : Type 0} → (Place → Bool) → Map A → Type 0
-IsFree set m = (q : Place) → set q ≡ true → m q ≡ None
-
--- a map has the places of an array from one up to an end behind it
-pub record IsRun {A : Type 0} (m : Map A) (from : Place) (end : ℕ) : Type 0 where
-  pub behind : from.index < end
-  pub there : (i : ℕ) → from.index ≤ i → i < end → m (record from { index = i }) ≡ None → ⊥
-
 -- two maps have no place together
 abbrev pub AreApart : {A : Type 0} → Map A → Map A → Type 0
 AreApart m n = (q : Place) → (m q ≡ None → ⊥) → n q ≡ None
@@ -78,7 +69,3 @@ as_owned m q = option_map Owned (m q)
 -- numbers as copies
 abbrev pub as_shared : Map ℤ → Map Held
 as_shared m q = option_map Shared (m q)
-
--- what is held where some numbers are owned and some are copies; an owned place hides its copy
-abbrev pub held_by : (own copies : Map ℤ) → Map Held
-held_by own copies = over (as_owned own) (as_shared copies)

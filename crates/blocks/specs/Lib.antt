@@ -1,5 +1,4 @@
 pub mod Blocks
-pub mod Counts
+pub mod Copies
 pub mod Held
-pub mod Offsets
 pub mod Ready

@@ -1,27 +1,18 @@
 -- Blocks that can be changed without memory.
-use Rattle.std.specs.Prelude.{ℕ, ◌+◌, ◌≤◌, ◌≡◌, ◌⊎◌, ℤ, length, Option, Some, None, option_map}
+use Rattle.std.specs.Prelude.{ℕ, ◌⊎◌, ℤ, Option, Some, None, option_map}
 use Rattle.std.specs.Arc.{arc_value}
 use Rattle.std.specs.Box.{box_value}
 use Rattle.std.specs.declared.alloc.Global.{Global}
 use Rattle.std.specs.declared.sync.Arc.{Arc}
-use Rattle.blocks.specs.Blocks.{held_at, number_in, owned_at}
+use Rattle.block_numbers.specs.Numbers.{number_in}
+use Rattle.blocks.specs.Blocks.{held_at, owned_at}
 use Rattle.blocks.specs.Held.{Owned}
-use Rattle.blocks.specs.Offsets.{Offsets, Agree, HasAll, HasOnly, IsWithin, inside}
+use Rattle.block_numbers.specs.Offsets.{Offsets, Agree, HasAll, HasOnly, IsWithin, inside}
 use Rattle.blocks.specs.declared.block.Block.{Block}
 use Rattle.blocks.specs.declared.block.Block.TheVariants.{Empty, Mixed as InParts}
 use Rattle.blocks.specs.declared.block.Block.TheVariants.{Owned as AllOwned, Shared as AllShared}
 use Rattle.blocks.specs.declared.cut.Cut.{Cut}
-use Rattle.blocks.specs.declared.numbers.Numbers.{Numbers}
-
--- some numbers reach over a range of offsets
-pub record ReachOver (n : Numbers) (from to : ℕ) : Type 0 where
-  pub low : n.first ≤ from
-  pub high : to ≤ n.first + length n.list.items
-
--- some numbers have the offsets of others
-pub record IsAsWide (n m : Numbers) : Type 0 where
-  pub first : n.first ≡ m.first
-  pub length : length n.list.items ≡ length m.list.items
+use Rattle.block_numbers.specs.declared.numbers.Numbers.{Numbers}
 
 -- where a block has room of its own for numbers, held or not
 abbrev pub room_at : Block → Offsets ℤ

@@ -2,12 +2,12 @@
 
 ghost use Rattle.std.specs.Prelude.{◌≡◌, IfOk, IsTrue, None, OnErr, false, is_some};
 ghost use Rattle.std.specs.Arc.{arc_value};
-ghost use Rattle.blocks.specs.Blocks.{number_in};
-ghost use Rattle.blocks.specs.Offsets.{Agree, put_at};
+ghost use Rattle.block_numbers.specs.Numbers.{number_in};
+ghost use Rattle.block_numbers.specs.Offsets.{Agree, put_at};
 
-use crate::kind::Kind;
 use crate::mixed::Mixed;
-use crate::numbers::{Numbers, PLACES};
+use block_numbers::kind::Kind;
+use block_numbers::numbers::{Numbers, PLACES};
 use std::alloc::{AllocError, Global};
 use std::sync::Arc;
 
@@ -29,10 +29,11 @@ impl Block {
     ghost use Rattle.std.specs.Prelude.{◌≡◌, ◌↔◌, ◌<◌, ◌≤◌, ◌-◌, ℕ, true, false, pos, IfOk, IsTrue};
     ghost use Rattle.std.specs.Prelude.{None, OnErr, get_or, is_some, length, option_map, slice_get};
     ghost use Rattle.std.specs.Prelude.{unwrap_or};
-    ghost use Rattle.blocks.specs.Blocks.{held_at, kind_of, number_at, number_in, owned_at};
+    ghost use Rattle.block_numbers.specs.Numbers.{number_in};
+    ghost use Rattle.blocks.specs.Blocks.{held_at, kind_of, number_at, owned_at};
     ghost use Rattle.blocks.specs.Held.{Owned, Shared};
-    ghost use Rattle.blocks.specs.Offsets.{Agree, HasAll, HasOnly, StandApart, in_range, inside};
-    ghost use Rattle.blocks.specs.Offsets.{put_at};
+    ghost use Rattle.block_numbers.specs.Offsets.{Agree, HasAll, HasOnly, StandApart, in_range};
+    ghost use Rattle.block_numbers.specs.Offsets.{inside, put_at};
     ghost use Rattle.blocks.specs.Ready.{room_at};
 
     /// Owned numbers, from the first offset on.
@@ -63,8 +64,7 @@ impl Block {
         ensures found { IfOk result (λ f. f ≡ is_some (owned_at self.old offset)) }
         ensures written { IfOk result (λ f. IsTrue f
             → Agree (held_at self.new) (put_at offset (Owned value) (held_at self.old))) }
-        ensures missed { IfOk result (λ f. (f ≡ false)
-            → Agree (held_at self.new) (held_at self.old)) }
+        ensures missed { IfOk result (λ f. (f ≡ false) → Agree (held_at self.new) (held_at self.old)) }
         ensures same { OnErr result (Agree (held_at self.new) (held_at self.old)) }
         ensures owned { OnErr result (owned_at self.old offset ≡ None → ⊥) }
     {

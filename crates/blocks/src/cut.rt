@@ -1,6 +1,6 @@
 //! What is cut out of a block.
 
-use crate::numbers::Numbers;
+use block_numbers::numbers::Numbers;
 use std::sync::Arc;
 
 /// What a block is to lose: all that it holds, or copies of some of its numbers.

@@ -2,10 +2,9 @@
 
 #![tactic(auto)]
 
+mod adding;
 pub mod block;
 pub mod cut;
-pub mod kind;
 pub mod mixed;
-pub mod numbers;
 mod opening;
 mod pasting;

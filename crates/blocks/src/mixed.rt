@@ -2,8 +2,8 @@
 
 ghost use Rattle.std.specs.Prelude.{◌≡◌, length};
 
-use crate::kind::Kind;
-use crate::numbers::Numbers;
+use block_numbers::kind::Kind;
+use block_numbers::numbers::Numbers;
 use std::alloc::{AllocError, Global};
 
 /// Numbers each of which has a kind of its own. No other holder has them, so that they can be
@@ -17,10 +17,10 @@ pub struct Mixed {
 
 impl Mixed {
     ghost use Rattle.std.specs.Prelude.{◌-◌, ◌+◌, ◌↔◌, IfOk, IsTrue, None, is_some, false, option_map};
-    ghost use Rattle.blocks.specs.Blocks.{held_in, kind_of, number_in};
+    ghost use Rattle.block_numbers.specs.Numbers.{IsAsWide, number_in};
+    ghost use Rattle.blocks.specs.Blocks.{held_in, kind_of};
     ghost use Rattle.blocks.specs.Held.{Owned, number_of, owned_number};
-    ghost use Rattle.blocks.specs.Offsets.{Agree, outside, put_at, without_at};
-    ghost use Rattle.blocks.specs.Ready.{IsAsWide};
+    ghost use Rattle.block_numbers.specs.Offsets.{Agree, outside, put_at, without_at};
 
     /// Nothing.
     pub(crate) fn nothing(alloc: Global) -> Mixed {

@@ -2,9 +2,9 @@
 
 use crate::block::Block;
 use crate::cut::Cut;
-use crate::kind::Kind;
 use crate::mixed::Mixed;
-use crate::numbers::Numbers;
+use block_numbers::kind::Kind;
+use block_numbers::numbers::Numbers;
 use std::alloc::{AllocError, Global};
 use std::mem;
 use std::sync::Arc;
@@ -12,10 +12,11 @@ use std::sync::Arc;
 impl Block {
     ghost use Rattle.std.specs.Prelude.{◌≡◌, ◌<◌, ◌≤◌, ◌-◌, ℕ, IfOk, IfSome, None, OnErr, OnOk};
     ghost use Rattle.std.specs.Prelude.{false, true};
-    ghost use Rattle.blocks.specs.Blocks.{held_at, held_in, number_in, owned_at};
-    ghost use Rattle.blocks.specs.Offsets.{Agree, HasAll, HasOnly, IsWithin, in_range, inside};
-    ghost use Rattle.blocks.specs.Offsets.{outside};
-    ghost use Rattle.blocks.specs.Ready.{IsReady, ReachOver, room_at};
+    ghost use Rattle.block_numbers.specs.Numbers.{ReachOver, number_in};
+    ghost use Rattle.blocks.specs.Blocks.{held_at, held_in, owned_at};
+    ghost use Rattle.block_numbers.specs.Offsets.{Agree, HasAll, HasOnly, IsWithin, in_range};
+    ghost use Rattle.block_numbers.specs.Offsets.{inside, outside};
+    ghost use Rattle.blocks.specs.Ready.{IsReady, room_at};
     ghost use Rattle.blocks.specs.declared.cut.Cut.{Cut as CutOf};
 
     /// Cuts a range out, all of which is owned: copies its numbers and makes room, so that no memory
@@ -30,6 +31,7 @@ impl Block {
         ensures moved { IfOk result (λ c. HasOnly from to (held_at self.old) → c.copied ≡ 0) }
         ensures counted { IfOk result (λ c. (HasOnly from to (held_at self.old) → ⊥)
             → c.copied ≡ to - from) }
+        ensures whole { IfOk result (λ c. c.copied ≡ 0 → c.numbers ≡ None) }
         ensures keeps { (f t : ℕ) (c : CutOf) → IsReady self.old f t c → IsReady self.new f t c }
     {
         if self.holds_only(from, to) {

@@ -9,9 +9,9 @@ use std::sync::Arc;
 impl Block {
     ghost use Rattle.std.specs.Prelude.{◌≡◌, ◌↔◌, IsTrue, OnOk, option_map};
     ghost use Rattle.blocks.specs.Blocks.{held_at, owned_at};
-    ghost use Rattle.blocks.specs.Counts.{how_many};
+    ghost use Rattle.block_numbers.specs.Counts.{how_many};
     ghost use Rattle.blocks.specs.Held.{Owned, first_of};
-    ghost use Rattle.blocks.specs.Offsets.{Agree, IsWithin};
+    ghost use Rattle.block_numbers.specs.Offsets.{Agree, IsWithin};
     ghost use Rattle.blocks.specs.Ready.{CanTake, room_at};
 
     /// Makes room for what another block owns, so that no memory is wanted to paste it. What is held
@@ -117,10 +117,11 @@ impl Block {
 
 impl Mixed {
     ghost use Rattle.std.specs.Prelude.{◌≡◌, option_map};
-    ghost use Rattle.blocks.specs.Blocks.{held_in, number_in, owned_at};
-    ghost use Rattle.blocks.specs.Counts.{how_many};
+    ghost use Rattle.block_numbers.specs.Numbers.{number_in};
+    ghost use Rattle.blocks.specs.Blocks.{held_in, owned_at};
+    ghost use Rattle.block_numbers.specs.Counts.{how_many};
     ghost use Rattle.blocks.specs.Held.{Owned, first_of};
-    ghost use Rattle.blocks.specs.Offsets.{Agree, IsWithin};
+    ghost use Rattle.block_numbers.specs.Offsets.{Agree, IsWithin};
 
     /// Takes in what a block owns, for which there is room, and tells how many numbers were copied.
     /// This loop alone copies what is pasted.

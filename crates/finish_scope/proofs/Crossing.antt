@@ -5,6 +5,7 @@ use denote.Param.SendFields.{declared_sync, declared_send, variants_send, as_row
 use denote.Ref.{NamedLft}
 use Rattle.task_machine.specs.contracts.task.Child as Child
 use Rattle.own_run.specs.contracts.run.Run as Run
+use Rattle.own_run.specs.contracts.start.Start as Start
 use Rattle.task_machine.specs.contracts.task.Task as Task
 use Rattle.own_run.specs.contracts.frame.Frame as Frame
 use Rattle.types.specs.contracts.code.Stmt as CodeStmt
@@ -145,14 +146,26 @@ job_send κ = declared_send (Job.the_type κ) (search (sendable, crosses, carrie
 pub job_sync : (κ : NamedLft) → IsSync (Job.the_row κ)
 job_sync κ = declared_sync (Job.the_type κ) (search (sendable, crosses, carried) depth 60 fits 50000)
 
-pub child_send : (κ : NamedLft) → IsSend (Child.the_row κ)
-child_send κ = declared_send (Child.the_type κ) (search (sendable, crosses, carried, job_send) depth 60 fits 50000)
-
 stmt_sync : IsSync CodeStmt.the_row
 stmt_sync = search (sendable, crosses, Numbers.crosses, Truths.crosses, Kinds.crosses) depth 60 fits 20000
 
 truth_sync : IsSync CodeTruth.the_row
 truth_sync = search (sendable, crosses, Numbers.crosses, Truths.crosses) depth 60 fits 20000
+
+start_send : (κ : NamedLft) → IsSend (Start.the_row κ)
+start_send κ =
+    declared_send (Start.the_type κ) (
+      search (sendable, crosses, stmt_sync) depth 60 fits 50000,
+      (
+        OfEnvironment.the_send,
+        (OfHoldings.the_send, (search sendable, (OfPath.the_send, tt))),
+      ),
+    )
+
+pub child_send : (κ : NamedLft) → IsSend (Child.the_row κ)
+child_send κ =
+    declared_send (Child.the_type κ)
+    (job_send κ, (start_send κ, (OfScopeMark.the_send, (OfShare.the_send, tt))))
 
 frame_send : (κ : NamedLft) → IsSend (Frame.the_row κ)
 frame_send κ =

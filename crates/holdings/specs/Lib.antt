@@ -1,4 +1,4 @@
+pub use Rattle.block_rows.specs.Copied
+pub use Rattle.blocks.specs.Held
 pub mod Errors
-pub mod Fragments
-pub mod Held
 pub mod Holdings

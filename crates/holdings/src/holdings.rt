@@ -1,13 +1,8 @@
 //! What a task holds of the arrays.
 
-ghost use Rattle.holdings.specs.Fragments.{numbers_in};
-ghost use Rattle.holdings.specs.Held.{AreApart};
-
-use crate::cutting::{clear, copies, windows};
 use crate::error::HoldError;
-use crate::fragment::Fragment;
-use crate::fragments::Fragments;
-use crate::presence::{are_apart, has_all};
+use block_rows::presence::Wanted;
+use block_rows::rows::Rows;
 use sections::cover::cover;
 use sections::id::ArrayId;
 use sections::window::{Place, Window};
@@ -19,20 +14,17 @@ use types::typed::Typed;
 /// copy.
 #[derive(Drop)]
 pub struct Holdings {
-    pub(crate) owned: Fragments,
-    pub(crate) shared: Fragments,
-    ghost apart: { AreApart (numbers_in owned.list.items) (numbers_in shared.list.items) },
+    pub(crate) rows: Rows,
+    pub(crate) copied: u64,
 }
 
 impl Holdings {
-    ghost use Rattle.std.specs.Prelude.{◌≡◌, ◌+◌, ◌≤◌, IfErr, IfOk, IfSome, IsSome, None, OnErr};
-    ghost use Rattle.std.specs.Prelude.{OnOk, Some};
-    ghost use Rattle.std.specs.Prelude.{is_some, map, ok_or};
-    ghost use Rattle.std.specs.Vec.{vec_len, vec_capacity};
+    ghost use Rattle.std.specs.Prelude.{◌≡◌, IfErr, IfOk, IsSome, OnErr, OnOk, is_some, map, ok_or};
     ghost use Rattle.sections.specs.Covers.{has};
-    ghost use Rattle.sections.specs.Translation.{place as place_of, window as window_of};
-    ghost use Rattle.holdings.specs.Held.{IsThere, Owned, as_owned, as_shared, numbers, only};
-    ghost use Rattle.holdings.specs.Held.{over, owned, put, without};
+    ghost use Rattle.sections.specs.Translation.{window as window_of};
+    ghost use Rattle.blocks.specs.Held.{AreApart, IsThere, Owned, as_owned, as_shared, numbers};
+    ghost use Rattle.blocks.specs.Held.{only, over, owned, put, without};
+    ghost use Rattle.block_rows.specs.Copied.{CopiesSplit};
     ghost use Rattle.holdings.specs.Holdings.{held, listed};
     ghost use Rattle.holdings.specs.Errors.{RefusesPlaces, RefusesOwned};
     ghost use Rattle.types.specs.Contents.{FitsArrays, row as row_of};
@@ -42,19 +34,18 @@ impl Holdings {
     /// All places of the arrays, owned, with the numbers of lists that fit them.
     pub fn of_input(alloc: Global, _typed: &Typed, input: &Input) -> Result<Holdings, AllocError>
         requires { FitsArrays (code_of _typed.now).arrays (lists_in input.now) }
-        ensures { IfOk result (λ h. held h ≡ as_owned (listed (lists_in input.now))) }
+        ensures held { IfOk result (λ h. held h ≡ as_owned (listed (lists_in input.now))) }
+        ensures copied { IfOk result (λ h. h.copied ≡ 0) }
     {
-        let mut owned = Fragments::new(alloc);
-        for (number, list) in input.arrays.iter().enumerate() {
-            let numbers = Vec::from_slice(alloc, list)?;
-            owned.push(Fragment {
-                array: ArrayId { number },
-                first: 0,
-                numbers,
-            })?;
-        }
-        let shared = Fragments::new(alloc);
-        Ok(Holdings { owned, shared })
+        let rows = Rows::of_lists(alloc, &input.arrays)?;
+        Ok(Holdings { rows, copied: 0 })
+    }
+
+    /// How many places were copied one by one where places were carved out or pasted.
+    pub fn copied(&self) -> u64
+        ensures { result ≡ self.now.copied }
+    {
+        self.copied
     }
 
     /// The number at a place.
@@ -63,33 +54,9 @@ impl Holdings {
             (numbers (held self.now) (record { array = array.number; index = index }))
             HoldError.NotHeld }
     {
-        let place = Place { array, index };
-        if let Some(number) = self.number_near(place) {
-            return Ok(number);
-        }
-        match self.number_at(place) {
+        match self.rows.number(Place { array, index }) {
             Some(number) => Ok(number),
             None => Err(HoldError::NotHeld),
-        }
-    }
-
-    /// The number at a place, where one of the fragments that were found last has it.
-    fn number_near(&self, place: Place) -> Option<i64>
-        ensures { IfSome result (λ v. numbers (held self.now) (place_of place) ≡ Some v) }
-    {
-        match self.owned.number_near(place) {
-            Some(number) => Some(number),
-            None => self.shared.number_near(place),
-        }
-    }
-
-    /// The number at a place, where it is held.
-    fn number_at(&self, place: Place) -> Option<i64>
-        ensures { result ≡ numbers (held self.now) (place_of place) }
-    {
-        match self.owned.number_at(place) {
-            Some(number) => Some(number),
-            None => self.shared.number_at(place),
         }
     }
 
@@ -99,8 +66,7 @@ impl Holdings {
             ≡ row_of (numbers (held self.now)) array.number 0 length) }
     {
         let mut row = vec![in alloc; 0; length]?;
-        self.shared.copy_to(array, &mut row);
-        self.owned.copy_to(array, &mut row);
+        self.rows.copy_to(array.number, &mut row);
         Ok(row)
     }
 
@@ -113,9 +79,9 @@ impl Holdings {
         ensures refused { IfErr result (λ e. RefusesPlaces e
             (IsSome (owned (held self.old) (record { array = array.number; index = index })))) }
         ensures unchanged { OnErr result (held self.new ≡ held self.old) }
+        ensures copied { self.new.copied ≡ self.old.copied }
     {
-        let place = Place { array, index };
-        if self.owned.write_at(place, value) {
+        if self.rows.write(Place { array, index }, value)? {
             Ok(())
         } else {
             Err(HoldError::NotHeld)
@@ -133,14 +99,21 @@ impl Holdings {
         ensures refused { IfErr result (λ e. RefusesPlaces e
             (IsThere (has (map window_of windows.now)) (owned (held self.old)))) }
         ensures unchanged { OnErr result (held self.new ≡ held self.old) }
+        ensures copied { OnOk result (CopiesSplit (held self.old)
+            (has (map window_of windows.now)) self.old.copied self.new.copied) }
+        ensures begins { IfOk result (λ c. c.copied ≡ 0) }
+        ensures kept { OnErr result (self.new.copied ≡ self.old.copied) }
     {
-        let shared = Fragments::new(alloc);
-        if !has_all(&self.owned, &shared, windows) {
+        if !self.rows.has_all(windows, Wanted::Owned) {
             return Err(HoldError::NotHeld);
         }
-        let owned = copies(alloc, &self.owned, &cover(alloc, windows)?)?;
-        clear(alloc, &mut self.owned, windows)?;
-        Ok(Holdings { owned, shared })
+        let places = cover(alloc, windows)?;
+        let mut rows = Rows::new(alloc);
+        // Memory comes first: nothing has changed where it is missing, and the rest needs none.
+        let carvings = self.rows.cut_all(&mut rows, &places)?;
+        self.copied = self.copied.saturating_add(carvings.copied);
+        self.rows.carve_all(&mut rows, carvings);
+        Ok(Holdings { rows, copied: 0 })
     }
 
     /// Copies of the places of windows, all of which are held.
@@ -150,19 +123,30 @@ impl Holdings {
         ensures held { OnOk result (IsThere (has (map window_of windows.now)) (held self.now)) }
         ensures refused { IfErr result (λ e. RefusesPlaces e
             (IsThere (has (map window_of windows.now)) (held self.now))) }
+        ensures begins { IfOk result (λ c. c.copied ≡ 0) }
     {
-        if !has_all(&self.owned, &self.shared, windows) {
+        if !self.rows.has_all(windows, Wanted::Held) {
             return Err(HoldError::NotHeld);
         }
-        let places = cover(alloc, windows)?;
-        let mut shared = copies(alloc, &self.owned, &places)?;
-        shared.append(&mut copies(alloc, &self.shared, &places)?)?;
-        let owned = Fragments::new(alloc);
-        Ok(Holdings { owned, shared })
+        let mut rows = Rows::new(alloc);
+        rows.share_all(&self.rows, windows)?;
+        Ok(Holdings { rows, copied: 0 })
+    }
+
+    /// The same numbers at the same places, owned and copied alike. Whole blocks are copied when
+    /// they are written.
+    pub fn clone(&self, alloc: Global) -> Result<Holdings, AllocError>
+        ensures { IfOk result (λ h. held h ≡ held self.now) }
+    {
+        let rows = self.rows.again(alloc)?;
+        Ok(Holdings {
+            rows,
+            copied: self.copied,
+        })
     }
 
     /// Takes the owned places of others in; their copies are dropped.
-    pub fn paste(&mut self, alloc: Global, other: Holdings) -> Result<(), (HoldError, Holdings)>
+    pub fn paste(&mut self, _alloc: Global, other: Holdings) -> Result<(), (HoldError, Holdings)>
         ensures pasted { OnOk result (held self.new
             ≡ over (as_owned (owned (held other))) (held self.old)) }
         ensures apart { OnOk result (AreApart (owned (held other)) (owned (held self.old))) }
@@ -170,34 +154,20 @@ impl Holdings {
             (AreApart (owned (held other)) (owned (held self.old)))) }
         ensures unchanged { IfErr result (λ e. (held self.new ≡ held self.old)
             × (held e.1 ≡ held other)) }
+        ensures copied { OnOk result (CopiesSplit (held self.old)
+            (λ q. is_some (owned (held other) q)) self.old.copied self.new.copied) }
+        ensures kept { OnErr result (self.new.copied ≡ self.old.copied) }
     {
-        let mut other = other;
-        if !are_apart(&other.owned, &self.owned) {
+        if !self.rows.are_apart(&other.rows) {
             return Err((HoldError::OwnedTwice, other));
         }
-        let kept = self.owned.list.len();
-        match self.take(alloc, &mut other.owned) {
-            Ok(()) => {
-                self.owned.join_from(kept);
-                Ok(())
-            }
-            Err(_) => Err((HoldError::OutOfMemory, other)),
+        // Room comes first: nothing has changed where it is missing, and the rest needs no memory.
+        if self.rows.make_room_for(&other.rows).is_err() {
+            return Err((HoldError::OutOfMemory, other));
         }
-    }
-
-    /// Takes owned fragments in, in the place of copies.
-    fn take(&mut self, alloc: Global, fragments: &mut Fragments) -> Result<(), AllocError>
-        requires { AreApart (numbers_in fragments.old.list.items)
-            (numbers_in self.old.owned.list.items) }
-        ensures taken { OnOk result (held self.new
-            ≡ over (as_owned (numbers_in fragments.old.list.items)) (held self.old)) }
-        ensures unchanged { OnErr result (held self.new ≡ held self.old) }
-        ensures kept { OnErr result (fragments.new.list.items ≡ fragments.old.list.items) }
-    {
-        let places = windows(alloc, fragments)?;
-        // Room comes first: nothing has changed where it is missing, and the last step needs none.
-        self.owned.list.reserve(fragments.list.len())?;
-        clear(alloc, &mut self.shared, &places)?;
-        self.owned.append(fragments)
+        let Holdings { rows, copied: _ } = other;
+        let copied = self.rows.paste_all(rows);
+        self.copied = self.copied.saturating_add(copied);
+        Ok(())
     }
 }

@@ -2,10 +2,5 @@
 
 #![tactic(auto)]
 
-mod copy;
-mod cutting;
 pub mod error;
-pub mod fragment;
-mod fragments;
 pub mod holdings;
-mod presence;

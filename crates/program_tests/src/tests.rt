@@ -2,6 +2,7 @@
 //! need.
 
 mod completed_words;
+mod copied_places;
 mod drawn_numbers;
 mod effects_of_programs;
 mod failures;

@@ -5,8 +5,8 @@ use Rattle.std.specs.Prelude.{pos, unwrap_or, option_map}
 use Rattle.blocks.specs.Blocks.{held_at, kind_of}
 use Rattle.blocks.specs.Held.{number_of}
 use Rattle.blocks.proofs.BlockLemmas.{held_by_kind, spread_keeps}
-use Rattle.blocks.proofs.RowLemmas.{held_row, held_row-push}
-use Rattle.blocks.proofs.WalkLemmas.{inside-more}
+use Rattle.blocks.proofs.KindLemmas.{held_row, held_row-push}
+use Rattle.block_numbers.proofs.WalkLemmas.{inside-more}
 use Rattle.blocks.proofs.block.Block.spread.Goals as goal
 
 pub loop-offset-preserved : goal.loop-offset-preserved

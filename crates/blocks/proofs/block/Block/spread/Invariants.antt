@@ -1,7 +1,7 @@
 use Rattle.std.proofs.Common.{◌≡◌, ◌+◌, length}
 use Rattle.blocks.specs.Blocks.{held_at}
-use Rattle.blocks.specs.Offsets.{Agree, inside}
-use Rattle.blocks.proofs.RowLemmas.{held_row}
+use Rattle.block_numbers.specs.Offsets.{Agree, inside}
+use Rattle.blocks.proofs.KindLemmas.{held_row}
 use Rattle.blocks.proofs.block.Block.spread.Given as goal
 
 -- what is held so far is there

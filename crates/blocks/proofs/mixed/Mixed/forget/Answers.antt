@@ -1,5 +1,6 @@
-use Rattle.blocks.specs.declared.kind.Kind.TheVariants.{Absent}
-use Rattle.blocks.proofs.RowLemmas.{held_row-kind, row_from-there}
+use Rattle.block_numbers.specs.declared.kind.Kind.TheVariants.{Absent}
+use Rattle.block_numbers.proofs.RowLemmas.{row_from-there}
+use Rattle.blocks.proofs.KindLemmas.{held_row-kind}
 use Rattle.blocks.proofs.mixed.Mixed.forget.Goals as goal
 
 pub returns-clause-held : goal.returns-clause-held

@@ -1,6 +1,7 @@
 use Rattle.std.proofs.Common.{ap, ◌∙◌, ◌-◌, w64, set}
 use Rattle.std.proofs.lemmas.Int.{to_z-of_z}
-use Rattle.blocks.proofs.RowLemmas.{held_row, held_row-put, row_from-there}
+use Rattle.block_numbers.proofs.RowLemmas.{row_from-there}
+use Rattle.blocks.proofs.KindLemmas.{held_row, held_row-put}
 use Rattle.blocks.proofs.mixed.Mixed.put.Goals as goal
 
 pub returns-clause-held : goal.returns-clause-held

@@ -1,43 +1,46 @@
-use Rattle.std.proofs.Common.{◌≡◌, ◌∙◌, ap, map, subst}
-use Rattle.std.specs.Prelude.{ℤ, Bool}
+use Rattle.std.proofs.Common.{◌≡◌, ◌∙◌, Bool, ap, arith, map, sym}
 use Rattle.sections.specs.Covers.{has}
 use Rattle.sections.specs.Place.{Place}
 use Rattle.sections.specs.Translation.{window as window_of}
-use Rattle.holdings.specs.Fragments.{numbers_in}
-use Rattle.holdings.specs.Held.{Map, held_by, only, over, IsThere}
-use Rattle.holdings.proofs.HoldingsLemmas.{cleared_apart, held_by-carved}
-use Rattle.holdings.proofs.MapLemmas.{held_by-only, over-none}
+use Rattle.blocks.specs.Held.{Held, Map, without}
+use Rattle.block_rows.specs.Carvings.{copied_places, cut_places, moved_places}
+use Rattle.block_rows.specs.Pieces.{taking}
+use Rattle.block_rows.proofs.CoverLemmas.{copies-from}
+use Rattle.block_rows.proofs.MapLemmas.{taken-only}
+use Rattle.block_rows.specs.Rows.{held_in}
+use Rattle.holdings.specs.Holdings.{held}
 use Rattle.holdings.proofs.holdings.Holdings.carve.Goals as goal
 
-pub invariant_of-self : goal.invariant_of-self
-invariant_of-self c = record {
-  apart = cleared_apart c.clear.result (has (map window_of c.args.windows.now)) c.args.self.now.owned.list.items
-      c.clear.new.fragments.list.items (numbers_in c.args.self.now.shared.list.items)
-      c.clear.ensures.cleared c.clear.ensures.same c.args.self.now.apart;
-}
+pub cut_all-requires-clause-owned : goal.cut_all-requires-clause-owned
+cut_all-requires-clause-owned c =
+    let there = c.has_all.ensures.0 c.if-not-has_all.false in
+    λ q is. there q (sym (ap (λ ws. has (map window_of ws) q) c.deref.ensures.value ∙ c.in_ok-places.ensures.places q) ∙ is)
 
 pub returns-clause-taken : goal.returns-clause-taken
 returns-clause-taken c =
-    let own = numbers_in c.args.self.now.owned.list.items in
-    let copies = numbers_in c.args.self.now.shared.list.items in
-    let set = has (map window_of c.args.windows.now) in
-    let P : Map ℤ → Type 0 = λ m. IsThere set m in
-    let there : IsThere set own =
-    subst P (ap (λ fs. over own (numbers_in fs)) c.new-shared.ensures ∙ over-none own) (c.has_all.ensures.0 c.if-not-has_all.false) in
-    let places : has (map window_of c.deref.result.now) ≡ set = λ t q.
-    (ap (λ ws. has (map window_of ws) q) c.deref.ensures.value ∙ c.in_ok-cover.ensures.places q) t in
-    ap (λ (m : Map ℤ). held_by m (numbers_in c.new-shared.result.list.items))
-    (c.in_ok-owned.ensures ∙ ap (λ (s : Place → Bool). only s own) places)
-    ∙ ap (λ fs. held_by (only set own) (numbers_in fs)) c.new-shared.ensures
-    ∙ held_by-only set own copies there
+    let own = held c.args.self.now in
+    let cs = c.in_ok-carvings.carvings.list.items in
+    c.carve_all.ensures.taken
+    ∙ ap (λ (m : Map Held). taking (moved_places cs) m (held_in c.cut_all.new.others)) c.in_ok-carvings.ensures.same
+    ∙ ap (taking (moved_places cs) own) c.in_ok-carvings.ensures.taken
+    ∙ taken-only (moved_places cs) (copied_places cs) (has (map window_of c.args.windows.now)) own
+    (λ q. sym (ap (λ ws. has (map window_of ws) q) c.deref.ensures.value ∙ c.in_ok-places.ensures.places q) ∙ c.in_ok-carvings.ensures.places q)
 
 pub returns-clause-left : goal.returns-clause-left
 returns-clause-left c =
-    let own = numbers_in c.args.self.now.owned.list.items in
-    let copies = numbers_in c.args.self.now.shared.list.items in
-    let set = has (map window_of c.args.windows.now) in
-    let P : Map ℤ → Type 0 = λ m. IsThere set m in
-    let there : IsThere set own =
-    subst P (ap (λ fs. over own (numbers_in fs)) c.new-shared.ensures ∙ over-none own) (c.has_all.ensures.0 c.if-not-has_all.false) in
-    ap (λ (m : Map ℤ). held_by m copies) c.in_ok-clear.ensures.cleared
-    ∙ held_by-carved set own copies there c.args.self.now.apart
+    let own = held c.args.self.now in
+    let cs = c.in_ok-carvings.carvings.list.items in
+    let places : cut_places cs ≡ has (map window_of c.args.windows.now) = λ t q.
+    (sym (c.in_ok-carvings.ensures.places q)
+    ∙ ap (λ ws. has (map window_of ws) q) c.deref.ensures.value ∙ c.in_ok-places.ensures.places q) t in
+    c.carve_all.ensures.left
+    ∙ ap (without (cut_places cs)) c.in_ok-carvings.ensures.same
+    ∙ ap (λ (set : Place → Bool). without set own) places
+
+pub returns-clause-copied : goal.returns-clause-copied
+returns-clause-copied c =
+    let cs = c.in_ok-carvings.carvings in
+    copies-from (held c.args.self.now) (has (map window_of c.deref.result.now)) (has (map window_of c.args.windows.now)) cs.copied
+    c.args.self.now.copied c.saturating_add-self.result
+    (λ q. ap (λ ws. has (map window_of ws) q) c.deref.ensures.value ∙ c.in_ok-places.ensures.places q)
+    c.in_ok-carvings.ensures.copied (omega (arith, c.saturating_add-self.ensures))

@@ -15,8 +15,8 @@ returns c =
     let same = c.requires.program in
     let body = ap codes c.deref.ensures.value ∙ ap (λ (q : Program). q.main.body) same in
     let environment = c.in_ok-environment.ensures ∙ ap (λ (q : Program). entry [] (whole_arrays 0 q.arrays)) same in
-    let contents = root_holds h lists c.in_ok-holdings.ensures in
-    let owns = root_owns h p.arrays lists c.requires.fits c.in_ok-holdings.ensures in
+    let contents = root_holds h lists c.in_ok-holdings.ensures.held in
+    let owns = root_owns h p.arrays lists c.requires.fits c.in_ok-holdings.ensures.held in
     λ t. record {
       body = body t;
       environment = environment t;

@@ -1,0 +1,6 @@
+//! The numbers of neighbouring offsets of a block, and how they are held.
+
+#![tactic(auto)]
+
+pub mod kind;
+pub mod numbers;

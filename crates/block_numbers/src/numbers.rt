@@ -1,0 +1,103 @@
+//! The numbers of neighbouring offsets.
+
+ghost use Rattle.std.specs.Prelude.{◌+◌, ◌≤◌, length};
+
+use std::alloc::{AllocError, Global};
+
+/// How many places a block has at most.
+pub const PLACES: usize = 256;
+
+/// The numbers of neighbouring offsets, from the offset `first` on.
+#[derive(Drop)]
+pub struct Numbers {
+    pub first: usize,
+    pub list: Vec<i64>,
+    ghost within: { first + length list.items ≤ 256 },
+}
+
+impl Numbers {
+    ghost use Rattle.std.specs.Prelude.{◌≡◌, ◌-◌, ◌<◌, ◌↔◌, IfOk, IsTrue, false, is_some};
+    ghost use Rattle.std.specs.Prelude.{[]};
+    ghost use Rattle.block_numbers.specs.Numbers.{ReachOver, number_in};
+    ghost use Rattle.block_numbers.specs.Offsets.{Agree, HasAll, inside, put_at};
+
+    /// No numbers.
+    pub fn none(alloc: Global) -> Numbers
+        ensures first { result.first ≡ 0 }
+        ensures list { result.list.items ≡ [] }
+    {
+        Numbers {
+            first: 0,
+            list: Vec::new(alloc),
+        }
+    }
+
+    /// The offset behind the last one.
+    pub fn end(&self) -> usize
+        ensures { result ≡ self.now.first + length self.now.list.items }
+    {
+        self.first + self.list.len()
+    }
+
+    /// The number at an offset.
+    pub fn number(&self, offset: usize) -> Option<i64>
+        ensures { result ≡ number_in self.now offset }
+    {
+        if offset < self.first {
+            return None;
+        }
+        self.list.get(offset - self.first).copied()
+    }
+
+    /// Whether the offsets of a range have numbers; of one without offsets, whether it stands among
+    /// them.
+    pub fn reach_over(&self, from: usize, to: usize) -> bool
+        ensures { IsTrue result ↔ ReachOver self.now from to }
+    {
+        self.first <= from && to <= self.end()
+    }
+
+    /// Writes the number at an offset that has one.
+    pub fn write(&mut self, offset: usize, value: i64) -> bool
+        ensures found { result ≡ is_some (number_in self.old offset) }
+        ensures written { IsTrue result
+            → Agree (number_in self.new) (put_at offset value (number_in self.old)) }
+        ensures same { (result ≡ false) → self.new ≡ self.old }
+    {
+        if offset < self.first || offset >= self.end() {
+            return false;
+        }
+        self.list[offset - self.first] = value;
+        true
+    }
+
+    /// The same numbers in memory of their own.
+    pub fn copied(&self, alloc: Global) -> Result<Numbers, AllocError>
+        ensures { IfOk result (λ n. (n.first ≡ self.now.first)
+            × (n.list.items ≡ self.now.list.items)) }
+    {
+        let list = Vec::from_slice(alloc, &self.list)?;
+        Ok(Numbers {
+            first: self.first,
+            list,
+        })
+    }
+
+    /// Copies of the numbers of a range, and how many were copied. This loop alone copies what is
+    /// carved out.
+    pub fn part(&self, alloc: Global, from: usize, to: usize) -> Result<(Numbers, u64), AllocError>
+        requires range { from < to }
+        requires there { ReachOver self.now from to }
+        ensures numbers { IfOk result (λ r.
+            Agree (number_in r.0) (inside from to (number_in self.now))) }
+        ensures copied { IfOk result (λ r. r.1 ≡ to - from) }
+    {
+        let mut list = Vec::with_capacity(alloc, to - from)?;
+        let mut copied = 0;
+        for offset in from..to {
+            list.push(self.list[offset - self.first])?;
+            copied += 1;
+        }
+        Ok((Numbers { first: from, list }, copied))
+    }
+}

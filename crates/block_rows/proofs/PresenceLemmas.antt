@@ -1,0 +1,130 @@
+-- Whether places of windows are there, piece by piece.
+use Rattle.std.proofs.Common.{◌≡◌, ℕ, zero, suc, ◌+◌, ◌-◌, ◌/◌, ◌%◌, ◌≤◌, List}
+use Rattle.std.proofs.Common.{Option, Some, None, true, inl, inr, refl, sym, ap, ◌∙◌, arith, subst}
+use Rattle.std.proofs.lemmas.Bool.{or_cases, or_left, or_right, false≢true}
+use Rattle.std.specs.Prelude.{ℤ, ◌⊎◌, option_map}
+use Rattle.sections.specs.Covers.{is_in}
+use Rattle.sections.specs.Place.{Place, Window, In}
+use Rattle.sections.proofs.Covering.{is_in-from}
+use Rattle.blocks.specs.Blocks.{held_at, owned_at}
+use Rattle.blocks.specs.Held.{Held, IsThere, Map, number_of, owned_number}
+use Rattle.block_numbers.specs.Offsets.{HasAll}
+use Rattle.blocks.specs.declared.block.Block.{Block}
+use Rattle.block_numbers.proofs.WalkLemmas.{in_range-low, in_range-high}
+use Rattle.block_rows.specs.Pieces.{behind_piece, piece}
+use Rattle.block_rows.specs.Rows.{block_of, held_in_list, held_of}
+use Rattle.block_rows.specs.Wanted.{wanted}
+use Rattle.block_rows.specs.declared.presence.Wanted.{Wanted}
+use Rattle.block_rows.specs.declared.presence.Wanted.TheVariants.{Owned as AsOwned, Held as AsHeld}
+use Rattle.block_rows.specs.declared.row.Row.{Row}
+use Rattle.block_rows.proofs.PieceLemmas.{is_in-cut, is_in-empty}
+use Rattle.block_rows.proofs.RowLemmas.{held_of-piece, is_in-block, in_its_block}
+
+-- ---- a window and its parts
+
+pub there-cut : {A : Type 0} (w : Window) (m : Map A) → IsThere (is_in (piece w)) m → IsThere (is_in (behind_piece w)) m
+    → IsThere (is_in w) m
+there-cut w m first rest q is none = absurd (by_part (or_cases (is_in (piece w) q) (is_in (behind_piece w) q) (sym (is_in-cut w q) ∙ is)))
+  where
+    by_part : (is_in (piece w) q ≡ true) ⊎ (is_in (behind_piece w) q ≡ true) → ⊥
+    by_part (inl here) = first q here none
+    by_part (inr here) = rest q here none
+
+pub there-piece : {A : Type 0} (w : Window) (m : Map A) → IsThere (is_in w) m → IsThere (is_in (piece w)) m
+there-piece w m there q is = there q (is_in-cut w q ∙ or_left (is_in (piece w) q) (is_in (behind_piece w) q) is)
+
+pub there-behind : {A : Type 0} (w : Window) (m : Map A) → IsThere (is_in w) m → IsThere (is_in (behind_piece w)) m
+there-behind w m there q is = there q (is_in-cut w q ∙ or_right (is_in (piece w) q) (is_in (behind_piece w) q) is)
+
+pub there-empty : {A : Type 0} (w : Window) (m : Map A) → w.length ≡ 0 → IsThere (is_in w) m
+there-empty w m e q is none = absurd (false≢true (sym (is_in-empty w q e) ∙ is))
+
+-- ---- a piece of one block
+
+-- what is asked of places, by what is held there
+abbrev pub seen : (Option Held → Option ℤ) → Map Held → Map ℤ
+seen f m q = f (m q)
+
+pub there-block : (rs : List Row) (w : Window) (b : Block) (f : Option Held → Option ℤ) → w.at % 256 + w.length ≤ 256
+    → block_of rs w.array (w.at / 256) ≡ Some b → HasAll (w.at % 256) (w.at % 256 + w.length) (λ k. f (held_at b k))
+    → IsThere (is_in w) (seen f (held_in_list rs))
+there-block rs w b f fits is all q here none =
+    let e = in_its_block w q fits here in
+    let held = held_of-piece rs w q e ∙ ap (λ o. held_of o (q.index % 256)) is in
+    all (q.index % 256) (sym (is_in-block w q e) ∙ here) (ap f (sym held) ∙ none)
+
+pub block-there : (rs : List Row) (w : Window) (b : Block) (f : Option Held → Option ℤ) → w.at % 256 + w.length ≤ 256
+    → block_of rs w.array (w.at / 256) ≡ Some b → IsThere (is_in w) (seen f (held_in_list rs))
+    → HasAll (w.at % 256) (w.at % 256 + w.length) (λ k. f (held_at b k))
+block-there rs w b f fits is there k here none =
+    let low = in_range-low (w.at % 256) (w.at % 256 + w.length) k here in
+    let high = in_range-high (w.at % 256) (w.at % 256 + w.length) k here in
+    let i = w.at + (k - w.at % 256) in
+    let q : Place = record { array = w.array; index = i } in
+    let inside : In w q = record { array = refl; low = omega arith; high = omega (arith, low, high) } in
+    let yes = is_in-from w q inside in
+    let e = in_its_block w q fits yes in
+    let off : i % 256 ≡ k = omega (arith, low, high, fits) in
+    let held = held_of-piece rs w q e ∙ ap (λ o. held_of o (i % 256)) is ∙ ap (held_at b) off in
+    there q yes (ap f held ∙ none)
+
+-- where no block is, nothing is
+pub no_block-there : (rs : List Row) (w : Window) (f : Option Held → Option ℤ) → f None ≡ None → w.at % 256 + w.length ≤ 256
+    → block_of rs w.array (w.at / 256) ≡ None → IsThere (is_in w) (seen f (held_in_list rs)) → w.length ≡ 0
+no_block-there rs w f none fits is there = by_length (w.length) refl
+  where
+    by_length : (n : ℕ) → w.length ≡ n → w.length ≡ 0
+    by_length zero e = e
+    by_length (suc n) e =
+        let q : Place = record { array = w.array; index = w.at } in
+        let inside : In w q = record { array = refl; low = omega arith; high = omega (arith, e) } in
+        let yes = is_in-from w q inside in
+        let held = held_of-piece rs w q (in_its_block w q fits yes) ∙ ap (λ o. held_of o (w.at % 256)) is in
+        absurd (there q yes (ap f held ∙ none))
+
+-- ---- as it is wanted
+
+pub piece-none : (rs : List Row) (w : Window) (want : Wanted) → w.at % 256 + w.length ≤ 256 → block_of rs w.array (w.at / 256) ≡ None
+    → IsThere (is_in w) (wanted want (held_in_list rs)) → w.length ≡ 0
+piece-none rs w AsOwned fits is there = no_block-there rs w owned_number refl fits is there
+piece-none rs w AsHeld fits is there = no_block-there rs w (option_map number_of) refl fits is there
+
+along : {A : Type 0} (m : ℕ → Option A) (from to f t : ℕ) → from ≡ f → to ≡ t → HasAll from to m → HasAll f t m
+along m from to f t e g all = subst (λ x. HasAll f x m) g (subst (λ x. HasAll x to m) e all)
+
+pub all-owned : (rs : List Row) (w : Window) (want : Wanted) (b : Block) (from to : ℕ) → want ≡ AsOwned → w.at % 256 + w.length ≤ 256
+    → block_of rs w.array (w.at / 256) ≡ Some b → from ≡ w.at % 256 → to ≡ w.at % 256 + w.length
+    → HasAll from to (owned_at b) → IsThere (is_in w) (wanted want (held_in_list rs))
+all-owned rs w want b from to e fits is f t all =
+    subst (λ x. IsThere (is_in w) (wanted x (held_in_list rs))) (sym e)
+    (there-block rs w b owned_number fits is (along (owned_at b) from to _ _ f t all))
+
+pub owned-all : (rs : List Row) (w : Window) (want : Wanted) (b : Block) (from to : ℕ) → want ≡ AsOwned → w.at % 256 + w.length ≤ 256
+    → block_of rs w.array (w.at / 256) ≡ Some b → from ≡ w.at % 256 → to ≡ w.at % 256 + w.length
+    → IsThere (is_in w) (wanted want (held_in_list rs)) → HasAll from to (owned_at b)
+owned-all rs w want b from to e fits is f t there =
+    along (owned_at b) _ _ from to (sym f) (sym t)
+    (block-there rs w b owned_number fits is (subst (λ x. IsThere (is_in w) (wanted x (held_in_list rs))) e there))
+
+number_none : (o : Option Held) → o ≡ None → option_map number_of o ≡ None
+number_none o e = ap (option_map number_of) e
+
+none_number : (o : Option Held) → option_map number_of o ≡ None → o ≡ None
+none_number None e = refl
+none_number (Some h) e = absurd (cc)
+
+pub all-held : (rs : List Row) (w : Window) (want : Wanted) (b : Block) (from to : ℕ) → want ≡ AsHeld → w.at % 256 + w.length ≤ 256
+    → block_of rs w.array (w.at / 256) ≡ Some b → from ≡ w.at % 256 → to ≡ w.at % 256 + w.length
+    → HasAll from to (held_at b) → IsThere (is_in w) (wanted want (held_in_list rs))
+all-held rs w want b from to e fits is f t all =
+    subst (λ x. IsThere (is_in w) (wanted x (held_in_list rs))) (sym e)
+    (there-block rs w b (option_map number_of) fits is
+    (λ k here none. along (held_at b) from to _ _ f t all k here (none_number (held_at b k) none)))
+
+pub held-all : (rs : List Row) (w : Window) (want : Wanted) (b : Block) (from to : ℕ) → want ≡ AsHeld → w.at % 256 + w.length ≤ 256
+    → block_of rs w.array (w.at / 256) ≡ Some b → from ≡ w.at % 256 → to ≡ w.at % 256 + w.length
+    → IsThere (is_in w) (wanted want (held_in_list rs)) → HasAll from to (held_at b)
+held-all rs w want b from to e fits is f t there =
+    along (held_at b) _ _ from to (sym f) (sym t)
+    (λ k here none. block-there rs w b (option_map number_of) fits is
+    (subst (λ x. IsThere (is_in w) (wanted x (held_in_list rs))) e there) k here (number_none (held_at b k) none))

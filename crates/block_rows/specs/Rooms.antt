@@ -1,0 +1,29 @@
+-- Rows that can take in what others own without memory.
+use Rattle.std.specs.Prelude.{ℕ, ◌≡◌, ⊤, List, Some}
+use Rattle.blocks.specs.Ready.{CanTake}
+use Rattle.blocks.specs.declared.block.Block.{Block}
+use Rattle.blocks.specs.declared.block.Block.TheVariants.{Empty, Mixed, Owned, Shared}
+use Rattle.block_rows.specs.Rows.{block_in, block_of}
+use Rattle.block_rows.specs.declared.row.Row.{Row}
+
+-- a block has room for what another owns
+pub record TakesIn (rs : List Row) (a b : ℕ) (theirs : Block) : Type 0 where
+  pub mine : Block
+  pub there : block_of rs a b ≡ Some mine
+  pub room : CanTake mine theirs
+
+-- rows have room for what a block owns, which would have this number
+abbrev pub HasRoom : List Row → (array block : ℕ) → (theirs : Block) → Type 0
+HasRoom rs a b Empty = ⊤
+HasRoom rs a b (Shared n) = ⊤
+HasRoom rs a b (Owned n) = TakesIn rs a b (Owned n)
+HasRoom rs a b (Mixed m) = TakesIn rs a b (Mixed m)
+
+-- rows have room for all that others own
+abbrev pub HasAllRoom : (own others : List Row) → Type 0
+HasAllRoom own others = (i j : ℕ) (theirs : Block) → block_of others i j ≡ Some theirs
+    → HasRoom own i j theirs
+
+-- rows have room for all that a row of others owns
+abbrev pub HasRowRoom : List Row → (array : ℕ) → (theirs : Row) → Type 0
+HasRowRoom rs a r = (j : ℕ) (theirs : Block) → block_in r j ≡ Some theirs → HasRoom rs a j theirs

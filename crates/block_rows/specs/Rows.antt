@@ -1,0 +1,50 @@
+-- What rows of blocks hold.
+use Rattle.std.specs.Prelude.{ℕ, ◌-◌, ◌/◌, ◌%◌, ◌≡◌, ◌&&◌, nat_eq, nat_le, Bool, List, slice_get}
+use Rattle.std.specs.Prelude.{Option, Some, None, ◌⊎◌, option_and_then, if◌then◌else◌}
+use Rattle.sections.specs.Place.{Place}
+use Rattle.blocks.specs.Blocks.{held_at}
+use Rattle.blocks.specs.Held.{Held, Map}
+use Rattle.blocks.specs.declared.block.Block.{Block}
+use Rattle.block_rows.specs.declared.row.Row.{Row}
+use Rattle.block_rows.specs.declared.rows.Rows.{Rows}
+
+-- the block with a number, where a row has it
+abbrev pub block_in : Row → ℕ → Option Block
+block_in r b = if nat_le r.first b then slice_get r.blocks.items (b - r.first) else None
+
+-- the block of an array with a number, where rows have it
+abbrev pub block_of : List Row → (array block : ℕ) → Option Block
+block_of rs a b = option_and_then (λ r. block_in r b) (slice_get rs a)
+
+-- what a block holds, if there is one
+abbrev pub held_of : Option Block → ℕ → Option Held
+held_of None k = None
+held_of (Some b) k = held_at b k
+
+-- a block is what it was, or one that holds nothing stands where none was
+abbrev pub IsAsBefore : (old new : Option Block) → Type 0
+IsAsBefore old new = (new ≡ old) ⊎ ((old ≡ None) × ((k : ℕ) → held_of new k ≡ None))
+
+-- what a row holds
+abbrev pub in_row : Row → ℕ → Option Held
+in_row r i = held_of (block_in r (i / 256)) (i % 256)
+
+-- what rows hold, one for each array
+abbrev pub held_in_list : List Row → Map Held
+held_in_list rs q = held_of (block_of rs q.array (q.index / 256)) (q.index % 256)
+
+abbrev pub held_in : Rows → Map Held
+held_in r = held_in_list r.list.items
+
+-- whether a place lies in a block of an array
+abbrev pub in_block : (array block : ℕ) → Place → Bool
+in_block a b q = nat_eq q.array a && nat_eq (q.index / 256) b
+
+-- one block stands in the place of another
+abbrev pub Replaces : (array block : ℕ) → Block → (old new : List Row) → Type 0
+Replaces a b x old new = (i j : ℕ) → block_of new i j
+    ≡ (if nat_eq i a && nat_eq j b then Some x else block_of old i j)
+
+-- more blocks are there, which hold nothing
+abbrev pub Widens : (old new : List Row) → Type 0
+Widens old new = (i j : ℕ) → IsAsBefore (block_of old i j) (block_of new i j)

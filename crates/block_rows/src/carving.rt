@@ -1,0 +1,211 @@
+//! Places that move out.
+
+ghost use Rattle.std.specs.Prelude.{◌≡◌, ◌≤◌, ◌<◌, ◌+◌, ◌%◌, ◌||◌, ℕ, true, false, IfOk, IsSome};
+ghost use Rattle.std.specs.Prelude.{None};
+ghost use Rattle.std.specs.Prelude.{MatchOption, OnOk, map, nat_eq, if◌then◌else◌};
+ghost use Rattle.sections.specs.Covers.{has, is_cover, is_in};
+ghost use Rattle.sections.specs.Place.{Place};
+ghost use Rattle.sections.specs.Translation.{window as window_of};
+ghost use Rattle.std.specs.Arc.{arc_value};
+ghost use Rattle.block_numbers.specs.Numbers.{number_in};
+ghost use Rattle.blocks.specs.Blocks.{owned_at};
+ghost use Rattle.blocks.specs.Held.{IsThere, as_owned, first_of, only, owned, without};
+ghost use Rattle.block_rows.specs.Copied.{CopiesSplit};
+ghost use Rattle.block_rows.specs.Pieces.{taking};
+
+use crate::pieces::{block_number, cut, offsets};
+use crate::rows::Rows;
+use blocks::block::Block;
+use blocks::cut::Cut;
+use sections::window::Window;
+use std::alloc::AllocError;
+
+/// What is to move out of one block.
+#[derive(Drop)]
+pub struct Carving {
+    pub(crate) piece: Window,
+    pub(crate) cut: Cut,
+}
+
+/// What is to move out, piece by piece, and how many places were copied for it.
+#[derive(Drop)]
+pub struct Carvings {
+    pub(crate) list: Vec<Carving>,
+    pub copied: u64,
+}
+
+impl Rows {
+    ghost use Rattle.std.specs.Prelude.{◌&&◌, get_or, length, option_map};
+    ghost use Rattle.blocks.specs.Held.{Owned as OwnedAs};
+    ghost use Rattle.block_rows.specs.Carvings.{IsCut, IsMovable, IsPiece, IsWhole, StandClear};
+    ghost use Rattle.block_rows.specs.Carvings.{copied_places, cut_places, moved_places, moves};
+    ghost use Rattle.block_rows.specs.Carvings.{piece_of};
+    ghost use Rattle.block_rows.specs.Copied.{LiesWithin, split_places};
+    ghost use Rattle.block_rows.specs.Rows.{block_of, held_in, in_block};
+    ghost use Rattle.block_rows.specs.declared.carving.Carving.{Carving as CarvingOf};
+
+    /// Cuts the places of the windows of a cover out, all of which are owned, so that no memory is
+    /// wanted to move them. Others have those places then of which the numbers were copied.
+    pub fn cut_all(&mut self, others: &mut Rows, windows: &[Window]) -> Result<Carvings, AllocError>
+        requires cover { is_cover (map window_of windows.now) ≡ true }
+        requires owned { IsThere (has (map window_of windows.now)) (owned (held_in self.old)) }
+        requires none { (q : Place) → held_in others.old q ≡ None }
+        ensures same { held_in self.new ≡ held_in self.old }
+        ensures cut { IfOk result
+            (λ c. IsCut self.new.list.items others.new.list.items c.list.items) }
+        ensures places { IfOk result (λ c. (q : Place) → has (map window_of windows.now) q
+            ≡ cut_places c.list.items q) }
+        ensures taken { IfOk result (λ c. held_in others.new
+            ≡ only (copied_places c.list.items) (held_in self.old)) }
+        ensures copied { IfOk result (λ c. CopiesSplit (held_in self.old)
+            (has (map window_of windows.now)) 0 c.copied) }
+    {
+        let mut carvings = Carvings {
+            list: Vec::new(self.alloc),
+            copied: 0,
+        };
+        for window in windows {
+            self.cut_window(others, *window, &mut carvings)?;
+        }
+        Ok(carvings)
+    }
+
+    /// The same of one window.
+    fn cut_window(
+        &mut self,
+        others: &mut Rows,
+        window: Window,
+        carvings: &mut Carvings,
+    ) -> Result<(), AllocError>
+        requires owned { IsThere (is_in (window_of window)) (owned (held_in self.old)) }
+        requires cut { IsCut self.old.list.items others.old.list.items carvings.old.list.items }
+        requires taken { held_in others.old
+            ≡ only (copied_places carvings.old.list.items) (held_in self.old) }
+        requires clear { (q : Place) → cut_places carvings.old.list.items q ≡ true
+            → is_in (window_of window) q ≡ false }
+        ensures same { held_in self.new ≡ held_in self.old }
+        ensures cut { OnOk result
+            (IsCut self.new.list.items others.new.list.items carvings.new.list.items) }
+        ensures taken { OnOk result (held_in others.new
+            ≡ only (copied_places carvings.new.list.items) (held_in self.old)) }
+        ensures places { OnOk result ((q : Place) → cut_places carvings.new.list.items q
+            ≡ (cut_places carvings.old.list.items q || is_in (window_of window) q)) }
+        ensures copied { OnOk result ((lengths : ℕ → ℕ) → LiesWithin lengths (held_in self.old)
+            → carvings.new.copied ≤ carvings.old.copied + split_places lengths (window_of window)) }
+    {
+        let mut rest = window;
+        'pieces: while rest.len > 0 {
+            let (piece, behind) = cut(rest);
+            let cut = self.cut_piece(others, piece)?;
+            carvings.copied = carvings.copied.saturating_add(cut.copied);
+            carvings.list.push(Carving { piece, cut })?;
+            rest = behind;
+        }
+        Ok(())
+    }
+
+    /// The same of a piece of one block; others hold nothing of it, and elsewhere what these hold.
+    fn cut_piece(&mut self, others: &mut Rows, piece: Window) -> Result<Cut, AllocError>
+        requires piece { IsPiece (window_of piece) }
+        requires owned { IsThere (is_in (window_of piece)) (owned (held_in self.old)) }
+        requires within { (q : Place) → (held_in others.old q ≡ None → ⊥)
+            → held_in self.old q ≡ None → ⊥ }
+        requires clear { (q : Place) → is_in (window_of piece) q ≡ true
+            → held_in others.old q ≡ None }
+        ensures same { held_in self.new ≡ held_in self.old }
+        ensures movable { IfOk result (λ c. IsMovable self.new.list.items others.new.list.items
+            (record { piece = piece; cut = c })) }
+        ensures keeps { OnOk result ((d : CarvingOf) → StandClear (piece_of d) (window_of piece)
+            → IsMovable self.old.list.items others.old.list.items d
+            → IsMovable self.new.list.items others.new.list.items d) }
+        ensures taken { IfOk result (λ c. held_in others.new ≡ (if nat_eq c.copied 0
+            then held_in others.old
+            else taking (is_in (window_of piece)) (held_in self.old) (held_in others.old))) }
+        ensures most { IfOk result (λ c. c.copied ≤ piece.len) }
+        ensures moved { IfOk result
+            (λ c. IsWhole (held_in self.old) (window_of piece) → c.copied ≡ 0) }
+    {
+        let (array, number) = (piece.array.number, block_number(piece));
+        let (from, to) = offsets(piece);
+        let mut mine = self.swap(array, number, Block::Empty);
+        let cut = mine.cut(self.alloc, from, to);
+        self.swap(array, number, mine);
+        let cut = cut?;
+        others.make_room(array, number)?;
+        others.take_copies(array, number, &cut)?;
+        Ok(cut)
+    }
+
+    /// Takes in what was copied for a cut.
+    fn take_copies(&mut self, array: usize, number: usize, cut: &Cut) -> Result<(), AllocError>
+        requires { IsSome (block_of self.old.list.items array number) }
+        ensures taken { OnOk result (MatchOption cut.now.numbers
+            (held_in self.new ≡ held_in self.old)
+            (λ n. (q : Place) → held_in self.new q ≡ (if in_block array number q
+            then first_of (option_map OwnedAs (number_in (arc_value n) (q.index % 256)))
+            (held_in self.old q)
+            else held_in self.old q))) }
+        ensures there { OnOk result ((i j : ℕ) → IsSome (block_of self.old.list.items i j)
+            → IsSome (block_of self.new.list.items i j)) }
+    {
+        match cut.block()? {
+            None => Ok(()),
+            Some(block) => self.take_in(array, number, block),
+        }
+    }
+
+    /// Takes in what a block owns.
+    fn take_in(&mut self, array: usize, number: usize, block: Block) -> Result<(), AllocError>
+        requires { IsSome (block_of self.old.list.items array number) }
+        ensures taken { OnOk result ((q : Place) → held_in self.new q
+            ≡ (if in_block array number q
+            then first_of (option_map OwnedAs (owned_at block (q.index % 256))) (held_in self.old q)
+            else held_in self.old q)) }
+        ensures there { OnOk result ((i j : ℕ) → IsSome (block_of self.old.list.items i j)
+            → IsSome (block_of self.new.list.items i j)) }
+    {
+        let mut mine = self.swap(array, number, Block::Empty);
+        mine.make_room(self.alloc, &block)?;
+        mine.paste(self.alloc, block);
+        self.swap(array, number, mine);
+        Ok(())
+    }
+
+    /// Moves what was cut out to others, which have room for it.
+    pub fn carve_all(&mut self, others: &mut Rows, carvings: Carvings)
+        requires { IsCut self.old.list.items others.old.list.items carvings.list.items }
+        ensures left { held_in self.new ≡ without (cut_places carvings.list.items)
+            (held_in self.old) }
+        ensures taken { held_in others.new ≡ taking (moved_places carvings.list.items)
+            (held_in self.old) (held_in others.old) }
+    {
+        let mut list = carvings.list;
+        'carvings: while let Some(carving) = list.pop() {
+            self.carve_piece(others, carving);
+        }
+    }
+
+    /// The same of what was cut out of one block.
+    fn carve_piece(&mut self, others: &mut Rows, carving: Carving)
+        requires { IsMovable self.old.list.items others.old.list.items carving }
+        ensures left { held_in self.new ≡ without (is_in (piece_of carving)) (held_in self.old) }
+        ensures taken { held_in others.new ≡ (if moves carving
+            then taking (is_in (piece_of carving)) (held_in self.old) (held_in others.old)
+            else held_in others.old) }
+        ensures keeps { (d : CarvingOf) → StandClear (piece_of d) (piece_of carving)
+            → IsMovable self.old.list.items others.old.list.items d
+            → IsMovable self.new.list.items others.new.list.items d }
+    {
+        let Carving { piece, cut } = carving;
+        let (array, number) = (piece.array.number, block_number(piece));
+        let (from, to) = offsets(piece);
+        let moves = cut.copied == 0;
+        let mut mine = self.swap(array, number, Block::Empty);
+        let block = mine.carve(cut, from, to);
+        self.swap(array, number, mine);
+        if !moves {
+            return;
+        }
+        others.swap(array, number, block);
+    }
+}

@@ -1,0 +1,41 @@
+//! The same rows a second time.
+
+ghost use Rattle.std.specs.Prelude.{◌≡◌, IfOk};
+ghost use Rattle.block_rows.specs.Rows.{held_in};
+
+use crate::row::Row;
+use crate::rows::Rows;
+use std::alloc::{AllocError, Global};
+
+impl Rows {
+    /// The same once more.
+    pub fn again(&self, alloc: Global) -> Result<Rows, AllocError>
+        ensures { IfOk result (λ r. held_in r ≡ held_in self.now) }
+    {
+        let mut list = Vec::new(alloc);
+        for row in &self.list {
+            list.push(row.again(alloc)?)?;
+        }
+        Ok(Rows { alloc, list })
+    }
+}
+
+impl Row {
+    ghost use Rattle.std.specs.Prelude.{ℕ};
+    ghost use Rattle.block_rows.specs.Rows.{block_in, held_of};
+
+    /// The same once more.
+    fn again(&self, alloc: Global) -> Result<Row, AllocError>
+        ensures { IfOk result (λ r. (b k : ℕ)
+            → held_of (block_in r b) k ≡ held_of (block_in self.now b) k) }
+    {
+        let mut blocks = Vec::new(alloc);
+        for block in &self.blocks {
+            blocks.push(block.again(alloc)?)?;
+        }
+        Ok(Row {
+            first: self.first,
+            blocks,
+        })
+    }
+}

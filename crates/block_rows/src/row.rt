@@ -1,0 +1,130 @@
+//! Blocks of one array.
+
+ghost use Rattle.std.specs.Prelude.{◌≤◌, ◌+◌, length};
+
+use blocks::block::Block;
+use std::alloc::{AllocError, Global};
+use std::mem;
+
+/// Blocks of an array, one behind the other, from the block with the number `first` on.
+#[derive(Drop)]
+pub struct Row {
+    pub(crate) first: usize,
+    pub(crate) blocks: Vec<Block>,
+    ghost within: { first + length blocks.items ≤ 16384 },
+}
+
+impl Row {
+    ghost use Rattle.std.specs.Prelude.{◌≡◌, ◌<◌, ◌&&◌, ℕ, IfOk, IsSome, IsTrue, OnErr, OnOk, Some};
+    ghost use Rattle.std.specs.Prelude.{None};
+    ghost use Rattle.std.specs.Prelude.{false, slice_get, is_some, nat_eq, option_copied};
+    ghost use Rattle.std.specs.Prelude.{if◌then◌else◌};
+    ghost use Rattle.blocks.specs.Held.{Owned, owned_number};
+    ghost use Rattle.block_rows.specs.Rows.{block_in, held_of, IsAsBefore};
+
+    /// No blocks.
+    pub fn new(alloc: Global) -> Row
+        ensures { (b : ℕ) → block_in result b ≡ None }
+    {
+        Row {
+            first: 0,
+            blocks: Vec::new(alloc),
+        }
+    }
+
+    /// The block with a number.
+    pub fn block(&self, number: usize) -> Option<&Block>
+        ensures { option_copied result ≡ block_in self.now number }
+    {
+        if number < self.first {
+            return None;
+        }
+        self.blocks.get(number - self.first)
+    }
+
+    /// Puts a block in the place of the one with its number, which is answered.
+    pub fn swap(&mut self, number: usize, block: Block) -> Block
+        requires { IsSome (block_in self.old number) }
+        ensures old { block_in self.old number ≡ Some result }
+        ensures new { (b : ℕ) → block_in self.new b
+            ≡ (if nat_eq b number then Some block else block_in self.old b) }
+    {
+        let place = &mut self.blocks[number - self.first];
+        mem::replace(place, block)
+    }
+
+    /// Makes sure that there is a block with a number.
+    pub fn make_room(&mut self, alloc: Global, number: usize) -> Result<(), AllocError>
+        requires { number < 16384 }
+        ensures room { OnOk result (IsSome (block_in self.new number)) }
+        ensures before { (b : ℕ) → IsAsBefore (block_in self.old b) (block_in self.new b) }
+    {
+        if self.blocks.is_empty() {
+            self.first = number;
+            self.blocks.push(Block::Empty)?;
+            return Ok(());
+        }
+        if number < self.first {
+            return self.widen(alloc, number);
+        }
+        'room: while self.first + self.blocks.len() <= number {
+            self.blocks.push(Block::Empty)?;
+        }
+        Ok(())
+    }
+
+    /// Puts empty blocks before the first one, from the block with a number on.
+    fn widen(&mut self, alloc: Global, number: usize) -> Result<(), AllocError>
+        requires low { number < self.old.first }
+        requires some { 0 < length self.old.blocks.items }
+        ensures room { OnOk result (IsSome (block_in self.new number)) }
+        ensures before { (b : ℕ) → IsAsBefore (block_in self.old b) (block_in self.new b) }
+    {
+        let mut blocks = Row::empty(alloc, self.first - number)?;
+        blocks.append(&mut self.blocks)?;
+        *self = Row {
+            first: number,
+            blocks,
+        };
+        Ok(())
+    }
+
+    /// Writes the number at an owned offset of a block, and tells whether it is one.
+    pub fn write(
+        &mut self,
+        alloc: Global,
+        number: usize,
+        offset: usize,
+        value: i64,
+    ) -> Result<bool, AllocError>
+        ensures found { IfOk result (λ f.
+            f ≡ is_some (owned_number (held_of (block_in self.old number) offset))) }
+        ensures written { IfOk result (λ f. IsTrue f → (b k : ℕ)
+            → held_of (block_in self.new b) k ≡ (if nat_eq b number && nat_eq offset k
+            then Some (Owned value) else held_of (block_in self.old b) k)) }
+        ensures missed { IfOk result (λ f. (f ≡ false) → (b k : ℕ)
+            → held_of (block_in self.new b) k ≡ held_of (block_in self.old b) k) }
+        ensures same { OnErr result ((b k : ℕ)
+            → held_of (block_in self.new b) k ≡ held_of (block_in self.old b) k) }
+        ensures owned { OnErr result
+            (owned_number (held_of (block_in self.old number) offset) ≡ None → ⊥) }
+    {
+        if number < self.first || number - self.first >= self.blocks.len() {
+            return Ok(false);
+        }
+        let block = &mut self.blocks[number - self.first];
+        block.write(alloc, offset, value)
+    }
+
+    /// Blocks that hold nothing.
+    fn empty(alloc: Global, count: usize) -> Result<Vec<Block>, AllocError>
+        ensures long { IfOk result (λ v. length v.items ≡ count) }
+        ensures empty { IfOk result (λ v. (i k : ℕ) → held_of (slice_get v.items i) k ≡ None) }
+    {
+        let mut blocks = Vec::new(alloc);
+        'fill: while blocks.len() < count {
+            blocks.push(Block::Empty)?;
+        }
+        Ok(blocks)
+    }
+}

@@ -1,0 +1,94 @@
+//! Blocks of all arrays.
+
+use crate::pieces::PLACES;
+use crate::row::Row;
+use blocks::block::Block;
+use sections::window::Place;
+use std::alloc::{AllocError, Global};
+
+/// A row of blocks for each array: what there is of a place is found by its array and its block.
+#[derive(Drop)]
+pub struct Rows {
+    pub(crate) alloc: Global,
+    pub(crate) list: Vec<Row>,
+}
+
+impl Rows {
+    ghost use Rattle.std.specs.Prelude.{◌≡◌, ◌<◌, ℕ, IfOk, IsSome, IsTrue, OnErr, OnOk, Some, None};
+    ghost use Rattle.std.specs.Prelude.{false, is_some, option_copied};
+    ghost use Rattle.sections.specs.Place.{Place as PlainPlace};
+    ghost use Rattle.sections.specs.Translation.{place as place_of};
+    ghost use Rattle.blocks.specs.Held.{Owned, numbers, owned, put};
+    ghost use Rattle.block_rows.specs.Rows.{Replaces, Widens, block_of, held_in};
+
+    /// No blocks.
+    pub fn new(alloc: Global) -> Rows
+        ensures none { (i j : ℕ) → block_of result.list.items i j ≡ None }
+        ensures holds { (q : PlainPlace) → held_in result q ≡ None }
+    {
+        Rows {
+            alloc,
+            list: Vec::new(alloc),
+        }
+    }
+
+    /// The block of an array with a number.
+    pub fn block(&self, array: usize, number: usize) -> Option<&Block>
+        ensures { option_copied result ≡ block_of self.now.list.items array number }
+    {
+        match self.list.get(array) {
+            None => None,
+            Some(row) => row.block(number),
+        }
+    }
+
+    /// Puts a block in the place of another, which is answered.
+    pub fn swap(&mut self, array: usize, number: usize, block: Block) -> Block
+        requires { IsSome (block_of self.old.list.items array number) }
+        ensures old { block_of self.old.list.items array number ≡ Some result }
+        ensures new { Replaces array number block self.old.list.items self.new.list.items }
+    {
+        let row = &mut self.list[array];
+        row.swap(number, block)
+    }
+
+    /// Makes sure that there is a block with a number.
+    pub fn make_room(&mut self, array: usize, number: usize) -> Result<(), AllocError>
+        requires { number < 16384 }
+        ensures room { OnOk result (IsSome (block_of self.new.list.items array number)) }
+        ensures widens { Widens self.old.list.items self.new.list.items }
+    {
+        'rows: while self.list.len() <= array {
+            self.list.push(Row::new(self.alloc))?;
+        }
+        let row = &mut self.list[array];
+        row.make_room(self.alloc, number)
+    }
+
+    /// The number at a place, where it is held.
+    pub fn number(&self, place: Place) -> Option<i64>
+        ensures { result ≡ numbers (held_in self.now) (place_of place) }
+    {
+        match self.block(place.array.number, place.index / PLACES) {
+            None => None,
+            Some(block) => block.number(place.index % PLACES),
+        }
+    }
+
+    /// Writes the number at an owned place, and tells whether it is one.
+    pub fn write(&mut self, place: Place, value: i64) -> Result<bool, AllocError>
+        ensures found { IfOk result (λ f. f ≡ is_some (owned (held_in self.old) (place_of place))) }
+        ensures written { IfOk result (λ f. IsTrue f → held_in self.new
+            ≡ put (place_of place) (Owned value) (held_in self.old)) }
+        ensures missed { IfOk result (λ f. (f ≡ false) → held_in self.new ≡ held_in self.old) }
+        ensures same { OnErr result (held_in self.new ≡ held_in self.old) }
+        ensures owned { OnErr result (owned (held_in self.old) (place_of place) ≡ None → ⊥) }
+    {
+        let (array, number) = (place.array.number, place.index / PLACES);
+        if array >= self.list.len() {
+            return Ok(false);
+        }
+        let row = &mut self.list[array];
+        row.write(self.alloc, number, place.index % PLACES, value)
+    }
+}

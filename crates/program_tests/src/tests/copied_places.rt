@@ -1,0 +1,75 @@
+//! How many places are copied where they are carved out of an array of 1,024, or come back.
+
+use crate::tests::section_trees::Numbers;
+use crate::tests::{compare, typed};
+use holdings::holdings::Holdings;
+use sections::id::ArrayId;
+use sections::window::Window;
+use std::alloc::Global;
+use std::process::Abort;
+use types::input::Input;
+
+/// Windows that are carved out together, and how many places are copied for that, and how many when
+/// they come back.
+type Row = (&'static [Numbers], &'static str);
+
+const ROWS: &[Row] = &[
+    (&[(0, 0, 300)], "44 44"),
+    (&[(0, 100, 400)], "400 400"),
+    (&[(0, 256, 768)], "0 0"),
+    (&[(0, 0, 1024)], "0 0"),
+    (&[(0, 0, 0)], "0 0"),
+    // ---- two windows in one block, and one window after the other
+    (&[(0, 10, 5), (0, 20, 5)], "10 10"),
+    (&[(0, 0, 128), (0, 128, 128)], "0 0"),
+    // ---- an array whose last block isn't full
+    (&[(1, 256, 44)], "0 0"),
+    (&[(1, 255, 45)], "1 1"),
+];
+
+/// All places of two arrays.
+fn all(rt: &impl Abort, alloc: Global) -> Holdings {
+    let typed = typed(
+        rt,
+        alloc,
+        "main { array a: int[1024]; array b: int[300]; }",
+    );
+    let input = Input::zeros(alloc, &typed).expect(rt, "memory");
+    Holdings::of_input(alloc, &typed, &input).expect(rt, "memory")
+}
+
+/// The windows of these numbers.
+fn windows(rt: &impl Abort, alloc: Global, rows: &[Numbers]) -> Vec<Window> {
+    let mut windows = Vec::new(alloc);
+    for (number, at, len) in rows {
+        assert!(rt; *at <= 1024 && *len <= 1024);
+        let array = ArrayId { number: *number };
+        let window = Window {
+            array,
+            at: *at,
+            len: *len,
+        };
+        windows.push(window).expect(rt, "memory");
+    }
+    windows
+}
+
+#[test]
+fn places_of_split_blocks_are_copied(rt: HostRuntime) {
+    let alloc = rt.alloc();
+    for (rows, want) in ROWS {
+        let mut own = all(&rt, alloc);
+        let windows = windows(&rt, alloc, rows);
+        let part = own.carve(alloc, &windows).expect(&rt, "owned places");
+        assert!(rt; part.copied() == 0, "a part begins with 0");
+        let carved = own.copied();
+        let copies = own.share(alloc, &[]).expect(&rt, "no places");
+        assert!(rt; copies.copied() == 0 && own.copied() == carved, "to share copies nothing");
+        if own.paste(alloc, part).is_err() {
+            assert!(rt; false, "places that aren't owned here");
+        }
+        let pasted = own.copied().saturating_sub(carved);
+        let said = format!(in alloc; "{carved} {pasted}").expect(&rt, "memory");
+        compare(&rt, alloc, "copied", said, want);
+    }
+}
