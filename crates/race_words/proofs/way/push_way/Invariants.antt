@@ -1,5 +1,5 @@
 use Rattle.std.proofs.Common.{length}
-use Rattle.race_words.proofs.ways.push_way.Given as goal
+use Rattle.race_words.proofs.way.push_way.Given as goal
 
 -- the steps that are left
 abbrev pub decreases-steps : goal.decreases-steps
