@@ -22,3 +22,7 @@ pub mod Machining
 pub mod Starting
 pub mod Entering
 pub mod Sizing
+pub mod Safety
+pub mod Fitting
+pub mod Limiting
+pub mod LineKinds

@@ -5,6 +5,7 @@ pub mod Flat
 pub mod Written
 pub mod Grown
 pub mod Safe
+pub mod Fits
 pub mod Fused
 pub mod Runs
 pub mod Frames

@@ -8,10 +8,10 @@ use Rattle.own_run.proofs.SettledResults.{paths_same}
 use Rattle.interleave.specs.Courses.{Course, course_of, IsDoing}
 use Rattle.interleave.specs.Events.{Event}
 use Rattle.interleave.specs.Jobs.{IsJob}
-use Rattle.interleave.specs.Shown.{Becomes, IsDoingThere, IsTaskOf, IsWorld, Refuses, Shows, TaskStays, WorldStays}
+use Rattle.interleave.specs.Shown.{Becomes, IsDoingThere, IsTaskOf, IsWorld, Refuses, TaskStays, WorldStays}
 use Rattle.interleave.specs.Shown.{is_path, next_world}
 use Rattle.interleave.specs.Walks.{IsIllegal}
-use Rattle.interleave.specs.World.{Live, World, Whereabouts, Queue, Hand, Parked}
+use Rattle.interleave.specs.World.{Live, Whereabouts, Queue, Hand, Parked}
 use Rattle.interleave.specs.declared.error.EventError.{EventError}
 use Rattle.interleave.specs.declared.error.EventError.TheVariants.{Illegal}
 use Rattle.interleave.specs.declared.job.Job.{Job}

@@ -1,5 +1,5 @@
 -- Lists of events, one after the other.
-use Rattle.std.proofs.Common.{◌≡◌, ℕ, ◌+◌, List, ◌∷◌, sym, ap, ◌∙◌, subst, map}
+use Rattle.std.proofs.Common.{◌≡◌, ℕ, ◌+◌, List, ◌∷◌, sym, ap, ◌∙◌, map}
 use Rattle.effects.specs.Rounds.{needs_of}
 use Rattle.interleave.specs.Jobs.{program_of, budget_of}
 use Rattle.interleave.specs.Replay.{Replayed, IllegalAt, go_or, replay_from}

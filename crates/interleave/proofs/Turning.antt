@@ -3,6 +3,7 @@ use Rattle.std.proofs.Common.{◌≡◌, ℕ, ◌+◌, ◌≤◌, List, [], ◌�
 use Rattle.std.proofs.Common.{inl, inr, arith}
 use Rattle.std.specs.Prelude.{false, ◌⊎◌}
 use Rattle.std.proofs.lemmas.List.{length-append}
+use Rattle.std.proofs.lemmas.Option.{same_Some}
 use Rattle.types.specs.Code.{Program}
 use Rattle.types.specs.Run.{State}
 use Rattle.types.specs.Translation.{program}
@@ -11,14 +12,15 @@ use Rattle.own_run.specs.Copies.{IsCopy}
 use Rattle.own_run.specs.Frames.{Frame, Rest, Again, AtEnd, Back, Standing, done_in, turn, IsTask, Follows}
 use Rattle.own_run.specs.Given.{in_truth}
 use Rattle.own_run.specs.MayRun.{MayRun, Stays}
-use Rattle.own_run.specs.OwnRun.{Own, Start, Action, Step, Spawn, EnterFinish, begun_by, own_rules, last_action}
+use Rattle.own_run.specs.OwnRun.{Own, Start, Action, Step, Spawn, EnterFinish, EndFinish, begun_by, own_rules, last_action}
 use Rattle.own_run.specs.OwnRun.{next_action}
 use Rattle.own_run.specs.Reached.{begun, turns}
 use Rattle.own_run.specs.Runs.{root, MayStand}
-use Rattle.own_run.specs.RunTurns.{GoesAs, GoesTo, IsTurn, TurnOf}
+use Rattle.own_run.specs.RunTurns.{GoesAs, GoesTo, IsAtEnd, IsTurn, TurnOf}
 use Rattle.own_run.specs.Standings.{IsAt, state_of, with_own}
 use Rattle.own_run.specs.Stops.{stops}
 use Rattle.own_run.specs.Translation.{start}
+use Rattle.own_run.specs.declared.frame.Frame.TheVariants.{EndFinish as rEndFinish}
 use Rattle.own_run.specs.declared.run.Run.{Run}
 use Rattle.own_run.specs.declared.start.Start.{Start as rStart}
 use Rattle.own_run.specs.declared.turn.Turn.{Turn}
@@ -28,6 +30,7 @@ use Rattle.own_run.proofs.Begun.{begun_by-append}
 use Rattle.own_run.proofs.HoldingTurns.{root_begins}
 use Rattle.own_run.proofs.NextAction.{next_is_done, next_is_end, next_is_last}
 use Rattle.own_run.proofs.ReachedTasks.{goes}
+use Rattle.own_run.proofs.RunTops.{none_stacked, on_top}
 use Rattle.own_run.proofs.RunsGoOn.{stays}
 use Rattle.own_run.proofs.TaskRuns.{begins_follow, turns_follow}
 use Rattle.own_run.proofs.TurnActions.{turn_does}
@@ -71,6 +74,22 @@ module _ (j : Job) (ok : IsJob j) where
       let task = its_task c.start (At (f ∷ fs) st) h.stands in
       ap (λ n. next_action p (needs_of p) (budget_of j).steps c.receipts n c.start) (sym h.after)
       ∙ next_is_done p (needs_of p) (budget_of j).steps root_start c.start c.receipts f fs st a task.fine task.below h.follows e
+
+  -- at the end of a finish
+  ends_finish : (c : Course) (before : State Own) (fs : List (Frame Own)) (st : State Own)
+      → HasCome j c (At (AtEnd before ∷ fs) st) → IsNext j c EndFinish
+  ends_finish c before fs st h =
+      let task = its_task c.start (At (AtEnd before ∷ fs) st) h.stands in
+      ap (λ n. next_action p (needs_of p) (budget_of j).steps c.receipts n c.start) (sym h.after)
+      ∙ next_is_end p (needs_of p) (budget_of j).steps root_start c.start c.receipts before fs st task.awake h.follows
+
+  -- at its own end
+  ends_last : (c : Course) (st : State Own) → HasCome j c (At [] st) → IsNext j c (last_action c.start.path)
+  ends_last c st h =
+      let task = its_task c.start (At [] st) h.stands in
+      ap (λ n. next_action p (needs_of p) (budget_of j).steps c.receipts n c.start) (sym h.after)
+      ∙ next_is_last p (needs_of p) (budget_of j).steps root_start c.start c.receipts st task.awake h.follows
+      ∙ ap (λ q. Some (last_action q)) task.path
 
   -- a turn that does this
   come_on : (c : Course) (done spawned opened : ℕ) (f : Frame Own) (fs : List (Frame Own)) (st : State Own) (xs : List Action)
@@ -220,34 +239,26 @@ module _ (j : Job) (ok : IsJob j) where
     by_frames (Spawns q x) (AtEnd before ∷ fs) st steps come stay h = absurd h
     by_frames (EntersFinish q) (AtEnd before ∷ fs) st steps come stay h = absurd h
     by_frames (Over q) (AtEnd before ∷ fs) st steps come stay h = absurd h
-    by_frames (EndsFinish w x) (AtEnd before ∷ fs) st steps come stay h =
-        let task = its_task c.start (At (AtEnd before ∷ fs) st) come.stands in (
-          ap (λ n. next_action p (needs_of p) (budget_of j).steps c.receipts n c.start) (sym come.after)
-              ∙ next_is_end p (needs_of p) (budget_of j).steps root_start c.start c.receipts before fs st task.awake come.follows,
-          record {
-            program = ap (λ plan. program plan.program.now) h.1 ∙ is;
-            nest = h.2 ∙ nest;
-            frames = fs;
-            before = before;
-            state = st;
-            waits = h.0;
-            come = come;
-            made = h.3;
-          },
-        )
+    by_frames (EndsFinish w x) (AtEnd before ∷ fs) st steps come stay h = (
+      ends_finish c before fs st come,
+      record {
+        program = ap (λ plan. program plan.program.now) h.1 ∙ is;
+        nest = h.2 ∙ nest;
+        frames = fs;
+        before = before;
+        state = st;
+        waits = h.0;
+        come = come;
+        made = h.3;
+      },
+    )
     by_frames (Ended x) (AtEnd before ∷ fs) st steps come stay h = absurd h
     by_frames (Going q) [] st steps come stay h = absurd h
     by_frames (Spawns q x) [] st steps come stay h = absurd h
     by_frames (EntersFinish q) [] st steps come stay h = absurd h
     by_frames (Over q) [] st steps come stay h = absurd h
     by_frames (EndsFinish w x) [] st steps come stay h = absurd h
-    by_frames (Ended x) [] st steps come stay h =
-        let task = its_task c.start (At [] st) come.stands in (
-          ap (λ n. next_action p (needs_of p) (budget_of j).steps c.receipts n c.start) (sym come.after)
-              ∙ next_is_last p (needs_of p) (budget_of j).steps root_start c.start c.receipts st task.awake come.follows
-              ∙ ap (λ q. Some (last_action q)) task.path,
-          record { state = st; come = come; is = h },
-        )
+    by_frames (Ended x) [] st steps come stay h = (ends_last c st come, record { state = st; come = come; is = h })
 
   -- a run of the program's on this input
   pub may_run : (c : Course) (r : Run) → IsRunOf j c r → MayRun p (lists_of j) (budget_of j) r
@@ -268,6 +279,47 @@ module _ (j : Job) (ok : IsJob j) where
       by_frames r c m.program m.nest t m.frames (with_own m.own (state_of r.thread)) refl m.come
       (stays p (lists_of j) (budget_of j) r t (may_run c r m) turns_so)
       (turns_so (in_truth p (needs_of p) (budget_of j).steps) m.frames m.own m.shows)
+
+  -- ---- what isn't a step
+  one_next : (c : Course) (a b : Action) → IsNext j c a → IsNext j c b → a ≡ b
+  one_next c a b is other = same_Some _ _ (sym is ∙ other)
+
+  spawns_no_step : (x : Start) → Spawn x ≡ Step → ⊥
+  spawns_no_step x e = let bad : ⊥ = cc in bad
+
+  enters_no_step : EnterFinish ≡ Step → ⊥
+  enters_no_step e = let bad : ⊥ = cc in bad
+
+  ends_no_step : EndFinish ≡ Step → ⊥
+  ends_no_step e = let bad : ⊥ = cc in bad
+
+  last_no_step : (q : List ℕ) → last_action q ≡ Step → ⊥
+  last_no_step [] e = let bad : ⊥ = cc in bad
+  last_no_step (i ∷ q) e = let bad : ⊥ = cc in bad
+
+  -- a run that began a task or a finish, or is at an end, wasn't to step
+  pub spawns_not : (c : Course) (n : ℕ) (q : Run) (x : rStart) → IsShown j c n (Spawns q x) → IsNext j c Step → ⊥
+  spawns_not c n q x h is = spawns_no_step (start x) (one_next c (Spawn (start x)) Step h.0 is)
+
+  pub enters_not : (c : Course) (n : ℕ) (q : Run) → IsShown j c n (EntersFinish q) → IsNext j c Step → ⊥
+  enters_not c n q h is = enters_no_step (one_next c EnterFinish Step h.0 is)
+
+  pub ends_not : (c : Course) (r : Run) → IsRunOf j c r → IsAtEnd r → IsNext j c Step → ⊥
+  ends_not c r m at is = by_place at
+    where
+      st : State Own
+      st = with_own m.own (state_of r.thread)
+
+      by_place : IsAtEnd r → ⊥
+      by_place (inl none) =
+          let come = subst (λ (fs : List (Frame Own)). HasCome j c (At fs st)) (none_stacked r.frames.items m.frames none m.shows.frames) m.come in
+          last_no_step c.start.path (one_next c (last_action c.start.path) Step (ends_last c st come) is)
+      by_place (inr (below, o, e)) =
+          on_top r.frames.items below (rEndFinish o) m.frames e m.shows.frames (λ fs. HasCome j c (At fs st) → ⊥)
+          (λ f fs shown stacked come.
+          let at_end = subst (λ (f : Frame Own). HasCome j c (At (f ∷ fs) st)) shown.1 come in
+          ends_no_step (one_next c EndFinish Step (ends_finish c shown.0 fs st at_end) is))
+          m.come
 
   -- a task that has begun stands at its beginning
   pub begins : (c : Course) (s : rStart) (r : Run) → IsFresh j c s → program r.plan.program.now ≡ p → r.thread.nest ≡ s.nest

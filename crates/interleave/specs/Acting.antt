@@ -1,16 +1,17 @@
 -- What the events of a task in a hand make of it, in Rust.
 use Rattle.std.specs.Prelude.{ℕ, ◌+◌, ◌*◌, ◌-◌, ◌/◌, ◌≡◌, ◌≤◌, ◌<◌, List, [], ◌∷◌, map, Some}
-use Rattle.std.specs.Prelude.{if◌then◌else◌}
+use Rattle.std.specs.Prelude.{if◌then◌else◌, Bool, true, false}
 use Rattle.std.specs.HashMap.{get}
 use Rattle.types.specs.declared.path.Path.{Path}
 use Rattle.own_run.specs.declared.run.Run.{Run}
 use Rattle.own_run.specs.declared.start.Start.{Start}
-use Rattle.interleave.specs.Courses.{IsKnown}
-use Rattle.interleave.specs.Events.{issue}
+use Rattle.interleave.specs.Courses.{IsKnown, IsLooked}
+use Rattle.interleave.specs.Events.{issue, Steps as IsStep}
 use Rattle.interleave.specs.World.{Stake, hand_of, Scope as Book}
-use Rattle.interleave.specs.Shown.{IsBookOf, is_path, is_scope, scope_id, stake, whereabouts}
+use Rattle.interleave.specs.Shown.{Becomes, IsBookOf, WorldStays, is_path, is_scope, scope_id, stake, whereabouts}
 use Rattle.interleave.specs.declared.doing.Doing.TheVariants.{Starts, Runs, Steps, Spawns, Opens}
 use Rattle.types.specs.declared.scope_id.ScopeId.{ScopeId}
+use Rattle.interleave.specs.declared.job.Job.{Job}
 use Rattle.interleave.specs.declared.scope.Scope.{Scope}
 use Rattle.interleave.specs.declared.task.Stake.{Stake as rStake}
 use Rattle.interleave.specs.declared.task.Task.{Task}
@@ -36,6 +37,24 @@ pub record DidStep (old new : Task) : Type 0 where
   pub run : Run
   pub was : old.doing ≡ Steps run
   pub now : new ≡ record old { doing = Runs run }
+
+-- in a hand it took the step that it was to take next, whether that was known or not
+pub record TookStep (j : Job) (old new : Task) : Type 0 where
+  pub worker : ℕ
+  pub hand : hand_of (whereabouts old.place) ≡ Some worker
+  pub run : Run
+  pub looked : IsLooked j old.doing (Steps run)
+  pub now : new ≡ record old { doing = Runs run }
+
+-- it did so, or it is as it was
+abbrev pub TookStepIf : Bool → Job → (old new : Task) → Type 0
+TookStepIf true j old new = TookStep j old new
+TookStepIf false j old new = new ≡ old
+
+-- the task of a path took a step, or the tables are the same
+abbrev pub SteppedIf : Bool → (path : List ℕ) → (old new : World) → Type 0
+SteppedIf true path old new = Becomes (IsStep path) old new
+SteppedIf false path old new = WorldStays old new
 
 -- it is to begin a task
 pub record IsToSpawn (k : Task) : Type 0 where

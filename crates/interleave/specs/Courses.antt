@@ -154,6 +154,10 @@ module _ (j : Job) where
     pub known : IsKnown new
     pub same : (c : Course) → IsDoing c old → IsDoing c new
 
+  -- its next action isn't a step
+  abbrev pub IsNotToStep : Doing → Type 0
+  IsNotToStep d = (c : Course) → IsDoing c d → IsNext c Step → ⊥
+
   -- what a turn shows of a task that was to run; `less` where steps are fewer after it
   abbrev pub IsShown : Course → (before : ℕ) → Turn → Type 0
   IsShown c n (Going r) =

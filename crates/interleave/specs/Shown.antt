@@ -15,7 +15,7 @@ use Rattle.own_run.specs.declared.result.TaskResult.{TaskResult}
 use Rattle.interleave.specs.Courses.{Course, course_of, further, IsDoing, IsLooked}
 use Rattle.interleave.specs.Events.{Event}
 use Rattle.interleave.specs.Jobs.{program_of, lists_of, budget_of, IsJob}
-use Rattle.interleave.specs.World.{ScopeId, Stake, Live, Scope, World}
+use Rattle.interleave.specs.World.{Stake, Live, Scope, World}
 use Rattle.interleave.specs.World.{Whereabouts, Queue, Hand, Parked}
 use Rattle.interleave.specs.World.{task, scope, hand_is_free, has_passed, root_scope}
 use Rattle.interleave.specs.Worlds.{LeadsTo, event_of}

@@ -6,20 +6,22 @@ ghost use Rattle.std.specs.Bool.{OnFalse, OnTrue};
 ghost use Rattle.std.specs.HashMap.{get};
 ghost use Rattle.own_run.specs.declared.run.Run.{Run as AnyRun};
 ghost use Rattle.interleave.specs.Acting.{DidIssue, DidOpen, DidSpawn, DidStep, IsHeavy};
+ghost use Rattle.interleave.specs.Acting.{SteppedIf, TookStepIf};
 ghost use Rattle.interleave.specs.Acting.{IsReady, IsSame, IsShare, IsShort, IsToSpawn, IsWanting};
-ghost use Rattle.interleave.specs.Courses.{IsKnown, behind, begun_by};
+ghost use Rattle.interleave.specs.Courses.{IsKnown, IsNotToStep, behind, begun_by};
 ghost use Rattle.interleave.specs.Events.{Opens as IsOpen, Replenish as IsReplenish};
 ghost use Rattle.interleave.specs.Events.{Spawns as IsSpawn, Steps as IsStep};
 ghost use Rattle.interleave.specs.Jobs.{IsJob};
 ghost use Rattle.interleave.specs.Shown.{Becomes, IsTaskOf, IsWorld, Refuses, TaskStays, WorldStays};
 ghost use Rattle.interleave.specs.Shown.{is_path, scope_id, stake, whereabouts};
+ghost use Rattle.interleave.specs.Walks.{IsIllegal};
 ghost use Rattle.interleave.specs.World.{Live, hand_of};
 ghost use Rattle.interleave.specs.declared.error.EventError.TheVariants.{Illegal, NoMemory};
 ghost use Rattle.types.specs.declared.scope_id.ScopeId.{ScopeId as AnyScopeId};
 ghost use Rattle.interleave.specs.declared.task.Stake.{Stake as AnyStake};
 ghost use Rattle.interleave.specs.declared.task.Task.{Task as AnyTask};
 
-use crate::doing::Doing;
+use crate::doing::{Doing, take_step};
 use crate::error::EventError;
 use crate::job::Job;
 use crate::scope::Scope;
@@ -132,6 +134,38 @@ impl<'p> World<'p> {
         Ok(())
     }
 
+    /// A task does one step in a world that is given up by an error: wherever it can, its run turns
+    /// where it is.
+    pub(crate) fn step_ahead(&mut self, path: &Path) -> Result<(), EventError>
+        requires { IsWorld self.old }
+        ensures job { OnOk result (self.new.job ≡ self.old.job) }
+        ensures stepped { OnOk result (Becomes (IsStep path.now.turns.items) self.old self.new) }
+        ensures refused { IfErr result (λ e. e ≡ Illegal
+            → IsIllegal self.old (IsStep path.now.turns.items)) }
+    {
+        if self.take_step(path)? {
+            return Ok(());
+        }
+        self.look_ahead(path)?;
+        self.step(path)
+    }
+
+    /// Whether a task's run took a step where it is, as one in a hand does whose next action isn't
+    /// looked at yet. After an error the run is worth nothing.
+    fn take_step(&mut self, path: &Path) -> Result<bool, EventError>
+        requires { IsWorld self.old }
+        ensures job { self.new.job ≡ self.old.job }
+        ensures stepped { IfOk result
+            (λ did. SteppedIf did path.now.turns.items self.old self.new) }
+        ensures refused { IfErr result (λ e. e ≡ Illegal
+            → IsIllegal self.old (IsStep path.now.turns.items)) }
+    {
+        match self.tasks.get_mut(path) {
+            Some(task) => task.take_step(self.job),
+            None => Ok(false),
+        }
+    }
+
     /// Whether a task is to begin another and weighs 1, and its innermost scope may issue.
     fn is_short(&self, path: &Path) -> bool
         requires { self.now.job.w0 ≤ 4294967296 }
@@ -237,6 +271,23 @@ impl<'p> Task<'p> {
         };
         self.goes_on();
         Ok(())
+    }
+
+    /// Whether its run took a step where it is. After an error the run is worth nothing.
+    fn take_step(&mut self, job: Job<'p>) -> Result<bool, EventError>
+        requires job { IsJob job }
+        requires task { (t : Live) × IsTaskOf job self.old t }
+        ensures stepped { IfOk result (λ did. TookStepIf did job.entry self.old self.new) }
+        ensures refused { IfErr result (λ e. e ≡ Illegal → IsNotToStep job.entry self.old.doing) }
+    {
+        let Some(_worker) = self.place.hand() else {
+            return Ok(false);
+        };
+        let Doing::Runs(run) = &mut self.doing else {
+            return Ok(false);
+        };
+        take_step(job, run)?;
+        Ok(true)
     }
 
     /// The innermost scope, where it weighs 1 in that and is to begin a task.

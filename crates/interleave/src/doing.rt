@@ -1,17 +1,17 @@
 //! What a live task is about to do.
 
-ghost use Rattle.std.specs.Prelude.{◌≡◌, ◌⊎◌, IfErr, IfOk, MatchOption};
-ghost use Rattle.interleave.specs.Courses.{Course, IsDoing, IsKnown, IsLooked, IsRunOf};
+ghost use Rattle.std.specs.Prelude.{◌≡◌, ◌⊎◌, IfErr, IfOk, MatchOption, OnOk};
+ghost use Rattle.interleave.specs.Courses.{Course, IsDoing, IsKnown, IsLooked, IsNotToStep, IsRunOf};
 ghost use Rattle.interleave.specs.Courses.{behind, begun_by};
 ghost use Rattle.interleave.specs.Jobs.{IsJob};
-ghost use Rattle.interleave.specs.declared.error.EventError.TheVariants.{NoMemory};
+ghost use Rattle.interleave.specs.declared.error.EventError.TheVariants.{Illegal, NoMemory};
 
 use crate::error::EventError;
 use crate::job::Job;
 use own_run::result::TaskResult;
 use own_run::run::Run;
 use own_run::start::Start;
-use own_run::turn::{Paused, Turn};
+use own_run::turn::{Done, Paused, Step, Turn};
 
 /// How far a task's own run has come. Where its next action is known the run is already behind it.
 #[derive(Drop)]
@@ -126,6 +126,35 @@ fn ahead<'p>(job: Job<'p>, run: Run<'p>) -> Result<Doing<'p>, EventError>
             Ok(Turn::EntersFinish(next)) => return Ok(Doing::Opens(next)),
             Ok(Turn::EndsFinish(paused, made)) => return Ok(Doing::AtFinish(paused, made)),
             Ok(Turn::Ended(made)) => return Ok(Doing::AtEnd(made)),
+            Err(_) => return Err(EventError::NoMemory),
+        }
+    }
+}
+
+/// A run goes on where it is, up to the first action of its own, which is to be a step. After an
+/// error it is worth nothing.
+pub(crate) fn take_step<'p>(job: Job<'p>, run: &mut Run<'p>) -> Result<(), EventError>
+    requires job { IsJob job }
+    requires task { (c : Course) × IsRunOf job c run.old }
+    ensures stepped { OnOk result
+        (IsLooked job.entry (Doing.Runs run.old) (Doing.Steps run.new)) }
+    ensures refused { IfErr result
+        (λ e. e ≡ Illegal → IsNotToStep job.entry (Doing.Runs run.old)) }
+{
+    'turns: loop {
+        let steps = run.thread.steps;
+        match run.step(job.accepted) {
+            Ok(Step::Did(done)) => match done {
+                Done::Gone => {
+                    if run.thread.steps < steps {
+                        return Ok(());
+                    }
+                }
+                Done::Exceeded => {}
+                Done::Spawned(_) => return Err(EventError::Illegal),
+                Done::Entered => return Err(EventError::Illegal),
+            },
+            Ok(Step::AtEnd) => return Err(EventError::Illegal),
             Err(_) => return Err(EventError::NoMemory),
         }
     }

@@ -45,6 +45,9 @@ impl<'p> World<'p> {
             (λ e. e ≡ Illegal → IsIllegal self.old (event_of event.now)) }
         ensures job { OnOk result (self.new.job ≡ self.old.job) }
     {
+        if let Event::Step { path } = event {
+            return self.step_ahead(path);
+        }
         if let Event::Resume { worker, path } = event {
             return self.go_on_behind(*worker, path);
         }

@@ -6,4 +6,4 @@ mod lines;
 mod mends;
 mod names;
 pub mod told;
-mod ways;
+mod way;

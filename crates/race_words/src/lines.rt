@@ -1,6 +1,6 @@
 //! Lines of a way beside the lines of the text.
 
-use crate::ways::Line;
+use crate::way::Line;
 use std::alloc::AllocError;
 use syntax::Place;
 use types::code::Label;

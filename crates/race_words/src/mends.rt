@@ -2,7 +2,7 @@
 
 use crate::lines::Page;
 use crate::names::{procedure_of, section_name};
-use crate::ways::is_begun;
+use crate::way::is_begun;
 use race_checker::race::Race;
 use std::alloc::AllocError;
 use types::code::Program;

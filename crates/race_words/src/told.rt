@@ -3,7 +3,7 @@
 use crate::lines::{Page, push_lines};
 use crate::mends::{push_mend, push_sharing, push_unfinished};
 use crate::names::{kind_word, procedure_name, procedure_of, section_name};
-use crate::ways::{Line, end_of, push_way};
+use crate::way::{Line, end_of, push_way};
 use effects::access::Access;
 use excerpts::source::push_line;
 use places::statement_places;

@@ -1,7 +1,5 @@
-pub mod HasWays
-pub mod Showing
-pub mod Steps
-pub mod OwnMakes
-pub mod Parts
-pub mod Meeting
+pub mod Answering
+pub mod Crossings
 mod Examples
+pub mod Parts
+pub mod Showing

@@ -1,7 +1,12 @@
 -- Parts of sections, by what the sides of splits are sides of.
-use Rattle.std.proofs.Common.{◌≡◌, ◌⊎◌, inl, inr, ℕ, List, refl, sym, ◌∙◌, subst, true≢false}
-use Rattle.std.specs.Prelude.{◌↔◌, Bool, IsTrue, false}
-use Rattle.sections.specs.Origins.{Origin, Root, Left, Right, origin_of, IsSideOf}
+use Rattle.std.proofs.Common.{◌≡◌, ◌⊎◌, inl, inr, ℕ, ◌+◌, ◌<◌, ◌≤◌, List, length, refl, sym, ◌∙◌, subst, true≢false, arith}
+use Rattle.std.proofs.lemmas.Bool.{cases_lt, cases_eq}
+use Rattle.std.proofs.lemmas.List.{get_or_past}
+use Rattle.std.specs.Prelude.{◌↔◌, Bool, IsTrue, true, false}
+use Rattle.sections.specs.Origins.{Origin, Root, Left, Right, origin_of, IsNumbered, IsSideOf}
+use Rattle.sections.specs.Overlap.{overlap}
+use Rattle.sections.proofs.Climbing.{above_root, above_left, above_beside, above_right}
+use Rattle.sections.proofs.Overlapping.{overlap-sym, root-disjoint}
 use Rattle.witness.specs.Sharing.{LiesIn}
 
 module _ (origins : List Origin) where
@@ -49,3 +54,51 @@ module _ (origins : List Origin) where
 
 pub false_is_not : (b : Bool) → b ≡ false → IsTrue b → ⊥
 false_is_not b e h = true≢false (sym h ∙ e)
+
+module _ (origins : List Origin) (numbered : IsNumbered origins) where
+  -- sections that overlap are there, where they differ
+  ordered_past : (low high : ℕ) → low < high → length origins ≤ high → overlap origins low high ≡ true → ⊥
+  ordered_past low high order past h =
+      true≢false (sym h ∙ root-disjoint origins numbered low high order (get_or_past origins high Root past))
+
+  pub overlap_there : (a b : ℕ) → (a ≡ b → ⊥) → overlap origins a b ≡ true → (a < length origins) × (b < length origins)
+  overlap_there a b apart h = elim (cases_lt a b) [
+    | inl less ↦ elim (cases_lt b (length origins)) [
+      | inl there ↦ (omega (arith, less, there), there)
+      | inr past ↦ absurd (ordered_past a b less past h)
+    ]
+    | inr more ↦ elim (cases_lt a (length origins)) [
+      | inl there ↦ (there, let k : (a ≡ b → ⊥) = apart in omega (arith, more, there))
+      | inr past ↦ (let less : b < a = omega (arith, apart, more) in absurd (ordered_past b a less past (overlap-sym origins b a ∙ h)))
+    ]
+  ]
+
+  module _ (low high : ℕ) (order : low < high) where
+    -- a walk up ends at a section in which both lie
+    pub met_root : origin_of origins high ≡ Root → overlap origins low high ≡ true → ⊥
+    met_root e h = true≢false (sym h ∙ above_root origins numbered low high order e)
+
+    left_overlap : (s : ℕ) → origin_of origins high ≡ Left s → overlap origins low high ≡ true → overlap origins s low ≡ true
+    left_overlap s e h = overlap-sym origins s low ∙ sym (above_left origins numbered low high order s e) ∙ h
+
+    right_overlap : (s : ℕ) → origin_of origins high ≡ Right s → overlap origins low high ≡ true → overlap origins s low ≡ true
+    right_overlap s e h = elim (cases_eq (low + 1) high) [
+      | inl beside ↦ absurd (true≢false (sym h ∙ above_beside origins numbered low high order s e beside))
+      | inr apart ↦ overlap-sym origins s low ∙ sym (above_right origins numbered low high order s e apart) ∙ h
+    ]
+
+    pub low_left : (s r : ℕ) → origin_of origins high ≡ Left s → (overlap origins s low ≡ true → LiesIn origins low r)
+        → overlap origins low high ≡ true → LiesIn origins low r
+    low_left s r e down h = down (left_overlap s e h)
+
+    pub high_left : (s r : ℕ) → origin_of origins high ≡ Left s → (overlap origins s low ≡ true → LiesIn origins s r)
+        → overlap origins low high ≡ true → LiesIn origins high r
+    high_left s r e up h = LiesIn.side (IsSideOf.left e) (up (left_overlap s e h))
+
+    pub low_right : (s r : ℕ) → origin_of origins high ≡ Right s → (overlap origins s low ≡ true → LiesIn origins low r)
+        → overlap origins low high ≡ true → LiesIn origins low r
+    low_right s r e down h = down (right_overlap s e h)
+
+    pub high_right : (s r : ℕ) → origin_of origins high ≡ Right s → (overlap origins s low ≡ true → LiesIn origins s r)
+        → overlap origins low high ≡ true → LiesIn origins high r
+    high_right s r e up h = LiesIn.side (IsSideOf.right e) (up (right_overlap s e h))

@@ -1,19 +1,19 @@
 -- Two ways that meet show each race.
-use Rattle.std.proofs.Common.{◌≡◌, ◌⊎◌, inl, inr, ℕ, List, [], ◌∷◌}
-use Rattle.std.specs.Prelude.{Bool, true, false}
+use Rattle.std.proofs.Common.{inl, inr, ℕ, List, ◌∷◌}
+use Rattle.std.specs.Prelude.{true, false}
 use Rattle.types.specs.Code.{Code, Codes, Procedure, Program}
 use Rattle.effects.specs.Accesses.{Access}
 use Rattle.effects.specs.Effects.{accesses}
 use Rattle.effects.specs.Sound.{IsSound, Follows, FollowsOf}
 use Rattle.effects.specs.Statements.{Block}
 use Rattle.parallel_relation.specs.Together.{Together}
-use Rattle.race_checker.specs.Races.{Race, IsRace, numbered}
+use Rattle.race_checker.specs.Races.{Race, IsRace}
 use Rattle.race_checker.proofs.Judging.{numbered_stands}
-use Rattle.witness.specs.Ways.{Way, WayOf, Meets}
+use Rattle.witness.specs.Meets.{Meets}
 use Rattle.witness.specs.Witness.{IsShown}
 use Rattle.witness.specs.declared.crossing.Meeting.{Meeting}
-use Rattle.witness.specs.declared.step.Step.{Step}
-use Rattle.witness.proofs.HasWays.{done, done_of, left_of, leads_of, leads_in}
+use Rattle.ways.specs.declared.step.Step.{Step}
+use Rattle.ways.proofs.HasWays.{done, done_of, left_of, leads_of, leads_in}
 
 module _ (p : Program) (sound : IsSound p) where
   -- two ways meet in a list

@@ -1,3 +1,5 @@
+pub mod Crossed
+pub mod Meets
 pub mod Sharing
-pub mod Ways
 pub mod Witness
+pub use Rattle.ways.specs.Ways

@@ -1,12 +1,13 @@
 -- What shows that a race is one.
-use Rattle.std.specs.Prelude.{Bool, List, if◌then◌else◌}
-use Rattle.types.specs.Code.{Program}
+use Rattle.std.specs.Prelude.{◌+◌, ◌≤◌, Bool, List, length, if◌then◌else◌}
+use Rattle.types.specs.Code.{Codes, Program}
 use Rattle.effects.specs.Accesses.{Access}
 use Rattle.race_checker.specs.Races.{Race, numbered}
+use Rattle.witness.specs.Crossed.{Crossed, MeetIn}
 use Rattle.witness.specs.Sharing.{Shares}
-use Rattle.witness.specs.Ways.{Meets}
+use Rattle.witness.specs.Meets.{Meets}
 use Rattle.witness.specs.declared.crossing.Meeting.{Meeting}
-use Rattle.witness.specs.declared.step.Step.{Step}
+use Rattle.ways.specs.declared.step.Step.{Step}
 use Rattle.witness.specs.declared.witness.Witness.{Witness}
 
 -- the access of a race that is left pending, and the one that is done behind it
@@ -23,6 +24,10 @@ Shows p r first_pends kind pending later =
     Meets p (numbered p r.procedure).body kind pending later
     (pending_one first_pends r) (later_one first_pends r)
 
+-- so do two ways in this list
+abbrev pub ShowIn : Program → Codes → Race → Bool × Crossed → Type 0
+ShowIn p b r d = MeetIn p b (pending_one d.0 r) (later_one d.0 r) d.1
+
 -- a witness of a race
 pub record IsWitness (p : Program) (r : Race) (w : Witness) : Type 0 where
   pub shows : Shows p r w.first_pends w.meeting w.pending.items w.later.items
@@ -35,3 +40,9 @@ pub record IsShown (p : Program) (r : Race) : Type 0 where
   pub pending : List Step
   pub later : List Step
   pub shows : Shows p r first_pends meeting pending later
+
+-- no two ways that show the race have fewer steps
+pub record IsShortest (p : Program) (r : Race) (w : Witness) : Type 0 where
+  pub fewest : (first_pends : Bool) (kind : Meeting) (pending later : List Step)
+      → Shows p r first_pends kind pending later
+      → length w.pending.items + length w.later.items ≤ length pending + length later

@@ -1,9 +1,18 @@
 //! Where what a statement leaves pending meets what is done behind it.
 
-use crate::aim::Aim;
-use crate::step::{Step, shorter};
+ghost use Rattle.std.specs.Prelude.{◌≡◌, ◌+◌, IfOk, Some, length};
+ghost use Rattle.types.specs.Translation.{code as plain_code, codes as codes_of};
+ghost use Rattle.types.specs.Translation.{program as program_of};
+ghost use Rattle.effects.specs.Translation.{access as access_of};
+ghost use Rattle.witness.specs.Crossed.{IsAcross, IsInTurn, MeetAt, MeetIn, both, crossed};
+ghost use Rattle.ways.specs.Known.{steps};
+ghost use Rattle.ways.specs.Least.{IsLeast, IsLesserOf, all_covered};
+ghost use Rattle.ways.specs.Settled.{IsAim};
+
 use std::alloc::{AllocError, Global};
 use types::code::{Program, Stmt, StmtKind};
+use ways::aim::Aim;
+use ways::step::{Step, shorter};
 
 /// How two accesses come to run together.
 #[derive(Clone, Copy, PartialEq, Eq, Debug)]
@@ -24,13 +33,17 @@ pub(crate) struct Crossing {
 
 impl Crossing {
     /// How many steps it has.
-    pub fn len(&self) -> u128 {
+    pub fn len(&self) -> u128
+        ensures { result ≡ length self.now.pending.items + length self.now.later.items }
+    {
         self.pending.len() as u128 + self.later.len() as u128
     }
 }
 
 /// The shorter of two that were found; of two as long the first.
-pub(crate) fn shorter_crossing(one: Option<Crossing>, other: Option<Crossing>) -> Option<Crossing> {
+pub(crate) fn shorter_crossing(one: Option<Crossing>, other: Option<Crossing>) -> Option<Crossing>
+    ensures { IsLesserOf both (crossed one) (crossed other) (crossed result) }
+{
     match one {
         None => other,
         Some(crossing) => match other {
@@ -54,14 +67,20 @@ pub(crate) fn crossing_in(
     first: &Aim,
     second: &Aim,
     list: &[Stmt],
-) -> Result<Option<Crossing>, AllocError> {
+) -> Result<Option<Crossing>, AllocError>
+    requires first { IsAim (program_of code.now) first.now }
+    requires second { IsAim (program_of code.now) second.now }
+    ensures { IfOk result (λ found. IsLeast both all_covered (MeetIn (program_of code.now)
+        (codes_of list.now) (access_of first.now.access) (access_of second.now.access))
+        (crossed found)) }
+{
     let mut best = None;
     let mut behind = None;
     for place in (0..list.len()).rev() {
         let statement = &list[place];
-        let across = across(alloc, code, first, statement, &behind)?;
+        let follow = across(alloc, code, first, statement, &behind)?;
         let here = crossing_of(alloc, code, first, second, statement)?;
-        best = shorter_crossing(across, shorter_crossing(here, best));
+        best = shorter_crossing(follow, shorter_crossing(here, best));
         let way = second.way_of(alloc, code, false, statement)?;
         behind = shorter(way, behind);
     }
@@ -75,7 +94,12 @@ fn across(
     first: &Aim,
     statement: &Stmt,
     behind: &Option<Vec<Step>>,
-) -> Result<Option<Crossing>, AllocError> {
+) -> Result<Option<Crossing>, AllocError>
+    requires first { IsAim (program_of code.now) first.now }
+    ensures { IfOk result (λ found. IsLeast both all_covered (IsAcross (program_of code.now)
+        statement.now.label (plain_code statement.now.kind) (access_of first.now.access)
+        (steps behind.now)) (crossed found)) }
+{
     let Some(behind) = behind else {
         return Ok(None);
     };
@@ -99,7 +123,13 @@ fn crossing_of(
     first: &Aim,
     second: &Aim,
     statement: &Stmt,
-) -> Result<Option<Crossing>, AllocError> {
+) -> Result<Option<Crossing>, AllocError>
+    requires first { IsAim (program_of code.now) first.now }
+    requires second { IsAim (program_of code.now) second.now }
+    ensures { IfOk result (λ found. IsLeast both all_covered (MeetAt (program_of code.now)
+        statement.now.label (plain_code statement.now.kind) (access_of first.now.access)
+        (access_of second.now.access)) (crossed found)) }
+{
     match &statement.kind {
         StmtKind::Do(_) => Ok(None),
         StmtKind::If { body, other, .. } => {
@@ -126,7 +156,13 @@ fn in_turn(
     first: &Aim,
     second: &Aim,
     statement: &Stmt,
-) -> Result<Option<Crossing>, AllocError> {
+) -> Result<Option<Crossing>, AllocError>
+    requires first { IsAim (program_of code.now) first.now }
+    requires second { IsAim (program_of code.now) second.now }
+    ensures { IfOk result (λ found. IsLeast both all_covered (IsInTurn (program_of code.now)
+        statement.now.label (plain_code statement.now.kind) (access_of first.now.access)
+        (access_of second.now.access)) (crossed found)) }
+{
     let Some(pending) = first.way_of(alloc, code, true, statement)? else {
         return Ok(None);
     };

@@ -1,16 +1,18 @@
 //! Laws of the definitions, each the contract of a function that does nothing.
 
-ghost use Rattle.std.specs.Prelude.{List, false, true};
+ghost use Rattle.std.specs.Prelude.{◌≤◌, List, false, length, true};
 ghost use Rattle.effects.specs.Accesses.{Access};
 ghost use Rattle.effects.specs.Effects.{accesses, All, Pending};
 ghost use Rattle.effects.specs.Sound.{IsSound};
 ghost use Rattle.types.specs.Code.{Codes, Program};
 ghost use Rattle.race_checker.specs.Races.{IsRace, Race};
 ghost use Rattle.parallel_relation.specs.Together.{Together};
-ghost use Rattle.witness.specs.Ways.{Meets, Way};
+ghost use Rattle.ways.specs.Ways.{Way};
+ghost use Rattle.witness.specs.Meets.{Meets};
 ghost use Rattle.witness.specs.declared.crossing.Meeting.{Meeting};
-ghost use Rattle.witness.specs.Witness.{IsShown};
-ghost use Rattle.witness.specs.declared.step.Step.{Step};
+ghost use Rattle.witness.specs.Witness.{IsShortest, IsShown, Shows};
+ghost use Rattle.ways.specs.declared.step.Step.{Step};
+ghost use Rattle.witness.specs.declared.witness.Witness.{Witness as TheWitness};
 
 /// A way leads to what the statements may do, or leave pending, and to nothing else.
 pub fn ways_lead_to_what_is_done()
@@ -26,4 +28,15 @@ pub fn races_are_shown()
     ensures shown { (p : Program) → IsSound p → (r : Race) → IsRace p r → IsShown p r }
     ensures together { (p : Program) (b : Codes) (kind : Meeting) (one other : List Step)
         (x y : Access) → Meets p b kind one other x y → Together p accesses b x y }
+{}
+
+/// Where two ways show a race with the fewest steps, each of them is a shortest one: no way that shows it beside the
+/// second has fewer steps than the first, and none beside the first has fewer than the second.
+pub fn each_way_is_shortest()
+    ensures pending { (p : Program) (r : Race) (w : TheWitness) (way : List Step) → IsShortest p r w
+        → Shows p r w.first_pends w.meeting way w.later.items
+        → length w.pending.items ≤ length way }
+    ensures later { (p : Program) (r : Race) (w : TheWitness) (way : List Step) → IsShortest p r w
+        → Shows p r w.first_pends w.meeting w.pending.items way
+        → length w.later.items ≤ length way }
 {}

@@ -2,15 +2,10 @@
 
 #![tactic(auto)]
 
-mod aim;
 pub mod crossing;
-mod known;
 pub mod laws;
-mod looked_at;
-mod own;
-mod search;
-mod settling;
 pub mod sharing;
-mod shown;
-pub mod step;
+
+pub use ways::step;
+
 pub mod witness;

@@ -1,6 +1,7 @@
 //! How two sections of one procedure come to share places.
 
-ghost use Rattle.std.specs.Prelude.{◌↔◌, ◌<◌, IfSome, IsTrue, length};
+ghost use Rattle.std.specs.Prelude.{◌≡◌, ◌↔◌, ◌<◌, IfSome, IsSome, IsTrue, length, true};
+ghost use Rattle.sections.specs.Overlap.{overlap as overlap_of};
 ghost use Rattle.sections.specs.Tree.{origins_of};
 ghost use Rattle.witness.specs.Sharing.{LiesIn, Shares};
 
@@ -27,12 +28,16 @@ pub(crate) fn sharing_of(
     first: SectionId,
     second: SectionId,
 ) -> Option<Sharing>
-    requires first { first.number < length (origins_of sections.now) }
-    requires second { second.number < length (origins_of sections.now) }
-    ensures { IfSome result (Shares (origins_of sections.now) first.number second.number) }
+    ensures why { IfSome result (Shares (origins_of sections.now) first.number second.number) }
+    ensures some { overlap_of (origins_of sections.now) first.number second.number ≡ true
+        → IsSome result }
 {
     if first.number == second.number {
         return Some(Sharing::Same);
+    }
+    let end = sections.len();
+    if first.number >= end || second.number >= end {
+        return None;
     }
     if lies_in(sections, first, second) {
         return Some(Sharing::FirstIsPart);
@@ -63,19 +68,35 @@ fn lies_in(sections: &SectionTree, inner: SectionId, outer: SectionId) -> bool
     }
 }
 
-/// The nearest section in which both lie, where there is one: walks up from the one with the larger number.
+/// The nearest section in which both lie, where there is one.
+#[cycle(nearest)]
 fn nearest(sections: &SectionTree, first: SectionId, second: SectionId) -> SectionId
     requires first { first.number < length (origins_of sections.now) }
     requires second { second.number < length (origins_of sections.now) }
+    ensures first { overlap_of (origins_of sections.now) first.number second.number ≡ true
+        → LiesIn (origins_of sections.now) first.number result.number }
+    ensures second { overlap_of (origins_of sections.now) first.number second.number ≡ true
+        → LiesIn (origins_of sections.now) second.number result.number }
 {
     if first.number == second.number {
-        return first;
-    }
-    let (low, high) = if first.number < second.number {
-        (first, second)
+        first
+    } else if first.number < second.number {
+        nearest_above(sections, first, second)
     } else {
-        (second, first)
-    };
+        nearest_above(sections, second, first)
+    }
+}
+
+/// The same of two sections in order: walks up from the one with the larger number.
+#[cycle(nearest)]
+fn nearest_above(sections: &SectionTree, low: SectionId, high: SectionId) -> SectionId
+    requires order { low.number < high.number }
+    requires there { high.number < length (origins_of sections.now) }
+    ensures low { overlap_of (origins_of sections.now) low.number high.number ≡ true
+        → LiesIn (origins_of sections.now) low.number result.number }
+    ensures high { overlap_of (origins_of sections.now) low.number high.number ≡ true
+        → LiesIn (origins_of sections.now) high.number result.number }
+{
     match sections.origin(high) {
         Origin::Root => high,
         Origin::Left { parent } => nearest(sections, parent, low),

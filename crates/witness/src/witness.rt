@@ -1,24 +1,26 @@
 //! What shows that a race is one.
 
-ghost use Rattle.std.specs.Prelude.{◌≡◌, IfOk, IfSome};
-ghost use Rattle.types.specs.Translation.{procedure as procedure_as, program as program_of};
+ghost use Rattle.std.specs.Prelude.{◌≡◌, IfOk, IfSome, IsNone, IsSome, false, true};
+ghost use Rattle.types.specs.Code.{End};
+ghost use Rattle.types.specs.Translation.{codes as codes_of, procedure as procedure_as};
+ghost use Rattle.types.specs.Translation.{program as program_of};
 ghost use Rattle.types.specs.Typed.{code_of};
-ghost use Rattle.race_checker.specs.Races.{numbered};
+ghost use Rattle.race_checker.specs.Races.{IsRace, numbered};
 ghost use Rattle.race_checker.specs.Translation.{race as race_of};
-ghost use Rattle.witness.specs.Sharing.{Shares};
-ghost use Rattle.witness.specs.Witness.{IsWitness, later_one, pending_one};
-ghost use Rattle.effects.specs.Translation.{access as access_of};
+ghost use Rattle.witness.specs.Crossed.{both, directed, toward};
+ghost use Rattle.ways.specs.Least.{IsLeast, IsLesserOf, all_covered};
+ghost use Rattle.witness.specs.Witness.{IsShortest, IsWitness, ShowIn};
 
-use crate::aim::Aim;
 use crate::crossing::{Crossing, Meeting, crossing_in};
 use crate::sharing::{Sharing, sharing_of};
-use crate::shown::{Ends, meets_in};
-use crate::step::Step;
+use effects::laws::typed_programs_are_sound;
 use race_checker::race::Race;
 use std::alloc::{AllocError, Global};
 use types::code::{Procedure, Program, Stmt};
 use types::ids::ProcedureId;
 use types::typed::Typed;
+use ways::aim::Aim;
+use ways::step::Step;
 
 /// Why two accesses may run together, and share places. Both ways begin at statements of one list of the race's
 /// procedure, and each step is at a statement of the list to which the step before it has come.
@@ -39,22 +41,25 @@ pub struct Witness {
 /// A witness of a race, as `check` tells it: one with as few steps as any. None of two accesses that are no race of the
 /// program.
 pub fn witness_of(alloc: Global, typed: &Typed, race: Race) -> Result<Option<Witness>, AllocError>
-    ensures { IfOk result (λ found. IfSome found (IsWitness (code_of typed.now) (race_of race))) }
+    ensures witness { IfOk result (λ found.
+        IfSome found (IsWitness (code_of typed.now) (race_of race))) }
+    ensures shortest { IfOk result (λ found.
+        IfSome found (IsShortest (code_of typed.now) (race_of race))) }
+    ensures found { IfOk result (λ found.
+        IsRace (code_of typed.now) (race_of race) → IsSome found) }
 {
+    typed_programs_are_sound(typed);
     let code = typed.code();
     let Some(procedure) = procedure_of(code, race.procedure) else {
         return Ok(None);
     };
-    let Some(sharing) = shared(procedure, race) else {
+    let sections = &procedure.sections;
+    let Some(sharing) = sharing_of(sections, race.first.section, race.second.section) else {
         return Ok(None);
     };
     let Some((first_pends, crossing)) = shortest(alloc, code, race, &procedure.body)? else {
         return Ok(None);
     };
-    let ends = ends(race, first_pends);
-    if !meets_in(alloc, code, &crossing, ends, &procedure.body)? {
-        return Ok(None);
-    }
     let Crossing {
         meeting,
         pending,
@@ -71,46 +76,15 @@ pub fn witness_of(alloc: Global, typed: &Typed, race: Race) -> Result<Option<Wit
 
 /// The procedure of a number; `main` is numbered behind the others.
 fn procedure_of(program: &Program, procedure: ProcedureId) -> Option<&Procedure>
-    ensures { IfSome result (λ found. procedure_as found.now
+    ensures some { IfSome result (λ found. procedure_as found.now
         ≡ numbered (program_of program.now) procedure.number) }
+    ensures none { IsNone result
+        → (numbered (program_of program.now) procedure.number).body ≡ End }
 {
     if procedure.number == program.procedures.len() {
         Some(&program.main)
     } else {
         program.procedures.get(procedure.number)
-    }
-}
-
-/// Why the sections of a race share places.
-fn shared(procedure: &Procedure, race: Race) -> Option<Sharing>
-    ensures { IfSome result (Shares (procedure_as procedure.now).sections
-        (race_of race).first.section (race_of race).second.section) }
-{
-    let first = race.first.section;
-    let second = race.second.section;
-    let end = procedure.sections.len();
-    if first.number < end && second.number < end {
-        sharing_of(&procedure.sections, first, second)
-    } else {
-        None
-    }
-}
-
-/// The accesses of a race, the one that is left pending apart from the one behind it.
-fn ends(race: Race, first_pends: bool) -> Ends
-    ensures pending { access_of result.pending ≡ pending_one first_pends (race_of race) }
-    ensures later { access_of result.later ≡ later_one first_pends (race_of race) }
-{
-    if first_pends {
-        Ends {
-            pending: race.first,
-            later: race.second,
-        }
-    } else {
-        Ends {
-            pending: race.second,
-            later: race.first,
-        }
     }
 }
 
@@ -120,7 +94,10 @@ fn shortest(
     code: &Program,
     race: Race,
     body: &[Stmt],
-) -> Result<Option<(bool, Crossing)>, AllocError> {
+) -> Result<Option<(bool, Crossing)>, AllocError>
+    ensures { IfOk result (λ found. IsLeast (λ d. both d.1) all_covered
+        (ShowIn (program_of code.now) (codes_of body.now) (race_of race)) (directed found)) }
+{
     let first = Aim::at(alloc, code, race.first)?;
     let second = Aim::at(alloc, code, race.second)?;
     let forth = crossing_in(alloc, code, &first, &second, body)?;
@@ -129,7 +106,10 @@ fn shortest(
 }
 
 /// The shorter of two crossings, of the first of which it is true that the first access is left pending.
-fn shorter_direction(forth: Option<Crossing>, back: Option<Crossing>) -> Option<(bool, Crossing)> {
+fn shorter_direction(forth: Option<Crossing>, back: Option<Crossing>) -> Option<(bool, Crossing)>
+    ensures { IsLesserOf (λ d. both d.1) (toward true forth) (toward false back)
+        (directed result) }
+{
     match forth {
         None => match back {
             None => None,

@@ -1,6 +1,18 @@
-use Rattle.std.proofs.Common.{◌-◌, ◌<◌, length, refl, ap, arith, rules}
-use Rattle.types.specs.Translation.{code, codes}
-use Rattle.effects.proofs.Statements.{size, size_in, size-drop, smaller, codes_at, is_If, is_While, is_Split, is_Async, is_Finish}
+use Rattle.std.proofs.Common.{◌-◌, List, drop, length, refl, sym, ap, subst, arith, rules}
+use Rattle.std.proofs.lemmas.List.{drop_all}
+use Rattle.std.proofs.lemmas.Result.{IfOk-weaker}
+use Rattle.std.specs.Prelude.{false, None}
+use Rattle.types.specs.Code.{Code, Codes}
+use Rattle.types.specs.Translation.{code, codes, program}
+use Rattle.types.specs.declared.code.Stmt.{Stmt}
+use Rattle.effects.specs.Translation.{access}
+use Rattle.effects.proofs.Statements.{size_in, size-drop, smaller, codes_before, is_If, is_While, is_Split, is_Async, is_Finish}
+use Rattle.witness.specs.Crossed.{IsInTurn, MeetIn, both, crossed}
+use Rattle.ways.specs.Known.{steps}
+use Rattle.ways.specs.Least.{IsLeast, all_covered}
+use Rattle.ways.specs.Ways.{Way}
+use Rattle.witness.proofs.Crossings.{crossing_end, crossing_front, at_if, at_while, at_split, at_async, at_finish, at_statement}
+use Rattle.ways.proofs.Found.{least_end, least_front}
 use Rattle.witness.proofs.crossing.+crossing.Goals as goal
 
 pub crossing_in-crossing_of-requires : goal.crossing_in-crossing_of-requires
@@ -9,34 +21,111 @@ crossing_in-crossing_of-requires t c =
     let k = c.loop-place.place in
     let x = c.index-list-place.result in
     let fewer = smaller xs k x c.loop-place-test.true c.loop-place.auto.place c.index-list-place.is in
-    omega (arith, fewer, size-drop (k - 1) xs)
+    (omega (arith, fewer, size-drop (k - 1) xs), (c.requires.first, c.requires.second))
+
+pub crossing_in-loop-place-init : goal.crossing_in-loop-place-init
+crossing_in-loop-place-init t c =
+    let p = program c.args.code.now in
+    let x = access c.args.first.now.access in
+    let y = access c.args.second.now.access in
+    let xs = c.args.list.now in
+    record {
+      best = subst (λ (ys : List Stmt). IsLeast both all_covered (MeetIn p (codes ys) x y) None) (sym (drop_all _ xs (search rules))) (crossing_end p x y);
+      behind = subst (λ (ys : List Stmt). IsLeast length all_covered (λ way. Way p false (codes ys) way y) None) (sym (drop_all _ xs (search rules)))
+          (least_end p all_covered false y);
+    }
+
+pub crossing_in-loop-place-preserved : goal.crossing_in-loop-place-preserved
+crossing_in-loop-place-preserved t c =
+    let p = program c.args.code.now in
+    let x = access c.args.first.now.access in
+    let y = access c.args.second.now.access in
+    let xs = c.args.list.now in
+    let k = c.loop-place.place in
+    let s = c.index-list-place.result in
+    let at = codes_before xs k s c.loop-place-test.true c.loop-place.auto.place c.index-list-place.is in
+    let inv = c.loop-place.invariant in
+    record {
+      best = subst (λ (b : Codes). IsLeast both all_covered (MeetIn p b x y) (crossed c.shorter_crossing-best.result)) (sym at)
+          (crossing_front p x y s.label (code s.kind) (codes (drop k xs)) (steps c.loop-place.behind) _ _ _ _ _ c.shorter_crossing.ensures
+          c.shorter_crossing-best.ensures inv.behind c.in_ok-follow.ensures c.in_ok-here.ensures inv.best);
+      behind = subst (λ (b : Codes). IsLeast length all_covered (λ way. Way p false b way y) (steps c.shorter-behind.result)) (sym at)
+          (least_front p all_covered false y s.label (code s.kind) (codes (drop k xs)) _ _ _ c.shorter-behind.ensures c.in_ok-way.ensures inv.behind);
+    }
 
 pub crossing_of-crossing_in-requires : goal.crossing_of-crossing_in-requires
 crossing_of-crossing_in-requires t c =
     let is = is_If _ c.in-If.guard c.in-If.body c.in-If.other c.deref.result.now c.in-If.other.items c.in-If.is c.deref.ensures.value refl in
-    omega (arith, ap size_in is)
+    (omega (arith, ap size_in is), (c.requires.first, c.requires.second))
 
 pub crossing_of-crossing_in-requires-in-If : goal.crossing_of-crossing_in-requires-in-If
 crossing_of-crossing_in-requires-in-If t c =
     let is = is_If _ c.in-If.guard c.in-If.body c.in-If.other c.in-If.body.items c.deref-in-If.result.now c.in-If.is refl c.deref-in-If.ensures.value in
-    omega (arith, ap size_in is)
+    (omega (arith, ap size_in is), (c.requires.first, c.requires.second))
 
 pub crossing_of-crossing_in-requires-in-While : goal.crossing_of-crossing_in-requires-in-While
 crossing_of-crossing_in-requires-in-While t c =
     let is = is_While _ c.in-While.guard c.in-While.body c.deref-in-While.result.now c.in-While.is c.deref-in-While.ensures.value in
-    omega (arith, ap size_in is)
+    (omega (arith, ap size_in is), (c.requires.first, c.requires.second))
 
 pub crossing_of-crossing_in-requires-in-Split : goal.crossing_of-crossing_in-requires-in-Split
 crossing_of-crossing_in-requires-in-Split t c =
     let is = is_Split _ c.in-Split.section c.in-Split.at c.in-Split.left c.in-Split.right c.in-Split.body c.deref-in-Split.result.now c.in-Split.is c.deref-in-Split.ensures.value in
-    omega (arith, ap size_in is)
+    (omega (arith, ap size_in is), (c.requires.first, c.requires.second))
 
 pub crossing_of-crossing_in-requires-in-Async : goal.crossing_of-crossing_in-requires-in-Async
 crossing_of-crossing_in-requires-in-Async t c =
     let is = is_Async _ c.in-Async.body c.deref-in-Async.result.now c.in-Async.is c.deref-in-Async.ensures.value in
-    omega (arith, ap size_in is)
+    (omega (arith, ap size_in is), (c.requires.first, c.requires.second))
 
 pub crossing_of-crossing_in-requires-in-Finish : goal.crossing_of-crossing_in-requires-in-Finish
 crossing_of-crossing_in-requires-in-Finish t c =
     let is = is_Finish _ c.in-Finish.body c.deref-in-Finish.result.now c.in-Finish.is c.deref-in-Finish.ensures.value in
-    omega (arith, ap size_in is)
+    (omega (arith, ap size_in is), (c.requires.first, c.requires.second))
+
+pub crossing_of-returns-in_ok-next-in-If : goal.crossing_of-returns-in_ok-next-in-If
+crossing_of-returns-in_ok-next-in-If t c =
+    let p = program c.args.code.now in
+    let x = access c.args.first.now.access in
+    let y = access c.args.second.now.access in
+    let l = c.args.statement.now.label in
+    let is = is_If _ c.in-If.guard c.in-If.body c.in-If.other c.deref.result.now c.deref-in-If.result.now c.in-If.is c.deref.ensures.value c.deref-in-If.ensures.value in
+    at_statement p x y l _ _ _ is (at_if p x y l _ _ _ _ _ _ c.shorter_crossing.ensures c.in_ok-one-in-If.ensures c.in_ok-next-in-If.ensures)
+
+pub crossing_of-returns-in_ok-inside-in-While : goal.crossing_of-returns-in_ok-inside-in-While
+crossing_of-returns-in_ok-inside-in-While t c =
+    let p = program c.args.code.now in
+    let x = access c.args.first.now.access in
+    let y = access c.args.second.now.access in
+    let l = c.args.statement.now.label in
+    let is = is_While _ c.in-While.guard c.in-While.body c.deref-in-While.result.now c.in-While.is c.deref-in-While.ensures.value in
+    at_statement p x y l _ _ _ is
+    (at_while p x y l _ _ _ _ _ c.shorter_crossing-in-While.ensures
+    (subst (λ (k : Code). IsLeast both all_covered (IsInTurn p l k x y) (crossed c.in_ok-turn-in-While.turn)) is c.in_ok-turn-in-While.ensures) c.in_ok-inside-in-While.ensures)
+
+pub crossing_of-returns-in-Split : goal.crossing_of-returns-in-Split
+crossing_of-returns-in-Split t c =
+    let p = program c.args.code.now in
+    let x = access c.args.first.now.access in
+    let y = access c.args.second.now.access in
+    let l = c.args.statement.now.label in
+    let is = is_Split _ c.in-Split.section c.in-Split.at c.in-Split.left c.in-Split.right c.in-Split.body c.deref-in-Split.result.now c.in-Split.is c.deref-in-Split.ensures.value in
+    IfOk-weaker c.crossing_in-in-Split.result _ _ (λ found h. at_statement p x y l _ _ _ is (at_split p x y l _ _ _ _ _ _ h)) c.crossing_in-in-Split.ensures
+
+pub crossing_of-returns-in-Async : goal.crossing_of-returns-in-Async
+crossing_of-returns-in-Async t c =
+    let p = program c.args.code.now in
+    let x = access c.args.first.now.access in
+    let y = access c.args.second.now.access in
+    let l = c.args.statement.now.label in
+    let is = is_Async _ c.in-Async.body c.deref-in-Async.result.now c.in-Async.is c.deref-in-Async.ensures.value in
+    IfOk-weaker c.crossing_in-in-Async.result _ _ (λ found h. at_statement p x y l _ _ _ is (at_async p x y l _ _ h)) c.crossing_in-in-Async.ensures
+
+pub crossing_of-returns-in-Finish : goal.crossing_of-returns-in-Finish
+crossing_of-returns-in-Finish t c =
+    let p = program c.args.code.now in
+    let x = access c.args.first.now.access in
+    let y = access c.args.second.now.access in
+    let l = c.args.statement.now.label in
+    let is = is_Finish _ c.in-Finish.body c.deref-in-Finish.result.now c.in-Finish.is c.deref-in-Finish.ensures.value in
+    IfOk-weaker c.crossing_in-in-Finish.result _ _ (λ found h. at_statement p x y l _ _ _ is (at_finish p x y l _ _ h)) c.crossing_in-in-Finish.ensures

@@ -1,6 +1,12 @@
-use Rattle.std.proofs.Common.{◌+◌, ◌*◌}
-use Rattle.types.specs.Translation.{code, codes}
+use Rattle.std.proofs.Common.{◌+◌, ◌*◌, drop, length}
+use Rattle.std.specs.Prelude.{false}
+use Rattle.types.specs.Translation.{code, codes, program}
+use Rattle.effects.specs.Translation.{access}
 use Rattle.effects.proofs.Statements.{size, size_in}
+use Rattle.witness.specs.Crossed.{MeetIn, both, crossed}
+use Rattle.ways.specs.Known.{steps}
+use Rattle.ways.specs.Least.{IsLeast, all_covered}
+use Rattle.ways.specs.Ways.{Way}
 use Rattle.witness.proofs.crossing.+crossing.Given as goal
 
 abbrev pub decreases-crossing_in : goal.decreases-crossing_in
@@ -8,3 +14,10 @@ decreases-crossing_in l = 2 * size (codes l.list.now)
 
 abbrev pub decreases-crossing_of : goal.decreases-crossing_of
 decreases-crossing_of l = 2 * size_in (code l.statement.now.kind) + 1
+
+-- the shortest from the last statements
+abbrev pub invariant-crossing_in-loop-place : goal.invariant-crossing_in-loop-place
+invariant-crossing_in-loop-place l = record {
+  best : IsLeast both all_covered (MeetIn (program l.code) (codes (drop l.place l.list)) (access l.first.access) (access l.second.access)) (crossed l.best);
+  behind : IsLeast length all_covered (λ way. Way (program l.code) false (codes (drop l.place l.list)) way (access l.second.access)) (steps l.behind);
+}

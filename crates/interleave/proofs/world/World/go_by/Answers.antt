@@ -6,6 +6,11 @@ use Rattle.interleave.specs.Shown.{Becomes}
 use Rattle.interleave.proofs.LookingAhead.{becomes_then, illegal_by, illegal_then, still_world}
 use Rattle.interleave.proofs.world.World.go_by.Goals as goal
 
+pub returns-in-Step-clause-legal : goal.returns-in-Step-clause-legal
+returns-in-Step-clause-legal c =
+    subst (λ e. OnOk c.step_ahead.result (Becomes (event e) c.args.self.now c.step_ahead.new.self)) (sym c.in-Step.is)
+    c.step_ahead.ensures.stepped
+
 pub returns-in-Resume-clause-legal : goal.returns-in-Resume-clause-legal
 returns-in-Resume-clause-legal c =
     subst (λ e. OnOk c.go_on_behind.result (Becomes (event e) c.args.self.now c.go_on_behind.new.self)) (sym c.in-Resume.is)

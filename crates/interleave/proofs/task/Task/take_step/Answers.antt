@@ -1,0 +1,24 @@
+use Rattle.std.proofs.Common.{◌∙◌, refl, subst, sym}
+use Rattle.interleave.specs.Courses.{IsDoing, IsLooked, course_of}
+use Rattle.interleave.specs.declared.doing.Doing.{Doing}
+use Rattle.interleave.specs.declared.doing.Doing.TheVariants.{Steps}
+use Rattle.interleave.proofs.InHand.{its_doing}
+use Rattle.interleave.proofs.task.Task.take_step.Goals as goal
+
+pub take_step-requires-clause-task : goal.take_step-requires-clause-task
+take_step-requires-clause-task c =
+    let t = c.requires.task in (
+      course_of t.0,
+      subst (λ (d : Doing). IsDoing c.args.job (course_of t.0) d) c.in-Runs.is
+          (its_doing c.args.job c.args.self.now t.0 c.in-Some._worker t.1 (sym c.hand.ensures ∙ c.in-Some.is)),
+    )
+
+pub returns-clause-stepped : goal.returns-clause-stepped
+returns-clause-stepped c =
+    record {
+      worker = c.in-Some._worker;
+      hand = sym c.hand.ensures ∙ c.in-Some.is;
+      run = c.take_step.new.run;
+      looked = subst (λ (d : Doing). IsLooked c.args.job d (Steps c.take_step.new.run)) (sym c.in-Runs.is) c.in_ok-take_step.ensures.stepped;
+      now = refl;
+    }

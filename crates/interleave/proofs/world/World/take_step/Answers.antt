@@ -1,0 +1,34 @@
+use Rattle.std.proofs.Common.{ap, sym}
+use Rattle.std.proofs.lemmas.Result.{IfErr-weaker, IfOk-weaker}
+use Rattle.std.specs.Prelude.{is_some}
+use Rattle.interleave.specs.Shown.{IsTaskOf}
+use Rattle.interleave.specs.declared.task.Task.{Task as rTask}
+use Rattle.interleave.specs.declared.world.World.{World as rWorld}
+use Rattle.interleave.proofs.InPlace.{no_step, stepped_if}
+use Rattle.interleave.proofs.Tables.{there}
+use Rattle.interleave.proofs.world.World.take_step.Goals as goal
+
+pub take_step-requires-clause-task : goal.take_step-requires-clause-task
+take_step-requires-clause-task c =
+    let r = c.args.self.now in
+    let path = c.args.path.now in
+    let t = there (IsTaskOf r.job) c.in-Some.task.now _ _ (c.requires.shows.tasks path) (sym c.in-Some.ensures.value) in
+    (t.0, t.2)
+
+pub returns-in-Some-clause-stepped : goal.returns-in-Some-clause-stepped
+returns-in-Some-clause-stepped c =
+    let r : rWorld = c.args.self.now in
+    let path = c.args.path.now in
+    let k = c.in-Some.task.now in
+    let put : rTask → rWorld = λ x. record r { tasks = c.get_mut.follows.lender x } in
+    let holds = λ (x : rTask). (c.get_mut.follows.holds x).3 (ap is_some (sym c.in-Some.ensures.value)) in
+    IfOk-weaker c.take_step.result _ _
+    (λ did s. stepped_if r path k (sym c.in-Some.ensures.value) put (λ x. (holds x).0) (λ x. (holds x).1) c.take_step.new.self did s)
+    c.take_step.ensures.stepped
+
+pub returns-in-Some-clause-refused : goal.returns-in-Some-clause-refused
+returns-in-Some-clause-refused c =
+    let r : rWorld = c.args.self.now in
+    IfErr-weaker c.take_step.result _ _
+    (λ e not is. no_step r c.args.path.now c.in-Some.task.now (sym c.in-Some.ensures.value) (not is))
+    c.take_step.ensures.refused

@@ -1,0 +1,13 @@
+use Rattle.types.specs.Translation.{program}
+use Rattle.effects.specs.Translation.{access}
+use Rattle.ways.specs.Known.{AreWays}
+use Rattle.ways.specs.Settled.{total}
+use Rattle.ways.proofs.settling.settled.Given as goal
+
+-- what is known are ways
+abbrev pub invariant-loop-known : goal.invariant-loop-known
+invariant-loop-known l = AreWays (program l.code) (access l.access) l.known
+
+-- each further round shortens one
+abbrev pub decreases-loop-known : goal.decreases-loop-known
+decreases-loop-known l = total l.entries.items l.known

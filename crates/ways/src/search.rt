@@ -1,0 +1,265 @@
+//! The shortest way from statements to an access.
+
+ghost use Rattle.std.specs.Prelude.{◌≡◌, ◌↔◌, IfOk, IfSome, IsTrue, MatchOption, None, length, map};
+ghost use Rattle.sections.specs.Translation.{section as section_of};
+ghost use Rattle.types.specs.Translation.{code as plain_code, codes as codes_of};
+ghost use Rattle.types.specs.Translation.{program as program_of};
+ghost use Rattle.effects.specs.Effects.{past_split};
+ghost use Rattle.effects.specs.Translation.{access as access_of};
+ghost use Rattle.ways.specs.Known.{AreWays, IsFound, steps};
+ghost use Rattle.ways.specs.Least.{IsLeast, all_covered};
+ghost use Rattle.ways.specs.Searched.{GoesIn, GoesOn, IsFromParameter, IsInside, IsLed, IsOwn};
+ghost use Rattle.ways.specs.Ways.{Way, WayOf, step as step_of};
+
+use crate::known::{Entry, Known};
+use crate::own::makes;
+use crate::step::{Rule, Step, led_on, shorter};
+use effects::access::Access;
+use effects::firsts::around;
+use sections::id::SectionId;
+use std::alloc::{AllocError, Global};
+use types::code::{Program, Stmt, StmtKind};
+use types::ids::ProcedureId;
+
+/// What a way is to lead to: an access that is done, or one that is left pending.
+#[derive(Clone, Copy)]
+pub(crate) struct Sought {
+    pub access: Access,
+    pub pending: bool,
+}
+
+impl Sought {
+    /// The step at a statement.
+    fn step(self, statement: &Stmt, rule: Rule) -> Step
+        ensures { result ≡ step_of statement.now.label rule self.access.section.number }
+    {
+        Step {
+            label: statement.label,
+            rule,
+            section: self.access.section,
+        }
+    }
+
+    /// Whether a statement's own expressions make it.
+    fn is_own(self, alloc: Global, statement: &Stmt) -> Result<bool, AllocError>
+        ensures { IfOk result (λ own. IsTrue own ↔ IsOwn self.pending statement.now.label
+            (plain_code statement.now.kind) (access_of self.access)) }
+    {
+        if self.pending {
+            return Ok(false);
+        }
+        makes(alloc, statement, self.access)
+    }
+
+    /// The same inside a split, where it goes to this section. None where that has another name around the split.
+    fn inside(
+        self,
+        section: SectionId,
+        left: SectionId,
+        right: SectionId,
+        inner: SectionId,
+    ) -> Option<Sought>
+        ensures { MatchOption result
+            (past_split section.number left.number right.number inner.number
+            ≡ self.access.section.number → ⊥)
+            (IsInside self section.number left.number right.number inner) }
+    {
+        let access = Access {
+            section: inner,
+            ..self.access
+        };
+        if around(access, section, left, right).section.number != self.access.section.number {
+            return None;
+        }
+        Some(Sought {
+            access,
+            pending: self.pending,
+        })
+    }
+}
+
+/// The shortest way from a list of statements, with what is known of procedures.
+#[cycle(search)]
+pub(crate) fn way_in(
+    alloc: Global,
+    code: &Program,
+    known: &Known,
+    sought: Sought,
+    list: &[Stmt],
+) -> Result<Option<Vec<Step>>, AllocError>
+    requires ways { AreWays (program_of code.now) (access_of sought.access) known.now }
+    ensures { IfOk result (IsFound (program_of code.now) (access_of sought.access) known.now
+        (λ way. Way (program_of code.now) sought.pending (codes_of list.now) way
+        (access_of sought.access))) }
+{
+    let mut best = None;
+    for place in (0..list.len()).rev() {
+        let way = way_of(alloc, code, known, sought, &list[place])?;
+        best = shorter(way, best);
+    }
+    Ok(best)
+}
+
+/// The shortest way from a statement.
+#[cycle(search)]
+pub(crate) fn way_of(
+    alloc: Global,
+    code: &Program,
+    known: &Known,
+    sought: Sought,
+    statement: &Stmt,
+) -> Result<Option<Vec<Step>>, AllocError>
+    requires ways { AreWays (program_of code.now) (access_of sought.access) known.now }
+    ensures { IfOk result (IsFound (program_of code.now) (access_of sought.access) known.now
+        (λ way. WayOf (program_of code.now) sought.pending statement.now.label
+        (plain_code statement.now.kind) way (access_of sought.access))) }
+{
+    if sought.is_own(alloc, statement)? {
+        let mut way = Vec::new(alloc);
+        way.push(sought.step(statement, Rule::Own))?;
+        return Ok(Some(way));
+    }
+    way_inside(alloc, code, known, sought, statement)
+}
+
+/// The shortest way from a statement into its blocks and its call.
+#[cycle(search)]
+fn way_inside(
+    alloc: Global,
+    code: &Program,
+    known: &Known,
+    sought: Sought,
+    statement: &Stmt,
+) -> Result<Option<Vec<Step>>, AllocError>
+    requires ways { AreWays (program_of code.now) (access_of sought.access) known.now }
+    ensures { IfOk result (IsFound (program_of code.now) (access_of sought.access) known.now
+        (GoesOn (program_of code.now) sought.pending statement.now.label
+        (plain_code statement.now.kind) (access_of sought.access))) }
+{
+    match &statement.kind {
+        StmtKind::Do(_) => Ok(None),
+        StmtKind::If { body, other, .. } => {
+            let step = sought.step(statement, Rule::Body);
+            let way = way_behind(alloc, code, known, Some(sought), step, body)?;
+            let step = sought.step(statement, Rule::Other);
+            let next = way_behind(alloc, code, known, Some(sought), step, other)?;
+            Ok(shorter(way, next))
+        }
+        StmtKind::While { body, .. } => {
+            let step = sought.step(statement, Rule::Turn);
+            way_behind(alloc, code, known, Some(sought), step, body)
+        }
+        StmtKind::Split {
+            section,
+            left,
+            right,
+            body,
+            ..
+        } => {
+            let step = sought.step(statement, Rule::Side);
+            let aim = sought.inside(*section, *left, *right, *left);
+            let by_left = way_behind(alloc, code, known, aim, step, body)?;
+            let aim = sought.inside(*section, *left, *right, *right);
+            let by_right = way_behind(alloc, code, known, aim, step, body)?;
+            let aim = sought.inside(*section, *left, *right, sought.access.section);
+            let by_itself = way_behind(alloc, code, known, aim, step, body)?;
+            Ok(shorter(by_left, shorter(by_right, by_itself)))
+        }
+        StmtKind::Call {
+            procedure,
+            sections,
+            ..
+        } => {
+            let step = sought.step(
+                statement,
+                Rule::Enter {
+                    procedure: *procedure,
+                },
+            );
+            way_past_call(alloc, known, sought, step, *procedure, sections)
+        }
+        StmtKind::Async { body } => {
+            let done = Sought {
+                access: sought.access,
+                pending: false,
+            };
+            let step = sought.step(statement, Rule::Begin);
+            way_behind(alloc, code, known, Some(done), step, body)
+        }
+        StmtKind::Finish { body } => {
+            if sought.pending {
+                return Ok(None);
+            }
+            let step = sought.step(statement, Rule::Await);
+            way_behind(alloc, code, known, Some(sought), step, body)
+        }
+    }
+}
+
+/// A step, and the shortest way behind it, from a list of statements. None where nothing is sought there.
+#[cycle(search)]
+fn way_behind(
+    alloc: Global,
+    code: &Program,
+    known: &Known,
+    sought: Option<Sought>,
+    step: Step,
+    list: &[Stmt],
+) -> Result<Option<Vec<Step>>, AllocError>
+    requires ways { IfSome sought (λ sought.
+        AreWays (program_of code.now) (access_of sought.access) known.now) }
+    ensures { IfOk result (λ found. MatchOption sought (steps found ≡ None) (λ sought.
+        IsFound (program_of code.now) (access_of sought.access) known.now
+        (IsLed step (λ way. Way (program_of code.now) sought.pending (codes_of list.now) way
+        (access_of sought.access))) found)) }
+{
+    let Some(sought) = sought else {
+        return Ok(None);
+    };
+    let way = way_in(alloc, code, known, sought, list)?;
+    led_on(alloc, step, way)
+}
+
+/// A step, and the shortest way behind it that is known of a procedure to which these sections are passed.
+fn way_past_call(
+    alloc: Global,
+    known: &Known,
+    sought: Sought,
+    step: Step,
+    procedure: ProcedureId,
+    sections: &[SectionId],
+) -> Result<Option<Vec<Step>>, AllocError>
+    ensures { IfOk result (λ found. IsLeast length all_covered
+        (GoesIn known.now sought.pending procedure.number (map section_of sections.now)
+        sought.access.section.number step) (steps found)) }
+{
+    let mut best = None;
+    for number in 0..sections.len() {
+        let entry = Entry {
+            procedure,
+            parameter: SectionId { number },
+            pending: sought.pending,
+        };
+        let way = way_from(alloc, known, sought, step, entry, sections[number])?;
+        best = shorter(best, way);
+    }
+    Ok(best)
+}
+
+/// The same of one of its parameters, for which this section is passed.
+fn way_from(
+    alloc: Global,
+    known: &Known,
+    sought: Sought,
+    step: Step,
+    entry: Entry,
+    passed: SectionId,
+) -> Result<Option<Vec<Step>>, AllocError>
+    ensures { IfOk result (λ found. IsLeast length all_covered (IsFromParameter known.now entry
+        (passed.number ≡ sought.access.section.number) step) (steps found)) }
+{
+    if passed.number != sought.access.section.number {
+        return Ok(None);
+    }
+    known.led_from(alloc, step, entry)
+}

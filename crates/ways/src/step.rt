@@ -1,0 +1,86 @@
+//! The steps of a way from statements down to an access.
+
+ghost use Rattle.std.specs.Prelude.{◌≡◌, ◌∷◌, IfOk, length, option_map};
+ghost use Rattle.ways.specs.Known.{steps};
+ghost use Rattle.ways.specs.Least.{IsLesserOf};
+
+use sections::id::SectionId;
+use std::alloc::{AllocError, Global};
+use types::code::Label;
+use types::ids::ProcedureId;
+
+/// How a step goes on from its statement.
+#[derive(Clone, Copy, PartialEq, Eq, Debug)]
+pub enum Rule {
+    /// `a[0] = 1;`: the statement's own expressions make the access. It is the last step.
+    Own,
+    /// `if x < 1 { HERE }`
+    Body,
+    /// `if x < 1 { } else { HERE }`
+    Other,
+    /// `while x < 1 { HERE }`
+    Turn,
+    /// `split s at 2 as l, r { HERE }`
+    Side,
+    /// `f(a);`: the body of that procedure.
+    Enter { procedure: ProcedureId },
+    /// `async { HERE }`
+    Begin,
+    /// `finish { HERE }`
+    Await,
+}
+
+/// A step: at the statement with this label, to whose list the way has come.
+#[derive(Clone, Copy, PartialEq, Eq, Debug)]
+pub struct Step {
+    pub label: Label,
+    pub rule: Rule,
+    /// What the access goes to, in the names around the statement. In the names inside it is the next step's section.
+    pub section: SectionId,
+}
+
+/// A way with one step more in front.
+pub(crate) fn led(alloc: Global, step: Step, way: &[Step]) -> Result<Vec<Step>, AllocError>
+    ensures { IfOk result (λ led. led.items ≡ step ∷ way.now) }
+{
+    let mut led = Vec::new(alloc);
+    led.push(step)?;
+    led.extend_from_slice(way)?;
+    Ok(led)
+}
+
+/// The same of a way that was found.
+pub(crate) fn led_on(
+    alloc: Global,
+    step: Step,
+    found: Option<Vec<Step>>,
+) -> Result<Option<Vec<Step>>, AllocError>
+    ensures { IfOk result (λ led. steps led ≡ option_map (λ way. step ∷ way) (steps found)) }
+{
+    match found {
+        None => Ok(None),
+        Some(way) => {
+            let longer = led(alloc, step, &way)?;
+            Ok(Some(longer))
+        }
+    }
+}
+
+/// The shorter of two ways that were found; of two as long the first.
+pub fn shorter(one: Option<Vec<Step>>, other: Option<Vec<Step>>) -> Option<Vec<Step>>
+    ensures { IsLesserOf length (steps one) (steps other) (steps result) }
+{
+    match one {
+        None => other,
+        Some(way) => match other {
+            None => Some(way),
+            Some(next) => {
+                if way.len() <= next.len() {
+                    Some(way)
+                } else {
+                    Some(next)
+                }
+            }
+        },
+    }
+}

@@ -1,0 +1,92 @@
+-- What is answered of a race, from the least ways that meet in both directions.
+use Rattle.std.proofs.Common.{◌≡◌, ◌⊎◌, inl, inr, ℕ, ◌+◌, ◌≤◌, length, refl, sym, subst, arith, true≢false}
+use Rattle.std.specs.Prelude.{Bool, true, false, Option, None, Some}
+use Rattle.types.specs.Code.{Codes, End, Program}
+use Rattle.effects.specs.Accesses.{Access}
+use Rattle.effects.specs.Effects.{accesses}
+use Rattle.effects.specs.Sound.{IsSound}
+use Rattle.parallel_relation.specs.Together.{Together}
+use Rattle.race_checker.specs.Races.{Race, IsRace, numbered}
+use Rattle.witness.specs.Crossed.{Crossed, MeetIn, both, crossed, toward}
+use Rattle.ways.specs.Least.{AtMost, IsLesserOf, IsLeast, all_covered}
+use Rattle.witness.specs.Meets.{Meets}
+use Rattle.witness.specs.Witness.{IsShortest, ShowIn, pending_one, later_one}
+use Rattle.witness.specs.declared.crossing.Crossing.{Crossing}
+use Rattle.witness.specs.declared.witness.Witness.{Witness}
+use Rattle.ways.proofs.Leasts.{least_either}
+use Rattle.witness.proofs.Showing.{shown}
+
+abbrev pub size : Bool × Crossed → ℕ
+size d = both d.1
+
+-- two ways in one direction
+record IsToward (f : Bool) (those : Crossed → Type 0) (d : Bool × Crossed) : Type 0 where
+  way : d.0 ≡ f
+  among : those d.1
+
+least_toward : (f : Bool) (those : Crossed → Type 0) (found : Option Crossing) → IsLeast both all_covered those (crossed found)
+    → IsLeast size all_covered (IsToward f those) (toward f found)
+least_toward f those None h = record { among = tt; least = λ d q c. h.least d.1 q.among tt }
+least_toward f those (Some c) h = record {
+  among = record { way = refl; among = h.among };
+  least = λ d q c. h.least d.1 q.among tt;
+}
+
+module _ (p : Program) (b : Codes) (r : Race) where
+  abbrev Forth : Bool × Crossed → Type 0
+  Forth = IsToward true (MeetIn p b r.first r.second)
+
+  abbrev Back : Bool × Crossed → Type 0
+  Back = IsToward false (MeetIn p b r.second r.first)
+
+  forth : (f : Bool) (c : Crossed) → f ≡ true → MeetIn p b r.first r.second c → ShowIn p b r (f, c)
+  forth true c e m = m
+  forth false c e m = absurd (true≢false (sym e))
+
+  back : (f : Bool) (c : Crossed) → f ≡ false → MeetIn p b r.second r.first c → ShowIn p b r (f, c)
+  back true c e m = absurd (true≢false e)
+  back false c e m = m
+
+  cases : (f : Bool) (c : Crossed) → ShowIn p b r (f, c) → Forth (f, c) ⊎ Back (f, c)
+  cases true c m = inl (record { way = refl; among = m })
+  cases false c m = inr (record { way = refl; among = m })
+
+  -- of both directions
+  pub least_directed : (one other : Option Crossing) (found : Option (Bool × Crossed)) → IsLesserOf size (toward true one) (toward false other) found
+      → IsLeast both all_covered (MeetIn p b r.first r.second) (crossed one) → IsLeast both all_covered (MeetIn p b r.second r.first) (crossed other)
+      → IsLeast size all_covered (ShowIn p b r) found
+  least_directed one other found lesser h k =
+      least_either size all_covered Forth Back (ShowIn p b r) (toward true one) (toward false other) found lesser
+      (λ d q. forth d.0 d.1 q.way q.among) (λ d q. back d.0 d.1 q.way q.among) (λ d q. cases d.0 d.1 q)
+      (least_toward true (MeetIn p b r.first r.second) one h) (least_toward false (MeetIn p b r.second r.first) other k)
+
+-- a race is found
+pub race_found : (p : Program) (r : Race) (b : Codes) (found : Option (Bool × Crossed)) → IsSound p → (numbered p r.procedure).body ≡ b
+    → IsLeast size all_covered (ShowIn p b r) found → found ≡ None → IsRace p r → ⊥
+race_found p r b found sound e h none race =
+    let s = shown p sound r race in
+    let m : Meets p b s.meeting s.pending s.later (pending_one s.first_pends r) (later_one s.first_pends r) =
+    subst (λ (c : Codes). Meets p c s.meeting s.pending s.later (pending_one s.first_pends r) (later_one s.first_pends r)) e s.shows in
+    subst (λ (o : Option (Bool × Crossed)). AtMost size o (length s.pending + length s.later)) none
+    (h.least (s.first_pends, record { meeting = s.meeting; pending = s.pending; later = s.later }) m tt)
+
+-- where no statement stands there is no race
+pub no_race : (p : Program) (r : Race) → (numbered p r.procedure).body ≡ End → IsRace p r → ⊥
+no_race p r e race = elim race.pair [
+  | inl h ↦ ended r.first r.second (subst (λ (c : Codes). Together p accesses c r.first r.second) e h)
+  | inr h ↦ ended r.second r.first (subst (λ (c : Codes). Together p accesses c r.second r.first) e h)
+]
+  where
+    ended : (x y : Access) → Together p accesses End x y → ⊥
+    ended x y k = elim k [ ]
+
+-- what is found has no more steps than any
+pub found_fewest : (p : Program) (r : Race) (b : Codes) (w : Witness) (d : Bool × Crossed) → (numbered p r.procedure).body ≡ b
+    → both d.1 ≡ length w.pending.items + length w.later.items → IsLeast size all_covered (ShowIn p b r) (Some d) → IsShortest p r w
+found_fewest p r b w d e same h = record {
+  fewest = λ f kind one other m.
+      let fewer : both d.1 ≤ length one + length other =
+      h.least (f, record { meeting = kind; pending = one; later = other })
+      (subst (λ (c : Codes). Meets p c kind one other (pending_one f r) (later_one f r)) e m) tt in
+      omega (arith, fewer, same);
+}

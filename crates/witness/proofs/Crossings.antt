@@ -1,0 +1,225 @@
+-- The least two ways that meet, from the least of their parts.
+use Rattle.std.proofs.Common.{◌≡◌, ◌⊎◌, inl, inr, ℕ, ◌≤◌, List, length, refl, sym, ap, ◌∙◌, subst, arith}
+use Rattle.std.proofs.lemmas.Option.{same_Some}
+use Rattle.std.specs.Prelude.{true, false, Option, None, Some, IfSome}
+use Rattle.types.specs.Code.{Number, Truth, Primitive, Code, Do, If, While, Split, Call, Async, Finish, Codes, End, Then, Program}
+use Rattle.effects.specs.Accesses.{Access}
+use Rattle.effects.specs.Statements.{Block}
+use Rattle.witness.specs.Crossed.{Crossed, IsAcross, IsInTurn, MeetAt, MeetIn, both}
+use Rattle.ways.specs.Least.{AtMost, IsLesserOf, IsLeast, all_covered}
+use Rattle.ways.specs.Ways.{Way, WayOf}
+use Rattle.witness.specs.Meets.{Meets, MeetsAt}
+use Rattle.witness.specs.declared.crossing.Meeting.{Meeting}
+use Rattle.witness.specs.declared.crossing.Meeting.TheVariants.{Follows, Turns}
+use Rattle.ways.specs.declared.step.Step.{Step}
+use Rattle.ways.proofs.Leasts.{least_none, least_same, least_either, at_most_more}
+
+no_some : {A B : Type 0} (a : A) → ◌≡◌ {A = Option A} None (Some a) → B
+no_some a q = absurd cc
+
+abbrev crossing : Meeting → List Step → List Step → Crossed
+crossing kind one other = record { meeting = kind; pending = one; later = other }
+
+module _ (p : Program) (l : ℕ) (s : Code) (x : Access) where
+  -- ---- across a statement
+  pub across_none : (behind : Option (List Step)) → behind ≡ None → IsLeast both all_covered (IsAcross p l s x behind) None
+  across_none behind e = least_none both all_covered (IsAcross p l s x behind) (λ c h. no_some c.later (sym e ∙ h.later))
+
+  pub across_no_way : (behind : Option (List Step)) → IsLeast length all_covered (λ way. WayOf p true l s way x) None
+      → IsLeast both all_covered (IsAcross p l s x behind) None
+  across_no_way behind found = least_none both all_covered (IsAcross p l s x behind) (λ c h. found.least c.pending h.pending tt)
+
+  pub across_both : (behind : Option (List Step)) (way later : List Step) → behind ≡ Some later
+      → IsLeast length all_covered (λ way. WayOf p true l s way x) (Some way)
+      → IsLeast both all_covered (IsAcross p l s x behind) (Some (crossing Follows way later))
+  across_both behind way later e found = record {
+    among = record { meeting = refl; pending = found.among; later = e };
+    least = λ c h t.
+        let fewer : length way ≤ length c.pending = found.least c.pending h.pending tt in
+        let same : length later ≡ length c.later = ap length (same_Some later c.later (sym e ∙ h.later)) in
+        omega (arith, fewer, same);
+  }
+
+  -- ---- at a loop
+  module _ (y : Access) where
+    pub turn_no_way : IsLeast length all_covered (λ way. WayOf p true l s way x) None → IsLeast both all_covered (IsInTurn p l s x y) None
+    turn_no_way found = least_none both all_covered (IsInTurn p l s x y) (λ c h. found.least c.pending h.pending tt)
+
+    pub turn_no_later : IsLeast length all_covered (λ way. WayOf p false l s way y) None → IsLeast both all_covered (IsInTurn p l s x y) None
+    turn_no_later found = least_none both all_covered (IsInTurn p l s x y) (λ c h. found.least c.later h.later tt)
+
+    pub turn_both : (way later : List Step) → IsLeast length all_covered (λ way. WayOf p true l s way x) (Some way)
+        → IsLeast length all_covered (λ way. WayOf p false l s way y) (Some later)
+        → IsLeast both all_covered (IsInTurn p l s x y) (Some (crossing Turns way later))
+    turn_both way later found behind = record {
+      among = record { meeting = refl; pending = found.among; later = behind.among };
+      least = λ c h t.
+          let one : length way ≤ length c.pending = found.least c.pending h.pending tt in
+          let other : length later ≤ length c.later = behind.least c.later h.later tt in
+          omega (arith, one, other);
+    }
+
+module _ (p : Program) (x y : Access) where
+  -- ---- lists
+  -- a statement leaves x pending, and one behind it does y
+  record IsFollowing (l : ℕ) (s : Code) (rest : Codes) (c : Crossed) : Type 0 where
+    meeting : c.meeting ≡ Follows
+    pending : WayOf p true l s c.pending x
+    later : Way p false rest c.later y
+
+  following : (l : ℕ) (s : Code) (rest : Codes) (behind : Option (List Step)) (found : Option Crossed)
+      → IsLeast length all_covered (λ way. Way p false rest way y) behind → IsLeast both all_covered (IsAcross p l s x behind) found
+      → IsLeast both all_covered (IsFollowing l s rest) found
+  following l s rest behind found h k = record {
+    among = some found k.among;
+    least = λ c f t. shorter c f behind refl (h.least c.later f.later tt);
+  }
+    where
+      some : (found : Option Crossed) → IfSome found (IsAcross p l s x behind) → IfSome found (IsFollowing l s rest)
+      some None a = a
+      some (Some c) a = record {
+        meeting = a.meeting;
+        pending = a.pending;
+        later = subst (λ (o : Option (List Step)). IfSome o (λ way. Way p false rest way y)) a.later h.among;
+      }
+
+      shorter : (c : Crossed) → IsFollowing l s rest c → (o : Option (List Step)) → behind ≡ o → AtMost length o (length c.later)
+          → AtMost both found (both c)
+      shorter c f None e fewer = elim fewer [ ]
+      shorter c f (Some way) e fewer =
+          at_most_more both found (both (crossing Follows c.pending way)) (both c) (omega (arith, fewer))
+          (k.least (crossing Follows c.pending way) (record { meeting = refl; pending = f.pending; later = e }) tt)
+
+  abbrev Parts : (l : ℕ) (s : Code) (rest : Codes) → Crossed → Type 0
+  Parts l s rest c = IsFollowing l s rest c ⊎ (MeetAt p l s x y c ⊎ MeetIn p rest x y c)
+
+  meets_cases : {l : ℕ} {s : Code} {rest : Codes} {kind : Meeting} {one other : List Step} → Meets p (Then l s rest) kind one other x y
+      → Parts l s rest (crossing kind one other)
+  meets_cases (Meets.follows w v) = inl (record { meeting = refl; pending = w; later = v })
+  meets_cases (Meets.turns w v) = inr (inl (MeetsAt.turns w v))
+  meets_cases (Meets.inside k m) = inr (inl (MeetsAt.inside k m))
+  meets_cases (Meets.later m) = inr (inr m)
+
+  follows_meet : (l : ℕ) (s : Code) (rest : Codes) (c : Crossed) → IsFollowing l s rest c → MeetIn p (Then l s rest) x y c
+  follows_meet l s rest c h =
+      subst (λ (k : Meeting). Meets p (Then l s rest) k c.pending c.later x y) (sym h.meeting) (Meets.follows h.pending h.later)
+
+  at_meet : {l : ℕ} {s : Code} {kind : Meeting} {one other : List Step} → MeetsAt p l s kind one other x y → (rest : Codes)
+      → Meets p (Then l s rest) kind one other x y
+  at_meet (MeetsAt.turns w v) rest = Meets.turns w v
+  at_meet (MeetsAt.inside k m) rest = Meets.inside k m
+
+  pub crossing_end : IsLeast both all_covered (MeetIn p End x y) None
+  crossing_end = least_none both all_covered (MeetIn p End x y) (λ c m. none c m)
+    where
+      none : (c : Crossed) → MeetIn p End x y c → ⊥
+      none c m = elim m [ ]
+
+  pub crossing_front : (l : ℕ) (s : Code) (rest : Codes) (behind : Option (List Step)) (follow here best two found : Option Crossed)
+      → IsLesserOf both here best two → IsLesserOf both follow two found
+      → IsLeast length all_covered (λ way. Way p false rest way y) behind → IsLeast both all_covered (IsAcross p l s x behind) follow
+      → IsLeast both all_covered (MeetAt p l s x y) here → IsLeast both all_covered (MeetIn p rest x y) best
+      → IsLeast both all_covered (MeetIn p (Then l s rest) x y) found
+  crossing_front l s rest behind follow here best two found lesser least w f h k =
+      least_either both all_covered (IsFollowing l s rest) Others (MeetIn p (Then l s rest) x y) follow two found least
+      (λ c q. follows_meet l s rest c q) (λ c q. elim q [ inl m ↦ at_meet m rest | inr m ↦ Meets.later m ]) (λ c m. meets_cases m)
+      (following l s rest behind follow w f)
+      (least_either both all_covered (MeetAt p l s x y) (MeetIn p rest x y) Others here best two lesser (λ c q. inl q) (λ c q. inr q)
+      (λ c q. q) h k)
+    where
+      Others : Crossed → Type 0
+      Others c = MeetAt p l s x y c ⊎ MeetIn p rest x y c
+
+  -- ---- statements
+  module _ (l : ℕ) where
+    pub at_do : (a : Primitive) → IsLeast both all_covered (MeetAt p l (Do a) x y) None
+    at_do a = least_none both all_covered (MeetAt p l (Do a) x y) (λ c m. none m)
+      where
+        no_block : {b : Codes} → Block (Do a) b → ⊥
+        no_block k = elim k [ ]
+
+        none : {kind : Meeting} {one other : List Step} → MeetsAt p l (Do a) kind one other x y → ⊥
+        none (MeetsAt.inside k m) = no_block k
+
+    pub at_call : (f : ℕ) (es : List Number) (ss : List ℕ) → IsLeast both all_covered (MeetAt p l (Call f es ss) x y) None
+    at_call f es ss = least_none both all_covered (MeetAt p l (Call f es ss) x y) (λ c m. none m)
+      where
+        no_block : {b : Codes} → Block (Call f es ss) b → ⊥
+        no_block k = elim k [ ]
+
+        none : {kind : Meeting} {one other : List Step} → MeetsAt p l (Call f es ss) kind one other x y → ⊥
+        none (MeetsAt.inside k m) = no_block k
+
+    pub at_if : (t : Truth) (b d : Codes) (one other found : Option Crossed) → IsLesserOf both one other found
+        → IsLeast both all_covered (MeetIn p b x y) one → IsLeast both all_covered (MeetIn p d x y) other
+        → IsLeast both all_covered (MeetAt p l (If t b d) x y) found
+    at_if t b d one other found lesser h k =
+        least_either both all_covered (MeetIn p b x y) (MeetIn p d x y) (MeetAt p l (If t b d) x y) one other found lesser
+        (λ c m. MeetsAt.inside Block.if_body m) (λ c m. MeetsAt.inside Block.if_other m) (λ c m. cases m) h k
+      where
+        block : {e : Codes} → Block (If t b d) e → {kind : Meeting} {one other : List Step} → Meets p e kind one other x y
+            → Meets p b kind one other x y ⊎ Meets p d kind one other x y
+        block Block.if_body m = inl m
+        block Block.if_other m = inr m
+
+        cases : {kind : Meeting} {one other : List Step} → MeetsAt p l (If t b d) kind one other x y
+            → Meets p b kind one other x y ⊎ Meets p d kind one other x y
+        cases (MeetsAt.inside k m) = block k m
+
+    pub at_while : (t : Truth) (b : Codes) (one other found : Option Crossed) → IsLesserOf both one other found
+        → IsLeast both all_covered (IsInTurn p l (While t b) x y) one → IsLeast both all_covered (MeetIn p b x y) other
+        → IsLeast both all_covered (MeetAt p l (While t b) x y) found
+    at_while t b one other found lesser h k =
+        least_either both all_covered (IsInTurn p l (While t b) x y) (MeetIn p b x y) (MeetAt p l (While t b) x y) one other found lesser
+        (λ c q. subst (λ (k : Meeting). MeetsAt p l (While t b) k c.pending c.later x y) (sym q.meeting) (MeetsAt.turns q.pending q.later))
+        (λ c m. MeetsAt.inside Block.while m) (λ c m. cases m) h k
+      where
+        block : {e : Codes} → Block (While t b) e → {kind : Meeting} {one other : List Step} → Meets p e kind one other x y
+            → Meets p b kind one other x y
+        block Block.while m = m
+
+        cases : {kind : Meeting} {one other : List Step} → MeetsAt p l (While t b) kind one other x y
+            → IsInTurn p l (While t b) x y (crossing kind one other) ⊎ Meets p b kind one other x y
+        cases (MeetsAt.turns w v) = inl (record { meeting = refl; pending = w; later = v })
+        cases (MeetsAt.inside k m) = inr (block k m)
+
+    pub at_split : (s : ℕ) (a : Number) (i r : ℕ) (b : Codes) (found : Option Crossed) → IsLeast both all_covered (MeetIn p b x y) found
+        → IsLeast both all_covered (MeetAt p l (Split s a i r b) x y) found
+    at_split s a i r b found h =
+        least_same both all_covered (MeetIn p b x y) (MeetAt p l (Split s a i r b) x y) found (λ c m. MeetsAt.inside Block.split m)
+        (λ c m. cases m) h
+      where
+        block : {e : Codes} → Block (Split s a i r b) e → {kind : Meeting} {one other : List Step} → Meets p e kind one other x y
+            → Meets p b kind one other x y
+        block Block.split m = m
+
+        cases : {kind : Meeting} {one other : List Step} → MeetsAt p l (Split s a i r b) kind one other x y → Meets p b kind one other x y
+        cases (MeetsAt.inside k m) = block k m
+
+    pub at_async : (b : Codes) (found : Option Crossed) → IsLeast both all_covered (MeetIn p b x y) found
+        → IsLeast both all_covered (MeetAt p l (Async b) x y) found
+    at_async b found h =
+        least_same both all_covered (MeetIn p b x y) (MeetAt p l (Async b) x y) found (λ c m. MeetsAt.inside Block.async m) (λ c m. cases m) h
+      where
+        block : {e : Codes} → Block (Async b) e → {kind : Meeting} {one other : List Step} → Meets p e kind one other x y
+            → Meets p b kind one other x y
+        block Block.async m = m
+
+        cases : {kind : Meeting} {one other : List Step} → MeetsAt p l (Async b) kind one other x y → Meets p b kind one other x y
+        cases (MeetsAt.inside k m) = block k m
+
+    pub at_finish : (b : Codes) (found : Option Crossed) → IsLeast both all_covered (MeetIn p b x y) found
+        → IsLeast both all_covered (MeetAt p l (Finish b) x y) found
+    at_finish b found h =
+        least_same both all_covered (MeetIn p b x y) (MeetAt p l (Finish b) x y) found (λ c m. MeetsAt.inside Block.finish m) (λ c m. cases m) h
+      where
+        block : {e : Codes} → Block (Finish b) e → {kind : Meeting} {one other : List Step} → Meets p e kind one other x y
+            → Meets p b kind one other x y
+        block Block.finish m = m
+
+        cases : {kind : Meeting} {one other : List Step} → MeetsAt p l (Finish b) kind one other x y → Meets p b kind one other x y
+        cases (MeetsAt.inside k m) = block k m
+
+  pub at_statement : (l : ℕ) (k s : Code) (found : Option Crossed) → k ≡ s → IsLeast both all_covered (MeetAt p l s x y) found
+      → IsLeast both all_covered (MeetAt p l k x y) found
+  at_statement l k s found e h = subst (λ (z : Code). IsLeast both all_covered (MeetAt p l z x y) found) (sym e) h

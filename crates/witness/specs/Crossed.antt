@@ -1,0 +1,54 @@
+-- Two ways that begin where they meet, as plain values.
+use Rattle.std.specs.Prelude.{ℕ, ◌≡◌, ◌+◌, Bool, true, false, List, length, Option, Some, option_map}
+use Rattle.types.specs.Code.{Code, Codes, Program}
+use Rattle.effects.specs.Accesses.{Access}
+use Rattle.ways.specs.Ways.{WayOf}
+use Rattle.witness.specs.Meets.{Meets, MeetsAt}
+use Rattle.witness.specs.declared.crossing.Crossing.{Crossing}
+use Rattle.witness.specs.declared.crossing.Meeting.{Meeting}
+use Rattle.witness.specs.declared.crossing.Meeting.TheVariants.{Follows, Turns}
+use Rattle.ways.specs.declared.step.Step.{Step}
+
+-- two ways, and how they meet
+pub record Crossed : Type 0 where
+  pub meeting : Meeting
+  pub pending : List Step
+  pub later : List Step
+
+-- how many steps both have
+abbrev pub both : Crossed → ℕ
+both c = length c.pending + length c.later
+
+abbrev pub plain : Crossing → Crossed
+plain c = record { meeting = c.meeting; pending = c.pending.items; later = c.later.items }
+
+abbrev pub crossed : Option Crossing → Option Crossed
+crossed = option_map plain
+
+-- the first leaves x pending, from this statement; the other is the one that was found behind it
+pub record IsAcross (p : Program) (l : ℕ) (s : Code) (x : Access) (behind : Option (List Step))
+    (c : Crossed) : Type 0 where
+  pub meeting : c.meeting ≡ Follows
+  pub pending : WayOf p true l s c.pending x
+  pub later : behind ≡ Some c.later
+
+-- both begin at this statement
+pub record IsInTurn (p : Program) (l : ℕ) (s : Code) (x y : Access) (c : Crossed) : Type 0 where
+  pub meeting : c.meeting ≡ Turns
+  pub pending : WayOf p true l s c.pending x
+  pub later : WayOf p false l s c.later y
+
+-- the same, with whether the first of two accesses is the one that is left pending
+abbrev pub directed : Option (Bool × Crossing) → Option (Bool × Crossed)
+directed = option_map (λ d. (d.0, plain d.1))
+
+abbrev pub toward : (first_pends : Bool) → Option Crossing → Option (Bool × Crossed)
+toward first_pends = option_map (λ c. (first_pends, plain c))
+
+-- they begin at statements of a list, or inside one of them
+abbrev pub MeetIn : Program → Codes → (x y : Access) → Crossed → Type 0
+MeetIn p b x y c = Meets p b c.meeting c.pending c.later x y
+
+-- they begin at a statement, or inside it
+abbrev pub MeetAt : Program → (label : ℕ) → Code → (x y : Access) → Crossed → Type 0
+MeetAt p l s x y c = MeetsAt p l s c.meeting c.pending c.later x y

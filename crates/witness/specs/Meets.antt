@@ -1,0 +1,36 @@
+-- Where two ways meet: one to an access that is left pending, and one to what is done behind it.
+use Rattle.std.specs.Prelude.{ℕ, List, true, false}
+use Rattle.types.specs.Code.{Truth, Code, While, Codes, Then, Program}
+use Rattle.effects.specs.Accesses.{Access}
+use Rattle.effects.specs.Statements.{Block}
+use Rattle.ways.specs.Ways.{Way, WayOf}
+use Rattle.ways.specs.declared.step.Step.{Step}
+use Rattle.witness.specs.declared.crossing.Meeting.{Meeting}
+use Rattle.witness.specs.declared.crossing.Meeting.TheVariants.{Follows, Turns}
+
+module _ (p : Program) where
+  -- two ways, to x and to y, begin at a statement that leaves x pending and at one behind it in its
+  -- list, or at a loop for two of its turns
+  pub data Meets : Codes → Meeting → (pending later : List Step) → (x y : Access) → Type 0 where
+    follows : {l : ℕ} {s : Code} {rest : Codes} {first second : List Step} {x y : Access}
+        → WayOf p true l s first x → Way p false rest second y
+        → Meets (Then l s rest) Follows first second x y
+    turns : {l : ℕ} {t : Truth} {b rest : Codes} {first second : List Step} {x y : Access}
+        → WayOf p true l (While t b) first x → WayOf p false l (While t b) second y
+        → Meets (Then l (While t b) rest) Turns first second x y
+    inside : {l : ℕ} {s : Code} {b rest : Codes} {kind : Meeting} {first second : List Step}
+        {x y : Access} → Block s b → Meets b kind first second x y
+        → Meets (Then l s rest) kind first second x y
+    later : {l : ℕ} {s : Code} {rest : Codes} {kind : Meeting} {first second : List Step}
+        {x y : Access} → Meets rest kind first second x y
+        → Meets (Then l s rest) kind first second x y
+
+  -- so they do at a statement, a loop, or inside one
+  pub data MeetsAt : (label : ℕ) → Code → Meeting → (pending later : List Step) → (x y : Access)
+      → Type 0 where
+    turns : {l : ℕ} {t : Truth} {b : Codes} {first second : List Step} {x y : Access}
+        → WayOf p true l (While t b) first x → WayOf p false l (While t b) second y
+        → MeetsAt l (While t b) Turns first second x y
+    inside : {l : ℕ} {s : Code} {b : Codes} {kind : Meeting} {first second : List Step}
+        {x y : Access} → Block s b → Meets b kind first second x y
+        → MeetsAt l s kind first second x y
