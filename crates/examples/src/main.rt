@@ -5,7 +5,7 @@
 mod both_ways;
 mod bytes;
 mod machine;
-mod objects;
+mod object_rows;
 mod output;
 mod pages_told;
 mod row;

@@ -29,11 +29,7 @@ const ROWS: &[Row] = &[
 
 /// All places of two arrays.
 fn all(rt: &impl Abort, alloc: Global) -> Holdings {
-    let typed = typed(
-        rt,
-        alloc,
-        "main { array a: int[1024]; array b: int[300]; }",
-    );
+    let typed = typed(rt, alloc, "main { array a: int[1024]; array b: int[300]; }");
     let input = Input::zeros(alloc, &typed).expect(rt, "memory");
     Holdings::of_input(alloc, &typed, &input).expect(rt, "memory")
 }
@@ -64,7 +60,10 @@ fn places_of_split_blocks_are_copied(rt: HostRuntime) {
         assert!(rt; part.copied() == 0, "a part begins with 0");
         let carved = own.copied();
         let copies = own.share(alloc, &[]).expect(&rt, "no places");
-        assert!(rt; copies.copied() == 0 && own.copied() == carved, "to share copies nothing");
+        assert!(rt;
+            copies.copied() == 0 && own.copied() == carved,
+            "to share copies nothing"
+        );
         if own.paste(alloc, part).is_err() {
             assert!(rt; false, "places that aren't owned here");
         }

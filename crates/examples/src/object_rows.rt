@@ -15,7 +15,9 @@ impl Row<'_> {
     pub fn has_object(&self) -> bool {
         let wanted = self.wanted;
         let asks_otherwise = self.command.contains(" --list") || self.command.contains(" --format");
-        let has_outputs = wanted.out_left.is_none() && wanted.err_left.is_none() && !wanted.is_swept;
+        let has_outputs = wanted.out_left.is_none()
+            && wanted.err_left.is_none()
+            && !wanted.is_swept;
         let is_understood = !wanted.err.starts_with(b"error: ");
         let command = self.command.split(' ').nth(2).unwrap_or("");
         tells_object(command) && !asks_otherwise && has_outputs && is_understood
@@ -141,7 +143,10 @@ fn push_cost(text: &mut String, object: &Value) -> Result<(), AllocError> {
         }
         None => text.push_str("-\n")?,
     }
-    write!(text, "tasks: {tasks}\ndeepest nest: {deepest}\nfinishes: {finishes}\n")
+    write!(
+        text,
+        "tasks: {tasks}\ndeepest nest: {deepest}\nfinishes: {finishes}\n"
+    )
 }
 
 /// A number of an object.
