@@ -11,14 +11,17 @@ use std::rt::HostRuntime;
 const ROWS: &[(&str, &str)] = &[
     (
         "run",
-        " input steps nest tasks w0 workers trace arrays explain color",
+        " input steps nest tasks w0 workers trace arrays format explain color",
     ),
-    ("serial", " input steps nest arrays progress explain color"),
-    ("check", " list explain color"),
+    (
+        "serial",
+        " input steps nest arrays progress format explain color",
+    ),
+    ("check", " list format explain color"),
     ("list", " lines explain color"),
     ("fmt", " check write explain color"),
-    ("mhp", " explain color"),
-    ("cost", " input steps nest explain color"),
+    ("mhp", " format explain color"),
+    ("cost", " input steps nest format explain color"),
     (
         "explore",
         " input choices choices-from random arrays explain color",
