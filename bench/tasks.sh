@@ -16,7 +16,7 @@ afx=${AFX:-../afx}
 made=$(mktemp -d) && trap 'rm -rf "$made"' EXIT
 
 # The programs, and how many tasks each has.
-all='blocks:1024 halves:65536 readers:1024 tree:75025
+all='blocks:1024 halves:65536 readers:1024 wide_readers:100 tree:75025
     reduce:256 prefix_sum:2047 histogram:8 merge_sort:8192 parallel_merge_sort:75797 quicksort:87273
     matrix_product:128 lu:4621 floyd_warshall:505 jacobi:2521 life:4033 blur:256 segmented_sieve:64
     mandelbrot:128 bfs:211 match:64 lcs:16377 queens:64 ntt:49151'
