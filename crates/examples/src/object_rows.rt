@@ -98,6 +98,9 @@ fn tells_object(command: &str) -> bool {
 /// The words of a command line with `--format json` behind the command.
 fn object_words(alloc: Global, command: &str) -> io::Result<Vec<String>> {
     let mut words = words_of(alloc, command)?;
+    if words.is_empty() {
+        return Ok(words);
+    }
     words.insert(1, String::from_str(alloc, "--format")?)?;
     words.insert(2, String::from_str(alloc, "json")?)?;
     Ok(words)
@@ -136,12 +139,14 @@ fn push_cost(text: &mut String, object: &Value) -> Result<(), AllocError> {
     let deepest = number_in(object, "deepest_nest").unwrap_or(0);
     let finishes = number_in(object, "finishes").unwrap_or(0);
     write!(text, "work: {work}\nspan: {span}\nparallelism: ")?;
-    match work.checked_div(span) {
-        Some(whole) => {
-            let hundredths = (work % span.max(1)).saturating_mul(100) / span.max(1);
-            write!(text, "{whole}.{hundredths:02}\n")?;
+    match (work.checked_div(span), work.checked_rem(span)) {
+        (Some(whole), Some(rest)) => {
+            let hundredths = rest.saturating_mul(100).checked_div(span).unwrap_or(0);
+            let tenth = hundredths / 10;
+            let hundredth = hundredths % 10;
+            write!(text, "{whole}.{tenth}{hundredth}\n")?;
         }
-        None => text.push_str("-\n")?,
+        _ => text.push_str("-\n")?,
     }
     write!(
         text,
