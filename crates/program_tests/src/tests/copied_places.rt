@@ -50,25 +50,28 @@ fn windows(rt: &impl Abort, alloc: Global, rows: &[Numbers]) -> Vec<Window> {
     windows
 }
 
+/// How many places are copied where these windows are carved out, and where they come back.
+fn copied(rt: &impl Abort, alloc: Global, rows: &[Numbers]) -> String {
+    let mut own = all(rt, alloc);
+    let windows = windows(rt, alloc, rows);
+    let part = own.carve(alloc, &windows).expect(rt, "owned places");
+    let begun = part.copied();
+    assert!(rt; begun == 0, "a part begins with 0");
+    let copies = own.share(alloc, &[]).expect(rt, "no places");
+    let carved = own.copied();
+    let shared = copies.copied();
+    assert!(rt; shared == 0, "to share copies nothing");
+    let is_back = own.paste(alloc, part).is_ok();
+    assert!(rt; is_back, "places that aren't owned here");
+    let pasted = own.copied().saturating_sub(carved);
+    format!(in alloc; "{carved} {pasted}").expect(rt, "memory")
+}
+
 #[test]
 fn places_of_split_blocks_are_copied(rt: HostRuntime) {
     let alloc = rt.alloc();
     for (rows, want) in ROWS {
-        let mut own = all(&rt, alloc);
-        let windows = windows(&rt, alloc, rows);
-        let part = own.carve(alloc, &windows).expect(&rt, "owned places");
-        assert!(rt; part.copied() == 0, "a part begins with 0");
-        let carved = own.copied();
-        let copies = own.share(alloc, &[]).expect(&rt, "no places");
-        assert!(rt;
-            copies.copied() == 0 && own.copied() == carved,
-            "to share copies nothing"
-        );
-        if own.paste(alloc, part).is_err() {
-            assert!(rt; false, "places that aren't owned here");
-        }
-        let pasted = own.copied().saturating_sub(carved);
-        let said = format!(in alloc; "{carved} {pasted}").expect(&rt, "memory");
+        let said = copied(&rt, alloc, rows);
         compare(&rt, alloc, "copied", said, want);
     }
 }
