@@ -57,9 +57,13 @@ impl Rows {
         ensures { IsTrue result ↔ StandApart (owned_at theirs.now)
             (λ k. owned_number (held_of (block_of self.now.list.items array number) k)) }
     {
-        match self.block(array, number) {
-            None => true,
-            Some(mine) => mine.is_apart(theirs),
+        match theirs {
+            // What is a copy is dropped.
+            Block::Empty | Block::Shared(_) => true,
+            Block::Owned(_) | Block::Mixed(_) => match self.block(array, number) {
+                None => true,
+                Some(mine) => mine.is_apart(theirs),
+            },
         }
     }
 
