@@ -33,7 +33,7 @@ module _ (p : Program) (fresh : ℕ) where
   kept_by n begins = record {
     idle = λ st to path spawned extra there. grows_same st.extra to.extra extra;
     further = λ a b c g h. grows_further a.extra b.extra c.extra g h;
-    stepped = λ st. record {
+    stepped = λ l st. record {
       fair = λ f. record {
         here = omega (arith, f.here);
         ended = omega (arith, f.ended);
@@ -41,8 +41,8 @@ module _ (p : Program) (fresh : ℕ) where
       };
       more = omega arith;
     };
-    begin = begins;
-    finish = λ st out g. record {
+    begin = λ l. begins;
+    finish = λ l st out g. record {
       fair = λ f.
           let inside : IsFair out.extra = g.fair (record {
             here = omega (arith, f.here);

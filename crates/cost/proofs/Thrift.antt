@@ -8,8 +8,8 @@ use Rattle.cost.specs.Costs.{begin_tallied, tallied_rules}
 
 pub tallied_is_thrifty : (p : Program) (fresh nest : ℕ) → IsThrifty (tallied_rules p fresh nest)
 tallied_is_thrifty p fresh nest = record {
-  begin = begin_less nest;
-  enter = λ st. le_refl st.steps;
+  begin = λ l. begin_less nest;
+  enter = λ l st. le_refl st.steps;
   leave = λ before out. le_refl out.steps;
 }
   where

@@ -38,10 +38,10 @@ module _ (p : Program) (fresh : ℕ) where
       written = λ i st c. refl;
       printed = λ i st vs. refl;
       faulted = λ i st l k. refl;
-      stepped = λ i st. refl;
+      stepped = λ i l st. refl;
       spends = spends;
-      begin = begins;
-      finish = λ go to h i st. inr (ap (s.leave (untallied st)) (same (h tt (r.enter st))));
+      begin = λ l. begins;
+      finish = λ l go to h i st. inr (ap (s.leave (untallied st)) (same (h tt (r.enter l st))));
       lost = λ st go bad. bad;
       lost_moved = λ st env bad. bad;
     }

@@ -61,9 +61,9 @@ after_task before out =
 -- the rules of one thread, which keep a tally, where `begin` runs an async's body
 abbrev pub tallied_by : (Codes → State Tally → State Tally) → Rules Tally
 tallied_by begin = record {
-  stepped = one_more;
-  begin = begin;
-  enter = λ st. hushed (record st { extra = enters_finish st.extra });
+  stepped = λ l. one_more;
+  begin = λ l. begin;
+  enter = λ l st. hushed (record st { extra = enters_finish st.extra });
   leave = λ before out. joined before (record out {
     flow = after_finish out.flow out.faults;
     extra = leaves_finish before.extra.ended out.extra;

@@ -67,14 +67,14 @@ module _ (p : Program) {X : Type 0} where
   primitive_keeps scope l (Raise e) st = value_keeps scope l (number_at st e) (λ v. fault l _) st (λ v s m. refl)
 
   module _ (r : Rules X) (keeps : KeepsWindows r) (g : Procedure) where
-    counted_keeps : (scope : List ℕ) (s : Code) (st : State X) → Keep scope st (counted r s st)
-    counted_keeps scope (Async b) st = λ s m. refl
-    counted_keeps scope (Finish b) st = λ s m. refl
-    counted_keeps scope (Do s) st = λ s m. refl
-    counted_keeps scope (If t b c) st = λ s m. refl
-    counted_keeps scope (While t b) st = λ s m. refl
-    counted_keeps scope (Split s e x y b) st = λ s m. refl
-    counted_keeps scope (Call f es ss) st = λ s m. refl
+    counted_keeps : (scope : List ℕ) (l : ℕ) (s : Code) (st : State X) → Keep scope st (counted r l s st)
+    counted_keeps scope l (Async b) st = λ s m. refl
+    counted_keeps scope l (Finish b) st = λ s m. refl
+    counted_keeps scope l (Do s) st = λ s m. refl
+    counted_keeps scope l (If t b c) st = λ s m. refl
+    counted_keeps scope l (While t b) st = λ s m. refl
+    counted_keeps scope l (Split s e x y b) st = λ s m. refl
+    counted_keeps scope l (Call f es ss) st = λ s m. refl
 
     module _ (deeper : Work → State X → State X)
         (deeper_keeps : (scope : List ℕ) (l : ℕ) (t : Truth) (b : Codes) → Follows p g scope b → Keeps scope (deeper (Turn l t b))) where
@@ -107,26 +107,26 @@ module _ (p : Program) {X : Type 0} where
         act_keeps (Call f es ss) l scope k st =
             value_keeps scope l (numbers_at st es)
             (λ vs. in_environment (entry vs (map (window_at st) ss)) (deeper (Block (procedure_of p f).body))) st (λ vs s m. refl)
-        act_keeps (Async b) l scope k st = λ s m. ap (λ w. w s) (sym (keeps.begin b st))
+        act_keeps (Async b) l scope k st = λ s m. ap (λ w. w s) (sym (keeps.begin l b st))
         act_keeps (Finish b) l scope k st = λ s m.
-            ap (λ w. w s) (sym (keeps.enter st)) ∙ block_keeps b scope k (r.enter st) s m
-            ∙ ap (λ w. w s) (sym (keeps.leave st (block p r deeper b (r.enter st))))
+            ap (λ w. w s) (sym (keeps.enter l st)) ∙ block_keeps b scope k (r.enter l st) s m
+            ∙ ap (λ w. w s) (sym (keeps.leave st (block p r deeper b (r.enter l st))))
 
         pub block_keeps : (b : Codes) (scope : List ℕ) → Follows p g scope b → Keeps scope (block p r deeper b)
         block_keeps End scope k st = λ s m. refl
         block_keeps (Then l s rest) scope k st =
-            then_keep scope st (with_step (λ st. act p r deeper l s (counted r s st)) st)
-            (go_on (block p r deeper rest) (with_step (λ st. act p r deeper l s (counted r s st)) st))
-            (spend_keeps scope st.steps st (λ st. act p r deeper l s (counted r s st))
-            (λ st. then_keep scope st (counted r s st) (act p r deeper l s (counted r s st)) (counted_keeps scope s st)
-            (act_keeps s l scope k.0 (counted r s st))))
-            (at_flow_keeps scope (with_step (λ st. act p r deeper l s (counted r s st)) st).flow
-            (with_step (λ st. act p r deeper l s (counted r s st)) st) (block p r deeper rest) (block_keeps rest scope k.1))
+            then_keep scope st (with_step (λ st. act p r deeper l s (counted r l s st)) st)
+            (go_on (block p r deeper rest) (with_step (λ st. act p r deeper l s (counted r l s st)) st))
+            (spend_keeps scope st.steps st (λ st. act p r deeper l s (counted r l s st))
+            (λ st. then_keep scope st (counted r l s st) (act p r deeper l s (counted r l s st)) (counted_keeps scope l s st)
+            (act_keeps s l scope k.0 (counted r l s st))))
+            (at_flow_keeps scope (with_step (λ st. act p r deeper l s (counted r l s st)) st).flow
+            (with_step (λ st. act p r deeper l s (counted r l s st)) st) (block p r deeper rest) (block_keeps rest scope k.1))
 
       work_keeps : (w : Work) (scope : List ℕ) → WorkFollows p g scope w → Keeps scope (work p r deeper w)
       work_keeps (Block b) scope k st = block_keeps b scope k st
-      work_keeps (Turn l t b) scope k st = spend_keeps scope st.steps st (λ st. act p r deeper l (While t b) (counted r (While t b) st))
-          (λ st. while_keeps t b l scope (block_keeps b scope k) (deeper_keeps scope l t b k) (counted r (While t b) st))
+      work_keeps (Turn l t b) scope k st = spend_keeps scope st.steps st (λ st. act p r deeper l (While t b) (counted r l (While t b) st))
+          (λ st. while_keeps t b l scope (block_keeps b scope k) (deeper_keeps scope l t b k) (counted r l (While t b) st))
 
     within_keeps : (n : ℕ) (w : Work) (scope : List ℕ) → WorkFollows p g scope w → Keeps scope (within p r n w)
     within_keeps zero w scope k st = λ s m. refl
@@ -151,7 +151,7 @@ begin_one_keeps p fresh (suc n) b st = refl
 
 pub one_rules_keep : (p : Program) (fresh nest : ℕ) → KeepsWindows (one_rules p fresh nest)
 one_rules_keep p fresh nest = record {
-  begin = begin_one_keeps p fresh nest;
-  enter = λ st. refl;
+  begin = λ l. begin_one_keeps p fresh nest;
+  enter = λ l st. refl;
   leave = λ before out. refl;
 }

@@ -12,9 +12,10 @@ SameWindows scope env other = (s : ℕ) → Member s scope → env.windows s ≡
 
 -- the rules leave all windows as they are
 pub record KeepsWindows {X : Type 0} (r : Rules X) : Type 0 where
-  pub begin : (b : Codes) (st : State X)
-      → (r.begin b st).environment.windows ≡ st.environment.windows
-  pub enter : (st : State X) → (r.enter st).environment.windows ≡ st.environment.windows
+  pub begin : (l : ℕ) (b : Codes) (st : State X)
+      → (r.begin l b st).environment.windows ≡ st.environment.windows
+  pub enter : (l : ℕ) (st : State X)
+      → (r.enter l st).environment.windows ≡ st.environment.windows
   pub leave : (before out : State X)
       → (r.leave before out).environment.windows ≡ out.environment.windows
 

@@ -102,8 +102,8 @@ module _ (needs : Codes → Needs) (nest : ℕ) (close : State Own → Option Se
         deeper = λ e d. refl;
       }
 
-  finishes : (st out : State Own) → Lists (r.enter st) out → Lists st (r.leave st out)
-  finishes st out h = by_waiting (is_waiting out) refl
+  finishes : (l : ℕ) (st out : State Own) → Lists (r.enter l st) out → Lists st (r.leave st out)
+  finishes l st out h = by_waiting (is_waiting out) refl
     where
       entered : out.extra.actions ≡ st.extra.actions ++ EnterFinish ∷ h.done
       entered = h.more ∙ append_assoc st.extra.actions (EnterFinish ∷ []) h.done
@@ -152,7 +152,7 @@ module _ (needs : Codes → Needs) (nest : ℕ) (close : State Own → Option Se
   lists = record {
     idle = λ st to path spawned extra _. idle st to extra;
     further = further;
-    stepped = λ st. record {
+    stepped = λ l st. record {
       done = Step ∷ [];
       more = refl;
       awake = λ e. e;
@@ -160,7 +160,7 @@ module _ (needs : Codes → Needs) (nest : ℕ) (close : State Own → Option Se
       pending = λ e. sym (append-nil (map start_of st.extra.pending));
       deeper = λ e d. refl;
     };
-    begin = λ b st. begins nest b st;
+    begin = λ l b st. begins nest b st;
     finish = finishes;
   }
 

@@ -84,8 +84,8 @@ module _ (needs : Codes → Needs) (nest : ℕ) (close : State Own → Option Se
   begins zero b st = idle st _ refl
   begins (suc n) b st = record { done = Spawn _ ∷ []; more = refl; rise = 0; level = same_level; flat = λ h. refl; awake = λ h. h }
 
-  finishes : (st out : State Own) → Rises (r.enter st) out → Rises st (r.leave st out)
-  finishes st out h = by_waiting (is_waiting out) refl
+  finishes : (l : ℕ) (st out : State Own) → Rises (r.enter l st) out → Rises st (r.leave st out)
+  finishes l st out h = by_waiting (is_waiting out) refl
     where
       inner : IsLevel (EnterFinish ∷ h.done) (suc h.rise)
       inner d = let e : h.rise + suc d ≡ suc h.rise + d = omega arith in h.level (suc d) ∙ ap Some e
@@ -136,8 +136,8 @@ module _ (needs : Codes → Needs) (nest : ℕ) (close : State Own → Option Se
   rises = record {
     idle = λ st to path spawned extra _. idle st to extra;
     further = further;
-    stepped = λ st. record { done = Step ∷ []; more = refl; rise = 0; level = same_level; flat = λ h. refl; awake = λ h. h };
-    begin = λ b st. begins nest b st;
+    stepped = λ l st. record { done = Step ∷ []; more = refl; rise = 0; level = same_level; flat = λ h. refl; awake = λ h. h };
+    begin = λ l b st. begins nest b st;
     finish = finishes;
   }
 

@@ -73,11 +73,11 @@ module _ (path : List ℕ) (needs : Codes → Needs) (nest : ℕ) (close : State
   begins zero b st = same st _ refl refl refl
   begins (suc n) b st = listed (needs b) n b st
 
-  finishes : (st out : State Own) → N (r.enter st) out → N st (r.leave st out)
-  finishes st out h = λ k. by_waiting k (is_waiting out)
+  finishes : (l : ℕ) (st out : State Own) → N (r.enter l st) out → N st (r.leave st out)
+  finishes l st out h = λ k. by_waiting k (is_waiting out)
     where
       inner : Numbers path st → Numbers path out
-      inner k = h (same st (r.enter st) refl refl (quiet st.extra.actions EnterFinish refl) k)
+      inner k = h (same st (r.enter l st) refl refl (quiet st.extra.actions EnterFinish refl) k)
 
       ends : Numbers path st → (s : Option Settled) → Numbers path (leave_with st (record out { extra = notes EndFinish out.extra }) s)
       ends k None = same out _ refl refl (quiet out.extra.actions EndFinish refl) (inner k)
@@ -91,8 +91,8 @@ module _ (path : List ℕ) (needs : Codes → Needs) (nest : ℕ) (close : State
   numbers = record {
     idle = λ st to e f g _. same st to e f (ap (λ (x : Own). begun_by x.actions) g);
     further = λ a b c h k x. k (h x);
-    stepped = λ st. same st (record st { extra = r.stepped st.extra }) refl refl (quiet st.extra.actions Step refl);
-    begin = λ b st. begins nest b st;
+    stepped = λ l st. same st (record st { extra = r.stepped l st.extra }) refl refl (quiet st.extra.actions Step refl);
+    begin = λ l b st. begins nest b st;
     finish = finishes;
   }
 

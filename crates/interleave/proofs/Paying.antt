@@ -45,14 +45,14 @@ module _ (p : Program) (needs : Codes → Needs) (nest : ℕ) (close : State Own
   acted_less (Async b) l fs st = begin_less needs nest b st
   acted_less (Finish b) l fs st = le_refl st.steps
 
-  counted_same : (c : Code) (st : State Own) → (counted (own_rules needs nest close) c st).steps ≡ st.steps
-  counted_same (Do s) st = refl
-  counted_same (If t b c) st = refl
-  counted_same (While t b) st = refl
-  counted_same (Split s e x y b) st = refl
-  counted_same (Call f es ss) st = refl
-  counted_same (Async b) st = refl
-  counted_same (Finish b) st = refl
+  counted_same : (l : ℕ) (c : Code) (st : State Own) → (counted (own_rules needs nest close) l c st).steps ≡ st.steps
+  counted_same l (Do s) st = refl
+  counted_same l (If t b c) st = refl
+  counted_same l (While t b) st = refl
+  counted_same l (Split s e x y b) st = refl
+  counted_same l (Call f es ss) st = refl
+  counted_same l (Async b) st = refl
+  counted_same l (Finish b) st = refl
 
   -- it does nothing, or takes a step
   abbrev Pays : List Action → (to st : State Own) → Type 0
@@ -62,8 +62,8 @@ module _ (p : Program) (needs : Codes → Needs) (nest : ℕ) (close : State Own
       → Pays (done_by needs nest n c st) (paid p (own_rules needs nest close) n l c fs st).state st
   paid_pays zero l c fs st e = (le_refl st.steps, inl refl)
   paid_pays (suc n) l c fs st e =
-      let i = acted_less c l fs (counted (own_rules needs nest close) c (record st { steps = n })) in
-      let k = counted_same c (record st { steps = n }) in
+      let i = acted_less c l fs (counted (own_rules needs nest close) l c (record st { steps = n })) in
+      let k = counted_same l c (record st { steps = n }) in
       (omega (arith, e, i, k), inr (omega (arith, e, i, k)))
 
   flow_pays : (g : Flow) (l : ℕ) (c : Code) (fs below : List (Frame Own)) (st : State Own)

@@ -62,14 +62,14 @@ module _ (p : Program) (needs : Codes → Needs) (fresh : ℕ) where
   abbrev r : ℕ → Rules Own
   r nest = own_rules needs nest (in_truth p needs fresh)
 
-  silent : IsKept {X = Own} (record { stepped = λ x. x; begin = λ b st. st; enter = λ st. st; leave = λ st out. out })
+  silent : IsKept {X = Own} (record { stepped = λ l x. x; begin = λ l b st. st; enter = λ l st. st; leave = λ st out. out })
       (λ st to. to.extra.pending ≡ st.extra.pending)
   silent = record {
     idle = λ st to a b c _. ap (λ (x : Own). x.pending) c;
     further = λ a b c h k. k ∙ h;
-    stepped = λ st. refl;
-    begin = λ b st. refl;
-    finish = λ st out h. h;
+    stepped = λ l st. refl;
+    begin = λ l b st. refl;
+    finish = λ l st out h. h;
   }
 
   value_pending : {A : Type 0} (l : ℕ) (v : Valued A) (go : A → Standing Own) (fs : List (Frame Own)) (st : State Own)

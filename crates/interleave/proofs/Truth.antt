@@ -163,10 +163,10 @@ module _ (p : Program) (needs : Codes → Needs) (fresh : ℕ) (root s : Start) 
           ap (λ l. slice_get (begun_by l) n) h.is ∙ ap (λ l. slice_get l n) (begun_by-append b.extra.actions h.rest)
           ∙ get-append_left (begun_by b.extra.actions) (begun_by h.rest) n t f
 
-  finish_moves : (st a b : State Own) → Moves (r1.enter st) a b → Moves st (r1.leave st a) (r2.leave st b)
-  finish_moves st a b h = record {
-    tells = (tells s.nest needs (in_truth p needs fresh)).finish st b h.tells;
-    rel = λ d e. by_rel (good st (r1.enter st) (enter_tells s.nest needs (in_truth p needs fresh) st) d) (before e) (h.rel (good st (r1.enter st) (enter_tells s.nest needs (in_truth p needs fresh) st) d) (before e));
+  finish_moves : (l : ℕ) (st a b : State Own) → Moves (r1.enter l st) a b → Moves st (r1.leave st a) (r2.leave st b)
+  finish_moves l st a b h = record {
+    tells = (tells s.nest needs (in_truth p needs fresh)).finish l st b h.tells;
+    rel = λ d e. by_rel (good st (r1.enter l st) (enter_tells s.nest needs (in_truth p needs fresh) l st) d) (before e) (h.rel (good st (r1.enter l st) (enter_tells s.nest needs (in_truth p needs fresh) l st) d) (before e));
   }
     where
       before : Prefix (r2.leave st b).extra.actions Z → Prefix b.extra.actions Z
@@ -182,8 +182,8 @@ module _ (p : Program) (needs : Codes → Needs) (fresh : ℕ) (root s : Start) 
       by_waiting g e true = inl refl
       by_waiting g e false = by_close g e (from_receipts receipts b) refl
 
-      by_rel : Good (r1.enter st) → Prefix b.extra.actions Z → Rel a b → Rel (r1.leave st a) (r2.leave st b)
-      by_rel g e (inl i) = subst (λ x. Rel (r1.leave st x) (r2.leave st b)) (sym i) (by_waiting (good (r1.enter st) b h.tells g) e (is_waiting b))
+      by_rel : Good (r1.enter l st) → Prefix b.extra.actions Z → Rel a b → Rel (r1.leave st a) (r2.leave st b)
+      by_rel g e (inl i) = subst (λ x. Rel (r1.leave st x) (r2.leave st b)) (sym i) (by_waiting (good (r1.enter l st) b h.tells g) e (is_waiting b))
       by_rel g e (inr i) =
           let still : r1.leave st a ≡ a = ap (λ (x : Bool). if x then a else leave_with st (record a { extra = notes EndFinish a.extra }) (from_receipts receipts a)) i.waits in
           let g = leave_grows st b in
@@ -193,21 +193,21 @@ module _ (p : Program) (needs : Codes → Needs) (fresh : ℕ) (root s : Start) 
           }))
 
   -- ---- statements
-  counted_same : (c : Code) (st : State Own) → counted r1 c st ≡ counted r2 c st
-  counted_same (Do x) st = refl
-  counted_same (If t b c) st = refl
-  counted_same (While t b) st = refl
-  counted_same (Split x e y z b) st = refl
-  counted_same (Call f es ss) st = refl
-  counted_same (Async b) st = refl
-  counted_same (Finish b) st = refl
+  counted_same : (l : ℕ) (c : Code) (st : State Own) → counted r1 l c st ≡ counted r2 l c st
+  counted_same l (Do x) st = refl
+  counted_same l (If t b c) st = refl
+  counted_same l (While t b) st = refl
+  counted_same l (Split x e y z b) st = refl
+  counted_same l (Call f es ss) st = refl
+  counted_same l (Async b) st = refl
+  counted_same l (Finish b) st = refl
 
   module _ (d1 d2 : Work → State Own → State Own) (h : (w : Work) → Follow (d1 w) (d2 w)) where
-    step_moves : (l : ℕ) (c : Code) → Follow (act p r1 d1 l c) (act p r2 d2 l c) → Follow (with_step (λ st. act p r1 d1 l c (counted r1 c st))) (with_step (λ st. act p r2 d2 l c (counted r2 c st)))
+    step_moves : (l : ℕ) (c : Code) → Follow (act p r1 d1 l c) (act p r2 d2 l c) → Follow (with_step (λ st. act p r1 d1 l c (counted r1 l c st))) (with_step (λ st. act p r2 d2 l c (counted r2 l c st)))
     step_moves l c k st =
-        spend_moves st.steps st (λ st. act p r1 d1 l c (counted r1 c st)) (λ st. act p r2 d2 l c (counted r2 c st)) (λ st.
-        subst (λ x. Moves st (act p r1 d1 l c x) (act p r2 d2 l c (counted r2 c st))) (sym (counted_same c st))
-        (first st (counted r2 c st) (act p r1 d1 l c (counted r2 c st)) (act p r2 d2 l c (counted r2 c st)) (counted_keeps p r2 T (tells s.nest needs (in_truth p needs fresh)) c st) (k (counted r2 c st))))
+        spend_moves st.steps st (λ st. act p r1 d1 l c (counted r1 l c st)) (λ st. act p r2 d2 l c (counted r2 l c st)) (λ st.
+        subst (λ x. Moves st (act p r1 d1 l c x) (act p r2 d2 l c (counted r2 l c st))) (sym (counted_same l c st))
+        (first st (counted r2 l c st) (act p r1 d1 l c (counted r2 l c st)) (act p r2 d2 l c (counted r2 l c st)) (counted_keeps p r2 T (tells s.nest needs (in_truth p needs fresh)) l c st) (k (counted r2 l c st))))
 
     mutual
       act_moves : (c : Code) (l : ℕ) → Follow (act p r1 d1 l c) (act p r2 d2 l c)
@@ -226,8 +226,8 @@ module _ (p : Program) (needs : Codes → Needs) (fresh : ℕ) (root s : Start) 
           let inner = record st { environment = entry vs (map (window_at st) ss) } in
           let w = Block (procedure_of p f).body in
           back st.environment st (d1 w inner) (d2 w inner) (first st inner (d1 w inner) (d2 w inner) (idle_tells s.nest st inner refl refl refl) (h w inner)))
-      act_moves (Async b) l st = both st (r2.begin b st) (begin_tells s.nest needs (in_truth p needs fresh) s.nest refl b st)
-      act_moves (Finish b) l st = finish_moves st (block p r1 d1 b (r1.enter st)) (block p r2 d2 b (r2.enter st)) (block_moves b (r1.enter st))
+      act_moves (Async b) l st = both st (r2.begin l b st) (begin_tells s.nest needs (in_truth p needs fresh) s.nest refl b st)
+      act_moves (Finish b) l st = finish_moves l st (block p r1 d1 b (r1.enter l st)) (block p r2 d2 b (r2.enter l st)) (block_moves b (r1.enter l st))
 
       block_moves : (b : Codes) → Follow (block p r1 d1 b) (block p r2 d2 b)
       block_moves End st = idle st st refl refl refl

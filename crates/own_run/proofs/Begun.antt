@@ -135,30 +135,30 @@ module _ (nest : ℕ) where
     begin_tells zero e b st = idle_tells st _ refl refl refl
     begin_tells (suc n) e b st = list_tells (needs b) n b st e
 
-    pub enter_tells : (st : State Own) → Tells nest st (r.enter st)
-    enter_tells st = record {
+    pub enter_tells : (l : ℕ) (st : State Own) → Tells nest st (r.enter l st)
+    enter_tells l st = record {
       path = refl;
       done = EnterFinish ∷ [];
       more = refl;
       fine = λ h. record {
         counted =
             (quiet st
-            (record (r.enter st) {
+            (record (r.enter l st) {
               extra =
-                  record (r.enter st).extra { pending = st.extra.pending };
+                  record (r.enter l st).extra { pending = st.extra.pending };
             }) EnterFinish refl refl refl refl refl h).counted;
         begun = tt;
       };
     }
 
-    finish_tells : (st out : State Own) → Tells nest (r.enter st) out → Tells nest st (r.leave st out)
-    finish_tells st out h = by_waiting (is_waiting out)
+    finish_tells : (l : ℕ) (st out : State Own) → Tells nest (r.enter l st) out → Tells nest st (r.leave st out)
+    finish_tells l st out h = by_waiting (is_waiting out)
       where
         noted : State Own
         noted = record out { extra = record out.extra { actions = out.extra.actions ++ EndFinish ∷ [] } }
 
         inner : Tells nest st out
-        inner = further_tells st (r.enter st) out (enter_tells st) h
+        inner = further_tells st (r.enter l st) out (enter_tells l st) h
 
         ends : (s : Option Settled) → Tells nest st (leave_with st noted s)
         ends None =
@@ -193,14 +193,14 @@ module _ (nest : ℕ) where
       idle = λ st to path spawned extra _. idle_tells st to path spawned extra;
       further = further_tells;
       stepped =
-          λ st. record {
+          λ l st. record {
             path = refl;
             done = Step ∷ [];
             more = refl;
             fine =
-                quiet st (record st { extra = r.stepped st.extra }) Step refl refl refl refl refl;
+                quiet st (record st { extra = r.stepped l st.extra }) Step refl refl refl refl refl;
           };
-      begin = λ b st. begin_tells nest refl b st;
+      begin = λ l b st. begin_tells nest refl b st;
       finish = finish_tells;
     }
 
@@ -220,8 +220,8 @@ module _ (nest : ℕ) where
       begin_awake zero b st e = e
       begin_awake (suc n) b st e = e
 
-      finish_awake : (st out : State Own) → Awake (r.enter st) out → Awake st (r.leave st out)
-      finish_awake st out h e = by_waiting (is_waiting out)
+      finish_awake : (l : ℕ) (st out : State Own) → Awake (r.enter l st) out → Awake st (r.leave st out)
+      finish_awake l st out h e = by_waiting (is_waiting out)
         where
           noted : State Own
           noted = record out { extra = record out.extra { actions = out.extra.actions ++ EndFinish ∷ [] } }
@@ -234,8 +234,8 @@ module _ (nest : ℕ) where
       awake = record {
         idle = λ st to path spawned extra _ e. ap (λ (x : Own). x.waits) extra ∙ e;
         further = λ a b c h k e. k (h e);
-        stepped = λ st e. e;
-        begin = λ b st. begin_awake nest b st;
+        stepped = λ l st e. e;
+        begin = λ l b st. begin_awake nest b st;
         finish = finish_awake;
       }
 

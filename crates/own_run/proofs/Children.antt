@@ -24,7 +24,7 @@ module _ (p : Program) (needs : Codes → Needs) (close : State Own → Option S
   Began actions = actions ≡ Spawn s ∷ []
 
   by_code : (n m l : ℕ) (c : Code) (fs : List (Frame Own)) (st : State Own) → Began (done_by needs n (suc m) c st)
-      → Lists (acted p (own_rules needs n close) l c fs (counted (own_rules needs n close) c (record st { steps = m }))).state s
+      → Lists (acted p (own_rules needs n close) l c fs (counted (own_rules needs n close) l c (record st { steps = m }))).state s
   by_code zero m l (Async b) fs st e = absurd (none_spawned e)
   by_code (suc n) m l (Async b) fs st e = record {
     child = _;

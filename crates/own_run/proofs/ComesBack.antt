@@ -57,9 +57,9 @@ module _ (begin : Codes → A → A) (begins : (b : Codes) (st : A) → R st (be
         subst (λ (x : Aside). IsThere (or_else (x.contents q) (to.store q))) (sym extra)
         (there_or (st.extra.contents q) (st.store q) (to.store q) (stores q) h);
     further = λ a b c h k q i. k q (h q i);
-    stepped = λ st q h. h;
-    begin = begins;
-    finish = λ st out h q i. there_or (st.extra.contents q) (st.store q) (merged out q) (λ k. h q k) i;
+    stepped = λ l st q h. h;
+    begin = λ l. begins;
+    finish = λ l st out h q i. there_or (st.extra.contents q) (st.store q) (merged out q) (λ k. h q k) i;
   }
 
 module _ (p : Program) (needs : Codes → Needs) (fresh : ℕ) where

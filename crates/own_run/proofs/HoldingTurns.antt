@@ -69,7 +69,7 @@ module _ (p : Program) (needs : Codes → Needs) (is_scoped : IsScoped p) (is_ca
 
     counted_before : (s : Code) (sc : Scope) (env : Environment) (l : ℕ) (gs : List (Frame Own)) (st : State Own) (k : ℕ)
         → B sc env l s gs st
-        → B sc env l s gs (counted r s (record st { steps = k }))
+        → B sc env l s gs (counted r l s (record st { steps = k }))
     counted_before (Do s) sc env l gs st k h = with_note sc env l (Do s) gs st k h
     counted_before (If t b c) sc env l gs st k h = with_note sc env l (If t b c) gs st k h
     counted_before (While t b) sc env l gs st k h = with_note sc env l (While t b) gs st k h
@@ -84,7 +84,7 @@ module _ (p : Program) (needs : Codes → Needs) (is_scoped : IsScoped p) (is_ca
         plain p needs is_scoped is_calm provides nest close sc env l s gs st h (stopped st)
         (record { windows = λ s. refl; stores = λ q i. i; owned = refl; pending = refl })
     paid_holds (suc k) s sc env l gs st h =
-        acted_holds p needs is_scoped is_calm provides nest close s sc env l gs (counted r s (record st { steps = k }))
+        acted_holds p needs is_scoped is_calm provides nest close s sc env l gs (counted r l s (record st { steps = k }))
         (counted_before s sc env l gs st k h)
 
     -- the frames below

@@ -412,7 +412,7 @@ module _ (p : Program) (needs : Codes → Needs) where
     -- the body of a finish
     finish_holds : (sc : Scope) (env : Environment) (l : ℕ) (b : Codes) (gs : List (Frame Own)) (st : State Own)
         → Before sc env l (Finish b) gs st
-        → Holds p needs (record { frames = Rest b ∷ AtEnd st ∷ gs; state = r.enter st })
+        → Holds p needs (record { frames = Rest b ∷ AtEnd st ∷ gs; state = r.enter l st })
     finish_holds sc env l b gs st h =
         let c = Finish b in
         let m = mid sc env l c gs st h in

@@ -86,7 +86,7 @@ module _ (p : Program) (needs : Codes → Needs) (fresh : ℕ) where
         value_distinct l (number_at st e) _ fs st o b
         (λ v. value_distinct l (ok_or (sides_of (window_at st z) v) SplitPoint) _ fs st o b (λ ws. both o b))
     acted_distinct (Call g es ss) l fs st f o b = value_distinct l (numbers_at st es) _ fs st o b (λ vs. both o b)
-    acted_distinct (Async c) l fs st f o b = both (((names nest needs (in_truth p needs fresh)).begin c st).once f o) b
+    acted_distinct (Async c) l fs st f o b = both (((names nest needs (in_truth p needs fresh)).begin l c st).once f o) b
     acted_distinct (Finish c) l fs st f o b = both tt (o, b)
 
     paid_distinct : (n l : ℕ) (c : Code) (fs : List (Frame Own)) (st : State Own) → HasBegun nest st → Once st.extra.pending → OnceBelow fs
@@ -95,8 +95,8 @@ module _ (p : Program) (needs : Codes → Needs) (fresh : ℕ) where
     paid_distinct (suc n) l c fs st f o b =
         let once = record st { steps = n } in
         let i = (names nest needs (in_truth p needs fresh)).idle st once refl refl refl (λ q h. h) in
-        let k = counted_keeps p r N (names nest needs (in_truth p needs fresh)) c once in
-        acted_distinct c l fs (counted r c once) (k.tells.fine (i.tells.fine f)) (k.once (i.tells.fine f) (i.once f o)) b
+        let k = counted_keeps p r N (names nest needs (in_truth p needs fresh)) l c once in
+        acted_distinct c l fs (counted r l c once) (k.tells.fine (i.tells.fine f)) (k.once (i.tells.fine f) (i.once f o)) b
 
     flow_distinct : (g : Flow) (l : ℕ) (c : Code) (fs below : List (Frame Own)) (st : State Own) → HasBegun nest st → Once st.extra.pending
         → OnceBelow fs → OnceBelow below

@@ -86,14 +86,14 @@ module _ (nest : ℕ) (needs : Codes → Needs) (close : State Own → Option Se
     once = λ f o. once_last st.extra.pending (child_of (needs b) m b st) (new_path (needs b) m b st f) o;
   }
 
-  finish_names : (st out : State Own) → Names (r.enter st) out → Names st (r.leave st out)
-  finish_names st out h = record { tells = (tells nest needs close).finish st out h.tells; once = λ f o. by_waiting f o (is_waiting out) }
+  finish_names : (l : ℕ) (st out : State Own) → Names (r.enter l st) out → Names st (r.leave st out)
+  finish_names l st out h = record { tells = (tells nest needs close).finish l st out h.tells; once = λ f o. by_waiting f o (is_waiting out) }
     where
       noted : State Own
       noted = record out { extra = record out.extra { actions = out.extra.actions ++ EndFinish ∷ [] } }
 
       inner : HasBegun nest st → Once out.extra.pending
-      inner f = h.once ((enter_tells nest needs close st).fine f) tt
+      inner f = h.once ((enter_tells nest needs close l st).fine f) tt
 
       ends : HasBegun nest st → Once st.extra.pending → (x : Option Settled) → Once (leave_with st noted x).extra.pending
       ends f o None = inner f
@@ -113,8 +113,8 @@ module _ (nest : ℕ) (needs : Codes → Needs) (close : State Own → Option Se
     further =
         λ a b c h k.
         record { tells = (tells nest needs close).further a b c h.tells k.tells; once = λ f o. k.once (h.tells.fine f) (h.once f o) };
-    stepped = λ st. record { tells = (tells nest needs close).stepped st; once = λ f o. o };
-    begin = λ b st. begin_names nest refl b st;
+    stepped = λ l st. record { tells = (tells nest needs close).stepped l st; once = λ f o. o };
+    begin = λ l b st. begin_names nest refl b st;
     finish = finish_names;
   }
 

@@ -108,9 +108,9 @@ module _ (p : Program) (needs : Codes → Needs) (fresh : ℕ) where
       faulted =
           λ u st l k. told (record (settled tt st) { flow = Faulted }) _ _ _ _ refl
           (append_assoc (filled p needs fresh st.extra.pending none_yet).faults st.faults _);
-      stepped = λ u st. refl;
+      stepped = λ u l st. refl;
       spends = spends_settled;
-      begin = λ b u st. inr (begin_settled nest b st);
+      begin = λ l b u st. inr (begin_settled nest b st);
       finish = finish_settled;
       lost = stays_lost;
       lost_moved = λ st env e. e;
@@ -124,29 +124,29 @@ module _ (p : Program) (needs : Codes → Needs) (fresh : ℕ) where
             by_steps zero = inr refl
             by_steps (suc n) = h u (record st { steps = n })
 
-        finish_settled : (go : State Own → State Own) (to : A → A) → Follows settled IsLost go to
-            → Follows settled IsLost (λ st. r.leave st (go (r.enter st))) (λ st. s.leave st (to (s.enter st)))
-        finish_settled go to h u st = by_body (h u (r.enter st))
+        finish_settled : (l : ℕ) (go : State Own → State Own) (to : A → A) → Follows settled IsLost go to
+            → Follows settled IsLost (λ st. r.leave st (go (r.enter l st))) (λ st. s.leave st (to (s.enter l st)))
+        finish_settled l go to h u st = by_body (h u (r.enter l st))
           where
             out : State Own
-            out = go (r.enter st)
+            out = go (r.enter l st)
 
             left : State Own
             left = leave_with st (record out { extra = notes EndFinish out.extra }) (in_truth p needs fresh out)
 
-            by_waiting : (b : Bool) → is_waiting out ≡ b → to (s.enter (settled u st)) ≡ settled u out
+            by_waiting : (b : Bool) → is_waiting out ≡ b → to (s.enter l (settled u st)) ≡ settled u out
                 → IsLost (if b then out else left)
-                ⊎ (s.leave (settled u st) (to (s.enter (settled u st))) ≡ settled u (if b then out else left))
+                ⊎ (s.leave (settled u st) (to (s.enter l (settled u st))) ≡ settled u (if b then out else left))
             by_waiting true w e = inl w
             by_waiting false w e = inr (ap (gather (settled u st)) e ∙ leave_settled st out)
 
             lost_out : (b : Bool) → is_waiting out ≡ b → IsLost out → IsLost (if b then out else left)
-            lost_out true w l = l
-            lost_out false w l = absurd (false_true (sym w ∙ l))
+            lost_out true w e = e
+            lost_out false w e = absurd (false_true (sym w ∙ e))
 
-            by_body : IsLost out ⊎ (to (s.enter (settled u st)) ≡ settled u out)
-                → IsLost (r.leave st out) ⊎ (s.leave (settled u st) (to (s.enter (settled u st))) ≡ settled u (r.leave st out))
-            by_body (inl l) = inl (lost_out (is_waiting out) refl l)
+            by_body : IsLost out ⊎ (to (s.enter l (settled u st)) ≡ settled u out)
+                → IsLost (r.leave st out) ⊎ (s.leave (settled u st) (to (s.enter l (settled u st))) ≡ settled u (r.leave st out))
+            by_body (inl e) = inl (lost_out (is_waiting out) refl e)
             by_body (inr e) = by_waiting (is_waiting out) refl e
 
     within_settled : (k : ℕ) (w : Work) → Follows settled IsLost (within p r k w) (within p s k w)

@@ -120,7 +120,7 @@ module _ (needs : Codes → Needs) (l : ℕ) (old new : Run) where
 
   pub noted : (c : Code)
       → ((close : State Own → Option Settled) (st : State Own)
-      → counted (own_rules needs old.thread.nest close) c st ≡ record st { extra = notes Step st.extra })
+      → counted (own_rules needs old.thread.nest close) l c st ≡ record st { extra = notes Step st.extra })
       → ((x : Own) → DoneAs (done_by needs old.thread.nest 1 c (with_own x (state_of old.thread))) (is_over old.thread.nest 1 c) Gone)
       → Acts l c old new → DidAct needs l c old Gone new
   noted c steps done acts = λ close.
@@ -213,11 +213,11 @@ did_same needs l c k old d new e did = subst (λ (k : Code). DidAct needs l k ol
 -- ---- steps that are taken
 
 module _ (p : Program) (r : Rules Own) (l : ℕ) (c : Code) (fs : List (Frame Own)) where
-  paid_step : (n m : ℕ) (st : State Own) → m + 1 ≡ n → paid p r n l c fs st ≡ acted p r l c fs (counted r c (record st { steps = m }))
+  paid_step : (n m : ℕ) (st : State Own) → m + 1 ≡ n → paid p r n l c fs st ≡ acted p r l c fs (counted r l c (record st { steps = m }))
   paid_step zero m st e = absurd (omega (arith, e))
   paid_step (suc n) m st e =
       let same : n ≡ m = omega (arith, e) in
-      ap (λ (k : ℕ). acted p r l c fs (counted r c (record st { steps = k }))) same
+      ap (λ (k : ℕ). acted p r l c fs (counted r l c (record st { steps = k }))) same
 
 module _ (needs : Codes → Needs) where
   done_any : (nest n m : ℕ) (c : Code) (st : State Own) → done_by needs nest (suc n) c st ≡ done_by needs nest 1 c (record st { steps = m })

@@ -599,7 +599,7 @@ module _ (p : Program) (needs : Codes → Needs) where
     module _ (d : Work → S → S) (e : Work → A → A) (e_marks : (w : Work) → Marks (e w)) (sim : Sim d e) where
       abbrev ActSim : ℕ → Code → Type 1
       ActSim l s = (x : Around) (locked final : Set) → ReadyOf p needs x locked final l s → (o : S) (a : A) → Same x locked o a
-          → Agree x final (act p r1 d l s (counted r1 s o)) (act p r2 e l s (counted r2 s a))
+          → Agree x final (act p r1 d l s (counted r1 l s o)) (act p r2 e l s (counted r2 l s a))
 
       store_sim : (l s : ℕ) (i v : Number) → ActSim l (Do (Store s i v))
       store_sim l s i v x locked final r o a k =

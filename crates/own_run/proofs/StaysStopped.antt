@@ -37,10 +37,10 @@ module _ (begin : Codes → A → A) (marks : (b : Codes) → Marks (begin b)) w
     written = λ b st c. refl;
     printed = λ b st vs. refl;
     faulted = λ b st l k. refl;
-    stepped = λ b st. refl;
+    stepped = λ b l st. refl;
     spends = spends_marked;
-    begin = marks;
-    finish = λ go to h b st. inr (ap (gather (marked b st)) (surely (h false _)));
+    begin = λ l. marks;
+    finish = λ l go to h b st. inr (ap (gather (marked b st)) (surely (h false _)));
     lost = λ st go never. never;
     lost_moved = λ st env never. never;
   }

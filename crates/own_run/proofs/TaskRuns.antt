@@ -67,7 +67,7 @@ module _ (p : Program) (needs : Codes → Needs) (fresh : ℕ) (root : Start) wh
         let k = turn_kept p needs s.nest (in_truth p needs fresh) f fs st h.fine h.below in
         record {
           comes = h.comes;
-          runs = turn_keeps p r (own_thrifty p needs s.nest (in_truth p needs fresh)) (λ st. refl) f fs st ∙ h.runs;
+          runs = turn_keeps p r (own_thrifty p needs s.nest (in_truth p needs fresh)) (λ l st. refl) f fs st ∙ h.runs;
           path = k.tells.path ∙ h.path;
           awake = k.waits ∙ h.awake;
           fine = k.tells.fine h.fine;
@@ -191,7 +191,7 @@ module _ (p : Program) (needs : Codes → Needs) (fresh : ℕ) (root : Start) wh
       follows = λ later.
           let c = from_receipts (taken ++ later) in
           h.follows later
-          ∙ sym (turn_keeps p (own_rules needs s.nest c) (own_thrifty p needs s.nest c) (λ st. refl) f fs st)
+          ∙ sym (turn_keeps p (own_rules needs s.nest c) (own_thrifty p needs s.nest c) (λ l st. refl) f fs st)
           ∙ ap (λ (t : Standing Own). resume p (own_rules needs s.nest c) t.frames t.state) (turn_alike c (in_truth p needs fresh) f fs st);
     }
 

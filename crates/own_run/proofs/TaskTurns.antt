@@ -42,7 +42,7 @@ module _ (p : Program) (needs : Codes → Needs) (nest : ℕ) (close : State Own
       by_waiting false = ends (close out)
 
   pub own_thrifty : IsThrifty r
-  own_thrifty = record { begin = begin_thrifty nest; enter = λ st. le_refl st.steps; leave = leave_thrifty }
+  own_thrifty = record { begin = λ l. begin_thrifty nest; enter = λ l st. le_refl st.steps; leave = leave_thrifty }
 
   -- ---- what is left to do adds to the actions at their end
   pub record Grows (st to : State Own) : Type 0 where
@@ -130,13 +130,13 @@ module _ (p : Program) (needs : Codes → Needs) (nest : ℕ) (close : State Own
   abbrev Hidden : State Own → State Own → Type 0
   Hidden st to = (to.path ≡ st.path) × (to.spawned ≡ st.spawned) × (to.extra ≡ st.extra)
 
-  hidden : IsKept {X = Own} (record { stepped = λ x. x; begin = λ b st. st; enter = λ st. st; leave = λ st out. out }) Hidden
+  hidden : IsKept {X = Own} (record { stepped = λ l x. x; begin = λ l b st. st; enter = λ l st. st; leave = λ st out. out }) Hidden
   hidden = record {
     idle = λ st to a b c _. (a, b, c);
     further = λ a b c h k. (k.0 ∙ h.0, k.1 ∙ h.1, k.2 ∙ h.2);
-    stepped = λ st. (refl, refl, refl);
-    begin = λ b st. (refl, refl, refl);
-    finish = λ st out h. h;
+    stepped = λ l st. (refl, refl, refl);
+    begin = λ l b st. (refl, refl, refl);
+    finish = λ l st out h. h;
   }
 
   value_kept : {A : Type 0} (l : ℕ) (v : Valued A) (go : A → Standing Own) (fs : List (Frame Own)) (st : State Own)
@@ -172,20 +172,20 @@ module _ (p : Program) (needs : Codes → Needs) (nest : ℕ) (close : State Own
       let to = record st { environment = entry vs (map (window_at st) ss) } in
       kept_by st to (Rest (procedure_of p g).body ∷ Back st.environment ∷ fs) (idle st to refl refl refl) b)
   acted_kept (Async c) l fs st f b =
-      kept_by st (r.begin c st) fs
+      kept_by st (r.begin l c st) fs
       (record { tells = begin_tells nest needs close nest refl c st; waits = begin_quiet nest c st; ended = begin_ended nest c st }) b
   acted_kept (Finish c) l fs st f b =
-      kept_by st (r.enter st) (Rest c ∷ AtEnd st ∷ fs) (record { tells = enter_tells nest needs close st; waits = refl; ended = refl })
+      kept_by st (r.enter l st) (Rest c ∷ AtEnd st ∷ fs) (record { tells = enter_tells nest needs close l st; waits = refl; ended = refl })
       (f.begun, b)
 
-  counted_quiet : (s : Code) (st : State Own) → Quiet st (counted r s st)
-  counted_quiet s st = record {
-    tells = counted_keeps p r T (tells nest needs close) s st;
+  counted_quiet : (l : ℕ) (s : Code) (st : State Own) → Quiet st (counted r l s st)
+  counted_quiet l s st = record {
+    tells = counted_keeps p r T (tells nest needs close) l s st;
     waits = each_waits s;
     ended = each_ended s;
   }
     where
-      each_waits : (s : Code) → (counted r s st).extra.waits ≡ st.extra.waits
+      each_waits : (s : Code) → (counted r l s st).extra.waits ≡ st.extra.waits
       each_waits (Do s) = refl
       each_waits (If t b c) = refl
       each_waits (While t b) = refl
@@ -194,7 +194,7 @@ module _ (p : Program) (needs : Codes → Needs) (nest : ℕ) (close : State Own
       each_waits (Async b) = refl
       each_waits (Finish b) = refl
 
-      each_ended : (s : Code) → (counted r s st).extra.ended ≡ st.extra.ended
+      each_ended : (s : Code) → (counted r l s st).extra.ended ≡ st.extra.ended
       each_ended (Do s) = refl
       each_ended (If t b c) = refl
       each_ended (While t b) = refl
@@ -216,9 +216,9 @@ module _ (p : Program) (needs : Codes → Needs) (nest : ℕ) (close : State Own
   paid_kept zero l s fs st f b = kept_by st (stopped st) fs (idle st (stopped st) refl refl refl) b
   paid_kept (suc n) l s fs st f b =
       let one = record st { steps = n } in
-      let two = counted r s one in
+      let two = counted r l s one in
       let first = idle st one refl refl refl in
-      let second = counted_quiet s one in
+      let second = counted_quiet l s one in
       after st one _ first (after one two _ second
       (acted_kept s l fs two (second.tells.fine (first.tells.fine f))
       (below_still one two second.tells.path second.tells.done second.tells.more fs

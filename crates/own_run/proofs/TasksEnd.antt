@@ -77,14 +77,14 @@ begin_less : (needs : Codes → Needs) (n : ℕ) (b : Codes) (st : State Own) �
 begin_less needs zero b st = le_refl st.steps
 begin_less needs (suc n) b st = le_refl st.steps
 
-counted_same : (r : Rules Own) (s : Code) (st : State Own) → (counted r s st).steps ≡ st.steps
-counted_same r (Do s) st = refl
-counted_same r (If t b c) st = refl
-counted_same r (While t b) st = refl
-counted_same r (Split s e x y b) st = refl
-counted_same r (Call f es ss) st = refl
-counted_same r (Async b) st = refl
-counted_same r (Finish b) st = refl
+counted_same : (r : Rules Own) (l : ℕ) (s : Code) (st : State Own) → (counted r l s st).steps ≡ st.steps
+counted_same r l (Do s) st = refl
+counted_same r l (If t b c) st = refl
+counted_same r l (While t b) st = refl
+counted_same r l (Split s e x y b) st = refl
+counted_same r l (Call f es ss) st = refl
+counted_same r l (Async b) st = refl
+counted_same r l (Finish b) st = refl
 
 module _ (p : Program) (needs : Codes → Needs) (scoped : IsScoped p) (calm : IsCalm p) (provided : Provides p needs) (fresh : ℕ)
     (root : Start) where
@@ -107,8 +107,8 @@ module _ (p : Program) (needs : Codes → Needs) (scoped : IsScoped p) (calm : I
         → Falls st w (paid p r n l c fs st)
     paid_falls zero l c fs st w e lt = sheds (le_refl st.steps) lt
     paid_falls (suc n) l c fs st w e lt =
-        let mid = counted r c (record st { steps = n }) in
-        spends (let i = acted_less c l fs mid in let j = counted_same r c (record st { steps = n }) in omega (arith, e, i, j))
+        let mid = counted r l c (record st { steps = n }) in
+        spends (let i = acted_less c l fs mid in let j = counted_same r l c (record st { steps = n }) in omega (arith, e, i, j))
 
     pub flow_falls : (g : Flow) (l : ℕ) (c : Code) (fs below : List (Frame Own)) (st : State Own) (w : ℕ) → weight fs < w → weight below < w
         → Falls st w (by_flow p r g l c fs below st)

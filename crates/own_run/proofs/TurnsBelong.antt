@@ -206,15 +206,15 @@ module _ (p : Program) where
     paid_kept : (n l : ℕ) (c : Code) (fs : List (Frame Own)) (st : State Own) → IsInner c → Owns st c → Kept fs st
         → KeptAt (paid p r n l c fs st)
     paid_kept zero l c fs st i h k = k
-    paid_kept (suc n) l (Do s) fs st i h k = acted_kept l (Do s) fs (counted r (Do s) (record st { steps = n })) i h k
-    paid_kept (suc n) l (If t b c) fs st i h k = acted_kept l (If t b c) fs (counted r (If t b c) (record st { steps = n })) i h k
-    paid_kept (suc n) l (While t b) fs st i h k = acted_kept l (While t b) fs (counted r (While t b) (record st { steps = n })) i h k
+    paid_kept (suc n) l (Do s) fs st i h k = acted_kept l (Do s) fs (counted r l (Do s) (record st { steps = n })) i h k
+    paid_kept (suc n) l (If t b c) fs st i h k = acted_kept l (If t b c) fs (counted r l (If t b c) (record st { steps = n })) i h k
+    paid_kept (suc n) l (While t b) fs st i h k = acted_kept l (While t b) fs (counted r l (While t b) (record st { steps = n })) i h k
     paid_kept (suc n) l (Split s e x y b) fs st i h k =
-        acted_kept l (Split s e x y b) fs (counted r (Split s e x y b) (record st { steps = n })) i h k
+        acted_kept l (Split s e x y b) fs (counted r l (Split s e x y b) (record st { steps = n })) i h k
     paid_kept (suc n) l (Call f es ss) fs st i h k =
-        acted_kept l (Call f es ss) fs (counted r (Call f es ss) (record st { steps = n })) i h k
-    paid_kept (suc n) l (Async b) fs st i h k = acted_kept l (Async b) fs (counted r (Async b) (record st { steps = n })) i h k
-    paid_kept (suc n) l (Finish b) fs st i h k = acted_kept l (Finish b) fs (counted r (Finish b) (record st { steps = n })) i h k
+        acted_kept l (Call f es ss) fs (counted r l (Call f es ss) (record st { steps = n })) i h k
+    paid_kept (suc n) l (Async b) fs st i h k = acted_kept l (Async b) fs (counted r l (Async b) (record st { steps = n })) i h k
+    paid_kept (suc n) l (Finish b) fs st i h k = acted_kept l (Finish b) fs (counted r l (Finish b) (record st { steps = n })) i h k
 
     flow_kept : (f : Flow) (l : ℕ) (c : Code) (fs below : List (Frame Own)) (st : State Own) → IsInner c → Owns st c → Kept fs st
         → Kept below st → KeptAt (by_flow p r f l c fs below st)

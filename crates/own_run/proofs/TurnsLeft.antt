@@ -126,7 +126,7 @@ module _ (fresh : ℕ) (p : Program) (needs : Codes → Needs) (close : State Ow
 
   -- where a statement goes, whose step was taken
   abbrev to : (n m l : ℕ) → Code → List (Frame Own) → State Own → Standing Own
-  to n m l c fs st = acted p (rules n) l c fs (counted (rules n) c (record st { steps = m }))
+  to n m l c fs st = acted p (rules n) l c fs (counted (rules n) l c (record st { steps = m }))
 
   abbrev Pays : (n m l : ℕ) → Code → List (Frame Own) → State Own → Type 0
   Pays n m l c fs st =
@@ -141,24 +141,24 @@ module _ (fresh : ℕ) (p : Program) (needs : Codes → Needs) (close : State Ow
   plain_pays : (n m l : ℕ) (c : Code) (fs : List (Frame Own)) (st : State Own) → ((b : Codes) → c ≡ Async b → ⊥)
       → begun_left fresh (done_by needs n (suc m) c st) ≡ 0 → Pays n m l c fs st
   plain_pays n m l (Do s) fs st other none =
-      let mid = counted (rules n) (Do s) (record st { steps = m }) in
+      let mid = counted (rules n) l (Do s) (record st { steps = m }) in
       by_adds n 0 m l (Do s) fs st mid (omega arith) none refl
       (record { steps = primitive_less p l s mid; frames = omega arith })
   plain_pays n m l (If t b c) fs st other none =
-      let mid = counted (rules n) (If t b c) (record st { steps = m }) in
+      let mid = counted (rules n) l (If t b c) (record st { steps = m }) in
       by_adds n 2 m l (If t b c) fs st mid (omega arith) none refl
       (value_adds 2 l (truth_at mid t) _ fs mid (λ v. chosen_adds v b c fs mid))
   plain_pays n m l (While t b) fs st other none =
-      let mid = counted (rules n) (While t b) (record st { steps = m }) in
+      let mid = counted (rules n) l (While t b) (record st { steps = m }) in
       by_adds n 3 m l (While t b) fs st mid (omega arith) none refl
       (value_adds 3 l (truth_at mid t) _ fs mid (λ v. again_adds v l t b fs mid))
   plain_pays n m l (Split s e x y b) fs st other none =
-      let mid = counted (rules n) (Split s e x y b) (record st { steps = m }) in
+      let mid = counted (rules n) l (Split s e x y b) (record st { steps = m }) in
       by_adds n 2 m l (Split s e x y b) fs st mid (omega arith) none refl
       (value_adds 2 l (number_at mid e) _ fs mid (λ v.
       value_adds 2 l (ok_or (sides_of (window_at mid s) v) SplitPoint) _ fs mid (λ ws. blocks_add b fs mid _ refl)))
   plain_pays n m l (Call f es ss) fs st other none =
-      let mid = counted (rules n) (Call f es ss) (record st { steps = m }) in
+      let mid = counted (rules n) l (Call f es ss) (record st { steps = m }) in
       by_adds n 3 m l (Call f es ss) fs st mid (omega arith) none refl
       (value_adds 3 l (numbers_at mid es) _ fs mid (λ vs.
       record { steps = le_refl mid.steps; frames = let h = block_costs (procedure_of p f).body in omega (arith, h) }))

@@ -13,7 +13,7 @@ use Rattle.types.proofs.Solutions.{solves}
 use Rattle.own_run.specs.Frames.{Frame, Rest, Again, AtEnd, Back, Standing, resume, by_value, chosen, acted, paid}
 use Rattle.own_run.specs.Frames.{by_flow, turn}
 
-module _ (p : Program) {X : Type 0} (r : Rules X) (thrifty : IsThrifty r) (enters : (st : State X) → (r.enter st).flow ≡ st.flow) where
+module _ (p : Program) {X : Type 0} (r : Rules X) (thrifty : IsThrifty r) (enters : (l : ℕ) (st : State X) → (r.enter l st).flow ≡ st.flow) where
   abbrev m : Work → State X → State X
   m = run p r
 
@@ -64,25 +64,25 @@ module _ (p : Program) {X : Type 0} (r : Rules X) (thrifty : IsThrifty r) (enter
       let inner = record st { environment = entry vs (map (window_at st) ss) } in
       ap (λ g. over fs (record (at_flow g inner (m (Block (procedure_of p f).body))) { environment = st.environment })) on)
   acted_keeps (Async b) l fs st on = refl
-  acted_keeps (Finish b) l fs st on = on_block b (AtEnd st ∷ fs) (r.enter st) (enters st ∙ on)
+  acted_keeps (Finish b) l fs st on = on_block b (AtEnd st ∷ fs) (r.enter l st) (enters l st ∙ on)
 
-  counted_flow : (s : Code) (st : State X) → (counted r s st).flow ≡ st.flow
-  counted_flow (Do s) st = refl
-  counted_flow (If t b c) st = refl
-  counted_flow (While t b) st = refl
-  counted_flow (Split s e x y b) st = refl
-  counted_flow (Call f es ss) st = refl
-  counted_flow (Async b) st = refl
-  counted_flow (Finish b) st = refl
+  counted_flow : (l : ℕ) (s : Code) (st : State X) → (counted r l s st).flow ≡ st.flow
+  counted_flow l (Do s) st = refl
+  counted_flow l (If t b c) st = refl
+  counted_flow l (While t b) st = refl
+  counted_flow l (Split s e x y b) st = refl
+  counted_flow l (Call f es ss) st = refl
+  counted_flow l (Async b) st = refl
+  counted_flow l (Finish b) st = refl
 
   paid_keeps : (k l : ℕ) (s : Code) (fs : List (Frame X)) (st : State X) → st.flow ≡ On
-      → of (paid p r k l s fs st) ≡ over fs (spend k st (λ st. act p r m l s (counted r s st)))
+      → of (paid p r k l s fs st) ≡ over fs (spend k st (λ st. act p r m l s (counted r l s st)))
   paid_keeps zero l s fs st on = refl
   paid_keeps (suc k) l s fs st on =
-      acted_keeps s l fs (counted r s (record st { steps = k })) (counted_flow s (record st { steps = k }) ∙ on)
+      acted_keeps s l fs (counted r l s (record st { steps = k })) (counted_flow l s (record st { steps = k }) ∙ on)
 
   flow_keeps : (f : Flow) (l : ℕ) (s : Code) (fs below : List (Frame X)) (st : State X) (go : State X → State X) → st.flow ≡ f
-      → over fs (with_step (λ st. act p r m l s (counted r s st)) st) ≡ over below (go st)
+      → over fs (with_step (λ st. act p r m l s (counted r l s st)) st) ≡ over below (go st)
       → of (by_flow p r f l s fs below st) ≡ over below (at_flow f st go)
   flow_keeps On l s fs below st go e h = paid_keeps st.steps l s fs st e ∙ h
   flow_keeps Faulted l s fs below st go e h = refl
@@ -99,7 +99,7 @@ module _ (p : Program) {X : Type 0} (r : Rules X) (thrifty : IsThrifty r) (enter
   turn_keeps (Rest (Then l s rest)) fs st =
       flow_keeps st.flow l s (Rest rest ∷ fs) fs st (m (Block (Then l s rest))) refl
       (ap (over fs)
-      (after_block rest (with_step (λ st. act p r m l s (counted r s st)) st) ∙ sym (solves p r thrifty (Block (Then l s rest)) st)))
+      (after_block rest (with_step (λ st. act p r m l s (counted r l s st)) st) ∙ sym (solves p r thrifty (Block (Then l s rest)) st)))
   turn_keeps (Again l t b) fs st =
       flow_keeps st.flow l (While t b) fs fs st (m (Turn l t b)) refl (ap (over fs) (sym (solves p r thrifty (Turn l t b) st)))
   turn_keeps (AtEnd before) fs st = refl

@@ -65,9 +65,9 @@ gather before out =
 -- the rules of tasks apart, where `begin` runs an async's body
 abbrev pub apart_rules_by : (Codes → State Aside → State Aside) → Rules Aside
 apart_rules_by begin = record {
-  stepped = λ x. x;
-  begin = begin;
-  enter = λ st. record (hushed st) { extra = nothing };
+  stepped = λ l x. x;
+  begin = λ l. begin;
+  enter = λ l st. record (hushed st) { extra = nothing };
   leave = gather;
 }
 

@@ -78,13 +78,13 @@ module _ (p : Program) {X : Type 0} (r : Rules X) where
         frames = Rest (procedure_of p f).body ∷ Back st.environment ∷ fs;
         state = record st { environment = entry vs (map (window_at st) ss) };
       }) fs st
-  acted l (Async b) fs st = record { frames = fs; state = r.begin b st }
-  acted l (Finish b) fs st = record { frames = Rest b ∷ AtEnd st ∷ fs; state = r.enter st }
+  acted l (Async b) fs st = record { frames = fs; state = r.begin l b st }
+  acted l (Finish b) fs st = record { frames = Rest b ∷ AtEnd st ∷ fs; state = r.enter l st }
 
   -- a statement before its step, with so many steps left
   abbrev pub paid : (steps : ℕ) → (label : ℕ) → Code → List (Frame X) → State X → Standing X
   paid zero l s fs st = record { frames = fs; state = stopped st }
-  paid (suc n) l s fs st = acted l s fs (counted r s (record st { steps = n }))
+  paid (suc n) l s fs st = acted l s fs (counted r l s (record st { steps = n }))
 
   -- a statement above frames, where the flow is on; else those below
   abbrev pub by_flow : Flow → (label : ℕ) → Code → (fs below : List (Frame X)) → State X

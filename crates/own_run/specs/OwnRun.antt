@@ -151,9 +151,11 @@ leave_own close before out =
 abbrev pub own_rules : (Codes → Needs) → (nest : ℕ) → (close : State Own → Option Settled)
     → Rules Own
 own_rules needs nest close = record {
-  stepped = notes Step;
-  begin = begin_own needs nest;
-  enter = λ st. record (hushed st) { extra = notes EnterFinish (record st.extra { pending = [] }) };
+  stepped = λ l. notes Step;
+  begin = λ l. begin_own needs nest;
+  enter = λ l st. record (hushed st) {
+    extra = notes EnterFinish (record st.extra { pending = [] });
+  };
   leave = leave_own close;
 }
 

@@ -101,7 +101,7 @@ module _ (needs : Codes → Needs) where
   DidAct l c old done new =
       (close : State Own → Option Settled) →
       let r = own_rules needs old.thread.nest close in
-      Did (λ fs st. acted (program old.plan.program.now) r l c fs (counted r c st))
+      Did (λ fs st. acted (program old.plan.program.now) r l c fs (counted r l c st))
       (done_by needs old.thread.nest 1 c) (λ st. is_over old.thread.nest 1 c) old done new
 
   -- the same before its step is taken; where the flow is off, what of the frames is left then

@@ -141,7 +141,7 @@ module _ (p : Program) (fresh : ℕ) where
       → blk nest (append b c) st ≡ go_on (blk nest c) (blk nest b st)
   block-append nest End c st e = sym (ap (λ x. flow_goes x st (blk nest c)) e)
   block-append nest (Then l s b) c st e =
-      let out = with_step (λ st. doing nest l s (counted (one_rules p fresh nest) s st)) st in
+      let out = with_step (λ st. doing nest l s (counted (one_rules p fresh nest) l s st)) st in
       go_on_twice out (blk nest (append b c)) (blk nest c) (blk nest b) (block-append nest b c out)
 
   block_adds : (nest : ℕ) (b : Codes) → Adds (blk nest b)
@@ -437,7 +437,7 @@ module _ (p : Program) (fresh : ℕ) where
             })
 
     statement_comes : (s : Code) (a : Contents) → LeftRun p n (tree_after p l s k a) (store_after p l s k a) t z
-        → Comes (doing nest l s (counted (one_rules p fresh nest) s (state_of k a steps)))
+        → Comes (doing nest l s (counted (one_rules p fresh nest) l s (state_of k a steps)))
     statement_comes (Do s) a r = do_comes s a r
     statement_comes (If x b c) a r = value_comes (truth k.environment (read a) x) (choose (blk nest b) (blk nest c)) (λ v. single (before_rest (if v then b else c) k)) a r
         (λ v r. if_comes b c a v r)

@@ -98,29 +98,29 @@ module _ (p : Program) (needs : Codes → Needs) (close : State Own → Option S
 
   -- a statement, whose step was taken
   acted_adds : (n l : ℕ) (c : Code) (fs : List (Frame Own)) (st : State Own)
-      → Adds (enters c) fs st (acted p (rules n) l c fs (counted (rules n) c st))
+      → Adds (enters c) fs st (acted p (rules n) l c fs (counted (rules n) l c st))
   acted_adds zero l (Async b) fs st = record { steps = le_refl st.steps; finishes = omega arith }
   acted_adds (suc n) l (Async b) fs st = record { steps = le_refl st.steps; finishes = omega arith }
   acted_adds n l (Finish b) fs st = record { steps = le_refl st.steps; finishes = omega arith }
   acted_adds n l (Do s) fs st =
-      record { steps = primitive_less p l s (counted (rules n) (Do s) st); finishes = omega arith }
+      record { steps = primitive_less p l s (counted (rules n) l (Do s) st); finishes = omega arith }
   acted_adds n l (If t b c) fs st =
-      let mid = counted (rules n) (If t b c) st in
+      let mid = counted (rules n) l (If t b c) st in
       let a = value_adds l (truth_at mid t) _ fs mid (λ v. chosen_adds v b c fs mid) in
       record { steps = a.steps; finishes = a.finishes }
   acted_adds n l (While t b) fs st =
-      let mid = counted (rules n) (While t b) st in
+      let mid = counted (rules n) l (While t b) st in
       let a = value_adds l (truth_at mid t) _ fs mid (λ v. again_adds v l t b fs mid) in
       record { steps = a.steps; finishes = a.finishes }
   acted_adds n l (Split s e x y b) fs st =
-      let mid = counted (rules n) (Split s e x y b) st in
+      let mid = counted (rules n) l (Split s e x y b) st in
       let a =
       value_adds l (number_at mid e) _ fs mid (λ v.
       value_adds l (ok_or (sides_of (window_at mid s) v) SplitPoint) _ fs mid (λ ws.
       record { steps = le_refl mid.steps; finishes = omega arith })) in
       record { steps = a.steps; finishes = a.finishes }
   acted_adds n l (Call f es ss) fs st =
-      let mid = counted (rules n) (Call f es ss) st in
+      let mid = counted (rules n) l (Call f es ss) st in
       let a = value_adds l (numbers_at mid es) _ fs mid (λ vs. record { steps = le_refl mid.steps; finishes = omega arith }) in
       record { steps = a.steps; finishes = a.finishes }
 
@@ -131,7 +131,7 @@ module _ (p : Program) (needs : Codes → Needs) (close : State Own → Option S
 
   acted_counts : (n m l : ℕ) (c : Code) (fs : List (Frame Own)) (st : State Own) → suc m ≡ st.steps
       → (done : List Action) → entered done ≡ enters c
-      → Counts done fs st (acted p (rules n) l c fs (counted (rules n) c (record st { steps = m })))
+      → Counts done fs st (acted p (rules n) l c fs (counted (rules n) l c (record st { steps = m })))
   acted_counts n m l c fs st e done is =
       let a = acted_adds n l c fs (record st { steps = m }) in
       let s = a.steps in

@@ -51,9 +51,9 @@ module _ (begin : Codes → S → S) (grows : (b : Codes) → Grows (begin b)) w
     written = λ t st c. refl;
     printed = λ t st vs. same_told st _ _ _ _ (append_assoc t.lines st.lines (vs ∷ [])) refl;
     faulted = faults_behind;
-    stepped = λ t st. refl;
+    stepped = λ t l st. refl;
     spends = spends_behind;
-    begin = grows;
+    begin = λ l. grows;
     finish = finish_behind;
     lost = λ st go never. never;
     lost_moved = λ st env never. never;
@@ -70,10 +70,10 @@ module _ (begin : Codes → S → S) (grows : (b : Codes) → Grows (begin b)) w
           by_steps zero = inr refl
           by_steps (suc n) = h t (record st { steps = n })
 
-      finish_behind : (go to : S → S) → Follows behind Never go to
-          → Follows behind Never (λ st. (one_rules_by begin).leave st (go ((one_rules_by begin).enter st)))
-          (λ st. (one_rules_by begin).leave st (to ((one_rules_by begin).enter st)))
-      finish_behind go to h t st =
+      finish_behind : (l : ℕ) (go to : S → S) → Follows behind Never go to
+          → Follows behind Never (λ st. (one_rules_by begin).leave st (go ((one_rules_by begin).enter l st)))
+          (λ st. (one_rules_by begin).leave st (to ((one_rules_by begin).enter l st)))
+      finish_behind l go to h t st =
           inr (ap ((one_rules_by begin).leave (behind t st)) (alone go to h (hushed st)) ∙ joined_behind t st _)
 
   module _ (p : Program) where

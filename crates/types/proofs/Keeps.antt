@@ -64,21 +64,21 @@ module _ (p : Program) {X : Type 0} (r : Rules X) (R : State X → State X → T
   primitive_keeps l (Print es) st = value_keeps l (numbers_at st es) print st (λ vs. kept.idle st (print vs st) refl refl refl (λ q h. h))
   primitive_keeps l (Raise e) st = value_keeps l (number_at st e) _ st (λ v. fault_keeps l (Raised v) st)
 
-  pub counted_keeps : (s : Code) → Kept (counted r s)
-  counted_keeps (Do s) st = kept.stepped st
-  counted_keeps (If t b c) st = kept.stepped st
-  counted_keeps (While t b) st = kept.stepped st
-  counted_keeps (Split s e x y b) st = kept.stepped st
-  counted_keeps (Call f es ss) st = kept.stepped st
-  counted_keeps (Async b) st = stays st
-  counted_keeps (Finish b) st = stays st
+  pub counted_keeps : (l : ℕ) (s : Code) → Kept (counted r l s)
+  counted_keeps l (Do s) st = kept.stepped l st
+  counted_keeps l (If t b c) st = kept.stepped l st
+  counted_keeps l (While t b) st = kept.stepped l st
+  counted_keeps l (Split s e x y b) st = kept.stepped l st
+  counted_keeps l (Call f es ss) st = kept.stepped l st
+  counted_keeps l (Async b) st = stays st
+  counted_keeps l (Finish b) st = stays st
 
   module _ (d : Work → State X → State X) (h : (w : Work) → Kept (d w)) where
     -- a step, then what it stands before
-    step_keeps : (l : ℕ) (s : Code) → Kept (act p r d l s) → Kept (with_step (λ st. act p r d l s (counted r s st)))
+    step_keeps : (l : ℕ) (s : Code) → Kept (act p r d l s) → Kept (with_step (λ st. act p r d l s (counted r l s st)))
     step_keeps l s k st =
-        spend_keeps st.steps st (λ st. act p r d l s (counted r s st)) (λ st.
-        kept.further st (counted r s st) (act p r d l s (counted r s st)) (counted_keeps s st) (k (counted r s st)))
+        spend_keeps st.steps st (λ st. act p r d l s (counted r l s st)) (λ st.
+        kept.further st (counted r l s st) (act p r d l s (counted r l s st)) (counted_keeps l s st) (k (counted r l s st)))
 
     mutual
       act_keeps : (s : Code) (l : ℕ) → Kept (act p r d l s)
@@ -99,13 +99,13 @@ module _ (p : Program) {X : Type 0} (r : Rules X) (R : State X → State X → T
           kept.further st inner (record out { environment = st.environment }) (kept.idle st inner refl refl refl (λ q h. h))
           (kept.further inner out (record out { environment = st.environment }) (h (Block (procedure_of p f).body) inner)
           (kept.idle out (record out { environment = st.environment }) refl refl refl (λ q h. h))))
-      act_keeps (Async b) l st = kept.begin b st
-      act_keeps (Finish b) l st = kept.finish st (block p r d b (r.enter st)) (block_keeps b (r.enter st))
+      act_keeps (Async b) l st = kept.begin l b st
+      act_keeps (Finish b) l st = kept.finish l st (block p r d b (r.enter l st)) (block_keeps b (r.enter l st))
 
       block_keeps : (b : Codes) → Kept (block p r d b)
       block_keeps End st = stays st
       block_keeps (Then l s rest) st =
-          then_keeps (with_step (λ st. act p r d l s (counted r s st))) (block p r d rest) st (step_keeps l s (act_keeps s l) st) (block_keeps rest)
+          then_keeps (with_step (λ st. act p r d l s (counted r l s st))) (block p r d rest) st (step_keeps l s (act_keeps s l) st) (block_keeps rest)
 
     work_keeps : (w : Work) → Kept (work p r d w)
     work_keeps (Block b) st = block_keeps b st

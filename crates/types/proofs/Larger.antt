@@ -26,8 +26,8 @@ stays_stopped st go e = subst (λ f. IsStopped (at_flow f st go)) (sym e) e
 -- the one-thread rules give no step back
 pub one_is_thrifty : (p : Program) (fresh nest : ℕ) → IsThrifty (one_rules p fresh nest)
 one_is_thrifty p fresh nest = record {
-  begin = begin_less nest;
-  enter = λ st. le_refl st.steps;
+  begin = λ l. begin_less nest;
+  enter = λ l st. le_refl st.steps;
   leave = λ before out. le_refl out.steps;
 }
   where
@@ -53,9 +53,9 @@ module _ (p : Program) (fresh more : ℕ) where
       written = λ d st c. refl;
       printed = λ d st vs. refl;
       faulted = λ d st l k. refl;
-      stepped = λ d st. refl;
+      stepped = λ d l st. refl;
       spends = spends_richer;
-      begin = begins;
+      begin = λ l. begins;
       finish = finish_richer;
       lost = stays_stopped;
       lost_moved = λ st env e. e;
@@ -71,9 +71,9 @@ module _ (p : Program) (fresh more : ℕ) where
                 let e : suc k + d ≡ suc (k + d) = omega arith in
                 begin_at (ap (λ j. spend j (richer d st) to) e) (h d (record st { steps = k }))
 
-        finish_richer : (go to : S → S) → Follows richer IsStopped go to
-            → Follows richer IsStopped (λ st. r.leave st (go (r.enter st))) (λ st. s.leave st (to (s.enter st)))
-        finish_richer go to h d st = left (go (hushed st)) (to (hushed (richer d st))) (h d (hushed st))
+        finish_richer : (l : ℕ) (go to : S → S) → Follows richer IsStopped go to
+            → Follows richer IsStopped (λ st. r.leave st (go (r.enter l st))) (λ st. s.leave st (to (s.enter l st)))
+        finish_richer l go to h d st = left (go (hushed st)) (to (hushed (richer d st))) (h d (hushed st))
           where
             left : (out other : S) → IsStopped out ⊎ (other ≡ richer d out)
                 → IsStopped (r.leave st out) ⊎ (s.leave (richer d st) other ≡ richer d (r.leave st out))

@@ -75,24 +75,24 @@ module _ (p : Program) {X : Type 0} (r : Rules X) where
   primitive_less l (Print es) st = value_less l (numbers_at st es) print st (λ vs. le_refl st.steps)
   primitive_less l (Raise e) st = value_less l (number_at st e) _ st (λ v. le_refl st.steps)
 
-  counted_less : (s : Code) (st : State X) → (counted r s st).steps ≡ st.steps
-  counted_less (Do s) st = refl
-  counted_less (If t b c) st = refl
-  counted_less (While t b) st = refl
-  counted_less (Split s e x y b) st = refl
-  counted_less (Call f es ss) st = refl
-  counted_less (Async b) st = refl
-  counted_less (Finish b) st = refl
+  counted_less : (l : ℕ) (s : Code) (st : State X) → (counted r l s st).steps ≡ st.steps
+  counted_less l (Do s) st = refl
+  counted_less l (If t b c) st = refl
+  counted_less l (While t b) st = refl
+  counted_less l (Split s e x y b) st = refl
+  counted_less l (Call f es ss) st = refl
+  counted_less l (Async b) st = refl
+  counted_less l (Finish b) st = refl
 
-  counted_act_less : (d : Work → State X → State X) (l : ℕ) (s : Code) → Less (act p r d l s) → Less (λ st. act p r d l s (counted r s st))
-  counted_act_less d l s h st = let i = h (counted r s st) in let j = counted_less s st in omega (arith, i, j)
+  counted_act_less : (d : Work → State X → State X) (l : ℕ) (s : Code) → Less (act p r d l s) → Less (λ st. act p r d l s (counted r l s st))
+  counted_act_less d l s h st = let i = h (counted r l s st) in let j = counted_less l s st in omega (arith, i, j)
 
   step_agree : (m : ℕ) (d e : Work → State X → State X) (l : ℕ) (s : Code)
       → ((st : State X) → st.steps < m → act p r d l s st ≡ act p r e l s st) → (st : State X) → st.steps ≤ m
-      → with_step (λ st. act p r d l s (counted r s st)) st ≡ with_step (λ st. act p r e l s (counted r s st)) st
+      → with_step (λ st. act p r d l s (counted r l s st)) st ≡ with_step (λ st. act p r e l s (counted r l s st)) st
   step_agree m d e l s h st le =
-      spend_agree m st.steps st (λ st. act p r d l s (counted r s st)) (λ st. act p r e l s (counted r s st)) refl le
-      (λ x lt. h (counted r s x) (let j = counted_less s x in omega (arith, j, lt)))
+      spend_agree m st.steps st (λ st. act p r d l s (counted r l s st)) (λ st. act p r e l s (counted r l s st)) refl le
+      (λ x lt. h (counted r l s x) (let j = counted_less l s x in omega (arith, j, lt)))
 
 module _ (p : Program) {X : Type 0} (r : Rules X) (thrifty : IsThrifty r) where
   abbrev Deeper : Type 0
@@ -117,23 +117,23 @@ module _ (p : Program) {X : Type 0} (r : Rules X) (thrifty : IsThrifty r) where
       act_less (Call f es ss) l st =
           value_less l (numbers_at st es) _ st
           (λ vs. h (Block (procedure_of p f).body) (record st { environment = entry vs (map (window_at st) ss) }))
-      act_less (Async b) l st = thrifty.begin b st
+      act_less (Async b) l st = thrifty.begin l b st
       act_less (Finish b) l st =
-          let i = thrifty.enter st in
-          let j = block_less b (r.enter st) in
-          let k = thrifty.leave st (block p r d b (r.enter st)) in omega (arith, i, j, k)
+          let i = thrifty.enter l st in
+          let j = block_less b (r.enter l st) in
+          let k = thrifty.leave st (block p r d b (r.enter l st)) in omega (arith, i, j, k)
 
       block_less : (b : Codes) → Less (block p r d b)
       block_less End st = le_refl st.steps
       block_less (Then l s rest) st =
-          let after = with_step (λ st. act p r d l s (counted r s st)) st in
-          let i = spend_less st.steps st (λ st. act p r d l s (counted r s st)) refl (counted_act_less p r d l s (act_less s l)) in
+          let after = with_step (λ st. act p r d l s (counted r l s st)) st in
+          let i = spend_less st.steps st (λ st. act p r d l s (counted r l s st)) refl (counted_act_less p r d l s (act_less s l)) in
           let j = flow_less after.flow after (block p r d rest) (block_less rest) in omega (arith, i, j)
 
     work_less : LessIn (work p r d)
     work_less (Block b) st = block_less b st
     work_less (Turn l t b) st =
-        spend_less st.steps st (λ st. act p r d l (While t b) (counted r (While t b) st)) refl
+        spend_less st.steps st (λ st. act p r d l (While t b) (counted r l (While t b) st)) refl
         (counted_act_less p r d l (While t b) (act_less (While t b) l))
 
   within_less : (k : ℕ) → LessIn (within p r k)
@@ -172,14 +172,15 @@ module _ (p : Program) {X : Type 0} (r : Rules X) (thrifty : IsThrifty r) where
           ap {A = State X} (λ out. record out { environment = st.environment })
           (agree (Block (procedure_of p f).body) (record st { environment = entry vs (map (window_at st) ss) }) lt))
       act_agree (Async b) l st lt = refl
-      act_agree (Finish b) l st lt = let i = thrifty.enter st in ap (r.leave st) (block_agree b (r.enter st) (omega (arith, i, lt)))
+      act_agree (Finish b) l st lt =
+          let i = thrifty.enter l st in ap (r.leave st) (block_agree b (r.enter l st) (omega (arith, i, lt)))
 
       block_agree : (b : Codes) (st : State X) → st.steps ≤ m → block p r d b st ≡ block p r e b st
       block_agree End st le = refl
       block_agree (Then l s rest) st le =
-          let after = with_step (λ st. act p r d l s (counted r s st)) st in
-          let i = spend_less st.steps st (λ st. act p r d l s (counted r s st)) refl (counted_act_less p r d l s (act_less d less s l)) in
-          then_agree after (with_step (λ st. act p r e l s (counted r s st)) st) (block p r d rest) (block p r e rest)
+          let after = with_step (λ st. act p r d l s (counted r l s st)) st in
+          let i = spend_less st.steps st (λ st. act p r d l s (counted r l s st)) refl (counted_act_less p r d l s (act_less d less s l)) in
+          then_agree after (with_step (λ st. act p r e l s (counted r l s st)) st) (block p r d rest) (block p r e rest)
           (step_agree p r m d e l s (act_agree s l) st le) (block_agree rest after (omega (arith, i, le)))
 
     work_agree : (w : Work) (st : State X) → st.steps ≤ m → work p r d w st ≡ work p r e w st

@@ -35,13 +35,13 @@ module _ {I X Y : Type 0} (v : I → State X → State Y) (Lost : State X → Ty
     pub written : (i : I) (st : State X) (c : Contents) → record (v i st) { store = c } ≡ v i (record st { store = c })
     pub printed : (i : I) (st : State X) (vs : List ℤ) → print vs (v i st) ≡ v i (print vs st)
     pub faulted : (i : I) (st : State X) (l : ℕ) (k : FaultKind) → fault l k (v i st) ≡ v i (fault l k st)
-    pub stepped : (i : I) (st : State X)
-        → record (v i st) { extra = s.stepped (v i st).extra } ≡ v i (record st { extra = r.stepped st.extra })
+    pub stepped : (i : I) (l : ℕ) (st : State X)
+        → record (v i st) { extra = s.stepped l (v i st).extra } ≡ v i (record st { extra = r.stepped l st.extra })
     pub spends : (i : I) (st : State X) (go : State X → State X) (to : State Y → State Y) → Follows go to
         → FollowsAt i st (with_step go) (with_step to)
-    pub begin : (b : Codes) → Follows (r.begin b) (s.begin b)
-    pub finish : (go : State X → State X) (to : State Y → State Y) → Follows go to
-        → Follows (λ st. r.leave st (go (r.enter st))) (λ st. s.leave st (to (s.enter st)))
+    pub begin : (l : ℕ) (b : Codes) → Follows (r.begin l b) (s.begin l b)
+    pub finish : (l : ℕ) (go : State X → State X) (to : State Y → State Y) → Follows go to
+        → Follows (λ st. r.leave st (go (r.enter l st))) (λ st. s.leave st (to (s.enter l st)))
     -- what is lost stays lost
     pub lost : (st : State X) (go : State X → State X) → Lost st → Lost (go_on go st)
     pub lost_moved : (st : State X) (env : Environment) → Lost st → Lost (record st { environment = env })
@@ -111,14 +111,14 @@ module _ (p : Program) {I X Y : Type 0} (r : Rules X) (s : Rules Y) (v : I → S
       value_follows i l (number_at st e) (number_at (v i st) e) (same_reading i (λ env c. number env (read c) e) st) _ _ st
       (λ n. inr (view.faulted i st l (Raised n)))
 
-  counted_is : (i : I) (c : Code) (st : State X) → counted s c (v i st) ≡ v i (counted r c st)
-  counted_is i (Do c) st = view.stepped i st
-  counted_is i (If t b c) st = view.stepped i st
-  counted_is i (While t b) st = view.stepped i st
-  counted_is i (Split e n x y b) st = view.stepped i st
-  counted_is i (Call f es ss) st = view.stepped i st
-  counted_is i (Async b) st = refl
-  counted_is i (Finish b) st = refl
+  counted_is : (i : I) (l : ℕ) (c : Code) (st : State X) → counted s l c (v i st) ≡ v i (counted r l c st)
+  counted_is i l (Do c) st = view.stepped i l st
+  counted_is i l (If t b c) st = view.stepped i l st
+  counted_is i l (While t b) st = view.stepped i l st
+  counted_is i l (Split e n x y b) st = view.stepped i l st
+  counted_is i l (Call f es ss) st = view.stepped i l st
+  counted_is i l (Async b) st = refl
+  counted_is i l (Finish b) st = refl
 
   moved_back : (i : I) (env : Environment) (a : State X) (b : State Y) → Lost a ⊎ (b ≡ v i a)
       → Lost (record a { environment = env }) ⊎ (record b { environment = env } ≡ v i (record a { environment = env }))
@@ -135,10 +135,10 @@ module _ (p : Program) {I X Y : Type 0} (r : Rules X) (s : Rules Y) (v : I → S
   -- with a step taken before
   step_follows : (d : Work → State X → State X) (e : Work → State Y → State Y) (l : ℕ) (c : Code)
       → Follows v Lost (act p r d l c) (act p s e l c)
-      → Follows v Lost (with_step (λ st. act p r d l c (counted r c st))) (with_step (λ st. act p s e l c (counted s c st)))
+      → Follows v Lost (with_step (λ st. act p r d l c (counted r l c st))) (with_step (λ st. act p s e l c (counted s l c st)))
   step_follows d e l c h i st =
-      view.spends i st (λ st. act p r d l c (counted r c st)) (λ st. act p s e l c (counted s c st))
-      (λ i st. begin_at (ap (act p s e l c) (counted_is i c st)) (h i (counted r c st)))
+      view.spends i st (λ st. act p r d l c (counted r l c st)) (λ st. act p s e l c (counted s l c st))
+      (λ i st. begin_at (ap (act p s e l c) (counted_is i l c st)) (h i (counted r l c st)))
 
   module _ (d : Work → State X → State X) (e : Work → State Y → State Y) (deeper : (w : Work) → Follows v Lost (d w) (e w)) where
     mutual
@@ -168,14 +168,14 @@ module _ (p : Program) {I X Y : Type 0} (r : Rules X) (s : Rules Y) (v : I → S
           (v i st)) (view.environment i st))
           (environment_follows (entry vs (map (window_at st) ss)) (d (Block (procedure_of p f).body))
           (e (Block (procedure_of p f).body)) (deeper (Block (procedure_of p f).body)) i st))
-      act_follows (Async b) l i st = view.begin b i st
-      act_follows (Finish b) l i st = view.finish (block p r d b) (block p s e b) (block_follows b) i st
+      act_follows (Async b) l i st = view.begin l b i st
+      act_follows (Finish b) l i st = view.finish l (block p r d b) (block p s e b) (block_follows b) i st
 
       block_follows : (b : Codes) → Follows v Lost (block p r d b) (block p s e b)
       block_follows End i st = inr refl
       block_follows (Then l c rest) i st =
-          after_follows i (with_step (λ st. act p r d l c (counted r c st))) (block p r d rest)
-          (with_step (λ st. act p s e l c (counted s c st))) (block p s e rest) st
+          after_follows i (with_step (λ st. act p r d l c (counted r l c st))) (block p r d rest)
+          (with_step (λ st. act p s e l c (counted s l c st))) (block p s e rest) st
           (step_follows d e l c (act_follows c l) i st) (block_follows rest)
 
     -- where what is deeper follows, so does the whole

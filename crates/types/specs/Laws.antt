@@ -10,8 +10,8 @@ use Rattle.types.specs.Meaning.{hushed, joined}
 module _ {X : Type 0} where
   -- the rules spend steps honestly: nothing gives a step back
   pub record IsThrifty (r : Rules X) : Type 0 where
-    pub begin : (b : Codes) (st : State X) → (r.begin b st).steps ≤ st.steps
-    pub enter : (st : State X) → (r.enter st).steps ≤ st.steps
+    pub begin : (l : ℕ) (b : Codes) (st : State X) → (r.begin l b st).steps ≤ st.steps
+    pub enter : (l : ℕ) (st : State X) → (r.enter l st).steps ≤ st.steps
     pub leave : (before out : State X) → (r.leave before out).steps ≤ out.steps
 
   -- f does what its work says, with f itself inside of calls and further turns
@@ -35,9 +35,9 @@ module _ {X : Type 0} where
     pub idle : (st to : State X) → to.path ≡ st.path → to.spawned ≡ st.spawned → to.extra ≡ st.extra
         → Extends st.store to.store → R st to
     pub further : (a b c : State X) → R a b → R b c → R a c
-    pub stepped : (st : State X) → R st (record st { extra = r.stepped st.extra })
-    pub begin : (b : Codes) (st : State X) → R st (r.begin b st)
-    pub finish : (st out : State X) → R (r.enter st) out → R st (r.leave st out)
+    pub stepped : (l : ℕ) (st : State X) → R st (record st { extra = r.stepped l st.extra })
+    pub begin : (l : ℕ) (b : Codes) (st : State X) → R st (r.begin l b st)
+    pub finish : (l : ℕ) (st out : State X) → R (r.enter l st) out → R st (r.leave st out)
 
   -- where it ends follows where it began
   abbrev pub Keeps : (State X → State X → Type 0) → (State X → State X) → Type 0

@@ -50,12 +50,12 @@ after_finish On (f ∷ faults) = Faulted
 after_finish Faulted [] = On
 after_finish Faulted (f ∷ faults) = Faulted
 
--- the rules of one thread, where `begin` runs an async's body
+-- the rules of one thread, where `begin` runs an async's body, whatever its label
 abbrev pub one_rules_by : (Codes → State (Unit {0}) → State (Unit {0})) → Rules (Unit {0})
 one_rules_by begin = record {
-  stepped = λ x. x;
-  begin = begin;
-  enter = hushed;
+  stepped = λ l x. x;
+  begin = λ l. begin;
+  enter = λ l. hushed;
   leave = λ before out. joined before (record out { flow = after_finish out.flow out.faults });
 }
 

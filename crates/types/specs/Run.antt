@@ -163,15 +163,15 @@ module _ {X : Type 0} where
       let out = go (record st { environment = env }) in
       record out { environment = st.environment }
 
--- what a kind of run does where it isn't alone
+-- what a kind of run does where it isn't alone, at the statement of a label
 pub record Rules (X : Type 0) : Type 0 where
   -- a step was taken, other than that of an async or a finish: one thread notes nothing of it, a
   -- task's own run notes it in `extra` among its actions
-  pub stepped : X → X
+  pub stepped : (label : ℕ) → X → X
   -- an async with its body, whose step was taken
-  pub begin : Codes → State X → State X
-  -- a finish begins
-  pub enter : State X → State X
+  pub begin : (label : ℕ) → Codes → State X → State X
+  -- a finish begins, whose step was taken
+  pub enter : (label : ℕ) → State X → State X
   -- a finish that began at `before` is at its end
   pub leave : (before : State X) → State X → State X
 
@@ -190,10 +190,10 @@ module _ (p : Program) {X : Type 0} where
 
 module _ {X : Type 0} (r : Rules X) where
   -- tells the rules of the step of a statement, unless they see it anyway
-  abbrev pub counted : Code → State X → State X
-  counted (Async b) st = st
-  counted (Finish b) st = st
-  counted s st = record st { extra = r.stepped st.extra }
+  abbrev pub counted : (label : ℕ) → Code → State X → State X
+  counted l (Async b) st = st
+  counted l (Finish b) st = st
+  counted l s st = record st { extra = r.stepped l st.extra }
 
 module _ (p : Program) {X : Type 0} (r : Rules X) where
   abbrev mutual
@@ -213,20 +213,20 @@ module _ (p : Program) {X : Type 0} (r : Rules X) where
         with_value l (numbers_at st es) (λ vs.
         in_environment (entry vs (map (window_at st) ss))
         (deeper (Block (procedure_of p f).body))) st
-    act deeper l (Async b) st = r.begin b st
-    act deeper l (Finish b) st = r.leave st (block deeper b (r.enter st))
+    act deeper l (Async b) st = r.begin l b st
+    act deeper l (Finish b) st = r.leave st (block deeper b (r.enter l st))
 
     -- a list of statements
     pub block : (deeper : Work → State X → State X) → Codes → State X → State X
     block deeper End st = st
     block deeper (Then l s rest) st =
-        go_on (block deeper rest) (with_step (λ st. act deeper l s (counted r s st)) st)
+        go_on (block deeper rest) (with_step (λ st. act deeper l s (counted r l s st)) st)
 
   -- what work does, where `deeper` does what is inside its calls and further turns
   abbrev pub work : (deeper : Work → State X → State X) → Work → State X → State X
   work deeper (Block b) st = block deeper b st
   work deeper (Turn l t b) st =
-      with_step (λ st. act deeper l (While t b) (counted r (While t b) st)) st
+      with_step (λ st. act deeper l (While t b) (counted r l (While t b) st)) st
 
   -- at most k calls and turns within one another
   abbrev pub within : ℕ → Work → State X → State X
