@@ -16,50 +16,47 @@ use Rattle.serial_run.specs.Standing.{state_of}
 use Rattle.serial_run.proofs.Ends.{outcome_at}
 use Rattle.cost.specs.declared.frame.Frame.{Frame}
 use Rattle.cost.specs.declared.frame.Frame.TheVariants.{Rest}
-use Rattle.cost.specs.declared.tally.Tally.{Tally}
-use Rattle.cost.specs.Costs.{nothing_done, tallied}
-use Rattle.cost.specs.Laws.{untallied, with_tally}
-use Rattle.cost.specs.Resume.{Standing, doing, resume, standing}
+use Rattle.cost.specs.declared.account.Account.{Account as rAccount}
+use Rattle.cost.specs.Accounts.{Account, nothing_noted}
+use Rattle.cost.specs.Costs.{nothing_done}
+use Rattle.cost.specs.Laws.{totals, untallied, with_tally}
+use Rattle.cost.specs.Resume.{Standing, doing, placed, resume, standing}
+use Rattle.cost.specs.Translation.{account}
 use Rattle.cost.specs.declared.machine.Machine.{Machine}
-use Rattle.cost.specs.Machines.{HasEnded, IsSound, comes_to, nothing, stack, stands}
+use Rattle.cost.specs.Machines.{HasEnded, IsSound, comes_to, end_of, nothing, stack, stands}
 use Rattle.cost.proofs.Frames.{resume-pushed}
+use Rattle.cost.proofs.Untabled.{totals-accounted}
 use Rattle.cost.proofs.Untallied.{untallied-tallied}
 use Rattle.cost.proofs.Waiting.{block_done}
 
--- where a whole run of `main` comes to
-abbrev pub end_of : Program → (steps nest : ℕ) → (input : List (List ℤ)) → Standing
-end_of p steps nest input = record {
-  state = tallied p steps nest (Block p.main.body) (start nothing_done p steps (held_by input));
-  nest = nest;
-}
-
 -- the body of `main` on top of the start is the whole run
-pub main_on_top : (p : Program) (steps nest : ℕ) (input : List (List ℤ)) (gs : List Frame) (b : Bor (List Stmt))
-    (t : Thread Store) (y : Tally) → gs ≡ [] ++ Rest b ∷ [] → codes b.now ≡ p.main.body
-    → state_of t ≡ start tt p steps (held_by input) → y ≡ nothing_done → t.nest ≡ nest
-    → resume p steps gs (standing y t) ≡ end_of p steps nest input
-main_on_top p steps nest input gs b t y g body state none same =
-    let begin : State Tally = start nothing_done p steps (held_by input) in
-    let at : State (Unit {0}) → Tally → ℕ → Standing = λ st y n. record { state = with_tally y st; nest = n } in
-    resume-pushed p steps [] gs (Rest b) (standing y t) g
-    ∙ ap (λ (c : Codes). doing p steps (Block c) (standing y t)) body
+pub main_on_top : (p : Program) (steps nest rows : ℕ) (input : List (List ℤ)) (gs : List Frame) (b : Bor (List Stmt))
+    (t : Thread Store) (y : Account) → gs ≡ [] ++ Rest b ∷ [] → codes b.now ≡ p.main.body
+    → state_of t ≡ start tt p steps (held_by input) → y ≡ nothing_noted rows → t.nest ≡ nest
+    → resume p steps gs (placed y t) ≡ end_of p steps nest rows input
+main_on_top p steps nest rows input gs b t y g body state none same =
+    let at : State (Unit {0}) → Account → ℕ → Standing = λ st y n. record { state = with_tally y st; nest = n } in
+    resume-pushed p steps [] gs (Rest b) (placed y t) g
+    ∙ ap (λ (c : Codes). doing p steps (Block c) (placed y t)) body
     ∙ ap (λ (st : State (Unit {0})). doing p steps (Block p.main.body) (at st y t.nest)) state
-    ∙ ap (λ (y : Tally). doing p steps (Block p.main.body) (at (start tt p steps (held_by input)) y t.nest)) none
-    ∙ ap (λ (n : ℕ). doing p steps (Block p.main.body) (at (start tt p steps (held_by input)) nothing_done n)) same
+    ∙ ap (λ (y : Account). doing p steps (Block p.main.body) (at (start tt p steps (held_by input)) y t.nest)) none
+    ∙ ap (λ (n : ℕ). doing p steps (Block p.main.body) (at (start tt p steps (held_by input)) (nothing_noted rows) n)) same
 
 -- a thread that stands at the end tells the outcome
-pub told : (plan : Plan) (t : Thread Store) (y : Tally) (input : List (List ℤ)) → IsInBounds (program plan.program.now) t
-    → standing y t ≡ end_of (program plan.program.now) plan.budget.steps plan.budget.nest input
+pub told : (plan : Plan) (t : Thread Store) (y : rAccount) (rows : ℕ) (input : List (List ℤ)) → IsInBounds (program plan.program.now) t
+    → standing y t ≡ end_of (program plan.program.now) plan.budget.steps plan.budget.nest rows input
     → outcome_by (state_of t).flow (record {
       arrays = lists_of t.store;
       lines = (state_of t).lines;
       faults = (state_of t).faults;
     }) ≡ outcome (program plan.program.now) input (budget plan.budget)
-told plan t y input bounds comes =
+told plan t y rows input bounds comes =
     let p = program plan.program.now in
+    let begun : State Account = start (nothing_noted rows) p plan.budget.steps (held_by input) in
     outcome_at p input (lists_of t.store) (budget plan.budget) (state_of t)
     bounds.store refl
-    (ap (λ (s : Standing). untallied s.state) comes
+    (ap (λ (s : Standing). untallied (totals s.state)) comes
+    ∙ ap untallied (totals-accounted p plan.budget.steps plan.budget.nest (Block p.main.body) begun)
     ∙ untallied-tallied p plan.budget.steps plan.budget.nest (Block p.main.body)
     (start nothing_done p plan.budget.steps (held_by input)))
 
@@ -67,12 +64,12 @@ told plan t y input bounds comes =
 pub ended : (old new : Machine) → HasEnded old new → stands new ≡ comes_to old nothing
 ended old new e =
     let p = program old.plan.program.now in let fresh = old.plan.budget.steps in
-    ap (standing new.tally) e.thread
-    ∙ ap (λ (y : Tally). standing y old.thread) e.tally
+    ap (standing new.account) e.thread
+    ∙ ap (λ (y : rAccount). standing y old.thread) e.account
     ∙ sym (block_done p fresh [] old.block (stands old) e.block)
     ∙ ap (λ (fs : List Frame). resume p fresh (fs ++ Rest old.block ∷ []) (stands old)) (sym e.frames)
 
-module _ (job : Plan) (input : List (List ℤ)) (first m end : Machine) where
+module _ (job : Plan) (rows : ℕ) (input : List (List ℤ)) (first m end : Machine) where
   abbrev p : Program
   p = program job.program.now
 
@@ -83,20 +80,20 @@ module _ (job : Plan) (input : List (List ℤ)) (first m end : Machine) where
     pub nest : first.thread.nest ≡ job.budget.nest
     pub block : codes first.block.now ≡ p.main.body
     pub frames : first.frames.items ≡ []
-    pub tally : first.tally ≡ nothing_done
+    pub kept : account first.account ≡ nothing_noted rows
     pub same : m.plan ≡ first.plan
     pub comes : comes_to m nothing ≡ comes_to first nothing
     pub sound : IsSound m
     pub ended : HasEnded m end
 
   -- stands where the whole run comes to
-  pub stands_at_end : HasRun → stands end ≡ end_of p job.budget.steps job.budget.nest input
+  pub stands_at_end : HasRun → stands end ≡ end_of p job.budget.steps job.budget.nest rows input
   stands_at_end r =
       ended m end r.ended
       ∙ r.comes
       ∙ ap (λ (q : Plan). resume (program q.program.now) q.budget.steps (stack first) (stands first)) r.plan
-      ∙ main_on_top p job.budget.steps job.budget.nest input (stack first) first.block first.thread first.tally
-      (ap (λ (fs : List Frame). fs ++ Rest first.block ∷ []) r.frames) r.block r.state r.tally r.nest
+      ∙ main_on_top p job.budget.steps job.budget.nest rows input (stack first) first.block first.thread (account first.account)
+      (ap (λ (fs : List Frame). fs ++ Rest first.block ∷ []) r.frames) r.block r.state r.kept r.nest
 
   -- with all places there
   pub bounds_at_end : HasRun → IsInBounds p end.thread

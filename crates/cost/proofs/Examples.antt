@@ -1,10 +1,11 @@
 -- What worked programs cost, computed.
 use Rattle.std.proofs.Common.{◌≡◌, ℕ, List, [], ◌∷◌, refl}
 use Rattle.std.specs.Prelude.{ℤ, pos, replicate}
-use Rattle.types.specs.Code.{Program}
+use Rattle.types.specs.Code.{Async, Do, End, Finish, Program, Skip, Then}
 use Rattle.types.specs.Outcome.{Budget}
-use Rattle.types.proofs.Programs.{count_to, doubling, endless, late_async, nested_tasks, one_async, three_faults, two_arrays}
+use Rattle.types.proofs.Programs.{count_to, doubling, endless, late_async, main_of, nested_tasks, one_async, three_faults, two_arrays}
 use Rattle.cost.specs.declared.cost.Cost.{Cost}
+use Rattle.cost.specs.Accounts.{account_of, span_by_label}
 use Rattle.cost.specs.Costs.{cost_of, tally_of}
 
 abbrev usual : Budget
@@ -56,3 +57,38 @@ three_faults_cost = refl
 -- of a run that is stopped, what was done up to there: the finish, the async, and the ten steps of its task
 endless_cost : cost_of (tally_of endless [] (record { steps = 10; nest = 1 })) ≡ costs 12 12 2 1 2
 endless_cost = refl
+
+-- ---- by label: all steps, and those of the longest chain. The first number is that of 0, which no statement has
+
+abbrev by_label : (rows : ℕ) → Program → List (List ℤ) → List ℕ × List ℕ
+by_label rows p input = let a = account_of p rows input usual in (a.work, span_by_label a)
+
+-- of the two stores at once, that of the task that goes on is told
+two_arrays_by_label : by_label 6 two_arrays (zeros 1 ∷ zeros 1 ∷ [])
+    ≡ (0 ∷ 1 ∷ 1 ∷ 1 ∷ 1 ∷ 1 ∷ [], 0 ∷ 1 ∷ 1 ∷ 0 ∷ 1 ∷ 1 ∷ [])
+two_arrays_by_label = refl
+
+-- of two elements: the call of the left half, at 6, is a task's, and beside the longest chain
+doubling_by_label : by_label 10 (doubling 2) (zeros 2 ∷ [])
+    ≡ (0 ∷ 3 ∷ 2 ∷ 2 ∷ 1 ∷ 1 ∷ 1 ∷ 1 ∷ 1 ∷ 1 ∷ [], 0 ∷ 2 ∷ 1 ∷ 1 ∷ 1 ∷ 1 ∷ 0 ∷ 1 ∷ 1 ∷ 1 ∷ [])
+doubling_by_label = refl
+
+-- one thing after the other: four tests of the guard, and three turns
+count_by_label : by_label 5 (count_to 3) [] ≡ (0 ∷ 1 ∷ 4 ∷ 3 ∷ 1 ∷ [], 0 ∷ 1 ∷ 4 ∷ 3 ∷ 1 ∷ [])
+count_by_label = refl
+
+-- finish { async { skip; skip; } async { skip; } }: of two tasks whose chains are equally long the first is told
+abbrev two_tasks : Program
+two_tasks = main_of [] 0 []
+    (Then 1 (Finish (Then 2 (Async (Then 3 (Do Skip) (Then 4 (Do Skip) End))) (Then 5 (Async (Then 6 (Do Skip) End)) End))) End)
+
+two_tasks_by_label : by_label 7 two_tasks [] ≡ (0 ∷ 1 ∷ 1 ∷ 1 ∷ 1 ∷ 1 ∷ 1 ∷ [], 0 ∷ 1 ∷ 1 ∷ 1 ∷ 1 ∷ 0 ∷ 0 ∷ [])
+two_tasks_by_label = refl
+
+-- a label that has no row is counted at 0
+few_rows : by_label 2 (count_to 3) [] ≡ (8 ∷ 1 ∷ [], 8 ∷ 1 ∷ [])
+few_rows = refl
+
+-- without rows nothing is told by label
+no_rows : by_label 0 two_arrays (zeros 1 ∷ zeros 1 ∷ []) ≡ ([], [])
+no_rows = refl

@@ -2,6 +2,8 @@ mod Examples
 pub mod Beside
 pub mod Thrift
 pub mod Untallied
+pub mod Untabled
+pub mod Rows
 pub mod Fair
 pub mod Turns
 pub mod Owners

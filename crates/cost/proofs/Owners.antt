@@ -6,25 +6,25 @@ use Rattle.types.specs.Run.{Fault, State}
 use Rattle.types.specs.Translation.{environment as environment_of}
 use Rattle.types.specs.Value.{Environment}
 use Rattle.cost.specs.declared.frame.Owner.{Owner}
-use Rattle.cost.specs.declared.tally.Tally.{Tally}
-use Rattle.cost.specs.Costs.{after_task, beginning, ends_task}
+use Rattle.cost.specs.Accounts.{Account, after_child, beginning_at, ends_behind}
 use Rattle.cost.specs.Resume.{Standing, end_async, faults_in, lines_in}
 
 -- it goes on as a task stood which began a child
-pub record Waiting (o : Owner) (st : State Tally) (n : ℕ) : Type 0 where
+pub record Waiting (o : Owner) (l : ℕ) (st : State Account) (n : ℕ) : Type 0 where
   pub path : o.path.turns.items ≡ st.path
   pub environment : environment_of o.environment ≡ st.environment
   pub steps : o.steps ≡ st.steps
   pub spawned : o.spawned ≡ st.spawned + 1
   pub lines : lines_in o.told ≡ st.lines
   pub faults : faults_in o.told ≡ st.faults
-  pub here : o.here ≡ (beginning st).extra.here
+  pub here : o.here ≡ (beginning_at l st).extra.tally.here
+  pub by_label : o.here_by_label.items ≡ (beginning_at l st).extra.here
   pub nest : o.nest ≡ n
 
 -- where it goes on, by what it is made of
-abbrev going : (path : List ℕ) → Environment → (steps spawned : ℕ) → List (List ℤ) → List Fault → (here nest : ℕ)
-    → State Tally → Standing
-going path env steps spawned lines faults here nest out = record {
+abbrev going : (path : List ℕ) → Environment → (steps spawned : ℕ) → List (List ℤ) → List Fault → (here : ℕ) → (by_label : List ℕ)
+    → (nest : ℕ) → State Account → Standing
+going path env steps spawned lines faults here by_label nest out = record {
   state = record {
     flow = after_async out.flow;
     environment = env;
@@ -34,27 +34,28 @@ going path env steps spawned lines faults here nest out = record {
     steps = steps;
     path = path;
     spawned = spawned;
-    extra = ends_task here out.extra;
+    extra = ends_behind here by_label out.extra;
   };
   nest = nest;
 }
 
 -- behind the body it stands as that task does behind its async
-abbrev pub after_owner : Owner → State Tally → Standing
+abbrev pub after_owner : Owner → State Account → Standing
 after_owner o out = record { state = end_async o out; nest = o.nest }
 
-abbrev pub after_begun : (st : State Tally) → (nest : ℕ) → State Tally → Standing
-after_begun st n out = record { state = after_task (beginning st) out; nest = n }
+abbrev pub after_begun : (l : ℕ) → (st : State Account) → (nest : ℕ) → State Account → Standing
+after_begun l st n out = record { state = after_child (beginning_at l st) out; nest = n }
 
-pub goes_on : (o : Owner) (st out : State Tally) (n : ℕ) → Waiting o st n → after_owner o out ≡ after_begun st n out
-goes_on o st out n w =
+pub goes_on : (o : Owner) (l : ℕ) (st out : State Account) (n : ℕ) → Waiting o l st n → after_owner o out ≡ after_begun l st n out
+goes_on o l st out n w =
     let lines = lines_in o.told in let faults = faults_in o.told in let env = environment_of o.environment in
-    let k = st.spawned + 1 in
-    ap (λ x. going x env o.steps o.spawned lines faults o.here o.nest out) w.path
-    ∙ ap (λ x. going st.path x o.steps o.spawned lines faults o.here o.nest out) w.environment
-    ∙ ap (λ x. going st.path st.environment x o.spawned lines faults o.here o.nest out) w.steps
-    ∙ ap (λ x. going st.path st.environment st.steps x lines faults o.here o.nest out) w.spawned
-    ∙ ap (λ x. going st.path st.environment st.steps k x faults o.here o.nest out) w.lines
-    ∙ ap (λ x. going st.path st.environment st.steps k st.lines x o.here o.nest out) w.faults
-    ∙ ap (λ x. going st.path st.environment st.steps k st.lines st.faults x o.nest out) w.here
-    ∙ ap (λ x. going st.path st.environment st.steps k st.lines st.faults (beginning st).extra.here x out) w.nest
+    let k = st.spawned + 1 in let rows = o.here_by_label.items in let begun = (beginning_at l st).extra in
+    ap (λ x. going x env o.steps o.spawned lines faults o.here rows o.nest out) w.path
+    ∙ ap (λ x. going st.path x o.steps o.spawned lines faults o.here rows o.nest out) w.environment
+    ∙ ap (λ x. going st.path st.environment x o.spawned lines faults o.here rows o.nest out) w.steps
+    ∙ ap (λ x. going st.path st.environment st.steps x lines faults o.here rows o.nest out) w.spawned
+    ∙ ap (λ x. going st.path st.environment st.steps k x faults o.here rows o.nest out) w.lines
+    ∙ ap (λ x. going st.path st.environment st.steps k st.lines x o.here rows o.nest out) w.faults
+    ∙ ap (λ x. going st.path st.environment st.steps k st.lines st.faults x rows o.nest out) w.here
+    ∙ ap (λ x. going st.path st.environment st.steps k st.lines st.faults begun.tally.here x o.nest out) w.by_label
+    ∙ ap (λ x. going st.path st.environment st.steps k st.lines st.faults begun.tally.here begun.here x out) w.nest

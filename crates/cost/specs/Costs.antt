@@ -2,7 +2,7 @@
 -- behind the steps of its task before it, behind the async that began its task, and, behind a finish, behind all that
 -- was done in that.
 use Rattle.std.specs.Prelude.{ℕ, zero, suc, ◌+◌, max, List, length, ℤ}
-use Rattle.types.specs.Code.{Code, Do, If, While, Split, Call, Async, Finish, Codes, Program}
+use Rattle.types.specs.Code.{Codes, Program}
 use Rattle.types.specs.Contents.{held_by}
 use Rattle.types.specs.Meaning.{hushed, joined, child, after_async, after_finish}
 use Rattle.types.specs.Outcome.{Budget, start}
@@ -35,16 +35,6 @@ enters_finish t = record (one_more t) { ended = 0; finishes = t.finishes + 1 }
 -- tasks had ended before
 abbrev pub leaves_finish : (ended : ℕ) → Tally → Tally
 leaves_finish ended t = record t { here = max t.here t.ended; ended = ended }
-
--- the step of a statement; an async and a finish count theirs where they begin
-abbrev pub counted_in : Code → Tally → Tally
-counted_in (Async b) t = t
-counted_in (Finish b) t = t
-counted_in (Do s) t = one_more t
-counted_in (If g b c) t = one_more t
-counted_in (While g b) t = one_more t
-counted_in (Split s e l r b) t = one_more t
-counted_in (Call f es ss) t = one_more t
 
 -- a parent goes on as it was, but with what its child wrote, told and cost
 abbrev pub after_task : (before out : State Tally) → State Tally

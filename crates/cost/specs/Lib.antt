@@ -1,4 +1,7 @@
 pub mod Costs
+pub mod Accounts
+pub mod Translation
+pub mod Shares
 pub mod Laws
 pub mod Text
 pub mod Resume

@@ -12,18 +12,22 @@ use Rattle.cost.specs.declared.frame.Frame.TheVariants.{Rest, Again, EndFinish, 
 use Rattle.cost.specs.declared.frame.Outer.{Outer}
 use Rattle.cost.specs.declared.frame.Owner.{Owner}
 use Rattle.cost.specs.declared.frame.Told.{Told}
-use Rattle.cost.specs.declared.tally.Tally.{Tally}
-use Rattle.cost.specs.Costs.{ends_task, leaves_finish, tallied, tallied_rules}
+use Rattle.cost.specs.declared.account.Account.{Account as rAccount}
+use Rattle.cost.specs.Accounts.{Account, accounted, accounted_rules, ends_behind, leaves_behind}
 use Rattle.cost.specs.Laws.{with_tally}
+use Rattle.cost.specs.Translation.{account}
 
 -- a state, and how many asyncs may still stand inside one another
 pub record Standing : Type 0 where
-  pub state : State Tally
+  pub state : State Account
   pub nest : ℕ
 
--- where a thread stands, of which this is the tally
-abbrev pub standing : Tally → Thread Store → Standing
-standing y t = record { state = with_tally y (state_of t); nest = t.nest }
+-- where a thread stands, of which this is the account
+abbrev pub placed : Account → Thread Store → Standing
+placed y t = record { state = with_tally y (state_of t); nest = t.nest }
+
+abbrev pub standing : rAccount → Thread Store → Standing
+standing a t = placed (account a) t
 
 -- what was told, as the definitions see it
 abbrev pub lines_in : Told → List (List ℤ)
@@ -33,16 +37,16 @@ abbrev pub faults_in : Told → List Fault
 faults_in o = map fault o.faults.items
 
 -- a finish at its end, before which this was told
-abbrev pub end_finish : Outer → State Tally → State Tally
+abbrev pub end_finish : Outer → State Account → State Account
 end_finish o out = record out {
   flow = after_finish out.flow out.faults;
   lines = lines_in o.told ++ out.lines;
   faults = faults_in o.told ++ out.faults;
-  extra = leaves_finish o.ended out.extra;
+  extra = leaves_behind o.ended o.ended_by_label.items out.extra;
 }
 
 -- the owner of an async goes on as it stood, behind the body
-abbrev pub end_async : Owner → State Tally → State Tally
+abbrev pub end_async : Owner → State Account → State Account
 end_async o out = record {
   flow = after_async out.flow;
   environment = environment o.environment;
@@ -52,19 +56,19 @@ end_async o out = record {
   steps = o.steps;
   path = o.path.turns.items;
   spawned = o.spawned;
-  extra = ends_task o.here out.extra;
+  extra = ends_behind o.here o.here_by_label.items out.extra;
 }
 
 module _ (p : Program) (fresh : ℕ) where
   -- does work, where the flow is on
   abbrev pub doing : Work → Standing → Standing
-  doing w s = record s { state = go_on (tallied p fresh s.nest w) s.state }
+  doing w s = record s { state = go_on (accounted p fresh s.nest w) s.state }
 
   -- does a statement, whose step was taken and counted
   abbrev pub acted : (label : ℕ) → Code → Standing → Standing
   acted l c s =
       record s {
-        state = act p (tallied_rules p fresh s.nest) (tallied p fresh s.nest) l c s.state;
+        state = act p (accounted_rules p fresh s.nest) (accounted p fresh s.nest) l c s.state;
       }
 
   -- what a frame does once those above it are done

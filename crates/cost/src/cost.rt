@@ -4,9 +4,12 @@ ghost use Rattle.std.specs.Prelude.{◌≡◌, IfOk};
 ghost use Rattle.types.specs.Contents.{FitsArrays};
 ghost use Rattle.types.specs.Outcome.{outcome as one_thread_outcome};
 ghost use Rattle.types.specs.Translation.{outcome as outcome_of, input as lists_in};
-ghost use Rattle.types.specs.Translation.{budget as budget_of};
+ghost use Rattle.types.specs.Translation.{budget as budget_of, program as program_of};
 ghost use Rattle.types.specs.Typed.{code_of};
+ghost use Rattle.serial_run.specs.Bounds.{IsInBounds};
+ghost use Rattle.cost.specs.Accounts.{account_of, span_by_label};
 ghost use Rattle.cost.specs.Costs.{cost_of, tally_of};
+ghost use Rattle.cost.specs.Machines.{end_of, stands};
 
 use crate::machine::Machine;
 use serial_run::thread::Plan;
@@ -39,6 +42,16 @@ pub struct Costed {
     pub cost: Cost,
 }
 
+/// The same, and how much of it at each label. The number of a label has that index; the first is of no statement.
+#[derive(Drop)]
+pub struct CostByLabel {
+    pub costed: Costed,
+    /// How many steps were taken there.
+    pub work: Vec<u64>,
+    /// How many of them lie on the longest chain.
+    pub span: Vec<u64>,
+}
+
 /// What a program, an input and a budget come to on one thread, and what that costs. The input has a list for each
 /// array, of its length. A count that is too large is told as want of memory.
 ///
@@ -60,10 +73,58 @@ pub fn measure(
         program: typed.code(),
         budget,
     };
-    let mut machine = Machine::at_start(plan, input)?;
-    'turns: while machine.turn()? {}
+    let machine = ran(plan, input, 0)?;
     Ok(Costed {
-        cost: machine.tally.cost(),
+        cost: machine.account.tally.cost(),
         outcome: machine.thread.outcome(),
     })
+}
+
+/// The same by label, where the labels are less than `rows`: a step at any other is counted at 0. Of two chains that are
+/// equally long it is a task's own rather than one of a task that it waited for, and of two tasks that of the first.
+///
+/// `main { finish { async { skip; } skip; } skip; }` has 5 labels, at each of which a step is taken. That at 3, inside the
+/// async, lies beside the longest chain, which goes on behind the async.
+pub fn measure_by_label(
+    alloc: Global,
+    typed: &Typed,
+    input: &Input,
+    budget: Budget,
+    rows: usize,
+) -> Result<CostByLabel, AllocError>
+    requires { FitsArrays (code_of typed.now).arrays (lists_in input.now) }
+    ensures outcome { IfOk result (λ c. outcome_of c.costed.outcome
+        ≡ one_thread_outcome (code_of typed.now) (lists_in input.now) (budget_of budget)) }
+    ensures cost { IfOk result (λ c. c.costed.cost
+        ≡ cost_of (tally_of (code_of typed.now) (lists_in input.now) (budget_of budget))) }
+    ensures work { IfOk result (λ c. c.work.items
+        ≡ (account_of (code_of typed.now) rows (lists_in input.now) (budget_of budget)).work) }
+    ensures span { IfOk result (λ c. c.span.items ≡ span_by_label
+        (account_of (code_of typed.now) rows (lists_in input.now) (budget_of budget))) }
+{
+    let plan = Plan {
+        alloc,
+        program: typed.code(),
+        budget,
+    };
+    let machine = ran(plan, input, rows)?;
+    let costed = Costed {
+        cost: machine.account.tally.cost(),
+        outcome: machine.thread.outcome(),
+    };
+    let (work, span) = machine.account.tables();
+    Ok(CostByLabel { costed, work, span })
+}
+
+/// The machine of a whole run, at its end.
+fn ran<'p>(plan: Plan<'p>, input: &Input, rows: usize) -> Result<Machine<'p>, AllocError>
+    requires { FitsArrays (program_of plan.program.now).arrays (lists_in input.now) }
+    ensures stands { IfOk result (λ m. stands m ≡ end_of (program_of plan.entry.program.now)
+        plan.entry.budget.steps plan.entry.budget.nest rows (lists_in input.now)) }
+    ensures bounds { IfOk result
+        (λ m. IsInBounds (program_of plan.entry.program.now) m.thread) }
+{
+    let mut machine = Machine::at_start(plan, input, rows)?;
+    'turns: while machine.turn()? {}
+    Ok(machine)
 }

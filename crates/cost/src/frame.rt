@@ -36,6 +36,8 @@ pub struct Outer {
     pub told: Told,
     /// What the longest chain cost that led to the end of a task in the finish around it.
     pub ended: usize,
+    /// That chain, by label.
+    pub ended_by_label: Vec<u64>,
 }
 
 /// The owner of an async while its body is done.
@@ -49,6 +51,8 @@ pub struct Owner {
     pub told: Told,
     /// What the longest chain costs that leads to where it stands, behind the async's step.
     pub here: usize,
+    /// That chain, by label.
+    pub here_by_label: Vec<u64>,
 }
 
 /// What was told.

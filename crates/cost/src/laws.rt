@@ -1,12 +1,14 @@
-//! Laws of tallies, each the contract of a function that does nothing.
+//! Laws of tallies and accounts, each the contract of a function that does nothing.
 
-ghost use Rattle.std.specs.Prelude.{◌≡◌, ℕ, ℤ, List};
+ghost use Rattle.std.specs.List.{sum};
+ghost use Rattle.std.specs.Prelude.{◌≡◌, ◌<◌, ℕ, ℤ, List};
 ghost use Rattle.types.specs.Code.{Program};
 ghost use Rattle.types.specs.Meaning.{one};
 ghost use Rattle.types.specs.Outcome.{Budget};
 ghost use Rattle.types.specs.Run.{State, Work};
-ghost use Rattle.cost.specs.Costs.{tallied, tally_of};
-ghost use Rattle.cost.specs.Laws.{IsFair, untallied};
+ghost use Rattle.cost.specs.Accounts.{Account, account_of, accounted, span_by_label};
+ghost use Rattle.cost.specs.Costs.{cost_of, tallied, tally_of};
+ghost use Rattle.cost.specs.Laws.{AddsUp, IsFair, totals, untallied};
 ghost use Rattle.cost.specs.declared.tally.Tally.{Tally as AnyTally};
 
 /// A tally changes nothing: a run that keeps one comes to what the one-thread meaning says, whatever the tally was.
@@ -18,4 +20,23 @@ pub fn tallies_change_nothing()
 /// Whatever the program, the input and the budget, no chain is longer than the work.
 pub fn tallies_are_fair()
     ensures { (p : Program) (input : List (List ℤ)) (b : Budget) → IsFair (tally_of p input b) }
+{}
+
+/// An account changes no tally: a run that keeps one comes to what that does which keeps its tally alone, whatever the
+/// account was. So the tally of a whole run is the same with any number of rows.
+pub fn accounts_change_no_tally()
+    ensures state { (p : Program) (fresh nest : ℕ) (w : Work) (st : State Account)
+        → totals (accounted p fresh nest w st) ≡ tallied p fresh nest w (totals st) }
+    ensures tally { (p : Program) (rows : ℕ) (input : List (List ℤ)) (b : Budget)
+        → (account_of p rows input b).tally ≡ tally_of p input b }
+{}
+
+/// Whatever the program, the input and the budget, where there is a row at all: those of all steps add up to the work, and
+/// those of the longest chain to the span.
+pub fn accounts_add_up()
+    ensures rows { (p : Program) (rows : ℕ) (input : List (List ℤ)) (b : Budget)
+        → 0 < rows → AddsUp (account_of p rows input b) }
+    ensures span { (p : Program) (rows : ℕ) (input : List (List ℤ)) (b : Budget)
+        → 0 < rows → sum (span_by_label (account_of p rows input b))
+        ≡ (cost_of (tally_of p input b)).span }
 {}

@@ -2,9 +2,11 @@
 
 #![tactic(auto)]
 
+pub mod account;
 pub mod cost;
 pub mod frame;
 pub mod laws;
 pub mod machine;
+pub mod shares;
 pub mod tally;
 pub mod text;

@@ -1,13 +1,11 @@
 //! What was done so far in a run, and what of it comes one behind the other.
 
 ghost use Rattle.std.specs.Prelude.{◌≡◌, ◌+◌, IfOk, OnOk};
-ghost use Rattle.types.specs.Translation.{code as plain_code};
-ghost use Rattle.cost.specs.Costs.{begins_task, cost_of, counted_in, ends_task, enters_finish};
+ghost use Rattle.cost.specs.Costs.{begins_task, cost_of, ends_task, enters_finish};
 ghost use Rattle.cost.specs.Costs.{leaves_finish, nothing_done, one_more};
 
 use crate::cost::Cost;
 use std::alloc::AllocError;
-use types::code::StmtKind;
 
 /// What was done so far. Chains are those of the task that is at work.
 #[derive(Clone, Copy, PartialEq, Eq, Debug)]
@@ -36,20 +34,6 @@ impl Tally {
         deepest: 0,
         finishes: 1,
     };
-
-    /// The step of a statement was taken; an async and a finish count theirs where they begin.
-    pub fn count(&mut self, kind: &StmtKind) -> Result<(), AllocError>
-        ensures { OnOk result (self.new ≡ counted_in (plain_code kind.now) self.old) }
-    {
-        match kind {
-            StmtKind::Async { .. } | StmtKind::Finish { .. } => Ok(()),
-            StmtKind::Do(_)
-            | StmtKind::If { .. }
-            | StmtKind::While { .. }
-            | StmtKind::Split { .. }
-            | StmtKind::Call { .. } => self.one_more(),
-        }
-    }
 
     /// The task took a step.
     pub fn one_more(&mut self) -> Result<(), AllocError>

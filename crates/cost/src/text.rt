@@ -1,12 +1,18 @@
 //! The numbers of a cost, as they are told.
 
-ghost use Rattle.std.specs.Prelude.{◌≡◌, ◌++◌, IfOk, OnOk};
+ghost use Rattle.std.specs.Prelude.{◌≡◌, ◌++◌, map, slice_index, IfOk, OnOk};
 ghost use Rattle.std.specs.String.{string_bytes};
-ghost use Rattle.cost.specs.Text.{cost_text, task_lines, work_lines};
+ghost use Rattle.types.specs.Translation.{procedure as plain_procedure, program as plain_program};
+ghost use Rattle.cost.specs.Shares.{share_of};
+ghost use Rattle.cost.specs.Text.{cost_text, label_line, labels_text};
+ghost use Rattle.cost.specs.Text.{procedure_line, procedure_lines as lines_of, procedures_text};
+ghost use Rattle.cost.specs.Text.{share_line, task_lines, work_lines};
 
 use crate::cost::Cost;
+use crate::shares::{at, share};
 use std::alloc::{AllocError, Global};
 use trace_numbers::text::push_parallelism;
+use types::code::{Procedure, Program};
 
 /// The numbers of a cost, one on each line: `work: 61`, `span: 17`, `parallelism: 3.58`, which is the work by the span
 /// with two digits, `tasks: 8`, `deepest nest: 3`, `finishes: 2`.
@@ -40,4 +46,92 @@ fn push_tasks(text: &mut String, cost: &Cost) -> Result<(), AllocError>
         text,
         "tasks: {tasks}\ndeepest nest: {deepest_nest}\nfinishes: {finishes}\n"
     )
+}
+
+/// What share each label has, one on each line: `label 3: work 7, span 2`. The tables are those of a cost by label.
+pub fn labels_text(alloc: Global, work: &[u64], span: &[u64]) -> Result<String, AllocError>
+    ensures { IfOk result (λ text. string_bytes text ≡ labels_text work.now span.now) }
+{
+    let mut text = String::new(alloc);
+    for (label, steps) in work.iter().enumerate() {
+        push_label(&mut text, label, *steps, span)?;
+    }
+    Ok(text)
+}
+
+/// The line of a label, if it is one.
+fn push_label(text: &mut String, label: usize, work: u64, span: &[u64]) -> Result<(), AllocError>
+    ensures { OnOk result (string_bytes text.new
+        ≡ string_bytes text.old ++ label_line label work (slice_index span.now label)) }
+{
+    if label == 0 {
+        return Ok(());
+    }
+    let span = at(span, label);
+    write!(text, "label {label}: work {work}, span {span}\n")?;
+    Ok(())
+}
+
+/// What share each procedure has, one on each line: `twice: work 59, span 15`; behind them that of `main`.
+pub fn procedures_text(
+    alloc: Global,
+    code: &Program,
+    work: &[u64],
+    span: &[u64],
+) -> Result<String, AllocError>
+    ensures { IfOk result (λ text. string_bytes text
+        ≡ procedures_text work.now span.now (plain_program code.now)) }
+{
+    let mut text = procedure_lines(alloc, &code.procedures, work, span)?;
+    push_share(&mut text, "main", &code.main, work, span)?;
+    Ok(text)
+}
+
+/// The lines of procedures.
+fn procedure_lines(
+    alloc: Global,
+    procedures: &[Procedure],
+    work: &[u64],
+    span: &[u64],
+) -> Result<String, AllocError>
+    ensures { IfOk result (λ text. string_bytes text
+        ≡ lines_of work.now span.now (map plain_procedure procedures.now)) }
+{
+    let mut text = String::new(alloc);
+    for procedure in procedures {
+        push_procedure(&mut text, procedure, work, span)?;
+    }
+    Ok(text)
+}
+
+/// The line of a procedure, by its name.
+fn push_procedure(
+    text: &mut String,
+    procedure: &Procedure,
+    work: &[u64],
+    span: &[u64],
+) -> Result<(), AllocError>
+    ensures { OnOk result (string_bytes text.new ≡ string_bytes text.old
+        ++ procedure_line work.now span.now (plain_procedure procedure.now)) }
+{
+    push_share(text, procedure.name.as_str(), procedure, work, span)?;
+    Ok(())
+}
+
+/// The line of a procedure, by this name.
+fn push_share(
+    text: &mut String,
+    name: &str,
+    procedure: &Procedure,
+    work: &[u64],
+    span: &[u64],
+) -> Result<(), AllocError>
+    ensures { let f = plain_procedure procedure.now in OnOk result (string_bytes text.new
+        ≡ string_bytes text.old
+        ++ share_line name.now (share_of work.now f.body) (share_of span.now f.body)) }
+{
+    let work = share(work, procedure).ok_or(AllocError)?;
+    let span = share(span, procedure).ok_or(AllocError)?;
+    write!(text, "{name}: work {work}, span {span}\n")?;
+    Ok(())
 }

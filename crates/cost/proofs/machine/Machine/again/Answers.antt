@@ -6,12 +6,13 @@ use Rattle.types.specs.Translation.{program, truth, codes}
 use Rattle.serial_run.specs.declared.store.Store.{Store}
 use Rattle.serial_run.specs.declared.thread.Thread.{Thread}
 use Rattle.cost.specs.Machines.{stack, statement, work}
-use Rattle.cost.specs.Resume.{Standing, acted, resume, standing}
-use Rattle.cost.specs.declared.tally.Tally.{Tally}
+use Rattle.cost.specs.Resume.{Standing, acted, placed, resume, standing}
+use Rattle.cost.specs.Accounts.{Account}
 use Rattle.serial_run.specs.Standing.{flow, state_of}
+use Rattle.cost.specs.Translation.{account}
 use Rattle.cost.proofs.Beside.{beside, beside-stopped}
 use Rattle.cost.proofs.Frames.{again_on_top, turn_not_done}
-use Rattle.cost.proofs.MachineLemmas.{does_by, machine_of, step_sound, step_tallied, sound_with}
+use Rattle.cost.proofs.MachineLemmas.{does_by, machine_of, step_sound, step_counted, sound_with}
 use Rattle.cost.proofs.Turns.{taken, missed, missed_on, turns-step, five-rate}
 use Rattle.cost.proofs.machine.Machine.again.Goals as goal
 
@@ -19,26 +20,26 @@ pub turn_loop-requires : goal.turn_loop-requires
 turn_loop-requires c =
     let m = c.args.self.now in
     let step = taken c.takes_step.result m.thread c.takes_step.new.self c.if-takes_step.true c.takes_step.ensures.taken in
-    step_tallied (machine_of m.plan m.tally c.takes_step.new.self m.block m.frames) c.one_more.new.self
-    (step_sound m.plan m.tally m.thread c.takes_step.new.self m.block m.block m.frames step c.requires)
+    step_counted (machine_of m.plan m.account c.takes_step.new.self m.block m.frames) c.step.new.self
+    (step_sound m.plan m.account m.thread c.takes_step.new.self m.block m.block m.frames step c.requires)
 
-pub returns-in_ok-one_more-clause-does : goal.returns-in_ok-one_more-clause-does
-returns-in_ok-one_more-clause-does c =
+pub returns-in_ok-step-clause-does : goal.returns-in_ok-step-clause-does
+returns-in_ok-step-clause-does c =
     let m = c.args.self.now in let p = program m.plan.program.now in let fresh = m.plan.budget.steps in
     let step = taken c.takes_step.result m.thread c.takes_step.new.self c.if-takes_step.true c.takes_step.ensures.taken in
     let guard = truth c.args.guard.now in let body = codes c.args.body.now in
-    let at : Tally → Thread Store → Standing = λ y t. resume p fresh (stack m) (acted p fresh c.args.label (While guard body) (standing y t)) in
+    let at : Account → Thread Store → Standing = λ y t. resume p fresh (stack m) (acted p fresh c.args.label (While guard body) (placed y t)) in
     on_ok_weaker c.turn_loop.result
     (does_by (work (Turn c.args.label guard body)) (statement c.args.label (While guard body)) m
-    (machine_of m.plan c.one_more.new.self c.takes_step.new.self m.block m.frames) c.turn_loop.new.self refl
-    (ap (at c.one_more.new.self) step.same
-    ∙ ap (λ y. at y (record m.thread { steps = c.takes_step.new.self.steps })) c.in_ok-one_more.ensures
+    (machine_of m.plan c.step.new.self c.takes_step.new.self m.block m.frames) c.turn_loop.new.self refl
+    (ap (at (account c.step.new.self)) step.same
+    ∙ ap (λ y. at y (record m.thread { steps = c.takes_step.new.self.steps })) c.in_ok-step.ensures
     ∙ again_on_top p fresh (stack m) c.args.label guard body c.takes_step.new.self.steps
-    (standing m.tally m.thread) (ap flow step.on) step.less))
+    (standing m.account m.thread) (ap flow step.on) step.less))
     c.turn_loop.ensures.does
 
-pub returns-in_ok-one_more-clause-ends : goal.returns-in_ok-one_more-clause-ends
-returns-in_ok-one_more-clause-ends c =
+pub returns-in_ok-step-clause-ends : goal.returns-in_ok-step-clause-ends
+returns-in_ok-step-clause-ends c =
     let m = c.args.self.now in let fresh = m.plan.budget.steps in
     let step = taken c.takes_step.result m.thread c.takes_step.new.self c.if-takes_step.true c.takes_step.ensures.taken in
     on_ok_weaker c.turn_loop.result
@@ -59,11 +60,11 @@ returns-else-takes_step-clause-does c =
     record {
       plan = refl;
       sound =
-          sound_with m.plan m.tally m.thread c.takes_step.new.self m.block m.block m.frames (ap (λ (t : Thread Store). t.store) none.same)
+          sound_with m.plan m.account m.thread c.takes_step.new.self m.block m.block m.frames (ap (λ (t : Thread Store). t.store) none.same)
           (ap (λ (t : Thread Store). t.environment) none.same) (omega (arith, steps, spawned)) c.requires;
       comes =
           turn_not_done p m.plan.budget.steps (stack m) c.args.label (truth c.args.guard.now) (codes c.args.body.now)
-          (standing m.tally m.thread) (standing m.tally c.takes_step.new.self)
+          (standing m.account m.thread) (standing m.account c.takes_step.new.self)
           (missed_on m.thread c.takes_step.new.self none)
-          (ap (beside m.tally) none.flow ∙ beside-stopped m.tally (flow m.thread.flow) (state_of m.thread)) (ap (λ (t : Thread Store). t.nest) none.same);
+          (ap (beside (account m.account)) none.flow ∙ beside-stopped (account m.account) (flow m.thread.flow) (state_of m.thread)) (ap (λ (t : Thread Store). t.nest) none.same);
     }

@@ -14,12 +14,12 @@ use Rattle.serial_run.specs.Lists.{lists_of}
 use Rattle.serial_run.specs.Standing.{state_of, flow}
 use Rattle.cost.specs.declared.frame.Frame.TheVariants.{Rest, EndAsync}
 use Rattle.cost.specs.declared.frame.Owner.{Owner}
-use Rattle.cost.specs.declared.tally.Tally.{Tally}
-use Rattle.cost.specs.Costs.{beginning, begins_task}
+use Rattle.cost.specs.Accounts.{Account, beginning_at, begins_at}
 use Rattle.cost.specs.Frames.{cost, costs, rate}
 use Rattle.cost.specs.Laws.{with_tally}
 use Rattle.cost.specs.Machines.{IsSoundFrame, stack}
 use Rattle.cost.specs.Resume.{standing}
+use Rattle.cost.specs.Translation.{account}
 use Rattle.cost.proofs.Frames.{async_on_top}
 use Rattle.cost.proofs.MachineLemmas.{all_pushed}
 use Rattle.cost.proofs.Owners.{Waiting}
@@ -30,10 +30,10 @@ use Rattle.cost.proofs.machine.Machine.begin_async.Goals as goal
 pub returns-clause-does : goal.returns-clause-does
 returns-clause-does c =
     let m = c.args.self.now in let p = program m.plan.program.now in let fresh = m.plan.budget.steps in
-    let st = with_tally m.tally (state_of m.thread) in
+    let st = with_tally (account m.account) (state_of m.thread) in
     let told = c.take_told.ensures in
     let taken = c.take_told.new.thread in
-    let tally = c.begin_task.new.self in
+    let kept = c.begin_task.new.self in
     let caller = c.in_ok-environment.environment in
     let begun = record taken { steps = fresh; nest = taken.nest - 1; spawned = 0 } in
     let box = c.in_ok-owner.owner in
@@ -43,16 +43,16 @@ returns-clause-does c =
     let frames = c.push.new.self in let on_top = c.in_ok-push.ensures.items in
     let sound = c.requires.sound in
     let owner_sound = subst (LiesInArrays p) (sym c.in_ok-environment.ensures) sound.thread.windows in
-    let deeper : tally ≡ begins_task (length m.thread.path.turns.items + 1) m.tally
-    = c.in_ok-begin_task.ensures ∙ ap (λ (n : ℕ). begins_task (n + 1) m.tally) (c.len.ensures ∙ m.thread.path.turns.ok.0) in
+    let deeper : account kept ≡ begins_at c.args.label (length m.thread.path.turns.items + 1) (account m.account)
+    = c.in_ok-begin_task.ensures ∙ ap (λ (n : ℕ). begins_at c.args.label (n + 1) (account m.account)) (c.len.ensures ∙ m.thread.path.turns.ok.0) in
     let is_path = ap (λ (q : Path). q.turns.items) c.replace-path.ensures.after ∙ c.in_ok-child.ensures in
-    let at : Flow → List ℕ → Tally → State Tally = λ f q y.
+    let at : Flow → List ℕ → Account → State Account = λ f q y.
     with_tally y (record (hushed (state_of m.thread)) { flow = f; path = q; steps = fresh; spawned = 0 }) in
-    let is : (standing tally begun).state ≡ child fresh (beginning st)
-    = ap (λ (s : State (Unit {0})). with_tally tally (record s { steps = fresh; spawned = 0 })) told.nothing
+    let is : (standing kept begun).state ≡ child fresh (beginning_at c.args.label st)
+    = ap (λ (s : State (Unit {0})). with_tally (account kept) (record s { steps = fresh; spawned = 0 })) told.nothing
     ∙ ap (at (flow m.thread.flow) c.replace-path.new.dest.turns.items) deeper
-    ∙ ap (λ q. at (flow m.thread.flow) q (beginning st).extra) is_path
-    ∙ ap (λ f. at f (child fresh (beginning st)).path (beginning st).extra) (ap flow c.requires.on) in
+    ∙ ap (λ q. at (flow m.thread.flow) q (beginning_at c.args.label st).extra) is_path
+    ∙ ap (λ f. at f (child fresh (beginning_at c.args.label st)).path (beginning_at c.args.label st).extra) (ap flow c.requires.on) in
     record {
       plan = refl;
       sound = record {
@@ -69,17 +69,18 @@ returns-clause-does c =
             (owner_sound, omega (arith, c.requires.taken))) (waits.sound p fresh sound.frames);
       };
       comes =
-          resume-frame_block m.block m.frames.items p fresh below.items waits frames.items end c.args.body (standing tally begun) on_top
+          resume-frame_block m.block m.frames.items p fresh below.items waits frames.items end c.args.body (standing kept begun) on_top
           ∙ async_on_top p fresh (stack m) (stack m ++ end ∷ []) ((stack m ++ end ∷ []) ++ Rest c.args.body ∷ []) c.args.body
-          (codes c.args.body.now) 0 m.thread.nest box st (standing tally begun) c.if-self-eq0.false
-          (subst (λ (o : Owner). Waiting o st m.thread.nest) (sym is_box) (record {
+          (codes c.args.body.now) c.args.label m.thread.nest box st (standing kept begun) c.if-self-eq0.false
+          (subst (λ (o : Owner). Waiting o c.args.label st m.thread.nest) (sym is_box) (record {
             path = ap (λ (q : Path). q.turns.items) c.replace-path.ensures.value;
             environment = c.in_ok-environment.ensures;
             steps = refl;
             spawned = refl;
             lines = ap (λ (v : Vec (Vec ℤ Global) Global). map (λ (w : Vec ℤ Global). w.items) v.items) told.lines;
             faults = ap (λ (v : Vec Fault Global). map fault v.items) told.faults;
-            here = ap (λ (y : Tally). y.here) deeper;
+            here = ap (λ (y : Account). y.tally.here) deeper;
+            by_label = c.in_ok-here_by_label.ensures ∙ ap (λ (y : Account). y.here) deeper;
             nest = refl;
           }))
           is (ap (λ (t : Thread Store). t.nest - 1) told.rest) refl refl refl;

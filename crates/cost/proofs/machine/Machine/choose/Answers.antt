@@ -4,6 +4,7 @@ use Rattle.types.specs.Translation.{program, truth, codes}
 use Rattle.cost.specs.declared.frame.Frame.TheVariants.{Rest}
 use Rattle.cost.specs.Machines.{stack, statement}
 use Rattle.serial_run.specs.Standing.{flow}
+use Rattle.cost.specs.Translation.{account}
 use Rattle.cost.proofs.Beside.{beside}
 use Rattle.cost.proofs.Frames.{chosen, other, choice_faults}
 use Rattle.cost.proofs.MachineLemmas.{sound_waits, does_fault}
@@ -18,10 +19,10 @@ returns-in-Err-clause-does c =
     let m = c.args.self.now in let p = program m.plan.program.now in
     let guard = truth c.args.guard.now in let body = codes c.args.body.now in let rest = codes c.args.other.now in
     on_ok_both c.fault.result
-    (does_fault m.plan m.tally m.thread c.fault.new.self m.block m.frames c.args.label c.in-Err.kind
+    (does_fault m.plan m.account m.thread c.fault.new.self m.block m.frames c.args.label c.in-Err.kind
     (statement c.args.label (If guard body rest)) c.requires.sound
     (λ st n. choice_faults p m.plan.budget.steps (stack m) guard body rest c.args.label c.in-Err.kind
-    (standing m.tally m.thread) (standing m.tally c.fault.new.self) (sym c.in-Err.is ∙ c.truth.ensures) (ap (beside m.tally) st) n))
+    (standing m.account m.thread) (standing m.account c.fault.new.self) (sym c.in-Err.is ∙ c.truth.ensures) (ap (beside (account m.account)) st) n))
     c.fault.ensures.state c.fault.ensures.task
 
 pub returns-in_ok-wait-in-Ok-true-clause-does : goal.returns-in_ok-wait-in-Ok-true-clause-does
@@ -30,11 +31,11 @@ returns-in_ok-wait-in-Ok-true-clause-does c =
     let frames = c.wait.new.frames in let waits = c.in_ok-wait-in-Ok-true.ensures in
     record {
       plan = refl;
-      sound = sound_waits m.plan m.tally m.thread m.block c.args.body m.frames frames waits c.requires.sound;
+      sound = sound_waits m.plan m.account m.thread m.block c.args.body m.frames frames waits c.requires.sound;
       comes =
-          resume-block m.block m.frames.items p m.plan.budget.steps frames.items waits c.args.body (standing m.tally m.thread)
+          resume-block m.block m.frames.items p m.plan.budget.steps frames.items waits c.args.body (standing m.account m.thread)
           ∙ chosen p m.plan.budget.steps (stack m) (stack m ++ Rest c.args.body ∷ []) c.args.body
-          (truth c.args.guard.now) (codes c.args.body.now) (codes c.args.other.now) c.args.label (standing m.tally m.thread)
+          (truth c.args.guard.now) (codes c.args.body.now) (codes c.args.other.now) c.args.label (standing m.account m.thread)
           (ap flow c.requires.on) refl refl (ap Ok (sym c.in-Ok-true.field-0-test) ∙ sym c.in-Ok-true.is ∙ c.truth.ensures);
     }
 
@@ -53,11 +54,11 @@ returns-in_ok-wait-in-Ok-false-clause-does c =
     let frames = c.wait-in-Ok-false.new.frames in let waits = c.in_ok-wait-in-Ok-false.ensures in
     record {
       plan = refl;
-      sound = sound_waits m.plan m.tally m.thread m.block c.args.other m.frames frames waits c.requires.sound;
+      sound = sound_waits m.plan m.account m.thread m.block c.args.other m.frames frames waits c.requires.sound;
       comes =
-          resume-block m.block m.frames.items p m.plan.budget.steps frames.items waits c.args.other (standing m.tally m.thread)
+          resume-block m.block m.frames.items p m.plan.budget.steps frames.items waits c.args.other (standing m.account m.thread)
           ∙ other p m.plan.budget.steps (stack m) (stack m ++ Rest c.args.other ∷ []) c.args.other
-          (truth c.args.guard.now) (codes c.args.body.now) (codes c.args.other.now) c.args.label (standing m.tally m.thread)
+          (truth c.args.guard.now) (codes c.args.body.now) (codes c.args.other.now) c.args.label (standing m.account m.thread)
           (ap flow c.requires.on) refl refl (ap Ok (sym c.in-Ok-false.field-0-test) ∙ sym c.in-Ok-false.is ∙ c.truth.ensures);
     }
 

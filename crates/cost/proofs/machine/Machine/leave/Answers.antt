@@ -14,14 +14,14 @@ use Rattle.serial_run.specs.Bounds.{LiesInArrays}
 use Rattle.serial_run.specs.Lists.{lists_of}
 use Rattle.types.specs.Run.{Flow, State}
 use Rattle.cost.specs.Resume.{Standing, end_finish, faults_in, frame, lines_in, resume, standing}
-use Rattle.cost.specs.Costs.{ends_task, leaves_finish}
+use Rattle.cost.specs.Accounts.{Account, ends_behind, leaves_behind}
 use Rattle.cost.specs.Laws.{with_tally}
-use Rattle.cost.specs.declared.tally.Tally.{Tally}
 use Rattle.serial_run.specs.Standing.{flow, state_of}
 use Rattle.serial_run.specs.declared.store.Store.{Store}
 use Rattle.serial_run.specs.declared.thread.Thread.{Thread}
+use Rattle.cost.specs.Translation.{account}
 use Rattle.cost.proofs.Frames.{resume-push, standing_by_state}
-use Rattle.cost.proofs.MachineLemmas.{machine_of, sound_tallied, sound_with, told_before}
+use Rattle.cost.proofs.MachineLemmas.{machine_of, sound_counted, sound_with, told_before}
 use Rattle.cost.proofs.Owners.{after_owner}
 use Rattle.cost.proofs.Turns.{costs-push}
 use Rattle.cost.proofs.Waiting.{block_done}
@@ -31,7 +31,7 @@ pub returns-in-Rest-clause-does : goal.returns-in-Rest-clause-does
 returns-in-Rest-clause-does c =
     let m = c.args.self.now in let p = program m.plan.program.now in let fresh = m.plan.budget.steps in
     let b = c.in-Rest.block in
-    subst (λ (f : Frame). Does (turn_of f) m (machine_of m.plan m.tally m.thread b m.frames)) (sym c.in-Rest.is)
+    subst (λ (f : Frame). Does (turn_of f) m (machine_of m.plan m.account m.thread b m.frames)) (sym c.in-Rest.is)
     (record {
       plan = refl;
       sound = record {
@@ -40,8 +40,8 @@ returns-in-Rest-clause-does c =
         frames = c.requires.sound.frames;
       };
       comes =
-          resume-push p fresh m.frames.items (Rest b) (standing m.tally m.thread)
-          ∙ sym (block_done p fresh m.frames.items m.block (frame p fresh (Rest b) (standing m.tally m.thread)) c.requires.done);
+          resume-push p fresh m.frames.items (Rest b) (standing m.account m.thread)
+          ∙ sym (block_done p fresh m.frames.items m.block (frame p fresh (Rest b) (standing m.account m.thread)) c.requires.done);
     })
 
 pub returns-in-Rest-clause-ends : goal.returns-in-Rest-clause-ends
@@ -73,7 +73,7 @@ returns-in_ok-push-in-EndCall-clause-does c =
         frames = c.requires.sound.frames;
       };
       comes =
-          ap (λ (e : Environment). resume p fresh (stack m) (standing m.tally (record m.thread { environment = e }))) is;
+          ap (λ (e : Environment). resume p fresh (stack m) (standing m.account (record m.thread { environment = e }))) is;
     })
 
 pub returns-in_ok-tell_before-in-EndFinish-clause-does : goal.returns-in_ok-tell_before-in-EndFinish-clause-does
@@ -82,10 +82,10 @@ returns-in_ok-tell_before-in-EndFinish-clause-does c =
     let o = c.in-EndFinish.outer in
     let told = c.in_ok-tell_before-in-EndFinish.ensures in
     let old = record m.thread { flow = c.after_finish-self.result } in
-    let thread = c.tell_before.new.thread in let tally = c.leave_finish.new.self in
-    let new = record m { thread = thread; tally = tally } in
+    let thread = c.tell_before.new.thread in let kept = c.leave_finish.new.self in
+    let new = record m { thread = thread; account = kept } in
     let st = state_of m.thread in
-    let at : Flow → Tally → State Tally = λ f y. record (with_tally y st) {
+    let at : Flow → Account → State Account = λ f y. record (with_tally y st) {
       flow = f;
       lines = lines_in o.told ++ st.lines;
       faults = faults_in o.told ++ st.faults;
@@ -96,16 +96,16 @@ returns-in_ok-tell_before-in-EndFinish-clause-does c =
     (record {
       plan = refl;
       sound =
-          sound_tallied (machine_of m.plan m.tally thread m.block m.frames) tally
-          (sound_with m.plan m.tally m.thread thread m.block m.block m.frames (ap (λ (t : Thread Store). t.store) told.rest)
+          sound_counted (machine_of m.plan m.account thread m.block m.frames) kept
+          (sound_with m.plan m.account m.thread thread m.block m.block m.frames (ap (λ (t : Thread Store). t.store) told.rest)
           (ap (λ (t : Thread Store). t.environment) told.rest) (omega (arith, steps, spawned)) c.requires.sound);
       comes =
           ap (resume p fresh (stack m))
-          (standing_by_state (standing m.tally m.thread) (standing tally thread)
-          (end_finish o (standing m.tally m.thread).state)
-          (ap (with_tally tally) (told_before o.told old thread told)
+          (standing_by_state (standing m.account m.thread) (standing kept thread)
+          (end_finish o (standing m.account m.thread).state)
+          (ap (with_tally (account kept)) (told_before o.told old thread told)
           ∙ ap (at (flow c.after_finish-self.result)) c.leave_finish.ensures
-          ∙ ap (λ f. at f (leaves_finish o.ended m.tally)) (c.after_finish-self.ensures
+          ∙ ap (λ f. at f (leaves_behind o.ended o.ended_by_label.items (account m.account))) (c.after_finish-self.ensures
           ∙ ap (λ (xs : List Fault). after_finish (flow m.thread.flow) (map fault xs)) c.deref.ensures.value))
           (ap (λ (t : Thread Store). t.nest) told.rest));
     })
@@ -117,7 +117,7 @@ returns-in_ok-tell_before-in-EndAsync-clause-does c =
     let unboxed = c.into_inner-owner.ensures in
     let told = c.in_ok-tell_before-in-EndAsync.ensures in
     let old = record m.thread { flow = c.after_async-self.result } in
-    let thread = c.tell_before-in-EndAsync.new.thread in let tally = c.end_task.new.self in
+    let thread = c.tell_before-in-EndAsync.new.thread in let kept = c.end_task.new.self in
     let goes : Thread Store = record thread {
       path = q.path;
       environment = q.environment;
@@ -125,9 +125,9 @@ returns-in_ok-tell_before-in-EndAsync-clause-does c =
       nest = q.nest;
       spawned = q.spawned;
     } in
-    let new = record m { thread = goes; tally = tally } in
-    let s = standing m.tally m.thread in
-    let at : State (Unit {0}) → Flow → Tally → Standing = λ st f y. record {
+    let new = record m { thread = goes; account = kept } in
+    let s = standing m.account m.thread in
+    let at : State (Unit {0}) → Flow → Account → Standing = λ st f y. record {
       state = record {
         flow = f;
         environment = environment q.environment;
@@ -161,9 +161,9 @@ returns-in_ok-tell_before-in-EndAsync-clause-does c =
         frames = c.requires.sound.frames;
       };
       comes =
-          ap (λ (s : State (Unit {0})). resume p fresh (stack m) (at s s.flow tally)) (told_before q.told old thread told)
-          ∙ ap (λ (y : Tally). resume p fresh (stack m) (at st (flow c.after_async-self.result) y)) c.end_task.ensures
-          ∙ ap (λ (f : Flow). resume p fresh (stack m) (at st f (ends_task q.here m.tally))) c.after_async-self.ensures
+          ap (λ (s : State (Unit {0})). resume p fresh (stack m) (at s s.flow (account kept))) (told_before q.told old thread told)
+          ∙ ap (λ (y : Account). resume p fresh (stack m) (at st (flow c.after_async-self.result) y)) c.end_task.ensures
+          ∙ ap (λ (f : Flow). resume p fresh (stack m) (at st f (ends_behind q.here q.here_by_label.items (account m.account)))) c.after_async-self.ensures
           ∙ ap (λ (o : Owner). resume p fresh (stack m) (after_owner o s.state)) unboxed;
     })
 

@@ -10,7 +10,7 @@ use Rattle.cost.proofs.machine.Machine.unwind.Goals as goal
 pub returns-in_ok-leave-in-Some : goal.returns-in_ok-leave-in-Some
 returns-in_ok-leave-in-Some c =
     let m = c.args.self.now in let p = program m.plan.program.now in let fresh = m.plan.budget.steps in
-    let f = c.in-Some.frame in let below = c.pop.new.self.items in let s = standing m.tally m.thread in
+    let f = c.in-Some.frame in let below = c.pop.new.self.items in let s = standing m.account m.thread in
     let does = c.in_ok-leave-in-Some.ensures.does in
     let popped = c.in-Some.ensures.items in (
       record {

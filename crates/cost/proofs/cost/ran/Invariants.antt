@@ -1,7 +1,7 @@
 use Rattle.std.proofs.Common.{◌≡◌}
 use Rattle.cost.specs.Frames.{turns_left}
 use Rattle.cost.specs.Machines.{IsSound, comes_to, nothing, stack}
-use Rattle.cost.proofs.cost.measure.Given as goal
+use Rattle.cost.proofs.cost.ran.Given as goal
 
 -- the machine is sound, and comes to what it came to at first
 abbrev pub invariant-turns : goal.invariant-turns

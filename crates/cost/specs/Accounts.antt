@@ -1,0 +1,141 @@
+-- What a run on one thread costs at each label: a tally, and beside it, by label, the steps that were taken and those of
+-- its chains. Where two chains are equally long, a task's own is told and none of a task that it waited for; and of two
+-- tasks that ended in a finish, that of the one that ended first.
+use Rattle.std.specs.Prelude.{ℕ, zero, suc, ◌+◌, List, [], length, replicate, ℤ, if◌then◌else◌}
+use Rattle.std.specs.Prelude.{nat_lt, slice_index, slice_set}
+use Rattle.types.specs.Code.{Code, Do, If, While, Split, Call, Async, Finish, Codes, Program}
+use Rattle.types.specs.Contents.{held_by}
+use Rattle.types.specs.Meaning.{hushed, joined, child, after_async, after_finish}
+use Rattle.types.specs.Outcome.{Budget, start}
+use Rattle.types.specs.Run.{State, Rules, Work, Block, stopped, run}
+use Rattle.cost.specs.declared.tally.Tally.{Tally}
+use Rattle.cost.specs.Costs.{begins_task, ends_task, enters_finish, leaves_finish, nothing_done}
+use Rattle.cost.specs.Costs.{one_more}
+
+-- a tally; and by label how many steps all tasks took, how many of these lie on the longest chain that leads to where the
+-- task is, and how many on the longest to the end of a task that ended in its innermost finish
+pub record Account : Type 0 where
+  pub tally : Tally
+  pub work : List ℕ
+  pub here : List ℕ
+  pub ended : List ℕ
+
+-- nothing was done, and there are so many rows
+abbrev pub nothing_noted : (rows : ℕ) → Account
+nothing_noted n = record {
+  tally = nothing_done;
+  work = replicate n 0;
+  here = replicate n 0;
+  ended = [];
+}
+
+-- which of so many rows is that of a label: that of 0, which no statement has, where there is none
+abbrev pub row_of : (label rows : ℕ) → ℕ
+row_of l n = if nat_lt l n then l else 0
+
+-- a step more at a label
+abbrev pub noted : (label : ℕ) → List ℕ → List ℕ
+noted l ns =
+    let k = row_of l (length ns) in
+    slice_set ns k (slice_index ns k + 1)
+
+-- the task at work takes a step
+abbrev pub steps_at : (label : ℕ) → Account → Account
+steps_at l a = record a {
+  tally = one_more a.tally;
+  work = noted l a.work;
+  here = noted l a.here;
+}
+
+-- of two chains, which are so long, the longer; the first, where they are equally long
+abbrev pub longer : (first second : ℕ) → (of_first of_second : List ℕ) → List ℕ
+longer m n xs ys = if nat_lt m n then ys else xs
+
+-- the longest chain that leads behind all that was done in the innermost finish
+abbrev pub span_by_label : Account → List ℕ
+span_by_label a = longer a.tally.here a.tally.ended a.here a.ended
+
+-- an async takes its step, and behind that its task begins, which stands in so many asyncs
+abbrev pub begins_at : (label depth : ℕ) → Account → Account
+begins_at l depth a = record (steps_at l a) { tally = begins_task depth a.tally }
+
+-- its task has ended; its parent goes on from where that was, in the same finish
+abbrev pub ends_behind : (here : ℕ) → (by_label : List ℕ) → Account → Account
+ends_behind here ns a = record a {
+  tally = ends_task here a.tally;
+  here = ns;
+  ended = longer a.tally.ended a.tally.here a.ended a.here;
+}
+
+-- a finish takes its step, and in it no task has ended
+abbrev pub enters_at : (label : ℕ) → Account → Account
+enters_at l a = record (steps_at l a) { tally = enters_finish a.tally; ended = [] }
+
+-- what is behind a finish comes behind its statements and behind all tasks that ended in it; in the finish around it
+-- tasks had ended before
+abbrev pub leaves_behind : (ended : ℕ) → (by_label : List ℕ) → Account → Account
+leaves_behind ended ns a = record a {
+  tally = leaves_finish ended a.tally;
+  here = span_by_label a;
+  ended = ns;
+}
+
+-- the step of a statement; an async and a finish count theirs where they begin
+abbrev pub counted_at : (label : ℕ) → Code → Account → Account
+counted_at l (Async b) a = a
+counted_at l (Finish b) a = a
+counted_at l (Do s) a = steps_at l a
+counted_at l (If g b c) a = steps_at l a
+counted_at l (While g b) a = steps_at l a
+counted_at l (Split s e x y b) a = steps_at l a
+counted_at l (Call f es ss) a = steps_at l a
+
+-- a parent goes on as it was, but with what its child wrote, told and cost
+abbrev pub after_child : (before out : State Account) → State Account
+after_child before out =
+    joined before (record before {
+      flow = after_async out.flow;
+      store = out.store;
+      lines = out.lines;
+      faults = out.faults;
+      spawned = before.spawned + 1;
+      extra = ends_behind before.extra.tally.here before.extra.here out.extra;
+    })
+
+-- the rules of one thread, which keep an account, where `begin` runs an async's body
+abbrev pub accounted_by : ((label : ℕ) → Codes → State Account → State Account) → Rules Account
+accounted_by begin = record {
+  stepped = steps_at;
+  begin = begin;
+  enter = λ l st. hushed (record st { extra = enters_at l st.extra });
+  leave = λ before out. joined before (record out {
+    flow = after_finish out.flow out.faults;
+    extra = leaves_behind before.extra.tally.ended before.extra.ended out.extra;
+  });
+}
+
+-- a task that begins its next child, the step of whose async was taken
+abbrev pub beginning_at : (label : ℕ) → State Account → State Account
+beginning_at l st = record st { extra = begins_at l (length st.path + 1) st.extra }
+
+module _ (p : Program) where
+  -- an async where so many may stand inside one another; a child begins with `fresh` steps
+  abbrev pub begin_accounted : (fresh nest : ℕ) → (label : ℕ) → Codes → State Account → State Account
+  begin_accounted fresh zero l b st = stopped st
+  begin_accounted fresh (suc n) l b st =
+      after_child (beginning_at l st)
+      (run p (accounted_by (begin_accounted fresh n)) (Block b) (child fresh (beginning_at l st)))
+
+  -- the rules of one thread, which keep an account
+  abbrev pub accounted_rules : (fresh nest : ℕ) → Rules Account
+  accounted_rules fresh nest = accounted_by (begin_accounted fresh nest)
+
+  -- the one-thread meaning, which keeps an account
+  abbrev pub accounted : (fresh nest : ℕ) → Work → State Account → State Account
+  accounted fresh nest = run p (accounted_rules fresh nest)
+
+-- the account of a whole run with so many rows, up to where it ended or was stopped
+abbrev pub account_of : Program → (rows : ℕ) → (input : List (List ℤ)) → Budget → Account
+account_of p n input b =
+    let st = start (nothing_noted n) p b.steps (held_by input) in
+    (accounted p b.steps b.nest (Block p.main.body) st).extra

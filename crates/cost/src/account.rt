@@ -1,0 +1,152 @@
+//! What was done so far in a run, and how much of it at each label.
+
+ghost use Rattle.std.specs.Prelude.{◌≡◌, IfOk, OnOk};
+ghost use Rattle.types.specs.Translation.{code as plain_code};
+ghost use Rattle.cost.specs.Accounts.{begins_at, counted_at, ends_behind, enters_at};
+ghost use Rattle.cost.specs.Accounts.{leaves_behind, longer as rows_of_longer, noted};
+ghost use Rattle.cost.specs.Accounts.{nothing_noted, row_of as row_in, span_by_label, steps_at};
+ghost use Rattle.cost.specs.Translation.{account};
+
+use crate::tally::Tally;
+use std::alloc::{AllocError, Global};
+use types::code::{Label, StmtKind};
+
+/// What was done so far. A table by label has a row for each label and for 0; where it has none, nothing is kept by label.
+#[derive(Drop)]
+pub struct Account {
+    pub tally: Tally,
+    /// The steps of all tasks, by label.
+    pub work: Vec<u64>,
+    /// Those of the longest chain that leads to where the task is.
+    pub here: Vec<u64>,
+    /// Those of the longest to the end of a task that ended in its innermost finish; no row where none has.
+    pub ended: Vec<u64>,
+}
+
+impl Account {
+    /// Nothing was done.
+    pub fn start(alloc: Global, rows: usize) -> Result<Account, AllocError>
+        ensures { IfOk result (λ a. account a ≡ nothing_noted rows) }
+    {
+        Ok(Account {
+            tally: Tally::START,
+            work: vec![in alloc; 0u64; rows]?,
+            here: vec![in alloc; 0u64; rows]?,
+            ended: Vec::new(alloc),
+        })
+    }
+
+    /// The step of a statement was taken; an async and a finish count theirs where they begin.
+    pub fn count(&mut self, label: Label, kind: &StmtKind) -> Result<(), AllocError>
+        ensures { OnOk result
+            (account self.new ≡ counted_at label (plain_code kind.now) (account self.old)) }
+    {
+        match kind {
+            StmtKind::Async { .. } | StmtKind::Finish { .. } => Ok(()),
+            StmtKind::Do(_)
+            | StmtKind::If { .. }
+            | StmtKind::While { .. }
+            | StmtKind::Split { .. }
+            | StmtKind::Call { .. } => self.step(label),
+        }
+    }
+
+    /// The task took a step.
+    pub fn step(&mut self, label: Label) -> Result<(), AllocError>
+        ensures { OnOk result (account self.new ≡ steps_at label (account self.old)) }
+    {
+        self.tally.one_more()?;
+        note(&mut self.work, label)?;
+        note(&mut self.here, label)?;
+        Ok(())
+    }
+
+    /// An async took its step, and its task begins, which stands in so many asyncs.
+    pub fn begin_task(&mut self, label: Label, depth: usize) -> Result<(), AllocError>
+        ensures { OnOk result (account self.new ≡ begins_at label depth (account self.old)) }
+    {
+        self.tally.begin_task(depth)?;
+        note(&mut self.work, label)?;
+        note(&mut self.here, label)?;
+        Ok(())
+    }
+
+    /// The chain that leads to where the task is, by label.
+    pub fn chain(&self, alloc: Global) -> Result<Vec<u64>, AllocError>
+        ensures { IfOk result (λ rows. rows.items ≡ self.now.here.items) }
+    {
+        Vec::from_slice(alloc, &self.here)
+    }
+
+    /// The task of an async ended, behind which its parent stands at so much, with this chain.
+    pub fn end_task(&mut self, here: usize, by_label: Vec<u64>)
+        ensures { account self.new ≡ ends_behind here by_label.items (account self.old) }
+    {
+        let is_longer = self.tally.ended < self.tally.here;
+        let chain = std::mem::replace(&mut self.here, by_label);
+        self.tally.end_task(here);
+        if is_longer {
+            self.ended = chain;
+        }
+    }
+
+    /// A finish took its step, and begins.
+    pub fn enter_finish(&mut self, label: Label) -> Result<(), AllocError>
+        ensures { OnOk result (account self.new ≡ enters_at label (account self.old)) }
+    {
+        self.tally.enter_finish()?;
+        note(&mut self.work, label)?;
+        note(&mut self.here, label)?;
+        self.ended.clear();
+        Ok(())
+    }
+
+    /// A finish is at its end; in the one around it tasks had ended at so much, by this chain.
+    pub fn leave_finish(&mut self, ended: usize, by_label: Vec<u64>)
+        ensures { account self.new ≡ leaves_behind ended by_label.items (account self.old) }
+    {
+        let is_longer = self.tally.here < self.tally.ended;
+        let chain = std::mem::replace(&mut self.ended, by_label);
+        self.tally.leave_finish(ended);
+        if is_longer {
+            self.here = chain;
+        }
+    }
+
+    /// The steps at each label, and those of the longest chain behind all that was done.
+    pub fn tables(self) -> (Vec<u64>, Vec<u64>)
+        ensures work { result.0.items ≡ (account self).work }
+        ensures span { result.1.items ≡ span_by_label (account self) }
+    {
+        let span = longer(self.tally.here, self.tally.ended, self.here, self.ended);
+        (self.work, span)
+    }
+}
+
+/// A step more at a label.
+#[tactic(auto, using(crate::proofs::Rows::noted_none))]
+fn note(table: &mut Vec<u64>, label: Label) -> Result<(), AllocError>
+    ensures { OnOk result (table.new.items ≡ noted label table.old.items) }
+{
+    let row = row_of(label, table.len());
+    if row < table.len() {
+        let steps = table[row].checked_add(1).ok_or(AllocError)?;
+        table[row] = steps;
+    }
+    Ok(())
+}
+
+/// Which of so many rows is that of a label: that of 0, where it has none.
+fn row_of(label: Label, rows: usize) -> usize
+    ensures { result ≡ row_in label rows }
+{
+    let row = label as usize;
+    if row < rows { row } else { 0 }
+}
+
+/// The longer of two chains, by label; of two that are equally long, the first.
+fn longer(first: usize, second: usize, of_first: Vec<u64>, of_second: Vec<u64>) -> Vec<u64>
+    ensures { result.items ≡ rows_of_longer first second of_first.items of_second.items }
+{
+    if first < second { of_second } else { of_first }
+}
