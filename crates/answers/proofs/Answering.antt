@@ -53,6 +53,7 @@ use Rattle.command_line.specs.declared.request.Command.{Command}
 use Rattle.command_line.specs.declared.request.Command.TheVariants.{Run, Serial, Check, Listing, Pairs, Explore}
 use Rattle.command_line.specs.declared.request.Command.TheVariants.{Labels, Places, Format, CheckFormat, Cost}
 use Rattle.command_line.specs.declared.request.Command.TheVariants.{View, Summary, Draw, Chrome}
+use Rattle.command_line.specs.declared.request.Command.TheVariants.{CostByLabel, CostByProcedure}
 
 -- ---- failures
 
@@ -197,6 +198,8 @@ race_told Places text procedure first second looks race = absurd looks
 race_told Format text procedure first second looks race = absurd looks
 race_told CheckFormat text procedure first second looks race = absurd looks
 race_told Cost text procedure first second looks race = absurd looks
+race_told CostByLabel text procedure first second looks race = absurd looks
+race_told CostByProcedure text procedure first second looks race = absurd looks
 race_told View text procedure first second looks race = race
 race_told Summary text procedure first second looks race = race
 race_told Draw text procedure first second looks race = race
@@ -214,6 +217,8 @@ rules_tested Places looks = absurd looks
 rules_tested Format looks = absurd looks
 rules_tested CheckFormat looks = absurd looks
 rules_tested Cost looks = absurd looks
+rules_tested CostByLabel looks = absurd looks
+rules_tested CostByProcedure looks = absurd looks
 rules_tested View looks = tt
 rules_tested Summary looks = tt
 rules_tested Draw looks = tt

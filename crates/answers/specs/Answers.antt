@@ -1,5 +1,5 @@
 -- What a command answers to the text of a program, and why it fails.
-use Rattle.std.specs.Prelude.{ℕ, ℤ, ◌≡◌, ◌≢◌, ◌<◌, ◌⊎◌, List, [], Bool, false, codes, IsTrue}
+use Rattle.std.specs.Prelude.{ℕ, ℤ, ◌≡◌, ◌≢◌, ◌<◌, ◌⊎◌, ◌+◌, ◌++◌, List, [], Bool, false, codes, IsTrue}
 use Rattle.std.specs.Prelude.{Option, Some, None, is_some, Result, MatchResult}
 use Rattle.std.specs.Io.KnownBytes.{Appends, Keeps}
 use Rattle.std.specs.List.{flat_map}
@@ -17,15 +17,16 @@ use Rattle.places.specs.Lines.{placed_lines}
 use Rattle.places.specs.Starts.{starts}
 use Rattle.syntax_tree.specs.Tree as tree
 use Rattle.types.specs.Code.{Program}
-use Rattle.types.specs.Outcome.{Outcome, outcome}
+use Rattle.types.specs.Outcome.{Budget, Outcome, outcome}
 use Rattle.types.specs.Resolution.{resolution}
 use Rattle.types.specs.Rules.{BreaksNoRule, errors_of}
 use Rattle.types.specs.Told.{Told}
 use Rattle.types.specs.TreeRuns.{Explored, Open, NoSuchChoice}
 use Rattle.types.specs.Typed.{code_of}
 use Rattle.types.specs.declared.error.TypeError.{TypeError}
+use Rattle.cost.specs.Accounts.{Account, account_of, span_by_label}
 use Rattle.cost.specs.Costs.{cost_of, tally_of}
-use Rattle.cost.specs.Text.{cost_text}
+use Rattle.cost.specs.Text.{cost_text, labels_text, procedures_text}
 use Rattle.cost.specs.declared.cost.Cost.{Cost as Numbers}
 use Rattle.parallel_relation.specs.Pairs.{AreListed}
 use Rattle.parallel_relation.specs.Together.{LabelsMeet}
@@ -38,7 +39,7 @@ use Rattle.intake.specs.Choosing.{TellsNoChoices}
 use Rattle.texts.specs.ExploredText.{explored_text, explored_status}
 use Rattle.intake.specs.Failures.{told_procedure, IsToldAs}
 use Rattle.intake.specs.Held.{Held, BeginsWith, TellsNoInput}
-use Rattle.texts.specs.Labels.{accepted_text, pair_text}
+use Rattle.texts.specs.Labels.{accepted_text, labels_in, pair_text}
 use Rattle.texts.specs.OutcomeText.{outcome_text, status_of}
 use Rattle.command_line.specs.Requests.{Settings}
 use Rattle.intake.specs.declared.failure.Failure.{Failure}
@@ -52,6 +53,7 @@ use Rattle.command_line.specs.declared.request.Command.{Command}
 use Rattle.command_line.specs.declared.request.Command.TheVariants.{Run, Serial, Check, Listing, Pairs, Explore}
 use Rattle.command_line.specs.declared.request.Command.TheVariants.{Labels, Places, Format, CheckFormat}
 use Rattle.command_line.specs.declared.request.Command.TheVariants.{View, Summary, Draw, Chrome, Cost}
+use Rattle.command_line.specs.declared.request.Command.TheVariants.{CostByLabel, CostByProcedure}
 
 -- the text spells a program that breaks no rule, of which this is the code
 pub record IsCodeOf (text : List ℕ) (code : Program) : Type 0 where
@@ -73,6 +75,8 @@ IsRunBy Places code = ⊥
 IsRunBy Format code = ⊥
 IsRunBy CheckFormat code = ⊥
 IsRunBy Cost code = Unit {0}
+IsRunBy CostByLabel code = Unit {0}
+IsRunBy CostByProcedure code = Unit {0}
 IsRunBy View code = IsAccepted code
 IsRunBy Summary code = IsAccepted code
 IsRunBy Draw code = IsAccepted code
@@ -106,6 +110,32 @@ pub record AnswersCost (s : Settings) (held : Held) (text told : List ℕ) (stat
   pub input : List (List ℤ)
   pub begins : BeginsWith s.input held code.arrays input
   pub tells : TellsCost code (outcome code input s.budget) (cost_of (tally_of code input s.budget)) told status
+
+-- the account of a run, with a row for each label of its program, and for 0
+abbrev pub account_in : Program → (input : List (List ℤ)) → Budget → Account
+account_in code input b = account_of code (labels_in code + 1) input b
+
+-- what share of it each label has, and each procedure
+abbrev pub label_shares : Program → Account → List ℕ
+label_shares code a = labels_text a.work (span_by_label a)
+
+abbrev pub procedure_shares : Program → Account → List ℕ
+procedure_shares code a = procedures_text a.work (span_by_label a) code
+
+-- what is told of a run that ended without faults is what it cost, and behind it shares; of any other its outcome
+pub data TellsShares (code : Program) (o : Outcome) (c : Numbers) (shares told : List ℕ) (status : ℕ) : Type 0 where
+  shared : status_of o ≡ 0 → told ≡ cost_text c ++ shares → status ≡ 0 → TellsShares code o c shares told status
+  not_shared : status_of o ≢ 0 → Shows false o code told status → TellsShares code o c shares told status
+
+-- `cost --by-line` and `cost --by-procedure`: the same, with shares
+pub record AnswersShares (shares_of : Program → Account → List ℕ) (s : Settings) (held : Held) (text told : List ℕ)
+    (status : ℕ) : Type 0 where
+  pub code : Program
+  pub is_code : IsCodeOf text code
+  pub input : List (List ℤ)
+  pub begins : BeginsWith s.input held code.arrays input
+  pub tells : TellsShares code (outcome code input s.budget) (cost_of (tally_of code input s.budget))
+      (shares_of code (account_in code input s.budget)) told status
 
 -- `run`: the text's program has no race; the same outcome
 pub record AnswersRun (s : Settings) (held : Held) (text told : List ℕ) (status : ℕ) : Type 0 where
@@ -211,6 +241,8 @@ Answers Places s held text told status = AnswersPlaces text told status
 Answers Format s held text told status = AnswersFormat text told status
 Answers CheckFormat s held text told status = AnswersCheckFormat text told status
 Answers Cost s held text told status = AnswersCost s held text told status
+Answers CostByLabel s held text told status = AnswersShares label_shares s held text told status
+Answers CostByProcedure s held text told status = AnswersShares procedure_shares s held text told status
 Answers View s held text told status = ⊥
 Answers Summary s held text told status = ⊥
 Answers Draw s held text told status = ⊥
@@ -237,6 +269,8 @@ TestsRules Places = ⊥
 TestsRules Format = ⊥
 TestsRules CheckFormat = ⊥
 TestsRules Cost = Unit {0}
+TestsRules CostByLabel = Unit {0}
+TestsRules CostByProcedure = Unit {0}
 TestsRules View = Unit {0}
 TestsRules Summary = Unit {0}
 TestsRules Draw = Unit {0}
@@ -273,6 +307,8 @@ TellsRaceTo Places text procedure first second = ⊥
 TellsRaceTo Format text procedure first second = ⊥
 TellsRaceTo CheckFormat text procedure first second = ⊥
 TellsRaceTo Cost text procedure first second = ⊥
+TellsRaceTo CostByLabel text procedure first second = ⊥
+TellsRaceTo CostByProcedure text procedure first second = ⊥
 TellsRaceTo View text procedure first second = HasRace text procedure first second
 TellsRaceTo Summary text procedure first second = HasRace text procedure first second
 TellsRaceTo Draw text procedure first second = HasRace text procedure first second
@@ -291,6 +327,8 @@ LooksForRaces Places = ⊥
 LooksForRaces Format = ⊥
 LooksForRaces CheckFormat = ⊥
 LooksForRaces Cost = ⊥
+LooksForRaces CostByLabel = ⊥
+LooksForRaces CostByProcedure = ⊥
 LooksForRaces View = Unit {0}
 LooksForRaces Summary = Unit {0}
 LooksForRaces Draw = Unit {0}

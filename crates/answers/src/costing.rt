@@ -1,21 +1,33 @@
 //! `cost`: what a run on one thread costs.
 
-ghost use Rattle.std.specs.Prelude.{◌≡◌, IfErr, IfOk};
+ghost use Rattle.std.specs.Prelude.{◌≡◌, ◌+◌, ◌++◌, IfErr, IfOk};
 ghost use Rattle.std.specs.String.{string_bytes};
+ghost use Rattle.types.specs.Contents.{FitsArrays};
+ghost use Rattle.types.specs.Outcome.{outcome as one_thread_outcome};
+ghost use Rattle.types.specs.Translation.{budget as budget_of, input as lists_in};
+ghost use Rattle.types.specs.Translation.{outcome as outcome_of};
+ghost use Rattle.types.specs.Typed.{code_of};
 ghost use Rattle.command_line.specs.Requests.{settings as settings_of};
-ghost use Rattle.cost.specs.Text.{cost_text as text_of_cost};
-ghost use Rattle.answers.specs.Answers.{Does};
+ghost use Rattle.cost.specs.Accounts.{span_by_label};
+ghost use Rattle.cost.specs.Costs.{cost_of, tally_of};
+ghost use Rattle.cost.specs.Text.{cost_text as text_of_cost, labels_text as text_of_labels};
+ghost use Rattle.cost.specs.Text.{procedures_text as text_of_procedures};
+ghost use Rattle.answers.specs.Answers.{Does, account_in};
 
 use crate::programs::typed_of;
 use crate::showing::{answer, show, status};
 use command_line::request::{Command, Settings};
-use cost::cost::{Cost, measure};
-use cost::text::cost_text;
+use cost::cost::{Cost, CostByLabel, measure, measure_by_label};
+use cost::text::{cost_text, labels_text, procedures_text};
 use intake::failure::Failure;
 use intake::files::FileSource;
 use intake::input_file::input_of;
 use std::alloc::Global;
 use std::io::Write;
+use texts::labels::labels;
+use types::budget::Budget;
+use types::input::Input;
+use types::typed::Typed;
 
 /// Runs the program on one thread, and writes what that costs: work, span and other numbers. Of a run that has faults or is
 /// stopped its outcome is written in their place; gives the exit status.
@@ -50,6 +62,121 @@ fn text_of(alloc: Global, numbers: &Cost) -> Result<String, Failure>
 {
     match cost_text(alloc, numbers) {
         Ok(text) => Ok(text),
+        Err(_) => Err(Failure::NoMemory),
+    }
+}
+
+/// The same, and behind the numbers what share of them each label has.
+pub fn tell_cost_by_label<F: FileSource, O: Write>(
+    alloc: Global,
+    settings: Settings<'_>,
+    text: &str,
+    files: &mut F,
+    out: &mut O,
+) -> Result<u8, Failure>
+    ensures done { Does Command.CostByLabel (settings_of settings.entry) (F.held files.old) text.now
+        (O.contents out.old) (O.contents out.new) result }
+    ensures keeps { F.held files.new ≡ F.held files.old }
+{
+    let typed = typed_of(alloc, text)?;
+    let input = input_of(alloc, files, &typed, settings.input)?;
+    let cost = measured(alloc, &typed, &input, settings.budget)?;
+    if status(&cost.costed.outcome) == 0 {
+        let told = text_by_label(alloc, &cost)?;
+        answer(out, told.as_str())
+    } else {
+        show(out, &typed.code().arrays, &cost.costed.outcome, false)
+    }
+}
+
+/// The same, and behind the numbers what share of them each procedure has.
+pub fn tell_cost_by_procedure<F: FileSource, O: Write>(
+    alloc: Global,
+    settings: Settings<'_>,
+    text: &str,
+    files: &mut F,
+    out: &mut O,
+) -> Result<u8, Failure>
+    ensures done { Does Command.CostByProcedure (settings_of settings.entry) (F.held files.old)
+        text.now (O.contents out.old) (O.contents out.new) result }
+    ensures keeps { F.held files.new ≡ F.held files.old }
+{
+    let typed = typed_of(alloc, text)?;
+    let input = input_of(alloc, files, &typed, settings.input)?;
+    let cost = measured(alloc, &typed, &input, settings.budget)?;
+    if status(&cost.costed.outcome) == 0 {
+        let told = text_by_procedure(alloc, &typed, &cost)?;
+        answer(out, told.as_str())
+    } else {
+        show(out, &typed.code().arrays, &cost.costed.outcome, false)
+    }
+}
+
+/// What a program costs on an input and under a budget, with a row for each of its labels.
+fn measured(
+    alloc: Global,
+    typed: &Typed,
+    input: &Input,
+    budget: Budget,
+) -> Result<CostByLabel, Failure>
+    requires { FitsArrays (code_of typed.now).arrays (lists_in input.now) }
+    ensures outcome { IfOk result (λ c. outcome_of c.costed.outcome
+        ≡ one_thread_outcome (code_of typed.now) (lists_in input.now) (budget_of budget)) }
+    ensures cost { IfOk result (λ c. c.costed.cost
+        ≡ cost_of (tally_of (code_of typed.now) (lists_in input.now) (budget_of budget))) }
+    ensures work { IfOk result (λ c. c.work.items
+        ≡ (account_in (code_of typed.now) (lists_in input.now) (budget_of budget)).work) }
+    ensures span { IfOk result (λ c. c.span.items
+        ≡ span_by_label (account_in (code_of typed.now) (lists_in input.now) (budget_of budget))) }
+    ensures why { IfErr result (λ failure. failure ≡ Failure.NoMemory) }
+{
+    let Some(labels) = labels(typed.code()) else {
+        return Err(Failure::NoMemory);
+    };
+    let Some(rows) = labels.checked_add(1) else {
+        return Err(Failure::NoMemory);
+    };
+    match measure_by_label(alloc, typed, input, budget, rows as usize) {
+        Ok(cost) => Ok(cost),
+        Err(_) => Err(Failure::NoMemory),
+    }
+}
+
+/// The lines of a cost, and behind them those of labels.
+fn text_by_label(alloc: Global, cost: &CostByLabel) -> Result<String, Failure>
+    ensures text { IfOk result (λ text. string_bytes text ≡ text_of_cost cost.now.costed.cost
+        ++ text_of_labels cost.now.work.items cost.now.span.items) }
+    ensures why { IfErr result (λ failure. failure ≡ Failure.NoMemory) }
+{
+    let numbers = text_of(alloc, &cost.costed.cost)?;
+    match labels_text(alloc, &cost.work, &cost.span) {
+        Ok(shares) => Ok(joined(numbers, &shares)?),
+        Err(_) => Err(Failure::NoMemory),
+    }
+}
+
+/// The lines of a cost, and behind them those of procedures.
+fn text_by_procedure(alloc: Global, typed: &Typed, cost: &CostByLabel) -> Result<String, Failure>
+    ensures text { IfOk result (λ text. string_bytes text ≡ text_of_cost cost.now.costed.cost
+        ++ text_of_procedures cost.now.work.items cost.now.span.items (code_of typed.now)) }
+    ensures why { IfErr result (λ failure. failure ≡ Failure.NoMemory) }
+{
+    let numbers = text_of(alloc, &cost.costed.cost)?;
+    match procedures_text(alloc, typed.code(), &cost.work, &cost.span) {
+        Ok(shares) => Ok(joined(numbers, &shares)?),
+        Err(_) => Err(Failure::NoMemory),
+    }
+}
+
+/// A text and another behind it.
+fn joined(first: String, second: &String) -> Result<String, Failure>
+    ensures text { IfOk result
+        (λ text. string_bytes text ≡ string_bytes first ++ string_bytes second.now) }
+    ensures why { IfErr result (λ failure. failure ≡ Failure.NoMemory) }
+{
+    let mut text = first;
+    match text.push_str(second.as_str()) {
+        Ok(()) => Ok(text),
         Err(_) => Err(Failure::NoMemory),
     }
 }

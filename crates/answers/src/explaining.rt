@@ -145,7 +145,9 @@ pub fn run_explanation<F: FileSource>(
 fn budget_of(command: Command, settings: Settings<'_>, status: u8) -> Option<Budget> {
     match command {
         Command::Run => Some(settings.budget),
-        Command::Serial | Command::Cost => Some(settings.budget),
+        Command::Serial | Command::Cost | Command::CostByLabel | Command::CostByProcedure => {
+            Some(settings.budget)
+        }
         Command::Explore if status == 2 => Budget::new(u64::from(MOST_STEPS), u64::from(MOST_NEST)),
         _ => None,
     }

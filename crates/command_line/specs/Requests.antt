@@ -9,6 +9,7 @@ use Rattle.command_line.specs.declared.request.Command.{Command}
 use Rattle.command_line.specs.declared.request.Command.TheVariants.{Run, Serial, Check, Listing, Pairs, Explore}
 use Rattle.command_line.specs.declared.request.Command.TheVariants.{Labels, Places, Format, CheckFormat}
 use Rattle.command_line.specs.declared.request.Command.TheVariants.{View, Summary, Draw, Chrome, Cost}
+use Rattle.command_line.specs.declared.request.Command.TheVariants.{CostByLabel, CostByProcedure}
 use Rattle.command_line.specs.declared.request.Action.{Action}
 use Rattle.command_line.specs.declared.request.Action.TheVariants.{Answer, Rewrite}
 use Rattle.command_line.specs.declared.manner.Manner.{Manner}
@@ -258,10 +259,13 @@ choosing_words_of t =
     (valued (codes "--choices") t.choices (valued (codes "--choices-from") t.choices_from
     (valued (codes "--random") t.random (flagged (codes "--arrays") t.arrays []))))
 
--- those of a run that is measured, in this order: `--input FILE --steps N --nest N`
+-- those of a run that is measured, in this order: `--input FILE --steps N --nest N`, and others behind them
+abbrev pub measured_words_behind : Texts → (behind : List (List ℕ)) → List (List ℕ)
+measured_words_behind t behind =
+    valued (codes "--input") t.input (valued (codes "--steps") t.steps (valued (codes "--nest") t.nest behind))
+
 abbrev pub measured_words_of : Texts → List (List ℕ)
-measured_words_of t =
-    valued (codes "--input") t.input (valued (codes "--steps") t.steps (valued (codes "--nest") t.nest []))
+measured_words_of t = measured_words_behind t []
 
 -- a run has no budget
 pub record HasNoBudget (o : Options) : Type 0 where
@@ -372,6 +376,22 @@ abbrev pub viewing_options : Viewing → Options
 viewing_options v =
     record no_options { input = v.input; trace = Some v.trace; picture = picture_of v.shown }
 
+-- ---- the parts of a run that is measured
+
+-- what share is told behind the cost of all: that of each label, or of each procedure
+pub data Parts : Type 0 where
+  ByLabel : Parts
+  ByProcedure : Parts
+
+-- the word that asks for it
+abbrev pub parts_word : Parts → List ℕ
+parts_word ByLabel = codes "--by-line"
+parts_word ByProcedure = codes "--by-procedure"
+
+abbrev pub command_by : Parts → Command
+command_by ByLabel = CostByLabel
+command_by ByProcedure = CostByProcedure
+
 -- ---- what is asked
 
 -- something is done with a file, by options
@@ -425,6 +445,9 @@ pub data AsksPlainly (words : List (List ℕ)) (a : Asked) : Type 0 where
   to_cost : (file : List ℕ) (o : Options) → IsTrue (is_file_name file) → AreForMeasuring o
       → words ≡ codes "cost" ∷ file ∷ measured_words_of (texts_by o) → a ≡ optioned Cost file o
       → AsksPlainly words a
+  to_cost_by : (file : List ℕ) (o : Options) (parts : Parts) → IsTrue (is_file_name file) → AreForMeasuring o
+      → words ≡ codes "cost" ∷ file ∷ measured_words_behind (texts_by o) (parts_word parts ∷ [])
+      → a ≡ optioned (command_by parts) file o → AsksPlainly words a
   to_explore : (file : List ℕ) (o : Options) → IsTrue (is_file_name file) → AreForExplore o
       → words ≡ codes "explore" ∷ file ∷ choosing_words_of (texts_by o) → a ≡ optioned Explore file o
       → AsksPlainly words a

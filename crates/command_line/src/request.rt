@@ -29,6 +29,10 @@ pub enum Command {
     CheckFormat,
     /// `cost`: tell work, span and parallelism of its run.
     Cost,
+    /// `cost --by-line`: tell also what share of it each label has.
+    CostByLabel,
+    /// `cost --by-procedure`: tell also what share of it each procedure has.
+    CostByProcedure,
     /// `view`: write the events of a trace as a table.
     View,
     /// `view --summary`: write the numbers of a trace.

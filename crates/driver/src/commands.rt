@@ -6,7 +6,7 @@ ghost use Rattle.driver.specs.Acts.{Performs};
 ghost use Rattle.driver.specs.Traced.{IsTraceOfText, WritesTrace};
 
 use crate::tracing::outcome_of;
-use answers::costing::tell_cost;
+use answers::costing::{tell_cost, tell_cost_by_label, tell_cost_by_procedure};
 use answers::formatting::{check_format, format};
 use answers::listing::{list_labels, list_places};
 use answers::programs::accepted_of;
@@ -52,6 +52,14 @@ pub fn perform<R: Threads + Wait + Sync, F: FileSource, O: Write, W: Watch>(
             Command::Format => format(alloc, text, out),
             Command::CheckFormat => check_format(alloc, text, out),
             Command::Cost => tell_cost(alloc, request.settings, text, files, out),
+            Command::CostByLabel => tell_cost_by_label(alloc, request.settings, text, files, out),
+            Command::CostByProcedure => tell_cost_by_procedure(
+                alloc,
+                request.settings,
+                text,
+                files,
+                out,
+            ),
             Command::Pairs => pairs(alloc, text, out),
             Command::Explore => run_by_choices(rt, alloc, request.settings, text, files, out),
             Command::View => view(rt, alloc, request.settings, text, files, out),

@@ -14,7 +14,9 @@ impl Row<'_> {
     /// understood.
     pub fn has_object(&self) -> bool {
         let wanted = self.wanted;
-        let asks_otherwise = self.command.contains(" --list") || self.command.contains(" --format");
+        let asks_otherwise = self.command.contains(" --list")
+            || self.command.contains(" --by-")
+            || self.command.contains(" --format");
         let has_outputs = wanted.out_left.is_none()
             && wanted.err_left.is_none()
             && !wanted.is_swept;

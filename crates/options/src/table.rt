@@ -165,6 +165,18 @@ const CHROME: Entry = Entry {
     takes: Takes::Text("OUT"),
 };
 
+const BY_LINE: Entry = Entry {
+    name: "by-line",
+    help: "Writes behind that the work and the span of each statement, by its label",
+    takes: Takes::NothingBut(&["by-procedure", "format"]),
+};
+
+const BY_PROCEDURE: Entry = Entry {
+    name: "by-procedure",
+    help: "Writes behind that the work and the span of each procedure, with all statements inside",
+    takes: Takes::NothingBut(&["format"]),
+};
+
 const ARRAYS: Entry = Entry {
     name: "arrays",
     help: "Shows the arrays behind the outcome",
@@ -232,7 +244,8 @@ const COST_EXAMPLE: &str =
     "The run is on one thread, and the numbers are the same on every machine. Work is all steps of all tasks. Span is the
 longest chain of steps that must come one after another. No number of workers makes a run faster than work / span.
 
-Example: afx cost examples/doubling.afx --input examples/doubling.json";
+Example: afx cost examples/doubling.afx --input examples/doubling.json
+Example: afx cost examples/doubling.afx --input examples/doubling.json --by-line";
 
 const EXPLORE_EXAMPLE: &str =
     "A choice is the number of a part that steps next, of those that may, from the left and from 0.
@@ -302,7 +315,17 @@ const COSTED: Row = Row {
     name: "cost",
     about: "Tells work, span and parallelism of a run, in steps",
     example: COST_EXAMPLE,
-    entries: &[FILE, INPUT, STEPS, NEST, FORMAT, EXPLAIN, COLOR],
+    entries: &[
+        FILE,
+        INPUT,
+        STEPS,
+        NEST,
+        BY_LINE,
+        BY_PROCEDURE,
+        FORMAT,
+        EXPLAIN,
+        COLOR,
+    ],
 };
 
 const EXPLORED: Row = Row {

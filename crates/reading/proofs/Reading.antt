@@ -23,14 +23,15 @@ use Rattle.reading.specs.Reading.{Line, bare, flag_taken, line_of, no_texts, rea
 use Rattle.std.proofs.Common.{true≢false}
 use Rattle.std.proofs.lemmas.Slice.Eq.{bytes_eq-Decides}
 use Rattle.reading.specs.Reading.{told_line, manner_if, read_by, read_color, read_manner, read_rest}
-use Rattle.reading.specs.Reading.{either, read_flagged, read_format, read_measured}
+use Rattle.reading.specs.Reading.{either, measured_if, read_cost, read_flagged, read_format, read_parts}
 use Rattle.reading.specs.Reading.{read_optioned, read_serial_texts, read_showing, read_texts, read_view, shown_if, taken}
 use Rattle.command_line.specs.Requests.{AreForExplore, AreForRun, AreForSerial, AreRight, Asked, Asks, AsksPlainly, Options, Settings, Texts}
 use Rattle.command_line.specs.Requests.{AsPicture, AsTable, ByNumbers, ForViewer, Showing, Viewing, command_for, no_options}
 use Rattle.command_line.specs.Requests.{picture_of, showing_words, to_view, viewing_options, viewing_words}
 use Rattle.command_line.specs.Requests.{is_file_name, optioned, plain, settings_by, flagged, valued, by_command}
 use Rattle.command_line.specs.Requests.{color_word, manner_words, no_manner, telling_by, told_so}
-use Rattle.command_line.specs.Requests.{acting, rewriting, to_rewrite, to_rewrite_behind, to_cost, AreForMeasuring, measured_words_of}
+use Rattle.command_line.specs.Requests.{acting, rewriting, to_rewrite, to_rewrite_behind, to_cost, to_cost_by}
+use Rattle.command_line.specs.Requests.{AreForMeasuring, measured_words_behind, Parts, ByLabel, ByProcedure, command_by, parts_word}
 use Rattle.command_line.specs.Requests.{Choosing, Listed, InFile, Random, IsRightChoosing, choosing_words_of, file_of, list_of}
 use Rattle.command_line.specs.Requests.{asked_of, seed_of, serial_words_of, texts_by, words_of}
 use Rattle.command_line.specs.Requests.{to_label, to_place, to_place_behind, to_format, to_check_format, to_check_format_behind}
@@ -140,17 +141,19 @@ abbrev from_input : Option (List ℕ) → List (List ℕ) → Option Texts
 from_input input words =
     let t = taken (codes "--steps") words in from_steps input t.0 t.1
 
-abbrev measured_from_nest : (input steps : Option (List ℕ)) → Option (List ℕ) → List (List ℕ) → Option Texts
-measured_from_nest input steps nest words =
-    read_whole (record no_texts { input = input; steps = steps; nest = nest }) words
+abbrev measured_from_nest : (file : List ℕ) (input steps : Option (List ℕ)) → Option (List ℕ) → List (List ℕ)
+    → Option Line
+measured_from_nest file input steps nest words =
+    measured_if file (record no_texts { input = input; steps = steps; nest = nest }) (read_parts words)
 
-abbrev measured_from_steps : (input : Option (List ℕ)) → Option (List ℕ) → List (List ℕ) → Option Texts
-measured_from_steps input steps words =
-    let t = taken (codes "--nest") words in measured_from_nest input steps t.0 t.1
+abbrev measured_from_steps : (file : List ℕ) (input : Option (List ℕ)) → Option (List ℕ) → List (List ℕ)
+    → Option Line
+measured_from_steps file input steps words =
+    let t = taken (codes "--nest") words in measured_from_nest file input steps t.0 t.1
 
-abbrev measured_from_input : Option (List ℕ) → List (List ℕ) → Option Texts
-measured_from_input input words =
-    let t = taken (codes "--steps") words in measured_from_steps input t.0 t.1
+abbrev measured_from_input : (file : List ℕ) → Option (List ℕ) → List (List ℕ) → Option Line
+measured_from_input file input words =
+    let t = taken (codes "--steps") words in measured_from_steps file input t.0 t.1
 
 abbrev from_color : (explain : Bool) → Option (List ℕ) → List (List ℕ) → Option (Manner × List (List ℕ))
 from_color explain color words = manner_if explain (read_color color) words
@@ -353,22 +356,27 @@ module _ (arrays : Bool) where
         ∙ goes_flag (codes "--progress") (flagged (codes "--progress") progress []) progress []
         (serial_from_progress input steps nest arrays) (takes_flag (codes "--progress") progress [] refl refl)
 
--- those of a run that is measured
-read_measured_words : (input steps nest : Option (List ℕ))
+-- those of a run that is measured, before a last word or none
+record IsLast (last : List (List ℕ)) : Type 0 where
+  input : Lacks (codes "--input") last
+  steps : Lacks (codes "--steps") last
+  nest : Lacks (codes "--nest") last
+
+read_measured_words : (file : List ℕ) (last : List (List ℕ)) → IsLast last → (input steps nest : Option (List ℕ))
     → (let t : Texts = record no_texts { input = input; steps = steps; nest = nest } in
-    read_measured (measured_words_of t) ≡ Some t)
-read_measured_words input steps nest =
-    let nest_words = valued (codes "--nest") nest [] in
+    read_cost file (measured_words_behind t last) ≡ measured_if file t (read_parts last))
+read_measured_words file last lacks input steps nest =
+    let nest_words = valued (codes "--nest") nest last in
     let steps_words = valued (codes "--steps") steps nest_words in
-    goes (codes "--input") (valued (codes "--input") input steps_words) input steps_words measured_from_input
+    goes (codes "--input") (valued (codes "--input") input steps_words) input steps_words (measured_from_input file)
     (takes_value (codes "--input") input steps_words refl
     (lacks_valued (codes "--input") (codes "--steps") steps nest_words refl
-    (lacks_valued (codes "--input") (codes "--nest") nest [] refl refl)))
-    ∙ goes (codes "--steps") steps_words steps nest_words (measured_from_steps input)
+    (lacks_valued (codes "--input") (codes "--nest") nest last refl lacks.input)))
+    ∙ goes (codes "--steps") steps_words steps nest_words (measured_from_steps file input)
     (takes_value (codes "--steps") steps nest_words refl
-    (lacks_valued (codes "--steps") (codes "--nest") nest [] refl refl))
-    ∙ goes (codes "--nest") nest_words nest [] (measured_from_nest input steps)
-    (takes_value (codes "--nest") nest [] refl refl)
+    (lacks_valued (codes "--steps") (codes "--nest") nest last refl lacks.steps))
+    ∙ goes (codes "--nest") nest_words nest last (measured_from_nest file input steps)
+    (takes_value (codes "--nest") nest last refl lacks.nest)
 
 -- ---- lines
 
@@ -447,8 +455,9 @@ explore_options o for =
     (read_choosing_words o.arrays o.input o.choices))))))))
 
 -- of a run that is measured
-measured_options : (o : Options) → AreForMeasuring o → read_measured (measured_words_of (texts_by o)) ≡ Some (texts_by o)
-measured_options o for =
+measured_options : (file : List ℕ) (last : List (List ℕ)) → IsLast last → (o : Options) → AreForMeasuring o
+    → read_cost file (measured_words_behind (texts_by o) last) ≡ measured_if file (texts_by o) (read_parts last)
+measured_options file last lacks o for =
     let P : (tasks w0 workers : Option ℕ) → Option Choosing → (trace picture : Option (List ℕ)) → (arrays progress : Bool)
     → Type 0 =
     λ tasks w0 workers c trace picture arrays progress.
@@ -463,7 +472,7 @@ measured_options o for =
       picture = picture;
       arrays = arrays;
       progress = progress;
-    } in read_measured (measured_words_of t) ≡ Some t in
+    } in read_cost file (measured_words_behind t last) ≡ measured_if file t (read_parts last) in
     subst (λ n. P n o.w0 o.workers o.choices o.trace o.picture o.arrays o.progress) (sym for.spread.tasks)
     (subst (λ n. P None n o.workers o.choices o.trace o.picture o.arrays o.progress) (sym for.spread.w0)
     (subst (λ n. P None None n o.choices o.trace o.picture o.arrays o.progress) (sym for.spread.workers)
@@ -472,7 +481,12 @@ measured_options o for =
     (subst (λ f. P None None None None None f o.arrays o.progress) (sym for.trace.picture)
     (subst (λ b. P None None None None None None b o.progress) (sym for.arrays)
     (subst (λ b. P None None None None None None false b) (sym for.progress)
-    (read_measured_words o.input (option_map decimal o.steps) (option_map decimal o.nest)))))))))
+    (read_measured_words file last lacks o.input (option_map decimal o.steps) (option_map decimal o.nest)))))))))
+
+-- what share is told
+read_part : (x : Parts) → read_parts (parts_word x ∷ []) ≡ Some (Answer (command_by x))
+read_part ByLabel = refl
+read_part ByProcedure = refl
 
 -- how a trace is shown
 read_shown : (s : Showing) → read_showing (showing_words s) ≡ Some (Answer (command_for s), picture_of s)
@@ -668,7 +682,21 @@ asks_line words a (to_cost file o named for is asked) = record {
   file = file;
   options = o;
   right = for.right;
-  is_read = ap read_plain is ∙ read_with (Answer Cost) file (texts_by o) _ named (measured_options o for);
+  is_read =
+      ap read_plain is ∙ measured_options file [] (record { input = refl; steps = refl; nest = refl }) o for
+      ∙ read_with (Answer Cost) file (texts_by o) (Some (texts_by o)) named refl;
+  asked = asked;
+}
+asks_line words a (to_cost_by file o parts named for is asked) = record {
+  action = Answer (command_by parts);
+  file = file;
+  options = o;
+  right = for.right;
+  is_read =
+      ap read_plain is
+      ∙ measured_options file (parts_word parts ∷ []) (record { input = refl; steps = refl; nest = refl }) o for
+      ∙ ap (measured_if file (texts_by o)) (read_part parts)
+      ∙ read_with (Answer (command_by parts)) file (texts_by o) (Some (texts_by o)) named refl;
   asked = asked;
 }
 
@@ -726,6 +754,7 @@ plainly_begun : (words : List (List ℕ)) (a : Asked) → AsksPlainly words a �
 plainly_begun words a (to_run file o named for is asked) = begins words _ file _ named is
 plainly_begun words a (to_run_on_one_thread file o named for is asked) = begins words _ file _ named is
 plainly_begun words a (to_cost file o named for is asked) = begins words _ file _ named is
+plainly_begun words a (to_cost_by file o parts named for is asked) = begins words _ file _ named is
 plainly_begun words a (to_explore file o named for is asked) = begins words _ file _ named is
 plainly_begun words a (to_view file v named right is asked) = begins words _ file _ named is
 plainly_begun words a (to_check file named is asked) = begins words _ file _ named is

@@ -12,6 +12,7 @@ use Rattle.command_line.specs.declared.request.Action.TheVariants.{Answer, Rewri
 use Rattle.command_line.specs.declared.request.Command.TheVariants.{Run, Serial, Check, Listing, Pairs, Explore}
 use Rattle.command_line.specs.declared.request.Command.TheVariants.{Labels, Places, Format, CheckFormat}
 use Rattle.command_line.specs.declared.request.Command.TheVariants.{View, Summary, Draw, Chrome, Cost}
+use Rattle.command_line.specs.declared.request.Command.TheVariants.{CostByLabel, CostByProcedure}
 use Rattle.reading.specs.declared.plain.Line.{Line as rLine}
 use Rattle.reading.specs.declared.plain.Texts.{Texts as rTexts}
 
@@ -146,14 +147,6 @@ read_choosing words =
       arrays = arrays.0;
     }) arrays.1
 
--- the options of a run that is measured
-abbrev pub read_measured : List (List ℕ) → Option Texts
-read_measured words =
-    let input = taken (codes "--input") words in
-    let steps = taken (codes "--steps") input.1 in
-    let nest = taken (codes "--nest") steps.1 in
-    read_whole (record no_texts { input = input.0; steps = steps.0; nest = nest.0 }) nest.1
-
 -- how a trace is shown, as words say it
 abbrev pub read_showing : List (List ℕ) → Option (Action × Option (List ℕ))
 read_showing [] = Some ((Answer View), None)
@@ -228,6 +221,27 @@ read_view file (trace ∷ options) =
     let input = taken (codes "--input") options in
     shown_if file trace input.0 (read_showing input.1)
 
+-- what share of the cost of a run is told, as words say it
+abbrev pub read_parts : List (List ℕ) → Option Action
+read_parts [] = Some (Answer Cost)
+read_parts (one ∷ []) =
+    if bytes_eq one (codes "--by-line") then Some (Answer CostByLabel) else
+    (if bytes_eq one (codes "--by-procedure") then Some (Answer CostByProcedure) else None)
+read_parts (one ∷ other ∷ behind) = None
+
+-- the words behind the file of a program whose run is measured, where its parts are these
+abbrev pub measured_if : (file : List ℕ) → Texts → Option Action → Option Line
+measured_if file texts None = None
+measured_if file texts (Some action) = read_optioned action file (Some texts)
+
+abbrev pub read_cost : (file : List ℕ) → (behind : List (List ℕ)) → Option Line
+read_cost file words =
+    let input = taken (codes "--input") words in
+    let steps = taken (codes "--steps") input.1 in
+    let nest = taken (codes "--nest") steps.1 in
+    measured_if file (record no_texts { input = input.0; steps = steps.0; nest = nest.0 })
+    (read_parts nest.1)
+
 -- the words behind a command
 abbrev pub read_behind : (command file : List ℕ) → (behind : List (List ℕ)) → Option Line
 read_behind command file behind =
@@ -239,7 +253,7 @@ read_behind command file behind =
     (if bytes_eq command (codes "fmt") then read_format file behind else
     (if bytes_eq command (codes "explore") then read_optioned (Answer Explore) file (read_choosing behind) else
     (if bytes_eq command (codes "view") then read_view file behind else
-    (if bytes_eq command (codes "cost") then read_optioned (Answer Cost) file (read_measured behind) else None))))))))
+    (if bytes_eq command (codes "cost") then read_cost file behind else None))))))))
 
 -- the words behind a command, but for those that say how it is told
 abbrev pub read_rest : (command : List ℕ) → (words : List (List ℕ)) → Option Line

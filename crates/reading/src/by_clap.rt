@@ -52,7 +52,7 @@ fn request_asked<'w>(
         Some(("list", given)) => request(alloc, Command::Labels, given),
         Some(("fmt", given)) => asking(alloc, formatting(given), given),
         Some(("mhp", given)) => request(alloc, Command::Pairs, given),
-        Some(("cost", given)) => request(alloc, Command::Cost, given),
+        Some(("cost", given)) => request(alloc, costing(given), given),
         Some(("explore", given)) => request(alloc, Command::Explore, given),
         Some(("view", given)) => request(alloc, viewing(given), given),
         _ => Err(commands(alloc)?.error(ErrorKind::MissingSubcommand, "no command")?),
@@ -67,6 +67,17 @@ fn formatting(given: &ArgMatches<'_>) -> Action {
         Action::Rewrite
     } else {
         Action::Answer(Command::Format)
+    }
+}
+
+/// What share `cost` tells; `clap` has seen that at most one option says it.
+fn costing(given: &ArgMatches<'_>) -> Command {
+    if given.get_flag("by-line") {
+        Command::CostByLabel
+    } else if given.get_flag("by-procedure") {
+        Command::CostByProcedure
+    } else {
+        Command::Cost
     }
 }
 

@@ -4,7 +4,7 @@ ghost use Rattle.std.specs.Prelude.{◌≡◌, ◌∷◌, [], map, option_map, S
 ghost use Rattle.std.specs.String.{string_bytes};
 ghost use Rattle.reading.specs.Reading.{bare as bare_line, line_of, read, told_line};
 ghost use Rattle.reading.specs.Reading.{read_alone, read_behind, read_choosing, read_rest};
-ghost use Rattle.reading.specs.Reading.{read_format, read_measured};
+ghost use Rattle.reading.specs.Reading.{read_cost, read_format, read_parts};
 ghost use Rattle.reading.specs.Reading.{no_texts, read_file, read_flaggable, read_flagged};
 ghost use Rattle.reading.specs.Reading.{read_optioned, read_serial_texts, read_texts, read_whole};
 ghost use Rattle.reading.specs.Reading.{read_showing, read_view, shown_of, texts_of};
@@ -125,7 +125,7 @@ fn line_behind<'w>(command: &str, file: &'w str, behind: &'w [String]) -> Option
     } else if command == "view" {
         view_line(file, behind)
     } else if command == "cost" {
-        optioned_line(Answer(Command::Cost), file, measured_texts_in(behind))
+        cost_line(file, behind)
     } else {
         None
     }
@@ -265,20 +265,41 @@ fn choosing_texts_in<'w>(words: &'w [String]) -> Option<Texts<'w>>
     whole(texts, words)
 }
 
-/// The texts behind options: `--input FILE --steps N --nest N`, each of which may be left out.
-fn measured_texts_in<'w>(words: &'w [String]) -> Option<Texts<'w>>
-    ensures { option_map texts_of result ≡ read_measured (map string_bytes words.now) }
+/// A line of `cost`: behind the file `--input FILE --steps N --nest N`, each of which may be left out, and
+/// what share is told.
+fn cost_line<'w>(file: &'w str, behind: &'w [String]) -> Option<Line<'w>>
+    ensures { option_map line_of result ≡ read_cost file.now (map string_bytes behind.now) }
 {
-    let (input, words) = take("--input", words);
+    let (input, words) = take("--input", behind);
     let (steps, words) = take("--steps", words);
     let (nest, words) = take("--nest", words);
+    let action = parts_in(words)?;
     let texts = Texts {
         input,
         steps,
         nest,
         ..Texts::none()
     };
-    whole(texts, words)
+    optioned_line(action, file, Some(texts))
+}
+
+/// What share of the cost of a run is told: by no word none, or by `--by-line` or `--by-procedure`.
+fn parts_in(words: &[String]) -> Option<Action>
+    ensures { result ≡ read_parts (map string_bytes words.now) }
+{
+    match words {
+        [] => Some(Answer(Command::Cost)),
+        [one] => {
+            if one.as_str() == "--by-line" {
+                Some(Answer(Command::CostByLabel))
+            } else if one.as_str() == "--by-procedure" {
+                Some(Answer(Command::CostByProcedure))
+            } else {
+                None
+            }
+        }
+        [_, _, ..] => None,
+    }
 }
 
 /// These texts, where no word is left.

@@ -21,7 +21,10 @@ const ROWS: &[(&str, &str)] = &[
     ("list", " lines explain color"),
     ("fmt", " check write explain color"),
     ("mhp", " format explain color"),
-    ("cost", " input steps nest format explain color"),
+    (
+        "cost",
+        " input steps nest by-line by-procedure format explain color",
+    ),
     (
         "explore",
         " input choices choices-from random arrays explain color",
