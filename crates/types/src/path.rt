@@ -31,7 +31,9 @@ impl Path {
     pub fn child(&self, number: u32) -> Result<Path, AllocError>
         ensures { IfOk result (λ p. p.turns.items ≡ self.now.turns.items ++ number ∷ []) }
     {
-        let mut turns = self.turns.clone()?;
+        let room = self.turns.len().saturating_add(1);
+        let mut turns = Vec::with_capacity(*self.turns.allocator(), room)?;
+        turns.extend_from_slice(&self.turns)?;
         turns.push(number)?;
         Ok(Path { turns })
     }
