@@ -222,6 +222,15 @@ pub record CanTurn (needs : Codes → Needs) (IsAsync : ℕ → Codes → Type 0
   pub next : HasNext needs (with_own own (state_of r.thread)) frames
   pub known : KnowsFirst IsAsync frames
 
+-- a turn that ends a finish, or the task
+abbrev pub IsEnding : Turn → Type 0
+IsEnding (Going r) = ⊥
+IsEnding (Spawns r s) = ⊥
+IsEnding (EntersFinish r) = ⊥
+IsEnding (EndsFinish q r) = ⊤
+IsEnding (Ended r) = ⊤
+IsEnding (Over r) = ⊥
+
 -- a run becomes another by turns that go on
 pub data GoesOn (needs : Codes → Needs) : (old new : Run) → Type 0 where
   here : {r : Run} → GoesOn needs r r
@@ -243,3 +252,16 @@ pub record GoesUpTo (needs : Codes → Needs) (old : Run) (t : Turn) : Type 0 wh
   pub reached : GoesOn needs old last
   pub turn : IsTurn needs last t
   pub more : IsMore t
+
+-- the same of a turn in place
+abbrev pub DoesMore : rStep → (new : Run) → Type 0
+DoesMore (rDid done) new = IsMore (turn_of new done)
+DoesMore rAtEnd new = ⊤
+
+-- a run becomes another in place by turns that go on, and takes the first that comes to more than a
+-- step; at the end of a finish, or at its own, it stays as it stands there
+pub record StepsUpTo (needs : Codes → Needs) (old : Run) (s : rStep) (new : Run) : Type 0 where
+  pub last : Run
+  pub reached : GoesOn needs old last
+  pub step : IsStep needs last s new
+  pub more : DoesMore s new

@@ -54,8 +54,8 @@ pub struct Run<'p> {
 
 impl<'p> Run<'p> {
     ghost use Rattle.own_run.specs.RunTurns.{Acts, CanAct, CanTurn, DidAct, DidNext, GoesOn};
-    ghost use Rattle.own_run.specs.RunTurns.{GoesUpTo, HasRoom, IsAtEnd, IsMore, IsStep, IsTurn};
-    ghost use Rattle.own_run.specs.RunTurns.{Turns};
+    ghost use Rattle.own_run.specs.RunTurns.{HasRoom, IsAtEnd, IsEnding, IsStep, IsTurn};
+    ghost use Rattle.own_run.specs.RunTurns.{StepsUpTo, Turns};
     ghost use Rattle.own_run.specs.RunTurns.{below_top, taken_off};
     ghost use Rattle.own_run.specs.declared.run.Run.{Run as AnyRun};
 
@@ -89,21 +89,21 @@ impl<'p> Run<'p> {
         })
     }
 
-    /// Turns on, as long as a turn is no more than a step; gives the first that is.
-    pub fn go<N: Needed>(self, needed: &N) -> Result<Turn<'p>, HoldError>
-        requires { (r : AnyRun) → GoesOn (N.needs needed.now) self r
+    /// Turns on in place, as long as a turn is no more than a step, and takes the first that is more. At
+    /// the end of a finish, or at its own, the run is left as it stands there.
+    pub fn go<N: Needed>(&mut self, needed: &N) -> Result<Step<'p>, HoldError>
+        requires { (r : AnyRun) → GoesOn (N.needs needed.now) self.old r
             → CanTurn (N.needs needed.now) (N.IsAsync needed.now) r }
-        ensures turn { IfOk result (GoesUpTo (N.needs needed.entry.now) self.entry) }
+        ensures step { IfOk result (λ s. StepsUpTo (N.needs needed.entry.now) self.old s self.new) }
         ensures refused { IfErr result (λ e. e ≡ OutOfMemory) }
     {
-        let mut run = self;
         'turns: loop {
-            match run.step(needed)? {
+            match self.step(needed)? {
                 Step::Did(done) => match done {
                     Done::Gone => {}
-                    done => return Ok(turned(run, done)),
+                    done => return Ok(Step::Did(done)),
                 },
-                Step::AtEnd => return Ok(run.end()?),
+                Step::AtEnd => return Ok(Step::AtEnd),
             }
         }
     }
@@ -444,10 +444,10 @@ impl<'p> Run<'p> {
     }
 
     /// The turn of a run at the end of a finish, or at its own.
-    fn end(self) -> Result<Turn<'p>, AllocError>
+    pub fn end(self) -> Result<Turn<'p>, AllocError>
         requires { IsAtEnd self }
         ensures turn { IfOk result (λ t. (needs : Codes → Needs) → IsTurn needs self.entry t) }
-        ensures more { IfOk result IsMore }
+        ensures ends { IfOk result IsEnding }
     {
         let mut run = self;
         match run.frames.pop() {

@@ -4,7 +4,7 @@ use Rattle.own_run.proofs.run.Run.go.Given as goal
 
 -- the run was reached by turns that go on
 abbrev pub invariant-turns : goal.invariant-turns
-invariant-turns g l = GoesOn (g.N.Needed.needs l.needed) l.initial.run l.run
+invariant-turns g l = GoesOn (g.N.Needed.needs l.needed) l.initial.self l.self
 
 abbrev pub decreases-turns : goal.decreases-turns
-decreases-turns g l = left_of l.run
+decreases-turns g l = left_of l.self
