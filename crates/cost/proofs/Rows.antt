@@ -168,7 +168,7 @@ module _ (p : Program) (fresh : ℕ) where
 -- so it is of whole runs
 has_run : (p : Program) (rows : ℕ) (input : List (List ℤ)) (b : Budget) → 0 < rows → HasRows (account_of p rows input b)
 has_run p rows input b any =
-    let n = length-replicate rows 0 in
+    let n = length-replicate {A = ℕ} rows 0 in
     let some : 0 < length (replicate rows 0) = omega (arith, n, any) in
     run_keeps p (accounted_rules p b.steps b.nest) Rowed (kept_by p b.steps b.nest (begins_rowed p b.steps b.nest)) (Block p.main.body)
     (start (nothing_noted rows) p b.steps (held_by input))

@@ -30,13 +30,13 @@ returns-clause-cost c =
 pub returns-clause-work : goal.returns-clause-work
 returns-clause-work c =
     let lists = input c.args.input.now in
-    c.tables.ensures.work
+    c.tables-work.ensures.work
     ∙ ap (λ (s : Standing). s.state.extra.work) c.in_ok-machine.ensures.stands
     ∙ ap (λ (q : Program). (account_of q c.args.rows lists (budget c.args.budget)).work) c.code.ensures.code
 
 pub returns-clause-span : goal.returns-clause-span
 returns-clause-span c =
     let lists = input c.args.input.now in
-    c.tables.ensures.span
+    c.tables-work.ensures.span
     ∙ ap (λ (s : Standing). span_by_label s.state.extra) c.in_ok-machine.ensures.stands
     ∙ ap (λ (q : Program). span_by_label (account_of q c.args.rows lists (budget c.args.budget))) c.code.ensures.code
