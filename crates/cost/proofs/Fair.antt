@@ -28,7 +28,7 @@ grows_further : (t u v : Tally) → Grows t u → Grows u v → Grows t v
 grows_further t u v g h = record { fair = λ f. h.fair (g.fair f); more = omega (arith, g.more, h.more) }
 
 module _ (p : Program) (fresh : ℕ) where
-  kept_by : (n : ℕ) → ((b : Codes) (st : State Tally) → Fairly st (begin_tallied p fresh n b st))
+  kept_by : (n : ℕ) → ((l : ℕ) (b : Codes) (st : State Tally) → Fairly st (begin_tallied p fresh n l b st))
       → IsKept (tallied_rules p fresh n) Fairly
   kept_by n begins = record {
     idle = λ st to path spawned extra there. grows_same st.extra to.extra extra;
@@ -41,7 +41,7 @@ module _ (p : Program) (fresh : ℕ) where
       };
       more = omega arith;
     };
-    begin = λ l. begins;
+    begin = begins;
     finish = λ l st out g. record {
       fair = λ f.
           let inside : IsFair out.extra = g.fair (record {
@@ -58,10 +58,10 @@ module _ (p : Program) (fresh : ℕ) where
     };
   }
 
-  begins_fairly : (n : ℕ) (b : Codes) (st : State Tally) → Fairly st (begin_tallied p fresh n b st)
-  begins_fairly zero b st = grows_same st.extra st.extra refl
-  begins_fairly (suc n) b st =
-      let begun = child fresh (beginning st) in
+  begins_fairly : (n l : ℕ) (b : Codes) (st : State Tally) → Fairly st (begin_tallied p fresh n l b st)
+  begins_fairly zero l b st = grows_same st.extra st.extra refl
+  begins_fairly (suc n) l b st =
+      let begun = child fresh (beginning p l st) in
       let out = run p (tallied_rules p fresh n) (Block b) begun in
       let g = run_keeps p (tallied_rules p fresh n) Fairly (kept_by n (begins_fairly n)) (Block b) begun in
       record {

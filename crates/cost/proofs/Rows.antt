@@ -4,7 +4,7 @@ use Rattle.std.proofs.lemmas.Bool.{ltb-true, ltb-false}
 use Rattle.std.proofs.lemmas.List.{length-replicate, length-set, set_past}
 use Rattle.std.proofs.lemmas.List.Sums.{sum_by-cons, sum_by-set}
 use Rattle.std.specs.List.{sum}
-use Rattle.std.specs.Prelude.{ℤ, max, nat_lt, replicate, slice_index, slice_set, if◌then◌else◌}
+use Rattle.std.specs.Prelude.{ℤ, max, nat_lt, replicate, slice_index, if◌then◌else◌}
 use Rattle.types.specs.Code.{Codes, Program}
 use Rattle.types.specs.Contents.{held_by}
 use Rattle.types.specs.Laws.{IsKept}
@@ -12,6 +12,7 @@ use Rattle.types.specs.Meaning.{child}
 use Rattle.types.specs.Outcome.{Budget, start}
 use Rattle.types.specs.Run.{State, Block, run}
 use Rattle.types.proofs.Keeps.{run_keeps}
+use Rattle.spawn_copies.specs.Copied.{copied_at}
 use Rattle.cost.specs.Accounts.{Account, account_of, accounted_rules, begin_accounted, beginning_at, begins_at, ends_behind}
 use Rattle.cost.specs.Accounts.{enters_at, leaves_behind, longer, noted, nothing_noted, row_of, span_by_label, steps_at}
 use Rattle.cost.specs.Costs.{cost_of}
@@ -86,8 +87,8 @@ has_stepped l a h = record {
   };
 }
 
-has_begun : (l depth : ℕ) (a : Account) → HasRows a → HasRows (begins_at l depth a)
-has_begun l depth a h = record {
+has_begun : (l depth copied : ℕ) (a : Account) → HasRows a → HasRows (begins_at l depth copied a)
+has_begun l depth copied a h = record {
   work = some_noted l a.work h.work;
   here = some_noted l a.here h.here;
   adds = record {
@@ -159,11 +160,11 @@ module _ (p : Program) (fresh : ℕ) where
   begins_rowed : (n l : ℕ) (b : Codes) (st : State Account) → Rowed st (begin_accounted p fresh n l b st)
   begins_rowed zero l b st h = h
   begins_rowed (suc n) l b st h =
-      let begun = child fresh (beginning_at l st) in
+      let begun = child fresh (beginning_at p l st) in
       let out = run p (accounted_rules p fresh n) (Block b) begun in
-      let k : HasRows (beginning_at l st).extra = has_begun l (length st.path + 1) st.extra h in
+      let k : HasRows (beginning_at p l st).extra = has_begun l (length st.path + 1) (copied_at p l st.environment) st.extra h in
       let o : HasRows out.extra = run_keeps p (accounted_rules p fresh n) Rowed (kept_by n (begins_rowed n)) (Block b) begun k in
-      has_ended (beginning_at l st).extra.tally.here (beginning_at l st).extra.here out.extra o k.here k.adds.here
+      has_ended (beginning_at p l st).extra.tally.here (beginning_at p l st).extra.here out.extra o k.here k.adds.here
 
 -- so it is of whole runs
 has_run : (p : Program) (rows : ℕ) (input : List (List ℤ)) (b : Budget) → 0 < rows → HasRows (account_of p rows input b)

@@ -25,7 +25,7 @@ same (inl bad) = absurd bad
 same (inr e) = e
 
 module _ (p : Program) (fresh : ℕ) where
-  module _ (n : ℕ) (begins : (l : ℕ) (b : Codes) → Follows view_of Lost (begin_accounted p fresh n l b) (begin_tallied p fresh n b)) where
+  module _ (n : ℕ) (begins : (l : ℕ) (b : Codes) → Follows view_of Lost (begin_accounted p fresh n l b) (begin_tallied p fresh n l b)) where
     abbrev r : Rules Account
     r = accounted_rules p fresh n
 
@@ -65,11 +65,11 @@ module _ (p : Program) (fresh : ℕ) where
     run_follows : (w : Work) → Follows view_of Lost (run p r w) (run p s w)
     run_follows w i st = within_follows (st.steps + 1) w i st
 
-  begin_follows : (n l : ℕ) (b : Codes) → Follows view_of Lost (begin_accounted p fresh n l b) (begin_tallied p fresh n b)
+  begin_follows : (n l : ℕ) (b : Codes) → Follows view_of Lost (begin_accounted p fresh n l b) (begin_tallied p fresh n l b)
   begin_follows zero l b i st = inr refl
   begin_follows (suc n) l b i st =
-      inr (ap (after_task (beginning (totals st)))
-      (same (run_follows n (begin_follows n) (Block b) i (child fresh (beginning_at l st)))))
+      inr (ap (after_task (beginning p l (totals st)))
+      (same (run_follows n (begin_follows n) (Block b) i (child fresh (beginning_at p l st)))))
 
   -- an account changes no tally
   pub totals-accounted : (nest : ℕ) (w : Work) (st : State Account)

@@ -22,7 +22,7 @@ same (inl bad) = absurd bad
 same (inr e) = e
 
 module _ (p : Program) (fresh : ℕ) where
-  module _ (n : ℕ) (begins : (b : Codes) → Follows view_of Lost (begin_tallied p fresh n b) (begin_one p fresh n b)) where
+  module _ (n : ℕ) (begins : (l : ℕ) (b : Codes) → Follows view_of Lost (begin_tallied p fresh n l b) (begin_one p fresh n b)) where
     abbrev r : Rules Tally
     r = tallied_rules p fresh n
 
@@ -40,7 +40,7 @@ module _ (p : Program) (fresh : ℕ) where
       faulted = λ i st l k. refl;
       stepped = λ i l st. refl;
       spends = spends;
-      begin = λ l. begins;
+      begin = begins;
       finish = λ l go to h i st. inr (ap (s.leave (untallied st)) (same (h tt (r.enter l st))));
       lost = λ st go bad. bad;
       lost_moved = λ st env bad. bad;
@@ -62,11 +62,11 @@ module _ (p : Program) (fresh : ℕ) where
     run_follows : (w : Work) → Follows view_of Lost (run p r w) (run p s w)
     run_follows w i st = within_follows (st.steps + 1) w i st
 
-  begin_follows : (n : ℕ) (b : Codes) → Follows view_of Lost (begin_tallied p fresh n b) (begin_one p fresh n b)
-  begin_follows zero b i st = inr refl
-  begin_follows (suc n) b i st =
+  begin_follows : (n l : ℕ) (b : Codes) → Follows view_of Lost (begin_tallied p fresh n l b) (begin_one p fresh n b)
+  begin_follows zero l b i st = inr refl
+  begin_follows (suc n) l b i st =
       inr (ap (after_body (untallied st))
-      (same (run_follows n (begin_follows n) (Block b) i (child fresh (beginning st)))))
+      (same (run_follows n (begin_follows n) (Block b) i (child fresh (beginning p l st)))))
 
   -- a tally changes nothing
   pub untallied-tallied : (nest : ℕ) (w : Work) (st : State Tally)

@@ -8,6 +8,7 @@ use Rattle.types.specs.Contents.{held_by}
 use Rattle.types.specs.Meaning.{hushed, joined, child, after_async, after_finish}
 use Rattle.types.specs.Outcome.{Budget, start}
 use Rattle.types.specs.Run.{State, Rules, Work, Block, stopped, run}
+use Rattle.spawn_copies.specs.Copied.{copied_at}
 use Rattle.cost.specs.declared.tally.Tally.{Tally}
 use Rattle.cost.specs.Costs.{begins_task, ends_task, enters_finish, leaves_finish, nothing_done}
 use Rattle.cost.specs.Costs.{one_more}
@@ -55,9 +56,9 @@ longer m n xs ys = if nat_lt m n then ys else xs
 abbrev pub span_by_label : Account → List ℕ
 span_by_label a = longer a.tally.here a.tally.ended a.here a.ended
 
--- an async takes its step, and behind that its task begins, which stands in so many asyncs
-abbrev pub begins_at : (label depth : ℕ) → Account → Account
-begins_at l depth a = record (steps_at l a) { tally = begins_task depth a.tally }
+-- an async takes its step, and behind that its task begins, which stands in so many asyncs and copies so many places
+abbrev pub begins_at : (label depth copied : ℕ) → Account → Account
+begins_at l depth copied a = record (steps_at l a) { tally = begins_task depth copied a.tally }
 
 -- its task has ended; its parent goes on from where that was, in the same finish
 abbrev pub ends_behind : (here : ℕ) → (by_label : List ℕ) → Account → Account
@@ -114,11 +115,13 @@ accounted_by begin = record {
   });
 }
 
--- a task that begins its next child, the step of whose async was taken
-abbrev pub beginning_at : (label : ℕ) → State Account → State Account
-beginning_at l st = record st { extra = begins_at l (length st.path + 1) st.extra }
-
 module _ (p : Program) where
+  -- a task that begins its next child, the step of whose async was taken
+  abbrev pub beginning_at : (label : ℕ) → State Account → State Account
+  beginning_at l st = record st {
+    extra = begins_at l (length st.path + 1) (copied_at p l st.environment) st.extra;
+  }
+
   -- an async where so many may stand inside one another; a child begins with `fresh` steps
   abbrev pub begin_accounted : (fresh nest : ℕ) → (label : ℕ) → Codes → State Account → State Account
   begin_accounted fresh zero l b st = stopped st

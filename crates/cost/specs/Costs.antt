@@ -7,21 +7,34 @@ use Rattle.types.specs.Contents.{held_by}
 use Rattle.types.specs.Meaning.{hushed, joined, child, after_async, after_finish}
 use Rattle.types.specs.Outcome.{Budget, start}
 use Rattle.types.specs.Run.{State, Rules, Work, Block, stopped, run}
+use Rattle.spawn_copies.specs.Copied.{copied_at}
 use Rattle.cost.specs.declared.cost.Cost.{Cost}
 use Rattle.cost.specs.declared.tally.Tally.{Tally}
 
 -- nothing was done: there is the root, in the finish around `main`
 abbrev pub nothing_done : Tally
-nothing_done = record { work = 0; here = 0; ended = 0; tasks = 1; deepest = 0; finishes = 1 }
+nothing_done = record {
+  work = 0;
+  here = 0;
+  ended = 0;
+  tasks = 1;
+  deepest = 0;
+  finishes = 1;
+  copied = 0;
+}
 
 -- the task at work takes a step
 abbrev pub one_more : Tally → Tally
 one_more t = record t { work = t.work + 1; here = t.here + 1 }
 
--- an async takes its step, and behind that its task begins, which stands in so many asyncs
-abbrev pub begins_task : (depth : ℕ) → Tally → Tally
-begins_task depth t =
-    record (one_more t) { tasks = t.tasks + 1; deepest = max t.deepest depth }
+-- an async takes its step, and behind that its task begins, which stands in so many asyncs and copies so many places
+abbrev pub begins_task : (depth copied : ℕ) → Tally → Tally
+begins_task depth copied t =
+    record (one_more t) {
+      tasks = t.tasks + 1;
+      deepest = max t.deepest depth;
+      copied = t.copied + copied;
+    }
 
 -- its task has ended; its parent goes on from where that was, in the same finish
 abbrev pub ends_task : (here : ℕ) → Tally → Tally
@@ -49,10 +62,10 @@ after_task before out =
     })
 
 -- the rules of one thread, which keep a tally, where `begin` runs an async's body
-abbrev pub tallied_by : (Codes → State Tally → State Tally) → Rules Tally
+abbrev pub tallied_by : ((label : ℕ) → Codes → State Tally → State Tally) → Rules Tally
 tallied_by begin = record {
   stepped = λ l. one_more;
-  begin = λ l. begin;
+  begin = begin;
   enter = λ l st. hushed (record st { extra = enters_finish st.extra });
   leave = λ before out. joined before (record out {
     flow = after_finish out.flow out.faults;
@@ -60,17 +73,19 @@ tallied_by begin = record {
   });
 }
 
--- a task that begins its next child, the step of whose async was taken
-abbrev pub beginning : State Tally → State Tally
-beginning st = record st { extra = begins_task (length st.path + 1) st.extra }
-
 module _ (p : Program) where
+  -- a task that begins its next child, the step of whose async was taken
+  abbrev pub beginning : (label : ℕ) → State Tally → State Tally
+  beginning l st = record st {
+    extra = begins_task (length st.path + 1) (copied_at p l st.environment) st.extra;
+  }
+
   -- an async where so many may stand inside one another; a child begins with `fresh` steps
-  abbrev pub begin_tallied : (fresh nest : ℕ) → Codes → State Tally → State Tally
-  begin_tallied fresh zero b st = stopped st
-  begin_tallied fresh (suc n) b st =
-      after_task (beginning st)
-      (run p (tallied_by (begin_tallied fresh n)) (Block b) (child fresh (beginning st)))
+  abbrev pub begin_tallied : (fresh nest : ℕ) → (label : ℕ) → Codes → State Tally → State Tally
+  begin_tallied fresh zero l b st = stopped st
+  begin_tallied fresh (suc n) l b st =
+      after_task (beginning l st)
+      (run p (tallied_by (begin_tallied fresh n)) (Block b) (child fresh (beginning l st)))
 
   -- the rules of one thread, which keep a tally
   abbrev pub tallied_rules : (fresh nest : ℕ) → Rules Tally
@@ -94,4 +109,5 @@ cost_of t = record {
   tasks = t.tasks;
   deepest_nest = t.deepest;
   finishes = t.finishes;
+  copied = t.copied;
 }

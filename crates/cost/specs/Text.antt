@@ -13,12 +13,13 @@ work_lines c =
     ++ (line (codes "span") (decimal c.span)
     ++ line (codes "parallelism") (parallelism c.work c.span))
 
--- by how many tasks and in how many finishes
+-- by how many tasks and in how many finishes, and how many places they copy
 abbrev pub task_lines : Cost → List ℕ
 task_lines c =
     line (codes "tasks") (decimal c.tasks)
     ++ (line (codes "deepest nest") (decimal c.deepest_nest)
-    ++ line (codes "finishes") (decimal c.finishes))
+    ++ (line (codes "finishes") (decimal c.finishes)
+    ++ line (codes "copied places") (decimal c.copied)))
 
 abbrev pub cost_text : Cost → List ℕ
 cost_text c = work_lines c ++ task_lines c

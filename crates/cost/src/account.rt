@@ -61,11 +61,17 @@ impl Account {
         Ok(())
     }
 
-    /// An async took its step, and its task begins, which stands in so many asyncs.
-    pub fn begin_task(&mut self, label: Label, depth: usize) -> Result<(), AllocError>
-        ensures { OnOk result (account self.new ≡ begins_at label depth (account self.old)) }
+    /// An async took its step, and its task begins, which stands in so many asyncs and copies so many places.
+    pub fn begin_task(
+        &mut self,
+        label: Label,
+        depth: usize,
+        copied: usize,
+    ) -> Result<(), AllocError>
+        ensures { OnOk result (account self.new
+            ≡ begins_at label depth copied (account self.old)) }
     {
-        self.tally.begin_task(depth)?;
+        self.tally.begin_task(depth, copied)?;
         note(&mut self.work, label)?;
         note(&mut self.here, label)?;
         Ok(())

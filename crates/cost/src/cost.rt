@@ -6,12 +6,14 @@ ghost use Rattle.types.specs.Outcome.{outcome as one_thread_outcome};
 ghost use Rattle.types.specs.Translation.{outcome as outcome_of, input as lists_in};
 ghost use Rattle.types.specs.Translation.{budget as budget_of, program as program_of};
 ghost use Rattle.types.specs.Typed.{code_of};
+ghost use Rattle.effects.specs.Summarized.{AreSummaries};
 ghost use Rattle.serial_run.specs.Bounds.{IsInBounds};
 ghost use Rattle.cost.specs.Accounts.{account_of, span_by_label};
 ghost use Rattle.cost.specs.Costs.{cost_of, tally_of};
 ghost use Rattle.cost.specs.Machines.{end_of, stands};
 
 use crate::machine::Machine;
+use effects::summaries::{Summaries, summarize};
 use serial_run::thread::Plan;
 use std::alloc::{AllocError, Global};
 use types::budget::Budget;
@@ -32,6 +34,9 @@ pub struct Cost {
     pub deepest_nest: usize,
     /// How many finishes there were, the one around `main` among them.
     pub finishes: usize,
+    /// How many places are copied at most where tasks begin and where they have ended, if each task puts back at once
+    /// what it has taken: those of blocks of 256 that lie not wholly inside of what its async may write, twice.
+    pub copied: usize,
 }
 
 /// What a run came to, and what it cost.
@@ -73,7 +78,8 @@ pub fn measure(
         program: typed.code(),
         budget,
     };
-    let machine = ran(plan, input, 0)?;
+    let summaries = summarize(alloc, typed)?;
+    let machine = ran(plan, &summaries, input, 0)?;
     Ok(Costed {
         cost: machine.account.tally.cost(),
         outcome: machine.thread.outcome(),
@@ -107,7 +113,8 @@ pub fn measure_by_label(
         program: typed.code(),
         budget,
     };
-    let machine = ran(plan, input, rows)?;
+    let summaries = summarize(alloc, typed)?;
+    let machine = ran(plan, &summaries, input, rows)?;
     let costed = Costed {
         cost: machine.account.tally.cost(),
         outcome: machine.thread.outcome(),
@@ -117,14 +124,20 @@ pub fn measure_by_label(
 }
 
 /// The machine of a whole run, at its end.
-fn ran<'p>(plan: Plan<'p>, input: &Input, rows: usize) -> Result<Machine<'p>, AllocError>
-    requires { FitsArrays (program_of plan.program.now).arrays (lists_in input.now) }
+fn ran<'p>(
+    plan: Plan<'p>,
+    summaries: &Summaries,
+    input: &Input,
+    rows: usize,
+) -> Result<Machine<'p>, AllocError>
+    requires fits { FitsArrays (program_of plan.program.now).arrays (lists_in input.now) }
+    requires summaries { AreSummaries (program_of plan.program.now) summaries.now }
     ensures stands { IfOk result (λ m. stands m ≡ end_of (program_of plan.entry.program.now)
         plan.entry.budget.steps plan.entry.budget.nest rows (lists_in input.now)) }
     ensures bounds { IfOk result
         (λ m. IsInBounds (program_of plan.entry.program.now) m.thread) }
 {
     let mut machine = Machine::at_start(plan, input, rows)?;
-    'turns: while machine.turn()? {}
+    'turns: while machine.turn(summaries)? {}
     Ok(machine)
 }

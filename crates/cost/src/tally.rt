@@ -22,6 +22,8 @@ pub struct Tally {
     pub deepest: usize,
     /// How many finishes began, the one around `main` among them.
     pub finishes: usize,
+    /// How many places were copied where tasks began, and will be where they have ended.
+    pub copied: usize,
 }
 
 impl Tally {
@@ -33,6 +35,7 @@ impl Tally {
         tasks: 1,
         deepest: 0,
         finishes: 1,
+        copied: 0,
     };
 
     /// The task took a step.
@@ -44,12 +47,13 @@ impl Tally {
         Ok(())
     }
 
-    /// An async took its step, and its task begins, which stands in so many asyncs.
-    pub fn begin_task(&mut self, depth: usize) -> Result<(), AllocError>
-        ensures { OnOk result (self.new ≡ begins_task depth self.old) }
+    /// An async took its step, and its task begins, which stands in so many asyncs and copies so many places.
+    pub fn begin_task(&mut self, depth: usize, copied: usize) -> Result<(), AllocError>
+        ensures { OnOk result (self.new ≡ begins_task depth copied self.old) }
     {
         self.one_more()?;
         self.tasks = more(self.tasks)?;
+        self.copied = self.copied.checked_add(copied).ok_or(AllocError)?;
         self.deepest = self.deepest.max(depth);
         Ok(())
     }
@@ -90,6 +94,7 @@ impl Tally {
             tasks: self.tasks,
             deepest_nest: self.deepest,
             finishes: self.finishes,
+            copied: self.copied,
         }
     }
 }

@@ -15,7 +15,7 @@ use trace_numbers::text::push_parallelism;
 use types::code::{Procedure, Program};
 
 /// The numbers of a cost, one on each line: `work: 61`, `span: 17`, `parallelism: 3.58`, which is the work by the span
-/// with two digits, `tasks: 8`, `deepest nest: 3`, `finishes: 2`.
+/// with two digits, `tasks: 8`, `deepest nest: 3`, `finishes: 2`, `copied places: 24`.
 pub fn cost_text(alloc: Global, cost: &Cost) -> Result<String, AllocError>
     ensures { IfOk result (λ text. string_bytes text ≡ cost_text cost.now) }
 {
@@ -35,16 +35,17 @@ fn push_work(text: &mut String, cost: &Cost) -> Result<(), AllocError>
     push_parallelism(text, work, span)
 }
 
-/// By how many tasks and in how many finishes.
+/// By how many tasks and in how many finishes, and how many places they copy.
 fn push_tasks(text: &mut String, cost: &Cost) -> Result<(), AllocError>
     ensures { OnOk result (string_bytes text.new ≡ string_bytes text.old ++ task_lines cost.now) }
 {
     let tasks = cost.tasks;
     let deepest_nest = cost.deepest_nest;
     let finishes = cost.finishes;
+    let copied = cost.copied;
     write!(
         text,
-        "tasks: {tasks}\ndeepest nest: {deepest_nest}\nfinishes: {finishes}\n"
+        "tasks: {tasks}\ndeepest nest: {deepest_nest}\nfinishes: {finishes}\ncopied places: {copied}\n"
     )
 }
 

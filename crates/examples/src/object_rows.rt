@@ -140,6 +140,7 @@ fn push_cost(text: &mut String, object: &Value) -> Result<(), AllocError> {
     let tasks = number_in(object, "tasks").unwrap_or(0);
     let deepest = number_in(object, "deepest_nest").unwrap_or(0);
     let finishes = number_in(object, "finishes").unwrap_or(0);
+    let copied = number_in(object, "copied_places").unwrap_or(0);
     write!(text, "work: {work}\nspan: {span}\nparallelism: ")?;
     match (work.checked_div(span), work.checked_rem(span)) {
         (Some(whole), Some(rest)) => {
@@ -152,7 +153,7 @@ fn push_cost(text: &mut String, object: &Value) -> Result<(), AllocError> {
     }
     write!(
         text,
-        "tasks: {tasks}\ndeepest nest: {deepest}\nfinishes: {finishes}\n"
+        "tasks: {tasks}\ndeepest nest: {deepest}\nfinishes: {finishes}\ncopied places: {copied}\n"
     )
 }
 

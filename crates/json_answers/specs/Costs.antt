@@ -8,7 +8,8 @@ use Rattle.json_answers.specs.Pieces.{natural, object_of}
 abbrev pub cost_json : Cost → Data
 cost_json c =
     object_of (
-    (codes "deepest_nest", natural c.deepest_nest)
+    (codes "copied_places", natural c.copied)
+    ∷ (codes "deepest_nest", natural c.deepest_nest)
     ∷ (codes "finishes", natural c.finishes)
     ∷ (codes "span", natural c.span)
     ∷ (codes "status", natural 0)

@@ -14,6 +14,7 @@ use Rattle.serial_run.specs.Lists.{lists_of}
 use Rattle.serial_run.specs.Standing.{state_of, flow}
 use Rattle.cost.specs.declared.frame.Frame.TheVariants.{Rest, EndAsync}
 use Rattle.cost.specs.declared.frame.Owner.{Owner}
+use Rattle.spawn_copies.specs.Copied.{copied_at}
 use Rattle.cost.specs.Accounts.{Account, beginning_at, begins_at}
 use Rattle.cost.specs.Frames.{cost, costs, rate}
 use Rattle.cost.specs.Laws.{with_tally}
@@ -41,18 +42,21 @@ returns-clause-does c =
     let end = EndAsync box in
     let below = c.wait.new.frames in let waits = c.in_ok-wait.ensures in
     let frames = c.push.new.self in let on_top = c.in_ok-push.ensures.items in
-    let sound = c.requires.sound in
+    let sound = c.requires.step.sound in
     let owner_sound = subst (LiesInArrays p) (sym c.in_ok-environment.ensures) sound.thread.windows in
-    let deeper : account kept ≡ begins_at c.args.label (length m.thread.path.turns.items + 1) (account m.account)
-    = c.in_ok-begin_task.ensures ∙ ap (λ (n : ℕ). begins_at c.args.label (n + 1) (account m.account)) (c.len.ensures ∙ m.thread.path.turns.ok.0) in
+    let copied = copied_at p c.args.label (environment m.thread.environment) in
+    let deeper : account kept ≡ begins_at c.args.label (length m.thread.path.turns.items + 1) copied (account m.account)
+    = c.in_ok-begin_task.ensures
+    ∙ ap (λ (n : ℕ). begins_at c.args.label (n + 1) c.in_ok-copied.copied (account m.account)) (c.len.ensures ∙ m.thread.path.turns.ok.0)
+    ∙ ap (λ (n : ℕ). begins_at c.args.label (length m.thread.path.turns.items + 1) n (account m.account)) c.in_ok-copied.ensures in
     let is_path = ap (λ (q : Path). q.turns.items) c.replace-path.ensures.after ∙ c.in_ok-child.ensures in
     let at : Flow → List ℕ → Account → State Account = λ f q y.
     with_tally y (record (hushed (state_of m.thread)) { flow = f; path = q; steps = fresh; spawned = 0 }) in
-    let is : (standing kept begun).state ≡ child fresh (beginning_at c.args.label st)
+    let is : (standing kept begun).state ≡ child fresh (beginning_at p c.args.label st)
     = ap (λ (s : State (Unit {0})). with_tally (account kept) (record s { steps = fresh; spawned = 0 })) told.nothing
     ∙ ap (at (flow m.thread.flow) c.replace-path.new.dest.turns.items) deeper
-    ∙ ap (λ q. at (flow m.thread.flow) q (beginning_at c.args.label st).extra) is_path
-    ∙ ap (λ f. at f (child fresh (beginning_at c.args.label st)).path (beginning_at c.args.label st).extra) (ap flow c.requires.on) in
+    ∙ ap (λ q. at (flow m.thread.flow) q (beginning_at p c.args.label st).extra) is_path
+    ∙ ap (λ f. at f (child fresh (beginning_at p c.args.label st)).path (beginning_at p c.args.label st).extra) (ap flow c.requires.step.on) in
     record {
       plan = refl;
       sound = record {
@@ -66,13 +70,13 @@ returns-clause-does c =
         frames =
             all_pushed (IsSoundFrame p fresh) below.items frames.items end on_top
             (subst (λ (o : Owner). LiesInArrays p (environment o.environment) × (o.spawned + o.steps ≤ fresh)) (sym is_box)
-            (owner_sound, omega (arith, c.requires.taken))) (waits.sound p fresh sound.frames);
+            (owner_sound, omega (arith, c.requires.step.taken))) (waits.sound p fresh sound.frames);
       };
       comes =
           resume-frame_block m.block m.frames.items p fresh below.items waits frames.items end c.args.body (standing kept begun) on_top
           ∙ async_on_top p fresh (stack m) (stack m ++ end ∷ []) ((stack m ++ end ∷ []) ++ Rest c.args.body ∷ []) c.args.body
           (codes c.args.body.now) c.args.label m.thread.nest box st (standing kept begun) c.if-self-eq0.false
-          (subst (λ (o : Owner). Waiting o c.args.label st m.thread.nest) (sym is_box) (record {
+          (subst (λ (o : Owner). Waiting p o c.args.label st m.thread.nest) (sym is_box) (record {
             path = ap (λ (q : Path). q.turns.items) c.replace-path.ensures.value;
             environment = c.in_ok-environment.ensures;
             steps = refl;

@@ -1,0 +1,4 @@
+mod Examples
+pub mod Covering
+pub mod Found
+pub mod Splitting

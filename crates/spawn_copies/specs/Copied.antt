@@ -1,0 +1,33 @@
+-- How many places are copied where an async begins a task, and where that has ended. What the body may write moves out and
+-- comes back: blocks of 256 places as they are where they are wholly inside it, and the places of others one by one.
+use Rattle.std.specs.Prelude.{ℕ, ◌*◌, List, [], map, Option, None, Some}
+use Rattle.sections.specs.Place.{Window}
+use Rattle.types.specs.Code.{Codes, Program}
+use Rattle.types.specs.Run.{array_of}
+use Rattle.types.specs.Value.{Environment}
+use Rattle.effects.specs.Rounds.{needs_of}
+use Rattle.block_rows.specs.Copied.{split_in}
+use Rattle.spawn_copies.specs.Asyncs.{body_of_async}
+use Rattle.spawn_copies.specs.Cover.{cover_of}
+
+module _ (p : Program) where
+  -- how many places each array has
+  abbrev pub length_of : (array : ℕ) → ℕ
+  length_of a = (array_of p a).length
+
+  -- the sections that a body may write, where there is one
+  abbrev pub written_in : Option Codes → List ℕ
+  written_in None = []
+  written_in (Some b) = (needs_of p b).writes
+
+  -- the sections that the body of the async of a label may write
+  abbrev pub written_at : (label : ℕ) → List ℕ
+  written_at l = written_in (body_of_async p l)
+
+  -- their places, as a cover
+  abbrev pub taken_at : (label : ℕ) → Environment → List Window
+  taken_at l env = cover_of (map env.windows (written_at l))
+
+  -- what is copied at an async, in this environment: where its task begins, and as much again where that has ended
+  abbrev pub copied_at : (label : ℕ) → Environment → ℕ
+  copied_at l env = 2 * split_in length_of (taken_at l env)

@@ -1,0 +1,3 @@
+pub mod Asyncs
+pub mod Cover
+pub mod Copied

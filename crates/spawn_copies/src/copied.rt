@@ -1,0 +1,65 @@
+//! What is copied at an async.
+
+ghost use Rattle.std.specs.Prelude.{◌≡◌, IfOk, map};
+ghost use Rattle.sections.specs.Translation.{section as section_of, window as window_of};
+ghost use Rattle.types.specs.Code.{Program as Code};
+ghost use Rattle.types.specs.Translation.{environment as environment_of, program as program_of};
+ghost use Rattle.effects.specs.Summarized.{AreSummaries};
+ghost use Rattle.spawn_copies.specs.Copied.{copied_at, written_at};
+
+use crate::splits::{plus, split_in};
+use effects::summaries::Summaries;
+use sections::cover::cover;
+use sections::id::SectionId;
+use sections::window::Window;
+use std::alloc::{AllocError, Global};
+use types::code::{Label, Program};
+use types::value::Environment;
+
+/// How many places are copied where the async of a label begins a task in this environment, and where that has ended: none
+/// at the label of another statement. Of an array of 1,024, an async that may write the first 300 places copies 88.
+///
+/// `carve` of `holdings` copies at most half of that, whoever else holds blocks of the array.
+pub fn copied_places(
+    alloc: Global,
+    code: &Program,
+    summaries: &Summaries,
+    label: Label,
+    environment: &Environment,
+) -> Result<usize, AllocError>
+    requires { AreSummaries (program_of code.now) summaries.now }
+    ensures { IfOk result (λ n. n
+        ≡ copied_at (program_of code.now) label (environment_of environment.now)) }
+{
+    let windows = windows_of(alloc, environment, written(summaries, label))?;
+    let places = cover(alloc, &windows)?;
+    let split = split_in(code, &places)?;
+    plus(split, split)
+}
+
+/// The sections that the body of the async of a label may write.
+fn written(summaries: &Summaries, label: Label) -> &[SectionId]
+    ensures { (p : Code) → AreSummaries p summaries.now
+        → map section_of result.now ≡ written_at p label }
+{
+    match summaries.needs(label) {
+        Some(needs) => &needs.writes,
+        None => &[],
+    }
+}
+
+/// The windows of sections.
+fn windows_of(
+    alloc: Global,
+    environment: &Environment,
+    sections: &[SectionId],
+) -> Result<Vec<Window>, AllocError>
+    ensures { IfOk result (λ ws. map window_of ws.items
+        ≡ map (environment_of environment.now).windows (map section_of sections.now)) }
+{
+    let mut windows = Vec::new(alloc);
+    for section in sections {
+        windows.push(environment.window(*section))?;
+    }
+    Ok(windows)
+}

@@ -1,0 +1,52 @@
+//! Places in blocks that aren't wholly inside of what moves.
+
+ghost use Rattle.std.specs.Prelude.{◌≡◌, ◌+◌, IfOk, map};
+ghost use Rattle.sections.specs.Translation.{window as window_of};
+ghost use Rattle.types.specs.Translation.{program as program_of};
+ghost use Rattle.block_rows.specs.Copied.{split_in as split_of_all, split_places as split_of};
+ghost use Rattle.spawn_copies.specs.Copied.{length_of};
+
+use sections::window::Window;
+use std::alloc::AllocError;
+use types::code::Program;
+
+/// How many places of the windows of a cover lie in blocks of 256 that aren't wholly inside of theirs.
+pub fn split_in(code: &Program, cover: &[Window]) -> Result<usize, AllocError>
+    ensures { IfOk result (λ n. n
+        ≡ split_of_all (length_of (program_of code.now)) (map window_of cover.now)) }
+{
+    let mut all = 0usize;
+    for window in cover {
+        let length = length_in(code, *window);
+        all = plus(all, split_places(length, *window))?;
+    }
+    Ok(all)
+}
+
+/// Two numbers together. What is too large for memory to count is told as want of memory.
+pub fn plus(first: usize, second: usize) -> Result<usize, AllocError>
+    ensures { IfOk result (λ n. n ≡ first + second) }
+{
+    first.checked_add(second).ok_or(AllocError)
+}
+
+/// How many places the array of a window has.
+fn length_in(code: &Program, window: Window) -> usize
+    ensures { result ≡ length_of (program_of code.now) window.array.number }
+{
+    match code.arrays.get(window.array.number) {
+        Some(array) => array.length,
+        None => 0,
+    }
+}
+
+/// How many places of a window, in an array of this length, lie in blocks that aren't wholly inside it: all but those from
+/// where its first whole block begins to where its last one ends. The last block of an array may be shorter.
+fn split_places(length: usize, window: Window) -> usize
+    ensures { result ≡ split_of (λ a. length) (window_of window) }
+{
+    let end = window.at + window.len;
+    let from = (window.at + 255) / 256 * 256;
+    let to = if length <= end { end } else { end / 256 * 256 };
+    window.len - to.saturating_sub(from)
+}
