@@ -1,4 +1,5 @@
 pub mod Counting
 pub mod Ending
+pub mod InPlace
 pub mod Staying
 pub mod Turning

@@ -1,6 +1,7 @@
 -- What a turn gives, once the weights are where they go.
-use Rattle.std.proofs.Common.{◌≡◌, ℕ, List, [], ◌∷◌, length, Some, refl, sym, ap, subst, ◌∙◌, arith}
+use Rattle.std.proofs.Common.{◌≡◌, ℕ, ◌+◌, List, [], ◌∷◌, length, Some, refl, sym, ap, subst, ◌∙◌, arith}
 use Rattle.std.proofs.lemmas.List.{length_push}
+use Rattle.std.proofs.lemmas.List.Sums.{sum_by_push}
 use Rattle.effects.specs.Rounds.{needs_of}
 use Rattle.own_run.specs.MayRun.{MayStart}
 use Rattle.own_run.specs.RunTurns.{IsTurn}
@@ -8,29 +9,24 @@ use Rattle.own_run.specs.Translation.{start}
 use Rattle.own_run.specs.declared.result.TaskResult.{TaskResult as Made}
 use Rattle.own_run.specs.declared.run.Run.{Run}
 use Rattle.own_run.specs.declared.start.Start.{Start}
-use Rattle.own_run.specs.declared.turn.Turn.TheVariants.{EntersFinish as RunEntersFinish}
+use Rattle.own_run.specs.declared.turn.Turn.TheVariants.{EntersFinish as RunEntersFinish, Ended as RunEnded}
 use Rattle.task_machine.specs.Ends.{IsAtEnd}
 use Rattle.task_machine.specs.Jobs.{program_of, lists_of, budget_of, IsJob}
-use Rattle.task_machine.specs.Tasks.{GoesBy, IsBody}
-use Rattle.task_machine.specs.Turns.{AreTasks, IsEndOf, Opens, Parts}
-use Rattle.task_machine.specs.Units.{held}
+use Rattle.task_machine.specs.Tasks.{GoesBy, IsBody, IsResultOf}
+use Rattle.task_machine.specs.Turns.{AreTasks, Becomes, IsEndOf, Opens, Parts}
+use Rattle.task_machine.specs.Units.{held, units_after}
 use Rattle.task_machine.specs.declared.finish.Ending.{Ending}
 use Rattle.task_machine.specs.declared.finish.Owner.{Owner}
+use Rattle.task_machine.specs.declared.finish.Owner.TheVariants.{Main}
 use Rattle.task_machine.specs.declared.job.Job.{Job}
 use Rattle.task_machine.specs.declared.stake.Stake.{Stake}
 use Rattle.task_machine.specs.declared.task.Body.{Body}
 use Rattle.task_machine.specs.declared.turn.Turn.{Turn}
 use Rattle.task_machine.specs.declared.turn.Turn.TheVariants.{Going, Spawns, WantsWeight, EntersFinish}
 use Rattle.task_machine.specs.declared.turn.Turn.TheVariants.{EndsFinish, Ended, Over}
+use Rattle.task_machine.proofs.Ending.{is_result, root_ends}
 use Rattle.task_machine.proofs.Staying.{entering}
-
--- a body with the run that it goes by
-pub body_runs : (b d : Body) (r : Run) → d ≡ b → GoesBy b.job b.outer.items b.opened r → IsBody (record d { run = Some r })
-body_runs b d r e g = record {
-  run = r;
-  has = refl;
-  goes = subst (λ (x : Body). GoesBy x.job x.outer.items x.opened r) (sym e) g;
-}
+use Rattle.task_machine.proofs.Staying.{none_held as none_open}
 
 -- a task that began another, and that one
 pub parts_tasks : (b : Body) (u : ℕ) (s : Start) (t : Turn) → Parts b u s t → IsBody b
@@ -40,14 +36,14 @@ parts_tasks b u s (Spawns t c) h is may = (
   record {
     job = subst IsJob (sym h.job) is.goes.job;
     may =
-        subst (λ (k : Job). MayStart (program_of k) (lists_of k) (budget_of k) (start c.start)) (sym h.job)
+        subst (λ (k : Job). MayStart (program_of k) (lists_of k) (budget_of k) (start c.start.value)) (sym h.job)
         (subst (λ (x : Start). MayStart (program_of b.job) (lists_of b.job) (budget_of b.job) (start x)) (sym h.start) may);
   },
 )
 parts_tasks b u s (WantsWeight w) h is may = record {
   body = subst IsBody (sym h.body) is;
   may =
-      subst (λ (x : Body). MayStart (program_of x.job) (lists_of x.job) (budget_of x.job) (start w.start)) (sym h.body)
+      subst (λ (x : Body). MayStart (program_of x.job) (lists_of x.job) (budget_of x.job) (start w.start.value)) (sym h.body)
       (subst (λ (x : Start). MayStart (program_of b.job) (lists_of b.job) (budget_of b.job) (start x)) (sym h.start) may);
 }
 parts_tasks b u s (Going t) h is may = absurd h
@@ -69,6 +65,13 @@ opens_task b u r new o old g is = record {
       (ap length o.outer ∙ length_push b.outer.items o.stake)));
 }
 
+pub opens_units : (b : Body) (u : ℕ) (r : Run) (new : Body) → Opens b u r new
+    → held new.outer.items ≡ u + held b.outer.items
+opens_units b u r new o =
+    let all = ap held o.outer ∙ sum_by_push (λ (s : Stake). s.share.weight) b.outer.items o.stake in
+    let weight = o.weight in
+    omega (arith, all, weight)
+
 -- a task at an end
 pub ends_task : (b : Body) (u : ℕ) (o : Owner) (x : Made) (e : Ending) → IsEndOf b u o x e
     → IsAtEnd b.job o x b.outer.items b.opened → IsAtEnd e.job e.owner e.made e.outer.items e.opened
@@ -79,7 +82,41 @@ ends_task b u o x e h at =
     (subst (λ (ss : List Stake). IsAtEnd b.job o x ss e.opened) (sym (ap (λ (v : _). v.items) h.outer))
     (subst (λ (n : ℕ). IsAtEnd b.job o x b.outer.items n) (sym h.opened) at))))
 
+-- what it holds is what it held
+pub ends_units : (b : Body) (u : ℕ) (o : Owner) (x : Made) (e : Ending) → IsEndOf b u o x e
+    → e.share.weight + held e.outer.items ≡ u + held b.outer.items
+ends_units b u o x e h =
+    ap (λ (n : ℕ). n + held e.outer.items) h.weight ∙ ap (λ (v : _). u + held v.items) h.outer
+
 -- where no finish is open there is no weight beside that of the innermost scope
 pub none_held : (stakes : List Stake) → length stakes ≡ 0 → held stakes ≡ 0
 none_held [] e = refl
 none_held (s ∷ stakes) e = absurd (omega (arith, e))
+
+-- a task at its end
+module _ (b : Body) (u : ℕ) (x : Made) (run : Run) (g : GoesBy b.job b.outer.items b.opened run)
+    (is : IsTurn (needs_of (program_of b.job)) run (RunEnded x)) where
+  pub ended_tasks : (t : Turn) → Becomes b u (RunEnded x) t → AreTasks t
+  ended_tasks (EndsFinish e) h =
+      ends_task b u Main x e h.1 (g.job, root_ends b.job b.outer.items b.opened run g x is h.0)
+  ended_tasks (Ended r) h =
+      subst (λ (k : Job). IsJob k × IsResultOf k r.made) (sym h.job)
+      (subst (λ (m : Made). IsJob b.job × IsResultOf b.job m) (sym h.made)
+      (g.job, is_result b.job b.outer.items b.opened run g x is))
+  ended_tasks (Going t) h = absurd h
+  ended_tasks (Spawns t c) h = absurd h
+  ended_tasks (WantsWeight w) h = absurd h
+  ended_tasks (EntersFinish e) h = absurd h
+  ended_tasks (Over t) h = absurd h
+
+  pub ended_units : (t : Turn) → Becomes b u (RunEnded x) t → units_after t ≡ u + held b.outer.items
+  ended_units (EndsFinish e) h = ends_units b u Main x e h.1
+  ended_units (Ended r) h =
+      let none = none_held b.outer.items (none_open b.job b.outer.items b.opened run g x is) in
+      let weight = h.weight in
+      omega (arith, none, weight)
+  ended_units (Going t) h = absurd h
+  ended_units (Spawns t c) h = absurd h
+  ended_units (WantsWeight w) h = absurd h
+  ended_units (EntersFinish e) h = absurd h
+  ended_units (Over t) h = absurd h

@@ -37,7 +37,7 @@ IsTask t = IsBody t.body.value
 -- a task that was begun is one of its job's
 pub record IsChild (c : Child) : Type 0 where
   pub job : IsJob c.job
-  pub may : MayStart (program_of c.job) (lists_of c.job) (budget_of c.job) (start c.start)
+  pub may : MayStart (program_of c.job) (lists_of c.job) (budget_of c.job) (start c.start.value)
 
 -- a result is that of one of the job's tasks
 abbrev pub IsResultOf : Job → Made → Type 0
@@ -66,7 +66,7 @@ IsRoot j t = IsRootBody j t.body.value
 pub record IsBegun (c : Child) (t : Task) : Type 0 where
   pub run : Run
   pub first : IsFirst c.job run c.scope t.body.value
-  pub begun : IsAt run (begun c.job.budget.steps (start c.start))
-  pub nest : run.thread.nest ≡ c.start.nest
+  pub begun : IsAt run (begun c.job.budget.steps (start c.start.value))
+  pub nest : run.thread.nest ≡ c.start.value.nest
   pub weight : t.share.weight ≡ c.share.weight
   pub task : IsTask t

@@ -2,11 +2,14 @@
 use Rattle.std.specs.Prelude.{ℕ, ◌≡◌, ◌≢◌, ◌+◌, ◌/◌, ◌≤◌, [], ◌∷◌, ◌++◌, length, Some, None}
 use Rattle.effects.specs.Rounds.{needs_of}
 use Rattle.own_run.specs.MayRun.{MayStart}
-use Rattle.own_run.specs.RunTurns.{GoesUpTo, IsTurn}
+use Rattle.own_run.specs.RunTurns.{GoesUpTo, IsEnding, IsStep, IsTurn, StepsUpTo, turn_of}
+use Rattle.own_run.specs.RunTurns.{IsAtEnd as IsRunAtEnd}
 use Rattle.own_run.specs.Translation.{start}
 use Rattle.own_run.specs.declared.result.TaskResult.{TaskResult as Made}
 use Rattle.own_run.specs.declared.run.Run.{Run}
 use Rattle.own_run.specs.declared.start.Start.{Start}
+use Rattle.own_run.specs.declared.turn.Done.{Done}
+use Rattle.own_run.specs.declared.turn.Step.{Step as RunStep}
 use Rattle.own_run.specs.declared.turn.Turn.{Turn as RunTurn}
 use Rattle.own_run.specs.declared.turn.Turn.TheVariants.{Going as RunGoing, Spawns as RunSpawns}
 use Rattle.own_run.specs.declared.turn.Turn.TheVariants.{EntersFinish as RunEntersFinish}
@@ -42,7 +45,7 @@ pub record Divides (b : Body) (units : ℕ) (s : Start) (t : Task) (c : Child) :
   pub half : c.share.weight ≡ units / 2
   pub rest : c.share.weight + t.share.weight ≡ units
   pub job : c.job ≡ b.job
-  pub start : c.start ≡ s
+  pub start : c.start.value ≡ s
   pub scope : c.scope ≡ b.scope
 
 -- it holds 1, and has begun another
@@ -50,7 +53,7 @@ pub record Wants (b : Body) (units : ℕ) (s : Start) (w : Wanting) : Type 0 whe
   pub one : units ≡ 1
   pub body : w.body.value ≡ b
   pub weight : w.share.weight ≡ 1
-  pub start : w.start ≡ s
+  pub start : w.start.value ≡ s
 
 -- the one or the other
 abbrev pub Parts : Body → (units : ℕ) → Start → Turn → Type 0
@@ -101,11 +104,50 @@ Becomes b units (RunEnded made) (EndsFinish e) =
 Becomes b units (RunEnded made) (Ended r) = EndsWith b units made r
 Becomes b units _ _ = ⊥
 
--- a turn of the run of a task
-pub record IsTurnIn (b : Body) (t : RunTurn) : Type 0 where
+-- a task without its run
+abbrev pub turning : Body → Body
+turning b = record b { run = None }
+
+-- the run of a task becomes another where it lies, and all else stays
+pub record InPlace (Takes : (old new : Run) → Type 0) (old new : Body) : Type 0 where
+  pub run : Run
+  pub has : old.run ≡ Some run
+  pub after : Run
+  pub takes : Takes run after
+  pub is : new ≡ record old { run = Some after }
+
+-- by turns that are no more than a step, and the first that is more
+abbrev pub GoesInPlace : (old : Body) → RunStep → (new : Body) → Type 0
+GoesInPlace old s new =
+    InPlace (λ r after. StepsUpTo (needs_of (program_of old.job)) r s after) old new
+
+-- by one turn
+abbrev pub TurnsInPlace : (old : Body) → RunStep → (new : Body) → Type 0
+TurnsInPlace old s new = InPlace (λ r after. IsStep (needs_of (program_of old.job)) r s after) old new
+
+-- the run of a task did this
+pub record HasDone (b : Body) (d : Done) : Type 0 where
   pub run : Run
   pub goes : GoesBy b.job b.outer.items b.opened run
-  pub turn : IsTurn (needs_of (program_of b.job)) run t
+  pub after : Run
+  pub has : b.run ≡ Some after
+  pub turn : IsTurn (needs_of (program_of b.job)) run (turn_of after d)
+
+-- it is at the end of a finish, or at its own
+pub record RunsToEnd (b : Body) : Type 0 where
+  pub run : Run
+  pub has : b.run ≡ Some run
+  pub goes : GoesBy b.job b.outer.items b.opened run
+  pub end : IsRunAtEnd run
+
+-- that end is its turn, and this became of the task
+pub record EndsBy (b : Body) (units : ℕ) (new : Turn) : Type 0 where
+  pub run : Run
+  pub has : b.run ≡ Some run
+  pub turn : RunTurn
+  pub is : IsTurn (needs_of (program_of b.job)) run turn
+  pub ending : IsEnding turn
+  pub becomes : Becomes (turning b) units turn new
 
 -- the run of a task went on up to a turn, and this became of the task, whose run was taken out
 pub record TakesTurn (old : Task) (new : Turn) : Type 0 where
@@ -132,7 +174,7 @@ pub record IsWanting (b : Body) (s : Start) : Type 0 where
 abbrev pub AreTasks : Turn → Type 0
 AreTasks (Going t) = IsTask t
 AreTasks (Spawns t c) = IsTask t × IsChild c
-AreTasks (WantsWeight w) = IsWanting w.body.value w.start
+AreTasks (WantsWeight w) = IsWanting w.body.value w.start.value
 AreTasks (EntersFinish e) = IsBody e.body.value
 AreTasks (EndsFinish e) = IsAtEnd e.job e.owner e.made e.outer.items e.opened
 AreTasks (Ended r) = IsJob r.job × IsResultOf r.job r.made

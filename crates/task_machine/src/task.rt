@@ -1,10 +1,15 @@
 //! Tasks, and those that they begin.
 
-ghost use Rattle.std.specs.Prelude.{◌≡◌, ◌+◌, ◌<◌, IfErr, IfOk, IfSome};
+ghost use Rattle.std.specs.Prelude.{◌≡◌, ◌+◌, ◌<◌, IfErr, IfOk, IfSome, Some};
+ghost use Rattle.own_run.specs.RunTurns.{turn_of};
+ghost use Rattle.own_run.specs.declared.run.Run.{Run as AnyRun};
+ghost use Rattle.own_run.specs.declared.turn.Turn.TheVariants.{Ended};
 ghost use Rattle.task_machine.specs.Jobs.{IsJob};
-ghost use Rattle.task_machine.specs.Tasks.{IsBegun, IsChild, IsFirst, IsRoot, IsRootBody, IsTask};
-ghost use Rattle.task_machine.specs.Turns.{AreTasks, Becomes, IsEndOf, IsTurnIn, Opens, Parts};
-ghost use Rattle.task_machine.specs.Turns.{TakesOneTurn, TakesTurn};
+ghost use Rattle.task_machine.specs.Tasks.{IsBegun, IsBody, IsChild, IsFirst, IsRoot, IsRootBody};
+ghost use Rattle.task_machine.specs.Tasks.{IsTask};
+ghost use Rattle.task_machine.specs.Turns.{AreTasks, Becomes, EndsBy, GoesInPlace, HasDone};
+ghost use Rattle.task_machine.specs.Turns.{IsEndOf, Opens, Parts, RunsToEnd, TakesOneTurn, TakesTurn};
+ghost use Rattle.task_machine.specs.Turns.{TurnsInPlace, turning};
 ghost use Rattle.task_machine.specs.Units.{held, units_after, units_of};
 
 use crate::error::NoMemory;
@@ -15,7 +20,7 @@ use crate::turn::{TaskResult, Turn, Wanting};
 use own_run::result::TaskResult as RunResult;
 use own_run::run::Run;
 use own_run::start::Start;
-use own_run::turn::Turn as RunTurn;
+use own_run::turn::{Done, Step, Turn as RunTurn};
 use types::path::Path;
 use weights::weight::Weight;
 
@@ -31,7 +36,7 @@ pub struct Task<'p> {
 #[derive(Drop)]
 pub struct Body<'p> {
     pub job: Job<'p>,
-    /// None while it turns.
+    /// None once it is at an end.
     pub run: Option<Run<'p>>,
 
     // The scopes in which it stands.
@@ -47,7 +52,7 @@ pub struct Body<'p> {
 #[derive(Drop)]
 pub struct Child<'p> {
     pub job: Job<'p>,
-    pub start: Start<'p>,
+    pub start: Box<Start<'p>>,
     /// The scope that it was begun in.
     pub scope: ScopeMark,
     pub share: Share,
@@ -78,12 +83,9 @@ impl<'p> Task<'p> {
         ensures units { IfOk result (λ t. units_after t ≡ units_of self.entry) }
     {
         let Task { mut body, share } = self;
-        let Some(run) = body.run.take() else {
-            unreachable!()
-        };
-        match run.go(body.job.accepted) {
-            Ok(turn) => after(body, share, turn),
-            Err(_) => Err(NoMemory),
+        match body.go()? {
+            Step::Did(done) => did(body, share, done),
+            Step::AtEnd => at_end(body, share),
         }
     }
 
@@ -95,12 +97,9 @@ impl<'p> Task<'p> {
         ensures units { IfOk result (λ t. units_after t ≡ units_of self.entry) }
     {
         let Task { mut body, share } = self;
-        let Some(run) = body.run.take() else {
-            unreachable!()
-        };
-        match run.advance(body.job.accepted) {
-            Ok(turn) => after(body, share, turn),
-            Err(_) => Err(NoMemory),
+        match body.advance()? {
+            Step::Did(done) => did(body, share, done),
+            Step::AtEnd => at_end(body, share),
         }
     }
 
@@ -146,6 +145,38 @@ impl<'p> Task<'p> {
     }
 }
 
+impl<'p> Body<'p> {
+    /// Its run turns on where it lies.
+    fn go(&mut self) -> Result<Step<'p>, NoMemory>
+        requires { IsBody self.old }
+        ensures { IfOk result (λ s. GoesInPlace self.old s self.new) }
+    {
+        let accepted = self.job.accepted;
+        let Some(run) = &mut self.run else {
+            unreachable!()
+        };
+        match run.go(accepted) {
+            Ok(step) => Ok(step),
+            Err(_) => Err(NoMemory),
+        }
+    }
+
+    /// Its run takes one turn where it lies.
+    fn advance(&mut self) -> Result<Step<'p>, NoMemory>
+        requires { IsBody self.old }
+        ensures { IfOk result (λ s. TurnsInPlace self.old s self.new) }
+    {
+        let accepted = self.job.accepted;
+        let Some(run) = &mut self.run else {
+            unreachable!()
+        };
+        match run.step(accepted) {
+            Ok(step) => Ok(step),
+            Err(_) => Err(NoMemory),
+        }
+    }
+}
+
 impl<'p> Child<'p> {
     /// The task, before its first turn.
     pub fn begin(self) -> Result<Task<'p>, NoMemory>
@@ -158,7 +189,7 @@ impl<'p> Child<'p> {
             scope,
             share,
         } = self;
-        let run = Run::begin(job.plan(), start)?;
+        let run = Run::begin(job.plan(), Box::into_inner(start))?;
         let body = first_body(job, run, scope)?;
         Ok(Task { body, share })
     }
@@ -191,51 +222,26 @@ fn first_body<'p>(job: Job<'p>, run: Run<'p>, scope: ScopeMark) -> Result<Box<Bo
     Ok(Box::new(job.alloc, body)?)
 }
 
-/// What a turn of its run makes of a task.
-fn after<'p>(body: Box<Body<'p>>, share: Share, turn: RunTurn<'p>) -> Result<Turn<'p>, NoMemory>
-    requires turn { IsTurnIn body.value turn }
-    ensures becomes { IfOk result (Becomes body.entry.value share.weight turn.entry) }
+/// What a turn of its run makes of a task that goes on.
+fn did<'p>(body: Box<Body<'p>>, share: Share, done: Done<'p>) -> Result<Turn<'p>, NoMemory>
+    requires done { HasDone body.value done }
+    ensures becomes { IfOk result (λ t. (r : AnyRun) → body.entry.value.run ≡ Some r
+        → Becomes (turning body.entry.value) share.weight (turn_of r done.entry) t) }
     ensures tasks { IfOk result AreTasks }
     ensures units { IfOk result (λ t. units_after t
         ≡ share.weight + held body.entry.value.outer.items) }
 {
-    let mut body = body;
-    match turn {
-        RunTurn::Going(run) => {
-            body.run = Some(run);
-            Ok(Turn::Going(Task { body, share }))
-        }
-        RunTurn::Over(run) => {
-            body.run = Some(run);
-            Ok(Turn::Over(Task { body, share }))
-        }
-        RunTurn::Spawns(run, start) => {
-            body.run = Some(run);
-            Ok(spawned(body, share, start))
-        }
-        RunTurn::EntersFinish(run) => Ok(Turn::EntersFinish(entered(body, share, run)?)),
-        RunTurn::EndsFinish(paused, made) => {
-            let owner = Owner::Finish(paused);
-            Ok(Turn::EndsFinish(ending(body, share, owner, made)))
-        }
-        RunTurn::Ended(made) => {
-            if made.path.turns.is_empty() {
-                return Ok(Turn::EndsFinish(ending(body, share, Owner::Main, made)));
-            }
-            let Body { job, scope, .. } = Box::into_inner(body);
-            Ok(Turn::Ended(TaskResult {
-                job,
-                made,
-                scope,
-                share,
-            }))
-        }
+    match done {
+        Done::Gone => Ok(Turn::Going(Task { body, share })),
+        Done::Exceeded => Ok(Turn::Over(Task { body, share })),
+        Done::Spawned(start) => Ok(spawned(body, share, start)),
+        Done::Entered => Ok(Turn::EntersFinish(entered(body, share)?)),
     }
 }
 
 /// A task that began another gives it half of what it holds; at 1 it wants more first.
-fn spawned<'p>(body: Box<Body<'p>>, share: Share, start: Start<'p>) -> Turn<'p>
-    ensures { Parts body.entry.value share.weight start.entry result }
+fn spawned<'p>(body: Box<Body<'p>>, share: Share, start: Box<Start<'p>>) -> Turn<'p>
+    ensures { Parts body.entry.value share.weight start.entry.value result }
 {
     match share.divide() {
         Ok((half, share)) => {
@@ -252,20 +258,47 @@ fn spawned<'p>(body: Box<Body<'p>>, share: Share, start: Start<'p>) -> Turn<'p>
 }
 
 /// A task that began a finish: it stands in one more scope.
-fn entered<'p>(body: Box<Body<'p>>, share: Share, run: Run<'p>) -> Result<Entering<'p>, NoMemory>
+fn entered<'p>(body: Box<Body<'p>>, share: Share) -> Result<Entering<'p>, NoMemory>
+    requires run { (r : AnyRun) × (body.value.run ≡ Some r) }
     requires few { body.value.opened < 4294967295 }
-    ensures { IfOk result (λ e. Opens body.entry.value share.weight run.entry e.body.value) }
+    ensures { IfOk result (λ e. (r : AnyRun) → body.entry.value.run ≡ Some r
+        → Opens (turning body.entry.value) share.weight r e.body.value) }
 {
     let mut body = body;
+    let Some(run) = &body.run else { unreachable!() };
+    let depth = run.thread.path.turns.len();
     let scope = body.scope;
     body.outer.push(Stake { scope, share })?;
     body.opened += 1;
     body.scope = ScopeMark {
-        depth: run.thread.path.turns.len(),
+        depth,
         number: body.opened,
     };
-    body.run = Some(run);
     Ok(Entering { body })
+}
+
+/// What becomes of a task whose run is at the end of a finish, or at its own.
+fn at_end<'p>(body: Box<Body<'p>>, share: Share) -> Result<Turn<'p>, NoMemory>
+    requires end { RunsToEnd body.value }
+    ensures ends { IfOk result (EndsBy body.entry.value share.weight) }
+    ensures tasks { IfOk result AreTasks }
+    ensures units { IfOk result (λ t. units_after t
+        ≡ share.weight + held body.entry.value.outer.items) }
+{
+    let mut body = body;
+    let Some(run) = body.run.take() else {
+        unreachable!()
+    };
+    match run.end()? {
+        RunTurn::EndsFinish(paused, made) => {
+            let owner = Owner::Finish(paused);
+            Ok(Turn::EndsFinish(ending(body, share, owner, made)))
+        }
+        RunTurn::Ended(made) => Ok(ended(body, share, made)),
+        RunTurn::Going(_) | RunTurn::Spawns(_, _) | RunTurn::EntersFinish(_) | RunTurn::Over(_) => {
+            unreachable!()
+        }
+    }
 }
 
 /// A task at the end of a finish, or of `main`.
@@ -288,4 +321,20 @@ fn ending<'p>(body: Box<Body<'p>>, share: Share, owner: Owner<'p>, made: RunResu
         opened,
         share,
     }
+}
+
+/// A task at its end: the root is at that of `main`.
+fn ended<'p>(body: Box<Body<'p>>, share: Share, made: RunResult) -> Turn<'p>
+    ensures { Becomes body.entry.value share.weight (Ended made) result }
+{
+    if made.path.turns.is_empty() {
+        return Turn::EndsFinish(ending(body, share, Owner::Main, made));
+    }
+    let Body { job, scope, .. } = Box::into_inner(body);
+    Turn::Ended(TaskResult {
+        job,
+        made,
+        scope,
+        share,
+    })
 }

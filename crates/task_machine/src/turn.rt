@@ -36,7 +36,7 @@ pub enum Turn<'p> {
 pub struct Wanting<'p> {
     pub body: Box<Body<'p>>,
     /// What the task that it began starts with.
-    pub start: Start<'p>,
+    pub start: Box<Start<'p>>,
     pub share: Share,
 }
 
@@ -44,7 +44,7 @@ pub struct Wanting<'p> {
 #[derive(Drop)]
 pub struct Paused<'p> {
     pub body: Box<Body<'p>>,
-    pub start: Start<'p>,
+    pub start: Box<Start<'p>>,
 }
 
 /// What a task has made, with its weight in the scope that it was begun in.
@@ -72,7 +72,7 @@ impl<'p> Paused<'p> {
     /// The task with more weight, and the one that it began with half of it.
     pub fn with_weight(self, weight: Weight) -> (Task<'p>, Child<'p>)
         requires enough { 2 ≤ weight }
-        ensures parts { Parts self.entry.body.value weight self.entry.start
+        ensures parts { Parts self.entry.body.value weight self.entry.start.value
             (Spawns result.0 result.1) }
     {
         let Paused { body, start } = self;

@@ -3,6 +3,7 @@ use Rattle.types.specs.Translation.{program}
 use Rattle.own_run.specs.Reached.{begun}
 use Rattle.own_run.specs.Standings.{IsAt}
 use Rattle.own_run.specs.Translation.{start}
+use Rattle.own_run.specs.declared.start.Start.{Start}
 use Rattle.task_machine.proofs.Staying.{first_goes}
 use Rattle.task_machine.proofs.task.Child.begin.Goals as goal
 
@@ -13,22 +14,25 @@ returns c =
     let first = c.in_ok-body.ensures in
     let ok = c.requires.child in
     let begins = c.in_ok-run.ensures in
+    let unboxed = c.into_inner.ensures in
     let at =
-    subst (λ (n : _). IsAt run (begun n (start child.start))) (ap (λ (z : _). z.steps) c.plan.ensures.budget) begins.begun in
+    subst (λ (n : _). IsAt run (begun n (start child.start.value))) (ap (λ (z : _). z.steps) c.plan.ensures.budget)
+    (subst (λ (s : Start). IsAt run (begun c.plan.result.budget.steps (start s))) unboxed begins.begun) in
     record {
       task = record {
         run = run;
         first = first;
         begun = at;
-        nest = begins.nest;
+        nest = begins.nest ∙ ap (λ (s : Start). s.nest) unboxed;
         weight = refl;
         task = record {
           run = run;
           has = first.run;
           goes =
-              first_goes child.job ok.job (start child.start) run c.in_ok-body.body.value child.scope ok.may
+              first_goes child.job ok.job (start child.start.value) run c.in_ok-body.body.value child.scope ok.may
               (ap (λ (q : _). q.budget) begins.plan ∙ c.plan.ensures.budget)
-              (ap (λ (q : _). program q.program.now) begins.plan ∙ c.plan.ensures.program) begins.nest at first;
+              (ap (λ (q : _). program q.program.now) begins.plan ∙ c.plan.ensures.program)
+              (begins.nest ∙ ap (λ (s : Start). s.nest) unboxed) at first;
         };
       };
     }

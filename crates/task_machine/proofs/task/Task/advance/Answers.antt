@@ -1,70 +1,50 @@
-use Rattle.std.proofs.Common.{◌∙◌, ap, subst, sym}
-use Rattle.std.proofs.lemmas.Option.{same_Some}
+use Rattle.std.proofs.Common.{◌≡◌, ◌∙◌, subst, sym}
 use Rattle.std.proofs.lemmas.Result.{IfOk-weaker}
-use Rattle.effects.specs.Rounds.{needs_of}
-use Rattle.own_run.specs.RunTurns.{IsTurn, here}
-use Rattle.own_run.specs.declared.run.Run.{Run}
-use Rattle.task_machine.specs.Jobs.{program_of}
-use Rattle.task_machine.specs.Tasks.{GoesBy}
-use Rattle.task_machine.specs.Turns.{Becomes, TakesOneTurn}
-use Rattle.task_machine.specs.declared.job.Job.{Job}
+use Rattle.task_machine.specs.Tasks.{IsBody}
+use Rattle.task_machine.specs.Turns.{TurnsInPlace, TakesOneTurn}
+use Rattle.task_machine.specs.Units.{units_after, units_of}
 use Rattle.task_machine.specs.declared.task.Body.{Body}
-use Rattle.task_machine.proofs.Staying.{can_go}
+use Rattle.task_machine.proofs.InPlace.{turned_done, turned_to_end, turned_units, did_one_turn, end_one_turn}
 use Rattle.task_machine.proofs.task.Task.advance.Goals as goal
 
 pub advance-requires : goal.advance-requires
-advance-requires c =
-    let b = c.args.self.body.value in
-    let task = c.requires.task in
-    let run = c.in-Some.run' in
-    let same =
-    same_Some _ _ (sym c.in-Some.is ∙ c.take.ensures.value ∙ ap (λ (b : Body). b.run) c.deref_mut.ensures.value ∙ task.has) in
-    let job = ap (λ (b : Body). b.job) c.deref.ensures ∙ ap (λ (b : Body). b.job) c.deref_mut.ensures.value in
-    let goes =
-    subst (λ (j : Job). GoesBy j b.outer.items b.opened run) (sym job)
-    (subst (GoesBy b.job b.outer.items b.opened) (sym same) task.goes) in
-    can_go c.deref.result.now.job b.outer.items b.opened run run goes here
+advance-requires c = subst IsBody (sym c.deref_mut.ensures.value) c.requires.task
 
-pub after-requires : goal.after-requires
-after-requires c =
-    let b = c.args.self.body.value in
-    let d = c.deref_mut.result.now in
-    let task = c.requires.task in
-    let run = c.in-Some.run' in
-    let same =
-    same_Some _ _ (sym c.in-Some.is ∙ c.take.ensures.value ∙ ap (λ (b : Body). b.run) c.deref_mut.ensures.value ∙ task.has) in
-    let goes =
-    subst (λ (x : Body). GoesBy x.job x.outer.items x.opened run) (sym c.deref_mut.ensures.value)
-    (subst (GoesBy b.job b.outer.items b.opened) (sym same) task.goes) in
-    record {
-      turn = record {
-        run = run;
-        goes = goes;
-        turn =
-            subst (λ (j : Job). IsTurn (needs_of (program_of j)) run c.in-Ok.turn) (ap (λ (b : Body). b.job) c.deref.ensures)
-            c.in-Ok.ensures.turn;
-      };
-    }
+pub did-requires : goal.did-requires
+did-requires c =
+    let b = c.args.self.body.value in let new = c.advance.new.self in let s = c.in_ok-done.field-0 in
+    let went = subst (λ (x : Body). TurnsInPlace x s new) c.deref_mut.ensures.value c.in_ok-done.ensures in
+    record { done = turned_done b new s went c.in-Did.done c.in-Did.is c.requires.task }
 
-pub returns-in-Ok-clause-turn : goal.returns-in-Ok-clause-turn
-returns-in-Ok-clause-turn c =
-    let task = c.requires.task in
-    let run = c.in-Some.run' in
-    let value = c.deref_mut.ensures.value in
-    let same =
-    same_Some _ _ (sym c.in-Some.is ∙ c.take.ensures.value ∙ ap (λ (b : Body). b.run) value ∙ task.has) in
-    let job = ap (λ (b : Body). b.job) c.deref.ensures ∙ ap (λ (b : Body). b.job) value in
-    let far =
-    subst (λ (j : Job). IsTurn (needs_of (program_of j)) task.run c.in-Ok.turn) job
-    (subst (λ (r : Run). IsTurn (needs_of (program_of c.deref.result.now.job)) r c.in-Ok.turn) same c.in-Ok.ensures.turn) in
-    let b = c.args.self.body.value in
-    let taken =
-    ap (λ (x : Body). record x { run = c.take.new.self }) value ∙ ap (λ (o : _). record b { run = o }) c.take.ensures.after in
-    IfOk-weaker c.after.result _ (TakesOneTurn c.args.self)
-    (λ t h. record {
-      run = task.run;
-      has = task.has;
-      turn = c.in-Ok.turn;
-      is = far;
-      becomes = subst (λ (x : Body). Becomes x c.args.self.share.weight c.in-Ok.turn t) taken h;
-    }) c.after.ensures.becomes
+pub at_end-requires : goal.at_end-requires
+at_end-requires c =
+    let b = c.args.self.body.value in let new = c.advance.new.self in let s = c.in_ok-done.field-0 in
+    let went = subst (λ (x : Body). TurnsInPlace x s new) c.deref_mut.ensures.value c.in_ok-done.ensures in
+    record { end = turned_to_end b new s went c.in-AtEnd.is c.requires.task }
+
+pub returns-in-Did-clause-turn : goal.returns-in-Did-clause-turn
+returns-in-Did-clause-turn c =
+    let old = c.args.self in let new = c.advance.new.self in let s = c.in_ok-done.field-0 in
+    let went = subst (λ (x : Body). TurnsInPlace x s new) c.deref_mut.ensures.value c.in_ok-done.ensures in
+    IfOk-weaker c.did.result _ (TakesOneTurn old) (λ t becomes. did_one_turn old new s t went c.in-Did.done c.in-Did.is becomes)
+    c.did.ensures.becomes
+
+pub returns-in-Did-clause-units : goal.returns-in-Did-clause-units
+returns-in-Did-clause-units c =
+    let old = c.args.self in let new = c.advance.new.self in let s = c.in_ok-done.field-0 in
+    let went = subst (λ (x : Body). TurnsInPlace x s new) c.deref_mut.ensures.value c.in_ok-done.ensures in
+    IfOk-weaker c.did.result _ (λ t. units_after t ≡ units_of old)
+    (λ t units. units ∙ turned_units old.body.value new s went old.share.weight) c.did.ensures.units
+
+pub returns-in-AtEnd-clause-turn : goal.returns-in-AtEnd-clause-turn
+returns-in-AtEnd-clause-turn c =
+    let old = c.args.self in let new = c.advance.new.self in let s = c.in_ok-done.field-0 in
+    let went = subst (λ (x : Body). TurnsInPlace x s new) c.deref_mut.ensures.value c.in_ok-done.ensures in
+    IfOk-weaker c.at_end.result _ (TakesOneTurn old) (λ t ends. end_one_turn old new s t went c.in-AtEnd.is ends) c.at_end.ensures.ends
+
+pub returns-in-AtEnd-clause-units : goal.returns-in-AtEnd-clause-units
+returns-in-AtEnd-clause-units c =
+    let old = c.args.self in let new = c.advance.new.self in let s = c.in_ok-done.field-0 in
+    let went = subst (λ (x : Body). TurnsInPlace x s new) c.deref_mut.ensures.value c.in_ok-done.ensures in
+    IfOk-weaker c.at_end.result _ (λ t. units_after t ≡ units_of old)
+    (λ t units. units ∙ turned_units old.body.value new s went old.share.weight) c.at_end.ensures.units

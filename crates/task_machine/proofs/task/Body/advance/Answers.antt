@@ -1,0 +1,23 @@
+use Rattle.std.proofs.Common.{◌∙◌, refl, subst, sym}
+use Rattle.std.proofs.lemmas.Option.{same_Some}
+use Rattle.own_run.specs.RunTurns.{here}
+use Rattle.task_machine.specs.Tasks.{GoesBy}
+use Rattle.task_machine.proofs.Staying.{can_go}
+use Rattle.task_machine.proofs.task.Body.advance.Goals as goal
+
+pub step-requires : goal.step-requires
+step-requires c =
+    let b = c.args.self.now in
+    let run = c.in-Some.run' in
+    let goes =
+    subst (GoesBy b.job b.outer.items b.opened) (same_Some _ _ (sym c.requires.has ∙ c.in-Some.is)) c.requires.goes in
+    can_go b.job b.outer.items b.opened run run goes here
+
+pub returns-in-Ok : goal.returns-in-Ok
+returns-in-Ok c = record {
+  run = c.in-Some.run';
+  has = c.in-Some.is;
+  after = c.step.new.self;
+  takes = c.in-Ok.ensures.step;
+  is = refl;
+}
