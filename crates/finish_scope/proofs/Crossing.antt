@@ -164,8 +164,13 @@ start_send κ =
 
 pub child_send : (κ : NamedLft) → IsSend (Child.the_row κ)
 child_send κ =
-    declared_send (Child.the_type κ)
-    (job_send κ, (start_send κ, (OfScopeMark.the_send, (OfShare.the_send, tt))))
+    declared_send (Child.the_type κ) (
+      job_send κ,
+      (
+        search (sendable, crosses, start_send) depth 60 fits 50000,
+        (OfScopeMark.the_send, (OfShare.the_send, tt)),
+      ),
+    )
 
 frame_send : (κ : NamedLft) → IsSend (Frame.the_row κ)
 frame_send κ =
