@@ -9,19 +9,15 @@ use Rattle.serde_json.specs.Data.{Data, string, Members, no_members, member, put
 use Rattle.serde_json.specs.View.{items_of}
 use Rattle.serde_json.specs.Written.{has_float, items_have_float, members_have_float}
 use Rattle.syntax.specs.declared.place.Place.{Place}
-use Rattle.types.specs.Code.{Array, Procedure, Program}
+use Rattle.types.specs.Code.{Array}
 use Rattle.types.specs.Outcome.{Outcome, Ended, Stopped}
 use Rattle.types.specs.Run.{Fault}
-use Rattle.effects.specs.Accesses.{Access}
-use Rattle.race_checker.specs.Races.{Race}
-use Rattle.intake.specs.Failures.{told_procedure}
 use Rattle.intake.specs.declared.failure.Failure.{Failure}
 use Rattle.json_answers.specs.Faults.{fault_json, fault_members, raised_number}
 use Rattle.json_answers.specs.Outcomes.{ended_members, numbers_json, put_arrays, outcome_json}
 use Rattle.json_answers.specs.Pieces.{integer, natural, list_by, or_null, members_by, object_of}
 use Rattle.json_answers.specs.Places.{column_of, line_of, place_at}
 use Rattle.json_answers.specs.Programs.{pair_json, pairs_json, pairs_members}
-use Rattle.json_answers.specs.Races.{access_json, access_members, accesses_json, accesses_members, race_json, race_members}
 use Rattle.json_answers.specs.Refusals.{failure_array, failure_code, failure_label, failure_place, refusal_json, refusal_members}
 
 abbrev pub HasNoFloat : Data → Type 0
@@ -133,48 +129,6 @@ refusal_has_none file places f =
             (
               or_null_has_none natural (failure_label f) natural_has_none,
               (or_null_has_none natural (line_of place) natural_has_none, (refl, (refl, tt))),
-            ),
-          ),
-        ),
-      ),
-    )
-
-access_has_none : (places : List Place) (g : Procedure) (a : Access) → HasNoFloat (access_json places g a)
-access_has_none places g a =
-    let place = place_at places a.label in
-    object_has_none (access_members places g a) (
-      or_null_has_none natural (column_of place) natural_has_none,
-      (
-        refl,
-        (
-          refl,
-          (or_null_has_none natural (line_of place) natural_has_none, (refl, tt)),
-        ),
-      ),
-    )
-
-accesses_have_none : (places : List Place) (g : Procedure) (r : Race) → HasNoFloat (accesses_json places g r)
-accesses_have_none places g r =
-    object_has_none (accesses_members places g r)
-    (access_has_none places g r.first, (refl, (access_has_none places g r.second, tt)))
-
-pub race_has_none : (file : List ℕ) (places : List Place) (p : Program) (r : Race) → HasNoFloat (race_json file places p r)
-race_has_none file places p r =
-    let place = place_at places r.first.label in
-    object_has_none (race_members file places p r) (
-      refl,
-      (
-        or_null_has_none natural (column_of place) natural_has_none,
-        (
-          refl,
-          (
-            refl,
-            (
-              or_null_has_none natural (line_of place) natural_has_none,
-              (
-                refl,
-                (accesses_have_none places (told_procedure p r.procedure) r, (refl, tt)),
-              ),
             ),
           ),
         ),

@@ -9,12 +9,9 @@ use Rattle.serde_json.specs.Data.{Data, string, Members, no_members, member, put
 use Rattle.serde_json.specs.Read.{max_depth}
 use Rattle.serde_json.specs.View.{items_of}
 use Rattle.syntax.specs.declared.place.Place.{Place}
-use Rattle.types.specs.Code.{Array, Procedure, Program}
+use Rattle.types.specs.Code.{Array, Program}
 use Rattle.types.specs.Outcome.{Outcome, Ended, Stopped}
 use Rattle.types.specs.Run.{Fault}
-use Rattle.effects.specs.Accesses.{Access}
-use Rattle.race_checker.specs.Races.{Race}
-use Rattle.intake.specs.Failures.{told_procedure}
 use Rattle.intake.specs.declared.failure.Failure.{Failure}
 use Rattle.cost.specs.declared.cost.Cost.{Cost}
 use Rattle.json_answers.specs.Costs.{cost_json}
@@ -23,7 +20,6 @@ use Rattle.json_answers.specs.Outcomes.{ended_members, numbers_json, put_arrays,
 use Rattle.json_answers.specs.Pieces.{integer, natural, list_by, or_null, members_by, object_of}
 use Rattle.json_answers.specs.Places.{column_of, line_of, place_at}
 use Rattle.json_answers.specs.Programs.{accepted_json, pair_json, pairs_json, pairs_members}
-use Rattle.json_answers.specs.Races.{access_json, access_members, accesses_json, accesses_members, race_json, race_members}
 use Rattle.json_answers.specs.Refusals.{failure_array, failure_code, failure_label, failure_place, refusal_json, refusal_members}
 
 -- it nests no deeper
@@ -69,7 +65,7 @@ put_within n k d (member l e ms) within others =
     (match_ordering o (member k d (member l e ms)) (member l d ms) (member l e (put k d ms))) ≤ n)
     [ Less ↦ omega arith | Equal ↦ omega arith | Greater ↦ omega arith ]
 
-natural_within : (n : ℕ) → Within 0 (natural n)
+pub natural_within : (n : ℕ) → Within 0 (natural n)
 natural_within n = omega arith
 
 integer_within : (z : ℤ) → Within 0 (integer z)
@@ -128,7 +124,7 @@ pairs_within pairs =
     (list_within 1 pair_json pairs (λ pair. list_within 0 natural (pair.0 ∷ pair.1 ∷ []) natural_within), (omega arith, tt)) in
     omega arith
 
-string_within : (s : List ℕ) → Within 0 (string s)
+pub string_within : (s : List ℕ) → Within 0 (string s)
 string_within s = omega arith
 
 pub refusal_within : (file : List ℕ) (places : List Place) (f : Failure) → depth (refusal_json file places f) ≤ max_depth
@@ -145,52 +141,6 @@ refusal_within file places f =
             (
               or_null_within 0 natural (failure_label f) natural_within,
               (or_null_within 0 natural (line_of place) natural_within, (omega arith, (omega arith, tt))),
-            ),
-          ),
-        ),
-      ),
-    ) in
-    omega arith
-
-access_within : (places : List Place) (g : Procedure) (a : Access) → Within 1 (access_json places g a)
-access_within places g a =
-    let place = place_at places a.label in
-    object_within 0 (access_members places g a) (
-      or_null_within 0 natural (column_of place) natural_within,
-      (
-        omega arith,
-        (
-          omega arith,
-          (or_null_within 0 natural (line_of place) natural_within, (omega arith, tt)),
-        ),
-      ),
-    )
-
-accesses_within : (places : List Place) (g : Procedure) (r : Race) → Within 2 (accesses_json places g r)
-accesses_within places g r =
-    object_within 1 (accesses_members places g r)
-    (access_within places g r.first, (omega arith, (access_within places g r.second, tt)))
-
-or_null_in_two : (o : Option ℕ) → Within 2 (or_null natural o)
-or_null_in_two o = let within = or_null_within 0 natural o natural_within in omega arith
-
-pub race_within : (file : List ℕ) (places : List Place) (p : Program) (r : Race) → depth (race_json file places p r) ≤ max_depth
-race_within file places p r =
-    let place = place_at places r.first.label in
-    let whole = object_within 2 (race_members file places p r) (
-      omega arith,
-      (
-        or_null_in_two (column_of place),
-        (
-          omega arith,
-          (
-            omega arith,
-            (
-              or_null_in_two (line_of place),
-              (
-                omega arith,
-                (accesses_within places (told_procedure p r.procedure) r, (omega arith, tt)),
-              ),
             ),
           ),
         ),

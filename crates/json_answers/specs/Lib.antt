@@ -5,5 +5,4 @@ pub mod Outcomes
 pub mod Pieces
 pub mod Places
 pub mod Programs
-pub mod Races
 pub mod Refusals

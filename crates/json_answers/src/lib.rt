@@ -8,7 +8,6 @@ pub mod laws;
 pub mod line;
 pub mod outcomes;
 pub mod programs;
-pub mod races;
 pub mod refusals;
 pub mod text_places;
 pub mod told;

@@ -12,7 +12,7 @@ use serde_json::Value;
 use std::alloc::{AllocError, Global};
 
 /// The compact text of a value, and a line feed: `{"status":0}` and a line feed of `{"status": 0}`.
-pub(crate) fn line_of(alloc: Global, value: &Value) -> Result<String, AllocError>
+pub fn line_of(alloc: Global, value: &Value) -> Result<String, AllocError>
     requires no_float { has_float (view value.now) ≡ false }
     requires shallow { depth (view value.now) ≤ max_depth }
     ensures text { IfOk result (λ text. string_bytes text ≡ line (view value.now)) }

@@ -56,7 +56,7 @@ fn refusal_value(
 }
 
 /// A text, or null where there is none.
-fn text_or_null(alloc: Global, text: Option<&str>) -> Result<Value, AllocError>
+pub fn text_or_null(alloc: Global, text: Option<&str>) -> Result<Value, AllocError>
     ensures { IfOk result (λ v. view v ≡ or_null string (option_map (λ t. t.now) text.entry)) }
 {
     match text {

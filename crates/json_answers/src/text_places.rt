@@ -7,14 +7,14 @@ use syntax::Place;
 use types::code::Label;
 
 /// The place at which the statement with a label begins, where it is known.
-pub(crate) fn place_at(places: &[Place], label: Label) -> Option<Place>
+pub fn place_at(places: &[Place], label: Label) -> Option<Place>
     ensures { result ≡ place_of_label places.now label }
 {
     places.get((label as usize).saturating_sub(1)).copied()
 }
 
 /// The line of a place.
-pub(crate) fn line_in(place: Option<Place>) -> Option<u32>
+pub fn line_in(place: Option<Place>) -> Option<u32>
     ensures { result ≡ line_of place }
 {
     match place {
@@ -24,7 +24,7 @@ pub(crate) fn line_in(place: Option<Place>) -> Option<u32>
 }
 
 /// The column of a place.
-pub(crate) fn column_in(place: Option<Place>) -> Option<u32>
+pub fn column_in(place: Option<Place>) -> Option<u32>
     ensures { result ≡ column_of place }
 {
     match place {

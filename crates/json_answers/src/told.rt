@@ -72,7 +72,7 @@ pub(crate) fn array_of(failure: &Failure) -> Option<&str>
 }
 
 /// Its line, without the line feed.
-pub(crate) fn message_of(alloc: Global, failure: &Failure) -> Result<String, AllocError>
+pub fn message_of(alloc: Global, failure: &Failure) -> Result<String, AllocError>
     ensures { IfOk result (λ text. string_bytes text ≡ failure_text failure.now) }
 {
     let mut bytes = Vec::new(alloc);

@@ -13,25 +13,27 @@ use Rattle.types.specs.declared.typed.Typed.{Typed}
 use Rattle.parallel_relation.specs.Pairs.{ArePairs, AreListed, HasPair}
 use Rattle.parallel_relation.specs.Together.{LabelsMeet}
 use Rattle.parallel_relation.specs.declared.pairs.Pairs.{Pairs as KeptPairs}
-use Rattle.race_checker.specs.Races.{IsLeastRace, Race as ProgramRace}
+use Rattle.race_checker.specs.Races.{IsLeastRace, IsRace, Race as ProgramRace}
 use Rattle.race_checker.specs.Refusal.{IsRefusalOf}
 use Rattle.race_checker.specs.Translation.{race as race_of}
 use Rattle.race_checker.specs.declared.accepted.Accepted.{Accepted}
 use Rattle.race_checker.specs.declared.check.Refused.{Refused}
 use Rattle.race_checker.specs.declared.check.Refused.TheVariants.{Race}
 use Rattle.race_checker.specs.declared.race.Race.{Race as FoundRace}
+use Rattle.witness.specs.Witness.{IsShortest, IsWitness}
+use Rattle.witness.specs.declared.witness.Witness.{Witness}
 use Rattle.texts.specs.Appending.{AppendsBeginning, Writes}
 use Rattle.intake.specs.declared.failure.Failure.{Failure}
 use Rattle.intake.specs.declared.failure.Failure.TheVariants.{CannotWriteOutput}
 use Rattle.answers.specs.Answers.{Answer, IsCodeOf, Wrote}
 use Rattle.json_answers.specs.Pieces.{line}
-use Rattle.json_answers.specs.Races.{race_json}
 use Rattle.json_answers.specs.Refusals.{refusal_json}
 use Rattle.json_answers.specs.Programs.{pairs_json}
+use Rattle.race_objects.specs.Races.{race_json}
 use Rattle.answers.proofs.Answering.{listed_as}
 use Rattle.objects.specs.Objects.{ArePlaces, ObjectOfPairs}
 use Rattle.objects.specs.declared.told.Told.{Told}
-use Rattle.objects.specs.Failing.{FailedAsObject, IsToldAsObject, TellsPlaced, TellsRace, told, untold}
+use Rattle.objects.specs.Failing.{FailedAsObject, IsToldAsObject, ShowsRace, TellsPlaced, TellsRace, told, untold}
 
 ok_is_no_error : {A E : Type 0} (x : A) (e : E) → (let r : Result A E = Ok x in r) ≡ Err e → ⊥
 ok_is_no_error x e is = cc
@@ -76,21 +78,36 @@ pub refusal_of : (typed back : Typed) (race : FoundRace) (e : Refused) (r : Resu
 refusal_of typed back race e (Ok x) is of refused = absurd (ok_is_no_error x e is)
 refusal_of typed back race e (Err d) is of refused = subst (IsRefusalOf typed) (error_is d e is ∙ of) refused
 
+-- a witness that was found, of a race
+pub race_shown : (file object : List ℕ) (places : List Place) (code back : Program) (race : ProgramRace) (w : Witness)
+    → IsWitness code race w → IsShortest code race w → back ≡ code → object ≡ line (race_json file places back race w)
+    → ShowsRace file places code race object
+race_shown file object places code back race w is_witness shortest same is = record {
+  witness = w;
+  is_witness = is_witness;
+  shortest = shortest;
+  told_is = is ∙ ap (λ (p : Program). line (race_json file places p race w)) same;
+}
+
 -- a race that was found once more
-pub race_told : (file text object : List ℕ) (typed back : Typed) (code : Program) (race : ProgramRace)
-    (places shown : List Place) → IsCodeOf text (code_of typed) → back ≡ typed → code ≡ code_of back
-    → IsLeastRace (code_of typed) race → shown ≡ places → ArePlaces text places
-    → object ≡ line (race_json file shown code race) → TellsRace file text object
-race_told file text object typed back code race places shown is_code same_typed of least same begun is = record {
+pub race_told : (file text object : List ℕ) (typed back : Typed) (race : ProgramRace) (places shown : List Place)
+    → IsCodeOf text (code_of typed) → back ≡ typed → IsLeastRace (code_of typed) race → shown ≡ places
+    → ArePlaces text places → ShowsRace file shown (code_of back) race object → TellsRace file text object
+race_told file text object typed back race places shown is_code same_typed least same begun shows = record {
   code = code_of typed;
   is_code = is_code;
   race = race;
   least = least;
   places = places;
   begun = begun;
-  told_is = is ∙ ap (λ (ps : List Place). line (race_json file ps code race)) same
-      ∙ ap (λ (p : Program). line (race_json file places p race)) (of ∙ ap code_of same_typed);
+  shows = subst (λ (ps : List Place). ShowsRace file ps (code_of typed) race object) same
+      (subst (λ (t : Typed). ShowsRace file shown (code_of t) race object) same_typed shows);
 }
+
+-- the least race is one
+pub least_is_race : (typed back : Typed) (race : ProgramRace) → back ≡ typed → IsLeastRace (code_of typed) race
+    → IsRace (code_of back) race
+least_is_race typed back race same least = subst (λ (t : Typed). IsRace (code_of t) race) (sym same) least.among
 
 -- the pairs of a program
 pub told_pairs : (text : List ℕ) (code : Program) (kept : KeptPairs) (list : List (ℕ × ℕ)) (r : Result Told Failure)

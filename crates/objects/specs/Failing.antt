@@ -4,14 +4,24 @@ use Rattle.std.specs.Io.KnownBytes.{Keeps}
 use Rattle.syntax.specs.declared.place.Place.{Place}
 use Rattle.types.specs.Code.{Program}
 use Rattle.race_checker.specs.Races.{IsLeastRace, Race as ProgramRace}
+use Rattle.witness.specs.Witness.{IsShortest, IsWitness}
+use Rattle.witness.specs.declared.witness.Witness.{Witness}
 use Rattle.texts.specs.Appending.{AppendsBeginning}
 use Rattle.intake.specs.declared.failure.Failure.{Failure}
 use Rattle.intake.specs.declared.failure.Failure.TheVariants.{Types, Race, CannotWriteOutput}
 use Rattle.json_answers.specs.Pieces.{line}
-use Rattle.json_answers.specs.Races.{race_json}
 use Rattle.json_answers.specs.Refusals.{refusal_json}
+use Rattle.race_objects.specs.Races.{race_json}
 use Rattle.answers.specs.Answers.{Answer, Began, IsCodeOf}
 use Rattle.objects.specs.Objects.{ArePlaces}
+
+-- a race of a program, and why it is one: a witness of it, than which none has fewer steps
+pub record ShowsRace (file : List ℕ) (places : List Place) (code : Program) (race : ProgramRace) (told : List ℕ)
+    : Type 0 where
+  pub witness : Witness
+  pub is_witness : IsWitness code race witness
+  pub shortest : IsShortest code race witness
+  pub told_is : told ≡ line (race_json file places code race witness)
 
 -- the least race of the text's program
 pub record TellsRace (file text told : List ℕ) : Type 0 where
@@ -21,7 +31,7 @@ pub record TellsRace (file text told : List ℕ) : Type 0 where
   pub least : IsLeastRace code race
   pub places : List Place
   pub begun : ArePlaces text places
-  pub told_is : told ≡ line (race_json file places code race)
+  pub shows : ShowsRace file places code race told
 
 -- a failure at a statement of the text's program
 pub record TellsPlaced (file text : List ℕ) (f : Failure) (told : List ℕ) : Type 0 where

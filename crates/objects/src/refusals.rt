@@ -2,17 +2,24 @@
 
 ghost use Rattle.std.specs.Prelude.{◌≡◌, IfOk};
 ghost use Rattle.std.specs.String.{string_bytes};
-ghost use Rattle.objects.specs.Failing.{TellsFailure, TellsPlaced, TellsRace};
+ghost use Rattle.types.specs.Typed.{code_of};
+ghost use Rattle.race_checker.specs.Races.{IsRace};
+ghost use Rattle.race_checker.specs.Translation.{race as race_of};
+ghost use Rattle.objects.specs.Failing.{ShowsRace, TellsFailure, TellsPlaced, TellsRace};
 
 use crate::outcomes::places_in;
 use answers::programs::typed_of;
 use effects::laws::typed_programs_are_sound;
 use intake::failure::Failure;
-use json_answers::races::race_object;
 use json_answers::refusals::refusal_object;
 use race_checker::check::{Refused, check};
+use race_checker::race::Race;
+use race_objects::races::race_object;
 use std::alloc::{AllocError, Global};
 use std::thread::Threads;
+use syntax::Place;
+use types::typed::Typed;
+use witness::witness::witness_of;
 
 /// The line of a failure, of a command that was asked of the file with this text; the text is empty where the file has none.
 /// A race is looked for once more, since its failure has its accesses as text.
@@ -33,7 +40,7 @@ pub fn refusal_line<R: Threads + Sync>(
     }
 }
 
-/// The line of the least race of a text's program.
+/// The line of the least race of a text's program, with a witness.
 fn race_line<R: Threads + Sync>(
     rt: &R,
     alloc: Global,
@@ -48,10 +55,26 @@ fn race_line<R: Threads + Sync>(
     };
     typed_programs_are_sound(&typed);
     match check(rt, alloc, typed) {
-        Err(Refused::Race { race, typed }) => {
-            race_object(alloc, file, &places, typed.code(), race)
-        }
+        Err(Refused::Race { race, typed }) => shown_line(alloc, file, &places, &typed, race),
         _ => Err(AllocError),
+    }
+}
+
+/// The line of a race, with a witness.
+fn shown_line(
+    alloc: Global,
+    file: &str,
+    places: &[Place],
+    typed: &Typed,
+    race: Race,
+) -> Result<String, AllocError>
+    requires race { IsRace (code_of typed.now) (race_of race) }
+    ensures { IfOk result (λ line. ShowsRace file.now places.now (code_of typed.now) (race_of race)
+        (string_bytes line)) }
+{
+    match witness_of(alloc, typed, race)? {
+        Some(witness) => race_object(alloc, file, places, typed.code(), race, &witness),
+        None => unreachable!(),
     }
 }
 

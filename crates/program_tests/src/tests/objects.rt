@@ -5,11 +5,11 @@ use effects::summaries::summarize;
 use intake::failure::Failure;
 use json_answers::outcomes::outcome_object;
 use json_answers::programs::{accepted_object, pairs_object};
-use json_answers::races::race_object;
 use json_answers::refusals::refusal_object;
 use parallel_relation::pairs::may_run_together;
 use places::statement_places;
 use race_checker::check::{Refused, check};
+use race_objects::races::race_object;
 use serde_json::Value;
 use std::alloc::Global;
 use std::process::Abort;
@@ -22,6 +22,7 @@ use types::input::Input;
 use types::outcome::Outcome;
 use types::path::Path;
 use types::typed::Typed;
+use witness::witness::witness_of;
 
 /// Its labels: 1 at 4:3, 2 at 5:3, 3 at 5:11, 4 at 6:3.
 const PROGRAM: &str = "main {
@@ -138,12 +139,24 @@ fn races_are_told(rt: HostRuntime) -> Result<(), Fail> {
     let places = places_of(&rt, alloc, RACY);
     match check(&rt, alloc, typed) {
         Err(Refused::Race { race, typed }) => {
-            let told = race_object(alloc, "r.afx", &places, typed.code(), race)?;
+            let witness = witness_of(alloc, &typed, race)?.expect(&rt, "a witness");
+            let told = race_object(alloc, "r.afx", &places, typed.code(), race, &witness)?;
             let wanted = "{\"code\":\"C1\",\"column\":3,\"file\":\"r.afx\",\
                 \"label\":1,\"line\":2,\"message\":\"C1 race in main: 1 write a, 4 write a\",\
                 \"race\":{\"first\":{\"column\":3,\"kind\":\"write\",\"label\":1,\"line\":2,\
                 \"section\":\"a\"},\"procedure\":\"main\",\"second\":{\"column\":3,\
-                \"kind\":\"write\",\"label\":4,\"line\":7,\"section\":\"a\"}},\"status\":1}\n";
+                \"kind\":\"write\",\"label\":4,\"line\":7,\"section\":\"a\"},\
+                \"witness\":{\"first\":[\
+                {\"calls\":null,\"column\":3,\"kind\":\"async\",\"label\":2,\"line\":6,\
+                \"procedure\":\"main\",\"section\":\"a\"},\
+                {\"calls\":\"fill\",\"column\":11,\"kind\":\"call\",\"label\":3,\"line\":6,\
+                \"procedure\":\"main\",\"section\":\"a\"},\
+                {\"calls\":null,\"column\":3,\"kind\":\"write\",\"label\":1,\"line\":2,\
+                \"procedure\":\"fill\",\"section\":\"s\"}],\
+                \"meeting\":\"follows\",\"pending\":\"first\",\"second\":[\
+                {\"calls\":null,\"column\":3,\"kind\":\"write\",\"label\":4,\"line\":7,\
+                \"procedure\":\"main\",\"section\":\"a\"}],\
+                \"sharing\":{\"kind\":\"same\",\"section\":null}}},\"status\":1}\n";
             assert_eq!(rt; told.as_str(), wanted);
         }
         Err(_other) => assert!(rt; false),

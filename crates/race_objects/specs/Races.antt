@@ -5,10 +5,12 @@ use Rattle.syntax.specs.declared.place.Place.{Place}
 use Rattle.types.specs.Code.{Procedure, Program}
 use Rattle.effects.specs.Accesses.{Access}
 use Rattle.race_checker.specs.Races.{Race}
+use Rattle.witness.specs.declared.witness.Witness.{Witness}
 use Rattle.texts.specs.Reasons.{race_text}
 use Rattle.intake.specs.Failures.{kind_of, section_name, section_text, told_procedure}
 use Rattle.json_answers.specs.Pieces.{natural, object_of, or_null}
 use Rattle.json_answers.specs.Places.{column_of, line_of, place_at}
+use Rattle.race_objects.specs.Witnesses.{witness_json}
 
 -- the statement and where it begins, what it does, and the section, by its name in the procedure
 abbrev pub access_members : List Place → Procedure → Access → List (List ℕ × Data)
@@ -29,15 +31,17 @@ race_message p r =
     let g = told_procedure p r.procedure in
     race_text g.name (section_text g r.first) (section_text g r.second)
 
--- the procedure that has it, and both accesses
-abbrev pub accesses_members : List Place → Procedure → Race → List (List ℕ × Data)
-accesses_members places g r =
+-- the procedure that has it, both accesses, and why it is a race
+abbrev pub accesses_members : List Place → Program → Race → Witness → List (List ℕ × Data)
+accesses_members places p r w =
+    let g = told_procedure p r.procedure in
     (codes "first", access_json places g r.first)
     ∷ (codes "procedure", string g.name)
-    ∷ (codes "second", access_json places g r.second) ∷ []
+    ∷ (codes "second", access_json places g r.second)
+    ∷ (codes "witness", witness_json places p r w) ∷ []
 
-abbrev pub accesses_json : List Place → Procedure → Race → Data
-accesses_json places g r = object_of (accesses_members places g r)
+abbrev pub accesses_json : List Place → Program → Race → Witness → Data
+accesses_json places p r w = object_of (accesses_members places p r w)
 
 -- what a refusal by a race tells, in place of an array the accesses, with the label and the place of the first
 abbrev pub told_members : (file : List ℕ) → Option Place → (label : ℕ) → (message : List ℕ) → (accesses : Data)
@@ -52,10 +56,9 @@ told_members file place label message accesses =
     ∷ (codes "race", accesses)
     ∷ (codes "status", natural 1) ∷ []
 
-abbrev pub race_members : (file : List ℕ) → List Place → Program → Race → List (List ℕ × Data)
-race_members file places p r =
-    told_members file (place_at places r.first.label) r.first.label (race_message p r)
-    (accesses_json places (told_procedure p r.procedure) r)
+abbrev pub race_members : (file : List ℕ) → List Place → Program → Race → Witness → List (List ℕ × Data)
+race_members file places p r w =
+    told_members file (place_at places r.first.label) r.first.label (race_message p r) (accesses_json places p r w)
 
-abbrev pub race_json : (file : List ℕ) → List Place → Program → Race → Data
-race_json file places p r = object_of (race_members file places p r)
+abbrev pub race_json : (file : List ℕ) → List Place → Program → Race → Witness → Data
+race_json file places p r w = object_of (race_members file places p r w)

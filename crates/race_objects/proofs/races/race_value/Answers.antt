@@ -5,20 +5,17 @@ use Rattle.types.specs.Translation.{program}
 use Rattle.race_checker.specs.Translation.{race}
 use Rattle.json_answers.specs.Pieces.{object_of}
 use Rattle.json_answers.specs.Places.{place_at}
-use Rattle.json_answers.specs.Races.{accesses_json, race_message, told_members}
-use Rattle.json_answers.proofs.races.race_value.Goals as goal
+use Rattle.race_objects.specs.Races.{race_message, told_members}
+use Rattle.race_objects.proofs.races.race_value.Goals as goal
 
 pub returns : goal.returns
 returns c =
     let file = c.args.file.now in
-    let places = c.args.places.now in
     let label = c.args.race.first.label in
-    let text = string_bytes c.in_ok-message.message in
     let told = view c.in_ok-accesses.accesses in
     let said = race_message (program c.args.code.now) (race c.args.race) in
     IfOk-weaker c.told_value.result _ _ (λ v same. same
     ∙ ap (λ m. object_of (told_members file c.place_at-place.result label m told)) c.in_ok-message.ensures
     ∙ ap (λ p. object_of (told_members file p label said told)) c.place_at-place.ensures
-    ∙ ap (λ a. object_of (told_members file (place_at places label) label said a)) c.in_ok-accesses.ensures
-    ∙ ap (λ g. object_of (told_members file (place_at places label) label said (accesses_json places g (race c.args.race))))
-    c.procedure_in-procedure.ensures) c.told_value.ensures
+    ∙ ap (λ a. object_of (told_members file (place_at c.args.places.now label) label said a)) c.in_ok-accesses.ensures)
+    c.told_value.ensures

@@ -6,40 +6,41 @@ ghost use Rattle.serde_json.specs.View.{view};
 ghost use Rattle.types.specs.Translation.{procedure as procedure_of, program};
 ghost use Rattle.effects.specs.Translation.{access as access_of};
 ghost use Rattle.race_checker.specs.Translation.{race as race_of};
-ghost use Rattle.intake.specs.Failures.{kind_of as kind_text, section_name as name_of_section};
-ghost use Rattle.intake.specs.Failures.{told_procedure};
 ghost use Rattle.json_answers.specs.Pieces.{IsReadBack, line, object_of};
-ghost use Rattle.json_answers.specs.Races.{access_json, accesses_json, race_json, race_message};
-ghost use Rattle.json_answers.specs.Races.{told_members};
+ghost use Rattle.race_objects.specs.Races.{access_json, accesses_json, race_json, race_message};
+ghost use Rattle.race_objects.specs.Races.{told_members};
 
-use crate::line::line_of;
-use crate::text_places::{column_in, line_in, place_at};
-use crate::told::message_of;
+use crate::names::{kind_of, procedure_in, section_name};
+use crate::witnesses::witness_value;
 use effects::access::Access;
 use intake::failure::Failure;
+use json_answers::line::line_of;
+use json_answers::text_places::{column_in, line_in, place_at};
+use json_answers::told::message_of;
 use race_checker::race::Race;
-use sections::id::SectionId;
 use serde_json::{Value, json};
 use std::alloc::{AllocError, Global};
 use syntax::Place;
 use types::code::{Label, Procedure, Program};
-use types::ids::ProcedureId;
+use witness::witness::Witness;
 
-/// A race of a program, as the refusal that it is: with both accesses, in the names of the procedure that has it, and
-/// the place of the first. An access is `{"column":7,"kind":"write","label":3,"line":4,"section":"a"}`.
+/// A race of a program, as the refusal that it is: with both accesses, in the names of the procedure that has it, its
+/// witness, and the place of the first access. An access is
+/// `{"column":7,"kind":"write","label":3,"line":4,"section":"a"}`.
 pub fn race_object(
     alloc: Global,
     file: &str,
     places: &[Place],
     code: &Program,
     race: Race,
+    witness: &Witness,
 ) -> Result<String, AllocError>
     ensures text { IfOk result (λ text. string_bytes text
-        ≡ line (race_json file.now places.now (program code.now) (race_of race))) }
+        ≡ line (race_json file.now places.now (program code.now) (race_of race) witness.now)) }
     ensures reads { OnOk result
-        (IsReadBack (race_json file.now places.now (program code.now) (race_of race))) }
+        (IsReadBack (race_json file.now places.now (program code.now) (race_of race) witness.now)) }
 {
-    let value = race_value(alloc, file, places, code, race)?;
+    let value = race_value(alloc, file, places, code, race, witness)?;
     line_of(alloc, &value)
 }
 
@@ -50,12 +51,12 @@ fn race_value(
     places: &[Place],
     code: &Program,
     race: Race,
+    witness: &Witness,
 ) -> Result<Value, AllocError>
     ensures { IfOk result (λ v. view v
-        ≡ race_json file.now places.now (program code.now) (race_of race)) }
+        ≡ race_json file.now places.now (program code.now) (race_of race) witness.now) }
 {
-    let procedure = procedure_in(code, race.procedure);
-    let accesses = accesses_value(alloc, places, procedure, race)?;
+    let accesses = accesses_value(alloc, places, code, race, witness)?;
     let message = message_of_race(alloc, code, race)?;
     let place = place_at(places, race.first.label);
     told_value(alloc, file, place, race.first.label, message, accesses)
@@ -85,22 +86,26 @@ fn told_value(
     })
 }
 
-/// Both accesses of a race, and the procedure that has it.
+/// Both accesses of a race, the procedure that has it, and its witness.
 fn accesses_value(
     alloc: Global,
     places: &[Place],
-    procedure: &Procedure,
+    code: &Program,
     race: Race,
+    witness: &Witness,
 ) -> Result<Value, AllocError>
     ensures { IfOk result (λ v. view v
-        ≡ accesses_json places.now (procedure_of procedure.now) (race_of race)) }
+        ≡ accesses_json places.now (program code.now) (race_of race) witness.now) }
 {
+    let procedure = procedure_in(code, race.procedure);
     let first = access_value(alloc, places, procedure, race.first)?;
     let second = access_value(alloc, places, procedure, race.second)?;
+    let witness = witness_value(alloc, places, code, race, witness)?;
     json!(in alloc; {
         "first": first,
         "procedure": procedure.name.as_str(),
         "second": second,
+        "witness": witness,
     })
 }
 
@@ -117,7 +122,7 @@ fn access_value(
     let place = place_at(places, access.label);
     json!(in alloc; {
         "column": column_in(place),
-        "kind": kind_of(access),
+        "kind": kind_of(access.write),
         "label": access.label,
         "line": line_in(place),
         "section": section_name(procedure, access.section),
@@ -134,31 +139,4 @@ fn message_of_race(alloc: Global, code: &Program, race: Race) -> Result<String, 
         Failure::Race { .. } => message_of(alloc, &failure),
         _ => Err(AllocError),
     }
-}
-
-/// The procedure of a number; `main` stands behind the others.
-fn procedure_in(code: &Program, procedure: ProcedureId) -> &Procedure
-    ensures { procedure_of result.now ≡ told_procedure (program code.now) procedure.number }
-{
-    match code.procedures.get(procedure.number) {
-        Some(procedure) => procedure,
-        None => &code.main,
-    }
-}
-
-/// The name of a section.
-fn section_name(procedure: &Procedure, section: SectionId) -> &str
-    ensures { result.now ≡ name_of_section (procedure_of procedure.now) section.number }
-{
-    match procedure.section_names.get(section.number) {
-        Some(name) => name.as_str(),
-        None => "",
-    }
-}
-
-/// What an access does.
-fn kind_of(access: Access) -> &'static str
-    ensures { result.now ≡ kind_text access.write }
-{
-    if access.write { "write" } else { "read" }
 }

@@ -1,0 +1,3 @@
+pub mod NoFloats
+pub mod Shallow
+pub mod SoFar

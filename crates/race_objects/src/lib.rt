@@ -1,0 +1,8 @@
+//! Races as JSON: one object, with a line feed behind it.
+
+#![tactic(auto)]
+
+pub mod names;
+pub mod races;
+pub mod steps;
+pub mod witnesses;

@@ -1,0 +1,37 @@
+//! What procedures and sections are called, and what accesses do.
+
+ghost use Rattle.std.specs.Prelude.{◌≡◌};
+ghost use Rattle.types.specs.Translation.{procedure as procedure_of, program};
+ghost use Rattle.intake.specs.Failures.{kind_of as kind_text, section_name as name_of_section};
+ghost use Rattle.intake.specs.Failures.{told_procedure};
+
+use sections::id::SectionId;
+use types::code::{Procedure, Program};
+use types::ids::ProcedureId;
+
+/// The procedure of a number; `main` stands behind the others.
+pub(crate) fn procedure_in(code: &Program, procedure: ProcedureId) -> &Procedure
+    ensures { procedure_of result.now ≡ told_procedure (program code.now) procedure.number }
+{
+    match code.procedures.get(procedure.number) {
+        Some(procedure) => procedure,
+        None => &code.main,
+    }
+}
+
+/// The name of a section.
+pub(crate) fn section_name(procedure: &Procedure, section: SectionId) -> &str
+    ensures { result.now ≡ name_of_section (procedure_of procedure.now) section.number }
+{
+    match procedure.section_names.get(section.number) {
+        Some(name) => name.as_str(),
+        None => "",
+    }
+}
+
+/// What an access does.
+pub(crate) fn kind_of(write: bool) -> &'static str
+    ensures { result.now ≡ kind_text write }
+{
+    if write { "write" } else { "read" }
+}

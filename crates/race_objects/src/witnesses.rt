@@ -1,0 +1,123 @@
+//! Why a race is one.
+
+ghost use Rattle.std.specs.Prelude.{◌≡◌, IfOk, option_map};
+ghost use Rattle.serde_json.specs.View.{view};
+ghost use Rattle.types.specs.Translation.{procedure as procedure_of, program};
+ghost use Rattle.race_checker.specs.Translation.{race as race_of};
+ghost use Rattle.race_objects.specs.Witnesses.{common_section, first_way, meeting_word, pending_word};
+ghost use Rattle.race_objects.specs.Witnesses.{second_way, sharing_json, sharing_word, witness_json};
+
+use crate::names::{procedure_in, section_name};
+use crate::steps::way_value;
+use json_answers::refusals::text_or_null;
+use race_checker::race::Race;
+use serde_json::{Value, json};
+use std::alloc::{AllocError, Global};
+use syntax::Place;
+use types::code::{Procedure, Program};
+use witness::crossing::Meeting;
+use witness::sharing::Sharing;
+use witness::step::Step;
+use witness::witness::Witness;
+
+/// A witness: the ways to the first and to the second access of the race, from where they part, how they come to run
+/// together, which of them is left pending, and why the sections share places.
+pub(crate) fn witness_value(
+    alloc: Global,
+    places: &[Place],
+    code: &Program,
+    race: Race,
+    witness: &Witness,
+) -> Result<Value, AllocError>
+    ensures { IfOk result (λ v. view v
+        ≡ witness_json places.now (program code.now) (race_of race) witness.now) }
+{
+    let way = way_to_first(witness);
+    let first = way_value(alloc, places, code, race.procedure, race.first.write, way)?;
+    let way = way_to_second(witness);
+    let second = way_value(alloc, places, code, race.procedure, race.second.write, way)?;
+    let sharing = sharing_value(alloc, procedure_in(code, race.procedure), witness.sharing)?;
+    json!(in alloc; {
+        "first": first,
+        "meeting": word_of_meeting(witness.meeting),
+        "pending": pending(witness.first_pends),
+        "second": second,
+        "sharing": sharing,
+    })
+}
+
+/// The way to the race's first access.
+fn way_to_first(witness: &Witness) -> &[Step]
+    ensures { result.now ≡ first_way witness.now }
+{
+    if witness.first_pends {
+        &witness.pending
+    } else {
+        &witness.later
+    }
+}
+
+/// The way to its second access.
+fn way_to_second(witness: &Witness) -> &[Step]
+    ensures { result.now ≡ second_way witness.now }
+{
+    if witness.first_pends {
+        &witness.later
+    } else {
+        &witness.pending
+    }
+}
+
+/// How two accesses come to run together.
+fn word_of_meeting(meeting: Meeting) -> &'static str
+    ensures { result.now ≡ meeting_word meeting }
+{
+    match meeting {
+        Meeting::Follows => "follows",
+        Meeting::Turns => "turns",
+    }
+}
+
+/// Which of two accesses is left pending.
+fn pending(first_pends: bool) -> &'static str
+    ensures { result.now ≡ pending_word first_pends }
+{
+    if first_pends { "first" } else { "second" }
+}
+
+/// Why two sections of a procedure share places: `{"kind":"of_splits","section":"a"}`.
+fn sharing_value(
+    alloc: Global,
+    procedure: &Procedure,
+    sharing: Sharing,
+) -> Result<Value, AllocError>
+    ensures { IfOk result (λ v. view v ≡ sharing_json (procedure_of procedure.now) sharing) }
+{
+    json!(in alloc; {
+        "kind": word_of_sharing(sharing),
+        "section": text_or_null(alloc, common_to(procedure, sharing))?,
+    })
+}
+
+/// Why two sections share places.
+fn word_of_sharing(sharing: Sharing) -> &'static str
+    ensures { result.now ≡ sharing_word sharing }
+{
+    match sharing {
+        Sharing::Same => "same",
+        Sharing::FirstIsPart => "first_is_part",
+        Sharing::SecondIsPart => "second_is_part",
+        Sharing::OfSplits { .. } => "of_splits",
+    }
+}
+
+/// The name of the section of whose splits both are sides.
+fn common_to(procedure: &Procedure, sharing: Sharing) -> Option<&str>
+    ensures { option_map (λ name. name.now) result
+        ≡ common_section (procedure_of procedure.now) sharing }
+{
+    match sharing {
+        Sharing::OfSplits { section } => Some(section_name(procedure, section)),
+        _ => None,
+    }
+}
