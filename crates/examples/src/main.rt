@@ -8,6 +8,7 @@ mod machine;
 mod object_rows;
 mod output;
 mod pages_told;
+mod races_told;
 mod row;
 mod shelf;
 mod table;

@@ -2,6 +2,7 @@
 
 use crate::machine::Machine;
 use crate::output::Limit;
+use crate::races_told::is_explained;
 use crate::row::{Row, Told};
 use crate::shelf::Shelf;
 use crate::transcript::words_of;
@@ -37,8 +38,10 @@ impl Row<'_> {
         let out = text_of(&told.out.taken);
         let is_so = match Value::from_str(alloc, out) {
             Ok(object) => {
-                let listing = self.listing(rt, shelf)?;
-                self.says(alloc, &told, &object)? && is_placed(&object, &listing)
+                let listing = self.told_of_file(rt, shelf, "list --lines")?;
+                self.says(alloc, &told, &object)?
+                    && is_placed(&object, text_of(&listing.out.taken))
+                    && self.is_race_explained(rt, shelf, &object)?
             }
             Err(_) => false,
         };
@@ -48,13 +51,33 @@ impl Row<'_> {
         Ok(is_so && self.has_left(rt, shelf)?)
     }
 
-    /// The listing with places of the command's program; nothing where it has none.
-    fn listing<R: Machine>(&self, rt: &R, shelf: &mut Shelf<'_, R>) -> io::Result<String> {
+    /// Whether `check --explain` says of a race, if it is one, what its witness says.
+    fn is_race_explained<R: Machine>(
+        &self,
+        rt: &R,
+        shelf: &mut Shelf<'_, R>,
+        object: &Value,
+    ) -> io::Result<bool> {
+        match object.get("race") {
+            Some(race) => {
+                let told = self.told_of_file(rt, shelf, "check --explain")?;
+                Ok(is_explained(rt.alloc(), race, text_of(&told.err.taken))?)
+            }
+            None => Ok(true),
+        }
+    }
+
+    /// What a command, with its options, tells of the program of this one.
+    fn told_of_file<R: Machine>(
+        &self,
+        rt: &R,
+        shelf: &mut Shelf<'_, R>,
+        command: &str,
+    ) -> io::Result<Told> {
         let alloc = rt.alloc();
         let file = file_in(self.command);
-        let words = words_of(alloc, &format!(in alloc; "$ afx list --lines {file}")?)?;
-        let told = self.told_by(rt, shelf, &words, Limit::Never, Limit::Never)?;
-        Ok(String::from_str(alloc, text_of(&told.out.taken))?)
+        let words = words_of(alloc, &format!(in alloc; "$ afx {command} {file}")?)?;
+        self.told_by(rt, shelf, &words, Limit::Never, Limit::Never)
     }
 
     /// Whether an object says what the row says: its status, and its output or its message; and whether the standard error
@@ -158,12 +181,12 @@ fn push_cost(text: &mut String, object: &Value) -> Result<(), AllocError> {
 }
 
 /// A number of an object.
-fn number_in(object: &Value, name: &str) -> Option<u64> {
+pub fn number_in(object: &Value, name: &str) -> Option<u64> {
     object.get(name).and_then(Value::as_u64)
 }
 
 /// A list of an object; no elements where it has none of this name.
-fn list_in<'v>(object: &'v Value, name: &str) -> &'v [Value] {
+pub fn list_in<'v>(object: &'v Value, name: &str) -> &'v [Value] {
     match object.get(name).and_then(Value::as_array) {
         Some(list) => list,
         None => &[],
@@ -218,9 +241,9 @@ fn push_array(text: &mut String, object: &Value, name: &str) -> Result<(), Alloc
 
 /// Whether each label of an object has the place that a listing tells.
 fn is_placed(object: &Value, listing: &str) -> bool {
-    for part in ["first", "second"] {
-        if let Some(access) = object.get("race").and_then(|race| race.get(part)) {
-            if !is_at(access, listing) {
+    if let Some(race) = object.get("race") {
+        for part in ["first", "second"] {
+            if !is_race_part_placed(race, part, listing) {
                 return false;
             }
         }
@@ -231,6 +254,21 @@ fn is_placed(object: &Value, listing: &str) -> bool {
         }
     }
     is_at(object, listing)
+}
+
+/// Whether an access of a race, and each step of the way to it, has the place that a listing tells.
+fn is_race_part_placed(race: &Value, part: &str, listing: &str) -> bool {
+    if let Some(witness) = race.get("witness") {
+        for step in list_in(witness, part) {
+            if !is_at(step, listing) {
+                return false;
+            }
+        }
+    }
+    match race.get(part) {
+        Some(access) => is_at(access, listing),
+        None => false,
+    }
 }
 
 /// Whether the label of an object, if it has one, has the place that a listing tells.

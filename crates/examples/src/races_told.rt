@@ -1,0 +1,136 @@
+//! The witness of a race in an object, beside what `check --explain` says of the race.
+
+use crate::object_rows::{list_in, number_in};
+use serde_json::Value;
+use std::alloc::{AllocError, Global};
+
+/// Whether an explanation says of a race what its witness does: the same ways, a line for each step that has one, and the
+/// same reason why its sections share places.
+pub fn is_explained(alloc: Global, race: &Value, explained: &str) -> Result<bool, AllocError> {
+    let told = lines_of(alloc, race)?;
+    let reason = reason_of(alloc, race)?;
+    let mut wanted = told.lines();
+    let mut is_way = false;
+    for line in explained.lines() {
+        if line.starts_with("  No finish closes ") {
+            is_way = false;
+        }
+        if is_way {
+            let Some(words) = wanted.next() else {
+                return Ok(false);
+            };
+            if !line.ends_with(words) {
+                return Ok(false);
+            }
+        }
+        if line == "They may run together:" {
+            is_way = true;
+        }
+    }
+    Ok(wanted.next().is_none() && explained.contains(reason.as_str()))
+}
+
+/// The words of the lines of a race's ways, each behind two blanks: the way to the access that is left pending, and the
+/// other where it is more than the access and not the same.
+fn lines_of(alloc: Global, race: &Value) -> Result<String, AllocError> {
+    let mut lines = String::new(alloc);
+    let Some(witness) = race.get("witness") else {
+        return Ok(lines);
+    };
+    let pending = text_in(witness, "pending");
+    let way = list_in(witness, pending);
+    let other = list_in(
+        witness,
+        if pending == "first" {
+            "second"
+        } else {
+            "first"
+        },
+    );
+    if text_in(witness, "meeting") == "turns" {
+        if let Some(step) = way.first() {
+            let label = number_in(step, "label").unwrap_or(0);
+            write!(
+                lines,
+                "  {label} goes round while tasks of earlier turns may still run\n"
+            )?;
+        }
+    }
+    push_way(&mut lines, way)?;
+    let is_twice = race.get("first") == race.get("second") && way == other;
+    if other.len() > 1 && !is_twice {
+        lines.push_str("  and meanwhile\n")?;
+        push_way(&mut lines, other)?;
+    }
+    Ok(lines)
+}
+
+/// Adds the words of the lines of a way.
+fn push_way(lines: &mut String, way: &[Value]) -> Result<(), AllocError> {
+    for (place, step) in way.iter().enumerate() {
+        let inside = match way.get(place.saturating_add(1)) {
+            Some(next) => text_in(next, "section"),
+            None => "",
+        };
+        push_step(lines, step, inside)?;
+    }
+    Ok(())
+}
+
+/// Adds the words of the line of a step, if it has one, behind which the section has another name.
+fn push_step(lines: &mut String, step: &Value, inside: &str) -> Result<(), AllocError> {
+    let label = number_in(step, "label").unwrap_or(0);
+    let section = text_in(step, "section");
+    match text_in(step, "kind") {
+        "write" => write!(lines, "  {label} writes {section}\n"),
+        "read" => write!(lines, "  {label} reads {section}\n"),
+        "async" => write!(lines, "  {label} starts a task\n"),
+        "call" => {
+            let called = text_in(step, "calls");
+            write!(
+                lines,
+                "  {label} calls {called}, with {section} as {inside}\n"
+            )
+        }
+        "split" if inside != section => {
+            write!(lines, "  {label} names {inside}, a part of {section}\n")
+        }
+        _ => Ok(()),
+    }
+}
+
+/// How an explanation begins to say why the sections of a race share places.
+fn reason_of(alloc: Global, race: &Value) -> Result<String, AllocError> {
+    let first = section_of(race, "first");
+    let second = section_of(race, "second");
+    let Some(sharing) = race
+        .get("witness")
+        .and_then(|witness| witness.get("sharing"))
+    else {
+        return String::from_str(alloc, "no reason");
+    };
+    match text_in(sharing, "kind") {
+        "same" => format!(in alloc; "  Both are the section {first}. "),
+        "first_is_part" => format!(in alloc; "  {first} is a part of {second}. "),
+        "second_is_part" => format!(in alloc; "  {second} is a part of {first}. "),
+        _ => {
+            let common = text_in(sharing, "section");
+            format!(in alloc;
+                "  {first} and {second} lie in sides of different splits of {common}: "
+            )
+        }
+    }
+}
+
+/// The section of an access of a race.
+fn section_of<'v>(race: &'v Value, part: &str) -> &'v str {
+    match race.get(part) {
+        Some(access) => text_in(access, "section"),
+        None => "",
+    }
+}
+
+/// A text of an object; none where it has none of this name.
+fn text_in<'v>(object: &'v Value, name: &str) -> &'v str {
+    object.get(name).and_then(Value::as_str).unwrap_or("")
+}
