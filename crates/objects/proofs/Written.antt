@@ -1,11 +1,11 @@
 -- From the line of an object to what it tells.
-use Rattle.std.proofs.Common.{◌≡◌, ◌≢◌, ℕ, List, [], ◌++◌, Option, Result, Ok, Err, ap, sym, refl, subst, ◌∙◌}
+use Rattle.std.proofs.Common.{◌≡◌, ◌≢◌, ℕ, List, [], ◌++◌, Option, Some, Result, Ok, Err, ap, sym, refl, subst, ◌∙◌}
 use Rattle.std.proofs.Common.{Global, String, string_bytes}
 use Rattle.std.specs.declared.alloc.AllocError.{AllocError}
 use Rattle.std.proofs.KnownBytes.{Keeps-refl, Appends-kept}
 use Rattle.std.proofs.lemmas.List.{append-nil}
 use Rattle.std.specs.Io.KnownBytes.{Keeps}
-use Rattle.std.specs.Prelude.{IfErr, IfOk, MatchResult}
+use Rattle.std.specs.Prelude.{IfErr, IfOk, IfSome, MatchResult}
 use Rattle.syntax.specs.declared.place.Place.{Place}
 use Rattle.types.specs.Code.{Program}
 use Rattle.types.specs.Typed.{code_of}
@@ -78,14 +78,19 @@ pub refusal_of : (typed back : Typed) (race : FoundRace) (e : Refused) (r : Resu
 refusal_of typed back race e (Ok x) is of refused = absurd (ok_is_no_error x e is)
 refusal_of typed back race e (Err d) is of refused = subst (IsRefusalOf typed) (error_is d e is ∙ of) refused
 
+-- what is known of a value that was found
+of_found : {X : Type 0} (P : X → Type 0) (found : Option X) (x : X) → found ≡ Some x → IfSome found P → P x
+of_found P found x is known = subst (λ o. IfSome o P) is known
+
 -- a witness that was found, of a race
-pub race_shown : (file object : List ℕ) (places : List Place) (code back : Program) (race : ProgramRace) (w : Witness)
-    → IsWitness code race w → IsShortest code race w → back ≡ code → object ≡ line (race_json file places back race w)
+pub race_shown : (file object : List ℕ) (places : List Place) (code back : Program) (race : ProgramRace)
+    (found : Option Witness) (w : Witness) → found ≡ Some w → IfSome found (IsWitness code race)
+    → IfSome found (IsShortest code race) → back ≡ code → object ≡ line (race_json file places back race w)
     → ShowsRace file places code race object
-race_shown file object places code back race w is_witness shortest same is = record {
+race_shown file object places code back race found w found_is is_witness shortest same is = record {
   witness = w;
-  is_witness = is_witness;
-  shortest = shortest;
+  is_witness = of_found (IsWitness code race) found w found_is is_witness;
+  shortest = of_found (IsShortest code race) found w found_is shortest;
   told_is = is ∙ ap (λ (p : Program). line (race_json file places p race w)) same;
 }
 
