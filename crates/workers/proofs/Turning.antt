@@ -93,11 +93,11 @@ turn_own o t new own takes tasks =
 
 -- a task that wanted weight has more of it, and the one that it began has half
 pub more_own : (o : Option Job) (w : Wanting) (b : Body) (u : ℕ) (s : Start) (t : Task) (c : Child) → IsOwnWanting o w
-    → b ≡ w.body.value → s ≡ w.start → Parts b u s (Spawns t c) → IsOwnTask o t × IsOwnChild o c
+    → b ≡ w.body.value → s ≡ w.start.value → Parts b u s (Spawns t c) → IsOwnTask o t × IsOwnChild o c
 more_own o w b u s t c own body start parts =
-    let d : Divides w.body.value u w.start t c =
+    let d : Divides w.body.value u w.start.value t c =
     subst (λ (x : Start). Divides w.body.value u x t c) start (subst (λ (x : Body). Divides x u s t c) body parts) in
-    let tasks = parts_tasks w.body.value u w.start (Spawns t c) d own.wanting.body own.wanting.may in (
+    let tasks = parts_tasks w.body.value u w.start.value (Spawns t c) d own.wanting.body own.wanting.may in (
       record { job = own.job ∙ ap Some (sym (ap (λ (x : Body). x.job) d.body)); task = tasks.0 },
       record { job = own.job ∙ ap Some (sym d.job); child = tasks.1 },
     )

@@ -46,7 +46,7 @@ module _ (o : Option Job) where
 
   pub record IsOwnWanting (w : Wanting) : Type 0 where
     pub job : o ≡ Some w.body.value.job
-    pub wanting : IsWanting w.body.value w.start
+    pub wanting : IsWanting w.body.value w.start.value
 
   pub record IsOwnEnding (e : Ending) : Type 0 where
     pub job : o ≡ Some e.job
