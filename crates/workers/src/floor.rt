@@ -75,6 +75,7 @@ impl<'p, J: Running, G: Gate> Floor<'p, J, G> {
             Turn::Going(task) => Ok(Next::Goes(task)),
             Turn::Over(task) => Ok(Next::Goes(task)),
             Turn::Spawns(task, child) => {
+                self.note_spawn(rt, &task);
                 self.begin(number, own, post, child)?;
                 Ok(Next::Goes(task))
             }
@@ -90,7 +91,7 @@ impl<'p, J: Running, G: Gate> Floor<'p, J, G> {
         }
     }
 
-    /// A turn that is more than a step; of a run that is noted the next one, whatever it is.
+    /// A turn that is more than a step.
     fn next_turn<R: Wait>(&self, rt: &R, task: Task<'p>) -> Result<Turn<'p>, Trouble>
         requires { IsOwnTask J.job task }
         ensures { IfOk result (IsOwnTurn J.job) }
@@ -102,33 +103,68 @@ impl<'p, J: Running, G: Gate> Floor<'p, J, G> {
         }
     }
 
-    /// One turn, written down.
+    /// The same, each step written down; or a step, where the run is over.
     fn noted_turn<R: Wait>(&self, rt: &R, task: Task<'p>) -> Result<Turn<'p>, Trouble>
         requires { IsOwnTask J.job task }
         ensures { IfOk result (IsOwnTurn J.job) }
     {
-        let path = path_of::<J>(&task)?;
-        let steps = steps_of::<J>(&task);
-        let turn = advance::<J>(task)?;
-        match &turn {
-            Turn::Going(task) => {
-                if steps_of::<J>(task) < steps {
-                    self.journal.stepped(rt, &path);
+        let mut task = task;
+        for _ in rt.forever() {
+            let steps = steps_of::<J>(&task);
+            match advance::<J>(task)? {
+                Turn::Going(next) => {
+                    if steps_of::<J>(&next) < steps {
+                        self.note_step(rt, &next);
+                    }
+                    task = next;
                 }
+                turn => return Ok(turn),
             }
-            Turn::Spawns(_, _) => self.journal.spawned(rt, &path),
-            Turn::EntersFinish(_) => self.journal.opened(rt, &path),
-            _ => {}
+            if self.hall.is_over() {
+                return Ok(Turn::Going(task));
+            }
         }
-        Ok(turn)
+        unreachable!()
     }
 
-    /// Writes down that a task was given more weight, and began another.
+    // ---- what is written down
+
+    /// A task did a step.
+    fn note_step<R: Wait>(&self, rt: &R, task: &Task<'p>)
+        requires { IsOwnTask J.job task.now }
+    {
+        self.journal.stepped(rt, task.path());
+    }
+
+    /// A task began another.
+    fn note_spawn<R: Wait>(&self, rt: &R, task: &Task<'p>)
+        requires { IsOwnTask J.job task.now }
+    {
+        self.journal.spawned(rt, task.path());
+    }
+
+    /// A task began a finish.
+    fn note_open<R: Wait>(&self, rt: &R, task: &Task<'p>)
+        requires { IsOwnTask J.job task.now }
+    {
+        self.journal.opened(rt, task.path());
+    }
+
+    /// A task was given more weight, and began another.
     fn note_more<R: Wait>(&self, rt: &R, task: &Task<'p>)
         requires { IsOwnTask J.job task.now }
     {
         self.journal.replenished(rt, task.path());
     }
+
+    /// A worker takes a task that another, or it itself, began.
+    fn note_taken<R: Wait>(&self, rt: &R, number: usize, from: usize, task: &Task<'p>)
+        requires { IsOwnTask J.job task.now }
+    {
+        self.journal.taken(rt, number, from, task.path());
+    }
+
+    // ---- what follows a turn
 
     /// A task was begun: it waits in the worker's deque.
     fn begin(
@@ -163,6 +199,7 @@ impl<'p, J: Running, G: Gate> Floor<'p, J, G> {
     {
         let (inner, weight) = Inner::open(self.job.alloc, self.settings.w0);
         let task = entering.enter(weight);
+        self.note_open(rt, &task);
         let scope = Arc::new(self.job.alloc, Mutex::new(inner))?;
         post.outer.push(post.place)?;
         post.place = self.hall.put(rt, number, Arc::try_clone(&scope)?)?;
@@ -202,12 +239,23 @@ impl<'p, J: Running, G: Gate> Floor<'p, J, G> {
         ensures { IfOk result (IsOwnNext J.job) }
     {
         let path = ended.made.path.clone()?;
-        let left = ended.made.path.clone()?;
+        let told = self.path_for_gate(&path)?;
         let clerk = self.clerk(number, ended.scope);
         let (weight, made) = ended.take_weight();
         let passing = scopes::give_back(rt, &post.scope, weight, path, made, clerk)?;
-        self.gate.leave(&left);
+        if let Some(path) = told {
+            self.gate.leave(&path);
+        }
         self.after(rt, post, passing)
+    }
+
+    /// The path of a task that ends, for a gate that is to be told of it.
+    fn path_for_gate(&self, path: &Path) -> Result<Option<Path>, AllocError> {
+        if self.gate.listens() {
+            Ok(Some(path.clone()?))
+        } else {
+            Ok(None)
+        }
     }
 
     /// Who writes down what this worker gives back to a scope.
@@ -318,13 +366,6 @@ impl<'p, J: Running, G: Gate> Floor<'p, J, G> {
         self.go_on(rt, number, own, &mut post, task)
     }
 
-    /// Writes down that a worker takes a task that another, or it itself, began.
-    fn note_taken<R: Wait>(&self, rt: &R, number: usize, from: usize, task: &Task<'p>)
-        requires { IsOwnTask J.job task.now }
-    {
-        self.journal.taken(rt, number, from, task.path());
-    }
-
     /// The gate is lent a task before its first turn.
     fn let_in(&self, task: &Task<'p>)
         requires { IsOwnTask J.job task.now }
@@ -421,13 +462,6 @@ fn advance<'p, J: Running>(task: Task<'p>) -> Result<Turn<'p>, NoMemory>
     ensures { IfOk result (IsOwnTurn J.job) }
 {
     task.advance()
-}
-
-/// Whose a task is.
-fn path_of<'p, J: Running>(task: &Task<'p>) -> Result<Path, AllocError>
-    requires { IsOwnTask J.job task.now }
-{
-    task.path().clone()
 }
 
 /// How many steps a task may still do.

@@ -64,6 +64,10 @@ impl Gate for Holding {
         }
     }
 
+    fn listens(&self) -> bool {
+        true
+    }
+
     fn leave(&self, path: &Path) {
         if is_at(path, self.awaited) {
             self.has_left.store(true, Ordering::SeqCst);
@@ -86,6 +90,10 @@ struct Counting {
 impl Gate for Counting {
     fn enter(&self, _task: &Task<'_>) {
         self.entered.fetch_add(1, Ordering::SeqCst);
+    }
+
+    fn listens(&self) -> bool {
+        true
     }
 
     fn leave(&self, _path: &Path) {
