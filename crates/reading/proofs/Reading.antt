@@ -1,7 +1,6 @@
 -- Words that ask plainly are read as what they ask.
 use Rattle.std.proofs.Common.{◌≡◌, ℕ, List, [], ◌∷◌, Option, Some, None, refl, sym, ap, ◌∙◌, subst, codes}
 use Rattle.std.specs.Prelude.{Bool, true, false, ◌&&◌, if◌then◌else◌, IsTrue, IfSome, IsSomeAnd, option_map}
-use Rattle.std.specs.Prelude.{map}
 use Rattle.std.specs.Prelude.{◌<◌, ◌^◌, Result, Ok, Err, unwrap_or}
 use Rattle.std.specs.Fmt.{decimal}
 use Rattle.std.specs.Result.{result_ok}
@@ -23,14 +22,14 @@ use Rattle.reading.specs.Reading.{Line, bare, flag_taken, line_of, no_texts, rea
 use Rattle.std.proofs.Common.{true≢false}
 use Rattle.std.proofs.lemmas.Slice.Eq.{bytes_eq-Decides}
 use Rattle.reading.specs.Reading.{told_line, manner_if, read_by, read_color, read_manner, read_rest}
-use Rattle.reading.specs.Reading.{either, measured_if, read_cost, read_flagged, read_format, read_parts}
+use Rattle.reading.specs.Reading.{either, measured_if, read_cost, read_flagged, read_parts}
 use Rattle.reading.specs.Reading.{read_optioned, read_serial_texts, read_showing, read_texts, read_view, shown_if, taken}
 use Rattle.command_line.specs.Requests.{AreForExplore, AreForRun, AreForSerial, AreRight, Asked, Asks, AsksPlainly, Options, Settings, Texts}
 use Rattle.command_line.specs.Requests.{AsPicture, AsTable, ByNumbers, ForViewer, Showing, Viewing, command_for, no_options}
 use Rattle.command_line.specs.Requests.{picture_of, showing_words, to_view, viewing_options, viewing_words}
-use Rattle.command_line.specs.Requests.{is_file_name, optioned, plain, settings_by, flagged, valued, by_command}
-use Rattle.command_line.specs.Requests.{color_word, manner_words, no_manner, telling_by, told_so}
-use Rattle.command_line.specs.Requests.{acting, rewriting, to_rewrite, to_rewrite_behind, to_cost, to_cost_by}
+use Rattle.command_line.specs.Requests.{is_file_name, settings_by, flagged, valued, by_command}
+use Rattle.command_line.specs.Requests.{color_word, manner_words, no_manner, told_so}
+use Rattle.command_line.specs.Requests.{acting, to_rewrite, to_rewrite_behind, to_cost, to_cost_by}
 use Rattle.command_line.specs.Requests.{AreForMeasuring, measured_words_behind, Parts, ByLabel, ByProcedure, command_by, parts_word}
 use Rattle.command_line.specs.Requests.{Choosing, Listed, InFile, Random, IsRightChoosing, choosing_words_of, file_of, list_of}
 use Rattle.command_line.specs.Requests.{asked_of, seed_of, serial_words_of, texts_by, words_of}
