@@ -113,9 +113,7 @@ impl<'p, J: Running, G: Gate> Floor<'p, J, G> {
             let steps = steps_of::<J>(&task);
             match advance::<J>(task)? {
                 Turn::Going(next) => {
-                    if steps_of::<J>(&next) < steps {
-                        self.note_step(rt, &next);
-                    }
+                    self.note_step(rt, &next, steps);
                     task = next;
                 }
                 turn => return Ok(turn),
@@ -129,11 +127,13 @@ impl<'p, J: Running, G: Gate> Floor<'p, J, G> {
 
     // ---- what is written down
 
-    /// A task did a step.
-    fn note_step<R: Wait>(&self, rt: &R, task: &Task<'p>)
+    /// A task did a step, where it has fewer left than before.
+    fn note_step<R: Wait>(&self, rt: &R, task: &Task<'p>, before: u32)
         requires { IsOwnTask J.job task.now }
     {
-        self.journal.stepped(rt, task.path());
+        if task.steps() < before {
+            self.journal.stepped(rt, task.path());
+        }
     }
 
     /// A task began another.
