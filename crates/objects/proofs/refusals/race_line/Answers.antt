@@ -8,7 +8,7 @@ pub shown_line-requires : goal.shown_line-requires
 shown_line-requires g c =
     let refusal = refusal_of c.in-Ok.typed c.in-Err-Race.typed c.in-Err-Race.race c.in-Err-Race.field-0 c.check.result
     c.in-Err-Race.is c.in-Err-Race.field-0-is c.check.ensures.refused in
-    least_is_race c.in-Ok.typed c.in-Err-Race.typed (race c.in-Err-Race.race) refusal.0 refusal.1
+    record { race = least_is_race c.in-Ok.typed c.in-Err-Race.typed (race c.in-Err-Race.race) refusal.0 refusal.1 }
 
 pub returns-in-Err-Race : goal.returns-in-Err-Race
 returns-in-Err-Race g c =
