@@ -34,8 +34,8 @@ pub struct Cost {
     pub deepest_nest: usize,
     /// How many finishes there were, the one around `main` among them.
     pub finishes: usize,
-    /// How many places are copied at most where tasks begin and where they have ended, if each task puts back at once
-    /// what it has taken: those of blocks of 256 that lie not wholly inside of what its async may write, twice.
+    /// How many places lie, at each async that begins a task, in blocks of 256 that aren't wholly inside of what its body
+    /// may write, counted twice: once for the way to the task, once for the way back.
     pub copied: usize,
 }
 

@@ -22,7 +22,7 @@ pub struct Tally {
     pub deepest: usize,
     /// How many finishes began, the one around `main` among them.
     pub finishes: usize,
-    /// How many places were copied where tasks began, and will be where they have ended.
+    /// How many places are counted as copied at the asyncs that began tasks, for both ways.
     pub copied: usize,
 }
 
