@@ -27,7 +27,7 @@ struct Entry {
 /// What an entry is or takes.
 #[derive(Clone, Copy)]
 enum Takes {
-    /// It is the name of a file, which must stand there.
+    /// It is the name of a file or of a folder, which must stand there.
     File,
     /// It is the name of a shell, which must stand there.
     Shell,
@@ -54,6 +54,12 @@ enum Takes {
 const FILE: Entry = Entry {
     name: "FILE",
     help: "The program; - is the standard input",
+    takes: Takes::File,
+};
+
+const FOLDER: Entry = Entry {
+    name: "FOLDER",
+    help: "The folder of the programs",
     takes: Takes::File,
 };
 
@@ -247,6 +253,18 @@ longest chain of steps that must come one after another. No number of workers ma
 Example: afx cost examples/doubling.afx --input examples/doubling.json
 Example: afx cost examples/doubling.afx --input examples/doubling.json --by-line";
 
+const BENCH_EXAMPLE: &str =
+    "Each run is timed five times, in microseconds, and the least and the middle of its times are told. A run that has faults
+or is stopped isn't timed: its outcome is written.
+
+Example: afx bench examples/doubling.afx --input examples/doubling.json";
+
+const TEST_EXAMPLE: &str =
+    "Each NAME.afx of the folder is run on one thread, and as tasks on 1 and on 4 threads. It passes where what is told is what
+NAME.out holds. The file of its input is NAME.json, if there is one.
+
+Example: afx test examples/tested";
+
 const EXPLORE_EXAMPLE: &str =
     "A choice is the number of a part that steps next, of those that may, from the left and from 0.
 
@@ -328,6 +346,20 @@ const COSTED: Row = Row {
     ],
 };
 
+const BENCHED: Row = Row {
+    name: "bench",
+    about: "Times a program on one thread and as tasks on 1, 2 and 4 threads",
+    example: BENCH_EXAMPLE,
+    entries: &[FILE, INPUT, STEPS, NEST, EXPLAIN, COLOR],
+};
+
+const TESTED: Row = Row {
+    name: "test",
+    about: "Runs the programs of a folder, and compares what they tell with what they should",
+    example: TEST_EXAMPLE,
+    entries: &[FOLDER],
+};
+
 const EXPLORED: Row = Row {
     name: "explore",
     about: "Runs a program step by step, by given choices",
@@ -373,9 +405,9 @@ const MANUAL: Row = Row {
 };
 
 /// All commands, in the order in which help tells them.
-const ROWS: [Row; 12] = [
-    RUN, SERIAL, CHECKED, LISTED, FORMATTED, PAIRED, COSTED, EXPLORED, VIEWED, EXPLAINED,
-    COMPLETED, MANUAL,
+const ROWS: [Row; 14] = [
+    RUN, SERIAL, CHECKED, LISTED, FORMATTED, PAIRED, COSTED, BENCHED, TESTED, EXPLORED, VIEWED,
+    EXPLAINED, COMPLETED, MANUAL,
 ];
 
 /// What stands behind the help of the program.
@@ -384,8 +416,8 @@ const STATUSES: &str = "No word is `run -`: the program is read from the standar
 Example: afx serial examples/doubling.afx --input examples/doubling.json --arrays
 
 Exit status:
-  0  the run ended; the program is accepted; a listing; pairs of labels; a text laid out; a trace shown; help
-  1  refused: the command line, a file, the text, a rule, a race, the input, choices, the trace, the output; not laid out
+  0  the run ended; the program is accepted; a listing; pairs of labels; a text laid out; a trace shown; no test failed; help
+  1  refused: the command line, a file, the text, a rule, a race, the input, choices, the trace, the output; not laid out; a test failed
   2  the run ended with faults
   3  the run was stopped over its budget; it has not ended by its choices
   4  no memory; more tasks than the run may have
@@ -402,6 +434,8 @@ pub const CLOSING: Closing<'static> = Closing {
         LAYOUT_EXAMPLE,
         PAIRS_EXAMPLE,
         COST_EXAMPLE,
+        BENCH_EXAMPLE,
+        TEST_EXAMPLE,
         EXPLORE_EXAMPLE,
         VIEW_EXAMPLE,
         EXPLAIN_EXAMPLE,

@@ -21,6 +21,7 @@ const TAIL: &str = "    case $now in
     case $offer in
     words) COMPREPLY=($(IFS=' '; compgen -W \"$words\" -- \"$now\")) ;;
     file) compopt -o filenames; COMPREPLY=($(compgen -f -- \"$now\")) ;;
+    folder) compopt -o filenames; COMPREPLY=($(compgen -d -- \"$now\")) ;;
     afx | json)
         compopt -o filenames
         COMPREPLY=($(compgen -f -X \"!*.$offer\" -- \"$now\") $(compgen -d -- \"$now\"))
@@ -98,6 +99,7 @@ fn push_offer(alloc: Global, text: &mut String, arg: &Arg<'_>) -> Result<(), All
         Offer::Program => text.push_str(" offer=afx"),
         Offer::Input => text.push_str(" offer=json"),
         Offer::File => text.push_str(" offer=file"),
+        Offer::Folder => text.push_str(" offer=folder"),
         Offer::Page => {
             text.push_str(" offer=words words=\"")?;
             push_names(text, &tables())?;

@@ -67,6 +67,7 @@ fn push_offer(alloc: Global, text: &mut String, arg: &Arg<'_>) -> Result<(), All
         Offer::Program => text.push_str(" -k -a '(__fish_complete_suffix .afx)'"),
         Offer::Input => text.push_str(" -k -a '(__fish_complete_suffix .json)'"),
         Offer::File => text.push_str(" -F"),
+        Offer::Folder => text.push_str(" -a '(__fish_complete_directories)'"),
         Offer::Page => {
             text.push_str(" -a '")?;
             push_names(text, &tables())?;

@@ -13,6 +13,8 @@ pub enum Offer<'a> {
     Input,
     /// Any file.
     File,
+    /// A folder.
+    Folder,
     /// The name of a page.
     Page,
     /// One of these words.
@@ -30,6 +32,7 @@ pub fn offer_of<'a>(alloc: Global, arg: &Arg<'a>) -> Result<Offer<'a>, AllocErro
     Ok(match value.as_str() {
         "FILE" if arg.is_positional() => Offer::Program,
         "FILE" | "TRACE" | "OUT" => Offer::File,
+        "FOLDER" => Offer::Folder,
         "JSON" => Offer::Input,
         "WORD" => Offer::Page,
         _ => Offer::Nothing,

@@ -81,6 +81,7 @@ fn push_offer(alloc: Global, text: &mut String, arg: &Arg<'_>) -> Result<(), All
         Offer::Program => text.push_str("_files -g \"*.afx\""),
         Offer::Input => text.push_str("_files -g \"*.json\""),
         Offer::File => text.push_str("_files"),
+        Offer::Folder => text.push_str("_files -/"),
         Offer::Page => {
             text.push_str("(")?;
             push_names(text, &tables())?;

@@ -1,13 +1,18 @@
 -- Words that order are read as what they order.
 use Rattle.std.proofs.Common.{◌≡◌, ℕ, ◌<◌, List, [], ◌∷◌, Option, Some, None, Bor, arith, length, map, refl, sym, ap, ◌∙◌, subst, codes}
-use Rattle.std.specs.Prelude.{option_map}
+use Rattle.std.specs.Prelude.{Bool, true, false, option_map, IsSomeAnd, IsTrue}
+use Rattle.std.specs.Str.{bytes_eq}
 use Rattle.std.specs.String.{string_bytes}
-use Rattle.std.proofs.Common.{Global, String}
-use Rattle.command_line.specs.Requests.{Asked, Asks}
-use Rattle.reading.specs.Orders.{Order, AsText, AsObject, Orders, AsksForObject, subject_of}
+use Rattle.std.proofs.Common.{true≢false, Global, String}
+use Rattle.std.proofs.lemmas.Slice.Eq.{bytes_eq-Decides}
+use Rattle.command_line.specs.Requests.{Asked, Asks, is_file_name}
+use Rattle.command_line.specs.declared.request.Action.TheVariants.{Answer}
+use Rattle.command_line.specs.declared.request.Command.TheVariants.{Cost}
+use Rattle.reading.specs.Orders.{Order, AsText, AsObject, Times, Tests, Orders, AsksForObject, AsksToTime, AsksToTest}
+use Rattle.reading.specs.Orders.{subject_of, order}
 use Rattle.reading.specs.Reading.{taken}
 use Rattle.reading.specs.declared.order.Subject.{Subject}
-use Rattle.reading.proofs.Reading.{Lacks, asks_no_form}
+use Rattle.reading.proofs.Reading.{Lacks, asks_no_form, bench_asks_nothing, test_asks_nothing}
 
 -- ---- lists and options
 
@@ -20,14 +25,24 @@ tail_is x y xs ys is = cc
 none_begins : (y : List ℕ) (ys : List (List ℕ)) → (let xs : List (List ℕ) = [] in xs) ≡ y ∷ ys → ⊥
 none_begins y ys is = cc
 
+test_is_bench : codes "test" ≡ codes "bench" → ⊥
+test_is_bench is = cc
+
 no_subject_is : (x : Subject) → (let o : Option Subject = None in o) ≡ Some x → ⊥
 no_subject_is x is = cc
 
-subject_is : (x y : Subject) → Some x ≡ Some y → x ≡ y
+pub subject_is : (x y : Subject) → Some x ≡ Some y → x ≡ y
 subject_is x y is = cc
 
 no_text_is : (text : List ℕ) → Some text ≡ (let o : Option (List ℕ) = None in o) → ⊥
 no_text_is text is = cc
+
+-- a word that was found to be another
+pub is_word : (b : Bool) (word other : List ℕ) → b ≡ bytes_eq word other → b ≡ true → word ≡ other
+is_word b word other of is = (bytes_eq-Decides word other).0 (sym of ∙ is)
+
+pub is_not_word : (b : Bool) (word other : List ℕ) → b ≡ bytes_eq word other → b ≡ false → word ≡ other → ⊥
+is_not_word b word other of is same = true≢false (sym ((bytes_eq-Decides word other).1 same) ∙ sym of ∙ is)
 
 -- ---- one object
 
@@ -71,14 +86,53 @@ pub record IsAsked (words : List (List ℕ)) (o : Order) : Type 0 where
 pub none_asked : (o : Order) → Orders [] o → IsAsked [] o
 none_asked (AsText a) asks = record { a = a; is = refl; asks = asks }
 none_asked (AsObject x a) p = absurd (none_begins p.command (codes "--format" ∷ codes "json" ∷ p.behind) p.words_are)
+none_asked (Times a) p = absurd (none_begins (codes "bench") p.behind p.words_are)
+none_asked (Tests folder) p = absurd (none_begins (codes "test") (folder ∷ []) p.words_are)
 
 pub no_words : (ws : List (String Global)) → length ws < 1 → map string_bytes ws ≡ []
 no_words [] short = refl
 no_words (w ∷ ws) short = let never : ⊥ = omega arith in absurd never
 
--- ---- whatever is ordered
+-- ---- a program that is timed, and folders
 
-pub asked_or_told : (P : Order → Type 0) (words : List (List ℕ)) → ((a : Asked) → Asks words a → P (AsText a))
-    → ((x : Subject) (a : Asked) → AsksForObject words x a → P (AsObject x a)) → (o : Order) → Orders words o → P o
-asked_or_told P words text object (AsText a) asks = text a asks
-asked_or_told P words text object (AsObject x a) asks = object x a asks
+module _ (command : List ℕ) (behind : List (List ℕ)) where
+  -- `bench` orders a timing
+  pub bench_times : (P : Order → Type 0) → command ≡ codes "bench"
+      → ((a : Asked) → Asks (codes "cost" ∷ behind) a → a.action ≡ Answer Cost → P (Times a))
+      → (o : Order) → Orders (command ∷ behind) o → P o
+  bench_times P is times (AsText a) asks =
+      absurd (bench_asks_nothing behind a (subst (λ (c : List ℕ). Asks (c ∷ behind) a) is asks))
+  bench_times P is times (AsObject x a) p =
+      let first = head_is command p.command behind (codes "--format" ∷ codes "json" ∷ p.behind) p.words_are in
+      absurd (bench_asks_nothing p.behind a (subst (λ (c : List ℕ). Asks (c ∷ p.behind) a) (sym first ∙ is) p.asks))
+  bench_times P is times (Times a) p =
+      let others = tail_is command (codes "bench") behind p.behind p.words_are in
+      times a (subst (λ (ws : List (List ℕ)). Asks (codes "cost" ∷ ws) a) (sym others) p.asks) p.measured
+  bench_times P is times (Tests folder) p =
+      absurd (test_is_bench (sym (head_is command (codes "test") behind (folder ∷ []) p.words_are) ∙ is))
+
+  -- `test` orders a test
+  pub test_tests : (P : Order → Type 0) → command ≡ codes "test"
+      → ((folder : List ℕ) → IsTrue (is_file_name folder) → behind ≡ folder ∷ [] → P (Tests folder))
+      → (o : Order) → Orders (command ∷ behind) o → P o
+  test_tests P is tests (AsText a) asks =
+      absurd (test_asks_nothing behind a (subst (λ (c : List ℕ). Asks (c ∷ behind) a) is asks))
+  test_tests P is tests (AsObject x a) p =
+      let first = head_is command p.command behind (codes "--format" ∷ codes "json" ∷ p.behind) p.words_are in
+      absurd (test_asks_nothing p.behind a (subst (λ (c : List ℕ). Asks (c ∷ p.behind) a) (sym first ∙ is) p.asks))
+  test_tests P is tests (Times a) p =
+      absurd (test_is_bench (sym is ∙ head_is command (codes "bench") behind p.behind p.words_are))
+  test_tests P is tests (Tests folder) p =
+      tests folder p.named (tail_is command (codes "test") behind (folder ∷ []) p.words_are)
+
+  -- no other command orders a timing or a test
+  pub told_only : (P : Order → Type 0) → (command ≡ codes "test" → ⊥) → (command ≡ codes "bench" → ⊥)
+      → ((a : Asked) → Asks (command ∷ behind) a → P (AsText a))
+      → ((x : Subject) (a : Asked) → AsksForObject (command ∷ behind) x a → P (AsObject x a))
+      → (o : Order) → Orders (command ∷ behind) o → P o
+  told_only P no_test no_bench text object (AsText a) asks = text a asks
+  told_only P no_test no_bench text object (AsObject x a) p = object x a p
+  told_only P no_test no_bench text object (Times a) p =
+      absurd (no_bench (head_is command (codes "bench") behind p.behind p.words_are))
+  told_only P no_test no_bench text object (Tests folder) p =
+      absurd (no_test (head_is command (codes "test") behind (folder ∷ []) p.words_are))

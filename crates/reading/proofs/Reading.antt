@@ -809,7 +809,7 @@ asks_told words a (by_command command m behind b asks is asked) =
       asked = asked ∙ ap (told_so m) l.asked;
     }
 
--- ---- words that say a form
+-- ---- words that ask nothing of one program, or say a form
 
 -- behind the command of words that ask stands no form
 abbrev pub SaysNoForm : List (List ℕ) → Type 0
@@ -827,6 +827,36 @@ pub asks_no_form : (words : List (List ℕ)) (a : Asked) → Asks words a → Sa
 asks_no_form words a (by_no_word is asked) = subst SaysNoForm (sym is) tt
 asks_no_form words a (by_command command m behind b asks is asked) =
     subst SaysNoForm (sym is) (formless_manner m behind (plainly_begun (command ∷ behind) b asks))
+
+-- no words behind this command ask
+abbrev IsNoCommand : List ℕ → Type 0
+IsNoCommand command = (words : List (List ℕ)) → read_rest command words ≡ None
+
+unread_by : (command : List ℕ) → IsNoCommand command → (r : Option (Manner × List (List ℕ))) → read_by command r ≡ None
+unread_by command none None = refl
+unread_by command none (Some (m, words)) = ap (option_map (λ (l : Line). (l, m))) (none words)
+
+none_is_some : (l : Line × Manner) → (let o : Option (Line × Manner) = None in o) ≡ Some l → ⊥
+none_is_some l is = cc
+
+asks_none : (command : List ℕ) (behind : List (List ℕ)) (a : Asked) → IsNoCommand command → Asks (command ∷ behind) a → ⊥
+asks_none command behind a none asks =
+    let l = asks_told (command ∷ behind) a asks in
+    none_is_some _ (sym (unread_by command none (read_manner behind)) ∙ l.is_read)
+
+no_test : IsNoCommand (codes "test")
+no_test [] = refl
+no_test (file ∷ behind) = refl
+
+no_bench : IsNoCommand (codes "bench")
+no_bench [] = refl
+no_bench (file ∷ behind) = refl
+
+pub test_asks_nothing : (behind : List (List ℕ)) (a : Asked) → Asks (codes "test" ∷ behind) a → ⊥
+test_asks_nothing behind a asks = asks_none (codes "test") behind a no_test asks
+
+pub bench_asks_nothing : (behind : List (List ℕ)) (a : Asked) → Asks (codes "bench" ∷ behind) a → ⊥
+bench_asks_nothing behind a asks = asks_none (codes "bench") behind a no_bench asks
 
 -- what was read
 abbrev IsRead : Line × Manner → Option (Line × Manner) → Type 0

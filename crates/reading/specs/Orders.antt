@@ -1,12 +1,14 @@
--- What the words of a command line order: what they ask, told as text or as one object.
-use Rattle.std.specs.Prelude.{ℕ, ◌≡◌, List, ◌∷◌, Option, None, Some, codes}
-use Rattle.command_line.specs.Requests.{Asked, Asks, asked_of}
+-- What the words of a command line order: what they ask of one program, told as text or as one object; that its runs
+-- are timed; or that the programs of a folder are tested.
+use Rattle.std.specs.Prelude.{ℕ, ◌≡◌, List, [], ◌∷◌, Option, None, Some, IsTrue, codes}
+use Rattle.command_line.specs.Requests.{Asked, Asks, asked_of, is_file_name}
 use Rattle.command_line.specs.declared.request.Action.{Action}
 use Rattle.command_line.specs.declared.request.Action.TheVariants.{Answer, Rewrite}
 use Rattle.command_line.specs.declared.request.Command.{Command}
 use Rattle.command_line.specs.declared.request.Command.TheVariants.{Run, Serial, Check, Pairs, Cost}
 use Rattle.reading.specs.declared.order.Order.{Order as rOrder}
 use Rattle.reading.specs.declared.order.Order.TheVariants.{AsText as rAsText, AsObject as rAsObject}
+use Rattle.reading.specs.declared.order.Order.TheVariants.{Times as rTimes, Tests as rTests}
 use Rattle.reading.specs.declared.order.Subject.{Subject}
 use Rattle.reading.specs.declared.order.Subject.TheVariants.{Run as RunTold, Serial as SerialTold}
 use Rattle.reading.specs.declared.order.Subject.TheVariants.{Check as CheckTold, Cost as CostTold, Pairs as PairsTold}
@@ -14,10 +16,14 @@ use Rattle.reading.specs.declared.order.Subject.TheVariants.{Check as CheckTold,
 pub data Order : Type 0 where
   AsText : (a : Asked) → Order
   AsObject : (x : Subject) → (a : Asked) → Order
+  Times : (a : Asked) → Order
+  Tests : (folder : List ℕ) → Order
 
 abbrev pub order : rOrder → Order
 order (rAsText request) = AsText (asked_of request)
 order (rAsObject x request) = AsObject x (asked_of request)
+order (rTimes request) = Times (asked_of request)
+order (rTests folder) = Tests folder.now
 
 -- a command whose answer can be told as one object
 abbrev pub answer_told : Command → Option Subject
@@ -47,7 +53,21 @@ pub record AsksForObject (words : List (List ℕ)) (x : Subject) (a : Asked) : T
   pub told : subject_of a.action ≡ Some x
   pub words_are : words ≡ command ∷ codes "--format" ∷ codes "json" ∷ behind
 
+-- behind `bench` stands what may stand behind `cost`, where no share is told
+pub record AsksToTime (words : List (List ℕ)) (a : Asked) : Type 0 where
+  pub behind : List (List ℕ)
+  pub asks : Asks (codes "cost" ∷ behind) a
+  pub measured : a.action ≡ Answer Cost
+  pub words_are : words ≡ codes "bench" ∷ behind
+
+-- behind `test` stands the name of a folder
+pub record AsksToTest (words : List (List ℕ)) (folder : List ℕ) : Type 0 where
+  pub named : IsTrue (is_file_name folder)
+  pub words_are : words ≡ codes "test" ∷ folder ∷ []
+
 -- the words order this
 abbrev pub Orders : (words : List (List ℕ)) → Order → Type 0
 Orders words (AsText a) = Asks words a
 Orders words (AsObject x a) = AsksForObject words x a
+Orders words (Times a) = AsksToTime words a
+Orders words (Tests folder) = AsksToTest words folder

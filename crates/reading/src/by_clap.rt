@@ -18,6 +18,8 @@ pub fn order_by_clap<'w>(alloc: Global, words: &'w [String]) -> Result<Order<'w>
             Err(reply::completions(alloc, given, &commands(alloc)?)?)
         }
         Some(("man", _)) => Err(reply::manual(alloc, &commands(alloc)?, CLOSING)?),
+        Some(("bench", given)) => Ok(Order::Times(request(alloc, Command::Cost, given)?)),
+        Some(("test", given)) => Ok(Order::Tests(given.get_str("FOLDER").unwrap_or("-"))),
         asked => Ok(told(asked, request_asked(alloc, asked)?)),
     }
 }

@@ -12,6 +12,10 @@ pub enum Order<'w> {
     AsText(Request<'w>),
     /// `--format json`: it is told as one object.
     AsObject(Subject, Request<'w>),
+    /// `bench`: the runs of a program are timed.
+    Times(Request<'w>),
+    /// `test`: the programs of this folder are run, and what they tell is compared with what they should.
+    Tests(&'w str),
 }
 
 /// What can be told as one object.

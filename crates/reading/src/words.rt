@@ -1,17 +1,19 @@
 //! The words of a command line.
 
-ghost use Rattle.std.specs.Prelude.{◌≡◌, ◌∷◌, [], IsOkAnd, IsSomeAnd, map, Some};
+ghost use Rattle.std.specs.Prelude.{ℕ, ◌≡◌, ◌∷◌, [], codes, IsOkAnd, IsSomeAnd, IsTrue, List, map, Some};
 ghost use Rattle.std.specs.String.{string_bytes};
-ghost use Rattle.reading.specs.Orders.{AsText, AsObject, Order as OrderIn, Orders};
+ghost use Rattle.reading.specs.Orders.{AsText, AsObject, Times, Tests, Order as OrderIn, Orders};
 ghost use Rattle.reading.specs.Orders.{AsksForObject, order as order_said, subject_of};
 ghost use Rattle.reading.specs.declared.order.Subject.{Subject as SubjectOf};
 ghost use Rattle.reading.specs.Reading.{line_of};
 ghost use Rattle.command_line.specs.Requests.{AreRight, Asked, Asks, Options, asked_of};
-ghost use Rattle.command_line.specs.Requests.{acting, texts_by};
+ghost use Rattle.command_line.specs.Requests.{acting, is_file_name as names_file, texts_by};
+ghost use Rattle.command_line.specs.declared.request.Action.TheVariants.{Answer};
+ghost use Rattle.command_line.specs.declared.request.Command.TheVariants.{Cost};
 
 use crate::by_clap::order_by_clap;
 use crate::order::{Order, Subject};
-use crate::plain::{Line, line_in, line_of_none};
+use crate::plain::{Line, is_file_name, line_in, line_of_none};
 use crate::settings::settings_in;
 use crate::taking::take;
 use command_line::request::{Request, Telling};
@@ -46,10 +48,16 @@ fn order_behind<'w>(command: &str, behind: &'w [String]) -> Option<Order<'w>>
     ensures { (o : OrderIn) → Orders (command.now ∷ map string_bytes behind.now) o
         → IsSomeAnd result (λ r. order_said r ≡ o) }
 {
-    told_in(command, behind)
+    if command == "test" {
+        tests_in(behind)
+    } else if command == "bench" {
+        times_in(behind)
+    } else {
+        told_in(command, behind)
+    }
 }
 
-/// The same, for each of the forms in which it may be told.
+/// The order of words that ask something of one program, told as text or as one object.
 fn told_in<'w>(command: &str, behind: &'w [String]) -> Option<Order<'w>>
     ensures text { (a : Asked) → Asks (command.now ∷ map string_bytes behind.now) a
         → IsSomeAnd result (λ r. order_said r ≡ AsText a) }
@@ -78,6 +86,36 @@ fn object_in<'w>(command: &str, behind: &'w [String]) -> Option<Order<'w>>
     let request = asked_in(command, behind)?;
     let subject = Subject::of(request.action)?;
     Some(Order::AsObject(subject, request))
+}
+
+/// The order of the words behind `bench`: what may stand behind `cost`, but for what share is told.
+fn times_in<'w>(behind: &'w [String]) -> Option<Order<'w>>
+    ensures { (a : Asked) → Asks (codes "cost" ∷ map string_bytes behind.now) a
+        → a.action ≡ Answer Cost → IsSomeAnd result (λ r. order_said r ≡ Times a) }
+{
+    let request = asked_in("cost", behind)?;
+    match Subject::of(request.action)? {
+        Subject::Cost => Some(Order::Times(request)),
+        _ => None,
+    }
+}
+
+/// The order of the words behind `test`.
+fn tests_in<'w>(behind: &'w [String]) -> Option<Order<'w>>
+    ensures { (folder : List ℕ) → IsTrue (names_file folder)
+        → map string_bytes behind.now ≡ folder ∷ []
+        → IsSomeAnd result (λ r. order_said r ≡ Tests folder) }
+{
+    match behind {
+        [folder] => {
+            if is_file_name(folder.as_str()) {
+                Some(Order::Tests(folder.as_str()))
+            } else {
+                None
+            }
+        }
+        _ => None,
+    }
 }
 
 /// The request of no word.
