@@ -1,0 +1,5 @@
+pub mod Endings
+pub mod RunCauses
+pub mod Tested
+pub mod Told
+pub mod Trying

@@ -1,0 +1,31 @@
+-- Why a run as tasks has no outcome.
+use Rattle.std.proofs.Common.{◌≡◌, subst, refl, sym}
+use Rattle.gather.specs.RunErrors.{IsCause}
+use Rattle.command_line.specs.Requests.{Settings}
+use Rattle.command_line.specs.declared.request.Command.TheVariants.{Run}
+use Rattle.intake.specs.declared.failure.Failure.{Failure}
+use Rattle.intake.specs.declared.failure.Failure.TheVariants.{Run as RunFailed, NoMemory}
+use Rattle.intake.specs.Held.{Held}
+use Rattle.std.proofs.Common.{ℕ, List}
+use Rattle.answers.specs.Answers.{Explains}
+use Rattle.answers.proofs.Answering.{IsOther}
+use Rattle.trials.specs.Runs.{TellsNoRun}
+
+-- it is the same of as many tasks
+pub same_tasks : (s t : Settings) → s.spread.tasks ≡ t.spread.tasks → (f : Failure) → TellsNoRun s f → TellsNoRun t f
+same_tasks s t same (RunFailed e) told = subst (λ (n : ℕ). IsCause n e) same told
+same_tasks s t same NoMemory told = tt
+same_tasks s t same _ told = absurd told
+
+pub memory_tells_no_run : (s : Settings) (f : Failure) → f ≡ NoMemory → TellsNoRun s f
+memory_tells_no_run s f is = subst (TellsNoRun s) (sym is) tt
+
+pub no_run_explained : (s : Settings) (held : Held) (text : List ℕ) (f : Failure) → TellsNoRun s f → Explains Run s held text f
+no_run_explained s held text (RunFailed e) told = (refl, told)
+no_run_explained s held text NoMemory told = tt
+no_run_explained s held text _ told = absurd told
+
+pub no_run_other : (s : Settings) (f : Failure) → TellsNoRun s f → IsOther f
+no_run_other s (RunFailed e) told = tt
+no_run_other s NoMemory told = tt
+no_run_other s _ told = absurd told

@@ -1,0 +1,53 @@
+-- What is answered of times, and of folders.
+use Rattle.std.proofs.Common.{◌≡◌, ℕ, List, Option, Result, IfOk, IfErr, sym, subst}
+use Rattle.std.specs.Prelude.{IsErrAnd}
+use Rattle.texts.specs.Appending.{Writes}
+use Rattle.command_line.specs.Requests.{Settings}
+use Rattle.command_line.specs.declared.request.Command.TheVariants.{Run}
+use Rattle.intake.specs.Held.{Held}
+use Rattle.intake.specs.declared.failure.Failure.{Failure}
+use Rattle.intake.specs.declared.failure.Failure.TheVariants.{CannotWriteOutput, NoMemory}
+use Rattle.answers.specs.Answers.{Done, Explains}
+use Rattle.answers.proofs.Answering.{IsOther, answered, other_failure, passed_on}
+use Rattle.trials.specs.Folders.{Folders, TellsNoFolder}
+use Rattle.trials.specs.Times.{AnswersTimes}
+use Rattle.trials.specs.Trials.{AnswersTest, ExplainsTest}
+use Rattle.trials.proofs.Tested.{memory_explained, memory_other, no_folder_explained, no_folder_other}
+
+module _ (s : Settings) (held : Held) (text : List ℕ) where
+  -- a failure that comes before anything is written
+  pub times_passed : (b : Option (List ℕ)) (r : Result ℕ Failure) (f : Failure) → IsErrAnd r (λ y. y ≡ f)
+      → Explains Run s held text f → IsOther f → Done (AnswersTimes s held text) (Explains Run s held text) b b r
+  times_passed b r f is why other =
+      passed_on (AnswersTimes s held text) (Explains Run s held text) b r f is why (other_failure f other)
+
+  pub times_without_memory : (b : Option (List ℕ)) (r : Result ℕ Failure) (f : Failure) → IsErrAnd r (λ y. y ≡ f)
+      → f ≡ NoMemory → Done (AnswersTimes s held text) (Explains Run s held text) b b r
+  times_without_memory b r f is memory =
+      times_passed b r f is (subst (Explains Run s held text) (sym memory) tt) (memory_other f memory)
+
+  -- what was written
+  pub times_told : (old new : Option (List ℕ)) (r : Result ℕ Failure) (told : List ℕ) (status : ℕ)
+      → AnswersTimes s held text told status → Writes old new r told → IfOk r (λ x. x ≡ status)
+      → IfErr r (λ f. f ≡ CannotWriteOutput) → Done (AnswersTimes s held text) (Explains Run s held text) old new r
+  times_told old new r told status answers written is only =
+      answered (AnswersTimes s held text) (Explains Run s held text) old new r told status tt answers written is only
+
+module _ (named : Folders) (held : Held) (name : List ℕ) where
+  pub test_passed : (b : Option (List ℕ)) (r : Result ℕ Failure) (f : Failure) → IsErrAnd r (λ y. y ≡ f)
+      → TellsNoFolder named name f → Done (AnswersTest named held name) (ExplainsTest named name) b b r
+  test_passed b r f is why =
+      passed_on (AnswersTest named held name) (ExplainsTest named name) b r f is (no_folder_explained named name f why)
+      (other_failure f (no_folder_other named name f why))
+
+  pub test_without_memory : (b : Option (List ℕ)) (r : Result ℕ Failure) (f : Failure) → IsErrAnd r (λ y. y ≡ f)
+      → f ≡ NoMemory → Done (AnswersTest named held name) (ExplainsTest named name) b b r
+  test_without_memory b r f is memory =
+      passed_on (AnswersTest named held name) (ExplainsTest named name) b r f is (memory_explained named name f memory)
+      (other_failure f (memory_other f memory))
+
+  pub test_told : (old new : Option (List ℕ)) (r : Result ℕ Failure) (told : List ℕ) (status : ℕ)
+      → AnswersTest named held name told status → Writes old new r told → IfOk r (λ x. x ≡ status)
+      → IfErr r (λ f. f ≡ CannotWriteOutput) → Done (AnswersTest named held name) (ExplainsTest named name) old new r
+  test_told old new r told status answers written is only =
+      answered (AnswersTest named held name) (ExplainsTest named name) old new r told status tt answers written is only

@@ -1,0 +1,83 @@
+-- A program of a folder, and what is found of it.
+use Rattle.std.proofs.Common.{◌≡◌, ℕ, List, ◌++◌, Option, Some, None, Result, Ok, Err, refl, sym, ap, ◌∙◌, subst, codes}
+use Rattle.std.specs.Prelude.{ℤ, Bool, true, false, if◌then◌else◌, IfOk, IfErr}
+use Rattle.std.specs.Str.{IsUtf8, bytes_eq}
+use Rattle.types.specs.Code.{Program}
+use Rattle.types.specs.Outcome.{Budget, Outcome, outcome}
+use Rattle.types.specs.Typed.{code_of}
+use Rattle.types.specs.declared.typed.Typed.{Typed}
+use Rattle.race_checker.specs.Clash.{IsAccepted}
+use Rattle.texts.specs.OutcomeText.{outcome_text, status_of}
+use Rattle.command_line.specs.Requests.{usual}
+use Rattle.intake.specs.Held.{Held, BeginsWith, HasText, IsGiven, TellsNoProgram, TellsNoText}
+use Rattle.intake.specs.declared.failure.Failure.{Failure}
+use Rattle.intake.specs.declared.failure.Failure.TheVariants.{NoMemory}
+use Rattle.answers.specs.Answers.{IsCodeOf}
+use Rattle.trials.specs.Trials.{Trial, IsCompared, IsUncompared, file, has_name, input_file, told_by, without_output}
+
+-- ---- files
+
+abbrev named_if : Trial → Bool → Option (List ℕ)
+named_if t has = if has then Some (file t (codes ".json")) else None
+
+-- the file of its input is named where the folder has one
+pub input_named : (t : Trial) (has : Bool) (name : List ℕ) → has ≡ has_name t.folder.names (t.stem ++ codes ".json")
+    → has ≡ true → name ≡ file t (codes ".json") → Some name ≡ input_file t
+input_named t has name of is same = ap Some same ∙ ap (named_if t) (sym is ∙ of)
+
+pub no_input_named : (t : Trial) (has : Bool) → has ≡ has_name t.folder.names (t.stem ++ codes ".json") → has ≡ false
+    → (let none : Option (List ℕ) = None in none) ≡ input_file t
+no_input_named t has of is = ap (named_if t) (sym is ∙ of)
+
+-- want of memory is told of any
+pub memory_uncompared : (held : Held) (t : Trial) (f : Failure) → f ≡ NoMemory → IsUncompared held t f
+memory_uncompared held t f is = subst (IsUncompared held t) (sym is) (without_output tt)
+
+-- of a file of the same name
+pub no_program_at : (held : Held) (name other : List ℕ) (f : Failure) → name ≡ other → TellsNoProgram held name f
+    → TellsNoProgram held other f
+no_program_at held name other f same why = subst (λ (n : List ℕ). TellsNoProgram held n f) same why
+
+-- of files that hold the same
+pub no_text_kept : (mid held : Held) (name : List ℕ) (f : Failure) → mid ≡ held → TellsNoText mid name f → TellsNoText held name f
+no_text_kept mid held name f same why = subst (λ (h : Held). TellsNoText h name f) same why
+
+-- ---- runs
+
+-- the same outcome under the same budget, and of the same program
+pub same_budget : (p : Program) (input : List (List ℤ)) (b d : Budget) (o : Outcome) → o ≡ outcome p input b → b ≡ d
+    → o ≡ outcome p input d
+same_budget p input b d o is same = subst (λ (x : Budget). o ≡ outcome p input x) same is
+
+pub same_program : (t u : Typed) (input : List (List ℤ)) (b : Budget) (o : Outcome) → o ≡ outcome (code_of t) input b → t ≡ u
+    → o ≡ outcome (code_of u) input b
+same_program t u input b o is same = subst (λ (x : Typed). o ≡ outcome (code_of x) input b) same is
+
+-- what is told of the usual outcome is what the program tells
+pub told_as : (r : Result Bool Failure) (p : Program) (input : List (List ℤ)) (o : Outcome) (bytes : List ℕ)
+    → o ≡ outcome p input usual.budget → IfOk r (λ same. same ≡ bytes_eq (outcome_text p.arrays false o) bytes)
+    → IfOk r (λ same. same ≡ bytes_eq (told_by p input) bytes)
+told_as r p input o bytes same told =
+    subst (λ (x : Outcome). IfOk r (λ s. s ≡ bytes_eq (outcome_text p.arrays false x) bytes)) same told
+
+-- what was told, compared with what should be
+pub compared : (held : Held) (t : Trial) (text : List ℕ) (p : Program) (input : List (List ℤ)) (bytes : List ℕ) (same : Bool)
+    → HasText held (file t (codes ".afx")) text → IsCodeOf text p → IsAccepted p → BeginsWith (input_file t) held p.arrays input
+    → IsGiven (held (file t (codes ".out"))) (Ok bytes) → same ≡ bytes_eq (told_by p input) bytes → IsCompared held t same
+compared held t text p input bytes same has_text is_code accepted begins given is = record {
+  text = text;
+  has_text = has_text;
+  told = told_by p input;
+  status = status_of (outcome p input usual.budget);
+  answers = record {
+    code = p;
+    is_code = is_code;
+    accepted = accepted;
+    input = input;
+    begins = begins;
+    shows = record { told_is = refl; status_is = refl };
+  };
+  bytes = bytes;
+  given = given;
+  same_is = is;
+}

@@ -1,0 +1,79 @@
+use denote.Param.Send.{sendable}
+use Rattle.std.proofs.Common.{ℕ, List, Ok, None, ap, ◌∙◌, refl, subst, sym, codes}
+use Rattle.std.proofs.lemmas.Result.{IfOk-weaker, IfErr-weaker}
+use Rattle.std.specs.Str.{bytes_eq, chars}
+use Rattle.syntax.specs.Lexical.{AreTokensOf}
+use Rattle.syntax.specs.Spelling.{spelling}
+use Rattle.types.specs.Contents.{FitsArrays}
+use Rattle.types.specs.Translation.{input as lists_of}
+use Rattle.types.specs.Typed.{code_of, program_of}
+use Rattle.types.specs.declared.typed.Typed.{Typed}
+use Rattle.types.proofs.InputLemmas.{FitsArrays-from_IsInput}
+use Rattle.command_line.specs.Requests.{usual}
+use Rattle.command_line.specs.declared.request.Command.TheVariants.{Run}
+use Rattle.intake.specs.Held.{Held, BeginsWith, IsGiven}
+use Rattle.answers.proofs.Answering.{code_of_text, if_err_passed, no_input_explained, not_accepted_explained}
+use Rattle.trials.specs.Trials.{IsUncompared, IsCompared, file, input_file, settings_of, told_by, trial, without_answer, without_output}
+use Rattle.trials.proofs.RunCauses.{no_run_explained, same_tasks}
+use Rattle.trials.proofs.Trying.{compared, no_text_kept}
+use Rattle.trials.proofs.trial.Trial.tells_as_wanted.Goals as goal
+
+pub returns-in_err-accepted-clause-why : goal.returns-in_err-accepted-clause-why
+returns-in_err-accepted-clause-why g c =
+    let held = g.F.FileSource.held c.args.files.now in
+    let t = trial c.args.self.now in
+    if_err_passed c.from_residual.result _ (IsUncompared held t) c.from_residual.ensures.1
+    (without_answer c.args.text.now c.requires
+    (not_accepted_explained Run tt (settings_of t) held c.args.text.now None _ c.in_err-accepted.ensures.why))
+
+pub returns-in_err-input-clause-why : goal.returns-in_err-input-clause-why
+returns-in_err-input-clause-why g c =
+    let held = g.F.FileSource.held c.args.files.now in
+    let t = trial c.args.self.now in
+    let text = c.args.text.now in
+    let typed = c.typed.result.now in
+    let spelled = subst (λ (t : Typed). AreTokensOf (chars text) (spelling (program_of t))) (sym c.typed.ensures.field)
+    c.in_ok-accepted.ensures.spelled in
+    if_err_passed c.from_residual-in_err-input.result _ (IsUncompared held t) c.from_residual-in_err-input.ensures.1
+    (without_answer text c.requires
+    (no_input_explained Run (settings_of t) held text None (code_of typed) (code_of_text text typed spelled) c.typed.ensures.no_clash _
+    c.in_err-input.ensures.why))
+
+pub returns-in_err-wanted-clause-why : goal.returns-in_err-wanted-clause-why
+returns-in_err-wanted-clause-why g c =
+    let held = g.F.FileSource.held c.args.files.now in
+    let t = trial c.args.self.now in
+    if_err_passed c.from_residual-in_err-wanted.result _ (IsUncompared held t) c.from_residual-in_err-wanted.ensures.1
+    (without_output (no_text_kept _ held (file t (codes ".out")) _ c.in_ok-input.ensures.keeps c.in_err-wanted.ensures.why))
+
+pub tells-requires : goal.tells-requires
+tells-requires g c =
+    let shared = c.type_bounds.sync-R in (
+      (search sendable),
+      subst (λ (t : Typed). FitsArrays (code_of t).arrays (lists_of c.in_ok-input.input)) c.typed.ensures.field
+          (FitsArrays-from_IsInput _ _ c.in_ok-input.ensures.fits),
+    )
+
+pub returns-clause-compared : goal.returns-clause-compared
+returns-clause-compared g c =
+    let held = g.F.FileSource.held c.args.files.now in
+    let t = trial c.args.self.now in
+    let text = c.args.text.now in
+    let kept = c.in_ok-accepted.accepted.typed in
+    let input = lists_of c.in_ok-input.input in
+    let given = subst (λ (bs : List ℕ). IsGiven (held (file t (codes ".out"))) (Ok bs)) (sym c.deref.ensures.value)
+    (subst (λ (h : Held). IsGiven (h (file t (codes ".out"))) (Ok c.in_ok-wanted.wanted.items)) c.in_ok-input.ensures.keeps
+    c.in_ok-wanted.ensures.given) in
+    IfOk-weaker c.tells.result _ _ (λ same is.
+    compared held t text (code_of kept) input c.deref.result.now same c.requires
+    (code_of_text text kept c.in_ok-accepted.ensures.spelled) c.in_ok-accepted.accepted.no_clash
+    (subst (λ (t2 : Typed). BeginsWith (input_file t) held (code_of t2).arrays input) c.typed.ensures.field c.in_ok-input.ensures.begins)
+    given is) c.tells.ensures.same
+
+pub returns-clause-why : goal.returns-clause-why
+returns-clause-why g c =
+    let held = g.F.FileSource.held c.args.files.now in
+    let t = trial c.args.self.now in
+    IfErr-weaker c.tells.result _ (IsUncompared held t) (λ f told.
+    without_answer c.args.text.now c.requires
+    (no_run_explained (settings_of t) held c.args.text.now f (same_tasks usual (settings_of t) refl f told))) c.tells.ensures.why

@@ -1,0 +1,5 @@
+pub mod Five
+pub mod Folders
+pub mod Runs
+pub mod Times
+pub mod Trials

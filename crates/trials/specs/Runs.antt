@@ -1,0 +1,12 @@
+-- Why a run as tasks has no outcome.
+use Rattle.std.specs.Prelude.{ℕ}
+use Rattle.gather.specs.RunErrors.{IsCause}
+use Rattle.command_line.specs.Requests.{Settings}
+use Rattle.intake.specs.declared.failure.Failure.{Failure}
+use Rattle.intake.specs.declared.failure.Failure.TheVariants.{Run as RunFailed, NoMemory}
+
+-- a cause that its settings allow; only want of memory is free
+abbrev pub TellsNoRun : Settings → Failure → Type 0
+TellsNoRun s (RunFailed e) = IsCause s.spread.tasks e
+TellsNoRun s NoMemory = Unit {0}
+TellsNoRun s _ = ⊥

@@ -1,0 +1,47 @@
+-- How long runs of a program take, and what is told of that.
+use Rattle.std.specs.Prelude.{ℕ, ℤ, ◌≡◌, ◌≢◌, List, ◌++◌, false, codes}
+use Rattle.std.specs.Fmt.{decimal}
+use Rattle.types.specs.Code.{Program}
+use Rattle.types.specs.Outcome.{Outcome, outcome}
+use Rattle.race_checker.specs.Clash.{IsAccepted}
+use Rattle.cost.specs.Costs.{cost_of, tally_of}
+use Rattle.cost.specs.declared.cost.Cost.{Cost as Numbers}
+use Rattle.texts.specs.OutcomeText.{status_of}
+use Rattle.intake.specs.Held.{Held, BeginsWith}
+use Rattle.command_line.specs.Requests.{Settings}
+use Rattle.answers.specs.Answers.{IsCodeOf, Shows}
+use Rattle.trials.specs.declared.times.Times.{Times}
+use Rattle.trials.specs.declared.times.Timed.{Timed}
+
+-- the line of a run: `serial: least 803 us, median 820 us`
+abbrev pub times_line : (run : List ℕ) → Times → List ℕ
+times_line run t =
+    run ++ (codes ": least " ++ (decimal t.least ++ (codes " us, median " ++ (decimal t.median ++ codes " us\n"))))
+
+-- how many tasks there were, and how many places are copied for them
+abbrev pub counts : Numbers → List ℕ
+counts c =
+    codes "tasks: " ++ (decimal c.tasks ++ (codes "\ncopied places: " ++ (decimal c.copied ++ codes "\n")))
+
+-- a line for each of them, and those counts
+abbrev pub times_text : Timed → Numbers → List ℕ
+times_text t c =
+    times_line (codes "serial") t.serial
+    ++ (times_line (codes "run, 1 worker") t.on_one
+    ++ (times_line (codes "run, 2 workers") t.on_two
+    ++ (times_line (codes "run, 4 workers") t.on_four
+    ++ counts c)))
+
+-- what is told of a run that ended without faults is how long it took, and what it costs; of any other its outcome
+pub data TellsTimes (code : Program) (o : Outcome) (c : Numbers) (told : List ℕ) (status : ℕ) : Type 0 where
+  timed : status_of o ≡ 0 → (t : Timed) → told ≡ times_text t c → status ≡ 0 → TellsTimes code o c told status
+  not_ended : status_of o ≢ 0 → Shows false o code told status → TellsTimes code o c told status
+
+-- `bench`: the text's program has no race; how long its runs took, on the input and under the budget given
+pub record AnswersTimes (s : Settings) (held : Held) (text told : List ℕ) (status : ℕ) : Type 0 where
+  pub code : Program
+  pub is_code : IsCodeOf text code
+  pub accepted : IsAccepted code
+  pub input : List (List ℤ)
+  pub begins : BeginsWith s.input held code.arrays input
+  pub tells : TellsTimes code (outcome code input s.budget) (cost_of (tally_of code input s.budget)) told status

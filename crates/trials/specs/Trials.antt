@@ -1,0 +1,132 @@
+-- What the programs of a folder should tell, and what is told of them.
+use Rattle.std.specs.Prelude.{ℕ, zero, suc, ℤ, ◌≡◌, ◌-◌, ◌+◌, Bool, true, false, if◌then◌else◌, List, [], ◌∷◌, ◌++◌, codes}
+use Rattle.std.specs.Prelude.{Option, None, Some, Ok, length, map, take, drop, IsPermutation}
+use Rattle.std.specs.Fmt.{decimal}
+use Rattle.std.specs.List.{flat_map}
+use Rattle.std.specs.List.Sorted.{IsSorted}
+use Rattle.std.specs.Str.{bytes_eq}
+use Rattle.std.specs.Prelude.{String}
+use Rattle.std.specs.String.{string_bytes, string_cmp}
+use Rattle.std.specs.Global.{Global}
+use Rattle.types.specs.Code.{Program}
+use Rattle.types.specs.Outcome.{outcome}
+use Rattle.texts.specs.OutcomeText.{outcome_text}
+use Rattle.command_line.specs.Requests.{Settings, usual}
+use Rattle.command_line.specs.declared.request.Command.TheVariants.{Run}
+use Rattle.intake.specs.Held.{Held, HasText, IsGiven, TellsNoProgram, TellsNoText}
+use Rattle.intake.specs.Messages.{failure_text}
+use Rattle.intake.specs.declared.failure.Failure.{Failure}
+use Rattle.intake.specs.declared.failure.Failure.TheVariants.{CannotWriteOutput}
+use Rattle.answers.specs.Answers.{AnswersRun, Explains}
+use Rattle.trials.specs.Folders.{AreGiven, Folders, TellsNoFolder}
+use Rattle.trials.specs.declared.trial.Folder.{Folder as rFolder}
+use Rattle.trials.specs.declared.trial.Trial.{Trial as rTrial}
+
+-- ---- names
+
+-- a folder, and the names of all that stands in it
+pub record Folder : Type 0 where
+  pub name : List ℕ
+  pub names : List (List ℕ)
+
+abbrev pub folder : rFolder → Folder
+folder f = record { name = f.name.now; names = map string_bytes f.names.now }
+
+-- a program of it, by what stands before `.afx` in the name of its file
+pub record Trial : Type 0 where
+  pub folder : Folder
+  pub stem : List ℕ
+
+abbrev pub trial : rTrial → Trial
+trial t = record { folder = folder t.folder; stem = t.stem.now }
+
+-- whether it is one of these
+abbrev pub has_name : (names : List (List ℕ)) → (name : List ℕ) → Bool
+has_name [] name = false
+has_name (one ∷ names) name = if bytes_eq one name then true else has_name names name
+
+-- what stands before the ending `.afx` of a name, if it has that
+abbrev pub stem : (name : List ℕ) → List (List ℕ)
+stem name =
+    if bytes_eq (drop (length name - 4) name) (codes ".afx") then take (length name - 4) name ∷ [] else []
+
+-- its file with this ending: `folder/stem.afx`
+abbrev pub file : Trial → (ending : List ℕ) → List ℕ
+file t ending = t.folder.name ++ (codes "/" ++ (t.stem ++ ending))
+
+-- that of its input, where the folder has one
+abbrev pub input_file : Trial → Option (List ℕ)
+input_file t =
+    if has_name t.folder.names (t.stem ++ codes ".json") then Some (file t (codes ".json")) else None
+
+-- it is run as usual, on its input
+abbrev pub settings_of : Trial → Settings
+settings_of t = record usual { input = input_file t }
+
+-- ---- one program
+
+-- what a program tells, run as usual
+abbrev pub told_by : Program → (input : List (List ℤ)) → List ℕ
+told_by p input = outcome_text p.arrays false (outcome p input usual.budget)
+
+-- `run` answers so much to its text, and its `.out` file holds bytes: whether these are the same
+pub record IsCompared (held : Held) (t : Trial) (same : Bool) : Type 0 where
+  pub text : List ℕ
+  pub has_text : HasText held (file t (codes ".afx")) text
+  pub told : List ℕ
+  pub status : ℕ
+  pub answers : AnswersRun (settings_of t) held text told status
+  pub bytes : List ℕ
+  pub given : IsGiven (held (file t (codes ".out"))) (Ok bytes)
+  pub same_is : same ≡ bytes_eq told bytes
+
+-- the failure says why it isn't compared: its file gives no text, `run` fails, or there is no `.out` file
+pub data IsUncompared (held : Held) (t : Trial) (f : Failure) : Type 0 where
+  without_text : TellsNoProgram held (file t (codes ".afx")) f → IsUncompared held t f
+  without_answer : (text : List ℕ) → HasText held (file t (codes ".afx")) text
+      → Explains Run (settings_of t) held text f → IsUncompared held t f
+  without_output : TellsNoText held (file t (codes ".out")) f → IsUncompared held t f
+
+-- the line of one that fails
+pub data IsLine (held : Held) (t : Trial) (line : List ℕ) : Type 0 where
+  otherwise : IsCompared held t false → line ≡ t.stem ++ codes ".afx: tells otherwise\n" → IsLine held t line
+  uncompared : (f : Failure) → IsUncompared held t f
+      → line ≡ t.stem ++ (codes ".afx: " ++ (failure_text f ++ codes "\n")) → IsLine held t line
+
+-- ---- all of them
+
+-- of these programs of a folder so many passed, and so many failed, of which these lines tell
+pub data AreTested (held : Held) (f : Folder) : (stems : List (List ℕ)) → (lines : List ℕ) → (passed failed : ℕ) → Type 0 where
+  none : AreTested held f [] [] 0 0
+  pass : (ss : List (List ℕ)) (s lines : List ℕ) (n m : ℕ) → AreTested held f ss lines n m
+      → IsCompared held (record { folder = f; stem = s }) true → AreTested held f (ss ++ s ∷ []) lines (n + 1) m
+  fail : (ss : List (List ℕ)) (s lines line : List ℕ) (n m : ℕ) → AreTested held f ss lines n m
+      → IsLine held (record { folder = f; stem = s }) line → AreTested held f (ss ++ s ∷ []) (lines ++ line) n (m + 1)
+
+-- the last line: `2 passed, 1 failed`
+abbrev pub closing : (passed failed : ℕ) → List ℕ
+closing n m = decimal n ++ (codes " passed, " ++ (decimal m ++ codes " failed\n"))
+
+-- 0 where none failed
+abbrev pub tested_status : (failed : ℕ) → ℕ
+tested_status zero = 0
+tested_status (suc n) = 1
+
+-- the programs of a folder, in the order of their names, were tested, and what was found is told
+pub record AnswersTest (named : Folders) (held : Held) (name told : List ℕ) (status : ℕ) : Type 0 where
+  pub names : List (List ℕ)
+  pub given : AreGiven (named name) (Ok names)
+  pub programs : List (String Global)
+  pub all : IsPermutation (flat_map stem names) (map string_bytes programs)
+  pub ordered : IsSorted string_cmp programs
+  pub lines : List ℕ
+  pub passed : ℕ
+  pub failed : ℕ
+  pub tested : AreTested held (record { name = name; names = names }) (map string_bytes programs) lines passed failed
+  pub told_is : told ≡ lines ++ closing passed failed
+  pub status_is : status ≡ tested_status failed
+
+-- why none was
+abbrev pub ExplainsTest : Folders → (name : List ℕ) → Failure → Type 0
+ExplainsTest named name CannotWriteOutput = Unit {0}
+ExplainsTest named name f = TellsNoFolder named name f

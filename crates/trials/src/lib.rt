@@ -1,0 +1,13 @@
+//! Programs run in several ways: compared with what they should tell, and timed.
+
+#![tactic(auto)]
+
+pub mod clock;
+pub mod folders;
+pub mod outcomes;
+pub mod runs;
+pub mod stems;
+pub mod testing;
+pub mod times;
+pub mod timing;
+pub mod trial;

@@ -1,0 +1,52 @@
+//! A way to run a program as tasks.
+
+ghost use denote.Param.Send.{IsSync};
+ghost use Rattle.std.specs.Prelude.{◌≡◌, ◌≤◌, IfErr, IfOk};
+ghost use Rattle.types.specs.Contents.{FitsArrays};
+ghost use Rattle.types.specs.Outcome.{outcome as one_thread_outcome};
+ghost use Rattle.types.specs.Translation.{budget as budget_of};
+ghost use Rattle.types.specs.Translation.{input as lists_in, outcome as outcome_in};
+ghost use Rattle.types.specs.Typed.{code_of};
+ghost use Rattle.command_line.specs.Requests.{settings as settings_of};
+ghost use Rattle.trials.specs.Runs.{TellsNoRun};
+
+use command_line::request::{Settings, Spread};
+use intake::failure::Failure;
+use race_checker::accepted::Accepted;
+use std::alloc::Global;
+use std::sync::Wait;
+use std::thread::Threads;
+use types::input::Input;
+use types::outcome::Outcome;
+
+/// Runs programs as tasks. What threads they run on is not known here: `driver` has the one that starts some.
+pub trait Runs {
+    /// The outcome of a program on an input, by these settings.
+    fn outcome<R: Threads + Wait + Sync>(
+        &self,
+        rt: &R,
+        alloc: Global,
+        accepted: &Accepted,
+        input: &Input,
+        settings: Settings<'_>,
+    ) -> Result<Outcome, Failure>
+        requires shared { IsSync R.row }
+        requires fits { FitsArrays (code_of accepted.now.typed).arrays (lists_in input.now) }
+        ensures outcome { IfOk result (λ o. outcome_in o ≡ one_thread_outcome
+            (code_of accepted.now.typed) (lists_in input.now) (budget_of settings.entry.budget)) }
+        ensures why { IfErr result (TellsNoRun (settings_of settings.entry)) };
+}
+
+/// These settings, but for the number of workers.
+pub fn on_workers<'w>(settings: Settings<'w>, workers: u64) -> Settings<'w>
+    requires { (1 ≤ workers) × (workers ≤ 64) }
+    ensures budget { (settings_of result).budget ≡ (settings_of settings.entry).budget }
+    ensures tasks { (settings_of result).spread.tasks ≡ (settings_of settings.entry).spread.tasks }
+    ensures workers { (settings_of result).spread.workers ≡ workers }
+{
+    let Spread { tasks, w0, .. } = settings.spread;
+    match Spread::new(tasks, w0, workers) {
+        Some(spread) => Settings { spread, ..settings },
+        None => unreachable!(),
+    }
+}

@@ -1,0 +1,167 @@
+//! `test`: the programs of a folder, and what they should tell.
+
+ghost use Rattle.std.specs.Prelude.{◌≡◌, ◌+◌, ◌++◌, map, IfErr, IfOk, MatchOption, OnOk};
+ghost use Rattle.std.specs.String.{string_bytes};
+ghost use Rattle.answers.specs.Answers.{Done};
+ghost use Rattle.texts.specs.Appending.{Writes};
+ghost use Rattle.trials.specs.Trials.{AnswersTest, AreTested, ExplainsTest, closing};
+ghost use Rattle.trials.specs.Trials.{folder as folder_of, tested_status};
+
+use crate::folders::{FolderSource, read_folder};
+use crate::runs::Runs;
+use crate::stems::stems_in;
+use crate::trial::{Folder, Trial};
+use intake::failure::Failure;
+use intake::files::FileSource;
+use std::alloc::{AllocError, Global};
+use std::io::Write;
+use std::sync::Wait;
+use std::thread::Threads;
+use texts::emit::append;
+
+/// Runs each program of a folder, in the order of their names, and compares what it tells with its `.out` file. Writes a
+/// line for each that fails, and behind these how many passed and failed; gives the exit status: 1 where one failed.
+pub fn test_folder<R: Threads + Wait + Sync, F: FolderSource, O: Write, W: Runs>(
+    rt: &R,
+    alloc: Global,
+    runs: &W,
+    folder: &str,
+    files: &mut F,
+    out: &mut O,
+) -> Result<u8, Failure>
+    ensures done { Done (AnswersTest (F.named files.old) (F.held files.old) folder.now)
+        (ExplainsTest (F.named files.old) folder.now)
+        (O.contents out.old) (O.contents out.new) result }
+    ensures keeps { F.held files.new ≡ F.held files.old }
+{
+    let names = read_folder(alloc, files, folder)?;
+    let stems = stems_in(alloc, &names)?;
+    let folder = Folder {
+        name: folder,
+        names: names.as_slice(),
+    };
+    let found = tested(rt, alloc, runs, files, folder, &stems)?;
+    let text = found.text(alloc)?;
+    write(out, text.as_str(), found.status())
+}
+
+/// What was found of some programs.
+#[derive(Drop)]
+struct Found {
+    /// A line for each that failed.
+    lines: String,
+    passed: u64,
+    failed: u64,
+}
+
+impl Found {
+    /// One more: one that passed, or one that failed with this line.
+    fn add(&mut self, line: &Option<String>) -> Result<(), Failure>
+        ensures added { OnOk result (MatchOption line.now
+            ((string_bytes self.new.lines ≡ string_bytes self.old.lines)
+            × (self.new.passed ≡ self.old.passed + 1) × (self.new.failed ≡ self.old.failed))
+            (λ l. (string_bytes self.new.lines ≡ string_bytes self.old.lines ++ string_bytes l)
+            × (self.new.passed ≡ self.old.passed) × (self.new.failed ≡ self.old.failed + 1))) }
+        ensures why { IfErr result (λ f. f ≡ Failure.NoMemory) }
+    {
+        match line {
+            None => {
+                self.passed = one_more(self.passed)?;
+                Ok(())
+            }
+            Some(line) => {
+                add(&mut self.lines, line.as_str())?;
+                self.failed = one_more(self.failed)?;
+                Ok(())
+            }
+        }
+    }
+
+    /// The lines, and behind them how many passed and failed.
+    fn text(&self, alloc: Global) -> Result<String, Failure>
+        ensures text { IfOk result (λ text. string_bytes text
+            ≡ string_bytes self.now.lines ++ closing self.now.passed self.now.failed) }
+        ensures why { IfErr result (λ f. f ≡ Failure.NoMemory) }
+    {
+        let Found {
+            lines,
+            passed,
+            failed,
+        } = self;
+        match format!(in alloc; "{lines}{passed} passed, {failed} failed\n") {
+            Ok(text) => Ok(text),
+            Err(AllocError) => Err(Failure::NoMemory),
+        }
+    }
+
+    /// The exit status.
+    fn status(&self) -> u8
+        ensures { result ≡ tested_status self.now.failed }
+    {
+        if self.failed == 0 { 0 } else { 1 }
+    }
+}
+
+/// What is found of programs of a folder, one after the other.
+fn tested<R: Threads + Wait + Sync, F: FileSource, W: Runs>(
+    rt: &R,
+    alloc: Global,
+    runs: &W,
+    files: &mut F,
+    folder: Folder<'_>,
+    stems: &[String],
+) -> Result<Found, Failure>
+    ensures tested { IfOk result (λ f. AreTested (F.held files.old) (folder_of folder.entry)
+        (map string_bytes stems.now) (string_bytes f.lines) f.passed f.failed) }
+    ensures why { IfErr result (λ f. f ≡ Failure.NoMemory) }
+    ensures keeps { F.held files.new ≡ F.held files.old }
+{
+    let mut found = Found {
+        lines: String::new(alloc),
+        passed: 0,
+        failed: 0,
+    };
+    for stem in stems {
+        let trial = Trial {
+            folder,
+            stem: stem.as_str(),
+        };
+        let line = trial.line(rt, alloc, runs, files)?;
+        found.add(&line)?;
+    }
+    Ok(found)
+}
+
+/// A number of programs, and one more. One that is too large is told as want of memory.
+fn one_more(number: u64) -> Result<u64, Failure>
+    ensures more { IfOk result (λ n. n ≡ number + 1) }
+    ensures why { IfErr result (λ f. f ≡ Failure.NoMemory) }
+{
+    match number.checked_add(1) {
+        Some(more) => Ok(more),
+        None => Err(Failure::NoMemory),
+    }
+}
+
+/// Adds a line to others.
+fn add(lines: &mut String, line: &str) -> Result<(), Failure>
+    ensures lines { OnOk result (string_bytes lines.new ≡ string_bytes lines.old ++ line.now) }
+    ensures why { IfErr result (λ f. f ≡ Failure.NoMemory) }
+{
+    match lines.push_str(line) {
+        Ok(()) => Ok(()),
+        Err(AllocError) => Err(Failure::NoMemory),
+    }
+}
+
+/// Writes what was found.
+fn write<O: Write>(out: &mut O, text: &str, status: u8) -> Result<u8, Failure>
+    ensures text { Writes (O.contents out.old) (O.contents out.new) result text.now }
+    ensures status { IfOk result (λ s. s ≡ status) }
+    ensures failure { IfErr result (λ f. f ≡ Failure.CannotWriteOutput) }
+{
+    match append(out, text.as_bytes()) {
+        Ok(()) => Ok(status),
+        Err(_) => Err(Failure::CannotWriteOutput),
+    }
+}

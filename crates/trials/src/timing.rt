@@ -1,0 +1,233 @@
+//! `bench`: how long a program runs on one thread and as tasks.
+
+ghost use Rattle.std.specs.Prelude.{◌≡◌, ◌≤◌, ◌++◌, IfErr, IfOk, OnOk};
+ghost use Rattle.std.specs.String.{string_bytes};
+ghost use Rattle.types.specs.Contents.{FitsArrays};
+ghost use Rattle.types.specs.Outcome.{outcome as one_thread_outcome};
+ghost use Rattle.types.specs.Translation.{budget as budget_of, input as lists_in};
+ghost use Rattle.types.specs.Translation.{outcome as outcome_in};
+ghost use Rattle.types.specs.Typed.{code_of};
+ghost use Rattle.cost.specs.Costs.{cost_of, tally_of};
+ghost use Rattle.command_line.specs.Requests.{settings as settings_of};
+ghost use Rattle.command_line.specs.declared.request.Command.TheVariants.{Run};
+ghost use Rattle.answers.specs.Answers.{Done, Explains};
+ghost use Rattle.trials.specs.Runs.{TellsNoRun};
+ghost use Rattle.trials.specs.Times.{AnswersTimes, counts, times_line as line_of_times, times_text};
+ghost use Rattle.trials.specs.declared.times.Timed.{Timed as TimedOf};
+
+use crate::clock::Stopwatch;
+use crate::runs::{Runs, on_workers};
+use crate::times::{Timed, Times};
+use answers::programs::accepted_of;
+use answers::showing::{answer, show, status};
+use command_line::request::Settings;
+use cost::cost::{Cost, Costed, measure};
+use flat_run::serial;
+use intake::failure::Failure;
+use intake::files::FileSource;
+use intake::input_file::input_of;
+use race_checker::accepted::Accepted;
+use std::alloc::{AllocError, Global};
+use std::io::Write;
+use std::sync::Wait;
+use std::thread::Threads;
+use types::input::Input;
+
+/// Runs a program five times on one thread, and five times each as tasks on 1, 2 and 4 workers, and writes how long that
+/// took, how many tasks there were, and how many places are copied for them. Of a run that has faults or is stopped its
+/// outcome is written in their place; gives the exit status.
+pub fn bench<R: Threads + Wait + Sync, F: FileSource, O: Write, W: Runs, C: Stopwatch>(
+    rt: &R,
+    alloc: Global,
+    runs: &W,
+    settings: Settings<'_>,
+    text: &str,
+    files: &mut F,
+    out: &mut O,
+    clock: &mut C,
+) -> Result<u8, Failure>
+    ensures done { let s = settings_of settings.entry in
+        Done (AnswersTimes s (F.held files.old) text.now) (Explains Run s (F.held files.old) text.now)
+        (O.contents out.old) (O.contents out.new) result }
+    ensures keeps { F.held files.new ≡ F.held files.old }
+{
+    let accepted = accepted_of(rt, alloc, text)?;
+    let input = input_of(alloc, files, accepted.typed(), settings.input)?;
+    let costed = measured(alloc, &accepted, &input, settings)?;
+    if status(&costed.outcome) == 0 {
+        let job = Job {
+            alloc,
+            accepted: &accepted,
+            input: &input,
+            settings,
+        };
+        let told = job.told(rt, runs, clock, &costed.cost)?;
+        answer(out, told.as_str())
+    } else {
+        show(out, &accepted.typed().code().arrays, &costed.outcome, false)
+    }
+}
+
+/// What the run comes to, and costs.
+fn measured(
+    alloc: Global,
+    accepted: &Accepted,
+    input: &Input,
+    settings: Settings<'_>,
+) -> Result<Costed, Failure>
+    requires { FitsArrays (code_of accepted.now.typed).arrays (lists_in input.now) }
+    ensures outcome { IfOk result (λ c. outcome_in c.outcome ≡ one_thread_outcome
+        (code_of accepted.now.typed) (lists_in input.now) (budget_of settings.entry.budget)) }
+    ensures cost { IfOk result (λ c. c.cost ≡ cost_of (tally_of
+        (code_of accepted.now.typed) (lists_in input.now) (budget_of settings.entry.budget))) }
+    ensures why { IfErr result (λ f. f ≡ Failure.NoMemory) }
+{
+    match measure(alloc, accepted.typed(), input, settings.budget) {
+        Ok(costed) => Ok(costed),
+        Err(_) => Err(Failure::NoMemory),
+    }
+}
+
+/// What is run.
+#[derive(Clone, Copy)]
+struct Job<'j> {
+    alloc: Global,
+    accepted: &'j Accepted,
+    input: &'j Input,
+    settings: Settings<'j>,
+}
+
+impl Job<'_> {
+    /// How long its runs take, a line each, and what one of them costs.
+    fn told<R: Threads + Wait + Sync, W: Runs, C: Stopwatch>(
+        &self,
+        rt: &R,
+        runs: &W,
+        clock: &mut C,
+        cost: &Cost,
+    ) -> Result<String, Failure>
+        requires { FitsArrays (code_of self.now.accepted.now.typed).arrays (lists_in self.now.input.now) }
+        ensures text { IfOk result
+            (λ text. (t : TimedOf) × (string_bytes text ≡ times_text t cost.now)) }
+        ensures why { IfErr result (TellsNoRun (settings_of self.now.settings)) }
+    {
+        let serial = self.on_one_thread(clock)?;
+        let on_one = self.as_tasks(rt, runs, clock, 1)?;
+        let on_two = self.as_tasks(rt, runs, clock, 2)?;
+        let on_four = self.as_tasks(rt, runs, clock, 4)?;
+        let timed = Timed {
+            serial,
+            on_one,
+            on_two,
+            on_four,
+        };
+        match text_of(self.alloc, &timed, cost) {
+            Ok(text) => Ok(text),
+            Err(AllocError) => Err(Failure::NoMemory),
+        }
+    }
+
+    /// The times of five runs on one thread.
+    fn on_one_thread<C: Stopwatch>(&self, clock: &mut C) -> Result<Times, Failure>
+        requires { FitsArrays (code_of self.now.accepted.now.typed).arrays (lists_in self.now.input.now) }
+        ensures why { IfErr result (λ f. f ≡ Failure.NoMemory) }
+    {
+        Ok(Times::of([
+            self.once_on_one_thread(clock)?,
+            self.once_on_one_thread(clock)?,
+            self.once_on_one_thread(clock)?,
+            self.once_on_one_thread(clock)?,
+            self.once_on_one_thread(clock)?,
+        ]))
+    }
+
+    /// The time of one.
+    fn once_on_one_thread<C: Stopwatch>(&self, clock: &mut C) -> Result<u64, Failure>
+        requires { FitsArrays (code_of self.now.accepted.now.typed).arrays (lists_in self.now.input.now) }
+        ensures why { IfErr result (λ f. f ≡ Failure.NoMemory) }
+    {
+        let begun = clock.micros();
+        match serial(
+            self.alloc,
+            self.accepted.typed(),
+            self.input,
+            self.settings.budget,
+        ) {
+            Ok(_outcome) => Ok(clock.micros().saturating_sub(begun)),
+            Err(AllocError) => Err(Failure::NoMemory),
+        }
+    }
+
+    /// The times of five runs as tasks on so many workers.
+    fn as_tasks<R: Threads + Wait + Sync, W: Runs, C: Stopwatch>(
+        &self,
+        rt: &R,
+        runs: &W,
+        clock: &mut C,
+        workers: u64,
+    ) -> Result<Times, Failure>
+        requires fits { FitsArrays (code_of self.now.accepted.now.typed).arrays (lists_in self.now.input.now) }
+        requires workers { (1 ≤ workers) × (workers ≤ 64) }
+        ensures why { IfErr result (TellsNoRun (settings_of self.now.settings)) }
+    {
+        Ok(Times::of([
+            self.once_as_tasks(rt, runs, clock, workers)?,
+            self.once_as_tasks(rt, runs, clock, workers)?,
+            self.once_as_tasks(rt, runs, clock, workers)?,
+            self.once_as_tasks(rt, runs, clock, workers)?,
+            self.once_as_tasks(rt, runs, clock, workers)?,
+        ]))
+    }
+
+    /// The time of one.
+    fn once_as_tasks<R: Threads + Wait + Sync, W: Runs, C: Stopwatch>(
+        &self,
+        rt: &R,
+        runs: &W,
+        clock: &mut C,
+        workers: u64,
+    ) -> Result<u64, Failure>
+        requires fits { FitsArrays (code_of self.now.accepted.now.typed).arrays (lists_in self.now.input.now) }
+        requires workers { (1 ≤ workers) × (workers ≤ 64) }
+        ensures why { IfErr result (TellsNoRun (settings_of self.now.settings)) }
+    {
+        let settings = on_workers(self.settings, workers);
+        let begun = clock.micros();
+        match runs.outcome(rt, self.alloc, self.accepted, self.input, settings) {
+            Ok(_outcome) => Ok(clock.micros().saturating_sub(begun)),
+            Err(failure) => Err(failure),
+        }
+    }
+}
+
+/// The line of a run.
+fn push_times(text: &mut String, run: &str, times: Times) -> Result<(), AllocError>
+    ensures { OnOk result (string_bytes text.new
+        ≡ string_bytes text.old ++ line_of_times run.now times) }
+{
+    let least = times.least;
+    let median = times.median;
+    write!(text, "{run}: least {least} us, median {median} us\n")
+}
+
+/// How many tasks there were, and how many places are copied for them.
+fn push_counts(text: &mut String, cost: &Cost) -> Result<(), AllocError>
+    ensures { OnOk result (string_bytes text.new ≡ string_bytes text.old ++ counts cost.now) }
+{
+    let tasks = cost.tasks;
+    let copied = cost.copied;
+    write!(text, "tasks: {tasks}\ncopied places: {copied}\n")
+}
+
+/// A line for each of the times, and those counts.
+fn text_of(alloc: Global, timed: &Timed, cost: &Cost) -> Result<String, AllocError>
+    ensures { IfOk result (λ text. string_bytes text ≡ times_text timed.now cost.now) }
+{
+    let mut text = String::new(alloc);
+    push_times(&mut text, "serial", timed.serial)?;
+    push_times(&mut text, "run, 1 worker", timed.on_one)?;
+    push_times(&mut text, "run, 2 workers", timed.on_two)?;
+    push_times(&mut text, "run, 4 workers", timed.on_four)?;
+    push_counts(&mut text, cost)?;
+    Ok(text)
+}

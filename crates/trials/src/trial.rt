@@ -1,0 +1,206 @@
+//! Whether a program of a folder tells what it should.
+
+ghost use Rattle.std.specs.Prelude.{◌≡◌, ◌++◌, codes, true, IfErr, IfOk, MatchOption, Ok};
+ghost use Rattle.std.specs.String.{string_bytes};
+ghost use Rattle.types.specs.Inputs.{IsInput};
+ghost use Rattle.types.specs.Translation.{input as lists_of};
+ghost use Rattle.types.specs.Typed.{code_of};
+ghost use Rattle.intake.specs.Held.{BeginsWith, HasText, IsGiven, TellsNoInput, TellsNoText};
+ghost use Rattle.intake.specs.Messages.{failure_text};
+ghost use Rattle.trials.specs.Trials.{IsCompared, IsLine, IsUncompared};
+ghost use Rattle.trials.specs.Trials.{file as file_of, has_name as has_name_of, input_file, trial as trial_of};
+
+use crate::outcomes::tells;
+use crate::runs::Runs;
+use crate::stems::has_name;
+use answers::programs::accepted_of;
+use intake::failure::Failure;
+use intake::files::{FileSource, read_file, read_program};
+use intake::input_file::input_of;
+use intake::message::emit_message;
+use std::alloc::{AllocError, Global};
+use std::sync::Wait;
+use std::thread::Threads;
+use types::input::Input;
+use types::typed::Typed;
+
+/// A folder, and the names of all that stands in it.
+#[derive(Clone, Copy)]
+pub struct Folder<'f> {
+    pub name: &'f str,
+    pub names: &'f [String],
+}
+
+/// A program of a folder, by what stands before `.afx` in the name of its file.
+#[derive(Clone, Copy)]
+pub struct Trial<'f> {
+    pub folder: Folder<'f>,
+    pub stem: &'f str,
+}
+
+impl Trial<'_> {
+    /// The line of one that fails; None where it passes.
+    pub fn line<R: Threads + Wait + Sync, F: FileSource, W: Runs>(
+        &self,
+        rt: &R,
+        alloc: Global,
+        runs: &W,
+        files: &mut F,
+    ) -> Result<Option<String>, Failure>
+        ensures line { IfOk result (λ line. MatchOption line
+            (IsCompared (F.held files.old) (trial_of self.now) true)
+            (λ l. IsLine (F.held files.old) (trial_of self.now) (string_bytes l))) }
+        ensures why { IfErr result (λ f. f ≡ Failure.NoMemory) }
+        ensures keeps { F.held files.new ≡ F.held files.old }
+    {
+        match self.passes(rt, alloc, runs, files) {
+            Ok(passes) => if passes {
+                Ok(None)
+            } else {
+                Ok(Some(otherwise(alloc, self.stem)?))
+            },
+            Err(failure) => Ok(Some(failed(alloc, self.stem, &failure)?)),
+        }
+    }
+
+    /// Whether it tells what its `.out` file holds.
+    fn passes<R: Threads + Wait + Sync, F: FileSource, W: Runs>(
+        &self,
+        rt: &R,
+        alloc: Global,
+        runs: &W,
+        files: &mut F,
+    ) -> Result<bool, Failure>
+        ensures compared { IfOk result (IsCompared (F.held files.old) (trial_of self.now)) }
+        ensures why { IfErr result (IsUncompared (F.held files.old) (trial_of self.now)) }
+        ensures keeps { F.held files.new ≡ F.held files.old }
+    {
+        let name = self.file(alloc, ".afx")?;
+        let bytes = read_program(alloc, files, name.as_str())?;
+        match std::str::from_utf8(&bytes) {
+            Ok(text) => self.tells_as_wanted(rt, alloc, runs, files, text),
+            Err(_) => Err(Failure::not_utf8(alloc, name.as_str())),
+        }
+    }
+
+    /// Whether the program of this text does.
+    fn tells_as_wanted<R: Threads + Wait + Sync, F: FileSource, W: Runs>(
+        &self,
+        rt: &R,
+        alloc: Global,
+        runs: &W,
+        files: &mut F,
+        text: &str,
+    ) -> Result<bool, Failure>
+        requires { HasText (F.held files.old) (file_of (trial_of self.now) (codes ".afx")) text.now }
+        ensures compared { IfOk result (IsCompared (F.held files.old) (trial_of self.now)) }
+        ensures why { IfErr result (IsUncompared (F.held files.old) (trial_of self.now)) }
+        ensures keeps { F.held files.new ≡ F.held files.old }
+    {
+        let accepted = accepted_of(rt, alloc, text)?;
+        let input = self.input(alloc, files, accepted.typed())?;
+        let wanted = self.wanted(alloc, files)?;
+        tells(rt, alloc, runs, &accepted, &input, &wanted)
+    }
+
+    /// What its arrays hold at first: what its `.json` file says, if the folder has one.
+    fn input<F: FileSource>(
+        &self,
+        alloc: Global,
+        files: &mut F,
+        typed: &Typed,
+    ) -> Result<Input, Failure>
+        ensures begins { IfOk result (λ i. BeginsWith (input_file (trial_of self.now))
+            (F.held files.old) (code_of typed.now).arrays (lists_of i)) }
+        ensures fits { IfOk result (λ i. IsInput (code_of typed.now).arrays (lists_of i)) }
+        ensures why { IfErr result (TellsNoInput (input_file (trial_of self.now))
+            (F.held files.old) (code_of typed.now).arrays) }
+        ensures keeps { F.held files.new ≡ F.held files.old }
+    {
+        if !self.has_input(alloc)? {
+            return input_of(alloc, files, typed, None);
+        }
+        let name = self.file(alloc, ".json")?;
+        input_of(alloc, files, typed, Some(name.as_str()))
+    }
+
+    /// Whether the folder has its `.json` file.
+    fn has_input(&self, alloc: Global) -> Result<bool, Failure>
+        ensures has { let t = trial_of self.now in IfOk result
+            (λ has. has ≡ has_name_of t.folder.names (t.stem ++ codes ".json")) }
+        ensures why { IfErr result (λ f. f ≡ Failure.NoMemory) }
+    {
+        let stem = self.stem;
+        match format!(in alloc; "{stem}.json") {
+            Ok(name) => Ok(has_name(self.folder.names, name.as_str())),
+            Err(AllocError) => Err(Failure::NoMemory),
+        }
+    }
+
+    /// What its `.out` file holds.
+    fn wanted<F: FileSource>(&self, alloc: Global, files: &mut F) -> Result<Vec<u8>, Failure>
+        ensures given { IfOk result (λ v. IsGiven
+            (F.held files.old (file_of (trial_of self.now) (codes ".out"))) (Ok v.items)) }
+        ensures why { IfErr result
+            (TellsNoText (F.held files.old) (file_of (trial_of self.now) (codes ".out"))) }
+        ensures keeps { F.held files.new ≡ F.held files.old }
+    {
+        let name = self.file(alloc, ".out")?;
+        read_file(alloc, files, name.as_str())
+    }
+
+    /// The name of its file with this ending.
+    fn file(&self, alloc: Global, ending: &str) -> Result<String, Failure>
+        ensures name { IfOk result
+            (λ name. string_bytes name ≡ file_of (trial_of self.now) ending.now) }
+        ensures why { IfErr result (λ f. f ≡ Failure.NoMemory) }
+    {
+        let folder = self.folder.name;
+        let stem = self.stem;
+        match format!(in alloc; "{folder}/{stem}{ending}") {
+            Ok(name) => Ok(name),
+            Err(AllocError) => Err(Failure::NoMemory),
+        }
+    }
+}
+
+/// The line of a program that tells otherwise.
+fn otherwise(alloc: Global, stem: &str) -> Result<String, Failure>
+    ensures line { IfOk result
+        (λ line. string_bytes line ≡ stem.now ++ codes ".afx: tells otherwise\n") }
+    ensures why { IfErr result (λ f. f ≡ Failure.NoMemory) }
+{
+    match format!(in alloc; "{stem}.afx: tells otherwise\n") {
+        Ok(line) => Ok(line),
+        Err(AllocError) => Err(Failure::NoMemory),
+    }
+}
+
+/// The line of a program that isn't compared.
+fn failed(alloc: Global, stem: &str, failure: &Failure) -> Result<String, Failure>
+    ensures line { IfOk result (λ line. string_bytes line
+        ≡ stem.now ++ (codes ".afx: " ++ (failure_text failure.now ++ codes "\n"))) }
+    ensures why { IfErr result (λ f. f ≡ Failure.NoMemory) }
+{
+    let message = message_of(alloc, failure)?;
+    match format!(in alloc; "{stem}.afx: {message}") {
+        Ok(line) => Ok(line),
+        Err(AllocError) => Err(Failure::NoMemory),
+    }
+}
+
+/// The line that tells a failure, with its line feed.
+fn message_of(alloc: Global, failure: &Failure) -> Result<String, Failure>
+    ensures text { IfOk result (λ text. string_bytes text ≡ failure_text failure.now ++ codes "\n") }
+    ensures why { IfErr result (λ f. f ≡ Failure.NoMemory) }
+{
+    let mut bytes = Vec::new(alloc);
+    if emit_message(&mut bytes, failure).is_err() {
+        return Err(Failure::NoMemory);
+    }
+    match String::from_utf8(bytes) {
+        Ok(text) => Ok(text),
+        // No clause says that a message is text; it is put together of texts.
+        Err(_) => Err(Failure::NoMemory),
+    }
+}
