@@ -3,7 +3,7 @@
 #![tactic(auto)]
 
 use driver::act::{act, refuse_words};
-use driver::files::MachineFiles;
+use driver::folders::MachineFolders;
 use driver::progress::Progress;
 use driver::terminal::Seen;
 use std::env::VarError;
@@ -17,10 +17,10 @@ fn main(rt: HostRuntime) -> ExitCode {
     let mut err = rt.stderr();
     let status = match lent(&rt) {
         Ok((words, mut out)) => {
-            let mut files = MachineFiles::new(&rt);
+            let mut files = MachineFolders::new(&rt);
             let seen = terminal(&rt);
             let colours = seen.is_some() && !refuses_colours(&rt);
-            let mut progress = Seen::new(Progress::new(alloc, &rt, seen), colours);
+            let mut progress = Seen::new(Progress::new(alloc, &rt, seen), colours, &rt);
             act(
                 &rt,
                 alloc,

@@ -37,7 +37,7 @@ begins a b (Ok x) t written = record { begun = t; rest = []; parts = sym (append
 begins a b (Err e) t begun = begun
 
 -- what was answered is handed on: whole, or a writer that fails has a beginning of it
-answered_on : (Is : Answer) (Why : Failure → Type 0) → Why CannotWriteOutput → (old mid new : Option (List ℕ)) (status : ℕ)
+pub answered_on : (Is : Answer) (Why : Failure → Type 0) → Why CannotWriteOutput → (old mid new : Option (List ℕ)) (status : ℕ)
     (r : Result ℕ Failure) → Wrote Is old mid status → Keeps mid new → IfOk r (λ n. n ≡ status)
     → IfErr r (λ f. f ≡ CannotWriteOutput) → Done Is Why old new r
 answered_on Is Why why old mid new status (Ok n) wrote keeps is _ =

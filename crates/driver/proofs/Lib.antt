@@ -2,3 +2,4 @@ pub mod Objects
 pub mod Acting
 pub mod Leaving
 pub mod TracedRuns
+pub mod Tried

@@ -1,6 +1,6 @@
 -- From a file and a command to the object that the program told.
 use Rattle.std.proofs.Common.{◌≡◌, ◌≢◌, ℕ, ◌≤◌, length, List, [], Option, Some, None, Result, Ok, Err, IfOk, IfErr, sym, subst}
-use Rattle.std.specs.Prelude.{IsErrAnd}
+use Rattle.std.specs.Prelude.{IsErrAnd, false}
 use Rattle.std.specs.Str.{IsUtf8}
 use Rattle.texts.specs.Appending.{Writes}
 use Rattle.types.specs.Code.{Array}
@@ -21,8 +21,10 @@ use Rattle.reading.specs.declared.order.Subject.{Subject}
 use Rattle.viewing.specs.Files.{Wrote, WritesTo}
 use Rattle.driver.specs.Acts.{Acts, Leaves, ReadsAndPerforms, Reports}
 use Rattle.driver.specs.Objects.{ReadsAndTells, TellsObject, TellsUnread, on_text, without_text, status_in}
-use Rattle.driver.specs.Orders.{ActsOn, TellsAs}
+use Rattle.driver.specs.Orders.{ActsOn, TellsAs, TestsAs, TimesAs}
 use Rattle.driver.specs.Traced.{TellsNoRun, WritesTrace}
+use Rattle.driver.specs.Trying.{ReadsAndTimes, TestsFolder}
+use Rattle.trials.specs.Folders.{Folders}
 use Rattle.driver.proofs.Acting.{leaves_on}
 use Rattle.driver.proofs.Leaving.{no_run_explained, no_run_other}
 
@@ -99,10 +101,19 @@ module _ (held later : Held) (old new err_old err_new : Option (List ℕ)) (stat
       → Reports a.telling.explain err_old err_new r status → TellsAs x a held later old new err_old err_new status
   told_as x a r does reports = record { result = r; does = does; reports = reports }
 
+  pub timed_as : (a : Asked) (r : Result ℕ Failure) → ReadsAndTimes a held later old new r
+      → Reports a.telling.explain err_old err_new r status → TimesAs a held later old new err_old err_new status
+  timed_as a r does reports = record { result = r; does = does; reports = reports }
+
+module _ (named : Folders) (held later : Held) (old new err_old err_new : Option (List ℕ)) (status : ℕ) where
+  pub tested_as : (folder : List ℕ) (r : Result ℕ Failure) → TestsFolder named held later folder old new r
+      → Reports false err_old err_new r status → TestsAs folder named held later old new err_old err_new status
+  tested_as folder r does reports = record { result = r; does = does; reports = reports }
+
   -- one order is another
-  pub ordered : (o p : Order) → o ≡ p → ActsOn o held later old new err_old err_new status
-      → ActsOn p held later old new err_old err_new status
-  ordered o p same acts = subst (λ (q : Order). ActsOn q held later old new err_old err_new status) same acts
+  pub ordered : (o p : Order) → o ≡ p → ActsOn o named held later old new err_old err_new status
+      → ActsOn p named held later old new err_old err_new status
+  ordered o p same acts = subst (λ (q : Order). ActsOn q named held later old new err_old err_new status) same acts
 
 -- ---- the trace of a run whose object is told
 

@@ -2,3 +2,4 @@ pub mod Acts
 pub mod Objects
 pub mod Orders
 pub mod Traced
+pub mod Trying

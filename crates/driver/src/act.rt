@@ -1,15 +1,16 @@
 //! The whole program, over files and writers that it is lent.
 
 ghost use Rattle.std.specs.Io.KnownBytes.{Keeps};
-ghost use Rattle.std.specs.Prelude.{◌≡◌, ◌≤◌, ◌<◌, [], codes, false, map, Err, IfOk, IfErr};
+ghost use Rattle.std.specs.Prelude.{ℕ, ◌≡◌, ◌≤◌, ◌<◌, List, [], codes, false, map, Err, IfOk, IfErr};
 ghost use Rattle.std.specs.String.{string_bytes};
 ghost use Rattle.driver.specs.Acts.{Acts, ReadsAndPerforms, Reports, in_short};
 ghost use Rattle.intake.specs.Failures.{TellsNotUtf8};
 ghost use Rattle.intake.specs.declared.failure.Failure.{Failure as FailureOf};
 ghost use Rattle.command_line.specs.Requests.{Asked, Asks, asked_of};
-ghost use Rattle.reading.specs.Orders.{AsksForObject, Order as OrderIn, order as order_said};
+ghost use Rattle.reading.specs.Orders.{AsksForObject, AsksToTest, AsksToTime};
+ghost use Rattle.reading.specs.Orders.{Order as OrderIn, order as order_said};
 ghost use Rattle.reading.specs.declared.order.Subject.{Subject};
-ghost use Rattle.driver.specs.Orders.{ActsOn, TellsAs};
+ghost use Rattle.driver.specs.Orders.{ActsOn, TellsAs, TestsAs, TimesAs};
 ghost use Rattle.command_line.specs.declared.request.Color.TheVariants.{Always, Never};
 ghost use Rattle.excerpts.specs.declared.paint.Paint.TheVariants.{Coloured, Plain};
 
@@ -18,6 +19,7 @@ use crate::as_object::perform_as_object;
 use crate::commands;
 use crate::refusal::Refusal;
 use crate::terminal::Terminal;
+use crate::trying::{test, time};
 use command_line::request::{Color, Request, Telling};
 use excerpts::paint::Paint;
 use intake::failure::Failure;
@@ -31,10 +33,11 @@ use std::io::{ErrorKind, Write};
 use std::sync::Wait;
 use std::thread::Threads;
 use texts::emit::append;
+use trials::folders::FolderSource;
 
 /// Does what the words behind the program's name order, and answers the exit status. `--progress` has
-/// `terminal` told how far a run has come.
-pub fn act<R: Threads + Wait + Sync, F: FileSource, O: Write, E: Write, T: Terminal>(
+/// `terminal` told how far a run has come, and `bench` has the time from it.
+pub fn act<R: Threads + Wait + Sync, F: FolderSource, O: Write, E: Write, T: Terminal>(
     rt: &R,
     alloc: Global,
     words: &[String],
@@ -49,9 +52,15 @@ pub fn act<R: Threads + Wait + Sync, F: FileSource, O: Write, E: Write, T: Termi
     ensures as_object { (x : Subject) (a : Asked) → AsksForObject (map string_bytes words.now) x a
         → TellsAs x a (F.held files.old) (F.held files.new) (O.contents out.old) (O.contents out.new)
         (E.contents err.old) (E.contents err.new) result }
-    ensures over_one { 1 < result → (o : OrderIn)
-        × ActsOn o (F.held files.old) (F.held files.new) (O.contents out.old) (O.contents out.new)
+    ensures timed { (a : Asked) → AsksToTime (map string_bytes words.now) a
+        → TimesAs a (F.held files.old) (F.held files.new) (O.contents out.old) (O.contents out.new)
         (E.contents err.old) (E.contents err.new) result }
+    ensures tested { (folder : List ℕ) → AsksToTest (map string_bytes words.now) folder
+        → TestsAs folder (F.named files.old) (F.held files.old) (F.held files.new)
+        (O.contents out.old) (O.contents out.new) (E.contents err.old) (E.contents err.new) result }
+    ensures over_one { 1 < result → (o : OrderIn)
+        × ActsOn o (F.named files.old) (F.held files.old) (F.held files.new)
+        (O.contents out.old) (O.contents out.new) (E.contents err.old) (E.contents err.new) result }
 {
     match order_of(alloc, words) {
         Err(reply) => tell_command_line(alloc, &reply, out, err),
@@ -60,7 +69,7 @@ pub fn act<R: Threads + Wait + Sync, F: FileSource, O: Write, E: Write, T: Termi
 }
 
 /// Does what was ordered, and answers the exit status.
-fn carry_out<R: Threads + Wait + Sync, F: FileSource, O: Write, E: Write, T: Terminal>(
+fn carry_out<R: Threads + Wait + Sync, F: FolderSource, O: Write, E: Write, T: Terminal>(
     rt: &R,
     alloc: Global,
     order: Order<'_>,
@@ -69,7 +78,8 @@ fn carry_out<R: Threads + Wait + Sync, F: FileSource, O: Write, E: Write, T: Ter
     err: &mut E,
     terminal: &mut T,
 ) -> u8
-    ensures { ActsOn (order_said order.entry) (F.held files.old) (F.held files.new)
+    ensures { ActsOn (order_said order.entry) (F.named files.old)
+        (F.held files.old) (F.held files.new)
         (O.contents out.old) (O.contents out.new) (E.contents err.old) (E.contents err.new) result }
 {
     match order {
@@ -80,6 +90,14 @@ fn carry_out<R: Threads + Wait + Sync, F: FileSource, O: Write, E: Write, T: Ter
         Order::AsObject(subject, request) => {
             let done = perform_as_object(rt, alloc, subject, request, files, out, terminal);
             report(done, request.telling.explain, err)
+        }
+        Order::Times(request) => {
+            let done = time(rt, alloc, request, files, out, terminal);
+            report(done, request.telling.explain, err)
+        }
+        Order::Tests(folder) => {
+            let done = test(rt, alloc, folder, files, out);
+            report(done, false, err)
         }
     }
 }
@@ -183,7 +201,7 @@ pub(crate) fn followed<F: FileSource>(
 }
 
 /// Hands on what a writer keeps back of an answer with this status.
-fn handed_on<O: Write>(out: &mut O, status: u8) -> Result<u8, Failure>
+pub(crate) fn handed_on<O: Write>(out: &mut O, status: u8) -> Result<u8, Failure>
     ensures keeps { Keeps (O.contents out.old) (O.contents out.new) }
     ensures status { IfOk result (λ s. s ≡ status) }
     ensures failure { IfErr result (λ f. f ≡ Failure.CannotWriteOutput) }

@@ -9,6 +9,8 @@ pub mod commands;
 mod refusal;
 pub mod terminal;
 mod tracing;
+mod trying;
 
 pub use intake::files;
 pub use texts::progress;
+pub use trials::{clock, folders};

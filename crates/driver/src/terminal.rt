@@ -3,9 +3,11 @@
 ghost use Rattle.std.specs.Prelude.{◌≡◌};
 
 use serial_run::watch::{Unwatched, Watch};
+use std::time::Clock;
+use trials::clock::Stopwatch;
 
-/// Is told how far a run has come, and knows whether what is read there may have colours.
-pub trait Terminal: Watch {
+/// Is told how far a run has come, and knows whether what is read there may have colours, and how much time goes by.
+pub trait Terminal: Watch + Stopwatch {
     /// Whether it may.
     fn has_colours(&self) -> bool;
 }
@@ -17,29 +19,46 @@ impl Terminal for Unwatched {
     }
 }
 
-/// One who looks at a run, where there may be colours or not.
+/// One who looks at a run, where there may be colours or not, with a clock.
 #[derive(Drop)]
-pub struct Seen<W: Watch> {
+pub struct Seen<W: Watch, C: Clock> {
     watch: W,
     has_colours: bool,
+    clock: C,
 }
 
-impl<W: Watch + Drop> Seen<W> {
+impl<W: Watch + Drop, C: Clock + Drop> Seen<W, C> {
     /// One who sees colours, where there may be some.
-    pub fn new(watch: W, has_colours: bool) -> Seen<W>
+    pub fn new(watch: W, has_colours: bool, clock: C) -> Seen<W, C>
         ensures colours { result.has_colours ≡ has_colours }
     {
-        Seen { watch, has_colours }
+        Seen {
+            watch,
+            has_colours,
+            clock,
+        }
     }
 }
 
-impl<W: Watch> Watch for Seen<W> {
+impl<W: Watch, C: Clock> Stopwatch for Seen<W, C> {
+    fn micros(&mut self) -> u64 {
+        match self.clock.monotonic() {
+            Ok(time) => {
+                let seconds = time.as_secs().saturating_mul(1_000_000);
+                seconds.saturating_add(u64::from(time.subsec_micros()))
+            }
+            Err(_) => 0,
+        }
+    }
+}
+
+impl<W: Watch, C: Clock> Watch for Seen<W, C> {
     fn look(&mut self, steps: u64) {
         self.watch.look(steps);
     }
 }
 
-impl<W: Watch> Terminal for Seen<W> {
+impl<W: Watch, C: Clock> Terminal for Seen<W, C> {
     fn has_colours(&self) -> bool
         ensures { result ≡ self.now.has_colours }
     {

@@ -102,7 +102,7 @@ fn traced<R: Threads + Wait + Sync>(
 }
 
 /// What a run may spend, and on how many workers it goes, as it was asked.
-fn run_settings(settings: Settings<'_>) -> RunSettings
+pub(crate) fn run_settings(settings: Settings<'_>) -> RunSettings
     ensures budget { result.budget ≡ settings.entry.budget }
     ensures tasks { result.tasks ≡ settings.entry.spread.tasks }
     ensures w0 { result.w0 ≡ settings.entry.spread.w0 }

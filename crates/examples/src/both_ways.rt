@@ -50,7 +50,7 @@ fn explaining_words(alloc: Global, command: &str) -> io::Result<Option<Vec<Strin
 /// Whether a command takes `--explain`.
 fn takes_explain(command: &str) -> bool {
     match command {
-        "check" | "fmt" | "list" | "mhp" | "run" | "serial" | "explore" | "view" => true,
+        "check" | "fmt" | "list" | "mhp" | "run" | "serial" | "bench" | "explore" | "view" => true,
         _ => false,
     }
 }

@@ -5,6 +5,6 @@ use std::sync::Wait;
 use std::thread::Threads;
 
 /// Files, both ends of the standard streams, memory and threads.
-pub trait Machine: Files + Input + Print + AllocGlobal + Threads + Wait + Sync {}
+pub trait Machine: Files + Input + Print + AllocGlobal + Threads + Wait + Sync + Clone + Drop {}
 
-impl<R: Files + Input + Print + AllocGlobal + Threads + Wait + Sync> Machine for R {}
+impl<R: Files + Input + Print + AllocGlobal + Threads + Wait + Sync + Clone + Drop> Machine for R {}

@@ -6,6 +6,7 @@ use crate::shelf::Shelf;
 use crate::transcript::words_of;
 use crate::wanted::Wanted;
 use driver::act::act;
+use driver::clock::Stopwatch;
 use driver::terminal::Terminal;
 use serial_run::watch::Watch;
 use std::io;
@@ -36,15 +37,27 @@ pub struct Answer<'a> {
     looks: usize,
 }
 
-/// Counts how often it is told.
+/// Counts how often it is told, and has a clock that goes on only where it is looked at: the nth time by 7 n microseconds
+/// modulo 11.
 #[derive(Drop)]
 struct Counting {
     looks: usize,
+    readings: u64,
+    micros: u64,
 }
 
 impl Watch for Counting {
     fn look(&mut self, _steps: u64) {
         self.looks = self.looks.saturating_add(1);
+    }
+}
+
+impl Stopwatch for Counting {
+    fn micros(&mut self) -> u64 {
+        self.readings = self.readings.saturating_add(1);
+        let step = self.readings.saturating_mul(7) % 11;
+        self.micros = self.micros.saturating_add(step);
+        self.micros
     }
 }
 
@@ -147,7 +160,11 @@ impl Row<'_> {
         let alloc = rt.alloc();
         let mut out = Output::new(alloc, out);
         let mut err = Output::new(alloc, err);
-        let mut watch = Counting { looks: 0 };
+        let mut watch = Counting {
+            looks: 0,
+            readings: 0,
+            micros: 0,
+        };
         let status = act(rt, alloc, words, shelf, &mut out, &mut err, &mut watch);
         Ok(Told {
             out,

@@ -4,8 +4,9 @@ ghost use Rattle.std.specs.Prelude.{◌≤◌, IfOk, length};
 
 use crate::bytes::{not_understood, push_spelled};
 use crate::machine::Machine;
-use driver::files::{FileError, FileSource, MachineFiles};
-use std::alloc::Global;
+use driver::files::{FileError, FileSource};
+use driver::folders::{FolderSource, MachineFolders};
+use std::alloc::{AllocError, Global};
 use std::io;
 
 /// What a file gives to who reads it.
@@ -37,7 +38,7 @@ struct WrittenFile {
 #[derive(Drop)]
 pub struct Shelf<'t, R> {
     alloc: Global,
-    machine: MachineFiles<'t, R>,
+    machine: MachineFolders<'t, R>,
     files: Vec<TableFile<'t>>,
     written: Vec<WrittenFile>,
     /// How many stand before the first group, once it has begun.
@@ -49,7 +50,7 @@ impl<'t, R: Machine> Shelf<'t, R> {
     pub fn new(rt: &'t R) -> Shelf<'t, R> {
         Shelf {
             alloc: rt.alloc(),
-            machine: MachineFiles::new(rt),
+            machine: MachineFolders::new(rt),
             files: Vec::new(rt.alloc()),
             written: Vec::new(rt.alloc()),
             lasting: None,
@@ -185,6 +186,38 @@ impl<R: Machine> FileSource for Shelf<'_, R> {
             Some(Contents::Endless) => Err(FileError::Failed),
         }
     }
+}
+
+impl<R: Machine> FolderSource for Shelf<'_, R> {
+    /// What stands behind the name of the folder, as `one.afx` in `tests/one.afx`; a folder of which the table has no file is
+    /// the machine's. One that has no memory is said as a file.
+    fn names(&mut self, folder: &str) -> Result<Vec<String>, FileError> {
+        if let Some(Contents::NoMemory) = contents_of(&self.files, folder) {
+            return Err(FileError::NoMemory);
+        }
+        match names_behind(self.alloc, &self.files, folder) {
+            Ok(names) if names.is_empty() => self.machine.names(folder),
+            Ok(names) => Ok(names),
+            Err(AllocError) => Err(FileError::NoMemory),
+        }
+    }
+}
+
+/// What stands behind the name of a folder in the names of files.
+fn names_behind(
+    alloc: Global,
+    files: &[TableFile<'_>],
+    folder: &str,
+) -> Result<Vec<String>, AllocError> {
+    let mut names = Vec::new(alloc);
+    for file in files {
+        if let Some(behind) = file.name.strip_prefix(folder) {
+            if let Some(name) = behind.strip_prefix('/') {
+                names.push(String::from_str(alloc, name)?)?;
+            }
+        }
+    }
+    Ok(names)
 }
 
 /// The first bytes once more, so many at most.

@@ -2,7 +2,7 @@
 
 use crate::machine::Machine;
 use driver::act::act;
-use driver::files::MachineFiles;
+use driver::folders::MachineFolders;
 use serial_run::watch::Unwatched;
 use std::alloc::{AllocError, Global};
 use std::io;
@@ -14,7 +14,7 @@ pub fn show<R: Machine>(rt: &R, line: &str) -> io::Result<()> {
     let command = format!(in alloc; "$ afx {line}")?;
     println!(rt; "{command}")?;
     let words = words_of(alloc, &command)?;
-    let mut files = MachineFiles::new(rt);
+    let mut files = MachineFolders::new(rt);
     let mut out = io::writer(rt);
     let mut err = io::writer(rt);
     let status = act(

@@ -25,6 +25,8 @@ const ROWS: &[(&str, &str)] = &[
         "cost",
         " input steps nest by-line by-procedure format explain color",
     ),
+    ("bench", " input steps nest explain color"),
+    ("test", ""),
     (
         "explore",
         " input choices choices-from random arrays explain color",
