@@ -1,6 +1,6 @@
 -- What a command answers to the text of a program, and why it fails.
-use Rattle.std.specs.Prelude.{ℕ, ℤ, ◌≡◌, ◌≢◌, ◌<◌, ◌⊎◌, ◌+◌, ◌++◌, List, [], Bool, false, codes, IsTrue}
-use Rattle.std.specs.Prelude.{Option, Some, None, is_some, Result, MatchResult}
+use Rattle.std.specs.Prelude.{ℕ, ℤ, ◌≡◌, ◌≢◌, ◌<◌, ◌⊎◌, ◌+◌, ◌++◌, List, [], Bool, false, IsTrue}
+use Rattle.std.specs.Prelude.{Option, Some, is_some, Result, MatchResult}
 use Rattle.std.specs.Io.KnownBytes.{Appends, Keeps}
 use Rattle.std.specs.List.{flat_map}
 use Rattle.std.specs.Str.{chars, IsUtf8}
@@ -22,11 +22,10 @@ use Rattle.types.specs.Resolution.{resolution}
 use Rattle.types.specs.Rules.{BreaksNoRule, errors_of}
 use Rattle.types.specs.Told.{Told}
 use Rattle.types.specs.TreeRuns.{Explored, Open, NoSuchChoice}
-use Rattle.types.specs.Typed.{code_of}
 use Rattle.types.specs.declared.error.TypeError.{TypeError}
 use Rattle.cost.specs.Accounts.{Account, account_of, span_by_label}
 use Rattle.cost.specs.Costs.{cost_of, tally_of}
-use Rattle.cost.specs.Text.{cost_text, labels_text, procedures_text}
+use Rattle.cost_text.specs.Text.{cost_text, labels_text, procedures_text}
 use Rattle.cost.specs.declared.cost.Cost.{Cost as Numbers}
 use Rattle.parallel_relation.specs.Pairs.{AreListed}
 use Rattle.parallel_relation.specs.Together.{LabelsMeet}

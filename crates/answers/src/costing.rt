@@ -10,15 +10,15 @@ ghost use Rattle.types.specs.Typed.{code_of};
 ghost use Rattle.command_line.specs.Requests.{settings as settings_of};
 ghost use Rattle.cost.specs.Accounts.{span_by_label};
 ghost use Rattle.cost.specs.Costs.{cost_of, tally_of};
-ghost use Rattle.cost.specs.Text.{cost_text as text_of_cost, labels_text as text_of_labels};
-ghost use Rattle.cost.specs.Text.{procedures_text as text_of_procedures};
+ghost use Rattle.cost_text.specs.Text.{cost_text as text_of_cost, labels_text as text_of_labels};
+ghost use Rattle.cost_text.specs.Text.{procedures_text as text_of_procedures};
 ghost use Rattle.answers.specs.Answers.{Does, account_in};
 
 use crate::programs::typed_of;
 use crate::showing::{answer, show, status};
 use command_line::request::{Command, Settings};
 use cost::cost::{Cost, CostByLabel, measure, measure_by_label};
-use cost::text::{cost_text, labels_text, procedures_text};
+use cost_text::text::{cost_text, labels_text, procedures_text};
 use intake::failure::Failure;
 use intake::files::FileSource;
 use intake::input_file::input_of;

@@ -1,9 +1,7 @@
 pub mod Costs
 pub mod Accounts
 pub mod Translation
-pub mod Shares
 pub mod Laws
-pub mod Text
 pub mod Resume
 pub mod Frames
 pub mod Machines

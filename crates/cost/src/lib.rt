@@ -7,6 +7,4 @@ pub mod cost;
 pub mod frame;
 pub mod laws;
 pub mod machine;
-pub mod shares;
 pub mod tally;
-pub mod text;

@@ -1,7 +1,7 @@
 //! What runs cost: numbers that are known from what the programs do, and those of the same programs' traces.
 
 use cost::cost::{Costed, measure};
-use cost::text::cost_text;
+use cost_text::text::cost_text;
 use interleave::job::Job;
 use interleave::walk::random_walk;
 use race_checker::accepted::Accepted;

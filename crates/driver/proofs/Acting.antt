@@ -12,7 +12,7 @@ use Rattle.std.proofs.KnownBytes.{Keeps-refl, Appends-kept}
 use Rattle.std.specs.Io.KnownBytes.{Keeps}
 use Rattle.std.specs.Prelude.{IsErrAnd}
 use Rattle.std.specs.Str.{IsUtf8}
-use Rattle.driver.specs.Acts.{Acts, AnswersAny, ExplainsAny, Leaves, Performs, ReadsAndPerforms, Reports, in_short}
+use Rattle.driver.specs.Acts.{Acts, ExplainsAny, Leaves, Performs, ReadsAndPerforms, Reports, in_short}
 use Rattle.driver.specs.Acts.{on_text, without_text, AnswersTo, ExplainsTo, LeavesTo}
 use Rattle.command_line.specs.declared.request.Action.{Action}
 use Rattle.command_line.specs.declared.request.Action.TheVariants.{Answer as AnswerBy, Rewrite}

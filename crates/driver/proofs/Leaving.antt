@@ -1,22 +1,19 @@
 -- What files hold behind a run as tasks.
-use Rattle.std.proofs.Common.{◌≡◌, ℕ, ℤ, List, Option, Some, None, Result, Ok, Err, ap, ◌∙◌, refl, subst, sym}
+use Rattle.std.proofs.Common.{◌≡◌, ℕ, List, Option, Some, None, Result, Ok, Err, ap, ◌∙◌, refl, subst, sym}
 use Rattle.std.specs.Prelude.{IfErr, IsErrAnd}
-use Rattle.types.specs.Code.{Array, Program}
-use Rattle.types.specs.Outcome.{outcome}
-use Rattle.types.specs.declared.outcome.Outcome.{Outcome}
+use Rattle.types.specs.Code.{Array}
 use Rattle.command_line.specs.Requests.{Settings}
 use Rattle.intake.specs.Failures.{TellsUnwritten}
-use Rattle.intake.specs.Held.{Held, KeepsOthers, TellsNoInput}
+use Rattle.intake.specs.Held.{Held, TellsNoInput}
 use Rattle.intake.specs.declared.failure.Failure.{Failure}
-use Rattle.intake.specs.declared.failure.Failure.TheVariants.{CannotRead, NotUtf8, Syntax, Types}
-use Rattle.intake.specs.declared.failure.Failure.TheVariants.{Race, NoMemoryInCheck, Input, NoMemory}
+use Rattle.intake.specs.declared.failure.Failure.TheVariants.{NoMemory}
 use Rattle.intake.specs.declared.failure.Failure.TheVariants.{Run as RunFailed, StrangeEvents, CannotWrite, CannotWriteOutput}
 use Rattle.answers.specs.Answers.{Explains, TellsNotAccepted}
 use Rattle.answers.proofs.Answering.{IsOther}
 use Rattle.command_line.specs.declared.request.Command.TheVariants.{Run}
 use Rattle.viewing.specs.Files.{Wrote, WritesTo}
 use Rattle.viewing.proofs.Written.{others_kept, wrote_anyway}
-use Rattle.driver.specs.Traced.{IsTraceOf, IsTraceOfText, TellsNoOutcome, TellsNoRun, WritesTrace}
+use Rattle.driver.specs.Traced.{TellsNoOutcome, TellsNoRun, WritesTrace}
 
 -- ---- a run without an outcome
 

@@ -1,5 +1,5 @@
 -- From a file and a command to the object that the program told.
-use Rattle.std.proofs.Common.{◌≡◌, ◌≢◌, ℕ, ◌≤◌, length, List, [], Option, Some, None, Result, Ok, Err, IfOk, IfErr, sym, subst}
+use Rattle.std.proofs.Common.{◌≡◌, ℕ, ◌≤◌, length, List, [], Option, Some, None, Result, Ok, Err, IfOk, IfErr, sym, subst}
 use Rattle.std.specs.Prelude.{IsErrAnd, false}
 use Rattle.std.specs.Str.{IsUtf8}
 use Rattle.texts.specs.Appending.{Writes}
@@ -20,7 +20,7 @@ use Rattle.reading.specs.Orders.{Order, command_of}
 use Rattle.reading.specs.declared.order.Subject.{Subject}
 use Rattle.viewing.specs.Files.{Wrote, WritesTo}
 use Rattle.driver.specs.Acts.{Acts, Leaves, ReadsAndPerforms, Reports}
-use Rattle.driver.specs.Objects.{ReadsAndTells, TellsObject, TellsUnread, on_text, without_text, status_in}
+use Rattle.driver.specs.Objects.{ReadsAndTells, TellsObject, on_text, without_text, status_in}
 use Rattle.driver.specs.Orders.{ActsOn, TellsAs, TestsAs, TimesAs}
 use Rattle.driver.specs.Traced.{TellsNoRun, WritesTrace}
 use Rattle.driver.specs.Trying.{ReadsAndTimes, TestsFolder}

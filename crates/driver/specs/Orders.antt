@@ -1,5 +1,5 @@
 -- What words order was done, and reported.
-use Rattle.std.specs.Prelude.{ℕ, ◌≡◌, Bool, false, List, Option, Result}
+use Rattle.std.specs.Prelude.{ℕ, Bool, false, List, Option, Result}
 use Rattle.command_line.specs.Requests.{Asked}
 use Rattle.intake.specs.Held.{Held}
 use Rattle.intake.specs.declared.failure.Failure.{Failure}

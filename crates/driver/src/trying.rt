@@ -22,7 +22,7 @@ use std::thread::Threads;
 use trials::folders::FolderSource;
 use trials::runs::Runs;
 use trials::testing::test_folder;
-use trials::timing::bench;
+use trials::timing::{Timing, bench};
 use types::input::Input;
 use types::outcome::Outcome;
 use workers::gate::NoGate;
@@ -72,21 +72,19 @@ pub fn time<R: Threads + Wait + Sync, F: FileSource, O: Write, T: Terminal>(
     };
     let paint = paint_of(request.telling, terminal);
     match std::str::from_utf8(&bytes) {
-        Ok(text) => match bench(
-            rt,
-            alloc,
-            &OnThreads,
-            request.settings,
-            text,
-            files,
-            out,
-            terminal,
-        ) {
-            Ok(status) => followed(alloc, files, request, text, paint, handed_on(out, status)),
-            Err(failure) => Err(Refusal::explained(
-                rt, alloc, files, request, text, paint, failure,
-            )),
-        },
+        Ok(text) => {
+            let timing = Timing {
+                alloc,
+                runs: &OnThreads,
+                clock: terminal,
+            };
+            match bench(rt, timing, request.settings, text, files, out) {
+                Ok(status) => followed(alloc, files, request, text, paint, handed_on(out, status)),
+                Err(failure) => Err(Refusal::explained(
+                    rt, alloc, files, request, text, paint, failure,
+                )),
+            }
+        }
         Err(_) => Err(Refusal::bare(alloc, Failure::not_utf8(alloc, name))),
     }
 }

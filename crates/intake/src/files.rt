@@ -110,10 +110,12 @@ pub fn write_file<F: FileSource>(
     }
 }
 
-/// The files of the machine; `-` is the standard input.
+/// The files of the machine; `-` is the standard input, which is read once: read again, it gives the same bytes.
 #[derive(Drop)]
 pub struct MachineFiles<'r, R> {
     rt: &'r R,
+    /// What the standard input gave, once it was read to its end.
+    input: Option<Vec<u8>>,
 }
 
 impl<'r, R> MachineFiles<'r, R> {
@@ -121,18 +123,19 @@ impl<'r, R> MachineFiles<'r, R> {
     pub fn new(rt: &'r R) -> MachineFiles<'r, R>
         ensures { result.rt ≡ rt.entry }
     {
-        MachineFiles { rt }
+        MachineFiles { rt, input: None }
     }
 }
 
 impl<R: Files + Input + AllocGlobal> FileSource for MachineFiles<'_, R> {
     fn read(&mut self, name: &str) -> Result<Vec<u8>, FileError> {
-        let bytes = if name == "-" {
-            standard_input(self.rt)
-        } else {
-            fs::read(self.rt, name)
-        };
-        bytes.map_err(|error| file_error(&error))
+        if name == "-" {
+            return standard_input(self.rt, &mut self.input);
+        }
+        match fs::read(self.rt, name) {
+            Ok(bytes) => Ok(bytes),
+            Err(error) => Err(file_error(&error)),
+        }
     }
 
     fn read_first(&mut self, name: &str, most: usize) -> Result<Vec<u8>, FileError> {
@@ -151,11 +154,29 @@ impl<R: Files + Input + AllocGlobal> FileSource for MachineFiles<'_, R> {
     }
 }
 
-/// All that stands on the standard input.
-fn standard_input<R: Input + AllocGlobal>(rt: &R) -> io::Result<Vec<u8>> {
-    let mut bytes = Vec::new(rt.alloc());
-    rt.reader().read_to_end(&mut bytes)?;
+/// All that stands on the standard input, which is read to its end by the first call and kept for later ones.
+fn standard_input<R: Input + AllocGlobal>(
+    rt: &R,
+    kept: &mut Option<Vec<u8>>,
+) -> Result<Vec<u8>, FileError> {
+    let alloc = rt.alloc();
+    if let Some(bytes) = kept {
+        return copied(alloc, bytes);
+    }
+    let mut bytes = Vec::new(alloc);
+    if let Err(error) = rt.reader().read_to_end(&mut bytes) {
+        return Err(file_error(&error));
+    }
+    *kept = Some(copied(alloc, &bytes)?);
     Ok(bytes)
+}
+
+/// The same bytes once more.
+fn copied(alloc: Global, bytes: &[u8]) -> Result<Vec<u8>, FileError> {
+    match bytes.to_vec(alloc) {
+        Ok(bytes) => Ok(bytes),
+        Err(_) => Err(FileError::NoMemory),
+    }
 }
 
 /// The first bytes of a file of the machine, so many at most.

@@ -18,9 +18,9 @@ use Rattle.syntax_tree.specs.Tree as tree
 use Rattle.syntax_tree.specs.declared.tree.ElementType.{ElementType}
 use Rattle.types.specs.Code.{Array, Program}
 use Rattle.types.specs.Inputs as inputs
-use Rattle.types.specs.Inputs.{BadElement, IsInput, IsRow, Mistake, OtherLength, after_stranger, both, data_says, is_named}
+use Rattle.types.specs.Inputs.{BadElement, IsInput, IsRow, OtherLength, after_stranger, both, data_says, is_named}
 use Rattle.types.specs.Inputs.{items_count, least, member_says, members_say, number_in, numbers_in, read_says, strangers}
-use Rattle.types.specs.Inputs.{text_says, value_says}
+use Rattle.types.specs.Inputs.{value_says}
 use Rattle.types.specs.NameErrors.{declaring}
 use Rattle.types.specs.Resolution.{array, label_behind_all, resolution, with_main}
 use Rattle.types.specs.Rules.{BreaksNoRule, array_errors, errors_of, limit, name_errors, procedures_errors}

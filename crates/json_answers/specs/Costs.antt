@@ -1,5 +1,5 @@
 -- What is told of the cost of a run.
-use Rattle.std.specs.Prelude.{ℕ, List, [], ◌∷◌, codes}
+use Rattle.std.specs.Prelude.{[], ◌∷◌, codes}
 use Rattle.serde_json.specs.Data.{Data}
 use Rattle.cost.specs.declared.cost.Cost.{Cost}
 use Rattle.json_answers.specs.Pieces.{natural, object_of}

@@ -1,12 +1,12 @@
 -- Why there is no object, and that it isn't that none could be written.
-use Rattle.std.proofs.Common.{◌≡◌, ◌≢◌, ℕ, List, Option, None, Result, Ok, Err, sym, subst, ◌∙◌}
+use Rattle.std.proofs.Common.{◌≡◌, ℕ, List, None, Result, Ok, Err, sym, subst}
 use Rattle.std.specs.Prelude.{IfErr}
 use Rattle.types.specs.Code.{Program}
 use Rattle.command_line.specs.Requests.{Settings}
 use Rattle.command_line.specs.declared.request.Command.{Command}
 use Rattle.intake.specs.Held.{Held, TellsNoInput}
 use Rattle.intake.specs.declared.failure.Failure.{Failure}
-use Rattle.intake.specs.declared.failure.Failure.TheVariants.{CannotWriteOutput, NoMemory}
+use Rattle.intake.specs.declared.failure.Failure.TheVariants.{NoMemory}
 use Rattle.answers.specs.Answers.{Explains, IsCodeOf, IsRunBy, LooksForRaces, TellsNoCode, TellsNotAccepted, TestsRules}
 use Rattle.answers.proofs.Answering.{IsOther, other_failure}
 use Rattle.answers.proofs.Answering.{no_code_explained, no_code_other, no_input_explained, no_input_other}

@@ -6,7 +6,7 @@ use Rattle.std.specs.Prelude.{true, MatchOption}
 use Rattle.std.specs.String.{string_bytes}
 use Rattle.intake.specs.Held.{Held}
 use Rattle.intake.specs.declared.failure.Failure.{Failure}
-use Rattle.intake.specs.declared.failure.Failure.TheVariants.{CannotRead, CannotWriteOutput, NoMemory}
+use Rattle.intake.specs.declared.failure.Failure.TheVariants.{CannotRead, NoMemory}
 use Rattle.answers.proofs.Answering.{IsOther}
 use Rattle.trials.specs.Folders.{Folders, TellsNoFolder}
 use Rattle.trials.specs.Trials.{Folder, Trial, IsCompared, IsLine, AreTested, ExplainsTest, none, pass, fail}

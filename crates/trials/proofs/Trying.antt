@@ -1,7 +1,7 @@
 -- A program of a folder, and what is found of it.
-use Rattle.std.proofs.Common.{◌≡◌, ℕ, List, ◌++◌, Option, Some, None, Result, Ok, Err, refl, sym, ap, ◌∙◌, subst, codes}
-use Rattle.std.specs.Prelude.{ℤ, Bool, true, false, if◌then◌else◌, IfOk, IfErr}
-use Rattle.std.specs.Str.{IsUtf8, bytes_eq}
+use Rattle.std.proofs.Common.{◌≡◌, ℕ, List, ◌++◌, Option, Some, None, Result, Ok, refl, sym, ap, ◌∙◌, subst, codes}
+use Rattle.std.specs.Prelude.{ℤ, Bool, true, false, if◌then◌else◌, IfOk}
+use Rattle.std.specs.Str.{bytes_eq}
 use Rattle.types.specs.Code.{Program}
 use Rattle.types.specs.Outcome.{Budget, Outcome, outcome}
 use Rattle.types.specs.Typed.{code_of}

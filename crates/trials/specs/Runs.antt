@@ -1,5 +1,4 @@
 -- Why a run as tasks has no outcome.
-use Rattle.std.specs.Prelude.{ℕ}
 use Rattle.gather.specs.RunErrors.{IsCause}
 use Rattle.command_line.specs.Requests.{Settings}
 use Rattle.intake.specs.declared.failure.Failure.{Failure}

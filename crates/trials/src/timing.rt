@@ -33,24 +33,32 @@ use std::sync::Wait;
 use std::thread::Threads;
 use types::input::Input;
 
+/// What times are taken with.
+#[derive(Drop)]
+pub struct Timing<'t, W, C> {
+    pub alloc: Global,
+    /// Runs programs as tasks.
+    pub runs: &'t W,
+    pub clock: &'t mut C,
+}
+
 /// Runs a program five times on one thread, and five times each as tasks on 1, 2 and 4 workers, and writes how long that
 /// took, how many tasks there were, and how many places are copied for them. Of a run that has faults or is stopped its
 /// outcome is written in their place; gives the exit status.
 pub fn bench<R: Threads + Wait + Sync, F: FileSource, O: Write, W: Runs, C: Stopwatch>(
     rt: &R,
-    alloc: Global,
-    runs: &W,
+    timing: Timing<'_, W, C>,
     settings: Settings<'_>,
     text: &str,
     files: &mut F,
     out: &mut O,
-    clock: &mut C,
 ) -> Result<u8, Failure>
     ensures done { let s = settings_of settings.entry in
         Done (AnswersTimes s (F.held files.old) text.now) (Explains Run s (F.held files.old) text.now)
         (O.contents out.old) (O.contents out.new) result }
     ensures keeps { F.held files.new ≡ F.held files.old }
 {
+    let Timing { alloc, runs, clock } = timing;
     let accepted = accepted_of(rt, alloc, text)?;
     let input = input_of(alloc, files, accepted.typed(), settings.input)?;
     let costed = measured(alloc, &accepted, &input, settings)?;

@@ -5,7 +5,7 @@ use Rattle.types.specs.Typed.{code_of}
 use Rattle.types.proofs.InputLemmas.{FitsArrays-from_IsInput}
 use Rattle.command_line.specs.Requests.{settings}
 use Rattle.command_line.specs.declared.request.Command.TheVariants.{Cost}
-use Rattle.cost.specs.Text.{cost_text}
+use Rattle.cost_text.specs.Text.{cost_text}
 use Rattle.texts.specs.OutcomeText.{status_of}
 use Rattle.answers.specs.Answers.{numbers, not_ended}
 use Rattle.answers.proofs.Answering.{outcome_shown, passes_no_input, shown}

@@ -5,9 +5,8 @@ use Rattle.types.specs.Typed.{code_of}
 use Rattle.types.proofs.InputLemmas.{FitsArrays-from_IsInput}
 use Rattle.command_line.specs.Requests.{settings}
 use Rattle.command_line.specs.declared.request.Command.TheVariants.{CostByLabel}
-use Rattle.cost.specs.Accounts.{span_by_label}
 use Rattle.cost.specs.Costs.{cost_of, tally_of}
-use Rattle.cost.specs.Text.{cost_text, labels_text}
+use Rattle.cost_text.specs.Text.{cost_text, labels_text}
 use Rattle.texts.specs.OutcomeText.{status_of}
 use Rattle.answers.specs.Answers.{account_in, not_shared, shared}
 use Rattle.answers.proofs.Answering.{outcome_shown, passes_no_input, shown}

@@ -5,7 +5,7 @@ use Rattle.syntax.specs.Spelling.{spelling}
 use Rattle.types.proofs.InputLemmas.{FitsArrays-from_IsInput}
 use Rattle.types.specs.Contents.{FitsArrays}
 use Rattle.types.specs.Translation.{array, input as lists_of, outcome as outcome_of}
-use Rattle.types.specs.TreeRuns.{Explored, Ends, Open, NoSuchChoice}
+use Rattle.types.specs.TreeRuns.{Ends, Open, NoSuchChoice}
 use Rattle.types.specs.Typed.{code_of, program_of}
 use Rattle.types.specs.declared.typed.Typed.{Typed}
 use Rattle.step_trees.specs.Exploring.{explored_of}

@@ -1,4 +1,3 @@
-use Rattle.std.proofs.Common.{◌≡◌}
 use Rattle.reading.specs.Orders.{AsText, AsObject, Times, Tests, order}
 use Rattle.driver.proofs.Objects.{ordered}
 use Rattle.driver.proofs.act.act.Goals as goal

@@ -1,4 +1,4 @@
-use Rattle.std.proofs.Common.{List, ℕ, ◌≤◌, length, Ok, Err, refl, subst, sym, ◌∙◌}
+use Rattle.std.proofs.Common.{List, ℕ, ◌≤◌, length, Ok, Err, subst, sym, ◌∙◌}
 use Rattle.std.specs.Str.{IsUtf8}
 use Rattle.intake.proofs.Programs.{no_program_text}
 use Rattle.intake.specs.Held.{IsGiven}

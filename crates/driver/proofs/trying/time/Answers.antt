@@ -1,4 +1,4 @@
-use Rattle.std.proofs.Common.{List, ℕ, ◌≤◌, length, Ok, Err, refl, subst, sym, ◌∙◌}
+use Rattle.std.proofs.Common.{List, ℕ, ◌≤◌, length, Ok, Err, subst, sym, ◌∙◌}
 use Rattle.std.specs.Str.{IsUtf8}
 use Rattle.driver.proofs.Tried.{same_failure, same_result, timed_on_text, timed_without_text, times_on}
 use Rattle.driver.specs.Trying.{ReadsAndTimes}

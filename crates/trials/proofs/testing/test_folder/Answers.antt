@@ -1,7 +1,4 @@
-use Rattle.std.proofs.Common.{ap, ◌∙◌, ◌++◌, map, subst, sym}
-use Rattle.std.specs.String.{string_bytes}
-use Rattle.trials.specs.Trials.{closing}
-use Rattle.trials.proofs.Told.{test_passed, test_told, test_without_memory}
+use Rattle.trials.proofs.Told.{test_passed, test_without_memory}
 use Rattle.trials.proofs.testing.test_folder.Goals as goal
 
 pub returns-in_err-names-clause-done : goal.returns-in_err-names-clause-done

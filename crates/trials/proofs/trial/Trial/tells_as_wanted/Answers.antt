@@ -1,7 +1,7 @@
 use denote.Param.Send.{sendable}
-use Rattle.std.proofs.Common.{ℕ, List, Ok, None, ap, ◌∙◌, refl, subst, sym, codes}
+use Rattle.std.proofs.Common.{ℕ, List, Ok, None, refl, subst, sym, codes}
 use Rattle.std.proofs.lemmas.Result.{IfOk-weaker, IfErr-weaker}
-use Rattle.std.specs.Str.{bytes_eq, chars}
+use Rattle.std.specs.Str.{chars}
 use Rattle.syntax.specs.Lexical.{AreTokensOf}
 use Rattle.syntax.specs.Spelling.{spelling}
 use Rattle.types.specs.Contents.{FitsArrays}
@@ -13,7 +13,7 @@ use Rattle.command_line.specs.Requests.{usual}
 use Rattle.command_line.specs.declared.request.Command.TheVariants.{Run}
 use Rattle.intake.specs.Held.{Held, BeginsWith, IsGiven}
 use Rattle.answers.proofs.Answering.{code_of_text, if_err_passed, no_input_explained, not_accepted_explained}
-use Rattle.trials.specs.Trials.{IsUncompared, IsCompared, file, input_file, settings_of, told_by, trial, without_answer, without_output}
+use Rattle.trials.specs.Trials.{IsUncompared, file, input_file, settings_of, trial, without_answer, without_output}
 use Rattle.trials.proofs.RunCauses.{no_run_explained, same_tasks}
 use Rattle.trials.proofs.Trying.{compared, no_text_kept}
 use Rattle.trials.proofs.trial.Trial.tells_as_wanted.Goals as goal

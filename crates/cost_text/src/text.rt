@@ -3,13 +3,13 @@
 ghost use Rattle.std.specs.Prelude.{◌≡◌, ◌++◌, map, slice_index, IfOk, OnOk};
 ghost use Rattle.std.specs.String.{string_bytes};
 ghost use Rattle.types.specs.Translation.{procedure as plain_procedure, program as plain_program};
-ghost use Rattle.cost.specs.Shares.{share_of};
-ghost use Rattle.cost.specs.Text.{cost_text, label_line, labels_text};
-ghost use Rattle.cost.specs.Text.{procedure_line, procedure_lines as lines_of, procedures_text};
-ghost use Rattle.cost.specs.Text.{share_line, task_lines, work_lines};
+ghost use Rattle.cost_text.specs.Shares.{share_of};
+ghost use Rattle.cost_text.specs.Text.{cost_text, label_line, labels_text};
+ghost use Rattle.cost_text.specs.Text.{procedure_line, procedure_lines as lines_of, procedures_text};
+ghost use Rattle.cost_text.specs.Text.{share_line, task_lines, work_lines};
 
-use crate::cost::Cost;
 use crate::shares::{at, share};
+use cost::cost::Cost;
 use std::alloc::{AllocError, Global};
 use trace_numbers::text::push_parallelism;
 use types::code::{Procedure, Program};

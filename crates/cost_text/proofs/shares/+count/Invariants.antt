@@ -1,7 +1,7 @@
 use Rattle.std.proofs.Common.{◌≡◌, ◌+◌, ◌≤◌, min, drop}
 use Rattle.types.specs.Translation.{codes}
-use Rattle.cost.specs.Shares.{share_of}
-use Rattle.cost.proofs.shares.+count.Given as goal
+use Rattle.cost_text.specs.Shares.{share_of}
+use Rattle.cost_text.proofs.shares.+count.Given as goal
 
 -- with those that are left, there is as much as there was
 abbrev pub invariant-in_block-loop-stmt : goal.invariant-in_block-loop-stmt

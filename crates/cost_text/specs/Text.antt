@@ -3,7 +3,7 @@ use Rattle.std.specs.Prelude.{ℕ, ◌+◌, List, [], ◌∷◌, ◌++◌, codes
 use Rattle.std.specs.Fmt.{decimal}
 use Rattle.trace_numbers.specs.Text.{line, parallelism}
 use Rattle.types.specs.Code.{Procedure, Program}
-use Rattle.cost.specs.Shares.{share_of}
+use Rattle.cost_text.specs.Shares.{share_of}
 use Rattle.cost.specs.declared.cost.Cost.{Cost}
 
 -- how much was done, and how much of it at once

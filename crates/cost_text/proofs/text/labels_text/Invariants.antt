@@ -1,7 +1,7 @@
 use Rattle.std.proofs.Common.{◌≡◌, ◌++◌, drop}
 use Rattle.std.specs.String.{string_bytes}
-use Rattle.cost.specs.Text.{label_lines, labels_text}
-use Rattle.cost.proofs.text.labels_text.Given as goal
+use Rattle.cost_text.specs.Text.{label_lines, labels_text}
+use Rattle.cost_text.proofs.text.labels_text.Given as goal
 
 -- what was written, and the lines to come
 abbrev pub invariant-loop-label : goal.invariant-loop-label

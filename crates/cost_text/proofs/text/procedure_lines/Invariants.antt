@@ -1,8 +1,8 @@
 use Rattle.std.proofs.Common.{◌≡◌, ◌++◌, drop, map}
 use Rattle.std.specs.String.{string_bytes}
 use Rattle.types.specs.Translation.{procedure}
-use Rattle.cost.specs.Text.{procedure_lines}
-use Rattle.cost.proofs.text.procedure_lines.Given as goal
+use Rattle.cost_text.specs.Text.{procedure_lines}
+use Rattle.cost_text.proofs.text.procedure_lines.Given as goal
 
 -- what was written, and the lines to come
 abbrev pub invariant-loop-procedure : goal.invariant-loop-procedure

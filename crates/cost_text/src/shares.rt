@@ -2,7 +2,7 @@
 
 ghost use Rattle.std.specs.Prelude.{◌≡◌, ◌-◌, ◌^◌, IfSome, min, slice_index};
 ghost use Rattle.types.specs.Translation.{code as plain_code, codes};
-ghost use Rattle.cost.specs.Shares.{share_inside, share_of};
+ghost use Rattle.cost_text.specs.Shares.{share_inside, share_of};
 
 use types::code::{Procedure, Stmt, StmtKind};
 

@@ -1,8 +1,8 @@
 use Rattle.std.proofs.Common.{min, ap, ◌∙◌, arith}
 use Rattle.types.specs.Translation.{codes, code as plain_code}
 use Rattle.types.proofs.Blocks.{code_If, code_While, code_Split, code_Async, code_Finish}
-use Rattle.cost.specs.Shares.{share_inside, share_of}
-use Rattle.cost.proofs.shares.+count.Goals as goal
+use Rattle.cost_text.specs.Shares.{share_inside, share_of}
+use Rattle.cost_text.proofs.shares.+count.Goals as goal
 
 pub in_statement-returns-in-If : goal.in_statement-returns-in-If
 in_statement-returns-in-If t c =

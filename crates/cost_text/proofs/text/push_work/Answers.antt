@@ -1,7 +1,7 @@
 use Rattle.std.proofs.Common.{◌++◌, List, ℕ, ap, ◌∙◌, append_assoc, codes}
 use Rattle.trace_numbers.specs.Text.{parallelism}
 use Rattle.trace_numbers.proofs.Pieces.{ok_then}
-use Rattle.cost.proofs.text.push_work.Goals as goal
+use Rattle.cost_text.proofs.text.push_work.Goals as goal
 
 pub returns : goal.returns
 returns c =

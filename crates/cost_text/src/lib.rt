@@ -1,0 +1,6 @@
+//! The numbers of a cost, as they are told.
+
+#![tactic(auto)]
+
+pub mod shares;
+pub mod text;
