@@ -1,10 +1,10 @@
 //! Rows with `--explain`: it adds to what a row tells, behind it and on the standard error alone.
 
 use crate::machine::Machine;
-use crate::output::{End, Limit};
 use crate::row::Row;
-use crate::shelf::Shelf;
-use crate::transcript::words_of;
+use row_parts::output::{End, Limit};
+use row_parts::shelf::Shelf;
+use row_parts::words::words_of;
 use std::alloc::Global;
 use std::io;
 

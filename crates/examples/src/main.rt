@@ -3,17 +3,12 @@
 #![tactic(auto)]
 
 mod both_ways;
-mod bytes;
 mod machine;
 mod object_rows;
-mod output;
 mod pages_told;
-mod races_told;
 mod row;
-mod shelf;
 mod table;
 mod transcript;
-mod wanted;
 
 use crate::table::Way;
 use std::{env, io};

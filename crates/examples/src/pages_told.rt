@@ -1,12 +1,12 @@
 //! The pages of `afx explain`: whether what they say of programs is so.
 
 use crate::machine::Machine;
-use crate::output::{Limit, Output};
-use crate::shelf::Shelf;
-use crate::transcript::words_of;
 use driver::act::act;
 use pages::find::tables;
 use pages::page::{Example, Page, Told};
+use row_parts::output::{Limit, Output};
+use row_parts::shelf::Shelf;
+use row_parts::words::words_of;
 use serial_run::watch::Unwatched;
 use std::io;
 

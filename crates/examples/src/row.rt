@@ -1,13 +1,14 @@
 //! A row: a command, and what it must tell.
 
 use crate::machine::Machine;
-use crate::output::{End, Limit, Output};
-use crate::shelf::Shelf;
-use crate::transcript::words_of;
-use crate::wanted::Wanted;
 use driver::act::act;
 use driver::clock::Stopwatch;
 use driver::terminal::Terminal;
+use row_parts::bytes::text_of;
+use row_parts::output::{End, Limit, Output};
+use row_parts::shelf::Shelf;
+use row_parts::wanted::Wanted;
+use row_parts::words::words_of;
 use serial_run::watch::Watch;
 use std::io;
 
@@ -230,9 +231,4 @@ fn show<R: Machine>(rt: &R, what: &str, answer: Answer<'_>) -> io::Result<()> {
         "  {what}: {out:?}, error {err:?}, status {}, {} looks",
         answer.status, answer.looks
     )
-}
-
-/// The bytes as text, if they are one.
-fn text_of(bytes: &[u8]) -> &str {
-    std::str::from_utf8(bytes).unwrap_or("not UTF-8")
 }

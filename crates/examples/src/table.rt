@@ -1,10 +1,10 @@
 //! A table: a text of groups, each with its files and its rows.
 
-use crate::bytes::not_understood;
 use crate::machine::Machine;
 use crate::row::Row;
-use crate::shelf::Shelf;
-use crate::wanted::Wanted;
+use row_parts::bytes::not_understood;
+use row_parts::shelf::Shelf;
+use row_parts::wanted::Wanted;
 use std::io::ErrorKind;
 use std::{fs, io};
 

@@ -3,8 +3,8 @@
 use crate::machine::Machine;
 use driver::act::act;
 use driver::folders::MachineFolders;
+use row_parts::words::words_of;
 use serial_run::watch::Unwatched;
-use std::alloc::{AllocError, Global};
 use std::io;
 
 /// Does a command line over the machine's files, and shows it, what it writes to both outputs, and its status where
@@ -30,13 +30,4 @@ pub fn show<R: Machine>(rt: &R, line: &str) -> io::Result<()> {
         println!(rt; "status {status}")?;
     }
     Ok(())
-}
-
-/// The words of a command behind `$ afx`. Quotes round a word are dropped, so `""` is the empty one.
-pub fn words_of(alloc: Global, command: &str) -> Result<Vec<String>, AllocError> {
-    let mut words = Vec::new(alloc);
-    for word in command.split(' ').skip(2) {
-        words.push(String::from_str(alloc, word.trim_matches('"'))?)?;
-    }
-    Ok(words)
 }

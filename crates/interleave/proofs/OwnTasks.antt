@@ -22,6 +22,7 @@ use Rattle.interleave.specs.World.{same_scope, child_path, task, put_task, witho
 use Rattle.interleave.specs.Events.{Event, Take, Steal, Steps, Replenish, Spawns, Opens, Parks, Ends, Pass, Resume}
 use Rattle.interleave.specs.Events.{issue, give_back, did, new_scope, new_task, next_action}
 use Rattle.interleave.specs.Replay.{does, hands_on}
+use Rattle.interleave.proofs.Histories.{length_last}
 use Rattle.interleave.proofs.Lookups.{by_test, other_path, task-without_task, gone-without_task, Unique}
 use Rattle.interleave.proofs.Changes.{IsQuiet, IsAt, IsReplenish, IsSpawn, IsOpen, IsPark, IsEnd, IsPass, IsResume}
 use Rattle.interleave.proofs.Changes.{Becomes}
@@ -161,10 +162,6 @@ module _ (p : Program) (needs : Codes → Needs) (fresh w0 : ℕ) (root : Start)
     pub counted_spawn : (c : Start) → nexts t ≡ Some (Spawn c) → length (begun_by (take (t.done + 1) (truly t.start))) ≡ t.spawned + 1
     counted_spawn c e =
         ap (λ l. length (begun_by l)) (more_done (Spawn c) e) ∙ ap length (begun_by-append (take t.done (truly t.start)) (Spawn c ∷ [])) ∙ length_last (begun_by (take t.done (truly t.start))) c ∙ ap (λ n. n + 1) h.counted
-      where
-        length_last : {A : Type 0} (xs : List A) (x : A) → length (xs ++ x ∷ []) ≡ length xs + 1
-        length_last [] x = refl
-        length_last (y ∷ xs) x = omega (arith, length_last xs x)
 
     pub depth_more : (a : Action) (f : ℕ) → nexts t ≡ Some a → depth 0 (take t.done (truly t.start)) ≡ Some f → depth 0 (take (t.done + 1) (truly t.start)) ≡ depth f (a ∷ [])
     depth_more a f e d = ap (depth 0) (more_done a e) ∙ depth-append 0 (take t.done (truly t.start)) (a ∷ []) f d

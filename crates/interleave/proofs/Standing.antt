@@ -24,6 +24,7 @@ use Rattle.own_run.proofs.ReachedTasks.{goes}
 use Rattle.own_run.proofs.TaskRuns.{turns_follow, leaves_follow}
 use Rattle.own_run.proofs.TasksEnd.{weight, Falls, spends, sheds, flow_falls}
 use Rattle.own_run.proofs.TurnActions.{turn_does}
+use Rattle.interleave.proofs.Histories.{length_last}
 
 -- an action that ends nothing
 abbrev pub IsMove : Action → Type 0
@@ -227,10 +228,6 @@ module _ (p : Program) (needs : Codes → Needs) (scoped : IsScoped p) (calm : I
         IsFinish EndFinish = Unit {0}
         IsFinish x = ⊥
     closed (over st k) e = (st, k)
-
-  length_last : {A : Type 0} (xs : List A) (x : A) → length (xs ++ x ∷ []) ≡ length xs + 1
-  length_last [] x = refl
-  length_last (y ∷ xs) x = omega (arith, length_last xs x)
 
   -- a step further
   pub moved_on : (s : Start) (receipts : List (List TaskResult)) (done : ℕ) (a : Action) (m : Moves s receipts done a)

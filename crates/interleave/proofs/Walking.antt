@@ -8,6 +8,7 @@ use Rattle.std.specs.Set.{is_member}
 use Rattle.std.specs.HashMap.{get}
 use Rattle.types.specs.declared.path.Path.{Path}
 use Rattle.own_run.specs.Lists.{Each}
+use Rattle.own_run.proofs.Lists.{each_last}
 use Rattle.own_run.proofs.SettledResults.{paths_same}
 use Rattle.interleave.specs.Candidates.{candidates}
 use Rattle.interleave.specs.Events.{Event}
@@ -208,10 +209,6 @@ named_more p new q old_left left old_paths paths is same are h = by_case h
         inl (subst (λ xs. Contains xs q.turns.items) (sym appended)
         (Contains-append_left (map turns_of old_paths) (new.turns.items ∷ []) q.turns.items c))
     by_case (inr m) = by_head (is_path q p) refl (subst (λ ps. is_member is_path ps q ≡ true) is m)
-
-each_last : {A : Type 0} (P : A → Type 0) (xs : List A) (x : A) → Each P xs → P x → Each P (xs ++ x ∷ [])
-each_last P [] x h i = (i, tt)
-each_last P (y ∷ xs) x h i = (h.0, each_last P xs x h.1 i)
 
 -- one more of them is idle
 pub each_further : (r : rWorld) (ps : List Path) (n : ℕ) (p : Path) → n < length ps → p ≡ slice_index_or ps n p

@@ -1,6 +1,6 @@
 //! The witness of a race in an object, beside what `check --explain` says of the race.
 
-use crate::object_rows::{list_in, number_in};
+use crate::values::{list_in, number_in, text_in};
 use serde_json::Value;
 use std::alloc::{AllocError, Global};
 
@@ -128,9 +128,4 @@ fn section_of<'v>(race: &'v Value, part: &str) -> &'v str {
         Some(access) => text_in(access, "section"),
         None => "",
     }
-}
-
-/// A text of an object; none where it has none of this name.
-fn text_in<'v>(object: &'v Value, name: &str) -> &'v str {
-    object.get(name).and_then(Value::as_str).unwrap_or("")
 }

@@ -1,4 +1,4 @@
-//! Bytes, as a line of a table spells them behind the character that says where they go.
+//! Bytes, as a line of a table spells them behind the character that says where they go, and as text.
 
 use std::alloc::Global;
 use std::io;
@@ -113,4 +113,9 @@ fn push_turn(alloc: Global, bytes: &mut Vec<u8>, piece: &str, number: usize) -> 
         bytes.extend_from_slice(part.as_bytes())?;
     }
     Ok(())
+}
+
+/// The bytes as text, if they are one.
+pub fn text_of(bytes: &[u8]) -> &str {
+    std::str::from_utf8(bytes).unwrap_or("not UTF-8")
 }

@@ -3,11 +3,11 @@
 ghost use Rattle.std.specs.Prelude.{◌≤◌, IfOk, length};
 
 use crate::bytes::{not_understood, push_spelled};
-use crate::machine::Machine;
-use driver::files::{FileError, FileSource};
-use driver::folders::{FolderSource, MachineFolders};
+use intake::files::{FileError, FileSource};
 use std::alloc::{AllocError, Global};
 use std::io;
+use std::rt::Files;
+use trials::folders::{FolderSource, MachineFolders};
 
 /// What a file gives to who reads it.
 #[derive(Drop)]
@@ -45,7 +45,7 @@ pub struct Shelf<'t, R> {
     lasting: Option<usize>,
 }
 
-impl<'t, R: Machine> Shelf<'t, R> {
+impl<'t, R: AllocGlobal> Shelf<'t, R> {
     /// No file of a table.
     pub fn new(rt: &'t R) -> Shelf<'t, R> {
         Shelf {
@@ -148,7 +148,7 @@ fn contents_of<'f>(files: &'f [TableFile<'_>], name: &str) -> Option<&'f Content
     None
 }
 
-impl<R: Machine> FileSource for Shelf<'_, R> {
+impl<R: Files + Input + AllocGlobal> FileSource for Shelf<'_, R> {
     fn read(&mut self, name: &str) -> Result<Vec<u8>, FileError> {
         if let Some(bytes) = written_in(&self.written, name) {
             return copied(self.alloc, bytes);
@@ -188,7 +188,7 @@ impl<R: Machine> FileSource for Shelf<'_, R> {
     }
 }
 
-impl<R: Machine> FolderSource for Shelf<'_, R> {
+impl<R: Files + Input + AllocGlobal + Clone + Drop> FolderSource for Shelf<'_, R> {
     /// What stands behind the name of the folder, as `one.afx` in `tests/one.afx`; a folder of which the table has no file is
     /// the machine's. One that has no memory is said as a file.
     fn names(&mut self, folder: &str) -> Result<Vec<String>, FileError> {
