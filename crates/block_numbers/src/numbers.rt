@@ -33,20 +33,32 @@ impl Numbers {
     }
 
     /// The offset behind the last one.
+    #[inline(always)]
     pub fn end(&self) -> usize
         ensures { result ≡ self.now.first + length self.now.list.items }
     {
         self.first + self.list.len()
     }
 
+    /// Whether an offset has a number, in one test: one before the first is far behind the last, as
+    /// the difference wraps.
+    #[inline(always)]
+    pub fn reaches(&self, offset: usize) -> bool
+        ensures { IsTrue result ↔ (self.now.first ≤ offset
+            × offset < self.now.first + length self.now.list.items) }
+    {
+        offset.wrapping_sub(self.first) < self.list.len()
+    }
+
     /// The number at an offset.
+    #[inline(always)]
     pub fn number(&self, offset: usize) -> Option<i64>
         ensures { result ≡ number_in self.now offset }
     {
-        if offset < self.first {
+        if !self.reaches(offset) {
             return None;
         }
-        self.list.get(offset - self.first).copied()
+        Some(self.list[offset - self.first])
     }
 
     /// Whether the offsets of a range have numbers; of one without offsets, whether it stands among
@@ -58,13 +70,14 @@ impl Numbers {
     }
 
     /// Writes the number at an offset that has one.
+    #[inline(always)]
     pub fn write(&mut self, offset: usize, value: i64) -> bool
         ensures found { result ≡ is_some (number_in self.old offset) }
         ensures written { IsTrue result
             → Agree (number_in self.new) (put_at offset value (number_in self.old)) }
         ensures same { (result ≡ false) → self.new ≡ self.old }
     {
-        if offset < self.first || offset >= self.end() {
+        if !self.reaches(offset) {
             return false;
         }
         self.list[offset - self.first] = value;

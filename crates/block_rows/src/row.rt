@@ -18,8 +18,9 @@ impl Row {
     ghost use Rattle.std.specs.Prelude.{◌≡◌, ◌<◌, ◌&&◌, ℕ, IfOk, IsSome, IsTrue, OnErr, OnOk, Some};
     ghost use Rattle.std.specs.Prelude.{None};
     ghost use Rattle.std.specs.Prelude.{false, slice_get, is_some, nat_eq, option_copied};
-    ghost use Rattle.std.specs.Prelude.{if◌then◌else◌};
-    ghost use Rattle.blocks.specs.Held.{Owned, owned_number};
+    ghost use Rattle.std.specs.Prelude.{if◌then◌else◌, ◌↔◌};
+    ghost use Rattle.std.specs.Bool.{OnFalse, OnTrue};
+    ghost use Rattle.blocks.specs.Held.{Owned, in_place_of, owned_number};
     ghost use Rattle.block_rows.specs.Rows.{block_in, held_of, IsAsBefore};
 
     /// No blocks.
@@ -32,11 +33,22 @@ impl Row {
         }
     }
 
+    /// Whether there is a block with a number, in one test: one before the first is far behind the
+    /// last, as the difference wraps.
+    #[inline(always)]
+    fn reaches(&self, number: usize) -> bool
+        ensures { IsTrue result ↔ (self.now.first ≤ number
+            × number < self.now.first + length self.now.blocks.items) }
+    {
+        number.wrapping_sub(self.first) < self.blocks.len()
+    }
+
     /// The block with a number.
+    #[inline(always)]
     pub fn block(&self, number: usize) -> Option<&Block>
         ensures { option_copied result ≡ block_in self.now number }
     {
-        if number < self.first {
+        if !self.reaches(number) {
             return None;
         }
         self.blocks.get(number - self.first)
@@ -114,6 +126,47 @@ impl Row {
         }
         let block = &mut self.blocks[number - self.first];
         block.write(alloc, offset, value)
+    }
+
+    /// Writes the number at an owned offset of a block where that needs no memory, and tells whether
+    /// it did.
+    #[inline(always)]
+    pub fn set(&mut self, number: usize, offset: usize, value: i64) -> bool
+        ensures written { OnTrue result ((b k : ℕ)
+            → held_of (block_in self.new b) k ≡ (if nat_eq b number && nat_eq offset k
+            then Some (Owned value) else held_of (block_in self.old b) k)) }
+        ensures owned { OnTrue result
+            (IsSome (owned_number (held_of (block_in self.old number) offset))) }
+        ensures same { OnFalse result ((b k : ℕ)
+            → held_of (block_in self.new b) k ≡ held_of (block_in self.old b) k) }
+    {
+        if !self.reaches(number) {
+            return false;
+        }
+        let block = &mut self.blocks[number - self.first];
+        block.set(offset, value)
+    }
+
+    /// Writes the number at any offset of a block: an owned one stays owned, and at any other the
+    /// number is a copy.
+    pub fn put(
+        &mut self,
+        alloc: Global,
+        number: usize,
+        offset: usize,
+        value: i64,
+    ) -> Result<(), AllocError>
+        requires offset { offset < 256 }
+        requires there { IsSome (block_in self.old number) }
+        ensures written { OnOk result ((b k : ℕ)
+            → held_of (block_in self.new b) k ≡ (if nat_eq b number && nat_eq offset k
+            then Some (in_place_of (held_of (block_in self.old number) offset) value)
+            else held_of (block_in self.old b) k)) }
+        ensures same { OnErr result ((b k : ℕ)
+            → held_of (block_in self.new b) k ≡ held_of (block_in self.old b) k) }
+    {
+        let block = &mut self.blocks[number - self.first];
+        block.put(alloc, offset, value)
     }
 
     /// Blocks that hold nothing.

@@ -16,9 +16,10 @@ pub struct Rows {
 impl Rows {
     ghost use Rattle.std.specs.Prelude.{◌≡◌, ◌<◌, ℕ, IfOk, IsSome, IsTrue, OnErr, OnOk, Some, None};
     ghost use Rattle.std.specs.Prelude.{false, is_some, option_copied};
+    ghost use Rattle.std.specs.Bool.{OnFalse, OnTrue};
     ghost use Rattle.sections.specs.Place.{Place as PlainPlace};
     ghost use Rattle.sections.specs.Translation.{place as place_of};
-    ghost use Rattle.blocks.specs.Held.{Owned, numbers, owned, put};
+    ghost use Rattle.blocks.specs.Held.{Owned, in_place_of, numbers, owned, put};
     ghost use Rattle.block_rows.specs.Rows.{Replaces, Widens, block_of, held_in};
 
     /// No blocks.
@@ -33,6 +34,7 @@ impl Rows {
     }
 
     /// The block of an array with a number.
+    #[inline(always)]
     pub fn block(&self, array: usize, number: usize) -> Option<&Block>
         ensures { option_copied result ≡ block_of self.now.list.items array number }
     {
@@ -66,6 +68,7 @@ impl Rows {
     }
 
     /// The number at a place, where it is held.
+    #[inline(always)]
     pub fn number(&self, place: Place) -> Option<i64>
         ensures { result ≡ numbers (held_in self.now) (place_of place) }
     {
@@ -90,5 +93,35 @@ impl Rows {
         }
         let row = &mut self.list[array];
         row.write(self.alloc, number, place.index % PLACES, value)
+    }
+
+    /// Writes the number at an owned place where that needs no memory, and tells whether it did.
+    #[inline(always)]
+    pub fn set(&mut self, place: Place, value: i64) -> bool
+        ensures written { OnTrue result
+            (held_in self.new ≡ put (place_of place) (Owned value) (held_in self.old)) }
+        ensures owned { OnTrue result (IsSome (owned (held_in self.old) (place_of place))) }
+        ensures same { OnFalse result (held_in self.new ≡ held_in self.old) }
+    {
+        let (array, number) = (place.array.number, place.index / PLACES);
+        if array >= self.list.len() {
+            return false;
+        }
+        let row = &mut self.list[array];
+        row.set(number, place.index % PLACES, value)
+    }
+
+    /// Writes the number at any place: an owned one stays owned, and at any other the number is a
+    /// copy.
+    pub fn put(&mut self, place: Place, value: i64) -> Result<(), AllocError>
+        requires { place.index < 4194304 }
+        ensures written { OnOk result (held_in self.new ≡ put (place_of place)
+            (in_place_of (held_in self.old (place_of place)) value) (held_in self.old)) }
+        ensures same { OnErr result (held_in self.new ≡ held_in self.old) }
+    {
+        let (array, number) = (place.array.number, place.index / PLACES);
+        self.make_room(array, number)?;
+        let row = &mut self.list[array];
+        row.put(self.alloc, number, place.index % PLACES, value)
     }
 }

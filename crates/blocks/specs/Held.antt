@@ -58,6 +58,12 @@ owned_number None = None
 owned_number (Some (Owned v)) = Some v
 owned_number (Some (Shared v)) = None
 
+-- a number written over what is held: owned where that is, and a copy elsewhere
+abbrev pub in_place_of : Option Held → ℤ → Held
+in_place_of None v = Shared v
+in_place_of (Some (Owned w)) v = Owned v
+in_place_of (Some (Shared w)) v = Shared v
+
 -- the owned places alone
 abbrev pub owned : Map Held → Map ℤ
 owned m q = owned_number (m q)

@@ -48,7 +48,7 @@ impl Mixed {
     ghost use Rattle.block_numbers.specs.Offsets.{Agree, HasAll, in_range, put_at};
 
     /// Makes the number at an offset with room a copy.
-    fn put_copy(&mut self, offset: usize, value: i64)
+    pub(crate) fn put_copy(&mut self, offset: usize, value: i64)
         requires { number_in self.old.numbers offset ≡ None → ⊥ }
         ensures held { Agree (held_in self.new) (put_at offset (Shared value) (held_in self.old)) }
         ensures room { IsAsWide self.new.numbers self.old.numbers }

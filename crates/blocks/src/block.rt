@@ -48,6 +48,7 @@ impl Block {
     }
 
     /// The number at an offset, where it is held.
+    #[inline(always)]
     pub fn number(&self, offset: usize) -> Option<i64>
         ensures { result ≡ number_at self.now offset }
     {

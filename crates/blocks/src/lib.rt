@@ -8,3 +8,4 @@ pub mod cut;
 pub mod mixed;
 mod opening;
 mod pasting;
+mod writing;

@@ -31,19 +31,18 @@ impl Mixed {
     }
 
     /// How an offset is held.
+    #[inline(always)]
     pub(crate) fn kind(&self, offset: usize) -> Kind
         ensures { result ≡ kind_of (held_in self.now offset) }
     {
-        if offset < self.numbers.first {
+        if !self.numbers.reaches(offset) {
             return Kind::Absent;
         }
-        match self.kinds.get(offset - self.numbers.first) {
-            None => Kind::Absent,
-            Some(kind) => *kind,
-        }
+        self.kinds[offset - self.numbers.first]
     }
 
     /// The number at an offset, where it is held.
+    #[inline(never)]
     pub(crate) fn number(&self, offset: usize) -> Option<i64>
         ensures { result ≡ option_map number_of (held_in self.now offset) }
     {

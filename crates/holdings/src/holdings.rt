@@ -19,15 +19,17 @@ pub struct Holdings {
 }
 
 impl Holdings {
-    ghost use Rattle.std.specs.Prelude.{◌≡◌, IfErr, IfOk, IsSome, OnErr, OnOk, is_some, map, ok_or};
+    ghost use Rattle.std.specs.Prelude.{◌≡◌, ◌<◌, IfErr, IfOk, IsSome, OnErr, OnOk, is_some, map};
+    ghost use Rattle.std.specs.Prelude.{ok_or};
+    ghost use Rattle.std.specs.Bool.{OnFalse, OnTrue};
     ghost use Rattle.sections.specs.Covers.{has};
-    ghost use Rattle.sections.specs.Translation.{window as window_of};
+    ghost use Rattle.sections.specs.Translation.{place as place_of, window as window_of};
     ghost use Rattle.blocks.specs.Held.{AreApart, IsThere, Owned, as_owned, as_shared, numbers};
-    ghost use Rattle.blocks.specs.Held.{only, over, owned, put, without};
+    ghost use Rattle.blocks.specs.Held.{in_place_of, only, over, owned, put, without};
     ghost use Rattle.block_rows.specs.Copied.{CopiesSplit};
     ghost use Rattle.holdings.specs.Holdings.{held, listed};
     ghost use Rattle.holdings.specs.Errors.{RefusesPlaces, RefusesOwned};
-    ghost use Rattle.types.specs.Contents.{FitsArrays, row as row_of};
+    ghost use Rattle.types.specs.Contents.{FitsArrays, read as read_of, row as row_of};
     ghost use Rattle.types.specs.Translation.{input as lists_in};
     ghost use Rattle.types.specs.Typed.{code_of};
 
@@ -60,6 +62,14 @@ impl Holdings {
         }
     }
 
+    /// The number at a place, 0 where nothing is held.
+    #[inline(always)]
+    pub fn number(&self, place: Place) -> i64
+        ensures { result ≡ read_of (numbers (held self.now)) (place_of place) }
+    {
+        self.rows.number(place).unwrap_or(0)
+    }
+
     /// The first numbers of an array, 0 where nothing is held.
     pub fn row(&self, alloc: Global, array: ArrayId, length: usize) -> Result<Vec<i64>, AllocError>
         ensures { IfOk result (λ v. v.items
@@ -71,6 +81,7 @@ impl Holdings {
     }
 
     /// Writes the number at an owned place.
+    #[inline(never)]
     pub fn write(&mut self, array: ArrayId, index: usize, value: i64) -> Result<(), HoldError>
         ensures written { OnOk result (held self.new
             ≡ put (record { array = array.number; index = index }) (Owned value) (held self.old)) }
@@ -86,6 +97,32 @@ impl Holdings {
         } else {
             Err(HoldError::NotHeld)
         }
+    }
+
+    /// Writes the number at an owned place where that needs no memory, and tells whether it did. Where
+    /// copies of it may have the same memory nothing is written.
+    #[inline(always)]
+    pub fn set(&mut self, place: Place, value: i64) -> bool
+        ensures written { OnTrue result
+            (held self.new ≡ put (place_of place) (Owned value) (held self.old)) }
+        ensures owned { OnTrue result (IsSome (owned (held self.old) (place_of place))) }
+        ensures unchanged { OnFalse result (held self.new ≡ held self.old) }
+        ensures copied { self.new.copied ≡ self.old.copied }
+    {
+        self.rows.set(place, value)
+    }
+
+    /// Writes the number at any place: an owned one stays owned, and at any other the number is a
+    /// copy. Only want of memory is refused.
+    #[inline(never)]
+    pub fn put(&mut self, place: Place, value: i64) -> Result<(), AllocError>
+        requires { place.index < 4194304 }
+        ensures written { OnOk result (held self.new ≡ put (place_of place)
+            (in_place_of (held self.old (place_of place)) value) (held self.old)) }
+        ensures unchanged { OnErr result (held self.new ≡ held self.old) }
+        ensures copied { self.new.copied ≡ self.old.copied }
+    {
+        self.rows.put(place, value)
     }
 
     /// Moves the places of windows out, all of which are owned.

@@ -4,7 +4,7 @@ use Rattle.std.specs.Prelude.{ℤ, Bool, true, false, ◌&&◌, ◌||◌, not, o
 use Rattle.sections.specs.Covers.{has, is_in}
 use Rattle.sections.specs.Place.{Place, Window, same_place}
 use Rattle.types.specs.Contents.{write, IsThere}
-use Rattle.holdings.specs.Held.{Held, Map, Owned, Shared, number_of, numbers, owned_number, owned, put, as_owned, as_shared}
+use Rattle.holdings.specs.Held.{Held, Map, Owned, Shared, in_place_of, number_of, numbers, owned_number, owned, put, as_owned, as_shared}
 use Rattle.holdings.specs.Held.{only as only_at, without as without_at, over as over_at, IsThere as AreThere, AreApart, first_of}
 use Rattle.own_run.specs.Places.{Places, covered, within, only, without}
 use Rattle.own_run.proofs.Windows.{places_same}
@@ -34,6 +34,31 @@ pub owned-put : (q : Place) (v : ℤ) (m : Map Held) → is_some (owned m q) ≡
 owned-put q v m is =
     λ t r. owned_put (same_place q r) v (m r)
     (λ same. subst (λ (s : Place). is_some (owned m s) ≡ true) (places_same q r same) is) t
+
+number_over : (b : Bool) (v : ℤ) (h o : Option Held)
+    → option_map number_of (if b then Some (in_place_of h v) else o) ≡ (if b then Some v else option_map number_of o)
+number_over true v None o = refl
+number_over true v (Some (Owned w)) o = refl
+number_over true v (Some (Shared w)) o = refl
+number_over false v h o = refl
+
+-- a write to any place
+pub numbers-over : (q : Place) (v : ℤ) (m : Map Held) → numbers (put q (in_place_of (m q) v) m) ≡ write q v (numbers m)
+numbers-over q v m = λ t r. number_over (same_place q r) v (m q) (m r) t
+
+owned_over : (b : Bool) (v : ℤ) (h o : Option Held) → (b ≡ true → h ≡ o)
+    → is_some (owned_number (if b then Some (in_place_of h v) else o)) ≡ is_some (owned_number o)
+owned_over true v h o same = written h ∙ ap (λ (x : Option Held). is_some (owned_number x)) (same refl)
+  where
+    written : (h : Option Held) → is_some (owned_number (Some (in_place_of h v))) ≡ is_some (owned_number h)
+    written None = refl
+    written (Some (Owned w)) = refl
+    written (Some (Shared w)) = refl
+owned_over false v h o same = refl
+
+-- it leaves what is owned
+pub owned-over : (q : Place) (v : ℤ) (m : Map Held) → owns (put q (in_place_of (m q) v) m) ≡ owns m
+owned-over q v m = λ t r. owned_over (same_place q r) v (m q) (m r) (λ same. ap m (places_same q r same)) t
 
 -- ---- windows
 

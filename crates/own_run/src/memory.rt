@@ -22,11 +22,9 @@ pub struct TaskMemory {
 impl Places for TaskMemory {
     ghost numbers = { λ m. read_of (contents_of m.holdings) };
 
+    #[inline(always)]
     fn read(&self, place: Place) -> i64 {
-        match self.holdings.read(place.array, place.index) {
-            Ok(number) => number,
-            Err(_) => 0,
-        }
+        self.holdings.number(place)
     }
 }
 
@@ -42,6 +40,9 @@ impl Memory for TaskMemory {
     ghost shape = { λ m. owned_by m.holdings };
 
     fn write(&mut self, place: Place, value: i64) -> Result<(), AllocError> {
+        if self.holdings.set(place, value) {
+            return Ok(());
+        }
         // The place is owned, so what can be missing is memory.
         match self.holdings.write(place.array, place.index, value) {
             Ok(()) => Ok(()),

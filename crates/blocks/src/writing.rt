@@ -1,0 +1,63 @@
+//! Numbers written into blocks.
+
+use crate::block::Block;
+use std::alloc::{AllocError, Global};
+use std::sync::Arc;
+
+impl Block {
+    ghost use Rattle.std.specs.Prelude.{◌≡◌, ◌<◌, IsSome, OnErr, OnOk};
+    ghost use Rattle.std.specs.Bool.{OnFalse, OnTrue};
+    ghost use Rattle.block_numbers.specs.Offsets.{Agree, put_at};
+    ghost use Rattle.blocks.specs.Blocks.{held_at, owned_at};
+    ghost use Rattle.blocks.specs.Held.{Owned, in_place_of};
+
+    /// Writes the number at an owned offset where that needs no memory, and tells whether it did.
+    /// Where copies may have the same memory nothing is written.
+    #[inline(always)]
+    pub fn set(&mut self, offset: usize, value: i64) -> bool
+        ensures written { OnTrue result
+            (Agree (held_at self.new) (put_at offset (Owned value) (held_at self.old))) }
+        ensures owned { OnTrue result (IsSome (owned_at self.old offset)) }
+        ensures same { OnFalse result (Agree (held_at self.new) (held_at self.old)) }
+    {
+        if let Block::Owned(numbers) = self {
+            return match Arc::get_mut(numbers) {
+                Some(numbers) => numbers.write(offset, value),
+                None => false,
+            };
+        }
+        self.set_apart(offset, value)
+    }
+
+    /// The same, out of the way of numbers that are all owned.
+    #[inline(never)]
+    fn set_apart(&mut self, offset: usize, value: i64) -> bool
+        ensures written { OnTrue result
+            (Agree (held_at self.new) (put_at offset (Owned value) (held_at self.old))) }
+        ensures owned { OnTrue result (IsSome (owned_at self.old offset)) }
+        ensures same { OnFalse result (Agree (held_at self.new) (held_at self.old)) }
+    {
+        match self {
+            Block::Mixed(mixed) => mixed.write(offset, value),
+            Block::Empty | Block::Owned(_) | Block::Shared(_) => false,
+        }
+    }
+
+    /// Writes the number at any offset: an owned one stays owned, and at any other the number is a
+    /// copy. Where copies have the same memory all numbers are copied before.
+    pub fn put(&mut self, alloc: Global, offset: usize, value: i64) -> Result<(), AllocError>
+        requires { offset < 256 }
+        ensures written { OnOk result (Agree (held_at self.new) (put_at offset
+            (in_place_of (held_at self.old offset) value) (held_at self.old))) }
+        ensures same { OnErr result (Agree (held_at self.new) (held_at self.old)) }
+    {
+        if self.write(alloc, offset, value)? {
+            return Ok(());
+        }
+        self.open(alloc, offset, offset + 1)?;
+        if let Block::Mixed(mixed) = self {
+            mixed.put_copy(offset, value);
+        }
+        Ok(())
+    }
+}
