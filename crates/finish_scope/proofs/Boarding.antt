@@ -31,7 +31,10 @@ phantom_send J = as_row_send (PhantomData.the_field J) (OfPhantom.the_field_send
 
 pub resting_send : (κ : NamedLft) → IsSend (Resting.the_row κ)
 resting_send κ =
-    declared_send (Resting.the_type κ) (parked_send κ, (search (sendable, crosses, OfPlace.the_send) depth 60 fits 50000, tt))
+    declared_send (Resting.the_type κ) (
+      search (sendable, crosses, parked_send) depth 60 fits 50000,
+      (search (sendable, crosses, OfPlace.the_send) depth 60 fits 50000, tt),
+    )
 
 pub inner_send : (κ : NamedLft) (J : RattleType) (gh : Ghosts J.Denot) → IsSend (Inner.the_row κ J gh)
 inner_send κ J gh =

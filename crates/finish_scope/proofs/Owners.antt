@@ -27,7 +27,7 @@ module _ (o : Option Job) where
         job = rests.job;
         can = record {
           ends = rests.ends;
-          results = results_are_of_the_job p.owner.parked.job rests.job p.results.items
+          results = results_are_of_the_job p.owner.parked.value.job rests.job p.results.items
               (subst (Each (IsOwnResult o)) (sym results) all);
         };
       }

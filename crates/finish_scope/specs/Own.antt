@@ -2,21 +2,16 @@
 use Rattle.std.specs.Prelude.{◌≡◌, List, Option, Some, None}
 use Rattle.own_run.specs.Lists.{Each}
 use Rattle.own_run.specs.declared.result.TaskResult.{TaskResult as Made}
-use Rattle.task_machine.specs.Ends.{IsAtEnd}
+use Rattle.task_machine.specs.Ends.{IsParked}
 use Rattle.task_machine.specs.Tasks.{IsResultOf}
-use Rattle.task_machine.specs.declared.finish.Parked.{Parked}
 use Rattle.task_machine.specs.declared.job.Job.{Job}
 use Rattle.finish_scope.specs.declared.resting.Passing.{Passing}
 use Rattle.finish_scope.specs.declared.resting.Resting.{Resting}
 
--- a task that is parked at the end of a finish, or of `main`, is its job's
-abbrev pub IsParked : Parked → Type 0
-IsParked p = IsAtEnd p.job p.owner p.made p.outer.items p.opened
-
 -- the results of a scope that passes are those of tasks of its owner's job
 pub record CanPass (p : Passing) : Type 0 where
-  pub ends : IsParked p.owner.parked
-  pub results : Each (IsResultOf p.owner.parked.job) p.results.items
+  pub ends : IsParked p.owner.parked.value
+  pub results : Each (IsResultOf p.owner.parked.value.job) p.results.items
 
 module _ (o : Option Job) where
   -- a result is that of a task of the run
@@ -25,8 +20,8 @@ module _ (o : Option Job) where
 
   -- an owner is one of its tasks
   pub record IsOwnResting (r : Resting) : Type 0 where
-    pub job : o ≡ Some r.parked.job
-    pub ends : IsParked r.parked
+    pub job : o ≡ Some r.parked.value.job
+    pub ends : IsParked r.parked.value
 
   -- where one is parked
   abbrev pub IsOwnOwner : Option Resting → Type 0
@@ -40,5 +35,5 @@ module _ (o : Option Job) where
 
   -- a scope of the run passes
   pub record IsOwnPassing (p : Passing) : Type 0 where
-    pub job : o ≡ Some p.owner.parked.job
+    pub job : o ≡ Some p.owner.parked.value.job
     pub can : CanPass p

@@ -113,14 +113,12 @@ impl<'p, J: Running> Inner<'p, J> {
         Ok(self.book.mint(weight))
     }
 
-    /// A task of this path has ended: its weight comes back, with its result.
+    /// A task has ended: its weight comes back, with its result.
     pub fn give_back(
         &mut self,
         weight: Weight,
-        path: Path,
         made: TaskResult,
     ) -> Result<Back, Late<(Weight, TaskResult)>>
-        requires path { path.turns.items ≡ made.path.turns.items }
         requires own { IsOwnResult J.job made }
         ensures takes { OnOk result (TakesBack self.old self.new (given_by made weight) made) }
         ensures complete { IfOk result (λ b. (b ≡ Back.Complete) ↔ IsEven self.new) }
@@ -135,23 +133,21 @@ impl<'p, J: Running> Inner<'p, J> {
                 back: (weight, made),
             });
         }
-        let back = self.count(weight, path);
+        let back = self.count(weight, &made.path);
         self.keep(made);
         Ok(back)
     }
 
-    /// A task of this path is at the end of its finish, or of `main`: its weight comes back, and it
-    /// waits as the owner.
+    /// A task is at the end of its finish, or of `main`: its weight comes back, and it waits as the
+    /// owner.
     pub fn park(
         &mut self,
         weight: Weight,
-        path: Path,
         owner: Resting<'p>,
     ) -> Result<Back, Late<(Weight, Resting<'p>)>>
-        requires path { path.turns.items ≡ owner.parked.made.path.turns.items }
         requires own { IsOwnResting J.job owner }
         ensures parks { OnOk result (Parks self.old self.new
-            (given_by owner.entry.parked.made weight) owner.entry) }
+            (given_by owner.entry.parked.value.made weight) owner.entry) }
         ensures complete { IfOk result (λ b. (b ≡ Back.Complete) ↔ IsEven self.new) }
         ensures case { OnErr result ((out_of self.old < weight) ⊎ (self.old.owner ≢ None)) }
         ensures reason { IfErr result (λ l. l.reason ≡ Reason.NotDue) }
@@ -164,8 +160,9 @@ impl<'p, J: Running> Inner<'p, J> {
                 back: (weight, owner),
             });
         }
+        let back = self.count(weight, owner.parked.path());
         self.owner = Some(owner);
-        Ok(self.count(weight, path))
+        Ok(back)
     }
 
     /// All of its weight is back: the owner goes on, with all results. None where weight is out, or
@@ -186,10 +183,10 @@ impl<'p, J: Running> Inner<'p, J> {
     }
 
     /// Counts a weight that came back. Where its entry finds no memory the scope is marked.
-    fn count(&mut self, weight: Weight, path: Path) -> Back
+    fn count(&mut self, weight: Weight, path: &Path) -> Back
         requires out { weight ≤ out_of self.old }
         ensures counts { Counts self.old self.new (record {
-          path = path.turns.items;
+          path = path.now.turns.items;
           weight = weight;
         }) }
         ensures complete { (result ≡ Back.Complete) ↔ IsEven self.new }

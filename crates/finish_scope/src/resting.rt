@@ -13,7 +13,7 @@ pub struct Place {
 /// A task that is parked at its scope, and where its other scopes lie.
 #[derive(Drop)]
 pub struct Resting<'p> {
-    pub parked: Parked<'p>,
+    pub parked: Box<Parked<'p>>,
     /// The innermost last.
     pub outer: Vec<Place>,
 }

@@ -1,24 +1,19 @@
 -- How turns of a stage are reached, and in which case a turn is refused.
 use Rattle.std.proofs.Common.{◌≡◌, ℕ, List, [], ◌∷◌, ◌++◌, map, Some, sym, ap, subst, inl, inr}
-use Rattle.std.specs.Prelude.{Result, Ok, Err, IfOk, IfErr}
 use Rattle.std.specs.List.{list_any}
 use Rattle.types.specs.declared.path.Path.{Path}
 use Rattle.own_run.specs.Results.{TaskResult, Settled}
 use Rattle.own_run.specs.Settling.{take}
 use Rattle.own_run.specs.Translation.{task_result}
-use Rattle.own_run.specs.declared.result.Settled.{Settled as rSettled}
 use Rattle.own_run.specs.declared.result.TaskResult.{TaskResult as rTaskResult}
 use Rattle.gather.specs.PartRefusal.{TellsLeftOver, RefusesHole, is_path}
-use Rattle.gather.specs.Parts.{Part, Waiting, Gathering, opened, filled, unopened}
-use Rattle.gather.specs.Reached.{IsReached, Reaches, GoesOn, IsOwnCase, used_by}
+use Rattle.gather.specs.Parts.{Part, Waiting, opened, filled, unopened}
+use Rattle.gather.specs.Reached.{IsReached, IsOwnCase}
 use Rattle.gather.specs.Refusal.{IsCaseOf, ComesBackTwice}
-use Rattle.gather.specs.Stages.{gathered, gathering, waiting}
+use Rattle.gather.specs.Stages.{gathered, waiting}
 use Rattle.gather.specs.declared.error.GatherError.{GatherError}
 use Rattle.gather.specs.declared.error.GatherError.TheVariants.{Lost, Double, Stranger, OutOfMemory}
 use Rattle.gather.specs.declared.filling.Waiting.{Waiting as rWaiting}
-use Rattle.gather.specs.declared.settle.Stage.{Stage}
-use Rattle.gather.specs.declared.settle.Turn.{Turn}
-use Rattle.gather.specs.declared.settle.Turn.TheVariants.{Going, Over}
 use Rattle.gather.proofs.Openings.{among_times, not_among, reached-first, reached-opened, reached-filled, back_twice, stranger, one_more}
 
 -- the first stage
@@ -31,10 +26,6 @@ starts_reached r rs left ws f used all none is unused =
     (subst (λ (f : Part). IsReached r rs used (record { left = rs; waiting = []; part = f })) (sym is)
     (subst (λ (used : List (List ℕ)). IsReached r rs used (record { left = rs; waiting = []; part = opened r })) (sym unused)
     (reached-first r rs))))
-
-pub going_reached : (start : TaskResult) (rs : List TaskResult) (t : Turn) (s : Stage) → t ≡ Going s → Reaches start rs t
-    → IsReached start rs (used_by s.results) (gathering s)
-going_reached start rs t s e h = subst (Reaches start rs) e h
 
 -- a hole was opened
 pub opened_reached : (start : TaskResult) (rs : List TaskResult) (used more : List (List ℕ)) (left rest : List TaskResult)
@@ -70,14 +61,8 @@ hole_case used left ws vs w f (Double path) full popped h = λ start rs k.
     (subst (λ (vs : List Waiting). IsReached start rs used (record { left = left; waiting = vs; part = f })) popped k) h.1))
 hole_case used left ws vs w f (Stranger path) full popped h = absurd h
 
--- nothing waits any more, and no result is left
-pub over_goes_on : (r : Result Turn GatherError) (s : rSettled) (left : List rTaskResult) (used : List (List ℕ)) (g : Gathering)
-    → IfOk r (λ t. (t ≡ Over s) × (left ≡ [])) → IfOk r (GoesOn used g)
-over_goes_on (Err e) s left used g h = tt
-over_goes_on (Ok t) s left used g h = λ start rs k. subst (Reaches start rs) (sym h.0) tt
-
 -- nothing waits any more, and a result is left
-left_case : (e : GatherError) (used : List Path) (left rest : List rTaskResult) (task : rTaskResult) (vs : List rWaiting) (f : Part)
+pub left_case : (e : GatherError) (used : List Path) (left rest : List rTaskResult) (task : rTaskResult) (vs : List rWaiting) (f : Part)
     → f.holes ≡ [] → vs ≡ [] → left ≡ task ∷ rest → TellsLeftOver (list_any (is_path task.path) used) task.path e
     → IsOwnCase (map (λ p. p.turns.items) used) (gathered left vs f) e
 left_case OutOfMemory used left rest task vs f full none some h = absurd h
@@ -90,11 +75,3 @@ left_case (Stranger path) used left rest task vs f full none some h = λ start r
     subst (λ (p : Path). IsCaseOf start rs (Stranger p)) (sym h.0)
     (stranger start rs (map (λ p. p.turns.items) used) (map task_result left) (map waiting vs) f full (ap (map waiting) none) k
     (task_result task) (map task_result rest) (ap (map task_result) some) (not_among task.path used h.1))
-
-pub left_over_case : (r : Result Turn GatherError) (used : List Path) (left : List rTaskResult) (vs : List rWaiting) (f : Part)
-    → f.holes ≡ [] → vs ≡ []
-    → IfErr r (λ e. (task : rTaskResult) × (rest : List rTaskResult) × (left ≡ task ∷ rest)
-    × TellsLeftOver (list_any (is_path task.path) used) task.path e)
-    → IfErr r (IsOwnCase (map (λ p. p.turns.items) used) (gathered left vs f))
-left_over_case (Ok t) used left vs f full none h = tt
-left_over_case (Err e) used left vs f full none h = left_case e used left h.1 h.0 vs f full none h.2 h.3

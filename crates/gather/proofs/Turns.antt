@@ -88,7 +88,3 @@ module _ (f : Part) (rs : List TaskResult) (full : f.holes ≡ []) where
       → comes_to (record { left = rs; waiting = ws ++ w ∷ []; part = f }) ≡ None
   comes_to-twice ws w e =
       comes_to-last ws w ∙ ap (λ b. comes_from ws (if b then None else finished (filled w (closed f f.so_far)) rs)) e
-
-  -- nothing waits any more
-  pub comes_to-end : comes_to (record { left = rs; waiting = []; part = f }) ≡ none_left (closed f f.so_far, rs)
-  comes_to-end = ap (λ (o : Comes). and_then (and_then o (come [])) none_left) finished-full

@@ -6,11 +6,8 @@ use Rattle.own_run.specs.Lists.{Each, Inserted}
 use Rattle.gather.specs.GivesBack.{returned}
 use Rattle.gather.specs.Parts.{Part, Waiting, Gathering, unopened}
 use Rattle.gather.specs.Refusal.{IsCaseOf, Opening, listed, listed_by, paths_of, times}
-use Rattle.gather.specs.Stages.{gathering}
 use Rattle.gather.specs.declared.error.GatherError.{GatherError}
 use Rattle.gather.specs.declared.settle.Results.{Results}
-use Rattle.gather.specs.declared.settle.Turn.{Turn}
-use Rattle.gather.specs.declared.settle.Turn.TheVariants.{Going, Over}
 
 -- a part of one of some results: the first of its holes are filled, and what they own is owned
 pub record IsPartOf (rs : List TaskResult) (f : Part) : Type 0 where
@@ -41,15 +38,10 @@ pub record IsReached (start : TaskResult) (rs : List TaskResult) (used : List (L
 abbrev pub used_by : Results → List (List ℕ)
 used_by r = map (λ p. p.turns.items) r.used.items
 
--- what a turn reaches
-abbrev pub Reaches : (start : TaskResult) (rs : List TaskResult) → Turn → Type 0
-Reaches start rs (Going s) = IsReached start rs (used_by s.results) (gathering s)
-Reaches start rs (Over s) = Unit {0}
-
--- a turn goes on, from whatever a gathering was reached
-abbrev pub GoesOn : (used : List (List ℕ)) → Gathering → Turn → Type 0
-GoesOn used g t =
-    (start : TaskResult) (rs : List TaskResult) → IsReached start rs used g → Reaches start rs t
+-- a gathering goes on to another, from wherever it was reached
+abbrev pub GoesOn : (used : List (List ℕ)) → Gathering → (more : List (List ℕ)) → Gathering → Type 0
+GoesOn used g more h =
+    (start : TaskResult) (rs : List TaskResult) → IsReached start rs used g → IsReached start rs more h
 
 -- an error is in its own case, from whatever a gathering was reached
 abbrev pub IsOwnCase : (used : List (List ℕ)) → Gathering → GatherError → Type 0

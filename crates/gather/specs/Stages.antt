@@ -1,19 +1,18 @@
 -- Stages of the gathering as they stand in Rust, without what says where they lie in memory.
-use Rattle.std.specs.Prelude.{ℕ, ◌+◌, ◌*◌, ◌≡◌, List, map, length, Some}
+use Rattle.std.specs.Prelude.{ℕ, ◌+◌, ◌*◌, ◌≡◌, List, [], map, length, Some}
 use Rattle.std.specs.Vec.{vec_len}
 use Rattle.sections.specs.Place.{Place}
 use Rattle.types.specs.Translation.{fault}
 use Rattle.own_run.specs.Places.{Places}
+use Rattle.own_run.specs.declared.result.Listed.{Listed as rListed}
 use Rattle.own_run.specs.declared.result.Settled.{Settled as rSettled}
 use Rattle.own_run.specs.declared.result.TaskResult.{TaskResult as rTaskResult}
 use Rattle.own_run.specs.Translation.{listed, settled, task_result, owned_by}
 use Rattle.gather.specs.Left.{left}
-use Rattle.gather.specs.Parts.{Part, Waiting, Gathering, comes_to, total, IsWhole}
+use Rattle.gather.specs.Parts.{Part, Waiting, Gathering, comes_to, total, unopened, IsWhole}
 use Rattle.gather.specs.declared.filling.Filling.{Filling}
 use Rattle.gather.specs.declared.filling.Waiting.{Waiting as rWaiting}
 use Rattle.gather.specs.declared.settle.Stage.{Stage}
-use Rattle.gather.specs.declared.settle.Turn.{Turn}
-use Rattle.gather.specs.declared.settle.Turn.TheVariants.{Going, Over}
 
 -- a result that is being filled
 abbrev pub part : Filling → Part
@@ -25,9 +24,12 @@ part f = record {
   faults = map fault f.faults.items;
 }
 
--- one that waits
+-- one that waits for what goes into a hole
+abbrev pub waiting_for : Filling → rListed → Waiting
+waiting_for f hole = record { part = part f; hole = listed hole }
+
 abbrev pub waiting : rWaiting → Waiting
-waiting w = record { part = part w.filling; hole = listed w.hole }
+waiting w = waiting_for w.filling w.hole
 
 -- results that are left, those that wait, and a part
 abbrev pub gathered : List rTaskResult → List rWaiting → Part → Gathering
@@ -52,15 +54,18 @@ pub record Ends (g : Gathering) (s : rSettled) : Type 0 where
   pub comes : Some (settled s) ≡ comes_to g
   pub owned : (q : Place) → owned_by s.holdings q ≡ owned_in_end g q
 
--- what a turn makes of a gathering
-abbrev pub IsTurnOf : Gathering → Turn → Type 0
-IsTurnOf g (Going s) = Leads g (gathering s)
-IsTurnOf g (Over s) = Ends g s
+-- a stage, with a hole that was taken out of its part put back
+abbrev pub gathering_before : Stage → rListed → Gathering
+gathering_before g hole =
+    gathered (left g.results.unused) g.waiting.items (unopened (waiting_for g.filling hole))
+
+-- no hole is left, and nothing waits
+abbrev pub IsFull : Stage → Type 0
+IsFull g = (g.waiting.items ≡ []) × (g.filling.holes.items ≡ [])
 
 -- how many turns are left at most: a result is opened once, and goes on once behind each hole
 abbrev pub turns_left : (results waiting : ℕ) → ℕ
-turns_left results waiting = 2 * results + waiting + 1
+turns_left results waiting = 2 * results + waiting
 
-abbrev pub turns_after : Turn → ℕ
-turns_after (Going g) = turns_left (length (left g.results.unused)) (vec_len g.waiting)
-turns_after (Over s) = 0
+abbrev pub turns_of : Stage → ℕ
+turns_of g = turns_left (length (left g.results.unused)) (vec_len g.waiting)

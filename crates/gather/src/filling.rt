@@ -9,7 +9,7 @@ ghost use Rattle.own_run.specs.Places.{within};
 ghost use Rattle.own_run.specs.Translation.{owned_by, settled as settled_of};
 ghost use Rattle.own_run.specs.Translation.{task_result as result_of};
 ghost use Rattle.gather.specs.Parts.{closed, comes_back_twice, filled, opened};
-ghost use Rattle.gather.specs.Stages.{part as part_of, waiting as waiting_of};
+ghost use Rattle.gather.specs.Stages.{part as part_of, waiting_for};
 ghost use Rattle.gather.specs.PartRefusal.{RefusesHole, RefusesPaste};
 
 use crate::error::GatherError;
@@ -72,30 +72,21 @@ impl Filling {
         tell(&mut settled, self.lines, self.faults)?;
         Ok(settled)
     }
-}
 
-impl Waiting {
-    /// Fills the hole with what came of its task.
-    pub fn fill(self, alloc: Global, child: Settled) -> Result<Filling, GatherError>
+    /// Fills a hole with what came of its task.
+    pub fn fill(&mut self, alloc: Global, hole: Listed, child: Settled) -> Result<(), GatherError>
         requires { (q : Place)
-            → owned_by child.holdings q ≡ within (waiting_of self).hole.windows q }
-        ensures filled { IfOk result (λ f.
-            part_of f ≡ filled (waiting_of self) (settled_of child)) }
-        ensures apart { OnOk result (comes_back_twice (waiting_of self) ≡ false) }
-        ensures refused { IfErr result (RefusesHole (waiting_of self)) }
+            → owned_by child.holdings q ≡ within (waiting_for self.old hole).hole.windows q }
+        ensures filled { OnOk result
+            (part_of self.new ≡ filled (waiting_for self.old hole) (settled_of child)) }
+        ensures apart { OnOk result (comes_back_twice (waiting_for self.old hole) ≡ false) }
+        ensures refused { IfErr result (RefusesHole (waiting_for self.old hole)) }
     {
-        let Waiting { filling, hole } = self;
-        let mut filling = filling;
-        paste(
-            alloc,
-            &mut filling.so_far.holdings,
-            child.holdings,
-            hole.path,
-        )?;
-        filling.so_far.stopped |= child.stopped;
-        tell(&mut filling.so_far, hole.lines, hole.faults)?;
-        tell(&mut filling.so_far, child.lines, child.faults)?;
-        Ok(filling)
+        paste(alloc, &mut self.so_far.holdings, child.holdings, hole.path)?;
+        self.so_far.stopped |= child.stopped;
+        tell(&mut self.so_far, hole.lines, hole.faults)?;
+        tell(&mut self.so_far, child.lines, child.faults)?;
+        Ok(())
     }
 }
 

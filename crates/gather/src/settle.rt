@@ -1,26 +1,23 @@
 //! Results put together by path.
 
-ghost use Rattle.std.specs.Prelude.{◌≡◌, ◌<◌, [], ◌∷◌, IfErr, IfOk, List, Some, length, map};
+ghost use Rattle.std.specs.Prelude.{◌≡◌, ◌<◌, [], IfErr, IfOk, IsTrue, OnOk, Some, false, map};
 ghost use Rattle.std.specs.List.{list_any};
-ghost use Rattle.std.specs.Vec.{vec_len};
 ghost use Rattle.sections.specs.Place.{Place};
 ghost use Rattle.own_run.specs.Settling.{settle as settle_of};
 ghost use Rattle.own_run.specs.Translation.{owned_by, settled as settled_of};
 ghost use Rattle.own_run.specs.Translation.{task_result as result_of};
 ghost use Rattle.gather.specs.GivesBack.{GiveBack, all_owned};
-ghost use Rattle.gather.specs.Left.{left};
 ghost use Rattle.gather.specs.PartRefusal.{TellsLeftOver, is_path};
-ghost use Rattle.gather.specs.Parts.{IsWhole, comes_to, unopened};
+ghost use Rattle.gather.specs.Parts.{IsWhole, comes_to};
 ghost use Rattle.gather.specs.Reached.{GoesOn, IsOwnCase, used_by};
 ghost use Rattle.gather.specs.Refusal.{IsCaseOf, Refuses};
-ghost use Rattle.gather.specs.Stages.{IsTurnOf, gathered, gathering as stage_of};
-ghost use Rattle.gather.specs.Stages.{part as part_of, turns_after, turns_left};
-ghost use Rattle.gather.specs.Stages.{waiting as waiting_of};
+ghost use Rattle.gather.specs.Stages.{Ends, IsFull, Leads, gathering as stage_of};
+ghost use Rattle.gather.specs.Stages.{gathering_before as stage_before, turns_of};
 
 use crate::error::GatherError;
 use crate::filling::{Filling, Waiting};
 use crate::unused::Unused;
-use own_run::result::{Settled, TaskResult};
+use own_run::result::{Listed, Settled, TaskResult};
 use std::alloc::Global;
 use types::path::Path;
 
@@ -40,15 +37,6 @@ pub struct Results {
     pub unused: Unused,
     /// The paths of the others.
     pub used: Vec<Path>,
-}
-
-/// What a turn comes to.
-#[derive(Drop)]
-pub enum Turn {
-    /// Holes are left.
-    Going(Stage),
-    /// All holes are filled, and all results are used.
-    Over(Settled),
 }
 
 /// Puts the results of tasks into the holes of a result, each by its path, at whatever depth it is
@@ -79,124 +67,97 @@ pub fn settle(
         waiting: Vec::new(alloc),
         filling,
     };
-    loop {
-        match stage.turn(alloc)? {
-            Turn::Going(next) => stage = next,
-            Turn::Over(settled) => return Ok(settled),
-        }
-    }
+    'turns: while stage.turn(alloc)? {}
+    stage.end()
 }
 
 impl Stage {
     /// Opens the result of the next hole or, where no hole is left, fills the hole of the one that
-    /// waits.
-    fn turn(self, alloc: Global) -> Result<Turn, GatherError>
-        requires { IsWhole (stage_of self) }
-        ensures turn { IfOk result (IsTurnOf (stage_of self)) }
-        ensures fewer { IfOk result (λ t.
-            turns_after t < turns_left (length (left self.results.unused)) (vec_len self.waiting)) }
-        ensures goes_on { IfOk result (GoesOn (used_by self.results) (stage_of self)) }
+    /// waits. False where none waits either, and nothing has changed.
+    fn turn(&mut self, alloc: Global) -> Result<bool, GatherError>
+        requires { IsWhole (stage_of self.old) }
+        ensures leads { OnOk result (Leads (stage_of self.old) (stage_of self.new)) }
+        ensures reached { OnOk result (GoesOn (used_by self.old.results) (stage_of self.old)
+            (used_by self.new.results) (stage_of self.new)) }
+        ensures fewer { IfOk result (λ more. IsTrue more → turns_of self.new < turns_of self.old) }
+        ensures full { IfOk result (λ more. (more ≡ false) → IsFull self.new) }
+        ensures refused { IfErr result (Refuses (comes_to (stage_of self.old))) }
+        ensures own_case { IfErr result (IsOwnCase (used_by self.old.results) (stage_of self.old)) }
+    {
+        match self.filling.holes.pop_front() {
+            Some(hole) => {
+                self.open(alloc, hole)?;
+                Ok(true)
+            }
+            None => self.go_on(alloc),
+        }
+    }
+
+    /// Opens the result of a hole, for which the part waits.
+    fn open(&mut self, alloc: Global, hole: Listed) -> Result<(), GatherError>
+        requires { IsWhole (stage_before self.old hole) }
+        ensures leads { OnOk result (Leads (stage_before self.old hole) (stage_of self.new)) }
+        ensures reached { OnOk result (GoesOn (used_by self.old.results) (stage_before self.old hole)
+            (used_by self.new.results) (stage_of self.new)) }
+        ensures fewer { OnOk result (turns_of self.new < turns_of self.old) }
+        ensures refused { IfErr result (Refuses (comes_to (stage_before self.old hole))) }
+        ensures own_case { IfErr result
+            (IsOwnCase (used_by self.old.results) (stage_before self.old hole)) }
+    {
+        match self.results.unused.take(&hole.path) {
+            None => Err(GatherError::Lost(hole.path)),
+            Some(task) => {
+                let (opened, path) = Filling::of(alloc, task);
+                let filling = std::mem::replace(&mut self.filling, opened);
+                self.waiting.push(Waiting { filling, hole })?;
+                self.results.used.push(path)?;
+                Ok(())
+            }
+        }
+    }
+
+    /// A part whose holes are filled goes into the hole of the one that waits for it, if one does.
+    fn go_on(&mut self, alloc: Global) -> Result<bool, GatherError>
+        requires whole { IsWhole (stage_of self.old) }
+        requires full { self.old.filling.holes.items ≡ [] }
+        ensures leads { OnOk result (Leads (stage_of self.old) (stage_of self.new)) }
+        ensures reached { OnOk result (GoesOn (used_by self.old.results) (stage_of self.old)
+            (used_by self.new.results) (stage_of self.new)) }
+        ensures fewer { IfOk result (λ more. IsTrue more → turns_of self.new < turns_of self.old) }
+        ensures full { IfOk result (λ more. (more ≡ false) → IsFull self.new) }
+        ensures refused { IfErr result (Refuses (comes_to (stage_of self.old))) }
+        ensures own_case { IfErr result (IsOwnCase (used_by self.old.results) (stage_of self.old)) }
+    {
+        match self.waiting.pop() {
+            None => Ok(false),
+            Some(next) => {
+                let Waiting { filling, hole } = next;
+                let part = std::mem::replace(&mut self.filling, filling);
+                let child = part.close()?;
+                self.filling.fill(alloc, hole, child)?;
+                Ok(true)
+            }
+        }
+    }
+
+    /// Nothing waits any more: no result is left.
+    fn end(self) -> Result<Settled, GatherError>
+        requires { IsFull self }
+        ensures ends { IfOk result (Ends (stage_of self)) }
         ensures refused { IfErr result (Refuses (comes_to (stage_of self))) }
         ensures own_case { IfErr result (IsOwnCase (used_by self.results) (stage_of self)) }
     {
         let Stage {
             results,
-            waiting,
             filling,
+            ..
         } = self;
-        let mut filling = filling;
-        match filling.holes.pop_front() {
-            Some(hole) => open(alloc, results, waiting, Waiting { filling, hole }),
-            None => go_on(alloc, results, waiting, filling),
+        let Results { unused, used } = results;
+        let settled = filling.close()?;
+        match unused.into_first() {
+            None => Ok(settled),
+            Some(task) => Err(left_over(&used, task.path)),
         }
-    }
-}
-
-/// Opens the result of a hole, for which the part waits.
-fn open(
-    alloc: Global,
-    results: Results,
-    waiting: Vec<Waiting>,
-    next: Waiting,
-) -> Result<Turn, GatherError>
-    requires { IsWhole (gathered (left results.unused) waiting.items (unopened (waiting_of next))) }
-    ensures turn { IfOk result (IsTurnOf
-        (gathered (left results.unused) waiting.items (unopened (waiting_of next)))) }
-    ensures fewer { IfOk result (λ t.
-        turns_after t < turns_left (length (left results.unused)) (vec_len waiting)) }
-    ensures goes_on { IfOk result (GoesOn (used_by results)
-        (gathered (left results.unused) waiting.items (unopened (waiting_of next)))) }
-    ensures refused { IfErr result (Refuses (comes_to
-        (gathered (left results.unused) waiting.items (unopened (waiting_of next))))) }
-    ensures own_case { IfErr result (IsOwnCase (used_by results)
-        (gathered (left results.unused) waiting.items (unopened (waiting_of next)))) }
-{
-    let mut results = results;
-    let mut waiting = waiting;
-    match results.unused.take(&next.hole.path) {
-        None => {
-            let hole = next.hole;
-            Err(GatherError::Lost(hole.path))
-        }
-        Some(task) => {
-            let (filling, path) = Filling::of(alloc, task);
-            waiting.push(next)?;
-            results.used.push(path)?;
-            Ok(Turn::Going(Stage {
-                results,
-                waiting,
-                filling,
-            }))
-        }
-    }
-}
-
-/// A part whose holes are filled goes into the hole of the one that waits for it.
-fn go_on(
-    alloc: Global,
-    results: Results,
-    waiting: Vec<Waiting>,
-    filling: Filling,
-) -> Result<Turn, GatherError>
-    requires whole { IsWhole (gathered (left results.unused) waiting.items (part_of filling)) }
-    requires full { filling.holes.items ≡ [] }
-    ensures turn { IfOk result (IsTurnOf
-        (gathered (left results.unused) waiting.items (part_of filling))) }
-    ensures fewer { IfOk result (λ t.
-        turns_after t < turns_left (length (left results.unused)) (vec_len waiting)) }
-    ensures goes_on { IfOk result (GoesOn (used_by results)
-        (gathered (left results.unused) waiting.items (part_of filling))) }
-    ensures refused { IfErr result (Refuses (comes_to
-        (gathered (left results.unused) waiting.items (part_of filling)))) }
-    ensures own_case { IfErr result (IsOwnCase (used_by results)
-        (gathered (left results.unused) waiting.items (part_of filling))) }
-{
-    let mut waiting = waiting;
-    let child = filling.close()?;
-    match waiting.pop() {
-        None => end(results, child),
-        Some(next) => {
-            let filling = next.fill(alloc, child)?;
-            Ok(Turn::Going(Stage {
-                results,
-                waiting,
-                filling,
-            }))
-        }
-    }
-}
-
-/// Nothing waits any more: no result is left.
-fn end(results: Results, settled: Settled) -> Result<Turn, GatherError>
-    ensures over { IfOk result (λ t. (t ≡ Turn.Over settled) × (left results.unused ≡ [])) }
-    ensures refused { IfErr result (λ e. (task : TaskResult) × (rest : List TaskResult)
-        × (left results.unused ≡ task ∷ rest)
-        × TellsLeftOver (list_any (is_path task.path) results.used.items) task.path e) }
-{
-    let Results { unused, used } = results;
-    match unused.into_first() {
-        None => Ok(Turn::Over(settled)),
-        Some(task) => Err(left_over(&used, task.path)),
     }
 }
 

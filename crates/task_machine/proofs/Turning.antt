@@ -10,7 +10,7 @@ use Rattle.own_run.specs.declared.result.TaskResult.{TaskResult as Made}
 use Rattle.own_run.specs.declared.run.Run.{Run}
 use Rattle.own_run.specs.declared.start.Start.{Start}
 use Rattle.own_run.specs.declared.turn.Turn.TheVariants.{EntersFinish as RunEntersFinish, Ended as RunEnded}
-use Rattle.task_machine.specs.Ends.{IsAtEnd}
+use Rattle.task_machine.specs.Ends.{IsAtEnd, IsParked}
 use Rattle.task_machine.specs.Jobs.{program_of, lists_of, budget_of, IsJob}
 use Rattle.task_machine.specs.Tasks.{GoesBy, IsBody, IsResultOf}
 use Rattle.task_machine.specs.Turns.{AreTasks, Becomes, IsEndOf, Opens, Parts}
@@ -74,19 +74,20 @@ opens_units b u r new o =
 
 -- a task at an end
 pub ends_task : (b : Body) (u : ℕ) (o : Owner) (x : Made) (e : Ending) → IsEndOf b u o x e
-    → IsAtEnd b.job o x b.outer.items b.opened → IsAtEnd e.job e.owner e.made e.outer.items e.opened
+    → IsAtEnd b.job o x b.outer.items b.opened → IsParked e.parked.value
 ends_task b u o x e h at =
-    subst (λ (k : Job). IsAtEnd k e.owner e.made e.outer.items e.opened) (sym h.job)
-    (subst (λ (q : Owner). IsAtEnd b.job q e.made e.outer.items e.opened) (sym h.owner)
-    (subst (λ (m : Made). IsAtEnd b.job o m e.outer.items e.opened) (sym h.made)
-    (subst (λ (ss : List Stake). IsAtEnd b.job o x ss e.opened) (sym (ap (λ (v : _). v.items) h.outer))
+    let p = e.parked.value in
+    subst (λ (k : Job). IsAtEnd k p.owner p.made p.outer.items p.opened) (sym h.job)
+    (subst (λ (q : Owner). IsAtEnd b.job q p.made p.outer.items p.opened) (sym h.owner)
+    (subst (λ (m : Made). IsAtEnd b.job o m p.outer.items p.opened) (sym h.made)
+    (subst (λ (ss : List Stake). IsAtEnd b.job o x ss p.opened) (sym (ap (λ (v : _). v.items) h.outer))
     (subst (λ (n : ℕ). IsAtEnd b.job o x b.outer.items n) (sym h.opened) at))))
 
 -- what it holds is what it held
 pub ends_units : (b : Body) (u : ℕ) (o : Owner) (x : Made) (e : Ending) → IsEndOf b u o x e
-    → e.share.weight + held e.outer.items ≡ u + held b.outer.items
+    → e.share.weight + held e.parked.value.outer.items ≡ u + held b.outer.items
 ends_units b u o x e h =
-    ap (λ (n : ℕ). n + held e.outer.items) h.weight ∙ ap (λ (v : _). u + held v.items) h.outer
+    ap (λ (n : ℕ). n + held e.parked.value.outer.items) h.weight ∙ ap (λ (v : _). u + held v.items) h.outer
 
 -- where no finish is open there is no weight beside that of the innermost scope
 pub none_held : (stakes : List Stake) → length stakes ≡ 0 → held stakes ≡ 0

@@ -21,6 +21,7 @@ use Rattle.task_machine.specs.Finishes.{open_finishes}
 use Rattle.task_machine.specs.Jobs.{program_of, lists_of, budget_of, IsJob}
 use Rattle.task_machine.specs.declared.finish.Owner.{Owner}
 use Rattle.task_machine.specs.declared.finish.Owner.TheVariants.{Main, Finish}
+use Rattle.task_machine.specs.declared.finish.Parked.{Parked}
 use Rattle.task_machine.specs.declared.finish.Waiting.{Waiting}
 use Rattle.task_machine.specs.declared.job.Job.{Job}
 use Rattle.task_machine.specs.declared.stake.Stake.{Stake}
@@ -49,6 +50,10 @@ EndsSo j (Finish q) made outer count = EndsFinish j q made outer count
 
 abbrev pub IsAtEnd : Job → Owner → Made → List Stake → (count : ℕ) → Type 0
 IsAtEnd j o made outer count = IsJob j × EndsSo j o made outer count
+
+-- a task that is parked at the end of a finish, or of `main`, is its job's
+abbrev pub IsParked : Parked → Type 0
+IsParked p = IsAtEnd p.job p.owner p.made p.outer.items p.opened
 
 -- a task waits at the end of a finish
 abbrev pub IsAtFinish : Waiting → Type 0

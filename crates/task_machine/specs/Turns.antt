@@ -15,7 +15,7 @@ use Rattle.own_run.specs.declared.turn.Turn.TheVariants.{Going as RunGoing, Spaw
 use Rattle.own_run.specs.declared.turn.Turn.TheVariants.{EntersFinish as RunEntersFinish}
 use Rattle.own_run.specs.declared.turn.Turn.TheVariants.{EndsFinish as RunEndsFinish}
 use Rattle.own_run.specs.declared.turn.Turn.TheVariants.{Ended as RunEnded, Over as RunOver}
-use Rattle.task_machine.specs.Ends.{IsAtEnd}
+use Rattle.task_machine.specs.Ends.{IsParked}
 use Rattle.task_machine.specs.Jobs.{program_of, lists_of, budget_of, IsJob}
 use Rattle.task_machine.specs.Tasks.{GoesBy, IsBody, IsTask, IsChild, IsResultOf}
 use Rattle.task_machine.specs.declared.finish.Ending.{Ending}
@@ -75,12 +75,12 @@ pub record Opens (b : Body) (units : ℕ) (r : Run) (new : Body) : Type 0 where
 
 -- it is at an end, with all that it holds
 pub record IsEndOf (b : Body) (units : ℕ) (o : Owner) (x : Made) (e : Ending) : Type 0 where
-  pub job : e.job ≡ b.job
-  pub owner : e.owner ≡ o
-  pub made : e.made ≡ x
+  pub job : e.parked.value.job ≡ b.job
+  pub owner : e.parked.value.owner ≡ o
+  pub made : e.parked.value.made ≡ x
   pub scope : e.scope ≡ b.scope
-  pub outer : e.outer ≡ b.outer
-  pub opened : e.opened ≡ b.opened
+  pub outer : e.parked.value.outer ≡ b.outer
+  pub opened : e.parked.value.opened ≡ b.opened
   pub weight : e.share.weight ≡ units
 
 -- it has ended, and isn't the root
@@ -176,6 +176,6 @@ AreTasks (Going t) = IsTask t
 AreTasks (Spawns t c) = IsTask t × IsChild c
 AreTasks (WantsWeight w) = IsWanting w.body.value w.start.value
 AreTasks (EntersFinish e) = IsBody e.body.value
-AreTasks (EndsFinish e) = IsAtEnd e.job e.owner e.made e.outer.items e.opened
+AreTasks (EndsFinish e) = IsParked e.parked.value
 AreTasks (Ended r) = IsJob r.job × IsResultOf r.job r.made
 AreTasks (Over t) = IsTask t

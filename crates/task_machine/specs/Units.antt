@@ -21,6 +21,6 @@ units_after (Going t) = units_of t
 units_after (Spawns t c) = units_of t + c.share.weight
 units_after (WantsWeight w) = w.share.weight + held w.body.value.outer.items
 units_after (EntersFinish e) = held e.body.value.outer.items
-units_after (EndsFinish e) = e.share.weight + held e.outer.items
+units_after (EndsFinish e) = e.share.weight + held e.parked.value.outer.items
 units_after (Ended r) = r.share.weight
 units_after (Over t) = units_of t

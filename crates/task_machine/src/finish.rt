@@ -33,16 +33,12 @@ pub enum Owner<'p> {
     Finish(RunPaused<'p>),
 }
 
-/// A task at the end of a finish, or of `main`, with its weight in that scope.
+/// A task at the end of a finish, or of `main`, with its weight in that scope. What it is lies in a box,
+/// so that a turn is small, and so is whatever it is parked in.
 #[derive(Drop)]
 pub struct Ending<'p> {
-    pub job: Job<'p>,
-    pub owner: Owner<'p>,
-    /// What it has made since the finish began.
-    pub made: RunResult,
+    pub parked: Box<Parked<'p>>,
     pub scope: ScopeMark,
-    pub outer: Vec<Stake>,
-    pub opened: u32,
     pub share: Share,
 }
 
@@ -51,6 +47,7 @@ pub struct Ending<'p> {
 pub struct Parked<'p> {
     pub job: Job<'p>,
     pub owner: Owner<'p>,
+    /// What it has made since the finish began.
     pub made: RunResult,
     pub outer: Vec<Stake>,
     pub opened: u32,
@@ -80,30 +77,11 @@ impl<'p> Entering<'p> {
 
 impl<'p> Ending<'p> {
     /// Its weight in the scope, which goes back, and the task that is to be parked there.
-    pub fn set_down(self) -> (Weight, Parked<'p>)
+    pub fn set_down(self) -> (Weight, Box<Parked<'p>>)
         ensures weight { result.0 ≡ self.entry.share.weight }
-        ensures job { result.1.job ≡ self.entry.job }
-        ensures owner { result.1.owner ≡ self.entry.owner }
-        ensures made { result.1.made ≡ self.entry.made }
-        ensures outer { result.1.outer ≡ self.entry.outer }
-        ensures opened { result.1.opened ≡ self.entry.opened }
+        ensures parked { result.1 ≡ self.entry.parked }
     {
-        let Ending {
-            job,
-            owner,
-            made,
-            outer,
-            opened,
-            share,
-            ..
-        } = self;
-        let parked = Parked {
-            job,
-            owner,
-            made,
-            outer,
-            opened,
-        };
+        let Ending { parked, share, .. } = self;
         (share.into_weight(), parked)
     }
 }
@@ -117,12 +95,12 @@ impl<'p> Parked<'p> {
     }
 
     /// The task, and what is to be settled with the results of the scope.
-    pub fn open(self) -> (Waiting<'p>, RunResult)
-        ensures made { result.1 ≡ self.entry.made }
-        ensures job { result.0.job ≡ self.entry.job }
-        ensures owner { result.0.owner ≡ self.entry.owner }
-        ensures outer { result.0.outer ≡ self.entry.outer }
-        ensures opened { result.0.opened ≡ self.entry.opened }
+    pub fn open(parked: Box<Parked<'p>>) -> (Waiting<'p>, RunResult)
+        ensures made { result.1 ≡ parked.entry.value.made }
+        ensures job { result.0.job ≡ parked.entry.value.job }
+        ensures owner { result.0.owner ≡ parked.entry.value.owner }
+        ensures outer { result.0.outer ≡ parked.entry.value.outer }
+        ensures opened { result.0.opened ≡ parked.entry.value.opened }
     {
         let Parked {
             job,
@@ -130,7 +108,7 @@ impl<'p> Parked<'p> {
             made,
             outer,
             opened,
-        } = self;
+        } = Box::into_inner(parked);
         let waiting = Waiting {
             job,
             owner,

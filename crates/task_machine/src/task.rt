@@ -13,7 +13,7 @@ ghost use Rattle.task_machine.specs.Turns.{TurnsInPlace, turning};
 ghost use Rattle.task_machine.specs.Units.{held, units_after, units_of};
 
 use crate::error::NoMemory;
-use crate::finish::{Ending, Entering, Owner};
+use crate::finish::{Ending, Entering, Owner, Parked};
 use crate::job::Job;
 use crate::stake::{ScopeMark, Share, Stake};
 use crate::turn::{TaskResult, Turn, Wanting};
@@ -292,9 +292,9 @@ fn at_end<'p>(body: Box<Body<'p>>, share: Share) -> Result<Turn<'p>, NoMemory>
     match run.end()? {
         RunTurn::EndsFinish(paused, made) => {
             let owner = Owner::Finish(paused);
-            Ok(Turn::EndsFinish(ending(body, share, owner, made)))
+            Ok(Turn::EndsFinish(ending(body, share, owner, made)?))
         }
-        RunTurn::Ended(made) => Ok(ended(body, share, made)),
+        RunTurn::Ended(made) => ended(body, share, made),
         RunTurn::Going(_) | RunTurn::Spawns(_, _) | RunTurn::EntersFinish(_) | RunTurn::Over(_) => {
             unreachable!()
         }
@@ -302,8 +302,14 @@ fn at_end<'p>(body: Box<Body<'p>>, share: Share) -> Result<Turn<'p>, NoMemory>
 }
 
 /// A task at the end of a finish, or of `main`.
-fn ending<'p>(body: Box<Body<'p>>, share: Share, owner: Owner<'p>, made: RunResult) -> Ending<'p>
-    ensures { IsEndOf body.entry.value share.weight owner.entry made result }
+#[inline(never)]
+fn ending<'p>(
+    body: Box<Body<'p>>,
+    share: Share,
+    owner: Owner<'p>,
+    made: RunResult,
+) -> Result<Ending<'p>, NoMemory>
+    ensures { IfOk result (IsEndOf body.entry.value share.weight owner.entry made) }
 {
     let Body {
         job,
@@ -312,29 +318,32 @@ fn ending<'p>(body: Box<Body<'p>>, share: Share, owner: Owner<'p>, made: RunResu
         opened,
         ..
     } = Box::into_inner(body);
-    Ending {
+    let parked = Parked {
         job,
         owner,
         made,
-        scope,
         outer,
         opened,
+    };
+    Ok(Ending {
+        parked: Box::new(job.alloc, parked)?,
+        scope,
         share,
-    }
+    })
 }
 
 /// A task at its end: the root is at that of `main`.
-fn ended<'p>(body: Box<Body<'p>>, share: Share, made: RunResult) -> Turn<'p>
-    ensures { Becomes body.entry.value share.weight (Ended made) result }
+fn ended<'p>(body: Box<Body<'p>>, share: Share, made: RunResult) -> Result<Turn<'p>, NoMemory>
+    ensures { IfOk result (Becomes body.entry.value share.weight (Ended made)) }
 {
     if made.path.turns.is_empty() {
-        return Turn::EndsFinish(ending(body, share, Owner::Main, made));
+        return Ok(Turn::EndsFinish(ending(body, share, Owner::Main, made)?));
     }
     let Body { job, scope, .. } = Box::into_inner(body);
-    Turn::Ended(TaskResult {
+    Ok(Turn::Ended(TaskResult {
         job,
         made,
         scope,
         share,
-    })
+    }))
 }

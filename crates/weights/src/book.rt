@@ -1,12 +1,13 @@
 //! The book of a scope.
 
-ghost use Rattle.std.specs.Prelude.{◌≡◌, ◌+◌, ◌-◌, ◌<◌, ◌≤◌, ◌↔◌, map};
+ghost use Rattle.std.specs.Prelude.{◌≡◌, ◌+◌, ◌-◌, ◌<◌, ◌≤◌, ◌↔◌, IfOk, option_map, slice_get};
 ghost use Rattle.weights.specs.Entries.{entry_of};
 ghost use Rattle.weights.specs.Ledger.{issued_of, returned_of, opened, minted, GivesBack};
 
+use crate::entries::Entries;
 use crate::entry::Entry;
 use crate::weight::Weight;
-use std::alloc::Global;
+use std::alloc::{AllocError, Global};
 use std::marker::Model;
 use types::path::Path;
 
@@ -27,7 +28,7 @@ pub struct Book {
     w0: u64,
     /// How many times it has issued more.
     mints: u64,
-    entries: Vec<Entry>,
+    entries: Entries,
     /// What came back while its entry found no memory.
     unlisted: u64,
 
@@ -37,8 +38,7 @@ pub struct Book {
 }
 
 impl Model for Book {
-    ghost use Rattle.std.specs.Prelude.{◌≡◌, map};
-    ghost use Rattle.weights.specs.Entries.{entry_of};
+    ghost use Rattle.std.specs.Prelude.{◌≡◌};
     ghost use Rattle.weights.specs.Ledger.{Ledger, issued_of, returned_of, IsSound};
 
     ghost Value = { Ledger };
@@ -46,14 +46,14 @@ impl Model for Book {
     ghost view = { λ b. record {
       w0 = b.w0;
       mints = b.mints;
-      entries = map entry_of b.entries.items;
+      entries = b.entries;
       unlisted = b.unlisted;
     } };
 
     ghost invariant = { λ b. let l : Ledger = record {
       w0 = b.w0;
       mints = b.mints;
-      entries = map entry_of b.entries.items;
+      entries = b.entries;
       unlisted = b.unlisted;
     } in
         (b.issued ≡ issued_of l) × (b.returned ≡ returned_of l) × IsSound l };
@@ -69,7 +69,7 @@ impl Book {
         let book = Book {
             w0,
             mints: 0,
-            entries: Vec::new(alloc),
+            entries: Entries::new(alloc),
             unlisted: 0,
             issued: w0,
             returned: 0,
@@ -107,11 +107,12 @@ impl Book {
         self.unlisted
     }
 
-    /// The weights that came back, in that order, but for the unlisted.
-    pub fn entries(&self) -> &[Entry]
-        ensures { map entry_of result.now ≡ self.now.entries }
+    /// The weights that came back, in that order, but for the unlisted: the one of a number, counted
+    /// from 0, in memory of its own.
+    pub fn entry(&self, alloc: Global, number: usize) -> Result<Option<Entry>, AllocError>
+        ensures { IfOk result (λ e. option_map entry_of e ≡ slice_get self.now.entries number) }
     {
-        &self.entries
+        self.entries.entry(alloc, number)
     }
 
     /// Issues w0 more, on top of a weight that is out.
@@ -130,21 +131,17 @@ impl Book {
     }
 
     /// Takes a weight back from the task of this path. It is counted also where its entry finds no memory.
-    pub fn back(&mut self, weight: Weight, path: Path) -> Back
+    pub fn back(&mut self, weight: Weight, path: &Path) -> Back
         requires { weight ≤ issued_of self.old - returned_of self.old }
         ensures book { GivesBack self.old self.new (record {
-          path = path.turns.items;
+          path = path.now.turns.items;
           weight = weight;
         }) }
         ensures complete { (result ≡ Back.Complete) ↔ (returned_of self.new ≡ issued_of self.new) }
     {
         let Weight { units } = weight;
         self.returned += units;
-        let entry = Entry {
-            path,
-            weight: units,
-        };
-        if self.entries.push(entry).is_err() {
+        if !self.entries.add(path, units) {
             self.unlisted += units;
         }
         if self.returned == self.issued {

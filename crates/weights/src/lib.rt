@@ -6,5 +6,6 @@
 #![tactic(auto)]
 
 pub mod book;
+mod entries;
 pub mod entry;
 pub mod weight;

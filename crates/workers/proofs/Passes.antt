@@ -1,5 +1,6 @@
 -- An owner goes on with what came of its scope.
-use Rattle.std.proofs.Common.{◌≡◌, IfSome, List, [], ◌∷◌, ◌++◌, Option, Some, map, sym, ap, ◌∙◌, subst}
+use Rattle.std.proofs.Common.{◌≡◌, List, [], ◌∷◌, Option, Some, map, reverse, ◌⊎◌, inl, inr, sym, ap, ◌∙◌, subst}
+use Rattle.std.proofs.lemmas.Grind.{reverse_onto}
 use Rattle.std.proofs.lemmas.Option.{same_Some}
 use Rattle.sections.specs.Place.{Place}
 use Rattle.own_run.specs.Frames.{AtEnd}
@@ -10,10 +11,10 @@ use Rattle.own_run.specs.Settling.{settle}
 use Rattle.own_run.specs.Translation.{owned_by, settled, task_result}
 use Rattle.own_run.specs.declared.result.Settled.{Settled}
 use Rattle.own_run.specs.declared.result.TaskResult.{TaskResult as Made}
-use Rattle.own_run.proofs.Lists.{each_map}
+use Rattle.own_run.proofs.Lists.{each_last, each_map}
 use Rattle.gather.specs.GivesBack.{GiveBack, all_owned}
 use Rattle.gather.proofs.TasksGiveBack.{give_back}
-use Rattle.task_machine.specs.Ends.{Comes, EndsSo, IsAtEnd}
+use Rattle.task_machine.specs.Ends.{Comes, EndsSo, IsAtEnd, IsParked}
 use Rattle.task_machine.specs.Jobs.{program_of, lists_of, budget_of, IsJob}
 use Rattle.task_machine.specs.Tasks.{IsResultOf}
 use Rattle.task_machine.specs.declared.finish.Owner.{Owner}
@@ -23,11 +24,21 @@ use Rattle.task_machine.specs.declared.finish.Waiting.{Waiting}
 use Rattle.task_machine.specs.declared.job.Job.{Job}
 use Rattle.task_machine.specs.declared.stake.Stake.{Stake}
 use Rattle.task_machine.specs.Jobs.{outcome_of}
-use Rattle.finish_scope.specs.Own.{IsOwnResult, IsParked}
+use Rattle.finish_scope.specs.Own.{IsOwnResult}
 use Rattle.workers.specs.Own.{IsNext, IsOwnEnded, IsOwnNext}
 use Rattle.task_machine.specs.declared.turn.TaskResult.{TaskResult}
 use Rattle.workers.specs.declared.post.Next.{Next}
 use Rattle.workers.specs.declared.post.Next.TheVariants.{Goes, Idle, Told}
+
+-- what holds of each of some holds the other way round
+pub each_reversed : {A : Type 0} (P : A → Type 0) (xs : List A) → Each P xs → Each P (reverse xs)
+each_reversed P [] h = tt
+each_reversed P (x ∷ xs) h =
+    subst (Each P) (sym (reverse_onto xs x [])) (each_last P (reverse xs) x (each_reversed P xs h.1) h.0)
+
+pub each_either : {A : Type 0} (P : A → Type 0) (xs ys : List A) → (ys ≡ xs) ⊎ (ys ≡ reverse xs) → Each P xs → Each P ys
+each_either P xs ys (inl is) h = subst (Each P) (sym is) h
+each_either P xs ys (inr is) h = subst (Each P) (sym is) (each_reversed P xs h)
 
 module _ (j : Job) (rs : List Made) (all : Each (IsResultOf j) rs) where
   abbrev results : List Results

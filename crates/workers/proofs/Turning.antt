@@ -25,7 +25,7 @@ HasJob j (Going t) = t.body.value.job ≡ j
 HasJob j (Spawns t c) = (t.body.value.job ≡ j) × (c.job ≡ j)
 HasJob j (WantsWeight w) = w.body.value.job ≡ j
 HasJob j (EntersFinish e) = e.body.value.job ≡ j
-HasJob j (EndsFinish e) = e.job ≡ j
+HasJob j (EndsFinish e) = e.parked.value.job ≡ j
 HasJob j (Ended r) = r.job ≡ j
 HasJob j (Over t) = t.body.value.job ≡ j
 

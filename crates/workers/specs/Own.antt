@@ -3,7 +3,7 @@ use Rattle.std.specs.Prelude.{◌≡◌, List, Option, Some}
 use Rattle.types.specs.Translation.{outcome}
 use Rattle.own_run.specs.Lists.{Each}
 use Rattle.own_run.specs.declared.result.TaskResult.{TaskResult as Made}
-use Rattle.task_machine.specs.Ends.{IsAtEnd}
+use Rattle.task_machine.specs.Ends.{IsParked}
 use Rattle.task_machine.specs.Jobs.{outcome_of}
 use Rattle.task_machine.specs.Tasks.{IsTask, IsChild, IsResultOf}
 use Rattle.task_machine.specs.Turns.{IsWanting}
@@ -20,7 +20,6 @@ use Rattle.task_machine.specs.declared.turn.Turn.TheVariants.{EntersFinish, Ends
 use Rattle.task_machine.specs.declared.turn.Turn.TheVariants.{Ended, Over}
 use Rattle.task_machine.specs.declared.turn.Wanting.{Wanting}
 use Rattle.task_machine.specs.Tasks.{IsBody}
-use Rattle.finish_scope.specs.Own.{IsParked}
 use Rattle.workers.specs.declared.post.Next.{Next}
 use Rattle.workers.specs.declared.post.Next.TheVariants.{Goes, Idle, Told}
 
@@ -49,8 +48,8 @@ module _ (o : Option Job) where
     pub wanting : IsWanting w.body.value w.start.value
 
   pub record IsOwnEnding (e : Ending) : Type 0 where
-    pub job : o ≡ Some e.job
-    pub ends : IsAtEnd e.job e.owner e.made e.outer.items e.opened
+    pub job : o ≡ Some e.parked.value.job
+    pub ends : IsParked e.parked.value
 
   pub record IsOwnEnded (r : TaskResult) : Type 0 where
     pub job : o ≡ Some r.job

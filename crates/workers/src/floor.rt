@@ -187,6 +187,7 @@ impl<'p, J: Running, G: Gate> Floor<'p, J, G> {
     }
 
     /// A task began a finish: it stands in a new scope.
+    #[inline(never)]
     fn enter<R: Wait>(
         &self,
         rt: &R,
@@ -208,6 +209,7 @@ impl<'p, J: Running, G: Gate> Floor<'p, J, G> {
     }
 
     /// A task is at the end of a finish, or of `main`.
+    #[inline(never)]
     fn park<R: Wait>(
         &self,
         rt: &R,
@@ -218,12 +220,11 @@ impl<'p, J: Running, G: Gate> Floor<'p, J, G> {
         requires { IsOwnEnding J.job ending }
         ensures { IfOk result (IsOwnNext J.job) }
     {
-        let path = ending.made.path.clone()?;
         let outer = std::mem::replace(&mut post.outer, Vec::new(self.job.alloc));
         let clerk = self.clerk(number, ending.scope);
         let (weight, parked) = ending.set_down();
         let owner = Resting { parked, outer };
-        let passing = scopes::park(rt, &post.scope, weight, path, owner, clerk)?;
+        let passing = scopes::park(rt, &post.scope, weight, owner, clerk)?;
         self.after(rt, post, passing)
     }
 
@@ -238,11 +239,10 @@ impl<'p, J: Running, G: Gate> Floor<'p, J, G> {
         requires { IsOwnEnded J.job ended }
         ensures { IfOk result (IsOwnNext J.job) }
     {
-        let path = ended.made.path.clone()?;
-        let told = self.path_for_gate(&path)?;
+        let told = self.path_for_gate(&ended.made.path)?;
         let clerk = self.clerk(number, ended.scope);
         let (weight, made) = ended.take_weight();
-        let passing = scopes::give_back(rt, &post.scope, weight, path, made, clerk)?;
+        let passing = scopes::give_back(rt, &post.scope, weight, made, clerk)?;
         if let Some(path) = told {
             self.gate.leave(&path);
         }
@@ -287,6 +287,7 @@ impl<'p, J: Running, G: Gate> Floor<'p, J, G> {
     }
 
     /// An owner goes on behind its finish, in the scope around it.
+    #[inline(never)]
     fn go_behind<R: Wait>(
         &self,
         rt: &R,
@@ -472,8 +473,12 @@ fn steps_of<'p, J: Running>(task: &Task<'p>) -> u32
 }
 
 /// What comes of an owner of the run that passes.
-fn passed<'p, J: Running>(owner: Parked<'p>, results: Vec<TaskResult>) -> Result<Next<'p>, Trouble>
-    requires own { IsOwnLeaving J.job owner results.items }
+#[inline(never)]
+fn passed<'p, J: Running>(
+    owner: Box<Parked<'p>>,
+    results: Vec<TaskResult>,
+) -> Result<Next<'p>, Trouble>
+    requires own { IsOwnLeaving J.job owner.value results.items }
     ensures { IfOk result (IsOwnNext J.job) }
 {
     pass(owner, results)

@@ -14,7 +14,6 @@ use own_run::result::TaskResult;
 use std::sync::Wait;
 use task_machine::task::{Child, Task};
 use task_machine::turn::Wanting;
-use types::path::Path;
 use weights::book::Back;
 use weights::weight::Weight;
 
@@ -47,18 +46,16 @@ pub fn give_back<'p, J: Running, R: Wait>(
     rt: &R,
     scope: &Scope<'p, J>,
     weight: Weight,
-    path: Path,
     made: TaskResult,
     clerk: Clerk<'_>,
 ) -> Result<Option<Passing<'p>>, Trouble>
-    requires path { path.turns.items ≡ made.path.turns.items }
     requires own { IsOwnResult J.job made }
     ensures { IfOk result (λ p. IfSome p (IsOwnPassing J.job)) }
 {
     let mut guard = scope.lock(rt);
-    clerk.ended(rt, &path);
+    clerk.ended(rt, &made.path);
     let inner = &mut *guard;
-    match inner.give_back(weight, path, made) {
+    match inner.give_back(weight, made) {
         Ok(back) => passes::<J, R>(rt, inner, back, clerk),
         Err(late) => {
             let Late { reason: _, back } = late;
@@ -74,18 +71,16 @@ pub fn park<'p, J: Running, R: Wait>(
     rt: &R,
     scope: &Scope<'p, J>,
     weight: Weight,
-    path: Path,
     owner: Resting<'p>,
     clerk: Clerk<'_>,
 ) -> Result<Option<Passing<'p>>, Trouble>
-    requires path { path.turns.items ≡ owner.parked.made.path.turns.items }
     requires own { IsOwnResting J.job owner }
     ensures { IfOk result (λ p. IfSome p (IsOwnPassing J.job)) }
 {
     let mut guard = scope.lock(rt);
-    clerk.parked(rt, &path);
+    clerk.parked(rt, owner.parked.path());
     let inner = &mut *guard;
-    match inner.park(weight, path, owner) {
+    match inner.park(weight, owner) {
         Ok(back) => passes::<J, R>(rt, inner, back, clerk),
         Err(late) => {
             let Late { reason: _, back } = late;

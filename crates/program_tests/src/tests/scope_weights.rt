@@ -16,6 +16,9 @@ const HALVES: &[(u64, u64, u64)] = &[
     (4_294_967_296, 2_147_483_648, 2_147_483_648),
 ];
 
+/// No scope here has more entries.
+const MOST_ENTRIES: usize = 8;
+
 /// A scope that has issued so much at its opening.
 fn opened(rt: &impl Abort, alloc: Global, units: u64) -> (Book, Weight) {
     assert!(rt; 1 <= units && units <= 4_294_967_296);
@@ -68,15 +71,17 @@ fn share(rt: &impl Abort, book: &mut Book, weight: Weight) -> (Weight, Weight) {
 fn completes(rt: &impl Abort, alloc: Global, book: &mut Book, weight: Weight, child: u32) -> bool {
     let turns = vec![in alloc; child].expect(rt, "memory");
     assert!(rt; weight.units() <= book.issued() - book.returned());
-    book.back(weight, Path { turns }) == Back::Complete
+    book.back(weight, &Path { turns }) == Back::Complete
 }
 
 /// Shows a book: what came back from whom, how many times it has issued and how much, how much came back, and how much
 /// of that isn't listed.
 fn shown(rt: &impl Abort, alloc: Global, book: &Book) -> String {
     let mut text = String::new(alloc);
-    for entry in book.entries() {
-        write!(text, "{} {}, ", entry.path, entry.weight).expect(rt, "memory");
+    for number in 0..MOST_ENTRIES {
+        if let Some(entry) = book.entry(alloc, number).expect(rt, "memory") {
+            write!(text, "{} {}, ", entry.path, entry.weight).expect(rt, "memory");
+        }
     }
     let (issues, issued) = (book.issues(), book.issued());
     let (returned, unlisted) = (book.returned(), book.unlisted());
