@@ -6,14 +6,14 @@ use syntax::programs::program;
 use syntax::token::{Mark, Spanned, Token, Word};
 
 /// The reserved words.
-pub const WORDS: [&str; 28] = [
+pub const WORDS: &[&str] = &[
     "and", "array", "as", "async", "at", "by", "byte", "else", "false", "fault", "finish", "if",
     "int", "len", "main", "mut", "not", "or", "parts", "print", "proc", "read", "rescue", "skip",
     "split", "true", "var", "while",
 ];
 
 /// The marks.
-const MARKS: [&str; 21] = [
+const MARKS: &[&str] = &[
     "(", ")", "{", "}", "[", "]", ",", ";", ":", "=", "+", "-", "*", "/", "%", "<", "<=", ">",
     ">=", "==", "!=",
 ];
@@ -61,6 +61,13 @@ impl Front {
         if self.takes(Token::Number(0))? {
             told.push_str(" a number")?;
         }
+        self.push_words(told)?;
+        self.push_marks(told)?;
+        told.push('\n')
+    }
+
+    /// Adds the reserved words that may.
+    fn push_words(&mut self, told: &mut String) -> Result<(), AllocError> {
         for text in WORDS {
             if let Some(word) = Word::of(text) {
                 if self.takes(Token::Word(word))? {
@@ -68,6 +75,11 @@ impl Front {
                 }
             }
         }
+        Ok(())
+    }
+
+    /// Adds the marks that may.
+    fn push_marks(&mut self, told: &mut String) -> Result<(), AllocError> {
         for text in MARKS {
             if let Some(mark) = mark_of(text) {
                 if self.takes(Token::Mark(mark))? {
@@ -75,7 +87,7 @@ impl Front {
                 }
             }
         }
-        told.push('\n')
+        Ok(())
     }
 
     /// Whether a program can go on with this token: the parser wants more only behind it.
