@@ -1,17 +1,19 @@
 //! What a task reads and writes.
 
-ghost use Rattle.std.specs.Prelude.{◌≡◌, ◌&&◌, ◌++◌, ℤ, true, not, map, IfOk, OnOk};
-ghost use Rattle.sections.specs.Translation.{window as window_of};
+ghost use Rattle.std.specs.Prelude.{◌≡◌, ◌&&◌, ◌++◌, ◌∷◌, [], ℤ, true, not, map, IfOk, IfSome, OnOk};
+ghost use Rattle.sections.specs.Translation.{section as section_of, window as window_of};
 ghost use Rattle.types.specs.Contents.{read as read_of, IsThere};
+ghost use Rattle.types.specs.Translation.{environment as environment_of};
 ghost use Rattle.own_run.specs.Places.{Places as PlaceSet, within, only, without};
 ghost use Rattle.own_run.specs.Translation.{contents_of, owned_by};
 
 use holdings::error::HoldError;
 use holdings::holdings::Holdings;
+use sections::id::SectionId;
 use sections::window::{Place, Window};
 use serial_run::memory::Memory;
 use std::alloc::{AllocError, Global};
-use types::value::Places;
+use types::value::{Environment, Places};
 
 /// What a task holds, as the memory of its statements.
 #[derive(Drop)]
@@ -85,4 +87,61 @@ impl TaskMemory {
             Err((error, _)) => Err(error),
         }
     }
+
+    /// The same, where copies are wanted of the places of sections. One section wants no list of windows.
+    pub fn part_for(
+        &mut self,
+        alloc: Global,
+        environment: &Environment,
+        writes: &[Window],
+        reads: &[SectionId],
+    ) -> Result<Holdings, HoldError>
+        requires owned { (q : _) → within (map window_of writes.now) q ≡ true
+            → owned_by self.old.holdings q ≡ true }
+        requires there { (q : _) → within (map (environment_of environment.now).windows
+            (map section_of reads.now)) q ≡ true → IsThere (contents_of self.old.holdings q) }
+        ensures contents { IfOk result (λ c. contents_of c ≡ only (within (map window_of writes.now
+            ++ map (environment_of environment.now).windows (map section_of reads.now)))
+            (contents_of self.old.holdings)) }
+        ensures owned { IfOk result (λ c. owned_by c ≡ within (map window_of writes.now)) }
+        ensures left { OnOk result (contents_of self.new.holdings
+            ≡ without (within (map window_of writes.now)) (contents_of self.old.holdings)) }
+        ensures keeps { OnOk result (owned_by self.new.holdings
+            ≡ (λ q. owned_by self.old.holdings q && not (within (map window_of writes.now) q))) }
+        ensures refused { IfErr result (λ e. e ≡ OutOfMemory) }
+    {
+        match only_one(reads) {
+            Some(section) => self.part(alloc, writes, &[environment.window(section)]),
+            None => {
+                let reads = windows_of(alloc, environment, reads)?;
+                self.part(alloc, writes, &reads)
+            }
+        }
+    }
+}
+
+/// The section, where it is one alone.
+fn only_one(sections: &[SectionId]) -> Option<SectionId>
+    ensures { IfSome result (λ s. sections.now ≡ s ∷ []) }
+{
+    match sections {
+        [section] => Some(*section),
+        _ => None,
+    }
+}
+
+/// The windows of sections.
+pub fn windows_of(
+    alloc: Global,
+    environment: &Environment,
+    sections: &[SectionId],
+) -> Result<Vec<Window>, AllocError>
+    ensures { IfOk result (λ ws. map window_of ws.items
+        ≡ map (environment_of environment.now).windows (map section_of sections.now)) }
+{
+    let mut windows = Vec::new(alloc);
+    for section in sections {
+        windows.push(environment.window(*section))?;
+    }
+    Ok(windows)
 }

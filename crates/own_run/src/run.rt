@@ -2,7 +2,7 @@
 
 ghost use Rattle.std.specs.Prelude.{◌≡◌, ◌+◌, ◌-◌, ◌<◌, ◌≤◌, ◌++◌, [], ◌∷◌, Bool, IfOk, IfErr, List, OnOk, map};
 ghost use Rattle.std.specs.Prelude.{ℕ, if◌then◌else◌};
-ghost use Rattle.sections.specs.Translation.{section as section_of, window as window_of};
+ghost use Rattle.sections.specs.Translation.{section as section_of};
 ghost use Rattle.types.specs.Code.{Async, Call, Codes, Finish, If, Split, Then, While};
 ghost use Rattle.types.specs.Meaning.{after_finish};
 ghost use Rattle.types.specs.Run.{State, On, Stopped, procedure_of as numbered};
@@ -24,7 +24,7 @@ ghost use Rattle.own_run.specs.Translation.{start as start_of, task_result};
 ghost use Rattle.own_run.specs.declared.turn.Turn.TheVariants.{EndsFinish};
 
 use crate::frame::{Frame, Outer};
-use crate::memory::TaskMemory;
+use crate::memory::{TaskMemory, windows_of};
 use crate::needed::Needed;
 use crate::result::{Listed, Settled, TaskResult};
 use crate::start::Start;
@@ -32,7 +32,6 @@ use crate::turn::{Done, Paused, Step, Turn};
 use holdings::error::HoldError;
 use holdings::holdings::Holdings;
 use sections::id::SectionId;
-use sections::window::Window;
 use serial_run::thread::{Flow, Plan, Thread, room};
 use std::alloc::AllocError;
 use types::code::{Label, Number, Procedure, Stmt, StmtKind, Truth};
@@ -375,9 +374,11 @@ impl<'p> Run<'p> {
             self.thread.flow = Flow::Stopped;
             return Ok(Done::Exceeded);
         }
-        let windows = self.windows(needed.writes(label, body))?;
-        let reads = self.windows(needed.reads(label, body))?;
-        let holdings = self.thread.store.part(self.plan.alloc, &windows, &reads)?;
+        let alloc = self.plan.alloc;
+        let environment = &self.thread.environment;
+        let windows = windows_of(alloc, environment, needed.writes(label, body))?;
+        let store = &mut self.thread.store;
+        let holdings = store.part_for(alloc, environment, &windows, needed.reads(label, body))?;
         let start = self.start(body, holdings)?;
         let start = Box::new(self.plan.alloc, start)?;
         let listed = Listed {
@@ -413,18 +414,6 @@ impl<'p> Run<'p> {
             nest: self.thread.nest - 1,
             path,
         })
-    }
-
-    /// The windows of sections.
-    fn windows(&self, sections: &[SectionId]) -> Result<Vec<Window>, AllocError>
-        ensures { IfOk result (λ ws. map window_of ws.items
-            ≡ map (environment_of self.now.thread.environment).windows (map section_of sections.now)) }
-    {
-        let mut windows = Vec::new(self.plan.alloc);
-        for section in sections {
-            windows.push(self.thread.environment.window(*section))?;
-        }
-        Ok(windows)
     }
 
     /// The body of a finish, above its end, which keeps what was told and listed before.

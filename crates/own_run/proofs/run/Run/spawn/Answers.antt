@@ -3,7 +3,7 @@ use Rattle.std.proofs.lemmas.Bool.{or_right}
 use Rattle.std.proofs.lemmas.List.{map-append}
 use Rattle.std.specs.Prelude.{ℤ, ◌&&◌, not}
 use Rattle.sections.specs.Place.{Window}
-use Rattle.sections.specs.Translation.{window}
+use Rattle.sections.specs.Translation.{section, window}
 use Rattle.types.specs.Run.{State}
 use Rattle.types.specs.Translation.{codes, environment, fault}
 use Rattle.types.specs.declared.fault.Fault.{Fault as rFault}
@@ -20,12 +20,12 @@ use Rattle.own_run.proofs.HeldPlaces.{within-append}
 use Rattle.own_run.proofs.RunSteps.{begin_some, done_some, over_some}
 use Rattle.own_run.proofs.run.Run.spawn.Goals as goal
 
-pub part-requires-clause-there : goal.part-requires-clause-there
-part-requires-clause-there g c = λ q inside.
+pub part_for-requires-clause-there : goal.part_for-requires-clause-there
+part_for-requires-clause-there g c = λ q inside.
     let env = environment c.args.self.now.thread.environment in
     let n = g.N.Needed.needs c.args.needed.now (codes c.args.body.now) in
-    let reads : map window c.deref-2.result.now ≡ map env.windows n.reads
-    = ap (map window) c.deref-2.ensures.value ∙ c.in_ok-reads.ensures ∙ ap (map env.windows) c.reads.ensures in
+    let reads : map env.windows (map section c.reads.result.now) ≡ map env.windows n.reads
+    = ap (map env.windows) c.reads.ensures in
     c.requires.can.0.there q
     (ap (λ (ws : List Window). within ws q) (map-append env.windows n.writes n.reads)
     ∙ within-append (map env.windows n.writes) (map env.windows n.reads) q
@@ -46,11 +46,10 @@ returns-clause-did g c =
     = c.in_ok-windows.ensures ∙ ap (map env.windows) c.writes.ensures in
     let writes : map window c.deref.result.now ≡ map env.windows n.writes
     = ap (map window) c.deref.ensures.value ∙ listed_writes in
-    let reads : map window c.deref-2.result.now ≡ map env.windows n.reads
-    = ap (map window) c.deref-2.ensures.value ∙ c.in_ok-reads.ensures ∙ ap (map env.windows) c.reads.ensures in
-    let both : map window (c.deref.result.now ++ c.deref-2.result.now) ≡ map env.windows (n.writes ++ n.reads)
-    = map-append window c.deref.result.now c.deref-2.result.now
-    ∙ ap (λ (ws : List Window). ws ++ map window c.deref-2.result.now) writes
+    let reads : map env.windows (map section c.reads.result.now) ≡ map env.windows n.reads
+    = ap (map env.windows) c.reads.ensures in
+    let both : map window c.deref.result.now ++ map env.windows (map section c.reads.result.now) ≡ map env.windows (n.writes ++ n.reads)
+    = ap (λ (ws : List Window). ws ++ map env.windows (map section c.reads.result.now)) writes
     ∙ ap (λ (ws : List Window). map env.windows n.writes ++ ws) reads
     ∙ sym (map-append env.windows n.writes n.reads) in
     let child : (x : Own) → Child = λ x. child_of n (nest - 1) b (with_own x (state_of m.thread)) in
@@ -89,7 +88,7 @@ returns-clause-did g c =
     } in
     let new : Run = record m {
       thread = record m.thread {
-        store = c.part.new.self;
+        store = c.part_for.new.self;
         lines = c.replace.new.dest;
         faults = c.replace-2.new.dest;
         spawned = m.thread.spawned + 1;
