@@ -1,9 +1,9 @@
 #!/bin/sh
 # Runs the built program `afx` once for each exit status from 0 to 4, and compares its status, its standard output and its
 # standard error with what docs/FORMATS.md says of them: no clause says with which status `main` ends, and the gate runs
-# no program but those that end with 0. (No words are known that come to 5.) `./afx` proves and builds first where a
-# source is newer. A line tells of each run that went wrong; the last line is `N passed, M failed`, and the status is 1
-# where one did. No part of the gate.
+# no program but those that end with 0. (No words are known that come to 5.) And once for what is explained of an input on
+# the standard input, which rows have not. `./afx` proves and builds first where a source is newer. A line tells of each
+# run that went wrong; the last line is `N passed, M failed`, and the status is 1 where one did. No part of the gate.
 #     sh tests/program.sh      AFX='./afx' names another program
 set -eu
 cd "$(dirname "$0")/.."
@@ -42,6 +42,15 @@ main { while true { skip; } }
 END
 expect 4 '' 'E2' run - <<'END'
 main { var k = 0; while k < 65536 { async { skip; } k = k + 1; } }
+END
+
+echo 'main { array q: int[3]; print q[0]; }' >"$room/q.afx"
+expect 1 '' 'N4 q
+
+The array `q` has 3 elements, and the list has 2.
+To mend it: give one number for each element; an array that is left out begins with zeros.' \
+    run "$room/q.afx" --input - --explain <<'END'
+{"q": [1, 2]}
 END
 
 echo "$passed passed, $failed failed"

@@ -1,7 +1,7 @@
 -- What stands in a scope crosses threads, and a scope is seen from all of them.
-use Rattle.std.proofs.Crossing.{crosses, Arc-send, Arc-sync, Vec-send}
+use Rattle.std.proofs.Crossing.{crosses, Arc-send, Vec-send}
 use denote.Builtin.{usize}
-use denote.Param.Send.{IsSend, IsSync, sendable, view_send, plain_send}
+use denote.Param.Send.{IsSend, sendable, view_send, plain_send}
 use denote.Param.SendFields.{declared_send, as_row_send}
 use denote.RattleType.{RattleType}
 use denote.Ref.{NamedLft}

@@ -146,10 +146,10 @@ job_send κ = declared_send (Job.the_type κ) (search (sendable, crosses, carrie
 pub job_sync : (κ : NamedLft) → IsSync (Job.the_row κ)
 job_sync κ = declared_sync (Job.the_type κ) (search (sendable, crosses, carried) depth 60 fits 50000)
 
-stmt_sync : IsSync CodeStmt.the_row
+pub stmt_sync : IsSync CodeStmt.the_row
 stmt_sync = search (sendable, crosses, Numbers.crosses, Truths.crosses, Kinds.crosses) depth 60 fits 20000
 
-truth_sync : IsSync CodeTruth.the_row
+pub truth_sync : IsSync CodeTruth.the_row
 truth_sync = search (sendable, crosses, Numbers.crosses, Truths.crosses) depth 60 fits 20000
 
 start_send : (κ : NamedLft) → IsSend (Start.the_row κ)

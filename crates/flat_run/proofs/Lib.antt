@@ -10,7 +10,6 @@ pub mod Statements
 pub mod Repeating
 pub mod Tasks
 pub mod Listing
-pub mod Wholes
 pub mod Sums
 pub mod Unfolding
 pub mod Registers
@@ -26,3 +25,7 @@ pub mod Safety
 pub mod Fitting
 pub mod Limiting
 pub mod LineKinds
+pub mod Lying
+pub mod BlockCode
+pub mod Wholes
+pub mod Nesting

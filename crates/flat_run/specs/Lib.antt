@@ -10,3 +10,6 @@ pub mod Fused
 pub mod Runs
 pub mod Frames
 pub mod Machines
+pub mod Kind
+pub mod Stores
+pub mod StoreLaws

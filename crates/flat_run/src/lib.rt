@@ -1,6 +1,7 @@
 //! Runs a program on one thread by flat code.
 #![tactic(auto)]
 
+pub mod arrays;
 pub mod blocks;
 pub mod code;
 pub mod environment;
@@ -9,6 +10,7 @@ pub mod fused;
 pub mod guards;
 pub mod machine;
 pub mod numbers;
+pub mod passing;
 pub mod procedures;
 pub mod programs;
 pub mod run;

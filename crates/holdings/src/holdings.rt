@@ -19,9 +19,10 @@ pub struct Holdings {
 }
 
 impl Holdings {
-    ghost use Rattle.std.specs.Prelude.{◌≡◌, ◌<◌, IfErr, IfOk, IsSome, OnErr, OnOk, is_some, map};
+    ghost use Rattle.std.specs.Prelude.{◌≡◌, ◌<◌, IfErr, IfOk, IsSome, None, OnErr, OnOk, is_some, map};
     ghost use Rattle.std.specs.Prelude.{ok_or};
     ghost use Rattle.std.specs.Bool.{OnFalse, OnTrue};
+    ghost use Rattle.sections.specs.Place.{Place as PlainPlace};
     ghost use Rattle.sections.specs.Covers.{has};
     ghost use Rattle.sections.specs.Translation.{place as place_of, window as window_of};
     ghost use Rattle.blocks.specs.Held.{AreApart, IsThere, Owned, as_owned, as_shared, numbers};
@@ -32,6 +33,15 @@ impl Holdings {
     ghost use Rattle.types.specs.Contents.{FitsArrays, read as read_of, row as row_of};
     ghost use Rattle.types.specs.Translation.{input as lists_in};
     ghost use Rattle.types.specs.Typed.{code_of};
+
+    /// No places.
+    pub fn none(alloc: Global) -> Holdings
+        ensures held { (q : PlainPlace) → held result q ≡ None }
+        ensures copied { result.copied ≡ 0 }
+    {
+        let rows = Rows::new(alloc);
+        Holdings { rows, copied: 0 }
+    }
 
     /// All places of the arrays, owned, with the numbers of lists that fit them.
     pub fn of_input(alloc: Global, _typed: &Typed, input: &Input) -> Result<Holdings, AllocError>

@@ -27,7 +27,7 @@ use Rattle.own_run.specs.Reached.{Reached, root_begins, child_begins, turns, lea
 use Rattle.own_run.specs.Results.{TaskResult}
 use Rattle.own_run.specs.Runs.{MayStand, IsTaskResult}
 use Rattle.own_run.specs.MayRun.{MayRun}
-use Rattle.own_run.specs.RunTurns.{CanTurn, KnowsFirst}
+use Rattle.own_run.specs.RunTurns.{CanTurn, FirstIsOf, KnowsFirst, NextIsOf}
 use Rattle.own_run.specs.Standings.{state_of, with_own}
 use Rattle.own_run.specs.declared.run.Run.{Run}
 use Rattle.own_run.proofs.AcceptedPrograms.{next_has, provides_needs}
@@ -114,6 +114,25 @@ module _ (p : Program) (sound : IsSound p) (accepted : IsAccepted p) (input : Li
     shows = m.shows;
     next = next_has p sound accepted input b fits m.start (record { frames = m.frames; state = with_own m.own (state_of r.thread) }) m.stands;
     known = knows_first p m.frames
+        (belongs p (needs_of p) (is_scoped p sound) (is_calm p sound accepted) (provides_needs p sound) b.steps (root_of p input b.nest)
+        refl begins_root main_part m.stands).frames;
+  }
+
+  -- and its next statement is the program's
+  first_is_of : (fs : List (Frame Own)) → AllBelong p fs → FirstIsOf p fs
+  first_is_of [] k = tt
+  first_is_of (Rest End ∷ fs) k = tt
+  first_is_of (Rest (Then l c rest) ∷ fs) k = k.0 l c Stands.here
+  first_is_of (Again l t b ∷ fs) k = tt
+  first_is_of (AtEnd before ∷ fs) k = tt
+  first_is_of (Back env ∷ fs) k = tt
+
+  pub next_is_of : (r : Run) → MayRun p input b r → NextIsOf p r
+  next_is_of r m = record {
+    frames = m.frames;
+    own = m.own;
+    shows = m.shows;
+    next = first_is_of m.frames
         (belongs p (needs_of p) (is_scoped p sound) (is_calm p sound accepted) (provides_needs p sound) b.steps (root_of p input b.nest)
         refl begins_root main_part m.stands).frames;
   }

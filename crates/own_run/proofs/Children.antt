@@ -1,12 +1,12 @@
 -- A turn that began a task lists it.
-use Rattle.std.proofs.Common.{◌≡◌, ℕ, zero, suc, List, [], ◌∷◌, ◌++◌, refl, sym, ap, ◌∙◌, subst}
+use Rattle.std.proofs.Common.{◌≡◌, ℕ, zero, suc, List, [], ◌∷◌}
 use Rattle.std.specs.Prelude.{Option}
 use Rattle.sections.specs.Member.{Member, first}
 use Rattle.types.specs.Code.{Code, Codes, Do, If, While, Split, Call, Async, Finish, End, Then, Program}
 use Rattle.types.specs.Run.{Flow, On, Faulted, Stopped, State, counted}
 use Rattle.effects.specs.Needs.{Needs}
 use Rattle.effects.proofs.Members.{in_right}
-use Rattle.own_run.specs.Frames.{Frame, Rest, Again, AtEnd, Back, Standing, acted, by_flow, done_at, done_by, done_in, paid, turn}
+use Rattle.own_run.specs.Frames.{Frame, Rest, Again, AtEnd, Back, acted, by_flow, done_at, done_by, done_in, paid, turn}
 use Rattle.own_run.specs.OwnRun.{Action, Child, Own, Spawn, Start, own_rules}
 use Rattle.own_run.specs.Results.{Settled}
 

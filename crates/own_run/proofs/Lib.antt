@@ -9,6 +9,7 @@ pub mod ComesBack
 pub mod CompleteResults
 pub mod ExactResults
 pub mod Examples
+pub mod GoingOn
 pub mod HeldPlaces
 pub mod HoldingTurns
 pub mod KeepingHold
@@ -19,6 +20,7 @@ pub mod NeverStuck
 pub mod NextAction
 pub mod OnePath
 pub mod OwnRunSettles
+pub mod PlainTurns
 pub mod ReachedTasks
 pub mod Roots
 pub mod RunSteps

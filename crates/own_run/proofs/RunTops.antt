@@ -26,11 +26,11 @@ use Rattle.own_run.proofs.Windows.{element_in}
 
 -- ---- the top frame
 
-record SameEnd {A : Type 0} (xs ys : List A) (x y : A) : Type 0 where
+pub record SameEnd {A : Type 0} (xs ys : List A) (x y : A) : Type 0 where
   pub front : xs ≡ ys
   pub last : x ≡ y
 
-same_end : {A : Type 0} (xs ys : List A) (x y : A) → xs ++ x ∷ [] ≡ ys ++ y ∷ [] → SameEnd xs ys x y
+pub same_end : {A : Type 0} (xs ys : List A) (x y : A) → xs ++ x ∷ [] ≡ ys ++ y ∷ [] → SameEnd xs ys x y
 same_end [] [] x y e = let same : x ≡ y = cc in record { front = refl; last = same }
 same_end [] (z ∷ zs) x y e =
     let long : 1 ≡ suc (length (zs ++ y ∷ [])) = ap length e in

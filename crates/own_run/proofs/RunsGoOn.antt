@@ -13,9 +13,10 @@ use Rattle.own_run.specs.Frames.{Frame, Rest, Again, AtEnd, Back, Standing, done
 use Rattle.own_run.specs.Given.{in_truth, root_of, IsOwn}
 use Rattle.own_run.specs.MayRun.{MayRun, MayStart, MayWait, IsRunOf, Stays}
 use Rattle.own_run.specs.OwnRun.{Own, Spawn, Start, own_rules, result_of}
+use Rattle.own_run.specs.Quiet.{Quietly, here, further}
 use Rattle.own_run.specs.Reached.{begun, child_begins, turns, leaves}
 use Rattle.own_run.specs.Runs.{IsTaskResult, MayStand}
-use Rattle.own_run.specs.RunTurns.{GoesAs, GoesTo, IsTurn, TurnOf}
+use Rattle.own_run.specs.RunTurns.{GoesAs, GoesOn, GoesTo, IsTurn, TurnOf}
 use Rattle.own_run.specs.Results.{TaskResult, Settled}
 use Rattle.own_run.specs.Settling.{settle}
 use Rattle.own_run.specs.Lists.{Each}
@@ -118,6 +119,36 @@ module _ (p : Program) (input : List (List ℤ)) (b : Budget) (r : Run) where
   stays t m is =
       by_frames t m.start m.frames (with_own m.own (state_of r.thread)) m.program m.nest m.stands
       (is (in_truth p (needs_of p) b.steps) m.frames m.own m.shows)
+
+  -- quiet turns lead where the task may stand
+  quiet_stands : (s : Start) {a t : Standing Own} → Quietly p (needs_of p) s.nest (in_truth p (needs_of p) b.steps) a t
+      → MayStand p input b s a → MayStand p input b s t
+  quiet_stands s here h = h
+  quiet_stands s (further little k) h = quiet_stands s k (turns h)
+
+  -- a run that goes on stays one of the program's
+  pub stays_on : (q : Run) (m : MayRun p input b r) → GoesOn (needs_of p) r q → IsRunOf p input b m.start q
+  stays_on q m far =
+      let close = in_truth p (needs_of p) b.steps in
+      let start : Standing Own = record { frames = m.frames; state = with_own m.own (state_of r.thread) } in
+      let on = far close m.frames m.own m.shows in
+      let to = on.2 in
+      let quiet : Quietly p (needs_of p) m.start.nest close start on.0
+      = subst (λ (n : ℕ). Quietly p (needs_of p) n close start on.0) m.nest
+      (subst (λ (x : Program). Quietly x (needs_of p) r.thread.nest close start on.0) m.program on.1) in (
+        record {
+          program = ap (λ plan. program plan.program.now) to.plan ∙ m.program;
+          start = m.start;
+          nest = to.nest ∙ m.nest;
+          frames = on.0.frames;
+          own = to.stands.own;
+          shows = to.stands.shows;
+          stands =
+              subst (λ (out : State Own). MayStand p input b m.start (record { frames = on.0.frames; state = out })) (sym to.stands.is)
+              (quiet_stands m.start quiet m.stands);
+        },
+        refl,
+      )
 
 -- the run of a task at its beginning
 module _ (p : Program) (input : List (List ℤ)) (b : Budget) where

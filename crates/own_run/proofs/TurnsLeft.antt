@@ -19,6 +19,7 @@ use Rattle.own_run.specs.Results.{Settled}
 use Rattle.own_run.specs.OwnRun.{Action, Step, Spawn, EnterFinish, EndFinish, EndTask, Own, Start, own_rules}
 use Rattle.own_run.specs.Frames.{Frame, Rest, Again, AtEnd, Back, Standing, by_value, chosen, acted, paid, by_flow, turn}
 use Rattle.own_run.specs.Frames.{done_by, done_at, done_in, handed}
+use Rattle.own_run.specs.Quiet.{Quietly, here, further}
 use Rattle.own_run.specs.Reached.{begun}
 use Rattle.own_run.specs.Left.{rate, block_cost, left_of, left_of_paused, left_of_start, left_after, stop_cost}
 use Rattle.own_run.specs.Left.{cost as cost_of, costs as costs_of}
@@ -69,7 +70,7 @@ some_rate : (fresh n : ℕ) → 14 ≤ rate fresh n
 some_rate fresh zero = omega arith
 some_rate fresh (suc n) = omega arith
 
-abbrev left : (fresh n : ℕ) → Standing Own → ℕ
+abbrev pub left : (fresh n : ℕ) → Standing Own → ℕ
 left fresh n t = t.state.steps * rate fresh n + costs t.frames + stops t.state.flow + 1
 
 -- what tasks that are begun may need
@@ -211,7 +212,7 @@ module _ (fresh : ℕ) (p : Program) (needs : Codes → Needs) (close : State Ow
       left fresh n (turn p (rules n) f fs st) + begun_left fresh (done_in needs n f st)
       < left fresh n (record { frames = f ∷ fs; state = st })
 
-  rest_leaves : (n : ℕ) (b : Codes) (fs : List (Frame Own)) (st : State Own) → Leaves n (Rest b) fs st
+  pub rest_leaves : (n : ℕ) (b : Codes) (fs : List (Frame Own)) (st : State Own) → Leaves n (Rest b) fs st
   rest_leaves n End fs st = omega arith
   rest_leaves n (Then l c rest) fs st =
       let k = block_costs rest in
@@ -221,6 +222,21 @@ module _ (fresh : ℕ) (p : Program) (needs : Codes → Needs) (close : State Ow
   again_leaves : (n l : ℕ) (t : Truth) (b : Codes) (fs : List (Frame Own)) (st : State Own) → Leaves n (Again l t b) fs st
   again_leaves n l t b fs st =
       let h = flow_left n st.flow l (While t b) fs fs st (1 + costs fs) refl (omega arith) (omega arith) in omega (arith, h)
+
+  -- quiet turns leave no more; at the end of a finish a turn is none
+  turn_no_more : (n : ℕ) (f : Frame Own) (fs : List (Frame Own)) (st : State Own)
+      → left fresh n (turn p (rules n) f fs st) ≤ left fresh n (record { frames = f ∷ fs; state = st })
+  turn_no_more n (Rest b) fs st = let h = rest_leaves n b fs st in omega (arith, h)
+  turn_no_more n (Again l t b) fs st = let h = again_leaves n l t b fs st in omega (arith, h)
+  turn_no_more n (AtEnd before) fs st = omega arith
+  turn_no_more n (Back env) fs st = omega arith
+
+  pub quiet_no_more : (n : ℕ) {a t : Standing Own} → Quietly p needs n close a t → left fresh n t ≤ left fresh n a
+  quiet_no_more n here = omega arith
+  quiet_no_more n (further {f = f} {fs = fs} {st = st} little k) =
+      let h = quiet_no_more n k in
+      let g = turn_no_more n f fs st in
+      omega (arith, h, g)
 
 -- ---- the same of runs in Rust
 costs_snoc : (gs : List rFrame) (g : rFrame) → costs_of (gs ++ g ∷ []) ≡ costs_of gs + cost_of g
@@ -252,7 +268,7 @@ flow_same rFaulted = refl
 flow_same rStopped = refl
 
 -- what a run in Rust has left is what its standing has
-left_same : (r : Run) (fs : List (Frame Own)) (x : Own) → Shows r fs x
+pub left_same : (r : Run) (fs : List (Frame Own)) (x : Own) → Shows r fs x
     → left_of r ≡ left r.plan.budget.steps r.thread.nest (record { frames = fs; state = with_own x (state_of r.thread) })
 left_same r fs x shows =
     let a = costs_same r.frames.items fs shows.frames in let b = flow_same r.thread.flow in omega (arith, a, b)
@@ -265,7 +281,7 @@ module _ (needs : Codes → Needs) (old : Run) where
   n = old.thread.nest
 
   -- a run that stands so on the same plan has that left
-  goes_left : (next : Standing Own) (new : Run) → GoesTo old next new → left_of new ≡ left fresh n next
+  pub goes_left : (next : Standing Own) (new : Run) → GoesTo old next new → left_of new ≡ left fresh n next
   goes_left next new g =
       left_same new next.frames g.stands.own g.stands.shows
       ∙ ap (λ (plan : Plan). left plan.budget.steps new.thread.nest (record { frames = next.frames; state = with_own g.stands.own (state_of new.thread) })) g.plan

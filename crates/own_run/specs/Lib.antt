@@ -7,7 +7,9 @@ pub mod Left
 pub mod Lists
 pub mod MayRun
 pub mod OwnRun
+pub mod Passed
 pub mod Places
+pub mod Quiet
 pub mod Reached
 pub mod Ready
 pub mod Results
@@ -16,5 +18,6 @@ pub mod Runs
 pub mod Settling
 pub mod Standings
 pub mod Stops
+pub mod TaskKind
 pub mod Translation
 pub mod Worth

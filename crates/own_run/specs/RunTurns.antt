@@ -2,19 +2,21 @@
 use Rattle.std.specs.Prelude.{ℕ, ◌≡◌, ◌+◌, ◌<◌, ◌≤◌, ◌⊎◌, ⊤, List, [], ◌∷◌, ◌++◌, Option, ◌||◌, Bool, true}
 use Rattle.std.specs.Prelude.{false}
 use Rattle.sections.specs.Place.{Place}
-use Rattle.types.specs.Code.{Code, Do, If, While, Split, Call, Async, Finish, Codes, Then}
+use Rattle.types.specs.Code.{Code, Do, If, While, Split, Call, Async, Finish, Codes, Then, Program}
 use Rattle.types.specs.Contents.{IsThere}
 use Rattle.types.specs.Run.{State, counted}
 use Rattle.types.specs.Translation.{environment, program}
 use Rattle.effects.specs.Needs.{Needs}
+use Rattle.effects.specs.Statements.{HasStatement}
 use Rattle.serial_run.specs.Primitive.{CanStore}
 use Rattle.serial_run.specs.declared.thread.Flow.TheVariants.{On as rOn}
 use Rattle.own_run.specs.Places.{written, touched}
 use Rattle.own_run.specs.Results.{Settled}
-use Rattle.own_run.specs.OwnRun.{Own, Action, Step, Spawn, EnterFinish, own_rules, result_of}
+use Rattle.own_run.specs.OwnRun.{Own, Action, Spawn, EnterFinish, own_rules, result_of}
 use Rattle.own_run.specs.OwnRun.{back_from}
 use Rattle.own_run.specs.Frames.{Frame, Rest, Again, AtEnd, Back, Standing, acted, by_flow, turn, done_by}
 use Rattle.own_run.specs.Frames.{done_at, done_in}
+use Rattle.own_run.specs.Quiet.{IsLittle, Quietly}
 use Rattle.own_run.specs.Reached.{HasNext}
 use Rattle.own_run.specs.Standings.{Shows, IsAt, IsEnd, Stacked, state_of, with_own}
 use Rattle.own_run.specs.Stops.{is_over, is_next_over, stops}
@@ -51,7 +53,7 @@ BeginsAs actions over s = (over ≡ false) × (actions ≡ Spawn (start s) ∷ [
 
 -- these actions were done; `over` where that went over the budget
 abbrev pub DoneAs : List Action → (over : Bool) → Done → Type 0
-DoneAs actions over Gone = (over ≡ false) × ((actions ≡ []) ⊎ (actions ≡ Step ∷ []))
+DoneAs actions over Gone = (over ≡ false) × IsLittle actions
 DoneAs actions over (Spawned s) = BeginsAs actions over s.value
 DoneAs actions over Entered = (over ≡ false) × (actions ≡ EnterFinish ∷ [])
 DoneAs actions over Exceeded = over ≡ true
@@ -231,22 +233,25 @@ IsEnding (EndsFinish q r) = ⊤
 IsEnding (Ended r) = ⊤
 IsEnding (Over r) = ⊥
 
--- a run becomes another by turns that go on
-pub data GoesOn (needs : Codes → Needs) : (old new : Run) → Type 0 where
-  here : {r : Run} → GoesOn needs r r
-  further : {old mid new : Run} → GoesOn needs old mid → IsTurn needs mid (Going new)
-      → GoesOn needs old new
+-- whatever the one run stands for, the other stands for what comes of that by turns that nobody else sees
+abbrev pub GoesOn : (needs : Codes → Needs) → (old new : Run) → Type 0
+GoesOn needs old new =
+    (close : State Own → Option Settled) (fs : List (Frame Own)) (x : Own) → Shows old fs x
+    → (t : Standing Own)
+    × Quietly (program old.plan.program.now) needs old.thread.nest close
+    (record { frames = fs; state = with_own x (state_of old.thread) }) t
+    × GoesTo old t new
 
--- a turn that comes to more than a step
+-- a turn that somebody else sees: more than a step, and more than going over the budget
 abbrev pub IsMore : Turn → Type 0
 IsMore (Going r) = ⊥
 IsMore (Spawns r s) = ⊤
 IsMore (EntersFinish r) = ⊤
 IsMore (EndsFinish q r) = ⊤
 IsMore (Ended r) = ⊤
-IsMore (Over r) = ⊤
+IsMore (Over r) = ⊥
 
--- so, and then takes this turn, the first that comes to more than a step
+-- so, and then takes this turn, the first that is more
 pub record GoesUpTo (needs : Codes → Needs) (old : Run) (t : Turn) : Type 0 where
   pub last : Run
   pub reached : GoesOn needs old last
@@ -258,10 +263,22 @@ abbrev pub DoesMore : rStep → (new : Run) → Type 0
 DoesMore (rDid done) new = IsMore (turn_of new done)
 DoesMore rAtEnd new = ⊤
 
--- a run becomes another in place by turns that go on, and takes the first that comes to more than a
--- step; at the end of a finish, or at its own, it stays as it stands there
+-- a run goes on in place, and takes the first turn that is more; at the end of a finish, or at its own,
+-- it stays as it stands there
 pub record StepsUpTo (needs : Codes → Needs) (old : Run) (s : rStep) (new : Run) : Type 0 where
   pub last : Run
   pub reached : GoesOn needs old last
   pub step : IsStep needs last s new
   pub more : DoesMore s new
+
+-- the first statement of a block, where one is next, is the program's
+abbrev pub FirstIsOf : Program → List (Frame Own) → Type 0
+FirstIsOf p (Rest (Then l s rest) ∷ fs) = HasStatement p l s
+FirstIsOf p fs = ⊤
+
+-- a run stands for a task whose next statement is the program's
+pub record NextIsOf (p : Program) (r : Run) : Type 0 where
+  pub frames : List (Frame Own)
+  pub own : Own
+  pub shows : Shows r frames own
+  pub next : FirstIsOf p frames

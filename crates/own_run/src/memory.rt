@@ -7,6 +7,7 @@ ghost use Rattle.types.specs.Translation.{environment as environment_of};
 ghost use Rattle.own_run.specs.Places.{Places as PlaceSet, within, only, without};
 ghost use Rattle.own_run.specs.Translation.{contents_of, owned_by};
 
+use flat_run::arrays::Arrays;
 use holdings::error::HoldError;
 use holdings::holdings::Holdings;
 use sections::id::SectionId;
@@ -53,6 +54,43 @@ impl Memory for TaskMemory {
     }
 
     ghost reads = { λ s. refl };
+}
+
+/// A read is 0 where nothing is held, and a write asks for nothing: one to a place that isn't owned takes
+/// the number in as a copy, which no accepted program comes to. So lines of flat code need no word of what a
+/// task holds.
+impl Arrays for TaskMemory {
+    ghost use Rattle.std.specs.Prelude.{⊤, refl};
+    ghost use Rattle.own_run.specs.TaskKind.{task_kind};
+
+    ghost kind = { task_kind };
+
+    ghost Has = { λ m q. ⊤ };
+
+    #[inline(always)]
+    fn get(&self, place: Place) -> i64 {
+        self.holdings.number(place)
+    }
+
+    #[inline(always)]
+    fn set(&mut self, place: Place, value: i64) -> bool {
+        self.holdings.set(place, value)
+    }
+
+    #[inline(never)]
+    fn put(&mut self, place: Place, value: i64) -> Result<(), AllocError> {
+        self.holdings.put(place, value)
+    }
+
+    ghost reads = { λ s. refl };
+
+    ghost has = { λ p s w v q fits lies is. tt };
+
+    ghost fits_on = { λ p s t same fits. tt };
+
+    ghost none_lies = { λ p. tt };
+
+    ghost sides_lie = { λ p w v ws lies is. (tt, tt) };
 }
 
 impl TaskMemory {

@@ -12,6 +12,7 @@ ghost use Rattle.types.specs.Translation.{codes as codes_of, environment as envi
 ghost use Rattle.types.specs.Translation.{fault as fault_of};
 ghost use Rattle.effects.specs.Needs.{Needs};
 ghost use Rattle.holdings.specs.declared.error.HoldError.TheVariants.{OutOfMemory};
+ghost use Rattle.program_code.specs.Pieces.{IsCodeOfProgram};
 ghost use Rattle.serial_run.specs.Standing.{flow as flow_of};
 ghost use Rattle.own_run.specs.Apart.{is_stopped as stops_all};
 ghost use Rattle.own_run.specs.Frames.{Frame as Left, handed};
@@ -31,6 +32,7 @@ use crate::start::Start;
 use crate::turn::{Done, Paused, Step, Turn};
 use holdings::error::HoldError;
 use holdings::holdings::Holdings;
+use program_code::pieces::ProgramCode;
 use sections::id::SectionId;
 use serial_run::thread::{Flow, Plan, Thread, room};
 use std::alloc::AllocError;
@@ -53,7 +55,7 @@ pub struct Run<'p> {
 
 impl<'p> Run<'p> {
     ghost use Rattle.own_run.specs.RunTurns.{Acts, CanAct, CanTurn, DidAct, DidNext, GoesOn};
-    ghost use Rattle.own_run.specs.RunTurns.{HasRoom, IsAtEnd, IsEnding, IsStep, IsTurn};
+    ghost use Rattle.own_run.specs.RunTurns.{HasRoom, IsAtEnd, IsEnding, IsStep, IsTurn, NextIsOf};
     ghost use Rattle.own_run.specs.RunTurns.{StepsUpTo, Turns};
     ghost use Rattle.own_run.specs.RunTurns.{below_top, taken_off};
     ghost use Rattle.own_run.specs.declared.run.Run.{Run as AnyRun};
@@ -88,21 +90,32 @@ impl<'p> Run<'p> {
         })
     }
 
-    /// Turns on in place, as long as a turn is no more than a step, and takes the first that is more. At
-    /// the end of a finish, or at its own, the run is left as it stands there.
-    pub fn go<N: Needed>(&mut self, needed: &N) -> Result<Step<'p>, HoldError>
-        requires { (r : AnyRun) → GoesOn (N.needs needed.now) self.old r
+    /// Turns on in place, as long as nobody else sees it, plain statements at once, and takes the first
+    /// turn that is more. At the end of a finish, or at its own, the run is left as it stands there.
+    pub fn go<N: Needed>(
+        &mut self,
+        needed: &N,
+        code: &ProgramCode<'p>,
+    ) -> Result<Step<'p>, HoldError>
+        requires code { IsCodeOfProgram (program_of self.old.plan.program.now) code.now }
+        requires can { (r : AnyRun) → GoesOn (N.needs needed.now) self.old r
             → CanTurn (N.needs needed.now) (N.IsAsync needed.now) r }
+        requires next { (r : AnyRun) → GoesOn (N.needs needed.now) self.old r
+            → NextIsOf (program_of self.old.plan.program.now) r }
         ensures step { IfOk result (λ s. StepsUpTo (N.needs needed.entry.now) self.old s self.new) }
         ensures refused { IfErr result (λ e. e ≡ OutOfMemory) }
     {
         'turns: loop {
-            match self.step(needed)? {
-                Step::Did(done) => match done {
-                    Done::Gone => {}
-                    done => return Ok(Step::Did(done)),
+            match self.next_piece(code) {
+                Some((number, rest)) => self.do_at_once(code, number, rest)?,
+                None => match self.step(needed)? {
+                    Step::Did(done) => match done {
+                        Done::Gone => {}
+                        Done::Exceeded => {}
+                        done => return Ok(Step::Did(done)),
+                    },
+                    Step::AtEnd => return Ok(Step::AtEnd),
                 },
-                Step::AtEnd => return Ok(Step::AtEnd),
             }
         }
     }

@@ -3,6 +3,7 @@
 mod logged_runs;
 mod numbers;
 mod outcomes_of_tasks;
+mod pieces;
 mod progress_lines;
 mod runs_by_choices;
 mod settled_results;

@@ -1,7 +1,7 @@
 -- What a turn makes of the finishes that are open, and of the steps that are left.
 use Rattle.std.proofs.Common.{◌≡◌, ℕ, zero, suc, ◌+◌, ◌≤◌, List, [], ◌∷◌, ◌++◌, Option, None, Ok, Err, refl, sym, ap}
 use Rattle.std.proofs.Common.{◌∙◌, arith, inl, inr, le_refl}
-use Rattle.std.specs.Prelude.{Bool, true, false, ◌⊎◌, ok_or}
+use Rattle.std.specs.Prelude.{Bool, true, false, ok_or}
 use Rattle.sections.specs.Place.{sides_of}
 use Rattle.types.specs.declared.fault.FaultKind.TheVariants.{SplitPoint}
 use Rattle.types.specs.Code.{Truth, Code, Do, If, While, Split, Call, Async, Finish, Codes, End, Then, Program}
@@ -13,7 +13,8 @@ use Rattle.own_run.specs.Results.{Settled}
 use Rattle.own_run.specs.OwnRun.{Action, Step, Spawn, EnterFinish, EndFinish, EndTask, Own, own_rules}
 use Rattle.own_run.specs.Frames.{Frame, Rest, Again, AtEnd, Back, Standing, by_value, chosen, acted, paid, by_flow, turn}
 use Rattle.own_run.specs.Frames.{done_by, done_at, done_in}
-use Rattle.own_run.specs.RunTurns.{GoesAs, GoesTo, IsTurn, TurnOf, EndsAs, WaitsAs}
+use Rattle.own_run.specs.Quiet.{IsLittle, Quietly, here, further}
+use Rattle.own_run.specs.RunTurns.{GoesAs, GoesOn, GoesTo, IsTurn, TurnOf, EndsAs, WaitsAs}
 use Rattle.own_run.specs.Standings.{Shows, ShowsFrame, Stacked, state_of, with_own}
 use Rattle.own_run.specs.Stops.{stops}
 use Rattle.own_run.specs.declared.frame.Frame.{Frame as rFrame}
@@ -174,6 +175,27 @@ module _ (p : Program) (needs : Codes → Needs) (close : State Own → Option S
   turn_counts n (AtEnd before) fs st = record { steps = omega arith; finishes = omega arith }
   turn_counts n (Back env) fs st = record { steps = omega arith; finishes = omega arith }
 
+  -- quiet turns begin and end no finish
+  record QuietCounts (a t : Standing Own) : Type 0 where
+    steps : t.state.steps ≤ a.state.steps
+    finishes : opens t.frames ≡ opens a.frames
+
+  none_entered : {actions : List Action} → IsLittle actions → entered actions ≡ 0
+  none_entered (inl e) = ap entered e
+  none_entered (inr e) = ap entered e
+
+  quiet_counts : (n : ℕ) {a t : Standing Own} → Quietly p needs n close a t → QuietCounts a t
+  quiet_counts n here = record { steps = omega arith; finishes = refl }
+  quiet_counts n (further {f = f} {fs = fs} {st = st} little k) =
+      let h = quiet_counts n k in
+      let c = turn_counts n f fs st in
+      let e = none_entered little in
+      let s = c.steps in
+      let t = c.finishes in
+      let i = h.steps in
+      let j = h.finishes in
+      record { steps = omega (arith, s, e, i); finishes = omega (arith, t, e, j) }
+
 -- ---- the same of runs in Rust
 open_snoc : (gs : List rFrame) (g : rFrame) → open_finishes (gs ++ g ∷ []) ≡ open_finishes gs + ends_finish g
 open_snoc [] g = omega arith
@@ -244,13 +266,21 @@ module _ (old : Run) where
         let d = opens_same old.frames.items (f ∷ fs) shows in
         record { plan = g.plan; steps = omega (arith, s, b, e, same); finishes = omega (arith, t, c, d, e) }
 
+    -- a run that goes on opens none
+    pub goes_on_opened : (r : Run) (fs : List (Frame Own)) (x : Own) → Shows old fs x → GoesOn needs old r → Opened 0 r
+    goes_on_opened r fs x shows far =
+        let on = far close fs x shows in
+        let q = quiet_counts (program old.plan.program.now) needs close n on.1 in
+        let s = q.steps in
+        let t = q.finishes in
+        let b = ap (λ (x : State Own). x.steps) on.2.stands.is in
+        let c = opens_same r.frames.items on.0.frames on.2.stands.shows.frames in
+        let d = opens_same old.frames.items fs shows.frames in
+        record { plan = on.2.plan; steps = omega (arith, s, b); finishes = omega (arith, t, c, d) }
+
     by_turn : (t : Turn) (f : Frame Own) (fs : List (Frame Own)) (st : State Own) → st.steps ≡ old.thread.steps
         → Stacked old.frames.items (f ∷ fs) → GoesAs old (next f fs st) (done_in needs n f st) (stops n f st) t → Changes t
-    by_turn (Going r) f fs st same shows g = goes_opened 0 f fs st r same shows (nothing g.1.1) g.0
-      where
-        nothing : {actions : List Action} → (actions ≡ []) ⊎ (actions ≡ Step ∷ []) → entered actions ≡ 0
-        nothing (inl e) = ap entered e
-        nothing (inr e) = ap entered e
+    by_turn (Going r) f fs st same shows g = goes_opened 0 f fs st r same shows (none_entered (program old.plan.program.now) needs close g.1.1) g.0
     by_turn (Spawns r c) f fs st same shows g = goes_opened 0 f fs st r same shows (ap entered g.1.1) g.0
     by_turn (EntersFinish r) f fs st same shows g = goes_opened 1 f fs st r same shows (ap entered g.1.1) g.0
     by_turn (Over r) f fs st same shows g = goes_opened 0 f fs st r same shows (ap entered (over_does_nothing needs n f st g.1)) g.0

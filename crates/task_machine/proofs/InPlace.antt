@@ -10,7 +10,7 @@ use Rattle.own_run.specs.Translation.{start}
 use Rattle.own_run.specs.declared.run.Run.{Run}
 use Rattle.own_run.specs.declared.start.Start.{Start}
 use Rattle.own_run.specs.declared.turn.Done.{Done}
-use Rattle.own_run.specs.declared.turn.Done.TheVariants.{Gone, Entered, Exceeded}
+use Rattle.own_run.specs.declared.turn.Done.TheVariants.{Gone, Exceeded}
 use Rattle.own_run.specs.declared.turn.Step.{Step as RunStep}
 use Rattle.own_run.specs.declared.turn.Step.TheVariants.{Did, AtEnd}
 use Rattle.own_run.specs.declared.turn.Turn.{Turn as RunTurn}
@@ -96,7 +96,7 @@ is_more (RunSpawns r s) e = tt
 is_more (RunEntersFinish r) e = tt
 is_more (RunEndsFinish q x) e = tt
 is_more (RunEnded x) e = tt
-is_more (RunOver r) e = tt
+is_more (RunOver r) e = e
 
 module _ (b new : Body) (s : RunStep) (went : GoesInPlace b s new) where
   abbrev Far : RunStep → Type 0

@@ -9,7 +9,7 @@ use Rattle.own_run.specs.MayRun.{MayRun, MayStart}
 use Rattle.own_run.specs.OwnRun.{Own}
 use Rattle.own_run.specs.OwnRun.{Start as Given}
 use Rattle.own_run.specs.Reached.{begun}
-use Rattle.own_run.specs.RunTurns.{CanTurn, GoesOn, here, further, IsTurn}
+use Rattle.own_run.specs.RunTurns.{CanTurn, GoesOn, IsTurn, NextIsOf}
 use Rattle.own_run.specs.Standings.{IsAt}
 use Rattle.own_run.specs.Translation.{start}
 use Rattle.own_run.specs.declared.result.TaskResult.{TaskResult as Made}
@@ -18,8 +18,8 @@ use Rattle.own_run.specs.declared.start.Start.{Start}
 use Rattle.own_run.specs.declared.turn.Paused.{Paused}
 use Rattle.own_run.specs.declared.turn.Turn.{Turn}
 use Rattle.own_run.specs.declared.turn.Turn.TheVariants.{Going, Spawns, EntersFinish, EndsFinish, Ended, Over}
-use Rattle.own_run.proofs.BelongingTasks.{can_turn, IsAsync}
-use Rattle.own_run.proofs.RunsGoOn.{begins, stays}
+use Rattle.own_run.proofs.BelongingTasks.{can_turn, IsAsync, next_is_of}
+use Rattle.own_run.proofs.RunsGoOn.{begins, stays, stays_on}
 use Rattle.task_machine.specs.Ends.{EndsFinish as EndsAFinish}
 use Rattle.task_machine.specs.Jobs.{program_of, lists_of, budget_of, IsJob}
 use Rattle.task_machine.specs.Tasks.{GoesBy, IsFirst}
@@ -27,7 +27,7 @@ use Rattle.task_machine.specs.declared.job.Job.{Job}
 use Rattle.task_machine.specs.declared.stake.ScopeMark.{ScopeMark}
 use Rattle.task_machine.specs.declared.stake.Stake.{Stake}
 use Rattle.task_machine.specs.declared.task.Body.{Body}
-use Rattle.task_machine.proofs.Counting.{Opened, Changes, changes, none_open}
+use Rattle.task_machine.proofs.Counting.{Opened, Changes, changes, goes_on_opened, none_open}
 
 pub fits : (j : Job) → IsJob j → FitsArrays (program_of j).arrays (lists_of j)
 fits j ok = ok.fits
@@ -119,13 +119,21 @@ module _ (j : Job) where
   -- ---- turns that go on
   pub goes_far : (outer : List Stake) (n : ℕ) (old new : Run) → GoesBy j outer n old
       → GoesOn (needs_of (program_of j)) old new → GoesBy j outer n new
-  goes_far outer n old new g here = g
-  goes_far outer n old new g (further {mid = mid} far is) = going outer n mid (goes_far outer n old mid g far) new is
+  goes_far outer n old new g far =
+      same_goes outer n old g new (goes_on_opened old (needs_of (program_of j)) new g.may.frames g.may.own g.may.shows far)
+      (stays_on (program_of j) (lists_of j) (budget_of j) old new g.may far).0
 
   pub can_go : (outer : List Stake) (n : ℕ) (old new : Run) → GoesBy j outer n old
       → GoesOn (needs_of (program_of j)) old new → CanTurn (needs_of (program_of j)) (IsAsync (program_of j)) new
   can_go outer n old new g far =
       can_turn (program_of j) g.job.sound g.job.accepted (lists_of j) (budget_of j) (fits j g.job) new
+      (goes_far outer n old new g far).may
+
+  -- and its next statement is the program's
+  pub next_of : (outer : List Stake) (n : ℕ) (old new : Run) → GoesBy j outer n old
+      → GoesOn (needs_of (program_of j)) old new → NextIsOf (program_of j) new
+  next_of outer n old new g far =
+      next_is_of (program_of j) g.job.sound g.job.accepted (lists_of j) (budget_of j) (fits j g.job) new
       (goes_far outer n old new g far).may
 
   -- ---- a task at its beginning

@@ -116,7 +116,7 @@ pub record InPlace (Takes : (old new : Run) → Type 0) (old new : Body) : Type 
   pub takes : Takes run after
   pub is : new ≡ record old { run = Some after }
 
--- by turns that are no more than a step, and the first that is more
+-- by turns that nobody else sees, and the first that is more
 abbrev pub GoesInPlace : (old : Body) → RunStep → (new : Body) → Type 0
 GoesInPlace old s new =
     InPlace (λ r after. StepsUpTo (needs_of (program_of old.job)) r s after) old new

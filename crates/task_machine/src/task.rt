@@ -1,10 +1,11 @@
 //! Tasks, and those that they begin.
 
 ghost use Rattle.std.specs.Prelude.{◌≡◌, ◌+◌, ◌<◌, IfErr, IfOk, IfSome, Some};
+ghost use Rattle.program_code.specs.Pieces.{IsCodeOfProgram};
 ghost use Rattle.own_run.specs.RunTurns.{turn_of};
 ghost use Rattle.own_run.specs.declared.run.Run.{Run as AnyRun};
 ghost use Rattle.own_run.specs.declared.turn.Turn.TheVariants.{Ended};
-ghost use Rattle.task_machine.specs.Jobs.{IsJob};
+ghost use Rattle.task_machine.specs.Jobs.{IsJob, program_of};
 ghost use Rattle.task_machine.specs.Tasks.{IsBegun, IsBody, IsChild, IsFirst, IsRoot, IsRootBody};
 ghost use Rattle.task_machine.specs.Tasks.{IsTask};
 ghost use Rattle.task_machine.specs.Turns.{AreTasks, Becomes, EndsBy, GoesInPlace, HasDone};
@@ -21,6 +22,7 @@ use own_run::result::TaskResult as RunResult;
 use own_run::run::Run;
 use own_run::start::Start;
 use own_run::turn::{Done, Step, Turn as RunTurn};
+use program_code::pieces::ProgramCode;
 use types::path::Path;
 use weights::weight::Weight;
 
@@ -75,15 +77,17 @@ impl<'p> Task<'p> {
         }
     }
 
-    /// Turns on, as long as a turn is no more than a step; gives the first that is.
-    pub fn go(self) -> Result<Turn<'p>, NoMemory>
+    /// Turns on, as long as nobody else sees it; gives the first turn that is more. It goes by the program's flat code
+    /// where it may.
+    pub fn go(self, code: &ProgramCode<'p>) -> Result<Turn<'p>, NoMemory>
         requires task { IsTask self }
+        requires code { IsCodeOfProgram (program_of self.body.value.job) code.now }
         ensures turn { IfOk result (TakesTurn self.entry) }
         ensures tasks { IfOk result AreTasks }
         ensures units { IfOk result (λ t. units_after t ≡ units_of self.entry) }
     {
         let Task { mut body, share } = self;
-        match body.go()? {
+        match body.go(code)? {
             Step::Did(done) => did(body, share, done),
             Step::AtEnd => at_end(body, share),
         }
@@ -147,15 +151,16 @@ impl<'p> Task<'p> {
 
 impl<'p> Body<'p> {
     /// Its run turns on where it lies.
-    fn go(&mut self) -> Result<Step<'p>, NoMemory>
-        requires { IsBody self.old }
+    fn go(&mut self, code: &ProgramCode<'p>) -> Result<Step<'p>, NoMemory>
+        requires body { IsBody self.old }
+        requires code { IsCodeOfProgram (program_of self.old.job) code.now }
         ensures { IfOk result (λ s. GoesInPlace self.old s self.new) }
     {
         let accepted = self.job.accepted;
         let Some(run) = &mut self.run else {
             unreachable!()
         };
-        match run.go(accepted) {
+        match run.go(accepted, code) {
             Ok(step) => Ok(step),
             Err(_) => Err(NoMemory),
         }

@@ -1,7 +1,7 @@
 -- The kits cross to the threads, and the floor is seen from all of them.
 use Rattle.std.proofs.Crossing.{crosses, frees, Vec-send, Vec-sync}
 use denote.Builtin.{unit}
-use denote.Param.Send.{IsSend, IsSync, sendable, view_send}
+use denote.Param.Send.{IsSend, IsSync, sendable, view_send, view_sync}
 use denote.Param.SendFields.{declared_send, declared_sync, as_row_send, as_row_sync}
 use denote.RattleType.{RattleType}
 use denote.Ref.{NamedLft}
@@ -10,6 +10,8 @@ use Rattle.finish_scope.specs.declared.running.Running.{Ghosts}
 use Rattle.finish_scope.specs.contracts.inner.Inner as Inner
 use Rattle.finish_scope.specs.contracts.shelf.Shelf as Shelf
 use Rattle.finish_scope.specs.contracts.resting.Place as Place
+use Rattle.workers.specs.contracts.code.OwnCode as OwnCode
+use Rattle.workers.specs.contracts.code.OwnCode.TheInside as InOwnCode
 use Rattle.workers.specs.contracts.floor.Floor as Floor
 use Rattle.workers.specs.contracts.hall.Bed as Bed
 use Rattle.workers.specs.contracts.hall.Hall as Hall
@@ -21,6 +23,7 @@ use Rattle.workers.specs.contracts.ready.Ready as Ready
 use Rattle.workers.specs.contracts.ready.Ready.TheInside as InReady
 use Rattle.std.specs.contracts.alloc.Global as Heap
 use Rattle.std.specs.contracts.impls.GlobalAllocator.TheImpl.{ghosts}
+use Rattle.std.specs.contracts.marker.PhantomData as PhantomData
 use Rattle.std.specs.contracts.option.Option as Option
 use Rattle.std.specs.contracts.sync.Arc as Arc
 use Rattle.std.specs.contracts.sync.Mutex as Mutex
@@ -30,6 +33,7 @@ use Rattle.crossbeam_deque.specs.contracts.handles.Worker as Worker
 use Rattle.crossbeam_deque.specs.contracts.protocol.Free as Free
 use Rattle.crossbeam_deque.specs.contracts.protocol.FreeProtocolUnit.TheImpl as FreeImpl
 use Rattle.std.proofs.alloc.Global.TheSendSync as OfHeap
+use Rattle.std.proofs.marker.PhantomData.TheSendSync as OfPhantom
 use Rattle.std.proofs.option.Option.TheSendSync as OfOption
 use Rattle.std.proofs.sync.Mutex.TheSendSync as OfMutex
 use Rattle.crossbeam_deque.proofs.handles.Worker.TheSendSync as OfWorker
@@ -42,6 +46,7 @@ use Rattle.workers.proofs.settings.Settings.TheSendSync as OfSettings
 use Rattle.tickets.proofs.word.Tickets.TheSendSync as OfTickets
 use Rattle.finish_scope.proofs.Crossing.{job_sync, child_send, task_send}
 use Rattle.finish_scope.proofs.Boarding.{scope_send, shelf_send}
+use Rattle.workers.proofs.Flats.{program_code_sync}
 
 module _ (κ : NamedLft) (J : RattleType) (gh : Ghosts J.Denot) where
   scope_row : RattleType
@@ -104,18 +109,29 @@ module _ (κ : NamedLft) (J : RattleType) (gh : Ghosts J.Denot) where
         ),
       )
 
+  own_code_sync : IsSync (OwnCode.the_row κ J gh)
+  own_code_sync =
+      view_sync (InOwnCode.the_row κ J gh) _ _ _ _
+      (declared_sync (InOwnCode.the_type κ J gh) (
+        search (sendable, crosses, program_code_sync) depth 60 fits 50000,
+        (as_row_sync (PhantomData.the_field J) (OfPhantom.the_field_sync J), tt),
+      ))
+
   -- the gate is lent by whoever has it
   pub floor_sync : (G : RattleType) → IsSync G → IsSync (Floor.the_row κ J G gh)
   floor_sync G gate =
       declared_sync (Floor.the_type κ J G gh) (
         job_sync κ,
         (
-          OfSettings.the_sync,
+          own_code_sync,
           (
-            search (sendable, crosses) depth 30 fits 5000,
+            OfSettings.the_sync,
             (
-              OfTickets.the_sync,
-              (hall_sync, (OfJournal.the_sync, tt)),
+              search (sendable, crosses) depth 30 fits 5000,
+              (
+                OfTickets.the_sync,
+                (hall_sync, (OfJournal.the_sync, tt)),
+              ),
             ),
           ),
         ),

@@ -1,3 +1,4 @@
 pub mod Boarding
+pub mod Flats
 pub mod Passes
 pub mod Turning

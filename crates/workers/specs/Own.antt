@@ -2,9 +2,11 @@
 use Rattle.std.specs.Prelude.{◌≡◌, List, Option, Some}
 use Rattle.types.specs.Translation.{outcome}
 use Rattle.own_run.specs.Lists.{Each}
+use Rattle.program_code.specs.Pieces.{IsCodeOfProgram}
+use Rattle.program_code.specs.declared.pieces.ProgramCode.{ProgramCode}
 use Rattle.own_run.specs.declared.result.TaskResult.{TaskResult as Made}
 use Rattle.task_machine.specs.Ends.{IsParked}
-use Rattle.task_machine.specs.Jobs.{outcome_of}
+use Rattle.task_machine.specs.Jobs.{outcome_of, program_of}
 use Rattle.task_machine.specs.Tasks.{IsTask, IsChild, IsResultOf}
 use Rattle.task_machine.specs.Turns.{IsWanting}
 use Rattle.task_machine.specs.declared.finish.Ending.{Ending}
@@ -30,6 +32,10 @@ IsNext j Idle = Unit {0}
 IsNext j (Told x) = outcome x ≡ outcome_of j
 
 module _ (o : Option Job) where
+  -- the flat code is that of its program
+  abbrev pub HasCode : ProgramCode → Type 0
+  HasCode code = (j : Job) → o ≡ Some j → IsCodeOfProgram (program_of j) code
+
   -- a task that was begun, and one between two turns
   pub record IsOwnChild (c : Child) : Type 0 where
     pub job : o ≡ Some c.job

@@ -5,10 +5,11 @@ ghost use Rattle.types.specs.Translation.{outcome as outcome_in};
 ghost use Rattle.task_machine.specs.Jobs.{outcome_of};
 ghost use Rattle.finish_scope.specs.Own.{IsOwnPassing};
 ghost use Rattle.gather.specs.RunErrors.{IsCause};
-ghost use Rattle.workers.specs.Own.{IsOwnBody, IsOwnChild, IsOwnEnded, IsOwnEnding, IsOwnNext};
+ghost use Rattle.workers.specs.Own.{HasCode, IsOwnBody, IsOwnChild, IsOwnEnded, IsOwnEnding, IsOwnNext};
 ghost use Rattle.workers.specs.Own.{IsOwnLeaving, IsOwnTask, IsOwnTurn};
 ghost use Rattle.workers.specs.Desks.{HasSeat, Tells};
 
+use crate::code::OwnCode;
 use crate::error::{RunError, Trouble};
 use crate::gate::Gate;
 use crate::hall::Hall;
@@ -25,6 +26,7 @@ use finish_scope::inner::Inner;
 use finish_scope::resting::{Passing, Resting};
 use finish_scope::running::Running;
 use own_run::result::TaskResult;
+use program_code::pieces::ProgramCode;
 use std::alloc::AllocError;
 use std::sync::{Arc, Mutex, Wait};
 use std::thread;
@@ -48,6 +50,7 @@ const MOST_DRAWS: u64 = 4_294_967_295;
 #[derive(Drop)]
 pub struct Floor<'p, J: Running, G: Gate> {
     pub job: Job<'p>,
+    pub code: OwnCode<'p, J>,
     pub settings: Settings,
     pub gate: &'p G,
     pub tickets: Tickets,
@@ -99,7 +102,7 @@ impl<'p, J: Running, G: Gate> Floor<'p, J, G> {
         if self.journal.is_kept() {
             self.noted_turn(rt, task)
         } else {
-            Ok(go::<J>(task)?)
+            Ok(go::<J>(task, self.code.lend())?)
         }
     }
 
@@ -450,11 +453,12 @@ impl<'p, J: Running, G: Gate> Floor<'p, J, G> {
 }
 
 /// A task turns on, up to a turn that is more than a step.
-fn go<'p, J: Running>(task: Task<'p>) -> Result<Turn<'p>, NoMemory>
-    requires { IsOwnTask J.job task }
+fn go<'p, J: Running>(task: Task<'p>, code: &ProgramCode<'p>) -> Result<Turn<'p>, NoMemory>
+    requires own { IsOwnTask J.job task }
+    requires code { HasCode J.job code.now }
     ensures { IfOk result (IsOwnTurn J.job) }
 {
-    task.go()
+    task.go(code)
 }
 
 /// A task does one turn.

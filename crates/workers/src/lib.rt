@@ -2,6 +2,7 @@
 
 #![tactic(auto)]
 
+mod code;
 pub mod error;
 mod floor;
 pub mod gate;

@@ -5,6 +5,7 @@ ghost use Rattle.task_machine.specs.Jobs.{IsJob};
 ghost use Rattle.tickets.specs.Seats.{IsSeatOf, drawn_of};
 ghost use Rattle.workers.specs.Desks.{HasSeat, IsFresh};
 
+use crate::code::OwnCode;
 use crate::error::Trouble;
 use crate::floor::Floor;
 use crate::gate::Gate;
@@ -27,6 +28,7 @@ use tickets::{Seat, Tickets};
 pub fn open<'p, J: Running, G: Gate, R: Wait>(
     rt: &R,
     job: Job<'p>,
+    code: OwnCode<'p, J>,
     settings: Settings,
     gate: &'p G,
     is_noted: bool,
@@ -50,6 +52,7 @@ pub fn open<'p, J: Running, G: Gate, R: Wait>(
     let first = Some(root::<J, R>(rt, job, settings, &hall)?);
     let floor = Floor {
         job,
+        code,
         settings,
         gate,
         tickets,

@@ -8,8 +8,10 @@ ghost use Rattle.types.specs.Translation.{outcome as outcome_in};
 ghost use Rattle.types.specs.Typed.{code_of};
 ghost use Rattle.task_machine.specs.Jobs.{IsJob, outcome_of};
 ghost use Rattle.workers.specs.Desks.{Tells};
+ghost use Rattle.workers.specs.Own.{HasCode};
 ghost use Rattle.gather.specs.RunErrors.{IsCause};
 
+use crate::code::OwnCode;
 use crate::error::RunError;
 use crate::gate::Gate;
 use crate::kit::Report;
@@ -19,6 +21,7 @@ use crews::work_together;
 use effects::laws::typed_programs_are_sound;
 use events::event::Event;
 use finish_scope::running::Running;
+use program_code::pieces::ProgramCode;
 use race_checker::accepted::Accepted;
 use std::alloc::Global;
 use std::marker::Brand;
@@ -44,13 +47,14 @@ pub fn run<'p, G: Gate + Sync, R: Threads + Wait + Sync>(
     ensures cause { IfErr result (IsCause settings.tasks) }
 {
     typed_programs_are_sound(accepted.typed());
+    let code: ProgramCode<'p> = ProgramCode::of(alloc, accepted.typed())?;
     let job = Job {
         alloc,
         accepted,
         input,
         budget: settings.budget,
     };
-    let (outcome, _) = run_for::<Brand, G, R>(rt, job, settings, gate, false)?;
+    let (outcome, _) = run_for::<Brand, G, R>(rt, job, &code, settings, gate, false)?;
     Ok(outcome)
 }
 
@@ -70,13 +74,14 @@ pub fn run_noted<'p, G: Gate + Sync, R: Threads + Wait + Sync>(
     ensures cause { IfErr result (IsCause settings.tasks) }
 {
     typed_programs_are_sound(accepted.typed());
+    let code: ProgramCode<'p> = ProgramCode::of(alloc, accepted.typed())?;
     let job = Job {
         alloc,
         accepted,
         input,
         budget: settings.budget,
     };
-    match run_for::<Brand, G, R>(rt, job, settings, gate, true)? {
+    match run_for::<Brand, G, R>(rt, job, &code, settings, gate, true)? {
         (outcome, Some(events)) => Ok((outcome, events)),
         (_, None) => Err(RunError::OutOfMemory),
     }
@@ -86,16 +91,19 @@ pub fn run_noted<'p, G: Gate + Sync, R: Threads + Wait + Sync>(
 fn run_for<'p, J: Running + Send + Sync, G: Gate + Sync, R: Threads + Wait + Sync>(
     rt: &R,
     job: Job<'p>,
+    code: &'p ProgramCode<'p>,
     settings: Settings,
     gate: &'p G,
     is_noted: bool,
 ) -> Result<(Outcome, Option<Vec<Event>>), RunError>
     requires of { J.job ≡ Some job }
     requires job { IsJob job }
+    requires code { HasCode J.job code.now }
     ensures outcome { IfOk result (λ r. outcome_in r.0 ≡ outcome_of job.entry) }
     ensures cause { IfErr result (IsCause settings.tasks) }
 {
-    let (floor, own, kits) = open::<J, G, R>(rt, job, settings, gate, is_noted)?;
+    let code: OwnCode<'p, J> = OwnCode::new(code);
+    let (floor, own, kits) = open::<J, G, R>(rt, job, code, settings, gate, is_noted)?;
     match work_together(rt, job.alloc, &floor, own, kits) {
         Ok(reports) => {
             let outcome = told(job, settings, reports)?;

@@ -1,6 +1,6 @@
-use Rattle.std.proofs.Common.{rules, All}
+use Rattle.std.proofs.Common.{rules}
 use Rattle.std.proofs.lemmas.List.Elements.{All-rest}
-use Rattle.workers.specs.Desks.{HasSeat, IsFresh}
+use Rattle.workers.specs.Desks.{IsFresh}
 use Rattle.workers.proofs.opening.make_kits.Goals as goal
 
 pub loop-seat-preserved : goal.loop-seat-preserved

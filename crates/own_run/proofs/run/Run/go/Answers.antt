@@ -1,34 +1,92 @@
-use Rattle.std.proofs.Common.{◌≡◌, refl, subst}
-use Rattle.own_run.specs.RunTurns.{IsMore, IsStep, IsTurn, here, further, turn_of}
+use Rattle.std.proofs.Common.{◌≡◌, refl, sym, subst}
+use Rattle.types.specs.Translation.{program}
+use Rattle.serial_run.specs.declared.thread.Plan.{Plan}
+use Rattle.flat_run.specs.Machines.{AreCodes}
+use Rattle.own_run.specs.RunTurns.{IsMore, IsStep, IsTurn, turn_of}
 use Rattle.own_run.specs.declared.run.Run.{Run}
 use Rattle.own_run.specs.declared.turn.Done.{Done}
 use Rattle.own_run.specs.declared.turn.Done.TheVariants.{Gone, Spawned, Entered, Exceeded}
+use Rattle.own_run.proofs.GoingOn.{at_once_leaves_fewer, goes_at_once, goes_more, goes_nowhere, goes_over, goes_plan, goes_turn}
 use Rattle.own_run.proofs.TurnsLeft.{leaves_fewer}
 use Rattle.own_run.proofs.run.Run.go.Goals as goal
 
--- what isn't a step alone is more
-more_than_gone : (r : Run) (d : Done) → (d ≡ Gone → ⊥) → IsMore (turn_of r d)
-more_than_gone r Gone other = absurd (other refl)
-more_than_gone r (Spawned s) other = tt
-more_than_gone r Entered other = tt
-more_than_gone r Exceeded other = tt
+-- what is neither a step alone nor the end of the budget is more
+others_are_more : (r : Run) (d : Done) → (d ≡ Gone → ⊥) → (d ≡ Exceeded → ⊥) → IsMore (turn_of r d)
+others_are_more r Gone gone over = absurd (gone refl)
+others_are_more r (Spawned s) gone over = tt
+others_are_more r Entered gone over = tt
+others_are_more r Exceeded gone over = absurd (over refl)
 
 pub turns-init : goal.turns-init
-turns-init g c = here
+turns-init g c = goes_nowhere (g.N.Needed.needs c.args.needed.now) c.args.self.now
+
+-- ---- a plain statement at once
+pub do_at_once-requires : goal.do_at_once-requires
+do_at_once-requires g c =
+    let needs = g.N.Needed.needs c.args.needed.now in
+    let m = c.args.self.now in
+    let first = c.requires.can m (goes_nowhere needs m) in
+    let can = c.requires.can c.turns.self c.turns.invariant in
+    let plan = goes_plan needs m c.turns.self first.frames first.own first.shows c.turns.invariant in
+    record {
+      few = can.shows.few;
+      piece = c.in-Some.ensures;
+      codes = subst (λ (q : Plan). AreCodes (program q.program.now) c.args.code.now.codes.items) (sym plan) c.requires.code.codes;
+    }
+
+pub turns-smaller-in-Continue-1 : goal.turns-smaller-in-Continue-1
+turns-smaller-in-Continue-1 g c =
+    let needs = g.N.Needed.needs c.args.needed.now in
+    let m = c.args.self.now in
+    let first = c.requires.can m (goes_nowhere needs m) in
+    let can = c.requires.can c.turns.self c.turns.invariant in
+    let plan = goes_plan needs m c.turns.self first.frames first.own first.shows c.turns.invariant in
+    at_once_leaves_fewer needs c.args.code.now c.in-Some.number c.in-Some.rest m c.turns.self c.do_at_once.new.self plan
+    c.in-Some.ensures c.in_ok-do_at_once-in-Some.ensures c.requires.code (c.requires.next c.turns.self c.turns.invariant)
+    can.frames can.own can.shows
+
+pub turns-preserved-in-Continue-1 : goal.turns-preserved-in-Continue-1
+turns-preserved-in-Continue-1 g c =
+    let needs = g.N.Needed.needs c.args.needed.now in
+    let m = c.args.self.now in
+    let first = c.requires.can m (goes_nowhere needs m) in
+    let plan = goes_plan needs m c.turns.self first.frames first.own first.shows c.turns.invariant in
+    goes_more needs m c.turns.self c.do_at_once.new.self c.turns.invariant
+    (goes_at_once needs c.args.code.now c.in-Some.number c.in-Some.rest m c.turns.self c.do_at_once.new.self plan
+    c.in-Some.ensures c.in_ok-do_at_once-in-Some.ensures c.requires.code (c.requires.next c.turns.self c.turns.invariant))
+
+-- ---- a turn
+pub turns-smaller-in-Gone : goal.turns-smaller-in-Gone
+turns-smaller-in-Gone g c =
+    let needs = g.N.Needed.needs c.args.needed.now in
+    let can = c.requires.can c.turns.self c.turns.invariant in
+    let did = subst (λ s. IsStep needs c.turns.self s c.step.new.self) c.in-Did.is c.in_ok-done-in-None.ensures.step in
+    leaves_fewer needs c.turns.self _ can.frames can.own can.shows
+    (subst (λ d. IsTurn needs c.turns.self (turn_of c.step.new.self d)) c.in-Gone.is did)
+
+pub turns-preserved-in-Gone : goal.turns-preserved-in-Gone
+turns-preserved-in-Gone g c =
+    let needs = g.N.Needed.needs c.args.needed.now in
+    let did = subst (λ s. IsStep needs c.turns.self s c.step.new.self) c.in-Did.is c.in_ok-done-in-None.ensures.step in
+    goes_more needs c.args.self.now c.turns.self c.step.new.self c.turns.invariant
+    (goes_turn needs c.turns.self c.step.new.self
+    (subst (λ d. IsTurn needs c.turns.self (turn_of c.step.new.self d)) c.in-Gone.is did))
 
 pub turns-smaller : goal.turns-smaller
 turns-smaller g c =
     let needs = g.N.Needed.needs c.args.needed.now in
-    let can = c.requires c.turns.self c.turns.invariant in
-    let did = subst (λ s. IsStep needs c.turns.self s c.step.new.self) c.in-Did.is c.in_ok-done.ensures.step in
+    let can = c.requires.can c.turns.self c.turns.invariant in
+    let did = subst (λ s. IsStep needs c.turns.self s c.step.new.self) c.in-Did.is c.in_ok-done-in-None.ensures.step in
     leaves_fewer needs c.turns.self _ can.frames can.own can.shows
-    (subst (λ d. IsTurn needs c.turns.self (turn_of c.step.new.self d)) c.in-Gone.is did)
+    (subst (λ d. IsTurn needs c.turns.self (turn_of c.step.new.self d)) c.in-Exceeded.is did)
 
 pub turns-preserved : goal.turns-preserved
 turns-preserved g c =
     let needs = g.N.Needed.needs c.args.needed.now in
-    let did = subst (λ s. IsStep needs c.turns.self s c.step.new.self) c.in-Did.is c.in_ok-done.ensures.step in
-    further c.turns.invariant (subst (λ d. IsTurn needs c.turns.self (turn_of c.step.new.self d)) c.in-Gone.is did)
+    let did = subst (λ s. IsStep needs c.turns.self s c.step.new.self) c.in-Did.is c.in_ok-done-in-None.ensures.step in
+    goes_more needs c.args.self.now c.turns.self c.step.new.self c.turns.invariant
+    (goes_over needs c.turns.self c.step.new.self
+    (subst (λ d. IsTurn needs c.turns.self (turn_of c.step.new.self d)) c.in-Exceeded.is did))
 
 pub returns-in_default : goal.returns-in_default
 returns-in_default g c =
@@ -37,8 +95,8 @@ returns-in_default g c =
       step = record {
         last = c.turns.self;
         reached = c.turns.invariant;
-        step = subst (λ s. IsStep needs c.turns.self s c.step.new.self) c.in-Did.is c.in_ok-done.ensures.step;
-        more = more_than_gone c.step.new.self _ c.in_default.not-Gone;
+        step = subst (λ s. IsStep needs c.turns.self s c.step.new.self) c.in-Did.is c.in_ok-done-in-None.ensures.step;
+        more = others_are_more c.step.new.self _ c.in_default.not-Gone c.in_default.not-Exceeded;
       };
       refused = tt;
     }
@@ -49,6 +107,6 @@ returns-in-AtEnd-clause-step g c =
     record {
       last = c.turns.self;
       reached = c.turns.invariant;
-      step = subst (λ s. IsStep needs c.turns.self s c.step.new.self) c.in-AtEnd.is c.in_ok-done.ensures.step;
+      step = subst (λ s. IsStep needs c.turns.self s c.step.new.self) c.in-AtEnd.is c.in_ok-done-in-None.ensures.step;
       more = tt;
     }

@@ -1,6 +1,8 @@
 use Rattle.std.proofs.Common.{◌∙◌, refl, subst, sym}
 use Rattle.std.proofs.lemmas.Option.{same_Some}
-use Rattle.own_run.specs.RunTurns.{here}
+use Rattle.effects.specs.Rounds.{needs_of}
+use Rattle.own_run.proofs.GoingOn.{goes_nowhere}
+use Rattle.task_machine.specs.Jobs.{program_of}
 use Rattle.task_machine.specs.Tasks.{GoesBy}
 use Rattle.task_machine.proofs.Staying.{can_go}
 use Rattle.task_machine.proofs.task.Body.advance.Goals as goal
@@ -11,7 +13,7 @@ step-requires c =
     let run = c.in-Some.run' in
     let goes =
     subst (GoesBy b.job b.outer.items b.opened) (same_Some _ _ (sym c.requires.has ∙ c.in-Some.is)) c.requires.goes in
-    can_go b.job b.outer.items b.opened run run goes here
+    can_go b.job b.outer.items b.opened run run goes (goes_nowhere (needs_of (program_of b.job)) run)
 
 pub returns-in-Ok : goal.returns-in-Ok
 returns-in-Ok c = record {

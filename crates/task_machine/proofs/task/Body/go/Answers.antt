@@ -1,7 +1,10 @@
 use Rattle.std.proofs.Common.{◌∙◌, refl, subst, sym}
 use Rattle.std.proofs.lemmas.Option.{same_Some}
+use Rattle.types.specs.Code.{Program}
+use Rattle.program_code.specs.Pieces.{IsCodeOfProgram}
+use Rattle.own_run.specs.RunTurns.{NextIsOf}
 use Rattle.task_machine.specs.Tasks.{GoesBy}
-use Rattle.task_machine.proofs.Staying.{can_go}
+use Rattle.task_machine.proofs.Staying.{can_go, next_of}
 use Rattle.task_machine.proofs.task.Body.go.Goals as goal
 
 pub go-requires : goal.go-requires
@@ -9,8 +12,13 @@ go-requires c =
     let b = c.args.self.now in
     let run = c.in-Some.run' in
     let goes =
-    subst (GoesBy b.job b.outer.items b.opened) (same_Some _ _ (sym c.requires.has ∙ c.in-Some.is)) c.requires.goes in
-    λ r far. can_go b.job b.outer.items b.opened run r goes far
+    subst (GoesBy b.job b.outer.items b.opened) (same_Some _ _ (sym c.requires.body.has ∙ c.in-Some.is)) c.requires.body.goes in
+    record {
+      code = subst (λ (p : Program). IsCodeOfProgram p c.args.code.now) (sym goes.may.program) c.requires.code;
+      can = λ r far. can_go b.job b.outer.items b.opened run r goes far;
+      next = λ r far.
+          subst (λ (p : Program). NextIsOf p r) (sym goes.may.program) (next_of b.job b.outer.items b.opened run r goes far);
+    }
 
 pub returns-in-Ok : goal.returns-in-Ok
 returns-in-Ok c = record {

@@ -1,5 +1,7 @@
 use Rattle.std.proofs.Common.{◌≡◌, ◌∙◌, subst, sym}
 use Rattle.std.proofs.lemmas.Result.{IfOk-weaker}
+use Rattle.program_code.specs.Pieces.{IsCodeOfProgram}
+use Rattle.task_machine.specs.Jobs.{program_of}
 use Rattle.task_machine.specs.Tasks.{IsBody}
 use Rattle.task_machine.specs.Turns.{GoesInPlace, TakesTurn}
 use Rattle.task_machine.specs.Units.{units_after, units_of}
@@ -8,7 +10,12 @@ use Rattle.task_machine.proofs.InPlace.{went_done, went_to_end, went_units, did_
 use Rattle.task_machine.proofs.task.Task.go.Goals as goal
 
 pub go-requires : goal.go-requires
-go-requires c = subst IsBody (sym c.deref_mut.ensures.value) c.requires.task
+go-requires c =
+    let same = sym c.deref_mut.ensures.value in
+    record {
+      body = subst IsBody same c.requires.task;
+      code = subst (λ (b : Body). IsCodeOfProgram (program_of b.job) c.args.code.now) same c.requires.code;
+    }
 
 pub did-requires : goal.did-requires
 did-requires c =

@@ -1,0 +1,4 @@
+pub mod Reaching
+pub mod PlainMeaning
+pub mod Calming
+pub mod Marking

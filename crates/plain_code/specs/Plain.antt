@@ -1,0 +1,25 @@
+-- Plain code: from which no async and no finish can be reached, also not by a call.
+use Rattle.std.specs.Prelude.{ℕ, List}
+use Rattle.types.specs.Code.{Number, Code, Call, Async, Finish, Codes, End, Then, Program}
+use Rattle.types.specs.Run.{Work, Block, Turn, procedure_of}
+use Rattle.effects.specs.Statements.{Stands}
+
+-- an async or a finish can be reached from a block
+pub data Reaches (p : Program) : Codes → Type 0 where
+  async : {b : Codes} {l : ℕ} {inner : Codes} → Stands b l (Async inner) → Reaches p b
+  finish : {b : Codes} {l : ℕ} {inner : Codes} → Stands b l (Finish inner) → Reaches p b
+  call : {b : Codes} {l f : ℕ} {es : List Number} {ss : List ℕ} → Stands b l (Call f es ss)
+      → Reaches p (procedure_of p f).body → Reaches p b
+
+-- none can
+abbrev pub ArePlain : Program → Codes → Type 0
+ArePlain p b = Reaches p b → ⊥
+
+-- nor from a statement
+abbrev pub IsPlain : Program → (label : ℕ) → Code → Type 0
+IsPlain p l c = ArePlain p (Then l c End)
+
+-- nor in what is left to do
+abbrev pub IsPlainWork : Program → Work → Type 0
+IsPlainWork p (Block b) = ArePlain p b
+IsPlainWork p (Turn l t b) = ArePlain p b

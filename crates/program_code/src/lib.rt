@@ -1,0 +1,5 @@
+//! The flat code of a program, for tasks: of each procedure, and of its plain statements.
+
+#![tactic(auto)]
+
+pub mod pieces;

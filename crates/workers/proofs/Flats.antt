@@ -1,0 +1,39 @@
+-- The flat code of a program is seen from all threads.
+use Rattle.std.proofs.Crossing.{crosses}
+use denote.Param.Send.{IsSync, sendable}
+use denote.Param.SendFields.{declared_sync}
+use denote.Ref.{NamedLft}
+use Rattle.flat_run.specs.contracts.code.Flat as Flat
+use Rattle.flat_run.specs.contracts.code.Line as Line
+use Rattle.flat_run.specs.contracts.code.Instruction as Instruction
+use Rattle.flat_run.specs.contracts.safe.Limits as Limits
+use Rattle.program_code.specs.contracts.pieces.ProgramCode as ProgramCode
+use Rattle.flat_run.proofs.code.Told.TheSendSync as OfTold
+use Rattle.flat_run.proofs.fused.Fused.TheSendSync as OfFused
+use Rattle.finish_scope.proofs.Crossing.{code_sync, stmt_sync, truth_sync}
+
+instruction_sync : (κ : NamedLft) → IsSync (Instruction.the_row κ)
+instruction_sync κ = search (sendable, crosses, stmt_sync, truth_sync, OfTold.the_sync) depth 60 fits 50000
+
+line_sync : (κ : NamedLft) → IsSync (Line.the_row κ)
+line_sync κ = declared_sync (Line.the_type κ) (search sendable depth 20, (instruction_sync κ, tt))
+
+limits_sync : (κ : NamedLft) → IsSync (Limits.the_row κ)
+limits_sync κ = declared_sync (Limits.the_type κ) (search (sendable, crosses, code_sync) depth 60 fits 50000)
+
+flat_sync : (κ : NamedLft) → IsSync (Flat.the_row κ)
+flat_sync κ =
+    declared_sync (Flat.the_type κ) (
+      search (sendable, crosses, line_sync) depth 60 fits 50000,
+      (
+        search (sendable, crosses) depth 60 fits 50000,
+        (search (sendable, crosses, OfFused.the_sync) depth 60 fits 50000, (limits_sync κ, tt)),
+      ),
+    )
+
+pub program_code_sync : (κ : NamedLft) → IsSync (ProgramCode.the_row κ)
+program_code_sync κ =
+    declared_sync (ProgramCode.the_type κ) (
+      search (sendable, crosses, flat_sync) depth 60 fits 50000,
+      (search (sendable, crosses) depth 60 fits 50000, tt),
+    )

@@ -1,0 +1,43 @@
+//! The flat code of the program of a run.
+
+ghost use Rattle.workers.specs.Own.{HasCode};
+
+use finish_scope::running::Running;
+use program_code::pieces::ProgramCode;
+use std::marker::{Model, PhantomData};
+
+/// The flat code of the run's program, by which tasks do what nobody else sees.
+#[derive(Drop)]
+pub struct OwnCode<'p, J: Running> {
+    code: &'p ProgramCode<'p>,
+    of: PhantomData<J>,
+}
+
+impl<'p, J: Running> Model for OwnCode<'p, J> {
+    ghost use Rattle.std.specs.Prelude.{ℕ};
+    ghost use Rattle.workers.specs.Own.{HasCode};
+
+    ghost Value = { ℕ };
+
+    ghost view = { λ c. 0 };
+
+    ghost invariant = { λ c. HasCode J.job c.code.now };
+}
+
+impl<'p, J: Running> OwnCode<'p, J> {
+    pub fn new(code: &'p ProgramCode<'p>) -> OwnCode<'p, J>
+        requires { HasCode J.job code.now }
+    {
+        OwnCode {
+            code,
+            of: PhantomData,
+        }
+    }
+
+    /// The code itself.
+    pub fn lend(&self) -> &'p ProgramCode<'p>
+        ensures { HasCode J.job result.now }
+    {
+        self.code
+    }
+}
