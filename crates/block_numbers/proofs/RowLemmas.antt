@@ -1,7 +1,7 @@
 -- Rows of elements behind an offset.
 use Rattle.std.proofs.Common.{◌≡◌, ℕ, ◌+◌, ◌-◌, ◌<◌, ◌≤◌, List, [], ◌∷◌, ◌++◌, length, get_or, set}
 use Rattle.std.proofs.Common.{Option, Some, None, Bool, true, false, refl, sym, ap, ◌∙◌, arith, rules, ◌⊎◌, inl, inr}
-use Rattle.std.proofs.lemmas.Bool.{eqb-true, eqb-false, leb-true, leb-false, ltb-true}
+use Rattle.std.proofs.lemmas.Bool.{eqb-true, eqb-false, leb-true, leb-false, ltb-true, le-leb, lt-leb}
 use Rattle.std.proofs.lemmas.Grind.{common_steps, get_or-set_at}
 use Rattle.std.proofs.lemmas.List.{get_or-set_other, length-set}
 use Rattle.std.proofs.Math.ListN.{get_or-append}
@@ -10,28 +10,16 @@ use Rattle.std.proofs.lemmas.Option.{slice_get_past, slice_get-get_or}
 use Rattle.std.specs.Prelude.{nat_eq, nat_le, nat_lt, slice_get, if◌then◌else◌}
 use Rattle.block_numbers.specs.Numbers.{row_from}
 
-eq_test : (n m : ℕ) → n ≡ m → nat_eq n m ≡ true
-eq_test n m e = search rules
-
-ne_test : (n m : ℕ) → (n ≡ m → ⊥) → nat_eq n m ≡ false
-ne_test n m e = search rules
-
-le_test : (n m : ℕ) → n ≤ m → nat_le n m ≡ true
-le_test n m e = search rules
-
-gt_test : (n m : ℕ) → m < n → nat_le n m ≡ false
-gt_test n m e = search rules
-
 -- an offset of a row
 pub row_from-in : {A : Type 0} (first : ℕ) (xs : List A) (k : ℕ) (d : A) → first ≤ k → k < first + length xs
     → row_from first xs k ≡ Some (get_or xs (k - first) d)
 row_from-in first xs k d low high =
     let lt : k - first < length xs = omega arith in
-    ap (λ b. if b then slice_get xs (k - first) else None) (le_test first k low) ∙ slice_get-get_or xs (k - first) d lt
+    ap (λ b. if b then slice_get xs (k - first) else None) (le-leb first k low) ∙ slice_get-get_or xs (k - first) d lt
 
 -- one before it
 pub row_from-before : {A : Type 0} (first : ℕ) (xs : List A) (k : ℕ) → k < first → row_from first xs k ≡ None
-row_from-before first xs k lt = ap (λ b. if b then slice_get xs (k - first) else None) (gt_test first k lt)
+row_from-before first xs k lt = ap (λ b. if b then slice_get xs (k - first) else None) (lt-leb first k lt)
 
 -- one behind it
 pub row_from-behind : {A : Type 0} (first : ℕ) (xs : List A) (k : ℕ) → first + length xs ≤ k → row_from first xs k ≡ None

@@ -1,32 +1,20 @@
 -- Maps that a loop changes, offset by offset.
 use Rattle.std.proofs.Common.{◌≡◌, ℕ, zero, suc, ◌+◌, ◌<◌, ◌≤◌, Option, Some, None, Bool, true, false, refl, sym, ap, ◌∙◌, arith, rules, ◌⊎◌, inl, inr}
-use Rattle.std.proofs.lemmas.Bool.{eqb-true, eqb-false, leb-true, leb-false, ltb-true}
+use Rattle.std.proofs.lemmas.Bool.{eqb-true, eqb-false, leb-true, leb-false, ltb-true, lt-ltb, le-ltb, le-leb, lt-leb}
 use Rattle.std.specs.Prelude.{◌&&◌, nat_eq, nat_le, nat_lt, is_some, if◌then◌else◌}
 use Rattle.block_numbers.specs.Counts.{how_many}
 use Rattle.block_numbers.specs.Offsets.{Offsets, Agree, in_range, inside}
 
-lt_test : (n m : ℕ) → n < m → nat_lt n m ≡ true
-lt_test n m e = search rules
-
-ge_test : (n m : ℕ) → m ≤ n → nat_lt n m ≡ false
-ge_test n m e = search rules
-
-le_test : (n m : ℕ) → n ≤ m → nat_le n m ≡ true
-le_test n m e = search rules
-
-gt_test : (n m : ℕ) → m < n → nat_le n m ≡ false
-gt_test n m e = search rules
-
 -- ---- ranges
 
 pub in_range-true : (from to k : ℕ) → from ≤ k → k < to → in_range from to k ≡ true
-in_range-true from to k low high = ap (λ b. b && nat_lt k to) (le_test from k low) ∙ lt_test k to high
+in_range-true from to k low high = ap (λ b. b && nat_lt k to) (le-leb from k low) ∙ lt-ltb k to high
 
 pub in_range-below : (from to k : ℕ) → k < from → in_range from to k ≡ false
-in_range-below from to k lt = ap (λ b. b && nat_lt k to) (gt_test from k lt)
+in_range-below from to k lt = ap (λ b. b && nat_lt k to) (lt-leb from k lt)
 
 pub in_range-behind : (from to k : ℕ) → to ≤ k → in_range from to k ≡ false
-in_range-behind from to k le = ap (λ b. nat_le from k && b) (ge_test k to le) ∙ either (nat_le from k)
+in_range-behind from to k le = ap (λ b. nat_le from k && b) (le-ltb k to le) ∙ either (nat_le from k)
   where
     either : (b : Bool) → (b && false) ≡ false
     either true = refl
@@ -58,10 +46,10 @@ abbrev pub so_far : {A : Type 0} → ℕ → (new old : Offsets A) → Offsets A
 so_far i new old k = if nat_lt k i then new k else old k
 
 pub so_far-before : {A : Type 0} (i : ℕ) (new old : Offsets A) (k : ℕ) → k < i → so_far i new old k ≡ new k
-so_far-before i new old k lt = ap (λ b. if b then new k else old k) (lt_test k i lt)
+so_far-before i new old k lt = ap (λ b. if b then new k else old k) (lt-ltb k i lt)
 
 pub so_far-behind : {A : Type 0} (i : ℕ) (new old : Offsets A) (k : ℕ) → i ≤ k → so_far i new old k ≡ old k
-so_far-behind i new old k le = ap (λ b. if b then new k else old k) (ge_test k i le)
+so_far-behind i new old k le = ap (λ b. if b then new k else old k) (le-ltb k i le)
 
 -- nothing is to be done before an offset
 pub so_far-begun : {A : Type 0} (i : ℕ) (new old : Offsets A) → ((k : ℕ) → k < i → new k ≡ old k) → Agree old (so_far i new old)

@@ -1,7 +1,7 @@
 -- Numbers of blocks at their places in a list.
 use Rattle.std.proofs.Common.{◌≡◌, ℕ, ◌+◌, ◌-◌, ◌*◌, ◌/◌, ◌%◌, ◌<◌, ◌≤◌, min, List, ◌++◌, length, get_or, take, drop}
 use Rattle.std.proofs.Common.{Option, Some, None, Bool, true, false, refl, sym, ap, ◌∙◌, arith, rules, option_map, pos}
-use Rattle.std.proofs.lemmas.Bool.{lt-ltb, ltb-true}
+use Rattle.std.proofs.lemmas.Bool.{lt-ltb, ltb-true, le-ltb}
 use Rattle.std.proofs.lemmas.List.{get_or-append-add, get_or-drop, get_or-take, get_or_append_left, length-take-le}
 use Rattle.std.specs.List.{slice_range}
 use Rattle.std.specs.Prelude.{ℤ, nat_lt, unwrap_or, if◌then◌else◌}
@@ -49,9 +49,6 @@ part-inside xs a e i d low high =
 
 -- ---- one block more
 
-ge_test : (n m : ℕ) → m ≤ n → nat_lt n m ≡ false
-ge_test n m e = search rules
-
 row_to-same : (r : Row) (n k : ℕ) → (k / 256 ≡ r.first + n → ⊥) → row_to r (n + 1) k ≡ row_to r n k
 row_to-same r n k ne = by_test (nat_lt (k / 256) (r.first + n)) refl
   where
@@ -61,11 +58,11 @@ row_to-same r n k ne = by_test (nat_lt (k / 256) (r.first + n)) refl
         ap (λ b. if b then in_row r k else None) (lt-ltb _ _ lt)
     by_test false e =
         let ge : r.first + n ≤ k / 256 = search rules in
-        let no : nat_lt (k / 256) (r.first + (n + 1)) ≡ false = ge_test (k / 256) (r.first + (n + 1)) (omega (arith, ge, ne)) in
+        let no : nat_lt (k / 256) (r.first + (n + 1)) ≡ false = le-ltb (k / 256) (r.first + (n + 1)) (omega (arith, ge, ne)) in
         ap (λ b. if b then in_row r k else None) no
 
 row_to-none : (r : Row) (n k : ℕ) → r.first + n ≤ k / 256 → row_to r n k ≡ None
-row_to-none r n k le = ap (λ b. if b then in_row r k else None) (ge_test (k / 256) (r.first + n) le)
+row_to-none r n k le = ap (λ b. if b then in_row r k else None) (le-ltb (k / 256) (r.first + n) le)
 
 row_to-here : (r : Row) (n k : ℕ) → k / 256 ≡ r.first + n → row_to r (n + 1) k ≡ in_row r k
 row_to-here r n k at =

@@ -1,6 +1,7 @@
 -- Lists of what was cut out, which grow and shrink at the end.
 use Rattle.std.proofs.Common.{◌≡◌, ℕ, zero, suc, ◌<◌, List, [], ◌∷◌, ◌++◌, length, get_or}
 use Rattle.std.proofs.Common.{Option, None, Bool, true, false, inl, inr, refl, sym, ap, ◌∙◌, arith, subst, ◌⊎◌}
+use Rattle.std.proofs.Math.Bool.{or_assoc, or-false}
 use Rattle.std.proofs.Math.Seq.{get_or-append_seam}
 use Rattle.std.proofs.lemmas.Bool.{cases_eq, or_cases, or_left, or_right}
 use Rattle.std.proofs.lemmas.List.{get_or_append_left, length-append}
@@ -15,26 +16,19 @@ use Rattle.block_rows.specs.declared.row.Row.{Row}
 
 -- ---- places of one cut more
 
-or_assoc : (a b c : Bool) → (a || (b || c)) ≡ ((a || b) || c)
-or_assoc true b c = refl
-or_assoc false b c = refl
-
-or_false : (a : Bool) → (a || false) ≡ a
-or_false true = refl
-or_false false = refl
-
 pub moved-push : (cs : List Carving) (c : Carving) (q : Place)
     → moved_places (cs ++ c ∷ []) q ≡ (moved_places cs q || (moves c && is_in (piece_of c) q))
-moved-push [] c q = or_false (moves c && is_in (piece_of c) q)
+moved-push [] c q = or-false (moves c && is_in (piece_of c) q)
 moved-push (d ∷ cs) c q =
-    ap (λ b. (moves d && is_in (piece_of d) q) || b) (moved-push cs c q) ∙ or_assoc (moves d && is_in (piece_of d) q) (moved_places cs q) _
+    ap (λ b. (moves d && is_in (piece_of d) q) || b) (moved-push cs c q)
+    ∙ sym (or_assoc (moves d && is_in (piece_of d) q) (moved_places cs q) _)
 
 pub copied-push : (cs : List Carving) (c : Carving) (q : Place)
     → copied_places (cs ++ c ∷ []) q ≡ (copied_places cs q || (not (moves c) && is_in (piece_of c) q))
-copied-push [] c q = or_false (not (moves c) && is_in (piece_of c) q)
+copied-push [] c q = or-false (not (moves c) && is_in (piece_of c) q)
 copied-push (d ∷ cs) c q =
     ap (λ b. (not (moves d) && is_in (piece_of d) q) || b) (copied-push cs c q)
-    ∙ or_assoc (not (moves d) && is_in (piece_of d) q) (copied_places cs q) _
+    ∙ sym (or_assoc (not (moves d) && is_in (piece_of d) q) (copied_places cs q) _)
 
 both : (a b m i : Bool) → ((a || (m && i)) || (b || (not m && i))) ≡ ((a || b) || i)
 both true b m i = refl

@@ -3,6 +3,7 @@ use Rattle.std.proofs.Common.{◌≡◌, ℕ, ◌+◌, ◌<◌, ◌≤◌, List,
 use Rattle.std.proofs.Common.{None, Bool, true, false, inl, inr, refl, sym, ap, ◌∙◌, arith, ◌⊎◌}
 use Rattle.std.proofs.lemmas.Bool.{or_cases, or_left, or_right, false≢true}
 use Rattle.std.specs.Prelude.{◌||◌, if◌then◌else◌}
+use Rattle.std.proofs.Math.Bool.{or_assoc}
 use Rattle.sections.specs.Covers.{is_in}
 use Rattle.sections.specs.Place.{Place, Window}
 use Rattle.sections.proofs.Covering.{in_window}
@@ -54,10 +55,6 @@ piece_apart w q here = by_test (is_in (behind_piece w) q) refl
         let a = in_window (piece w) q here in
         let b = in_window (behind_piece w) q e in
         absurd (omega (arith, a.high, b.low))
-
-or_assoc : (a b c : Bool) → ((a || b) || c) ≡ (a || (b || c))
-or_assoc true b c = refl
-or_assoc false b c = refl
 
 -- one piece more, cut out as c
 pub record CutPiece (first : Map Held) (own others own' others' : List Row) (c : Carving) (v : Window) : Type 0 where

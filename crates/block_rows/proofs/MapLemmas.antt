@@ -1,16 +1,13 @@
 -- Maps of held places.
-use Rattle.std.proofs.Common.{◌≡◌, Option, Some, None, Bool, true, false, refl, sym, ap}
+use Rattle.std.proofs.Common.{◌≡◌, Option, None, Bool, true, false, refl, sym, ap}
 use Rattle.std.specs.Prelude.{ℤ, ◌||◌, option_map, if◌then◌else◌}
+use Rattle.blocks.proofs.AddingLemmas.{number-none}
 use Rattle.sections.specs.Place.{Place}
 use Rattle.blocks.specs.Held.{Held, Map, Shared, only, IsThere}
 use Rattle.blocks.specs.Held.{number_of, numbers, owned_number, owned, as_shared}
 use Rattle.block_rows.specs.Pieces.{taking}
 
 -- ---- numbers that are there
-
-none_number : (o : Option Held) → option_map number_of o ≡ None → o ≡ None
-none_number None e = refl
-none_number (Some h) e = absurd (cc)
 
 number_none : (o : Option Held) → o ≡ None → option_map number_of o ≡ None
 number_none o e = ap (option_map number_of) e
@@ -19,7 +16,7 @@ pub there-numbers : (set : Place → Bool) (m : Map Held) → IsThere set (numbe
 there-numbers set m there q is none = there q is (number_none (m q) none)
 
 pub numbers-there : (set : Place → Bool) (m : Map Held) → IsThere set m → IsThere set (numbers m)
-numbers-there set m there q is none = there q is (none_number (m q) none)
+numbers-there set m there q is none = there q is (number-none (m q) none)
 
 owned_there : (o : Option Held) → (owned_number o ≡ None → ⊥) → o ≡ None → ⊥
 owned_there o some none = some (ap owned_number none)

@@ -1,9 +1,11 @@
 -- What comes in, the last first.
 use Rattle.std.proofs.Common.{◌≡◌, ℕ, ◌+◌, ◌*◌, ◌/◌, ◌%◌, ◌<◌, ◌≤◌, List, [], ◌∷◌, ◌++◌, length, is_some, cond}
 use Rattle.std.proofs.Common.{Option, Some, None, Bool, true, false, refl, sym, ap, ◌∙◌, arith, rules, subst, option_map}
-use Rattle.std.proofs.lemmas.Bool.{and_from, and_parts, eq-eqb, eqb-false, eqb-true, false≢true, leb-true, le-leb, ltb-true}
+use Rattle.std.proofs.lemmas.Bool.{and_from, and_parts, eq-eqb, eqb-false, eqb-true, leb-true, le-leb, ltb-true, ne_eqb, lt-leb}
 use Rattle.std.proofs.lemmas.List.{length-append}
 use Rattle.std.specs.Prelude.{◌&&◌, nat_eq, nat_le, nat_lt, if◌then◌else◌}
+use Rattle.std.proofs.Math.Bool.{and-false}
+use Rattle.blocks.proofs.BlockLemmas.{some_there, some_from_there}
 use Rattle.sections.specs.Covers.{has, is_cover}
 use Rattle.sections.specs.Place.{Place, Window}
 use Rattle.block_numbers.specs.Numbers.{row_from}
@@ -42,18 +44,12 @@ pub record PasteSoFar (first : Map Held) (start own : List Row) (a : ℕ) (r : R
   pub costs : RowCosts first a r (from_block a (r.first + length xs)) n
   pub keeps : (i j : ℕ) (b : Block) → HasRoom start i j b → nat_eq i a ≡ false → HasRoom own i j b
 
-ne_test : (x y : ℕ) → (x ≡ y → ⊥) → nat_eq x y ≡ false
-ne_test x y h = search rules
-
-gt_test : (n m : ℕ) → m < n → nat_le n m ≡ false
-gt_test n m h = search rules
-
 next_array : (n i : ℕ) → (i ≡ n → ⊥) → nat_le n i ≡ nat_le (n + 1) i
 next_array n i ne = by_test (nat_le (n + 1) i) refl
   where
     by_test : (t : Bool) → nat_le (n + 1) i ≡ t → nat_le n i ≡ t
     by_test true e = le-leb n i (omega (arith, leb-true (n + 1) i e))
-    by_test false e = let gt : i < n + 1 = search rules in gt_test n i (omega (arith, gt, ne))
+    by_test false e = let gt : i < n + 1 = search rules in lt-leb n i (omega (arith, gt, ne))
 
 next_count : (n i : ℕ) → cond (nat_le (n + 1) i) 1 0 + cond (nat_eq i n) 1 0 ≤ cond (nat_le n i) 1 0
 next_count n i = by_eq (nat_eq i n) refl
@@ -63,7 +59,7 @@ next_count n i = by_eq (nat_eq i n) refl
     by_eq true e =
         let at = eqb-true i n e in
         let yes : nat_le n i ≡ true = le-leb n i (omega (arith, at)) in
-        let no : nat_le (n + 1) i ≡ false = gt_test (n + 1) i (omega (arith, at)) in
+        let no : nat_le (n + 1) i ≡ false = lt-leb (n + 1) i (omega (arith, at)) in
         omega (arith, ap (λ c. cond {A = ℕ} c 1 0) yes, ap (λ c. cond {A = ℕ} c 1 0) no)
 
 -- the last of some blocks
@@ -75,18 +71,7 @@ last-block first xs b j e =
 other-block : (first : ℕ) (xs : List Block) (b : Block) (j : ℕ) → j < first + length xs → row_from first (xs ++ b ∷ []) j ≡ row_from first xs j
 other-block first xs b j lt =
     row_from-push first xs b (first + length xs) refl j
-    ∙ ap (λ c. if c then Some b else row_from first xs j) (ne_test (first + length xs) j (λ e. absurd (omega (arith, e, lt))))
-
-and_false : (c : Bool) → (c && false) ≡ false
-and_false true = refl
-and_false false = refl
-
-is_some_there : {A : Type 0} (o : Option A) → is_some o ≡ true → o ≡ None → ⊥
-is_some_there o some none = false≢true (sym (ap is_some none) ∙ some)
-
-there_is_some : {A : Type 0} (o : Option A) → (o ≡ None → ⊥) → is_some o ≡ true
-there_is_some None some = absurd (some refl)
-there_is_some (Some x) some = refl
+    ∙ ap (λ c. if c then Some b else row_from first xs j) (ne_eqb (first + length xs) j (λ e. absurd (omega (arith, e, lt))))
 
 -- what the last block of a row did
 pub record PastedIn (own own' : List Row) (a m : ℕ) (b : Block) (k : ℕ) : Type 0 where
@@ -107,7 +92,7 @@ from_next a m q e = by_array (nat_eq q.array a) refl
         by_test false f =
             let gt : q.index / 256 < m + 1 = search rules in
             let lt : q.index / 256 < m = omega (arith, gt, eqb-false (q.index / 256) m ne) in
-            gt_test m (q.index / 256) lt
+            lt-leb m (q.index / 256) lt
 
     by_array : (t : Bool) → nat_eq q.array a ≡ t → (nat_eq q.array a && nat_le m (q.index / 256)) ≡ (nat_eq q.array a && nat_le (m + 1) (q.index / 256))
     by_array false f = ap (λ c. c && nat_le m (q.index / 256)) f ∙ sym (ap (λ c. c && nat_le (m + 1) (q.index / 256)) f)
@@ -145,15 +130,15 @@ paste-on first start own own' a r xs b n k n' p one le = record {
     before q e =
         let parts = and_parts (nat_eq q.array a) (nat_eq (q.index / 256) m) e in
         let block = eqb-true (q.index / 256) m parts.1 in
-        let no : nat_le (r.first + length (xs ++ b ∷ [])) (q.index / 256) ≡ false = gt_test _ _ (omega (arith, next, block)) in
+        let no : nat_le (r.first + length (xs ++ b ∷ [])) (q.index / 256) ≡ false = lt-leb _ _ (omega (arith, next, block)) in
         p.pasted q ∙ ap (λ c. if c then first_of (option_map Owned (owned_number (in_row r q.index))) (first q) else first q)
-        (ap (λ c. nat_eq q.array a && c) no ∙ and_false (nat_eq q.array a))
+        (ap (λ c. nat_eq q.array a && c) no ∙ and-false (nat_eq q.array a))
 
     room : (j : ℕ) (theirs : Block) → row_from r.first xs j ≡ Some theirs → (t : Bool) → nat_lt j m ≡ t → HasRoom own' a j theirs
     room j theirs there true e =
         let lt = ltb-true _ _ e in
         one.keeps a j theirs (p.room j theirs (other-block r.first xs b j lt ∙ there))
-        (ap (λ c. nat_eq a a && c) (ne_test j m (λ f. absurd (omega (arith, f, lt)))) ∙ and_false (nat_eq a a))
+        (ap (λ c. nat_eq a a && c) (ne_eqb j m (λ f. absurd (omega (arith, f, lt)))) ∙ and-false (nat_eq a a))
     room j theirs there false e =
         let ge : m ≤ j = search rules in
         absurd (let f = sym (row_from-behind r.first xs j ge) ∙ there in cc)
@@ -193,7 +178,7 @@ paste-on first start own own' a r xs b n k n' p one le = record {
             let offset : i % 256 ≡ o = omega (arith, lt) in
             has_is q (eq-eqb a a refl)
             ∙ ap (λ (h : Option Held). is_some (owned_number h)) (in_mine q block ∙ ap (held_at b) offset)
-            ∙ there_is_some (owned_at b o) some
+            ∙ some_from_there (owned_at b o) some
 
         free : any_has (lengths a) a ws m ≡ true → k ≡ 0
         free all = one.moved (λ q e held none.
@@ -201,7 +186,7 @@ paste-on first start own own' a r xs b n k n' p one le = record {
             let block = eqb-true (q.index / 256) m parts.1 in
             let inside = within q parts.0 (λ f. held (before q e ∙ f)) in
             let some = sym (has_is q parts.0) ∙ any-has (lengths a) a ws m all q e inside in
-            is_some_there (owned_number (in_row r q.index)) some (ap owned_number (in_mine q block) ∙ none))
+            some_there (owned_number (in_row r q.index)) some (ap owned_number (in_mine q block) ∙ none))
 
         step : (q : Place) → cond (from_block a (m + 1) q) 1 0 + cond (in_block a m q) 1 0 ≤ cond (from_block a m q) 1 0
         step q = by_here (in_block a m q) refl
@@ -213,7 +198,7 @@ paste-on first start own own' a r xs b n k n' p one le = record {
                 let block = eqb-true (q.index / 256) m parts.1 in
                 let yes : from_block a m q ≡ true = and_from _ _ parts.0 (le-leb m (q.index / 256) (omega (arith, block))) in
                 let no : from_block a (m + 1) q ≡ false =
-                ap (λ c. nat_eq q.array a && c) (gt_test (m + 1) (q.index / 256) (omega (arith, block))) ∙ and_false (nat_eq q.array a) in
+                ap (λ c. nat_eq q.array a && c) (lt-leb (m + 1) (q.index / 256) (omega (arith, block))) ∙ and-false (nat_eq q.array a) in
                 omega (arith, ap (λ c. cond {A = ℕ} c 1 0) yes, ap (λ c. cond {A = ℕ} c 1 0) no)
 
 pub paste-begun : (own : List Row) (a : ℕ) (r : Row) → HasRowRoom own a r → PasteSoFar (held_in_list own) own own a r r.blocks.items 0
@@ -286,7 +271,7 @@ last-row rs r j =
 
 other-row : (rs : List Row) (r : Row) (i j : ℕ) → i < length rs → block_of (rs ++ r ∷ []) i j ≡ block_of rs i j
 other-row rs r i j lt =
-    block_of-push rs r i j ∙ ap (λ c. if c then block_in r j else block_of rs i j) (ne_test i (length rs) (λ e. absurd (omega (arith, e, lt))))
+    block_of-push rs r i j ∙ ap (λ c. if c then block_in r j else block_of rs i j) (ne_eqb i (length rs) (λ e. absurd (omega (arith, e, lt))))
 
 -- there is room for the last row
 pub last-room : (own rs : List Row) (r : Row) → HasAllRoom own (rs ++ r ∷ []) → HasRowRoom own (length rs) r
@@ -316,12 +301,12 @@ rows-on first own own' others rs r n k n' p now cost keeps le = record {
     before : (q : Place) → q.array < length rs + 1 → held_in_list own q ≡ first q
     before q lt =
         p.pasted q ∙ ap (λ c. if c then first_of (option_map Owned (owned_number (held_in_list others q))) (first q) else first q)
-        (gt_test (length (rs ++ r ∷ [])) q.array (omega (arith, long, lt)))
+        (lt-leb (length (rs ++ r ∷ [])) q.array (omega (arith, long, lt)))
 
     room : (i j : ℕ) (theirs : Block) → block_of rs i j ≡ Some theirs → (t : Bool) → nat_lt i (length rs) ≡ t → HasRoom own' i j theirs
     room i j theirs there true e =
         let lt = ltb-true _ _ e in
-        keeps i j theirs (p.room i j theirs (other-row rs r i j lt ∙ there)) (ne_test i (length rs) (λ f. absurd (omega (arith, f, lt))))
+        keeps i j theirs (p.room i j theirs (other-row rs r i j lt ∙ there)) (ne_eqb i (length rs) (λ f. absurd (omega (arith, f, lt))))
     room i j theirs there false e =
         let ge : length rs ≤ i = search rules in
         absurd (let f = sym (block_of-past rs i j ge) ∙ there in cc)

@@ -1,10 +1,11 @@
 -- How many places a paste copies, block after block.
 use Rattle.std.proofs.Common.{◌≡◌, ℕ, zero, suc, ◌+◌, ◌*◌, ◌/◌, ◌%◌, ◌<◌, ◌≤◌, List, [], ◌∷◌, Option, Some, None}
-use Rattle.std.proofs.Common.{Bool, inl, inr, true, false, refl, sym, ap, ◌∙◌, arith, rules, cond}
+use Rattle.std.proofs.Common.{Bool, inl, inr, true, false, refl, sym, ap, ◌∙◌, arith, cond}
 use Rattle.std.proofs.lemmas.Bool.{and_parts, and_from, cases_eq, eq-eqb, eqb-true, false≢true, leb-true, lt-ltb, ltb-true, or_cases, or_left, or_right}
 use Rattle.std.proofs.lemmas.List.Sums.{sum_by-cons}
 use Rattle.std.specs.List.{count_by, list_any, range_with_len, sum_by}
 use Rattle.std.specs.Prelude.{ℤ, ◌&&◌, ◌||◌, ◌⊎◌, min, not, nat_eq, nat_le, nat_lt}
+use Rattle.std.proofs.lemmas.Bool.{le-ltb}
 use Rattle.sections.specs.Covers.{has, is_in}
 use Rattle.sections.specs.Place.{In, Place, Window, same_place}
 use Rattle.sections.proofs.Covering.{in_window, is_in-from}
@@ -95,9 +96,6 @@ passed test q (w ∷ ws) is passes =
 abbrev before : (a b n : ℕ) → Place → Bool
 before a b n q = in_block a b q && nat_lt (q.index % 256) n
 
-not_less : (n m : ℕ) → m ≤ n → nat_lt n m ≡ false
-not_less n m le = search rules
-
 one_more : (a b n : ℕ) → n < 256 → (q : Place)
     → one (before a b n q) + one (same_place (record { array = a; index = 256 * b + n }) q) ≤ one (before a b (n + 1) q)
 one_more a b n small q = by_same (same_place (record { array = a; index = 256 * b + n }) q) refl
@@ -121,7 +119,7 @@ one_more a b n small q = by_same (same_place (record { array = a; index = 256 * 
         let offset : q.index % 256 ≡ n = omega (arith, index, small) in
         let at : in_block a b q ≡ true = and_from _ _ (eq-eqb q.array a (sym array)) (eq-eqb (q.index / 256) b block) in
         let yes : before a b (n + 1) q ≡ true = and_from _ _ at (lt-ltb _ _ (omega (arith, offset))) in
-        let no : nat_lt (q.index % 256) n ≡ false = not_less (q.index % 256) n (omega (arith, offset)) in
+        let no : nat_lt (q.index % 256) n ≡ false = le-ltb (q.index % 256) n (omega (arith, offset)) in
         let none : before a b n q ≡ false = ap (λ c. c && nat_lt (q.index % 256) n) at ∙ no in
         omega (arith, ap one yes, ap one none)
 

@@ -2,7 +2,8 @@
 use Rattle.std.proofs.Common.{◌≡◌, ℕ, zero, suc, ◌+◌, ◌-◌, ◌/◌, ◌%◌, ◌≤◌, List}
 use Rattle.std.proofs.Common.{Option, Some, None, true, inl, inr, refl, sym, ap, ◌∙◌, arith, subst}
 use Rattle.std.proofs.lemmas.Bool.{or_cases, or_left, or_right, false≢true}
-use Rattle.std.specs.Prelude.{ℤ, ◌⊎◌, option_map}
+use Rattle.std.specs.Prelude.{ℤ, ◌⊎◌, ◌↔◌, option_map}
+use Rattle.blocks.proofs.AddingLemmas.{number-none}
 use Rattle.sections.specs.Covers.{is_in}
 use Rattle.sections.specs.Place.{Place, Window, In}
 use Rattle.sections.proofs.Covering.{is_in-from}
@@ -89,42 +90,38 @@ pub piece-none : (rs : List Row) (w : Window) (want : Wanted) → w.at % 256 + w
 piece-none rs w AsOwned fits is there = no_block-there rs w owned_number refl fits is there
 piece-none rs w AsHeld fits is there = no_block-there rs w (option_map number_of) refl fits is there
 
-along : {A : Type 0} (m : ℕ → Option A) (from to f t : ℕ) → from ≡ f → to ≡ t → HasAll from to m → HasAll f t m
-along m from to f t e g all = subst (λ x. HasAll f x m) g (subst (λ x. HasAll x to m) e all)
+-- what is told of a block's offsets is told of the piece of a window that the block has
+module _ (rs : List Row) (w : Window) (b : Block) (n from to : ℕ) (fits : w.at % 256 + w.length ≤ 256)
+    (number : n ≡ w.at / 256)
+    (found : Some b ≡ block_of rs w.array n) (begins : from ≡ w.at % 256) (ends : to ≡ w.at % 256 + w.length)
+  where
+    is_block : block_of rs w.array (w.at / 256) ≡ Some b
+    is_block = ap (block_of rs w.array) (sym number) ∙ sym found
 
-pub all-owned : (rs : List Row) (w : Window) (want : Wanted) (b : Block) (from to : ℕ) → want ≡ AsOwned → w.at % 256 + w.length ≤ 256
-    → block_of rs w.array (w.at / 256) ≡ Some b → from ≡ w.at % 256 → to ≡ w.at % 256 + w.length
-    → HasAll from to (owned_at b) → IsThere (is_in w) (wanted want (held_in_list rs))
-all-owned rs w want b from to e fits is f t all =
-    subst (λ x. IsThere (is_in w) (wanted x (held_in_list rs))) (sym e)
-    (there-block rs w b owned_number fits is (along (owned_at b) from to _ _ f t all))
+    all-along : {A : Type 0} (m : ℕ → Option A)
+        → HasAll from to m ↔ HasAll (w.at % 256) (w.at % 256 + w.length) m
+    all-along m = (
+      λ all. subst (λ x. HasAll x (w.at % 256 + w.length) m) begins (subst (λ x. HasAll from x m) ends all),
+      λ all. subst (λ x. HasAll x to m) (sym begins) (subst (λ x. HasAll (w.at % 256) x m) (sym ends) all),
+    )
 
-pub owned-all : (rs : List Row) (w : Window) (want : Wanted) (b : Block) (from to : ℕ) → want ≡ AsOwned → w.at % 256 + w.length ≤ 256
-    → block_of rs w.array (w.at / 256) ≡ Some b → from ≡ w.at % 256 → to ≡ w.at % 256 + w.length
-    → IsThere (is_in w) (wanted want (held_in_list rs)) → HasAll from to (owned_at b)
-owned-all rs w want b from to e fits is f t there =
-    along (owned_at b) _ _ from to (sym f) (sym t)
-    (block-there rs w b owned_number fits is (subst (λ x. IsThere (is_in w) (wanted x (held_in_list rs))) e there))
+    piece-told : {A : Type 0} {T : Type 0} (m : ℕ → Option A) (f : Option Held → Option ℤ)
+        → ((k : ℕ) → m k ≡ None → f (held_at b k) ≡ None)
+        → ((k : ℕ) → f (held_at b k) ≡ None → m k ≡ None) → T ↔ HasAll from to m
+        → T ↔ IsThere (is_in w) (seen f (held_in_list rs))
+    piece-told m f none nothing told = (
+      λ t. there-block rs w b f fits is_block (λ k here n. (all-along m).0 (told.0 t) k here (nothing k n)),
+      λ there. told.1 ((all-along m).1 (λ k here n. block-there rs w b f fits is_block there k here
+          (none k n))),
+    )
 
-number_none : (o : Option Held) → o ≡ None → option_map number_of o ≡ None
-number_none o e = ap (option_map number_of) e
+    pub piece-owned : {T : Type 0} (want : Wanted) → want ≡ AsOwned → T ↔ HasAll from to (owned_at b)
+        → T ↔ IsThere (is_in w) (wanted want (held_in_list rs))
+    piece-owned {T} want e told = subst (λ x. T ↔ IsThere (is_in w) (wanted x (held_in_list rs))) (sym e)
+        (piece-told (owned_at b) owned_number (λ k n. n) (λ k n. n) told)
 
-none_number : (o : Option Held) → option_map number_of o ≡ None → o ≡ None
-none_number None e = refl
-none_number (Some h) e = absurd (cc)
-
-pub all-held : (rs : List Row) (w : Window) (want : Wanted) (b : Block) (from to : ℕ) → want ≡ AsHeld → w.at % 256 + w.length ≤ 256
-    → block_of rs w.array (w.at / 256) ≡ Some b → from ≡ w.at % 256 → to ≡ w.at % 256 + w.length
-    → HasAll from to (held_at b) → IsThere (is_in w) (wanted want (held_in_list rs))
-all-held rs w want b from to e fits is f t all =
-    subst (λ x. IsThere (is_in w) (wanted x (held_in_list rs))) (sym e)
-    (there-block rs w b (option_map number_of) fits is
-    (λ k here none. along (held_at b) from to _ _ f t all k here (none_number (held_at b k) none)))
-
-pub held-all : (rs : List Row) (w : Window) (want : Wanted) (b : Block) (from to : ℕ) → want ≡ AsHeld → w.at % 256 + w.length ≤ 256
-    → block_of rs w.array (w.at / 256) ≡ Some b → from ≡ w.at % 256 → to ≡ w.at % 256 + w.length
-    → IsThere (is_in w) (wanted want (held_in_list rs)) → HasAll from to (held_at b)
-held-all rs w want b from to e fits is f t there =
-    along (held_at b) _ _ from to (sym f) (sym t)
-    (λ k here none. block-there rs w b (option_map number_of) fits is
-    (subst (λ x. IsThere (is_in w) (wanted x (held_in_list rs))) e there) k here (number_none (held_at b k) none))
+    pub piece-held : {T : Type 0} (want : Wanted) → want ≡ AsHeld → T ↔ HasAll from to (held_at b)
+        → T ↔ IsThere (is_in w) (wanted want (held_in_list rs))
+    piece-held {T} want e told = subst (λ x. T ↔ IsThere (is_in w) (wanted x (held_in_list rs))) (sym e)
+        (piece-told (held_at b) (option_map number_of) (λ k n. ap (option_map number_of) n)
+        (λ k n. number-none (held_at b k) n) told)

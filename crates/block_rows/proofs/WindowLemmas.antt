@@ -1,6 +1,7 @@
 -- Places of lists of windows, one window more at a time.
 use Rattle.std.proofs.Common.{◌≡◌, ℕ, zero, suc, ◌+◌, ◌<◌, List, [], ◌∷◌, ◌++◌, length, get_or, map, take}
 use Rattle.std.proofs.Common.{Bool, true, false, refl, sym, ap, ◌∙◌, arith, ◌⊎◌, inl, inr}
+use Rattle.std.proofs.Math.Bool.{or_assoc, or-false}
 use Rattle.std.proofs.lemmas.Bool.{or_cases}
 use Rattle.std.proofs.lemmas.List.{take_more}
 use Rattle.std.specs.Prelude.{◌||◌}
@@ -10,19 +11,12 @@ use Rattle.sections.specs.Translation.{window as window_of}
 use Rattle.sections.specs.declared.window.Window.{Window as rWindow}
 use Rattle.blocks.specs.Held.{IsThere, Map}
 
-or_assoc : (a b c : Bool) → (a || (b || c)) ≡ ((a || b) || c)
-or_assoc true b c = refl
-or_assoc false b c = refl
-
-or_false : (a : Bool) → (a || false) ≡ a
-or_false true = refl
-or_false false = refl
-
 pub has-behind : (ws : List rWindow) (w : rWindow) (q : Place)
     → has (map window_of (ws ++ w ∷ [])) q ≡ (has (map window_of ws) q || is_in (window_of w) q)
-has-behind [] w q = or_false (is_in (window_of w) q)
+has-behind [] w q = or-false (is_in (window_of w) q)
 has-behind (x ∷ ws) w q =
-    ap (λ b. is_in (window_of x) q || b) (has-behind ws w q) ∙ or_assoc (is_in (window_of x) q) (has (map window_of ws) q) (is_in (window_of w) q)
+    ap (λ b. is_in (window_of x) q || b) (has-behind ws w q)
+    ∙ sym (or_assoc (is_in (window_of x) q) (has (map window_of ws) q) (is_in (window_of w) q))
 
 -- the places of the windows so far and of the next
 pub has-take_more : (ws : List rWindow) (i : ℕ) (w : rWindow) (q : Place) → i < length ws → w ≡ get_or ws i w

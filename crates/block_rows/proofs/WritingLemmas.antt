@@ -1,13 +1,16 @@
 -- A block, or a row, in the place of another.
 use Rattle.std.proofs.Common.{◌≡◌, ℕ, ◌+◌, ◌-◌, ◌/◌, ◌%◌, ◌<◌, ◌≤◌, List, [], ◌∷◌, ◌++◌, length, get_or, set, IsSome}
 use Rattle.std.proofs.Common.{Option, Some, None, Bool, true, false, inl, inr, refl, sym, ap, ◌∙◌, arith, rules, ◌⊎◌}
+use Rattle.std.proofs.Common.{subst, w64, of_z, to_z, FitsSigned}
 use Rattle.std.proofs.lemmas.Bool.{cases_eq, eqb-true, eqb-false, eq-eqb, ne_eqb, ltb-true, and_from}
+use Rattle.std.proofs.lemmas.Int.{to_z-of_z}
 use Rattle.std.proofs.lemmas.Option.{slice_get_past, slice_get_read}
-use Rattle.std.specs.Prelude.{◌&&◌, nat_eq, nat_le, nat_lt, slice_get, option_and_then, if◌then◌else◌}
+use Rattle.std.specs.Prelude.{ℤ, ◌&&◌, nat_eq, nat_le, nat_lt, slice_get, option_and_then, if◌then◌else◌}
+use Rattle.std.proofs.Math.Bool.{and-false}
 use Rattle.sections.specs.Place.{Place}
 use Rattle.block_numbers.specs.Numbers.{row_from}
 use Rattle.blocks.specs.Blocks.{held_at}
-use Rattle.blocks.specs.Held.{Held, put}
+use Rattle.blocks.specs.Held.{Held, Owned, put}
 use Rattle.block_numbers.specs.Offsets.{Agree, put_at}
 use Rattle.blocks.specs.declared.block.Block.{Block}
 use Rattle.block_numbers.proofs.RowLemmas.{row_from-in, row_from-push, row_from-set}
@@ -64,6 +67,39 @@ held-alike first xs n old new low high is w b k = held-set first xs n new low hi
     by_eq : (t : Bool) → nat_eq b n ≡ t → (if t then held_at new k else held_of (row_from first xs b) k) ≡ held_of (row_from first xs b) k
     by_eq true e = w k ∙ sym (ap (λ z. held_of z k) (ap (row_from first xs) (eqb-true b n e) ∙ is))
     by_eq false e = refl
+
+-- ---- a block of a row that stands there
+
+module _ (s : Row) (n : ℕ) (x : Block) (low : s.first ≤ n) (high : n < s.first + length s.blocks.items)
+    (is : x ≡ get_or s.blocks.items (n - s.first) x) where
+  pub block_in-item : block_in s n ≡ Some x
+  block_in-item = row-item s.first s.blocks.items n x low high is
+
+  -- a machine integer written into it
+  pub row-written : (new : Block) (o : ℕ) (v : ℤ) → FitsSigned w64 v
+      → Agree (held_at new) (put_at o (Owned (to_z w64 (of_z w64 v))) (held_at x)) → (b k : ℕ)
+      → held_of (row_from s.first (set s.blocks.items (n - s.first) new) b) k
+      ≡ (if nat_eq b n && nat_eq o k then Some (Owned v) else held_of (block_in s b) k)
+  row-written new o v fits w b k =
+      held-written s.first s.blocks.items n x new o (Owned (to_z w64 (of_z w64 v))) low high block_in-item w b
+      k
+      ∙ ap (λ (z : ℤ). if nat_eq b n && nat_eq o k then Some (Owned z) else held_of (block_in s b) k)
+      (to_z-of_z w64 v fits)
+
+  -- a block that holds the same in its place
+  pub row-alike : (new : Block) → Agree (held_at new) (held_at x) → (b k : ℕ)
+      → held_of (row_from s.first (set s.blocks.items (n - s.first) new) b) k ≡ held_of (block_in s b) k
+  row-alike new w b k = held-alike s.first s.blocks.items n x new low high block_in-item w b k
+
+-- ---- the item of a list at which a loop stands
+
+pub item_at : {A : Type 0} {xs ys : List A} {n : ℕ} {x : A} → ys ≡ xs → n < length ys → x ≡ get_or ys n x
+    → (n < length xs) × (x ≡ get_or xs n x)
+item_at {A} {xs} {ys} {n} {x} e lt is =
+    (subst (λ (l : List A). n < length l) e lt, is ∙ ap (λ l. get_or l n x) e)
+
+pub no_item_at : {A : Type 0} {xs ys : List A} {n : ℕ} → ys ≡ xs → length ys ≤ n → length xs ≤ n
+no_item_at {A} {xs} {ys} {n} e le = subst (λ (l : List A). length l ≤ n) e le
 
 -- ---- rows of all arrays
 
@@ -157,10 +193,6 @@ held-widened old new w = λ t q.
 
 -- ---- one place written
 
-false_and : (b : Bool) → (b && false) ≡ false
-false_and true = refl
-false_and false = refl
-
 place_parts : (i j : ℕ) → nat_eq i j ≡ (nat_eq (j / 256) (i / 256) && nat_eq (i % 256) (j % 256))
 place_parts i j = by_eq (cases_eq i j)
   where
@@ -168,7 +200,7 @@ place_parts i j = by_eq (cases_eq i j)
         → false ≡ (nat_eq (j / 256) (i / 256) && nat_eq (i % 256) (j % 256))
     by_offset ne (inl e) =
         let other : (i % 256 ≡ j % 256 → ⊥) = λ f. ne (omega (arith, e, f)) in
-        sym (false_and (nat_eq (j / 256) (i / 256))) ∙ ap (λ b. nat_eq (j / 256) (i / 256) && b) (sym (ne_eqb _ _ other))
+        sym (and-false (nat_eq (j / 256) (i / 256))) ∙ ap (λ b. nat_eq (j / 256) (i / 256) && b) (sym (ne_eqb _ _ other))
     by_offset ne (inr f) = ap (λ b. b && nat_eq (i % 256) (j % 256)) (sym (ne_eqb _ _ f))
 
     by_eq : (i ≡ j) ⊎ (i ≡ j → ⊥) → nat_eq i j ≡ (nat_eq (j / 256) (i / 256) && nat_eq (i % 256) (j % 256))
@@ -197,6 +229,16 @@ rows-written rs p r s h lt is w = λ t q.
         (sym (place_parts p.index q.index) ∙ ap (λ b. b && nat_eq p.index q.index) (sym (eqb-sym p.array q.array ∙ e)))
     by_eq q false e =
         ap (λ b. if b && nat_eq p.index q.index then Some h else held_in_list rs q) (sym (eqb-sym p.array q.array ∙ e))
+
+-- a machine integer written
+pub rows-put : (rs : List Row) (p : Place) (r s : Row) (v : ℤ) → p.array < length rs → r ≡ get_or rs p.array r
+    → FitsSigned w64 v → ((b k : ℕ) → held_of (block_in s b) k
+    ≡ (if nat_eq b (p.index / 256) && nat_eq (p.index % 256) k then Some (Owned (to_z w64 (of_z w64 v))) else
+    held_of (block_in r b) k))
+    → held_in_list (set rs p.array s) ≡ put p (Owned v) (held_in_list rs)
+rows-put rs p r s v lt is fits w =
+    rows-written rs p r s (Owned (to_z w64 (of_z w64 v))) lt is w
+    ∙ ap (λ (z : ℤ). put p (Owned z) (held_in_list rs)) (to_z-of_z w64 v fits)
 
 pub rows-alike : (rs : List Row) (a : ℕ) (r s : Row) → a < length rs → r ≡ get_or rs a r
     → ((b k : ℕ) → held_of (block_in s b) k ≡ held_of (block_in r b) k) → held_in_list (set rs a s) ≡ held_in_list rs

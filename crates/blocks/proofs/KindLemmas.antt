@@ -1,18 +1,20 @@
 -- What is held of a row whose elements have kinds of their own.
 use Rattle.std.proofs.Common.{◌≡◌, ℕ, ◌+◌, ◌-◌, ◌<◌, ◌≤◌, List, [], ◌∷◌, ◌++◌, length, get_or, set}
 use Rattle.std.proofs.Common.{Option, Some, None, Bool, true, false, refl, sym, ap, ◌∙◌, arith, inl, inr}
+use Rattle.std.proofs.Common.{w64, of_z, to_z, FitsSigned}
+use Rattle.std.proofs.lemmas.Int.{to_z-of_z}
 use Rattle.std.proofs.lemmas.Bool.{eqb-true, eqb-false}
 use Rattle.std.proofs.lemmas.Grind.{get_or-set_at}
 use Rattle.std.proofs.lemmas.List.{get_or-set_other, length-set}
 use Rattle.std.proofs.Math.ListN.{get_or-append}
 use Rattle.std.proofs.Math.Seq.{get_or-append_seam}
 use Rattle.std.specs.Prelude.{ℤ, pos, nat_eq, if◌then◌else◌}
-use Rattle.block_numbers.proofs.RowLemmas.{row_from-cases, row_from-push, row_from-set}
+use Rattle.block_numbers.proofs.RowLemmas.{row_from-cases, row_from-push, row_from-set, row_from-there}
 use Rattle.block_numbers.specs.Numbers.{row_from}
 use Rattle.block_numbers.specs.declared.kind.Kind.{Kind}
 use Rattle.block_numbers.specs.declared.kind.Kind.TheVariants.{Absent, Own, Copied}
 use Rattle.blocks.specs.Blocks.{held_as}
-use Rattle.blocks.specs.Held.{Held, Owned}
+use Rattle.blocks.specs.Held.{Held}
 
 -- what is held of a row whose elements have kinds of their own
 abbrev pub held_row : (first : ℕ) → List Kind → List ℤ → ℕ → Option Held
@@ -50,22 +52,34 @@ held_row-kind first kinds xs o kind same low high k = by_eq (nat_eq o k) refl
           | inr w ↦ held_row-none first (set kinds (o - first) kind) xs k w.1 ∙ sym (held_row-none first kinds xs k w.1)
         ]
 
--- a number written as an owned one
-pub held_row-put : (first : ℕ) (kinds : List Kind) (xs : List ℤ) (o : ℕ) (v : ℤ) → length kinds ≡ length xs
-    → first ≤ o → o < first + length xs → (k : ℕ)
-    → held_row first (set kinds (o - first) Own) (set xs (o - first) v) k ≡ (if nat_eq o k then Some (Owned v) else held_row first kinds xs k)
-held_row-put first kinds xs o v same low high k =
+-- a number written, and its kind
+held_row-written : (first : ℕ) (kinds : List Kind) (xs : List ℤ) (o : ℕ) (kind : Kind) (v : ℤ)
+    → length kinds ≡ length xs → first ≤ o → o < first + length xs → (k : ℕ)
+    → held_row first (set kinds (o - first) kind) (set xs (o - first) v) k
+    ≡ (if nat_eq o k then held_as kind (Some v) else held_row first kinds xs k)
+held_row-written first kinds xs o kind v same low high k =
     let long : length kinds ≡ length (set xs (o - first) v) = simp length-set same in
     let lt : o < first + length (set xs (o - first) v) = simp length-set (omega arith) in
-    held_row-kind first kinds (set xs (o - first) v) o Own long low lt k ∙ by_eq (nat_eq o k) refl
+    held_row-kind first kinds (set xs (o - first) v) o kind long low lt k ∙ by_eq (nat_eq o k) refl
   where
     by_eq : (b : Bool) → nat_eq o k ≡ b
-        → (if b then held_as Own (row_from first (set xs (o - first) v) k) else held_row first kinds (set xs (o - first) v) k)
-        ≡ (if b then Some (Owned v) else held_row first kinds xs k)
-    by_eq true e = ap (held_as Own)
+        → (if b then held_as kind (row_from first (set xs (o - first) v) k)
+        else held_row first kinds (set xs (o - first) v) k)
+        ≡ (if b then held_as kind (Some v) else held_row first kinds xs k)
+    by_eq true e = ap (held_as kind)
         (row_from-set first xs o v low high k ∙ ap (λ b. if b then Some v else row_from first xs k) e)
     by_eq false e = ap (held_as (get_or kinds (k - first) Absent))
         (row_from-set first xs o v low high k ∙ ap (λ b. if b then Some v else row_from first xs k) e)
+
+-- a machine integer written, and its kind
+pub held_row-put : (first : ℕ) (kinds : List Kind) (xs : List ℤ) (o : ℕ) (kind : Kind) (v : ℤ)
+    → length kinds ≡ length xs → (row_from first xs o ≡ None → ⊥) → FitsSigned w64 v → (k : ℕ)
+    → held_row first (set kinds (o - first) kind) (set xs (o - first) (to_z w64 (of_z w64 v))) k
+    ≡ (if nat_eq o k then held_as kind (Some v) else held_row first kinds xs k)
+held_row-put first kinds xs o kind v same there fits k =
+    let w = row_from-there first xs o there in
+    ap (λ x. held_row first (set kinds (o - first) kind) (set xs (o - first) x) k) (to_z-of_z w64 v fits)
+    ∙ held_row-written first kinds xs o kind v same w.0 w.1 k
 
 -- one number more, and its kind
 pub held_row-push : (first : ℕ) (kinds : List Kind) (xs : List ℤ) (kind : Kind) (v : ℤ) (o : ℕ) → length kinds ≡ length xs

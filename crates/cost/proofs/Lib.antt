@@ -1,6 +1,7 @@
 mod Examples
 pub mod Beside
 pub mod Thrift
+pub mod Seen
 pub mod Untallied
 pub mod Untabled
 pub mod Rows

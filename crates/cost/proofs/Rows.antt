@@ -88,26 +88,24 @@ has_stepped l a h = record {
 }
 
 has_begun : (l depth copied : ℕ) (a : Account) → HasRows a → HasRows (begins_at l depth copied a)
-has_begun l depth copied a h = record {
-  work = some_noted l a.work h.work;
-  here = some_noted l a.here h.here;
-  adds = record {
-    work = noted_adds l a.tally.work a.work h.work h.adds.work;
-    here = noted_adds l a.tally.here a.here h.here h.adds.here;
-    ended = h.adds.ended;
-  };
-}
+has_begun l depth copied a h =
+    let s = has_stepped l a h in
+    let adds = s.adds in
+    record {
+      work = s.work;
+      here = s.here;
+      adds = record { work = adds.work; here = adds.here; ended = adds.ended };
+    }
 
 has_entered : (l : ℕ) (a : Account) → HasRows a → HasRows (enters_at l a)
-has_entered l a h = record {
-  work = some_noted l a.work h.work;
-  here = some_noted l a.here h.here;
-  adds = record {
-    work = noted_adds l a.tally.work a.work h.work h.adds.work;
-    here = noted_adds l a.tally.here a.here h.here h.adds.here;
-    ended = refl;
-  };
-}
+has_entered l a h =
+    let s = has_stepped l a h in
+    let adds = s.adds in
+    record {
+      work = s.work;
+      here = s.here;
+      adds = record { work = adds.work; here = adds.here; ended = refl };
+    }
 
 has_ended : (here : ℕ) (ns : List ℕ) (a : Account) → HasRows a → 0 < length ns → sum ns ≡ here → HasRows (ends_behind here ns a)
 has_ended here ns a h some e = record {

@@ -2,6 +2,7 @@
 use Rattle.std.proofs.Common.{◌≡◌, ℕ, ◌≤◌, length, List, [], Option, Some, None, Result, Ok, Err, IfOk, IfErr, sym, subst}
 use Rattle.std.specs.Prelude.{IsErrAnd, false}
 use Rattle.std.specs.Str.{IsUtf8}
+use Rattle.trials.proofs.RunCauses.{no_run_explained, no_run_other}
 use Rattle.texts.specs.Appending.{Writes}
 use Rattle.types.specs.Code.{Array}
 use Rattle.types.specs.Outcome.{Outcome}
@@ -26,7 +27,6 @@ use Rattle.driver.specs.Traced.{TellsNoRun, WritesTrace}
 use Rattle.driver.specs.Trying.{ReadsAndTimes, TestsFolder}
 use Rattle.trials.specs.Folders.{Folders}
 use Rattle.driver.proofs.Acting.{leaves_on}
-use Rattle.driver.proofs.Leaving.{no_run_explained, no_run_other}
 
 module _ (x : Subject) (file : List ℕ) (s : Settings) (text : List ℕ) (held later : Held) (old new : Option (List ℕ)) where
   -- an object that was written, or a beginning of it

@@ -4,6 +4,7 @@ use Rattle.std.proofs.Common.{Option, Some, ◌+◌, ◌≤◌, get_or, add-one,
 use Rattle.std.proofs.Math.ListN.{set}
 use Rattle.std.specs.Prelude.{◌↔◌, Bool, true, false, ◌||◌, slice_get}
 use Rattle.std.proofs.lemmas.Option.{slice_get_read}
+use Rattle.std.proofs.lemmas.Bool.{or_parts}
 use Rattle.sections.specs.Member.{Member, first, next}
 use Rattle.effects.specs.Closing.{HasSome, HasIn, Reached, start, flow, Brings, BringsNew, IsClosed}
 use Rattle.effects.specs.LabelSets.{HasLabel, HasNew}
@@ -122,10 +123,6 @@ rounded_none flows before = record {
   new = λ some. false_true some;
 }
 
-neither : (a b : Bool) → (a || b) ≡ false → (a ≡ false) × (b ≡ false)
-neither true b h = false_true (sym h)
-neither false b h = (refl, h)
-
 moved : (x : Flow) (before table : List Summary) → length table ≡ length before
     → ((f : ℕ) (r : Row) (l : ℕ) → HasIn before f r l → HasIn table f r l) → (f : ℕ) (r : Row) (l : ℕ)
     → Brings x before f r l → Brings x table f r l
@@ -158,11 +155,11 @@ rounded_more flows before table new grown here k x so_far at n both has brings =
     | inr b ↦ brings_reached flows before table x (got_member flows k x at) so_far.number so_far.reached f r l b
   ];
   same = λ none f r l h.
-      let none_so_far = neither grown here none in
+      let none_so_far = or_parts grown here none in
       so_far.same none_so_far.0 f r l
       (elim ((both f r l).0 h) [ inl a ↦ a | inr b ↦ had x table f r l b (has none_so_far.1) ]);
   closed = λ none y m f r l b.
-      let none_so_far = neither grown here none in
+      let none_so_far = or_parts grown here none in
       elim (taken flows k x y at (subst (λ (n : ℕ). Member y (take n flows)) (add-one k) m)) [
         | inl a ↦ so_far.closed none_so_far.0 y a f r l b
         | inr e ↦ so_far.same none_so_far.0 f r l

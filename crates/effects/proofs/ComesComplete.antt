@@ -1,11 +1,11 @@
 -- All that a sound program's bodies may do and leave pending comes into the rows.
-use Rattle.std.proofs.Common.{◌≡◌, ◌≢◌, inl, inr, ℕ, zero, suc, ◌+◌, ◌<◌, List, [], ◌∷◌, ◌++◌, length, refl, sym, ap, subst, ◌∙◌, arith, Some, Option}
-use Rattle.std.proofs.lemmas.Bool.{lt-ltb, eqb-true, eqb-false, cases_eq}
+use Rattle.std.proofs.Common.{◌≡◌, ◌≢◌, ℕ, zero, suc, ◌+◌, ◌<◌, List, [], ◌∷◌, ◌++◌, length, refl, sym, ap}
+use Rattle.std.proofs.Common.{subst, ◌∙◌, arith, Some, Option}
+use Rattle.std.proofs.lemmas.Bool.{lt-ltb, eqb-true, eqb-false}
 use Rattle.std.specs.Prelude.{Bool, true, false, nat_eq, if◌then◌else◌, slice_get, slice_index_or, flat_map}
 use Rattle.sections.specs.Member.{Member, first, next}
-use Rattle.sections.specs.Origins.{left, right}
 use Rattle.sections.specs.Overlap.{root_of}
-use Rattle.sections.proofs.Lines.{root_of-root, root_of-side}
+use Rattle.sections.proofs.Lines.{root_of-root}
 use Rattle.types.specs.Code.{Number, Code, Call, Async, Finish, Codes, End, Then, Procedure, Program}
 use Rattle.types.specs.Run.{procedure_of}
 use Rattle.types.specs.declared.ids.ProcedureId.{ProcedureId}
@@ -24,7 +24,8 @@ use Rattle.effects.specs.declared.summary.Row.{Row}
 use Rattle.effects.specs.declared.summary.Row.TheVariants.{All as AllRow, Pending as PendingRow, Labels, PendingLabels}
 use Rattle.effects.specs.declared.visits.Standing.{Standing}
 use Rattle.effects.specs.declared.visits.Standing.TheVariants.{Open, Begun, Awaited}
-use Rattle.effects.proofs.AccessesInScope.{origin_from_get, past_split-left, past_split-right, past_split-other, allowed, pending_all}
+use Rattle.effects.proofs.AccessesInScope.{origin_from_get, allowed, pending_all}
+use Rattle.effects.proofs.ComesSound.{past_root}
 use Rattle.effects.proofs.Members.{in_left, in_right, numbers_from-below, false_true}
 
 in_flat_map : {A B : Type 0} (f : A → List B) {x : A} {y : B} {xs : List A} → Member x xs → Member y (f x) → Member y (flat_map f xs)
@@ -284,21 +285,6 @@ label_flows f k false Begun h = first
 label_flows f k false Awaited h = first
 label_flows f k true w h =
     subst (λ (u : Standing). Member (flow f k Labels PendingLabels) (flows_of_labels f u k)) (sym (h refl)) (next first)
-
--- at the root, a split changes nothing
-past_root : (p : Program) (g : Procedure) → IsSoundIn p g → (scope : List ℕ) (s l r : ℕ) → SplitsWell g scope s l r → (x : ℕ)
-    → root_of g.sections (past_split s l r x) ≡ root_of g.sections x
-past_root p g sound scope s l r well x = elim (cases_eq l x) [
-  | inl e ↦
-      ap (λ (i : ℕ). root_of g.sections (past_split s l r i)) (sym e) ∙ ap (root_of g.sections) (past_split-left s l r)
-      ∙ sym (root_of-side g.sections sound.numbered l s (left well.left)) ∙ ap (root_of g.sections) e
-  | inr ne ↦ elim (cases_eq r x) [
-    | inl e ↦
-        ap (λ (i : ℕ). root_of g.sections (past_split s l r i)) (sym e) ∙ ap (root_of g.sections) (past_split-right s l r)
-        ∙ sym (root_of-side g.sections sound.numbered r s (right well.right)) ∙ ap (root_of g.sections) e
-    | inr other ↦ ap (root_of g.sections) (past_split-other s l r x ne other)
-  ]
-]
 
 module _ (p : Program) (sound : IsSound p) where
   -- a procedure's accesses are to its parameters

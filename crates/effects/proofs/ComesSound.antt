@@ -88,7 +88,7 @@ module _ (p : Program) where
 
 -- at the root, the sides of a split are their parent
 module _ (p : Program) (g : Procedure) (here : IsSoundIn p g) where
-  past_root : (scope : List ℕ) (s l r : ℕ) → SplitsWell g scope s l r → (x : ℕ)
+  pub past_root : (scope : List ℕ) (s l r : ℕ) → SplitsWell g scope s l r → (x : ℕ)
       → root_of g.sections (past_split s l r x) ≡ root_of g.sections x
   past_root scope s l r well x = elim (cases_eq l x) [
     | inl e ↦

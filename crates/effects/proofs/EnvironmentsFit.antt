@@ -1,8 +1,8 @@
 -- Environments that fit stay so: at the start, in the block of a split and behind it, and in a call.
 use Rattle.std.proofs.Common.{◌≡◌, ◌≢◌, inl, ℕ, zero, suc, ◌+◌, ◌<◌, ◌≤◌, List, [], ◌∷◌, length, map, Option, Some, ℤ}
 use Rattle.std.proofs.Common.{refl, sym, ap, ◌∙◌, subst, arith}
-use Rattle.std.proofs.lemmas.Bool.{eq-eqb, ne_eqb}
 use Rattle.std.specs.Prelude.{true, slice_get, slice_index_or, if◌then◌else◌}
+use Rattle.types.proofs.Bindings.{bind_here, bind_other}
 use Rattle.sections.specs.Origins.{Origin, Root, Left, Right, origin_of, IsNumbered}
 use Rattle.sections.specs.Place.{Window, sides_of, nowhere}
 use Rattle.sections.specs.Member.{Member, first, next}
@@ -78,12 +78,6 @@ fits_same p g scope env other fits same = record {
 
 -- In the block of a split
 
-bind-same : {A : Type 0} (x : ℕ) (v : A) (f : ℕ → A) → bind x v f x ≡ v
-bind-same x v f = ap (λ b. if b then v else f x) (eq-eqb x x refl)
-
-bind-other : {A : Type 0} (x y : ℕ) (v : A) (f : ℕ → A) → x ≢ y → bind x v f y ≡ f y
-bind-other x y v f ne = ap (λ b. if b then v else f y) (ne_eqb x y ne)
-
 module _ (g : Procedure) (scope : List ℕ) (env : Environment) (t a b : ℕ) (splits : SplitsWell g scope t a b)
     (at : ℤ) (cut : sides_of (env.windows t) at ≡ Some (env.windows a, env.windows b)) (outer : Placed (names_in g scope) env.windows) where
   old_root : (x : ℕ) → Member x (a ∷ b ∷ scope) → origin_of g.sections x ≡ Root → Member x scope
@@ -134,16 +128,16 @@ module _ (p : Program) (g : Procedure) (scope : List ℕ) (env : Environment)
   new = with_sides l r ws env
 
   at_left : new.windows l ≡ ws.0
-  at_left = bind-same l ws.0 (bind r ws.1 env.windows)
+  at_left = bind_here l ws.0 (bind r ws.1 env.windows)
 
   at_right : new.windows r ≡ ws.1
-  at_right = bind-other l r ws.0 (bind r ws.1 env.windows) (let n : r ≡ l + 1 = splits.next in omega arith) ∙ bind-same r ws.1 env.windows
+  at_right = bind_other l r ws.0 (bind r ws.1 env.windows) (let n : r ≡ l + 1 = splits.next in omega arith) ∙ bind_here r ws.1 env.windows
 
   pub at_other : (x : ℕ) → Member x scope → env.windows x ≡ new.windows x
   at_other x m =
       let h : x < l = splits.later x m in
       let n : r ≡ l + 1 = splits.next in
-      sym (bind-other l x ws.0 (bind r ws.1 env.windows) (omega arith) ∙ bind-other r x ws.1 env.windows (omega arith))
+      sym (bind_other l x ws.0 (bind r ws.1 env.windows) (omega arith) ∙ bind_other r x ws.1 env.windows (omega arith))
 
   -- behind a split, its sides are out of scope
   pub fits_past_split : Fits p g scope env → Fits p g scope new

@@ -55,19 +55,12 @@ firsts_of_firsts those ys xs h k = record {
   first = λ x m. as_early_through x xs ys (h.first x m) k.first;
 }
 
-early_left : (x : Access) (xs ys : List Access) → HasAsEarly xs x → HasAsEarly (xs ++ ys) x
-early_left x xs ys h = record {
+-- an early item stands in a longer list too
+early_among : {x : Access} {xs zs : List Access} → HasAsEarly xs x
+    → ((y : Access) → Member y xs → Member y zs) → HasAsEarly zs x
+early_among h among = record {
   item = h.item;
-  stands = in_left ys h.stands;
-  section = h.section;
-  write = h.write;
-  label = h.label;
-}
-
-early_right : (x : Access) (xs ys : List Access) → HasAsEarly ys x → HasAsEarly (xs ++ ys) x
-early_right x xs ys h = record {
-  item = h.item;
-  stands = in_right xs h.stands;
+  stands = among h.item h.stands;
   section = h.section;
   write = h.write;
   label = h.label;
@@ -78,7 +71,12 @@ pub firsts_both : (those these : Access → Type 0) (xs ys : List Access) → Ar
     → AreFirsts (λ x. those x ⊎ these x) (xs ++ ys)
 firsts_both those these xs ys h k = record {
   among = λ x m. elim (in_parts xs m) [ inl a ↦ inl (h.among x a) | inr b ↦ inr (k.among x b) ];
-  first = λ x m. elim m [ inl a ↦ early_left x xs ys (h.first x a) | inr b ↦ early_right x xs ys (k.first x b) ];
+  first =
+      λ x m. elim m [
+        | inl a ↦ early_among (h.first x a) (λ y. in_left ys)
+        | inr b ↦ early_among (k.first x b)
+            (λ y. in_right xs)
+      ];
 }
 
 -- what becomes of these accesses in other names
@@ -158,9 +156,9 @@ widened a b xs ys h = record { among = among; first = kept }
     among z (next m) = one_between a b z xs (h.among z m)
 
     kept : (z : Access) → Member z (a ∷ b ∷ xs) → HasAsEarly (b ∷ ys) z
-    kept z first = early_right z (b ∷ []) ys (h.first z first)
+    kept z first = early_among (h.first z first) (λ y. next)
     kept z (next first) = as_early_itself z (b ∷ ys) first
-    kept z (next (next m)) = early_right z (b ∷ []) ys (h.first z (next m))
+    kept z (next (next m)) = early_among (h.first z (next m)) (λ y. next)
 
 -- the item at a place takes the lesser label
 pub lowered : (a : rAccess) (xs : List rAccess) (k : ℕ) → k < length xs → (get_or xs k a).section ≡ a.section
@@ -221,7 +219,7 @@ firsts_of_more f xs i old now new d a h e all one =
 
     kept : (x : Access) → Member x (a ∷ (map f (take i xs) ++ old)) → HasAsEarly (a ∷ now) x
     kept x first = as_early_itself x _ first
-    kept x (next m) = early_right x (a ∷ []) now (all.first x m)
+    kept x (next m) = early_among (all.first x m) (λ y. next)
 
     with_it : AreFirstsIn (a ∷ (map f (take i xs) ++ old)) (a ∷ now)
     with_it = record { among = among; first = kept }

@@ -1,5 +1,5 @@
 -- A union that adds something adds a label.
-use Rattle.std.proofs.Common.{◌≡◌, ◌⊎◌, inl, inr, ℕ, zero, suc, ◌+◌, ◌*◌, ◌/◌, ◌%◌, ◌^◌, ◌<◌, ◌≤◌, max, refl, sym, ap, subst, ◌∙◌, arith, true≢false}
+use Rattle.std.proofs.Common.{◌≡◌, ◌⊎◌, inl, inr, ℕ, zero, suc, ◌+◌, ◌*◌, ◌/◌, ◌%◌, ◌^◌, ◌<◌, ◌≤◌, refl, sym, ap, subst, ◌∙◌, arith}
 use Rattle.std.proofs.lemmas.Bool.{cases_lt}
 use Rattle.std.proofs.lemmas.Nat.Bits.{bit_at-lt, bit_at_or, same_from_bits_below}
 use Rattle.std.specs.Int.{bit_at}
@@ -77,6 +77,3 @@ pub new_so_far : (init other now : ℕ → ℕ) (k : ℕ) (grown here : Bool) �
 new_so_far init other now k true here u new so_far h = so_far refl
 new_so_far init other now k false here u new so_far h =
     new_label init other k (subst (λ w. HasNewBit w (other k)) (u.above k (omega arith)) (new h))
-
-pub none_so_far : {A : Type 0} → false ≡ true → A
-none_so_far e = absurd (true≢false (sym e))

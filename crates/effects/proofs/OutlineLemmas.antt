@@ -5,16 +5,29 @@ use Rattle.std.specs.Prelude.{◌↔◌, slice_get, OnOk, flat_map}
 use Rattle.std.proofs.lemmas.List.{length-map, drop_all}
 use Rattle.sections.specs.Member.{Member, first, next}
 use Rattle.types.specs.Code.{Procedure}
-use Rattle.types.specs.Translation.{procedure}
+use Rattle.types.specs.Translation.{codes, procedure}
 use Rattle.types.specs.declared.code.Procedure.{Procedure as rProcedure}
+use Rattle.types.specs.declared.code.Stmt.{Stmt}
 use Rattle.effects.specs.Closing.{HasIn}
 use Rattle.effects.specs.Outlines.{starts_in, flows_in, flows_in_all, StartsAt}
 use Rattle.effects.specs.SummaryRows.{HasRow}
+use Rattle.effects.specs.Visits.{visits_in, visit}
 use Rattle.effects.specs.declared.flows.Flow.{Flow}
 use Rattle.effects.specs.declared.starts.Start.{Start}
 use Rattle.effects.specs.declared.summary.Row.{Row}
 use Rattle.effects.specs.declared.summary.Summary.{Summary}
+use Rattle.effects.specs.declared.visits.Standing.TheVariants.{Open}
+use Rattle.effects.specs.declared.visits.Visit.{Visit as rVisit}
 use Rattle.effects.proofs.ClosingLemmas.{taken}
+
+-- the visits of a body, from those that were added to none
+pub visited : {now all before : List rVisit} {block body : List Stmt} → now ≡ all
+    → map visit all ≡ map visit before ++ visits_in Open (codes block) → before ≡ [] → block ≡ body
+    → map visit now ≡ visits_in Open (codes body)
+visited {block = block} taken added none same =
+    ap (map visit) taken ∙ added ∙ ap (λ (xs : List rVisit). map visit xs ++ visits_in Open (codes block))
+    none
+    ∙ ap (λ b. visits_in Open (codes b)) same
 
 -- what holds anyway holds where there is a value
 pub ok_anyway : {T E P : Type 0} (r : Result T E) → P → OnOk r P

@@ -17,17 +17,17 @@ use Rattle.effects.proofs.Members.{false_true}
 abbrev make : ℕ → ℕ → Bool → Access
 make l s w = record { label = l; section = s; write = w }
 
-same_kind-equal : (a b : Bool) → same_kind a b ≡ true → a ≡ b
+pub same_kind-equal : (a b : Bool) → same_kind a b ≡ true → a ≡ b
 same_kind-equal true true h = refl
 same_kind-equal true false h = false_true h
 same_kind-equal false true h = false_true h
 same_kind-equal false false h = refl
 
-same_kind-refl : (a : Bool) → same_kind a a ≡ true
+pub same_kind-refl : (a : Bool) → same_kind a a ≡ true
 same_kind-refl true = refl
 same_kind-refl false = refl
 
-same_access-equal : (x y : Access) → same_access x y ≡ true → x ≡ y
+pub same_access-equal : (x y : Access) → same_access x y ≡ true → x ≡ y
 same_access-equal x y h =
     let a = and_parts (nat_eq x.label y.label) (nat_eq x.section y.section && same_kind x.write y.write) h in
     let b = and_parts (nat_eq x.section y.section) (same_kind x.write y.write) a.1 in
@@ -35,15 +35,15 @@ same_access-equal x y h =
     ∙ ap (λ s. make y.label s x.write) (eqb-true x.section y.section b.0)
     ∙ ap (make y.label y.section) (same_kind-equal x.write y.write b.1)
 
-same_access-refl : (x : Access) → same_access x x ≡ true
+pub same_access-refl : (x : Access) → same_access x x ≡ true
 same_access-refl x =
     and_from (nat_eq x.label x.label) (nat_eq x.section x.section && same_kind x.write x.write) (eq-eqb x.label x.label refl)
     (and_from (nat_eq x.section x.section) (same_kind x.write x.write) (eq-eqb x.section x.section refl) (same_kind-refl x.write))
 
-is_listed : (xs : List Access) (x : Access) → lists xs x ≡ true → Member x xs
+pub is_listed : (xs : List Access) (x : Access) → lists xs x ≡ true → Member x xs
 is_listed xs x h = let r = any_member (same_access x) xs h in subst (λ y. Member y xs) (sym (same_access-equal x r.item r.passes)) r.member
 
-has_listed : (xs : List Access) (x : Access) → Member x xs → lists xs x ≡ true
+pub has_listed : (xs : List Access) (x : Access) → Member x xs → lists xs x ≡ true
 has_listed xs x m = member_any (same_access x) xs m (same_access-refl x)
 
 has_each : (xs part : List Access) → has_all xs part ≡ true → (x : Access) → Member x part → Member x xs

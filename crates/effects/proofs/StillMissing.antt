@@ -1,14 +1,14 @@
 -- How many labels the flows may still bring: each round that brings something brings one less.
-use Rattle.std.proofs.Common.{◌≡◌, ◌⊎◌, inl, inr, ℕ, zero, suc, ◌+◌, ◌^◌, ◌<◌, ◌≤◌, List, [], ◌∷◌, refl, sym, ap, subst, ◌∙◌, arith, true≢false}
+use Rattle.std.proofs.Common.{◌≡◌, ◌⊎◌, inl, inr, ℕ, zero, suc, ◌+◌, ◌^◌, ◌<◌, ◌≤◌, List, [], ◌∷◌, refl, sym, ap, ◌∙◌, arith, true≢false}
 use Rattle.std.proofs.lemmas.Bool.{cases_lt}
 use Rattle.std.specs.Prelude.{Bool, true, false, if◌then◌else◌, Option, Some, None, slice_get}
+use Rattle.effects.proofs.Members.{false_true}
 use Rattle.sections.specs.Member.{Member, first, next}
 use Rattle.effects.specs.Closing.{HasSome, HasIn, BringsNew}
 use Rattle.effects.specs.AccessSets.{HasAccess, uses_of}
 use Rattle.effects.specs.LabelSets.{HasLabel, has_label}
 use Rattle.effects.specs.SummaryRows.{HasRow}
 use Rattle.effects.specs.UseSets.{HasIn as HasUseIn, HasUse}
-use Rattle.effects.specs.declared.accesses.Accesses.{Accesses}
 use Rattle.effects.specs.declared.flows.Flow.{Flow}
 use Rattle.effects.specs.declared.label_set.LabelSet.{LabelSet}
 use Rattle.effects.specs.declared.summary.Row.{Row}
@@ -46,14 +46,11 @@ record Tells (holds : ℕ → Type 0) (test : ℕ → Bool) : Type 0 where
   from : (l : ℕ) → test l ≡ true → holds l
   within : (l : ℕ) → holds l → l < 2 ^ 32
 
-none_told : {A : Type 0} → false ≡ true → A
-none_told e = absurd (true≢false (sym e))
-
 label_told : (s : LabelSet) → Tells (HasLabel s) (has_label s)
 label_told s = record { yes = has_label-true s; from = from_has_label s; within = label_within s }
 
 set_told : (o : Option LabelSet) → Tells (HasUseIn o) (set_has o)
-set_told None = record { yes = λ l h. absurd h; from = λ l e. none_told e; within = λ l h. absurd h }
+set_told None = record { yes = λ l h. absurd h; from = λ l e. false_true e; within = λ l h. absurd h }
 set_told (Some s) = record { yes = has_label-true s; from = from_has_label s; within = label_within s }
 
 use_told : (uses : Uses) (s : ℕ) → Tells (HasUse uses s) (use_has uses s)
@@ -74,7 +71,7 @@ row_told x PendingLabels =
     let t = label_told x.pending_labels in record { yes = λ l h. t.yes l h; from = λ l e. t.from l e; within = λ l h. t.within l h }
 
 some_told : (o : Option Summary) (r : Row) → Tells (HasSome o r) (some_has o r)
-some_told None r = record { yes = λ l h. absurd h; from = λ l e. none_told e; within = λ l h. absurd h }
+some_told None r = record { yes = λ l h. absurd h; from = λ l e. false_true e; within = λ l h. absurd h }
 some_told (Some x) r =
     let t = row_told x r in record { yes = λ l h. t.yes l h; from = λ l e. t.from l e; within = λ l h. t.within l h }
 

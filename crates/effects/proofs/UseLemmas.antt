@@ -72,15 +72,24 @@ pub if_ok : {T E : Type 0} (P Q : T → Type 0) (r : Result T E) → ((x : T) �
 if_ok P Q (Ok x) f h = f x h
 if_ok P Q (Err e) f h = h
 
+-- uses of one kind have grown, and those of the other kind have not
+grown_uses : (old new : Uses) (s : ℕ) {b w : Bool} (more : ℕ → Type 0) → b ≡ w
+    → ((t l : ℕ) → HasUse new t l ↔ (HasUse old t l ⊎ ((t ≡ s) × more l)))
+    → (t l : ℕ) → HasUse new t l ↔ (HasUse old t l ⊎ (((t ≡ s) × (b ≡ w)) × more l))
+grown_uses old new s more e both t l = (
+  λ h. elim ((both t l).0 h) [ inl a ↦ inl a | inr b ↦ inr ((b.0, e), b.1) ],
+  λ h. (both t l).1 (elim h [ inl a ↦ inl a | inr b ↦ inr (b.0.0, b.1) ]),
+)
+
+other_uses : (old : Uses) (s : ℕ) {b w : Bool} (more : ℕ → Type 0) → (b ≡ w → ⊥)
+    → (t l : ℕ) → HasUse old t l ↔ (HasUse old t l ⊎ (((t ≡ s) × (b ≡ w)) × more l))
+other_uses old s more ne t l = (λ h. inl h, λ h. elim h [ inl a ↦ a | inr b ↦ absurd (ne b.0.1) ])
+
 written_case : (old : Accesses) (new : Uses) (s : ℕ) (w : Bool) (more : ℕ → Type 0) → w ≡ true
     → ((t l : ℕ) → HasUse new t l ↔ (HasUse old.writes t l ⊎ ((t ≡ s) × more l))) → (b : Bool) (t l : ℕ)
     → HasUse (uses_of (record old { writes = new }) b) t l ↔ (HasUse (uses_of old b) t l ⊎ (((t ≡ s) × (b ≡ w)) × more l))
-written_case old new s w more e both true t l = (
-  λ h. elim ((both t l).0 h) [ inl a ↦ inl a | inr b ↦ inr ((b.0, sym e), b.1) ],
-  λ h. (both t l).1 (elim h [ inl a ↦ inl a | inr b ↦ inr (b.0.0, b.1) ]),
-)
-written_case old new s w more e both false t l =
-    (λ h. inl h, λ h. elim h [ inl a ↦ a | inr b ↦ false_true (b.0.1 ∙ e) ])
+written_case old new s w more e both true = grown_uses old.writes new s more (sym e) both
+written_case old new s w more e both false = other_uses old.reads s more (λ f. false_true (f ∙ e))
 
 -- the uses that write have grown
 pub written : (old : Accesses) (new : Uses) (s : ℕ) (w : Bool) (more : ℕ → Type 0) → w ≡ true
@@ -92,12 +101,8 @@ written old new s w more e both x = written_case old new s w more e both x.write
 read_case : (old : Accesses) (new : Uses) (s : ℕ) (w : Bool) (more : ℕ → Type 0) → w ≡ false
     → ((t l : ℕ) → HasUse new t l ↔ (HasUse old.reads t l ⊎ ((t ≡ s) × more l))) → (b : Bool) (t l : ℕ)
     → HasUse (uses_of (record old { reads = new }) b) t l ↔ (HasUse (uses_of old b) t l ⊎ (((t ≡ s) × (b ≡ w)) × more l))
-read_case old new s w more e both false t l = (
-  λ h. elim ((both t l).0 h) [ inl a ↦ inl a | inr b ↦ inr ((b.0, sym e), b.1) ],
-  λ h. (both t l).1 (elim h [ inl a ↦ inl a | inr b ↦ inr (b.0.0, b.1) ]),
-)
-read_case old new s w more e both true t l =
-    (λ h. inl h, λ h. elim h [ inl a ↦ a | inr b ↦ false_true (sym e ∙ sym b.0.1) ])
+read_case old new s w more e both false = grown_uses old.reads new s more (sym e) both
+read_case old new s w more e both true = other_uses old.writes s more (λ f. false_true (sym e ∙ sym f))
 
 -- the uses that read have grown
 pub are_read : (old : Accesses) (new : Uses) (s : ℕ) (w : Bool) (more : ℕ → Type 0) → w ≡ false

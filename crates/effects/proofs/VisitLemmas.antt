@@ -1,13 +1,21 @@
 -- What a statement of a body may do, the body may do, up to the names of sides.
-use Rattle.std.proofs.Common.{◌≡◌, ◌⊎◌, inl, inr, ℕ, List, [], ◌∷◌, ◌++◌, refl, sym, subst, ◌∙◌}
+use Rattle.std.proofs.Common.{◌≡◌, ◌⊎◌, inl, inr, ℕ, List, [], ◌∷◌, ◌++◌, refl, sym, ap, subst, ◌∙◌}
 use Rattle.sections.specs.Member.{Member, first, next}
 use Rattle.types.specs.Code.{Number, Code, Do, If, While, Split, Call, Async, Finish, Codes, End, Then, Procedure, Program}
+use Rattle.types.specs.Translation.{codes}
+use Rattle.types.specs.declared.code.Stmt.{Stmt}
 use Rattle.effects.specs.Effects.{Inner, Subject, AllOf, All, PendingOf, Pending, past_split}
 use Rattle.effects.specs.Sound.{SplitsWell, FollowsOf, Follows}
 use Rattle.effects.specs.Visits.{Visit, visits_in, visits_inside, in_async, in_finish}
 use Rattle.effects.specs.declared.visits.Standing.{Standing}
 use Rattle.effects.specs.declared.visits.Standing.TheVariants.{Open, Begun, Awaited}
 use Rattle.effects.proofs.Members.{in_parts}
+
+-- the visits behind others, where the standing and the block are the same
+pub visits_same : (before : List Visit) {w v : Standing} {b c : List Stmt} → w ≡ v → b ≡ c
+    → before ++ visits_in w (codes b) ≡ before ++ visits_in v (codes c)
+visits_same before {w} {v} {b} {c} standing block =
+    ap (λ u. before ++ visits_in u (codes b)) standing ∙ ap (λ l. before ++ visits_in v (codes l)) block
 
 module _ (p : Program) (subject : Subject) (g : Procedure) (root : ℕ → ℕ)
     (past : (scope : List ℕ) (s l r : ℕ) → SplitsWell g scope s l r → (x : subject.Item)

@@ -8,6 +8,7 @@ pub mod Safe
 pub mod Fits
 pub mod Fused
 pub mod Runs
+pub mod Spots
 pub mod Frames
 pub mod Machines
 pub mod Kind

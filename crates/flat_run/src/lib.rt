@@ -15,6 +15,7 @@ pub mod procedures;
 pub mod programs;
 pub mod run;
 pub mod safe;
+pub mod spot;
 pub mod telling;
 pub mod writer;
 

@@ -1,5 +1,5 @@
 -- Turns of a stage.
-use Rattle.std.proofs.Common.{◌≡◌, ℕ, List, [], ◌∷◌, ◌++◌, map, Some, refl, sym, ap, ◌∙◌, subst}
+use Rattle.std.proofs.Common.{◌≡◌, ℕ, List, [], ◌∷◌, ◌++◌, Some, refl, sym, ap, ◌∙◌, subst}
 use Rattle.std.specs.Prelude.{false}
 use Rattle.sections.specs.Place.{Place}
 use Rattle.own_run.specs.Places.{Places, within}
@@ -14,13 +14,6 @@ use Rattle.gather.specs.declared.error.GatherError.{GatherError}
 use Rattle.gather.specs.declared.error.GatherError.TheVariants.{Lost, Double, Stranger, OutOfMemory}
 use Rattle.gather.proofs.Turns.{settle-opened, comes_to-opened, comes_to-filled, comes_to-twice}
 use Rattle.gather.proofs.Wholes.{total-push, total-filled, owned-full, Fit-last, whole-opened, whole-filled}
-
-pub map-last : {A B : Type 0} (f : A → B) (xs ys : List A) (x : A) → ys ≡ xs ++ x ∷ [] → map f ys ≡ map f xs ++ f x ∷ []
-map-last f xs ys x e = ap (map f) e ∙ apart xs
-  where
-    apart : (xs : List _) → map f (xs ++ x ∷ []) ≡ map f xs ++ f x ∷ []
-    apart [] = refl
-    apart (y ∷ xs) = ap (λ l. f y ∷ l) (apart xs)
 
 -- a hole was opened
 pub leads-opened : (rs left : List TaskResult) (ws vs : List Waiting) (w : Waiting) (x : TaskResult) (f : Part) (path : List ℕ)

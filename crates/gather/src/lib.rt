@@ -8,4 +8,5 @@ pub mod laws;
 pub mod run_error;
 pub mod settle;
 mod table;
+pub mod told;
 mod unused;

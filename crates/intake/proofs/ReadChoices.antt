@@ -1,5 +1,5 @@
 -- What is read of choices, byte by byte, and of a file of them.
-use Rattle.std.proofs.Common.{◌≡◌, ℕ, List, [], ◌∷◌, Option, Some, None, Ok, Err, length, refl, sym, ap, ◌∙◌, subst, arith}
+use Rattle.std.proofs.Common.{◌≡◌, ℕ, List, [], ◌∷◌, Option, Some, None, Ok, Err, sym, ap, ◌∙◌, subst, arith}
 use Rattle.std.specs.Prelude.{option_map}
 use Rattle.intake.specs.Choices.{Reading, filed_by, goes_on, read_from, read_of_file, said_by, with_byte}
 use Rattle.intake.specs.Choices.{with_byte_of_file}
@@ -20,10 +20,6 @@ read_on r s byte behind is = ap (goes_on (λ t. read_from t behind)) is
 -- one that doesn't
 pub stuck : (r : Reading) (byte : ℕ) (behind : List ℕ) → with_byte r byte ≡ None → read_from r (byte ∷ behind) ≡ None
 stuck r byte behind is = ap (goes_on (λ t. read_from t behind)) is
-
-pub no_more : (l : List ℕ) → length l ≡ 0 → l ≡ []
-no_more [] e = refl
-no_more (x ∷ l) e = absurd (let bad : ⊥ = omega (arith, e) in bad)
 
 -- ---- of a file
 

@@ -1,6 +1,6 @@
 -- What each legal event changes.
 use Rattle.std.proofs.Common.{◌≡◌, ℕ, ◌+◌, ◌-◌, ◌/◌, ◌≤◌, List, [], ◌∷◌, ◌++◌, Option, Some, None, refl, inl, inr}
-use Rattle.std.proofs.lemmas.Bool.{eqb-true, leb-true, eq-eqb, and_parts}
+use Rattle.std.proofs.lemmas.Bool.{eqb-true, leb-true, eq-eqb, and_parts, not-true}
 use Rattle.std.specs.Prelude.{Bool, true, false, ◌⊎◌, ◌&&◌, not, nat_eq}
 use Rattle.std.proofs.lemmas.Option.{none-some, same_Some}
 use Rattle.effects.proofs.Members.{false_true}
@@ -147,10 +147,6 @@ pub hand_awake : (q : Whereabouts) (w : ℕ) → hand_of q ≡ Some w → is_par
 hand_awake (Queue v) w e = absurd (none-some _ e)
 hand_awake (Hand v) w e = refl
 hand_awake Parked w e = absurd (none-some _ e)
-
-not_true : (b : Bool) → not b ≡ true → b ≡ false
-not_true true e = absurd (false_true e)
-not_true false e = refl
 
 module _ (w0 : ℕ) (actions : Start → List (List TaskResult) → List Action) (result : Start → List (List TaskResult) → TaskResult) where
   abbrev nx : Event → World → Option World
@@ -381,7 +377,7 @@ module _ (w0 : ℕ) (actions : Start → List (List TaskResult) → List Action)
           record {
             at = is_at path a b _ _ h k;
             of = is_in a k.inner r.one r.first;
-            own = not_true _ t.test;
+            own = not-true _ t.test;
             next = d;
             now = same_Some _ _ t.gives;
           }

@@ -2,6 +2,7 @@
 use Rattle.std.proofs.Common.{◌≡◌, ℕ, zero, suc, ◌+◌, ◌<◌, ◌≤◌, List, [], ◌∷◌, ◌++◌, length, refl, sym, ap, ◌∙◌}
 use Rattle.std.proofs.Common.{subst, inl, inr, arith, append_assoc, le_refl}
 use Rattle.std.specs.Prelude.{Bool, ◌⊎◌, map, Contains, if◌then◌else◌}
+use Rattle.std.proofs.lemmas.List.{length_push}
 use Rattle.interleave.specs.World.{same_path, ScopeId, child_path}
 use Rattle.interleave.specs.Events.{Event, Take, Steal, Steps, Replenish, Spawns, Opens, Parks, Ends, Pass, Resume}
 use Rattle.interleave.specs.History.{Told, untold, spawned_more, opened_more, left_one, tell, tell_all, told}
@@ -71,10 +72,6 @@ last_same (z ∷ xs) [] x y e = absurd (nil_snoc xs x [] (sym (cons_tail e)))
 last_same (w ∷ xs) (z ∷ ys) x y e =
     let h = last_same xs ys x y (cons_tail e) in
     (ap (λ a. a ∷ xs) (cons_head e) ∙ ap (λ l. z ∷ l) h.0, h.1)
-
-pub length_last : {A : Type 0} (xs : List A) (x : A) → length (xs ++ x ∷ []) ≡ length xs + 1
-length_last [] x = refl
-length_last (y ∷ xs) x = omega (arith, length_last xs x)
 
 -- a list with one element more, at a place in it
 pub at_last : {X : Type 0} (es before later : List X) (e x : X) → es ++ e ∷ [] ≡ before ++ x ∷ later → ((l : List X) × (es ≡ before ++ x ∷ l)) ⊎ ((before ≡ es) × (e ≡ x))
@@ -162,7 +159,7 @@ next_is_new es before o p q h e =
     omega (arith, a, b, s.1)
 
 pub child_is_longer : (p : List ℕ) (k : ℕ) → length p < length (child_path p k)
-child_is_longer p k = omega (arith, length_last p k)
+child_is_longer p k = omega (arith, length_push p k)
 
 pub child_is_other : (p : List ℕ) (k : ℕ) → p ≡ child_path p k → ⊥
 child_is_other p k e =

@@ -1,7 +1,7 @@
 -- The n-th child that a task begins has its path with n behind.
 use Rattle.std.proofs.Common.{◌≡◌, ℕ, zero, suc, ◌+◌, List, [], ◌∷◌, ◌++◌, length, Option, Some, None, refl, sym, ap}
 use Rattle.std.proofs.Common.{◌∙◌, inl, inr, arith, append_assoc}
-use Rattle.std.proofs.lemmas.List.{append-nil}
+use Rattle.std.proofs.lemmas.List.{append-nil, length_push}
 use Rattle.std.specs.Prelude.{Bool, true, false, ◌⊎◌, take, slice_get, if◌then◌else◌}
 use Rattle.std.proofs.lemmas.Option.{none-some, same_Some}
 use Rattle.types.specs.Code.{Codes, Program}
@@ -16,7 +16,6 @@ use Rattle.own_run.specs.OwnRun.{begun_by}
 use Rattle.own_run.specs.Given.{in_truth, own, given}
 use Rattle.own_run.proofs.SettledResults.{gives}
 use Rattle.own_run.proofs.Begun.{begun_by-append}
-use Rattle.interleave.proofs.Histories.{length_last}
 
 pub get_last : {A : Type 0} (xs : List A) (x y : A) (n : ℕ) → slice_get (xs ++ x ∷ []) n ≡ Some y → (slice_get xs n ≡ Some y) ⊎ ((n ≡ length xs) × (x ≡ y))
 get_last [] x y zero e = inr (refl, same_Some _ _ e)
@@ -56,7 +55,7 @@ module _ (path : List ℕ) (needs : Codes → Needs) (nest : ℕ) (close : State
   listed : (n : Needs) (m : ℕ) (b : Codes) (st : State Own) → Numbers path st → Numbers path (list_child n m b st)
   listed n m b st h = record {
     named = h.named;
-    counted = ap length (begun_by-append st.extra.actions (Spawn kid ∷ [])) ∙ length_last (begun_by st.extra.actions) kid ∙ ap (λ k. k + 1) h.counted;
+    counted = ap length (begun_by-append st.extra.actions (Spawn kid ∷ [])) ∙ length_push (begun_by st.extra.actions) kid ∙ ap (λ k. k + 1) h.counted;
     each = λ i c e. by_place i c (get_last (begun_by st.extra.actions) kid c i (ap (λ l. slice_get l i) (sym (begun_by-append st.extra.actions (Spawn kid ∷ []))) ∙ e));
   }
     where

@@ -1,9 +1,10 @@
 -- Each task of a world started with what its path is given, and does what its own run does.
 use Rattle.std.proofs.Common.{◌≡◌, ℕ, zero, suc, ◌+◌, ◌-◌, ◌/◌, List, [], ◌∷◌, ◌++◌, length, Option, Some, None, refl}
 use Rattle.std.proofs.Common.{sym, ap, ◌∙◌, subst, inl, inr, arith, append_assoc}
-use Rattle.std.proofs.lemmas.List.{append-nil}
+use Rattle.std.proofs.lemmas.List.{append-nil, length_push}
 use Rattle.std.specs.Prelude.{Bool, true, false, ◌⊎◌, ◌&&◌, take, slice_get, if◌then◌else◌}
 use Rattle.std.proofs.lemmas.Option.{none-some, same_Some}
+use Rattle.std.proofs.lemmas.Bool.{and_right}
 use Rattle.types.specs.Code.{Codes, Program}
 use Rattle.types.specs.Run.{State, Block}
 use Rattle.effects.specs.Needs.{Needs}
@@ -22,7 +23,6 @@ use Rattle.interleave.specs.World.{same_scope, child_path, task, put_task, witho
 use Rattle.interleave.specs.Events.{Event, Take, Steal, Steps, Replenish, Spawns, Opens, Parks, Ends, Pass, Resume}
 use Rattle.interleave.specs.Events.{issue, give_back, did, new_scope, new_task, next_action}
 use Rattle.interleave.specs.Replay.{does, hands_on}
-use Rattle.interleave.proofs.Histories.{length_last}
 use Rattle.interleave.proofs.Lookups.{by_test, other_path, task-without_task, gone-without_task, Unique}
 use Rattle.interleave.proofs.Changes.{IsQuiet, IsAt, IsReplenish, IsSpawn, IsOpen, IsPark, IsEnd, IsPass, IsResume}
 use Rattle.interleave.proofs.Changes.{Becomes}
@@ -31,10 +31,6 @@ use Rattle.interleave.proofs.Events.{rebooked}
 use Rattle.interleave.proofs.Truth.{Rel, Behind, run_in_truth}
 use Rattle.interleave.proofs.Levels.{depth, depth-append, bracketed, take_next, depth_next}
 use Rattle.interleave.proofs.Numbered.{given_path, begun_at}
-
-and_false : (b c : Bool) → c ≡ false → (b && c) ≡ false
-and_false true c e = e
-and_false false c e = refl
 
 module _ (p : Program) (needs : Codes → Needs) (fresh w0 : ℕ) (root : Start) (nameless : root.path ≡ []) where
   -- what a task does in truth
@@ -48,7 +44,7 @@ module _ (p : Program) (needs : Codes → Needs) (fresh w0 : ℕ) (root : Start)
   pub truly_is : (s : Start) → truly s ≡ (own p needs fresh s).extra.actions ++ last_action (own p needs fresh s).path ∷ []
   truly_is s =
       let st = own p needs fresh s in
-      ap (λ (b : Bool). if b then st.extra.actions else st.extra.actions ++ last_action st.path ∷ []) (and_false (is_stopped st.flow) st.extra.waits (own_is_awake s))
+      ap (λ (b : Bool). if b then st.extra.actions else st.extra.actions ++ last_action st.path ∷ []) (and_right (is_stopped st.flow) st.extra.waits (own_is_awake s))
 
   -- how far a task is, among the finishes that it has opened
   abbrev pub IsAtLevel : Whereabouts → List Stake → Live → Type 0
@@ -161,7 +157,7 @@ module _ (p : Program) (needs : Codes → Needs) (fresh w0 : ℕ) (root : Start)
 
     pub counted_spawn : (c : Start) → nexts t ≡ Some (Spawn c) → length (begun_by (take (t.done + 1) (truly t.start))) ≡ t.spawned + 1
     counted_spawn c e =
-        ap (λ l. length (begun_by l)) (more_done (Spawn c) e) ∙ ap length (begun_by-append (take t.done (truly t.start)) (Spawn c ∷ [])) ∙ length_last (begun_by (take t.done (truly t.start))) c ∙ ap (λ n. n + 1) h.counted
+        ap (λ l. length (begun_by l)) (more_done (Spawn c) e) ∙ ap length (begun_by-append (take t.done (truly t.start)) (Spawn c ∷ [])) ∙ length_push (begun_by (take t.done (truly t.start))) c ∙ ap (λ n. n + 1) h.counted
 
     pub depth_more : (a : Action) (f : ℕ) → nexts t ≡ Some a → depth 0 (take t.done (truly t.start)) ≡ Some f → depth 0 (take (t.done + 1) (truly t.start)) ≡ depth f (a ∷ [])
     depth_more a f e d = ap (depth 0) (more_done a e) ∙ depth-append 0 (take t.done (truly t.start)) (a ∷ []) f d

@@ -1,59 +1,21 @@
 -- A turn that does something takes a step, and one that takes a step does something or is stopped.
 use Rattle.std.proofs.Common.{◌≡◌, ℕ, zero, suc, ◌+◌, ◌≤◌, List, [], ◌∷◌, ◌++◌, refl, sym, inl}
 use Rattle.std.proofs.Common.{inr, arith, le_refl}
-use Rattle.std.specs.Prelude.{◌⊎◌, Bool, true, false, Ok, Err, ok_or, Option}
+use Rattle.std.specs.Prelude.{◌⊎◌, true, false, Option}
 use Rattle.effects.proofs.Members.{false_true}
-use Rattle.sections.specs.Place.{sides_of}
-use Rattle.types.specs.declared.fault.FaultKind.TheVariants.{SplitPoint}
 use Rattle.types.specs.Code.{Code, Do, If, While, Split, Call, Async, Finish, Codes, End, Then, Program}
-use Rattle.types.specs.Run.{Flow, On, Faulted, Stopped, State, counted, window_at, number_at, numbers_at, truth_at}
-use Rattle.types.specs.Value.{Valued}
+use Rattle.types.specs.Run.{Flow, On, Faulted, Stopped, State, counted}
 use Rattle.effects.specs.Needs.{Needs}
 use Rattle.own_run.specs.Results.{Settled}
-use Rattle.own_run.specs.OwnRun.{Action, Step, Spawn, EnterFinish, EndFinish, EndTask, Own, own_rules, begin_own}
-use Rattle.own_run.specs.Frames.{Frame, Rest, Again, AtEnd, Back, Standing, turn, acted, paid, by_flow, by_value, chosen}
+use Rattle.own_run.specs.OwnRun.{Action, Step, Spawn, EnterFinish, EndFinish, EndTask, Own, own_rules}
+use Rattle.own_run.specs.Frames.{Frame, Rest, Again, AtEnd, Back, turn, acted, paid, by_flow}
 use Rattle.own_run.specs.Frames.{done_by, done_at, done_in}
 use Rattle.own_run.specs.Stops.{is_over, is_next_over, stops}
-use Rattle.own_run.proofs.TasksEnd.{primitive_less}
+use Rattle.own_run.proofs.Counted.{counted_steps}
+use Rattle.own_run.proofs.TasksEnd.{acted_less}
 use Rattle.interleave.proofs.Histories.{nil_cons}
 
--- a value is gone on with, or a fault noted
-value_less : {A : Type 0} (l : ℕ) (v : Valued A) (go : A → Standing Own) (fs : List (Frame Own)) (st : State Own)
-    → ((x : A) → (go x).state.steps ≤ st.steps) → (by_value l v go fs st).state.steps ≤ st.steps
-value_less l (Ok x) go fs st h = h x
-value_less l (Err f) go fs st h = le_refl st.steps
-
-chosen_less : (v : Bool) (fs gs : List (Frame Own)) (st : State Own) → (chosen v fs gs st).state.steps ≤ st.steps
-chosen_less true fs gs st = le_refl st.steps
-chosen_less false fs gs st = le_refl st.steps
-
-begin_less : (needs : Codes → Needs) (n : ℕ) (b : Codes) (st : State Own) → (begin_own needs n b st).steps ≤ st.steps
-begin_less needs zero b st = le_refl st.steps
-begin_less needs (suc n) b st = le_refl st.steps
-
 module _ (p : Program) (needs : Codes → Needs) (nest : ℕ) (close : State Own → Option Settled) where
-  -- a statement whose step was taken takes none
-  acted_less : (c : Code) (l : ℕ) (fs : List (Frame Own)) (st : State Own)
-      → (acted p (own_rules needs nest close) l c fs st).state.steps ≤ st.steps
-  acted_less (Do c) l fs st = primitive_less p l c st
-  acted_less (If t b c) l fs st = value_less l (truth_at st t) _ fs st (λ v. chosen_less v (Rest b ∷ fs) (Rest c ∷ fs) st)
-  acted_less (While t b) l fs st = value_less l (truth_at st t) _ fs st (λ v. chosen_less v (Rest b ∷ Again l t b ∷ fs) fs st)
-  acted_less (Split z e x y b) l fs st =
-      value_less l (number_at st e) _ fs st
-      (λ v. value_less l (ok_or (sides_of (window_at st z) v) SplitPoint) _ fs st (λ ws. le_refl st.steps))
-  acted_less (Call f es ss) l fs st = value_less l (numbers_at st es) _ fs st (λ vs. le_refl st.steps)
-  acted_less (Async b) l fs st = begin_less needs nest b st
-  acted_less (Finish b) l fs st = le_refl st.steps
-
-  counted_same : (l : ℕ) (c : Code) (st : State Own) → (counted (own_rules needs nest close) l c st).steps ≡ st.steps
-  counted_same l (Do s) st = refl
-  counted_same l (If t b c) st = refl
-  counted_same l (While t b) st = refl
-  counted_same l (Split s e x y b) st = refl
-  counted_same l (Call f es ss) st = refl
-  counted_same l (Async b) st = refl
-  counted_same l (Finish b) st = refl
-
   -- it does nothing, or takes a step
   abbrev Pays : List Action → (to st : State Own) → Type 0
   Pays acts to st = (to.steps ≤ st.steps) × ((acts ≡ []) ⊎ (to.steps + 1 ≤ st.steps))
@@ -62,8 +24,9 @@ module _ (p : Program) (needs : Codes → Needs) (nest : ℕ) (close : State Own
       → Pays (done_by needs nest n c st) (paid p (own_rules needs nest close) n l c fs st).state st
   paid_pays zero l c fs st e = (le_refl st.steps, inl refl)
   paid_pays (suc n) l c fs st e =
-      let i = acted_less c l fs (counted (own_rules needs nest close) l c (record st { steps = n })) in
-      let k = counted_same l c (record st { steps = n }) in
+      let mid = counted (own_rules needs nest close) l c (record st { steps = n }) in
+      let i = acted_less p needs nest close c l fs mid in
+      let k = counted_steps (own_rules needs nest close) l (record st { steps = n }) c in
       (omega (arith, e, i, k), inr (omega (arith, e, i, k)))
 
   flow_pays : (g : Flow) (l : ℕ) (c : Code) (fs below : List (Frame Own)) (st : State Own)

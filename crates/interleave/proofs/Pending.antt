@@ -7,7 +7,6 @@ use Rattle.types.specs.Code.{Code, Do, If, While, Split, Call, Async, Finish, Co
 use Rattle.types.specs.Code.{Primitive, Truth}
 use Rattle.types.specs.Value.{Valued}
 use Rattle.types.specs.Run.{Flow, On, Faulted, Stopped, State, number_at, numbers_at, truth_at, window_at, Rules}
-use Rattle.types.specs.Laws.{IsKept}
 use Rattle.types.proofs.Keeps.{primitive_keeps}
 use Rattle.effects.specs.Needs.{Needs}
 use Rattle.own_run.specs.OwnRun.{Start, Action, Step, Spawn, EnterFinish, EndFinish, EndTask, Own, notes}
@@ -16,7 +15,7 @@ use Rattle.own_run.specs.Given.{in_truth}
 use Rattle.own_run.specs.Frames.{Frame, Rest, Again, AtEnd, Back, Standing, by_value, chosen, paid, by_flow, turn}
 use Rattle.own_run.specs.Frames.{done_by, done_at, done_in}
 use Rattle.own_run.specs.Reached.{Reached, root_begins, child_begins, turns, leaves}
-use Rattle.own_run.proofs.TurnActions.{turn_does}
+use Rattle.own_run.proofs.TurnActions.{silent, turn_does}
 use Rattle.interleave.proofs.Direct.{start_of}
 
 -- what is spawned in each scope that is open, the innermost first, where this was before
@@ -62,16 +61,6 @@ module _ (p : Program) (needs : Codes → Needs) (fresh : ℕ) where
   abbrev r : ℕ → Rules Own
   r nest = own_rules needs nest (in_truth p needs fresh)
 
-  silent : IsKept {X = Own} (record { stepped = λ l x. x; begin = λ l b st. st; enter = λ l st. st; leave = λ st out. out })
-      (λ st to. to.extra.pending ≡ st.extra.pending)
-  silent = record {
-    idle = λ st to a b c _. ap (λ (x : Own). x.pending) c;
-    further = λ a b c h k. k ∙ h;
-    stepped = λ l st. refl;
-    begin = λ l b st. refl;
-    finish = λ l st out h. h;
-  }
-
   value_pending : {A : Type 0} (l : ℕ) (v : Valued A) (go : A → Standing Own) (fs : List (Frame Own)) (st : State Own)
       (css : List (List Start)) → pendings fs st ≡ css → ((x : A) → of (go x) ≡ css) → of (by_value l v go fs st) ≡ css
   value_pending l (Ok x) go fs st css e h = h x
@@ -89,7 +78,9 @@ module _ (p : Program) (needs : Codes → Needs) (fresh : ℕ) where
 
     do_pending : (l : ℕ) (s : Primitive) → of (paid p (r nest) (suc n) l (Do s) fs st) ≡ pendings fs st
     do_pending l s =
-        ap (λ cs. map start_of cs ∷ around fs) (primitive_keeps p _ (λ st to. to.extra.pending ≡ st.extra.pending) silent l s after)
+        ap (λ cs. map start_of cs ∷ around fs)
+        (primitive_keeps p _ (λ st to. to.extra.pending ≡ st.extra.pending)
+        (silent (λ x. x.pending)) l s after)
 
     if_pending : (l : ℕ) (t : Truth) (b c : Codes) → of (paid p (r nest) (suc n) l (If t b c) fs st) ≡ pendings fs st
     if_pending l t b c = value_pending l (truth_at st t) _ fs after _ refl (λ v. chosen_pending v _ _ after _ refl refl)

@@ -2,7 +2,7 @@
 use Rattle.std.proofs.Common.{◌≡◌, ℕ, zero, suc, ◌+◌, ◌<◌, ◌≤◌, List, [], ◌∷◌, ◌++◌, length, Some, refl, sym, ap, ◌∙◌}
 use Rattle.std.proofs.Common.{subst, inl, inr, arith, le_refl}
 use Rattle.std.proofs.lemmas.Option.{same_Some}
-use Rattle.std.proofs.lemmas.List.{append-nil}
+use Rattle.std.proofs.lemmas.List.{append-nil, length_push}
 use Rattle.std.specs.Prelude.{◌⊎◌, false}
 use Rattle.types.specs.Code.{Code, Do, If, While, Split, Call, Async, Finish, Codes, End, Then, Program}
 use Rattle.types.specs.Run.{Flow, On, Faulted, Stopped, State}
@@ -24,7 +24,6 @@ use Rattle.own_run.proofs.ReachedTasks.{goes}
 use Rattle.own_run.proofs.TaskRuns.{turns_follow, leaves_follow}
 use Rattle.own_run.proofs.TasksEnd.{weight, Falls, spends, sheds, flow_falls}
 use Rattle.own_run.proofs.TurnActions.{turn_does}
-use Rattle.interleave.proofs.Histories.{length_last}
 
 -- an action that ends nothing
 abbrev pub IsMove : Action → Type 0
@@ -234,7 +233,7 @@ module _ (p : Program) (needs : Codes → Needs) (scoped : IsScoped p) (calm : I
       → Stands s receipts (done + 1) (turn p (own_rules needs s.nest (in_truth p needs fresh)) m.frame m.frames m.state)
   moved_on s receipts done a m =
       let k = turned s receipts done m.frame m.frames m.state (a ∷ []) m.stands m.does in
-      record { reached = k.reached; follows = k.follows; after = k.after ∙ length_last m.state.extra.actions a ∙ ap (λ n. n + 1) m.stands.after }
+      record { reached = k.reached; follows = k.follows; after = k.after ∙ length_push m.state.extra.actions a ∙ ap (λ n. n + 1) m.stands.after }
 
   -- behind a finish
   pub left : (s : Start) (receipts : List (List TaskResult)) (done : ℕ) (before : State Own) (fs : List (Frame Own)) (st : State Own)
@@ -245,5 +244,5 @@ module _ (p : Program) (needs : Codes → Needs) (scoped : IsScoped p) (calm : I
     reached = leaves rs h.reached all e;
     follows = leaves_follow p needs fresh root s receipts rs before fs st x
         (goes p needs scoped calm provided fresh root named may_begin h.reached).task.awake e h.follows;
-    after = length_last st.extra.actions EndFinish ∙ ap (λ n. n + 1) h.after;
+    after = length_push st.extra.actions EndFinish ∙ ap (λ n. n + 1) h.after;
   }

@@ -1,6 +1,6 @@
 //! What is told once the root's scope has passed.
 
-ghost use Rattle.std.specs.Prelude.{◌≡◌, ◌&&◌, IfErr, IfOk, IfSome, OnOk, Some, map, nat_eq, not};
+ghost use Rattle.std.specs.Prelude.{◌≡◌, ◌&&◌, IfErr, IfOk, IfSome, OnOk, Some, nat_eq, not};
 ghost use Rattle.std.specs.Prelude.{option_map, true};
 ghost use Rattle.std.specs.HashMap.{get};
 ghost use Rattle.interleave.specs.Events.{Pass as IsPass};
@@ -10,25 +10,16 @@ ghost use Rattle.interleave.specs.World.{World as AnyWorld, root_scope as the_ro
 ghost use Rattle.interleave.specs.Worlds.{outcome_of as outcome_in};
 ghost use Rattle.interleave.specs.declared.error.EventError.TheVariants.{NoMemory};
 ghost use Rattle.interleave.specs.declared.scope.Scope.{Scope as AnyScope};
-ghost use Rattle.types.specs.Contents.{shown as shown_in};
 ghost use Rattle.types.specs.Outcome.{outcome as one_thread};
-ghost use Rattle.types.specs.Translation.{array as array_of, outcome as outcome_of};
-ghost use Rattle.types.specs.Typed.{code_of};
+ghost use Rattle.types.specs.Translation.{outcome as outcome_of};
 ghost use Rattle.types.specs.declared.outcome.Outcome.{Outcome as AnyOutcome};
-ghost use Rattle.own_run.specs.Given.{told_of};
-ghost use Rattle.own_run.specs.Translation.{contents_of, settled as settled_of};
 
 use crate::doing::Doing;
 use crate::ending::copies;
 use crate::error::EventError;
-use crate::job::Job;
 use crate::world::{World, root_path};
 use gather::settle::settle;
-use holdings::holdings::Holdings;
-use own_run::result::Settled;
-use sections::id::ArrayId;
-use std::alloc::{AllocError, Global};
-use types::code::Array;
+use gather::told::told;
 use types::outcome::Outcome;
 use types::scope_id::ScopeId;
 
@@ -89,39 +80,7 @@ impl<'p> World<'p> {
         let Ok(settled) = settle(alloc, made, results) else {
             return Err(EventError::NoMemory);
         };
-        let told = told(self.job, settled)?;
+        let told = told(alloc, self.job.plan().program, settled)?;
         Ok(told)
     }
-}
-
-/// What is told of a run in which all this has come.
-fn told(job: Job<'_>, settled: Settled) -> Result<Outcome, AllocError>
-    ensures told { IfOk result (λ o. outcome_of o
-        ≡ told_of (code_of job.entry.accepted.now.typed) (settled_of settled)) }
-{
-    if settled.stopped {
-        return Ok(Outcome::Stopped);
-    }
-    let declared = &job.plan().program.arrays;
-    Ok(Outcome::Ended {
-        arrays: shown(job.alloc, declared, &settled.holdings)?,
-        lines: settled.lines,
-        faults: settled.faults,
-    })
-}
-
-/// The numbers of all arrays, in the order of declaration.
-fn shown(
-    alloc: Global,
-    declared: &[Array],
-    holdings: &Holdings,
-) -> Result<Vec<Vec<i64>>, AllocError>
-    ensures { IfOk result (λ lists. map (λ v. v.items) lists.items
-        ≡ shown_in (map array_of declared.now) (contents_of holdings.now)) }
-{
-    let mut arrays = Vec::new(alloc);
-    'arrays: for (number, array) in declared.iter().enumerate() {
-        arrays.push(holdings.row(alloc, ArrayId { number }, array.length)?)?;
-    }
-    Ok(arrays)
 }

@@ -1,8 +1,8 @@
 -- What is told of arrays, read as an input.
 use Rattle.std.proofs.Common.{◌≡◌, ◌-◌, ℕ, List, [], ◌∷◌, ◌++◌, length, map, Option, None, Some, Ok, Err}
-use Rattle.std.proofs.Common.{Bool, true, false, refl, sym, ap, ◌∙◌, arith, rules, subst, true≢false}
+use Rattle.std.proofs.Common.{Bool, true, false, refl, sym, ap, ◌∙◌, arith, subst, true≢false}
 use Rattle.std.proofs.Common.{Less, Equal, Greater, nat_cmp, option_map}
-use Rattle.std.proofs.lemmas.Bool.{and_parts}
+use Rattle.std.proofs.lemmas.Bool.{and_parts, eq-eqb}
 use Rattle.std.proofs.lemmas.Slice.Eq.{bytes_eq-Decides}
 use Rattle.std.specs.Prelude.{ℤ, pos, negsuc, ◌^◌, ◌||◌, nat_eq, nat_lt, int_le, int_lt, is_some, option_and_then}
 use Rattle.std.specs.Prelude.{if◌then◌else◌, ok_or}
@@ -58,15 +58,12 @@ count : (row : List ℤ) → items_count (items_of (map integer row)) ≡ length
 count [] = refl
 count (z ∷ zs) = let e = count zs in omega (arith, e)
 
-same_number : (n m : ℕ) → n ≡ m → nat_eq n m ≡ true
-same_number n m e = search rules
-
 row_read : (x : Array) (row : List ℤ) → IsRow x row → list_all fits_64_bits row ≡ true
     → value_says x (numbers_json row) ≡ Ok row
 row_read x row r fits =
     let ds = items_of (map integer row) in
     ap (λ b. if b then ok_or (numbers_in x.element ds) (BadElement x.name) else Err (OtherLength x.name))
-    (same_number _ _ (count row ∙ r.long))
+    (eq-eqb _ _ (count row ∙ r.long))
     ∙ ap (λ o. ok_or o (BadElement x.name)) (numbers_read x.element row r.held fits)
 
 -- ---- the arrays by their names

@@ -1,10 +1,11 @@
 -- None of the values has a float, so that each has one compact text.
-use Rattle.std.proofs.Common.{◌≡◌, ℕ, List, [], ◌∷◌, map, Option, None, Some, Bool, true, false, refl, ap, ◌∙◌}
+use Rattle.std.proofs.Common.{◌≡◌, ℕ, List, [], ◌∷◌, map, Option, None, Some, Bool, false, refl, ap, ◌∙◌}
 use Rattle.std.proofs.Common.{Ordering, Less, Equal, Greater, nat_cmp}
 use Rattle.std.specs.Prelude.{ℤ, pos, negsuc, ◌||◌}
 use Rattle.std.specs.Cmp.Lexicographic.{slice_cmp}
 use Rattle.std.specs.List.{AllByRecursion, zip}
 use Rattle.std.specs.Ordering.{match_ordering}
+use Rattle.std.proofs.lemmas.Bool.{or_parts}
 use Rattle.serde_json.specs.Data.{Data, string, Members, no_members, member, put}
 use Rattle.serde_json.specs.View.{items_of}
 use Rattle.serde_json.specs.Written.{has_float, items_have_float, members_have_float}
@@ -25,10 +26,6 @@ HasNoFloat d = has_float d ≡ false
 
 neither : (a b : Bool) → a ≡ false → b ≡ false → (a || b) ≡ false
 neither a b p q = ap (λ x. x || b) p ∙ q
-
-both_false : (a b : Bool) → (a || b) ≡ false → (a ≡ false) × (b ≡ false)
-both_false true b e = cc
-both_false false b e = (refl, e)
 
 pub integer_has_none : (z : ℤ) → HasNoFloat (integer z)
 integer_has_none (pos n) = refl
@@ -61,7 +58,7 @@ put_has_none : (k : List ℕ) (d : Data) (ms : Members) → HasNoFloat d → mem
     → members_have_float (put k d ms) ≡ false
 put_has_none k d no_members none others = neither (has_float d) false none refl
 put_has_none k d (member l e ms) none others =
-    let parts = both_false (has_float e) (members_have_float ms) others in
+    let parts = or_parts (has_float e) (members_have_float ms) others in
     by_order (slice_cmp nat_cmp k l) parts.0 parts.1 (put_has_none k d ms none parts.1)
   where
     by_order : (o : Ordering) → has_float e ≡ false → members_have_float ms ≡ false

@@ -1,18 +1,20 @@
 -- What stands behind a piece of a layout begins with no more of it.
-use Rattle.std.proofs.Common.{◌≡◌, ◌≢◌, ◌+◌, ◌*◌, ℕ, Bool, true, false, not, ◌&&◌, ◌||◌, ◌==◌, if◌then◌else◌, List, [], ◌∷◌, ◌++◌}
-use Rattle.std.proofs.Common.{fold, refl, ap, sym, ◌∙◌, arith}
+use Rattle.std.proofs.Common.{◌≡◌, ◌<◌, ℕ, zero, suc, Bool, true, false, not, ◌&&◌, ◌||◌, ◌==◌, if◌then◌else◌}
+use Rattle.std.proofs.Common.{List, [], ◌∷◌, ◌++◌, length, get_or, refl, ap, sym, ◌∙◌, arith}
 use Rattle.std.specs.Char.{is_ascii_digit}
-use Rattle.std.proofs.lemmas.Bool.{false≢true}
+use Rattle.std.specs.List.{list_all}
+use Rattle.std.proofs.lemmas.Bool.{and_parts, not-true}
 use Rattle.syntax.specs.declared.token.Word.{Word}
 use Rattle.syntax.specs.declared.token.Word.TheVariants.{Len as WordLen}
 use Rattle.syntax.specs.declared.token.Mark.{Mark}
 use Rattle.syntax.specs.declared.token.Mark.TheVariants.{LeftParen, RightParen, LeftBracket, RightBracket, Comma}
-use Rattle.syntax.specs.declared.token.Mark.TheVariants.{Semicolon, Colon, Minus, Slash}
+use Rattle.syntax.specs.declared.token.Mark.TheVariants.{Semicolon, Colon, Minus}
 use Rattle.syntax.specs.Canonical.{Left, Margin, Opening, Called, Operand, Ended, Other, begins_line, depth_by}
 use Rattle.syntax.specs.Canonical.{is_closing, is_opening, left_by_mark, left_by_word}
-use Rattle.syntax.specs.Lexical.{begins_comment, is_in_line, is_in_name, mark_text, number_of, starts, word_text, IsMark}
+use Rattle.syntax.specs.Lexical.{is_in_line, is_in_name, mark_text, number_of, starts, word_text, IsMark}
 use Rattle.syntax.specs.Lexical.{Piece, BlankPiece, CommentPiece, NamePiece, NumberPiece, WordPiece, MarkPiece}
 use Rattle.syntax.specs.Token.{Token, NameToken, NumberToken, WordToken, MarkToken}
+use Rattle.syntax.proofs.MarkLemmas.{bracket_stands, minus_stands, paren_stands, quiet_mark}
 use Rattle.layout.specs.declared.gap.Gap.{Gap}
 use Rattle.layout.specs.declared.gap.Gap.TheVariants.{Joined, Space, Line}
 use Rattle.layout.specs.declared.spot.Last.{Last}
@@ -36,57 +38,44 @@ pub record IsQuiet (q : ℕ → Bool) : Type 0 where
   pub left_bracket : q 91 ≡ false
   pub right_bracket : q 93 ≡ false
 
+-- the bytes that gaps and close marks begin with
+abbrev close : List ℕ
+close = 10 ∷ 32 ∷ 40 ∷ 41 ∷ 44 ∷ 58 ∷ 59 ∷ 91 ∷ 93 ∷ []
+
+none_passes : (q : ℕ → Bool) (cs : List ℕ) → list_all (λ c. not (q c)) cs ≡ true → (i : ℕ) → i < length cs
+    → q (get_or cs i 0) ≡ false
+none_passes q [] h i within = absurd (omega arith)
+none_passes q (c ∷ cs) h zero within =
+    not-true (q c) (and_parts (not (q c)) (list_all (λ d. not (q d)) cs) h).0
+none_passes q (c ∷ cs) h (suc i) within =
+    none_passes q cs (and_parts (not (q c)) (list_all (λ d. not (q d)) cs) h).1 i (omega arith)
+
+quiet : (q : ℕ → Bool) → list_all (λ c. not (q c)) close ≡ true → IsQuiet q
+quiet q none =
+    let at : (i : ℕ) → i < 9 → q (get_or close i 0) ≡ false = none_passes q close none in
+    record {
+      feed = at 0 (omega arith);
+      space = at 1 (omega arith);
+      left_paren = at 2 (omega arith);
+      right_paren = at 3 (omega arith);
+      comma = at 4 (omega arith);
+      colon = at 5 (omega arith);
+      semicolon = at 6 (omega arith);
+      left_bracket = at 7 (omega arith);
+      right_bracket = at 8 (omega arith);
+    }
+
 pub in_name_quiet : IsQuiet is_in_name
-in_name_quiet = record {
-  feed = refl;
-  space = refl;
-  left_paren = refl;
-  right_paren = refl;
-  comma = refl;
-  colon = refl;
-  semicolon = refl;
-  left_bracket = refl;
-  right_bracket = refl;
-}
+in_name_quiet = quiet is_in_name refl
 
 pub digit_quiet : IsQuiet is_ascii_digit
-digit_quiet = record {
-  feed = refl;
-  space = refl;
-  left_paren = refl;
-  right_paren = refl;
-  comma = refl;
-  colon = refl;
-  semicolon = refl;
-  left_bracket = refl;
-  right_bracket = refl;
-}
+digit_quiet = quiet is_ascii_digit refl
 
-pub equal_quiet : IsQuiet (λ c. c == 61)
-equal_quiet = record {
-  feed = refl;
-  space = refl;
-  left_paren = refl;
-  right_paren = refl;
-  comma = refl;
-  colon = refl;
-  semicolon = refl;
-  left_bracket = refl;
-  right_bracket = refl;
-}
+equal_quiet : IsQuiet (λ c. c == 61)
+equal_quiet = quiet (λ c. c == 61) refl
 
-pub slash_quiet : IsQuiet (λ c. c == 47)
-slash_quiet = record {
-  feed = refl;
-  space = refl;
-  left_paren = refl;
-  right_paren = refl;
-  comma = refl;
-  colon = refl;
-  semicolon = refl;
-  left_bracket = refl;
-  right_bracket = refl;
-}
+slash_quiet : IsQuiet (λ c. c == 47)
+slash_quiet = quiet (λ c. c == 47) refl
 
 -- the text has begun
 abbrev pub IsSomething : Last → Type 0
@@ -211,56 +200,17 @@ line_ends (MarkPiece m ∷ ps) d left feeds =
 
 -- ---- marks
 
--- a text as one number, to tell texts apart
-abbrev key : List ℕ → ℕ
-key cs = fold (λ k c. k * 1000 + c) 0 cs
-
-paren_no_longer : (longer : Mark) → mark_text longer ≢ 40 ∷ 61 ∷ []
-paren_no_longer Comma e = absurd (omega (arith, ap key e))
-paren_no_longer _ e = absurd (omega (arith, ap key e))
-
-bracket_no_longer : (longer : Mark) → mark_text longer ≢ 91 ∷ 61 ∷ []
-bracket_no_longer Comma e = absurd (omega (arith, ap key e))
-bracket_no_longer _ e = absurd (omega (arith, ap key e))
-
-minus_no_longer : (longer : Mark) → mark_text longer ≢ 45 ∷ 61 ∷ []
-minus_no_longer Comma e = absurd (omega (arith, ap key e))
-minus_no_longer _ e = absurd (omega (arith, ap key e))
-
-paren_no_comment : (rest : List ℕ) → begins_comment (40 ∷ rest) ≡ false
-paren_no_comment [] = refl
-paren_no_comment (c ∷ cs) = refl
-
-bracket_no_comment : (rest : List ℕ) → begins_comment (91 ∷ rest) ≡ false
-bracket_no_comment [] = refl
-bracket_no_comment (c ∷ cs) = refl
-
-minus_no_comment : (rest : List ℕ) → begins_comment (45 ∷ rest) ≡ false
-minus_no_comment [] = refl
-minus_no_comment (c ∷ cs) = refl
-
-no_comment : (m : Mark) (rest : List ℕ) → starts (λ c. c == 47) rest ≡ false → begins_comment (mark_text m ++ rest) ≡ false
-no_comment Slash [] e = refl
-no_comment Slash (c ∷ cs) e = e
-no_comment _ [] e = refl
-no_comment _ (c ∷ cs) e = refl
-
-quiet_mark : (m : Mark) (rest : List ℕ) → starts (λ c. c == 61) rest ≡ false → starts (λ c. c == 47) rest ≡ false → IsMark m rest
-quiet_mark m rest equal slash = record {
-  longest = λ e longer same. false≢true (sym equal ∙ e);
-  no_comment = no_comment m rest slash;
-}
-
 -- what stands behind a mark makes it no longer, and no comment
 pub mark_stands : (at : Spot) (m : Mark) (ps : List Piece) → IsMark m (laid_from (behind_token at (MarkToken m)) ps)
-mark_stands at LeftParen ps = record { longest = λ e. paren_no_longer; no_comment = paren_no_comment _ }
-mark_stands at LeftBracket ps = record { longest = λ e. bracket_no_longer; no_comment = bracket_no_comment _ }
-mark_stands at Minus ps = record { longest = λ e. minus_no_longer; no_comment = minus_no_comment _ }
+mark_stands at LeftParen ps = paren_stands _
+mark_stands at LeftBracket ps = bracket_stands _
+mark_stands at Minus ps = minus_stands _
 mark_stands at m ps =
     let d = depth_by at.depth (MarkToken m) in
-    quiet_mark m (laid_from (behind_token at (MarkToken m)) ps)
-    (starts_quiet (λ c. c == 61) equal_quiet ps d (left_by_mark at.left m) (last_by_mark m) Same tt tt)
-    (starts_quiet (λ c. c == 47) slash_quiet ps d (left_by_mark at.left m) (last_by_mark m) Same tt tt)
+    quiet_mark m (laid_from (behind_token at (MarkToken m)) ps) (
+      starts_quiet (λ c. c == 61) equal_quiet ps d (left_by_mark at.left m) (last_by_mark m) Same tt tt,
+      starts_quiet (λ c. c == 47) slash_quiet ps d (left_by_mark at.left m) (last_by_mark m) Same tt tt,
+    )
 
 pub word_is_no_opening : (w : Word) → IsNoOpening (left_by_word w)
 word_is_no_opening WordLen = tt

@@ -6,7 +6,7 @@ use Rattle.std.proofs.lemmas.Bool.{and_parts}
 use Rattle.syntax.specs.declared.token.Word.{Word}
 use Rattle.syntax.specs.declared.token.Mark.{Mark}
 use Rattle.syntax.specs.Lexical.{is_in_name, letters, mark_text, starts, token_of, word_text, Begins, Piece}
-use Rattle.syntax.specs.Lexical.{BlankPiece, CommentPiece, NamePiece, NumberPiece, WordPiece, MarkPiece}
+use Rattle.syntax.specs.Lexical.{NamePiece, NumberPiece, WordPiece, MarkPiece}
 use Rattle.syntax.specs.Token.{NameToken, NumberToken, WordToken, MarkToken}
 use Rattle.syntax.proofs.Pieces.{word_in_name}
 
@@ -26,37 +26,21 @@ module _ (text rest : List ℕ) where
       → prefix_len is_in_name text ≡ length (letters p)
   name_takes x (NamePiece cs) begins e =
       ap (prefix_len is_in_name) begins.spelled ∙ prefix_len-front is_in_name cs rest begins.fits.in_name begins.fits.ends
-  name_takes x (BlankPiece c) begins e = cc
-  name_takes x (CommentPiece cs) begins e = cc
-  name_takes x (NumberPiece cs) begins e = cc
-  name_takes x (WordPiece w) begins e = cc
-  name_takes x (MarkPiece m) begins e = cc
+  name_takes x _ begins e = cc
 
   pub word_takes : (v : Word) (p : Piece) → Begins text p rest → token_of p ≡ WordToken v ∷ []
       → prefix_len is_in_name text ≡ length (letters p)
   word_takes v (WordPiece w) begins e =
       ap (prefix_len is_in_name) begins.spelled ∙ prefix_len-front is_in_name (word_text w) rest (word_in_name w) begins.fits
-  word_takes v (BlankPiece c) begins e = cc
-  word_takes v (CommentPiece cs) begins e = cc
-  word_takes v (NamePiece cs) begins e = cc
-  word_takes v (NumberPiece cs) begins e = cc
-  word_takes v (MarkPiece m) begins e = cc
+  word_takes v _ begins e = cc
 
   pub number_takes : (n : ℕ) (p : Piece) → Begins text p rest → token_of p ≡ NumberToken n ∷ []
       → prefix_len is_ascii_digit text ≡ length (letters p)
   number_takes n (NumberPiece cs) begins e =
       ap (prefix_len is_ascii_digit) begins.spelled ∙ prefix_len-front is_ascii_digit cs rest begins.fits.digits begins.fits.ends
-  number_takes n (BlankPiece c) begins e = cc
-  number_takes n (CommentPiece cs) begins e = cc
-  number_takes n (NamePiece cs) begins e = cc
-  number_takes n (WordPiece w) begins e = cc
-  number_takes n (MarkPiece m) begins e = cc
+  number_takes n _ begins e = cc
 
   pub mark_takes : (m : Mark) (p : Piece) → Begins text p rest → token_of p ≡ MarkToken m ∷ []
       → length (mark_text m) ≡ length (letters p)
   mark_takes m (MarkPiece k) begins e = let same : m ≡ k = cc in ap (λ n. length (mark_text n)) same
-  mark_takes m (BlankPiece c) begins e = cc
-  mark_takes m (CommentPiece cs) begins e = cc
-  mark_takes m (NamePiece cs) begins e = cc
-  mark_takes m (NumberPiece cs) begins e = cc
-  mark_takes m (WordPiece w) begins e = cc
+  mark_takes m _ begins e = cc

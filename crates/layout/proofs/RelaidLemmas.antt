@@ -4,6 +4,7 @@ use Rattle.std.proofs.Common.{replicate, refl, ap, sym, ◌∙◌, subst, append
 use Rattle.std.specs.Char.{is_ascii_digit}
 use Rattle.std.specs.List.{flat_map, list_all}
 use Rattle.std.proofs.lemmas.Bool.{and_parts}
+use Rattle.syntax.proofs.LayoutLemmas.{blanks as blanks_are_blank}
 use Rattle.syntax.specs.Canonical.{Left, Called, Operand, begins_line, left_by_word}
 use Rattle.syntax.specs.Lexical.{is_blank, is_in_line, is_in_name, letters, mark_text, number_of, token_of, word_text}
 use Rattle.syntax.specs.Lexical.{AreCut, MayStand}
@@ -47,15 +48,11 @@ relaid at (MarkPiece m ∷ ps) =
 
 -- ---- a layout is cut into these
 
-spaces_blank : (k : ℕ) → list_all is_blank (replicate k 32) ≡ true
-spaces_blank zero = refl
-spaces_blank (suc k) = spaces_blank k
-
 gap_blank : (g : Gap) → list_all is_blank (gap_text g) ≡ true
 gap_blank Joined = refl
 gap_blank Space = refl
-gap_blank (Line true levels) = spaces_blank (2 * levels)
-gap_blank (Line false levels) = spaces_blank (2 * levels)
+gap_blank (Line true levels) = blanks_are_blank (2 * levels)
+gap_blank (Line false levels) = blanks_are_blank (2 * levels)
 
 with_blanks : (bs text : List ℕ) (ps : List Piece) → list_all is_blank bs ≡ true → AreCut text ps []
     → AreCut (bs ++ text) (blanks bs ps) []

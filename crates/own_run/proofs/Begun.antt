@@ -2,7 +2,7 @@
 use Rattle.std.proofs.lemmas.Option.{none-some}
 use Rattle.std.proofs.Common.{◌≡◌, ℕ, zero, suc, ◌+◌, List, [], ◌∷◌, ◌++◌, length, Option, Some, None, refl, sym, ap}
 use Rattle.std.proofs.Common.{◌∙◌, subst, arith, append_assoc}
-use Rattle.std.proofs.lemmas.List.{append-nil}
+use Rattle.std.proofs.lemmas.List.{append-nil, length_push}
 use Rattle.std.specs.Prelude.{Bool, true, false, slice_get, if◌then◌else◌}
 use Rattle.types.specs.Code.{Codes, Program}
 use Rattle.types.specs.Run.{State, Rules, Work, run}
@@ -36,10 +36,6 @@ get_last [] x zero e = refl
 get_last [] x (suc k) e = absurd (omega (arith, e))
 get_last (y ∷ xs) x zero e = absurd (omega (arith, e))
 get_last (y ∷ xs) x (suc k) e = get_last xs x k (omega (arith, e))
-
-length_last : {A : Type 0} (xs : List A) (x : A) → length (xs ++ x ∷ []) ≡ length xs + 1
-length_last [] x = refl
-length_last (y ∷ xs) x = omega (arith, length_last xs x)
 
 -- ---- what is known
 -- a state follows another: its name stays, its actions grow at their end
@@ -110,7 +106,7 @@ module _ (nest : ℕ) where
         fine = λ h. record {
           counted =
               ap length (begun_by-append st.extra.actions done)
-              ∙ length_last (begun_by st.extra.actions) c.start ∙ ap (λ k. k + 1) h.counted;
+              ∙ length_push (begun_by st.extra.actions) c.start ∙ ap (λ k. k + 1) h.counted;
           begun = each_last (IsBegun nest to) st.extra.pending c
               (each_more (IsBegun nest st) (IsBegun nest to) st.extra.pending (λ d. still_begun st to d refl done refl) h.begun)
               (record {

@@ -1,13 +1,14 @@
 -- What holdings hold, as contents and sets of places.
 use Rattle.std.proofs.Common.{◌≡◌, List, [], ◌∷◌, ◌++◌, refl, sym, ap, ◌∙◌, subst, Option, Some, None}
 use Rattle.std.specs.Prelude.{ℤ, Bool, true, false, ◌&&◌, ◌||◌, not, option_map, is_some, if◌then◌else◌}
+use Rattle.blocks.proofs.BlockLemmas.{some_there, owned_number-shared}
+use Rattle.sections.proofs.Windows.{places_same}
 use Rattle.sections.specs.Covers.{has, is_in}
 use Rattle.sections.specs.Place.{Place, Window, same_place}
 use Rattle.types.specs.Contents.{write, IsThere}
 use Rattle.holdings.specs.Held.{Held, Map, Owned, Shared, in_place_of, number_of, numbers, owned_number, owned, put, as_owned, as_shared}
 use Rattle.holdings.specs.Held.{only as only_at, without as without_at, over as over_at, IsThere as AreThere, AreApart, first_of}
 use Rattle.own_run.specs.Places.{Places, covered, within, only, without}
-use Rattle.own_run.proofs.Windows.{places_same}
 
 -- ---- a write
 
@@ -80,10 +81,6 @@ within-append (w ∷ ws) vs q =
 
 -- ---- parts: what is carved and shared
 
-false_none : {A : Type 0} (o : Option A) → is_some o ≡ true → o ≡ None → ⊥
-false_none (Some x) e n = absurd (let bad : ⊥ = cc in bad)
-false_none None e n = absurd (let bad : ⊥ = cc in bad)
-
 there_some : (o : Option ℤ) → IsThere o → o ≡ None → ⊥
 there_some (Some v) h n = absurd (let bad : ⊥ = cc in bad)
 there_some None h n = absurd h
@@ -91,7 +88,7 @@ there_some None h n = absurd h
 -- a place that is owned is there
 pub all_owned : (set : Place → Bool) (m : Map Held) → ((q : Place) → set q ≡ true → is_some (owned m q) ≡ true)
     → AreThere set (owned m)
-all_owned set m own q e n = false_none (owned m q) (own q e) n
+all_owned set m own q e n = some_there (owned m q) (own q e) n
 
 held_some : (o : Option Held) → IsThere (option_map number_of o) → o ≡ None → ⊥
 held_some (Some v) h n = absurd (let bad : ⊥ = cc in bad)
@@ -157,10 +154,5 @@ module _ (ws rs : Place → Bool) (m : Map Held) (own : (q : Place) → ws q ≡
   pub left_owned : owns (without_at ws m) ≡ outside
   left_owned = λ t q. left_is_own (ws q) (m q) t
 
--- copies own nothing
-copies_own : (o : Option ℤ) → owned_number (option_map Shared o) ≡ None
-copies_own (Some v) = refl
-copies_own None = refl
-
 pub copies_apart : (rs : Place → Bool) (m : Map Held) (other : Map ℤ) → AreApart other (owned (as_shared (only_at rs (numbers m))))
-copies_apart rs m other q there = copies_own (only_at rs (numbers m) q)
+copies_apart rs m other q there = owned_number-shared (only_at rs (numbers m) q)

@@ -4,7 +4,7 @@ use Rattle.std.proofs.Common.{◌∙◌, subst, inl, inr, arith}
 use Rattle.std.proofs.lemmas.Bool.{or_left, or_right, false_from_ne_true, or_cases}
 use Rattle.std.specs.Prelude.{ℤ, ◌⊎◌, true, ◌||◌, slice_get, slice_index_or}
 use Rattle.sections.specs.Place.{Window, Place, In, nowhere}
-use Rattle.types.specs.Code.{Truth, Code, Do, If, While, Split, Call, Async, Finish, Codes, End, Then, Array, Program}
+use Rattle.types.specs.Code.{Truth, Code, While, Async, Codes, End, Then, Array, Program}
 use Rattle.types.specs.Contents.{FitsArrays, also, IsThere}
 use Rattle.types.specs.Value.{Environment}
 use Rattle.types.specs.Run.{Flow, On, Faulted, Stopped, State, Rules, stopped, counted, entry}
@@ -17,12 +17,14 @@ use Rattle.race_checker.specs.Scope.{Scope, Top, InScope, arrays_of, IsScoped}
 use Rattle.race_checker.specs.Calm.{IsCalm}
 use Rattle.own_run.specs.Places.{covered, within}
 use Rattle.own_run.specs.Results.{TaskResult, Settled, none_yet, complete}
-use Rattle.own_run.specs.OwnRun.{Start, Own, Step, at_first, notes, result_of, back_from, own_rules, beginning}
+use Rattle.own_run.specs.OwnRun.{Action, Start, Own, Step, at_first, result_of, back_from, own_rules}
+use Rattle.own_run.specs.OwnRun.{beginning}
 use Rattle.own_run.specs.Given.{filled, root_of, IsOwn}
 use Rattle.own_run.specs.Frames.{Frame, Rest, Again, AtEnd, Back, paid, by_flow, turn, handed, IsTask}
 use Rattle.own_run.specs.Holds.{having, locked_after, Stack, MayBegin, Carries, Returns, Holds, HasOwn, HasNeeds}
 use Rattle.own_run.specs.Settling.{settle, Parted}
 use Rattle.own_run.specs.Lists.{Each}
+use Rattle.own_run.proofs.Counted.{counted_is}
 use Rattle.own_run.proofs.Lists.{each_more}
 use Rattle.own_run.proofs.Windows.{named_some, in_covered, not_nowhere}
 use Rattle.own_run.proofs.AccessNames.{named_all, overwrites_more}
@@ -43,22 +45,11 @@ module _ (p : Program) (needs : Codes → Needs) (is_scoped : IsScoped p) (is_ca
     abbrev B : Scope → Environment → ℕ → Code → List (Frame Own) → State Own → Type 0
     B = Before p needs is_scoped is_calm provides nest close
 
-    -- a step that is noted, or isn't, changes nothing that is held
-    with_note : (sc : Scope) (env : Environment) (l : ℕ) (s : Code) (gs : List (Frame Own)) (st : State Own) (k : ℕ) → B sc env l s gs st
-        → B sc env l s gs (record st { steps = k; extra = notes Step st.extra })
-    with_note sc env l s gs st k h = record {
-      known = h.known;
-      ready = h.ready;
-      lower = h.lower;
-      carried = h.carried;
-      parted = h.parted;
-      returns = returns_move p needs st _ (record { there = λ q. inl; owned = λ q. inl; back = λ q. inr; no_more = λ q i. i }) gs h.returns;
-    }
-
-    with_step_less : (sc : Scope) (env : Environment) (l : ℕ) (s : Code) (gs : List (Frame Own)) (st : State Own) (k : ℕ)
-        → B sc env l s gs st
-        → B sc env l s gs (record st { steps = k })
-    with_step_less sc env l s gs st k h = record {
+    -- actions that are noted, or aren't, and steps change nothing that is held
+    with_actions : (sc : Scope) (env : Environment) (l : ℕ) (s : Code) (gs : List (Frame Own))
+        (st : State Own) (k : ℕ) (acts : List Action) → B sc env l s gs st
+        → B sc env l s gs (record st { steps = k; extra = record st.extra { actions = acts } })
+    with_actions sc env l s gs st k acts h = record {
       known = h.known;
       ready = h.ready;
       lower = h.lower;
@@ -70,13 +61,10 @@ module _ (p : Program) (needs : Codes → Needs) (is_scoped : IsScoped p) (is_ca
     counted_before : (s : Code) (sc : Scope) (env : Environment) (l : ℕ) (gs : List (Frame Own)) (st : State Own) (k : ℕ)
         → B sc env l s gs st
         → B sc env l s gs (counted r l s (record st { steps = k }))
-    counted_before (Do s) sc env l gs st k h = with_note sc env l (Do s) gs st k h
-    counted_before (If t b c) sc env l gs st k h = with_note sc env l (If t b c) gs st k h
-    counted_before (While t b) sc env l gs st k h = with_note sc env l (While t b) gs st k h
-    counted_before (Split s e u v b) sc env l gs st k h = with_note sc env l (Split s e u v b) gs st k h
-    counted_before (Call f es ss) sc env l gs st k h = with_note sc env l (Call f es ss) gs st k h
-    counted_before (Async b) sc env l gs st k h = with_step_less sc env l (Async b) gs st k h
-    counted_before (Finish b) sc env l gs st k h = with_step_less sc env l (Finish b) gs st k h
+    counted_before s sc env l gs st k h =
+        counted_is r l (record st { steps = k }) (λ (to : State Own). B sc env l s gs to)
+        (with_actions sc env l s gs st k st.extra.actions h)
+        (with_actions sc env l s gs st k (st.extra.actions ++ Step ∷ []) h) s
 
     paid_holds : (k : ℕ) (s : Code) (sc : Scope) (env : Environment) (l : ℕ) (gs : List (Frame Own)) (st : State Own) → B sc env l s gs st
         → Holds p needs (paid p r k l s gs st)

@@ -7,7 +7,6 @@ use Rattle.types.specs.Code.{Code, Do, If, While, Split, Call, Async, Finish, Co
 use Rattle.types.specs.Code.{Primitive, Truth}
 use Rattle.types.specs.Value.{Valued}
 use Rattle.types.specs.Run.{Flow, On, Faulted, Stopped, State, number_at, numbers_at, truth_at, window_at, Rules}
-use Rattle.types.specs.Laws.{IsKept}
 use Rattle.types.proofs.Keeps.{primitive_keeps}
 use Rattle.effects.specs.Needs.{Needs}
 use Rattle.effects.proofs.Members.{false_true}
@@ -21,6 +20,7 @@ use Rattle.own_run.specs.Translation.{start}
 use Rattle.own_run.specs.Worth.{Lists, around, lists, inside, ListsChild, ListsAs}
 use Rattle.own_run.specs.declared.start.Start.{Start as rStart}
 use Rattle.own_run.specs.declared.turn.Done.TheVariants.{Gone, Entered, Exceeded}
+use Rattle.own_run.proofs.TurnActions.{silent}
 
 abbrev listing : List Child → List (List Child) → Lists
 listing cs css = record { inner = cs; outer = css }
@@ -56,16 +56,6 @@ module _ (p : Program) (needs : Codes → Needs) (close : State Own → Option S
   abbrev r : ℕ → Rules Own
   r nest = own_rules needs nest close
 
-  silent : IsKept {X = Own} (record { stepped = λ l x. x; begin = λ l b st. st; enter = λ l st. st; leave = λ st out. out })
-      (λ st to. to.extra.pending ≡ st.extra.pending)
-  silent = record {
-    idle = λ st to a b c _. ap (λ (x : Own). x.pending) c;
-    further = λ a b c h k. k ∙ h;
-    stepped = λ l st. refl;
-    begin = λ l b st. refl;
-    finish = λ l st out h. h;
-  }
-
   value_lists : {A : Type 0} (l : ℕ) (v : Valued A) (go : A → Standing Own) (fs : List (Frame Own)) (st : State Own)
       (ls : Lists) → listing st.extra.pending (around fs) ≡ ls → ((x : A) → lists (go x) ≡ ls) → lists (by_value l v go fs st) ≡ ls
   value_lists l (Ok x) go fs st ls e h = h x
@@ -86,7 +76,9 @@ module _ (p : Program) (needs : Codes → Needs) (close : State Own → Option S
 
     do_lists : (l : ℕ) (s : Primitive) → lists (paid p (r nest) (suc n) l (Do s) fs st) ≡ old
     do_lists l s =
-        ap (λ cs. listing cs (around fs)) (primitive_keeps p _ (λ st to. to.extra.pending ≡ st.extra.pending) silent l s after)
+        ap (λ cs. listing cs (around fs))
+        (primitive_keeps p _ (λ st to. to.extra.pending ≡ st.extra.pending)
+        (silent (λ x. x.pending)) l s after)
 
     if_lists : (l : ℕ) (t : Truth) (b c : Codes) → lists (paid p (r nest) (suc n) l (If t b c) fs st) ≡ old
     if_lists l t b c = value_lists l (truth_at st t) _ fs after _ refl (λ v. chosen_lists v _ _ after _ refl refl)

@@ -72,11 +72,11 @@ pick path (z ∷ zs) h = by_path (pick path zs) (pointwise nat_eq z.path path) r
         let p = further (omega (arith, a, b, h)) in
         record { it = p.it; others = z ∷ p.others; put = later p.put; named = p.named }
 
-each_inserted : (P : TaskResult → Type 0) (x : TaskResult) (ys zs : List TaskResult) → Inserted x ys zs → Each P zs → P x × Each P ys
+pub each_inserted : (P : TaskResult → Type 0) (x : TaskResult) (ys zs : List TaskResult) → Inserted x ys zs → Each P zs → P x × Each P ys
 each_inserted P x ys zs here h = h
 each_inserted P x _ _ (later {y = y} {ys = ys} {zs = zs} i) h = let k = each_inserted P x ys zs i h.1 in (k.0, (h.0, k.1))
 
-no_more : (ys : List TaskResult) → 0 ≡ measured (λ r. 1) ys → ys ≡ []
+pub no_more : (ys : List TaskResult) → 0 ≡ measured (λ r. 1) ys → ys ≡ []
 no_more [] e = refl
 no_more (y ∷ ys) e = absurd (let a = sum_by-cons (λ (r : TaskResult). 1) y ys in omega (arith, a, e))
 

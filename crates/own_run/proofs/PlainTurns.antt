@@ -16,6 +16,7 @@ use Rattle.own_run.specs.Results.{Settled}
 use Rattle.own_run.specs.OwnRun.{Own, own_rules}
 use Rattle.own_run.specs.Frames.{Frame, Rest, Again, Back, Standing, acted, by_flow, by_value, chosen, done_at, done_by, paid, turn}
 use Rattle.own_run.specs.Quiet.{IsLittle, Quietly, frame_of, here, further}
+use Rattle.own_run.proofs.Counted.{counted_flow, counted_steps}
 use Rattle.own_run.proofs.TaskTurns.{own_thrifty}
 
 module _ (p : Program) (needs : Codes → Needs) (nest : ℕ) (close : State Own → Option Settled) where
@@ -91,24 +92,6 @@ module _ (p : Program) (needs : Codes → Needs) (nest : ℕ) (close : State Own
       subst (λ (o : State Own). o.steps ≤ st.steps) (alone l c st)
       (run_less p r (own_thrifty p needs nest close) (Block (Then l c End)) st)
 
-  told_flow : (l : ℕ) (c : Code) (st : State Own) → (counted r l c st).flow ≡ st.flow
-  told_flow l (Do s) st = refl
-  told_flow l (If t b c) st = refl
-  told_flow l (While t b) st = refl
-  told_flow l (Split s e x y b) st = refl
-  told_flow l (Call f es ss) st = refl
-  told_flow l (Async b) st = refl
-  told_flow l (Finish b) st = refl
-
-  told_steps : (l : ℕ) (c : Code) (st : State Own) → (counted r l c st).steps ≡ st.steps
-  told_steps l (Do s) st = refl
-  told_steps l (If t b c) st = refl
-  told_steps l (While t b) st = refl
-  told_steps l (Split s e x y b) st = refl
-  told_steps l (Call f es ss) st = refl
-  told_steps l (Async b) st = refl
-  told_steps l (Finish b) st = refl
-
   -- ---- what frames do, where what is inside does as it means
   value_passes : {A : Type 0} (l : ℕ) (v : Valued A) (go : A → Standing Own) (to : A → State Own → State Own)
       (gs : List (Frame Own)) (st : State Own) → ((a : A) → Q (go a) (at gs (to a st)))
@@ -140,8 +123,8 @@ module _ (p : Program) (needs : Codes → Needs) (nest : ℕ) (close : State Own
   paid_passes zero l c gs st h on = here
   paid_passes (suc n) l c gs st h on =
       let to = record st { steps = n } in
-      let less = told_steps l c to in
-      h (counted r l c to) (told_flow l c to ∙ on) (omega (arith, less))
+      let less = counted_steps r l to c in
+      h (counted r l c to) (counted_flow r l to c ∙ on) (omega (arith, less))
 
   -- plain work on top of frames is done, where fewer than k steps are left
   abbrev Passes : ℕ → Type 0

@@ -1,8 +1,11 @@
 -- What the root starts with: all places of all arrays, with the numbers of an input that fits.
-use Rattle.std.proofs.Common.{◌≡◌, ℕ, zero, suc, ◌+◌, ◌<◌, ◌≤◌, List, [], ◌∷◌, length, Option, Some, None, refl, sym, ap, ◌∙◌, inl, inr}
+use Rattle.std.proofs.Common.{◌≡◌, ℕ, zero, suc, ◌+◌, ◌<◌, ◌≤◌, List, [], ◌∷◌, length, Option, Some, None, refl, ap, ◌∙◌, inl, inr}
 use Rattle.std.proofs.Common.{arith}
 use Rattle.std.proofs.lemmas.Option.{slice_get-get_or}
 use Rattle.std.specs.Prelude.{ℤ, pos, Bool, true, false, ◌⊎◌, ◌||◌, is_some, slice_get, slice_index_or}
+use Rattle.std.proofs.lemmas.Bool.{or_cases}
+use Rattle.sections.proofs.Members.{same_truth}
+use Rattle.effects.proofs.Members.{false_true}
 use Rattle.sections.specs.Place.{Place, Window}
 use Rattle.types.specs.Code.{Array}
 use Rattle.types.specs.Contents.{FitsArrays, also, held_by}
@@ -14,32 +17,19 @@ use Rattle.own_run.specs.Places.{covered, within}
 use Rattle.own_run.specs.Translation.{contents_of, owned_by}
 use Rattle.own_run.proofs.Windows.{covered_in, in_covered}
 
-true_not_false : {A : Type 0} → false ≡ true → A
-true_not_false e = absurd (let bad : ⊥ = cc in bad)
-
-both_tests : (a b : Bool) → (a ≡ true → b ≡ true) → (b ≡ true → a ≡ true) → a ≡ b
-both_tests true true f g = refl
-both_tests true false f g = sym (f refl)
-both_tests false true f g = g refl
-both_tests false false f g = refl
-
-or_either : (a b : Bool) → (a || b) ≡ true → (a ≡ true) ⊎ (b ≡ true)
-or_either true b h = inl refl
-or_either false b h = inr h
-
 or_second : (a b : Bool) → b ≡ true → (a || b) ≡ true
 or_second true b h = refl
 or_second false b h = h
 
 or_first : (a b : Bool) → a ≡ true → (a || b) ≡ true
 or_first true b h = refl
-or_first false b h = true_not_false h
+or_first false b h = false_true h
 
 is_there : (xs : List ℤ) (i : ℕ) → i < length xs → is_some (slice_get xs i) ≡ true
 is_there xs i lt = ap is_some (slice_get-get_or xs i (pos 0) lt)
 
 there_is : (xs : List ℤ) (i : ℕ) → is_some (slice_get xs i) ≡ true → i < length xs
-there_is [] i h = true_not_false h
+there_is [] i h = false_true h
 there_is (x ∷ xs) zero h = omega arith
 there_is (x ∷ xs) (suc i) h = let k = there_is xs i h in omega (arith, k)
 
@@ -49,24 +39,24 @@ whole n x = record { array = n; at = 0; length = x.length }
 
 -- the arrays from the n-th on stand at n and behind
 behind : (n : ℕ) (xs : List Array) (q : Place) → within (whole_arrays n xs) q ≡ true → n ≤ q.array
-behind n [] q h = true_not_false h
+behind n [] q h = false_true h
 behind n (x ∷ xs) q h =
-    elim (or_either (covered (whole n x) q) (within (whole_arrays (n + 1) xs) q) h) as (λ _. n ≤ q.array) [
+    elim (or_cases (covered (whole n x) q) (within (whole_arrays (n + 1) xs) q) h) as (λ _. n ≤ q.array) [
       | inl c ↦ let i = (covered_in (whole n x) q c).array in omega (arith, i)
       | inr c ↦ let i = behind (n + 1) xs q c in omega (arith, i)
     ]
 
 inside : (n k : ℕ) (xs : List Array) (rows : List (List ℤ)) → FitsArrays xs rows → (q : Place) → q.array ≡ n + k
     → within (whole_arrays n xs) q ≡ true → is_some (slice_get (slice_index_or rows k []) q.index) ≡ true
-inside n k [] rows fits q e h = true_not_false h
+inside n k [] rows fits q e h = false_true h
 inside n k (x ∷ xs) [] fits q e h = elim fits [ ]
 inside n zero (x ∷ xs) (r ∷ rs) (also l fits) q e h =
-    elim (or_either (covered (whole n x) q) (within (whole_arrays (n + 1) xs) q) h) as (λ _. is_some (slice_get r q.index) ≡ true) [
+    elim (or_cases (covered (whole n x) q) (within (whole_arrays (n + 1) xs) q) h) as (λ _. is_some (slice_get r q.index) ≡ true) [
       | inl c ↦ let i = (covered_in (whole n x) q c).high in is_there r q.index (omega (arith, i, l))
       | inr c ↦ let i = behind (n + 1) xs q c in absurd (omega (arith, i, e))
     ]
 inside n (suc k) (x ∷ xs) (r ∷ rs) (also l fits) q e h =
-    elim (or_either (covered (whole n x) q) (within (whole_arrays (n + 1) xs) q) h)
+    elim (or_cases (covered (whole n x) q) (within (whole_arrays (n + 1) xs) q) h)
     as (λ _. is_some (slice_get (slice_index_or rs k []) q.index) ≡ true) [
       | inl c ↦ let i = (covered_in (whole n x) q c).array in absurd (omega (arith, i, e))
       | inr c ↦ inside (n + 1) k xs rs fits q (omega (arith, e)) c
@@ -74,8 +64,8 @@ inside n (suc k) (x ∷ xs) (r ∷ rs) (also l fits) q e h =
 
 outside : (n k : ℕ) (xs : List Array) (rows : List (List ℤ)) → FitsArrays xs rows → (q : Place) → q.array ≡ n + k
     → is_some (slice_get (slice_index_or rows k []) q.index) ≡ true → within (whole_arrays n xs) q ≡ true
-outside n zero [] [] fits q e h = true_not_false h
-outside n (suc k) [] [] fits q e h = true_not_false h
+outside n zero [] [] fits q e h = false_true h
+outside n (suc k) [] [] fits q e h = false_true h
 outside n k [] (r ∷ rs) fits q e h = elim fits [ ]
 outside n k (x ∷ xs) [] fits q e h = elim fits [ ]
 outside n zero (x ∷ xs) (r ∷ rs) (also l fits) q e h =
@@ -99,7 +89,7 @@ root_owns h xs rows fits is = ap (λ m q. is_some (owned m q)) is ∙ (λ t q. o
     one : (q : Place) → is_some (owned (as_owned (listed rows)) q) ≡ within (whole_arrays 0 xs) q
     one q =
         some_owned (listed rows q)
-        ∙ both_tests (is_some (listed rows q)) (within (whole_arrays 0 xs) q) (outside 0 q.array xs rows fits q (omega arith))
+        ∙ same_truth (is_some (listed rows q)) (within (whole_arrays 0 xs) q) (outside 0 q.array xs rows fits q (omega arith))
         (inside 0 q.array xs rows fits q (omega arith))
 
 -- with the numbers of the input

@@ -5,6 +5,7 @@ use Rattle.std.proofs.Math.Nat.{ℕ_set}
 use Rattle.std.proofs.lemmas.List.{length-append, set-get_or}
 use Rattle.std.specs.Prelude.{ℤ, Bool, true, false, slice_index_or, slice_set}
 use Rattle.std.specs.Vec.{with_item}
+use Rattle.types.proofs.Bindings.{element_in}
 use Rattle.sections.specs.Member.{first}
 use Rattle.sections.specs.Place.{Place, In}
 use Rattle.types.specs.Code.{Code, Codes, Then, Number, Program, Primitive, Skip, Assign, Store, Print, Raise, Do, If, While, Split, Call, Async, Finish}
@@ -22,7 +23,6 @@ use Rattle.own_run.specs.Standings.{ShowsFrame, Stacked, state_of, with_own}
 use Rattle.own_run.specs.Translation.{owned_by}
 use Rattle.own_run.specs.declared.frame.Frame.{Frame as rFrame}
 use Rattle.own_run.specs.declared.run.Run.{Run}
-use Rattle.own_run.proofs.Windows.{element_in}
 
 -- ---- the top frame
 
@@ -164,10 +164,6 @@ module _ (needs : Codes → Needs) (IsAsync : ℕ → Codes → Type 0) (r : Run
     known,
   )
   can_first (Finish b) h known = tt
-
-pub none_left : {A : Type 0} (xs : List A) → length xs ≡ 0 → xs ≡ []
-none_left [] e = refl
-none_left (x ∷ xs) e = absurd (omega (arith, e))
 
 -- where the top frame is one that is shown as a given one
 pub on_frame : (gs hs : List rFrame) (g t : rFrame) (fs : List (Frame Own)) → gs ≡ hs ++ g ∷ [] → g ≡ t → Stacked gs fs

@@ -4,6 +4,7 @@ use Rattle.std.proofs.Common.{subst, arith, unwrap_or}
 use Rattle.std.proofs.lemmas.Bool.{or_right}
 use Rattle.std.proofs.lemmas.List.Elements.{Contains-append_left, Contains-append_right}
 use Rattle.std.specs.Prelude.{ℤ, pos, Bool, true, false, ◌||◌, Contains, flat_map, if◌then◌else◌}
+use Rattle.sections.proofs.Windows.{places_same}
 use Rattle.sections.specs.Place.{Place, In, same_place}
 use Rattle.types.specs.declared.fault.FaultKind.{FaultKind}
 use Rattle.types.specs.Code.{Number, Truth}
@@ -18,7 +19,6 @@ use Rattle.race_checker.specs.Scope.{InScope}
 use Rattle.own_run.specs.Places.{or_else}
 use Rattle.own_run.specs.Ready.{Around}
 use Rattle.own_run.specs.Apart.{Aside, is_stopped, stops_anywhere, merged}
-use Rattle.own_run.proofs.Windows.{places_same}
 
 abbrev pub S : Type 0
 S = State (Unit {0})

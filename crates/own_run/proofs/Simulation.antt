@@ -5,6 +5,7 @@ use Rattle.std.proofs.Common.{◌∙◌, subst, inl, inr}
 use Rattle.std.proofs.lemmas.Bool.{or_left, or_right, or_from}
 use Rattle.std.proofs.lemmas.List.Elements.{Contains-append_left, Contains-append_right}
 use Rattle.std.specs.Prelude.{ℤ, ◌⊎◌, Bool, true, false, Contains, flat_map, map, ok_or, if◌then◌else◌}
+use Rattle.types.proofs.Bindings.{element_in}
 use Rattle.sections.specs.Place.{Window, Place, In, sides_of}
 use Rattle.sections.specs.Member.{Member, first, next}
 use Rattle.types.specs.declared.fault.FaultKind.TheVariants.{SplitPoint, Raised}
@@ -29,7 +30,7 @@ use Rattle.own_run.specs.Places.{or_else, written, touched}
 use Rattle.own_run.specs.Apart.{Aside, nothing, is_stopped, stops_anywhere, merged, child_apart, set_aside, gather}
 use Rattle.own_run.specs.Apart.{apart_rules_by, begin_apart}
 use Rattle.own_run.specs.Ready.{Around, Ready}
-use Rattle.own_run.proofs.Windows.{named_some, some_named, element_in, sides_some, sides_in, split_in, call_in}
+use Rattle.own_run.proofs.Windows.{named_some, some_named, sides_some, sides_in, split_in, call_in}
 use Rattle.own_run.proofs.Windows.{passed_same, fits_split, around_split, split_agree}
 use Rattle.own_run.proofs.AccessNames.{all_alone, pending_alone, named_all, touches_more, overwrites_more}
 use Rattle.own_run.proofs.AccessNames.{overwrites_touch, read_listed}

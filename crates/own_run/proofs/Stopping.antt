@@ -3,7 +3,7 @@ use Rattle.std.proofs.lemmas.Option.{none-some, same_Some}
 use Rattle.std.proofs.Common.{◌≡◌, ℕ, zero, suc, ◌+◌, List, [], ◌∷◌, length, Option, Some, None, Ok, Err, refl, sym}
 use Rattle.std.proofs.Common.{ap, ◌∙◌, subst}
 use Rattle.std.specs.Prelude.{Bool, true, false, nat_eq, ◌||◌, ok_or, if◌then◌else◌}
-use Rattle.std.proofs.Math.Bool.{or-false}
+use Rattle.std.proofs.Math.Bool.{or-false, or_assoc}
 use Rattle.sections.specs.Place.{Place, sides_of}
 use Rattle.types.specs.declared.fault.FaultKind.TheVariants.{SplitPoint}
 use Rattle.types.specs.Code.{Primitive, Skip, Assign, Store, Print, Raise, Code, Do, If, While, Split, Call, Async}
@@ -23,10 +23,6 @@ use Rattle.own_run.specs.Stops.{is_none, is_over, is_next_over, stops, some_stop
 use Rattle.std.specs.Cmp.Lexicographic.{pointwise}
 use Rattle.own_run.specs.Settling.{behind, take, fill_all, settle_within, none_left, settle}
 use Rattle.own_run.proofs.SettledResults.{unless_none, gives}
-
-or_assoc : (a b c : Bool) → ((a || b) || c) ≡ (a || (b || c))
-or_assoc true b c = refl
-or_assoc false b c = refl
 
 or_turned : (a b c : Bool) → (a || (b || c)) ≡ (b || (a || c))
 or_turned true true c = refl

@@ -2,7 +2,8 @@
 use Rattle.std.proofs.lemmas.Option.{same_Some}
 use Rattle.std.proofs.Common.{◌≡◌, ℕ, zero, suc, ◌+◌, List, [], ◌∷◌, ◌++◌, length, Option, Some, refl, sym, ap, ◌∙◌}
 use Rattle.std.proofs.Common.{arith, append_assoc}
-use Rattle.std.specs.Prelude.{Bool, true, false, ◌&&◌, slice_get, if◌then◌else◌}
+use Rattle.std.specs.Prelude.{false, ◌&&◌, slice_get, if◌then◌else◌}
+use Rattle.std.proofs.lemmas.Bool.{and_right}
 use Rattle.types.specs.Code.{Code, Do, If, While, Split, Call, Async, Finish, Codes, End, Then, Program}
 use Rattle.types.specs.Run.{Flow, On, Faulted, Stopped, State, Rules}
 use Rattle.effects.specs.Needs.{Needs}
@@ -21,10 +22,6 @@ use Rattle.own_run.proofs.SettledResults.{begun_is_true, part_sound}
 use Rattle.own_run.proofs.TurnsResume.{turn_keeps}
 use Rattle.own_run.proofs.TaskTurns.{own_thrifty, resume_grows, turn_kept}
 
-asleep : (f w : Bool) → w ≡ false → (f && w) ≡ false
-asleep true w e = e
-asleep false w e = refl
-
 module _ (p : Program) (needs : Codes → Needs) (fresh : ℕ) (root : Start) where
   -- what is of a task's own run is so for whatever start its path is given
   pub own_if_given : (r : TaskResult) → IsOfOwnRun p needs fresh root r → IsOwn p needs fresh root r
@@ -35,7 +32,7 @@ module _ (p : Program) (needs : Codes → Needs) (fresh : ℕ) (root : Start) wh
       → close st ≡ Some x
       → (own_rules needs nest close).leave before st ≡ handed before x st
   leaves nest close before st x w e =
-      ap (λ b. if b then st else leave_with before noted (close st)) (asleep (is_stopped st.flow) st.extra.waits w)
+      ap (λ b. if b then st else leave_with before noted (close st)) (and_right (is_stopped st.flow) st.extra.waits w)
       ∙ ap (leave_with before noted) e
     where
       noted : State Own

@@ -18,6 +18,7 @@ use Rattle.own_run.specs.OwnRun.{Action, Own, EndFinish, notes, is_waiting, begi
 use Rattle.own_run.specs.OwnRun.{own_rules}
 use Rattle.own_run.specs.Frames.{Frame, Rest, Again, AtEnd, Back, Standing, frame, resume, by_value, chosen, acted}
 use Rattle.own_run.specs.Frames.{paid, by_flow, turn, IsBegun, HasBegun, HasBegunBelow}
+use Rattle.own_run.proofs.Counted.{counted_is}
 use Rattle.own_run.proofs.Lists.{each_more}
 use Rattle.own_run.proofs.Begun.{Tells, tells, idle_tells, still_begun, run_tells, enter_tells, begin_tells}
 
@@ -181,27 +182,9 @@ module _ (p : Program) (needs : Codes → Needs) (nest : ℕ) (close : State Own
   counted_quiet : (l : ℕ) (s : Code) (st : State Own) → Quiet st (counted r l s st)
   counted_quiet l s st = record {
     tells = counted_keeps p r T (tells nest needs close) l s st;
-    waits = each_waits s;
-    ended = each_ended s;
+    waits = counted_is r l st (λ (to : State Own). to.extra.waits ≡ st.extra.waits) refl refl s;
+    ended = counted_is r l st (λ (to : State Own). to.extra.ended ≡ st.extra.ended) refl refl s;
   }
-    where
-      each_waits : (s : Code) → (counted r l s st).extra.waits ≡ st.extra.waits
-      each_waits (Do s) = refl
-      each_waits (If t b c) = refl
-      each_waits (While t b) = refl
-      each_waits (Split s e x y b) = refl
-      each_waits (Call f es ss) = refl
-      each_waits (Async b) = refl
-      each_waits (Finish b) = refl
-
-      each_ended : (s : Code) → (counted r l s st).extra.ended ≡ st.extra.ended
-      each_ended (Do s) = refl
-      each_ended (If t b c) = refl
-      each_ended (While t b) = refl
-      each_ended (Split s e x y b) = refl
-      each_ended (Call f es ss) = refl
-      each_ended (Async b) = refl
-      each_ended (Finish b) = refl
 
   after : (st mid : State Own) (t : Standing Own) → Quiet st mid → Kept mid t → Kept st t
   after st mid t q k = record {

@@ -1,6 +1,6 @@
 -- Each task that can begin comes to its end by turns, so that it has at its end what it touches; and the results of all settle.
-use Rattle.std.proofs.Common.{◌≡◌, ℕ, zero, suc, ◌+◌, ◌<◌, ◌≤◌, List, [], ◌∷◌, Some, Ok, Err, refl, subst, arith}
-use Rattle.std.proofs.Common.{le_refl}
+use Rattle.std.proofs.Common.{◌≡◌, ℕ, zero, suc, ◌+◌, ◌<◌, ◌≤◌, List, [], ◌∷◌, Option, Some, Ok, Err, refl}
+use Rattle.std.proofs.Common.{subst, arith, le_refl}
 use Rattle.std.specs.Prelude.{ℤ, Bool, true, false, flat_map, ok_or}
 use Rattle.sections.specs.Place.{Place, sides_of}
 use Rattle.types.specs.declared.fault.FaultKind.TheVariants.{SplitPoint}
@@ -12,7 +12,7 @@ use Rattle.types.specs.Run.{truth_at, window_at, array_of, primitive, counted}
 use Rattle.effects.specs.Needs.{Needs, Provides}
 use Rattle.race_checker.specs.Scope.{IsScoped}
 use Rattle.race_checker.specs.Calm.{IsCalm}
-use Rattle.own_run.specs.Results.{TaskResult, none_yet, complete}
+use Rattle.own_run.specs.Results.{Settled, TaskResult, none_yet, complete}
 use Rattle.own_run.specs.OwnRun.{Start, Child, Own, result_of, begin_own, own_rules}
 use Rattle.own_run.specs.Given.{comes_to, filled, in_truth, own, given, below}
 use Rattle.own_run.specs.Frames.{Frame, Rest, Again, AtEnd, Back, Standing, by_value, chosen, acted, paid, by_flow}
@@ -22,6 +22,7 @@ use Rattle.own_run.specs.Settling.{settle, IsParted}
 use Rattle.own_run.specs.Lists.{Each, Shuffled}
 use Rattle.own_run.proofs.Lists.{each_append}
 use Rattle.own_run.proofs.CompleteResults.{own_complete}
+use Rattle.own_run.proofs.Counted.{counted_steps}
 use Rattle.own_run.proofs.TaskRuns.{begins_task, turns_task, handed_task}
 use Rattle.own_run.proofs.OnePath.{shuffled_each, shuffled_once, below_once}
 use Rattle.own_run.proofs.SettledResults.{lists_true}
@@ -77,14 +78,21 @@ begin_less : (needs : Codes → Needs) (n : ℕ) (b : Codes) (st : State Own) �
 begin_less needs zero b st = le_refl st.steps
 begin_less needs (suc n) b st = le_refl st.steps
 
-counted_same : (r : Rules Own) (l : ℕ) (s : Code) (st : State Own) → (counted r l s st).steps ≡ st.steps
-counted_same r l (Do s) st = refl
-counted_same r l (If t b c) st = refl
-counted_same r l (While t b) st = refl
-counted_same r l (Split s e x y b) st = refl
-counted_same r l (Call f es ss) st = refl
-counted_same r l (Async b) st = refl
-counted_same r l (Finish b) st = refl
+-- a statement whose step was taken takes none
+module _ (p : Program) (needs : Codes → Needs) (nest : ℕ) (close : State Own → Option Settled) where
+  pub acted_less : (c : Code) (l : ℕ) (fs : List (Frame Own)) (st : State Own)
+      → (acted p (own_rules needs nest close) l c fs st).state.steps ≤ st.steps
+  acted_less (Do c) l fs st = primitive_less p l c st
+  acted_less (If t b c) l fs st =
+      stand_less l (truth_at st t) _ fs st (λ v. chosen_less v (Rest b ∷ fs) (Rest c ∷ fs) st)
+  acted_less (While t b) l fs st =
+      stand_less l (truth_at st t) _ fs st (λ v. chosen_less v (Rest b ∷ Again l t b ∷ fs) fs st)
+  acted_less (Split z e x y b) l fs st =
+      stand_less l (number_at st e) _ fs st
+      (λ v. stand_less l (ok_or (sides_of (window_at st z) v) SplitPoint) _ fs st (λ ws. le_refl st.steps))
+  acted_less (Call f es ss) l fs st = stand_less l (numbers_at st es) _ fs st (λ vs. le_refl st.steps)
+  acted_less (Async b) l fs st = begin_less needs nest b st
+  acted_less (Finish b) l fs st = le_refl st.steps
 
 module _ (p : Program) (needs : Codes → Needs) (scoped : IsScoped p) (calm : IsCalm p) (provided : Provides p needs) (fresh : ℕ)
     (root : Start) where
@@ -92,23 +100,14 @@ module _ (p : Program) (needs : Codes → Needs) (scoped : IsScoped p) (calm : I
     abbrev r : Rules Own
     r = own_rules needs s.nest (in_truth p needs fresh)
 
-    acted_less : (c : Code) (l : ℕ) (fs : List (Frame Own)) (st : State Own) → (acted p r l c fs st).state.steps ≤ st.steps
-    acted_less (Do c) l fs st = primitive_less p l c st
-    acted_less (If t b c) l fs st = stand_less l (truth_at st t) _ fs st (λ v. chosen_less v (Rest b ∷ fs) (Rest c ∷ fs) st)
-    acted_less (While t b) l fs st = stand_less l (truth_at st t) _ fs st (λ v. chosen_less v (Rest b ∷ Again l t b ∷ fs) fs st)
-    acted_less (Split z e x y b) l fs st =
-        stand_less l (number_at st e) _ fs st
-        (λ v. stand_less l (ok_or (sides_of (window_at st z) v) SplitPoint) _ fs st (λ ws. le_refl st.steps))
-    acted_less (Call f es ss) l fs st = stand_less l (numbers_at st es) _ fs st (λ vs. le_refl st.steps)
-    acted_less (Async b) l fs st = begin_less needs s.nest b st
-    acted_less (Finish b) l fs st = le_refl st.steps
-
     paid_falls : (n l : ℕ) (c : Code) (fs : List (Frame Own)) (st : State Own) (w : ℕ) → n ≡ st.steps → weight fs < w
         → Falls st w (paid p r n l c fs st)
     paid_falls zero l c fs st w e lt = sheds (le_refl st.steps) lt
     paid_falls (suc n) l c fs st w e lt =
         let mid = counted r l c (record st { steps = n }) in
-        spends (let i = acted_less c l fs mid in let j = counted_same r l c (record st { steps = n }) in omega (arith, e, i, j))
+        let i = acted_less p needs s.nest (in_truth p needs fresh) c l fs mid in
+        let j = counted_steps r l (record st { steps = n }) c in
+        spends (omega (arith, e, i, j))
 
     pub flow_falls : (g : Flow) (l : ℕ) (c : Code) (fs below : List (Frame Own)) (st : State Own) (w : ℕ) → weight fs < w → weight below < w
         → Falls st w (by_flow p r g l c fs below st)

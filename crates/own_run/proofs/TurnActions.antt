@@ -22,23 +22,25 @@ use Rattle.own_run.specs.Frames.{Frame, Rest, Again, AtEnd, Back, Standing, fram
 use Rattle.own_run.specs.Frames.{by_flow, turn, done_by, done_at, done_in, Follows}
 use Rattle.own_run.specs.Settling.{settle}
 
+-- a statement that begins no task changes nothing of what is kept beside
+pub silent : {A : Type 0} (of : Own → A)
+    → IsKept {X = Own}
+    (record { stepped = λ l x. x; begin = λ l b st. st; enter = λ l st. st; leave = λ st out. out })
+    (λ st to. of to.extra ≡ of st.extra)
+silent of = record {
+  idle = λ st to a b c _. ap of c;
+  further = λ a b c h k. k ∙ h;
+  stepped = λ l st. refl;
+  begin = λ l b st. refl;
+  finish = λ l st out h. h;
+}
+
 module _ (p : Program) (needs : Codes → Needs) (nest : ℕ) (close : State Own → Option Settled) where
   abbrev r : Rules Own
   r = own_rules needs nest close
 
   abbrev acts : State Own → List Action
   acts st = st.extra.actions
-
-  -- what changes no actions
-  silent : IsKept {X = Own} (record { stepped = λ l x. x; begin = λ l b st. st; enter = λ l st. st; leave = λ st out. out })
-      (λ st to. acts to ≡ acts st)
-  silent = record {
-    idle = λ st to a b c _. ap (λ (x : Own). x.actions) c;
-    further = λ a b c h k. k ∙ h;
-    stepped = λ l st. refl;
-    begin = λ l b st. refl;
-    finish = λ l st out h. h;
-  }
 
   value_does : {A : Type 0} (l : ℕ) (v : Valued A) (go : A → Standing Own) (fs : List (Frame Own)) (st : State Own)
       → ((x : A) → acts (go x).state ≡ acts st) → acts (by_value l v go fs st).state ≡ acts st
@@ -58,7 +60,8 @@ module _ (p : Program) (needs : Codes → Needs) (nest : ℕ) (close : State Own
       → acts (paid p r n l s fs st).state ≡ acts st ++ done_by needs nest n s st
   paid_does zero l s fs st = sym (append-nil st.extra.actions)
   paid_does (suc n) l (Do s) fs st =
-      primitive_keeps p _ (λ st to. acts to ≡ acts st) silent l s (record st { steps = n; extra = notes Step st.extra })
+      primitive_keeps p _ (λ st to. acts to ≡ acts st) (silent (λ x. x.actions)) l s
+      (record st { steps = n; extra = notes Step st.extra })
   paid_does (suc n) l (If t b c) fs st =
       value_does l (truth_at st t) _ fs (record st { steps = n; extra = notes Step st.extra }) (λ v. chosen_does v _ _ _)
   paid_does (suc n) l (While t b) fs st =

@@ -12,6 +12,7 @@ use Rattle.types.specs.Laws.{IsThrifty}
 use Rattle.types.proofs.Solutions.{solves}
 use Rattle.own_run.specs.Frames.{Frame, Rest, Again, AtEnd, Back, Standing, resume, by_value, chosen, acted, paid}
 use Rattle.own_run.specs.Frames.{by_flow, turn}
+use Rattle.own_run.proofs.Counted.{counted_flow}
 
 module _ (p : Program) {X : Type 0} (r : Rules X) (thrifty : IsThrifty r) (enters : (l : ℕ) (st : State X) → (r.enter l st).flow ≡ st.flow) where
   abbrev m : Work → State X → State X
@@ -66,20 +67,12 @@ module _ (p : Program) {X : Type 0} (r : Rules X) (thrifty : IsThrifty r) (enter
   acted_keeps (Async b) l fs st on = refl
   acted_keeps (Finish b) l fs st on = on_block b (AtEnd st ∷ fs) (r.enter l st) (enters l st ∙ on)
 
-  counted_flow : (l : ℕ) (s : Code) (st : State X) → (counted r l s st).flow ≡ st.flow
-  counted_flow l (Do s) st = refl
-  counted_flow l (If t b c) st = refl
-  counted_flow l (While t b) st = refl
-  counted_flow l (Split s e x y b) st = refl
-  counted_flow l (Call f es ss) st = refl
-  counted_flow l (Async b) st = refl
-  counted_flow l (Finish b) st = refl
-
   paid_keeps : (k l : ℕ) (s : Code) (fs : List (Frame X)) (st : State X) → st.flow ≡ On
       → of (paid p r k l s fs st) ≡ over fs (spend k st (λ st. act p r m l s (counted r l s st)))
   paid_keeps zero l s fs st on = refl
   paid_keeps (suc k) l s fs st on =
-      acted_keeps s l fs (counted r l s (record st { steps = k })) (counted_flow l s (record st { steps = k }) ∙ on)
+      acted_keeps s l fs (counted r l s (record st { steps = k }))
+      (counted_flow r l (record st { steps = k }) s ∙ on)
 
   flow_keeps : (f : Flow) (l : ℕ) (s : Code) (fs below : List (Frame X)) (st : State X) (go : State X → State X) → st.flow ≡ f
       → over fs (with_step (λ st. act p r m l s (counted r l s st)) st) ≡ over below (go st)

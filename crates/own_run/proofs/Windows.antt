@@ -4,13 +4,14 @@ use Rattle.std.proofs.Common.{◌≡◌, ℕ, zero, suc, ◌+◌, ◌-◌, ◌<�
 use Rattle.std.proofs.Common.{refl, sym, ap, ◌∙◌, subst, inl, inr, arith}
 use Rattle.std.proofs.lemmas.Bool.{ltb-true, leb-true, eqb-true, eqb-false, lt-ltb, le-leb, eq-eqb, and_from, or_left, and_parts, or_cases}
 use Rattle.std.proofs.lemmas.Bool.{or_right}
-use Rattle.std.specs.Prelude.{ℤ, pos, negsuc, ◌⊎◌, ◌≢◌, Bool, true, false, ◌||◌, nat_eq, nat_lt, nat_le, ok_or, map}
+use Rattle.std.specs.Prelude.{ℤ, pos, negsuc, ◌⊎◌, ◌≢◌, Bool, true, false, ◌||◌, nat_eq, nat_le, ok_or, map}
 use Rattle.std.specs.Prelude.{slice_index_or, if◌then◌else◌}
-use Rattle.sections.specs.Place.{Place, Window, In, nowhere, sides_of, same_place}
+use Rattle.types.proofs.Bindings.{bind_here}
+use Rattle.sections.specs.Place.{Place, Window, In, nowhere, sides_of}
 use Rattle.sections.specs.Member.{Member, first, next}
 use Rattle.types.specs.declared.fault.FaultKind.{FaultKind}
-use Rattle.types.specs.declared.fault.FaultKind.TheVariants.{Index, SplitPoint}
-use Rattle.types.specs.Value.{Environment, Valued, element_of}
+use Rattle.types.specs.declared.fault.FaultKind.TheVariants.{SplitPoint}
+use Rattle.types.specs.Value.{Environment, Valued}
 use Rattle.types.specs.Run.{bind, with_sides}
 use Rattle.effects.specs.Effects.{past_split, past_call}
 use Rattle.effects.proofs.Members.{false_true}
@@ -77,19 +78,6 @@ ok_same {A} {x} e = ap or_x e
     or_x (Ok y) = y
     or_x (Err f) = x
 
--- an element's place is in its window
-pub element_in : (w : Window) (v : ℤ) (q : Place) → element_of w v ≡ Ok q → In w q
-element_in w (negsuc n) q e = absurd (not_ok e)
-element_in w (pos n) q e = by_test (nat_lt n w.length) refl e
-  where
-    here : Place
-    here = record { array = w.array; index = w.at + n }
-
-    by_test : (b : Bool) → nat_lt n w.length ≡ b → ok_or (if b then Some here else None) Index ≡ Ok q → In w q
-    by_test true t e =
-        subst (In w) (ok_same e) (let lt = ltb-true n w.length t in record { array = refl; low = omega arith; high = omega (arith, lt) })
-    by_test false t e = absurd (not_ok e)
-
 pub sides_some : (o : Option (Window × Window)) (ws : Window × Window) → ok_or o SplitPoint ≡ Ok ws → o ≡ Some ws
 sides_some None ws e = absurd (not_ok e)
 sides_some (Some v) ws e = ap Some (ok_same e)
@@ -116,12 +104,6 @@ sides_in w (pos n) l r e q = by_test (nat_le n w.length) refl e
 -- nothing is nowhere
 pub not_nowhere : (q : Place) → In nowhere q → ⊥
 not_nowhere q i = let h = i.high in let l = i.low in omega (arith, h, l)
-
--- two places that are the same
-pub places_same : (p q : Place) → same_place p q ≡ true → p ≡ q
-places_same p q h =
-    let k = and_parts (nat_eq p.array q.array) _ h in
-    ap (λ a. record p { array = a }) (eqb-true p.array q.array k.0) ∙ ap (λ i. record q { index = i }) (eqb-true p.index q.index k.1)
 
 -- ---- the sections of a split, seen from around it
 pub split_in : (s x y : ℕ) (v w : Window) (f : ℕ → Window) (q : Place) → (In v q → In (f s) q) → (In w q → In (f s) q)
@@ -152,9 +134,6 @@ bind_other {A} x v f z n = by_test (nat_eq x z) refl
     by_test : (b : Bool) → nat_eq x z ≡ b → (if b then v else f z) ≡ f z
     by_test true e = absurd (n (sym (eqb-true x z e)))
     by_test false e = refl
-
-pub bind_here : {A : Type 0} (x : ℕ) (v : A) (f : ℕ → A) → bind x v f x ≡ v
-bind_here {A} x v f = ap (λ b. if b then v else f x) (eq-eqb x x refl)
 
 pub fits_top : (ms : List Bool) (env new : Environment) → ((s : ℕ) → s < length ms → new.windows s ≡ env.windows s) → FitsTop ms env
     → FitsTop ms new

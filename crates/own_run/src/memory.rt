@@ -151,7 +151,7 @@ impl TaskMemory {
         match only_one(reads) {
             Some(section) => self.part(alloc, writes, &[environment.window(section)]),
             None => {
-                let reads = windows_of(alloc, environment, reads)?;
+                let reads = environment.windows_of(alloc, reads)?;
                 self.part(alloc, writes, &reads)
             }
         }
@@ -166,20 +166,4 @@ fn only_one(sections: &[SectionId]) -> Option<SectionId>
         [section] => Some(*section),
         _ => None,
     }
-}
-
-/// The windows of sections.
-pub fn windows_of(
-    alloc: Global,
-    environment: &Environment,
-    sections: &[SectionId],
-) -> Result<Vec<Window>, AllocError>
-    ensures { IfOk result (λ ws. map window_of ws.items
-        ≡ map (environment_of environment.now).windows (map section_of sections.now)) }
-{
-    let mut windows = Vec::new(alloc);
-    for section in sections {
-        windows.push(environment.window(*section))?;
-    }
-    Ok(windows)
 }

@@ -25,7 +25,7 @@ ghost use Rattle.own_run.specs.Translation.{start as start_of, task_result};
 ghost use Rattle.own_run.specs.declared.turn.Turn.TheVariants.{EndsFinish};
 
 use crate::frame::{Frame, Outer};
-use crate::memory::{TaskMemory, windows_of};
+use crate::memory::TaskMemory;
 use crate::needed::Needed;
 use crate::result::{Listed, Settled, TaskResult};
 use crate::start::Start;
@@ -389,7 +389,7 @@ impl<'p> Run<'p> {
         }
         let alloc = self.plan.alloc;
         let environment = &self.thread.environment;
-        let windows = windows_of(alloc, environment, needed.writes(label, body))?;
+        let windows = environment.windows_of(alloc, needed.writes(label, body))?;
         let store = &mut self.thread.store;
         let holdings = store.part_for(alloc, environment, &windows, needed.reads(label, body))?;
         let start = self.start(body, holdings)?;

@@ -1,7 +1,6 @@
 //! Completions for bash.
 
-use crate::find::{push_names, tables};
-use crate::offers::{Offer, offer_of, takes_value};
+use crate::offers::{Wording, takes_value};
 use crate::page::push_all;
 use clap::{Arg, Command};
 use std::alloc::{AllocError, Global};
@@ -31,6 +30,17 @@ const TAIL: &str = "    case $now in
 }
 complete -F _afx afx
 ";
+
+/// How an argument's offer is written.
+const OFFERS: Wording = Wording {
+    program: " offer=afx",
+    input: " offer=json",
+    file: " offer=file",
+    folder: " offer=folder",
+    open: " offer=words words=\"",
+    close: "\"",
+    nothing: " offer=",
+};
 
 /// The script by which bash completes the words of a program with these commands.
 pub fn script(alloc: Global, program: &Command<'_>) -> Result<String, AllocError> {
@@ -73,7 +83,7 @@ fn push_command(alloc: Global, text: &mut String, command: &Command<'_>) -> Resu
     text.push_str("--help\"")?;
     for arg in command.get_arguments() {
         if arg.is_positional() {
-            push_offer(alloc, text, arg)?;
+            OFFERS.push(alloc, text, arg)?;
         }
     }
     text.push_str(" ;;\n")
@@ -85,33 +95,10 @@ fn push_values(alloc: Global, text: &mut String, command: &Command<'_>) -> Resul
         if let Some(long) = arg.get_long() {
             if takes_value(arg) {
                 push_all(text, &["    \"", command.get_name(), " --", long, "\")"])?;
-                push_offer(alloc, text, arg)?;
+                OFFERS.push(alloc, text, arg)?;
                 text.push_str(" ;;\n")?;
             }
         }
     }
     Ok(())
-}
-
-/// What an argument may be, as variables of the script.
-fn push_offer(alloc: Global, text: &mut String, arg: &Arg<'_>) -> Result<(), AllocError> {
-    match offer_of(alloc, arg)? {
-        Offer::Program => text.push_str(" offer=afx"),
-        Offer::Input => text.push_str(" offer=json"),
-        Offer::File => text.push_str(" offer=file"),
-        Offer::Folder => text.push_str(" offer=folder"),
-        Offer::Page => {
-            text.push_str(" offer=words words=\"")?;
-            push_names(text, &tables())?;
-            text.push('"')
-        }
-        Offer::Words(words) => {
-            text.push_str(" offer=words words=\"")?;
-            for word in words {
-                push_all(text, &[" ", *word])?;
-            }
-            text.push('"')
-        }
-        Offer::Nothing => text.push_str(" offer="),
-    }
 }

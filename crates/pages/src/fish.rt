@@ -1,7 +1,6 @@
 //! Completions for fish.
 
-use crate::find::{push_names, tables};
-use crate::offers::{Offer, offer_of, takes_value};
+use crate::offers::{Wording, takes_value};
 use crate::page::push_all;
 use crate::quoting::Quoting;
 use clap::{Arg, Command};
@@ -15,6 +14,17 @@ complete -c afx -n __fish_use_subcommand -l help -d 'Prints help'
 complete -c afx -n __fish_use_subcommand -l version -d 'Prints the version'
 complete -c afx -n __fish_use_subcommand -a help -d 'Tells what a command does'
 ";
+
+/// How an argument's offer is written.
+const OFFERS: Wording = Wording {
+    program: " -k -a '(__fish_complete_suffix .afx)'",
+    input: " -k -a '(__fish_complete_suffix .json)'",
+    file: " -F",
+    folder: " -a '(__fish_complete_directories)'",
+    open: " -a '",
+    close: "'",
+    nothing: "",
+};
 
 /// The script by which fish completes the words of a program with these commands.
 pub fn script(alloc: Global, program: &Command<'_>) -> Result<String, AllocError> {
@@ -57,29 +67,6 @@ fn push_argument(
             text.push_str(" -r")?;
         }
     }
-    push_offer(alloc, text, arg)?;
+    OFFERS.push(alloc, text, arg)?;
     text.push('\n')
-}
-
-/// What an argument may be.
-fn push_offer(alloc: Global, text: &mut String, arg: &Arg<'_>) -> Result<(), AllocError> {
-    match offer_of(alloc, arg)? {
-        Offer::Program => text.push_str(" -k -a '(__fish_complete_suffix .afx)'"),
-        Offer::Input => text.push_str(" -k -a '(__fish_complete_suffix .json)'"),
-        Offer::File => text.push_str(" -F"),
-        Offer::Folder => text.push_str(" -a '(__fish_complete_directories)'"),
-        Offer::Page => {
-            text.push_str(" -a '")?;
-            push_names(text, &tables())?;
-            text.push_str("'")
-        }
-        Offer::Words(words) => {
-            text.push_str(" -a '")?;
-            for word in words {
-                push_all(text, &[" ", *word])?;
-            }
-            text.push('\'')
-        }
-        Offer::Nothing => Ok(()),
-    }
 }

@@ -1,5 +1,7 @@
 //! What is offered where an argument of a command is typed.
 
+use crate::find::{push_names, tables};
+use crate::page::push_all;
 use clap::builder::ValueParser;
 use clap::{Arg, ArgAction};
 use std::alloc::{AllocError, Global};
@@ -21,6 +23,45 @@ pub enum Offer<'a> {
     Words(&'a [&'a str]),
     /// A number, or another value that nobody can guess.
     Nothing,
+}
+
+/// How a shell's script writes an offer.
+#[derive(Clone, Copy)]
+pub struct Wording {
+    pub program: &'static str,
+    pub input: &'static str,
+    pub file: &'static str,
+    pub folder: &'static str,
+    /// before words, and before the names of pages
+    pub open: &'static str,
+    /// behind them
+    pub close: &'static str,
+    pub nothing: &'static str,
+}
+
+impl Wording {
+    /// What an argument may be.
+    pub fn push(self, alloc: Global, text: &mut String, arg: &Arg<'_>) -> Result<(), AllocError> {
+        match offer_of(alloc, arg)? {
+            Offer::Program => text.push_str(self.program),
+            Offer::Input => text.push_str(self.input),
+            Offer::File => text.push_str(self.file),
+            Offer::Folder => text.push_str(self.folder),
+            Offer::Page => {
+                text.push_str(self.open)?;
+                push_names(text, &tables())?;
+                text.push_str(self.close)
+            }
+            Offer::Words(words) => {
+                text.push_str(self.open)?;
+                for word in words {
+                    push_all(text, &[" ", *word])?;
+                }
+                text.push_str(self.close)
+            }
+            Offer::Nothing => text.push_str(self.nothing),
+        }
+    }
 }
 
 /// What may stand for an argument, by the name of its value, as `FILE`, or the words that it takes.

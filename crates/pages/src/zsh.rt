@@ -1,7 +1,6 @@
 //! Completions for zsh.
 
-use crate::find::{push_names, tables};
-use crate::offers::{Offer, offer_of, takes_value, value_name};
+use crate::offers::{Wording, takes_value, value_name};
 use crate::page::push_all;
 use crate::quoting::Quoting;
 use clap::{Arg, Command};
@@ -33,6 +32,17 @@ const TAIL: &str = "        help) _describe command commands ;;
 }
 _afx \"$@\"
 ";
+
+/// How an argument's offer is written.
+const OFFERS: Wording = Wording {
+    program: "_files -g \"*.afx\"",
+    input: "_files -g \"*.json\"",
+    file: "_files",
+    folder: "_files -/",
+    open: "(",
+    close: ")",
+    nothing: "",
+};
 
 /// The script by which zsh completes the words of a program with these commands.
 pub fn script(alloc: Global, program: &Command<'_>) -> Result<String, AllocError> {
@@ -70,30 +80,7 @@ fn push_argument(alloc: Global, text: &mut String, arg: &Arg<'_>) -> Result<(), 
     if takes_value(arg) {
         let name = value_name(alloc, arg)?;
         push_all(text, &[":", name.as_str(), ":"])?;
-        push_offer(alloc, text, arg)?;
+        OFFERS.push(alloc, text, arg)?;
     }
     text.push('\'')
-}
-
-/// What an argument may be.
-fn push_offer(alloc: Global, text: &mut String, arg: &Arg<'_>) -> Result<(), AllocError> {
-    match offer_of(alloc, arg)? {
-        Offer::Program => text.push_str("_files -g \"*.afx\""),
-        Offer::Input => text.push_str("_files -g \"*.json\""),
-        Offer::File => text.push_str("_files"),
-        Offer::Folder => text.push_str("_files -/"),
-        Offer::Page => {
-            text.push_str("(")?;
-            push_names(text, &tables())?;
-            text.push_str(")")
-        }
-        Offer::Words(words) => {
-            text.push('(')?;
-            for word in words {
-                push_all(text, &[" ", *word])?;
-            }
-            text.push(')')
-        }
-        Offer::Nothing => Ok(()),
-    }
 }

@@ -1,15 +1,12 @@
 -- Numbers that are padded, and lines one behind the other.
-use Rattle.std.proofs.Common.{◌≡◌, ℕ, zero, suc, replicate, ◌+◌, ◌-◌, ◌<◌, Bool, List, [], ◌∷◌, ◌++◌, length, map, get_or, drop, Bor}
-use Rattle.std.proofs.Common.{arith, refl, ap, sym, ◌∙◌, append_assoc, append-nil}
+use Rattle.std.proofs.Common.{◌≡◌, ℕ, replicate, ◌+◌, ◌-◌, ◌<◌, List, [], ◌∷◌, ◌++◌, length, map, get_or, drop, Bor}
+use Rattle.std.proofs.Common.{arith, ap, sym, ◌∙◌, append_assoc, append-nil}
 use Rattle.std.specs.Fmt.{char_count, decimal, format_spec, styled_decimal, padded_integral}
 use Rattle.std.specs.List.{repeat}
 use Rattle.std.proofs.lemmas.List.{drop-map, drop_more}
+use Rattle.syntax.proofs.LineText.{repeat_is}
 use Rattle.syntax.specs.declared.place.Place.{Place}
 use Rattle.places.specs.Lines.{has_label, left_behind, place_margin, placed_line, placed_lines}
-
-repeat_is : (n : ℕ) → repeat {A = ℕ} n (32 ∷ []) ≡ replicate n 32
-repeat_is zero = refl
-repeat_is (suc n) = ap (λ l. 32 ∷ l) (repeat_is n)
 
 right_shape : (p k : ℕ) (digits : List ℕ) → p ≡ k
     → (((repeat {A = ℕ} p (32 ∷ []) ++ []) ++ []) ++ []) ++ (digits ++ repeat {A = ℕ} (p - p) (32 ∷ []))

@@ -1,12 +1,11 @@
 -- Whether a sound program is accepted is computed.
 use Rattle.std.proofs.Common.{◌≡◌, ℕ, zero, suc, ◌+◌, ◌-◌, ◌<◌, ◌≤◌, length, refl, sym, ap, subst, arith}
-use Rattle.std.proofs.lemmas.Bool.{and_from, ltb-true, ltb-false, and_parts}
+use Rattle.std.proofs.lemmas.Bool.{and_from, ltb-true, ltb-false, and_parts, not-true}
 use Rattle.std.specs.Prelude.{◌↔◌, Bool, true, false, not, nat_lt}
 use Rattle.types.specs.Code.{Procedure, Program}
 use Rattle.types.specs.Run.{procedure_of, no_procedure}
 use Rattle.effects.specs.Sound.{IsSound}
 use Rattle.effects.specs.Rounds.{summaries, pending_summaries}
-use Rattle.effects.proofs.Members.{not_true}
 use Rattle.effects.proofs.StableRounds.{past_end, summaries_derived, pending_summaries_derived, summaries_stable}
 use Rattle.effects.proofs.StableRounds.{pending_summaries_stable}
 use Rattle.race_checker.specs.Acceptance.{has_clash, accepts, accepts_below, is_accepted}
@@ -19,7 +18,7 @@ module _ (p : Program) (sound : IsSound p) where
       (pending_summaries_derived p) (pending_summaries_stable p sound)
 
   accepts-no_clash : (g : Procedure) → accepts p g ≡ true → HasNoClash p g
-  accepts-no_clash g h = (exact g).0 (not_true (has_clash (summaries p) (pending_summaries p) g) h)
+  accepts-no_clash g h = (exact g).0 (not-true (has_clash (summaries p) (pending_summaries p) g) h)
 
   no_clash-accepts : (g : Procedure) → HasNoClash p g → accepts p g ≡ true
   no_clash-accepts g h = ap not ((exact g).1 h)

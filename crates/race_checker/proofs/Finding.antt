@@ -3,11 +3,13 @@ use Rattle.std.proofs.Common.{◌≡◌, ◌⊎◌, inl, inr, ℕ, zero, suc, �
 use Rattle.std.proofs.Common.{sym, ap, ◌∙◌, subst, arith, Result, IfOk, All as AllOfList}
 use Rattle.std.proofs.Math.Seq.{drop-cons}
 use Rattle.std.specs.Prelude.{Option, None, slice_index_or, ◌-◌}
+use Rattle.sections.proofs.Numbered.{left_is_there, right_is_there}
 use Rattle.rayon.proofs.ListFacts.{IfOk-then}
 use Rattle.sections.specs.Member.{Member, first, next}
-use Rattle.sections.specs.Origins.{Origin, Left, Right, origin_of}
+use Rattle.sections.specs.Origins.{Origin}
 use Rattle.types.specs.declared.code.Stmt.{Stmt}
-use Rattle.types.specs.Code.{Number, Truth, Code, Do, If, While, Split, Call, Async, Finish, Codes, End, Then, Primitive, Program}
+use Rattle.types.specs.Code.{Number, Truth, Code, Do, If, While, Split, Call, Async, Finish, Codes, End, Then}
+use Rattle.types.specs.Code.{Primitive, Procedure, Program}
 use Rattle.types.specs.Translation.{code, codes}
 use Rattle.effects.specs.Accesses.{Access, own_accesses}
 use Rattle.effects.specs.Effects.{accesses, past_split, renamed, AllOf, All, PendingOf, Pending}
@@ -43,6 +45,13 @@ pub in_range : (those : Access → Type 0) (f : Firsts) (n : ℕ) → AreFirsts 
     → ((x : Access) → those x → x.section < n) → AllOfList (λ (x : rAccess). x.section.number < n) f.items.items
 in_range those f n h below k d lt = below (access (slice_index_or f.items.items k d)) (h.among _ (kept_at f.items.items k d lt))
 
+-- the same for the sections of the same procedure
+pub in_these : {g h : Procedure} (xs : List rAccess) → g ≡ h
+    → AllOfList (λ (x : rAccess). x.section.number < length h.sections) xs
+    → AllOfList (λ (x : rAccess). x.section.number < length g.sections) xs
+in_these xs same =
+    subst (λ (k : Procedure). AllOfList (λ (x : rAccess). x.section.number < length k.sections) xs) (sym same)
+
 module _ (p : Program) (sound : IsSound p) (origins : List Origin) where
   pub below_all : (b : Codes) → Stands p origins b → (x : Access) → All p accesses b x → x.section < length origins
   below_all b st x h =
@@ -60,16 +69,6 @@ module _ (p : Program) (sound : IsSound p) (origins : List Origin) where
   below_pending l s st x h = below_of l s st x (pending_of_all p h)
 
 -- Statements that stand in a list, and blocks that stand in a statement
-
-side_below : (os : List Origin) (a s : ℕ) → origin_of os a ≡ Left s → a < length os
-side_below [] a s e = cc
-side_below (o ∷ os) zero s e = omega arith
-side_below (o ∷ os) (suc a) s e = let h : a < length os = side_below os a s e in omega arith
-
-right_below : (os : List Origin) (a s : ℕ) → origin_of os a ≡ Right s → a < length os
-right_below [] a s e = cc
-right_below (o ∷ os) zero s e = omega arith
-right_below (o ∷ os) (suc a) s e = let h : a < length os = right_below os a s e in omega arith
 
 module _ (p : Program) (origins : List Origin) where
   stands_here : (l : ℕ) (s : Code) (b : Codes) → Stands p origins (Then l s b) → StandsOf p origins l s
@@ -127,8 +126,8 @@ module _ (p : Program) (origins : List Origin) where
         long = ap length g.around.same
 
         below : (z : ℕ) → Member z (x ∷ y ∷ g.around.scope) → z < length origins
-        below z first = subst (λ n. x < n) long (side_below g.around.procedure.sections x s g.follows.0.left)
-        below z (next first) = subst (λ n. y < n) long (right_below g.around.procedure.sections y s g.follows.0.right)
+        below z first = subst (λ n. x < n) long (left_is_there g.around.procedure.sections x s g.follows.0.left)
+        below z (next first) = subst (λ n. y < n) long (right_is_there g.around.procedure.sections y s g.follows.0.right)
         below z (next (next m)) = g.around.below z m
 
 -- Pairs

@@ -184,26 +184,31 @@ clash_moved origins x y a b h g c = record {
   overlap = ap (λ s. overlap origins s b.section) h.section ∙ ap (overlap origins x.section) g.section ∙ c.overlap;
 }
 
--- a race isn't told before that of two earlier accesses, in whichever order they come
-earlier_race : (f : ℕ) (x y a b : Access) → Earlier a x → Earlier b y → is_less (access_key y) (access_key x) ≡ false
+-- what isn't told before two accesses in the order in which they come isn't told before their race
+told_either : (f : ℕ) (x y a b : Access)
+    → (is_less (access_key b) (access_key a) ≡ true → comes_before (told f x y) (told f b a) ≡ false)
+    → (is_less (access_key b) (access_key a) ≡ false → comes_before (told f x y) (told f a b) ≡ false)
     → comes_before (told f x y) (race_of f (a, b)) ≡ false
-earlier_race f x y a b h g order = by (is_less (access_key b) (access_key a)) refl
+told_either f x y a b turned as_given = by (is_less (access_key b) (access_key a)) refl
   where
     by : (c : Bool) → is_less (access_key b) (access_key a) ≡ c
-        → comes_before (told f x y)
-        (if c then record { procedure = f; first = b; second = a } else record { procedure = f; first = a; second = b }) ≡ false
-    by true e = earlier_other_order f x y a b h g order (not_both_less (access_key b) (access_key a) e)
-    by false e = earlier_in_order f x y a b h g
+        → comes_before (told f x y) (if c then told f b a else told f a b) ≡ false
+    by true e = turned e
+    by false e = as_given e
+
+-- a race isn't told before that of two earlier accesses, in whichever order they come
+earlier_race : (f : ℕ) (x y a b : Access) → Earlier a x → Earlier b y
+    → is_less (access_key y) (access_key x) ≡ false
+    → comes_before (told f x y) (race_of f (a, b)) ≡ false
+earlier_race f x y a b h g order =
+    told_either f x y a b (λ e. earlier_other_order f x y a b h g order
+    (not_both_less (access_key b) (access_key a) e)) (λ e. earlier_in_order f x y a b h g)
 
 earlier_turned : (f : ℕ) (x y a b : Access) → Earlier a x → Earlier b y → is_less (access_key y) (access_key x) ≡ false
     → comes_before (told f x y) (race_of f (b, a)) ≡ false
-earlier_turned f x y a b h g order = by (is_less (access_key a) (access_key b)) refl
-  where
-    by : (c : Bool) → is_less (access_key a) (access_key b) ≡ c
-        → comes_before (told f x y)
-        (if c then record { procedure = f; first = a; second = b } else record { procedure = f; first = b; second = a }) ≡ false
-    by true e = earlier_in_order f x y a b h g
-    by false e = earlier_other_order f x y a b h g order e
+earlier_turned f x y a b h g order =
+    told_either f x y b a (λ e. earlier_in_order f x y a b h g)
+    (λ e. earlier_other_order f x y a b h g order e)
 
 -- the race of a pair that clashes
 pub race_of-clashes : (origins : List Origin) (f : ℕ) (pairs : Access → Access → Type 0) (x y : Access) → pairs x y → Clash origins x y

@@ -1,4 +1,5 @@
 pub mod Calming
+pub mod Callees
 pub mod Clashing
 pub mod Deciding
 pub mod ExactSummaries

@@ -1,15 +1,15 @@
 -- What is found of a list is put together from what is found of its pieces.
 use Rattle.std.proofs.Common.{◌≡◌, ◌⊎◌, inl, inr, ℕ, zero, suc, ◌<◌, ◌≤◌, List, [], ◌∷◌, ◌++◌, map, length, refl}
 use Rattle.std.proofs.Common.{sym, ◌∙◌, subst, arith, Result, Ok, IfOk, All as AllOfList, append_assoc, append-nil}
-use Rattle.std.specs.Prelude.{flat_map}
+use Rattle.std.specs.Prelude.{◌↔◌, flat_map}
 use Rattle.std.specs.List.{AllZip}
 use Rattle.std.specs.Borrow.{Bor}
 use Rattle.sections.specs.Origins.{Origin}
 use Rattle.types.specs.declared.code.Stmt.{Stmt}
-use Rattle.types.specs.Code.{Program, Procedure}
+use Rattle.types.specs.Code.{Code, Codes, End, Then, Program, Procedure}
 use Rattle.types.specs.Translation.{code, codes}
 use Rattle.effects.specs.Accesses.{Access}
-use Rattle.effects.specs.Effects.{accesses, All, Pending}
+use Rattle.effects.specs.Effects.{accesses, All, AllOf, Pending, PendingOf}
 use Rattle.effects.specs.Firsts.{kept_in}
 use Rattle.effects.specs.Sound.{Follows, IsSound}
 use Rattle.effects.specs.declared.access.Access.{Access as rAccess}
@@ -27,54 +27,51 @@ use Rattle.race_checker.proofs.Finding.{crossing_least, in_range, below_all, siz
 
 -- Two lists, one behind the other
 
+-- what lists have, if the items of a list are those of its first statement and of its others
+module _ (of_list : Codes → Access → Type 0) (of_one : ℕ → Code → Access → Type 0)
+    (none : (x : Access) → of_list End x → ⊥)
+    (lists : (l : ℕ) (s : Code) (b : Codes) (x : Access) → of_list (Then l s b) x ↔
+    (of_one l s x ⊎ of_list b x)) where
+  joined : (xs ys : List Stmt) (x : Access) → of_list (codes xs) x ⊎ of_list (codes ys) x
+      → of_list (codes (xs ++ ys)) x
+  joined [] ys x (inl h) = absurd (none x h)
+  joined [] ys x (inr h) = h
+  joined (s ∷ ss) ys x (inl h) = elim ((lists s.label (code s.kind) (codes ss) x).0 h) [
+    | inl a ↦ (lists s.label (code s.kind) (codes (ss ++ ys)) x).1 (inl a)
+    | inr b ↦ (lists s.label (code s.kind) (codes (ss ++ ys)) x).1 (inr (joined ss ys x (inl b)))
+  ]
+  joined (s ∷ ss) ys x (inr h) =
+      (lists s.label (code s.kind) (codes (ss ++ ys)) x).1 (inr (joined ss ys x (inr h)))
+
+  parted : (xs ys : List Stmt) (x : Access) → of_list (codes (xs ++ ys)) x
+      → of_list (codes xs) x ⊎ of_list (codes ys) x
+  parted [] ys x h = inr h
+  parted (s ∷ ss) ys x h = elim ((lists s.label (code s.kind) (codes (ss ++ ys)) x).0 h) [
+    | inl a ↦ inl ((lists s.label (code s.kind) (codes ss) x).1 (inl a))
+    | inr b ↦ elim (parted ss ys x b) [
+      | inl c ↦ inl ((lists s.label (code s.kind) (codes ss) x).1 (inr c))
+      | inr c ↦ inr c
+    ]
+  ]
+
 module _ (p : Program) where
   pub all_joined : (xs ys : List Stmt) (x : Access) → All p accesses (codes xs) x ⊎ All p accesses (codes ys) x
       → All p accesses (codes (xs ++ ys)) x
-  all_joined [] ys x (inl h) = absurd (none_all p x h)
-  all_joined [] ys x (inr h) = h
-  all_joined (s ∷ ss) ys x (inl h) =
-      elim ((all_lists p accesses s.label (code s.kind) (codes ss) x).0 h) [
-        | inl a ↦ (all_lists p accesses s.label (code s.kind) (codes (ss ++ ys)) x).1 (inl a)
-        | inr b ↦ (all_lists p accesses s.label (code s.kind) (codes (ss ++ ys)) x).1 (inr (all_joined ss ys x (inl b)))
-      ]
-  all_joined (s ∷ ss) ys x (inr h) =
-      (all_lists p accesses s.label (code s.kind) (codes (ss ++ ys)) x).1 (inr (all_joined ss ys x (inr h)))
+  all_joined = joined (All p accesses) (AllOf p accesses) (none_all p) (all_lists p accesses)
 
   pub all_parted : (xs ys : List Stmt) (x : Access) → All p accesses (codes (xs ++ ys)) x
       → All p accesses (codes xs) x ⊎ All p accesses (codes ys) x
-  all_parted [] ys x h = inr h
-  all_parted (s ∷ ss) ys x h =
-      elim ((all_lists p accesses s.label (code s.kind) (codes (ss ++ ys)) x).0 h) [
-        | inl a ↦ inl ((all_lists p accesses s.label (code s.kind) (codes ss) x).1 (inl a))
-        | inr b ↦ elim (all_parted ss ys x b) [
-          | inl c ↦ inl ((all_lists p accesses s.label (code s.kind) (codes ss) x).1 (inr c))
-          | inr c ↦ inr c
-        ]
-      ]
+  all_parted = parted (All p accesses) (AllOf p accesses) (none_all p) (all_lists p accesses)
 
   pub pending_joined : (xs ys : List Stmt) (x : Access) → Pending p accesses (codes xs) x ⊎ Pending p accesses (codes ys) x
       → Pending p accesses (codes (xs ++ ys)) x
-  pending_joined [] ys x (inl h) = absurd (none_pending p x h)
-  pending_joined [] ys x (inr h) = h
-  pending_joined (s ∷ ss) ys x (inl h) =
-      elim ((pending_lists p accesses s.label (code s.kind) (codes ss) x).0 h) [
-        | inl a ↦ (pending_lists p accesses s.label (code s.kind) (codes (ss ++ ys)) x).1 (inl a)
-        | inr b ↦ (pending_lists p accesses s.label (code s.kind) (codes (ss ++ ys)) x).1 (inr (pending_joined ss ys x (inl b)))
-      ]
-  pending_joined (s ∷ ss) ys x (inr h) =
-      (pending_lists p accesses s.label (code s.kind) (codes (ss ++ ys)) x).1 (inr (pending_joined ss ys x (inr h)))
+  pending_joined =
+      joined (Pending p accesses) (λ l. PendingOf p accesses) (none_pending p) (pending_lists p accesses)
 
   pub pending_parted : (xs ys : List Stmt) (x : Access) → Pending p accesses (codes (xs ++ ys)) x
       → Pending p accesses (codes xs) x ⊎ Pending p accesses (codes ys) x
-  pending_parted [] ys x h = inr h
-  pending_parted (s ∷ ss) ys x h =
-      elim ((pending_lists p accesses s.label (code s.kind) (codes (ss ++ ys)) x).0 h) [
-        | inl a ↦ inl ((pending_lists p accesses s.label (code s.kind) (codes ss) x).1 (inl a))
-        | inr b ↦ elim (pending_parted ss ys x b) [
-          | inl c ↦ inl ((pending_lists p accesses s.label (code s.kind) (codes ss) x).1 (inr c))
-          | inr c ↦ inr c
-        ]
-      ]
+  pending_parted =
+      parted (Pending p accesses) (λ l. PendingOf p accesses) (none_pending p) (pending_lists p accesses)
 
   -- the pairs of a list that stands before another
   abbrev pub Joined : (xs ys : List Stmt) → Access → Access → Type 0

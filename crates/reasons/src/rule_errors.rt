@@ -211,12 +211,13 @@ impl<'t> Broken<'t> {
     fn push_wrong_kind(&self, told: &mut String) -> Result<(), AllocError> {
         for named in &self.names {
             if let Some(declared) = self.scope.find(named.name) {
-                let is_section = declared.kind.is_section();
-                if is_section && self.wants_scalar(*named)? {
-                    return self.push_section(told, *named, declared);
-                }
-                if !is_section && wants_section(named.role) {
-                    return self.push_scalar(told, *named, declared);
+                let is_other = if declared.kind.is_section() {
+                    self.wants_scalar(*named)?
+                } else {
+                    wants_section(named.role)
+                };
+                if is_other {
+                    return self.push_other_kind(told, *named, declared);
                 }
             }
         }
@@ -246,39 +247,34 @@ impl<'t> Broken<'t> {
         Ok(false)
     }
 
-    /// A section where a scalar must stand.
-    fn push_section(
+    /// A section where a scalar must stand, or a scalar where a section must.
+    fn push_other_kind(
         &self,
         told: &mut String,
         named: Named<'t>,
         declared: Declared<'t>,
     ) -> Result<(), AllocError> {
+        let is_section = declared.kind.is_section();
+        let (kind, wanted) = if is_section {
+            ("section", "number")
+        } else {
+            ("scalar", "section")
+        };
         self.push_at(told, named.at)?;
         let name = named.name;
-        write!(told, "`{name}` is a section, declared at ")?;
+        write!(told, "`{name}` is a {kind}, declared at ")?;
         self.push_place(told, declared)?;
-        told.push_str("; a number must stand here.\n")?;
-        write!(
-            told,
-            "To mend it: write an element of it, as `{name}[0]`, or its length, `len({name})`.\n"
-        )
-    }
-
-    /// A scalar where a section must stand.
-    fn push_scalar(
-        &self,
-        told: &mut String,
-        named: Named<'t>,
-        declared: Declared<'t>,
-    ) -> Result<(), AllocError> {
-        self.push_at(told, named.at)?;
-        let name = named.name;
-        write!(told, "`{name}` is a scalar, declared at ")?;
-        self.push_place(told, declared)?;
-        told.push_str("; a section must stand here.\n")?;
-        told.push_str(
-            "To mend it: name an array, a side of a split, or a `mut` or `read` parameter.\n",
-        )
+        write!(told, "; a {wanted} must stand here.\n")?;
+        if is_section {
+            write!(
+                told,
+                "To mend it: write an element of it, as `{name}[0]`, or its length, `len({name})`.\n"
+            )
+        } else {
+            told.push_str(
+                "To mend it: name an array, a side of a split, or a `mut` or `read` parameter.\n",
+            )
+        }
     }
 
     /// A call with arguments that don't fit.

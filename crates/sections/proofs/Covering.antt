@@ -1,10 +1,11 @@
 -- Windows that are joined to a cover.
-use Rattle.std.proofs.Common.{◌≡◌, ◌⊎◌, inl, inr, ◌+◌, ◌-◌, ◌<◌, ◌≤◌, max, List, [], ◌∷◌, ◌++◌, refl, sym, ap, ◌∙◌}
+use Rattle.std.proofs.Common.{◌≡◌, ◌⊎◌, inl, inr, ℕ, ◌+◌, ◌-◌, ◌<◌, ◌≤◌, max, List, [], ◌∷◌, ◌++◌, refl, sym, ap, ◌∙◌}
 use Rattle.std.proofs.Common.{arith, append_assoc}
 use Rattle.std.proofs.lemmas.Bool.{eqb-true, eq-eqb, ltb-true, lt-ltb, leb-true, le-leb, leb-false, and_parts, and_from, or_cases}
 use Rattle.std.proofs.lemmas.Bool.{or_left, or_right, cases_lt}
 use Rattle.std.specs.Prelude.{Bool, true, false, ◌&&◌, ◌||◌, nat_eq, nat_lt, nat_le, if◌then◌else◌}
 use Rattle.std.specs.List.{list_all}
+use Rattle.std.proofs.Math.Bool.{or_assoc}
 use Rattle.sections.specs.Place.{Place, Window, In}
 use Rattle.sections.specs.Covers.{is_in, has, has_places, ends_before, is_cover}
 use Rattle.sections.specs.Joining.{end_of, begins_no_later, begins_first, is_ascending, meets, joined}
@@ -44,16 +45,17 @@ pub begins-at : (v w : Window) → v.array ≡ w.array → v.at ≤ w.at → beg
 begins-at v w e h = or_right (nat_lt v.array w.array) (nat_eq v.array w.array && nat_le v.at w.at)
     (and_from (nat_eq v.array w.array) (nat_le v.at w.at) (eq-eqb v.array w.array e) (le-leb v.at w.at h))
 
+-- of three arrays, each no later than the next, the first is before the last or all are the same
+in_turn : {a b c : ℕ} {P Q : Type 0} → (a < b) ⊎ ((a ≡ b) × P) → (b < c) ⊎ ((b ≡ c) × Q) → (a < c) ⊎ ((a ≡ c) × (P × Q))
+in_turn (inl h) (inl k) = inl (omega (arith, h, k))
+in_turn (inl h) (inr k) = inl (omega (arith, h, k.0))
+in_turn (inr h) (inl k) = inl (omega (arith, h.0, k))
+in_turn (inr h) (inr k) = inr (h.0 ∙ k.0, (h.1, k.1))
+
 begins-trans : (u v w : Window) → begins_no_later u v ≡ true → begins_no_later v w ≡ true → begins_no_later u w ≡ true
-begins-trans u v w h k = elim (begins_cases u v h) [
-  | inl a ↦ elim (begins_cases v w k) [
-    | inl b ↦ begins-array u w (omega (arith, a, b))
-    | inr b ↦ begins-array u w (omega (arith, a, b.0))
-  ]
-  | inr a ↦ elim (begins_cases v w k) [
-    | inl b ↦ begins-array u w (omega (arith, a.0, b))
-    | inr b ↦ begins-at u w (a.0 ∙ b.0) (omega (arith, a.1, b.1))
-  ]
+begins-trans u v w h k = elim (in_turn (begins_cases u v h) (begins_cases v w k)) [
+  | inl a ↦ begins-array u w a
+  | inr e ↦ begins-at u w e.0 (omega (arith, e.1.0, e.1.1))
 ]
 
 pub ends_cases : (v w : Window) → ends_before v w ≡ true → (v.array < w.array) ⊎ ((v.array ≡ w.array) × (end_of v < w.at))
@@ -73,15 +75,9 @@ ends-at v w e h = or_right (nat_lt v.array w.array) (nat_eq v.array w.array && n
 
 -- what ends before a window ends before those that begin no earlier
 pub ends-begins : (u v w : Window) → ends_before u v ≡ true → begins_no_later v w ≡ true → ends_before u w ≡ true
-ends-begins u v w h k = elim (ends_cases u v h) [
-  | inl a ↦ elim (begins_cases v w k) [
-    | inl b ↦ ends-array u w (omega (arith, a, b))
-    | inr b ↦ ends-array u w (omega (arith, a, b.0))
-  ]
-  | inr a ↦ elim (begins_cases v w k) [
-    | inl b ↦ ends-array u w (omega (arith, a.0, b))
-    | inr b ↦ ends-at u w (a.0 ∙ b.0) (omega (arith, a.1, b.1))
-  ]
+ends-begins u v w h k = elim (in_turn (ends_cases u v h) (begins_cases v w k)) [
+  | inl a ↦ ends-array u w a
+  | inr e ↦ ends-at u w e.0 (omega (arith, e.1.0, e.1.1))
 ]
 
 -- ---- two neighbours
@@ -183,10 +179,6 @@ leads_joined v w ws l =
     first_of_joined : (ws : List Window) → begins_first v ws ≡ true → begins_first (joined v w) ws ≡ true
     first_of_joined [] h = h
     first_of_joined (x ∷ ws) h = h
-
-or_assoc : (a b c : Bool) → ((a || b) || c) ≡ (a || (b || c))
-or_assoc true b c = refl
-or_assoc false b c = refl
 
 module _ (q : Place) where
   has-met : (v w : Window) (ws : List Window) → Leads v (w ∷ ws) → (b : Bool) → meets v w ≡ b

@@ -392,23 +392,17 @@ module _ (q : Place) where
   -- a place of w before v begins, one behind v, one of the windows behind w, one of those behind v
   taken_within : (a s e h r : Bool) → (s ≡ true → e ≡ true) → (e ≡ true → h ≡ false) → (e ≡ true → r ≡ false)
       → ((a && s) || (((a && not e) || r) && not h)) ≡ ((a || r) && not ((not s && e) || h))
-  taken_within a true true h r f g k = both a h r (g refl) (k refl)
+  taken_within a s true h r f g k = neither a s h r (g refl) (k refl)
     where
-      both : (a h r : Bool) → h ≡ false → r ≡ false
-          → ((a && true) || (((a && false) || r) && not h)) ≡ ((a || r) && not (false || h))
-      both true false false g k = refl
-      both false false false g k = refl
-      both a true r g k = absurd (true≢false g)
-      both a false true g k = absurd (true≢false k)
+      neither : (a s h r : Bool) → h ≡ false → r ≡ false
+          → ((a && s) || (((a && false) || r) && not h)) ≡ ((a || r) && not ((not s && true) || h))
+      neither true true false false g k = refl
+      neither true false false false g k = refl
+      neither false true false false g k = refl
+      neither false false false false g k = refl
+      neither a s true r g k = absurd (true≢false g)
+      neither a s false true g k = absurd (true≢false k)
   taken_within a true false h r f g k = absurd (false≢true (f refl))
-  taken_within a false true h r f g k = both a h r (g refl) (k refl)
-    where
-      both : (a h r : Bool) → h ≡ false → r ≡ false
-          → ((a && false) || (((a && false) || r) && not h)) ≡ ((a || r) && not (true || h))
-      both true false false g k = refl
-      both false false false g k = refl
-      both a true r g k = absurd (true≢false g)
-      both a false true g k = absurd (true≢false k)
   taken_within true false false h r f g k = refl
   taken_within false false false h r f g k = refl
 

@@ -56,7 +56,7 @@ ascending-neighbours (x ∷ (y ∷ ys)) all h =
     (h (suc k) d (omega (arith, lt)))))))
 
 -- a window without places has none
-is_in-empty : (w : Window) (q : Place) → has_places w ≡ false → is_in w q ≡ false
+pub is_in-empty : (w : Window) (q : Place) → has_places w ≡ false → is_in w q ≡ false
 is_in-empty w q h = false_from_ne_true (is_in w q) (λ k.
     (let i = in_window w q k in
     let l : w.at ≤ q.index = i.low in

@@ -1,12 +1,13 @@
 -- Windows of disjoint sections share no place, where they stand as the sections' origins say.
 use Rattle.std.proofs.Common.{◌≡◌, ◌≢◌, ◌⊎◌, inl, inr, ℕ, zero, suc, ◌+◌, ◌-◌, ◌<◌, ◌≤◌, Option, Some, None, ℤ, pos, negsuc}
-use Rattle.std.proofs.Common.{refl, sym, ap, subst, arith}
-use Rattle.std.proofs.lemmas.Bool.{leb-true}
-use Rattle.std.specs.Prelude.{Bool, true, false, nat_le, if◌then◌else◌}
+use Rattle.std.proofs.Common.{refl, sym, ap, ◌∙◌, subst, arith}
+use Rattle.std.proofs.lemmas.Bool.{leb-true, eqb-true, and_parts}
+use Rattle.std.specs.Prelude.{Bool, true, false, nat_eq, nat_le, if◌then◌else◌}
+use Rattle.std.proofs.lemmas.Option.{same_Some}
 use Rattle.sections.specs.Member.{Member, first, next}
 use Rattle.sections.specs.Origins.{Root, origin_of, IsNumbered, IsSideOf, left, right}
 use Rattle.sections.specs.Overlap.{line_within, line, root_of, are_opposite, overlap}
-use Rattle.sections.specs.Place.{Place, Window, In, first_places, places_behind, sides_of}
+use Rattle.sections.specs.Place.{Place, Window, In, first_places, places_behind, same_place, sides_of}
 use Rattle.sections.specs.Placed.{Apart, Names, Placed}
 use Rattle.sections.proofs.Lines.{behind, root_in_line, root_is_root}
 use Rattle.sections.proofs.Overlapping.{Sides, opposite_cases, disjoint_cases}
@@ -18,9 +19,6 @@ pub record IsCut (w a b : Window) : Type 0 where
   pub left : a ≡ first_places at w
   pub right : b ≡ places_behind at w
 
-some_same : {A : Type 0} {x y : A} → Some x ≡ Some y → x ≡ y
-some_same h = cc
-
 pub sides_of-cut : (w a b : Window) (v : ℤ) → sides_of w v ≡ Some (a, b) → IsCut w a b
 sides_of-cut w a b (negsuc n) h = absurd cc
 sides_of-cut w a b (pos n) h = go (nat_le n w.length) refl h
@@ -30,34 +28,24 @@ sides_of-cut w a b (pos n) h = go (nat_le n w.length) refl h
     go true e h = record {
       at = n;
       fits = leb-true n w.length e;
-      left = sym (ap (λ (p : Window × Window). p.0) (some_same h));
-      right = sym (ap (λ (p : Window × Window). p.1) (some_same h));
+      left = sym (ap (λ (p : Window × Window). p.0) (same_Some _ _ h));
+      right = sym (ap (λ (p : Window × Window). p.1) (same_Some _ _ h));
     }
     go false e h = absurd cc
 
 -- the places of a side are places of the whole
 pub left_inside : {w a b : Window} → IsCut w a b → (q : Place) → In a q → In w q
-left_inside {w} {a} {b} c q h = inside (subst (λ a. In a q) c.left h)
-  where
-    inside : In (first_places c.at w) q → In w q
-    inside h = record {
-      array = h.array;
-      low = h.low;
-      high = let f : c.at ≤ w.length = c.fits in let k : q.index < w.at + c.at = h.high in omega (arith, f, k);
-    }
+left_inside {w} {a} {b} c q h =
+    let i : In (first_places c.at w) q = subst (λ a. In a q) c.left h in
+    let high : q.index < w.at + c.at = i.high in
+    record { array = i.array; low = i.low; high = omega (arith, c.fits, high) }
 
 pub right_inside : {w a b : Window} → IsCut w a b → (q : Place) → In b q → In w q
-right_inside {w} {a} {b} c q h = inside (subst (λ b. In b q) c.right h)
-  where
-    inside : In (places_behind c.at w) q → In w q
-    inside h = record {
-      array = h.array;
-      low = let k : w.at + c.at ≤ q.index = h.low in omega (arith, k);
-      high =
-          let f : c.at ≤ w.length = c.fits in
-          let k : q.index < w.at + c.at + (w.length - c.at) = h.high in
-          omega (arith, f, k);
-    }
+right_inside {w} {a} {b} c q h =
+    let i : In (places_behind c.at w) q = subst (λ b. In b q) c.right h in
+    let low : w.at + c.at ≤ q.index = i.low in
+    let high : q.index < w.at + c.at + (w.length - c.at) = i.high in
+    record { array = i.array; low = omega (arith, low); high = omega (arith, c.fits, high) }
 
 -- and each is in one side alone
 pub sides_apart : {w a b : Window} → IsCut w a b → Apart a b
@@ -156,3 +144,9 @@ module _ (names : Names) (windows : ℕ → Window) (numbered : IsNumbered names
         let g = above_in_line b u.over_b u.b_lies n in
         narrowed a u.over_a b u.over_b f g (opposite_apart u.over_a u.over_b f.in_scope g.in_scope u.opposite))
   ]
+
+-- two places that are the same
+pub places_same : (p q : Place) → same_place p q ≡ true → p ≡ q
+places_same p q h =
+    let k = and_parts (nat_eq p.array q.array) _ h in
+    ap (λ a. record p { array = a }) (eqb-true p.array q.array k.0) ∙ ap (λ i. record q { index = i }) (eqb-true p.index q.index k.1)

@@ -1,11 +1,12 @@
 -- The cover that is computed is one, and has the places of the windows.
 use Rattle.std.proofs.Common.{◌≡◌, inl, inr, List, [], ◌∷◌, refl, sym, ap, ◌∙◌, arith}
-use Rattle.std.proofs.lemmas.Bool.{and_from, and_parts, cases_lt, ltb-false, true≢false, false_from_ne_true}
+use Rattle.std.proofs.lemmas.Bool.{and_from, and_parts, cases_lt, true≢false}
 use Rattle.std.specs.Prelude.{Bool, true, false, ◌&&◌, ◌||◌, if◌then◌else◌}
+use Rattle.sections.proofs.Sorting.{is_in-empty}
 use Rattle.sections.specs.Covers.{has, has_places, is_cover, is_in}
 use Rattle.sections.specs.Joining.{begins_first, begins_no_later, is_ascending, joined, meets}
 use Rattle.sections.specs.Place.{Place, Window}
-use Rattle.sections.proofs.Covering.{Covers, begins-array, begins-at, in_window, joined_covers, joined_from as joined_by}
+use Rattle.sections.proofs.Covering.{Covers, begins-array, begins-at, joined_covers, joined_from as joined_by}
 use Rattle.sections.proofs.Unique.{same_cover}
 use Rattle.spawn_copies.specs.Cover.{cover_of, in_order, joined_all, joined_from, ordered}
 
@@ -66,12 +67,6 @@ has-in_order q w (v ∷ vs) = by_test (begins_no_later w v) (has-in_order q w vs
 
 -- ---- those that have a place
 
-is_in-nowhere : (w : Window) (q : Place) → has_places w ≡ false → is_in w q ≡ false
-is_in-nowhere w q h = false_from_ne_true (is_in w q) (λ k.
-    (let i = in_window w q k in
-    let e = ltb-false 0 w.length h in
-    omega (arith, i.low, i.high, e)))
-
 ascending-ordered : (ws : List Window) → is_ascending (ordered ws) ≡ true
 ascending-ordered [] = refl
 ascending-ordered (w ∷ ws) = by_test (has_places w) refl (ascending-ordered ws)
@@ -88,7 +83,7 @@ has-ordered q (w ∷ ws) = by_test (has_places w) refl (has-ordered q ws)
     by_test : (b : Bool) → has_places w ≡ b → has (ordered ws) q ≡ has ws q
         → has (if b then in_order w (ordered ws) else ordered ws) q ≡ (is_in w q || has ws q)
     by_test true e rest = has-in_order q w (ordered ws) ∙ ap (λ b. is_in w q || b) rest
-    by_test false e rest = rest ∙ ap (λ b. b || has ws q) (sym (is_in-nowhere w q e))
+    by_test false e rest = rest ∙ ap (λ b. b || has ws q) (sym (is_in-empty w q e))
 
 -- ---- the cover
 

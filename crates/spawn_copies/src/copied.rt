@@ -1,7 +1,7 @@
 //! What is copied at an async.
 
 ghost use Rattle.std.specs.Prelude.{◌≡◌, IfOk, map};
-ghost use Rattle.sections.specs.Translation.{section as section_of, window as window_of};
+ghost use Rattle.sections.specs.Translation.{section as section_of};
 ghost use Rattle.types.specs.Code.{Program as Code};
 ghost use Rattle.types.specs.Translation.{environment as environment_of, program as program_of};
 ghost use Rattle.effects.specs.Summarized.{AreSummaries};
@@ -11,7 +11,6 @@ use crate::splits::{plus, split_in};
 use effects::summaries::Summaries;
 use sections::cover::cover;
 use sections::id::SectionId;
-use sections::window::Window;
 use std::alloc::{AllocError, Global};
 use types::code::{Label, Program};
 use types::value::Environment;
@@ -31,7 +30,7 @@ pub fn copied_places(
     ensures { IfOk result (λ n. n
         ≡ copied_at (program_of code.now) label (environment_of environment.now)) }
 {
-    let windows = windows_of(alloc, environment, written(summaries, label))?;
+    let windows = environment.windows_of(alloc, written(summaries, label))?;
     let places = cover(alloc, &windows)?;
     let split = split_in(code, &places)?;
     plus(split, split)
@@ -46,20 +45,4 @@ fn written(summaries: &Summaries, label: Label) -> &[SectionId]
         Some(needs) => &needs.writes,
         None => &[],
     }
-}
-
-/// The windows of sections.
-fn windows_of(
-    alloc: Global,
-    environment: &Environment,
-    sections: &[SectionId],
-) -> Result<Vec<Window>, AllocError>
-    ensures { IfOk result (λ ws. map window_of ws.items
-        ≡ map (environment_of environment.now).windows (map section_of sections.now)) }
-{
-    let mut windows = Vec::new(alloc);
-    for section in sections {
-        windows.push(environment.window(*section))?;
-    }
-    Ok(windows)
 }

@@ -37,38 +37,50 @@ module _ (p : Program) where
   told_ends t a o true h e = (h, ap (outcome_or o) e)
   told_ends t a o false h e = cc
 
-  pub ends_by : (cs : List ℕ) (i : ℕ) (t : Tree) (a : Contents) (o : Outcome) → explored_from p i cs t a ≡ Ends o
-      → EndsBy p (length cs) t a o
-  ends_by [] i t a o e =
-      let h = told_ends t a o (all_done t) refl e in
-      record { tree = t; store = a; runs = here; done = h.0; same = h.1 }
-  ends_by (c ∷ cs) i t a o e = by (step p c t a) refl e (λ u b. ends_by cs (i + 1) u b o)
-    where
-      by : (s : Option (Tree × Contents)) → step p c t a ≡ s → goes_on i (explored_from p (i + 1) cs) s ≡ Ends o
-          → ((u : Tree) (b : Contents) → explored_from p (i + 1) cs u b ≡ Ends o → EndsBy p (length cs) u b o) → EndsBy p (suc (length cs)) t a o
-      by None h e f = cc
-      by (Some x) h e f =
-          let r = f x.0 x.1 e in
-          record { tree = r.tree; store = r.store; runs = next c h r.runs; done = r.done; same = r.same }
-
   pub told_open : (t : Tree) (a : Contents) (m : ℕ) (z : Bool) → all_done t ≡ z
       → (if z then Ends (Ended (tree_ending p t a)) else Open (ready t)) ≡ Open m → (all_done t ≡ false) × (ready t ≡ m)
   told_open t a m true h e = cc
   told_open t a m false h e = (h, ap (leaves_or m) e)
 
+  -- a tree that a run of so many steps comes to, of which this is told
+  abbrev Told : (count : ℕ) → Tree → Contents → Explored → Type 0
+  Told n t a (Ends o) = EndsBy p n t a o
+  Told n t a (Open m) = OpensBy p n t a m
+  Told n t a (NoSuchChoice m) = Unit {0}
+
+  told_now : (t : Tree) (a : Contents) (z : Bool) → all_done t ≡ z
+      → Told 0 t a (if z then Ends (Ended (tree_ending p t a)) else Open (ready t))
+  told_now t a true h = record { tree = t; store = a; runs = here; done = h; same = refl }
+  told_now t a false h = record { tree = t; store = a; runs = here; open_yet = h; same = refl }
+
+  -- one step more in front
+  told_behind : (n c : ℕ) (t : Tree) (a : Contents) (x : Tree × Contents) (e : Explored)
+      → step p c t a ≡ Some x
+      → Told n x.0 x.1 e → Told (suc n) t a e
+  told_behind n c t a x (Ends o) h r =
+      record { tree = r.tree; store = r.store; runs = next c h r.runs; done = r.done; same = r.same }
+  told_behind n c t a x (Open m) h r =
+      record { tree = r.tree; store = r.store; runs = next c h r.runs; open_yet = r.open_yet; same = r.same }
+  told_behind n c t a x (NoSuchChoice m) h r = tt
+
+  told_by : (cs : List ℕ) (i : ℕ) (t : Tree) (a : Contents) → Told (length cs) t a (explored_from p i cs t a)
+  told_by [] i t a = told_now t a (all_done t) refl
+  told_by (c ∷ cs) i t a = by (step p c t a) refl (told_by cs (i + 1))
+    where
+      by : (s : Option (Tree × Contents)) → step p c t a ≡ s
+          → ((u : Tree) (b : Contents) → Told (length cs) u b (explored_from p (i + 1) cs u b))
+          → Told (suc (length cs)) t a (goes_on i (explored_from p (i + 1) cs) s)
+      by None h f = tt
+      by (Some x) h f = told_behind (length cs) c t a x (explored_from p (i + 1) cs x.0 x.1) h (f x.0 x.1)
+
+  pub ends_by : (cs : List ℕ) (i : ℕ) (t : Tree) (a : Contents) (o : Outcome)
+      → explored_from p i cs t a ≡ Ends o
+      → EndsBy p (length cs) t a o
+  ends_by cs i t a o e = subst (Told (length cs) t a) e (told_by cs i t a)
+
   pub opens_by : (cs : List ℕ) (i : ℕ) (t : Tree) (a : Contents) (m : ℕ) → explored_from p i cs t a ≡ Open m
       → OpensBy p (length cs) t a m
-  opens_by [] i t a m e =
-      let h = told_open t a m (all_done t) refl e in
-      record { tree = t; store = a; runs = here; open_yet = h.0; same = h.1 }
-  opens_by (c ∷ cs) i t a m e = by (step p c t a) refl e (λ u b. opens_by cs (i + 1) u b m)
-    where
-      by : (s : Option (Tree × Contents)) → step p c t a ≡ s → goes_on i (explored_from p (i + 1) cs) s ≡ Open m
-          → ((u : Tree) (b : Contents) → explored_from p (i + 1) cs u b ≡ Open m → OpensBy p (length cs) u b m) → OpensBy p (suc (length cs)) t a m
-      by None h e f = cc
-      by (Some x) h e f =
-          let r = f x.0 x.1 e in
-          record { tree = r.tree; store = r.store; runs = next c h r.runs; open_yet = r.open_yet; same = r.same }
+  opens_by cs i t a m e = subst (Told (length cs) t a) e (told_by cs i t a)
 
   pub told_misses : (t : Tree) (a : Contents) (n : ℕ) (z : Bool) {A : Type 0}
       → (if z then Ends (Ended (tree_ending p t a)) else Open (ready t)) ≡ NoSuchChoice n → A

@@ -1,7 +1,8 @@
 -- Steps of two leaves commute, so all runs that end come to one end.
 use Rattle.std.proofs.Common.{◌≡◌, ◌⊎◌, inl, inr, ℕ, suc, ◌+◌, ◌<◌, List, [], ◌∷◌, Some, None, refl, sym, ap, ◌∙◌, subst, arith}
-use Rattle.std.proofs.lemmas.Bool.{eqb-true, and_parts}
-use Rattle.std.specs.Prelude.{ℤ, Bool, true, false, nat_eq, if◌then◌else◌}
+use Rattle.std.proofs.lemmas.Bool.{and_parts}
+use Rattle.std.specs.Prelude.{ℤ, Bool, true, false, if◌then◌else◌}
+use Rattle.sections.proofs.Windows.{places_same}
 use Rattle.sections.specs.Place.{Place, same_place}
 use Rattle.types.specs.Code.{Codes, End, Then, Program}
 use Rattle.types.specs.Contents.{Contents, write}
@@ -20,20 +21,13 @@ use Rattle.step_trees.proofs.GoodTrees.{Good, step_kept}
 
 -- Updates of different places
 
-pub place_same : (p q : Place) → same_place p q ≡ true → p ≡ q
-place_same p q e =
-    let h = and_parts (nat_eq p.array q.array) (nat_eq p.index q.index) e in
-    let f : p.array ≡ q.array = eqb-true p.array q.array h.0 in
-    let g : p.index ≡ q.index = eqb-true p.index q.index h.1 in
-    λ i. record { array = f i; index = g i }
-
 -- a place that isn't updated has its number
 other_place : (u : Update) (a : Contents) (q : Place) → Hits (λ r. r ≡ q → ⊥) u → a q ≡ updated u a q
 other_place None a q h = refl
 other_place (Some x) a q h = by (same_place x.0 q) refl
   where
     by : (b : Bool) → same_place x.0 q ≡ b → a q ≡ (if b then Some x.1 else a q)
-    by true e = absurd (h (place_same x.0 q e))
+    by true e = absurd (h (places_same x.0 q e))
     by false e = refl
 
 outside : {P T : Place → Type 0} (u : Update) → Hits P u → ((q : Place) → P q → T q → ⊥) → (q : Place) → T q
@@ -47,7 +41,7 @@ writes_commute q r v w a h = λ i s. by s (same_place q s) (same_place r s) refl
   where
     by : (s : Place) (b c : Bool) → same_place q s ≡ b → same_place r s ≡ c
         → (if b then Some v else if c then Some w else a s) ≡ (if c then Some w else if b then Some v else a s)
-    by s true true e f = absurd (h (place_same q s e ∙ sym (place_same r s f)))
+    by s true true e f = absurd (h (places_same q s e ∙ sym (places_same r s f)))
     by s true false e f = refl
     by s false true e f = refl
     by s false false e f = refl

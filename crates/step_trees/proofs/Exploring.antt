@@ -1,17 +1,36 @@
 -- What is told of choices, choice by choice.
-use Rattle.std.proofs.Common.{◌≡◌, ℕ, ◌+◌, ◌≤◌, List, [], ◌∷◌, length, Some, refl, sym, ap, ◌∙◌, arith}
-use Rattle.std.specs.Prelude.{Bool, true, false, if◌then◌else◌}
+use Rattle.std.proofs.Common.{◌≡◌, ℕ, ◌+◌, ◌≤◌, List, [], ◌∷◌, Some, sym, ap, ◌∙◌, subst}
+use Rattle.std.specs.Prelude.{ℤ, Bool, true, false, if◌then◌else◌}
 use Rattle.types.specs.Code.{Program}
-use Rattle.types.specs.Contents.{Contents}
+use Rattle.types.specs.Contents.{Contents, FitsArrays}
 use Rattle.types.specs.Outcome.{Ending, Ended}
+use Rattle.types.specs.Translation.{program}
 use Rattle.types.specs.Trees.{Tree, all_done, ready}
 use Rattle.types.specs.TreeRuns.{Ends, Open, NoSuchChoice, tree_ending, told, goes_on, explored_from}
-use Rattle.types.specs.TreeSteps.{step}
+use Rattle.types.specs.TreeSteps.{step, first_tree}
+use Rattle.serial_run.specs.declared.store.Store.{Store}
+use Rattle.serial_run.specs.declared.thread.Plan.{Plan}
+use Rattle.serial_run.specs.Lists.{lists_of}
+use Rattle.step_trees.specs.declared.walk.Place.{Place}
+use Rattle.step_trees.specs.Exploring.{IsHeld}
+use Rattle.step_trees.specs.Places.{whole, IsPlace}
+use Rattle.step_trees.specs.Windows.{TreeLies}
+use Rattle.step_trees.proofs.LyingTrees.{first-lies}
 use Rattle.step_trees.proofs.Steps.{others_stay}
 
-pub no_more : (l : List ℕ) → length l ≡ 0 → l ≡ []
-no_more [] e = refl
-no_more (x ∷ l) e = absurd (let bad : ⊥ = omega (arith, e) in bad)
+-- what is held where a run of a program begins
+pub held_first : (plan : Plan) (a : Store) (c : Place) (q : Program) (lists : List (List ℤ))
+    → program plan.program.now ≡ q → IsPlace c → whole c ≡ first_tree (program plan.program.now)
+    → lists_of a ≡ lists → FitsArrays q.arrays lists → IsHeld plan a c
+held_first plan a c q lists code place start store fits =
+    let p = program plan.program.now in
+    record {
+      place = place;
+      windows = subst (TreeLies p) (sym start) (first-lies p);
+      store =
+          subst (FitsArrays p.arrays) (sym store)
+          (subst (λ (r : Program). FitsArrays r.arrays lists) (sym code) fits);
+    }
 
 module _ (p : Program) (t : Tree) (a : Contents) where
   pub told-open : (n : ℕ) → all_done t ≡ false → n ≡ ready t → Open n ≡ told p t a

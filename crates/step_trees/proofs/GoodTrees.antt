@@ -340,30 +340,28 @@ module _ (p : Program) where
       if_kept : (keep scope : List ℕ) (l : ℕ) (t : Truth) (b c : Codes) (k : Leaf) → Before l (If t b c) keep scope k
           → (v : Bool)
           → After l (If t b c) keep k (single (before_rest (if v then b else c) k))
-      if_kept keep scope l t b c k st true = into_leaf l (If t b c) keep scope k k.environment b (λ keep f. record {
-        inner = f.scope;
-        larger = λ x m. m;
-        same = λ x m. refl;
-        fits = f.stands.fits;
-        follows = f.stands.follows.0.1;
-        names = f.stands.names;
-        lists = f.stands.lists;
-        calm = f.stands.calm.0.0;
-        all = among _ (λ x h. AllOf.inner Inner.if_body h refl);
-        pending = among _ (λ x h. PendingOf.inner Inner.if_body h refl);
-      }) st
-      if_kept keep scope l t b c k st false = into_leaf l (If t b c) keep scope k k.environment c (λ keep f. record {
-        inner = f.scope;
-        larger = λ x m. m;
-        same = λ x m. refl;
-        fits = f.stands.fits;
-        follows = f.stands.follows.0.2;
-        names = f.stands.names;
-        lists = f.stands.lists;
-        calm = f.stands.calm.0.1;
-        all = among _ (λ x h. AllOf.inner Inner.if_other h refl);
-        pending = among _ (λ x h. PendingOf.inner Inner.if_other h refl);
-      }) st
+      if_kept keep scope l t b c k st v =
+          into_leaf l (If t b c) keep scope k k.environment (if v then b else c) (λ keep f. record {
+            inner = f.scope;
+            larger = λ x m. m;
+            same = λ x m. refl;
+            fits = f.stands.fits;
+            follows =
+                of_branch (λ x. Follows p f.procedure f.scope x) v f.stands.follows.0.1 f.stands.follows.0.2;
+            names = f.stands.names;
+            lists = f.stands.lists;
+            calm = of_branch (λ x. Calm p f.stands.names x) v f.stands.calm.0.0 f.stands.calm.0.1;
+            all = among _ (λ x h. AllOf.inner (branch v) h refl);
+            pending = among _ (λ x h. PendingOf.inner (branch v) h refl);
+          }) st
+        where
+          of_branch : (P : Codes → Type 0) (v : Bool) → P b → P c → P (if v then b else c)
+          of_branch P true first second = first
+          of_branch P false first second = second
+
+          branch : (v : Bool) → Inner p (If t b c) (if v then b else c) (λ x. x)
+          branch true = Inner.if_body
+          branch false = Inner.if_other
 
       while_kept : (keep scope : List ℕ) (l : ℕ) (t : Truth) (b : Codes) (k : Leaf)
           → Before l (While t b) keep scope k → (v : Bool)

@@ -48,19 +48,24 @@ pub with_rights-push : (bs : List (Box rTree Global)) (b : Box rTree Global) (t 
 with_rights-push [] b t = refl
 with_rights-push (x ∷ bs) b t = ap (λ u. Beside u (tree_of x.value)) (with_rights-push bs b t)
 
+-- what trees tell from the left to the right, each as `told`: what the leftmost tells comes first
+told-beside : {A : Type 0} (told : Tree → List A) → ((t u : Tree) → told (Beside t u) ≡ told t ++ told u)
+    → (bs : List (Box rTree Global)) (t u : Tree)
+    → told (with_rights bs (Beside t u)) ≡ told t ++ told (with_rights bs u)
+told-beside told two [] t u = two t u
+told-beside told two (x ∷ bs) t u =
+    two (with_rights bs (Beside t u)) (tree_of x.value)
+    ∙ ap (λ l. l ++ told (tree_of x.value)) (told-beside told two bs t u)
+    ∙ append_assoc (told t) (told (with_rights bs u)) (told (tree_of x.value))
+    ∙ ap (λ l. told t ++ l) (sym (two (with_rights bs u) (tree_of x.value)))
+
 pub lines-beside : (bs : List (Box rTree Global)) (t u : Tree)
     → lines_of (with_rights bs (Beside t u)) ≡ lines_of t ++ lines_of (with_rights bs u)
-lines-beside [] t u = refl
-lines-beside (x ∷ bs) t u =
-    ap (λ l. l ++ lines_of (tree_of x.value)) (lines-beside bs t u)
-    ∙ append_assoc (lines_of t) (lines_of (with_rights bs u)) (lines_of (tree_of x.value))
+lines-beside = told-beside lines_of (λ t u. refl)
 
 pub faults-beside : (bs : List (Box rTree Global)) (t u : Tree)
     → faults_of (with_rights bs (Beside t u)) ≡ faults_of t ++ faults_of (with_rights bs u)
-faults-beside [] t u = refl
-faults-beside (x ∷ bs) t u =
-    ap (λ l. l ++ faults_of (tree_of x.value)) (faults-beside bs t u)
-    ∙ append_assoc (faults_of t) (faults_of (with_rights bs u)) (faults_of (tree_of x.value))
+faults-beside = told-beside faults_of (λ t u. refl)
 
 pub rightmost-beside : (bs : List (Box rTree Global)) (t u : Tree)
     → rightmost (with_rights bs (Beside t u)) ≡ rightmost (with_rights bs u)

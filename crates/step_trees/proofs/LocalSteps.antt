@@ -1,11 +1,11 @@
 -- A step depends only on what its leaf may touch, and changes at most one place that it may write.
 use Rattle.std.proofs.Common.{◌≡◌, inl, inr, ℕ, zero, suc, ◌+◌, ◌<◌, List, [], ◌∷◌, ◌++◌, length, map, Option, Some, None, refl, sym, ap, ◌∙◌, subst, arith}
 use Rattle.std.proofs.lemmas.List.Elements.{Contains-append_left, Contains-append_right}
-use Rattle.std.specs.Prelude.{ℤ, pos, negsuc, Bool, true, false, Ok, Err, ok_or, unwrap_or, flat_map, slice_index_or, nat_lt, if◌then◌else◌}
-use Rattle.std.proofs.lemmas.Bool.{ltb-true}
-use Rattle.sections.specs.Place.{Place, Window, In, sides_of}
+use Rattle.std.specs.Prelude.{ℤ, pos, Bool, true, false, Ok, Err, ok_or, unwrap_or, flat_map, slice_index_or, if◌then◌else◌}
+use Rattle.types.proofs.Bindings.{element_in}
+use Rattle.sections.specs.Place.{Place, sides_of}
 use Rattle.sections.specs.Member.{Member, first, next}
-use Rattle.types.specs.declared.fault.FaultKind.TheVariants.{Index, Raised, SplitPoint}
+use Rattle.types.specs.declared.fault.FaultKind.TheVariants.{Raised, SplitPoint}
 use Rattle.types.specs.Code.{Number, Primitive, Skip, Assign, Store, Print, Raise, Code, Do, If, While, Split, Call, Async, Finish, Codes, End, Then, Program}
 use Rattle.types.specs.Indexed.{indexed, indexed_truth}
 use Rattle.types.specs.Contents.{Contents, read, write}
@@ -90,22 +90,6 @@ module _ (env : Environment) (a c : Contents) where
         (number_same env (read a) (read c) e (λ s m. both s (Contains-append_right (indexed i) (indexed e) s m)))
     deed_same (Print es) h = ap (λ v. by_value v Prints) (numbers_same es (same_on l (flat_map indexed es) h))
     deed_same (Raise e) h = ap (λ v. by_value v (λ v. Fails (Raised v))) (number_same env (read a) (read c) e (same_on l (indexed e) h))
-
--- what is written lies in the section of the store
-pub element_in : (w : Window) (v : ℤ) (q : Place) → element_of w v ≡ Ok q → In w q
-element_in w (negsuc n) q e = cc
-element_in w (pos n) q e = by (nat_lt n w.length) refl e
-  where
-    at : Place
-    at = record { array = w.array; index = w.at + n }
-
-    place_or : Place → Valued Place → Place
-    place_or d (Ok q) = q
-    place_or d (Err f) = d
-
-    by : (b : Bool) → nat_lt n w.length ≡ b → ok_or (if b then Some at else None) Index ≡ Ok q → In w q
-    by true h e = subst (In w) (ap (place_or q) e) (let lt = ltb-true n w.length h in record { array = refl; low = omega arith; high = omega (arith, lt) })
-    by false h e = cc
 
 module _ (P : Place → Type 0) where
   value_hits : {A : Type 0} (r : Valued A) (d : A → Deed) → ((v : A) → r ≡ Ok v → Hits P (update_of (d v)))

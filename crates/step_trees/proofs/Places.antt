@@ -1,7 +1,8 @@
 -- A place in a tree: how many leaves may step round it, and which of the whole stand there.
 use Rattle.std.proofs.Common.{◌≡◌, ℕ, ◌+◌, ◌<◌, List, [], ◌∷◌, ◌++◌, Option, Some, None, refl, ap, ◌∙◌, arith}
-use Rattle.std.proofs.lemmas.Bool.{and_parts}
+use Rattle.std.proofs.lemmas.Bool.{and_parts, lt-ltb, le-ltb}
 use Rattle.std.specs.Prelude.{Bool, true, false, ◌&&◌, if◌then◌else◌}
+use Rattle.std.proofs.Math.Bool.{and-false}
 use Rattle.types.specs.Code.{Program}
 use Rattle.types.specs.Contents.{Contents}
 use Rattle.types.specs.Trees.{Leaf, Tree, Single, AndThen, Beside, all_done, ready, closed, and_then}
@@ -13,7 +14,7 @@ use Rattle.step_trees.specs.declared.tree.Round.{Round}
 use Rattle.step_trees.specs.declared.walk.Place.{Place}
 use Rattle.step_trees.specs.Places.{ready_left, ready_right, lefts, rights, whole, IsPlace, IsRound}
 use Rattle.step_trees.specs.Translation.{leaf_of}
-use Rattle.step_trees.proofs.Walks.{step-left, step-right, leaf-left, leaf-right, less_by, more_by}
+use Rattle.step_trees.proofs.Walks.{step-left, step-right, leaf-left, leaf-right}
 
 pub lefts-push : (xs : List Around) (x : Around) → lefts (xs ++ x ∷ []) ≡ lefts xs + ready_left x
 lefts-push [] x = omega arith
@@ -44,15 +45,11 @@ ready_going t h = going_by t (all_done t) refl h
 pub then_going : (t : Tree) (k : Leaf) → all_done t ≡ false → and_then t k ≡ AndThen t k
 then_going t k e = ap (λ (z : Bool). if z then Single (closed t k) else AndThen t k) e
 
-and_false : (b : Bool) → (b && false) ≡ false
-and_false true = refl
-and_false false = refl
-
 -- what isn't done isn't within others
 pub within_going : (x : Around) (t : Tree) → all_done t ≡ false → all_done (within x t) ≡ false
 within_going (Behind k) t e = ap all_done (then_going t (leaf_of k) e)
 within_going (Right u) t e = ap (λ (z : Bool). z && all_done (tree_of u.value)) e
-within_going (Left u) t e = ap (λ (z : Bool). all_done (tree_of u.value) && z) e ∙ and_false (all_done (tree_of u.value))
+within_going (Left u) t e = ap (λ (z : Bool). all_done (tree_of u.value) && z) e ∙ and-false (all_done (tree_of u.value))
 
 pub inside_going : (xs : List Around) (t : Tree) → all_done t ≡ false → all_done (inside xs t) ≡ false
 inside_going [] t e = e
@@ -96,11 +93,11 @@ module _ (m : ℕ) (t : Tree) (below : m < ready t) where
       let n = lefts xs + m in let same : lefts (Right u ∷ xs) + m ≡ n = omega arith in
       let v = tree_of u.value in
       ap (λ (i : ℕ). leaf_at i (Beside (inside xs t) v)) same
-      ∙ leaf-left n (inside xs t) v (less_by n (ready (inside xs t)) (inside_below xs))
+      ∙ leaf-left n (inside xs t) v (lt-ltb n (ready (inside xs t)) (inside_below xs))
       ∙ inside_leaf xs
   inside_leaf (Left u ∷ xs) =
       let v = tree_of u.value in let n = lefts (Left u ∷ xs) + m in
-      leaf-right n v (inside xs t) (lefts xs + m) (more_by n (ready v) (omega arith)) (omega arith)
+      leaf-right n v (inside xs t) (lefts xs + m) (le-ltb n (ready v) (omega arith)) (omega arith)
       ∙ inside_leaf xs
 
   pub inside_step : (p : Program) (a : Contents) (xs : List Around)
@@ -121,12 +118,12 @@ module _ (m : ℕ) (t : Tree) (below : m < ready t) where
       let n = lefts xs + m in let same : lefts (Right u ∷ xs) + m ≡ n = omega arith in
       let v = tree_of u.value in
       ap (λ (i : ℕ). step p i (Beside (inside xs t) v) a) same
-      ∙ step-left n (inside xs t) v p a (less_by n (ready (inside xs t)) (inside_below xs))
+      ∙ step-left n (inside xs t) v p a (lt-ltb n (ready (inside xs t)) (inside_below xs))
       ∙ ap (in_tree (λ w. Beside w v)) (inside_step p a xs)
       ∙ in_tree-in (λ w. Beside w v) (inside xs) (step p m t a)
   inside_step p a (Left u ∷ xs) =
       let v = tree_of u.value in let n = lefts (Left u ∷ xs) + m in
-      step-right n v (inside xs t) p a (lefts xs + m) (more_by n (ready v) (omega arith)) (omega arith)
+      step-right n v (inside xs t) p a (lefts xs + m) (le-ltb n (ready v) (omega arith)) (omega arith)
       ∙ ap (in_tree (λ w. Beside v w)) (inside_step p a xs)
       ∙ in_tree-in (λ w. Beside v w) (inside xs) (step p m t a)
 

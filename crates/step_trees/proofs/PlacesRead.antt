@@ -1,6 +1,7 @@
 -- A step depends only on the places that it reads, and changes only those that it writes.
 use Rattle.std.proofs.Common.{◌≡◌, ◌⊎◌, inl, inr, ℕ, List, [], ◌∷◌, ◌++◌, map, Some, None, refl, sym, ap, ◌∙◌, subst, Ok, Err}
 use Rattle.std.specs.Prelude.{ℤ, Bool, true, false, not, ok_or, if◌then◌else◌, neg_ℤ}
+use Rattle.sections.proofs.Windows.{places_same}
 use Rattle.sections.specs.Place.{Place, same_place, sides_of}
 use Rattle.sections.specs.Member.{Member, first}
 use Rattle.types.specs.declared.fault.FaultKind.TheVariants.{SplitPoint, Raised}
@@ -16,7 +17,6 @@ use Rattle.step_trees.specs.Laws.{SameStep}
 use Rattle.step_trees.proofs.Steps.{tree_or, store_or, same_pair}
 use Rattle.step_trees.proofs.Deeds.{Deed, Assigns, Prints, Fails, by_value, stores, deed, did, primitive-did}
 use Rattle.step_trees.proofs.LocalSteps.{Update, updated, Hits, update_of, did_tree, did_store}
-use Rattle.step_trees.proofs.CommutingSteps.{place_same}
 
 after_twice : {A B : Type 0} (x : Valued A) (f : A → Valued B) (go : B → List Place)
     → after (then_try x f) go ≡ after x (λ v. after (f v) go)
@@ -216,7 +216,7 @@ module _ (p : Program) where
     where
       by : (z : Bool) → same_place x.0 q ≡ z
           → (((if z then Some x.1 else a q) ≡ a q) × ((if z then Some x.1 else c q) ≡ c q)) ⊎ (P q × ((if z then Some x.1 else a q) ≡ (if z then Some x.1 else c q)))
-      by true e = inr (subst P (place_same x.0 q e) h, refl)
+      by true e = inr (subst P (places_same x.0 q e) h, refl)
       by false e = inl (refl, refl)
 
   same_in : (d : Codes) (k : Leaf) (a : Contents) (u : Tree) (b c : Contents) → k.rest ≡ d

@@ -1,6 +1,7 @@
 -- What a step reads and writes lies in the sections that its statement names.
 use Rattle.std.proofs.Common.{◌≡◌, inl, inr, ℕ, List, [], ◌∷◌, ◌++◌, refl, subst, Ok, Err}
 use Rattle.std.specs.Prelude.{ℤ, Bool, true, false, flat_map}
+use Rattle.types.proofs.Bindings.{element_in}
 use Rattle.sections.specs.Place.{Place, In}
 use Rattle.sections.specs.Member.{Member, first, next}
 use Rattle.types.specs.Code.{Number, Literal, Scalar, Element, Length, Negative, Chain, Links, Done, Link, Truth, Constant, Compare, Not, Both, Either, Truths, NoMore, Also, Primitive, Skip, Assign, Store, Print, Raise, Code, Do, If, While, Split, Call, Async, Finish}
@@ -10,7 +11,6 @@ use Rattle.types.specs.TreePlaces.{after, number_reads, links_read, numbers_read
 use Rattle.effects.specs.Accesses.{Access, reads, own_accesses, own_primitive}
 use Rattle.effects.specs.Footprint.{Touches, Overwrites}
 use Rattle.effects.proofs.Members.{in_left, in_right, in_map, in_parts}
-use Rattle.step_trees.proofs.LocalSteps.{element_in}
 
 none_in : {A : Type 0} {B : Type 0} {x : A} → Member x [] → B
 none_in h = elim h [ ]

@@ -1,7 +1,7 @@
 -- One step of one leaf, as a relation.
 use Rattle.std.proofs.Common.{◌≡◌, ℕ, ◌+◌, ◌-◌, ◌<◌, ◌≤◌, refl, sym, ap, ◌∙◌, subst, arith, Option, Some, None}
 use Rattle.std.proofs.lemmas.Bool.Decides.{nat_tests}
-use Rattle.std.proofs.lemmas.Bool.{eqb-true, eq-eqb}
+use Rattle.std.proofs.lemmas.Bool.{eqb-true, eq-eqb, lt-ltb, le-ltb}
 use Rattle.std.specs.Prelude.{Bool, true, false, if◌then◌else◌, nat_eq, nat_lt}
 use Rattle.types.specs.Code.{Code, Codes, End, Then, Program}
 use Rattle.types.specs.Contents.{Contents}
@@ -50,14 +50,8 @@ taken f (Some x) u b e =
 pub below_if : (m n : ℕ) → nat_lt m n ≡ true → m < n
 below_if m n e = grind (arith, nat_tests)
 
-pub if_below : (m n : ℕ) → m < n → nat_lt m n ≡ true
-if_below m n h = grind (arith, nat_tests)
-
 pub above_if : (m n : ℕ) → nat_lt m n ≡ false → n ≤ m
 above_if m n e = grind (arith, nat_tests)
-
-pub if_above : (m n : ℕ) → n ≤ m → nat_lt m n ≡ false
-if_above m n h = grind (arith, nat_tests)
 
 module _ (p : Program) where
   leaf_from : (c : Codes) (k : Leaf) (a b : Contents) (u : Tree) → k.rest ≡ c → leaf_step p c k a ≡ Some (u, b)
@@ -104,11 +98,11 @@ module _ (p : Program) where
   step_to (Step.here {k = k} {a = a} r e f) = step_here p k.rest k a r ∙ same_pair (sym e) (sym f)
   step_to (Step.first {j = j} {b = b} s e) = ap (in_tree (λ u. and_then u j)) (step_to s) ∙ ap (λ x. Some (x, b)) (sym e)
   step_to (Step.left {n = n} {t = t} {v = v} {a = a} s) =
-      ap (λ z. if z then in_tree (λ u. Beside u v) (step p n t a) else in_tree (λ u. Beside t u) (step p (n - ready t) v a)) (if_below n (ready t) (step_below s))
+      ap (λ z. if z then in_tree (λ u. Beside u v) (step p n t a) else in_tree (λ u. Beside t u) (step p (n - ready t) v a)) (lt-ltb n (ready t) (step_below s))
       ∙ ap (in_tree (λ u. Beside u v)) (step_to s)
   step_to (Step.right {n = n} {m = m} {t = t} {v = v} {a = a} e s) =
       let same : n - ready t ≡ m = omega arith in
-      ap (λ z. if z then in_tree (λ u. Beside u v) (step p n t a) else in_tree (λ u. Beside t u) (step p (n - ready t) v a)) (if_above n (ready t) (omega arith))
+      ap (λ z. if z then in_tree (λ u. Beside u v) (step p n t a) else in_tree (λ u. Beside t u) (step p (n - ready t) v a)) (le-ltb n (ready t) (omega arith))
       ∙ ap (λ m. in_tree (λ u. Beside t u) (step p m v a)) same ∙ ap (in_tree (λ u. Beside t u)) (step_to s)
 
   -- it is the n-th leaf that may step
@@ -116,10 +110,10 @@ module _ (p : Program) where
   step_leaf (Step.here {k = k} r e f) = ap (λ c. unless_done c k) r
   step_leaf (Step.first s e) = step_leaf s
   step_leaf (Step.left {n = n} {t = t} {v = v} s) =
-      ap (λ z. if z then leaf_at n t else leaf_at (n - ready t) v) (if_below n (ready t) (step_below s)) ∙ step_leaf s
+      ap (λ z. if z then leaf_at n t else leaf_at (n - ready t) v) (lt-ltb n (ready t) (step_below s)) ∙ step_leaf s
   step_leaf (Step.right {n = n} {m = m} {t = t} {v = v} e s) =
       let same : n - ready t ≡ m = omega arith in
-      ap (λ z. if z then leaf_at n t else leaf_at (n - ready t) v) (if_above n (ready t) (omega arith)) ∙ ap (λ m. leaf_at m v) same ∙ step_leaf s
+      ap (λ z. if z then leaf_at n t else leaf_at (n - ready t) v) (le-ltb n (ready t) (omega arith)) ∙ ap (λ m. leaf_at m v) same ∙ step_leaf s
 
 abbrev leaf_or : Leaf → Option Leaf → Leaf
 leaf_or d None = d

@@ -32,28 +32,24 @@ state_in turn ready =
     ∙ ap (λ (n : ℕ). let st : State (Unit {0}) = record (state_of turn.thread) { flow = On; steps = n } in st) ready.uncounted
 
 -- a statement of one step keeps the task's name
-did_path : (l : ℕ) (d : Deed) (st : State (Unit {0})) → (did l d st).path ≡ st.path
-did_path l Nothing st = refl
-did_path l (Assigns x v) st = refl
-did_path l (Writes q v) st = refl
-did_path l (Prints vs) st = refl
-did_path l (Fails f) st = refl
-
-did_spawned : (l : ℕ) (d : Deed) (st : State (Unit {0})) → (did l d st).spawned ≡ st.spawned
-did_spawned l Nothing st = refl
-did_spawned l (Assigns x v) st = refl
-did_spawned l (Writes q v) st = refl
-did_spawned l (Prints vs) st = refl
-did_spawned l (Fails f) st = refl
+did_name : (l : ℕ) (d : Deed) (st : State (Unit {0}))
+    → ((did l d st).path ≡ st.path) × ((did l d st).spawned ≡ st.spawned)
+did_name l Nothing st = (refl, refl)
+did_name l (Assigns x v) st = (refl, refl)
+did_name l (Writes q v) st = (refl, refl)
+did_name l (Prints vs) st = (refl, refl)
+did_name l (Fails f) st = (refl, refl)
 
 module _ (p : Program) (l : ℕ) (s : Primitive) (st : State (Unit {0})) where
   primitive_path : (primitive p l s st).path ≡ st.path
   primitive_path =
-      ap (λ (x : State (Unit {0})). x.path) (primitive-did p l s st) ∙ did_path l (deed p st.environment (read st.store) s) st
+      ap (λ (x : State (Unit {0})). x.path) (primitive-did p l s st)
+      ∙ (did_name l (deed p st.environment (read st.store) s) st).0
 
   primitive_spawned : (primitive p l s st).spawned ≡ st.spawned
   primitive_spawned =
-      ap (λ (x : State (Unit {0})). x.spawned) (primitive-did p l s st) ∙ did_spawned l (deed p st.environment (read st.store) s) st
+      ap (λ (x : State (Unit {0})). x.spawned) (primitive-did p l s st)
+      ∙ (did_name l (deed p st.environment (read st.store) s) st).1
 
 -- the leaf at a state with its name
 abbrev told_at : Leaf → State (Unit {0}) → Leaf

@@ -1,8 +1,8 @@
 -- Down a tree, and back up.
 use Rattle.std.proofs.Common.{◌≡◌, ℕ, ◌+◌, ◌-◌, ◌<◌, ◌≤◌, List, [], ◌∷◌, ◌++◌, Option, Some, None, refl, sym, ap, ◌∙◌, subst, arith}
-use Rattle.std.proofs.lemmas.Bool.Decides.{nat_tests}
 use Rattle.std.specs.Prelude.{Bool, true, false, nat_lt, if◌then◌else◌, Box}
 use Rattle.std.specs.Global.{Global}
+use Rattle.std.proofs.lemmas.Bool.{lt-ltb, le-ltb}
 use Rattle.types.specs.Code.{Codes, End, Then, Program}
 use Rattle.types.specs.Contents.{Contents}
 use Rattle.types.specs.Trees.{Leaf, Tree, Single, Beside, is_done, ready}
@@ -80,12 +80,6 @@ pub record Way (n : ℕ) (whole : Tree) (xs : List Around) (m : ℕ) (t : rTree)
   pub leaf : leaf_at n whole ≡ leaf_at m (tree_of t)
   pub steps : (p : Program) (a : Contents) → step p n whole a ≡ in_tree (inside xs) (step p m (tree_of t) a)
 
-pub less_by : (m n : ℕ) → m < n → nat_lt m n ≡ true
-less_by m n h = grind (arith, nat_tests)
-
-pub more_by : (m n : ℕ) → n ≤ m → nat_lt m n ≡ false
-more_by m n h = grind (arith, nat_tests)
-
 module _ (n : ℕ) (whole : Tree) (xs : List Around) (m : ℕ) where
   pub way-as : {ys : List Around} {k : ℕ} {t u : rTree} → xs ≡ ys → m ≡ k → t ≡ u → Way n whole xs m t → Way n whole ys k u
   way-as {ys} {k} {t} {u} e f g w =
@@ -102,7 +96,7 @@ module _ (n : ℕ) (whole : Tree) (xs : List Around) (m : ℕ) where
   pub way-left : (p : _) (f : rTree) (q : _) (b : Box rTree Global) (r : ℕ) (d : Bool) → m < ready (tree_of f)
       → Way n whole xs m (rBeside p f q b.value r d) → Way n whole (xs ++ Right b ∷ []) m f
   way-left p f q b r d h w =
-      let e = less_by m (ready (tree_of f)) h in
+      let e = lt-ltb m (ready (tree_of f)) h in
       record {
         counted = w.counted.0;
         below = h;
@@ -116,7 +110,7 @@ module _ (n : ℕ) (whole : Tree) (xs : List Around) (m : ℕ) where
       → m - ready (tree_of b.value) ≡ k
       → Way n whole xs m (rBeside p b.value q g r d) → Way n whole (xs ++ Left b ∷ []) k g
   way-right p b q g r d k h is w =
-      let e = more_by m (ready (tree_of b.value)) h in
+      let e = le-ltb m (ready (tree_of b.value)) h in
       let all : m < ready (tree_of b.value) + ready (tree_of g) = w.below in
       record {
         counted = w.counted.1;

@@ -3,7 +3,7 @@ use Rattle.std.proofs.Common.{◌≡◌, ◌<◌, ◌&&◌, ◌||◌, ◌==◌, 
 use Rattle.std.proofs.Common.{refl, sym, subst, arith}
 use Rattle.std.specs.List.{list_all}
 use Rattle.std.specs.Str.{IsAscii, chars}
-use Rattle.std.proofs.lemmas.Bool.{eqb-true, and_parts}
+use Rattle.std.proofs.lemmas.Bool.{eqb-true, and_parts, or_cases}
 use Rattle.std.proofs.lemmas.Fmt.{IsAscii-decimal}
 use Rattle.std.proofs.lemmas.Str.{IsAscii-append, chars-IsAscii}
 use Rattle.syntax.specs.declared.token.Mark.{Mark}
@@ -18,7 +18,7 @@ use Rattle.syntax.specs.Token.{Token, NameToken, NumberToken, WordToken, MarkTok
 use Rattle.syntax_tree.specs.Tree.{Program}
 use Rattle.syntax.proofs.LayoutLemmas.{IsWritable, AreWritable, before_blank, canonical_tokens, label_none}
 use Rattle.syntax.proofs.LayoutLemmas.{line_end_blank, tokens_writable}
-use Rattle.syntax.proofs.LexicalLemmas.{one_is_true, letters_are_ascii}
+use Rattle.syntax.proofs.LexicalLemmas.{letters_are_ascii}
 use Rattle.syntax.proofs.Pieces.{word_in_name}
 
 equal_is_small : (c k : ℕ) → k < 128 → (c == k) ≡ true → c < 128
@@ -28,9 +28,9 @@ blank_is_ascii : (c : ℕ) → is_blank c ≡ true → c < 128
 blank_is_ascii c blank =
     ⊎_elim (equal_is_small c 32 (lit< tt))
     (λ others. ⊎_elim (equal_is_small c 9 (lit< tt))
-    (λ ends. ⊎_elim (equal_is_small c 13 (lit< tt)) (equal_is_small c 10 (lit< tt)) (one_is_true (c == 13) (c == 10) ends))
-    (one_is_true (c == 9) (c == 13 || c == 10) others))
-    (one_is_true (c == 32) (c == 9 || (c == 13 || c == 10)) blank)
+    (λ ends. ⊎_elim (equal_is_small c 13 (lit< tt)) (equal_is_small c 10 (lit< tt)) (or_cases (c == 13) (c == 10) ends))
+    (or_cases (c == 9) (c == 13 || c == 10) others))
+    (or_cases (c == 32) (c == 9 || (c == 13 || c == 10)) blank)
 
 blanks_are_ascii : (cs : List ℕ) → list_all is_blank cs ≡ true → IsAscii cs
 blanks_are_ascii [] all i = lit< tt

@@ -23,11 +23,7 @@ use Rattle.syntax.specs.Reading.{binds, or_level, and_level, relation_level, sig
 
 pub relation_binds : (o : Relation) (r : List Token) → binds (MarkToken (relation_mark o) ∷ r) ≡ relation_level
 relation_binds IsLess r = refl
-relation_binds IsAtMost r = refl
-relation_binds IsGreater r = refl
-relation_binds IsAtLeast r = refl
-relation_binds IsEqual r = refl
-relation_binds IsOther r = refl
+relation_binds _ r = refl
 
 pub sign_binds : (o : Sign) (r : List Token) → binds (MarkToken (sign_mark o) ∷ r) ≡ sign_level
 sign_binds PlusSign r = refl
@@ -35,8 +31,7 @@ sign_binds MinusSign r = refl
 
 pub operator_binds : (o : Operator) (r : List Token) → binds (MarkToken (operator_mark o) ∷ r) ≡ operator_level
 operator_binds Times r = refl
-operator_binds Over r = refl
-operator_binds Modulo r = refl
+operator_binds _ r = refl
 
 relation_one : (o p : Relation) → relation_mark o ≡ relation_mark p → o ≡ p
 relation_one IsLess IsLess e = refl
@@ -96,12 +91,7 @@ begins _ = 0
 pub atom_begins : (a : Atom) (r : List Token) → begins (atom_then a r) ≡ 3
 unfolding atom_then
 atom_begins (Number n) r = refl
-atom_begins True r = refl
-atom_begins False r = refl
-atom_begins (Name x) r = refl
-atom_begins (Element s e) r = refl
-atom_begins (Length s) r = refl
-atom_begins (Parens e) r = refl
+atom_begins _ r = refl
 
 pub unary_begins : (u : Unary) (r : List Token) → 2 ≤ begins (unary_then u r)
 unfolding unary_then

@@ -80,12 +80,7 @@ mutual
   pub atom_apart : (at : Place) (a : Atom) (r : List Token) → laid (at_left at Other) (atom_then a r)
       ≡ 32 ∷ laid (at_left at Opening) (atom_then a r)
   atom_apart at (Number n) r = refl
-  atom_apart at True r = refl
-  atom_apart at False r = refl
-  atom_apart at (Name x) r = refl
-  atom_apart at (Element s e) r = refl
-  atom_apart at (Length s) r = refl
-  atom_apart at (Parens e) r = refl
+  atom_apart at _ r = refl
 
 -- a relation, a sign and an operator stand between two spaces
 pub relation_laid : (at : Place) (o : Relation) (ts us : List Token) → laid (at_left at Other) ts ≡ 32 ∷ laid (at_left at Opening) us
@@ -131,11 +126,7 @@ terms_follow at (AddTerm MinusSign p ts) r f = refl
 pub relation_follows : (at : Place) (o : Relation) (r : List Token) → Follows at (MarkToken (relation_mark o) ∷ r)
 unfolding laid
 relation_follows at IsLess r = refl
-relation_follows at IsAtMost r = refl
-relation_follows at IsGreater r = refl
-relation_follows at IsAtLeast r = refl
-relation_follows at IsEqual r = refl
-relation_follows at IsOther r = refl
+relation_follows at _ r = refl
 
 pub negs_follow : (at : Place) (ns : Negs) (r : List Token) → Follows at r → Follows at (negs_then ns r)
 unfolding laid negs_then

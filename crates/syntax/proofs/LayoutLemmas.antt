@@ -1,7 +1,7 @@
 -- The tokens of tokens laid out are the same again.
 use Rattle.std.proofs.Common.{◌≡◌, ◌≢◌, ◌≤◌, ◌<◌, ◌+◌, ◌-◌, ◌*◌, ℕ, zero, suc, Bool, true, false, if◌then◌else◌, ◌&&◌}
-use Rattle.std.proofs.Common.{◌||◌, ◌==◌, List, [], ◌∷◌, ◌++◌, codes, replicate, length, fold, Option, Some, None, refl}
-use Rattle.std.proofs.Common.{ap, sym, subst, ◌∙◌, arith}
+use Rattle.std.proofs.Common.{◌||◌, List, [], ◌∷◌, ◌++◌, codes, replicate, length, fold, Option, Some, None}
+use Rattle.std.proofs.Common.{refl, ap, sym, subst, ◌∙◌, arith}
 use Rattle.std.specs.Char.{is_ascii_digit, digit_value}
 use Rattle.std.specs.Fmt.{decimal}
 use Rattle.std.specs.List.{list_all, flat_map}
@@ -17,17 +17,18 @@ use Rattle.syntax.specs.declared.token.Word.TheVariants.{Byte as WordByte, Else 
 use Rattle.syntax.specs.declared.token.Word.TheVariants.{Int as WordInt, Len as WordLen, True as WordTrue}
 use Rattle.syntax.specs.declared.token.Mark.{Mark}
 use Rattle.syntax.specs.declared.token.Mark.TheVariants.{LeftParen, RightParen, LeftBrace, RightBrace, LeftBracket}
-use Rattle.syntax.specs.declared.token.Mark.TheVariants.{RightBracket, Comma, Semicolon, Minus, Slash}
+use Rattle.syntax.specs.declared.token.Mark.TheVariants.{RightBracket, Comma, Semicolon, Minus}
 use Rattle.syntax.specs.Canonical.{Left, Margin, Opening, Called, Operand, Ended, Other, Place, laid, next, before}
 use Rattle.syntax.specs.Canonical.{space, left_by, left_by_word, left_by_mark, token_text, begins_line}
 use Rattle.syntax.specs.Canonical.{begins_statement, indentation, is_closing, is_opening, line_end, line_start}
 use Rattle.syntax.specs.Canonical.{canonical, statement_margin, plain_margin}
-use Rattle.syntax.specs.Lexical.{mark_text, word_text, is_blank, begins_name, is_in_name, starts, begins_comment}
+use Rattle.syntax.specs.Lexical.{word_text, is_blank, begins_name, is_in_name, starts}
 use Rattle.syntax.specs.Lexical.{number_of, Piece, BlankPiece, CommentPiece, NamePiece, NumberPiece, WordPiece}
 use Rattle.syntax.specs.Lexical.{MarkPiece, letters, token_of, IsNumber, IsMark, MayStand, AreCut, AreTokensOf}
 use Rattle.syntax.specs.Token.{Token, NameToken, NumberToken, WordToken, MarkToken}
 use Rattle.syntax.specs.Spelling.{spelling}
 use Rattle.syntax_tree.specs.Tree.{Program}
+use Rattle.syntax.proofs.MarkLemmas.{IsNeither, bracket_stands, minus_stands, paren_stands, quiet_mark}
 
 second_false : (a b : Bool) → (a || b) ≡ false → b ≡ false
 second_false true b e = absurd (false≢true (sym e))
@@ -35,7 +36,7 @@ second_false false b e = e
 
 -- blanks
 
-blanks : (k : ℕ) → list_all is_blank (replicate k 32) ≡ true
+pub blanks : (k : ℕ) → list_all is_blank (replicate k 32) ≡ true
 blanks zero = refl
 blanks (suc k) = blanks k
 
@@ -140,9 +141,6 @@ IsQuiet Ended = Unit {0}
 IsQuiet Other = Unit {0}
 IsQuiet _ = ⊥
 
-abbrev IsNeither : List ℕ → Type 0
-IsNeither cs = (starts (λ c. c == 61) cs ≡ false) × (starts (λ c. c == 47) cs ≡ false)
-
 mark_laid_is_neither : (d : ℕ) (n : Option ℕ) (left : Left) (m : Mark) (ts : List Token) → IsQuiet left
     → IsNeither (laid (record { depth = d; label = n; left = left }) (MarkToken m ∷ ts))
 unfolding laid
@@ -185,53 +183,10 @@ laid_is_neither d n Called ts a = absurd a
 
 -- marks
 
--- a text as one number, to tell texts apart
-abbrev key : List ℕ → ℕ
-key cs = fold (λ k c. k * 1000 + c) 0 cs
-
-paren_no_longer : (longer : Mark) → mark_text longer ≢ 40 ∷ 61 ∷ []
-paren_no_longer Comma e = absurd (omega (arith, ap key e))
-paren_no_longer _ e = absurd (omega (arith, ap key e))
-
-bracket_no_longer : (longer : Mark) → mark_text longer ≢ 91 ∷ 61 ∷ []
-bracket_no_longer Comma e = absurd (omega (arith, ap key e))
-bracket_no_longer _ e = absurd (omega (arith, ap key e))
-
-minus_no_longer : (longer : Mark) → mark_text longer ≢ 45 ∷ 61 ∷ []
-minus_no_longer Comma e = absurd (omega (arith, ap key e))
-minus_no_longer _ e = absurd (omega (arith, ap key e))
-
-paren_no_comment : (rest : List ℕ) → begins_comment (40 ∷ rest) ≡ false
-paren_no_comment [] = refl
-paren_no_comment (c ∷ cs) = refl
-
-bracket_no_comment : (rest : List ℕ) → begins_comment (91 ∷ rest) ≡ false
-bracket_no_comment [] = refl
-bracket_no_comment (c ∷ cs) = refl
-
-minus_no_comment : (rest : List ℕ) → begins_comment (45 ∷ rest) ≡ false
-minus_no_comment [] = refl
-minus_no_comment (c ∷ cs) = refl
-
-no_comment : (m : Mark) (rest : List ℕ) → starts (λ c. c == 47) rest ≡ false → begins_comment (mark_text m ++ rest) ≡ false
-no_comment Slash [] e = refl
-no_comment Slash (c ∷ cs) e = e
-no_comment _ [] e = refl
-no_comment _ (c ∷ cs) e = refl
-
-quiet_mark : (m : Mark) (rest : List ℕ) → IsNeither rest → IsMark m rest
-quiet_mark m rest q = record {
-  longest = λ e longer same. false≢true (sym q.0 ∙ e);
-  no_comment = no_comment m rest q.1;
-}
-
-minus_stands : (d : ℕ) (n : Option ℕ) (ts : List Token) → IsMark Minus (laid (record { depth = d; label = n; left = Opening }) ts)
-minus_stands d n ts = record { longest = λ e. minus_no_longer; no_comment = minus_no_comment _ }
-
 mark_stands : (d : ℕ) (n : Option ℕ) (left : Left) (m : Mark) (ts : List Token)
     → IsMark m (laid (record { depth = d; label = n; left = left_by_mark left m }) ts)
-mark_stands d n left LeftParen ts = record { longest = λ e. paren_no_longer; no_comment = paren_no_comment _ }
-mark_stands d n left LeftBracket ts = record { longest = λ e. bracket_no_longer; no_comment = bracket_no_comment _ }
+mark_stands d n left LeftParen ts = paren_stands _
+mark_stands d n left LeftBracket ts = bracket_stands _
 mark_stands d n left RightParen ts = quiet_mark RightParen _ (laid_is_neither d n Operand ts tt)
 mark_stands d n left RightBracket ts = quiet_mark RightBracket _ (laid_is_neither d n Operand ts tt)
 mark_stands d n left Semicolon ts = quiet_mark Semicolon _ (laid_is_neither d n Ended ts tt)
@@ -239,10 +194,10 @@ mark_stands d n left LeftBrace ts = quiet_mark LeftBrace _ (laid_is_neither d n 
 mark_stands d n left RightBrace ts = quiet_mark RightBrace _ (laid_is_neither d n Ended ts tt)
 mark_stands d n Called Minus ts = quiet_mark Minus _ (laid_is_neither d n Other ts tt)
 mark_stands d n Operand Minus ts = quiet_mark Minus _ (laid_is_neither d n Other ts tt)
-mark_stands d n Margin Minus ts = minus_stands d n ts
-mark_stands d n Opening Minus ts = minus_stands d n ts
-mark_stands d n Ended Minus ts = minus_stands d n ts
-mark_stands d n Other Minus ts = minus_stands d n ts
+mark_stands d n Margin Minus ts = minus_stands _
+mark_stands d n Opening Minus ts = minus_stands _
+mark_stands d n Ended Minus ts = minus_stands _
+mark_stands d n Other Minus ts = minus_stands _
 mark_stands d n left m ts = quiet_mark m _ (laid_is_neither d n Other ts tt)
 
 -- numbers

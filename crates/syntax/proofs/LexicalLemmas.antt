@@ -1,5 +1,5 @@
 -- What stands first in a text, and what pieces leave.
-use Rattle.std.proofs.Common.{◌≡◌, ℕ, zero, suc, ◌+◌, ◌<◌, ◌⊎◌, inl, inr, ⊎_elim, lit<, Bool, true, false, cond, ◌&&◌}
+use Rattle.std.proofs.Common.{◌≡◌, ℕ, zero, suc, ◌+◌, ◌<◌, ◌⊎◌, ⊎_elim, lit<, Bool, true, false, cond, ◌&&◌}
 use Rattle.std.proofs.Common.{◌||◌, ◌==◌, List, [], ◌∷◌, ◌++◌, take, drop, refl, ap, sym, ◌∙◌, subst, take-append-drop}
 use Rattle.std.proofs.Common.{append-nil, append_assoc, arith}
 use Rattle.std.specs.List.{prefix_len, list_all, flat_map}
@@ -8,7 +8,7 @@ use Rattle.syntax.specs.Token.{Token}
 use Rattle.std.specs.Char.{is_ascii_alphabetic, is_ascii_digit}
 use Rattle.std.specs.Int.{is_in_range}
 use Rattle.std.specs.Str.{IsAscii}
-use Rattle.std.proofs.lemmas.Bool.{eqb-true, leb-true, false≢true}
+use Rattle.std.proofs.lemmas.Bool.{eqb-true, leb-true, false≢true, or_cases}
 use Rattle.syntax.specs.Lexical.{begins_name, is_in_name, starts, Piece, token_of, Begins, AreCut, Reads, HasTokens}
 
 module _ (p : ℕ → Bool) where
@@ -74,20 +74,16 @@ both false b e = absurd (false≢true e)
 in_range_is_below : (low high c : ℕ) → high < 128 → is_in_range low high c ≡ true → c < 128
 in_range_is_below low high c small e = omega (arith, small, leb-true c high (both _ _ e).1)
 
-pub one_is_true : (a b : Bool) → (a || b) ≡ true → (a ≡ true) ⊎ (b ≡ true)
-one_is_true true b e = inl refl
-one_is_true false b e = inr e
-
 in_name_is_ascii : (c : ℕ) → is_in_name c ≡ true → c < 128
 in_name_is_ascii c e =
     ⊎_elim
     (λ begins. ⊎_elim
     (λ letter. ⊎_elim (in_range_is_below 65 90 c (lit< tt)) (in_range_is_below 97 122 c (lit< tt))
-    (one_is_true (is_in_range 65 90 c) (is_in_range 97 122 c) letter))
+    (or_cases (is_in_range 65 90 c) (is_in_range 97 122 c) letter))
     (λ underscore. subst (λ n. n < 128) (sym (eqb-true c 95 underscore)) (lit< tt))
-    (one_is_true (is_ascii_alphabetic c) (c == 95) begins))
+    (or_cases (is_ascii_alphabetic c) (c == 95) begins))
     (in_range_is_below 48 57 c (lit< tt))
-    (one_is_true (begins_name c) (is_ascii_digit c) e)
+    (or_cases (begins_name c) (is_ascii_digit c) e)
 
 all_in_name : (c : ℕ) (cs : List ℕ) → list_all is_in_name (c ∷ cs) ≡ true → (is_in_name c ≡ true) × (list_all is_in_name cs ≡ true)
 all_in_name c cs e = both (is_in_name c) (list_all is_in_name cs) e

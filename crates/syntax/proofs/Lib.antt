@@ -9,6 +9,8 @@ pub mod LaidLemmas
 pub mod LayoutLemmas
 pub mod LexicalLemmas
 pub mod LineText
+pub mod ListSpellings
+pub mod MarkLemmas
 pub mod Numbers
 pub mod Pieces
 pub mod Places

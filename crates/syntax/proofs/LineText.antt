@@ -416,7 +416,8 @@ laid_main d n ts = append_under (plain_margin n ++ indent d) _ (codes "main") _ 
 
 -- a label right in five places
 
-repeat_is : (n : ℕ) → repeat {A = ℕ} n (32 ∷ []) ≡ replicate n 32
+-- a text that is repeated is a row of it
+pub repeat_is : (n : ℕ) → repeat {A = ℕ} n (32 ∷ []) ≡ replicate n 32
 repeat_is zero = refl
 repeat_is (suc n) = ap (λ l. 32 ∷ l) (repeat_is n)
 

@@ -44,33 +44,7 @@ word_of cs =
 word_of-word_text : (w : Word) → word_of (word_text w) ≡ w
 unfolding code
 word_of-word_text And = refl
-word_of-word_text Array = refl
-word_of-word_text As = refl
-word_of-word_text Async = refl
-word_of-word_text At = refl
-word_of-word_text By = refl
-word_of-word_text Byte = refl
-word_of-word_text Else = refl
-word_of-word_text False = refl
-word_of-word_text Fault = refl
-word_of-word_text Finish = refl
-word_of-word_text If = refl
-word_of-word_text Int = refl
-word_of-word_text Len = refl
-word_of-word_text Main = refl
-word_of-word_text Mut = refl
-word_of-word_text Not = refl
-word_of-word_text Or = refl
-word_of-word_text Parts = refl
-word_of-word_text Print = refl
-word_of-word_text Proc = refl
-word_of-word_text Read = refl
-word_of-word_text Rescue = refl
-word_of-word_text Skip = refl
-word_of-word_text Split = refl
-word_of-word_text True = refl
-word_of-word_text Var = refl
-word_of-word_text While = refl
+word_of-word_text _ = refl
 
 word_text-injective : (v w : Word) → word_text v ≡ word_text w → v ≡ w
 word_text-injective v w same = sym (word_of-word_text v) ∙ ap word_of same ∙ word_of-word_text w
@@ -91,26 +65,7 @@ mark_of cs =
 mark_of-mark_text : (m : Mark) → mark_of (mark_text m) ≡ m
 unfolding code
 mark_of-mark_text LeftParen = refl
-mark_of-mark_text RightParen = refl
-mark_of-mark_text LeftBrace = refl
-mark_of-mark_text RightBrace = refl
-mark_of-mark_text LeftBracket = refl
-mark_of-mark_text RightBracket = refl
-mark_of-mark_text Comma = refl
-mark_of-mark_text Semicolon = refl
-mark_of-mark_text Colon = refl
-mark_of-mark_text Becomes = refl
-mark_of-mark_text Plus = refl
-mark_of-mark_text Minus = refl
-mark_of-mark_text Star = refl
-mark_of-mark_text Slash = refl
-mark_of-mark_text Percent = refl
-mark_of-mark_text Less = refl
-mark_of-mark_text AtMost = refl
-mark_of-mark_text Greater = refl
-mark_of-mark_text AtLeast = refl
-mark_of-mark_text Equal = refl
-mark_of-mark_text Differs = refl
+mark_of-mark_text _ = refl
 
 mark_text-injective : (m n : Mark) → mark_text m ≡ mark_text n → m ≡ n
 mark_text-injective m n same = sym (mark_of-mark_text m) ∙ ap mark_of same ∙ mark_of-mark_text n
@@ -118,63 +73,11 @@ mark_text-injective m n same = sym (mark_of-mark_text m) ∙ ap mark_of same ∙
 -- a reserved word has the letters of a name
 word_begins : (w : Word) → starts begins_name (word_text w) ≡ true
 word_begins And = refl
-word_begins Array = refl
-word_begins As = refl
-word_begins Async = refl
-word_begins At = refl
-word_begins By = refl
-word_begins Byte = refl
-word_begins Else = refl
-word_begins False = refl
-word_begins Fault = refl
-word_begins Finish = refl
-word_begins If = refl
-word_begins Int = refl
-word_begins Len = refl
-word_begins Main = refl
-word_begins Mut = refl
-word_begins Not = refl
-word_begins Or = refl
-word_begins Parts = refl
-word_begins Print = refl
-word_begins Proc = refl
-word_begins Read = refl
-word_begins Rescue = refl
-word_begins Skip = refl
-word_begins Split = refl
-word_begins True = refl
-word_begins Var = refl
-word_begins While = refl
+word_begins _ = refl
 
 pub word_in_name : (w : Word) → list_all is_in_name (word_text w) ≡ true
 word_in_name And = refl
-word_in_name Array = refl
-word_in_name As = refl
-word_in_name Async = refl
-word_in_name At = refl
-word_in_name By = refl
-word_in_name Byte = refl
-word_in_name Else = refl
-word_in_name False = refl
-word_in_name Fault = refl
-word_in_name Finish = refl
-word_in_name If = refl
-word_in_name Int = refl
-word_in_name Len = refl
-word_in_name Main = refl
-word_in_name Mut = refl
-word_in_name Not = refl
-word_in_name Or = refl
-word_in_name Parts = refl
-word_in_name Print = refl
-word_in_name Proc = refl
-word_in_name Read = refl
-word_in_name Rescue = refl
-word_in_name Skip = refl
-word_in_name Split = refl
-word_in_name True = refl
-word_in_name Var = refl
-word_in_name While = refl
+word_in_name _ = refl
 
 -- What stands first, and its characters, as the text alone tells.
 

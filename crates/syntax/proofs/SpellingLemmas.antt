@@ -8,6 +8,7 @@ use Rattle.syntax_tree.specs.Tree.{Array, Parameter, Written, Read, Scalar, Proc
 use Rattle.syntax.specs.Spelling.{element_word, block_then, arrays_then, parameter_then, more_parameters_then}
 use Rattle.syntax.specs.Spelling.{parameters_then, procedures_then, main_tokens, spelling}
 use Rattle.syntax.specs.Reading.{binds, list_level}
+use Rattle.syntax.proofs.ListSpellings.{lists_one}
 use Rattle.syntax.proofs.StmtSpellings.{block_binds, block_one}
 
 element_one : (x y : ElementType) → element_word x ≡ element_word y → x ≡ y
@@ -15,19 +16,21 @@ element_one IntElement IntElement e = refl
 element_one ByteElement ByteElement e = refl
 element_one _ _ e = cc
 
-pub arrays_one : (x y : List Array) (r s : List Token) → binds r < list_level → binds s < list_level
-    → arrays_then x r ≡ arrays_then y s → (x ≡ y) × (r ≡ s)
+array_parts : (a b : Array) (rest more : List Array) (r s : List Token)
+    → binds r < list_level → binds s < list_level → arrays_then (a ∷ rest) r ≡ arrays_then (b ∷ more) s
+    → (a ≡ b) × (arrays_then rest r ≡ arrays_then more s)
 unfolding arrays_then
-arrays_one [] [] r s ends other same = (refl, same)
-arrays_one [] (b ∷ bs) r s ends other same = absurd (omega (arith, ap binds same))
-arrays_one (a ∷ rest) [] r s ends other same = absurd (omega (arith, ap binds same))
-arrays_one (a ∷ rest) (b ∷ more) r s ends other same =
-    let others = arrays_one rest more r s ends other (cc) in
+array_parts a b rest more r s ends other same =
     let elements : a.element ≡ b.element = element_one _ _ (cc) in
     let names : a.name ≡ b.name = cc in
     let lengths : a.length ≡ b.length = cc in
     let first : a ≡ b = λ i. record { name = names i; element = elements i; length = lengths i } in
-    (cc (others.0), others.1)
+    (first, cc)
+
+pub arrays_one : (x y : List Array) (r s : List Token) → binds r < list_level → binds s < list_level
+    → arrays_then x r ≡ arrays_then y s → (x ≡ y) × (r ≡ s)
+unfolding arrays_then
+arrays_one = lists_one arrays_then (λ r. refl) (λ a rest r. omega arith) array_parts
 
 pub parameter_one : (x y : Parameter) (r s : List Token) → parameter_then x r ≡ parameter_then y s → (x ≡ y) × (r ≡ s)
 unfolding parameter_then
@@ -36,16 +39,18 @@ parameter_one (Read x e) (Read y f) r s same = let elements = element_one e f (c
 parameter_one (Scalar x) (Scalar y) r s same = (cc, cc)
 parameter_one _ _ r s same = cc
 
+parameter_parts : (p q : Parameter) (ps qs : List Parameter) (r s : List Token)
+    → binds r < list_level → binds s < list_level
+    → more_parameters_then (p ∷ ps) r ≡ more_parameters_then (q ∷ qs) s
+    → (p ≡ q) × (more_parameters_then ps r ≡ more_parameters_then qs s)
+unfolding more_parameters_then
+parameter_parts p q ps qs r s ends other same =
+    parameter_one p q (more_parameters_then ps r) (more_parameters_then qs s) (cc)
+
 pub more_parameters_one : (x y : List Parameter) (r s : List Token) → binds r < list_level → binds s < list_level
     → more_parameters_then x r ≡ more_parameters_then y s → (x ≡ y) × (r ≡ s)
 unfolding more_parameters_then
-more_parameters_one [] [] r s ends other same = (refl, same)
-more_parameters_one [] (q ∷ qs) r s ends other same = absurd (omega (arith, ap binds same))
-more_parameters_one (p ∷ ps) [] r s ends other same = absurd (omega (arith, ap binds same))
-more_parameters_one (p ∷ ps) (q ∷ qs) r s ends other same =
-    let first = parameter_one p q (more_parameters_then ps r) (more_parameters_then qs s) (cc) in
-    let more = more_parameters_one ps qs r s ends other first.1 in
-    (cc (first.0, more.0), more.1)
+more_parameters_one = lists_one more_parameters_then (λ r. refl) (λ p ps r. omega arith) parameter_parts
 
 pub paren_begins_no_parameter : (p : Parameter) (r s : List Token) → MarkToken RightParen ∷ s ≢ parameter_then p r
 unfolding parameter_then
@@ -66,22 +71,24 @@ parameters_one (p ∷ ps) (q ∷ qs) r s same =
     let last = more.1 in
     (cc (first.0, more.0), cc)
 
-pub procedures_one : (x y : List Procedure) (r s : List Token) → binds r < list_level → binds s < list_level
-    → procedures_then x r ≡ procedures_then y s → (x ≡ y) × (r ≡ s)
+procedure_parts : (p q : Procedure) (ps qs : List Procedure) (r s : List Token)
+    → binds r < list_level → binds s < list_level → procedures_then (p ∷ ps) r ≡ procedures_then (q ∷ qs) s
+    → (p ≡ q) × (procedures_then ps r ≡ procedures_then qs s)
 unfolding procedures_then
-procedures_one [] [] r s ends other same = (refl, same)
-procedures_one [] (q ∷ qs) r s ends other same = absurd (omega (arith, ap binds same))
-procedures_one (p ∷ ps) [] r s ends other same = absurd (omega (arith, ap binds same))
-procedures_one (p ∷ ps) (q ∷ qs) r s ends other same =
+procedure_parts p q ps qs r s ends other same =
     let parameters = parameters_one p.parameters q.parameters (MarkToken LeftBrace
     ∷ block_then p.body (procedures_then ps r)) (MarkToken LeftBrace ∷ block_then q.body (procedures_then qs s))
     (cc) in
     let brace = parameters.1 in
     let body = block_one p.body q.body (procedures_then ps r) (procedures_then qs s) (cc) in
-    let more = procedures_one ps qs r s ends other body.1 in
     let names : p.name ≡ q.name = cc in
     let first : p ≡ q = λ i. record { name = names i; parameters = parameters.0 i; body = body.0 i } in
-    (cc (more.0), more.1)
+    (first, body.1)
+
+pub procedures_one : (x y : List Procedure) (r s : List Token) → binds r < list_level → binds s < list_level
+    → procedures_then x r ≡ procedures_then y s → (x ≡ y) × (r ≡ s)
+unfolding procedures_then
+procedures_one = lists_one procedures_then (λ r. refl) (λ p ps r. omega arith) procedure_parts
 
 pub main_binds : (m : Option Main) → binds (main_tokens m) ≡ 0
 unfolding main_tokens

@@ -8,22 +8,23 @@ use Rattle.syntax_tree.specs.Tree.{Finish, Block, End, Then}
 use Rattle.syntax.specs.Spelling.{expr_then, more_then, exprs_then, stmt_then, block_then}
 use Rattle.syntax.specs.Reading.{binds, list_level, or_level, else_level}
 use Rattle.syntax.proofs.ExprSpellings.{begins, expr_begins, expr_one}
+use Rattle.syntax.proofs.ListSpellings.{lists_one}
 
 pub more_bind : (es : List Expr) (r : List Token) → binds r < list_level → binds (more_then es r) < or_level
 unfolding more_then
 more_bind [] r ends = omega arith
 more_bind (e ∷ es) r ends = omega arith
 
+more_parts : (e f : Expr) (es fs : List Expr) (r s : List Token) → binds r < list_level → binds s < list_level
+    → more_then (e ∷ es) r ≡ more_then (f ∷ fs) s → (e ≡ f) × (more_then es r ≡ more_then fs s)
+unfolding more_then
+more_parts e f es fs r s ends other same =
+    expr_one e f (more_then es r) (more_then fs s) (more_bind es r ends) (more_bind fs s other) (cc)
+
 pub more_one : (x y : List Expr) (r s : List Token) → binds r < list_level → binds s < list_level
     → more_then x r ≡ more_then y s → (x ≡ y) × (r ≡ s)
 unfolding more_then
-more_one [] [] r s ends other same = (refl, same)
-more_one [] (f ∷ fs) r s ends other same = absurd (omega (arith, ap binds same))
-more_one (e ∷ es) [] r s ends other same = absurd (omega (arith, ap binds same))
-more_one (e ∷ es) (f ∷ fs) r s ends other same =
-    let first = expr_one e f (more_then es r) (more_then fs s) (more_bind es r ends) (more_bind fs s other) (cc) in
-    let more = more_one es fs r s ends other first.1 in
-    (cc (first.0, more.0), more.1)
+more_one = lists_one more_then (λ r. refl) (λ e es r. omega arith) more_parts
 
 pub exprs_one : (x y : List Expr) (r s : List Token) → binds r < list_level → binds s < list_level → begins r < 1
     → begins s < 1 → exprs_then x r ≡ exprs_then y s → (x ≡ y) × (r ≡ s)
@@ -39,35 +40,13 @@ exprs_one (e ∷ es) (f ∷ fs) r s ends other closed closes same =
 pub stmt_binds : (x : Stmt) (r : List Token) → binds (stmt_then x r) ≡ 0
 unfolding stmt_then
 stmt_binds Skip r = refl
-stmt_binds (Var x e) r = refl
-stmt_binds (Assign x e) r = refl
-stmt_binds (Store x i e) r = refl
-stmt_binds (Print e es) r = refl
-stmt_binds (Fault e) r = refl
-stmt_binds (If e b) r = refl
-stmt_binds (IfElse e b c) r = refl
-stmt_binds (While e b) r = refl
-stmt_binds (Split x e y z b) r = refl
-stmt_binds (Call f es) r = refl
-stmt_binds (Async b) r = refl
-stmt_binds (Finish b) r = refl
+stmt_binds _ r = refl
 
 -- no statement begins with the brace that closes its block
 pub stmt_begins_with_no_brace : (x : Stmt) (r : List Token) {s : List Token} → MarkToken RightBrace ∷ s ≢ stmt_then x r
 unfolding stmt_then
 stmt_begins_with_no_brace Skip r same = cc
-stmt_begins_with_no_brace (Var x e) r same = cc
-stmt_begins_with_no_brace (Assign x e) r same = cc
-stmt_begins_with_no_brace (Store x i e) r same = cc
-stmt_begins_with_no_brace (Print e es) r same = cc
-stmt_begins_with_no_brace (Fault e) r same = cc
-stmt_begins_with_no_brace (If e b) r same = cc
-stmt_begins_with_no_brace (IfElse e b c) r same = cc
-stmt_begins_with_no_brace (While e b) r same = cc
-stmt_begins_with_no_brace (Split x e y z b) r same = cc
-stmt_begins_with_no_brace (Call f es) r same = cc
-stmt_begins_with_no_brace (Async b) r same = cc
-stmt_begins_with_no_brace (Finish b) r same = cc
+stmt_begins_with_no_brace _ r same = cc
 
 pub block_binds : (b : Block) (r : List Token) → binds (block_then b r) ≡ 0
 unfolding block_then

@@ -1,8 +1,8 @@
 -- The lone atom of each level is that of the next, where nothing stands beside it.
 use Rattle.std.proofs.Common.{◌≡◌, ◌≢◌, List, [], ◌∷◌, length, Option, Some, None, Bool, true, false, refl, sym, ap, ◌∙◌, arith}
-use Rattle.syntax_tree.specs.Tree.{Or, Conj, And, Neg, Cmp, Alone, Compare, Add, Prod, Multiply, Unary, expr, conj, neg, cmp}
-use Rattle.syntax_tree.specs.Tree.{sum, term, prod, unary, conjs, negs, terms, factors, negated, lone_atom, atom_of_conj}
-use Rattle.syntax_tree.specs.Tree.{atom_of_neg, atom_of_sum, atom_of_prod, atom_of_unary}
+use Rattle.syntax_tree.specs.Tree.{Atom, Or, And, Cmp, Alone, Compare, Add, Prod, Multiply, expr, conj, neg}
+use Rattle.syntax_tree.specs.Tree.{cmp, sum, term, prod, unary, conjs, negs, terms, factors, negated}
+use Rattle.syntax_tree.specs.Tree.{lone_atom, atom_of_conj, atom_of_neg, atom_of_sum, atom_of_prod, atom_of_unary}
 use Rattle.syntax_tree.specs.declared.tree.Expr.{Expr as rExpr, out-Expr, roll-out-Expr}
 use Rattle.syntax_tree.specs.declared.tree.Conj.{Conj as rConj, out-Conj, roll-out-Conj}
 use Rattle.syntax_tree.specs.declared.tree.Neg.{Neg as rNeg, out-Neg, roll-out-Neg}
@@ -11,84 +11,49 @@ use Rattle.syntax_tree.specs.declared.tree.Compared.{Compared as rCompared, out-
 use Rattle.syntax_tree.specs.declared.tree.Sum.{Sum as rSum, out-Sum, roll-out-Sum}
 use Rattle.syntax_tree.specs.declared.tree.Term.{Term as rTerm, Term' as rSigned}
 use Rattle.syntax_tree.specs.declared.tree.Prod.{Prod as rProd, out-Prod, roll-out-Prod}
-use Rattle.syntax_tree.specs.declared.tree.Factor.{Factor as rFactor}
 use Rattle.syntax_tree.proofs.RowLemmas.{expr_built, conj_built, neg_built, cmp_alone, cmp_compared, sum_built, prod_built}
 
+-- What is known of the lone atom of a level, by how many operands stand behind the first.
+pub record IsLevel {Operand : Type 0} (rest : List Operand) (first whole : Option Atom) : Type 0 where
+  pub alone : length rest ≡ 0 → first ≡ whole
+  pub beside : length rest ≢ 0 → None ≡ whole
+
+-- whatever operands stand behind the first, the lone atom goes by whether there are any
+level : {Operand : Type 0} {whole : Option Atom} (rest : List Operand) (lone : List Operand → Option Atom)
+    → ((r : Operand) (l : List Operand) → None ≡ lone (r ∷ l)) → whole ≡ lone rest
+    → IsLevel rest (lone []) whole
+level [] lone more is = record { alone = λ none. sym is; beside = λ some. absurd (some refl) }
+level (r ∷ l) lone more is = record {
+  alone = λ none. absurd (omega (arith, none));
+  beside = λ some. more r l ∙ sym is;
+}
+
+-- ---- expr, conj
 pub expr_is : (e : rExpr) → expr e ≡ Or (conj (out-Expr e).first) (conjs (out-Expr e).rest.items)
 expr_is e = ap expr (sym (roll-out-Expr e)) ∙ expr_built (out-Expr e).first (out-Expr e).rest
 
-alone_in_expr : (c : Conj) (rest : List rConj) → length rest ≡ 0 → atom_of_conj c ≡ lone_atom (Or c (conjs rest))
-alone_in_expr c [] none = refl
-alone_in_expr c (r ∷ rest) none = absurd (omega (arith, none))
-
-beside_in_expr : (c : Conj) (rest : List rConj) → length rest ≢ 0 → None ≡ lone_atom (Or c (conjs rest))
-beside_in_expr c [] some = absurd (some refl)
-beside_in_expr c (r ∷ rest) some = refl
-
-pub expr_alone : (e : rExpr) → length (out-Expr e).rest.items ≡ 0 → atom_of_conj (conj (out-Expr e).first) ≡ lone_atom (expr e)
-expr_alone e none = alone_in_expr _ _ none ∙ sym (ap lone_atom (expr_is e))
-
-pub expr_beside : (e : rExpr) → length (out-Expr e).rest.items ≢ 0 → None ≡ lone_atom (expr e)
-expr_beside e some = beside_in_expr _ _ some ∙ sym (ap lone_atom (expr_is e))
+pub expr_level : (e : rExpr)
+    → IsLevel (out-Expr e).rest.items (atom_of_conj (conj (out-Expr e).first)) (lone_atom (expr e))
+expr_level e =
+    level _ (λ l. lone_atom (Or (conj (out-Expr e).first) (conjs l))) (λ r l. refl) (ap lone_atom (expr_is e))
 
 pub conj_is : (e : rConj) → conj e ≡ And (neg (out-Conj e).first) (negs (out-Conj e).rest.items)
 conj_is e = ap conj (sym (roll-out-Conj e)) ∙ conj_built (out-Conj e).first (out-Conj e).rest
 
-alone_in_conj : (n : Neg) (rest : List rNeg) → length rest ≡ 0 → atom_of_neg n ≡ atom_of_conj (And n (negs rest))
-alone_in_conj n [] none = refl
-alone_in_conj n (r ∷ rest) none = absurd (omega (arith, none))
+pub conj_level : (e : rConj)
+    → IsLevel (out-Conj e).rest.items (atom_of_neg (neg (out-Conj e).first)) (atom_of_conj (conj e))
+conj_level e =
+    level _ (λ l. atom_of_conj (And (neg (out-Conj e).first) (negs l))) (λ r l. refl)
+    (ap atom_of_conj (conj_is e))
 
-beside_in_conj : (n : Neg) (rest : List rNeg) → length rest ≢ 0 → None ≡ atom_of_conj (And n (negs rest))
-beside_in_conj n [] some = absurd (some refl)
-beside_in_conj n (r ∷ rest) some = refl
-
-pub conj_alone : (e : rConj) → length (out-Conj e).rest.items ≡ 0 → atom_of_neg (neg (out-Conj e).first) ≡ atom_of_conj (conj e)
-conj_alone e none = alone_in_conj _ _ none ∙ sym (ap atom_of_conj (conj_is e))
-
-pub conj_beside : (e : rConj) → length (out-Conj e).rest.items ≢ 0 → None ≡ atom_of_conj (conj e)
-conj_beside e some = beside_in_conj _ _ some ∙ sym (ap atom_of_conj (conj_is e))
-
-pub sum_is : (e : rSum) → sum e ≡ Add (prod (out-Sum e).first) (terms (out-Sum e).rest.items)
-sum_is e = ap sum (sym (roll-out-Sum e)) ∙ sum_built (out-Sum e).first (out-Sum e).rest
-
-alone_in_sum : (p : Prod) (rest : List rTerm) → length rest ≡ 0 → atom_of_prod p ≡ atom_of_sum (Add p (terms rest))
-alone_in_sum p [] none = refl
-alone_in_sum p (r ∷ rest) none = absurd (omega (arith, none))
-
-beside_in_sum : (p : Prod) (rest : List rTerm) → length rest ≢ 0 → None ≡ atom_of_sum (Add p (terms rest))
-unfolding term
-beside_in_sum p [] some = absurd (some refl)
-beside_in_sum p (rSigned s q ∷ rest) some = refl
-
-pub sum_alone : (e : rSum) → length (out-Sum e).rest.items ≡ 0 → atom_of_prod (prod (out-Sum e).first) ≡ atom_of_sum (sum e)
-sum_alone e none = alone_in_sum _ _ none ∙ sym (ap atom_of_sum (sum_is e))
-
-pub sum_beside : (e : rSum) → length (out-Sum e).rest.items ≢ 0 → None ≡ atom_of_sum (sum e)
-sum_beside e some = beside_in_sum _ _ some ∙ sym (ap atom_of_sum (sum_is e))
-
-pub prod_is : (e : rProd) → prod e ≡ Multiply (unary (out-Prod e).first) (factors (out-Prod e).rest.items)
-prod_is e = ap prod (sym (roll-out-Prod e)) ∙ prod_built (out-Prod e).first (out-Prod e).rest
-
-alone_in_prod : (u : Unary) (rest : List rFactor) → length rest ≡ 0 → atom_of_unary u ≡ atom_of_prod (Multiply u (factors rest))
-alone_in_prod u [] none = refl
-alone_in_prod u (r ∷ rest) none = absurd (omega (arith, none))
-
-beside_in_prod : (u : Unary) (rest : List rFactor) → length rest ≢ 0 → None ≡ atom_of_prod (Multiply u (factors rest))
-beside_in_prod u [] some = absurd (some refl)
-beside_in_prod u (r ∷ rest) some = refl
-
-pub prod_alone : (e : rProd) → length (out-Prod e).rest.items ≡ 0 → atom_of_unary (unary (out-Prod e).first) ≡ atom_of_prod (prod e)
-prod_alone e none = alone_in_prod _ _ none ∙ sym (ap atom_of_prod (prod_is e))
-
-pub prod_beside : (e : rProd) → length (out-Prod e).rest.items ≢ 0 → None ≡ atom_of_prod (prod e)
-prod_beside e some = beside_in_prod _ _ some ∙ sym (ap atom_of_prod (prod_is e))
-
+-- ---- neg, cmp
 pub neg_is : (e : rNeg) → neg e ≡ negated (out-Neg e).negated (cmp (out-Neg e).comparison)
 neg_is e = ap neg (sym (roll-out-Neg e)) ∙ neg_built (out-Neg e).negated (out-Neg e).comparison
 
 pub cmp_is_alone : (e : rCmp) → (out-Cmp e).right ≡ None → cmp e ≡ Alone (sum (out-Cmp e).left)
 cmp_is_alone e none =
-    ap cmp (sym (roll-out-Cmp e) ∙ ap (λ r. roll-Cmp (record { left = (out-Cmp e).left; right = r })) none) ∙ cmp_alone (out-Cmp e).left
+    ap cmp (sym (roll-out-Cmp e) ∙ ap (λ r. roll-Cmp (record { left = (out-Cmp e).left; right = r })) none)
+    ∙ cmp_alone (out-Cmp e).left
 
 atom_of_negated : (b : Bool) (c : Cmp) → b ≡ true → None ≡ atom_of_neg (negated b c)
 atom_of_negated true c h = refl
@@ -100,7 +65,8 @@ neg_denied e h = atom_of_negated _ _ h ∙ sym (ap atom_of_neg (neg_is e))
 pub neg_alone : (e : rNeg) → (out-Neg e).negated ≡ false → (out-Cmp (out-Neg e).comparison).right ≡ None
     → atom_of_sum (sum (out-Cmp (out-Neg e).comparison).left) ≡ atom_of_neg (neg e)
 neg_alone e plain none =
-    sym (ap atom_of_neg (neg_is e ∙ ap (λ b. negated b (cmp (out-Neg e).comparison)) plain ∙ ap (negated false) (cmp_is_alone _ none)))
+    sym (ap atom_of_neg (neg_is e ∙ ap (λ b. negated b (cmp (out-Neg e).comparison)) plain
+    ∙ ap (negated false) (cmp_is_alone _ none)))
 
 pub cmp_is_compared : (e : rCmp) (r : rCompared) → (out-Cmp e).right ≡ Some r
     → cmp e ≡ Compare (sum (out-Cmp e).left) (out-Compared r).relation (sum (out-Compared r).right.value)
@@ -109,11 +75,36 @@ cmp_is_compared e r some =
     (some ∙ ap Some (sym (roll-out-Compared r))))
     ∙ cmp_compared (out-Cmp e).left (out-Compared r).relation (out-Compared r).right
 
-compared_by : (e : rCmp) (o : Option rCompared) → (out-Cmp e).right ≡ o → o ≢ None → None ≡ atom_of_neg (negated false (cmp e))
+compared_by : (e : rCmp) (o : Option rCompared) → (out-Cmp e).right ≡ o → o ≢ None
+    → None ≡ atom_of_neg (negated false (cmp e))
 compared_by e None is some = absurd (some refl)
 compared_by e (Some r) is some = sym (ap (λ c. atom_of_neg (negated false c)) (cmp_is_compared e r is))
 
-pub neg_compared : (e : rNeg) → (out-Neg e).negated ≡ false → (out-Cmp (out-Neg e).comparison).right ≢ None → None ≡ atom_of_neg (neg e)
+pub neg_compared : (e : rNeg) → (out-Neg e).negated ≡ false → (out-Cmp (out-Neg e).comparison).right ≢ None
+    → None ≡ atom_of_neg (neg e)
 neg_compared e plain some =
     compared_by (out-Neg e).comparison _ refl some
     ∙ sym (ap atom_of_neg (neg_is e ∙ ap (λ b. negated b (cmp (out-Neg e).comparison)) plain))
+
+-- ---- sum, prod
+pub sum_is : (e : rSum) → sum e ≡ Add (prod (out-Sum e).first) (terms (out-Sum e).rest.items)
+sum_is e = ap sum (sym (roll-out-Sum e)) ∙ sum_built (out-Sum e).first (out-Sum e).rest
+
+beside_in_sum : (p : Prod) (t : rTerm) (ts : List rTerm) → None ≡ atom_of_sum (Add p (terms (t ∷ ts)))
+unfolding term
+beside_in_sum p (rSigned s q) ts = refl
+
+pub sum_level : (e : rSum)
+    → IsLevel (out-Sum e).rest.items (atom_of_prod (prod (out-Sum e).first)) (atom_of_sum (sum e))
+sum_level e =
+    let first = prod (out-Sum e).first in
+    level _ (λ l. atom_of_sum (Add first (terms l))) (beside_in_sum first) (ap atom_of_sum (sum_is e))
+
+pub prod_is : (e : rProd) → prod e ≡ Multiply (unary (out-Prod e).first) (factors (out-Prod e).rest.items)
+prod_is e = ap prod (sym (roll-out-Prod e)) ∙ prod_built (out-Prod e).first (out-Prod e).rest
+
+pub prod_level : (e : rProd)
+    → IsLevel (out-Prod e).rest.items (atom_of_unary (unary (out-Prod e).first)) (atom_of_prod (prod e))
+prod_level e =
+    level _ (λ l. atom_of_prod (Multiply (unary (out-Prod e).first) (factors l))) (λ r l. refl)
+    (ap atom_of_prod (prod_is e))

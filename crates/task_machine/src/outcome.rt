@@ -1,49 +1,21 @@
 //! What a run came to.
 
-ghost use Rattle.std.specs.Prelude.{◌≡◌, IfOk, map};
-ghost use Rattle.types.specs.Contents.{shown as shown_in};
-ghost use Rattle.types.specs.Translation.{array as array_of, outcome as outcome_of};
+ghost use Rattle.std.specs.Prelude.{◌≡◌, IfOk};
+ghost use Rattle.types.specs.Translation.{outcome as outcome_of};
 ghost use Rattle.types.specs.Typed.{code_of};
 ghost use Rattle.own_run.specs.Given.{told_of};
-ghost use Rattle.own_run.specs.Translation.{contents_of, settled as settled_of};
+ghost use Rattle.own_run.specs.Translation.{settled as settled_of};
 
 use crate::error::NoMemory;
 use crate::job::Job;
-use holdings::holdings::Holdings;
+use gather::told::told;
 use own_run::result::Settled;
-use sections::id::ArrayId;
-use std::alloc::{AllocError, Global};
-use types::code::Array;
 use types::outcome::Outcome;
 
-/// What is told of a run in which all this has come.
+/// What is told of a run of the job in which all this has come.
 pub fn outcome(job: Job<'_>, settled: Settled) -> Result<Outcome, NoMemory>
     ensures told { IfOk result (λ o. outcome_of o
         ≡ told_of (code_of job.entry.accepted.now.typed) (settled_of settled)) }
 {
-    if settled.stopped {
-        return Ok(Outcome::Stopped);
-    }
-    let declared = &job.plan().program.arrays;
-    Ok(Outcome::Ended {
-        arrays: shown(job.alloc, declared, &settled.holdings)?,
-        lines: settled.lines,
-        faults: settled.faults,
-    })
-}
-
-/// The numbers of all arrays, in the order of declaration.
-fn shown(
-    alloc: Global,
-    declared: &[Array],
-    holdings: &Holdings,
-) -> Result<Vec<Vec<i64>>, AllocError>
-    ensures { IfOk result (λ lists. map (λ v. v.items) lists.items
-        ≡ shown_in (map array_of declared.now) (contents_of holdings.now)) }
-{
-    let mut arrays = Vec::new(alloc);
-    'arrays: for (number, array) in declared.iter().enumerate() {
-        arrays.push(holdings.row(alloc, ArrayId { number }, array.length)?)?;
-    }
-    Ok(arrays)
+    Ok(told(job.alloc, job.plan().program, settled)?)
 }

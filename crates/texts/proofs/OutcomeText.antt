@@ -1,5 +1,5 @@
 -- The pieces of a line, and the text of an ending whose parts are given in other types.
-use Rattle.std.proofs.Common.{◌≡◌, ◌<◌, ◌+◌, ℕ, List, [], ◌∷◌, ◌++◌, map, length, length-append, get_or, refl, sym, ap, ◌∙◌, arith}
+use Rattle.std.proofs.Common.{◌≡◌, ◌<◌, ◌+◌, ℕ, List, [], ◌∷◌, ◌++◌, map, length, get_or, refl, sym, ap, ◌∙◌, arith}
 use Rattle.std.specs.Prelude.{ℤ, Bool, if◌then◌else◌}
 use Rattle.std.specs.Fmt.{signed_decimal}
 use Rattle.std.specs.List.{flat_map, zip}
@@ -23,9 +23,6 @@ pub zip_at : {A B : Type 0} (xs : List A) (ys : List B) (n : ℕ) (x : A) (y : B
     → x ≡ get_or xs n x → y ≡ get_or ys n y → (x, y) ≡ get_or (zip xs ys) n (x, y)
 zip_at xs ys n x y left right x_is y_is =
     ap (λ z. (z, y)) x_is ∙ ap (λ z. (get_or xs n x, z)) y_is ∙ sym (get_or-zip xs ys n (x, y) left right)
-
-pub length_one_more : {A : Type 0} (xs : List A) (x : A) → length (xs ++ x ∷ []) ≡ length xs + 1
-length_one_more xs x = length-append xs (x ∷ [])
 
 module _ {A B V W : Type 0} (f : V × W → List ℕ) (u : A → V) (v : B → W) where
   pub flat_map-zip-map : (xs : List A) (ys : List B)

@@ -12,8 +12,7 @@ use Rattle.std.specs.Map.{lookup}
 use Rattle.std.proofs.lemmas.Option.{get_or_from_slice_get, none-some, option_and_then_some, same_Some, slice_get_within}
 use Rattle.std.proofs.lemmas.Slice.Eq.{bytes_eq-Decides}
 use Rattle.events.specs.declared.event.Event.{Event}
-use Rattle.events.specs.declared.event.Event.TheVariants.{Take, Steal, Step, Replenish, Spawn}
-use Rattle.events.specs.declared.event.Event.TheVariants.{Open, Park, End, Pass, Resume}
+use Rattle.events.specs.declared.event.Event.TheVariants.{Take, Park, End, Resume}
 use Rattle.trace_numbers.specs.Tables.{is_path}
 use Rattle.types.specs.declared.path.Path.{Path}
 use Rattle.trace_layout.specs.Hands.{AreHands, AreSpellsSoFar, IsEmptyHand, IsEndingSoFar, IsLeaving, IsOfTask, IsSpellSoFar}
@@ -159,39 +158,16 @@ pub record IsAtNumber (es : List Event) (n : ℕ) (b : Bool) : Type 0 where
 
 taken_is : (e : Event) (y : Hold) → taken e ≡ Some y → is_taking e ≡ true
 taken_is (Take worker path) y h = refl
-taken_is (Steal worker from path) y h = absurd (none-some y h)
-taken_is (Step path) y h = absurd (none-some y h)
-taken_is (Replenish path) y h = absurd (none-some y h)
-taken_is (Spawn path) y h = absurd (none-some y h)
-taken_is (Open path) y h = absurd (none-some y h)
-taken_is (Park path) y h = absurd (none-some y h)
-taken_is (End path) y h = absurd (none-some y h)
-taken_is (Pass scope) y h = absurd (none-some y h)
 taken_is (Resume worker path) y h = refl
+taken_is _ y h = absurd (none-some y h)
 
 parked_is : (e : Event) (y : List ℕ) → parked e ≡ Some y → is_taking e ≡ false
-parked_is (Take worker path) y h = absurd (none-some y h)
-parked_is (Steal worker from path) y h = refl
-parked_is (Step path) y h = refl
-parked_is (Replenish path) y h = refl
-parked_is (Spawn path) y h = refl
-parked_is (Open path) y h = refl
 parked_is (Park path) y h = refl
-parked_is (End path) y h = refl
-parked_is (Pass scope) y h = refl
-parked_is (Resume worker path) y h = absurd (none-some y h)
+parked_is _ y h = absurd (none-some y h)
 
 ended_is : (e : Event) (y : List ℕ) → ended e ≡ Some y → is_taking e ≡ false
-ended_is (Take worker path) y h = absurd (none-some y h)
-ended_is (Steal worker from path) y h = refl
-ended_is (Step path) y h = refl
-ended_is (Replenish path) y h = refl
-ended_is (Spawn path) y h = refl
-ended_is (Open path) y h = refl
-ended_is (Park path) y h = refl
 ended_is (End path) y h = refl
-ended_is (Pass scope) y h = refl
-ended_is (Resume worker path) y h = absurd (none-some y h)
+ended_is _ y h = absurd (none-some y h)
 
 pub taking_at : (es : List Event) (n : ℕ) (y : Hold) → taken_at es n ≡ Some y → IsAtNumber es n true
 taking_at es n y h = option_and_then_some {P = IsAtNumber es n true} taken (slice_get es n) y h

@@ -8,8 +8,7 @@ use Rattle.std.proofs.lemmas.List.Quantifiers.{all_pairs_push}
 use Rattle.std.proofs.lemmas.List.Sums.{count_by_more_no, count_by_more_yes}
 use Rattle.std.proofs.lemmas.Option.{get_or_from_slice_get, none-some, option_and_then_some, slice_get_within}
 use Rattle.events.specs.declared.event.Event.{Event}
-use Rattle.events.specs.declared.event.Event.TheVariants.{Take, Steal, Step, Replenish, Spawn}
-use Rattle.events.specs.declared.event.Event.TheVariants.{Open, Park, End, Pass, Resume}
+use Rattle.events.specs.declared.event.Event.TheVariants.{Open}
 use Rattle.types.specs.declared.path.Path.{Path}
 use Rattle.types.specs.declared.scope_id.ScopeId.{ScopeId}
 use Rattle.trace_layout.specs.Finishes.{AreFinishes, AreOpenedInOrder, IsFinish, IsRoots, is_opening, opener, opener_at}
@@ -36,16 +35,8 @@ scopes_later es n e old new at is items last was = record {
 }
 
 pub no_opening : (e : Event) → ((path : Path) → e ≡ Open path → ⊥) → is_opening e ≡ false
-no_opening (Take worker path) h = refl
-no_opening (Steal worker from path) h = refl
-no_opening (Step path) h = refl
-no_opening (Replenish path) h = refl
-no_opening (Spawn path) h = refl
 no_opening (Open path) h = absurd (h path refl)
-no_opening (Park path) h = refl
-no_opening (End path) h = refl
-no_opening (Pass scope) h = refl
-no_opening (Resume worker path) h = refl
+no_opening _ h = refl
 
 -- ---- a scope changes
 kept_first : (fs : List Finish) (k : ℕ) (g : Finish) → k < length fs → ((d : Finish) → (get_or fs k d).first ≡ g.first)
@@ -101,16 +92,8 @@ passes es n f h = record {
 
 -- ---- a scope begins
 opener_is : (e : Event) (y : List ℕ) → opener e ≡ Some y → is_opening e ≡ true
-opener_is (Take worker path) y h = absurd (none-some y h)
-opener_is (Steal worker from path) y h = absurd (none-some y h)
-opener_is (Step path) y h = absurd (none-some y h)
-opener_is (Replenish path) y h = absurd (none-some y h)
-opener_is (Spawn path) y h = absurd (none-some y h)
 opener_is (Open path) y h = refl
-opener_is (Park path) y h = absurd (none-some y h)
-opener_is (End path) y h = absurd (none-some y h)
-opener_is (Pass scope) y h = absurd (none-some y h)
-opener_is (Resume worker path) y h = absurd (none-some y h)
+opener_is _ y h = absurd (none-some y h)
 
 pub record IsOpening (es : List Event) (n : ℕ) : Type 0 where
   pub event : Event

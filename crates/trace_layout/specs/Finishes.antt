@@ -2,35 +2,18 @@
 use Rattle.std.specs.Prelude.{ℕ, ◌≡◌, ◌+◌, ◌≤◌, ◌⊎◌, List, [], length, Bool, true, false, Option, Some, None}
 use Rattle.std.specs.Prelude.{All, AllPairs, count_by, slice_get, option_and_then}
 use Rattle.events.specs.declared.event.Event.{Event}
-use Rattle.events.specs.declared.event.Event.TheVariants.{Take, Steal, Step, Replenish, Spawn}
-use Rattle.events.specs.declared.event.Event.TheVariants.{Open, Park, End, Pass, Resume}
+use Rattle.events.specs.declared.event.Event.TheVariants.{Open}
 use Rattle.trace_layout.specs.declared.finishes.Finish.{Finish}
 use Rattle.trace_layout.specs.declared.finishes.Finishes.{Finishes}
 
 -- the task that opens a scope
 abbrev pub opener : Event → Option (List ℕ)
-opener (Take worker path) = None
-opener (Steal worker from path) = None
-opener (Step path) = None
-opener (Replenish path) = None
-opener (Spawn path) = None
 opener (Open path) = Some path.turns.items
-opener (Park path) = None
-opener (End path) = None
-opener (Pass scope) = None
-opener (Resume worker path) = None
+opener _ = None
 
 abbrev pub is_opening : Event → Bool
-is_opening (Take worker path) = false
-is_opening (Steal worker from path) = false
-is_opening (Step path) = false
-is_opening (Replenish path) = false
-is_opening (Spawn path) = false
 is_opening (Open path) = true
-is_opening (Park path) = false
-is_opening (End path) = false
-is_opening (Pass scope) = false
-is_opening (Resume worker path) = false
+is_opening _ = false
 
 abbrev pub opener_at : List Event → ℕ → Option (List ℕ)
 opener_at es n = option_and_then opener (slice_get es n)

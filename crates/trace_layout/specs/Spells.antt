@@ -2,8 +2,7 @@
 use Rattle.std.specs.Prelude.{ℕ, ◌≡◌, ◌+◌, ◌<◌, ◌≤◌, List, length, Bool, true, false, Option, Some, None}
 use Rattle.std.specs.Prelude.{All, AllPairs, count_by, slice_get, option_and_then}
 use Rattle.events.specs.declared.event.Event.{Event}
-use Rattle.events.specs.declared.event.Event.TheVariants.{Take, Steal, Step, Replenish, Spawn}
-use Rattle.events.specs.declared.event.Event.TheVariants.{Open, Park, End, Pass, Resume}
+use Rattle.events.specs.declared.event.Event.TheVariants.{Take, Park, End, Resume}
 use Rattle.trace_layout.specs.declared.spells.Ending.{Ending}
 use Rattle.trace_layout.specs.declared.spells.Ending.TheVariants.{Parked, Ended, Left, Going}
 use Rattle.trace_layout.specs.declared.spells.Spell.{Spell}
@@ -17,53 +16,23 @@ pub record Hold : Type 0 where
 -- what is in a hand from this event on
 abbrev pub taken : Event → Option Hold
 taken (Take worker path) = Some (record { worker = worker; path = path.turns.items })
-taken (Steal worker from path) = None
-taken (Step path) = None
-taken (Replenish path) = None
-taken (Spawn path) = None
-taken (Open path) = None
-taken (Park path) = None
-taken (End path) = None
-taken (Pass scope) = None
 taken (Resume worker path) = Some (record { worker = worker; path = path.turns.items })
+taken _ = None
 
 abbrev pub is_taking : Event → Bool
 is_taking (Take worker path) = true
-is_taking (Steal worker from path) = false
-is_taking (Step path) = false
-is_taking (Replenish path) = false
-is_taking (Spawn path) = false
-is_taking (Open path) = false
-is_taking (Park path) = false
-is_taking (End path) = false
-is_taking (Pass scope) = false
 is_taking (Resume worker path) = true
+is_taking _ = false
 
 -- the task that parks
 abbrev pub parked : Event → Option (List ℕ)
-parked (Take worker path) = None
-parked (Steal worker from path) = None
-parked (Step path) = None
-parked (Replenish path) = None
-parked (Spawn path) = None
-parked (Open path) = None
 parked (Park path) = Some path.turns.items
-parked (End path) = None
-parked (Pass scope) = None
-parked (Resume worker path) = None
+parked _ = None
 
 -- the task that ends
 abbrev pub ended : Event → Option (List ℕ)
-ended (Take worker path) = None
-ended (Steal worker from path) = None
-ended (Step path) = None
-ended (Replenish path) = None
-ended (Spawn path) = None
-ended (Open path) = None
-ended (Park path) = None
 ended (End path) = Some path.turns.items
-ended (Pass scope) = None
-ended (Resume worker path) = None
+ended _ = None
 
 -- the same of the event with a number
 abbrev pub taken_at : List Event → ℕ → Option Hold

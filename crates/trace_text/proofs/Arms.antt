@@ -42,15 +42,7 @@ text_of_front h = bare (text_of_header h [])
 -- ---- kinds
 above_kind : (k : Kind) → above 97 (kind_name k) ≡ true
 above_kind IsTake = refl
-above_kind IsSteal = refl
-above_kind IsStep = refl
-above_kind IsReplenish = refl
-above_kind IsSpawn = refl
-above_kind IsOpen = refl
-above_kind IsPark = refl
-above_kind IsEnd = refl
-above_kind IsPass = refl
-above_kind IsResume = refl
+above_kind _ = refl
 
 pub kind_then_quote : (k : Kind) → Lacks 34 (kind_name k)
 kind_then_quote k = Lacks-above 97 34 (kind_name k) (above_kind k) (omega arith)

@@ -30,17 +30,6 @@ body_is : (text : List ℕ) (d : Data) → text ++ codes "\n" ≡ line d → tex
 unfolding line
 body_is text d same = append_cancel_right text (compact_text d) (codes "\n") same
 
--- whatever event a line is, it is that which its text tells
-told-event : (text : List ℕ) (o : Option Event)
-    → ((e : Event) → IsSpelled e → text ≡ compact_text (event_object e) → o ≡ Some e)
-    → (e : Event) → IsSpelled e → text ++ codes "\n" ≡ event_line e → o ≡ Some e
-told-event text o told e h same = told e h (body_is text (event_object e) same)
-
-told-header : (text : List ℕ) (o : Option TraceHeader)
-    → ((h : TraceHeader) → IsHeader h → text ≡ compact_text (header_object h) → o ≡ Some h)
-    → (h : TraceHeader) → IsHeader h → text ++ codes "\n" ≡ header_line h → o ≡ Some h
-told-header text o told h fits same = told h fits (body_is text (header_object h) same)
-
 -- ---- the first line of a text
 line_then : (d : Data) (behind : List ℕ) → line d ++ behind ≡ compact_text d ++ (10 ∷ behind)
 unfolding line
@@ -56,22 +45,17 @@ first_line text before rest behind d lacks same cut =
     let both = one_cut 10 before rest (compact_text d) behind cut.first lacks (sym cut.parts ∙ same ∙ line_then d behind) in
     line_is before d both.0
 
-no_line : (text behind : List ℕ) (d : Data) → text ≡ line d ++ behind → Lacks 10 text → ⊥
+-- no line stands first in a text without a line feed
+pub no_line : (text behind : List ℕ) (d : Data) → text ≡ line d ++ behind → Lacks 10 text → ⊥
 no_line text behind d same lacks =
     not_lacking 10 (compact_text d) behind (subst (Lacks 10) (same ∙ line_then d behind) lacks)
 
--- no header's line stands first in a text without a line feed, nor where the first line is none
-pub no_header_uncut : (text : List ℕ) → Lacks 10 text → BeginsWithHeader text → ⊥
-no_header_uncut text lacks b = no_line text b.behind (header_object b.header) b.parts lacks
-
+-- no header's line stands first in a text whose first line is none, and no event's
 pub no_header_first : (text before rest : List ℕ) → IsCutAt 10 before rest text
     → ((h : TraceHeader) → IsHeader h → before ++ codes "\n" ≡ header_line h → ⊥) → BeginsWithHeader text → ⊥
 no_header_first text before rest cut none b =
     none b.header b.fits
     (first_line text before rest b.behind (header_object b.header) (Lacks-header b.header) b.parts cut)
-
-pub no_event_uncut : (text : List ℕ) → Lacks 10 text → BeginsWithEvent text → ⊥
-no_event_uncut text lacks b = no_line text b.behind (event_object b.event) b.parts lacks
 
 pub no_event_first : (text before rest : List ℕ) → IsCutAt 10 before rest text
     → ((e : Event) → IsSpelled e → before ++ codes "\n" ≡ event_line e → ⊥) → BeginsWithEvent text → ⊥
@@ -167,35 +151,25 @@ cut_shorter text before behind cut =
     omega (arith, total)
 
 -- ---- a line that is written again
--- what is known of a line that isn't what its text tells
-pub not_told-event : (text : List ℕ) (o : Option Event)
-    → ((e : Event) → IsSpelled e → text ≡ compact_text (event_object e) → o ≡ Some e) → o ≡ None
-    → (e : Event) → IsSpelled e → text ++ codes "\n" ≡ event_line e → ⊥
-not_told-event text o told none e h same = let one : o ≡ Some e = told-event text o told e h same in cc
+-- what a text tells, as a header or an event, if it is the line of any
+module _ {A : Type 0} (Fits : A → Type 0) (object : A → Data) (text : List ℕ) (o : Option A)
+    (told : (a : A) → Fits a → text ≡ compact_text (object a) → o ≡ Some a) where
+  -- whatever a line is, it is that which its text tells
+  told_by_line : (a : A) → Fits a → text ++ codes "\n" ≡ line (object a) → o ≡ Some a
+  told_by_line a h same = told a h (body_is text (object a) same)
 
-pub not_told-header : (text : List ℕ) (o : Option TraceHeader)
-    → ((h : TraceHeader) → IsHeader h → text ≡ compact_text (header_object h) → o ≡ Some h) → o ≡ None
-    → (h : TraceHeader) → IsHeader h → text ++ codes "\n" ≡ header_line h → ⊥
-not_told-header text o told none h fits same = let one : o ≡ Some h = told-header text o told h fits same in cc
+  -- what is known of a line that isn't what its text tells
+  pub not_told : o ≡ None → (a : A) → Fits a → text ++ codes "\n" ≡ line (object a) → ⊥
+  not_told none a h same = let one : o ≡ Some a = told_by_line a h same in cc
 
--- a line that isn't spelled as what its text tells
-pub misspelled-event : (text : List ℕ) (o : Option Event) (found : Event) (b : Bool)
-    → ((e : Event) → IsSpelled e → text ≡ compact_text (event_object e) → o ≡ Some e) → o ≡ Some found
-    → (text ++ codes "\n" ≡ event_line found → IsTrue b) → b ≡ false
-    → (e : Event) → IsSpelled e → text ++ codes "\n" ≡ event_line e → ⊥
-misspelled-event text o found b told is decides differs e h same =
-    let one : o ≡ Some e = told-event text o told e h same in
-    let both : e ≡ found = cc in
-    let yes : b ≡ true = decides (same ∙ ap event_line both) in cc
-
-pub misspelled-header : (text : List ℕ) (o : Option TraceHeader) (found : TraceHeader) (b : Bool)
-    → ((h : TraceHeader) → IsHeader h → text ≡ compact_text (header_object h) → o ≡ Some h) → o ≡ Some found
-    → (text ++ codes "\n" ≡ header_line found → IsTrue b) → b ≡ false
-    → (h : TraceHeader) → IsHeader h → text ++ codes "\n" ≡ header_line h → ⊥
-misspelled-header text o found b told is decides differs h fits same =
-    let one : o ≡ Some h = told-header text o told h fits same in
-    let both : h ≡ found = cc in
-    let yes : b ≡ true = decides (same ∙ ap header_line both) in cc
+  -- a line that isn't spelled as what its text tells
+  pub misspelled : (found : A) (b : Bool) → o ≡ Some found
+      → (text ++ codes "\n" ≡ line (object found) → IsTrue b) → b ≡ false
+      → (a : A) → Fits a → text ++ codes "\n" ≡ line (object a) → ⊥
+  misspelled found b is decides differs a h same =
+      let one : o ≡ Some a = told_by_line a h same in
+      let both : a ≡ found = cc in
+      let yes : b ≡ true = decides (same ∙ ap (λ (x : A). line (object x)) both) in cc
 
 -- what is let go where a test fails
 pub if_let_go : {A : Type 0} {P : Type 0} (same : Bool) (x : A) (o : Option A) → o ≡ then_some same x

@@ -10,26 +10,17 @@ use Rattle.trace_text.specs.Kinds.{kind_name}
 use Rattle.trace_text.specs.Lines.{event_object, header_object, task_object, worker_object, steal_object, pass_object}
 use Rattle.trace_text.specs.Spelled.{Lacks}
 use Rattle.trace_text.specs.declared.kind.Kind.{Kind}
-use Rattle.trace_text.specs.declared.kind.Kind.TheVariants.{Take as IsTake, Steal as IsSteal}
+use Rattle.trace_text.specs.declared.kind.Kind.TheVariants.{Take as IsTake}
 use Rattle.trace_text.specs.declared.kind.Kind.TheVariants.{Step as IsStep, Replenish as IsReplenish}
 use Rattle.trace_text.specs.declared.kind.Kind.TheVariants.{Spawn as IsSpawn, Open as IsOpen}
 use Rattle.trace_text.specs.declared.kind.Kind.TheVariants.{Park as IsPark, End as IsEnd}
-use Rattle.trace_text.specs.declared.kind.Kind.TheVariants.{Pass as IsPass, Resume as IsResume}
+use Rattle.trace_text.specs.declared.kind.Kind.TheVariants.{Resume as IsResume}
 use Rattle.trace_text.proofs.Marks.{visible, visible-append, visible-path, visible-number, Lacks-visible}
 use Rattle.trace_text.proofs.Texts.{text_of_task, text_of_worker, text_of_steal, text_of_pass, text_of_header}
-use Rattle.trace_text.proofs.Texts.{task_words, worker_words, steal_words, pass_words, header_words}
 
 visible_kind : (k : Kind) → visible (kind_name k) ≡ true
 visible_kind IsTake = refl
-visible_kind IsSteal = refl
-visible_kind IsStep = refl
-visible_kind IsReplenish = refl
-visible_kind IsSpawn = refl
-visible_kind IsOpen = refl
-visible_kind IsPark = refl
-visible_kind IsEnd = refl
-visible_kind IsPass = refl
-visible_kind IsResume = refl
+visible_kind _ = refl
 
 -- a text with nothing behind it is visible words
 lacks_as : (text words : List ℕ) → text ++ [] ≡ words → visible words ≡ true → Lacks 10 text
@@ -38,40 +29,36 @@ lacks_as text words same seen =
 
 lacks_task : (kind : Kind) (path : List ℕ) → Lacks 10 (compact_text (task_object kind path))
 lacks_task kind path =
-    lacks_as (compact_text (task_object kind path)) (task_words (kind_name kind) (path_text path) [])
-    (text_of_task kind path [])
+    lacks_as (compact_text (task_object kind path)) _ (text_of_task kind path [])
     (visible-append (kind_name kind) (codes "\",\"path\":\"" ++ (path_text path ++ codes "\"}")) (visible_kind kind)
     (visible-append (path_text path) (codes "\"}") (visible-path path) refl))
+
+-- what stands behind the key of a path, where a worker is named too
+visible_worker : (worker : ℕ) (path : List ℕ)
+    → visible (path_text path ++ (codes "\",\"worker\":" ++ (decimal worker ++ codes "}"))) ≡ true
+visible_worker worker path =
+    visible-append (path_text path) (codes "\",\"worker\":" ++ (decimal worker ++ codes "}"))
+    (visible-path path) (visible-append (decimal worker) (codes "}") (visible-number worker) refl)
 
 lacks_worker : (kind : Kind) (worker : ℕ) (path : List ℕ)
     → Lacks 10 (compact_text (worker_object kind worker path))
 lacks_worker kind worker path =
-    lacks_as (compact_text (worker_object kind worker path))
-    (worker_words (kind_name kind) (path_text path) (decimal worker) [])
-    (text_of_worker kind worker path [])
+    lacks_as (compact_text (worker_object kind worker path)) _ (text_of_worker kind worker path [])
     (visible-append (kind_name kind)
     (codes "\",\"path\":\"" ++ (path_text path ++ (codes "\",\"worker\":" ++ (decimal worker ++ codes "}"))))
-    (visible_kind kind)
-    (visible-append (path_text path) (codes "\",\"worker\":" ++ (decimal worker ++ codes "}")) (visible-path path)
-    (visible-append (decimal worker) (codes "}") (visible-number worker) refl)))
+    (visible_kind kind) (visible_worker worker path))
 
 lacks_steal : (worker from : ℕ) (path : List ℕ)
     → Lacks 10 (compact_text (steal_object worker from path))
 lacks_steal worker from path =
-    lacks_as (compact_text (steal_object worker from path))
-    (steal_words (decimal from) (path_text path) (decimal worker) [])
-    (text_of_steal worker from path [])
+    lacks_as (compact_text (steal_object worker from path)) _ (text_of_steal worker from path [])
     (visible-append (decimal from)
     (codes ",\"path\":\"" ++ (path_text path ++ (codes "\",\"worker\":" ++ (decimal worker ++ codes "}"))))
-    (visible-number from)
-    (visible-append (path_text path) (codes "\",\"worker\":" ++ (decimal worker ++ codes "}"))
-    (visible-path path)
-    (visible-append (decimal worker) (codes "}") (visible-number worker) refl)))
+    (visible-number from) (visible_worker worker path))
 
 lacks_pass : (n : ℕ) (owner : List ℕ) → Lacks 10 (compact_text (pass_object n owner))
 lacks_pass n owner =
-    lacks_as (compact_text (pass_object n owner)) (pass_words (decimal n) (path_text owner) [])
-    (text_of_pass n owner [])
+    lacks_as (compact_text (pass_object n owner)) _ (text_of_pass n owner [])
     (visible-append (decimal n) (codes ",\"owner\":\"" ++ (path_text owner ++ codes "\"}")) (visible-number n)
     (visible-append (path_text owner) (codes "\"}") (visible-path owner) refl))
 
@@ -92,9 +79,7 @@ Lacks-header h =
     let last = decimal h.workers ++ codes "}" in
     let fourth = decimal h.w0 ++ (codes ",\"workers\":" ++ last) in
     let third = decimal h.steps ++ (codes ",\"w0\":" ++ fourth) in
-    lacks_as (compact_text (header_object h))
-    (header_words (decimal h.nest) (decimal h.steps) (decimal h.w0) (decimal h.workers) [])
-    (text_of_header h [])
+    lacks_as (compact_text (header_object h)) _ (text_of_header h [])
     (visible-append (decimal h.nest) (codes ",\"steps\":" ++ third) (visible-number h.nest)
     (visible-append (decimal h.steps) (codes ",\"w0\":" ++ fourth) (visible-number h.steps)
     (visible-append (decimal h.w0) (codes ",\"workers\":" ++ last) (visible-number h.w0)

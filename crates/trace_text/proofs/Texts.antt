@@ -12,7 +12,7 @@ use Rattle.trace_text.specs.Headers.{TraceHeader}
 use Rattle.trace_text.specs.Kinds.{kind_name}
 use Rattle.trace_text.specs.Lines.{line, text_under, number_under, task_object, worker_object, steal_object, pass_object, header_object}
 use Rattle.trace_text.specs.declared.kind.Kind.{Kind}
-use Rattle.trace_text.specs.declared.kind.Kind.TheVariants.{Take, Steal, Step, Replenish, Spawn, Open, Park, End, Pass, Resume}
+use Rattle.trace_text.specs.declared.kind.Kind.TheVariants.{Take, Steal, Pass}
 
 -- what stands in a line as it is
 abbrev pub IsPlain : List ℕ → Type 0
@@ -21,15 +21,7 @@ IsPlain s = escape s ≡ s
 pub IsPlain-kind : (k : Kind) → IsPlain (kind_name k)
 unfolding escape_byte
 IsPlain-kind Take = refl
-IsPlain-kind Steal = refl
-IsPlain-kind Step = refl
-IsPlain-kind Replenish = refl
-IsPlain-kind Spawn = refl
-IsPlain-kind Open = refl
-IsPlain-kind Park = refl
-IsPlain-kind End = refl
-IsPlain-kind Pass = refl
-IsPlain-kind Resume = refl
+IsPlain-kind _ = refl
 
 -- ---- one key more
 quoted_then : (s rest : List ℕ) → IsPlain s → quoted s ++ rest ≡ 34 ∷ (s ++ (34 ∷ rest))

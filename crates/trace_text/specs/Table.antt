@@ -17,27 +17,13 @@ left_in width text = text ++ replicate (width - length text) 32
 abbrev pub worker_of : Event → Option ℕ
 worker_of (Take worker path) = Some worker
 worker_of (Steal worker from path) = Some worker
-worker_of (Steps path) = None
-worker_of (Replenish path) = None
-worker_of (Spawns path) = None
-worker_of (Opens path) = None
-worker_of (Parks path) = None
-worker_of (Ends path) = None
-worker_of (Pass scope) = None
 worker_of (Resume worker path) = Some worker
+worker_of _ = None
 
 -- from whom it is stolen
 abbrev pub from_of : Event → Option ℕ
-from_of (Take worker path) = None
 from_of (Steal worker from path) = Some from
-from_of (Steps path) = None
-from_of (Replenish path) = None
-from_of (Spawns path) = None
-from_of (Opens path) = None
-from_of (Parks path) = None
-from_of (Ends path) = None
-from_of (Pass scope) = None
-from_of (Resume worker path) = None
+from_of _ = None
 
 -- the task, or the scope
 abbrev pub whose : Event → List ℕ

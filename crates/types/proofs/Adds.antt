@@ -28,7 +28,7 @@ abbrev Grows : (S → S) → Type 0
 Grows go = Follows behind Never go go
 
 -- a state is known by what it tells and by what else it has
-same_told : (st : S) (l m : List (List ℤ)) (f g : List Fault) → l ≡ m → f ≡ g
+pub same_told : (st : S) (l m : List (List ℤ)) (f g : List Fault) → l ≡ m → f ≡ g
     → record st { lines = l; faults = f } ≡ record st { lines = m; faults = g }
 same_told st l m f g e h = ap (λ x. record st { lines = x; faults = f }) e ∙ ap (λ x. record st { lines = m; faults = x }) h
 

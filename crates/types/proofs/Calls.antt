@@ -8,7 +8,7 @@ use Rattle.std.specs.Cmp.Lexicographic.{pointwise}
 use Rattle.std.specs.List.{position_or_len, list_any}
 use Rattle.indexmap.specs.IndexSet.{insert_key}
 use Rattle.std.specs.String.{string_bytes, string_eq}
-use Rattle.std.proofs.lemmas.List.Elements.{All-nil, All-cons}
+use Rattle.std.proofs.lemmas.List.Elements.{All-nil, All-cons, All-head, All-tail}
 use Rattle.syntax_tree.specs.Tree.{Expr, Atom, Number, True, False, Name, Element, Length, Parens, lone_atom, procedure, parameter}
 use Rattle.syntax_tree.specs.Tree.{Parameter as Declared, Written, Read, Scalar}
 use Rattle.syntax_tree.specs.declared.tree.Procedure.{Procedure as rProcedure}
@@ -68,6 +68,17 @@ module _ (n : ℕ) where
   there_passed None w rest known all = all
   there_passed (Some (AScalar k)) w rest known all = all
   there_passed (Some (ASection s)) w rest known all = All-cons IsThere (s, w) rest (known s refl) all
+
+  -- the first of those that are passed, and the others
+  pub front_passed : {ps later : List rPassed} {one : rPassed} → ps ≡ one ∷ later
+      → All IsThere (map passed_by ps) → IsThere (passed_by one) × All IsThere (map passed_by later)
+  front_passed {ps} {later} {one} front all =
+      let known : All IsThere (passed_by one ∷ map passed_by later) =
+      subst (λ l. All IsThere (map passed_by l)) front all in (
+        All-head IsThere (passed_by one) (map passed_by later) known,
+        All-tail IsThere (passed_by one)
+            (map passed_by later) known,
+      )
 
   module _ (names : Names) (known : (x : List ℕ) (s : ℕ) → meant x names ≡ Some (ASection s) → s < n) where
     there_named : (a : Option Atom) (w : Bool) (rest : List Passed) → All IsThere rest → All IsThere (and_named names a w rest)

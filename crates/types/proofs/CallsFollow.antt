@@ -120,16 +120,16 @@ module _ (label : ℕ) (here : Scope) (scope : List ℕ)
 
     -- an argument for a section parameter, before others
     one_more : (k : Parameter) (e : Expr) (ps : List Declared) (es : List Expr)
-        → Given k (and_named here.names (lone_atom e) k.may_write (passed here.names ps es)) (resolution.named_by here.names (lone_atom e))
-        (passed here.names ps es)
-        → ArgumentsSuit ps es
+        → passing_atom label here k (lone_atom e) ≡ [] → ArgumentsSuit ps es
         → AllSuit (k ∷ section_kinds ps) (and_named here.names (lone_atom e) k.may_write (passed here.names ps es))
         × (resolution.named_by here.names (lone_atom e) ∷ resolution.sections_for here.names ps es
         ≡ map section (and_named here.names (lone_atom e) k.may_write (passed here.names ps es)))
-    one_more k e ps es given others = (
-      subst (AllSuit (k ∷ section_kinds ps)) (sym given.passes) (given.suits, others.suit),
-      ap (λ l. resolution.named_by here.names (lone_atom e) ∷ l) others.sections ∙ ap (map section) (sym given.passes),
-    )
+    one_more k e ps es none others =
+        let given = atom_suits k (lone_atom e) (passed here.names ps es) none in (
+          subst (AllSuit (k ∷ section_kinds ps)) (sym given.passes) (given.suits, others.suit),
+          ap (λ l. resolution.named_by here.names (lone_atom e) ∷ l) others.sections ∙ ap (map section)
+              (sym given.passes),
+        )
 
     arguments_suit : (ps : List Declared) (es : List Expr) → arguments label here ps es ≡ [] → ArgumentsSuit ps es
     arguments_suit [] [] none = record { suit = tt; sections = refl; count = refl; values = tt }
@@ -138,16 +138,14 @@ module _ (label : ℕ) (here : Scope) (scope : List ℕ)
     arguments_suit (Read x t ∷ ps) [] none = refused none
     arguments_suit (Scalar x ∷ ps) [] none = refused none
     arguments_suit (Written x t ∷ ps) (e ∷ es) none =
-        let k : Parameter = record { may_write = true; element = t } in
         let others = arguments_suit ps es (none_right (argument label here (Written x t) e) _ none) in
-        let given = atom_suits k (lone_atom e) (passed here.names ps es) (none_left (argument label here (Written x t) e) _ none) in
-        let all = one_more k e ps es given others in
+        let here_none = none_left (argument label here (Written x t) e) _ none in
+        let all = one_more (record { may_write = true; element = t }) e ps es here_none others in
         record { suit = all.0; sections = all.1; count = others.count; values = others.values }
     arguments_suit (Read x t ∷ ps) (e ∷ es) none =
-        let k : Parameter = record { may_write = false; element = t } in
         let others = arguments_suit ps es (none_right (argument label here (Read x t) e) _ none) in
-        let given = atom_suits k (lone_atom e) (passed here.names ps es) (none_left (argument label here (Read x t) e) _ none) in
-        let all = one_more k e ps es given others in
+        let here_none = none_left (argument label here (Read x t) e) _ none in
+        let all = one_more (record { may_write = false; element = t }) e ps es here_none others in
         record { suit = all.0; sections = all.1; count = others.count; values = others.values }
     arguments_suit (Scalar x ∷ ps) (e ∷ es) none =
         let others = arguments_suit ps es (none_right (argument label here (Scalar x) e) _ none) in

@@ -34,21 +34,20 @@ truths_are : (n : Count) (row : Row_of-Truth n) → row_truths row ≡ truths (i
 truths_are n end_of-Truth = refl
 truths_are n (more_of-Truth t rest) = ap (Also (truth t)) (truths_are _ rest)
 
-abbrev both_in : rTruth → (n : Count) × Row_of-Truth n
-both_in (rBoth' _ rest) = (_, rest)
-both_in _ = (_, end_of-Truth)
+abbrev operands_in : rTruth → (n : Count) × Row_of-Truth n
+operands_in (rBoth' _ rest) = (_, rest)
+operands_in (rEither' _ rest) = (_, rest)
+operands_in _ = (_, end_of-Truth)
 
 pub truth-Both : (operands : Vec rTruth Global) → truth (rBoth operands) ≡ Both (truths operands.items)
 truth-Both operands =
-    let row = both_in (rBoth operands) in ap Both (truths_are row.0 row.1 ∙ ap truths (items_hidden-the_row-Truth-0 operands))
-
-abbrev either_in : rTruth → (n : Count) × Row_of-Truth n
-either_in (rEither' _ rest) = (_, rest)
-either_in _ = (_, end_of-Truth)
+    let row = operands_in (rBoth operands) in ap Both (truths_are row.0 row.1 ∙ ap truths
+    (items_hidden-the_row-Truth-0 operands))
 
 pub truth-Either : (operands : Vec rTruth Global) → truth (rEither operands) ≡ Either (truths operands.items)
 truth-Either operands =
-    let row = either_in (rEither operands) in ap Either (truths_are row.0 row.1 ∙ ap truths (items_hidden-the_row-Truth-0 operands))
+    let row = operands_in (rEither operands) in ap Either (truths_are row.0 row.1 ∙ ap truths
+    (items_hidden-the_row-Truth-0 operands))
 
 -- where those that are left begin with an operand
 operands_from : (ts : List rTruth) (i : ℕ) (t : rTruth) → i < length ts → t ≡ get_or ts i t
@@ -63,6 +62,17 @@ module _ (env : Environment) (read : Place → ℤ) where
   any-true : (ts : Truths) → any env read ts true ≡ Ok true
   any-true NoMore = refl
   any-true (Also t rest) = refl
+
+  -- a chain's value is that of all its operands, or of any
+  pub value-Both : {t : rTruth} {row : List rTruth} (operands : Vec rTruth Global) → t ≡ rBoth operands
+      → row ≡ operands.items → all env read (truths row) true ≡ truth_value env read (truth t)
+  value-Both operands is at = ap (λ ts. all env read (truths ts) true) at
+      ∙ ap (truth_value env read) (sym (ap truth is ∙ truth-Both operands))
+
+  pub value-Either : {t : rTruth} {row : List rTruth} (operands : Vec rTruth Global) → t ≡ rEither operands
+      → row ≡ operands.items → any env read (truths row) false ≡ truth_value env read (truth t)
+  value-Either operands is at = ap (λ ts. any env read (truths ts) false) at
+      ∙ ap (truth_value env read) (sym (ap truth is ∙ truth-Either operands))
 
   -- the first operand that doesn't hold ends it
   pub all_end : (ts : List rTruth) (i : ℕ) (t : rTruth) → i < length ts → t ≡ get_or ts i t

@@ -1,22 +1,20 @@
 -- Inputs that fit, and what JSON values say of arrays.
 use Rattle.std.proofs.Common.{◌≡◌, ℕ, zero, suc, ◌+◌, ◌<◌, ◌≤◌, List, [], ◌∷◌, ◌++◌, length, map, Option, Some, None, Result, Ok, Err, IfOk, IfErr, IfSome, Vec, get_or, drop, is_some}
-use Rattle.std.proofs.Common.{Bool, true, false, refl, sym, ap, ◌∙◌, arith, rules, subst, append_assoc, Ordering, Less, Equal, Greater}
+use Rattle.std.proofs.Common.{Bool, true, false, refl, sym, ap, ◌∙◌, arith, subst, append_assoc, Less, Equal, Greater}
 use Rattle.std.proofs.Common.{String, Global, string_bytes, string_cmp, nat_cmp, option_map, replicate, BTreeMap}
-use Rattle.std.proofs.lemmas.Bool.{eqb-true, eqb-false}
+use Rattle.std.proofs.lemmas.Bool.{eqb-true, eq-eqb, ne_eqb}
 use Rattle.std.specs.Prelude.{ℤ, pos, nat_eq, not, unwrap_or, option_and_then, if◌then◌else◌, ◌&&◌, ok_or}
 use Rattle.std.proofs.lemmas.List.{length-map, length-replicate, drop_all}
 use Rattle.std.specs.Cmp.Lexicographic.{slice_cmp}
-use Rattle.std.specs.List.{list_all, list_any, find, AllByRecursion}
+use Rattle.std.specs.List.{list_all, find, AllByRecursion}
 use Rattle.std.specs.List.Sorted.{IsStrictlySortedBy}
 use Rattle.std.specs.Map.{keys_of}
 use Rattle.std.specs.Ordering.{match_ordering}
 use Rattle.std.specs.BTreeMap.{IsOrdered, keys}
-use Rattle.std.specs.Str.{bytes_eq}
 use Rattle.serde_json.specs.Data.{Data, null, boolean, number, string, array, object, Items, no_items, item, Members}
-use Rattle.serde_json.specs.Data.{no_members, member}
 use Rattle.serde_json.specs.Find.{as_object, as_array, as_i64, as_number, get, get_member}
 use Rattle.serde_json.specs.Read.{read}
-use Rattle.serde_json.specs.View.{items_view, members_view, view}
+use Rattle.serde_json.specs.View.{items_view, members_view}
 use Rattle.serde_json.specs.declared.value.Value.{Value}
 use Rattle.syntax_tree.specs.declared.tree.ElementType.{ElementType}
 use Rattle.syntax_tree.specs.declared.tree.ElementType.TheVariants.{Int, Byte}
@@ -26,8 +24,8 @@ use Rattle.types.specs.InputErrors.{mistake_in, told}
 use Rattle.types.specs.InputNames.{is_array}
 use Rattle.types.specs.Inputs as inputs
 use Rattle.types.specs.Inputs.{Mistake, NoObject, OtherLength, BadElement, IsRow, IsInput, wrong_row, wrong_rows, first_of}
-use Rattle.types.specs.Inputs.{number_in, numbers_in, items_count, list_says, value_says, member_says, both, members_say}
-use Rattle.types.specs.Inputs.{is_named, strangers, lesser, least, after_stranger, data_says, read_says, text_says, Stranger}
+use Rattle.types.specs.Inputs.{numbers_in, items_count, list_says, value_says, member_says, both, members_say}
+use Rattle.types.specs.Inputs.{is_named, strangers, lesser, least, after_stranger, data_says, Stranger}
 use Rattle.types.specs.Translation.{array as array_of}
 use Rattle.types.specs.Value.{holds_number}
 use Rattle.types.specs.declared.code.Array.{Array as rArray}
@@ -67,16 +65,10 @@ IsInput-from_wrong_rows (x ∷ xs) (row ∷ rows) long e =
     let h = first_none (wrong_row x row) (wrong_rows xs rows) e in
     inputs.also (row_from x row h.0) (IsInput-from_wrong_rows xs rows (omega (arith, long)) h.1)
 
-same_number : (n m : ℕ) → n ≡ m → nat_eq n m ≡ true
-same_number n m e = search rules
-
-other_number : (n m : ℕ) → (n ≡ m → ⊥) → nat_eq n m ≡ false
-other_number n m e = search rules
-
 row_right : (x : Array) (row : List ℤ) → IsRow x row → wrong_row x row ≡ None
 row_right x row r =
     ap (λ b. if b then (if list_all (holds_number x.element) row then None else Some (BadElement x.name))
-    else Some (OtherLength x.name)) (same_number _ _ r.long)
+    else Some (OtherLength x.name)) (eq-eqb _ _ r.long)
     ∙ ap (λ b. if b then None else Some (BadElement x.name)) r.held
 
 -- and nothing is wrong with lists that fit
@@ -237,18 +229,26 @@ pub value_says-list : (x : Array) (d : Data) (ds : Items) → as_array d ≡ Som
     → value_says x d ≡ ok_or (numbers_in x.element ds) (BadElement x.name)
 value_says-list x d ds e long =
     ap (value_says x) (array-from_as_array d ds e)
-    ∙ ap (λ b. if b then ok_or (numbers_in x.element ds) (BadElement x.name) else Err (OtherLength x.name)) (same_number _ _ long)
+    ∙ ap (λ b. if b then ok_or (numbers_in x.element ds) (BadElement x.name) else Err (OtherLength x.name)) (eq-eqb _ _ long)
 
 -- and of another length
 pub value_says-other : (x : Array) (d : Data) (ds : Items) → as_array d ≡ Some ds → (items_count ds ≡ x.length → ⊥)
     → value_says x d ≡ Err (OtherLength x.name)
 value_says-other x d ds e long =
     ap (value_says x) (array-from_as_array d ds e)
-    ∙ ap (λ b. if b then ok_or (numbers_in x.element ds) (BadElement x.name) else Err (OtherLength x.name)) (other_number _ _ long)
+    ∙ ap (λ b. if b then ok_or (numbers_in x.element ds) (BadElement x.name) else Err (OtherLength x.name)) (ne_eqb _ _ long)
 
 pub items_count-items_view : (vs : List Value) → items_count (items_view vs) ≡ length vs
 items_count-items_view [] = refl
 items_count-items_view (v ∷ vs) = let e = items_count-items_view vs in omega (arith, e)
+
+-- what the list of an array's length says of it, by its items
+pub value_says-items : (x : Array) (d : Data) {es vs : List Value} → Some (items_view es) ≡ as_array d
+    → vs ≡ es → length vs ≡ x.length
+    → value_says x d ≡ ok_or (numbers_in x.element (items_view vs)) (BadElement x.name)
+value_says-items x d {es} {vs} is same long =
+    value_says-list x d (items_view vs) (sym is ∙ ap (λ l. Some (items_view l)) (sym same))
+    (items_count-items_view vs ∙ long)
 
 -- what is left of a list, behind the numbers so far
 abbrev pub behind : List ℤ → Option (List ℤ) → Option (List ℤ)

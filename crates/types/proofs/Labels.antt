@@ -1,12 +1,11 @@
 -- The labels of a resolved text are counted from 1 in the order of the text.
 use Rattle.std.proofs.Common.{◌≡◌, ℕ, zero, suc, ◌+◌, List, [], ◌∷◌, ◌++◌, Option, Some, None, length}
 use Rattle.std.proofs.Common.{refl, sym, ap, ◌∙◌, subst, arith}
-use Rattle.std.proofs.lemmas.Option.{none-some}
+use Rattle.std.proofs.lemmas.Option.{none-some, same_Some}
 use Rattle.std.proofs.lemmas.List.{length-append}
 use Rattle.std.specs.List.{range_with_len}
 use Rattle.syntax_tree.specs.Tree.{Stmt, Skip, Var, Assign, Store, Print, Fault, If, IfElse, While, Split, Call, Async}
 use Rattle.syntax_tree.specs.Tree.{Finish, Block, End, Then, Expr, Parameter, Procedure, Main, Program}
-use Rattle.types.proofs.Lists.{some_same}
 use Rattle.types.proofs.Scopes.{label_with_parameters, label_with_arrays}
 use Rattle.types.specs.Code as resolved
 use Rattle.types.specs.Labels.{labels_inside, labels_of, labels_of_procedures, labels_of_program}
@@ -124,7 +123,7 @@ resolved_are_counted : (fs : List Procedure) (m : Option Main) (p : resolved.Pro
     → labels_of_program p ≡ range_with_len 1 (length (labels_of_program p))
 resolved_are_counted fs None p is = absurd (none-some p is)
 resolved_are_counted fs (Some m) p is =
-    subst (λ p. labels_of_program p ≡ range_with_len 1 (length (labels_of_program p))) (some_same is) (counts_program fs m).turn
+    subst (λ p. labels_of_program p ≡ range_with_len 1 (length (labels_of_program p))) (same_Some _ _ is) (counts_program fs m).turn
 
 pub labels_are_counted : (t : Program) (p : resolved.Program) → resolution t ≡ Some p
     → labels_of_program p ≡ range_with_len 1 (length (labels_of_program p))

@@ -31,3 +31,4 @@ pub mod CallsFollow
 pub mod StatementsFollow
 pub mod NumbersFrom
 pub mod ProgramsSound
+pub mod Bindings

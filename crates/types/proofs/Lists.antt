@@ -1,8 +1,8 @@
 -- Contents and environments as lists show them.
-use Rattle.std.proofs.Common.{◌≡◌, ℕ, zero, suc, ◌+◌, ◌<◌, List, [], ◌∷◌, ◌++◌, length, Option, Some, None, refl, sym}
-use Rattle.std.proofs.Common.{ap, ◌∙◌, subst, arith}
+use Rattle.std.proofs.Common.{◌≡◌, ℕ, zero, suc, ◌+◌, ◌<◌, List, [], ◌∷◌, ◌++◌, length, Some, refl, sym}
+use Rattle.std.proofs.Common.{ap, ◌∙◌, arith}
 use Rattle.std.proofs.lemmas.Bool.{eqb-true, eqb-false}
-use Rattle.std.proofs.lemmas.Option.{unwrap_or-slice_get, none-some}
+use Rattle.std.proofs.lemmas.Option.{unwrap_or-slice_get, none-some, same_Some}
 use Rattle.std.proofs.lemmas.List.{get_or-set_same, get_or-set_other}
 use Rattle.std.specs.Prelude.{ℤ, pos, Bool, true, false, ◌&&◌, nat_eq, slice_get, slice_index_or, slice_set, replicate, if◌then◌else◌}
 use Rattle.types.specs.Code.{Array}
@@ -42,10 +42,6 @@ pub shown-held_by : (arrays : List Array) (lists : List (List ℤ)) → FitsArra
 shown-held_by arrays lists fits =
     rows_are (held_by lists) 0 arrays lists fits (λ j k. let z : 0 + j ≡ j = omega arith in
     unwrap_or-slice_get (slice_index_or lists (0 + j) []) k (pos 0) ∙ ap (λ j. slice_index_or (slice_index_or lists j []) k (pos 0)) z)
-
--- what is there is one thing
-pub some_same : {A : Type 0} {x y : A} → Some x ≡ Some y → x ≡ y
-some_same e = cc
 
 -- a list after a write, by number
 set_by_number : {A : Type 0} (d : A) (xs : List A) (i : ℕ) (v : A) → i < length xs → (k : ℕ)
@@ -124,7 +120,7 @@ whole_by_number : (n : ℕ) (arrays : List Array) (k : ℕ) (x : Array) → slic
 whole_by_number n [] k x e = absurd (none-some x e)
 whole_by_number n (y ∷ ys) zero x e =
     let here : n ≡ n + 0 = omega arith in
-    ap (λ (z : Array). record { array = n; at = 0; length = z.length }) (some_same e)
+    ap (λ (z : Array). record { array = n; at = 0; length = z.length }) (same_Some _ _ e)
     ∙ ap (λ m. record { array = m; at = 0; length = x.length }) here
 whole_by_number n (y ∷ ys) (suc k) x e =
     let there : n + 1 + k ≡ n + suc k = omega arith in

@@ -3,7 +3,7 @@ use Rattle.std.proofs.Common.{◌≡◌, ℕ, zero, suc, ◌+◌, ◌<◌, ◌�
 use Rattle.std.proofs.Common.{Option, Some, None, refl, sym, ap, ◌∙◌, subst, arith, append_assoc, append-nil}
 use Rattle.std.proofs.Common.{if◌then◌else◌}
 use Rattle.std.proofs.lemmas.List.{length-append, length-replicate}
-use Rattle.std.proofs.lemmas.Option.{none-some}
+use Rattle.std.proofs.lemmas.Option.{none-some, same_Some}
 use Rattle.std.specs.Prelude.{nat_eq, slice_get, slice_index_or}
 use Rattle.std.specs.Cmp.Lexicographic.{pointwise}
 use Rattle.sections.specs.Origins.{Origin, Root, Left, Right, origin_of, IsNumbered}
@@ -18,7 +18,6 @@ use Rattle.types.specs.Run.{no_procedure}
 use Rattle.types.specs.Scope.{Meant, ASection, AScalar, Names, meant, Scope, empty_scope, with_scalar, with_root, with_parameter}
 use Rattle.types.specs.Scope.{with_parameters, with_array, with_arrays, in_procedure, in_main, after}
 use Rattle.types.proofs.Labels.{labels_are_counted, last_label}
-use Rattle.types.proofs.Lists.{some_same}
 use Rattle.types.proofs.NumbersFrom.{numbers_from-member, numbers_from-below}
 use Rattle.types.proofs.Scopes.{label_with_parameters, label_with_arrays}
 use Rattle.types.specs.Labels.{labels_of_program}
@@ -237,7 +236,7 @@ module _ (all : List DeclaredProcedure) (x : List ℕ) where
       → (if b then Some (n, f.parameters) else o) ≡ Some (k, ps)
       → Found n (resolved all f.name (in_procedure label f.parameters) f.body ∷ rest) k ps
   found_by true n label f rest o k ps later h =
-      let same = some_same h in found_first n label f rest k ps (ap (λ y. y.0) same) (ap (λ y. y.1) same)
+      let same = same_Some _ _ h in found_first n label f rest k ps (ap (λ y. y.0) same) (ap (λ y. y.1) same)
   found_by false n label f rest o k ps later h = found_later n _ rest k ps (later h)
 
   found : (n label : ℕ) (fs : List DeclaredProcedure) (k : ℕ) (ps : List Declared) → procedure_of n x fs ≡ Some (k, ps)
@@ -322,7 +321,7 @@ resolved_main_sound : (fs : List DeclaredProcedure) (m : Option Main) (p : Progr
     → errors_of (record { procedures = fs; main = m }) ≡ []
     → resolution (record { procedures = fs; main = m }) ≡ Some p → IsSound p
 resolved_main_sound fs None p none is = absurd (none-some p is)
-resolved_main_sound fs (Some m) p none is = subst IsSound (some_same is) (with_main_sound fs m none)
+resolved_main_sound fs (Some m) p none is = subst IsSound (same_Some _ _ is) (with_main_sound fs m none)
 
 pub resolved_texts_are_sound : (t : Text) (p : Program) → errors_of t ≡ [] → resolution t ≡ Some p → IsSound p
 resolved_texts_are_sound t p none is = resolved_main_sound t.procedures t.main p none is

@@ -1,7 +1,8 @@
 -- What is found of statements, from what is found of their parts.
 use Rattle.std.proofs.Common.{◌≡◌, ◌⊎◌, inl, inr, ℕ, suc, ◌≤◌, ◌<◌, List, [], ◌∷◌, length, refl, sym, ap, ◌∙◌, subst, arith, true≢false}
 use Rattle.std.proofs.lemmas.Bool.{cases_eq}
-use Rattle.std.specs.Prelude.{Bool, true, false, Option, None, Some, IfSome, MatchOption, option_map, slice_get}
+use Rattle.std.specs.Prelude.{if◌then◌else◌, Bool, true, false}
+use Rattle.std.specs.Prelude.{Option, None, Some, IfSome, MatchOption, option_map, slice_get}
 use Rattle.sections.specs.declared.id.SectionId.{SectionId}
 use Rattle.types.specs.Code.{Number, Truth, Primitive, Code, Do, If, While, Split, Call, Async, Finish, Codes, End, Then, Program}
 use Rattle.types.specs.Run.{procedure_of}
@@ -310,6 +311,40 @@ module _ (p : Program) (known : Known) (sought : Sought) where
       → AreWays p (access sought.access) known → IfSome aim (λ a. AreWays p (access a.access) known)
   inside_ways s i r inner None is ways = tt
   inside_ways s i r inner (Some a) is ways = subst (λ (y : rAccess). AreWays p (access y) known) (sym is.access) ways
+
+  -- and to what is sought behind a finish, if anything is
+  pub awaited_ways : (m : Bool) → AreWays p (access sought.access) known
+      → IfSome (if m then None else Some sought) (λ a. AreWays p (access a.access) known)
+  awaited_ways true ways = tt
+  awaited_ways false ways = ways
+
+  -- what is found behind a finish, where nothing is left pending
+  pub finish_found : (l : ℕ) (b : Codes) (first : Step) (aim : Option Sought) (found : Option (List Step))
+      → aim ≡ (if sought.pending then None else Some sought)
+      → first ≡ step l Await sought.access.section.number
+      → MatchOption aim (found ≡ None) (λ a. IsLeast length (AreShortest p (access a.access) known)
+      (IsLed first (λ way. Way p a.pending b way (access a.access))) found)
+      → IsLeast length (AreShortest p (access sought.access) known)
+      (GoesOn p sought.pending l (Finish b) (access sought.access)) found
+  finish_found l b first aim found is at h =
+      by sought.pending refl (subst (λ (o : Option Sought). MatchOption o (found ≡ None) Behind) is h)
+    where
+      Behind : Sought → Type 0
+      Behind a = IsLeast length (AreShortest p (access a.access) known)
+          (IsLed first (λ way. Way p a.pending b way (access a.access))) found
+
+      by : (m : Bool) → sought.pending ≡ m
+          → MatchOption (if m then None else Some sought) (found ≡ None) Behind
+          → IsLeast length (AreShortest p (access sought.access) known)
+          (GoesOn p sought.pending l (Finish b) (access sought.access)) found
+      by true e none =
+          subst (IsLeast length (AreShortest p (access sought.access) known)
+          (GoesOn p sought.pending l (Finish b) (access sought.access))) (sym none)
+          (least_unfinished p (AreShortest p (access sought.access) known) sought.pending l
+          (access sought.access) b e)
+      by false e h =
+          least_finish p (AreShortest p (access sought.access) known) sought.pending l (access sought.access)
+          b found e (stepped (AreShortest p (access sought.access) known) _ _ _ _ at h)
 
   -- what is found by one of the names inside
   side_found : (l s i r : ℕ) (b : Codes) (inner : SectionId) (first : Step) (aim : Option Sought) (found : Option (List Step))

@@ -6,7 +6,8 @@ use Rattle.std.proofs.lemmas.Option.{slice_get_within, slice_get-map, slice_get_
 use Rattle.std.specs.Global.{Global}
 use Rattle.std.specs.HashMap.{get}
 use Rattle.std.specs.Option.{option_copied}
-use Rattle.std.specs.Prelude.{Bool, true, false, Option, None, Some, cond, option_map, slice_get, slice_index_or, nat_eq}
+use Rattle.std.specs.Prelude.{Bool, true, false, not, Option, None, Some, cond, option_map, slice_get}
+use Rattle.std.specs.Prelude.{slice_index_or, nat_eq}
 use Rattle.sections.specs.Translation.{section}
 use Rattle.sections.specs.declared.id.SectionId.{SectionId}
 use Rattle.ways.specs.Known.{IsPut, is_key, steps, way_at, way_known, entry}
@@ -55,31 +56,44 @@ updated_other e m f k way old new is u = by (is_key (e.procedure.number, e.param
     by true h = inr (entry_is e m f k is h)
     by false h = inl (ap steps (u (f, k)) ∙ ap (λ t. steps (cond t (Some way) (old (f, k)))) h)
 
+-- the table for what is left pending, and that for what is done
+abbrev table : Known → (pending : Bool) → ℕ × ℕ → Option (Vec Step Global)
+table known true q = get is_key known.pending q
+table known false q = get is_key known.done q
+
+table_has : (known : Known) (m : Bool) (e : Entry) → e.pending ≡ m
+    → steps (table known m (e.procedure.number, e.parameter.number)) ≡ way_at known e
+table_has known true e = at_pending known e
+table_has known false e = at_done known e
+
+-- one of them has a way more, and the other is as it was
+put_in : (m : Bool) (e : Entry) (way : Vec Step Global) (old new : Known) → e.pending ≡ m
+    → ((q : ℕ × ℕ) → table new (not m) q ≡ table old (not m) q)
+    → Updated e.procedure.number e.parameter.number way (table old m) (table new m)
+    → IsPut e way.items old new
+put_in m e way old new is same u = record {
+  here = sym (table_has new m e is)
+      ∙ updated_here e.procedure.number e.parameter.number way (table old m) (table new m) u;
+  others = λ n f k. by m n f k is same u;
+}
+  where
+    by : (t n : Bool) (f k : ℕ) → e.pending ≡ t → ((q : ℕ × ℕ) → table new (not t) q ≡ table old (not t) q)
+        → Updated e.procedure.number e.parameter.number way (table old t) (table new t)
+        → (way_known new n f k ≡ way_known old n f k) ⊎ (e ≡ entry n f k)
+    by true true f k is same u = updated_other e true f k way (table old true) (table new true) is u
+    by false false f k is same u = updated_other e false f k way (table old false) (table new false) is u
+    by true false f k is same u = inl (ap steps (same (f, k)))
+    by false true f k is same u = inl (ap steps (same (f, k)))
+
 pub put_pending : (e : Entry) (way : Vec Step Global) (old new : Known) → e.pending ≡ true → new.done ≡ old.done
     → ((q : ℕ × ℕ) → get is_key new.pending q ≡ cond (is_key (e.procedure.number, e.parameter.number) q) (Some way) (get is_key old.pending q))
     → IsPut e way.items old new
-put_pending e way old new is same u = record {
-  here = sym (at_pending new e is)
-      ∙ updated_here e.procedure.number e.parameter.number way (λ q. get is_key old.pending q) (λ q. get is_key new.pending q) u;
-  others = λ m f k. by m f k;
-}
-  where
-    by : (m : Bool) (f k : ℕ) → (way_known new m f k ≡ way_known old m f k) ⊎ (e ≡ entry m f k)
-    by true f k = updated_other e true f k way (λ q. get is_key old.pending q) (λ q. get is_key new.pending q) is u
-    by false f k = inl (ap (λ t. steps (get is_key t (f, k))) same)
+put_pending e way old new is same u = put_in true e way old new is (λ q. ap (λ t. get is_key t q) same) u
 
 pub put_done : (e : Entry) (way : Vec Step Global) (old new : Known) → e.pending ≡ false → new.pending ≡ old.pending
     → ((q : ℕ × ℕ) → get is_key new.done q ≡ cond (is_key (e.procedure.number, e.parameter.number) q) (Some way) (get is_key old.done q))
     → IsPut e way.items old new
-put_done e way old new is same u = record {
-  here = sym (at_done new e is)
-      ∙ updated_here e.procedure.number e.parameter.number way (λ q. get is_key old.done q) (λ q. get is_key new.done q) u;
-  others = λ m f k. by m f k;
-}
-  where
-    by : (m : Bool) (f k : ℕ) → (way_known new m f k ≡ way_known old m f k) ⊎ (e ≡ entry m f k)
-    by false f k = updated_other e false f k way (λ q. get is_key old.done q) (λ q. get is_key new.done q) is u
-    by true f k = inl (ap (λ t. steps (get is_key t (f, k))) same)
+put_done e way old new is same u = put_in false e way old new is (λ q. ap (λ t. get is_key t q) same) u
 
 -- the same by the key that was made
 pub by_key : (f k : ℕ) (key : ℕ × ℕ) (way : Vec Step Global) (old new : ℕ × ℕ → Option (Vec Step Global)) → key ≡ (f, k)

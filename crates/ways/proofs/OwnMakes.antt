@@ -1,51 +1,20 @@
 -- The test whether an access is among others.
-use Rattle.std.proofs.Common.{◌≡◌, ◌<◌, ◌≤◌, ◌+◌, ℕ, List, [], ◌∷◌, length, map, drop, get_or, refl, sym, ap, ◌∙◌, subst, true≢false, add-one}
+use Rattle.std.proofs.Common.{◌≡◌, ◌<◌, ◌≤◌, ◌+◌, ℕ, List, [], ◌∷◌, length, map, drop, get_or, refl, sym, ap, ◌∙◌, add-one}
 use Rattle.std.proofs.Math.Seq.{drop-cons}
 use Rattle.std.proofs.lemmas.List.{drop_all}
-use Rattle.std.proofs.lemmas.Bool.{eqb-true, eq-eqb, and_parts, and_from}
-use Rattle.std.specs.Prelude.{Bool, true, false, flat_map, ◌++◌, ◌&&◌, ◌||◌, nat_eq}
+use Rattle.std.specs.Prelude.{Bool, true, false, flat_map, ◌++◌, ◌&&◌, ◌||◌}
+use Rattle.effects.proofs.Stability.{is_listed}
 use Rattle.sections.specs.Member.{Member, first, next}
-use Rattle.sections.proofs.Members.{any_member, member_any}
 use Rattle.types.specs.Code.{Primitive, Skip, Assign, Store, Print, Raise}
 use Rattle.types.specs.Code.{Code, Do, If, While, Split, Call, Async, Finish}
 use Rattle.types.specs.Indexed.{indexed, indexed_truth}
 use Rattle.effects.specs.Accesses.{Access, reads, own_primitive, own_accesses}
 use Rattle.effects.specs.Translation.{access}
 use Rattle.effects.specs.declared.access.Access.{Access as rAccess}
-use Rattle.effects.specs.Rounds.{same_access, same_kind, lists}
-
-same_kind-equal : (a b : Bool) → same_kind a b ≡ true → a ≡ b
-same_kind-equal true true h = refl
-same_kind-equal true false h = absurd (true≢false (sym h))
-same_kind-equal false true h = absurd (true≢false (sym h))
-same_kind-equal false false h = refl
+use Rattle.effects.specs.Rounds.{same_access, lists}
 
 abbrev make : ℕ → ℕ → Bool → Access
 make l s w = record { label = l; section = s; write = w }
-
-same_access-equal : (x y : Access) → same_access x y ≡ true → x ≡ y
-same_access-equal x y h =
-    let a = and_parts (nat_eq x.label y.label) (nat_eq x.section y.section && same_kind x.write y.write) h in
-    let b = and_parts (nat_eq x.section y.section) (same_kind x.write y.write) a.1 in
-    ap (λ l. make l x.section x.write) (eqb-true x.label y.label a.0)
-    ∙ ap (λ s. make y.label s x.write) (eqb-true x.section y.section b.0)
-    ∙ ap (make y.label y.section) (same_kind-equal x.write y.write b.1)
-
-pub member_from_lists : (xs : List Access) (x : Access) → lists xs x ≡ true → Member x xs
-member_from_lists xs x h =
-    let r = any_member (same_access x) xs h in subst (λ y. Member y xs) (sym (same_access-equal x r.item r.passes)) r.member
-
-same_kind-same : (a : Bool) → same_kind a a ≡ true
-same_kind-same true = refl
-same_kind-same false = refl
-
-same_access-same : (x : Access) → same_access x x ≡ true
-same_access-same x =
-    and_from (nat_eq x.label x.label) (nat_eq x.section x.section && same_kind x.write x.write) (eq-eqb x.label x.label refl)
-    (and_from (nat_eq x.section x.section) (same_kind x.write x.write) (eq-eqb x.section x.section refl) (same_kind-same x.write))
-
-pub lists_from_member : (xs : List Access) (x : Access) → Member x xs → lists xs x ≡ true
-lists_from_member xs x m = member_any (same_access x) xs m (same_access-same x)
 
 -- a statement's accesses have its label
 reads_label : (l : ℕ) (ss : List ℕ) (x : Access) → Member x (reads l ss) → x.label ≡ l
@@ -75,7 +44,7 @@ pub lists_not_other : (l : ℕ) (s : Code) (x : Access) → (l ≡ x.label → �
 lists_not_other l s x differs = by (lists (own_accesses l s) x) refl
   where
     by : (b : Bool) → lists (own_accesses l s) x ≡ b → false ≡ lists (own_accesses l s) x
-    by true e = absurd (differs (sym (own_label l s x (member_from_lists (own_accesses l s) x e))))
+    by true e = absurd (differs (sym (own_label l s x (is_listed (own_accesses l s) x e))))
     by false e = sym e
 
 -- those from one of them on

@@ -1,6 +1,7 @@
 //! The shortest way from statements to an access.
 
-ghost use Rattle.std.specs.Prelude.{◌≡◌, ◌↔◌, IfOk, IfSome, IsTrue, MatchOption, None, length, map};
+ghost use Rattle.std.specs.Prelude.{◌≡◌, ◌↔◌, if◌then◌else◌, false, length, map};
+ghost use Rattle.std.specs.Prelude.{IfOk, IfSome, IsTrue, MatchOption, None, Some};
 ghost use Rattle.sections.specs.Translation.{section as section_of};
 ghost use Rattle.types.specs.Translation.{code as plain_code, codes as codes_of};
 ghost use Rattle.types.specs.Translation.{program as program_of};
@@ -38,6 +39,34 @@ impl Sought {
             rule,
             section: self.access.section,
         }
+    }
+
+    /// The step into a call.
+    fn entering(self, statement: &Stmt, procedure: ProcedureId) -> Step
+        ensures { result ≡ step_of statement.now.label (Rule.Enter procedure)
+            self.access.section.number }
+    {
+        self.step(statement, Rule::Enter { procedure })
+    }
+
+    /// The same access where it is done.
+    fn done(self) -> Sought
+        ensures { result ≡ record self { pending = false } }
+    {
+        Sought {
+            access: self.access,
+            pending: false,
+        }
+    }
+
+    /// The same where all that was begun is awaited. None where it is left pending.
+    fn awaited(self) -> Option<Sought>
+        ensures { result ≡ (if self.pending then None else Some self) }
+    {
+        if self.pending {
+            return None;
+        }
+        Some(self)
     }
 
     /// Whether a statement's own expressions make it.
@@ -170,28 +199,16 @@ fn way_inside(
             sections,
             ..
         } => {
-            let step = sought.step(
-                statement,
-                Rule::Enter {
-                    procedure: *procedure,
-                },
-            );
+            let step = sought.entering(statement, *procedure);
             way_past_call(alloc, known, sought, step, *procedure, sections)
         }
         StmtKind::Async { body } => {
-            let done = Sought {
-                access: sought.access,
-                pending: false,
-            };
             let step = sought.step(statement, Rule::Begin);
-            way_behind(alloc, code, known, Some(done), step, body)
+            way_behind(alloc, code, known, Some(sought.done()), step, body)
         }
         StmtKind::Finish { body } => {
-            if sought.pending {
-                return Ok(None);
-            }
             let step = sought.step(statement, Rule::Await);
-            way_behind(alloc, code, known, Some(sought), step, body)
+            way_behind(alloc, code, known, sought.awaited(), step, body)
         }
     }
 }

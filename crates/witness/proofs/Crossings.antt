@@ -183,42 +183,48 @@ module _ (p : Program) (x y : Access) where
         cases (MeetsAt.turns w v) = inl (record { meeting = refl; pending = w; later = v })
         cases (MeetsAt.inside k m) = inr (block k m)
 
-    pub at_split : (s : ℕ) (a : Number) (i r : ℕ) (b : Codes) (found : Option Crossed) → IsLeast both all_covered (MeetIn p b x y) found
-        → IsLeast both all_covered (MeetAt p l (Split s a i r b) x y) found
-    at_split s a i r b found h =
-        least_same both all_covered (MeetIn p b x y) (MeetAt p l (Split s a i r b) x y) found (λ c m. MeetsAt.inside Block.split m)
-        (λ c m. cases m) h
-      where
-        block : {e : Codes} → Block (Split s a i r b) e → {kind : Meeting} {one other : List Step} → Meets p e kind one other x y
-            → Meets p b kind one other x y
-        block Block.split m = m
+    -- that has only this block, and none of whose turns meet
+    abbrev HasOnly : Code → Codes → Type 0
+    HasOnly (Do a) b = ⊥
+    HasOnly (If t d e) b = ⊥
+    HasOnly (While t d) b = ⊥
+    HasOnly (Split s a i r d) b = d ≡ b
+    HasOnly (Call f es ss) b = ⊥
+    HasOnly (Async d) b = d ≡ b
+    HasOnly (Finish d) b = d ≡ b
 
-        cases : {kind : Meeting} {one other : List Step} → MeetsAt p l (Split s a i r b) kind one other x y → Meets p b kind one other x y
-        cases (MeetsAt.inside k m) = block k m
+    at_block : (s : Code) (b : Codes) (found : Option Crossed) → Block s b → HasOnly s b
+        → IsLeast both all_covered (MeetIn p b x y) found → IsLeast both all_covered (MeetAt p l s x y) found
+    at_block s b found k only h =
+        least_same both all_covered (MeetIn p b x y) (MeetAt p l s x y) found (λ c m. MeetsAt.inside k m)
+        (λ c m. cases only m) h
+      where
+        block : {u : Code} {e : Codes} → HasOnly u b → Block u e → {kind : Meeting} {one other : List Step}
+            → Meets p e kind one other x y → Meets p b kind one other x y
+        block only Block.if_body m = absurd only
+        block only Block.if_other m = absurd only
+        block only Block.while m = absurd only
+        block only Block.split {kind} {one} {other} m = subst (λ d. Meets p d kind one other x y) only m
+        block only Block.async {kind} {one} {other} m = subst (λ d. Meets p d kind one other x y) only m
+        block only Block.finish {kind} {one} {other} m = subst (λ d. Meets p d kind one other x y) only m
+
+        cases : {u : Code} {kind : Meeting} {one other : List Step} → HasOnly u b
+            → MeetsAt p l u kind one other x y → Meets p b kind one other x y
+        cases only (MeetsAt.turns w v) = absurd only
+        cases only (MeetsAt.inside k m) = block only k m
+
+    pub at_split : (s : ℕ) (a : Number) (i r : ℕ) (b : Codes) (found : Option Crossed)
+        → IsLeast both all_covered (MeetIn p b x y) found
+        → IsLeast both all_covered (MeetAt p l (Split s a i r b) x y) found
+    at_split s a i r b found = at_block (Split s a i r b) b found Block.split refl
 
     pub at_async : (b : Codes) (found : Option Crossed) → IsLeast both all_covered (MeetIn p b x y) found
         → IsLeast both all_covered (MeetAt p l (Async b) x y) found
-    at_async b found h =
-        least_same both all_covered (MeetIn p b x y) (MeetAt p l (Async b) x y) found (λ c m. MeetsAt.inside Block.async m) (λ c m. cases m) h
-      where
-        block : {e : Codes} → Block (Async b) e → {kind : Meeting} {one other : List Step} → Meets p e kind one other x y
-            → Meets p b kind one other x y
-        block Block.async m = m
-
-        cases : {kind : Meeting} {one other : List Step} → MeetsAt p l (Async b) kind one other x y → Meets p b kind one other x y
-        cases (MeetsAt.inside k m) = block k m
+    at_async b found = at_block (Async b) b found Block.async refl
 
     pub at_finish : (b : Codes) (found : Option Crossed) → IsLeast both all_covered (MeetIn p b x y) found
         → IsLeast both all_covered (MeetAt p l (Finish b) x y) found
-    at_finish b found h =
-        least_same both all_covered (MeetIn p b x y) (MeetAt p l (Finish b) x y) found (λ c m. MeetsAt.inside Block.finish m) (λ c m. cases m) h
-      where
-        block : {e : Codes} → Block (Finish b) e → {kind : Meeting} {one other : List Step} → Meets p e kind one other x y
-            → Meets p b kind one other x y
-        block Block.finish m = m
-
-        cases : {kind : Meeting} {one other : List Step} → MeetsAt p l (Finish b) kind one other x y → Meets p b kind one other x y
-        cases (MeetsAt.inside k m) = block k m
+    at_finish b found = at_block (Finish b) b found Block.finish refl
 
   pub at_statement : (l : ℕ) (k s : Code) (found : Option Crossed) → k ≡ s → IsLeast both all_covered (MeetAt p l s x y) found
       → IsLeast both all_covered (MeetAt p l k x y) found

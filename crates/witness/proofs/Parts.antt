@@ -87,18 +87,15 @@ module _ (origins : List Origin) (numbered : IsNumbered origins) where
       | inr apart ↦ overlap-sym origins s low ∙ sym (above_right origins numbered low high order s e apart) ∙ h
     ]
 
-    pub low_left : (s r : ℕ) → origin_of origins high ≡ Left s → (overlap origins s low ≡ true → LiesIn origins low r)
+    side_overlap : (s : ℕ) → IsSideOf origins s high → overlap origins low high ≡ true
+        → overlap origins s low ≡ true
+    side_overlap s (IsSideOf.left e) h = left_overlap s e h
+    side_overlap s (IsSideOf.right e) h = right_overlap s e h
+
+    pub low_lies : (s r : ℕ) → IsSideOf origins s high → (overlap origins s low ≡ true → LiesIn origins low r)
         → overlap origins low high ≡ true → LiesIn origins low r
-    low_left s r e down h = down (left_overlap s e h)
+    low_lies s r side down h = down (side_overlap s side h)
 
-    pub high_left : (s r : ℕ) → origin_of origins high ≡ Left s → (overlap origins s low ≡ true → LiesIn origins s r)
+    pub high_lies : (s r : ℕ) → IsSideOf origins s high → (overlap origins s low ≡ true → LiesIn origins s r)
         → overlap origins low high ≡ true → LiesIn origins high r
-    high_left s r e up h = LiesIn.side (IsSideOf.left e) (up (left_overlap s e h))
-
-    pub low_right : (s r : ℕ) → origin_of origins high ≡ Right s → (overlap origins s low ≡ true → LiesIn origins low r)
-        → overlap origins low high ≡ true → LiesIn origins low r
-    low_right s r e down h = down (right_overlap s e h)
-
-    pub high_right : (s r : ℕ) → origin_of origins high ≡ Right s → (overlap origins s low ≡ true → LiesIn origins s r)
-        → overlap origins low high ≡ true → LiesIn origins high r
-    high_right s r e up h = LiesIn.side (IsSideOf.right e) (up (right_overlap s e h))
+    high_lies s r side up h = LiesIn.side side (up (side_overlap s side h))

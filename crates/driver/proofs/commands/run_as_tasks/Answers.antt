@@ -1,6 +1,7 @@
 use denote.Param.Send.{sendable}
 use Rattle.std.proofs.Common.{ℕ, ap, ◌∙◌, map, refl, subst, sym}
 use Rattle.std.specs.Str.{chars}
+use Rattle.trials.proofs.RunCauses.{no_run_explained, no_run_other}
 use Rattle.syntax.specs.Lexical.{AreTokensOf}
 use Rattle.syntax.specs.Spelling.{spelling}
 use Rattle.types.specs.Contents.{FitsArrays}
@@ -15,7 +16,7 @@ use Rattle.command_line.specs.declared.request.Command.TheVariants.{Run}
 use Rattle.intake.specs.Held.{BeginsWith}
 use Rattle.answers.proofs.Answering.{code_of_text, is_explored, other_failure, outcome_shown, passes_no_input, passes_on, shown}
 use Rattle.driver.specs.Traced.{IsTraceOf, IsTraceOfText}
-use Rattle.driver.proofs.Leaving.{early_no_input, early_not_accepted, no_run_explained, no_run_other, passes_early, passes_failed}
+use Rattle.driver.proofs.Leaving.{early_no_input, early_not_accepted, passes_early, passes_failed}
 use Rattle.driver.proofs.Leaving.{told_behind, traced_since}
 use Rattle.driver.proofs.commands.run_as_tasks.Goals as goal
 

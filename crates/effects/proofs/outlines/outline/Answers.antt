@@ -1,4 +1,4 @@
-use Rattle.std.proofs.Common.{◌≡◌, ℕ, List, ◌++◌, map, IfOk, ap, subst, ◌∙◌}
+use Rattle.std.proofs.Common.{◌≡◌, ℕ, List, ◌++◌, IfOk, ap, subst, ◌∙◌}
 use Rattle.std.specs.Prelude.{◌↔◌, flat_map}
 use Rattle.sections.specs.Member.{Member}
 use Rattle.sections.specs.Overlap.{root_of}
@@ -9,12 +9,11 @@ use Rattle.effects.specs.Outlines.{starts_in}
 use Rattle.effects.specs.Roots.{root_in}
 use Rattle.effects.specs.Starts.{starts_of}
 use Rattle.effects.specs.SummaryRows.{HasRow}
-use Rattle.effects.specs.Visits.{Visit, visits_in, visit}
+use Rattle.effects.specs.Visits.{Visit, visits_in}
 use Rattle.effects.specs.declared.starts.Start.{Start}
 use Rattle.effects.specs.declared.summary.Row.{Row}
 use Rattle.effects.specs.declared.visits.Standing.TheVariants.{Open}
-use Rattle.effects.specs.declared.visits.Visit.{Visit as rVisit}
-use Rattle.effects.proofs.OutlineLemmas.{ok_anyway}
+use Rattle.effects.proofs.OutlineLemmas.{ok_anyway, visited}
 use Rattle.effects.proofs.outlines.outline.Goals as goal
 
 pub returns-clause-rows : goal.returns-clause-rows
@@ -22,10 +21,9 @@ returns-clause-rows c =
     let roots = c.in_ok-roots.roots in
     let g = c.args.procedure.now in
     let root : root_in roots ≡ root_of (origins_of g.sections) = λ t s. c.in_ok-roots.ensures s t in
-    let visits : map visit c.deref-3.result.now ≡ visits_in Open (codes g.body.items) =
-    ap (map visit) c.deref-3.ensures.value ∙ c.in_ok-visit_block.ensures
-    ∙ ap (λ (xs : List rVisit). map visit xs ++ visits_in Open (codes c.deref.result.now)) c.new-visits.ensures.items
-    ∙ ap (λ b. visits_in Open (codes b)) c.deref.ensures.value in
+    let visits =
+    visited c.deref-3.ensures.value c.in_ok-visit_block.ensures c.new-visits.ensures.items
+    c.deref.ensures.value in
     let starts : c.deref-4.result.now ≡ starts_in (procedure g) =
     c.deref-4.ensures.value ∙ c.in_ok-starts.ensures
     ∙ ap (λ (vs : List Visit). flat_map (starts_of (root_in roots)) vs) visits
@@ -35,15 +33,15 @@ returns-clause-rows c =
 
 pub returns-clause-flows : goal.returns-clause-flows
 returns-clause-flows c =
-    let roots = c.in_ok-roots.roots in
     let g = c.args.procedure.now in
-    let root : root_in roots ≡ root_of (origins_of g.sections) = λ t s. c.in_ok-roots.ensures s t in
-    let visits : map visit c.deref-2.result.now ≡ visits_in Open (codes g.body.items) =
-    ap (map visit) c.deref-2.ensures.value ∙ c.in_ok-visit_block.ensures
-    ∙ ap (λ (xs : List rVisit). map visit xs ++ visits_in Open (codes c.deref.result.now)) c.new-visits.ensures.items
-    ∙ ap (λ b. visits_in Open (codes b)) c.deref.ensures.value in
+    let root : root_in c.in_ok-roots.roots ≡ root_of (origins_of g.sections) =
+    λ t s. c.in_ok-roots.ensures s t in
+    let visits =
+    visited c.deref-2.ensures.value c.in_ok-visit_block.ensures c.new-visits.ensures.items
+    c.deref.ensures.value in
     let flows = flows_of c.args.caller c.args.procedures in
     ok_anyway c.collected.result
     (c.in_ok-flow_visits.ensures
-    ∙ ap (λ (vs : List Visit). c.args.flows.now.items ++ flat_map (flows (root_in roots)) vs) visits
+    ∙ ap (λ (vs : List Visit). c.args.flows.now.items ++ flat_map (flows (root_in c.in_ok-roots.roots)) vs)
+    visits
     ∙ ap (λ (f : ℕ → ℕ). c.args.flows.now.items ++ flat_map (flows f) (visits_in Open (codes g.body.items))) root)

@@ -34,11 +34,11 @@ returns-clause-rows c =
 pub returns-clause-flows : goal.returns-clause-flows
 returns-clause-flows c =
     let xs = c.args.code.now.procedures.items in
-    let inv = c.loop-number.invariant in
     let end : length xs ≡ c.loop-number.number =
     omega (arith, c.loop-number-test.false, c.loop-number.auto.number-end, c.deref-procedure-items.ensures.len) in
     flows_all (length xs) c.len-procedures.result c.loop-number.number xs c.args.code.now.main c.loop-number.flows.items
     c.outline-2.new.flows.items c.args.flows.now.items (omega (arith, c.len-procedures.ensures)) end
-    (omega (arith, c.len-procedures.ensures, end)) c.in_ok-summary-2.ensures.flows inv.flows
+    (omega (arith, c.len-procedures.ensures, end)) c.in_ok-summary-2.ensures.flows
+    c.loop-number.invariant.flows
     ∙ ap (λ (n : ℕ). c.args.flows.now.items ++ flows_in_all n 0 (map procedure xs ++ procedure c.args.code.now.main ∷ []))
     (sym (length-map xs procedure))

@@ -1,8 +1,9 @@
 use Rattle.std.proofs.Common.{◌++◌, map, ap, sym, ◌∙◌}
 use Rattle.types.specs.Translation.{codes, code}
 use Rattle.types.proofs.Blocks.{code_If, code_While, code_Split, code_Async, code_Finish}
-use Rattle.effects.specs.Visits.{visits_in, visits_inside, visit, in_async, in_finish}
+use Rattle.effects.specs.Visits.{visits_in, visits_inside, visit}
 use Rattle.effects.proofs.Appending.{in_two_steps}
+use Rattle.effects.proofs.VisitLemmas.{visits_same}
 use Rattle.effects.proofs.visits.+visit.Goals as goal
 
 pub visit_inside-returns-in_ok-visit_block-in-If-2 : goal.visit_inside-returns-in_ok-visit_block-in-If-2
@@ -30,16 +31,14 @@ visit_inside-returns-in_ok-visit_block-in-Split t c =
 
 pub visit_inside-returns-in_ok-visit_block-in-Async : goal.visit_inside-returns-in_ok-visit_block-in-Async
 visit_inside-returns-in_ok-visit_block-in-Async t c =
-    let before = map visit c.args.into.now.items in
     c.in_ok-visit_block-in-Async.ensures
-    ∙ ap (λ w. before ++ visits_in w (codes c.deref-in-Async.result.now)) c.in_async.ensures
-    ∙ ap (λ b. before ++ visits_in (in_async c.args.standing) (codes b)) c.deref-in-Async.ensures.value
-    ∙ ap (λ k. before ++ visits_inside c.args.standing k) (sym (ap code c.in-Async.is ∙ code_Async c.in-Async.body))
+    ∙ visits_same (map visit c.args.into.now.items) c.in_async.ensures c.deref-in-Async.ensures.value
+    ∙ ap (λ k. map visit c.args.into.now.items ++ visits_inside c.args.standing k)
+    (sym (ap code c.in-Async.is ∙ code_Async c.in-Async.body))
 
 pub visit_inside-returns-in_ok-visit_block-in-Finish : goal.visit_inside-returns-in_ok-visit_block-in-Finish
 visit_inside-returns-in_ok-visit_block-in-Finish t c =
-    let before = map visit c.args.into.now.items in
     c.in_ok-visit_block-in-Finish.ensures
-    ∙ ap (λ w. before ++ visits_in w (codes c.deref-in-Finish.result.now)) c.in_finish.ensures
-    ∙ ap (λ b. before ++ visits_in (in_finish c.args.standing) (codes b)) c.deref-in-Finish.ensures.value
-    ∙ ap (λ k. before ++ visits_inside c.args.standing k) (sym (ap code c.in-Finish.is ∙ code_Finish c.in-Finish.body))
+    ∙ visits_same (map visit c.args.into.now.items) c.in_finish.ensures c.deref-in-Finish.ensures.value
+    ∙ ap (λ k. map visit c.args.into.now.items ++ visits_inside c.args.standing k)
+    (sym (ap code c.in-Finish.is ∙ code_Finish c.in-Finish.body))

@@ -1,7 +1,8 @@
 use Rattle.std.proofs.Common.{◌≡◌, [], ◌∷◌, Some, sym, ap, ◌∙◌, rules}
 use Rattle.std.specs.Prelude.{option_map}
+use Rattle.std.proofs.lemmas.List.{nil_from_length}
 use Rattle.intake.specs.Choices.{read_of_file, reading_of}
-use Rattle.intake.proofs.ReadChoices.{no_more, file_read_on}
+use Rattle.intake.proofs.ReadChoices.{file_read_on}
 use Rattle.intake.proofs.choices.filed.Goals as goal
 
 pub bytes-preserved : goal.bytes-preserved
@@ -15,5 +16,5 @@ bytes-preserved c =
 pub returns : goal.returns
 returns c =
     let r = reading_of c.bytes.reading in
-    let none : c.bytes.left.now ≡ [] = no_more c.bytes.left.now c.in_default.ensures.cases in
+    let none : c.bytes.left.now ≡ [] = nil_from_length c.bytes.left.now c.in_default.ensures.cases in
     ap Some c.in_ok-numbers.ensures ∙ ap (read_of_file r) (sym none) ∙ c.bytes.invariant

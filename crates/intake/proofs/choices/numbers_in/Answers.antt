@@ -1,8 +1,9 @@
 use Rattle.std.proofs.Common.{◌≡◌, [], ◌∷◌, sym, ap, ◌∙◌, rules}
 use Rattle.std.specs.Prelude.{option_map}
 use Rattle.std.proofs.lemmas.Result.{IfOk-weaker}
+use Rattle.std.proofs.lemmas.List.{nil_from_length}
 use Rattle.intake.specs.Choices.{read_from, reading_of}
-use Rattle.intake.proofs.ReadChoices.{no_more, read_on}
+use Rattle.intake.proofs.ReadChoices.{read_on}
 use Rattle.intake.proofs.choices.numbers_in.Goals as goal
 
 pub bytes-preserved : goal.bytes-preserved
@@ -16,5 +17,5 @@ bytes-preserved c =
 pub returns : goal.returns
 returns c =
     let r = reading_of c.bytes.reading in
-    let none : c.bytes.left.now ≡ [] = no_more c.bytes.left.now c.in_default.ensures.cases in
+    let none : c.bytes.left.now ≡ [] = nil_from_length c.bytes.left.now c.in_default.ensures.cases in
     IfOk-weaker c.numbers_read.result _ _ (λ x h. h ∙ ap (read_from r) (sym none) ∙ c.bytes.invariant) c.numbers_read.ensures

@@ -3,11 +3,12 @@ use Rattle.std.specs.Iterator.Adapters.{zip_first, zip_second}
 use Rattle.std.specs.List.{zip}
 use Rattle.std.specs.Slice.Iter.{iter_rest}
 use Rattle.std.proofs.lemmas.Slice.Zip.{zip_turn, zip_end, length-zip}
+use Rattle.std.proofs.lemmas.List.{length_push}
 use Rattle.serde_json.specs.Data.{no_members, object}
 use Rattle.serde_json.specs.View.{members_view}
 use Rattle.serde_json.proofs.Views.{view-Object}
 use Rattle.types.specs.Translation.{array}
-use Rattle.texts.proofs.OutcomeText.{zip_at, zip_inside, length_one_more}
+use Rattle.texts.proofs.OutcomeText.{zip_at, zip_inside}
 use Rattle.json_answers.specs.Outcomes.{put_arrays}
 use Rattle.json_answers.proofs.Seen.{put_more, put_all, zip-map}
 use Rattle.json_answers.proofs.outcomes.arrays_value.Goals as goal
@@ -23,7 +24,7 @@ loop-array-preserved c =
     let pair = zip_at c.args.declared.now c.args.contents.now n c.in-Some.array.now
     c.in-Some.numbers.now turn.0 turn.1 (turn.2 _) (turn.3 _) in
     let inside = zip_inside c.args.declared.now c.args.contents.now n turn.0 turn.1 in
-    rw (length_one_more c.loop-array.yielded (c.in-Some.array, c.in-Some.numbers))
+    rw (length_push c.loop-array.yielded (c.in-Some.array, c.in-Some.numbers))
     (rw (c.in_ok-put.ensures.ok, c.as_str.ensures.value, c.in_ok-numbers.ensures, c.deref.ensures.value)
     (put_more _ (zip c.args.declared.now c.args.contents.now) n (c.in-Some.array.now, c.in-Some.numbers.now) _ _ inside pair c.loop-array.invariant))
 

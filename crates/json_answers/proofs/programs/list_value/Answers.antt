@@ -1,7 +1,7 @@
 use Rattle.std.proofs.Common.{◌≡◌, ℕ, length, rules, arith}
 use Rattle.std.proofs.lemmas.Iterator.Consumers.{YieldsList-from_first, YieldsList-turn, YieldsList-end}
+use Rattle.std.proofs.lemmas.List.{length_push}
 use Rattle.parallel_relation.specs.Pairs.{pairs_left}
-use Rattle.texts.proofs.OutcomeText.{length_one_more}
 use Rattle.json_answers.specs.Programs.{pair_json}
 use Rattle.json_answers.proofs.Seen.{seen_more, seen_all}
 use Rattle.json_answers.proofs.programs.list_value.Goals as goal
@@ -13,7 +13,7 @@ loop-one-preserved c =
     let start : pairs_left c.into_iter-one-iterator.result ≡ all = search rules in
     let turn = YieldsList-turn (YieldsList-from_first (λ (x : ℕ × ℕ). x) pairs_left all start) c.loop-one.yielded
     c.loop-one.one-iterator c.loop-one.yielded_by c.next.result c.next.new.self pair c.in-Some.is c.next.ensures.steps in
-    rw (length_one_more c.loop-one.yielded pair, c.in_ok-push.ensures.items)
+    rw (length_push c.loop-one.yielded pair, c.in_ok-push.ensures.items)
     (seen_more pair_json all (length c.loop-one.yielded) pair pair _ _ turn.0 turn.1 c.loop-one.invariant c.in_ok-pair_value.ensures)
 
 pub returns : goal.returns

@@ -1,4 +1,4 @@
-use Rattle.std.proofs.Common.{◌≡◌, ◌<◌, List, [], All as AllOfList, length, sym, ap, subst, arith}
+use Rattle.std.proofs.Common.{◌≡◌, List, [], sym, ap, subst, arith}
 use Rattle.std.proofs.lemmas.List.{nil_from_length}
 use Rattle.rayon.proofs.ToStd.{chunks_of-concat}
 use Rattle.rayon.specs.Lists.{chunks_of}
@@ -6,11 +6,10 @@ use Rattle.sections.specs.Origins.{Origin}
 use Rattle.sections.specs.Tree.{origins_of}
 use Rattle.types.specs.Code.{Procedure}
 use Rattle.types.specs.Translation.{program}
-use Rattle.effects.specs.declared.access.Access.{Access}
 use Rattle.race_checker.specs.Found.{IsInFront}
 use Rattle.race_checker.specs.Races.{numbered}
 use Rattle.race_checker.specs.declared.found.Found.{Found}
-use Rattle.race_checker.proofs.Finding.{found_in_none}
+use Rattle.race_checker.proofs.Finding.{found_in_none, in_these}
 use Rattle.race_checker.proofs.Pieces.{PutTogether, so_far_in_range, piece_in_range, one_more_piece, all_pieces}
 use Rattle.race_checker.proofs.walk.joined.Goals as goal
 
@@ -30,22 +29,16 @@ loop-piece-init c =
 
 pub with_first-requires-clause-pending : goal.with_first-requires-clause-pending
 with_first-requires-clause-pending c =
-    let p = program c.args.code.now in
-    let f = c.args.procedure.number in
-    let os = (numbered p f).sections in
-    let same : origins_of c.procedure_of.result.now.sections ≡ os =
-    ap (λ (g : Procedure). g.sections) c.procedure_of.ensures in
-    subst (λ (o : List Origin). AllOfList (λ (x : Access). x.section.number < length o) c.loop-piece.found.pending.items.items) (sym same)
-    (so_far_in_range p os f c.args.body.now c.requires.sound c.requires.stands c.loop-piece.found c.loop-piece.piece-iterator.rest.items c.loop-piece.invariant)
+    in_these c.loop-piece.found.pending.items.items c.procedure_of.ensures
+    (so_far_in_range _ _ c.args.procedure.number c.args.body.now c.requires.sound c.requires.stands
+    c.loop-piece.found c.loop-piece.piece-iterator.rest.items c.loop-piece.invariant)
 
 pub with_first-requires-clause-all : goal.with_first-requires-clause-all
 with_first-requires-clause-all c =
     let p = program c.args.code.now in
     let f = c.args.procedure.number in
     let os = (numbered p f).sections in
-    let same : origins_of c.procedure_of.result.now.sections ≡ os =
-    ap (λ (g : Procedure). g.sections) c.procedure_of.ensures in
-    subst (λ (o : List Origin). AllOfList (λ (x : Access). x.section.number < length o) c.in-Some.piece.all.items.items) (sym same)
+    in_these c.in-Some.piece.all.items.items c.procedure_of.ensures
     (piece_in_range p os f c.args.body.now c.requires.sound c.requires.stands c.loop-piece.found c.in-Some.piece c.next.new.self.rest.items
     (subst (λ (left : List Found). PutTogether p os f c.args.body.now c.loop-piece.found left) c.in-Some.ensures.steps.0 c.loop-piece.invariant))
 

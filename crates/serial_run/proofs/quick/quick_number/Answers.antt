@@ -1,23 +1,10 @@
-use Rattle.std.proofs.Common.{ap, sym, ◌∙◌, rules, w64, FitsSigned}
-use Rattle.std.proofs.lemmas.Int.{to_z-of_z}
-use Rattle.std.proofs.lemmas.Option.{IfSome_then}
-use Rattle.types.specs.Translation.{environment, number as number_of}
-use Rattle.types.specs.Value.{number, operate}
-use Rattle.serial_run.proofs.Pairs.{pair}
+use Rattle.std.proofs.Common.{rules}
+use Rattle.types.specs.Translation.{environment}
+use Rattle.serial_run.proofs.Pairs.{pair_value}
 use Rattle.serial_run.proofs.quick.quick_number.Goals as goal
 
 pub returns : goal.returns
 returns g c =
-    let env = environment c.args.environment.now in let read = g.P.Places.numbers c.args.places.now in
-    let link = c.in_ok-link.link.now in
-    let left = c.in_ok-left.left in let right = c.in_ok-right.right in
-    let left_fits : FitsSigned w64 left = search rules in
-    let right_fits : FitsSigned w64 right = search rules in
-    IfSome_then c.applied.result c.applied.ensures (λ v is.
-    ap (λ n. number env read (number_of n)) c.in-Chain.is
-    ∙ pair env read c.in-Chain.first c.in-Chain.rest link left right v
-    (sym c.as_slice.ensures.value ∙ c.in_ok-link.ensures)
-    (ap (λ n. number env read (number_of n)) (sym c.deref.ensures) ∙ c.in_ok-left.ensures)
-    c.in_ok-right.ensures
-    (ap (λ x. operate link.operator x right) (sym (to_z-of_z w64 left left_fits))
-    ∙ ap (operate link.operator _) (sym (to_z-of_z w64 right right_fits)) ∙ is))
+    pair_value (environment c.args.environment.now) (g.P.Places.numbers c.args.places.now) c.in-Chain.first
+    c.in-Chain.rest _ _ _ _ _ _ c.applied.result c.in-Chain.is c.as_slice.ensures.value c.in_ok-link.ensures
+    c.deref.ensures c.in_ok-left.ensures c.in_ok-right.ensures c.applied.ensures (search rules) (search rules)

@@ -1,7 +1,7 @@
-use Rattle.std.proofs.Common.{◌≡◌, ◌+◌, ◌-◌, ◌≤◌, suc, [], ◌∷◌, length, sym, ap, ◌∙◌, subst, rules, arith}
+use Rattle.std.proofs.Common.{◌≡◌, ◌+◌, ◌-◌, ◌≤◌, suc, [], ◌∷◌, length, sym, ap, ◌∙◌, rules, arith}
 use Rattle.std.proofs.lemmas.Result.{IfOk-weaker}
-use Rattle.types.specs.Code.{Program}
-use Rattle.types.specs.Contents.{FitsArrays, held_by}
+use Rattle.std.proofs.lemmas.List.{nil_from_length}
+use Rattle.types.specs.Contents.{held_by}
 use Rattle.types.specs.Translation.{program, input}
 use Rattle.types.specs.TreeRuns.{explored_from, explored}
 use Rattle.types.specs.Trees.{ready}
@@ -9,9 +9,7 @@ use Rattle.types.specs.TreeSteps.{first_tree}
 use Rattle.types.specs.Typed.{code_of}
 use Rattle.serial_run.specs.Lists.{contents_of}
 use Rattle.step_trees.specs.Places.{whole}
-use Rattle.step_trees.specs.Windows.{TreeLies}
-use Rattle.step_trees.proofs.Exploring.{misses, goes-on, no_more}
-use Rattle.step_trees.proofs.LyingTrees.{first-lies}
+use Rattle.step_trees.proofs.Exploring.{held_first, misses, goes-on}
 use Rattle.step_trees.proofs.explore.run_by.Goals as goal
 
 pub choices-init : goal.choices-init
@@ -22,13 +20,10 @@ choices-init c =
     let store : contents_of c.in_ok-store.store ≡ held_by (input c.args.input.now) = ap held_by c.in_ok-store.ensures in
     let none : length cs - length cs ≡ 0 = omega arith in
     record {
-      held = record {
-        place = c.in_ok-place.ensures.place;
-        windows = subst (TreeLies p) (sym start) (first-lies p);
-        store =
-            subst (FitsArrays p.arrays) (sym c.in_ok-store.ensures)
-            (subst (λ (q : Program). FitsArrays q.arrays (input c.args.input.now)) (sym same_code) c.requires);
-      };
+      held =
+          held_first _ c.in_ok-store.store c.in_ok-place.place (code_of c.args.accepted.now.typed)
+          (input c.args.input.now) same_code c.in_ok-place.ensures.place start c.in_ok-store.ensures
+          c.requires;
       short = omega arith;
       same =
           ap (λ n. explored_from p n cs (whole c.in_ok-place.place) (contents_of c.in_ok-store.store)) none
@@ -76,7 +71,7 @@ returns c =
     let same_code : p ≡ code_of c.args.accepted.now.typed = c.code.ensures.code ∙ ap code_of c.typed.ensures.field in
     let t = whole c.choices.place in let a = contents_of c.choices.store in
     let n = length cs - length c.choices.left.now in
-    let none : c.choices.left.now ≡ [] = no_more c.choices.left.now c.in_default.ensures.cases in
+    let none : c.choices.left.now ≡ [] = nil_from_length c.choices.left.now c.in_default.ensures.cases in
     IfOk-weaker c.told.result _ _
     (λ e h. h ∙ ap (λ l. explored_from p n l t a) (sym none) ∙ c.choices.invariant.same
     ∙ ap (λ q. explored q (input c.args.input.now) cs) same_code) c.told.ensures

@@ -1,7 +1,6 @@
-use Rattle.std.proofs.Common.{◌≡◌, ◌+◌, ◌-◌, ◌<◌, ◌≤◌, suc, sym, ap, ◌∙◌, subst, rules, arith}
+use Rattle.std.proofs.Common.{◌≡◌, ◌+◌, ◌-◌, ◌<◌, ◌≤◌, suc, sym, ap, ◌∙◌, rules, arith}
 use Rattle.std.proofs.lemmas.Result.{IfOk-weaker}
-use Rattle.types.specs.Code.{Program}
-use Rattle.types.specs.Contents.{FitsArrays, held_by}
+use Rattle.types.specs.Contents.{held_by}
 use Rattle.types.specs.Translation.{program, input}
 use Rattle.types.specs.TreeRuns.{explored_from, explored}
 use Rattle.types.specs.Trees.{ready}
@@ -10,9 +9,8 @@ use Rattle.types.specs.Typed.{code_of}
 use Rattle.serial_run.specs.Lists.{contents_of}
 use Rattle.step_trees.specs.Drawing.{drawn, drawn_choices, next_number, picked}
 use Rattle.step_trees.specs.Places.{whole}
-use Rattle.step_trees.specs.Windows.{TreeLies}
 use Rattle.step_trees.proofs.Drawing.{drawn-goes, told-none, told-over}
-use Rattle.step_trees.proofs.LyingTrees.{first-lies}
+use Rattle.step_trees.proofs.Exploring.{held_first}
 use Rattle.step_trees.proofs.explore.run_drawn.Goals as goal
 
 pub choices-init : goal.choices-init
@@ -22,13 +20,10 @@ choices-init c =
     let start : whole c.in_ok-place.place ≡ first_tree p = c.in_ok-place.ensures.tree in
     let store : contents_of c.in_ok-store.store ≡ held_by (input c.args.input.now) = ap held_by c.in_ok-store.ensures in
     record {
-      held = record {
-        place = c.in_ok-place.ensures.place;
-        windows = subst (TreeLies p) (sym start) (first-lies p);
-        store =
-            subst (FitsArrays p.arrays) (sym c.in_ok-store.ensures)
-            (subst (λ (q : Program). FitsArrays q.arrays (input c.args.input.now)) (sym same_code) c.requires);
-      };
+      held =
+          held_first _ c.in_ok-store.store c.in_ok-place.place (code_of c.args.accepted.now.typed)
+          (input c.args.input.now) same_code c.in_ok-place.ensures.place start c.in_ok-store.ensures
+          c.requires;
       few = omega arith;
       same =
           ap (λ t. explored_from p 0 (drawn p 1000000 n t (contents_of c.in_ok-store.store)) t (contents_of c.in_ok-store.store)) start

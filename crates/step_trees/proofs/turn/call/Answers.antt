@@ -1,4 +1,4 @@
-use Rattle.std.proofs.Common.{◌≡◌, ◌≤◌, ap, ◌∙◌, sym, refl, map, rules, length, List, ◌∷◌}
+use Rattle.std.proofs.Common.{◌≡◌, ℕ, ◌≤◌, ap, ◌∙◌, sym, refl, map, rules, length, List, ◌∷◌}
 use Rattle.std.proofs.lemmas.Option.{slice_get_read, slice_get_past}
 use Rattle.std.specs.Prelude.{ℤ, slice_index_or}
 use Rattle.sections.specs.Translation.{section}
@@ -12,26 +12,30 @@ use Rattle.types.specs.Value.{Valued}
 use Rattle.serial_run.specs.Primitive.{listed}
 use Rattle.serial_run.proofs.Steps.{body_at, no_body_at}
 use Rattle.step_trees.specs.declared.leaf.Caller.{Caller as rCaller}
+use Rattle.step_trees.specs.declared.turn.Turn.{Turn}
 use Rattle.step_trees.specs.Translation.{blocks, callers}
 use Rattle.step_trees.specs.Turns.{leaf_in}
 use Rattle.step_trees.proofs.Rests.{callers-push}
 use Rattle.step_trees.proofs.Turns.{call_of_nothing, called_as, comes_as}
 use Rattle.step_trees.proofs.turn.call.Goals as goal
 
+-- the tree that a call comes to, by what its arguments come to
+abbrev called_by : Turn → (label f : ℕ) → List ℕ → Valued (List ℤ) → Tree
+called_by turn l f ss r =
+    let p = program turn.plan.program.now in let k = leaf_in turn in
+    on_value l k r (λ vs. single (called (procedure_of p f) (entry vs (map k.environment.windows ss)) k))
+
 pub returns-in-Err : goal.returns-in-Err
 returns-in-Err c =
-    let p = program c.args.turn.plan.program.now in let k = leaf_in c.args.turn in
-    let f = c.args.procedure.number in let ss = map section c.args.sections.now in
-    let go : List ℤ → Tree = λ vs. single (called (procedure_of p f) (entry vs (map k.environment.windows ss)) k) in
-    let on : Valued (List ℤ) → Tree = λ r. on_value c.args.label k r go in
-    comes_as c.args.turn c.args.turn c.failed.result (ap on (ap listed (sym c.in-Err.is) ∙ c.in_ok-kind.ensures)) refl refl c.failed.ensures
+    let on = called_by c.args.turn c.args.label c.args.procedure.number (map section c.args.sections.now) in
+    comes_as c.args.turn c.args.turn c.failed.result
+    (ap on (ap listed (sym c.in-Err.is) ∙ c.in_ok-kind.ensures)) refl refl c.failed.ensures
 
 pub returns-in-None : goal.returns-in-None
 returns-in-None c =
     let p = program c.args.turn.plan.program.now in let k = leaf_in c.args.turn in
     let f = c.args.procedure.number in let ss = map section c.args.sections.now in
-    let go : List ℤ → Tree = λ vs. single (called (procedure_of p f) (entry vs (map k.environment.windows ss)) k) in
-    let on : Valued (List ℤ) → Tree = λ r. on_value c.args.label k r go in
+    let on = called_by c.args.turn c.args.label f ss in
     let past : length c.deref.result.now ≤ c.args.procedure.number = search rules in
     let none = slice_get_past c.deref.result.now c.args.procedure.number past in
     let body : (procedure_of p f).body ≡ End
@@ -51,8 +55,7 @@ returns-in_ok-push-in-Some c =
     let t = c.args.turn in
     let p = program t.plan.program.now in let k = leaf_in t in
     let f = c.args.procedure.number in let ss = map section c.args.sections.now in
-    let go : List ℤ → Tree = λ vs. single (called (procedure_of p f) (entry vs (map k.environment.windows ss)) k) in
-    let on : Valued (List ℤ) → Tree = λ r. on_value c.args.label k r go in
+    let on = called_by c.args.turn c.args.label f ss in
     let procedures = c.deref.result.now in
     let env_is = ap environment c.replace-environment.ensures.after ∙ c.in_ok-entry-in-Some.ensures in
     let rest_is =

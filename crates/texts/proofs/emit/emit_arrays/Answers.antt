@@ -2,8 +2,9 @@ use Rattle.std.proofs.Common.{◌≡◌, length, rules, arith}
 use Rattle.std.specs.Iterator.Adapters.{zip_first, zip_second}
 use Rattle.std.specs.Slice.Iter.{iter_rest}
 use Rattle.std.proofs.lemmas.Slice.Zip.{zip_turn, zip_end, length-zip}
+use Rattle.std.proofs.lemmas.List.{length_push}
 use Rattle.texts.proofs.Appending.{fails, first_more, first_begins, first_all}
-use Rattle.texts.proofs.OutcomeText.{zip_at, zip_inside, length_one_more}
+use Rattle.texts.proofs.OutcomeText.{zip_at, zip_inside}
 use Rattle.texts.proofs.emit.emit_arrays.Goals as goal
 
 pub loop-array-preserved : goal.loop-array-preserved
@@ -16,7 +17,7 @@ loop-array-preserved g c =
     let pair = zip_at c.args.declared.now c.args.contents.now (length c.loop-array.yielded) c.in-Some.array.now
     c.in-Some.elements.now turn.0 turn.1 (turn.2 _) (turn.3 _) in
     let inside = zip_inside c.args.declared.now c.args.contents.now (length c.loop-array.yielded) turn.0 turn.1 in
-    rw (length_one_more c.loop-array.yielded (c.in-Some.array, c.in-Some.elements))
+    rw (length_push c.loop-array.yielded (c.in-Some.array, c.in-Some.elements))
     (first_more _ _ (length c.loop-array.yielded) _ _ _ _ _ inside pair c.loop-array.invariant
     (rw c.deref.ensures.value at c.in_ok-emit_array.ensures))
 

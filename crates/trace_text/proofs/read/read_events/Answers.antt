@@ -1,8 +1,9 @@
 use Rattle.std.proofs.Common.{◌+◌, List, length, ap, sym, subst, ◌∙◌, rules}
 use Rattle.events.specs.declared.event.Event.{Event}
+use Rattle.trace_text.specs.Lines.{event_object}
 use Rattle.trace_text.specs.Reading.{IsEventRefusal}
 use Rattle.trace_text.specs.declared.error.TraceError.TheVariants.{NotALine}
-use Rattle.trace_text.proofs.Found.{cut_some, front_bad, front_pushed, long_some, no_event_first, no_event_uncut}
+use Rattle.trace_text.proofs.Found.{cut_some, front_bad, front_pushed, long_some, no_event_first, no_line}
 use Rattle.trace_text.proofs.read.read_events.Goals as goal
 
 pub returns-in_default-2-clause-refused : goal.returns-in_default-2-clause-refused
@@ -30,5 +31,5 @@ returns-then-not-is_empty-clause-refused c =
     subst (IsEventRefusal c.args.text.now)
     (sym (c.no_line_behind-then-not-is_empty.ensures
     ∙ ap (λ (es : List Event). NotALine (length es + 2)) c.deref-then-not-is_empty.ensures.value))
-    (front_bad c.args.text.now rest c.lines.events.items c.lines.invariant.1
-    (long_some rest (search rules)) (no_event_uncut rest c.in_default.ensures))
+    (front_bad c.args.text.now rest c.lines.events.items c.lines.invariant.1 (long_some rest (search rules))
+    (λ b. no_line rest b.behind (event_object b.event) b.parts c.in_default.ensures))

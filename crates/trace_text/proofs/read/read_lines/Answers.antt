@@ -1,11 +1,13 @@
 use Rattle.std.proofs.Common.{◌++◌, List, ℕ, ap, sym, subst, ◌∙◌, inl, refl}
 use Rattle.trace_text.specs.Headers.{header_of}
+use Rattle.trace_text.specs.Lines.{header_object}
 use Rattle.trace_text.specs.Reading.{IsRefusal}
-use Rattle.trace_text.proofs.Found.{cut_line, if_err_then, no_header_first, no_header_uncut, refused_behind}
+use Rattle.trace_text.proofs.Found.{cut_line, if_err_then, no_header_first, no_line, refused_behind}
 use Rattle.trace_text.proofs.read.read_lines.Goals as goal
 
 pub returns-in_default-clause-refused : goal.returns-in_default-clause-refused
-returns-in_default-clause-refused c = inl (refl, no_header_uncut c.args.text.now c.in_default.ensures)
+returns-in_default-clause-refused c =
+    inl (refl, λ b. no_line c.args.text.now b.behind (header_object b.header) b.parts c.in_default.ensures)
 
 pub returns-in_default-2-clause-refused : goal.returns-in_default-2-clause-refused
 returns-in_default-2-clause-refused c =

@@ -4,7 +4,8 @@ use Rattle.serde_json.specs.Find.{as_array}
 use Rattle.serde_json.specs.View.{items_view, view}
 use Rattle.types.specs.Inputs.{Mistake, items_count, value_says}
 use Rattle.types.specs.Translation.{array as array_of}
-use Rattle.types.proofs.InputLemmas.{value_says-list, value_says-other, value_says-read, value_says-refused, items_count-items_view}
+use Rattle.types.proofs.InputLemmas.{value_says-items, value_says-other, value_says-read, value_says-refused}
+use Rattle.types.proofs.InputLemmas.{items_count-items_view}
 use Rattle.types.proofs.input.list_of.Goals as goal
 
 pub returns-then-len-array-clause-error : goal.returns-then-len-array-clause-error
@@ -21,17 +22,15 @@ returns-then-len-array-clause-error c =
 pub returns-else-len-array-clause-says : goal.returns-else-len-array-clause-says
 returns-else-len-array-clause-says c =
     let x = array_of c.args.array.now in
-    let d = view c.args.value.now in
-    let vs = c.deref.result.now in
-    let is : as_array d ≡ Some (items_view vs) = sym c.in-Some.ensures ∙ ap (λ es. Some (items_view es)) (sym c.deref.ensures.value) in
-    let long : length vs ≡ x.length = c.deref.ensures.len ∙ sym c.len.ensures ∙ c.if-len-array.false in
-    value_says-read x d _ c.numbers_of.result (value_says-list x d (items_view vs) is (items_count-items_view vs ∙ long)) c.numbers_of.ensures.says
+    let long = c.deref.ensures.len ∙ sym c.len.ensures ∙ c.if-len-array.false in
+    value_says-read x _ _ c.numbers_of.result
+    (value_says-items x (view c.args.value.now) c.in-Some.ensures c.deref.ensures.value long)
+    c.numbers_of.ensures.says
 
 pub returns-else-len-array-clause-error : goal.returns-else-len-array-clause-error
 returns-else-len-array-clause-error c =
     let x = array_of c.args.array.now in
-    let d = view c.args.value.now in
-    let vs = c.deref.result.now in
-    let is : as_array d ≡ Some (items_view vs) = sym c.in-Some.ensures ∙ ap (λ es. Some (items_view es)) (sym c.deref.ensures.value) in
-    let long : length vs ≡ x.length = c.deref.ensures.len ∙ sym c.len.ensures ∙ c.if-len-array.false in
-    value_says-refused x d _ c.numbers_of.result (value_says-list x d (items_view vs) is (items_count-items_view vs ∙ long)) c.numbers_of.ensures.error
+    let long = c.deref.ensures.len ∙ sym c.len.ensures ∙ c.if-len-array.false in
+    value_says-refused x _ _ c.numbers_of.result
+    (value_says-items x (view c.args.value.now) c.in-Some.ensures c.deref.ensures.value long)
+    c.numbers_of.ensures.error

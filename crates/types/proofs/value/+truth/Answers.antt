@@ -1,24 +1,19 @@
-use Rattle.std.proofs.Common.{ap, sym, ◌∙◌, true, false, Ok}
+use Rattle.std.proofs.Common.{ap, sym, ◌∙◌, Ok}
 use Rattle.types.specs.Translation.{environment}
-use Rattle.types.specs.Translation.{truth as truth_of}
-use Rattle.types.specs.Rows.{truths}
-use Rattle.types.specs.Value.{truth, all, any}
-use Rattle.types.proofs.Chains.{truth-Both, truth-Either, all_end, any_ends}
+use Rattle.types.proofs.Chains.{value-Both, value-Either, all_end, any_ends}
 use Rattle.types.proofs.value.+truth.Goals as goal
 
 pub truth_value-returns-in-Both : goal.truth_value-returns-in-Both
 truth_value-returns-in-Both g t c =
-    let env = environment c.args.environment.now in let read = g.P.Places.numbers c.args.places.now in
     c.all_hold.ensures
-    ∙ ap (λ ts. all env read (truths ts) true) c.deref-in-Both.ensures.value
-    ∙ ap (truth env read) (sym (ap truth_of c.in-Both.is ∙ truth-Both c.in-Both.operands))
+    ∙ value-Both (environment c.args.environment.now) (g.P.Places.numbers c.args.places.now) _
+    c.in-Both.is c.deref-in-Both.ensures.value
 
 pub truth_value-returns-in-Either : goal.truth_value-returns-in-Either
 truth_value-returns-in-Either g t c =
-    let env = environment c.args.environment.now in let read = g.P.Places.numbers c.args.places.now in
     c.any_holds.ensures
-    ∙ ap (λ ts. any env read (truths ts) false) c.deref-in-Either.ensures.value
-    ∙ ap (truth env read) (sym (ap truth_of c.in-Either.is ∙ truth-Either c.in-Either.operands))
+    ∙ value-Either (environment c.args.environment.now) (g.P.Places.numbers c.args.places.now) _
+    c.in-Either.is c.deref-in-Either.ensures.value
 
 pub all_hold-returns-then-not-branch : goal.all_hold-returns-then-not-branch
 all_hold-returns-then-not-branch g t c =

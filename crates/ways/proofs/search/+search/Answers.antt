@@ -14,8 +14,11 @@ use Rattle.ways.specs.Searched.{GoesIn, IsLed}
 use Rattle.ways.specs.Ways.{Way}
 use Rattle.ways.specs.declared.search.Sought.{Sought}
 use Rattle.ways.specs.declared.step.Step.{Step}
-use Rattle.ways.proofs.Found.{covered_less, least_end, least_front, least_own, least_on, least_if, least_while, least_async, least_finish}
-use Rattle.ways.proofs.Found.{least_split, least_call, stepped, at_code, behind_led, inside_ways, side_found_in}
+use Rattle.ways.proofs.Found.{covered_less, least_end, least_front, least_own, least_on, least_if}
+use Rattle.ways.proofs.Found.{least_while, least_async}
+use Rattle.ways.proofs.Found.{least_split, least_call, stepped, at_code, behind_led, inside_ways}
+use Rattle.ways.proofs.Found.{awaited_ways}
+use Rattle.ways.proofs.Found.{side_found_in, finish_found}
 use Rattle.ways.proofs.search.+search.Goals as goal
 
 pub way_in-way_of-requires : goal.way_in-way_of-requires
@@ -106,13 +109,23 @@ way_inside-way_behind-requires-in-Split-3 t c =
 
 pub way_inside-way_behind-requires-in-Async : goal.way_inside-way_behind-requires-in-Async
 way_inside-way_behind-requires-in-Async t c =
-    let is = is_Async _ c.in-Async.body c.deref-in-Async.result.now c.in-Async.is c.deref-in-Async.ensures.value in
-    (omega (arith, ap size_in is), c.requires.ways)
+    let is = is_Async _ c.in-Async.body c.deref-in-Async.result.now c.in-Async.is
+    c.deref-in-Async.ensures.value in (
+      omega (arith, ap size_in is),
+      subst (λ (a : Sought). AreWays (program c.args.code.now) (access a.access) c.args.known.now)
+          (sym c.done.ensures) c.requires.ways,
+    )
 
 pub way_inside-way_behind-requires-in-Finish : goal.way_inside-way_behind-requires-in-Finish
 way_inside-way_behind-requires-in-Finish t c =
-    let is = is_Finish _ c.in-Finish.body c.deref-in-Finish.result.now c.in-Finish.is c.deref-in-Finish.ensures.value in
-    (omega (arith, ap size_in is), c.requires.ways)
+    let is = is_Finish _ c.in-Finish.body c.deref-in-Finish.result.now c.in-Finish.is
+    c.deref-in-Finish.ensures.value in (
+      omega (arith, ap size_in is),
+      subst (λ (o : Option Sought). IfSome o (λ a. AreWays (program c.args.code.now) (access a.access)
+          c.args.known.now)) (sym c.awaited.ensures)
+          (awaited_ways (program c.args.code.now) c.args.known.now c.args.sought c.args.sought.pending
+          c.requires.ways),
+    )
 
 pub way_inside-returns-in_ok-next-in-If : goal.way_inside-returns-in_ok-next-in-If
 way_inside-returns-in_ok-next-in-If t c =
@@ -171,10 +184,10 @@ way_inside-returns-in-Call t c =
     (λ found h. at_code p (AreShortest p x c.args.known.now) m l x _ _ _ (ap code c.in-Call.is)
     (least_call p m l x c.args.known.now f (map number c.in-Call.values.items) (map section c.in-Call.sections.items) c.requires.ways _
     (subst (λ (s : Step).
-    IsLeast length all_covered (GoesIn c.args.known.now m f (map section c.in-Call.sections.items) x.section s) (steps found)) c.step-step-in-Call.ensures
-    (subst (λ ss.
-    IsLeast length all_covered (GoesIn c.args.known.now m f (map section ss) x.section c.step-step-in-Call.result) (steps found)) c.deref-in-Call.ensures.value h))))
-    c.way_past_call.ensures
+    IsLeast length all_covered (GoesIn c.args.known.now m f (map section c.in-Call.sections.items) x.section
+    s) (steps found)) c.entering-step.ensures (subst (λ ss.
+    IsLeast length all_covered (GoesIn c.args.known.now m f (map section ss) x.section c.entering-step.result)
+    (steps found)) c.deref-in-Call.ensures.value h)))) c.way_past_call.ensures
 
 pub way_inside-returns-in-Async : goal.way_inside-returns-in-Async
 way_inside-returns-in-Async t c =
@@ -185,11 +198,14 @@ way_inside-returns-in-Async t c =
     let C = AreShortest p x c.args.known.now in
     let is = is_Async _ c.in-Async.body c.deref-in-Async.result.now c.in-Async.is c.deref-in-Async.ensures.value in
     IfOk-weaker c.way_behind-in-Async.result _ _
-    (λ found h. at_code p C m l x _ _ _ is (least_async p C m l x _ _ (stepped C _ _ _ _ c.step-step-in-Async.ensures h)))
-    c.way_behind-in-Async.ensures
+    (λ found h. at_code p C m l x _ _ _ is (least_async p C m l x _ _
+    (stepped C _ _ _ _ c.step-step-in-Async.ensures
+    (subst (λ (a : Sought). IsFound p (access a.access) c.args.known.now (IsLed c.step-step-in-Async.result
+    (λ way. Way p a.pending (codes c.deref-in-Async.result.now) way (access a.access))) found) c.done.ensures
+    h)))) c.way_behind-in-Async.ensures
 
-pub way_inside-returns-else-sought : goal.way_inside-returns-else-sought
-way_inside-returns-else-sought t c =
+pub way_inside-returns-in-Finish : goal.way_inside-returns-in-Finish
+way_inside-returns-in-Finish t c =
     let p = program c.args.code.now in
     let x = access c.args.sought.access in
     let m = c.args.sought.pending in
@@ -197,7 +213,8 @@ way_inside-returns-else-sought t c =
     let C = AreShortest p x c.args.known.now in
     let is = is_Finish _ c.in-Finish.body c.deref-in-Finish.result.now c.in-Finish.is c.deref-in-Finish.ensures.value in
     IfOk-weaker c.way_behind-in-Finish.result _ _
-    (λ found h. at_code p C m l x _ _ _ is (least_finish p C m l x _ _ c.if-sought.false (stepped C _ _ _ _ c.step-step-in-Finish.ensures h)))
+    (λ found h. at_code p C m l x _ _ _ is (finish_found p c.args.known.now c.args.sought l
+    (codes c.deref-in-Finish.result.now) _ _ (steps found) c.awaited.ensures c.step-step-in-Finish.ensures h))
     c.way_behind-in-Finish.ensures
 
 pub way_of-returns-then-branch : goal.way_of-returns-then-branch

@@ -1,6 +1,6 @@
-use Rattle.std.proofs.Common.{◌≡◌, ◌<◌, ◌≤◌, List, length, get_or, ap, arith, refl, subst, ◌∙◌}
-use Rattle.block_rows.specs.declared.row.Row.{Row}
+use Rattle.std.proofs.Common.{arith, refl}
 use Rattle.block_rows.proofs.RoomLemmas.{item-rows_apart, places-rows_apart, rows_apart-done, rows_apart-item, rows_apart-more}
+use Rattle.block_rows.proofs.WritingLemmas.{item_at, no_item_at}
 use Rattle.block_rows.proofs.rows.Rows.are_apart.Goals as goal
 
 pub loop-array-init : goal.loop-array-init
@@ -11,11 +11,10 @@ returns-then-not-is_apart c =
     let own = c.args.self.now.list.items in
     let others = c.args.others.now.list.items in
     let n = c.loop-array.array in
-    let r = c.row-item.result in
-    let lt : n < length others = subst (λ (l : List Row). n < length l) c.deref-row-items.ensures.value c.loop-array-test.true in
-    let is : r ≡ get_or others n r = c.row-item.is ∙ ap (λ l. get_or l n r) c.deref-row-items.ensures.value in (
+    let at = item_at c.deref-row-items.ensures.value c.loop-array-test.true c.row-item.is in (
       λ t. absurd (cc),
-      λ apart. absurd (let e = c.is_apart.ensures.1 (item-rows_apart own others n r lt is (places-rows_apart own others n apart)) in cc),
+      λ apart. absurd (let e = c.is_apart.ensures.1 (item-rows_apart own others n _ at.0 at.1
+          (places-rows_apart own others n apart)) in cc),
     )
 
 pub loop-array-preserved : goal.loop-array-preserved
@@ -23,14 +22,14 @@ loop-array-preserved c =
     let own = c.args.self.now.list.items in
     let others = c.args.others.now.list.items in
     let n = c.loop-array.array in
-    let r = c.row-item.result in
-    let lt : n < length others = subst (λ (l : List Row). n < length l) c.deref-row-items.ensures.value c.loop-array-test.true in
-    let is : r ≡ get_or others n r = c.row-item.is ∙ ap (λ l. get_or l n r) c.deref-row-items.ensures.value in
-    rows_apart-more own others n c.loop-array.invariant (rows_apart-item own others n r lt is (c.is_apart.ensures.0 c.if-not-is_apart.false))
+    let at = item_at c.deref-row-items.ensures.value c.loop-array-test.true c.row-item.is in
+    rows_apart-more own others n c.loop-array.invariant (rows_apart-item own others n _ at.0 at.1
+    (c.is_apart.ensures.0 c.if-not-is_apart.false))
 
 pub returns : goal.returns
 returns c =
-    let others = c.args.others.now.list.items in
-    let n = c.loop-array.array in
-    let all : length others ≤ n = subst (λ (l : List Row). length l ≤ n) c.deref-row-items.ensures.value c.loop-array-test.false in
-    (λ t. rows_apart-done c.args.self.now.list.items others n all c.loop-array.invariant, λ h. refl)
+    let all = no_item_at c.deref-row-items.ensures.value c.loop-array-test.false in (
+      λ t. rows_apart-done c.args.self.now.list.items c.args.others.now.list.items c.loop-array.array all
+          c.loop-array.invariant,
+      λ h. refl,
+    )

@@ -1,9 +1,9 @@
-use Rattle.std.proofs.Common.{◌≡◌, ◌/◌, Some, None, ap, sym, ◌∙◌, arith}
+use Rattle.std.proofs.Common.{◌≡◌, ◌/◌, None, ap, sym, ◌∙◌, arith}
 use Rattle.std.proofs.lemmas.Bool.{le-leb, leb-true}
 use Rattle.sections.specs.Translation.{window as window_of}
 use Rattle.block_rows.specs.Rows.{block_of, held_in}
 use Rattle.block_rows.specs.Wanted.{wanted}
-use Rattle.block_rows.proofs.PresenceLemmas.{all-held, all-owned, held-all, owned-all, piece-none, there-empty}
+use Rattle.block_rows.proofs.PresenceLemmas.{piece-held, piece-none, piece-owned, there-empty}
 use Rattle.block_rows.proofs.rows.Rows.has_piece.Goals as goal
 
 pub returns-in-None : goal.returns-in-None
@@ -19,20 +19,14 @@ returns-in-None c =
 
 pub returns-in-Owned : goal.returns-in-Owned
 returns-in-Owned c =
-    let rs = c.args.self.now.list.items in
     let w = window_of c.args.piece in
-    let b = c.in-Some.block.now in
-    let is : block_of rs w.array (w.at / 256) ≡ Some b = ap (block_of rs w.array) (sym c.block_number.ensures) ∙ sym c.in-Some.ensures in (
-      λ t. all-owned rs w c.args.want b _ _ c.in-Owned.is c.requires is c.offsets-from.ensures.from c.offsets-from.ensures.to (c.owns_all.ensures.0 t),
-      λ there. c.owns_all.ensures.1 (owned-all rs w c.args.want b _ _ c.in-Owned.is c.requires is c.offsets-from.ensures.from c.offsets-from.ensures.to there),
-    )
+    piece-owned c.args.self.now.list.items w c.in-Some.block.now _ _ _ c.requires c.block_number.ensures
+    c.in-Some.ensures
+    c.offsets-from.ensures.from c.offsets-from.ensures.to c.args.want c.in-Owned.is c.owns_all.ensures
 
 pub returns-in-Held : goal.returns-in-Held
 returns-in-Held c =
-    let rs = c.args.self.now.list.items in
     let w = window_of c.args.piece in
-    let b = c.in-Some.block.now in
-    let is : block_of rs w.array (w.at / 256) ≡ Some b = ap (block_of rs w.array) (sym c.block_number.ensures) ∙ sym c.in-Some.ensures in (
-      λ t. all-held rs w c.args.want b _ _ c.in-Held.is c.requires is c.offsets-from.ensures.from c.offsets-from.ensures.to (c.holds_all.ensures.0 t),
-      λ there. c.holds_all.ensures.1 (held-all rs w c.args.want b _ _ c.in-Held.is c.requires is c.offsets-from.ensures.from c.offsets-from.ensures.to there),
-    )
+    piece-held c.args.self.now.list.items w c.in-Some.block.now _ _ _ c.requires c.block_number.ensures
+    c.in-Some.ensures
+    c.offsets-from.ensures.from c.offsets-from.ensures.to c.args.want c.in-Held.is c.holds_all.ensures

@@ -1,4 +1,4 @@
-use Rattle.std.proofs.Common.{◌≡◌, ◌∙◌, ◌≤◌, ◌/◌, ◌%◌, ◌+◌, ◌*◌, ℕ, List, Bool, true, false, Option, Some, None, option_map, ap, arith, is_some, refl, rules, subst, sym, inl, inr, ◌⊎◌}
+use Rattle.std.proofs.Common.{◌≡◌, ◌∙◌, ◌≤◌, ◌/◌, ◌%◌, ◌+◌, ◌*◌, ℕ, List, Bool, true, false, Some, None, option_map, ap, arith, is_some, refl, rules, subst, sym, inl, inr, ◌⊎◌}
 use Rattle.std.proofs.lemmas.Bool.{and_from, eq-eqb, leb-false, leb-true, ltb-true}
 use Rattle.std.proofs.lemmas.Option.{same_Some}
 use Rattle.std.specs.Prelude.{ℤ, nat_le, nat_lt, if◌then◌else◌}
@@ -8,13 +8,13 @@ use Rattle.std.specs.declared.alloc.Global.{Global}
 use Rattle.std.specs.declared.sync.Arc.{Arc}
 use Rattle.block_numbers.specs.Numbers.{number_in}
 use Rattle.blocks.specs.Blocks.{held_at, owned_at}
-use Rattle.blocks.specs.Held.{Held, Map, Owned, Shared, first_of, owned_number}
+use Rattle.blocks.specs.Held.{Held, Map, Owned, first_of}
 use Rattle.block_numbers.specs.Offsets.{IsWithin}
 use Rattle.blocks.specs.Ready.{CanTake}
 use Rattle.blocks.specs.declared.block.Block.{Block}
 use Rattle.blocks.specs.declared.block.Block.TheVariants.{Empty, Mixed, Owned as AllOwned, Shared as AllShared}
 use Rattle.block_numbers.specs.declared.numbers.Numbers.{Numbers}
-use Rattle.blocks.proofs.BlockLemmas.{held_at-behind}
+use Rattle.blocks.proofs.BlockLemmas.{held_at-behind, owned_number-shared}
 use Rattle.block_rows.specs.Rooms.{HasRoom, TakesIn}
 use Rattle.block_rows.specs.Rows.{block_of, held_in_list, in_block}
 use Rattle.block_rows.specs.declared.row.Row.{Row}
@@ -31,13 +31,9 @@ nothing_pasted own a m b none q = by_here (in_block a m q)
     by_here false = refl
     by_here true = ap (λ o. first_of (option_map Owned o) (own q)) (sym (none (q.index % 256)))
 
-no_copy : (o : Option ℤ) → owned_number (option_map Shared o) ≡ None
-no_copy None = refl
-no_copy (Some v) = refl
-
 owns_none : (b : Block) → (b ≡ Empty) ⊎ ((n : Arc Numbers Global) × (b ≡ AllShared n)) → (k : ℕ) → owned_at b k ≡ None
 owns_none b (inl e) k = ap (λ x. owned_at x k) e
-owns_none b (inr w) k = ap (λ x. owned_at x k) w.1 ∙ no_copy (number_in (arc_value w.0) k)
+owns_none b (inr w) k = ap (λ x. owned_at x k) w.1 ∙ owned_number-shared (number_in (arc_value w.0) k)
 
 -- where there is room for a block that may own something, a block stands
 takes_in : (rs : List Row) (a b : ℕ) (theirs : Block) → (theirs ≡ Empty → ⊥) → ((n : _) → theirs ≡ AllShared n → ⊥)

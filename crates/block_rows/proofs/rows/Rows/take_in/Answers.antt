@@ -25,10 +25,7 @@ returns-clause-taken c =
 
 pub returns-clause-there : goal.returns-clause-there
 returns-clause-there c =
-    let old = c.args.self.now.list.items in
-    let mid = c.swap-mine.new.self.list.items in
-    let new = c.swap.new.self.list.items in
-    let a = c.args.array in
-    let b = c.args.number in
-    λ i j some. replaced-some a b c.paste.new.self old new
-    (replaced-twice a b Empty c.paste.new.self old mid new c.swap-mine.ensures.new c.swap.ensures.new) i j some
+    replaced-some c.args.array c.args.number c.paste.new.self c.args.self.now.list.items
+    c.swap.new.self.list.items
+    (replaced-twice _ _ Empty _ _ c.swap-mine.new.self.list.items _ c.swap-mine.ensures.new
+    c.swap.ensures.new)

@@ -1,13 +1,9 @@
-use Rattle.std.proofs.Common.{ap, ◌∙◌, ◌-◌, w64, set}
-use Rattle.std.proofs.lemmas.Int.{to_z-of_z}
-use Rattle.block_numbers.proofs.RowLemmas.{row_from-there}
-use Rattle.blocks.proofs.KindLemmas.{held_row, held_row-put}
+use Rattle.block_numbers.specs.declared.kind.Kind.TheVariants.{Own}
+use Rattle.blocks.proofs.KindLemmas.{held_row-put}
 use Rattle.blocks.proofs.mixed.Mixed.put.Goals as goal
 
 pub returns-clause-held : goal.returns-clause-held
 returns-clause-held c = λ k.
     let m = c.args.self.now in
-    let w = row_from-there m.numbers.first m.numbers.list.items c.args.offset c.requires in
-    ap (λ v. held_row m.numbers.first (set m.kinds.items (c.args.offset - m.numbers.first) _)
-    (set m.numbers.list.items (c.args.offset - m.numbers.first) v) k) (to_z-of_z w64 c.args.value c.ranges.value)
-    ∙ held_row-put m.numbers.first m.kinds.items m.numbers.list.items c.args.offset c.args.value m.paired w.0 w.1 k
+    held_row-put m.numbers.first m.kinds.items m.numbers.list.items c.args.offset Own c.args.value m.paired
+    c.requires c.ranges.value k

@@ -1,4 +1,5 @@
 use Rattle.std.proofs.Common.{arith, ap, ◌∙◌, sym, refl, Ok, [], ◌∷◌, ◌++◌}
+use Rattle.std.specs.Prelude.{true, false}
 use Rattle.types.specs.Code.{If}
 use Rattle.types.specs.Translation.{program, truth, codes}
 use Rattle.cost.specs.declared.frame.Frame.TheVariants.{Rest}
@@ -6,7 +7,7 @@ use Rattle.cost.specs.Machines.{stack, statement}
 use Rattle.serial_run.specs.Standing.{flow}
 use Rattle.cost.specs.Translation.{account}
 use Rattle.cost.proofs.Beside.{beside}
-use Rattle.cost.proofs.Frames.{chosen, other, choice_faults}
+use Rattle.cost.proofs.Frames.{chosen, choice_faults}
 use Rattle.cost.proofs.MachineLemmas.{sound_waits, does_fault}
 use Rattle.serial_run.proofs.Steps.{on_ok_both}
 use Rattle.cost.proofs.Turns.{five-rate}
@@ -35,7 +36,8 @@ returns-in_ok-wait-in-Ok-true-clause-does c =
       comes =
           resume-block m.block m.frames.items p m.plan.budget.steps frames.items waits c.args.body (standing m.account m.thread)
           ∙ chosen p m.plan.budget.steps (stack m) (stack m ++ Rest c.args.body ∷ []) c.args.body
-          (truth c.args.guard.now) (codes c.args.body.now) (codes c.args.other.now) c.args.label (standing m.account m.thread)
+          (truth c.args.guard.now) (codes c.args.body.now) (codes c.args.other.now) c.args.label
+          (standing m.account m.thread) true
           (ap flow c.requires.on) refl refl (ap Ok (sym c.in-Ok-true.field-0-test) ∙ sym c.in-Ok-true.is ∙ c.truth.ensures);
     }
 
@@ -57,8 +59,9 @@ returns-in_ok-wait-in-Ok-false-clause-does c =
       sound = sound_waits m.plan m.account m.thread m.block c.args.other m.frames frames waits c.requires.sound;
       comes =
           resume-block m.block m.frames.items p m.plan.budget.steps frames.items waits c.args.other (standing m.account m.thread)
-          ∙ other p m.plan.budget.steps (stack m) (stack m ++ Rest c.args.other ∷ []) c.args.other
-          (truth c.args.guard.now) (codes c.args.body.now) (codes c.args.other.now) c.args.label (standing m.account m.thread)
+          ∙ chosen p m.plan.budget.steps (stack m) (stack m ++ Rest c.args.other ∷ []) c.args.other
+          (truth c.args.guard.now) (codes c.args.body.now) (codes c.args.other.now) c.args.label
+          (standing m.account m.thread) false
           (ap flow c.requires.on) refl refl (ap Ok (sym c.in-Ok-false.field-0-test) ∙ sym c.in-Ok-false.is ∙ c.truth.ensures);
     }
 

@@ -1,4 +1,5 @@
 use Rattle.std.proofs.Common.{◌≡◌, ◌∙◌, ap, false, map, subst}
+use Rattle.serial_run.proofs.Steps.{map-pushed}
 use Rattle.own_run.specs.Translation.{listed, settled, task_result, owned_by}
 use Rattle.gather.specs.Left.{left}
 use Rattle.gather.specs.PartRefusal.{RefusesHole}
@@ -9,7 +10,7 @@ use Rattle.gather.specs.Stages.{gathering, part, waiting, waiting_for}
 use Rattle.gather.specs.declared.filling.Filling.{Filling}
 use Rattle.gather.proofs.Pasting.{passed_on}
 use Rattle.gather.proofs.ReachedTurns.{filled_reached, hole_case}
-use Rattle.gather.proofs.Stages.{back-fits, leads-filled, map-last, twice-none}
+use Rattle.gather.proofs.Stages.{back-fits, leads-filled, twice-none}
 use Rattle.gather.proofs.settle.Stage.go_on.Goals as goal
 
 pub fill-requires : goal.fill-requires
@@ -17,7 +18,7 @@ fill-requires c =
     let s = c.args.self.now in
     back-fits (map task_result (left s.results.unused)) (map waiting c.pop.new.self.items) (map waiting s.waiting.items)
     (waiting c.in-Some.next) (part s.filling) (owned_by c.in_ok-child-in-Some.child.holdings) (ap (map listed) c.requires.full)
-    (map-last waiting c.pop.new.self.items s.waiting.items c.in-Some.next c.in-Some.ensures.items)
+    (map-pushed waiting c.pop.new.self.items s.waiting.items c.in-Some.next c.in-Some.ensures.items)
     (ap owned_by c.in_ok-child-in-Some.ensures.holdings
     ∙ ap (λ (f : Filling). owned_by f.so_far.holdings) c.replace-part.ensures.value)
     c.requires.whole
@@ -29,7 +30,7 @@ returns-in_err-fill-in-Some-clause-refused c =
     c.from_residual-in_err-fill-in-Some.ensures
     (twice-none (map task_result (left s.results.unused)) (map waiting c.pop.new.self.items) (map waiting s.waiting.items)
     (waiting c.in-Some.next) (part s.filling) e (ap (map listed) c.requires.full)
-    (map-last waiting c.pop.new.self.items s.waiting.items c.in-Some.next c.in-Some.ensures.items)
+    (map-pushed waiting c.pop.new.self.items s.waiting.items c.in-Some.next c.in-Some.ensures.items)
     (subst (λ (f : Filling). RefusesHole (waiting_for f c.in-Some.next.hole) e) c.replace-part.ensures.after
     c.in_err-fill-in-Some.ensures.refused))
 
@@ -40,7 +41,7 @@ returns-in_err-fill-in-Some-clause-own_case c =
     c.from_residual-in_err-fill-in-Some.ensures
     (hole_case (used_by s.results) (map task_result (left s.results.unused)) (map waiting c.pop.new.self.items)
     (map waiting s.waiting.items) (waiting c.in-Some.next) (part s.filling) e (ap (map listed) c.requires.full)
-    (map-last waiting c.pop.new.self.items s.waiting.items c.in-Some.next c.in-Some.ensures.items)
+    (map-pushed waiting c.pop.new.self.items s.waiting.items c.in-Some.next c.in-Some.ensures.items)
     (subst (λ (f : Filling). RefusesHole (waiting_for f c.in-Some.next.hole) e) c.replace-part.ensures.after
     c.in_err-fill-in-Some.ensures.refused))
 
@@ -50,7 +51,7 @@ returns-in_ok-fill-in-Some-clause-leads c =
     let child = c.in_ok-child-in-Some.child in
     leads-filled (map task_result (left s.results.unused)) (map waiting c.pop.new.self.items) (map waiting s.waiting.items)
     (waiting c.in-Some.next) (part s.filling) (part c.fill.new.self) (ap (map listed) c.requires.full)
-    (map-last waiting c.pop.new.self.items s.waiting.items c.in-Some.next c.in-Some.ensures.items)
+    (map-pushed waiting c.pop.new.self.items s.waiting.items c.in-Some.next c.in-Some.ensures.items)
     (subst (λ (f : Filling). comes_back_twice (waiting_for f hole) ≡ false) c.replace-part.ensures.after
     c.in_ok-fill-in-Some.ensures.apart)
     (c.in_ok-fill-in-Some.ensures.filled
@@ -67,6 +68,6 @@ returns-in_ok-fill-in-Some-clause-reached c = λ start rs k.
     filled_reached start rs (used_by s.results) (map task_result (left s.results.unused))
     (map waiting c.pop.new.self.items) (map waiting s.waiting.items) (waiting c.in-Some.next) (part s.filling)
     (part c.fill.new.self) (settled child) (ap (map listed) c.requires.full)
-    (map-last waiting c.pop.new.self.items s.waiting.items c.in-Some.next c.in-Some.ensures.items)
+    (map-pushed waiting c.pop.new.self.items s.waiting.items c.in-Some.next c.in-Some.ensures.items)
     (c.in_ok-fill-in-Some.ensures.filled
     ∙ ap (λ (f : Filling). filled (waiting_for f hole) (settled child)) c.replace-part.ensures.after) k

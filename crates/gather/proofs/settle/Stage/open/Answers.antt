@@ -1,4 +1,5 @@
 use Rattle.std.proofs.Common.{◌∙◌, ◌++◌, ◌∷◌, [], ap, refl, map}
+use Rattle.serial_run.proofs.Steps.{map-pushed}
 use Rattle.types.specs.declared.path.Path.{Path}
 use Rattle.own_run.specs.Translation.{task_result}
 use Rattle.gather.specs.Left.{left}
@@ -7,7 +8,7 @@ use Rattle.gather.specs.Stages.{part, waiting, waiting_for}
 use Rattle.gather.specs.declared.filling.Filling.{Filling}
 use Rattle.gather.proofs.Openings.{lost}
 use Rattle.gather.proofs.ReachedTurns.{opened_reached}
-use Rattle.gather.proofs.Stages.{leads-opened, map-last}
+use Rattle.gather.proofs.Stages.{leads-opened}
 use Rattle.gather.proofs.settle.Stage.open.Goals as goal
 
 pub returns-in-None-clause-own_case : goal.returns-in-None-clause-own_case
@@ -22,7 +23,7 @@ returns-in_ok-push-in-Some-2-clause-leads c =
     leads-opened (map task_result (left s.results.unused)) (map task_result (left c.take.new.self)) (map waiting s.waiting.items)
     (map waiting c.push.new.self.items) (waiting_for s.filling hole) (task_result c.in-Some.task)
     (part c.replace-filling.new.dest) hole.path.turns.items refl c.in-Some.ensures.found
-    (map-last waiting s.waiting.items c.push.new.self.items (record { filling = c.replace-filling.result; hole = hole })
+    (map-pushed waiting s.waiting.items c.push.new.self.items (record { filling = c.replace-filling.result; hole = hole })
     c.in_ok-push-in-Some.ensures.items
     ∙ ap (λ (f : Filling). map waiting s.waiting.items ++ waiting_for f hole ∷ []) c.replace-filling.ensures.value)
     (ap part c.replace-filling.ensures.after ∙ c.of-opened.ensures.opened) c.requires
@@ -34,10 +35,10 @@ returns-in_ok-push-in-Some-2-clause-reached c = λ start rs k.
     (map task_result (left s.results.unused)) (map task_result (left c.take.new.self))
     (map waiting s.waiting.items) (map waiting c.push.new.self.items) (waiting_for s.filling hole) (task_result c.in-Some.task)
     (part c.replace-filling.new.dest) c.in-Some.ensures.found
-    (map-last waiting s.waiting.items c.push.new.self.items (record { filling = c.replace-filling.result; hole = hole })
+    (map-pushed waiting s.waiting.items c.push.new.self.items (record { filling = c.replace-filling.result; hole = hole })
     c.in_ok-push-in-Some.ensures.items
     ∙ ap (λ (f : Filling). map waiting s.waiting.items ++ waiting_for f hole ∷ []) c.replace-filling.ensures.value)
     (ap part c.replace-filling.ensures.after ∙ c.of-opened.ensures.opened)
-    (map-last (λ (p : Path). p.turns.items) s.results.used.items c.push-in-Some.new.self.items c.of-opened.result.1
+    (map-pushed (λ (p : Path). p.turns.items) s.results.used.items c.push-in-Some.new.self.items c.of-opened.result.1
     c.in_ok-push-in-Some-2.ensures.items
     ∙ ap (λ (p : Path). used_by s.results ++ p.turns.items ∷ []) c.of-opened.ensures.path) k

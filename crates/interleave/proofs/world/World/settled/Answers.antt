@@ -1,6 +1,8 @@
 use Rattle.std.proofs.Common.{◌∙◌, ap, map, sym}
 use Rattle.std.proofs.lemmas.Option.{same_Some}
-use Rattle.own_run.specs.Translation.{task_result}
+use Rattle.types.specs.Code.{Program}
+use Rattle.own_run.specs.Given.{told_of}
+use Rattle.own_run.specs.Translation.{settled, task_result}
 use Rattle.interleave.specs.declared.scope.Scope.{Scope as rScope}
 use Rattle.interleave.proofs.Told.{copies_give_back, copies_tell}
 use Rattle.interleave.proofs.world.World.settled.Goals as goal
@@ -23,6 +25,7 @@ returns-clause-told c =
     let there = c.requires.complete in
     let same = same_Some _ _ (sym there.1 ∙ sym c.in-Some.ensures.value) in
     c.in_ok-told.ensures.told
+    ∙ ap (λ (p : Program). told_of p (settled c.in-Ok.settled)) c.plan.ensures.program
     ∙ copies_tell c.args.self.now r.job r.world r.shows c.args.scope.now c.requires.root there.0 there.1 there.2
     c.root_path.result c.root_path.ensures c.in-Some-get.task.now (sym c.in-Some-get.ensures.value)
     c.in-AtEnd-Some.made c.in-AtEnd-Some.is-0 c.in-AtEnd-Some.results

@@ -1,5 +1,5 @@
 use Rattle.std.proofs.Common.{◌≡◌, ◌∙◌, sym, subst, List, [], ◌∷◌}
-use Rattle.std.proofs.lemmas.List.{append-nil}
+use Rattle.std.proofs.lemmas.List.{append-nil, nil_from_length}
 use Rattle.own_run.specs.Frames.{Frame}
 use Rattle.own_run.specs.OwnRun.{Own}
 use Rattle.own_run.specs.RunTurns.{TurnOf}
@@ -7,13 +7,13 @@ use Rattle.own_run.specs.Standings.{Stacked, state_of, with_own}
 use Rattle.own_run.specs.declared.frame.Frame.{Frame as rFrame}
 use Rattle.own_run.specs.declared.frame.Frame.TheVariants.{EndFinish as rEndFinish}
 use Rattle.own_run.specs.declared.turn.Turn.TheVariants.{EndsFinish, Ended}
-use Rattle.own_run.proofs.RunTops.{none_left, none_stacked, on_frame}
+use Rattle.own_run.proofs.RunTops.{none_stacked, on_frame}
 use Rattle.own_run.proofs.run.Run.end.Goals as goal
 
 pub returns-in-None-clause-turn : goal.returns-in-None-clause-turn
 returns-in-None-clause-turn c = λ needs close fs x shows.
     let m = c.args.self in let popped = c.pop.new.self in
-    let none : m.frames.items ≡ [] = none_left m.frames.items (sym m.frames.ok.0 ∙ c.in-None.ensures.cases.0) in
+    let none : m.frames.items ≡ [] = nil_from_length m.frames.items (sym m.frames.ok.0 ∙ c.in-None.ensures.cases.0) in
     subst (λ (fs : List (Frame Own)). TurnOf needs close m fs (with_own x (state_of m.thread)) (Ended c.result.result))
     (sym (none_stacked m.frames.items fs none shows.frames))
     (c.result.ensures fs x (record {

@@ -1,6 +1,7 @@
 use Rattle.std.proofs.Common.{◌≡◌, ◌-◌, ap, ◌∙◌, subst, List, [], ◌∷◌, ◌++◌, inr, Vec, Global}
 use Rattle.std.specs.Prelude.{slice_index_or, take}
 use Rattle.std.specs.Vec.{with_item}
+use Rattle.std.proofs.lemmas.List.{nil_from_length}
 use Rattle.types.specs.Code.{Then}
 use Rattle.types.specs.Translation.{code, codes}
 use Rattle.own_run.specs.Frames.{Frame, Rest}
@@ -10,7 +11,7 @@ use Rattle.own_run.specs.RunTurns.{CanAct, KnowsFirst, Turns, taken_off}
 use Rattle.own_run.specs.Standings.{state_of, with_own}
 use Rattle.own_run.specs.declared.frame.Frame.{Frame as rFrame}
 use Rattle.own_run.specs.declared.frame.Frame.TheVariants.{Rest as rRest, Again as rAgain}
-use Rattle.own_run.proofs.RunTops.{can_first, none_left, on_this}
+use Rattle.own_run.proofs.RunTops.{can_first, on_this}
 use Rattle.own_run.proofs.StepsInPlace.{again_is_turn, back_is_turn, below, end_is_turn, first_is_turn, is_above, is_kept, is_put}
 use Rattle.own_run.proofs.run.Run.step.Goals as goal
 
@@ -39,7 +40,7 @@ returns-in_ok-take_off-in-None-split_first-clause-step g c =
     = subst (λ (t : rFrame). t ≡ slice_index_or m.frames.items (m.frames.len - 1) t) c.in-Rest.is c.in-Some.ensures.value in
     end_is_turn (g.N.Needed.needs c.args.needed.now) m (below m.frames top some read) c.in-Rest.block new
     (is_above m.frames top some read)
-    (none_left c.in-Rest.block.now c.in-None-split_first.ensures.cases)
+    (nil_from_length c.in-Rest.block.now c.in-None-split_first.ensures.cases)
     (subst (λ (v : Vec rFrame Global). Turns taken_off (record m { frames = v }) new) (is_kept m.frames top some read)
     c.in_ok-take_off-in-None-split_first.ensures)
 

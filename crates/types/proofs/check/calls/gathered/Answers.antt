@@ -1,14 +1,12 @@
-use Rattle.std.proofs.Common.{◌≡◌, ◌<◌, ◌+◌, [], ◌∷◌, ◌++◌, drop, length, map, sym, ap, ◌∙◌, subst, rules}
-use Rattle.std.proofs.lemmas.List.{at_drop_more}
+use Rattle.std.proofs.Common.{◌≡◌, ◌<◌, ◌+◌, [], ◌∷◌, ◌++◌, drop, length, map, ap, ◌∙◌, rules}
 use Rattle.sections.specs.Translation.{section}
 use Rattle.syntax_tree.specs.Tree.{expr, parameter}
 use Rattle.types.specs.CallErrors as errors
 use Rattle.types.specs.Resolution as resolution
 use Rattle.types.specs.Resolving.{names_of, scope_of, passed_by}
-use Rattle.types.specs.Told.{Told}
 use Rattle.types.specs.Translation.{number}
 use Rattle.types.proofs.Calls.{one_taken, values_more, sections_more, passed_more}
-use Rattle.types.proofs.Telling.{at_exit, told_left}
+use Rattle.types.proofs.Telling.{at_front, exit_left}
 use Rattle.types.proofs.check.calls.gathered.Goals as goal
 
 pub returns-in_err-take-in-Some-clause-error : goal.returns-in_err-take-in-Some-clause-error
@@ -18,19 +16,15 @@ returns-in_err-take-in-Some-clause-error c =
     let xs = c.args.parameters.now in
     let i = c.loop-parameter.parameter-index in
     let x = c.parameter-item.result in
-    let p = parameter x in
     let left = map parameter (drop (i + 1) xs) in
-    let rest = map expr c.loop-parameter.rest.now in
     let inside : i < length xs = search rules in
-    let front : map parameter (drop i xs) ≡ p ∷ left =
-    at_drop_more (map parameter) xs i x inside ∙ ap (λ y. parameter y ∷ left) (sym c.parameter-item.is) in
-    let given : rest ≡ expr c.in-Some.argument.now ∷ map expr c.in-Some.others.now = ap (map expr) c.in-Some.ensures.cases.0 in
-    let e = c.in_err-take-in-Some.field-0.0 in
-    at_exit (Told (errors.arguments label here (map parameter xs) (map expr c.args.arguments.now))) c.from_residual.result e
-    c.from_residual.ensures.1
-    (subst (λ l. Told l e)
-    (sym (c.loop-parameter.invariant.right ∙ ap (λ l. errors.arguments label here l rest) front ∙ ap (errors.arguments label here (p ∷ left)) given))
-    (told_left _ _ e c.in_err-take-in-Some.ensures.error))
+    exit_left c.from_residual.result c.in_err-take-in-Some.field-0.0 c.from_residual.ensures.1 _
+    (errors.arguments label here left (map expr c.in-Some.others.now))
+    (c.loop-parameter.invariant.right
+    ∙ ap (λ l. errors.arguments label here l (map expr c.loop-parameter.rest.now))
+    (at_front (map parameter) xs i x inside c.parameter-item.is)
+    ∙ ap (λ l. errors.arguments label here (parameter x ∷ left) (map expr l)) c.in-Some.ensures.cases.0)
+    c.in_err-take-in-Some.ensures.error
 
 pub loop-parameter-preserved : goal.loop-parameter-preserved
 loop-parameter-preserved c =
@@ -47,7 +41,7 @@ loop-parameter-preserved c =
     let others = map expr c.in-Some.others.now in
     let inside : i < length xs = search rules in
     let front : map parameter (drop i xs) ≡ p ∷ left =
-    at_drop_more (map parameter) xs i x inside ∙ ap (λ y. parameter y ∷ left) (sym c.parameter-item.is) in
+    at_front (map parameter) xs i x inside c.parameter-item.is in
     let given : rest ≡ a ∷ others = ap (map expr) c.in-Some.ensures.cases.0 in
     let so_far = c.loop-parameter.invariant in
     let taken = c.in_ok-take-in-Some.ensures in

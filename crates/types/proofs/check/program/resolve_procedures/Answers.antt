@@ -1,13 +1,13 @@
-use Rattle.std.proofs.Common.{◌≡◌, ◌<◌, ◌≤◌, ◌+◌, ◌++◌, ◌∷◌, [], length, map, drop, ap, sym, ◌∙◌, subst, rules, append_assoc, append-nil}
-use Rattle.std.proofs.lemmas.List.{at_drop_more, at_drop_all, map-append}
+use Rattle.std.proofs.Common.{◌≡◌, ◌<◌, ◌≤◌, ◌+◌, ◌++◌, ◌∷◌, [], length, map, drop, ap, sym, ◌∙◌, rules}
+use Rattle.std.proofs.Common.{append_assoc, append-nil}
+use Rattle.std.proofs.lemmas.List.{at_drop_all, map-append}
 use Rattle.syntax_tree.specs.Tree as tree
 use Rattle.types.specs.Resolution as resolution
 use Rattle.types.specs.Resolving.{procedures_of}
-use Rattle.types.specs.Rules.{procedure_errors, procedures_errors}
+use Rattle.types.specs.Rules.{procedures_errors}
 use Rattle.types.specs.Scope.{in_procedure}
-use Rattle.types.specs.Told.{Told}
 use Rattle.types.specs.Translation as plain
-use Rattle.types.proofs.Telling.{at_exit, told_left}
+use Rattle.types.proofs.Telling.{at_front, exit_left}
 use Rattle.types.proofs.check.program.resolve_procedures.Goals as goal
 
 pub loop-procedure-preserved : goal.loop-procedure-preserved
@@ -22,7 +22,7 @@ loop-procedure-preserved c =
     let made = c.in_ok-procedure.ensures in
     let within : i < length xs = search rules in
     let front : map tree.procedure (drop i xs) ≡ x ∷ rest =
-    at_drop_more (map tree.procedure) xs i c.procedure-item.result within ∙ ap (λ y. tree.procedure y ∷ rest) (sym c.procedure-item.is) in
+    at_front (map tree.procedure) xs i c.procedure-item.result within c.procedure-item.is in
     let here = resolution.resolved fs x.name (in_procedure now x.parameters) x.body in
     record {
       within = c.resolve_procedure.ensures.within;
@@ -43,15 +43,9 @@ loop-procedure-preserved c =
 pub returns-in_err-procedure-clause-error : goal.returns-in_err-procedure-clause-error
 returns-in_err-procedure-clause-error c =
     let fs = procedures_of c.args.statements.now.procedures in
-    let xs = c.args.declared.now in
-    let i = c.loop-procedure.procedure-index in
-    let x = tree.procedure c.procedure-item.result in
-    let rest = map tree.procedure (drop (i + 1) xs) in
-    let now = c.loop-procedure.label in
-    let e = c.in_err-procedure.field-0.0 in
-    let within : i < length xs = search rules in
-    let front : map tree.procedure (drop i xs) ≡ x ∷ rest =
-    at_drop_more (map tree.procedure) xs i c.procedure-item.result within ∙ ap (λ y. tree.procedure y ∷ rest) (sym c.procedure-item.is) in
-    at_exit (Told (procedures_errors fs c.args.label.now (map tree.procedure xs))) c.from_residual.result e c.from_residual.ensures.1
-    (subst (λ l. Told l e) (ap (procedures_errors fs now) (sym front) ∙ c.loop-procedure.invariant.right)
-    (told_left (procedure_errors fs now x) (procedures_errors fs (resolution.label_behind now x) rest) e c.in_err-procedure.ensures.error))
+    let within : c.loop-procedure.procedure-index < length c.args.declared.now = search rules in
+    let front =
+    at_front (map tree.procedure) _ c.loop-procedure.procedure-index _ within c.procedure-item.is in
+    exit_left c.from_residual.result c.in_err-procedure.field-0.0 c.from_residual.ensures.1 _ _
+    (sym c.loop-procedure.invariant.right ∙ ap (procedures_errors fs c.loop-procedure.label) front)
+    c.in_err-procedure.ensures.error

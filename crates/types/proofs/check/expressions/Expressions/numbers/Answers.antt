@@ -24,16 +24,12 @@ loop-expr-init c =
 
 pub returns-in_err-value-2-clause-error : goal.returns-in_err-value-2-clause-error
 returns-in_err-value-2-clause-error c =
-    let label = c.args.self.now.label in
-    let names = names_of c.args.self.now.names.now in
-    let xs = c.args.rest.now in
-    let i = c.loop-expr.expr-index in
-    let x = c.expr-item.result in
-    let inside : i < length xs = search rules in
-    let front = at_front (map expr) xs i x inside c.expr-item.is in
-    let e = c.in_err-value-2.field-0.0 in
-    exit_left c.from_residual-in_err-value-2.result e c.from_residual-in_err-value-2.ensures.1 _ _
-    (c.loop-expr.invariant.right ∙ ap (errors.numbers label names) front) c.in_err-value-2.ensures.error
+    let inside : c.loop-expr.expr-index < length c.args.rest.now = search rules in
+    let front = at_front (map expr) _ c.loop-expr.expr-index _ inside c.expr-item.is in
+    exit_left c.from_residual-in_err-value-2.result c.in_err-value-2.field-0.0
+    c.from_residual-in_err-value-2.ensures.1 _ _
+    (c.loop-expr.invariant.right ∙ ap (errors.numbers c.args.self.now.label
+    (names_of c.args.self.now.names.now)) front) c.in_err-value-2.ensures.error
 
 pub loop-expr-preserved : goal.loop-expr-preserved
 loop-expr-preserved c =
@@ -58,12 +54,10 @@ loop-expr-preserved c =
 
 pub returns-clause-right : goal.returns-clause-right
 returns-clause-right c =
-    let label = c.args.self.now.label in
-    let names = names_of c.args.self.now.names.now in
-    let xs = c.args.rest.now in
-    let i = c.loop-expr.expr-index in
-    let at_end : length xs ≤ i = search rules in
-    c.loop-expr.invariant.right ∙ ap (errors.numbers label names) (at_drop_all (map expr) xs i at_end)
+    let at_end : length c.args.rest.now ≤ c.loop-expr.expr-index = search rules in
+    c.loop-expr.invariant.right
+    ∙ ap (errors.numbers c.args.self.now.label (names_of c.args.self.now.names.now))
+    (at_drop_all (map expr) _ _ at_end)
 
 pub returns-clause-code : goal.returns-clause-code
 returns-clause-code c =

@@ -1,0 +1,21 @@
+-- What holds of a state whether its rules were told of a statement's step or not, holds behind that.
+use Rattle.std.proofs.Common.{◌≡◌, ℕ, refl}
+use Rattle.types.specs.Code.{Code, Do, If, While, Split, Call, Async, Finish}
+use Rattle.types.specs.Run.{State, Rules, counted}
+
+module _ {X : Type 0} (r : Rules X) (l : ℕ) (st : State X) where
+  pub counted_is : (P : State X → Type 0) → P st → P (record st { extra = r.stepped l st.extra })
+      → (s : Code) → P (counted r l s st)
+  counted_is P untold told (Do s) = told
+  counted_is P untold told (If t b c) = told
+  counted_is P untold told (While t b) = told
+  counted_is P untold told (Split s e x y b) = told
+  counted_is P untold told (Call f es ss) = told
+  counted_is P untold told (Async b) = untold
+  counted_is P untold told (Finish b) = untold
+
+  pub counted_flow : (s : Code) → (counted r l s st).flow ≡ st.flow
+  counted_flow = counted_is (λ to. to.flow ≡ st.flow) refl refl
+
+  pub counted_steps : (s : Code) → (counted r l s st).steps ≡ st.steps
+  counted_steps = counted_is (λ to. to.steps ≡ st.steps) refl refl
