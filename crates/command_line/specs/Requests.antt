@@ -484,4 +484,5 @@ told_so m a = record a { telling = telling_by m }
 pub data Asks (words : List (List ℕ)) (a : Asked) : Type 0 where
   by_no_word : words ≡ [] → a ≡ plain Run (codes "-") → Asks words a
   by_command : (command : List ℕ) (m : Manner) (behind : List (List ℕ)) (b : Asked)
-      → AsksPlainly (command ∷ behind) b → words ≡ command ∷ manner_words m behind → a ≡ told_so m b → Asks words a
+      → AsksPlainly (command ∷ behind) b → words ≡ command ∷ manner_words m behind → a ≡ told_so m b
+      → Asks words a

@@ -35,7 +35,8 @@ pub record HasPiece (c : ProgramCode) (r : Run) (number : ℕ) (rest : Bor (List
   pub flat : Flat
   pub read : code_at c number flat
   pub scalars : (f : Flat) → code_at c number f → length r.thread.environment.scalars.items ≤ f.limits.scalars
-  pub sections : (f : Flat) → code_at c number f → length r.thread.environment.windows.items ≤ f.limits.sections
+  pub sections : (f : Flat) → code_at c number f
+      → length r.thread.environment.windows.items ≤ f.limits.sections
 
 -- the first statement of the top frame was done by the code with a number, and this was behind it: whatever block that is the
 -- code of, the task stands where the block leaves it on one thread
