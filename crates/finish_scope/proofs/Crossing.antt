@@ -11,7 +11,7 @@ use Rattle.own_run.specs.contracts.frame.Frame as Frame
 use Rattle.types.specs.contracts.code.Stmt as CodeStmt
 use Rattle.types.specs.contracts.code.Truth as CodeTruth
 use Rattle.task_machine.specs.contracts.task.Body as Body
-use Rattle.task_machine.specs.contracts.job.Job as Job
+use Rattle.gather.specs.contracts.job.Job as Job
 use Rattle.task_machine.specs.contracts.finish.Parked as Parked
 use Rattle.task_machine.specs.contracts.finish.Owner as Owner
 use Rattle.own_run.specs.contracts.turn.Paused as RunPaused

@@ -2,8 +2,8 @@
 use Rattle.std.proofs.Common.{◌≡◌, List, [], ◌∷◌, Option, Some, subst, sym}
 use Rattle.own_run.specs.Lists.{Each}
 use Rattle.own_run.specs.declared.result.TaskResult.{TaskResult as Made}
+use Rattle.gather.specs.declared.job.Job.{Job}
 use Rattle.task_machine.specs.Tasks.{IsResultOf}
-use Rattle.task_machine.specs.declared.job.Job.{Job}
 use Rattle.finish_scope.specs.Own.{IsOwnOwner, IsOwnPassing, IsOwnResting, IsOwnResult}
 use Rattle.finish_scope.specs.declared.resting.Passing.{Passing}
 use Rattle.finish_scope.specs.declared.resting.Resting.{Resting}

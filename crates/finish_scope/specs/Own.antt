@@ -2,9 +2,9 @@
 use Rattle.std.specs.Prelude.{◌≡◌, List, Option, Some, None}
 use Rattle.own_run.specs.Lists.{Each}
 use Rattle.own_run.specs.declared.result.TaskResult.{TaskResult as Made}
+use Rattle.gather.specs.declared.job.Job.{Job}
 use Rattle.task_machine.specs.Ends.{IsParked}
 use Rattle.task_machine.specs.Tasks.{IsResultOf}
-use Rattle.task_machine.specs.declared.job.Job.{Job}
 use Rattle.finish_scope.specs.declared.resting.Passing.{Passing}
 use Rattle.finish_scope.specs.declared.resting.Resting.{Resting}
 

@@ -6,7 +6,7 @@ use std::marker::Brand;
 /// the types that go there name the job. A run picks it once.
 pub trait Running {
     ghost use Rattle.std.specs.Prelude.{Option};
-    ghost use Rattle.task_machine.specs.declared.job.Job.{Job};
+    ghost use Rattle.gather.specs.declared.job.Job.{Job};
 
     ghost job: { Option Job };
 }

@@ -1,9 +1,10 @@
-//! Results of tasks, put together by path.
+//! Results of tasks, put together by path; and what tasks are run for.
 
 #![tactic(auto)]
 
 pub mod error;
 mod filling;
+pub mod job;
 pub mod laws;
 pub mod run_error;
 pub mod settle;

@@ -27,14 +27,14 @@ use Rattle.own_run.proofs.RunsGoOn.{goes_behind, stays}
 use Rattle.race_checker.proofs.Calming.{is_calm}
 use Rattle.race_checker.proofs.Scoping.{is_scoped}
 use Rattle.gather.specs.GivesBack.{all_owned}
+use Rattle.gather.specs.Jobs.{program_of, lists_of, budget_of, outcome_of, IsJob}
+use Rattle.gather.specs.declared.job.Job.{Job}
 use Rattle.gather.proofs.TasksGiveBack.{comes_back}
 use Rattle.task_machine.specs.Ends.{Comes, EndsFinish, EndsMain, EndsSo}
-use Rattle.task_machine.specs.Jobs.{program_of, lists_of, budget_of, outcome_of, IsJob}
 use Rattle.task_machine.specs.Tasks.{GoesBy, IsResultOf}
 use Rattle.task_machine.specs.declared.finish.Owner.{Owner}
 use Rattle.task_machine.specs.declared.finish.Owner.TheVariants.{Main, Finish}
 use Rattle.task_machine.specs.declared.finish.Waiting.{Waiting}
-use Rattle.task_machine.specs.declared.job.Job.{Job}
 use Rattle.task_machine.specs.declared.stake.Stake.{Stake}
 use Rattle.task_machine.proofs.Counting.{open_behind}
 use Rattle.task_machine.proofs.Staying.{fits}

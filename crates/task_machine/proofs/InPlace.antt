@@ -18,7 +18,7 @@ use Rattle.own_run.specs.declared.turn.Turn.TheVariants.{Going as RunGoing, Spaw
 use Rattle.own_run.specs.declared.turn.Turn.TheVariants.{EntersFinish as RunEntersFinish}
 use Rattle.own_run.specs.declared.turn.Turn.TheVariants.{EndsFinish as RunEndsFinish}
 use Rattle.own_run.specs.declared.turn.Turn.TheVariants.{Ended as RunEnded, Over as RunOver}
-use Rattle.task_machine.specs.Jobs.{program_of, lists_of, budget_of}
+use Rattle.gather.specs.Jobs.{program_of, lists_of, budget_of}
 use Rattle.task_machine.specs.Tasks.{GoesBy, IsBody}
 use Rattle.task_machine.specs.Turns.{Becomes, EndsBy, GoesInPlace, HasDone, InPlace, Keeps, Parts, RunsToEnd}
 use Rattle.task_machine.specs.Turns.{TakesOneTurn, TakesTurn, TurnsInPlace, turning}

@@ -20,10 +20,10 @@ use Rattle.own_run.specs.declared.turn.Turn.{Turn}
 use Rattle.own_run.specs.declared.turn.Turn.TheVariants.{Going, Spawns, EntersFinish, EndsFinish, Ended, Over}
 use Rattle.own_run.proofs.BelongingTasks.{can_turn, IsAsync, next_is_of}
 use Rattle.own_run.proofs.RunsGoOn.{begins, stays, stays_on}
+use Rattle.gather.specs.Jobs.{program_of, lists_of, budget_of, IsJob}
+use Rattle.gather.specs.declared.job.Job.{Job}
 use Rattle.task_machine.specs.Ends.{EndsFinish as EndsAFinish}
-use Rattle.task_machine.specs.Jobs.{program_of, lists_of, budget_of, IsJob}
 use Rattle.task_machine.specs.Tasks.{GoesBy, IsFirst}
-use Rattle.task_machine.specs.declared.job.Job.{Job}
 use Rattle.task_machine.specs.declared.stake.ScopeMark.{ScopeMark}
 use Rattle.task_machine.specs.declared.stake.Stake.{Stake}
 use Rattle.task_machine.specs.declared.task.Body.{Body}

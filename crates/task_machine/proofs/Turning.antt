@@ -10,15 +10,15 @@ use Rattle.own_run.specs.declared.result.TaskResult.{TaskResult as Made}
 use Rattle.own_run.specs.declared.run.Run.{Run}
 use Rattle.own_run.specs.declared.start.Start.{Start}
 use Rattle.own_run.specs.declared.turn.Turn.TheVariants.{EntersFinish as RunEntersFinish, Ended as RunEnded}
+use Rattle.gather.specs.Jobs.{program_of, lists_of, budget_of, IsJob}
+use Rattle.gather.specs.declared.job.Job.{Job}
 use Rattle.task_machine.specs.Ends.{IsAtEnd, IsParked}
-use Rattle.task_machine.specs.Jobs.{program_of, lists_of, budget_of, IsJob}
 use Rattle.task_machine.specs.Tasks.{GoesBy, IsBody, IsResultOf}
 use Rattle.task_machine.specs.Turns.{AreTasks, Becomes, IsEndOf, Opens, Parts}
 use Rattle.task_machine.specs.Units.{held, units_after}
 use Rattle.task_machine.specs.declared.finish.Ending.{Ending}
 use Rattle.task_machine.specs.declared.finish.Owner.{Owner}
 use Rattle.task_machine.specs.declared.finish.Owner.TheVariants.{Main}
-use Rattle.task_machine.specs.declared.job.Job.{Job}
 use Rattle.task_machine.specs.declared.stake.Stake.{Stake}
 use Rattle.task_machine.specs.declared.task.Body.{Body}
 use Rattle.task_machine.specs.declared.turn.Turn.{Turn}

@@ -17,13 +17,13 @@ use Rattle.own_run.specs.declared.result.TaskResult.{TaskResult as Made}
 use Rattle.own_run.specs.declared.run.Run.{Run}
 use Rattle.own_run.specs.declared.turn.Paused.{Paused}
 use Rattle.gather.specs.GivesBack.{all_owned}
+use Rattle.gather.specs.Jobs.{program_of, lists_of, budget_of, IsJob}
+use Rattle.gather.specs.declared.job.Job.{Job}
 use Rattle.task_machine.specs.Finishes.{open_finishes}
-use Rattle.task_machine.specs.Jobs.{program_of, lists_of, budget_of, IsJob}
 use Rattle.task_machine.specs.declared.finish.Owner.{Owner}
 use Rattle.task_machine.specs.declared.finish.Owner.TheVariants.{Main, Finish}
 use Rattle.task_machine.specs.declared.finish.Parked.{Parked}
 use Rattle.task_machine.specs.declared.finish.Waiting.{Waiting}
-use Rattle.task_machine.specs.declared.job.Job.{Job}
 use Rattle.task_machine.specs.declared.stake.Stake.{Stake}
 use Rattle.task_machine.specs.declared.task.Task.{Task}
 

@@ -7,9 +7,9 @@ use Rattle.own_run.specs.Standings.{IsAt}
 use Rattle.own_run.specs.Translation.{start, task_result}
 use Rattle.own_run.specs.declared.result.TaskResult.{TaskResult as Made}
 use Rattle.own_run.specs.declared.run.Run.{Run}
+use Rattle.gather.specs.Jobs.{program_of, lists_of, budget_of, IsJob}
+use Rattle.gather.specs.declared.job.Job.{Job}
 use Rattle.task_machine.specs.Finishes.{open_finishes}
-use Rattle.task_machine.specs.Jobs.{program_of, lists_of, budget_of, IsJob}
-use Rattle.task_machine.specs.declared.job.Job.{Job}
 use Rattle.task_machine.specs.declared.stake.ScopeMark.{ScopeMark}
 use Rattle.task_machine.specs.declared.stake.Stake.{Stake}
 use Rattle.task_machine.specs.declared.task.Body.{Body}

@@ -15,8 +15,8 @@ use Rattle.own_run.specs.declared.turn.Turn.TheVariants.{Going as RunGoing, Spaw
 use Rattle.own_run.specs.declared.turn.Turn.TheVariants.{EntersFinish as RunEntersFinish}
 use Rattle.own_run.specs.declared.turn.Turn.TheVariants.{EndsFinish as RunEndsFinish}
 use Rattle.own_run.specs.declared.turn.Turn.TheVariants.{Ended as RunEnded, Over as RunOver}
+use Rattle.gather.specs.Jobs.{program_of, lists_of, budget_of, IsJob}
 use Rattle.task_machine.specs.Ends.{IsParked}
-use Rattle.task_machine.specs.Jobs.{program_of, lists_of, budget_of, IsJob}
 use Rattle.task_machine.specs.Tasks.{GoesBy, IsBody, IsTask, IsChild, IsResultOf}
 use Rattle.task_machine.specs.declared.finish.Ending.{Ending}
 use Rattle.task_machine.specs.declared.finish.Owner.{Owner}

@@ -2,16 +2,16 @@
 
 ghost use Rattle.std.specs.Prelude.{◌≡◌, IfOk};
 ghost use Rattle.types.specs.Translation.{outcome as outcome_in};
+ghost use Rattle.gather.specs.Jobs.{outcome_of};
 ghost use Rattle.task_machine.specs.Ends.{Comes, GoesBehind, IsAtFinish, IsAtMain};
-ghost use Rattle.task_machine.specs.Jobs.{outcome_of};
 ghost use Rattle.task_machine.specs.Tasks.{IsTask};
 ghost use Rattle.task_machine.specs.Units.{held, units_of};
 
 use crate::error::NoMemory;
-use crate::job::Job;
 use crate::outcome::outcome;
 use crate::stake::{ScopeMark, Share, Stake};
 use crate::task::{Body, Task};
+use gather::job::Job;
 use own_run::result::{Settled, TaskResult as RunResult};
 use own_run::turn::Paused as RunPaused;
 use types::outcome::Outcome;

@@ -7,7 +7,6 @@
 
 pub mod error;
 pub mod finish;
-pub mod job;
 pub mod laws;
 mod outcome;
 pub mod stake;

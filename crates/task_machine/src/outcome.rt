@@ -7,7 +7,7 @@ ghost use Rattle.own_run.specs.Given.{told_of};
 ghost use Rattle.own_run.specs.Translation.{settled as settled_of};
 
 use crate::error::NoMemory;
-use crate::job::Job;
+use gather::job::Job;
 use gather::told::told;
 use own_run::result::Settled;
 use types::outcome::Outcome;

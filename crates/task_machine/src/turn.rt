@@ -5,9 +5,9 @@ ghost use Rattle.task_machine.specs.Turns.{Parts};
 ghost use Rattle.task_machine.specs.declared.turn.Turn.TheVariants.{Spawns};
 
 use crate::finish::{Ending, Entering};
-use crate::job::Job;
 use crate::stake::{ScopeMark, Share};
 use crate::task::{Body, Child, Task};
+use gather::job::Job;
 use own_run::result::TaskResult as RunResult;
 use own_run::start::Start;
 use weights::weight::Weight;

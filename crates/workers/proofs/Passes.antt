@@ -13,17 +13,16 @@ use Rattle.own_run.specs.declared.result.Settled.{Settled}
 use Rattle.own_run.specs.declared.result.TaskResult.{TaskResult as Made}
 use Rattle.own_run.proofs.Lists.{each_last, each_map}
 use Rattle.gather.specs.GivesBack.{GiveBack, all_owned}
+use Rattle.gather.specs.Jobs.{program_of, lists_of, budget_of, outcome_of, IsJob}
+use Rattle.gather.specs.declared.job.Job.{Job}
 use Rattle.gather.proofs.TasksGiveBack.{give_back}
 use Rattle.task_machine.specs.Ends.{Comes, EndsSo, IsAtEnd, IsParked}
-use Rattle.task_machine.specs.Jobs.{program_of, lists_of, budget_of, IsJob}
 use Rattle.task_machine.specs.Tasks.{IsResultOf}
 use Rattle.task_machine.specs.declared.finish.Owner.{Owner}
 use Rattle.task_machine.specs.declared.finish.Owner.TheVariants.{Main, Finish}
 use Rattle.task_machine.specs.declared.finish.Parked.{Parked}
 use Rattle.task_machine.specs.declared.finish.Waiting.{Waiting}
-use Rattle.task_machine.specs.declared.job.Job.{Job}
 use Rattle.task_machine.specs.declared.stake.Stake.{Stake}
-use Rattle.task_machine.specs.Jobs.{outcome_of}
 use Rattle.finish_scope.specs.Own.{IsOwnResult}
 use Rattle.workers.specs.Own.{IsNext, IsOwnEnded, IsOwnNext}
 use Rattle.task_machine.specs.declared.turn.TaskResult.{TaskResult}

@@ -6,11 +6,11 @@ use Rattle.own_run.specs.declared.turn.Turn.TheVariants.{EntersFinish as RunEnte
 use Rattle.own_run.specs.declared.turn.Turn.TheVariants.{EndsFinish as RunEndsFinish}
 use Rattle.own_run.specs.declared.turn.Turn.TheVariants.{Ended as RunEnded, Over as RunOver}
 use Rattle.own_run.specs.declared.start.Start.{Start}
+use Rattle.gather.specs.declared.job.Job.{Job}
 use Rattle.task_machine.specs.Turns.{AreTasks, Becomes, Divides, Parts, TakesTurn}
 use Rattle.task_machine.specs.declared.task.Child.{Child}
 use Rattle.task_machine.specs.declared.turn.Wanting.{Wanting}
 use Rattle.task_machine.proofs.Turning.{parts_tasks}
-use Rattle.task_machine.specs.declared.job.Job.{Job}
 use Rattle.task_machine.specs.declared.task.Body.{Body}
 use Rattle.task_machine.specs.declared.task.Task.{Task}
 use Rattle.task_machine.specs.declared.turn.Turn.{Turn}

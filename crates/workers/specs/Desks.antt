@@ -1,8 +1,8 @@
 -- What a worker has and brings back.
 use Rattle.std.specs.Prelude.{◌≡◌, ◌≤◌, [], length, IfErr, IfOk, IfSome}
 use Rattle.types.specs.Translation.{outcome}
-use Rattle.task_machine.specs.Jobs.{outcome_of}
-use Rattle.task_machine.specs.declared.job.Job.{Job}
+use Rattle.gather.specs.Jobs.{outcome_of}
+use Rattle.gather.specs.declared.job.Job.{Job}
 use Rattle.tickets.specs.Seats.{IsSeatOf, drawn_of}
 use Rattle.tickets.specs.declared.word.Seat.{Seat}
 use Rattle.tickets.specs.declared.word.Tickets.{Tickets}

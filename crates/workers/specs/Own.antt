@@ -5,13 +5,13 @@ use Rattle.own_run.specs.Lists.{Each}
 use Rattle.program_code.specs.Pieces.{IsCodeOfProgram}
 use Rattle.program_code.specs.declared.pieces.ProgramCode.{ProgramCode}
 use Rattle.own_run.specs.declared.result.TaskResult.{TaskResult as Made}
+use Rattle.gather.specs.Jobs.{outcome_of, program_of}
+use Rattle.gather.specs.declared.job.Job.{Job}
 use Rattle.task_machine.specs.Ends.{IsParked}
-use Rattle.task_machine.specs.Jobs.{outcome_of, program_of}
 use Rattle.task_machine.specs.Tasks.{IsTask, IsChild, IsResultOf}
 use Rattle.task_machine.specs.Turns.{IsWanting}
 use Rattle.task_machine.specs.declared.finish.Ending.{Ending}
 use Rattle.task_machine.specs.declared.finish.Parked.{Parked}
-use Rattle.task_machine.specs.declared.job.Job.{Job}
 use Rattle.task_machine.specs.declared.task.Body.{Body}
 use Rattle.task_machine.specs.declared.task.Child.{Child}
 use Rattle.task_machine.specs.declared.task.Task.{Task}

@@ -2,7 +2,7 @@
 
 ghost use Rattle.std.specs.Prelude.{◌≡◌, IfErr, IfOk, IfSome, Option, Some};
 ghost use Rattle.types.specs.Translation.{outcome as outcome_in};
-ghost use Rattle.task_machine.specs.Jobs.{outcome_of};
+ghost use Rattle.gather.specs.Jobs.{outcome_of};
 ghost use Rattle.finish_scope.specs.Own.{IsOwnPassing};
 ghost use Rattle.gather.specs.RunErrors.{IsCause};
 ghost use Rattle.workers.specs.Own.{HasCode, IsOwnBody, IsOwnChild, IsOwnEnded, IsOwnEnding, IsOwnNext};
@@ -25,6 +25,7 @@ use crossbeam_deque::Worker;
 use finish_scope::inner::Inner;
 use finish_scope::resting::{Passing, Resting};
 use finish_scope::running::Running;
+use gather::job::Job;
 use own_run::result::TaskResult;
 use program_code::pieces::ProgramCode;
 use std::alloc::AllocError;
@@ -32,7 +33,6 @@ use std::sync::{Arc, Mutex, Wait};
 use std::thread;
 use task_machine::error::NoMemory;
 use task_machine::finish::{Ending, Entering, Parked};
-use task_machine::job::Job;
 use task_machine::stake::ScopeMark;
 use task_machine::task::{Child, Task};
 use task_machine::turn::{TaskResult as Ended, Turn};

@@ -1,7 +1,7 @@
 //! What stands before a run begins.
 
 ghost use Rattle.std.specs.Prelude.{◌≡◌, [], All, IfOk, OnOk, Option, Some};
-ghost use Rattle.task_machine.specs.Jobs.{IsJob};
+ghost use Rattle.gather.specs.Jobs.{IsJob};
 ghost use Rattle.tickets.specs.Seats.{IsSeatOf, drawn_of};
 ghost use Rattle.workers.specs.Desks.{HasSeat, IsFresh};
 
@@ -18,9 +18,9 @@ use crate::settings::Settings;
 use crossbeam_utils::sync::Parker;
 use finish_scope::inner::Inner;
 use finish_scope::running::Running;
+use gather::job::Job;
 use std::alloc::{AllocError, Global};
 use std::sync::{Arc, Mutex, Wait};
-use task_machine::job::Job;
 use task_machine::task::Task;
 use tickets::{Seat, Tickets};
 

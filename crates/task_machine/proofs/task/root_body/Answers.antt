@@ -5,7 +5,7 @@ use Rattle.own_run.specs.OwnRun.{Start}
 use Rattle.own_run.specs.Reached.{begun, root_begins}
 use Rattle.own_run.specs.Runs.{root}
 use Rattle.own_run.specs.Standings.{IsAt}
-use Rattle.task_machine.specs.Jobs.{program_of, lists_of, budget_of}
+use Rattle.gather.specs.Jobs.{program_of, lists_of, budget_of}
 use Rattle.task_machine.specs.Tasks.{IsRootBody}
 use Rattle.task_machine.proofs.Staying.{first_goes}
 use Rattle.task_machine.proofs.task.root_body.Goals as goal

@@ -4,7 +4,7 @@ use Rattle.own_run.specs.Settling.{settle}
 use Rattle.own_run.specs.Translation.{task_result}
 use Rattle.own_run.specs.declared.result.TaskResult.{TaskResult}
 use Rattle.gather.specs.GivesBack.{GiveBack, all_owned}
-use Rattle.task_machine.specs.Jobs.{outcome_of}
+use Rattle.gather.specs.Jobs.{outcome_of}
 use Rattle.task_machine.specs.Tasks.{IsResultOf}
 use Rattle.workers.proofs.Passes.{comes, each_either, gives}
 use Rattle.workers.proofs.passing.pass.Goals as goal

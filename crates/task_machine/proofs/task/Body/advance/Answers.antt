@@ -2,7 +2,7 @@ use Rattle.std.proofs.Common.{◌∙◌, refl, subst, sym}
 use Rattle.std.proofs.lemmas.Option.{same_Some}
 use Rattle.effects.specs.Rounds.{needs_of}
 use Rattle.own_run.proofs.GoingOn.{goes_nowhere}
-use Rattle.task_machine.specs.Jobs.{program_of}
+use Rattle.gather.specs.Jobs.{program_of}
 use Rattle.task_machine.specs.Tasks.{GoesBy}
 use Rattle.task_machine.proofs.Staying.{can_go}
 use Rattle.task_machine.proofs.task.Body.advance.Goals as goal

@@ -1,7 +1,7 @@
 use Rattle.std.proofs.Common.{◌≡◌, ◌∙◌, subst, sym}
 use Rattle.std.proofs.lemmas.Result.{IfOk-weaker}
 use Rattle.program_code.specs.Pieces.{IsCodeOfProgram}
-use Rattle.task_machine.specs.Jobs.{program_of}
+use Rattle.gather.specs.Jobs.{program_of}
 use Rattle.task_machine.specs.Tasks.{IsBody}
 use Rattle.task_machine.specs.Turns.{GoesInPlace, TakesTurn}
 use Rattle.task_machine.specs.Units.{units_after, units_of}

@@ -7,7 +7,7 @@ use Rattle.types.specs.Translation.{budget, input}
 use Rattle.types.specs.Typed.{code_of}
 use Rattle.effects.specs.Sound.{IsSound}
 use Rattle.race_checker.specs.Clash.{IsAccepted}
-use Rattle.task_machine.specs.declared.job.Job.{Job}
+use Rattle.gather.specs.declared.job.Job.{Job}
 
 module _ (j : Job) where
   -- the program
