@@ -2,7 +2,7 @@
 
 use cost::cost::{Costed, measure};
 use cost_text::text::cost_text;
-use interleave::job::Job;
+use interleave::job::WeightedJob;
 use interleave::walk::random_walk;
 use race_checker::accepted::Accepted;
 use race_checker::check::check;
@@ -96,7 +96,7 @@ fn accepted(rt: &(impl Abort + Threads + Sync), alloc: Global, text: &str) -> Ac
 /// The numbers of a list of events that a run on zeros may have, drawn from a seed on.
 fn walked(rt: &impl Abort, alloc: Global, program: &Accepted, seed: u32) -> Summary {
     let input = Input::zeros(alloc, program.typed()).expect(rt, "memory");
-    let job = Job::new(
+    let job = WeightedJob::new(
         alloc,
         program,
         &input,

@@ -6,11 +6,11 @@ use Rattle.types.specs.Outcome.{Budget, Outcome, outcome}
 use Rattle.types.specs.Translation.{budget}
 use Rattle.types.specs.declared.budget.Budget.{Budget as rBudget}
 use Rattle.events.specs.Events.{Event, event as event_of}
-use Rattle.interleave.specs.Jobs.{budget_of, lists_of, program_of}
+use Rattle.gather.specs.Jobs.{budget_of, lists_of, program_of}
 use Rattle.interleave.specs.Replay.{Legal}
 use Rattle.interleave.specs.World.{World}
 use Rattle.interleave.specs.Worlds.{outcome_of, replayed}
-use Rattle.interleave.specs.declared.job.Job.{Job}
+use Rattle.interleave.specs.declared.job.WeightedJob.{WeightedJob}
 use Rattle.trace_text.specs.Headers.{TraceHeader, header_of as header_in}
 use Rattle.trace_text.specs.Lines.{trace_text}
 use Rattle.trace_text.specs.declared.header.Header.{Header}
@@ -91,18 +91,18 @@ record Leads (p : Program) (input : List (List ℤ)) (es : List Event) (w : Worl
   told : outcome_of p w0 b w ≡ Some o
 
 -- those of a log that leads to the run's outcome
-pub is_trace : (l : Recorded) (j : Job) (h : Header) (s : rSettings) (o : Outcome) (bytes : List ℕ) → l.world.job ≡ j
-    → j.budget ≡ s.budget → j.w0 ≡ s.spread.w0 → h.budget ≡ s.budget → h.w0 ≡ s.spread.w0 → h.workers ≡ s.spread.workers
-    → LeadsToOutcome l o → o ≡ outcome (program_of j) (lists_of j) (budget s.budget)
-    → bytes ≡ trace_text (header_in h) (map event_of l.events) → IsTraceOf (program_of j) (lists_of j) (settings s) bytes
+pub is_trace : (l : Recorded) (j : WeightedJob) (h : Header) (s : rSettings) (o : Outcome) (bytes : List ℕ) → l.world.job ≡ j
+    → j.job.budget ≡ s.budget → j.w0 ≡ s.spread.w0 → h.budget ≡ s.budget → h.w0 ≡ s.spread.w0 → h.workers ≡ s.spread.workers
+    → LeadsToOutcome l o → o ≡ outcome (program_of j.job) (lists_of j.job) (budget s.budget)
+    → bytes ≡ trace_text (header_in h) (map event_of l.events) → IsTraceOf (program_of j.job) (lists_of j.job) (settings s) bytes
 is_trace l j h s o bytes job_is budget_is w0_is header_budget header_w0 header_workers to told lines =
-    let p = program_of j in
-    let input = lists_of j in
+    let p = program_of j.job in
+    let input = lists_of j.job in
     let es = map event_of l.events in
-    let by_log : Leads (program_of l.world.job) (lists_of l.world.job) es to.world o l.world.job.w0 (budget_of l.world.job) =
+    let by_log : Leads (program_of l.world.job.job) (lists_of l.world.job.job) es to.world o l.world.job.w0 (budget_of l.world.job.job) =
     record { legal = to.legal; told = to.is_told } in
-    let by_job : Leads p input es to.world o j.w0 (budget_of j) =
-    subst (λ (k : Job). Leads (program_of k) (lists_of k) es to.world o k.w0 (budget_of k)) job_is by_log in
+    let by_job : Leads p input es to.world o j.w0 (budget_of j.job) =
+    subst (λ (k : WeightedJob). Leads (program_of k.job) (lists_of k.job) es to.world o k.w0 (budget_of k.job)) job_is by_log in
     let under : Leads p input es to.world o j.w0 (budget s.budget) =
     subst (λ (b : rBudget). Leads p input es to.world o j.w0 (budget b)) budget_is by_job in
     let leads : Leads p input es to.world o s.spread.w0 (budget s.budget) =

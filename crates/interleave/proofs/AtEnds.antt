@@ -17,12 +17,14 @@ use Rattle.own_run.specs.Results.{TaskResult, and_then}
 use Rattle.own_run.specs.Runs.{root}
 use Rattle.own_run.specs.Translation.{start, task_result}
 use Rattle.own_run.specs.declared.result.TaskResult.{TaskResult as Made}
+use Rattle.gather.specs.Jobs.{program_of, lists_of, budget_of}
+use Rattle.gather.specs.declared.job.Job.{Job}
 use Rattle.interleave.specs.Acting.{IsReady}
 use Rattle.interleave.specs.Courses.{Course, IsKnown, course_of, IsDoing, IsNext}
 use Rattle.interleave.specs.Ending.{GivesBack, IsSeen, IsSetDown, IsUnseen, IsInNoHand}
 use Rattle.interleave.specs.Ending.{NoneIsLate, ScopeBecomes, StandsAt, TaskBecomes, has_ended, is_root, is_waiting}
 use Rattle.interleave.specs.Events.{Ends, Parks, only_if, did, give_back, owns, with_next, in_innermost, next_action, by_end, by_park}
-use Rattle.interleave.specs.Jobs.{IsJob, program_of, lists_of, budget_of}
+use Rattle.interleave.specs.Jobs.{IsWeightedJob}
 use Rattle.interleave.specs.Replay.{does, hands_on}
 use Rattle.interleave.specs.Shown.{AreBoth, IsTaskOf, IsBookOf, IsDoingThere, IsTold, Becomes, Refuses, ScopeStays, Shows, WorldStays, is_path, is_scope, next_world}
 use Rattle.interleave.specs.Shown.{scope_id, stake, whereabouts}
@@ -34,7 +36,6 @@ use Rattle.interleave.specs.declared.doing.Doing.TheVariants.{Starts, Runs, Step
 use Rattle.interleave.specs.declared.error.EventError.{EventError}
 use Rattle.interleave.specs.declared.error.EventError.TheVariants.{Illegal, NoMemory}
 use Rattle.types.specs.declared.scope_id.ScopeId.{ScopeId as rScopeId}
-use Rattle.interleave.specs.declared.job.Job.{Job}
 use Rattle.interleave.specs.declared.scope.Scope.{Scope as rScope}
 use Rattle.interleave.specs.declared.task.Stake.{Stake as rStake}
 use Rattle.interleave.specs.declared.task.Task.{Task as rTask}
@@ -135,28 +136,28 @@ has_made path (Opens r) e = false_true e
 has_made path (AtFinish q made) e = false_true e
 
 -- ---- a world that is shown
-module _ (r : rWorld) (ok : IsJob r.job) (w : World) (h : Shows r w) where
+module _ (r : rWorld) (ok : IsWeightedJob r.job) (w : World) (h : Shows r w) where
   abbrev p : Program
-  p = program_of r.job
+  p = program_of r.job.job
 
   abbrev acts : Start → List (List TaskResult) → List Action
-  acts = does p (needs_of p) (budget_of r.job).steps r.job.w0
+  acts = does p (needs_of p) (budget_of r.job.job).steps r.job.w0
 
   abbrev hands_on_so : Start → List (List TaskResult) → TaskResult
-  hands_on_so = hands_on p (needs_of p) (budget_of r.job).steps r.job.w0
+  hands_on_so = hands_on p (needs_of p) (budget_of r.job.job).steps r.job.w0
 
   -- no task weighs more than what is out
   pub none_late : NoneIsLate r
   none_late path a =
-      let t = there (IsTaskOf r.job) a.its (get is_path r.tasks path) (task path.turns.items w.live) (h.tasks path) a.at in
+      let t = there (IsTaskOf r.job.job) a.its (get is_path r.tasks path) (task path.turns.items w.live) (h.tasks path) a.at in
       let b = there IsBookOf a.book (get is_scope r.scopes a.inner.scope) (scope (scope_id a.inner.scope) w.scopes) (h.scopes a.inner.scope)
       a.there in
       let among : Contains t.0.stakes (stake a.inner)
       = subst (λ ss. Contains ss (stake a.inner)) (ap (map stake) (sym a.stakes) ∙ t.2.stakes)
       (contains_here (stake a.inner) (map stake a.outer)) in
       let late = none_is_late r.job.w0 acts hands_on_so ok.least
-      (root_of p (lists_of r.job) (budget_of r.job).nest) h.events w
-      (replays_are_worlds p (needs_of p) r.job.w0 (lists_of r.job) (budget_of r.job) h.events w h.led) path.turns.items t.0
+      (root_of p (lists_of r.job.job) (budget_of r.job.job).nest) h.events w
+      (replays_are_worlds p (needs_of p) r.job.w0 (lists_of r.job.job) (budget_of r.job.job) h.events w h.led) path.turns.items t.0
       (stake a.inner) b.0 t.1 among b.1 in
       let issued = b.2.issued in
       let returned = b.2.returned in
@@ -166,17 +167,17 @@ module _ (r : rWorld) (ok : IsJob r.job) (w : World) (h : Shows r w) where
   pub stands_at : (path : Path) (k : rTask) → get is_path r.tasks path ≡ Some k → StandsAt r path
   stands_at path k at = by_items k.stakes.items refl
     where
-      t : (x : Live) × (task path.turns.items w.live ≡ Some x) × IsTaskOf r.job k x
-      t = there (IsTaskOf r.job) k (get is_path r.tasks path) (task path.turns.items w.live) (h.tasks path) at
+      t : (x : Live) × (task path.turns.items w.live ≡ Some x) × IsTaskOf r.job.job k x
+      t = there (IsTaskOf r.job.job) k (get is_path r.tasks path) (task path.turns.items w.live) (h.tasks path) at
 
-      all : IsSound p (needs_of p) (budget_of r.job).steps r.job.w0 ok.least
-          (root_of p (lists_of r.job) (budget_of r.job).nest) refl h.events w
-      all = sound p (needs_of p) r.job.w0 ok.least (lists_of r.job) (budget_of r.job) h.events w h.led
+      all : IsSound p (needs_of p) (budget_of r.job.job).steps r.job.w0 ok.least
+          (root_of p (lists_of r.job.job) (budget_of r.job.job).nest) refl h.events w
+      all = sound p (needs_of p) r.job.w0 ok.least (lists_of r.job.job) (budget_of r.job.job) h.events w h.led
 
-      level : (q : Whereabouts) (ss : List Stake) → ss ≡ [] → IsAtLevel p (needs_of p) (budget_of r.job).steps r.job.w0
-          (root_of p (lists_of r.job) (budget_of r.job).nest) refl q ss t.0 → ⊥
-      level q ss e l = subst (λ s. IsAtLevel p (needs_of p) (budget_of r.job).steps r.job.w0
-          (root_of p (lists_of r.job) (budget_of r.job).nest) refl q s t.0) e l
+      level : (q : Whereabouts) (ss : List Stake) → ss ≡ [] → IsAtLevel p (needs_of p) (budget_of r.job.job).steps r.job.w0
+          (root_of p (lists_of r.job.job) (budget_of r.job.job).nest) refl q ss t.0 → ⊥
+      level q ss e l = subst (λ s. IsAtLevel p (needs_of p) (budget_of r.job.job).steps r.job.w0
+          (root_of p (lists_of r.job.job) (budget_of r.job.job).nest) refl q s t.0) e l
 
       in_table : (id : rScopeId) (o : Option rScope) → get is_scope r.scopes id ≡ o
           → (b : Scope) × (scope (scope_id id) w.scopes ≡ Some b) → (s : rScope) × (o ≡ Some s)
@@ -200,14 +201,14 @@ module _ (r : rWorld) (ok : IsJob r.job) (w : World) (h : Shows r w) where
       rest : Live → Option World
       rest t = and_then (hand_of t.place) (λ v. and_then (next_action r.job.w0 acts hands_on_so t) (go t))
 
-      by_table : (o : Option rTask) → AreBoth (IsTaskOf r.job) o (task path.turns.items w.live)
+      by_table : (o : Option rTask) → AreBoth (IsTaskOf r.job.job) o (task path.turns.items w.live)
           → ((k : rTask) → o ≡ Some k → IsInNoHand k.place Illegal)
           → with_next r.job.w0 acts hands_on_so path.turns.items w go ≡ None
       by_table None both out =
           ap (λ o. and_then o (λ t. and_then (hand_of t.place) (λ v. and_then (next_action r.job.w0 acts hands_on_so t) (go t))))
-          (not_there (IsTaskOf r.job) None (task path.turns.items w.live) both refl)
+          (not_there (IsTaskOf r.job.job) None (task path.turns.items w.live) both refl)
       by_table (Some k) both out =
-          let t = there (IsTaskOf r.job) k (Some k) (task path.turns.items w.live) both refl in
+          let t = there (IsTaskOf r.job.job) k (Some k) (task path.turns.items w.live) both refl in
           ap (λ o. and_then o (λ t. and_then (hand_of t.place) (λ v. and_then (next_action r.job.w0 acts hands_on_so t) (go t)))) t.1
           ∙ ap (λ o. and_then o (λ v. and_then (next_action r.job.w0 acts hands_on_so t.0) (go t.0)))
           (ap hand_of (sym t.2.place) ∙ out k refl)
@@ -225,25 +226,25 @@ module _ (r : rWorld) (ok : IsJob r.job) (w : World) (h : Shows r w) where
     record Found : Type 0 where
       its : Live
       lives : task path.turns.items w.live ≡ Some its
-      is : IsTaskOf r.job seen.its its
+      is : IsTaskOf r.job.job seen.its its
       named : its.path ≡ path.turns.items
       hand : hand_of its.place ≡ Some worker
-      doing : IsDoing r.job (course_of its) seen.its.doing
+      doing : IsDoing r.job.job (course_of its) seen.its.doing
       action : Action
       does_so : action_of path.turns.items seen.its.doing ≡ Some action
       next : next_action r.job.w0 acts hands_on_so its ≡ Some action
 
     found : Found
     found =
-        let t = there (IsTaskOf r.job) seen.its (get is_path r.tasks path) (task path.turns.items w.live) (h.tasks path) seen.at in
+        let t = there (IsTaskOf r.job.job) seen.its (get is_path r.tasks path) (task path.turns.items w.live) (h.tasks path) seen.at in
         let placed : t.0.place ≡ Hand worker = sym t.2.place ∙ ap whereabouts seen.place in
-        let doing = subst (λ q. IsDoingThere r.job q (course_of t.0) seen.its.doing) placed t.2.doing in
-        let next = next_is r.job (course_of t.0) seen.its.doing doing seen.known in
+        let doing = subst (λ q. IsDoingThere r.job.job q (course_of t.0) seen.its.doing) placed t.2.doing in
+        let next = next_is r.job.job (course_of t.0) seen.its.doing doing seen.known in
         let named = task_path path.turns.items w.live t.0 t.1 in
-        let own = (sound p (needs_of p) r.job.w0 ok.least (lists_of r.job) (budget_of r.job) h.events w h.led).own.tasks path.turns.items t.0 t.1
+        let own = (sound p (needs_of p) r.job.w0 ok.least (lists_of r.job.job) (budget_of r.job.job) h.events w h.led).own.tasks path.turns.items t.0 t.1
         in
-        let started = start_path p (needs_of p) (budget_of r.job).steps r.job.w0
-        (root_of p (lists_of r.job) (budget_of r.job).nest) refl t.0 own in
+        let started = start_path p (needs_of p) (budget_of r.job.job).steps r.job.w0
+        (root_of p (lists_of r.job.job) (budget_of r.job.job).nest) refl t.0 own in
         record {
           its = t.0;
           lives = t.1;
@@ -308,9 +309,9 @@ module _ (r : rWorld) (ok : IsJob r.job) (w : World) (h : Shows r w) where
 
       -- with another in its place that has passed where it has
       told_so : (to : Scope) → to.id ≡ its_book.0.id → to.passed ≡ its_book.0.passed
-          → IsTold r.job (is_passed (scope root_scope (put_scope to w.scopes))) r.told
+          → IsTold r.job.job (is_passed (scope root_scope (put_scope to w.scopes))) r.told
       told_so to named passed =
-          subst (λ b. IsTold r.job b r.told)
+          subst (λ b. IsTold r.job.job b r.told)
           (sym (passed-put_scope to its_book.0 root_scope w.scopes
           (ap (λ i. scope i w.scopes) (named ∙ named_so (scope_id inner.scope) w.scopes its_book.0 its_book.1) ∙ its_book.1) passed))
           h.told
@@ -325,12 +326,12 @@ module _ (r : rWorld) (ok : IsJob r.job) (w : World) (h : Shows r w) where
           hand v ∙ ap (λ b. if nat_eq worker v then false else b) (h.hands v) ∙ freed_hand (nat_eq worker v) (hand_is_free v w.live)
           ∙ ap not (sym (free v))
 
-      own_so : (next_of p r.job.w0 (budget_of r.job) found.its ≡ Some EndFinish
+      own_so : (next_of p r.job.w0 (budget_of r.job.job) found.its ≡ Some EndFinish
           → owns found.its (scope_id inner.scope) ≡ true)
-          × (next_of p r.job.w0 (budget_of r.job) found.its ≡ Some EndTask
+          × (next_of p r.job.w0 (budget_of r.job.job) found.its ≡ Some EndTask
           → owns found.its (scope_id inner.scope) ≡ false)
       own_so =
-          ends_are_own p (needs_of p) r.job.w0 ok.least (lists_of r.job) (budget_of r.job) h.events w h.led path.turns.items found.its worker
+          ends_are_own p (needs_of p) r.job.w0 ok.least (lists_of r.job.job) (budget_of r.job.job) h.events w h.led path.turns.items found.its worker
           (stake inner) (map stake outer) found.lives found.hand are
 
       -- ---- a task ends
@@ -348,9 +349,9 @@ module _ (r : rWorld) (ok : IsJob r.job) (w : World) (h : Shows r w) where
 
         made_so : task_result made ≡ handed
         made_so =
-            let d = subst (IsDoing r.job (course_of found.its)) at_end found.doing in
-            d.1.is ∙ sym (ends_with p (needs_of p) (budget_of r.job).steps
-            (root p (lists_of r.job) (budget_of r.job)) found.its.start found.its.receipts d.1.state
+            let d = subst (IsDoing r.job.job (course_of found.its)) at_end found.doing in
+            d.1.is ∙ sym (ends_with p (needs_of p) (budget_of r.job.job).steps
+            (root p (lists_of r.job.job) (budget_of r.job.job)) found.its.start found.its.receipts d.1.state
             d.1.come.follows)
 
         end_next : found.action ≡ EndTask
@@ -373,17 +374,17 @@ module _ (r : rWorld) (ok : IsJob r.job) (w : World) (h : Shows r w) where
             }
 
         unique : Unique w.live
-        unique = (sound p (needs_of p) r.job.w0 ok.least (lists_of r.job) (budget_of r.job) h.events w h.led).kept.unique
+        unique = (sound p (needs_of p) r.job.w0 ok.least (lists_of r.job.job) (budget_of r.job.job) h.events w h.led).kept.unique
 
-        tasks_so : (q : Path) → AreBoth (IsTaskOf r.job) (get is_path new.tasks q) (task q.turns.items (without_task found.its.path w.live))
+        tasks_so : (q : Path) → AreBoth (IsTaskOf r.job.job) (get is_path new.tasks q) (task q.turns.items (without_task found.its.path w.live))
         tasks_so q =
-            subst (λ o. AreBoth (IsTaskOf r.job) o (task q.turns.items (without_task found.its.path w.live))) (sym (each q))
-            (by_test (λ b. AreBoth (IsTaskOf r.job) (if b then None else get is_path r.tasks q)
+            subst (λ o. AreBoth (IsTaskOf r.job.job) o (task q.turns.items (without_task found.its.path w.live))) (sym (each q))
+            (by_test (λ b. AreBoth (IsTaskOf r.job.job) (if b then None else get is_path r.tasks q)
             (task q.turns.items (without_task found.its.path w.live))) (is_path path q)
-            (λ e. subst (λ o. AreBoth (IsTaskOf r.job) None o)
+            (λ e. subst (λ o. AreBoth (IsTaskOf r.job.job) None o)
             (sym (ap (λ x. task x (without_task found.its.path w.live)) (sym (found.named ∙ paths_same path.turns.items q.turns.items e))
             ∙ gone-without_task found.its.path w.live unique)) tt)
-            (λ e. subst (λ o. AreBoth (IsTaskOf r.job) (get is_path r.tasks q) o)
+            (λ e. subst (λ o. AreBoth (IsTaskOf r.job.job) (get is_path r.tasks q) o)
             (sym (task-without_task found.its.path q.turns.items w.live (λ same. other_path e (sym found.named ∙ same)))) (h.tasks q)))
 
         pub ended_shown : (to : World) × (next_world r.job (Ends path.turns.items) w ≡ Some to)
@@ -393,7 +394,7 @@ module _ (r : rWorld) (ok : IsJob r.job) (w : World) (h : Shows r w) where
           end_legal,
           record {
             events = h.events ++ Ends path.turns.items ∷ [];
-            led = led_on p r.job.w0 (lists_of r.job) (budget_of r.job) (Ends path.turns.items) h.events w without h.led end_legal;
+            led = led_on p r.job.w0 (lists_of r.job.job) (budget_of r.job.job) (Ends path.turns.items) h.events w without h.led end_legal;
             tasks = tasks_so;
             paths = paths_without found.its.path found.its w.live (ap (λ x. task x w.live) found.named ∙ found.lives) h.paths;
             scopes = scopes_put (get is_scope r.scopes) (get is_scope new.scopes) inner.scope to_book its_book.0
@@ -401,7 +402,7 @@ module _ (r : rWorld) (ok : IsJob r.job) (w : World) (h : Shows r w) where
                 (named_so (scope_id inner.scope) w.scopes its_book.0 its_book.1)
                 (subst (λ x. IsBookOf to_book (give_back inner.weight (x ∷ []) its_book.0)) made_so (gives its_book.0 its_book.2)) each_scope;
             hands = hands_so (without_task found.its.path w.live)
-                (λ v. free_without found.its w.live (hands_are_apart p r.job.w0 (lists_of r.job) (budget_of r.job) h.events w h.led) worker v
+                (λ v. free_without found.its w.live (hands_are_apart p r.job.w0 (lists_of r.job.job) (budget_of r.job.job) h.events w h.led) worker v
                 found.hand found.its.path (ap (λ x. task x w.live) found.named ∙ found.lives));
             told = told_so (give_back inner.weight (handed ∷ []) its_book.0) refl refl;
           },
@@ -446,8 +447,8 @@ module _ (r : rWorld) (ok : IsJob r.job) (w : World) (h : Shows r w) where
           park_legal,
           record {
             events = h.events ++ Parks path.turns.items ∷ [];
-            led = led_on p r.job.w0 (lists_of r.job) (budget_of r.job) (Parks path.turns.items) h.events w with_parked h.led park_legal;
-            tasks = tasks_put r.job (get is_path r.tasks) (get is_path new.tasks) path to_task found.its parked w.live h.tasks found.lives
+            led = led_on p r.job.w0 (lists_of r.job.job) (budget_of r.job.job) (Parks path.turns.items) h.events w with_parked h.led park_legal;
+            tasks = tasks_put r.job.job (get is_path r.tasks) (get is_path new.tasks) path to_task found.its parked w.live h.tasks found.lives
                 found.named
                 (record {
                   place = ap whereabouts down.place;
@@ -456,7 +457,7 @@ module _ (r : rWorld) (ok : IsJob r.job) (w : World) (h : Shows r w) where
                   doing = record {
                     before = course_of found.its;
                     last = refl;
-                    at = subst (IsDoing r.job (course_of found.its)) (sym down.doing) found.doing;
+                    at = subst (IsDoing r.job.job (course_of found.its)) (sym down.doing) found.doing;
                   };
                 })
                 each;
@@ -465,7 +466,7 @@ module _ (r : rWorld) (ok : IsJob r.job) (w : World) (h : Shows r w) where
                 (give_back inner.weight [] its_book.0) w.scopes h.scopes its_book.1
                 (named_so (scope_id inner.scope) w.scopes its_book.0 its_book.1) (gives its_book.0 its_book.2) each_scope;
             hands = hands_so (put_task parked w.live)
-                (λ v. free_parked found.its w.live (hands_are_apart p r.job.w0 (lists_of r.job) (budget_of r.job) h.events w h.led) worker v
+                (λ v. free_parked found.its w.live (hands_are_apart p r.job.w0 (lists_of r.job.job) (budget_of r.job.job) h.events w h.led) worker v
                 found.hand parked refl (ap (λ x. task x w.live) found.named ∙ found.lives));
             told = told_so (give_back inner.weight [] its_book.0) refl refl;
           },
@@ -504,7 +505,7 @@ at_exit P (Ok x) e passed h = tt
 at_exit P (Err y) e passed h = subst P (sym passed) h
 
 -- a hand was asked for
-module _ (old : rWorld) (ok : IsJob old.job) (path : Path) (r1 : rWorld) (others1 : r1 ≡ record old { tasks = r1.tasks })
+module _ (old : rWorld) (ok : IsWeightedJob old.job) (path : Path) (r1 : rWorld) (others1 : r1 ≡ record old { tasks = r1.tasks })
     (still1 : WorldStays old r1) where
   keeps1 : (w : World) → Shows old w → Shows r1 w
   keeps1 = stays_shown old r1 still1

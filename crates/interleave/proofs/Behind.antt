@@ -27,11 +27,13 @@ use Rattle.own_run.specs.declared.run.Run.{Run}
 use Rattle.own_run.specs.declared.turn.Paused.{Paused}
 use Rattle.own_run.proofs.TaskRuns.{leaves_follow}
 use Rattle.gather.specs.GivesBack.{GiveBack, all_owned}
+use Rattle.gather.specs.Jobs.{IsJob, program_of, lists_of, budget_of}
+use Rattle.gather.specs.declared.job.Job.{Job}
 use Rattle.gather.proofs.TasksGiveBack.{comes_back, give_back}
 use Rattle.interleave.specs.Courses.{Course, course_of, further, HasCome, IsDoing, IsPausedOf, IsRunOf}
 use Rattle.interleave.specs.Ending.{GoesBehind, IsBehind, IsGoneOn, IsOutside, MayGoOn, MayLeave, ScopeBecomes, StandsAt, TaskBecomes}
 use Rattle.interleave.specs.Events.{Resume, only_if, by_resume}
-use Rattle.interleave.specs.Jobs.{IsJob, program_of, lists_of, budget_of}
+use Rattle.interleave.specs.Jobs.{IsWeightedJob}
 use Rattle.interleave.specs.Replay.{does, hands_on}
 use Rattle.interleave.specs.Shown.{AreBoth, AreResultsOf, Becomes, IsTaskOf, IsBookOf, IsDoingThere, Shows, WorldStays, is_path, is_scope, next_world}
 use Rattle.interleave.specs.Shown.{scope_id, stake, whereabouts}
@@ -39,7 +41,6 @@ use Rattle.interleave.specs.World.{Stake, Live, Scope, World, Whereabouts, Queue
 use Rattle.interleave.specs.World.{in_hand, hand_is_free}
 use Rattle.interleave.specs.declared.doing.Doing.{Doing}
 use Rattle.types.specs.declared.scope_id.ScopeId.{ScopeId as rScopeId}
-use Rattle.interleave.specs.declared.job.Job.{Job}
 use Rattle.interleave.specs.declared.scope.Scope.{Scope as rScope}
 use Rattle.interleave.specs.declared.task.Stake.{Stake as rStake}
 use Rattle.interleave.specs.declared.task.Task.{Task as rTask}
@@ -156,13 +157,13 @@ none_free false y = refl
 
 module _ (r : rWorld) (w : World) (h : Shows r w) (path : Path) (worker : ℕ) where
   abbrev p : Program
-  p = program_of r.job
+  p = program_of r.job.job
 
   abbrev acts : Start → List (List TaskResult) → List Action
-  acts = does p (needs_of p) (budget_of r.job).steps r.job.w0
+  acts = does p (needs_of p) (budget_of r.job.job).steps r.job.w0
 
   abbrev hands_on_so : Start → List (List TaskResult) → TaskResult
-  hands_on_so = hands_on p (needs_of p) (budget_of r.job).steps r.job.w0
+  hands_on_so = hands_on p (needs_of p) (budget_of r.job.job).steps r.job.w0
 
   abbrev leave_with : Live → List Stake → Option World
   leave_with t ss = by_resume r.job.w0 acts hands_on_so worker t w ss
@@ -187,16 +188,16 @@ module _ (r : rWorld) (w : World) (h : Shows r w) (path : Path) (worker : ℕ) w
             live = put_task (record t { receipts = t.receipts ++ b.results ∷ []; stakes = o ∷ more; place = Hand worker }) w.live;
           }))) (f s (o ∷ more) refl b e)
 
-  by_task : (k : rTask) → get is_path r.tasks path ≡ Some k → ((t : Live) → IsTaskOf r.job k t → leave_with t t.stakes ≡ None)
+  by_task : (k : rTask) → get is_path r.tasks path ≡ Some k → ((t : Live) → IsTaskOf r.job.job k t → leave_with t t.stakes ≡ None)
       → next_world r.job (Resume worker path.turns.items) w ≡ None
   by_task k at go =
-      let t = there (IsTaskOf r.job) k (get is_path r.tasks path) (task path.turns.items w.live) (h.tasks path) at in
+      let t = there (IsTaskOf r.job.job) k (get is_path r.tasks path) (task path.turns.items w.live) (h.tasks path) at in
       ap (λ o. and_then o (λ t. leave_with t t.stakes)) t.1 ∙ go t.0 t.2
 
   pub no_task_leaves : get is_path r.tasks path ≡ None → next_world r.job (Resume worker path.turns.items) w ≡ None
   no_task_leaves none =
       ap (λ o. and_then o (λ t. leave_with t t.stakes))
-      (not_there (IsTaskOf r.job) (get is_path r.tasks path) (task path.turns.items w.live) (h.tasks path) none)
+      (not_there (IsTaskOf r.job.job) (get is_path r.tasks path) (task path.turns.items w.live) (h.tasks path) none)
 
   pub awake_stays : (k : rTask) → get is_path r.tasks path ≡ Some k → (k.place ≡ rParked → ⊥)
       → next_world r.job (Resume worker path.turns.items) w ≡ None
@@ -275,7 +276,7 @@ scope_keeps r w h id s to new at still each = record {
 }
 
 -- ---- a parked task goes on
-module _ (old : rWorld) (ok : IsJob old.job) (path : Path) (m : MayLeave old path) (hs : rWorld)
+module _ (old : rWorld) (ok : IsWeightedJob old.job) (path : Path) (m : MayLeave old path) (hs : rWorld)
     (same_hands : (v : ℕ) → contains nat_eq hs.hands v ≡ contains nat_eq old.hands v) where
   abbrev roomy : rWorld
   roomy = record old { hands = hs.hands }
@@ -310,11 +311,11 @@ module _ (old : rWorld) (ok : IsJob old.job) (path : Path) (m : MayLeave old pat
     record Waiting (w : World) : Type 0 where
       its : Live
       lives : task path.turns.items w.live ≡ Some its
-      is : IsTaskOf old.job m.at.its its
+      is : IsTaskOf old.job.job m.at.its its
       place : its.place ≡ Parked
       before : Course
       last : further before ≡ course_of its
-      doing : IsDoing old.job before m.at.its.doing
+      doing : IsDoing old.job.job before m.at.its.doing
       book : Scope
       found : scope (scope_id m.at.inner.scope) w.scopes ≡ Some book
       books : IsBookOf m.at.book book
@@ -322,11 +323,11 @@ module _ (old : rWorld) (ok : IsJob old.job) (path : Path) (m : MayLeave old pat
 
     waiting : (w : World) → Shows old w → Waiting w
     waiting w h =
-        let t = there (IsTaskOf old.job) m.at.its (get is_path old.tasks path) (task path.turns.items w.live) (h.tasks path) m.at.at in
+        let t = there (IsTaskOf old.job.job) m.at.its (get is_path old.tasks path) (task path.turns.items w.live) (h.tasks path) m.at.at in
         let b = there IsBookOf m.at.book (get is_scope old.scopes m.at.inner.scope) (scope (scope_id m.at.inner.scope) w.scopes)
         (h.scopes m.at.inner.scope) m.at.there in
         let place : t.0.place ≡ Parked = sym t.2.place ∙ ap whereabouts m.place in
-        let d = parked_doing old.job t.0.place (course_of t.0) m.at.its.doing place t.2.doing in
+        let d = parked_doing old.job.job t.0.place (course_of t.0) m.at.its.doing place t.2.doing in
         record {
           its = t.0;
           lives = t.1;
@@ -351,12 +352,12 @@ module _ (old : rWorld) (ok : IsJob old.job) (path : Path) (m : MayLeave old pat
       let book : m.at.book ≡ a.book
       = same_Some _ _ (sym m.at.there ∙ ap (λ (s : rStake). get is_scope old.scopes s.scope) inner ∙ a.there) in
       let x = waiting results.items (λ b h. results_of m.at.book.results results b (ap (λ (s : rScope). s.results) book ∙ kept) h) w0 h0 in
-      let paused = subst (IsDoing old.job x.before) (ap (λ (k : rTask). k.doing) task ∙ is) x.doing in
-      let came = results_came (program_of old.job) ok.sound ok.accepted old.job.w0 ok.least (lists_of old.job) (budget_of old.job)
-      ok.fits h0.events w0 h0.led (scope_id m.at.inner.scope) x.book x.found in
+      let paused = subst (IsDoing old.job.job x.before) (ap (λ (k : rTask). k.doing) task ∙ is) x.doing in
+      let came = results_came (program_of old.job.job) ok.job.sound ok.job.accepted old.job.w0 ok.least (lists_of old.job.job) (budget_of old.job.job)
+      ok.job.fits h0.events w0 h0.led (scope_id m.at.inner.scope) x.book x.found in
       subst (λ rs. GiveBack (task_result made) rs) (sym x.are)
       (subst (λ y. GiveBack y x.book.results) (sym paused.1.made)
-      (give_back (program_of old.job) ok.sound ok.accepted (lists_of old.job) (budget_of old.job) ok.fits x.before.start
+      (give_back (program_of old.job.job) ok.job.sound ok.job.accepted (lists_of old.job.job) (budget_of old.job.job) ok.job.fits x.before.start
       (record { frames = AtEnd paused.1.before ∷ paused.1.frames; state = paused.1.state }) paused.1.come.stands x.book.results came))
 
   module _ (r2 : rWorld) (others2 : r2 ≡ record old { scopes = r2.scopes; hands = hs.hands })
@@ -420,18 +421,18 @@ module _ (old : rWorld) (ok : IsJob old.job) (path : Path) (m : MayLeave old pat
                   }) w.live;
                 }
 
-            runs : IsDoing old.job (course_of left) behind.to.doing
+            runs : IsDoing old.job.job (course_of left) behind.to.doing
             runs =
                 let b = behind.fits in
-                let paused = subst (IsDoing old.job it.before) b.was it.doing in
-                let own = results_are_own (program_of old.job) (needs_of (program_of old.job)) old.job.w0 ok.least (lists_of old.job)
-                (budget_of old.job) h.events w h.led (scope_id m.at.inner.scope) it.book it.found in
+                let paused = subst (IsDoing old.job.job it.before) b.was it.doing in
+                let own = results_are_own (program_of old.job.job) (needs_of (program_of old.job.job)) old.job.w0 ok.least (lists_of old.job.job)
+                (budget_of old.job.job) h.events w h.led (scope_id m.at.inner.scope) it.book it.found in
                 let goes = subst (λ rs. GoesBehind b.paused b.made rs b.run) it.are b.goes in
-                subst (IsDoing old.job (course_of left)) (sym b.is)
-                (subst (λ (c : Course). IsRunOf old.job (record c { receipts = c.receipts ++ it.book.results ∷ [] }) b.run) it.last
-                (run_behind old.job ok it.before b.paused b.made paused.1 it.book.results own b.run goes))
+                subst (IsDoing old.job.job (course_of left)) (sym b.is)
+                (subst (λ (c : Course). IsRunOf old.job.job (record c { receipts = c.receipts ++ it.book.results ∷ [] }) b.run) it.last
+                (run_behind old.job.job ok.job it.before b.paused b.made paused.1 it.book.results own b.run goes))
 
-            its_new : IsTaskOf old.job behind.to left
+            its_new : IsTaskOf old.job.job behind.to left
             its_new = record {
               place = ap whereabouts behind.fits.place;
               stakes = ap (map stake) (behind.fits.stakes ∙ ap (drop 1) items);
@@ -452,9 +453,9 @@ module _ (old : rWorld) (ok : IsJob old.job) (path : Path) (m : MayLeave old pat
             shown : Shows (record old { tasks = r3.tasks; scopes = r2.scopes; hands = last.hands }) to
             shown = record {
               events = h.events ++ Resume worker path.turns.items ∷ [];
-              led = led_on (program_of old.job) old.job.w0 (lists_of old.job) (budget_of old.job) (Resume worker path.turns.items) h.events w
+              led = led_on (program_of old.job.job) old.job.w0 (lists_of old.job.job) (budget_of old.job.job) (Resume worker path.turns.items) h.events w
                   to h.led legal;
-              tasks = tasks_put old.job (get is_path old.tasks) (get is_path r3.tasks) path behind.to it.its left w.live h.tasks it.lives named
+              tasks = tasks_put old.job.job (get is_path old.tasks) (get is_path r3.tasks) path behind.to it.its left w.live h.tasks it.lives named
                   its_new (each_task behind.to behind.each);
               paths = paths_put left it.its w.live (ap (λ x. task x w.live) named ∙ it.lives) h.paths;
               scopes = (taken_shown w h).scopes;

@@ -16,11 +16,12 @@ use Rattle.own_run.specs.Runs.{root}
 use Rattle.own_run.specs.Translation.{start}
 use Rattle.own_run.specs.declared.run.Run.{Run}
 use Rattle.own_run.specs.declared.start.Start.{Start as rStart}
+use Rattle.gather.specs.Jobs.{program_of, lists_of, budget_of}
+use Rattle.gather.specs.declared.job.Job.{Job}
 use Rattle.interleave.specs.Acting.{IsReady, IsSame, DidStep, IsToSpawn, IsShort, DidIssue, DidSpawn, IsHeavy, DidOpen}
 use Rattle.interleave.specs.Courses.{Course, IsKnown, course_of, IsDoing, IsNext}
 use Rattle.interleave.specs.Events.{Event, Steps, Replenish, Spawns, Opens, did, issue, may_issue, only_if, new_scope, new_task}
 use Rattle.interleave.specs.Events.{with_next, in_innermost, by_step, by_replenish, by_spawn, by_open, next_action}
-use Rattle.interleave.specs.Jobs.{program_of, lists_of, budget_of}
 use Rattle.interleave.specs.Replay.{does, hands_on}
 use Rattle.interleave.specs.Shown.{AreBoth, IsTaskOf, IsBookOf, IsDoingThere, is_path, is_scope, scope_id, stake, whereabouts}
 use Rattle.interleave.specs.Shown.{IsTold, Shows, TaskStays, WorldStays, next_world, Becomes, Refuses}
@@ -32,7 +33,7 @@ use Rattle.interleave.specs.declared.doing.Doing.TheVariants.{AtFinish, AtEnd}
 use Rattle.interleave.specs.declared.error.EventError.{EventError}
 use Rattle.interleave.specs.declared.error.EventError.TheVariants.{Illegal}
 use Rattle.types.specs.declared.scope_id.ScopeId.{ScopeId as rScopeId}
-use Rattle.interleave.specs.declared.job.Job.{Job}
+use Rattle.interleave.specs.declared.job.WeightedJob.{WeightedJob}
 use Rattle.interleave.specs.declared.scope.Scope.{Scope as rScope}
 use Rattle.interleave.specs.declared.task.Stake.{Stake as rStake}
 use Rattle.interleave.specs.declared.task.Task.{Task as rTask}
@@ -105,12 +106,12 @@ by_kind go (AtEnd made) a [] step spawn enter finish end e = ap go (sym (same_So
 by_kind go (AtEnd made) a (i ∷ q) step spawn enter finish end e = ap go (sym (same_Some _ _ e)) ∙ end
 
 -- the events that its next action makes legal
-module _ (j : Job) where
+module _ (j : WeightedJob) where
   abbrev D : Start → List (List TaskResult) → List Action
-  D = does (program_of j) (needs_of (program_of j)) (budget_of j).steps j.w0
+  D = does (program_of j.job) (needs_of (program_of j.job)) (budget_of j.job).steps j.w0
 
   abbrev H : Start → List (List TaskResult) → TaskResult
-  H = hands_on (program_of j) (needs_of (program_of j)) (budget_of j).steps j.w0
+  H = hands_on (program_of j.job) (needs_of (program_of j.job)) (budget_of j.job).steps j.w0
 
   abbrev pub acting : List ℕ → World → (Live → Action → Option World) → Option World
   acting path w go = with_next j.w0 D H path w go
@@ -120,22 +121,22 @@ pub record InHand (r : rWorld) (w : World) (path : Path) (worker : ℕ) (k : rTa
   pub its : Live
   pub lives : task path.turns.items w.live ≡ Some its
   pub named : its.path ≡ path.turns.items
-  pub is : IsTaskOf r.job k its
+  pub is : IsTaskOf r.job.job k its
   pub hand : hand_of its.place ≡ Some worker
-  pub doing : IsDoing r.job (course_of its) k.doing
+  pub doing : IsDoing r.job.job (course_of its) k.doing
 
 module _ (r : rWorld) (w : World) (h : Shows r w) (path : Path) where
   pub in_the_hand : (worker : ℕ) (k : rTask) → get is_path r.tasks path ≡ Some k → hand_of (whereabouts k.place) ≡ Some worker
       → InHand r w path worker k
   in_the_hand worker k at hand =
-      let t = there (IsTaskOf r.job) k (get is_path r.tasks path) (task path.turns.items w.live) (h.tasks path) at in
+      let t = there (IsTaskOf r.job.job) k (get is_path r.tasks path) (task path.turns.items w.live) (h.tasks path) at in
       record {
         its = t.0;
         lives = t.1;
         named = task_path path.turns.items w.live t.0 t.1;
         is = t.2;
         hand = ap hand_of (sym t.2.place) ∙ hand;
-        doing = its_doing r.job k t.0 worker t.2 hand;
+        doing = its_doing r.job.job k t.0 worker t.2 hand;
       }
 
   -- where none of the path is in a hand none is in the definition
@@ -147,21 +148,21 @@ module _ (r : rWorld) (w : World) (h : Shows r w) (path : Path) where
       after_task : Live → Option World
       after_task t = and_then (hand_of t.place) (λ v. and_then (next_action r.job.w0 (D r.job) (H r.job) t) (go t))
 
-      by_table : (o : Option rTask) → AreBoth (IsTaskOf r.job) o (task path.turns.items w.live)
+      by_table : (o : Option rTask) → AreBoth (IsTaskOf r.job.job) o (task path.turns.items w.live)
           → ((k : rTask) → o ≡ Some k → hand_of (whereabouts k.place) ≡ None)
           → acting r.job path.turns.items w go ≡ None
       by_table None both out =
           ap (λ o. and_then o (λ (t : Live). and_then (hand_of t.place) (λ v. and_then (next_action r.job.w0 (D r.job) (H r.job) t) (go t))))
-          (not_there (IsTaskOf r.job) None (task path.turns.items w.live) both refl)
+          (not_there (IsTaskOf r.job.job) None (task path.turns.items w.live) both refl)
       by_table (Some k) both out =
-          let t = there (IsTaskOf r.job) k (Some k) (task path.turns.items w.live) both refl in
+          let t = there (IsTaskOf r.job.job) k (Some k) (task path.turns.items w.live) both refl in
           ap (λ o. and_then o (λ (t : Live). and_then (hand_of t.place) (λ v. and_then (next_action r.job.w0 (D r.job) (H r.job) t) (go t)))) t.1
           ∙ ap (λ o. and_then o (λ (v : ℕ). and_then (next_action r.job.w0 (D r.job) (H r.job) t.0) (go t.0)))
           (ap hand_of (sym t.2.place) ∙ out k refl)
 
   module _ (worker : ℕ) (k : rTask) (x : InHand r w path worker k) where
     -- it goes by its next action
-    pub acts : (a : Action) (go : Live → Action → Option World) → IsNext r.job (course_of x.its) a
+    pub acts : (a : Action) (go : Live → Action → Option World) → IsNext r.job.job (course_of x.its) a
         → acting r.job path.turns.items w go ≡ go x.its a
     acts a go next =
         ap (λ o. and_then o (λ (t : Live). and_then (hand_of t.place) (λ v. and_then (next_action r.job.w0 (D r.job) (H r.job) t) (go t)))) x.lives
@@ -173,7 +174,7 @@ module _ (r : rWorld) (w : World) (h : Shows r w) (path : Path) where
         → ((a : Action) → ahead_of x.its.start.path k.doing ≡ Some a → go x.its a ≡ None)
         → acting r.job path.turns.items w go ≡ None
     acts_not go known not =
-        let n = known_next r.job (course_of x.its) k.doing known x.doing in
+        let n = known_next r.job.job (course_of x.its) k.doing known x.doing in
         acts n.0 go n.1 ∙ not n.0 n.2
 
 -- ---- hands
@@ -228,7 +229,7 @@ module _ (old mid : rWorld) (path : Path) (worker : ℕ) (g : IsReady mid path w
 
   -- where it becomes another
   pub shows_put : (w : World) (h : Shows mid w) (e : Event) (new : rTask) (to : Live) (ss : List Scope) (tasks : _) (scopes : _)
-      → to.path ≡ path.turns.items → to.place ≡ (at_hand w h).its.place → IsTaskOf mid.job new to
+      → to.path ≡ path.turns.items → to.place ≡ (at_hand w h).its.place → IsTaskOf mid.job.job new to
       → ((q : Path) → get is_path tasks q ≡ (if is_path path q then Some new else get is_path mid.tasks q))
       → ((q : rScopeId) → AreBoth IsBookOf (get is_scope scopes q) (scope (scope_id q) ss))
       → is_passed (scope root_scope ss) ≡ is_passed (scope root_scope w.scopes)
@@ -238,13 +239,13 @@ module _ (old mid : rWorld) (path : Path) (worker : ℕ) (g : IsReady mid path w
       let x = at_hand w h in
       record {
         events = h.events ++ e ∷ [];
-        led = led_on (program_of mid.job) mid.job.w0 (lists_of mid.job) (budget_of mid.job) e h.events w
+        led = led_on (program_of mid.job.job) mid.job.w0 (lists_of mid.job.job) (budget_of mid.job.job) e h.events w
             (record { live = put_task to w.live; scopes = ss }) h.led legal;
-        tasks = tasks_put mid.job (get is_path mid.tasks) (get is_path tasks) path new x.its to w.live h.tasks x.lives named is each;
+        tasks = tasks_put mid.job.job (get is_path mid.tasks) (get is_path tasks) path new x.its to w.live h.tasks x.lives named is each;
         paths = paths_put to x.its w.live (ap (λ p. task p w.live) named ∙ x.lives) h.paths;
         scopes = kept;
         hands = λ v. h.hands v ∙ ap not (sym (free_same v to x.its w.live (ap (λ p. task p w.live) named ∙ x.lives) placed));
-        told = subst (λ b. IsTold mid.job b mid.told) (sym passed) h.told;
+        told = subst (λ b. IsTold mid.job.job b mid.told) (sym passed) h.told;
       }
 
   -- a task that isn't as another look-up says
@@ -261,15 +262,15 @@ module _ (old mid : rWorld) (path : Path) (worker : ℕ) (g : IsReady mid path w
     step_of s w h =
         let x = at_hand w h in
         let e = one_task k at in
-        let is : IsTaskOf mid.job k x.its = subst (λ z. IsTaskOf mid.job z x.its) e x.is in
-        let d : IsDoing mid.job (course_of x.its) (rSteps s.run)
-        = subst (λ z. IsDoing mid.job (course_of x.its) z) (ap (λ (z : rTask). z.doing) e ∙ s.was) x.doing in
+        let is : IsTaskOf mid.job.job k x.its = subst (λ z. IsTaskOf mid.job.job z x.its) e x.is in
+        let d : IsDoing mid.job.job (course_of x.its) (rSteps s.run)
+        = subst (λ z. IsDoing mid.job.job (course_of x.its) z) (ap (λ (z : rTask). z.doing) e ∙ s.was) x.doing in
         let to : Live = did x.its x.its.stakes in
-        let now : IsTaskOf mid.job new to = subst (λ z. IsTaskOf mid.job z to) (sym s.now) (record {
+        let now : IsTaskOf mid.job.job new to = subst (λ z. IsTaskOf mid.job.job z to) (sym s.now) (record {
           place = is.place;
           stakes = is.stakes;
           opened = is.opened;
-          doing = there_doing mid.job x.its.place worker (course_of to) (Runs s.run) x.hand d.1;
+          doing = there_doing mid.job.job x.its.place worker (course_of to) (Runs s.run) x.hand d.1;
         }) in
         let legal : next_world mid.job (Steps path.turns.items) w ≡ Some (record { live = put_task to w.live; scopes = w.scopes })
         = acts mid w h path worker g.task x Step (λ t. by_step mid.job.w0 (D mid.job) (H mid.job) t w) d.0 in (
@@ -296,7 +297,7 @@ module _ (old mid : rWorld) (path : Path) (worker : ℕ) (g : IsReady mid path w
     steps_not (Err e) as_before is none =
         refuses_after old mid after_it (Steps path.turns.items) e still
         (refuses_by mid after_it (Steps path.turns.items) e
-        (stays_put mid path k new next.tasks mid.scopes at (subst (λ z. TaskStays mid.job k z) (sym as_before) (its_self mid.job k)) each
+        (stays_put mid path k new next.tasks mid.scopes at (subst (λ z. TaskStays mid.job.job k z) (sym as_before) (its_self mid.job.job k)) each
         (λ q. refl))
         (λ m w h. no_step_of none w h))
 
@@ -341,8 +342,8 @@ module _ (old mid : rWorld) (path : Path) (worker : ℕ) (g : IsReady mid path w
         kind : Action
         kind = Spawn (start s.wants.spawns.start)
 
-        next_is : IsNext mid.job (course_of x.its) kind
-        next_is = (subst (λ d. IsDoing mid.job (course_of x.its) d) (ap (λ (z : rTask). z.doing) e ∙ s.wants.spawns.is) x.doing).0
+        next_is : IsNext mid.job.job (course_of x.its) kind
+        next_is = (subst (λ d. IsDoing mid.job.job (course_of x.its) d) (ap (λ (z : rTask). z.doing) e ∙ s.wants.spawns.is) x.doing).0
 
         stakes_are : x.its.stakes ≡ inner ∷ outer
         stakes_are = sym x.is.stakes ∙ ap (λ (z : rTask). map stake z.stakes.items) e ∙ ap (map stake) s.wants.stakes
@@ -367,13 +368,13 @@ module _ (old mid : rWorld) (path : Path) (worker : ℕ) (g : IsReady mid path w
             ∙ ap (λ n. only_if (nat_eq n 1 && may_issue w0 b.0) (Some to)) s.wants.one
             ∙ ap (λ t. only_if t (Some to)) few
 
-        is : IsTaskOf mid.job d.task its_new
+        is : IsTaskOf mid.job.job d.task its_new
         is = record {
           place = ap whereabouts (d.place ∙ ap (λ (z : rTask). z.place) (sym e)) ∙ x.is.place;
           stakes = ap (map stake) d.stakes;
           opened = d.opened ∙ ap (λ (z : rTask). z.opened) (sym e) ∙ x.is.opened;
-          doing = there_doing mid.job x.its.place worker (course_of x.its) d.task.doing x.hand
-              (subst (λ q. IsDoing mid.job (course_of x.its) q) (ap (λ (z : rTask). z.doing) e ∙ sym d.doing) x.doing);
+          doing = there_doing mid.job.job x.its.place worker (course_of x.its) d.task.doing x.hand
+              (subst (λ q. IsDoing mid.job.job (course_of x.its) q) (ap (λ (z : rTask). z.doing) e ∙ sym d.doing) x.doing);
         }
 
     pub replenishes : (s : IsShort mid path) → DidIssue mid next path s → Becomes (Replenish path.turns.items) old next
@@ -467,7 +468,7 @@ module _ (old mid : rWorld) (path : Path) (worker : ℕ) (g : IsReady mid path w
         legal,
         record {
           events = h.events ++ Spawns path.turns.items ∷ [];
-          led = led_on (program_of mid.job) mid.job.w0 (lists_of mid.job) (budget_of mid.job) (Spawns path.turns.items) h.events w to h.led legal;
+          led = led_on (program_of mid.job.job) mid.job.w0 (lists_of mid.job.job) (budget_of mid.job.job) (Spawns path.turns.items) h.events w to h.led legal;
           tasks = tasks_now;
           paths = paths_more kid cpath (put_task its_new w.live) called
               (paths_put its_new x.its w.live (ap (λ p. task p w.live) x.named ∙ x.lives) h.paths);
@@ -480,11 +481,11 @@ module _ (old mid : rWorld) (path : Path) (worker : ℕ) (g : IsReady mid path w
           x : InHand mid w path worker g.task
           x = at_hand w h
 
-          is : IsTaskOf mid.job k x.its
-          is = subst (λ z. IsTaskOf mid.job z x.its) (one_task k at) x.is
+          is : IsTaskOf mid.job.job k x.its
+          is = subst (λ z. IsTaskOf mid.job.job z x.its) (one_task k at) x.is
 
-          doing : IsDoing mid.job (course_of x.its) (rSpawns d.run d.start)
-          doing = subst (λ z. IsDoing mid.job (course_of x.its) z) (ap (λ (z : rTask). z.doing) (one_task k at) ∙ d.was) x.doing
+          doing : IsDoing mid.job.job (course_of x.its) (rSpawns d.run d.start)
+          doing = subst (λ z. IsDoing mid.job.job (course_of x.its) z) (ap (λ (z : rTask). z.doing) (one_task k at) ∙ d.was) x.doing
 
           kind : Action
           kind = Spawn (start d.start)
@@ -516,43 +517,43 @@ module _ (old mid : rWorld) (path : Path) (worker : ℕ) (g : IsReady mid path w
 
           begins : x.its.start.path ≡ path.turns.items
           begins =
-              let p = program_of mid.job in
-              given_path p (needs_of p) (budget_of mid.job).steps path.turns.items (root p (lists_of mid.job) (budget_of mid.job)) x.its.start
-              (starts_are_given p (needs_of p) mid.job.w0 least (lists_of mid.job) (budget_of mid.job) h.events w h.led path.turns.items x.its x.lives)
+              let p = program_of mid.job.job in
+              given_path p (needs_of p) (budget_of mid.job.job).steps path.turns.items (root p (lists_of mid.job.job) (budget_of mid.job.job)) x.its.start
+              (starts_are_given p (needs_of p) mid.job.w0 least (lists_of mid.job.job) (budget_of mid.job.job) h.events w h.led path.turns.items x.its x.lives)
 
           called : cpath.turns.items ≡ kid.path
           called = d.named ∙ doing.3 ∙ ap (λ q. child_path q (x.its.spawned + 1)) (begins ∙ sym x.named)
 
-          now : IsTaskOf mid.job new its_new
+          now : IsTaskOf mid.job.job new its_new
           now = record {
             place = ap whereabouts d.place ∙ is.place;
             stakes = d.kept;
             opened = d.opened ∙ is.opened;
-            doing = there_doing mid.job x.its.place worker (course_of its_new) new.doing x.hand
-                (subst (λ z. IsDoing mid.job (course_of its_new) z) (sym d.now) doing.1);
+            doing = there_doing mid.job.job x.its.place worker (course_of its_new) new.doing x.hand
+                (subst (λ z. IsDoing mid.job.job (course_of its_new) z) (sym d.now) doing.1);
           }
 
-          fresh : IsTaskOf mid.job child kid
+          fresh : IsTaskOf mid.job.job child kid
           fresh = record {
             place = ap whereabouts d.queued;
             stakes = d.given;
             opened = d.opened_none;
-            doing = subst (λ z. IsDoing mid.job (course_of kid) z) (sym d.begins)
+            doing = subst (λ z. IsDoing mid.job.job (course_of kid) z) (sym d.begins)
                 (record { is = refl; may = doing.2; receipts = refl; done = refl; spawned = refl; opened = refl });
           }
 
-          parents : (q : Path) → AreBoth (IsTaskOf mid.job) (if is_path path q then Some new else get is_path mid.tasks q)
+          parents : (q : Path) → AreBoth (IsTaskOf mid.job.job) (if is_path path q then Some new else get is_path mid.tasks q)
               (task q.turns.items (put_task its_new w.live))
-          parents = tasks_put mid.job (get is_path mid.tasks) (λ q. if is_path path q then Some new else get is_path mid.tasks q) path new x.its its_new
+          parents = tasks_put mid.job.job (get is_path mid.tasks) (λ q. if is_path path q then Some new else get is_path mid.tasks q) path new x.its its_new
               w.live h.tasks x.lives x.named now (λ q. refl)
 
-          tasks_now : (q : Path) → AreBoth (IsTaskOf mid.job) (get is_path next.tasks q) (task q.turns.items to.live)
+          tasks_now : (q : Path) → AreBoth (IsTaskOf mid.job.job) (get is_path next.tasks q) (task q.turns.items to.live)
           tasks_now q =
-              subst (λ o. AreBoth (IsTaskOf mid.job) o (task q.turns.items to.live)) (sym (each q))
-              (subst (λ p. AreBoth (IsTaskOf mid.job)
+              subst (λ o. AreBoth (IsTaskOf mid.job.job) o (task q.turns.items to.live)) (sym (each q))
+              (subst (λ p. AreBoth (IsTaskOf mid.job.job)
               (if same_path p q.turns.items then Some child else (if is_path path q then Some new else get is_path mid.tasks q))
               (task q.turns.items to.live)) (sym called)
-              (pick (IsTaskOf mid.job) (same_path kid.path q.turns.items) (Some child) (if is_path path q then Some new else get is_path mid.tasks q)
+              (pick (IsTaskOf mid.job.job) (same_path kid.path q.turns.items) (Some child) (if is_path path q then Some new else get is_path mid.tasks q)
               (Some kid) (task q.turns.items (put_task its_new w.live)) fresh (parents q)))
 
       pub spawns : Becomes (Spawns path.turns.items) old (record mid { tasks = next.tasks })
@@ -607,17 +608,17 @@ module _ (old mid : rWorld) (path : Path) (worker : ℕ) (g : IsReady mid path w
     spawns_not new alike next each x none =
         refuses_after old mid (record mid { tasks = next.tasks }) (Spawns path.turns.items) x still
         (refuses_by mid (record mid { tasks = next.tasks }) (Spawns path.turns.items) x
-        (stays_put mid path k new next.tasks mid.scopes at (alike_stays mid.job k new alike) each (λ q. refl))
+        (stays_put mid path k new next.tasks mid.scopes at (alike_stays mid.job.job k new alike) each (λ q. refl))
         (λ m w h. no_spawn_of (none m) w h))
 
   -- ---- a finish is begun
   module _ (k : rTask) (at : get is_path mid.tasks path ≡ Some k) where
     -- it has begun fewer than its budget has steps
-    pub opened_few : (w : World) → Shows mid w → (r : Run) → k.doing ≡ rOpens r → k.opened + 1 ≤ (budget_of mid.job).steps
+    pub opened_few : (w : World) → Shows mid w → (r : Run) → k.doing ≡ rOpens r → k.opened + 1 ≤ (budget_of mid.job.job).steps
     opened_few w h r was =
         let x = at_hand w h in
-        let doing : IsDoing mid.job (course_of x.its) (rOpens r)
-        = subst (λ z. IsDoing mid.job (course_of x.its) z) (ap (λ (z : rTask). z.doing) (one_task k at) ∙ was) x.doing in
+        let doing : IsDoing mid.job.job (course_of x.its) (rOpens r)
+        = subst (λ z. IsDoing mid.job.job (course_of x.its) z) (ap (λ (z : rTask). z.doing) (one_task k at) ∙ was) x.doing in
         let few = doing.1.come.few in
         let count = ap (λ (z : rTask). z.opened) (one_task k at) in
         let its = x.is.opened in
@@ -638,11 +639,11 @@ module _ (old mid : rWorld) (path : Path) (worker : ℕ) (g : IsReady mid path w
           x : InHand mid w path worker g.task
           x = at_hand w h
 
-          is : IsTaskOf mid.job k x.its
-          is = subst (λ z. IsTaskOf mid.job z x.its) (one_task k at) x.is
+          is : IsTaskOf mid.job.job k x.its
+          is = subst (λ z. IsTaskOf mid.job.job z x.its) (one_task k at) x.is
 
-          doing : IsDoing mid.job (course_of x.its) (rOpens d.run)
-          doing = subst (λ z. IsDoing mid.job (course_of x.its) z) (ap (λ (z : rTask). z.doing) (one_task k at) ∙ d.was) x.doing
+          doing : IsDoing mid.job.job (course_of x.its) (rOpens d.run)
+          doing = subst (λ z. IsDoing mid.job.job (course_of x.its) z) (ap (λ (z : rTask). z.doing) (one_task k at) ∙ d.was) x.doing
 
           name : ScopeId
           name = record { owner = x.its.path; number = x.its.opened + 1 }
@@ -663,14 +664,14 @@ module _ (old mid : rWorld) (path : Path) (worker : ℕ) (g : IsReady mid path w
               ≡ Some (record { live = put_task its_new w.live; scopes = new_scope name mid.job.w0 ∷ w.scopes })
           legal = acts mid w h path worker g.task x EnterFinish (λ t. by_open mid.job.w0 (D mid.job) (H mid.job) t w) doing.0
 
-          now : IsTaskOf mid.job new its_new
+          now : IsTaskOf mid.job.job new its_new
           now = record {
             place = ap whereabouts d.place ∙ is.place;
             stakes = d.stakes ∙ ap (λ (i : ScopeId). record { scope = i; weight = mid.job.w0 } ∷ map stake k.stakes.items) named
                 ∙ ap (λ ss. record { scope = name; weight = mid.job.w0 } ∷ ss) is.stakes;
             opened = d.opened ∙ ap (λ n. n + 1) is.opened;
-            doing = there_doing mid.job x.its.place worker (course_of its_new) new.doing x.hand
-                (subst (λ z. IsDoing mid.job (course_of its_new) z) (sym d.now) doing.1);
+            doing = there_doing mid.job.job x.its.place worker (course_of its_new) new.doing x.hand
+                (subst (λ z. IsDoing mid.job.job (course_of its_new) z) (sym d.now) doing.1);
           }
 
           scopes_now : (q : rScopeId) → AreBoth IsBookOf (get is_scope next.scopes q) (scope (scope_id q) (new_scope name mid.job.w0 ∷ w.scopes))
@@ -700,7 +701,7 @@ module _ (old mid : rWorld) (path : Path) (worker : ℕ) (g : IsReady mid path w
     opens_not new alike next each kept x none =
         refuses_after old mid (record mid { tasks = next.tasks; scopes = next.scopes }) (Opens path.turns.items) x still
         (refuses_by mid (record mid { tasks = next.tasks; scopes = next.scopes }) (Opens path.turns.items) x
-        (stays_put mid path k new next.tasks next.scopes at (alike_stays mid.job k new alike) each kept)
+        (stays_put mid path k new next.tasks next.scopes at (alike_stays mid.job.job k new alike) each kept)
         (λ m w h. no_open_of (none m) w h))
 
 -- what is known of a task that is short, as one look-up finds it

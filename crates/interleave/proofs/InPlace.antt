@@ -7,10 +7,10 @@ use Rattle.types.specs.declared.path.Path.{Path}
 use Rattle.effects.specs.Rounds.{needs_of}
 use Rattle.own_run.specs.OwnRun.{Action, Step, Spawn, EnterFinish, EndFinish, EndTask, Start}
 use Rattle.own_run.specs.Results.{TaskResult, and_then}
+use Rattle.gather.specs.Jobs.{program_of, budget_of}
 use Rattle.interleave.specs.Acting.{SteppedIf, TookStep, TookStepIf}
 use Rattle.interleave.specs.Courses.{IsNotToStep, course_of}
 use Rattle.interleave.specs.Events.{Steps, by_step, next_action}
-use Rattle.interleave.specs.Jobs.{program_of, budget_of}
 use Rattle.interleave.specs.Replay.{does, hands_on}
 use Rattle.interleave.specs.Shown.{Becomes, IsTaskOf, TaskStays, is_path}
 use Rattle.interleave.specs.Walks.{IsIllegal}
@@ -25,17 +25,17 @@ use Rattle.interleave.proofs.Tables.{there}
 
 module _ (r : rWorld) (path : Path) (k : rTask) (at : get is_path r.tasks path ≡ Some k) where
   abbrev actions : Start → List (List TaskResult) → List Action
-  actions = does (program_of r.job) (needs_of (program_of r.job)) (budget_of r.job).steps r.job.w0
+  actions = does (program_of r.job.job) (needs_of (program_of r.job.job)) (budget_of r.job.job).steps r.job.w0
 
   abbrev handed : Start → List (List TaskResult) → TaskResult
-  handed = hands_on (program_of r.job) (needs_of (program_of r.job)) (budget_of r.job).steps r.job.w0
+  handed = hands_on (program_of r.job.job) (needs_of (program_of r.job.job)) (budget_of r.job.job).steps r.job.w0
 
   -- a task whose next action isn't a step
-  pub no_step : IsNotToStep r.job k.doing → IsIllegal r (Steps path.turns.items)
+  pub no_step : IsNotToStep r.job.job k.doing → IsIllegal r (Steps path.turns.items)
   no_step not w h = ap (λ o. and_then o by_task) t.1 ∙ by_hand (hand_of t.0.place) refl
     where
-      t : (t : Live) × (task path.turns.items w.live ≡ Some t) × IsTaskOf r.job k t
-      t = there (IsTaskOf r.job) k (get is_path r.tasks path) (task path.turns.items w.live) (h.tasks path) at
+      t : (t : Live) × (task path.turns.items w.live ≡ Some t) × IsTaskOf r.job.job k t
+      t = there (IsTaskOf r.job.job) k (get is_path r.tasks path) (task path.turns.items w.live) (h.tasks path) at
 
       go : Live → Action → Option World
       go its = by_step r.job.w0 actions handed its w
@@ -56,14 +56,14 @@ module _ (r : rWorld) (path : Path) (k : rTask) (at : get is_path r.tasks path �
       by_hand None e = refl
       by_hand (Some v) e =
           by_action (next_action r.job.w0 actions handed t.0)
-          (not (course_of t.0) (its_doing r.job k t.0 v t.2 (ap hand_of t.2.place ∙ e)))
+          (not (course_of t.0) (its_doing r.job.job k t.0 v t.2 (ap hand_of t.2.place ∙ e)))
 
   -- tables with another task in the place of that
   module _ (put : rTask → rWorld)
       (each : (x : rTask) (q : Path) → get is_path (put x).tasks q ≡ (if is_path path q then Some x else get is_path r.tasks q))
       (found : (x : rTask) → get is_path (put x).tasks path ≡ Some x) (new : rTask) where
     -- as if its step had been known before
-    stepped : TookStep r.job k new → Becomes (Steps path.turns.items) r (record r { tasks = (put new).tasks })
+    stepped : TookStep r.job.job k new → Becomes (Steps path.turns.items) r (record r { tasks = (put new).tasks })
     stepped s =
         steps r mid path s.worker (record { task = known; at = found known; hand = s.hand; known = tt }) refl
         (stays_put r path k known (put known).tasks r.scopes at
@@ -82,8 +82,8 @@ module _ (r : rWorld) (path : Path) (k : rTask) (at : get is_path r.tasks path �
         mid = record r { tasks = (put known).tasks }
 
     -- it did so, or it is as it was
-    pub stepped_if : (did : Bool) → TookStepIf did r.job k new → SteppedIf did path.turns.items r (record r { tasks = (put new).tasks })
+    pub stepped_if : (did : Bool) → TookStepIf did r.job.job k new → SteppedIf did path.turns.items r (record r { tasks = (put new).tasks })
     stepped_if true s = stepped s
     stepped_if false same =
-        stays_put r path k new (put new).tasks r.scopes at (subst (λ z. TaskStays r.job k z) (sym same) (its_self r.job k)) (each new)
+        stays_put r path k new (put new).tasks r.scopes at (subst (λ z. TaskStays r.job.job k z) (sym same) (its_self r.job.job k)) (each new)
         (λ q. refl)

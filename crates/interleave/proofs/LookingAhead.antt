@@ -5,16 +5,16 @@ use Rattle.std.specs.Cmp.Lexicographic.{pointwise}
 use Rattle.std.specs.HashMap.{get}
 use Rattle.types.specs.declared.path.Path.{Path}
 use Rattle.own_run.proofs.SettledResults.{paths_same}
+use Rattle.gather.specs.declared.job.Job.{Job}
 use Rattle.interleave.specs.Courses.{Course, course_of, IsDoing}
 use Rattle.interleave.specs.Events.{Event}
-use Rattle.interleave.specs.Jobs.{IsJob}
+use Rattle.interleave.specs.Jobs.{IsWeightedJob}
 use Rattle.interleave.specs.Shown.{Becomes, IsDoingThere, IsTaskOf, IsWorld, Refuses, TaskStays, WorldStays}
 use Rattle.interleave.specs.Shown.{is_path, next_world}
 use Rattle.interleave.specs.Walks.{IsIllegal}
 use Rattle.interleave.specs.World.{Live, Whereabouts, Queue, Hand, Parked}
 use Rattle.interleave.specs.declared.error.EventError.{EventError}
 use Rattle.interleave.specs.declared.error.EventError.TheVariants.{Illegal}
-use Rattle.interleave.specs.declared.job.Job.{Job}
 use Rattle.interleave.specs.declared.task.Task.{Task as rTask}
 use Rattle.interleave.specs.declared.world.World.{World as rWorld}
 use Rattle.interleave.proofs.InHand.{becomes_after}
@@ -44,7 +44,7 @@ each_back path name new old without last same out back q =
 
 -- with one task that was taken out and is put back
 pub stays_back : (r : rWorld) (path name : Path) (k new : rTask) (without last : rWorld) → get is_path r.tasks path ≡ Some k
-    → is_path path name ≡ true → TaskStays r.job k new
+    → is_path path name ≡ true → TaskStays r.job.job k new
     → ((q : Path) → get is_path without.tasks q ≡ (if is_path path q then None else get is_path r.tasks q))
     → ((q : Path) → get is_path last.tasks q ≡ (if is_path name q then Some new else get is_path without.tasks q))
     → WorldStays r (record r { tasks = last.tasks })
@@ -54,7 +54,7 @@ stays_back r path name k new without last at same s out back =
 -- ---- an event behind that
 pub still_world : (old mid : rWorld) → IsWorld old → WorldStays old mid → IsWorld mid
 still_world old mid is still = record {
-  job = subst IsJob (sym still.job) is.job;
+  job = subst IsWeightedJob (sym still.job) is.job;
   world = is.world;
   shows = stays_shown old mid still is.world is.shows;
 }

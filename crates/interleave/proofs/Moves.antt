@@ -8,10 +8,11 @@ use Rattle.types.specs.declared.path.Path.{Path}
 use Rattle.effects.proofs.Members.{false_true}
 use Rattle.effects.specs.Rounds.{needs_of}
 use Rattle.own_run.specs.Results.{and_then}
+use Rattle.gather.specs.Jobs.{program_of, lists_of, budget_of}
+use Rattle.gather.specs.declared.job.Job.{Job}
 use Rattle.interleave.specs.Courses.{Course, course_of, IsDoing}
 use Rattle.interleave.specs.Events.{Event, Take, Steal, Pass, only_if, moved, by_pass}
 use Rattle.interleave.specs.Replay.{does, hands_on}
-use Rattle.interleave.specs.Jobs.{program_of, lists_of, budget_of}
 use Rattle.interleave.specs.Shown.{AreBoth, IsTaskOf, IsBookOf, IsDoingThere, is_path, is_scope, scope_id, whereabouts}
 use Rattle.interleave.specs.Shown.{AreResultsOf, IsTold, Shows, next_world}
 use Rattle.interleave.specs.World.{Live, Scope, World, Whereabouts, Queue, Hand, Parked, task, scope, put_scope}
@@ -19,7 +20,6 @@ use Rattle.interleave.specs.World.{in_queue, in_hand, hand_is_free, has_passed, 
 use Rattle.interleave.specs.Worlds.{LeadsTo}
 use Rattle.interleave.specs.declared.doing.Doing.{Doing}
 use Rattle.types.specs.declared.scope_id.ScopeId.{ScopeId as rScopeId}
-use Rattle.interleave.specs.declared.job.Job.{Job}
 use Rattle.interleave.specs.declared.scope.Scope.{Scope as rScope}
 use Rattle.interleave.specs.declared.task.Task.{Task as rTask}
 use Rattle.interleave.specs.declared.task.Whereabouts.{Whereabouts as rWhereabouts}
@@ -46,14 +46,14 @@ taken_hand false f = refl
 pub record Found (old : rWorld) (w : World) (path : Path) (worker : ℕ) (k : rTask) : Type 0 where
   pub its : Live
   pub lives : task path.turns.items w.live ≡ Some its
-  pub is : IsTaskOf old.job k its
+  pub is : IsTaskOf old.job.job k its
   pub queued : in_queue its.place worker ≡ true
 
 module _ (old : rWorld) (w : World) (h : Shows old w) (path : Path) where
   pub found : (worker : ℕ) (k : rTask) → get is_path old.tasks path ≡ Some k → in_queue (whereabouts k.place) worker ≡ true
       → Found old w path worker k
   found worker k at queued =
-      let t = there (IsTaskOf old.job) k (get is_path old.tasks path) (task path.turns.items w.live) (h.tasks path) at in
+      let t = there (IsTaskOf old.job.job) k (get is_path old.tasks path) (task path.turns.items w.live) (h.tasks path) at in
       record { its = t.0; lives = t.1; is = t.2; queued = ap (λ q. in_queue q worker) (sym t.2.place) ∙ queued }
 
   -- where no task of the path is in that queue, none is in the definition
@@ -62,11 +62,11 @@ module _ (old : rWorld) (w : World) (h : Shows old w) (path : Path) where
       → ((t : Live) → in_queue t.place worker ≡ false → P t ≡ None) → and_then (task path.turns.items w.live) P ≡ None
   not_queued worker P none go = by_table (get is_path old.tasks path) (h.tasks path) none
     where
-      by_table : (o : Option rTask) → AreBoth (IsTaskOf old.job) o (task path.turns.items w.live)
+      by_table : (o : Option rTask) → AreBoth (IsTaskOf old.job.job) o (task path.turns.items w.live)
           → ((k : rTask) → o ≡ Some k → in_queue (whereabouts k.place) worker ≡ false) → and_then (task path.turns.items w.live) P ≡ None
-      by_table None both out = ap (λ o. and_then o P) (not_there (IsTaskOf old.job) None (task path.turns.items w.live) both refl)
+      by_table None both out = ap (λ o. and_then o P) (not_there (IsTaskOf old.job.job) None (task path.turns.items w.live) both refl)
       by_table (Some k) both out =
-          let t = there (IsTaskOf old.job) k (Some k) (task path.turns.items w.live) both refl in
+          let t = there (IsTaskOf old.job.job) k (Some k) (task path.turns.items w.live) both refl in
           ap (λ o. and_then o P) t.1 ∙ go t.0 (ap (λ q. in_queue q worker) (sym t.2.place) ∙ out k refl)
 
   -- a task that is in a queue is somewhere else
@@ -79,7 +79,7 @@ module _ (old : rWorld) (w : World) (h : Shows old w) (path : Path) where
     abbrev to : World
     to = moved (whereabouts place) its w
 
-    shows_moved : (e : Event) → ((c : Course) (d : Doing) → IsDoing old.job c d → IsDoingThere old.job (whereabouts place) c d)
+    shows_moved : (e : Event) → ((c : Course) (d : Doing) → IsDoing old.job.job c d → IsDoingThere old.job.job (whereabouts place) c d)
         → next_world old.job e w ≡ Some to
         → ((v : ℕ) → contains nat_eq new.hands v ≡ not (not (in_hand (whereabouts place) v) && hand_is_free v w.live))
         → Shows (record old { tasks = new.tasks; hands = new.hands }) to
@@ -88,14 +88,14 @@ module _ (old : rWorld) (w : World) (h : Shows old w) (path : Path) where
         let named = task_path path.turns.items w.live its f.lives in
         record {
           events = h.events ++ e ∷ [];
-          led = led_on (program_of old.job) old.job.w0 (lists_of old.job) (budget_of old.job) e h.events w to h.led legal;
-          tasks = tasks_put old.job (get is_path old.tasks) (get is_path new.tasks) path (record k { place = place }) its
+          led = led_on (program_of old.job.job) old.job.w0 (lists_of old.job.job) (budget_of old.job.job) e h.events w to h.led legal;
+          tasks = tasks_put old.job.job (get is_path old.tasks) (get is_path new.tasks) path (record k { place = place }) its
               (record its { place = whereabouts place }) w.live h.tasks f.lives named
               (record {
                 place = refl;
                 stakes = f.is.stakes;
                 opened = f.is.opened;
-                doing = so (course_of its) k.doing (queued_doing old.job its.place from (course_of its) k.doing f.queued f.is.doing);
+                doing = so (course_of its) k.doing (queued_doing old.job.job its.place from (course_of its) k.doing f.queued f.is.doing);
               })
               each;
           paths = paths_put (record its { place = whereabouts place }) its w.live (ap (λ p. task p w.live) named ∙ f.lives) h.paths;
@@ -116,8 +116,8 @@ module _ (old : rWorld) (w : World) (h : Shows old w) (path : Path) where
         f : Found old w path from k
         f = found from k at queued
 
-        so : (c : Course) (d : Doing) → IsDoing old.job c d → IsDoingThere old.job (whereabouts place) c d
-        so c d x = subst (λ (q : rWhereabouts). IsDoingThere old.job (whereabouts q) c d) (sym put) x
+        so : (c : Course) (d : Doing) → IsDoing old.job.job c d → IsDoingThere old.job.job (whereabouts place) c d
+        so c d x = subst (λ (q : rWhereabouts). IsDoingThere old.job.job (whereabouts q) c d) (sym put) x
 
         room : hand_is_free worker w.live ≡ true
         room = not-false (hand_is_free worker w.live) (sym (h.hands worker) ∙ free)
@@ -146,8 +146,8 @@ module _ (old : rWorld) (w : World) (h : Shows old w) (path : Path) where
         f : Found old w path from k
         f = found from k at queued
 
-        so : (c : Course) (d : Doing) → IsDoing old.job c d → IsDoingThere old.job (whereabouts place) c d
-        so c d x = subst (λ (q : rWhereabouts). IsDoingThere old.job (whereabouts q) c d) (sym put) x
+        so : (c : Course) (d : Doing) → IsDoing old.job.job c d → IsDoingThere old.job.job (whereabouts place) c d
+        so c d x = subst (λ (q : rWhereabouts). IsDoingThere old.job.job (whereabouts q) c d) (sym put) x
 
         legal : next_world old.job (Steal worker from path.turns.items) w ≡ Some to
         legal =
@@ -193,8 +193,8 @@ module _ (old : rWorld) (w : World) (h : Shows old w) (path : Path) where
 -- ---- a scope passes
 abbrev passing : rWorld → World → Scope → Option World
 passing old w =
-    let p = program_of old.job in
-    by_pass old.job.w0 (does p (needs_of p) (budget_of old.job).steps old.job.w0) (hands_on p (needs_of p) (budget_of old.job).steps old.job.w0) w
+    let p = program_of old.job.job in
+    by_pass old.job.w0 (does p (needs_of p) (budget_of old.job.job).steps old.job.w0) (hands_on p (needs_of p) (budget_of old.job.job).steps old.job.w0) w
 
 same_test : (s : rScope) (book : Scope) → IsBookOf s book
     → (not s.passed && nat_eq s.issued s.returned) ≡ (not book.passed && nat_eq book.issued book.returned)
@@ -225,10 +225,10 @@ module _ (old : rWorld) (w : World) (h : Shows old w) (id : rScopeId) where
         ap (λ o. and_then o (passing old w)) passing_book.1
         ∙ ap (λ x. only_if x (Some passed_world)) (sym (same_test s passing_book.0 passing_book.2) ∙ complete)
 
-    pub pass_led : LeadsTo (program_of old.job) old.job.w0 (lists_of old.job) (budget_of old.job) (h.events ++ Pass (scope_id id) ∷ [])
+    pub pass_led : LeadsTo (program_of old.job.job) old.job.w0 (lists_of old.job.job) (budget_of old.job.job) (h.events ++ Pass (scope_id id) ∷ [])
         passed_world
     pass_led =
-        led_on (program_of old.job) old.job.w0 (lists_of old.job) (budget_of old.job) (Pass (scope_id id)) h.events w passed_world h.led
+        led_on (program_of old.job.job) old.job.w0 (lists_of old.job.job) (budget_of old.job.job) (Pass (scope_id id)) h.events w passed_world h.led
         pass_legal
 
     its_name : passed_book.id ≡ scope_id id
@@ -250,7 +250,7 @@ module _ (old : rWorld) (w : World) (h : Shows old w) (id : rScopeId) where
 
     pub passes : (scopes : _)
         → ((q : rScopeId) → get is_scope scopes q ≡ (if is_scope id q then Some (record s { passed = true }) else get is_scope old.scopes q))
-        → (told : _) → IsTold old.job (has_passed root_scope passed_world) told
+        → (told : _) → IsTold old.job.job (has_passed root_scope passed_world) told
         → (next : World) × (next_world old.job (Pass (scope_id id)) w ≡ Some next) × Shows (record old { scopes = scopes; told = told }) next
     passes scopes each told is_told = (
       passed_world,
@@ -280,7 +280,7 @@ module _ (old : rWorld) (w : World) (h : Shows old w) (id : rScopeId) where
         → (scope_id id ≡ root_scope → ⊥)
         → (next : World) × (next_world old.job (Pass (scope_id id)) w ≡ Some next) × Shows (record old { scopes = scopes }) next
     passes_beside scopes each other =
-        passes scopes each old.told (subst (λ b. IsTold old.job b old.told) (sym (passed_elsewhere other)) h.told)
+        passes scopes each old.told (subst (λ b. IsTold old.job.job b old.told) (sym (passed_elsewhere other)) h.told)
 
   pub passes_not : ((s : rScope) → get is_scope old.scopes id ≡ Some s → (not s.passed && nat_eq s.issued s.returned) ≡ false)
       → next_world old.job (Pass (scope_id id)) w ≡ None

@@ -1,22 +1,22 @@
 -- Lists of events, one after the other.
 use Rattle.std.proofs.Common.{◌≡◌, ℕ, ◌+◌, List, ◌∷◌, sym, ap, ◌∙◌, map}
 use Rattle.effects.specs.Rounds.{needs_of}
-use Rattle.interleave.specs.Jobs.{program_of, budget_of}
+use Rattle.gather.specs.Jobs.{program_of, budget_of}
 use Rattle.interleave.specs.Replay.{Replayed, IllegalAt, go_or, replay_from}
 use Rattle.interleave.specs.Replaying.{event}
 use Rattle.interleave.specs.Shown.{Becomes, Shows, next_world}
 use Rattle.interleave.specs.Walks.{IsIllegal}
 use Rattle.interleave.specs.World.{World}
 use Rattle.events.specs.declared.event.Event.{Event as rEvent}
-use Rattle.interleave.specs.declared.job.Job.{Job}
+use Rattle.interleave.specs.declared.job.WeightedJob.{WeightedJob}
 use Rattle.interleave.specs.declared.world.World.{World as rWorld}
 
 -- what is left of a list comes to this
-abbrev pub left_comes : Job → ℕ → List rEvent → World → Replayed
+abbrev pub left_comes : WeightedJob → ℕ → List rEvent → World → Replayed
 left_comes j n es w =
-    replay_from (program_of j) (needs_of (program_of j)) (budget_of j).steps j.w0 n (map event es) w
+    replay_from (program_of j.job) (needs_of (program_of j.job)) (budget_of j.job).steps j.w0 n (map event es) w
 
-module _ (j : Job) (old : rWorld) (same : old.job ≡ j) (w : World) (h : Shows old w) (n : ℕ) (e : rEvent) (es : List rEvent)
+module _ (j : WeightedJob) (old : rWorld) (same : old.job ≡ j) (w : World) (h : Shows old w) (n : ℕ) (e : rEvent) (es : List rEvent)
     (new : rWorld) where
   -- an event that is legal leads on
   pub goes_on : (b : Becomes (event e) old new)
@@ -24,7 +24,7 @@ module _ (j : Job) (old : rWorld) (same : old.job ≡ j) (w : World) (h : Shows 
   goes_on b =
       let s = b w h in (
         s.0,
-        ap (go_or n (replay_from (program_of j) (needs_of (program_of j)) (budget_of j).steps j.w0 (n + 1) (map event es)))
+        ap (go_or n (replay_from (program_of j.job) (needs_of (program_of j.job)) (budget_of j.job).steps j.w0 (n + 1) (map event es)))
             (ap (λ i. next_world i (event e) w) (sym same) ∙ s.1),
         s.2,
       )
@@ -32,5 +32,5 @@ module _ (j : Job) (old : rWorld) (same : old.job ≡ j) (w : World) (h : Shows 
   -- one that isn't is the first of those that are left
   pub stops_at : IsIllegal old (event e) → left_comes j n (e ∷ es) w ≡ IllegalAt n
   stops_at none =
-      ap (go_or n (replay_from (program_of j) (needs_of (program_of j)) (budget_of j).steps j.w0 (n + 1) (map event es)))
+      ap (go_or n (replay_from (program_of j.job) (needs_of (program_of j.job)) (budget_of j.job).steps j.w0 (n + 1) (map event es)))
       (ap (λ i. next_world i (event e) w) (sym same) ∙ none w h)

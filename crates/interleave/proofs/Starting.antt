@@ -8,8 +8,8 @@ use Rattle.own_run.specs.Reached.{root_begins}
 use Rattle.own_run.specs.Runs.{root as root_of}
 use Rattle.own_run.specs.Translation.{start}
 use Rattle.own_run.specs.declared.start.Start.{Start as rStart}
+use Rattle.gather.specs.Jobs.{program_of, lists_of, budget_of}
 use Rattle.interleave.specs.Events.{new_task, new_scope}
-use Rattle.interleave.specs.Jobs.{program_of, lists_of, budget_of}
 use Rattle.interleave.specs.Replay.{start_of}
 use Rattle.interleave.specs.Shown.{AreBoth, IsTaskOf, IsBookOf, IsTold, Shows, is_path, is_scope, scope_id, stake}
 use Rattle.interleave.specs.World.{Live, Queue, Stake, same_path, same_scope, root_scope, scope}
@@ -26,12 +26,12 @@ one : {A B : Type 0} (Are : A → B → Type 0) (b : Bool) (x : A) (y : B) → A
 one Are true x y h = h
 one Are false x y h = tt
 
-module _ (r : rWorld) (root : rStart) (is : start root ≡ root_of (program_of r.job) (lists_of r.job) (budget_of r.job)) where
+module _ (r : rWorld) (root : rStart) (is : start root ≡ root_of (program_of r.job.job) (lists_of r.job.job) (budget_of r.job.job)) where
   abbrev first_stake : Stake
   first_stake = record { scope = root_scope; weight = r.job.w0 }
 
   abbrev first_task : Live
-  first_task = new_task [] (root_of (program_of r.job) (lists_of r.job) (budget_of r.job)) first_stake 0
+  first_task = new_task [] (root_of (program_of r.job.job) (lists_of r.job.job) (budget_of r.job.job)) first_stake 0
 
   pub shows_start : (stakes : _) (s : rScope) (path : Path) (id : rScopeId) (first : ℕ)
       → let k : rTask = record { doing = Starts root; opened = 0; stakes = stakes; place = rQueue first } in
@@ -41,17 +41,17 @@ module _ (r : rWorld) (root : rStart) (is : start root ≡ root_of (program_of r
       → ((v : ℕ) → contains nat_eq r.hands v ≡ false)
       → IsBookOf s (new_scope root_scope r.job.w0)
       → r.told ≡ None
-      → Shows r (start_of (program_of r.job) r.job.w0 (lists_of r.job) (budget_of r.job))
+      → Shows r (start_of (program_of r.job.job) r.job.w0 (lists_of r.job.job) (budget_of r.job.job))
   shows_start stakes s path id first zero named scoped staked tasks scopes hands book none =
       let k : rTask = record { doing = Starts root; opened = 0; stakes = stakes; place = rQueue first } in
       record {
         events = [];
         led = refl;
         tasks = λ q.
-            subst (λ o. AreBoth (IsTaskOf r.job) o (if same_path [] q.turns.items then Some first_task else None)) (sym (tasks q))
-            (subst (λ p. AreBoth (IsTaskOf r.job) (if same_path p q.turns.items then Some k else None)
+            subst (λ o. AreBoth (IsTaskOf r.job.job) o (if same_path [] q.turns.items then Some first_task else None)) (sym (tasks q))
+            (subst (λ p. AreBoth (IsTaskOf r.job.job) (if same_path p q.turns.items then Some k else None)
             (if same_path [] q.turns.items then Some first_task else None)) (sym named)
-            (one (IsTaskOf r.job) (same_path [] q.turns.items) k first_task (record {
+            (one (IsTaskOf r.job.job) (same_path [] q.turns.items) k first_task (record {
               place = ap Queue zero;
               stakes = staked;
               opened = refl;
@@ -64,5 +64,5 @@ module _ (r : rWorld) (root : rStart) (is : start root ≡ root_of (program_of r
             (scope (scope_id q) (new_scope root_scope r.job.w0 ∷ []))) (sym scoped)
             (one IsBookOf (same_scope root_scope (scope_id q)) s (new_scope root_scope r.job.w0) book));
         hands = hands;
-        told = subst (IsTold r.job false) (sym none) refl;
+        told = subst (IsTold r.job.job false) (sym none) refl;
       }

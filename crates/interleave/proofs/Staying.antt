@@ -10,10 +10,11 @@ use Rattle.types.specs.declared.path.Path.{Path}
 use Rattle.own_run.specs.Translation.{task_result}
 use Rattle.own_run.specs.declared.result.TaskResult.{TaskResult as Made}
 use Rattle.own_run.proofs.SettledResults.{paths_same}
+use Rattle.gather.specs.Jobs.{program_of, lists_of, budget_of}
+use Rattle.gather.specs.declared.job.Job.{Job}
 use Rattle.interleave.specs.Acting.{IsSame}
 use Rattle.interleave.specs.Courses.{Course, course_of, IsLooked}
 use Rattle.interleave.specs.Events.{Event}
-use Rattle.interleave.specs.Jobs.{program_of, lists_of, budget_of}
 use Rattle.interleave.specs.Shown.{AreBoth, AreResultsOf, IsTaskOf, IsBookOf, IsDoingThere, IsTold, Refuses, ScopeStays, Shows, TaskStays, WorldStays}
 use Rattle.interleave.specs.Shown.{is_path, is_scope, next_world, scope_id, stake, whereabouts}
 use Rattle.interleave.specs.World.{Live, Scope, ScopeId, World, Whereabouts, Queue, Hand, Parked, task, scope, has_passed, root_scope}
@@ -22,7 +23,7 @@ use Rattle.interleave.specs.declared.doing.Doing.{Doing}
 use Rattle.interleave.specs.declared.error.EventError.{EventError}
 use Rattle.interleave.specs.declared.error.EventError.TheVariants.{Illegal, NoMemory}
 use Rattle.types.specs.declared.scope_id.ScopeId.{ScopeId as rScopeId}
-use Rattle.interleave.specs.declared.job.Job.{Job}
+use Rattle.interleave.specs.declared.job.WeightedJob.{WeightedJob}
 use Rattle.interleave.specs.declared.scope.Scope.{Scope as rScope}
 use Rattle.interleave.specs.declared.task.Task.{Task as rTask}
 use Rattle.interleave.specs.declared.world.World.{World as rWorld}
@@ -129,22 +130,22 @@ scope_on a b c h k = record {
 pub stays_shown : (old new : rWorld) → WorldStays old new → (w : World) → Shows old w → Shows new w
 stays_shown old new s w h = record {
   events = h.events;
-  led = subst (λ (j : Job). LeadsTo (program_of j) j.w0 (lists_of j) (budget_of j) h.events w) (sym s.job) h.led;
-  tasks = λ q. subst (λ (j : Job). AreBoth (IsTaskOf j) (get is_path new.tasks q) (task q.turns.items w.live)) (sym s.job)
-      (both_over (TaskStays old.job) (IsTaskOf old.job) (task_stays old.job) (get is_path old.tasks q) (get is_path new.tasks q)
+  led = subst (λ (j : WeightedJob). LeadsTo (program_of j.job) j.w0 (lists_of j.job) (budget_of j.job) h.events w) (sym s.job) h.led;
+  tasks = λ q. subst (λ (j : WeightedJob). AreBoth (IsTaskOf j.job) (get is_path new.tasks q) (task q.turns.items w.live)) (sym s.job)
+      (both_over (TaskStays old.job.job) (IsTaskOf old.job.job) (task_stays old.job.job) (get is_path old.tasks q) (get is_path new.tasks q)
       (task q.turns.items w.live) (s.tasks q) (h.tasks q));
   paths = h.paths;
   scopes = λ q. both_over ScopeStays IsBookOf scope_stays (get is_scope old.scopes q) (get is_scope new.scopes q)
       (scope (scope_id q) w.scopes) (s.scopes q) (h.scopes q);
   hands = λ v. s.hands v ∙ h.hands v;
-  told = subst (λ (j : Job). IsTold j (has_passed root_scope w) new.told) (sym s.job)
-      (subst (λ o. IsTold old.job (has_passed root_scope w) o) (sym s.told) h.told);
+  told = subst (λ (j : WeightedJob). IsTold j.job (has_passed root_scope w) new.told) (sym s.job)
+      (subst (λ o. IsTold old.job.job (has_passed root_scope w) o) (sym s.told) h.told);
 }
 
 pub stays_self : (r : rWorld) → WorldStays r r
 stays_self r = record {
   job = refl;
-  tasks = λ q. both_self (TaskStays r.job) (its_self r.job) (get is_path r.tasks q);
+  tasks = λ q. both_self (TaskStays r.job.job) (its_self r.job.job) (get is_path r.tasks q);
   scopes = λ q. both_self ScopeStays scope_self (get is_scope r.scopes q);
   hands = λ v. refl;
   told = refl;
@@ -153,8 +154,8 @@ stays_self r = record {
 pub stays_on : (a b c : rWorld) → WorldStays a b → WorldStays b c → WorldStays a c
 stays_on a b c h k = record {
   job = k.job ∙ h.job;
-  tasks = λ q. both_on (TaskStays a.job) (task_on a.job) (get is_path a.tasks q) (get is_path b.tasks q) (get is_path c.tasks q) (h.tasks q)
-      (subst (λ (j : Job). AreBoth (TaskStays j) (get is_path b.tasks q) (get is_path c.tasks q)) h.job (k.tasks q));
+  tasks = λ q. both_on (TaskStays a.job.job) (task_on a.job.job) (get is_path a.tasks q) (get is_path b.tasks q) (get is_path c.tasks q) (h.tasks q)
+      (subst (λ (j : WeightedJob). AreBoth (TaskStays j.job) (get is_path b.tasks q) (get is_path c.tasks q)) h.job (k.tasks q));
   scopes = λ q. both_on ScopeStays scope_on (get is_scope a.scopes q) (get is_scope b.scopes q) (get is_scope c.scopes q) (h.scopes q)
       (k.scopes q);
   hands = λ v. k.hands v ∙ h.hands v;
@@ -166,8 +167,8 @@ pub stays_tasks : (r : rWorld) (tasks : _) → ((q : Path) → get is_path tasks
     → WorldStays r (record r { tasks = tasks })
 stays_tasks r tasks kept = record {
   job = refl;
-  tasks = λ q. subst (λ o. AreBoth (TaskStays r.job) (get is_path r.tasks q) o) (sym (kept q))
-      (both_self (TaskStays r.job) (its_self r.job) (get is_path r.tasks q));
+  tasks = λ q. subst (λ o. AreBoth (TaskStays r.job.job) (get is_path r.tasks q) o) (sym (kept q))
+      (both_self (TaskStays r.job.job) (its_self r.job.job) (get is_path r.tasks q));
   scopes = λ q. both_self ScopeStays scope_self (get is_scope r.scopes q);
   hands = λ v. refl;
   told = refl;
@@ -177,7 +178,7 @@ pub stays_scopes : (r : rWorld) (scopes : _) → ((q : rScopeId) → get is_scop
     → WorldStays r (record r { scopes = scopes })
 stays_scopes r scopes kept = record {
   job = refl;
-  tasks = λ q. both_self (TaskStays r.job) (its_self r.job) (get is_path r.tasks q);
+  tasks = λ q. both_self (TaskStays r.job.job) (its_self r.job.job) (get is_path r.tasks q);
   scopes = λ q. subst (λ o. AreBoth ScopeStays (get is_scope r.scopes q) o) (sym (kept q)) (both_self ScopeStays scope_self (get is_scope r.scopes q));
   hands = λ v. refl;
   told = refl;
@@ -187,7 +188,7 @@ pub stays_hands : (r : rWorld) (hands : _) → ((v : ℕ) → contains nat_eq ha
     → WorldStays r (record r { hands = hands })
 stays_hands r hands kept = record {
   job = refl;
-  tasks = λ q. both_self (TaskStays r.job) (its_self r.job) (get is_path r.tasks q);
+  tasks = λ q. both_self (TaskStays r.job.job) (its_self r.job.job) (get is_path r.tasks q);
   scopes = λ q. both_self ScopeStays scope_self (get is_scope r.scopes q);
   hands = kept;
   told = refl;
@@ -195,14 +196,14 @@ stays_hands r hands kept = record {
 
 -- with one task that stays, and scopes that are where they were
 pub stays_put : (r : rWorld) (path : Path) (k new : rTask) (tasks : _) (scopes : _) → get is_path r.tasks path ≡ Some k
-    → TaskStays r.job k new → ((q : Path) → get is_path tasks q ≡ (if is_path path q then Some new else get is_path r.tasks q))
+    → TaskStays r.job.job k new → ((q : Path) → get is_path tasks q ≡ (if is_path path q then Some new else get is_path r.tasks q))
     → ((q : rScopeId) → get is_scope scopes q ≡ get is_scope r.scopes q) → WorldStays r (record r { tasks = tasks; scopes = scopes })
 stays_put r path k new tasks scopes at s each kept = record {
   job = refl;
-  tasks = λ q. subst (λ o. AreBoth (TaskStays r.job) (get is_path r.tasks q) o) (sym (each q))
-      (by_test (λ b. AreBoth (TaskStays r.job) (get is_path r.tasks q) (if b then Some new else get is_path r.tasks q)) (is_path path q)
-      (λ e. subst (λ o. AreBoth (TaskStays r.job) o (Some new)) (sym (at_path r.tasks path q e ∙ at)) s)
-      (λ e. both_self (TaskStays r.job) (its_self r.job) (get is_path r.tasks q)));
+  tasks = λ q. subst (λ o. AreBoth (TaskStays r.job.job) (get is_path r.tasks q) o) (sym (each q))
+      (by_test (λ b. AreBoth (TaskStays r.job.job) (get is_path r.tasks q) (if b then Some new else get is_path r.tasks q)) (is_path path q)
+      (λ e. subst (λ o. AreBoth (TaskStays r.job.job) o (Some new)) (sym (at_path r.tasks path q e ∙ at)) s)
+      (λ e. both_self (TaskStays r.job.job) (its_self r.job.job) (get is_path r.tasks q)));
   scopes = λ q. subst (λ o. AreBoth ScopeStays (get is_scope r.scopes q) o) (sym (kept q)) (both_self ScopeStays scope_self (get is_scope r.scopes q));
   hands = λ v. refl;
   told = refl;
@@ -214,7 +215,7 @@ pub stays_book : (r : rWorld) (id : rScopeId) (s to : rScope) (scopes : _) → g
     → WorldStays r (record r { scopes = scopes })
 stays_book r id s to scopes at stays each = record {
   job = refl;
-  tasks = λ q. both_self (TaskStays r.job) (its_self r.job) (get is_path r.tasks q);
+  tasks = λ q. both_self (TaskStays r.job.job) (its_self r.job.job) (get is_path r.tasks q);
   scopes = λ q. subst (λ o. AreBoth ScopeStays (get is_scope r.scopes q) o) (sym (each q))
       (by_test (λ b. AreBoth ScopeStays (get is_scope r.scopes q) (if b then Some to else get is_scope r.scopes q)) (is_scope id q)
       (λ e. subst (λ o. AreBoth ScopeStays o (Some to)) (sym (at_scope r.scopes id q e ∙ at)) stays)

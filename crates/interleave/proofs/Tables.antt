@@ -9,13 +9,13 @@ use Rattle.types.specs.declared.path.Path.{Path}
 use Rattle.effects.specs.Rounds.{needs_of}
 use Rattle.own_run.specs.Results.{and_then}
 use Rattle.own_run.proofs.SettledResults.{gives, paths_same}
+use Rattle.gather.specs.declared.job.Job.{Job}
 use Rattle.interleave.specs.Events.{Event, after}
 use Rattle.interleave.specs.Replay.{does, hands_on, start_of}
 use Rattle.interleave.specs.Shown.{ArePaths, AreBoth, IsTaskOf, IsBookOf, is_path, is_scope, scope_id}
 use Rattle.interleave.specs.World.{Live, Scope, World, same_path, task, put_task, without_task, scope, put_scope, in_hand, hand_is_free}
 use Rattle.interleave.specs.Worlds.{LeadsTo, event_of}
 use Rattle.types.specs.declared.scope_id.ScopeId.{ScopeId as rScopeId}
-use Rattle.interleave.specs.declared.job.Job.{Job}
 use Rattle.interleave.specs.declared.scope.Scope.{Scope as rScope}
 use Rattle.interleave.specs.declared.task.Task.{Task as rTask}
 use Rattle.interleave.proofs.Lookups.{by_test, other_path, task-put_task, task-without_task, scope-put_scope}

@@ -18,16 +18,17 @@ use Rattle.own_run.specs.Settling.{settle}
 use Rattle.own_run.specs.Translation.{task_result}
 use Rattle.own_run.specs.declared.result.TaskResult.{TaskResult as Made}
 use Rattle.gather.specs.GivesBack.{GiveBack}
+use Rattle.gather.specs.Jobs.{program_of, lists_of, budget_of}
+use Rattle.gather.specs.declared.job.Job.{Job}
 use Rattle.gather.proofs.TasksGiveBack.{give_back}
 use Rattle.interleave.specs.Courses.{Course, course_of, IsEndOf}
 use Rattle.interleave.specs.Events.{Event, Pass, only_if}
-use Rattle.interleave.specs.Jobs.{IsJob, program_of, lists_of, budget_of}
+use Rattle.interleave.specs.Jobs.{IsWeightedJob}
 use Rattle.interleave.specs.Replay.{hands_on}
 use Rattle.interleave.specs.Shown.{IsTaskOf, IsBookOf, IsDoingThere, IsTold, Shows, is_path, is_scope, scope_id}
 use Rattle.interleave.specs.World.{Live, Scope, World, Whereabouts, Queue, Hand, Parked, task, scope, root_scope, has_passed, is_passed}
 use Rattle.interleave.specs.Worlds.{outcome_of}
 use Rattle.interleave.specs.declared.doing.Doing.TheVariants.{AtEnd}
-use Rattle.interleave.specs.declared.job.Job.{Job}
 use Rattle.interleave.specs.declared.scope.Scope.{Scope as rScope}
 use Rattle.interleave.specs.declared.task.Task.{Task as rTask}
 use Rattle.interleave.specs.declared.world.World.{World as rWorld}
@@ -46,20 +47,20 @@ none_told : (o : Option Scope) (f : Scope → Option Outcome) → is_passed o �
 none_told None f e = refl
 none_told (Some s) f e = ap (λ b. only_if b (f s)) e
 
-module _ (r : rWorld) (ok : IsJob r.job) (w : World) (h : Shows r w) where
-  pub told_is : (x : rOutcome) → r.told ≡ Some x → plain_outcome x ≡ outcome (program_of r.job) (lists_of r.job) (budget_of r.job)
-  told_is x e = (subst (IsTold r.job (has_passed root_scope w)) e h.told).1
+module _ (r : rWorld) (ok : IsWeightedJob r.job) (w : World) (h : Shows r w) where
+  pub told_is : (x : rOutcome) → r.told ≡ Some x → plain_outcome x ≡ outcome (program_of r.job.job) (lists_of r.job.job) (budget_of r.job.job)
+  told_is x e = (subst (IsTold r.job.job (has_passed root_scope w)) e h.told).1
 
   pub told_there : (x : rOutcome) → r.told ≡ Some x
-      → Some (plain_outcome x) ≡ outcome_of (program_of r.job) r.job.w0 (budget_of r.job) w
+      → Some (plain_outcome x) ≡ outcome_of (program_of r.job.job) r.job.w0 (budget_of r.job.job) w
   told_there x e =
-      let s = passed_found (scope root_scope w.scopes) (subst (IsTold r.job (has_passed root_scope w)) e h.told).0 in
+      let s = passed_found (scope root_scope w.scopes) (subst (IsTold r.job.job (has_passed root_scope w)) e h.told).0 in
       ap Some (told_is x e)
-      ∙ sym (outcome_told (program_of r.job) ok.sound ok.accepted r.job.w0 ok.least (lists_of r.job) (budget_of r.job) ok.fits
+      ∙ sym (outcome_told (program_of r.job.job) ok.job.sound ok.job.accepted r.job.w0 ok.least (lists_of r.job.job) (budget_of r.job.job) ok.job.fits
       h.events w h.led s.0 s.1 s.2)
 
-  pub told_not : r.told ≡ None → None ≡ outcome_of (program_of r.job) r.job.w0 (budget_of r.job) w
-  told_not e = sym (none_told (scope root_scope w.scopes) _ (subst (IsTold r.job (has_passed root_scope w)) e h.told))
+  pub told_not : r.told ≡ None → None ≡ outcome_of (program_of r.job.job) r.job.w0 (budget_of r.job.job) w
+  told_not e = sym (none_told (scope root_scope w.scopes) _ (subst (IsTold r.job.job (has_passed root_scope w)) e h.told))
 
 -- ---- where the root has ended
 -- wherever it is, it has come to its end with the same start and receipts
@@ -79,7 +80,7 @@ at_last j Parked c made h = record {
   ended = h.at.1;
 }
 
-module _ (r : rWorld) (ok : IsJob r.job) (w : World) (h : Shows r w) (id : rScopeId) (named : scope_id id ≡ root_scope) (s : rScope)
+module _ (r : rWorld) (ok : IsWeightedJob r.job) (w : World) (h : Shows r w) (id : rScopeId) (named : scope_id id ≡ root_scope) (s : rScope)
     (at : get is_scope r.scopes id ≡ Some s) (complete : (not s.passed && nat_eq s.issued s.returned) ≡ true) where
   -- the world in which it has passed
   abbrev next : World
@@ -101,23 +102,23 @@ module _ (r : rWorld) (ok : IsJob r.job) (w : World) (h : Shows r w) (id : rScop
   root_passed = ap is_passed there_so
 
   abbrev hands_on_so : Start → List (List TaskResult) → TaskResult
-  hands_on_so = hands_on (program_of r.job) (needs_of (program_of r.job)) (budget_of r.job).steps r.job.w0
+  hands_on_so = hands_on (program_of r.job.job) (needs_of (program_of r.job.job)) (budget_of r.job.job).steps r.job.w0
 
   abbrev told_by : Scope → Live → Option Outcome
-  told_by s t = and_then (settle (hands_on_so t.start t.receipts) s.results) (λ x. Some (told_of (program_of r.job) x))
+  told_by s t = and_then (settle (hands_on_so t.start t.receipts) s.results) (λ x. Some (told_of (program_of r.job.job) x))
 
   abbrev told_in : Scope → Option Outcome
   told_in s = only_if s.passed (and_then (task [] w.live) (told_by s))
 
   module _ (path : Path) (nameless : path.turns.items ≡ []) (k : rTask) (has : get is_path r.tasks path ≡ Some k) (made : Made)
       (is : k.doing ≡ AtEnd made) (results : _) (kept : s.results ≡ Some results) where
-    live : (t : Live) × (task path.turns.items w.live ≡ Some t) × IsTaskOf r.job k t
-    live = there (IsTaskOf r.job) k (get is_path r.tasks path) (task path.turns.items w.live) (h.tasks path) has
+    live : (t : Live) × (task path.turns.items w.live ≡ Some t) × IsTaskOf r.job.job k t
+    live = there (IsTaskOf r.job.job) k (get is_path r.tasks path) (task path.turns.items w.live) (h.tasks path) has
 
-    last : AtLast r.job (course_of live.0) made
+    last : AtLast r.job.job (course_of live.0) made
     last =
-        at_last r.job live.0.place (course_of live.0) made
-        (subst (IsDoingThere r.job live.0.place (course_of live.0)) is live.2.doing)
+        at_last r.job.job live.0.place (course_of live.0) made
+        (subst (IsDoingThere r.job.job live.0.place (course_of live.0)) is live.2.doing)
 
     are : map task_result results.items ≡ book.results
     are =
@@ -129,34 +130,34 @@ module _ (r : rWorld) (ok : IsJob r.job) (w : World) (h : Shows r w) (id : rScop
         let b = passing_book r w h id s at complete in
         subst (λ rs. GiveBack (task_result made) rs) (sym are)
         (subst (λ y. GiveBack y book.results) (sym last.ended.is)
-        (give_back (program_of r.job) ok.sound ok.accepted (lists_of r.job) (budget_of r.job) ok.fits last.before.start
+        (give_back (program_of r.job.job) ok.job.sound ok.job.accepted (lists_of r.job.job) (budget_of r.job.job) ok.job.fits last.before.start
         (record { frames = []; state = last.ended.state }) last.ended.come.stands book.results
-        (results_came (program_of r.job) ok.sound ok.accepted r.job.w0 ok.least (lists_of r.job) (budget_of r.job) ok.fits
+        (results_came (program_of r.job.job) ok.job.sound ok.job.accepted r.job.w0 ok.least (lists_of r.job.job) (budget_of r.job.job) ok.job.fits
         h.events w h.led (scope_id id) b.0 b.1)))
 
     handed : hands_on_so live.0.start live.0.receipts ≡ task_result made
     handed =
         ap (λ x. hands_on_so x live.0.receipts) (sym last.start) ∙ ap (λ rs. hands_on_so last.before.start rs) (sym last.receipts)
-        ∙ ends_with (program_of r.job) (needs_of (program_of r.job)) (budget_of r.job).steps
-        (root (program_of r.job) (lists_of r.job) (budget_of r.job)) last.before.start last.before.receipts last.ended.state
+        ∙ ends_with (program_of r.job.job) (needs_of (program_of r.job.job)) (budget_of r.job.job).steps
+        (root (program_of r.job.job) (lists_of r.job.job) (budget_of r.job.job)) last.before.start last.before.receipts last.ended.state
         last.ended.come.follows
         ∙ sym last.ended.is
 
     told_so : (x : Settled) → Some x ≡ settle (task_result made) (map task_result results.items)
-        → outcome_of (program_of r.job) r.job.w0 (budget_of r.job) next ≡ Some (told_of (program_of r.job) x)
+        → outcome_of (program_of r.job.job) r.job.w0 (budget_of r.job.job) next ≡ Some (told_of (program_of r.job.job) x)
     told_so x e =
         ap (λ o. and_then o told_in) there_so
         ∙ ap (λ q. and_then (task q w.live) (told_by book)) (sym nameless)
         ∙ ap (λ o. and_then o (told_by book)) live.1
-        ∙ ap (λ y. and_then (settle y book.results) (λ x. Some (told_of (program_of r.job) x))) handed
-        ∙ ap (λ rs. and_then (settle (task_result made) rs) (λ x. Some (told_of (program_of r.job) x))) (sym are)
-        ∙ ap (λ o. and_then o (λ x. Some (told_of (program_of r.job) x))) (sym e)
+        ∙ ap (λ y. and_then (settle y book.results) (λ x. Some (told_of (program_of r.job.job) x))) handed
+        ∙ ap (λ rs. and_then (settle (task_result made) rs) (λ x. Some (told_of (program_of r.job.job) x))) (sym are)
+        ∙ ap (λ o. and_then o (λ x. Some (told_of (program_of r.job.job) x))) (sym e)
 
     one_thread_so : (x : Settled) → Some x ≡ settle (task_result made) (map task_result results.items)
-        → told_of (program_of r.job) x ≡ outcome (program_of r.job) (lists_of r.job) (budget_of r.job)
+        → told_of (program_of r.job.job) x ≡ outcome (program_of r.job.job) (lists_of r.job.job) (budget_of r.job.job)
     one_thread_so x e =
         same_Some _ _ (sym (told_so x e)
-        ∙ outcome_told (program_of r.job) ok.sound ok.accepted r.job.w0 ok.least (lists_of r.job) (budget_of r.job) ok.fits
+        ∙ outcome_told (program_of r.job.job) ok.job.sound ok.job.accepted r.job.w0 ok.least (lists_of r.job.job) (budget_of r.job.job) ok.job.fits
         events next (pass_led r w h id s at complete) book there_so refl)
 
     -- ---- copies of both
@@ -169,6 +170,6 @@ module _ (r : rWorld) (ok : IsJob r.job) (w : World) (h : Shows r w) (id : rScop
 
       -- settle to the one-thread outcome
       pub copies_tell : (x : Settled) → Some x ≡ settle (task_result m) (map task_result rs)
-          → told_of (program_of r.job) x ≡ outcome (program_of r.job) (lists_of r.job) (budget_of r.job)
+          → told_of (program_of r.job.job) x ≡ outcome (program_of r.job.job) (lists_of r.job.job) (budget_of r.job.job)
       copies_tell x e =
           one_thread_so x (e ∙ ap (λ y. settle y (map task_result rs)) same ∙ ap (settle (task_result made)) same_results)

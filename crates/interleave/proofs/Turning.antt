@@ -36,11 +36,11 @@ use Rattle.own_run.proofs.TaskRuns.{begins_follow, turns_follow}
 use Rattle.own_run.proofs.TurnActions.{turn_does}
 use Rattle.race_checker.proofs.Calming.{is_calm}
 use Rattle.race_checker.proofs.Scoping.{is_scoped}
+use Rattle.gather.specs.Jobs.{IsJob, program_of, lists_of, budget_of}
+use Rattle.gather.specs.declared.job.Job.{Job}
 use Rattle.interleave.specs.Courses.{Course, further, with_child, with_finish, IsNext, HasCome}
 use Rattle.interleave.specs.Courses.{IsFresh, IsRunOf, IsShown}
-use Rattle.interleave.specs.Jobs.{IsJob, program_of, lists_of, budget_of}
 use Rattle.interleave.specs.World.{child_path}
-use Rattle.interleave.specs.declared.job.Job.{Job}
 use Rattle.interleave.proofs.Histories.{nil_cons}
 use Rattle.interleave.proofs.Paying.{turn_pays, turn_idle, over_idle, turn_names, Named}
 

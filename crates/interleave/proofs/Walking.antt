@@ -10,9 +10,10 @@ use Rattle.types.specs.declared.path.Path.{Path}
 use Rattle.own_run.specs.Lists.{Each}
 use Rattle.own_run.proofs.Lists.{each_last}
 use Rattle.own_run.proofs.SettledResults.{paths_same}
+use Rattle.gather.specs.Jobs.{program_of, lists_of, budget_of}
 use Rattle.interleave.specs.Candidates.{candidates}
 use Rattle.interleave.specs.Events.{Event}
-use Rattle.interleave.specs.Jobs.{IsJob, program_of, lists_of, budget_of}
+use Rattle.interleave.specs.Jobs.{IsWeightedJob}
 use Rattle.interleave.specs.Replay.{Legal}
 use Rattle.interleave.specs.Replaying.{IsReplayed, comes, event}
 use Rattle.interleave.specs.Shown.{Becomes, IsTaskOf, Refuses, Shows, is_path, next_world, turns_of}
@@ -23,7 +24,7 @@ use Rattle.interleave.specs.Worlds.{IsSpent, LeadsTo}
 use Rattle.interleave.specs.declared.error.EventError.{EventError}
 use Rattle.interleave.specs.declared.error.EventError.TheVariants.{Illegal}
 use Rattle.events.specs.declared.event.Event.{Event as rEvent}
-use Rattle.interleave.specs.declared.job.Job.{Job}
+use Rattle.interleave.specs.declared.job.WeightedJob.{WeightedJob}
 use Rattle.interleave.specs.declared.walk.Walk.{Walk}
 use Rattle.interleave.specs.declared.world.World.{World as rWorld}
 use Rattle.interleave.proofs.Histories.{contains_here}
@@ -33,21 +34,21 @@ use Rattle.interleave.proofs.Tables.{is_there, led_on}
 
 -- ---- events that were legal
 -- a legal event behind those of a replay
-pub replayed_on : (j : Job) (es : List rEvent) (e : rEvent) (old new : rWorld) → IsReplayed j es old → Becomes (event e) old new
+pub replayed_on : (j : WeightedJob) (es : List rEvent) (e : rEvent) (old new : rWorld) → IsReplayed j es old → Becomes (event e) old new
     → new.job ≡ old.job → IsReplayed j (es ++ e ∷ []) new
 replayed_on j es e old new i b same =
     let s = b i.world i.shows in
     record {
       world = s.0;
-      legal = subst (λ l. LeadsTo (program_of j) j.w0 (lists_of j) (budget_of j) l s.0) (sym (map-append event es (e ∷ [])))
-          (led_on (program_of j) j.w0 (lists_of j) (budget_of j) (event e) (map event es) i.world s.0 i.legal
+      legal = subst (λ l. LeadsTo (program_of j.job) j.w0 (lists_of j.job) (budget_of j.job) l s.0) (sym (map-append event es (e ∷ [])))
+          (led_on (program_of j.job) j.w0 (lists_of j.job) (budget_of j.job) (event e) (map event es) i.world s.0 i.legal
           (ap (λ k. next_world k (event e) i.world) (sym i.job) ∙ s.1));
       shows = s.2;
       job = same ∙ i.job;
     }
 
 -- the walk of a job
-pub of_job : (w : Walk) (j : Job) → IsWalk w → w.world.job ≡ j → IsReplayed j w.events.items w.world
+pub of_job : (w : Walk) (j : WeightedJob) → IsWalk w → w.world.job ≡ j → IsReplayed j w.events.items w.world
 of_job w j i is = subst (λ k. IsReplayed k w.events.items w.world) is i.replayed
 
 module _ (old new : Walk) (e : rEvent) (i : IsWalk old) (same : new.world.job ≡ old.world.job) where
@@ -55,7 +56,7 @@ module _ (old new : Walk) (e : rEvent) (i : IsWalk old) (same : new.world.job �
   pub happened : Becomes (event e) old.world new.world → new.events.items ≡ old.events.items ++ e ∷ [] → HasOneMore old new
   happened b items = record {
     walk = record {
-      job = subst IsJob (sym same) i.job;
+      job = subst IsWeightedJob (sym same) i.job;
       replayed = subst (λ k. IsReplayed k new.events.items new.world) (sym same)
           (subst (λ l. IsReplayed old.world.job l new.world) (sym items)
           (replayed_on old.world.job old.events.items e old.world new.world i.replayed b same));
@@ -69,7 +70,7 @@ module _ (old new : Walk) (e : rEvent) (i : IsWalk old) (same : new.world.job �
       → new.events.items ≡ old.events.items → IsAsBefore old new
   did_not_happen x is r items = record {
     walk = record {
-      job = subst IsJob (sym same) i.job;
+      job = subst IsWeightedJob (sym same) i.job;
       replayed = subst (λ k. IsReplayed k new.events.items new.world) (sym same)
           (subst (λ l. IsReplayed old.world.job l new.world) (sym items) (record {
             world = i.replayed.world;
@@ -125,11 +126,11 @@ legal_same a b e = cc e
 pub stopped : (old new : Walk) → IsWalk old → IsAsBefore old new → (paths : List (List ℕ)) → AreTasks old.world paths
     → Each (IsIdle old.world 0) paths → HasStopped new
 stopped old new i h paths all none to e =
-    subst (λ j. (has_passed root_scope to ≡ true) ⊎ IsSpent (program_of j) j.w0 (budget_of j) to) (sym h.job)
-    (stuck (program_of j) i.job.sound i.job.accepted j.w0 i.job.least (lists_of j) (budget_of j) i.job.fits (map event old.events.items) to leads
+    subst (λ j. (has_passed root_scope to ≡ true) ⊎ IsSpent (program_of j.job) j.w0 (budget_of j.job) to) (sym h.job)
+    (stuck (program_of j.job) i.job.job.sound i.job.job.accepted j.w0 i.job.least (lists_of j.job) (budget_of j.job) i.job.job.fits (map event old.events.items) to leads
     no_candidate)
   where
-    j : Job
+    j : WeightedJob
     j = old.world.job
 
     leads : comes j old.events.items ≡ Legal to
@@ -143,7 +144,7 @@ stopped old new i h paths all none to e =
     no_candidate q t lives =
         let p = shows.paths q t lives in
         let lives_so : task p.0.turns.items to.live ≡ Some t = ap (λ x. task x to.live) p.1 ∙ lives in
-        let here = is_there (IsTaskOf j) t (get is_path old.world.tasks p.0) (task p.0.turns.items to.live) (shows.tasks p.0) lives_so in
+        let here = is_there (IsTaskOf j.job) t (get is_path old.world.tasks p.0) (task p.0.turns.items to.live) (shows.tasks p.0) lives_so in
         let idle_here = each_has (IsIdle old.world 0) paths p.0.turns.items none (all p.0 here) in
         subst (λ x. Each (λ e. next_world j e to ≡ None) (candidates 0 x t.place t.stakes)) p.1 (idle_here to shows t lives_so)
 

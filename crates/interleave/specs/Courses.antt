@@ -19,12 +19,12 @@ use Rattle.own_run.specs.declared.turn.Paused.{Paused}
 use Rattle.own_run.specs.declared.turn.Turn.{Turn}
 use Rattle.own_run.specs.declared.turn.Turn.TheVariants.{Going, Spawns, EntersFinish, EndsFinish}
 use Rattle.own_run.specs.declared.turn.Turn.TheVariants.{Ended, Over}
+use Rattle.gather.specs.Jobs.{program_of, lists_of, budget_of}
+use Rattle.gather.specs.declared.job.Job.{Job}
 use Rattle.interleave.specs.World.{Live, child_path}
-use Rattle.interleave.specs.Jobs.{program_of, lists_of, budget_of}
 use Rattle.interleave.specs.declared.doing.Doing.{Doing}
 use Rattle.interleave.specs.declared.doing.Doing.TheVariants.{Starts, Runs, Steps, Spawns as rSpawns, Opens}
 use Rattle.interleave.specs.declared.doing.Doing.TheVariants.{AtFinish, AtEnd as rAtEnd}
-use Rattle.interleave.specs.declared.job.Job.{Job}
 
 -- what a live task has started with, gone on with and done
 pub record Course : Type 0 where

@@ -1,30 +1,10 @@
 -- What a world goes by, in the words of the definitions.
-use Rattle.std.specs.Prelude.{◌≤◌, List, ℤ}
-use Rattle.types.specs.Code.{Program}
-use Rattle.types.specs.Contents.{FitsArrays}
-use Rattle.types.specs.Outcome.{Budget}
-use Rattle.types.specs.Translation.{budget, input}
-use Rattle.types.specs.Typed.{code_of}
-use Rattle.effects.specs.Sound.{IsSound}
-use Rattle.race_checker.specs.Clash.{IsAccepted}
-use Rattle.interleave.specs.declared.job.Job.{Job}
+use Rattle.std.specs.Prelude.{◌≤◌}
+use Rattle.gather.specs.Jobs.{IsJob}
+use Rattle.interleave.specs.declared.job.WeightedJob.{WeightedJob}
 
-module _ (j : Job) where
-  -- the program
-  abbrev pub program_of : Program
-  program_of = code_of j.accepted.now.typed
-
-  -- what the arrays hold at first
-  abbrev pub lists_of : List (List ℤ)
-  lists_of = input j.input.now
-
-  abbrev pub budget_of : Budget
-  budget_of = budget j.budget
-
-  -- the program is right and has no race, the input is one of its own, and weight is issued
-  pub record IsJob : Type 0 where
-    pub sound : IsSound program_of
-    pub accepted : IsAccepted program_of
-    pub fits : FitsArrays program_of.arrays lists_of
-    pub least : 1 ≤ j.w0
-    pub most : j.w0 ≤ 4294967296
+-- the job is right, and weight is issued
+pub record IsWeightedJob (j : WeightedJob) : Type 0 where
+  pub job : IsJob j.job
+  pub least : 1 ≤ j.w0
+  pub most : j.w0 ≤ 4294967296

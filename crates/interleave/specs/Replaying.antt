@@ -1,7 +1,7 @@
 -- Events in Rust, and what lists of them lead to.
 use Rattle.std.specs.Prelude.{◌≡◌, List, map}
 pub use Rattle.events.specs.Events.{event}
-use Rattle.interleave.specs.Jobs.{program_of, lists_of, budget_of}
+use Rattle.gather.specs.Jobs.{program_of, lists_of, budget_of}
 use Rattle.interleave.specs.Replay.{Replayed, Legal, IllegalAt}
 use Rattle.interleave.specs.Shown.{Shows}
 use Rattle.interleave.specs.World.{World}
@@ -10,13 +10,13 @@ use Rattle.interleave.specs.declared.error.ReplayError.{ReplayError}
 use Rattle.interleave.specs.declared.error.ReplayError.TheVariants.{IllegalAt as rIllegalAt}
 use Rattle.interleave.specs.declared.error.ReplayError.TheVariants.{NoMemory}
 use Rattle.events.specs.declared.event.Event.{Event as rEvent}
-use Rattle.interleave.specs.declared.job.Job.{Job}
+use Rattle.interleave.specs.declared.job.WeightedJob.{WeightedJob}
 use Rattle.interleave.specs.declared.world.World.{World as rWorld}
 
-module _ (j : Job) (es : List rEvent) where
+module _ (j : WeightedJob) (es : List rEvent) where
   -- what the definitions' replay of a list comes to
   abbrev pub comes : Replayed
-  comes = replayed (program_of j) j.w0 (lists_of j) (budget_of j) (map event es)
+  comes = replayed (program_of j.job) j.w0 (lists_of j.job) (budget_of j.job) (map event es)
 
   -- the world that it comes to is shown
   pub record IsReplayed (r : rWorld) : Type 0 where

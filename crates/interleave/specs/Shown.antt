@@ -12,9 +12,11 @@ use Rattle.types.specs.declared.path.Path.{Path}
 pub use Rattle.events.specs.Events.{scope_id, turns_of}
 use Rattle.own_run.specs.Translation.{task_result}
 use Rattle.own_run.specs.declared.result.TaskResult.{TaskResult}
+use Rattle.gather.specs.Jobs.{program_of, lists_of, budget_of}
+use Rattle.gather.specs.declared.job.Job.{Job}
 use Rattle.interleave.specs.Courses.{Course, course_of, further, IsDoing, IsLooked}
 use Rattle.interleave.specs.Events.{Event}
-use Rattle.interleave.specs.Jobs.{program_of, lists_of, budget_of, IsJob}
+use Rattle.interleave.specs.Jobs.{IsWeightedJob}
 use Rattle.interleave.specs.World.{Stake, Live, Scope, World}
 use Rattle.interleave.specs.World.{Whereabouts, Queue, Hand, Parked}
 use Rattle.interleave.specs.World.{task, scope, hand_is_free, has_passed, root_scope}
@@ -23,7 +25,7 @@ use Rattle.interleave.specs.declared.doing.Doing.{Doing}
 use Rattle.interleave.specs.declared.error.EventError.{EventError}
 use Rattle.interleave.specs.declared.error.EventError.TheVariants.{Illegal, NoMemory}
 use Rattle.types.specs.declared.scope_id.ScopeId.{ScopeId as rScopeId}
-use Rattle.interleave.specs.declared.job.Job.{Job}
+use Rattle.interleave.specs.declared.job.WeightedJob.{WeightedJob}
 use Rattle.interleave.specs.declared.scope.Scope.{Scope as rScope}
 use Rattle.interleave.specs.declared.task.Stake.{Stake as rStake}
 use Rattle.interleave.specs.declared.task.Task.{Task as rTask}
@@ -117,18 +119,18 @@ ArePaths ts = (q : List ℕ) (t : Live) → task q ts ≡ Some t → (path : Pat
 -- a world is shown by its tables, and was led to by events
 pub record Shows (r : rWorld) (w : World) : Type 0 where
   pub events : List Event
-  pub led : LeadsTo (program_of r.job) r.job.w0 (lists_of r.job) (budget_of r.job) events w
+  pub led : LeadsTo (program_of r.job.job) r.job.w0 (lists_of r.job.job) (budget_of r.job.job) events w
   pub tasks : (path : Path)
-      → AreBoth (IsTaskOf r.job) (get is_path r.tasks path) (task path.turns.items w.live)
+      → AreBoth (IsTaskOf r.job.job) (get is_path r.tasks path) (task path.turns.items w.live)
   pub paths : ArePaths w.live
   pub scopes : (id : rScopeId)
       → AreBoth IsBookOf (get is_scope r.scopes id) (scope (scope_id id) w.scopes)
   pub hands : (worker : ℕ) → contains nat_eq r.hands worker ≡ not (hand_is_free worker w.live)
-  pub told : IsTold r.job (has_passed root_scope w) r.told
+  pub told : IsTold r.job.job (has_passed root_scope w) r.told
 
 -- the world after an event of a job, where it is legal
-abbrev pub next_world : Job → Event → World → Option World
-next_world j e w = event_of (program_of j) j.w0 (budget_of j) e w
+abbrev pub next_world : WeightedJob → Event → World → Option World
+next_world j e w = event_of (program_of j.job) j.w0 (budget_of j.job) e w
 
 -- whatever world was shown, the event was legal there, and the world after it is shown
 abbrev pub Becomes : Event → (old new : rWorld) → Type 0
@@ -139,7 +141,7 @@ Becomes e old new = (w : World) → Shows old w
 pub record WorldStays (old new : rWorld) : Type 0 where
   pub job : new.job ≡ old.job
   pub tasks : (path : Path)
-      → AreBoth (TaskStays old.job) (get is_path old.tasks path) (get is_path new.tasks path)
+      → AreBoth (TaskStays old.job.job) (get is_path old.tasks path) (get is_path new.tasks path)
   pub scopes : (id : rScopeId)
       → AreBoth ScopeStays (get is_scope old.scopes id) (get is_scope new.scopes id)
   pub hands : (worker : ℕ) → contains nat_eq new.hands worker ≡ contains nat_eq old.hands worker
@@ -154,6 +156,6 @@ Refuses e old new NoMemory = WorldStays old new
 
 -- a right job, and a world that is shown
 pub record IsWorld (r : rWorld) : Type 0 where
-  pub job : IsJob r.job
+  pub job : IsWeightedJob r.job
   pub world : World
   pub shows : Shows r world

@@ -5,9 +5,10 @@ use Rattle.std.specs.Prelude.{Some, None, Contains, is_some}
 use Rattle.std.specs.HashMap.{get}
 use Rattle.types.specs.declared.path.Path.{Path}
 use Rattle.own_run.specs.Lists.{Each}
+use Rattle.gather.specs.Jobs.{program_of, budget_of}
 use Rattle.interleave.specs.Candidates.{candidates}
 use Rattle.interleave.specs.Events.{Event}
-use Rattle.interleave.specs.Jobs.{IsJob, program_of, budget_of}
+use Rattle.interleave.specs.Jobs.{IsWeightedJob}
 use Rattle.interleave.specs.Replay.{Legal}
 use Rattle.interleave.specs.Replaying.{IsReplayed, comes}
 use Rattle.interleave.specs.Shown.{Shows, is_path, next_world}
@@ -18,7 +19,7 @@ use Rattle.interleave.specs.declared.world.World.{World as rWorld}
 
 -- its events are legal, and its world is where they lead
 pub record IsWalk (w : Walk) : Type 0 where
-  pub job : IsJob w.world.job
+  pub job : IsWeightedJob w.world.job
   pub replayed : IsReplayed w.world.job w.events.items w.world
 
 -- ---- when it goes on
@@ -73,7 +74,7 @@ abbrev pub HasStopped : Walk → Type 0
 HasStopped walk =
     let j = walk.world.job in
     (w : World) → comes j walk.events.items ≡ Legal w
-    → (has_passed root_scope w ≡ true) ⊎ IsSpent (program_of j) j.w0 (budget_of j) w
+    → (has_passed root_scope w ≡ true) ⊎ IsSpent (program_of j.job) j.w0 (budget_of j.job) w
 
 -- it has stopped, or has so many events
 abbrev pub IsOver : (most : ℕ) → Walk → Type 0

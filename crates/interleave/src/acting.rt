@@ -5,13 +5,13 @@ ghost use Rattle.std.specs.Prelude.{IfErr, IfOk, MatchOption, OnErr, OnOk};
 ghost use Rattle.std.specs.Bool.{OnFalse, OnTrue};
 ghost use Rattle.std.specs.HashMap.{get};
 ghost use Rattle.own_run.specs.declared.run.Run.{Run as AnyRun};
+ghost use Rattle.gather.specs.Jobs.{IsJob};
 ghost use Rattle.interleave.specs.Acting.{DidIssue, DidOpen, DidSpawn, DidStep, IsHeavy};
 ghost use Rattle.interleave.specs.Acting.{SteppedIf, TookStepIf};
 ghost use Rattle.interleave.specs.Acting.{IsReady, IsSame, IsShare, IsShort, IsToSpawn, IsWanting};
 ghost use Rattle.interleave.specs.Courses.{IsKnown, IsNotToStep, behind, begun_by};
 ghost use Rattle.interleave.specs.Events.{Opens as IsOpen, Replenish as IsReplenish};
 ghost use Rattle.interleave.specs.Events.{Spawns as IsSpawn, Steps as IsStep};
-ghost use Rattle.interleave.specs.Jobs.{IsJob};
 ghost use Rattle.interleave.specs.Shown.{Becomes, IsTaskOf, IsWorld, Refuses, TaskStays, WorldStays};
 ghost use Rattle.interleave.specs.Shown.{is_path, scope_id, stake, whereabouts};
 ghost use Rattle.interleave.specs.Walks.{IsIllegal};
@@ -23,11 +23,12 @@ ghost use Rattle.interleave.specs.declared.task.Task.{Task as AnyTask};
 
 use crate::doing::{Doing, take_step};
 use crate::error::EventError;
-use crate::job::Job;
+use crate::job::WeightedJob;
 use crate::scope::Scope;
 use crate::task::{Stake, Task, Whereabouts};
 use crate::world::World;
 use events::worker_id::WorkerId;
+use gather::job::Job;
 use own_run::start::Start;
 use std::alloc::{AllocError, Global};
 use std::collections::VecDeque;
@@ -77,7 +78,7 @@ impl<'p> World<'p> {
         let Some(task) = self.tasks.get_mut(path) else {
             return Err(EventError::Illegal);
         };
-        let (child, begun) = task.spawn(self.job.alloc, worker)?;
+        let (child, begun) = task.spawn(self.job.job.alloc, worker)?;
         // There is room for it.
         self.tasks.insert(child, begun)?;
         Ok(())
@@ -98,7 +99,8 @@ impl<'p> World<'p> {
         };
         let scope = task.open(path, job)?;
         // There is room for it.
-        self.scopes.insert(scope, Scope::new(job.alloc, job.w0))?;
+        self.scopes
+            .insert(scope, Scope::new(job.job.alloc, job.w0))?;
         Ok(())
     }
 
@@ -113,7 +115,7 @@ impl<'p> World<'p> {
             → hand_of (whereabouts k.place) ≡ None) }
     {
         match self.tasks.get_mut(path) {
-            Some(task) => task.in_hand(self.job),
+            Some(task) => task.in_hand(self.job.job),
             None => Err(EventError::Illegal),
         }
     }
@@ -125,7 +127,7 @@ impl<'p> World<'p> {
         ensures stays { OnOk result (WorldStays self.old self.new) }
         ensures refused { IfErr result (λ e. e ≡ NoMemory) }
     {
-        let job = self.job;
+        let job = self.job.job;
         let Some((name, task)) = self.tasks.remove_entry(path) else {
             return Ok(());
         };
@@ -161,7 +163,7 @@ impl<'p> World<'p> {
             → IsIllegal self.old (IsStep path.now.turns.items)) }
     {
         match self.tasks.get_mut(path) {
-            Some(task) => task.take_step(self.job),
+            Some(task) => task.take_step(self.job.job),
             None => Ok(false),
         }
     }
@@ -358,9 +360,9 @@ impl<'p> Task<'p> {
     }
 
     /// It begins a finish, in whose scope it weighs w0; the name of that.
-    fn open(&mut self, path: &Path, job: Job<'p>) -> Result<ScopeId, EventError>
+    fn open(&mut self, path: &Path, job: WeightedJob<'p>) -> Result<ScopeId, EventError>
         requires { (r : AnyRun) → self.old.doing ≡ Doing.Opens r
-            → self.old.opened < job.budget.steps }
+            → self.old.opened < job.job.budget.steps }
         ensures opened { IfOk result
             (λ id. DidOpen self.old self.new path.now id job.entry.w0) }
         ensures same { OnErr result (IsSame self.old self.new) }

@@ -1,13 +1,13 @@
 //! What a live task is about to do.
 
 ghost use Rattle.std.specs.Prelude.{◌≡◌, ◌⊎◌, IfErr, IfOk, MatchOption, OnOk};
+ghost use Rattle.gather.specs.Jobs.{IsJob};
 ghost use Rattle.interleave.specs.Courses.{Course, IsDoing, IsKnown, IsLooked, IsNotToStep, IsRunOf};
 ghost use Rattle.interleave.specs.Courses.{behind, begun_by};
-ghost use Rattle.interleave.specs.Jobs.{IsJob};
 ghost use Rattle.interleave.specs.declared.error.EventError.TheVariants.{Illegal, NoMemory};
 
 use crate::error::EventError;
-use crate::job::Job;
+use gather::job::Job;
 use own_run::result::TaskResult;
 use own_run::run::Run;
 use own_run::start::Start;

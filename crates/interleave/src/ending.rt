@@ -123,7 +123,7 @@ impl<'p> World<'p> {
             → HasLeft self.old self.new path.now worker a) }
         ensures refused { IfErr result (λ e. e ≡ NoMemory) }
     {
-        let alloc = self.job.alloc;
+        let alloc = self.job.job.alloc;
         let Some((name, task)) = self.tasks.remove_entry(path) else {
             unreachable!()
         };
@@ -228,7 +228,7 @@ impl<'p> World<'p> {
         let Doing::AtEnd(made) = &task.doing else {
             unreachable!()
         };
-        made.clone(self.job.alloc)
+        made.clone(self.job.job.alloc)
     }
 
     /// A task's weight in its innermost scope goes back there, with its result.
@@ -300,7 +300,7 @@ impl<'p> World<'p> {
         let (Doing::AtFinish(paused, made), Some(results)) = (&task.doing, &scope.results) else {
             return Err(EventError::NoMemory);
         };
-        run_behind(self.job.alloc, paused, made, results)
+        run_behind(self.job.job.alloc, paused, made, results)
     }
 
     /// A task's innermost scope keeps no results any more: its owner has them.

@@ -2,13 +2,13 @@
 
 ghost use Rattle.std.specs.Prelude.{◌≡◌, ◌<◌, ◌⊎◌, MatchOption};
 ghost use Rattle.types.specs.Contents.{FitsArrays};
-ghost use Rattle.types.specs.Translation.{input as lists_in, program as program_of};
+ghost use Rattle.types.specs.Translation.{input as lists_in};
 ghost use Rattle.types.specs.Typed.{code_of};
-ghost use Rattle.interleave.specs.Jobs.{IsJob};
+ghost use Rattle.interleave.specs.Jobs.{IsWeightedJob};
 
 use effects::laws::typed_programs_are_sound;
+use gather::job::Job;
 use race_checker::accepted::Accepted;
-use serial_run::thread::Plan;
 use std::alloc::Global;
 use types::budget::Budget;
 use types::input::Input;
@@ -16,17 +16,14 @@ use types::input::Input;
 /// The most weight that a scope issues at a time: 2^32.
 pub const MOST_WEIGHT: u64 = 4_294_967_296;
 
-/// A program, an input and a budget, and the weight that a scope issues at a time.
+/// A job, and the weight that a scope issues at a time.
 #[derive(Clone, Copy)]
-pub struct Job<'p> {
-    pub alloc: Global,
-    pub accepted: &'p Accepted,
-    pub input: &'p Input,
-    pub budget: Budget,
+pub struct WeightedJob<'p> {
+    pub job: Job<'p>,
     pub w0: u64,
 }
 
-impl<'p> Job<'p> {
+impl<'p> WeightedJob<'p> {
     /// A job with an input that has a list for each array, of its length. None where the weight isn't
     /// from 1 to 2^32.
     pub fn new(
@@ -35,14 +32,16 @@ impl<'p> Job<'p> {
         input: &'p Input,
         budget: Budget,
         w0: u64,
-    ) -> Option<Job<'p>>
+    ) -> Option<WeightedJob<'p>>
         requires { FitsArrays (code_of accepted.now.typed).arrays (lists_in input.now) }
-        ensures { MatchOption result ((w0 ≡ 0) ⊎ (4294967296 < w0)) (λ j. IsJob j
+        ensures { MatchOption result ((w0 ≡ 0) ⊎ (4294967296 < w0)) (λ j. IsWeightedJob j
             × (j ≡ record {
-              alloc = alloc;
-              accepted = accepted.entry;
-              input = input.entry;
-              budget = budget;
+              job = record {
+                alloc = alloc;
+                accepted = accepted.entry;
+                input = input.entry;
+                budget = budget;
+              };
               w0 = w0;
             })) }
     {
@@ -50,24 +49,12 @@ impl<'p> Job<'p> {
         if w0 == 0 || w0 > MOST_WEIGHT {
             return None;
         }
-        Some(Job {
+        let job = Job {
             alloc,
             accepted,
             input,
             budget,
-            w0,
-        })
-    }
-
-    /// What its tasks go by.
-    pub fn plan(self) -> Plan<'p>
-        ensures program { program_of result.program.now ≡ code_of self.entry.accepted.now.typed }
-        ensures budget { result.budget ≡ self.entry.budget }
-    {
-        Plan {
-            alloc: self.alloc,
-            program: self.accepted.typed().code(),
-            budget: self.budget,
-        }
+        };
+        Some(WeightedJob { job, w0 })
     }
 }

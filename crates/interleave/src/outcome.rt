@@ -3,8 +3,8 @@
 ghost use Rattle.std.specs.Prelude.{◌≡◌, ◌&&◌, IfErr, IfOk, IfSome, OnOk, Some, nat_eq, not};
 ghost use Rattle.std.specs.Prelude.{option_map, true};
 ghost use Rattle.std.specs.HashMap.{get};
+ghost use Rattle.gather.specs.Jobs.{budget_of, lists_of, program_of};
 ghost use Rattle.interleave.specs.Events.{Pass as IsPass};
-ghost use Rattle.interleave.specs.Jobs.{budget_of, lists_of, program_of};
 ghost use Rattle.interleave.specs.Shown.{Becomes, IsWorld, Refuses, Shows, is_scope, scope_id};
 ghost use Rattle.interleave.specs.World.{World as AnyWorld, root_scope as the_root_scope};
 ghost use Rattle.interleave.specs.Worlds.{outcome_of as outcome_in};
@@ -29,9 +29,9 @@ impl<'p> World<'p> {
         requires { IsWorld self.now }
         ensures told { (w : AnyWorld) → Shows self.now w
             → option_map (λ o. outcome_of o.now) result
-            ≡ outcome_in (program_of self.now.job) self.now.job.w0 (budget_of self.now.job) w }
+            ≡ outcome_in (program_of self.now.job.job) self.now.job.w0 (budget_of self.now.job.job) w }
         ensures one_thread { IfSome result (λ x. outcome_of x.now ≡ one_thread
-            (program_of self.now.job) (lists_of self.now.job) (budget_of self.now.job)) }
+            (program_of self.now.job.job) (lists_of self.now.job.job) (budget_of self.now.job.job)) }
     {
         match &self.told {
             Some(told) => Some(told),
@@ -61,11 +61,11 @@ impl<'p> World<'p> {
         requires root { scope_id scope.now ≡ the_root_scope }
         requires complete { (s : AnyScope) × (get is_scope self.now.scopes scope.now ≡ Some s)
             × ((not s.passed && nat_eq s.issued s.returned) ≡ true) }
-        ensures told { IfOk result (λ x. outcome_of x ≡ one_thread (program_of self.now.job)
-            (lists_of self.now.job) (budget_of self.now.job)) }
+        ensures told { IfOk result (λ x. outcome_of x ≡ one_thread (program_of self.now.job.job)
+            (lists_of self.now.job.job) (budget_of self.now.job.job)) }
         ensures refused { IfErr result (λ e. e ≡ NoMemory) }
     {
-        let alloc = self.job.alloc;
+        let alloc = self.job.job.alloc;
         let Some(book) = self.scopes.get(scope) else {
             return Err(EventError::NoMemory);
         };
@@ -80,7 +80,7 @@ impl<'p> World<'p> {
         let Ok(settled) = settle(alloc, made, results) else {
             return Err(EventError::NoMemory);
         };
-        let told = told(alloc, self.job.plan().program, settled)?;
+        let told = told(alloc, self.job.job.plan().program, settled)?;
         Ok(told)
     }
 }

@@ -1,14 +1,14 @@
 //! Events of any kind, and lists of them from the start.
 
 ghost use Rattle.std.specs.Prelude.{◌≡◌, IfErr, IfOk, OnOk};
-ghost use Rattle.interleave.specs.Jobs.{IsJob};
+ghost use Rattle.interleave.specs.Jobs.{IsWeightedJob};
 ghost use Rattle.interleave.specs.Replaying.{IsRefused, IsReplayed, event as event_of};
 ghost use Rattle.interleave.specs.Shown.{Becomes, IsWorld, Refuses};
 ghost use Rattle.interleave.specs.Walks.{IsIllegal};
 ghost use Rattle.interleave.specs.declared.error.EventError.TheVariants.{Illegal};
 
 use crate::error::{EventError, ReplayError};
-use crate::job::Job;
+use crate::job::WeightedJob;
 use crate::world::World;
 use events::event::Event;
 use types::path::Path;
@@ -74,8 +74,8 @@ fn actor(event: &Event) -> Option<&Path> {
 }
 
 /// The world that events lead to from the start, one after the other.
-pub fn replay<'p>(job: Job<'p>, events: &[Event]) -> Result<World<'p>, ReplayError>
-    requires { IsJob job }
+pub fn replay<'p>(job: WeightedJob<'p>, events: &[Event]) -> Result<World<'p>, ReplayError>
+    requires { IsWeightedJob job }
     ensures legal { IfOk result (IsReplayed job.entry events.now) }
     ensures world { IfOk result IsWorld }
     ensures refused { IfErr result (IsRefused job.entry events.now) }

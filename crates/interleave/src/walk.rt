@@ -4,7 +4,7 @@ ghost use Rattle.std.specs.Prelude.{◌≡◌, ◌≤◌, ◌<◌, ◌∷◌, []
 ghost use Rattle.interleave.specs.Candidates.{in_hand as hand_events, when_parked as parked_events};
 ghost use Rattle.interleave.specs.Events.{Take as IsTake};
 ghost use Rattle.own_run.specs.Lists.{Each};
-ghost use Rattle.interleave.specs.Jobs.{IsJob};
+ghost use Rattle.interleave.specs.Jobs.{IsWeightedJob};
 ghost use Rattle.interleave.specs.Replaying.{IsReplayed, event as event_of};
 ghost use Rattle.interleave.specs.Shown.{IsWorld, stake, turns_of};
 ghost use Rattle.interleave.specs.Walks.{AreCandidates, AreTasks, HasGoneOn, HasStopped, Happened};
@@ -12,7 +12,7 @@ ghost use Rattle.interleave.specs.Walks.{IsIdle, IsIllegal, IsOver, IsWalk, Went
 ghost use Rattle.interleave.specs.declared.error.EventError.TheVariants.{NoMemory};
 
 use crate::error::EventError;
-use crate::job::Job;
+use crate::job::WeightedJob;
 use crate::task::{Stake, Whereabouts};
 use crate::world::{World, root_scope};
 use events::event::Event;
@@ -64,12 +64,12 @@ impl Chance {
 /// and what can happen to these happens. It ends earlier only where a task wants weight from a
 /// scope that has issued 2^31 times.
 pub fn random_walk<'p>(
-    job: Job<'p>,
+    job: WeightedJob<'p>,
     workers: u32,
     seed: u64,
     most: usize,
 ) -> Result<Walk<'p>, EventError>
-    requires { IsJob job }
+    requires { IsWeightedJob job }
     ensures legal { IfOk result (λ w. IsReplayed job.entry w.events.items w.world) }
     ensures world { IfOk result (λ w. IsWorld w.world) }
     ensures over { IfOk result (IsOver most) }
@@ -80,7 +80,7 @@ pub fn random_walk<'p>(
         generator: SmallRng::seed_from_u64(seed),
         workers,
     };
-    let outermost = root_scope(job.alloc);
+    let outermost = root_scope(job.job.alloc);
     'rounds: while walk.events.len() < most {
         if walk.world.passed(&outermost) {
             return Ok(walk);
@@ -94,15 +94,15 @@ pub fn random_walk<'p>(
 
 impl<'p> Walk<'p> {
     /// Before the first event.
-    fn start(job: Job<'p>) -> Result<Walk<'p>, EventError>
-        requires { IsJob job }
+    fn start(job: WeightedJob<'p>) -> Result<Walk<'p>, EventError>
+        requires { IsWeightedJob job }
         ensures walk { IfOk result IsWalk }
         ensures job { IfOk result (λ w. w.world.job ≡ job.entry) }
         ensures none { IfOk result (λ w. w.events.items ≡ []) }
         ensures refused { IfErr result (λ e. e ≡ NoMemory) }
     {
         let world = World::start(job)?;
-        let events = Vec::new(job.alloc);
+        let events = Vec::new(job.job.alloc);
         Ok(Walk { events, world })
     }
 
@@ -192,7 +192,7 @@ impl<'p> Walk<'p> {
     fn paths(&self) -> Result<Vec<Path>, AllocError>
         ensures { IfOk result (λ paths. AreTasks self.now.world (map turns_of paths.items)) }
     {
-        let mut paths = Vec::new(self.world.job.alloc);
+        let mut paths = Vec::new(self.world.job.job.alloc);
         'tasks: for path in self.world.tasks.keys() {
             paths.push(path.clone()?)?;
         }
@@ -216,7 +216,7 @@ impl<'p> Walk<'p> {
         ensures { IfOk result (λ events. AreCandidates self.now.world worker path.now.turns.items
             (map event_of events.items)) }
     {
-        let alloc = self.world.job.alloc;
+        let alloc = self.world.job.job.alloc;
         let Some(task) = self.world.tasks.get(path) else {
             return Ok(Vec::new(alloc));
         };

@@ -6,13 +6,13 @@ ghost use Rattle.std.specs.Bool.{OnTrue, OnFalse};
 ghost use Rattle.std.specs.HashMap.{get};
 ghost use Rattle.types.specs.Contents.{FitsArrays};
 ghost use Rattle.types.specs.declared.path.Path.{Path as AnyPath};
+ghost use Rattle.gather.specs.Jobs.{program_of, lists_of, budget_of};
 ghost use Rattle.interleave.specs.Events.{Pass as IsPass, Steal as IsSteal, Take as IsTake};
 ghost use Rattle.interleave.specs.Shown.{Becomes, IsWorld, Refuses, Shows, is_path, is_scope};
 ghost use Rattle.interleave.specs.Shown.{scope_id};
 ghost use Rattle.interleave.specs.Shown.{whereabouts};
 ghost use Rattle.interleave.specs.World.{World as AnyWorld, book, has_passed, in_queue, weight_of};
 ghost use Rattle.interleave.specs.World.{root_scope as the_root_scope};
-ghost use Rattle.interleave.specs.Jobs.{program_of, lists_of, budget_of};
 ghost use Rattle.interleave.specs.Replay.{start_of as first_of};
 ghost use Rattle.interleave.specs.declared.error.EventError.TheVariants.{NoMemory};
 ghost use Rattle.types.specs.declared.scope_id.ScopeId.{ScopeId as AnyScopeId};
@@ -21,11 +21,10 @@ ghost use Rattle.interleave.specs.declared.task.Task.{Task as AnyTask};
 
 use crate::doing::Doing;
 use crate::error::EventError;
-use crate::job::Job;
+use crate::job::WeightedJob;
 use crate::scope::Scope;
 use crate::task::{Stake, Task, Whereabouts};
 use events::worker_id::WorkerId;
-use own_run::start::Start;
 use std::alloc::Global;
 use std::collections::{HashMap, HashSet, VecDeque};
 use types::outcome::Outcome;
@@ -35,7 +34,7 @@ use types::scope_id::ScopeId;
 /// The live tasks by their paths and the scopes by their names.
 #[derive(Drop)]
 pub struct World<'p> {
-    pub job: Job<'p>,
+    pub job: WeightedJob<'p>,
     pub tasks: HashMap<Path, Task<'p>>,
     pub scopes: HashMap<ScopeId, Scope>,
     /// The workers that have a task in their hands.
@@ -46,16 +45,17 @@ pub struct World<'p> {
 
 impl<'p> World<'p> {
     /// The world at the start: the root in the first worker's queue, with the weight of its scope.
-    pub fn start(job: Job<'p>) -> Result<World<'p>, EventError>
-        requires { FitsArrays (program_of job).arrays (lists_of job) }
-        ensures shows { IfOk result (λ r. Shows r (first_of (program_of job.entry) job.entry.w0
-            (lists_of job.entry) (budget_of job.entry))) }
+    pub fn start(job: WeightedJob<'p>) -> Result<World<'p>, EventError>
+        requires { FitsArrays (program_of job.job).arrays (lists_of job.job) }
+        ensures shows { IfOk result (λ r. Shows r (first_of (program_of job.entry.job) job.entry.w0
+            (lists_of job.entry.job) (budget_of job.entry.job))) }
         ensures refused { IfErr result (λ e. e ≡ NoMemory) }
         ensures job { IfOk result (λ r. r.job ≡ job.entry) }
     {
-        let root = Start::root(job.plan(), job.accepted.typed(), job.input)?;
-        let mut stakes = VecDeque::new(job.alloc);
-        let scope = root_scope(job.alloc);
+        let alloc = job.job.alloc;
+        let root = job.job.root()?;
+        let mut stakes = VecDeque::new(alloc);
+        let scope = root_scope(alloc);
         stakes.push_front(Stake {
             scope,
             weight: job.w0,
@@ -66,15 +66,15 @@ impl<'p> World<'p> {
             stakes,
             place: Whereabouts::Queue(WorkerId::first()),
         };
-        let mut tasks = HashMap::new(job.alloc);
-        tasks.insert(root_path(job.alloc), task)?;
-        let mut scopes = HashMap::new(job.alloc);
-        scopes.insert(root_scope(job.alloc), Scope::new(job.alloc, job.w0))?;
+        let mut tasks = HashMap::new(alloc);
+        tasks.insert(root_path(alloc), task)?;
+        let mut scopes = HashMap::new(alloc);
+        scopes.insert(root_scope(alloc), Scope::new(alloc, job.w0))?;
         Ok(World {
             job,
             tasks,
             scopes,
-            hands: HashSet::new(job.alloc),
+            hands: HashSet::new(alloc),
             told: None,
         })
     }

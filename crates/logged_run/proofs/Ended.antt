@@ -7,7 +7,7 @@ use Rattle.std.specs.Prelude.{IfSome, is_some, option_map}
 use Rattle.types.specs.Translation.{outcome as outcome_in}
 use Rattle.effects.proofs.Members.{false_true}
 use Rattle.types.specs.declared.outcome.Outcome.{Outcome}
-use Rattle.interleave.specs.Jobs.{budget_of, program_of}
+use Rattle.gather.specs.Jobs.{budget_of, outcome_of, program_of}
 use Rattle.interleave.specs.Shown.{Shows}
 use Rattle.interleave.specs.World.{World}
 use Rattle.interleave.specs.Worlds.{outcome_of as told_in}
@@ -15,21 +15,21 @@ use Rattle.interleave.specs.declared.world.World.{World as rWorld}
 use Rattle.trace.specs.Logs.{IsClean, Recorded}
 use Rattle.trace.specs.declared.log_error.LogError.{LogError}
 use Rattle.trace.specs.declared.log_error.LogError.TheVariants.{Illegal, NoMemory}
-use Rattle.logged_run.specs.Ending.{LeadsToOutcome, one_thread}
+use Rattle.logged_run.specs.Ending.{LeadsToOutcome}
 use Rattle.logged_run.specs.Errors.{IsCauseOrUnlogged, of_log}
 
 -- what is told of a world is that of its job, once its root's scope has passed
 module _ (told : Option (Bor Outcome)) (r : rWorld) where
   abbrev IsToldOf : Type 0
   IsToldOf = (w : World) → Shows r w
-      → option_map (λ o. outcome_in o.now) told ≡ told_in (program_of r.job) r.job.w0 (budget_of r.job) w
+      → option_map (λ o. outcome_in o.now) told ≡ told_in (program_of r.job.job) r.job.w0 (budget_of r.job.job) w
 
   abbrev IsOneThread : Type 0
-  IsOneThread = IfSome told (λ o. outcome_in o.now ≡ one_thread r.job)
+  IsOneThread = IfSome told (λ o. outcome_in o.now ≡ outcome_of r.job.job)
 
 -- what is told of the world that a clean log shows is the outcome of its job
 leads : (l : Recorded) → IsClean l → (told : Option (Bor Outcome)) → IsToldOf told l.world → IsOneThread told l.world
-    → is_some told ≡ true → LeadsToOutcome l (one_thread l.world.job)
+    → is_some told ≡ true → LeadsToOutcome l (outcome_of l.world.job.job)
 leads l clean None is same some = false_true some
 leads l clean (Some o) is same some = record {
   world = clean.replayed.world;
@@ -40,9 +40,9 @@ leads l clean (Some o) is same some = record {
 -- the same of the world that it shows, where it is asked whether anything is told
 pub has_ended : (l : Recorded) (r : rWorld) → r ≡ l.world → IsClean l → (told : Option (Bor Outcome))
     → IsToldOf told r → IsOneThread told r → (ended : Bool) → ended ≡ is_some told
-    → OnTrue ended (LeadsToOutcome l (one_thread l.world.job))
+    → OnTrue ended (LeadsToOutcome l (outcome_of l.world.job.job))
 has_ended l r shown clean told is same ended asked =
-    OnTrue_from ended (LeadsToOutcome l (one_thread l.world.job))
+    OnTrue_from ended (LeadsToOutcome l (outcome_of l.world.job.job))
     (λ yes. leads l clean told (subst (IsToldOf told) shown is) (subst (IsOneThread told) shown same) (sym asked ∙ yes))
 
 -- whatever a log refuses is a cause

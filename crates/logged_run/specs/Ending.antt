@@ -1,12 +1,11 @@
 -- Where the events of a log lead.
 use Rattle.std.specs.Prelude.{◌≡◌, Some}
-use Rattle.types.specs.Outcome.{Outcome, outcome}
-use Rattle.interleave.specs.Jobs.{budget_of, lists_of, program_of}
+use Rattle.types.specs.Outcome.{Outcome}
+use Rattle.gather.specs.Jobs.{budget_of, program_of}
 use Rattle.interleave.specs.Replay.{Legal}
 use Rattle.interleave.specs.Replaying.{comes}
 use Rattle.interleave.specs.World.{World}
 use Rattle.interleave.specs.Worlds.{outcome_of}
-use Rattle.interleave.specs.declared.job.Job.{Job}
 use Rattle.trace.specs.Logs.{Recorded}
 
 -- the events are legal from the start of the log's job, and of the world that they lead to this is told: so its
@@ -14,8 +13,4 @@ use Rattle.trace.specs.Logs.{Recorded}
 pub record LeadsToOutcome (l : Recorded) (told : Outcome) : Type 0 where
   pub world : World
   pub legal : comes l.world.job l.events ≡ Legal world
-  pub is_told : outcome_of (program_of l.world.job) l.world.job.w0 (budget_of l.world.job) world ≡ Some told
-
--- what the job's program comes to on one thread
-abbrev pub one_thread : Job → Outcome
-one_thread j = outcome (program_of j) (lists_of j) (budget_of j)
+  pub is_told : outcome_of (program_of l.world.job.job) l.world.job.w0 (budget_of l.world.job.job) world ≡ Some told

@@ -7,8 +7,9 @@ ghost use Rattle.types.specs.Outcome.{outcome as one_thread_outcome};
 ghost use Rattle.types.specs.Translation.{budget as budget_of, input as lists_in};
 ghost use Rattle.types.specs.Translation.{outcome as outcome_in};
 ghost use Rattle.types.specs.Typed.{code_of};
+ghost use Rattle.gather.specs.Jobs.{outcome_of};
 ghost use Rattle.trace.specs.Logs.{IsClean};
-ghost use Rattle.logged_run.specs.Ending.{LeadsToOutcome, one_thread};
+ghost use Rattle.logged_run.specs.Ending.{LeadsToOutcome};
 ghost use Rattle.logged_run.specs.Errors.{IsCauseOrUnlogged};
 
 use crate::error::LoggedRunError;
@@ -39,10 +40,12 @@ pub fn run_logged<'p, G: Gate + Sync, R: Threads + Wait + Sync>(
         (code_of accepted.now.typed) (lists_in input.now) (budget_of settings.budget)) }
     ensures clean { IfOk result (λ r. IsClean r.1) }
     ensures job { IfOk result (λ r. r.1.world.job ≡ record {
-      alloc = alloc;
-      accepted = accepted.entry;
-      input = input.entry;
-      budget = settings.budget;
+      job = record {
+        alloc = alloc;
+        accepted = accepted.entry;
+        input = input.entry;
+        budget = settings.budget;
+      };
       w0 = settings.w0;
     }) }
     ensures told { IfOk result (λ r. LeadsToOutcome r.1 (outcome_in r.0)) }
@@ -73,7 +76,7 @@ pub fn header_of(settings: Settings) -> Header
 /// Whether the run has ended by the events of its log.
 fn has_ended(log: &Log<'_>) -> bool
     ensures clean { IsClean log.now }
-    ensures ended { OnTrue result (LeadsToOutcome log.now (one_thread log.now.world.job)) }
+    ensures ended { OnTrue result (LeadsToOutcome log.now (outcome_of log.now.world.job.job)) }
 {
     log.world().outcome().is_some()
 }

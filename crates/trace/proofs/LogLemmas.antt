@@ -1,7 +1,7 @@
 -- Logs stay clean.
 use Rattle.std.proofs.Common.{◌≡◌, ℕ, List, [], ◌∷◌, ◌++◌, sym, subst}
 use Rattle.std.specs.Prelude.{Result, Ok, Err, IfErr, IsErrAnd}
-use Rattle.interleave.specs.Jobs.{IsJob}
+use Rattle.interleave.specs.Jobs.{IsWeightedJob}
 use Rattle.interleave.specs.Replay.{IllegalAt as IsIllegalAt}
 use Rattle.interleave.specs.Replaying.{IsRefused, IsReplayed, comes, event}
 use Rattle.interleave.specs.Shown.{Becomes, Refuses, WorldStays}
@@ -10,7 +10,7 @@ use Rattle.interleave.specs.declared.error.EventError.TheVariants.{Illegal as Is
 use Rattle.interleave.specs.declared.error.EventError.TheVariants.{NoMemory as IsNoMemory}
 use Rattle.interleave.specs.declared.error.ReplayError.{ReplayError}
 use Rattle.interleave.specs.declared.error.ReplayError.TheVariants.{IllegalAt}
-use Rattle.interleave.specs.declared.job.Job.{Job}
+use Rattle.interleave.specs.declared.job.WeightedJob.{WeightedJob}
 use Rattle.events.specs.declared.event.Event.{Event}
 use Rattle.interleave.specs.declared.world.World.{World}
 use Rattle.interleave.proofs.Staying.{stays_shown}
@@ -26,7 +26,7 @@ recorded world events = record { world = world; events = events }
 pub clean_more : (old new : World) (es : List Event) (e : Event) → IsClean (recorded old es) → Becomes (event e) old new
     → new.job ≡ old.job → IsClean (recorded new (es ++ e ∷ []))
 clean_more old new es e clean b same = record {
-  job = subst IsJob (sym same) clean.job;
+  job = subst IsWeightedJob (sym same) clean.job;
   replayed = subst (λ k. IsReplayed k (es ++ e ∷ []) new) (sym same)
       (replayed_on old.job es e old new clean.replayed b same);
 }
@@ -41,7 +41,7 @@ pub clean_still : (old new : World) (es : List Event) → IsClean (recorded old 
 clean_still old new es clean stays =
     let r = clean.replayed in
     record {
-      job = subst IsJob (sym stays.job) clean.job;
+      job = subst IsWeightedJob (sym stays.job) clean.job;
       replayed = subst (λ k. IsReplayed k es new) (sym stays.job) (record {
         world = r.world;
         legal = r.legal;
@@ -64,7 +64,7 @@ left_by e old new x y same events r = record {
 }
 
 -- events that were refused
-pub refused_by : (j k : Job) (es fs : List Event) (x : ReplayError) (n : ℕ) → IsRefused j es x → x ≡ IllegalAt n → j ≡ k
+pub refused_by : (j k : WeightedJob) (es fs : List Event) (x : ReplayError) (n : ℕ) → IsRefused j es x → x ≡ IllegalAt n → j ≡ k
     → es ≡ fs → (m : ℕ) × (comes k fs ≡ IsIllegalAt m)
 refused_by j k es fs x n r is same items = (
   n,

@@ -1,6 +1,6 @@
 -- Logs: the events of a run so far, and the world that they led to.
 use Rattle.std.specs.Prelude.{ℕ, ◌≡◌, List, codes}
-use Rattle.interleave.specs.Jobs.{IsJob}
+use Rattle.interleave.specs.Jobs.{IsWeightedJob}
 use Rattle.interleave.specs.Replay.{IllegalAt}
 use Rattle.interleave.specs.Replaying.{IsReplayed, comes, event}
 use Rattle.interleave.specs.Shown.{Refuses}
@@ -8,7 +8,7 @@ use Rattle.interleave.specs.declared.error.EventError.{EventError}
 use Rattle.interleave.specs.declared.error.EventError.TheVariants.{Illegal as IsIllegal}
 use Rattle.interleave.specs.declared.error.EventError.TheVariants.{NoMemory as IsNoMemory}
 use Rattle.events.specs.declared.event.Event.{Event}
-use Rattle.interleave.specs.declared.job.Job.{Job}
+use Rattle.interleave.specs.declared.job.WeightedJob.{WeightedJob}
 use Rattle.interleave.specs.declared.world.World.{World}
 use Rattle.trace.specs.declared.log_error.LogError.{LogError}
 use Rattle.trace.specs.declared.log_error.LogError.TheVariants.{Illegal, NoMemory}
@@ -21,7 +21,7 @@ pub record Recorded : Type 0 where
 -- the log is clean: its events are legal from the start of its world's job, one behind the other, and
 -- its world is the one that they lead to
 pub record IsClean (l : Recorded) : Type 0 where
-  pub job : IsJob l.world.job
+  pub job : IsWeightedJob l.world.job
   pub replayed : IsReplayed l.world.job l.events l.world
 
 -- why a world refuses what a log refuses
@@ -35,7 +35,7 @@ pub record Leaves (e : Event) (old new : Recorded) (error : LogError) : Type 0 w
   pub world : Refuses (event e) old.world new.world (world_error error)
 
 -- events that lead to no log: some first one isn't legal; or memory was missing
-abbrev pub IsRefusedBy : Job → List Event → LogError → Type 0
+abbrev pub IsRefusedBy : WeightedJob → List Event → LogError → Type 0
 IsRefusedBy j es Illegal = (n : ℕ) × (comes j es ≡ IllegalAt n)
 IsRefusedBy j es NoMemory = Unit {0}
 

@@ -12,7 +12,7 @@ ghost use Rattle.trace.specs.declared.log_error.LogError.TheVariants.{NoMemory};
 use crate::log_error::LogError;
 use events::event::Event;
 use interleave::error::ReplayError;
-use interleave::job::Job;
+use interleave::job::WeightedJob;
 use interleave::replay::replay;
 use interleave::world::World;
 use race_checker::accepted::Accepted;
@@ -55,15 +55,17 @@ impl<'p> Log<'p> {
         requires { FitsArrays (code_of accepted.now.typed).arrays (lists_in input.now) }
         ensures begun { IfOk result (λ l. l.events ≡ []) }
         ensures job { IfOk result (λ l. l.world.job ≡ record {
-          alloc = alloc;
-          accepted = accepted.entry;
-          input = input.entry;
-          budget = header.now.budget;
+          job = record {
+            alloc = alloc;
+            accepted = accepted.entry;
+            input = input.entry;
+            budget = header.now.budget;
+          };
           w0 = header.now.w0;
         }) }
         ensures refused { IfErr result (λ e. e ≡ NoMemory) }
     {
-        let Some(job) = Job::new(alloc, accepted, input, header.budget, header.w0) else {
+        let Some(job) = WeightedJob::new(alloc, accepted, input, header.budget, header.w0) else {
             unreachable!()
         };
         let world = World::start(job)?;
@@ -85,21 +87,25 @@ impl<'p> Log<'p> {
         requires { FitsArrays (code_of accepted.now.typed).arrays (lists_in input.now) }
         ensures events { IfOk result (λ l. l.events ≡ events.items) }
         ensures job { IfOk result (λ l. l.world.job ≡ record {
-          alloc = alloc;
-          accepted = accepted.entry;
-          input = input.entry;
-          budget = header.now.budget;
+          job = record {
+            alloc = alloc;
+            accepted = accepted.entry;
+            input = input.entry;
+            budget = header.now.budget;
+          };
           w0 = header.now.w0;
         }) }
         ensures refused { IfErr result (IsRefusedBy (record {
-          alloc = alloc;
-          accepted = accepted.entry;
-          input = input.entry;
-          budget = header.now.budget;
+          job = record {
+            alloc = alloc;
+            accepted = accepted.entry;
+            input = input.entry;
+            budget = header.now.budget;
+          };
           w0 = header.now.w0;
         }) events.items) }
     {
-        let Some(job) = Job::new(alloc, accepted, input, header.budget, header.w0) else {
+        let Some(job) = WeightedJob::new(alloc, accepted, input, header.budget, header.w0) else {
             unreachable!()
         };
         match replay(job, &events) {

@@ -8,7 +8,7 @@ use Rattle.interleave.specs.Replay.{IllegalAt}
 use Rattle.interleave.specs.Replaying.{comes, IsRefused}
 use Rattle.interleave.specs.declared.error.ReplayError.{ReplayError}
 use Rattle.interleave.specs.declared.error.ReplayError.TheVariants.{IllegalAt as rIllegalAt}
-use Rattle.interleave.specs.declared.job.Job.{Job}
+use Rattle.interleave.specs.declared.job.WeightedJob.{WeightedJob}
 use Rattle.trace_text.specs.declared.header.Header.{Header}
 use Rattle.command_line.specs.Requests.{Settings}
 use Rattle.command_line.specs.declared.request.Command.{Command}
@@ -41,10 +41,10 @@ holds_so later held keeps name known same h es holds =
 -- ---- its events
 
 -- what they come to, whatever job is the same
-pub comes_same : (j k : Job) → j ≡ k → (es fs : List Event) → es ≡ fs → comes j es ≡ comes k fs
-comes_same j k same es fs are = ap (λ (i : Job). comes i es) same ∙ ap (comes k) are
+pub comes_same : (j k : WeightedJob) → j ≡ k → (es fs : List Event) → es ≡ fs → comes j es ≡ comes k fs
+comes_same j k same es fs are = ap (λ (i : WeightedJob). comes i es) same ∙ ap (comes k) are
 
-pub refused_at : (j : Job) (es : List Event) (e : ReplayError) (n : ℕ) → e ≡ rIllegalAt n → IsRefused j es e
+pub refused_at : (j : WeightedJob) (es : List Event) (e : ReplayError) (n : ℕ) → e ≡ rIllegalAt n → IsRefused j es e
     → comes j es ≡ IllegalAt n
 refused_at j es e n is refused = subst (IsRefused j es) is refused
 

@@ -15,7 +15,7 @@ use intake::failure::Failure;
 use intake::files::{FileSource, read_file};
 use intake::input_file::input_of;
 use interleave::error::ReplayError;
-use interleave::job::Job;
+use interleave::job::WeightedJob;
 use interleave::laws::replays_refuse_the_first;
 use interleave::replay::replay;
 use race_checker::accepted::Accepted;
@@ -91,7 +91,7 @@ fn judge(alloc: Global, accepted: &Accepted, input: &Input, trace: &Trace) -> Re
 {
     replays_refuse_the_first();
     let Header { budget, w0, .. } = trace.header;
-    let Some(job) = Job::new(alloc, accepted, input, budget, w0) else {
+    let Some(job) = WeightedJob::new(alloc, accepted, input, budget, w0) else {
         unreachable!()
     };
     match replay(job, &trace.events) {

@@ -3,7 +3,7 @@
 use crate::tests::worlds::{HALVES, NESTED};
 use crate::tests::{FAULTS, accepted, compare};
 use events::event::Event;
-use interleave::job::Job;
+use interleave::job::WeightedJob;
 use interleave::walk::random_walk;
 use std::alloc::Global;
 use std::process::Abort;
@@ -115,7 +115,7 @@ fn walks_come_to_one_work_and_one_span(rt: HostRuntime) {
         let want = work_and_span(&rt, alloc, &events);
         for seed in 0..50u32 {
             let workers = seed * 9 % 64 + 1;
-            let job = Job::new(alloc, &program, &input, budget, u64::from(seed % 9 + 1));
+            let job = WeightedJob::new(alloc, &program, &input, budget, u64::from(seed % 9 + 1));
             let job = job.expect(&rt, "a weight");
             let walk = random_walk(job, workers, u64::from(seed), 1_000_000).expect(&rt, "memory");
             let told = work_and_span(&rt, alloc, &walk.events);

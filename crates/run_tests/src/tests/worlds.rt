@@ -3,7 +3,7 @@
 use crate::tests::{FAULTS, TWO_ARRAYS, accepted, compare, one_thread_outcome, path};
 use events::event::Event;
 use events::worker_id::WorkerId;
-use interleave::job::Job;
+use interleave::job::WeightedJob;
 use interleave::replay::replay;
 use interleave::walk::random_walk;
 use std::alloc::Global;
@@ -224,7 +224,7 @@ fn told(rt: &(impl Abort + Threads + Sync), alloc: Global, row: Row) -> Result<S
     let (text, w0, pieces, _) = row;
     let program = accepted(rt, alloc, text);
     let input = Input::zeros(alloc, program.typed())?;
-    let job = Job::new(alloc, &program, &input, Budget::usual(), w0).expect(rt, "a weight");
+    let job = WeightedJob::new(alloc, &program, &input, Budget::usual(), w0).expect(rt, "a weight");
     let events = events(rt, alloc, pieces);
     let world = match replay(job, &events) {
         Ok(world) => world,
@@ -259,7 +259,7 @@ fn weights_are_halved_and_issued(rt: HostRuntime) {
     let alloc = rt.alloc();
     let program = accepted(&rt, alloc, FOUR);
     let input = Input::zeros(alloc, program.typed()).expect(&rt, "memory");
-    let job = Job::new(alloc, &program, &input, Budget::usual(), 8).expect(&rt, "a weight");
+    let job = WeightedJob::new(alloc, &program, &input, Budget::usual(), 8).expect(&rt, "a weight");
     let events = events(&rt, alloc, &[SPAWN_FOUR]);
     let world = replay(job, &events).expect(&rt, "legal events");
     for (turns, want) in [(FIRST, 4), (SECOND, 2), (THIRD, 1), (FOURTH, 4), (ROOT, 5)] {
@@ -292,7 +292,7 @@ fn walks_come_to_the_one_thread_outcome(rt: HostRuntime) {
         let one_thread = one_thread_outcome(&rt, alloc, &program, budget);
         for seed in 0..50u32 {
             let workers = seed * 9 % 64 + 1;
-            let job = Job::new(alloc, &program, &input, budget, u64::from(seed % 9 + 1));
+            let job = WeightedJob::new(alloc, &program, &input, budget, u64::from(seed % 9 + 1));
             let job = job.expect(&rt, "a weight");
             let walk = random_walk(job, workers, u64::from(seed), 1_000_000).expect(&rt, "memory");
             let outcome = walk.world.outcome().expect(&rt, "an end");

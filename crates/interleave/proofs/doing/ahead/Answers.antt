@@ -3,7 +3,7 @@ use Rattle.effects.specs.Rounds.{needs_of}
 use Rattle.own_run.specs.RunTurns.{IsTurn}
 use Rattle.own_run.proofs.BelongingTasks.{can_turn}
 use Rattle.own_run.proofs.TurnsLeft.{leaves_fewer}
-use Rattle.interleave.specs.Jobs.{program_of, lists_of, budget_of}
+use Rattle.gather.specs.Jobs.{program_of, lists_of, budget_of}
 use Rattle.interleave.proofs.Turning.{may_run, shown}
 use Rattle.interleave.proofs.doing.ahead.Goals as goal
 

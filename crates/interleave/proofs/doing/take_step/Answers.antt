@@ -7,8 +7,8 @@ use Rattle.own_run.specs.declared.turn.Step.{Step}
 use Rattle.own_run.specs.declared.turn.Step.TheVariants.{Did as rDid}
 use Rattle.own_run.proofs.BelongingTasks.{can_turn}
 use Rattle.own_run.proofs.TurnsLeft.{leaves_fewer}
-use Rattle.interleave.specs.Jobs.{program_of, lists_of, budget_of}
-use Rattle.interleave.specs.declared.job.Job.{Job}
+use Rattle.gather.specs.Jobs.{program_of, lists_of, budget_of}
+use Rattle.gather.specs.declared.job.Job.{Job}
 use Rattle.interleave.proofs.Turning.{ends_not, enters_not, may_run, shown, spawns_not}
 use Rattle.interleave.proofs.doing.take_step.Goals as goal
 

@@ -1,6 +1,6 @@
 use Rattle.own_run.specs.Left.{left_of}
+use Rattle.gather.specs.Jobs.{IsJob}
 use Rattle.interleave.specs.Courses.{Course, IsRunOf}
-use Rattle.interleave.specs.Jobs.{IsJob}
 use Rattle.interleave.proofs.doing.take_step.Given as goal
 
 -- the run stands as far as its task has come, which did nothing since

@@ -4,7 +4,7 @@ use Rattle.interleave.proofs.Replaying.{goes_on, left_comes, stops_at}
 use Rattle.interleave.proofs.replay.replay.Goals as goal
 
 pub start-requires : goal.start-requires
-start-requires c = c.requires.fits
+start-requires c = c.requires.job.fits
 
 pub returns-in-Err-Illegal-clause-refused : goal.returns-in-Err-Illegal-clause-refused
 returns-in-Err-Illegal-clause-refused c =

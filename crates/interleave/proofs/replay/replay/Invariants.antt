@@ -1,6 +1,7 @@
 use Rattle.std.proofs.Common.{◌≡◌, drop, map}
 use Rattle.effects.specs.Rounds.{needs_of}
-use Rattle.interleave.specs.Jobs.{IsJob, program_of, budget_of}
+use Rattle.gather.specs.Jobs.{program_of, budget_of}
+use Rattle.interleave.specs.Jobs.{IsWeightedJob}
 use Rattle.interleave.specs.Replay.{replay_from}
 use Rattle.interleave.specs.Replaying.{comes, event}
 use Rattle.interleave.specs.Shown.{Shows}
@@ -10,11 +11,11 @@ use Rattle.interleave.proofs.replay.replay.Given as goal
 -- a world is shown from which what is left comes to the same
 abbrev pub invariant-events : goal.invariant-events
 invariant-events l = record {
-  ok : IsJob l.job;
+  ok : IsWeightedJob l.job;
   job : l.world.job ≡ l.job;
   at : World;
   shows : Shows l.world at;
   same : comes l.job l.events
-      ≡ replay_from (program_of l.job) (needs_of (program_of l.job)) (budget_of l.job).steps l.job.w0 l.number
+      ≡ replay_from (program_of l.job.job) (needs_of (program_of l.job.job)) (budget_of l.job.job).steps l.job.w0 l.number
       (map event (drop l.number l.events)) at;
 }

@@ -3,8 +3,10 @@ use Rattle.types.specs.Outcome.{outcome as one_thread_outcome}
 use Rattle.types.specs.Translation.{budget as budget_of, input as lists_in}
 use Rattle.types.specs.Typed.{code_of}
 use Rattle.types.specs.declared.budget.Budget.{Budget}
+use Rattle.gather.specs.Jobs.{outcome_of}
+use Rattle.interleave.specs.declared.job.WeightedJob.{WeightedJob}
 use Rattle.trace.proofs.LogLemmas.{if_error_then}
-use Rattle.logged_run.specs.Ending.{LeadsToOutcome, one_thread}
+use Rattle.logged_run.specs.Ending.{LeadsToOutcome}
 use Rattle.logged_run.specs.Errors.{IsCauseOrUnlogged}
 use Rattle.logged_run.proofs.Ended.{any_cause}
 use Rattle.logged_run.proofs.run.run_logged.Goals as goal
@@ -19,7 +21,7 @@ pub returns-then-has_ended-clause-told : goal.returns-then-has_ended-clause-told
 returns-then-has_ended-clause-told g c =
     let told = one_thread_outcome (code_of c.args.accepted.now.typed) (lists_in c.args.input.now) in
     subst (LeadsToOutcome c.in_ok-log.log)
-    (ap one_thread c.in_ok-log.ensures.job
+    (ap (λ (j : WeightedJob). outcome_of j.job) c.in_ok-log.ensures.job
     ∙ ap (λ (b : Budget). told (budget_of b)) c.header_of.ensures.budget
     ∙ sym c.in_ok-outcome.ensures.outcome)
     c.if-has_ended.ensures.ended

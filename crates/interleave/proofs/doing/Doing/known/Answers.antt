@@ -5,10 +5,10 @@ use Rattle.types.specs.Translation.{program}
 use Rattle.own_run.specs.Reached.{begun}
 use Rattle.own_run.specs.Standings.{IsAt}
 use Rattle.own_run.specs.Translation.{start}
+use Rattle.gather.specs.declared.job.Job.{Job}
 use Rattle.interleave.specs.Courses.{Course, IsDoing, IsKnown, IsLooked}
 use Rattle.interleave.specs.declared.doing.Doing.{Doing}
 use Rattle.interleave.specs.declared.error.EventError.{EventError}
-use Rattle.interleave.specs.declared.job.Job.{Job}
 use Rattle.interleave.proofs.Turning.{begins}
 use Rattle.interleave.proofs.doing.Doing.known.Goals as goal
 

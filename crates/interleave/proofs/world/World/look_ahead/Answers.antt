@@ -9,7 +9,7 @@ pub known-requires-clause-task : goal.known-requires-clause-task
 known-requires-clause-task c =
     let r = c.args.self.now in
     let path = c.args.path.now in
-    let t = there (IsTaskOf r.job) c.in-Some.task _ _ (c.requires.shows.tasks path) (sym c.in-Some.ensures.value) in
+    let t = there (IsTaskOf r.job.job) c.in-Some.task _ _ (c.requires.shows.tasks path) (sym c.in-Some.ensures.value) in
     (t.0, t.2)
 
 pub returns-clause-stays : goal.returns-clause-stays

@@ -10,7 +10,7 @@ pub in_hand-requires-clause-task : goal.in_hand-requires-clause-task
 in_hand-requires-clause-task c =
     let r = c.args.self.now in
     let path = c.args.path.now in
-    let t = there (IsTaskOf r.job) c.in-Some.task.now _ _ (c.requires.shows.tasks path) (sym c.in-Some.ensures.value) in
+    let t = there (IsTaskOf r.job.job) c.in-Some.task.now _ _ (c.requires.shows.tasks path) (sym c.in-Some.ensures.value) in
     (t.0, t.2)
 
 pub returns-in-Some-clause-stays : goal.returns-in-Some-clause-stays

@@ -3,7 +3,7 @@ use Rattle.std.specs.Prelude.{is_some, if◌then◌else◌}
 use Rattle.interleave.specs.Events.{Spawns}
 use Rattle.interleave.specs.Shown.{Refuses, is_path}
 use Rattle.interleave.specs.declared.error.EventError.TheVariants.{NoMemory}
-use Rattle.interleave.specs.declared.job.Job.{Job}
+use Rattle.interleave.specs.declared.job.WeightedJob.{WeightedJob}
 use Rattle.interleave.specs.declared.world.World.{World as rWorld}
 use Rattle.interleave.proofs.InHand.{err_is, spawns, spawns_not}
 use Rattle.interleave.proofs.Staying.{stays_on, stays_tasks}
@@ -30,7 +30,7 @@ returns-in_err-child-clause-refused c =
     err_is c.from_residual-in_err-child.result c.in_err-child.field-0.0 (Refuses (Spawns path.turns.items) old next)
     c.from_residual-in_err-child.ensures.1
     (spawns_not old mid path c.in_ok-worker.worker c.in_ok-worker.ensures.ready job c.look_at.ensures.stays
-    (subst (λ (j : Job). 1 ≤ j.w0) (sym job) c.requires.job.least) k
+    (subst (λ (j : WeightedJob). 1 ≤ j.w0) (sym job) c.requires.job.least) k
     (sym (c.reserve.ensures.entries.2 path) ∙ sym c.in-Some.ensures.value) new c.in_err-child.ensures.same next
     (λ q. ((c.get_mut.follows.holds new).3 (ap is_some (sym c.in-Some.ensures.value))).0 q
     ∙ ap (λ o. if is_path path q then Some new else o) (c.reserve.ensures.entries.2 q))
@@ -48,7 +48,7 @@ returns-clause-spawned c =
     let next : rWorld = record mid { tasks = c.insert.new.self } in
     let job = ap (λ (r : rWorld). r.job) c.look_at.ensures.others in
     spawns old mid path c.in_ok-worker.worker c.in_ok-worker.ensures.ready job c.look_at.ensures.stays
-    (subst (λ (j : Job). 1 ≤ j.w0) (sym job) c.requires.job.least) k
+    (subst (λ (j : WeightedJob). 1 ≤ j.w0) (sym job) c.requires.job.least) k
     (sym (c.reserve.ensures.entries.2 path) ∙ sym c.in-Some.ensures.value) new child called c.in_ok-child.ensures.spawned next
     (λ q. c.in_ok-insert.ensures.updates.0 q
     ∙ ap (λ o. if is_path called q then Some child else o)

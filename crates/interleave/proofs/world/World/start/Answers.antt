@@ -2,12 +2,6 @@ use Rattle.std.proofs.Common.{◌∙◌, ap, refl, ◌∷◌, None, Some}
 use Rattle.std.specs.List.{list_any}
 use Rattle.std.specs.Map.{lookup}
 use Rattle.std.specs.Prelude.{map, nat_eq, if◌then◌else◌}
-use Rattle.types.specs.Translation.{budget as budget_from}
-use Rattle.types.specs.Typed.{code_of}
-use Rattle.types.specs.declared.budget.Budget.{Budget}
-use Rattle.types.specs.declared.typed.Typed.{Typed}
-use Rattle.own_run.specs.Runs.{root as root_of}
-use Rattle.interleave.specs.Jobs.{program_of, lists_of}
 use Rattle.interleave.specs.Shown.{is_path, is_scope, stake}
 use Rattle.interleave.specs.World.{ScopeId, root_scope}
 use Rattle.interleave.specs.declared.doing.Doing.TheVariants.{Starts}
@@ -24,14 +18,8 @@ returns-clause-shows c =
     let id = c.root_scope.result in
     let r : rWorld = record { job = c.args.job; tasks = c.insert.new.self; scopes = c.insert-2.new.self; hands = c.new-2.result; told = None } in
     let root = c.in_ok-root.root in
-    let job = c.args.job in
-    let lists = lists_of job in
-    let same
-    = c.in_ok-root.ensures
-    ∙ ap (λ (t : Typed). root_of (code_of t) lists (budget_from c.plan.result.budget)) c.typed.ensures.field
-    ∙ ap (λ (b : Budget). root_of (program_of job) lists (budget_from b)) c.plan.ensures.budget in
     let k : rTask = record { doing = Starts root; opened = 0; stakes = c.push_front.new.self; place = rQueue c.first.result } in
-    shows_start r root same c.push_front.new.self c.new.result path id c.first.result c.first.ensures c.root_path.ensures c.root_scope.ensures
+    shows_start r root c.in_ok-root.ensures c.push_front.new.self c.new.result path id c.first.result c.first.ensures c.root_path.ensures c.root_scope.ensures
     (ap (map stake) c.in_ok-push_front.ensures.items
     ∙ ap (λ (i : ScopeId). record { scope = i; weight = w0 } ∷ map stake c.new-stakes.result.items) c.root_scope-scope.ensures
     ∙ ap (λ ss. record { scope = root_scope; weight = w0 } ∷ map stake ss) c.new-stakes.ensures.items)
