@@ -4,8 +4,7 @@ use Rattle.std.specs.Fmt.{decimal}
 use Rattle.std.specs.String.{string_bytes}
 use Rattle.syntax.specs.Refusals.{error_text as syntax_text}
 use Rattle.types.specs.Codes.{error_text}
-use Rattle.types.specs.InputErrors.{error_text as input_text}
-use Rattle.texts.specs.Reasons.{escaped, race_text}
+use Rattle.texts.specs.Reasons.{escaped, input_text, race_text}
 use Rattle.gather.specs.RunErrors.{error_code as run_code}
 use Rattle.trace_text.specs.Reading.{trace_error_text}
 use Rattle.intake.specs.declared.failure.Failure.{Failure}

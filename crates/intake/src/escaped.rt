@@ -1,8 +1,9 @@
-//! Names of files as messages show them.
+//! Names from outside as messages show them.
 
 use std::fmt;
+use types::input_error::InputError;
 
-/// The name of a file, in which a character that steers a terminal is told by its number, as `\x1b`.
+/// A name from outside, as that of a file, in which a character that steers a terminal is told by its number, as `\x1b`.
 #[derive(Clone, Copy)]
 pub struct Escaped<'n>(pub &'n str);
 
@@ -17,5 +18,18 @@ impl fmt::Display for Escaped<'_> {
             }
         }
         Ok(())
+    }
+}
+
+/// A mistake in an input, whose members may have any name: `N3 z`
+#[derive(Clone, Copy)]
+pub struct EscapedInput<'e>(pub &'e InputError);
+
+impl fmt::Display for EscapedInput<'_> {
+    fn fmt<W: fmt::Write>(&self, f: &mut fmt::Formatter<W>) -> fmt::Result {
+        match self.0 {
+            InputError::UnknownArray { name } => write!(f, "N3 {}", Escaped(name.as_str())),
+            other => write!(f, "{other}"),
+        }
     }
 }

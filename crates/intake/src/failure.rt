@@ -10,7 +10,7 @@ ghost use Rattle.intake.specs.Failures.{IsRaceOf, TellsNotUtf8, TellsRaceIn, Tel
 ghost use Rattle.intake.specs.Failures.{access_text, kind_of, section_text, told_procedure};
 ghost use Rattle.intake.specs.Failures.{section_name as name_of_section};
 
-use crate::escaped::Escaped;
+use crate::escaped::{Escaped, EscapedInput};
 use gather::run_error::RunError;
 use race_checker::race::Race;
 use sections::id::SectionId;
@@ -54,7 +54,7 @@ pub enum Failure {
     #[error("C2")]
     NoMemoryInCheck,
     /// `N4 a`
-    #[error(transparent)]
+    #[error("{}", EscapedInput(.0))]
     Input(InputError),
     /// `E1` to `E4`
     #[error("{}", .0.code())]

@@ -2,13 +2,17 @@
 use Rattle.std.specs.Prelude.{ℕ, ◌+◌, ◌/◌, ◌%◌, List, [], ◌∷◌, ◌++◌, ◌||◌, codes}
 use Rattle.std.specs.Prelude.{if◌then◌else◌, nat_eq, nat_lt}
 use Rattle.std.specs.List.{flat_map}
+use Rattle.std.specs.String.{string_bytes}
+use Rattle.types.specs.InputErrors.{error_text}
+use Rattle.types.specs.declared.input_error.InputError.{InputError}
+use Rattle.types.specs.declared.input_error.InputError.TheVariants.{UnknownArray}
 
 -- a race: its procedure, and both its accesses
 abbrev pub race_text : (procedure first second : List ℕ) → List ℕ
 race_text procedure first second =
     (codes "C1 race in " ++ procedure) ++ ((codes ": " ++ first) ++ (codes ", " ++ second))
 
--- ---- names of files
+-- ---- names from outside
 
 -- a hexadecimal digit
 abbrev pub digit : ℕ → ℕ
@@ -22,3 +26,8 @@ escaped_byte b =
 
 abbrev pub escaped : List ℕ → List ℕ
 escaped name = flat_map escaped_byte name
+
+-- a mistake in an input: the name of a member may have any characters, that of an array has none that steers
+abbrev pub input_text : InputError → List ℕ
+input_text (UnknownArray name) = codes "N3 " ++ escaped (string_bytes name)
+input_text e = error_text e

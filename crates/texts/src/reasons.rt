@@ -4,9 +4,8 @@ ghost use Rattle.std.specs.Prelude.{◌≡◌, ◌<◌, ◌++◌};
 ghost use Rattle.std.specs.Fmt.{decimal};
 ghost use Rattle.syntax.specs.Refusals.{at_text, error_text as syntax_text};
 ghost use Rattle.types.specs.Codes.{error_text, labelled};
-ghost use Rattle.types.specs.InputErrors.{error_text as input_text};
 ghost use Rattle.texts.specs.Appending.{Writes};
-ghost use Rattle.texts.specs.Reasons.{digit, escaped, escaped_byte, race_text};
+ghost use Rattle.texts.specs.Reasons.{digit, escaped, escaped_byte, input_text, race_text};
 
 use crate::emit::{EmitError, append, emit_count, emit_label};
 use std::io::Write;
@@ -31,7 +30,7 @@ fn emit_named<W: Write>(err: &mut W, told: &str, name: &str) -> Result<(), EmitE
     emit_text(err, name)
 }
 
-/// What is told, and the name of a file.
+/// What is told, and a name that comes from outside: of a file, or of a member of an input.
 pub fn emit_file<W: Write>(err: &mut W, told: &str, name: &str) -> Result<(), EmitError>
     ensures { Writes (W.contents err.old) (W.contents err.new) result
         (told.now ++ escaped name.now) }
@@ -139,7 +138,7 @@ pub fn emit_input_error<W: Write>(err: &mut W, error: &InputError) -> Result<(),
     match error {
         InputError::NotJson => emit_text(err, "N1"),
         InputError::NotAnObject => emit_text(err, "N2"),
-        InputError::UnknownArray { name } => emit_named(err, "N3 ", name.as_str()),
+        InputError::UnknownArray { name } => emit_file(err, "N3 ", name.as_str()),
         InputError::WrongNumberOfLists => emit_text(err, "N4"),
         InputError::WrongLength { name } => emit_named(err, "N4 ", name.as_str()),
         InputError::WrongElement { name } => emit_named(err, "N5 ", name.as_str()),

@@ -150,6 +150,7 @@ const NAMED: &[(Named, &str, &str)] = &[
     (Named::CannotWrite, "-", "cannot write -"),
     (Named::CannotWrite, "a\u{1b}.svg", "cannot write a\\x1b.svg"),
     (Named::UnknownArray, "z", "N3 z"),
+    (Named::UnknownArray, "b\nc\u{1b}", "N3 b\\x0ac\\x1b"),
     (Named::WrongLength, "a", "N4 a"),
     (Named::WrongElement, "a", "N5 a"),
 ];
