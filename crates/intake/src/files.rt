@@ -110,12 +110,22 @@ pub fn write_file<F: FileSource>(
     }
 }
 
-/// The files of the machine; `-` is the standard input, which is read once: read again, it gives the same bytes.
+/// The files of the machine; `-` is the standard input. What `read` gave of the standard input, and of the file that it
+/// read last, is kept, since a pipe gives nothing more when it is explained what is wrong there.
 #[derive(Drop)]
 pub struct MachineFiles<'r, R> {
     rt: &'r R,
     /// What the standard input gave, once it was read to its end.
     input: Option<Vec<u8>>,
+    /// The file that was read last, where there was memory to keep it and nothing was written since.
+    last: Option<LastRead>,
+}
+
+/// The file that was read last, and what it gave.
+#[derive(Drop)]
+struct LastRead {
+    name: String,
+    bytes: Vec<u8>,
 }
 
 impl<'r, R> MachineFiles<'r, R> {
@@ -123,7 +133,11 @@ impl<'r, R> MachineFiles<'r, R> {
     pub fn new(rt: &'r R) -> MachineFiles<'r, R>
         ensures { result.rt ≡ rt.entry }
     {
-        MachineFiles { rt, input: None }
+        MachineFiles {
+            rt,
+            input: None,
+            last: None,
+        }
     }
 }
 
@@ -132,8 +146,17 @@ impl<R: Files + Input + AllocGlobal> FileSource for MachineFiles<'_, R> {
         if name == "-" {
             return standard_input(self.rt, &mut self.input);
         }
+        let alloc = self.rt.alloc();
+        if let Some(last) = &self.last {
+            if last.name.as_str() == name {
+                return copied(alloc, &last.bytes);
+            }
+        }
         match fs::read(self.rt, name) {
-            Ok(bytes) => Ok(bytes),
+            Ok(bytes) => {
+                self.last = given(alloc, name, &bytes);
+                Ok(bytes)
+            }
             Err(error) => Err(file_error(&error)),
         }
     }
@@ -150,6 +173,7 @@ impl<R: Files + Input + AllocGlobal> FileSource for MachineFiles<'_, R> {
         if name == "-" {
             return Err(FileError::Failed);
         }
+        self.last = None;
         fs::write(self.rt, name, bytes).map_err(|error| file_error(&error))
     }
 }
@@ -169,6 +193,14 @@ fn standard_input<R: Input + AllocGlobal>(
     }
     *kept = Some(copied(alloc, &bytes)?);
     Ok(bytes)
+}
+
+/// What a file gave, to be kept. None for want of memory.
+fn given(alloc: Global, name: &str, bytes: &[u8]) -> Option<LastRead> {
+    Some(LastRead {
+        name: String::from_str(alloc, name).ok()?,
+        bytes: bytes.to_vec(alloc).ok()?,
+    })
 }
 
 /// The same bytes once more.

@@ -35,7 +35,12 @@ fn kept<F: FileSource>(alloc: Global, files: &mut F, text: &str) -> &'static str
         Ok(()) => {}
         Err(_failure) => return "not written",
     }
-    match read_file(alloc, files, NAME) {
+    read(alloc, files, NAME, text)
+}
+
+/// What a file holds.
+fn read<F: FileSource>(alloc: Global, files: &mut F, name: &str, text: &str) -> &'static str {
+    match read_file(alloc, files, name) {
         Ok(bytes) => compared(&bytes, text),
         Err(_failure) => "not read",
     }
@@ -48,6 +53,36 @@ fn compared(bytes: &[u8], text: &str) -> &'static str {
     } else {
         "another text"
     }
+}
+
+#[test]
+fn what_was_read_last_is_given_again(rt: HostRuntime) {
+    let alloc = rt.alloc();
+    let name = "program_tests.read_last";
+    let mut files = MachineFiles::new(&rt);
+    let _ = fs::write(&rt, name, b"once");
+    compare(
+        &rt,
+        alloc,
+        "the file",
+        read(alloc, &mut files, name, "once"),
+        "as it was written",
+    );
+    let _ = fs::remove_file(&rt, name);
+    compare(
+        &rt,
+        alloc,
+        "no file",
+        read(alloc, &mut files, name, "once"),
+        "as it was written",
+    );
+    compare(
+        &rt,
+        alloc,
+        "another",
+        read(alloc, &mut files, "no_such_folder/read", "once"),
+        "not read",
+    );
 }
 
 /// Names that can't be written.
