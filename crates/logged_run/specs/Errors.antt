@@ -17,7 +17,7 @@ abbrev pub of_log : LogError → LoggedRunError
 of_log Illegal = Unlogged
 of_log NoMemory = Run OutOfMemory
 
--- E2 has a ticket whose number is the most tasks that the run may have, or more
+-- E2 has a ticket whose number is the most tasks that the run may have, or more; want of memory is never told as E3
 abbrev pub IsCauseOrUnlogged : (tasks : ℕ) → LoggedRunError → Type 0
 IsCauseOrUnlogged tasks (Run e) = IsCause tasks e
 IsCauseOrUnlogged tasks Unlogged = Unit {0}

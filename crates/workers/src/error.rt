@@ -13,7 +13,8 @@ use task_machine::error::NoMemory;
 pub enum Trouble {
     /// Memory, as may be of `main { }`; a scope that has issued weight as often as is counted.
     OutOfMemory,
-    /// The results of tasks don't make a whole. No run is known that comes to it.
+    /// The results of tasks aren't put together: memory is wanting, or they don't make a whole. No run is known that
+    /// comes to the latter.
     Gather(GatherError),
     /// A scope didn't take what was given back to it. No run is known that comes to it.
     Late,
@@ -25,7 +26,7 @@ impl From<Trouble> for RunError {
     fn from(trouble: Trouble) -> RunError {
         match trouble {
             Trouble::OutOfMemory => RunError::OutOfMemory,
-            Trouble::Gather(error) => RunError::Gather(error),
+            Trouble::Gather(error) => RunError::from(error),
             Trouble::Late => RunError::Late,
         }
     }
@@ -51,11 +52,6 @@ impl From<NoMemory> for Trouble {
 
 impl From<GatherError> for Trouble {
     fn from(error: GatherError) -> Trouble {
-        match error {
-            GatherError::OutOfMemory => Trouble::OutOfMemory,
-            GatherError::Lost(_) | GatherError::Double(_) | GatherError::Stranger(_) => {
-                Trouble::Gather(error)
-            }
-        }
+        Trouble::Gather(error)
     }
 }
