@@ -13,7 +13,7 @@ use Rattle.types.specs.declared.path.Path.{Path}
 use Rattle.effects.proofs.Members.{false_true}
 use Rattle.effects.specs.Rounds.{needs_of}
 use Rattle.own_run.specs.Frames.{AtEnd, handed}
-use Rattle.own_run.specs.Given.{IsOwn}
+use Rattle.own_run.specs.Given.{IsOfOwnRun}
 use Rattle.own_run.specs.Lists.{Each}
 use Rattle.own_run.specs.OwnRun.{Action, Own, Start, EndFinish, result_of}
 use Rattle.own_run.specs.Reached.{leaves}
@@ -54,11 +54,12 @@ use Rattle.interleave.proofs.Lookups.{scopes_same, task_path}
 use Rattle.interleave.proofs.Outcomes.{results_are_own}
 use Rattle.interleave.proofs.Staying.{stays_hands}
 use Rattle.interleave.proofs.Tables.{there, not_there, tasks_put, paths_put, free_put, led_on}
+use Rattle.interleave.proofs.Truth.{each_if_given}
 use Rattle.interleave.proofs.Turning.{its_task}
 
 -- ---- a run behind a finish
 module _ (j : Job) (ok : IsJob j) (c : Course) (q : Paused) (made : Made) (at : IsPausedOf j c q made) (rs : List TaskResult)
-    (own : Each (IsOwn (program_of j) (needs_of (program_of j)) (budget_of j).steps (root (program_of j) (lists_of j) (budget_of j))) rs)
+    (own : Each (IsOfOwnRun (program_of j) (needs_of (program_of j)) (budget_of j).steps (root (program_of j) (lists_of j) (budget_of j))) rs)
     (run : Run) (goes : GoesBehind q made rs run) where
   abbrev come_to : Settled
   come_to = settled_of goes.settled
@@ -78,7 +79,8 @@ module _ (j : Job) (ok : IsJob j) (c : Course) (q : Paused) (made : Made) (at : 
       let long = length_push at.state.extra.actions EndFinish in
       let was = at.come.after in
       record {
-        stands = leaves rs at.come.stands own settles;
+        stands = leaves rs at.come.stands
+            (each_if_given (program_of j) (needs_of (program_of j)) (budget_of j).steps (root (program_of j) (lists_of j) (budget_of j)) rs own) settles;
         follows = leaves_follow (program_of j) (needs_of (program_of j)) (budget_of j).steps (root (program_of j) (lists_of j) (budget_of j))
             c.start c.receipts rs at.before at.frames at.state come_to task.awake settles at.come.follows;
         after = omega (arith, long, was);

@@ -11,7 +11,7 @@ use Rattle.own_run.specs.Results.{TaskResult, and_then}
 use Rattle.own_run.specs.Settling.{NoTwice}
 use Rattle.own_run.specs.Lists.{Each}
 use Rattle.own_run.specs.OwnRun.{Start, result_of, run_by}
-use Rattle.own_run.specs.Given.{own, given, IsOwn, root_of}
+use Rattle.own_run.specs.Given.{own, given, IsOfOwnRun, root_of}
 use Rattle.own_run.proofs.Lists.{each_more}
 use Rattle.own_run.proofs.SettledResults.{gives}
 use Rattle.interleave.specs.World.{ScopeId, Stake, Live, Scope, World, Whereabouts, Queue, Hand, Parked, same_scope}
@@ -85,10 +85,10 @@ module _ (p : Program) (needs : Codes → Needs) (fresh w0 : ℕ) (least : 1 ≤
       tasks [] t f = subst (IsOwnTask p needs fresh w0 root nameless) (same_Some _ _ f) at_root
       tasks (j ∷ q) t f = absurd (none-some _ f)
 
-      results : (id : ScopeId) (s : Scope) → scope id (new_scope root_scope w0 ∷ []) ≡ Some s → Each (IsOwn p needs fresh root) s.results
+      results : (id : ScopeId) (s : Scope) → scope id (new_scope root_scope w0 ∷ []) ≡ Some s → Each (IsOfOwnRun p needs fresh root) s.results
       results id s f =
-          by_test (λ x. (if x then Some (new_scope root_scope w0) else None) ≡ Some s → Each (IsOwn p needs fresh root) s.results) (same_scope root_scope id)
-          (λ g f. subst (λ (r : Scope). Each (IsOwn p needs fresh root) r.results) (same_Some _ _ f) tt)
+          by_test (λ x. (if x then Some (new_scope root_scope w0) else None) ≡ Some s → Each (IsOfOwnRun p needs fresh root) s.results) (same_scope root_scope id)
+          (λ g f. subst (λ (r : Scope). Each (IsOfOwnRun p needs fresh root) r.results) (same_Some _ _ f) tt)
           (λ g f. absurd (none-some _ f)) f
 
   pub list_sound : (before es : List Event) (a b : World) → IsSound before a → go es a ≡ Some b → IsSound (before ++ es) b

@@ -14,7 +14,7 @@ use Rattle.own_run.specs.Results.{TaskResult, none_yet, complete}
 use Rattle.own_run.specs.Lists.{Each}
 use Rattle.own_run.specs.OwnRun.{Start, Action, Step, Spawn, EnterFinish, EndFinish, EndTask, Own, at_first}
 use Rattle.own_run.specs.OwnRun.{result_of, last_action, actions_of, begun_by, beginning, from_receipts, run_by}
-use Rattle.own_run.specs.Given.{filled, in_truth, own, given, IsOwn}
+use Rattle.own_run.specs.Given.{filled, in_truth, own, given, IsOfOwnRun, IsOwn}
 use Rattle.own_run.proofs.SettledResults.{paths_same, IsGiven, given_last}
 use Rattle.own_run.proofs.Begun.{begun_by-append, get-append_left, never_waits, run_tells}
 use Rattle.own_run.proofs.Lists.{each_last}
@@ -28,7 +28,7 @@ use Rattle.interleave.proofs.Changes.{IsQuiet, IsAt, IsReplenish, IsSpawn, IsOpe
 use Rattle.interleave.proofs.Changes.{Becomes}
 use Rattle.interleave.proofs.Steps.{put_cases}
 use Rattle.interleave.proofs.Events.{rebooked}
-use Rattle.interleave.proofs.Truth.{Rel, Behind, run_in_truth}
+use Rattle.interleave.proofs.Truth.{Rel, Behind, run_in_truth, each_if_given}
 use Rattle.interleave.proofs.Levels.{depth, depth-append, bracketed, take_next, depth_next}
 use Rattle.interleave.proofs.Numbered.{given_path, begun_at}
 
@@ -62,7 +62,7 @@ module _ (p : Program) (needs : Codes → Needs) (fresh w0 : ℕ) (root : Start)
 
   pub record AllOwn (w : World) : Type 0 where
     pub tasks : (q : List ℕ) (t : Live) → task q w.live ≡ Some t → IsOwnTask t
-    pub results : (id : ScopeId) (s : Scope) → scope id w.scopes ≡ Some s → Each (IsOwn p needs fresh root) s.results
+    pub results : (id : ScopeId) (s : Scope) → scope id w.scopes ≡ Some s → Each (IsOfOwnRun p needs fresh root) s.results
 
   pub awake_level : (w : Whereabouts) (s : Stake) (outer : List Stake) (t : Live) → is_parked w ≡ false → IsAtLevel w (s ∷ outer) t → depth 0 (take t.done (truly t.start)) ≡ Some (length outer)
   awake_level (Queue w) s outer t e h = h
@@ -181,21 +181,20 @@ module _ (p : Program) (needs : Codes → Needs) (fresh w0 : ℕ) (root : Start)
     pub hands_path : (hands t).path ≡ t.path
     hands_path = (run_tells t.start.nest needs (from_receipts t.receipts) p (Block t.start.body) (beginning (at_first t.start.owned) fresh t.start)).path ∙ start_path
 
-    -- what it hands on at its end is its own run's
-    pub hands_own : nexts t ≡ Some EndTask → (f : ℕ) → depth 0 (take t.done (truly t.start)) ≡ Some f → IsOwn p needs fresh root (hands t)
-    hands_own e f d = λ s g.
-        let whole = ends_in_truth EndTask f e d refl in
-        let path : (run_by p needs fresh t.receipts t.start).path ≡ t.path = ap (λ (st : State Own). st.path) whole
-        ∙ (run_tells t.start.nest needs (in_truth p needs fresh) p (Block t.start.body) (beginning (at_first t.start.owned) fresh t.start)).path ∙ start_path in
-        let same : t.start ≡ s = same_Some _ _ (sym h.comes ∙ ap (given p needs fresh root) (sym path) ∙ g) in
-        ap result_of (whole ∙ ap (own p needs fresh) same)
+    -- what it hands on at its end is of its own run, and its path is given the start
+    pub hands_own : nexts t ≡ Some EndTask → (f : ℕ) → depth 0 (take t.done (truly t.start)) ≡ Some f → IsOfOwnRun p needs fresh root (hands t)
+    hands_own e f d = record {
+      start = t.start;
+      of_path = ap (given p needs fresh root) hands_path ∙ h.comes;
+      is = ap result_of (ends_in_truth EndTask f e d refl);
+    }
 
   -- ---- events
   abbrev Tasks : List Live → Type 0
   Tasks ts = (q : List ℕ) (t : Live) → task q ts ≡ Some t → IsOwnTask t
 
   abbrev Results : List Scope → Type 0
-  Results ss = (id : ScopeId) (s : Scope) → scope id ss ≡ Some s → Each (IsOwn p needs fresh root) s.results
+  Results ss = (id : ScopeId) (s : Scope) → scope id ss ≡ Some s → Each (IsOfOwnRun p needs fresh root) s.results
 
   tasks_put : (to was : Live) (ts : List Live) → task to.path ts ≡ Some was → Tasks ts → IsOwnTask to → Tasks (put_task to ts)
   tasks_put to was ts e h k q t f = by_place (put_cases to was t q ts e f).here
@@ -204,11 +203,11 @@ module _ (p : Program) (needs : Codes → Needs) (fresh w0 : ℕ) (root : Start)
       by_place (inl (i, j)) = subst IsOwnTask j k
       by_place (inr (i, j)) = h q t j
 
-  results_put : (x : ScopeId) (book to : Scope) (ss : List Scope) → scope x ss ≡ Some book → to.id ≡ x → Results ss → Each (IsOwn p needs fresh root) to.results → Results (put_scope to ss)
+  results_put : (x : ScopeId) (book to : Scope) (ss : List Scope) → scope x ss ≡ Some book → to.id ≡ x → Results ss → Each (IsOfOwnRun p needs fresh root) to.results → Results (put_scope to ss)
   results_put x book to ss e f h k id s g = by_place (rebooked x book to ss id s e f g)
     where
-      by_place : ((x ≡ id) × (to ≡ s)) ⊎ ((same_scope x id ≡ false) × (scope id ss ≡ Some s)) → Each (IsOwn p needs fresh root) s.results
-      by_place (inl (i, j)) = subst (λ (r : Scope). Each (IsOwn p needs fresh root) r.results) j k
+      by_place : ((x ≡ id) × (to ≡ s)) ⊎ ((same_scope x id ≡ false) × (scope id ss ≡ Some s)) → Each (IsOfOwnRun p needs fresh root) s.results
+      by_place (inl (i, j)) = subst (λ (r : Scope). Each (IsOfOwnRun p needs fresh root) r.results) j k
       by_place (inr (i, j)) = h id s j
 
   all_own : (w : World) → Tasks w.live → Results w.scopes → AllOwn w
@@ -220,7 +219,7 @@ module _ (p : Program) (needs : Codes → Needs) (fresh w0 : ℕ) (root : Start)
   own_results : (w : World) → AllOwn w → Results w.scopes
   own_results w h = h.results
 
-  each_join : (xs ys : List TaskResult) → Each (IsOwn p needs fresh root) xs → Each (IsOwn p needs fresh root) ys → Each (IsOwn p needs fresh root) (xs ++ ys)
+  each_join : (xs ys : List TaskResult) → Each (IsOfOwnRun p needs fresh root) xs → Each (IsOfOwnRun p needs fresh root) ys → Each (IsOfOwnRun p needs fresh root) (xs ++ ys)
   each_join [] ys h k = k
   each_join (x ∷ xs) ys h k = (h.0, each_join xs ys h.1 k)
 
@@ -347,9 +346,9 @@ module _ (p : Program) (needs : Codes → Needs) (fresh w0 : ℕ) (root : Start)
 
         scopes : Results (new_scope (record { owner = h.was.path; number = h.was.opened + 1 }) w0 ∷ a.scopes)
         scopes j s f =
-            by_test (λ x. (if x then Some (new_scope (record { owner = h.was.path; number = h.was.opened + 1 }) w0) else scope j a.scopes) ≡ Some s → Each (IsOwn p needs fresh root) s.results)
+            by_test (λ x. (if x then Some (new_scope (record { owner = h.was.path; number = h.was.opened + 1 }) w0) else scope j a.scopes) ≡ Some s → Each (IsOfOwnRun p needs fresh root) s.results)
             (same_scope (record { owner = h.was.path; number = h.was.opened + 1 }) j)
-            (λ g f. subst (λ (r : Scope). Each (IsOwn p needs fresh root) r.results) (same_Some _ _ f) tt)
+            (λ g f. subst (λ (r : Scope). Each (IsOfOwnRun p needs fresh root) r.results) (same_Some _ _ f) tt)
             (λ g f. k.results j s f) f
 
     park_own : (path : List ℕ) (b : World) → IsPark nexts path a b → AllOwn b
@@ -406,7 +405,8 @@ module _ (p : Program) (needs : Codes → Needs) (fresh w0 : ℕ) (root : Start)
             let o = k.tasks path h.was h.found in
             record {
               comes = o.comes;
-              receipts = each_last (Each (IsOwn p needs fresh root)) h.was.receipts h.of.book.results o.receipts (k.results h.inner.scope h.of.book h.of.found);
+              receipts = each_last (Each (IsOwn p needs fresh root)) h.was.receipts h.of.book.results o.receipts
+                  (each_if_given p needs fresh root h.of.book.results (k.results h.inner.scope h.of.book h.of.found));
               counted = o.counted;
               level = parked_level h.was.place h.parked (subst (λ ss. IsAtLevel h.was.place ss h.was) h.stakes o.level);
             }

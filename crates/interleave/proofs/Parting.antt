@@ -43,6 +43,7 @@ use Rattle.interleave.proofs.GoingOn.{take_all}
 use Rattle.interleave.proofs.Worth.{sum_of, sum_of-nil}
 use Rattle.interleave.proofs.Measured.{worth, worth_lists, measured_is, pending_worth}
 use Rattle.interleave.proofs.There.{shuffled, pending_real}
+use Rattle.interleave.proofs.Truth.{each_if_given}
 use Rattle.interleave.proofs.Standing.{Stands, Closes, finishes, is_over, poise, moves, closes, closed}
 use Rattle.interleave.proofs.Standing.{moved_on, left, IsMove}
 use Rattle.interleave.proofs.Pending.{spawned, spawned-append, around, pendings, turn_pending, pending_spawned}
@@ -427,7 +428,8 @@ module _ (p : Program) (needs : Codes → Needs) (scoped : IsScoped p) (calm : I
           (subst (λ n. StandsBy c.was.start (c.was.receipts ++ c.of.book.results ∷ []) n) waited.count (
             record { frames = waited.frames; state = handed waited.before comes.0 waited.state },
             left p needs scoped calm provided fresh root nameless may_begin c.was.start c.was.receipts waited.done waited.before waited.frames
-                waited.state waited.stands c.of.book.results (o.results c.inner.scope c.of.book c.of.found) comes.0 comes.1,
+                waited.state waited.stands c.of.book.results
+                (each_if_given p needs fresh root c.of.book.results (o.results c.inner.scope c.of.book c.of.found)) comes.0 comes.1,
           )))
 
     -- ---- events

@@ -8,7 +8,7 @@ use Rattle.own_run.specs.Results.{TaskResult}
 use Rattle.own_run.specs.Lists.{Each}
 use Rattle.own_run.specs.Settling.{NoTwice}
 use Rattle.own_run.specs.OwnRun.{Start, Spawn, EndFinish, EndTask, is_waiting, run_by}
-use Rattle.own_run.specs.Given.{below, given, IsOwn, root_of}
+use Rattle.own_run.specs.Given.{below, given, IsOfOwnRun, root_of}
 use Rattle.interleave.specs.Candidates.{candidates}
 use Rattle.interleave.specs.World.{ScopeId, Stake, Live, Scope, World, is_parked, hand_of, root_scope, task, scope}
 use Rattle.interleave.specs.Events.{Event, Ends, owns, next_action, after}
@@ -73,9 +73,9 @@ module _ (p : Program) (needs : Codes → Needs) (w0 : ℕ) where
   abbrev pub StartsAreGiven : Type 0
   StartsAreGiven = OfAllReplays (λ input b es w. (path : List ℕ) (t : Live) → task path w.live ≡ Some t → given p needs b.steps (root_of p input b.nest) path ≡ Some t.start)
 
-  -- a result that a scope keeps is its task's own run
+  -- a result that a scope keeps is of its task's own run, from the start that its path is given
   abbrev pub ResultsAreOwn : Type 0
-  ResultsAreOwn = OfAllReplays (λ input b es w. (id : ScopeId) (s : Scope) → scope id w.scopes ≡ Some s → Each (IsOwn p needs b.steps (root_of p input b.nest)) s.results)
+  ResultsAreOwn = OfAllReplays (λ input b es w. (id : ScopeId) (s : Scope) → scope id w.scopes ≡ Some s → Each (IsOfOwnRun p needs b.steps (root_of p input b.nest)) s.results)
 
   -- a scope keeps one result of a task at most, and only once that has ended
   abbrev pub ResultsComeOnce : Type 0

@@ -11,10 +11,11 @@ use Rattle.own_run.specs.Results.{TaskResult, and_then, Settled}
 use Rattle.own_run.specs.Settling.{settle}
 use Rattle.own_run.specs.Lists.{Each, Inserted, here, later, Shuffled, none, one}
 use Rattle.own_run.specs.OwnRun.{Start, Child, at_first, result_of, beginning}
-use Rattle.own_run.specs.Given.{in_truth, own, below, given, IsOwn, root_of, told_of}
+use Rattle.own_run.specs.Given.{in_truth, own, below, given, IsOfOwnRun, root_of, told_of}
 use Rattle.own_run.specs.Frames.{IsGivenChild}
 use Rattle.own_run.proofs.Begun.{run_tells}
 use Rattle.own_run.proofs.SettledResults.{paths_same, IsGiven, lists_true}
+use Rattle.own_run.proofs.TaskRuns.{own_if_given}
 use Rattle.interleave.specs.World.{same_path, root_scope, task, Scope, World, scope}
 use Rattle.interleave.specs.Events.{only_if, Event}
 use Rattle.interleave.specs.Replay.{hands_on, Legal, replay, world_outcome}
@@ -46,21 +47,19 @@ counts_one : (b : Bool) → b ≡ true → ◌≡◌ {A = ℕ} (if b then 1 else
 counts_one b e = ap (λ (b : Bool). if b then 1 else 0) e
 
 module _ (p : Program) (needs : Codes → Needs) (fresh : ℕ) (root : Start) where
-  -- a result of an own run
-  pub record IsReal (r : TaskResult) : Type 0 where
-    start : Start
-    is : given p needs fresh root r.path ≡ Some start
-    same : r ≡ result_of (own p needs fresh start)
+  -- a result of a task's own run
+  abbrev pub IsReal : TaskResult → Type 0
+  IsReal = IsOfOwnRun p needs fresh root
 
   -- results that measure alike stand in some order
-  pub shuffled : (xs ys : List TaskResult) → Each IsReal xs → Each (IsOwn p needs fresh root) ys → ((f : TaskResult → ℕ) → measured f xs ≡ measured f ys) → Shuffled xs ys
+  pub shuffled : (xs ys : List TaskResult) → Each IsReal xs → Each IsReal ys → ((f : TaskResult → ℕ) → measured f xs ≡ measured f ys) → Shuffled xs ys
   shuffled [] ys h k e = subst (Shuffled []) (sym (no_more ys (e (λ r. 1)))) none
   shuffled (x ∷ xs) ys h k e =
       let first = counts_one (same_path x.path x.path) (path_refl x.path) in
       let some = e (λ r. if same_path r.path x.path then 1 else 0) in
       let q = pick x.path ys (omega (arith, first, some)) in
-      let own_ones = each_inserted (IsOwn p needs fresh root) q.it q.others ys q.put k in
-      let same : q.it ≡ x = own_ones.0 h.0.start (ap (given p needs fresh root) q.named ∙ h.0.is) ∙ sym h.0.same in
+      let own_ones = each_inserted IsReal q.it q.others ys q.put k in
+      let same : q.it ≡ x = own_if_given p needs fresh root q.it own_ones.0 h.0.start (ap (given p needs fresh root) q.named ∙ h.0.of_path) ∙ sym h.0.is in
       one (subst (λ y. Inserted y q.others ys) same q.put) (shuffled xs q.others h.1 own_ones.1 (λ f. less f q.it q.others q.put same))
     where
       less : (f : TaskResult → ℕ) (it : TaskResult) (others : List TaskResult) → Inserted it others ys → it ≡ x → measured f xs ≡ measured f others
@@ -84,7 +83,7 @@ module _ (p : Program) (needs : Codes → Needs) (fresh : ℕ) (root : Start) wh
   each_real n rec [] h = tt
   each_real n rec (c ∷ cs) h =
       each_join IsReal (result_of (own p needs fresh c.start) ∷ below p needs fresh n c.start) _
-      (record { start = c.start; is = ap (given p needs fresh root) (own_path c.start) ∙ h.0.is; same = refl }, rec c.start h.0.is)
+      (record { start = c.start; of_path = ap (given p needs fresh root) (own_path c.start) ∙ h.0.is; is = refl }, rec c.start h.0.is)
       (each_real n rec cs h.1)
 
   pub below_real : (n : ℕ) (s : Start) → IsGiven p needs fresh root s → Each IsReal (below p needs fresh n s)

@@ -21,12 +21,13 @@ use Rattle.own_run.specs.Settling.{settle}
 use Rattle.own_run.specs.Lists.{Each}
 use Rattle.own_run.specs.OwnRun.{Start, Action, EndFinish, Own, at_first, notes, is_waiting, result_of, leave_with}
 use Rattle.own_run.specs.OwnRun.{own_rules, begun_by, beginning, from_receipts, run_by}
-use Rattle.own_run.specs.Given.{in_truth, own, IsOwn}
+use Rattle.own_run.specs.Given.{in_truth, own, IsOfOwnRun, IsOwn}
 use Rattle.own_run.specs.Frames.{IsBegun, HasBegun, IsGivenChild}
 use Rattle.own_run.proofs.Begun.{begun_by-append, get-append_left, Tells, tells, begin_tells, enter_tells}
 use Rattle.own_run.proofs.Begun.{at_first_fine, idle_tells}
 use Rattle.own_run.proofs.Lists.{each_more}
 use Rattle.own_run.proofs.SettledResults.{gives, IsGiven, begun_is_true, part_sound}
+use Rattle.own_run.proofs.TaskRuns.{own_if_given}
 
 pub record Prefix {A : Type 0} (xs zs : List A) : Type 0 where
   pub rest : List A
@@ -36,6 +37,11 @@ pub each_get : {A : Type 0} (P : A → Type 0) (xs : List A) (k : ℕ) (x : A) �
 each_get P [] k x h e = absurd (none-some _ e)
 each_get P (y ∷ xs) zero x h e = subst P (same_Some _ _ e) h.0
 each_get P (y ∷ xs) (suc k) x h e = each_get P xs k x h.1 e
+
+module _ (p : Program) (needs : Codes → Needs) (fresh : ℕ) (root : Start) where
+  -- what are of tasks' own runs are so for whatever starts their paths are given
+  pub each_if_given : (rs : List TaskResult) → Each (IsOfOwnRun p needs fresh root) rs → Each (IsOwn p needs fresh root) rs
+  each_if_given rs = each_more (IsOfOwnRun p needs fresh root) (IsOwn p needs fresh root) rs (own_if_given p needs fresh root)
 
 -- one run waits, and the other has done at least as much
 pub record Behind (a b : State Own) : Type 0 where
