@@ -42,7 +42,7 @@ pub fn check_format<O: Write>(alloc: Global, text: &str, out: &mut O) -> Result<
 }
 
 /// A text laid out that has tokens.
-fn laid_of(alloc: Global, text: &str) -> Result<String, Failure>
+pub fn laid_of(alloc: Global, text: &str) -> Result<String, Failure>
     requires { (ts : List Token) × AreTokensOf (chars text.now) ts }
     ensures laid { IfOk result (λ laid. IsLaidOut (chars text.now) (chars (string_bytes laid))) }
     ensures kept { IfOk result (λ laid. KeepsAll (chars text.now) (chars (string_bytes laid))) }

@@ -1,14 +1,9 @@
 //! `fmt --write`: the text of any program in the canonical layout, in its own file.
 
-ghost use Rattle.std.specs.Prelude.{◌≡◌, List, IfErr, IfOk};
-ghost use Rattle.std.specs.Str.{chars};
-ghost use Rattle.std.specs.String.{string_bytes};
-ghost use Rattle.syntax.specs.Lexical.{AreTokensOf};
-ghost use Rattle.syntax.specs.Token.{Token};
-ghost use Rattle.layout.specs.Kept.{HaveSameTokens, IsLaidOut, KeepsAll};
 ghost use Rattle.answers.specs.Answers.{Done};
 ghost use Rattle.rewriting.specs.Rewriting.{AnswersRewrite, ExplainsRewrite, LeavesRewritten};
 
+use answers::formatting::laid_of;
 use answers::programs::program_of;
 use answers::showing::answer;
 use intake::failure::Failure;
@@ -36,19 +31,4 @@ pub fn rewrite<F: FileSource, O: Write>(
     }
     write_file(alloc, files, file, laid.as_bytes())?;
     answer(out, "")
-}
-
-/// A text laid out that has tokens.
-fn laid_of(alloc: Global, text: &str) -> Result<String, Failure>
-    requires { (ts : List Token) × AreTokensOf (chars text.now) ts }
-    ensures laid { IfOk result (λ laid. IsLaidOut (chars text.now) (chars (string_bytes laid))) }
-    ensures kept { IfOk result (λ laid. KeepsAll (chars text.now) (chars (string_bytes laid))) }
-    ensures tokens { IfOk result
-        (λ laid. HaveSameTokens (chars text.now) (chars (string_bytes laid))) }
-    ensures why { IfErr result (λ failure. failure ≡ Failure.NoMemory) }
-{
-    match layout::laid_out(alloc, text) {
-        Ok(laid) => Ok(laid),
-        Err(_) => Err(Failure::NoMemory),
-    }
 }
