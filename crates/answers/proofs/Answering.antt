@@ -28,8 +28,8 @@ use Rattle.race_checker.specs.Clash.{IsAccepted}
 use Rattle.race_checker.specs.Races.{IsLeastRace, Race as ProgramRace}
 use Rattle.answers.specs.Answers.{Answers, AnswersCheck, AnswersExplore, AnswersList, AnswersPairs}
 use Rattle.answers.specs.Answers.{Explores, IsExplored}
-use Rattle.answers.specs.Answers.{Answer, Does, Done, Explains, Failed, HasRace, IsCodeOf, IsRunBy, LooksForRaces, Shows}
-use Rattle.answers.specs.Answers.{TellsNoCode, TellsNotAccepted, TellsRaceTo, TellsUnspelled, TestsRules}
+use Rattle.answers.specs.Answers.{Answer, Does, Done, Explains, Failed, IsCodeOf, IsRunBy, LooksForRaces, Shows}
+use Rattle.answers.specs.Answers.{TellsNoCode, TellsNotAccepted, TellsUnspelled, TestsRules}
 use Rattle.answers.specs.Answers.{AnswersLabels, AnswersPlaces, AnswersFormat, AnswersCheckFormat, NeedsLayout}
 use Rattle.layout.specs.Kept.{HaveSameTokens, IsLaidOut, KeepsAll}
 use Rattle.std.specs.Str.{IsUtf8, bytes_eq}
@@ -185,26 +185,6 @@ told_race text typed back race is_code same least (Race procedure first second) 
 told_race text typed back race is_code same least NoMemoryInCheck told = tt
 told_race text typed back race is_code same least _ told = absurd told
 
-race_told : (c : Command) (text procedure first second : List ℕ) → LooksForRaces c → HasRace text procedure first second
-    → TellsRaceTo c text procedure first second
-race_told Run text procedure first second looks race = race
-race_told Serial text procedure first second looks race = absurd looks
-race_told Check text procedure first second looks race = race
-race_told Listing text procedure first second looks race = race
-race_told Pairs text procedure first second looks race = absurd looks
-race_told Explore text procedure first second looks race = race
-race_told Labels text procedure first second looks race = absurd looks
-race_told Places text procedure first second looks race = absurd looks
-race_told Format text procedure first second looks race = absurd looks
-race_told CheckFormat text procedure first second looks race = absurd looks
-race_told Cost text procedure first second looks race = absurd looks
-race_told CostByLabel text procedure first second looks race = absurd looks
-race_told CostByProcedure text procedure first second looks race = absurd looks
-race_told View text procedure first second looks race = race
-race_told Summary text procedure first second looks race = race
-race_told Draw text procedure first second looks race = race
-race_told Chrome text procedure first second looks race = race
-
 rules_tested : (c : Command) → LooksForRaces c → TestsRules c
 rules_tested Run looks = tt
 rules_tested Serial looks = absurd looks
@@ -228,7 +208,7 @@ module _ (c : Command) (looks : LooksForRaces c) (s : Settings) (held : Held) (t
   pub not_accepted_explained : (f : Failure) → TellsNotAccepted text f → Explains c s held text f
   not_accepted_explained (Syntax e) told = told
   not_accepted_explained (Types e) told = (rules_tested c looks, told)
-  not_accepted_explained (Race procedure first second) told = race_told c text _ _ _ looks told
+  not_accepted_explained (Race procedure first second) told = (looks, told)
   not_accepted_explained NoMemoryInCheck told = looks
   not_accepted_explained _ told = absurd told
 

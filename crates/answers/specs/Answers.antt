@@ -294,25 +294,6 @@ pub record HasRace (text procedure first second : List ℕ) : Type 0 where
   pub least : IsLeastRace code race
   pub told : IsToldAs (told_procedure code race.procedure) race procedure first second
 
-abbrev pub TellsRaceTo : Command → (text procedure first second : List ℕ) → Type 0
-TellsRaceTo Run text procedure first second = HasRace text procedure first second
-TellsRaceTo Serial text procedure first second = ⊥
-TellsRaceTo Check text procedure first second = HasRace text procedure first second
-TellsRaceTo Listing text procedure first second = HasRace text procedure first second
-TellsRaceTo Pairs text procedure first second = ⊥
-TellsRaceTo Explore text procedure first second = HasRace text procedure first second
-TellsRaceTo Labels text procedure first second = ⊥
-TellsRaceTo Places text procedure first second = ⊥
-TellsRaceTo Format text procedure first second = ⊥
-TellsRaceTo CheckFormat text procedure first second = ⊥
-TellsRaceTo Cost text procedure first second = ⊥
-TellsRaceTo CostByLabel text procedure first second = ⊥
-TellsRaceTo CostByProcedure text procedure first second = ⊥
-TellsRaceTo View text procedure first second = HasRace text procedure first second
-TellsRaceTo Summary text procedure first second = HasRace text procedure first second
-TellsRaceTo Draw text procedure first second = HasRace text procedure first second
-TellsRaceTo Chrome text procedure first second = HasRace text procedure first second
-
 -- the command looks for races
 abbrev pub LooksForRaces : Command → Type 0
 LooksForRaces Run = Unit {0}
@@ -381,7 +362,7 @@ Explains c s held text (NotUtf8 name) = LacksInput c s held text (NotUtf8 name)
 Explains c s held text (Syntax e) = TellsNoCode text (Syntax e)
 Explains c s held text (Types e) = TestsRules c × BreaksRule text e
 Explains c s held text (Race procedure first second) =
-    TellsRaceTo c text (string_bytes procedure) (string_bytes first) (string_bytes second)
+    LooksForRaces c × HasRace text (string_bytes procedure) (string_bytes first) (string_bytes second)
 Explains c s held text NoMemoryInCheck = LooksForRaces c
 Explains c s held text (Input e) = LacksInput c s held text (Input e)
 Explains c s held text (RunFailed e) = (c ≡ Run) × IsCause s.spread.tasks e
