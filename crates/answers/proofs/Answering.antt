@@ -31,6 +31,9 @@ use Rattle.answers.specs.Answers.{Explores, IsExplored}
 use Rattle.answers.specs.Answers.{Answer, Does, Done, Explains, Failed, IsCodeOf, IsRunBy, LooksForRaces, Shows}
 use Rattle.answers.specs.Answers.{TellsNoCode, TellsNotAccepted, TellsUnspelled, TestsRules}
 use Rattle.answers.specs.Answers.{AnswersLabels, AnswersPlaces, AnswersFormat, AnswersCheckFormat, NeedsLayout}
+use Rattle.answers.specs.Answers.{AnswersShares, command_of}
+use Rattle.answers.specs.declared.costing.Shares.{Shares}
+use Rattle.answers.specs.declared.costing.Shares.TheVariants.{ByLabel, ByProcedure}
 use Rattle.layout.specs.Kept.{HaveSameTokens, IsLaidOut, KeepsAll}
 use Rattle.std.specs.Str.{IsUtf8, bytes_eq}
 use Rattle.std.proofs.lemmas.Slice.Eq.{bytes_eq-Decides}
@@ -368,6 +371,28 @@ pub shown : (c : Command) (s : Settings) (held : Held) (text : List ℕ) (old ne
     → IfErr r (λ f. f ≡ CannotWriteOutput) → Does c s held text old new r
 shown c s held text old new r told status answers written is only =
     answered (Answers c s held text) (Explains c s held text) old new r told status tt answers written is only
+
+-- ---- shares of a cost
+
+-- the commands that tell them test the rules of types, and run the program
+pub shares_test_rules : (by : Shares) → TestsRules (command_of by)
+shares_test_rules ByLabel = tt
+shares_test_rules ByProcedure = tt
+
+pub shares_are_run : (by : Shares) (code : Program) → IsRunBy (command_of by) code
+shares_are_run ByLabel code = tt
+shares_are_run ByProcedure code = tt
+
+-- a cost and shares were shown, or the outcome in their place
+pub shares_shown : (by : Shares) (s : Settings) (held : Held) (text : List ℕ) (old new : Option (List ℕ)) (r : Result ℕ Failure)
+    (told : List ℕ) (status : ℕ) → AnswersShares by s held text told status → Writes old new r told → IfOk r (λ x. x ≡ status)
+    → IfErr r (λ f. f ≡ CannotWriteOutput) → Does (command_of by) s held text old new r
+shares_shown ByLabel s held text old new r told status answers written is only =
+    shown CostByLabel s held text old new r told status answers written is only
+shares_shown ByProcedure s held text old new r told status answers written is only =
+    shown CostByProcedure s held text old new r told status answers written is only
+
+-- ---- outcomes
 
 pub outcome_shown : (arrays : Bool) (code : Program) (o p : Outcome) (declared : List Array) → o ≡ p → declared ≡ code.arrays
     → Shows arrays p code (outcome_text declared arrays o) (status_of o)

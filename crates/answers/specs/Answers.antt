@@ -34,6 +34,8 @@ use Rattle.race_checker.specs.Races.{IsLeastRace, Race as ProgramRace}
 use Rattle.texts.specs.Appending.{AppendsBeginning}
 use Rattle.gather.specs.RunErrors.{IsCause}
 use Rattle.answers.specs.Chosen.{ComesTo}
+use Rattle.answers.specs.declared.costing.Shares.{Shares}
+use Rattle.answers.specs.declared.costing.Shares.TheVariants.{ByLabel, ByProcedure}
 use Rattle.intake.specs.Choosing.{TellsNoChoices}
 use Rattle.texts.specs.ExploredText.{explored_text, explored_status}
 use Rattle.intake.specs.Failures.{told_procedure, IsToldAs}
@@ -114,12 +116,19 @@ pub record AnswersCost (s : Settings) (held : Held) (text told : List ℕ) (stat
 abbrev pub account_in : Program → (input : List (List ℤ)) → Budget → Account
 account_in code input b = account_of code (labels_in code + 1) input b
 
--- what share of it each label has, and each procedure
-abbrev pub label_shares : Program → Account → List ℕ
-label_shares code a = labels_text a.work (span_by_label a)
+-- the lines of the shares of each label, or of each procedure, of which these are the rows
+abbrev pub shares_text : Shares → (work span : List ℕ) → Program → List ℕ
+shares_text ByLabel work span code = labels_text work span
+shares_text ByProcedure work span code = procedures_text work span code
 
-abbrev pub procedure_shares : Program → Account → List ℕ
-procedure_shares code a = procedures_text a.work (span_by_label a) code
+-- those of an account
+abbrev pub shares_in : Shares → Program → Account → List ℕ
+shares_in shares code a = shares_text shares a.work (span_by_label a) code
+
+-- the command that asks for them
+abbrev pub command_of : Shares → Command
+command_of ByLabel = CostByLabel
+command_of ByProcedure = CostByProcedure
 
 -- what is told of a run that ended without faults is what it cost, and behind it shares; of any other its outcome
 pub data TellsShares (code : Program) (o : Outcome) (c : Numbers) (shares told : List ℕ) (status : ℕ) : Type 0 where
@@ -127,14 +136,13 @@ pub data TellsShares (code : Program) (o : Outcome) (c : Numbers) (shares told :
   not_shared : status_of o ≢ 0 → Shows false o code told status → TellsShares code o c shares told status
 
 -- `cost --by-line` and `cost --by-procedure`: the same, with shares
-pub record AnswersShares (shares_of : Program → Account → List ℕ) (s : Settings) (held : Held) (text told : List ℕ)
-    (status : ℕ) : Type 0 where
+pub record AnswersShares (shares : Shares) (s : Settings) (held : Held) (text told : List ℕ) (status : ℕ) : Type 0 where
   pub code : Program
   pub is_code : IsCodeOf text code
   pub input : List (List ℤ)
   pub begins : BeginsWith s.input held code.arrays input
   pub tells : TellsShares code (outcome code input s.budget) (cost_of (tally_of code input s.budget))
-      (shares_of code (account_in code input s.budget)) told status
+      (shares_in shares code (account_in code input s.budget)) told status
 
 -- `run`: the text's program has no race; the same outcome
 pub record AnswersRun (s : Settings) (held : Held) (text told : List ℕ) (status : ℕ) : Type 0 where
@@ -240,8 +248,8 @@ Answers Places s held text told status = AnswersPlaces text told status
 Answers Format s held text told status = AnswersFormat text told status
 Answers CheckFormat s held text told status = AnswersCheckFormat text told status
 Answers Cost s held text told status = AnswersCost s held text told status
-Answers CostByLabel s held text told status = AnswersShares label_shares s held text told status
-Answers CostByProcedure s held text told status = AnswersShares procedure_shares s held text told status
+Answers CostByLabel s held text told status = AnswersShares ByLabel s held text told status
+Answers CostByProcedure s held text told status = AnswersShares ByProcedure s held text told status
 Answers View s held text told status = ⊥
 Answers Summary s held text told status = ⊥
 Answers Draw s held text told status = ⊥

@@ -10,9 +10,8 @@ ghost use Rattle.types.specs.Typed.{code_of};
 ghost use Rattle.command_line.specs.Requests.{settings as settings_of};
 ghost use Rattle.cost.specs.Accounts.{span_by_label};
 ghost use Rattle.cost.specs.Costs.{cost_of, tally_of};
-ghost use Rattle.cost_text.specs.Text.{cost_text as text_of_cost, labels_text as text_of_labels};
-ghost use Rattle.cost_text.specs.Text.{procedures_text as text_of_procedures};
-ghost use Rattle.answers.specs.Answers.{Does, account_in};
+ghost use Rattle.cost_text.specs.Text.{cost_text as text_of_cost};
+ghost use Rattle.answers.specs.Answers.{Does, account_in, command_of, shares_text as text_of_shares};
 
 use crate::programs::typed_of;
 use crate::showing::{answer, show, status};
@@ -22,7 +21,7 @@ use cost_text::text::{cost_text, labels_text, procedures_text};
 use intake::failure::Failure;
 use intake::files::FileSource;
 use intake::input_file::input_of;
-use std::alloc::Global;
+use std::alloc::{AllocError, Global};
 use std::io::Write;
 use texts::labels::labels;
 use types::budget::Budget;
@@ -66,6 +65,15 @@ fn text_of(alloc: Global, numbers: &Cost) -> Result<String, Failure>
     }
 }
 
+/// What has shares of a cost.
+#[derive(Clone, Copy)]
+pub enum Shares {
+    /// Each label: `cost --by-line`.
+    ByLabel,
+    /// Each procedure, and `main`: `cost --by-procedure`.
+    ByProcedure,
+}
+
 /// The same, and behind the numbers what share of them each label has.
 pub fn tell_cost_by_label<F: FileSource, O: Write>(
     alloc: Global,
@@ -78,15 +86,7 @@ pub fn tell_cost_by_label<F: FileSource, O: Write>(
         (O.contents out.old) (O.contents out.new) result }
     ensures keeps { F.held files.new ≡ F.held files.old }
 {
-    let typed = typed_of(alloc, text)?;
-    let input = input_of(alloc, files, &typed, settings.input)?;
-    let cost = measured(alloc, &typed, &input, settings.budget)?;
-    if status(&cost.costed.outcome) == 0 {
-        let told = text_by_label(alloc, &cost)?;
-        answer(out, told.as_str())
-    } else {
-        show(out, &typed.code().arrays, &cost.costed.outcome, false)
-    }
+    tell_shares(alloc, Shares::ByLabel, settings, text, files, out)
 }
 
 /// The same, and behind the numbers what share of them each procedure has.
@@ -101,11 +101,27 @@ pub fn tell_cost_by_procedure<F: FileSource, O: Write>(
         text.now (O.contents out.old) (O.contents out.new) result }
     ensures keeps { F.held files.new ≡ F.held files.old }
 {
+    tell_shares(alloc, Shares::ByProcedure, settings, text, files, out)
+}
+
+/// The same, with these shares.
+fn tell_shares<F: FileSource, O: Write>(
+    alloc: Global,
+    shares: Shares,
+    settings: Settings<'_>,
+    text: &str,
+    files: &mut F,
+    out: &mut O,
+) -> Result<u8, Failure>
+    ensures done { Does (command_of shares) (settings_of settings.entry) (F.held files.old) text.now
+        (O.contents out.old) (O.contents out.new) result }
+    ensures keeps { F.held files.new ≡ F.held files.old }
+{
     let typed = typed_of(alloc, text)?;
     let input = input_of(alloc, files, &typed, settings.input)?;
     let cost = measured(alloc, &typed, &input, settings.budget)?;
     if status(&cost.costed.outcome) == 0 {
-        let told = text_by_procedure(alloc, &typed, &cost)?;
+        let told = text_with_shares(alloc, shares, &typed, &cost)?;
         answer(out, told.as_str())
     } else {
         show(out, &typed.code().arrays, &cost.costed.outcome, false)
@@ -142,29 +158,37 @@ fn measured(
     }
 }
 
-/// The lines of a cost, and behind them those of labels.
-fn text_by_label(alloc: Global, cost: &CostByLabel) -> Result<String, Failure>
+/// The lines of a cost, and behind them those of its shares.
+fn text_with_shares(
+    alloc: Global,
+    shares: Shares,
+    typed: &Typed,
+    cost: &CostByLabel,
+) -> Result<String, Failure>
     ensures text { IfOk result (λ text. string_bytes text ≡ text_of_cost cost.now.costed.cost
-        ++ text_of_labels cost.now.work.items cost.now.span.items) }
+        ++ text_of_shares shares cost.now.work.items cost.now.span.items (code_of typed.now)) }
     ensures why { IfErr result (λ failure. failure ≡ Failure.NoMemory) }
 {
     let numbers = text_of(alloc, &cost.costed.cost)?;
-    match labels_text(alloc, &cost.work, &cost.span) {
-        Ok(shares) => Ok(joined(numbers, &shares)?),
+    match share_lines(alloc, shares, typed, cost) {
+        Ok(lines) => Ok(joined(numbers, &lines)?),
         Err(_) => Err(Failure::NoMemory),
     }
 }
 
-/// The lines of a cost, and behind them those of procedures.
-fn text_by_procedure(alloc: Global, typed: &Typed, cost: &CostByLabel) -> Result<String, Failure>
-    ensures text { IfOk result (λ text. string_bytes text ≡ text_of_cost cost.now.costed.cost
-        ++ text_of_procedures cost.now.work.items cost.now.span.items (code_of typed.now)) }
-    ensures why { IfErr result (λ failure. failure ≡ Failure.NoMemory) }
+/// The lines of shares.
+fn share_lines(
+    alloc: Global,
+    shares: Shares,
+    typed: &Typed,
+    cost: &CostByLabel,
+) -> Result<String, AllocError>
+    ensures { IfOk result (λ text. string_bytes text
+        ≡ text_of_shares shares cost.now.work.items cost.now.span.items (code_of typed.now)) }
 {
-    let numbers = text_of(alloc, &cost.costed.cost)?;
-    match procedures_text(alloc, typed.code(), &cost.work, &cost.span) {
-        Ok(shares) => Ok(joined(numbers, &shares)?),
-        Err(_) => Err(Failure::NoMemory),
+    match shares {
+        Shares::ByLabel => labels_text(alloc, &cost.work, &cost.span),
+        Shares::ByProcedure => procedures_text(alloc, typed.code(), &cost.work, &cost.span),
     }
 }
 
