@@ -11,7 +11,6 @@ use Rattle.std.proofs.lemmas.List.{append-nil}
 use Rattle.std.proofs.KnownBytes.{Keeps-refl, Appends-kept}
 use Rattle.std.specs.Io.KnownBytes.{Keeps}
 use Rattle.std.specs.Prelude.{IsErrAnd}
-use Rattle.std.specs.Str.{IsUtf8}
 use Rattle.driver.specs.Acts.{Acts, ExplainsAny, Leaves, Performs, ReadsAndPerforms, Reports, in_short}
 use Rattle.driver.specs.Acts.{on_text, without_text, AnswersTo, ExplainsTo, LeavesTo}
 use Rattle.command_line.specs.declared.request.Action.{Action}
@@ -23,7 +22,7 @@ use Rattle.rewriting.specs.Rewriting.{LeavesLaidOut, LeavesRewritten}
 use Rattle.viewing.specs.Views.{IsDrawn, picture_name}
 use Rattle.viewing.proofs.Written.{wrote_anyway}
 use Rattle.texts.specs.Appending.{AppendsBeginning, Writes}
-use Rattle.intake.specs.Held.{Held, IsGiven, TellsNoProgram}
+use Rattle.intake.specs.Held.{Held, HasText, TellsNoProgram}
 use Rattle.command_line.specs.Requests.{Asked, Settings, asked_of}
 use Rattle.command_line.specs.declared.request.Command.{Command}
 use Rattle.command_line.specs.declared.request.Command.TheVariants.{Run, View, Summary, Draw, Chrome}
@@ -108,11 +107,11 @@ handed_over x file s text held later old mid new status r performs keeps is only
 
 -- files were read before, and are read behind it
 module _ (a : Asked) (held mid later last : Held) (before : mid ≡ held) (behind : last ≡ later) where
-  pub performed_on_text : (old new : Option (List ℕ)) (r : Result ℕ Failure) (text : List ℕ) → IsGiven (held a.file) (Ok text)
-      → IsUtf8 text → length text ≤ 1048576 → Performs a.action a.file a.settings text mid later old new r
+  pub performed_on_text : (old new : Option (List ℕ)) (r : Result ℕ Failure) (text : List ℕ) → HasText held a.file text
+      → length text ≤ 1048576 → Performs a.action a.file a.settings text mid later old new r
       → ReadsAndPerforms a held last old new r
-  performed_on_text old new r text given is_text short performs =
-      on_text text (record { given = given; is_text = is_text }) short
+  performed_on_text old new r text has short performs =
+      on_text text has short
       (subst (λ (h : Held). Performs a.action a.file a.settings text held h old new r) (sym behind)
       (subst (λ (h : Held). Performs a.action a.file a.settings text h later old new r) before performs))
 

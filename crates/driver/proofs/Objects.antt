@@ -1,14 +1,13 @@
 -- From a file and a command to the object that the program told.
 use Rattle.std.proofs.Common.{◌≡◌, ℕ, ◌≤◌, length, List, [], Option, Some, None, Result, Ok, Err, IfOk, IfErr, sym, subst}
 use Rattle.std.specs.Prelude.{IsErrAnd, false}
-use Rattle.std.specs.Str.{IsUtf8}
 use Rattle.trials.proofs.RunCauses.{no_run_explained, no_run_other}
 use Rattle.texts.specs.Appending.{Writes}
 use Rattle.types.specs.Code.{Array}
 use Rattle.types.specs.Outcome.{Outcome}
 use Rattle.command_line.specs.Requests.{Asked, Settings}
 use Rattle.command_line.specs.declared.request.Command.TheVariants.{Run}
-use Rattle.intake.specs.Held.{Held, IsGiven, TellsNoProgram}
+use Rattle.intake.specs.Held.{Held, HasText, TellsNoProgram}
 use Rattle.intake.specs.declared.failure.Failure.{Failure}
 use Rattle.intake.specs.declared.failure.Failure.TheVariants.{CannotWriteOutput, NoMemory}
 use Rattle.answers.specs.Answers.{Explains}
@@ -50,11 +49,11 @@ module _ (x : Subject) (file : List ℕ) (s : Settings) (text : List ℕ) (held 
 
 -- files were read before, and are read behind it
 module _ (x : Subject) (a : Asked) (held mid later last : Held) (before : mid ≡ held) (behind : last ≡ later) where
-  pub told_on_text : (old new : Option (List ℕ)) (r : Result ℕ Failure) (text : List ℕ) → IsGiven (held a.file) (Ok text)
-      → IsUtf8 text → length text ≤ 1048576 → TellsObject x a.file a.settings text mid later old new r
+  pub told_on_text : (old new : Option (List ℕ)) (r : Result ℕ Failure) (text : List ℕ) → HasText held a.file text
+      → length text ≤ 1048576 → TellsObject x a.file a.settings text mid later old new r
       → ReadsAndTells x a held last old new r
-  told_on_text old new r text given is_text short tells =
-      on_text text (record { given = given; is_text = is_text }) short
+  told_on_text old new r text has short tells =
+      on_text text has short
       (subst (λ (h : Held). TellsObject x a.file a.settings text held h old new r) (sym behind)
       (subst (λ (h : Held). TellsObject x a.file a.settings text h later old new r) before tells))
 

@@ -3,11 +3,10 @@ use Rattle.std.proofs.Common.{◌≡◌, ℕ, ◌≤◌, length, List, Option, R
 use Rattle.std.proofs.KnownBytes.{Keeps-refl}
 use Rattle.std.specs.Io.KnownBytes.{Keeps}
 use Rattle.std.specs.Prelude.{IsErrAnd}
-use Rattle.std.specs.Str.{IsUtf8}
 use Rattle.answers.specs.Answers.{Done, Explains}
 use Rattle.command_line.specs.Requests.{Asked, Settings}
 use Rattle.command_line.specs.declared.request.Command.TheVariants.{Run}
-use Rattle.intake.specs.Held.{Held, IsGiven, TellsNoProgram}
+use Rattle.intake.specs.Held.{Held, HasText, TellsNoProgram}
 use Rattle.intake.specs.declared.failure.Failure.{Failure}
 use Rattle.intake.specs.declared.failure.Failure.TheVariants.{CannotWriteOutput}
 use Rattle.trials.specs.Folders.{Folders}
@@ -35,12 +34,12 @@ times_on s held text old mid new status r done keeps is only =
 
 -- files were read before, and are read behind it
 module _ (a : Asked) (held mid later last : Held) (before : mid ≡ held) (behind : last ≡ later) where
-  pub timed_on_text : (old new : Option (List ℕ)) (r : Result ℕ Failure) (text : List ℕ) → IsGiven (held a.file) (Ok text)
-      → IsUtf8 text → length text ≤ 1048576
+  pub timed_on_text : (old new : Option (List ℕ)) (r : Result ℕ Failure) (text : List ℕ) → HasText held a.file text
+      → length text ≤ 1048576
       → Done (AnswersTimes a.settings mid text) (Explains Run a.settings mid text) old new r → later ≡ mid
       → ReadsAndTimes a held last old new r
-  timed_on_text old new r text given is_text short done keeps =
-      on_text text (record { given = given; is_text = is_text }) short
+  timed_on_text old new r text has short done keeps =
+      on_text text has short
       (subst (λ (h : Held). Done (AnswersTimes a.settings h text) (Explains Run a.settings h text) old new r) before done)
       (behind ∙ keeps ∙ before)
 

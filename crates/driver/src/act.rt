@@ -1,10 +1,11 @@
 //! The whole program, over files and writers that it is lent.
 
 ghost use Rattle.std.specs.Io.KnownBytes.{Keeps};
-ghost use Rattle.std.specs.Prelude.{ℕ, ◌≡◌, ◌≤◌, ◌<◌, List, [], codes, false, map, Err, IfOk, IfErr};
+ghost use Rattle.std.specs.Prelude.{ℕ, ◌≡◌, ◌≤◌, ◌<◌, List, [], length, codes, false, map, Err, IfOk, IfErr};
 ghost use Rattle.std.specs.String.{string_bytes};
 ghost use Rattle.driver.specs.Acts.{Acts, ReadsAndPerforms, Reports, in_short};
 ghost use Rattle.intake.specs.Failures.{TellsNotUtf8};
+ghost use Rattle.intake.specs.Held.{HasText, TellsNoProgram};
 ghost use Rattle.intake.specs.declared.failure.Failure.{Failure as FailureOf};
 ghost use Rattle.command_line.specs.Requests.{Asked, Asks, asked_of};
 ghost use Rattle.reading.specs.Orders.{AsksForObject, AsksToTest, AsksToTime};
@@ -144,20 +145,33 @@ fn perform<R: Threads + Wait + Sync, F: FileSource, O: Write, T: Terminal>(
         (λ answered. request.entry.telling.explain ≡ false → string_bytes answered.more ≡ []) }
     ensures calm { IfOk result (λ answered. answered.status ≤ 1 → string_bytes answered.more ≡ []) }
 {
-    let name = request.file;
-    let bytes = match read_program(alloc, files, name) {
-        Ok(bytes) => bytes,
+    let read = match text_in(alloc, files, request.file) {
+        Ok(text) => text,
         Err(failure) => return Err(Refusal::bare(alloc, failure)),
     };
+    let text = read.as_str();
     let paint = paint_of(request.telling, terminal);
-    match std::str::from_utf8(&bytes) {
-        Ok(text) => match commands::perform(rt, alloc, request, text, files, out, terminal) {
-            Ok(status) => followed(alloc, files, request, text, paint, handed_on(out, status)),
-            Err(failure) => Err(Refusal::explained(
-                rt, alloc, files, request, text, paint, failure,
-            )),
-        },
-        Err(_) => Err(Refusal::bare(alloc, Failure::not_utf8(alloc, name))),
+    match commands::perform(rt, alloc, request, text, files, out, terminal) {
+        Ok(status) => followed(alloc, files, request, text, paint, handed_on(out, status)),
+        Err(failure) => Err(Refusal::explained(rt, alloc, files, request, text, paint, failure)),
+    }
+}
+
+/// The text that the file of a program holds.
+pub(crate) fn text_in<F: FileSource>(
+    alloc: Global,
+    files: &mut F,
+    name: &str,
+) -> Result<String, Failure>
+    ensures text { IfOk result (λ text. HasText (F.held files.old) name.now (string_bytes text)) }
+    ensures short { IfOk result (λ text. length (string_bytes text) ≤ 1048576) }
+    ensures why { IfErr result (TellsNoProgram (F.held files.old) name.now) }
+    ensures keeps { F.held files.new ≡ F.held files.old }
+{
+    let bytes = read_program(alloc, files, name)?;
+    match String::from_utf8(bytes) {
+        Ok(text) => Ok(text),
+        Err(_) => Err(Failure::not_utf8(alloc, name)),
     }
 }
 

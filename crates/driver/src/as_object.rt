@@ -10,7 +10,7 @@ ghost use Rattle.driver.specs.Acts.{Leaves, in_short};
 ghost use Rattle.driver.specs.Objects.{ReadsAndTells, TellsObject, status_in};
 ghost use Rattle.driver.specs.Traced.{IsTraceOfText, WritesTrace};
 
-use crate::act::{followed, paint_of};
+use crate::act::{followed, paint_of, text_in};
 use crate::answered::Answered;
 use crate::refusal::Refusal;
 use crate::terminal::Terminal;
@@ -18,7 +18,7 @@ use crate::tracing::outcome_of;
 use answers::programs::accepted_of;
 use command_line::request::{Command, Request, Settings};
 use intake::failure::Failure;
-use intake::files::{FileSource, read_program};
+use intake::files::FileSource;
 use intake::input_file::input_of;
 use objects::outcomes::outcome_told;
 use objects::running::{cost_told, serial_told};
@@ -50,20 +50,15 @@ pub fn perform_as_object<R: Threads + Wait + Sync, F: FileSource, O: Write, T: T
         (λ answered. request.entry.telling.explain ≡ false → string_bytes answered.more ≡ []) }
     ensures calm { IfOk result (λ answered. answered.status ≤ 1 → string_bytes answered.more ≡ []) }
 {
-    let name = request.file;
-    let bytes = match read_program(alloc, files, name) {
-        Ok(bytes) => bytes,
-        Err(failure) => return Err(unread(rt, alloc, name, failure, out)),
+    let read = match text_in(alloc, files, request.file) {
+        Ok(text) => text,
+        Err(failure) => return Err(unread(rt, alloc, request.file, failure, out)),
     };
+    let text = read.as_str();
     let paint = paint_of(request.telling, terminal);
-    match std::str::from_utf8(&bytes) {
-        Ok(text) => match told(rt, alloc, subject, request, text, files, out, terminal) {
-            Ok(status) => followed(alloc, files, request, text, paint, Ok(status)),
-            Err(failure) => Err(Refusal::explained(
-                rt, alloc, files, request, text, paint, failure,
-            )),
-        },
-        Err(_) => Err(unread(rt, alloc, name, Failure::not_utf8(alloc, name), out)),
+    match told(rt, alloc, subject, request, text, files, out, terminal) {
+        Ok(status) => followed(alloc, files, request, text, paint, Ok(status)),
+        Err(failure) => Err(Refusal::explained(rt, alloc, files, request, text, paint, failure)),
     }
 }
 

@@ -6,14 +6,14 @@ ghost use Rattle.command_line.specs.Requests.{asked_of};
 ghost use Rattle.driver.specs.Acts.{in_short};
 ghost use Rattle.driver.specs.Trying.{ReadsAndTimes, TestsFolder};
 
-use crate::act::{followed, handed_on, paint_of};
+use crate::act::{followed, handed_on, paint_of, text_in};
 use crate::answered::Answered;
 use crate::refusal::Refusal;
 use crate::terminal::Terminal;
 use crate::tracing::run_settings;
 use command_line::request::{Request, Settings};
 use intake::failure::Failure;
-use intake::files::{FileSource, read_program};
+use intake::files::FileSource;
 use race_checker::accepted::Accepted;
 use std::alloc::Global;
 use std::io::Write;
@@ -65,27 +65,20 @@ pub fn time<R: Threads + Wait + Sync, F: FileSource, O: Write, T: Terminal>(
         (λ answered. request.entry.telling.explain ≡ false → string_bytes answered.more ≡ []) }
     ensures calm { IfOk result (λ answered. answered.status ≤ 1 → string_bytes answered.more ≡ []) }
 {
-    let name = request.file;
-    let bytes = match read_program(alloc, files, name) {
-        Ok(bytes) => bytes,
+    let read = match text_in(alloc, files, request.file) {
+        Ok(text) => text,
         Err(failure) => return Err(Refusal::bare(alloc, failure)),
     };
+    let text = read.as_str();
     let paint = paint_of(request.telling, terminal);
-    match std::str::from_utf8(&bytes) {
-        Ok(text) => {
-            let timing = Timing {
-                alloc,
-                runs: &OnThreads,
-                clock: terminal,
-            };
-            match bench(rt, timing, request.settings, text, files, out) {
-                Ok(status) => followed(alloc, files, request, text, paint, handed_on(out, status)),
-                Err(failure) => Err(Refusal::explained(
-                    rt, alloc, files, request, text, paint, failure,
-                )),
-            }
-        }
-        Err(_) => Err(Refusal::bare(alloc, Failure::not_utf8(alloc, name))),
+    let timing = Timing {
+        alloc,
+        runs: &OnThreads,
+        clock: terminal,
+    };
+    match bench(rt, timing, request.settings, text, files, out) {
+        Ok(status) => followed(alloc, files, request, text, paint, handed_on(out, status)),
+        Err(failure) => Err(Refusal::explained(rt, alloc, files, request, text, paint, failure)),
     }
 }
 

@@ -1,9 +1,7 @@
-use Rattle.std.proofs.Common.{List, ℕ, ◌≤◌, length, Ok, Err, subst, sym, ◌∙◌}
-use Rattle.std.specs.Str.{IsUtf8}
+use Rattle.std.proofs.Common.{List, ℕ, ◌≤◌, length, Err, subst, sym}
 use Rattle.driver.proofs.Tried.{same_failure, same_result, timed_on_text, timed_without_text, times_on}
 use Rattle.driver.specs.Trying.{ReadsAndTimes}
-use Rattle.intake.proofs.Programs.{no_program_text}
-use Rattle.intake.specs.Held.{IsGiven}
+use Rattle.intake.specs.Held.{HasText}
 use Rattle.command_line.specs.Requests.{asked_of, settings as settings_of}
 use Rattle.driver.proofs.trying.time.Goals as goal
 
@@ -15,41 +13,24 @@ returns-in-Err-clause-done g c =
 pub returns-in-Ok-bench-clause-done : goal.returns-in-Ok-bench-clause-done
 returns-in-Ok-bench-clause-done g c =
     let held = g.F.FileSource.held c.args.files.now in
-    let text = c.in-Ok-from_utf8.ensures.cases in
+    let text = c.as_str.result.now in
+    let same = sym c.as_str.ensures.value in
     same_result (ReadsAndTimes (asked_of c.args.request) held _ _ _) _ c.handed_on.result c.followed.ensures.same
-    (timed_on_text (asked_of c.args.request) held _ _ _ c.in-Ok.ensures.keeps c.followed.ensures.keeps _ _ c.handed_on.result
-    c.in-Ok-from_utf8.text.now
-    (subst (λ (bs : List ℕ). IsGiven (held c.args.request.file.now) (Ok bs)) (sym (text.0 ∙ c.deref.ensures.value))
-    c.in-Ok.ensures.given)
-    (subst IsUtf8 (sym text.0) text.1)
-    (subst (λ (bs : List ℕ). length bs ≤ 1048576) (sym (text.0 ∙ c.deref.ensures.value)) c.in-Ok.ensures.short)
-    (times_on (settings_of c.args.request.settings) _ c.in-Ok-from_utf8.text.now _ _ _ c.in-Ok-bench.status c.handed_on.result
+    (timed_on_text (asked_of c.args.request) held _ _ _ c.in-Ok.ensures.keeps c.followed.ensures.keeps _ _ c.handed_on.result text
+    (subst (HasText held c.args.request.file.now) same c.in-Ok.ensures.text)
+    (subst (λ (t : List ℕ). length t ≤ 1048576) same c.in-Ok.ensures.short)
+    (times_on (settings_of c.args.request.settings) _ text _ _ _ c.in-Ok-bench.status c.handed_on.result
     c.in-Ok-bench.ensures.done c.handed_on.ensures.keeps c.handed_on.ensures.status c.handed_on.ensures.failure)
     c.in-Ok-bench.ensures.keeps)
-
-pub returns-in-Ok-from_utf8-clause-done : goal.returns-in-Ok-from_utf8-clause-done
-returns-in-Ok-from_utf8-clause-done g c =
-    let held = g.F.FileSource.held c.args.files.now in
-    let text = c.in-Ok-from_utf8.ensures.cases in
-    same_failure (ReadsAndTimes (asked_of c.args.request) held _ _ _) _ c.in-Err-bench.failure c.explained.ensures.failure
-    (timed_on_text (asked_of c.args.request) held _ _ _ c.in-Ok.ensures.keeps c.explained.ensures.keeps _ _ (Err c.in-Err-bench.failure)
-    c.in-Ok-from_utf8.text.now
-    (subst (λ (bs : List ℕ). IsGiven (held c.args.request.file.now) (Ok bs)) (sym (text.0 ∙ c.deref.ensures.value))
-    c.in-Ok.ensures.given)
-    (subst IsUtf8 (sym text.0) text.1)
-    (subst (λ (bs : List ℕ). length bs ≤ 1048576) (sym (text.0 ∙ c.deref.ensures.value)) c.in-Ok.ensures.short)
-    c.in-Err-bench.ensures.done c.in-Err-bench.ensures.keeps)
 
 pub returns-clause-done : goal.returns-clause-done
 returns-clause-done g c =
     let held = g.F.FileSource.held c.args.files.now in
-    same_failure (ReadsAndTimes (asked_of c.args.request) held _ _ _) _ c.not_utf8.result c.bare-in-Err-from_utf8.ensures.failure
-    (timed_without_text (asked_of c.args.request) held _ _ c.not_utf8.result c.in-Ok.ensures.keeps
-    (no_program_text held c.args.request.file.now c.not_utf8.result c.not_utf8.ensures
-    (record {
-      bytes = c.deref.result.now;
-      given = subst (λ (bs : List ℕ). IsGiven (held c.args.request.file.now) (Ok bs)) (sym c.deref.ensures.value)
-          c.in-Ok.ensures.given;
-      short = subst (λ (bs : List ℕ). length bs ≤ 1048576) (sym c.deref.ensures.value) c.in-Ok.ensures.short;
-      no_text = c.in-Err-from_utf8.ensures.cases.0;
-    })))
+    let text = c.as_str.result.now in
+    let same = sym c.as_str.ensures.value in
+    same_failure (ReadsAndTimes (asked_of c.args.request) held _ _ _) _ c.in-Err-bench.failure c.explained.ensures.failure
+    (timed_on_text (asked_of c.args.request) held _ _ _ c.in-Ok.ensures.keeps c.explained.ensures.keeps _ _
+    (Err c.in-Err-bench.failure) text
+    (subst (HasText held c.args.request.file.now) same c.in-Ok.ensures.text)
+    (subst (λ (t : List ℕ). length t ≤ 1048576) same c.in-Ok.ensures.short)
+    c.in-Err-bench.ensures.done c.in-Err-bench.ensures.keeps)
