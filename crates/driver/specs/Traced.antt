@@ -2,18 +2,19 @@
 use Rattle.std.specs.Prelude.{ℕ, ℤ, ◌≡◌, List, Option, Some, None, Result}
 use Rattle.std.specs.String.{string_bytes}
 use Rattle.types.specs.Code.{Program}
-use Rattle.types.specs.Outcome.{outcome}
+use Rattle.types.specs.Outcome.{Outcome, outcome}
 use Rattle.events.specs.Events.{Event}
+use Rattle.race_checker.specs.Clash.{IsAccepted}
 use Rattle.gather.specs.RunErrors.{IsCause}
 use Rattle.interleave.specs.World.{World}
 use Rattle.interleave.specs.Worlds.{LeadsTo, outcome_of}
 use Rattle.trace_text.specs.Headers.{TraceHeader}
 use Rattle.trace_text.specs.Lines.{trace_text}
 use Rattle.command_line.specs.Requests.{Settings}
-use Rattle.intake.specs.Held.{Held}
+use Rattle.intake.specs.Held.{Held, BeginsWith}
 use Rattle.intake.specs.declared.failure.Failure.{Failure}
 use Rattle.intake.specs.declared.failure.Failure.TheVariants.{Run as RunFailed, StrangeEvents, CannotWrite, NoMemory}
-use Rattle.answers.specs.Answers.{IsExplored, IsTraced}
+use Rattle.answers.specs.Answers.{IsCodeOf, IsExplored, IsTraced}
 use Rattle.viewing.specs.Files.{WritesTo}
 
 -- what a run is asked for
@@ -38,6 +39,14 @@ pub record IsTraceOf (p : Program) (input : List (List ℤ)) (s : Settings) (byt
 pub record IsTraceOfText (s : Settings) (held : Held) (text bytes : List ℕ) : Type 0 where
   pub run : IsExplored s held text
   pub trace : IsTraceOf run.code run.input s bytes
+
+-- the program of a text, which has this code, has no race, and came to this outcome on the input that was given
+pub record HasRun (s : Settings) (held : Held) (text : List ℕ) (code : Program) (o : Outcome) : Type 0 where
+  pub is_code : IsCodeOf text code
+  pub accepted : IsAccepted code
+  pub input : List (List ℤ)
+  pub begins : BeginsWith s.input held code.arrays input
+  pub is_outcome : o ≡ outcome code input s.budget
 
 -- where a file is named the right bytes are written to it, and to no other; else to none
 abbrev pub WritesTrace : {T : Type 0} → (file : Option (List ℕ)) → (AreRight : (bytes : List ℕ) → Type 0)

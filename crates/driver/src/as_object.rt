@@ -14,12 +14,10 @@ use crate::act::{followed, paint_of, text_in};
 use crate::answered::Answered;
 use crate::refusal::Refusal;
 use crate::terminal::Terminal;
-use crate::tracing::outcome_of;
-use answers::programs::accepted_of;
+use crate::tracing::run_of;
 use command_line::request::{Command, Request, Settings};
 use intake::failure::Failure;
 use intake::files::FileSource;
-use intake::input_file::input_of;
 use objects::outcomes::outcome_told;
 use objects::running::{cost_told, serial_told};
 use objects::telling::{check_told, pairs_told};
@@ -144,8 +142,11 @@ fn run_told<R: Threads + Wait + Sync, F: FileSource>(
         (IsTraceOfText s (F.held files.old) text.now) (F.held files.old) (F.held files.new)
         (status_in result) }
 {
-    let accepted = accepted_of(rt, alloc, text)?;
-    let input = input_of(alloc, files, accepted.typed(), settings.input)?;
-    let outcome = outcome_of(rt, alloc, settings, &accepted, &input, files)?;
-    outcome_told(alloc, text, &accepted.typed().code().arrays, &outcome)
+    let ran = run_of(rt, alloc, settings, text, files)?;
+    outcome_told(
+        alloc,
+        text,
+        &ran.accepted.typed().code().arrays,
+        &ran.outcome,
+    )
 }

@@ -5,18 +5,16 @@ ghost use Rattle.command_line.specs.Requests.{settings as settings_of};
 ghost use Rattle.driver.specs.Acts.{Performs};
 ghost use Rattle.driver.specs.Traced.{IsTraceOfText, WritesTrace};
 
-use crate::tracing::outcome_of;
+use crate::tracing::run_of;
 use answers::costing::{tell_cost, tell_cost_by_label, tell_cost_by_procedure};
 use answers::formatting::{check_format, format};
 use answers::listing::{list_labels, list_places};
-use answers::programs::accepted_of;
 use answers::running::{run_by_choices, run_serially};
 use answers::showing::show;
 use answers::telling::{check, list, pairs};
 use command_line::request::{Action, Command, Request, Settings};
 use intake::failure::Failure;
 use intake::files::FileSource;
-use intake::input_file::input_of;
 use rewriting::rewrite::rewrite;
 use serial_run::watch::Watch;
 use std::alloc::Global;
@@ -85,13 +83,11 @@ fn run_as_tasks<R: Threads + Wait + Sync, F: FileSource, O: Write>(
     ensures trace { let s = settings_of settings.entry in WritesTrace s.trace
         (IsTraceOfText s (F.held files.old) text.now) (F.held files.old) (F.held files.new) result }
 {
-    let accepted = accepted_of(rt, alloc, text)?;
-    let input = input_of(alloc, files, accepted.typed(), settings.input)?;
-    let outcome = outcome_of(rt, alloc, settings, &accepted, &input, files)?;
+    let ran = run_of(rt, alloc, settings, text, files)?;
     show(
         out,
-        &accepted.typed().code().arrays,
-        &outcome,
+        &ran.accepted.typed().code().arrays,
+        &ran.outcome,
         settings.arrays,
     )
 }

@@ -9,11 +9,15 @@ ghost use Rattle.types.specs.Translation.{input as lists_in, outcome as outcome_
 ghost use Rattle.types.specs.Typed.{code_of};
 ghost use Rattle.command_line.specs.Requests.{settings as settings_of};
 ghost use Rattle.answers.specs.Answers.{IsTraced};
-ghost use Rattle.driver.specs.Traced.{IsTraceOf, TellsNoOutcome, TellsNoRun, WritesTrace};
+ghost use Rattle.objects.specs.Objects.{FailsEarly};
+ghost use Rattle.driver.specs.Traced.{HasRun, IsTraceOf, IsTraceOfText, TellsNoOutcome, TellsNoRun};
+ghost use Rattle.driver.specs.Traced.{WritesTrace};
 
-use command_line::request::{Settings, Spread};
+use answers::programs::accepted_of;
+use command_line::request::{Command, Settings, Spread};
 use intake::failure::Failure;
 use intake::files::{FileSource, write_file};
+use intake::input_file::input_of;
 use logged_run::error::LoggedRunError;
 use logged_run::run::{header_of, run_logged};
 use race_checker::accepted::Accepted;
@@ -27,8 +31,36 @@ use workers::gate::NoGate;
 use workers::run::run;
 use workers::settings::Settings as RunSettings;
 
+/// A program that was run as tasks, and what it came to.
+#[derive(Drop)]
+pub struct Ran {
+    pub accepted: Accepted,
+    pub outcome: Outcome,
+}
+
+/// Runs the program of a text as tasks, on the input that was given.
+pub fn run_of<R: Threads + Wait + Sync, F: FileSource>(
+    rt: &R,
+    alloc: Global,
+    settings: Settings<'_>,
+    text: &str,
+    files: &mut F,
+) -> Result<Ran, Failure>
+    ensures ran { IfOk result (λ r. HasRun (settings_of settings.entry) (F.held files.old) text.now
+        (code_of r.accepted.typed) (outcome_in r.outcome)) }
+    ensures why { IfErr result
+        (FailsEarly Command.Run (settings_of settings.entry) (F.held files.old) text.now) }
+    ensures trace { let s = settings_of settings.entry in WritesTrace s.trace
+        (IsTraceOfText s (F.held files.old) text.now) (F.held files.old) (F.held files.new) result }
+{
+    let accepted = accepted_of(rt, alloc, text)?;
+    let input = input_of(alloc, files, accepted.typed(), settings.input)?;
+    let outcome = outcome_of(rt, alloc, settings, &accepted, &input, files)?;
+    Ok(Ran { accepted, outcome })
+}
+
 /// The outcome of a run as tasks. Where a file is named for its trace, that is written before the outcome is told.
-pub fn outcome_of<R: Threads + Wait + Sync, F: FileSource>(
+fn outcome_of<R: Threads + Wait + Sync, F: FileSource>(
     rt: &R,
     alloc: Global,
     settings: Settings<'_>,
