@@ -358,6 +358,12 @@ pub record NeedsLayout (text : List ℕ) : Type 0 where
   pub spelled : AreTokensOf (chars text) (spelling program)
   pub not_laid : ¬ IsLaidOut (chars text) (chars text)
 
+-- the text's program has no race, and is run as tasks on its input, without an outcome that is told; and why
+pub record FailsAsTasks (c : Command) (s : Settings) (held : Held) (text : List ℕ) (Why : Type 0) : Type 0 where
+  pub as_tasks : c ≡ Run
+  pub run : IsExplored s held text
+  pub why : Why
+
 -- a file is named for the trace of a run
 abbrev pub IsTraced : Settings → Type 0
 IsTraced s = IsTrue (is_some s.trace)
@@ -373,13 +379,13 @@ Explains c s held text (Race procedure first second) =
     LooksForRaces c × HasRace text (string_bytes procedure) (string_bytes first) (string_bytes second)
 Explains c s held text NoMemoryInCheck = LooksForRaces c
 Explains c s held text (Input e) = LacksInput c s held text (Input e)
-Explains c s held text (RunFailed e) = (c ≡ Run) × IsCause s.spread.tasks e
+Explains c s held text (RunFailed e) = FailsAsTasks c s held text (IsCause s.spread.tasks e)
 Explains c s held text ChoicesNotUnderstood = LacksChoices c s held text ChoicesNotUnderstood
 Explains c s held text (NoLeaf n) = LacksLeaf c s held text n
 Explains c s held text (Trace e) = ⊥
 Explains c s held text (Illegal n) = ⊥
-Explains c s held text StrangeEvents = (c ≡ Run) × IsTraced s
-Explains c s held text (CannotWrite name) = (c ≡ Run) × (s.trace ≡ Some (string_bytes name))
+Explains c s held text StrangeEvents = FailsAsTasks c s held text (IsTraced s)
+Explains c s held text (CannotWrite name) = FailsAsTasks c s held text (s.trace ≡ Some (string_bytes name))
 Explains c s held text NotLaidOut = (c ≡ CheckFormat) × NeedsLayout text
 Explains c s held text CannotWriteOutput = Unit {0}
 Explains c s held text NoMemory = Unit {0}

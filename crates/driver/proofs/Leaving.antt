@@ -1,5 +1,5 @@
 -- What files hold behind a run as tasks.
-use Rattle.std.proofs.Common.{◌≡◌, ℕ, List, Option, Some, None, Result, Ok, Err, ap, ◌∙◌, subst, sym}
+use Rattle.std.proofs.Common.{◌≡◌, ℕ, List, Option, Some, None, Result, Ok, Err, ap, ◌∙◌, refl, subst, sym}
 use Rattle.std.specs.Prelude.{IfErr, IsErrAnd}
 use Rattle.types.specs.Code.{Array}
 use Rattle.command_line.specs.Requests.{Settings}
@@ -8,7 +8,9 @@ use Rattle.intake.specs.Held.{Held, TellsNoInput}
 use Rattle.intake.specs.declared.failure.Failure.{Failure}
 use Rattle.intake.specs.declared.failure.Failure.TheVariants.{NoMemory}
 use Rattle.intake.specs.declared.failure.Failure.TheVariants.{Run as RunFailed, StrangeEvents, CannotWrite, CannotWriteOutput}
-use Rattle.answers.specs.Answers.{TellsNotAccepted}
+use Rattle.answers.specs.Answers.{Explains, IsExplored, TellsNotAccepted}
+use Rattle.answers.proofs.Answering.{IsOther}
+use Rattle.command_line.specs.declared.request.Command.TheVariants.{Run}
 use Rattle.viewing.specs.Files.{Wrote, WritesTo}
 use Rattle.viewing.proofs.Written.{others_kept, wrote_anyway}
 use Rattle.driver.specs.Traced.{TellsNoOutcome, TellsNoRun, WritesTrace}
@@ -26,6 +28,19 @@ pub not_written_no_run : (s : Settings) (name : List ℕ) (f : Failure) → s.tr
 not_written_no_run s name (CannotWrite told) named is = named ∙ ap Some (sym is)
 not_written_no_run s name NoMemory named is = tt
 not_written_no_run s name _ named is = absurd is
+
+-- of a text's program without a race, on its input
+pub no_run_explained : (s : Settings) (held : Held) (text : List ℕ) → IsExplored s held text → (f : Failure) → TellsNoRun s f
+    → Explains Run s held text f
+no_run_explained s held text run (RunFailed e) told = record { as_tasks = refl; run = run; why = told }
+no_run_explained s held text run StrangeEvents told = record { as_tasks = refl; run = run; why = told }
+no_run_explained s held text run (CannotWrite name) told = record { as_tasks = refl; run = run; why = told }
+no_run_explained s held text run NoMemory told = tt
+no_run_explained s held text run _ told = absurd told
+
+pub no_run_other : (s : Settings) (f : Failure) → TellsNoRun s f → IsOther f
+no_run_other s CannotWriteOutput told = told
+no_run_other s _ told = tt
 
 -- ---- what is written
 

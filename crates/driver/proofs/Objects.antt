@@ -1,7 +1,7 @@
 -- From a file and a command to the object that the program told.
 use Rattle.std.proofs.Common.{◌≡◌, ℕ, ◌≤◌, length, List, [], Option, Some, None, Result, Ok, Err, IfOk, IfErr, sym, subst}
 use Rattle.std.specs.Prelude.{IsErrAnd, false}
-use Rattle.trials.proofs.RunCauses.{no_run_explained, no_run_other}
+use Rattle.std.specs.Str.{IsUtf8}
 use Rattle.texts.specs.Appending.{Writes}
 use Rattle.types.specs.Code.{Array}
 use Rattle.types.specs.Outcome.{Outcome}
@@ -10,7 +10,7 @@ use Rattle.command_line.specs.declared.request.Command.TheVariants.{Run}
 use Rattle.intake.specs.Held.{Held, HasText, TellsNoProgram}
 use Rattle.intake.specs.declared.failure.Failure.{Failure}
 use Rattle.intake.specs.declared.failure.Failure.TheVariants.{CannotWriteOutput, NoMemory}
-use Rattle.answers.specs.Answers.{Explains}
+use Rattle.answers.specs.Answers.{Explains, IsExplored}
 use Rattle.answers.proofs.Answering.{other_failure}
 use Rattle.objects.specs.Objects.{FailsEarly, ObjectOf, TellsOutcome}
 use Rattle.objects.specs.Failing.{IsToldAsObject, TellsFailure}
@@ -26,6 +26,7 @@ use Rattle.driver.specs.Traced.{TellsNoRun, WritesTrace}
 use Rattle.driver.specs.Trying.{ReadsAndTimes, TestsFolder}
 use Rattle.trials.specs.Folders.{Folders}
 use Rattle.driver.proofs.Acting.{leaves_on}
+use Rattle.driver.proofs.Leaving.{no_run_explained, no_run_other}
 
 module _ (x : Subject) (file : List ℕ) (s : Settings) (text : List ℕ) (held later : Held) (old new : Option (List ℕ)) where
   -- an object that was written, or a beginning of it
@@ -85,9 +86,10 @@ same_outcome declared known o p text object status are same tells =
     (subst (λ (q : Outcome). TellsOutcome declared q text object status) same tells)
 
 -- a run without an outcome
-pub no_run_early : (s : Settings) (held : Held) (text : List ℕ) (f : Failure) → TellsNoRun s f → FailsEarly Run s held text f
-no_run_early s held text f why =
-    record { why = no_run_explained s held text f why; early = other_failure f (no_run_other s f why) }
+pub no_run_early : (s : Settings) (held : Held) (text : List ℕ) → IsExplored s held text → (f : Failure) → TellsNoRun s f
+    → FailsEarly Run s held text f
+no_run_early s held text run f why =
+    record { why = no_run_explained s held text run f why; early = other_failure f (no_run_other s f why) }
 
 -- ---- what was ordered
 

@@ -7,7 +7,7 @@ use Rattle.intake.specs.declared.failure.Failure.{Failure}
 use Rattle.intake.specs.declared.failure.Failure.TheVariants.{Run as RunFailed, NoMemory}
 use Rattle.intake.specs.Held.{Held}
 use Rattle.std.proofs.Common.{ℕ, List}
-use Rattle.answers.specs.Answers.{Explains}
+use Rattle.answers.specs.Answers.{Explains, IsExplored}
 use Rattle.answers.proofs.Answering.{IsOther}
 use Rattle.trials.specs.Runs.{TellsNoRun}
 
@@ -20,10 +20,12 @@ same_tasks s t same _ told = absurd told
 pub memory_tells_no_run : (s : Settings) (f : Failure) → f ≡ NoMemory → TellsNoRun s f
 memory_tells_no_run s f is = subst (TellsNoRun s) (sym is) tt
 
-pub no_run_explained : (s : Settings) (held : Held) (text : List ℕ) (f : Failure) → TellsNoRun s f → Explains Run s held text f
-no_run_explained s held text (RunFailed e) told = (refl, told)
-no_run_explained s held text NoMemory told = tt
-no_run_explained s held text _ told = absurd told
+-- of a text's program without a race, on its input
+pub no_run_explained : (s : Settings) (held : Held) (text : List ℕ) → IsExplored s held text → (f : Failure) → TellsNoRun s f
+    → Explains Run s held text f
+no_run_explained s held text run (RunFailed e) told = record { as_tasks = refl; run = run; why = told }
+no_run_explained s held text run NoMemory told = tt
+no_run_explained s held text run _ told = absurd told
 
 pub no_run_other : (s : Settings) (f : Failure) → TellsNoRun s f → IsOther f
 no_run_other s (RunFailed e) told = tt

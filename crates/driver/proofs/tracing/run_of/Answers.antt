@@ -61,8 +61,11 @@ outcome_of-requires g c =
 pub returns-in_err-outcome-clause-why : goal.returns-in_err-outcome-clause-why
 returns-in_err-outcome-clause-why g c =
     let s = settings c.args.settings in let held = g.F.FileSource.held c.args.files.now in let text = c.args.text.now in
+    let kept = c.in_ok-accepted.accepted.typed in let input = lists_of c.in_ok-input.input in
+    let run = is_explored s held text kept kept refl c.in_ok-accepted.ensures.spelled c.in_ok-accepted.accepted.no_clash input
+    (subst (λ (t : Typed). BeginsWith s.input held (code_of t).arrays input) c.typed.ensures.field c.in_ok-input.ensures.begins) in
     if_err_passed c.from_residual-in_err-outcome.result _ (FailsEarly Run s held text)
-    c.from_residual-in_err-outcome.ensures.1 (no_run_early s held text _ c.in_err-outcome.ensures.why)
+    c.from_residual-in_err-outcome.ensures.1 (no_run_early s held text run _ c.in_err-outcome.ensures.why)
 
 pub returns-in_err-outcome-clause-trace : goal.returns-in_err-outcome-clause-trace
 returns-in_err-outcome-clause-trace g c =

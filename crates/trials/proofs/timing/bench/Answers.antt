@@ -13,7 +13,8 @@ use Rattle.command_line.specs.Requests.{settings}
 use Rattle.command_line.specs.declared.request.Command.TheVariants.{Run}
 use Rattle.intake.specs.Held.{BeginsWith}
 use Rattle.texts.specs.OutcomeText.{status_of}
-use Rattle.answers.proofs.Answering.{code_of_text, no_input_explained, no_input_other, not_accepted_explained, not_accepted_other, outcome_shown}
+use Rattle.answers.proofs.Answering.{code_of_text, is_explored, no_input_explained, no_input_other, not_accepted_explained}
+use Rattle.answers.proofs.Answering.{not_accepted_other, outcome_shown}
 use Rattle.trials.specs.Times.{not_ended, timed, times_text}
 use Rattle.trials.proofs.RunCauses.{no_run_explained, no_run_other}
 use Rattle.trials.proofs.Told.{times_passed, times_told, times_without_memory}
@@ -59,8 +60,11 @@ returns-in_err-costed-clause-done g c =
 pub returns-in_err-told-clause-done : goal.returns-in_err-told-clause-done
 returns-in_err-told-clause-done g c =
     let s = settings c.args.settings in let held = g.F.FileSource.held c.args.files.now in let text = c.args.text.now in
+    let kept = c.in_ok-accepted.accepted.typed in let input = lists_of c.in_ok-input.input in
+    let run = is_explored s held text kept kept refl c.in_ok-accepted.ensures.spelled c.in_ok-accepted.accepted.no_clash input
+    (subst (λ (t : Typed). BeginsWith s.input held (code_of t).arrays input) c.typed.ensures.field c.in_ok-input.ensures.begins) in
     times_passed s held text _ _ _ c.from_residual-in_err-told.ensures.1
-    (no_run_explained s held text _ c.in_err-told.ensures.why) (no_run_other s _ c.in_err-told.ensures.why)
+    (no_run_explained s held text run _ c.in_err-told.ensures.why) (no_run_other s _ c.in_err-told.ensures.why)
 
 pub returns-then-status-eq0-clause-done : goal.returns-then-status-eq0-clause-done
 returns-then-status-eq0-clause-done g c =

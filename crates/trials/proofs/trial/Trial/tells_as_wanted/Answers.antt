@@ -12,7 +12,7 @@ use Rattle.types.proofs.InputLemmas.{FitsArrays-from_IsInput}
 use Rattle.command_line.specs.Requests.{usual}
 use Rattle.command_line.specs.declared.request.Command.TheVariants.{Run}
 use Rattle.intake.specs.Held.{Held, BeginsWith, IsGiven}
-use Rattle.answers.proofs.Answering.{code_of_text, if_err_passed, no_input_explained, not_accepted_explained}
+use Rattle.answers.proofs.Answering.{code_of_text, if_err_passed, is_explored, no_input_explained, not_accepted_explained}
 use Rattle.trials.specs.Trials.{IsUncompared, file, input_file, settings_of, trial, without_answer, without_output}
 use Rattle.trials.proofs.RunCauses.{no_run_explained, same_tasks}
 use Rattle.trials.proofs.Trying.{compared, no_text_kept}
@@ -74,6 +74,11 @@ pub returns-clause-why : goal.returns-clause-why
 returns-clause-why g c =
     let held = g.F.FileSource.held c.args.files.now in
     let t = trial c.args.self.now in
+    let s = settings_of t in
+    let text = c.args.text.now in
+    let kept = c.in_ok-accepted.accepted.typed in
+    let input = lists_of c.in_ok-input.input in
+    let run = is_explored s held text kept kept refl c.in_ok-accepted.ensures.spelled c.in_ok-accepted.accepted.no_clash input
+    (subst (λ (t2 : Typed). BeginsWith (input_file t) held (code_of t2).arrays input) c.typed.ensures.field c.in_ok-input.ensures.begins) in
     IfErr-weaker c.tells.result _ (IsUncompared held t) (λ f told.
-    without_answer c.args.text.now c.requires
-    (no_run_explained (settings_of t) held c.args.text.now f (same_tasks usual (settings_of t) refl f told))) c.tells.ensures.why
+    without_answer text c.requires (no_run_explained s held text run f (same_tasks usual s refl f told))) c.tells.ensures.why
