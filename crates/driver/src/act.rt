@@ -1,7 +1,7 @@
 //! The whole program, over files and writers that it is lent.
 
 ghost use Rattle.std.specs.Io.KnownBytes.{Keeps};
-ghost use Rattle.std.specs.Prelude.{ℕ, ◌≡◌, ◌≤◌, ◌<◌, List, [], length, codes, false, map, Err, IfOk, IfErr};
+ghost use Rattle.std.specs.Prelude.{ℕ, ◌≡◌, ◌≤◌, ◌⊎◌, List, [], length, codes, false, map, Err, IfOk, IfErr};
 ghost use Rattle.std.specs.String.{string_bytes};
 ghost use Rattle.driver.specs.Acts.{Acts, ReadsAndPerforms, Reports, in_short};
 ghost use Rattle.intake.specs.Failures.{TellsNotUtf8};
@@ -59,9 +59,9 @@ pub fn act<R: Threads + Wait + Sync, F: FolderSource, O: Write, E: Write, T: Ter
     ensures tested { (folder : List ℕ) → AsksToTest (map string_bytes words.now) folder
         → TestsAs folder (F.named files.old) (F.held files.old) (F.held files.new)
         (O.contents out.old) (O.contents out.new) (E.contents err.old) (E.contents err.new) result }
-    ensures over_one { 1 < result → (o : OrderIn)
+    ensures always { ((result ≤ 1) × (F.held files.new ≡ F.held files.old)) ⊎ ((o : OrderIn)
         × ActsOn o (F.named files.old) (F.held files.old) (F.held files.new)
-        (O.contents out.old) (O.contents out.new) (E.contents err.old) (E.contents err.new) result }
+        (O.contents out.old) (O.contents out.new) (E.contents err.old) (E.contents err.new) result) }
 {
     match order_of(alloc, words) {
         Err(reply) => tell_command_line(alloc, &reply, out, err),

@@ -1,3 +1,4 @@
+use Rattle.std.proofs.Common.{inl, inr, refl}
 use Rattle.reading.specs.Orders.{AsText, AsObject, Times, Tests, order}
 use Rattle.driver.proofs.Objects.{ordered}
 use Rattle.driver.proofs.act.act.Goals as goal
@@ -30,5 +31,8 @@ pub returns-in-Ok-clause-tested : goal.returns-in-Ok-clause-tested
 returns-in-Ok-clause-tested g c folder asks =
     ordered _ _ _ _ _ _ _ _ (order c.in-Ok.order) (Tests folder) (c.in-Ok.ensures (Tests folder) asks) c.carry_out.ensures
 
-pub returns-in-Ok-clause-over_one : goal.returns-in-Ok-clause-over_one
-returns-in-Ok-clause-over_one g c large = (order c.in-Ok.order, c.carry_out.ensures)
+pub returns-in-Err-clause-always : goal.returns-in-Err-clause-always
+returns-in-Err-clause-always g c = inl (c.tell_command_line.ensures, refl)
+
+pub returns-in-Ok-clause-always : goal.returns-in-Ok-clause-always
+returns-in-Ok-clause-always g c = inr (order c.in-Ok.order, c.carry_out.ensures)
