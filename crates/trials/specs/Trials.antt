@@ -1,5 +1,5 @@
 -- What the programs of a folder should tell, and what is told of them.
-use Rattle.std.specs.Prelude.{ℕ, zero, suc, ℤ, ◌≡◌, ◌-◌, ◌+◌, Bool, true, false, if◌then◌else◌, List, [], ◌∷◌, ◌++◌, codes}
+use Rattle.std.specs.Prelude.{ℕ, zero, suc, ℤ, ◌≡◌, ◌≢◌, ◌-◌, ◌+◌, Bool, true, false, if◌then◌else◌, List, [], ◌∷◌, ◌++◌, codes}
 use Rattle.std.specs.Prelude.{Option, None, Some, Ok, length, map, take, drop, IsPermutation}
 use Rattle.std.specs.Fmt.{decimal}
 use Rattle.std.specs.List.{flat_map}
@@ -80,11 +80,11 @@ pub record IsCompared (held : Held) (t : Trial) (same : Bool) : Type 0 where
   pub given : IsGiven (held (file t (codes ".out"))) (Ok bytes)
   pub same_is : same ≡ bytes_eq told bytes
 
--- the failure says why it isn't compared: its file gives no text, `run` fails, or there is no `.out` file
+-- the failure says why it isn't compared: its file gives no text, `run` fails before it answers, or there is no `.out` file
 pub data IsUncompared (held : Held) (t : Trial) (f : Failure) : Type 0 where
   without_text : TellsNoProgram held (file t (codes ".afx")) f → IsUncompared held t f
   without_answer : (text : List ℕ) → HasText held (file t (codes ".afx")) text
-      → Explains Run (settings_of t) held text f → IsUncompared held t f
+      → Explains Run (settings_of t) held text f → f ≢ CannotWriteOutput → IsUncompared held t f
   without_output : TellsNoText held (file t (codes ".out")) f → IsUncompared held t f
 
 -- the line of one that fails

@@ -12,9 +12,10 @@ use Rattle.types.proofs.InputLemmas.{FitsArrays-from_IsInput}
 use Rattle.command_line.specs.Requests.{usual}
 use Rattle.command_line.specs.declared.request.Command.TheVariants.{Run}
 use Rattle.intake.specs.Held.{Held, BeginsWith, IsGiven}
-use Rattle.answers.proofs.Answering.{code_of_text, if_err_passed, is_explored, no_input_explained, not_accepted_explained}
+use Rattle.answers.proofs.Answering.{code_of_text, if_err_passed, is_explored, no_input_explained, no_input_other}
+use Rattle.answers.proofs.Answering.{not_accepted_explained, not_accepted_other, other_failure}
 use Rattle.trials.specs.Trials.{IsUncompared, file, input_file, settings_of, trial, without_answer, without_output}
-use Rattle.trials.proofs.RunCauses.{no_run_explained, same_tasks}
+use Rattle.trials.proofs.RunCauses.{no_run_explained, no_run_other, same_tasks}
 use Rattle.trials.proofs.Trying.{compared, no_text_kept}
 use Rattle.trials.proofs.trial.Trial.tells_as_wanted.Goals as goal
 
@@ -24,7 +25,8 @@ returns-in_err-accepted-clause-why g c =
     let t = trial c.args.self.now in
     if_err_passed c.from_residual.result _ (IsUncompared held t) c.from_residual.ensures.1
     (without_answer c.args.text.now c.requires
-    (not_accepted_explained Run tt (settings_of t) held c.args.text.now None _ c.in_err-accepted.ensures.why))
+    (not_accepted_explained Run tt (settings_of t) held c.args.text.now None _ c.in_err-accepted.ensures.why)
+    (other_failure _ (not_accepted_other Run tt (settings_of t) held c.args.text.now None _ c.in_err-accepted.ensures.why)))
 
 pub returns-in_err-input-clause-why : goal.returns-in_err-input-clause-why
 returns-in_err-input-clause-why g c =
@@ -32,12 +34,13 @@ returns-in_err-input-clause-why g c =
     let t = trial c.args.self.now in
     let text = c.args.text.now in
     let typed = c.typed.result.now in
-    let spelled = subst (λ (t : Typed). AreTokensOf (chars text) (spelling (program_of t))) (sym c.typed.ensures.field)
-    c.in_ok-accepted.ensures.spelled in
+    let is_code = code_of_text text typed (subst (λ (t : Typed). AreTokensOf (chars text) (spelling (program_of t)))
+    (sym c.typed.ensures.field) c.in_ok-accepted.ensures.spelled) in
+    let why = c.in_err-input.ensures.why in
     if_err_passed c.from_residual-in_err-input.result _ (IsUncompared held t) c.from_residual-in_err-input.ensures.1
     (without_answer text c.requires
-    (no_input_explained Run (settings_of t) held text None (code_of typed) (code_of_text text typed spelled) c.typed.ensures.no_clash _
-    c.in_err-input.ensures.why))
+    (no_input_explained Run (settings_of t) held text None (code_of typed) is_code c.typed.ensures.no_clash _ why)
+    (other_failure _ (no_input_other Run (settings_of t) held text None (code_of typed) is_code c.typed.ensures.no_clash _ why)))
 
 pub returns-in_err-wanted-clause-why : goal.returns-in_err-wanted-clause-why
 returns-in_err-wanted-clause-why g c =
@@ -81,4 +84,5 @@ returns-clause-why g c =
     let run = is_explored s held text kept kept refl c.in_ok-accepted.ensures.spelled c.in_ok-accepted.accepted.no_clash input
     (subst (λ (t2 : Typed). BeginsWith (input_file t) held (code_of t2).arrays input) c.typed.ensures.field c.in_ok-input.ensures.begins) in
     IfErr-weaker c.tells.result _ (IsUncompared held t) (λ f told.
-    without_answer text c.requires (no_run_explained s held text run f (same_tasks usual s refl f told))) c.tells.ensures.why
+    without_answer text c.requires (no_run_explained s held text run f (same_tasks usual s refl f told))
+    (other_failure f (no_run_other usual f told))) c.tells.ensures.why
