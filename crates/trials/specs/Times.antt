@@ -1,5 +1,5 @@
 -- How long runs of a program take, and what is told of that.
-use Rattle.std.specs.Prelude.{ℕ, ℤ, ◌≡◌, ◌≢◌, List, ◌++◌, false, codes}
+use Rattle.std.specs.Prelude.{ℕ, ℤ, ◌≡◌, ◌≢◌, List, ◌++◌, length, false, codes}
 use Rattle.std.specs.Fmt.{decimal}
 use Rattle.types.specs.Code.{Program}
 use Rattle.types.specs.Outcome.{Outcome, outcome}
@@ -10,8 +10,22 @@ use Rattle.texts.specs.OutcomeText.{status_of}
 use Rattle.intake.specs.Held.{Held, BeginsWith}
 use Rattle.command_line.specs.Requests.{Settings}
 use Rattle.answers.specs.Answers.{IsCodeOf, Shows}
+use Rattle.trials.specs.Five.{AreOf}
 use Rattle.trials.specs.declared.times.Times.{Times}
 use Rattle.trials.specs.declared.times.Timed.{Timed}
+
+-- there are five times of which these are the least and the middle one
+pub record AreOfFive (t : Times) : Type 0 where
+  pub times : List ℕ
+  pub five : length times ≡ 5
+  pub are : AreOf times t.least t.median
+
+-- so there are for each of the runs
+pub record AreAllOfFive (t : Timed) : Type 0 where
+  pub serial : AreOfFive t.serial
+  pub on_one : AreOfFive t.on_one
+  pub on_two : AreOfFive t.on_two
+  pub on_four : AreOfFive t.on_four
 
 -- the line of a run: `serial: least 803 us, median 820 us`
 abbrev pub times_line : (run : List ℕ) → Times → List ℕ
@@ -32,9 +46,10 @@ times_text t c =
     ++ (times_line (codes "run, 4 workers") t.on_four
     ++ counts c)))
 
--- what is told of a run that ended without faults is how long it took, and what it costs; of any other its outcome
+-- what is told of a run that ended without faults is times, and what it costs; of any other its outcome
 pub data TellsTimes (code : Program) (o : Outcome) (c : Numbers) (told : List ℕ) (status : ℕ) : Type 0 where
-  timed : status_of o ≡ 0 → (t : Timed) → told ≡ times_text t c → status ≡ 0 → TellsTimes code o c told status
+  timed : status_of o ≡ 0 → (t : Timed) → AreAllOfFive t → told ≡ times_text t c → status ≡ 0
+      → TellsTimes code o c told status
   not_ended : status_of o ≢ 0 → Shows false o code told status → TellsTimes code o c told status
 
 -- `bench`: the text's program has no race; how long its runs took, on the input and under the budget given

@@ -12,7 +12,8 @@ ghost use Rattle.command_line.specs.Requests.{settings as settings_of};
 ghost use Rattle.command_line.specs.declared.request.Command.TheVariants.{Run};
 ghost use Rattle.answers.specs.Answers.{Done, Explains};
 ghost use Rattle.trials.specs.Runs.{TellsNoRun};
-ghost use Rattle.trials.specs.Times.{AnswersTimes, counts, times_line as line_of_times, times_text};
+ghost use Rattle.trials.specs.Times.{AnswersTimes, AreAllOfFive, AreOfFive, counts};
+ghost use Rattle.trials.specs.Times.{times_line as line_of_times, times_text};
 ghost use Rattle.trials.specs.declared.times.Timed.{Timed as TimedOf};
 
 use crate::clock::Stopwatch;
@@ -116,7 +117,7 @@ impl Job<'_> {
     ) -> Result<String, Failure>
         requires { FitsArrays (code_of self.now.accepted.now.typed).arrays (lists_in self.now.input.now) }
         ensures text { IfOk result
-            (λ text. (t : TimedOf) × (string_bytes text ≡ times_text t cost.now)) }
+            (λ text. (t : TimedOf) × AreAllOfFive t × (string_bytes text ≡ times_text t cost.now)) }
         ensures why { IfErr result (TellsNoRun (settings_of self.now.settings)) }
     {
         let serial = self.on_one_thread(clock)?;
@@ -138,6 +139,7 @@ impl Job<'_> {
     /// The times of five runs on one thread.
     fn on_one_thread<C: Stopwatch>(&self, clock: &mut C) -> Result<Times, Failure>
         requires { FitsArrays (code_of self.now.accepted.now.typed).arrays (lists_in self.now.input.now) }
+        ensures five { IfOk result AreOfFive }
         ensures why { IfErr result (λ f. f ≡ Failure.NoMemory) }
     {
         Ok(Times::of([
@@ -176,6 +178,7 @@ impl Job<'_> {
     ) -> Result<Times, Failure>
         requires fits { FitsArrays (code_of self.now.accepted.now.typed).arrays (lists_in self.now.input.now) }
         requires workers { (1 ≤ workers) × (workers ≤ 64) }
+        ensures five { IfOk result AreOfFive }
         ensures why { IfErr result (TellsNoRun (settings_of self.now.settings)) }
     {
         Ok(Times::of([

@@ -80,8 +80,8 @@ returns-then-status-eq0-clause-done g c =
       begins = subst (λ (t : Typed). BeginsWith s.input held (code_of t).arrays input) c.typed.ensures.field
           c.in_ok-input.ensures.begins;
       tells = timed (ap status_of (sym c.in_ok-costed.ensures.outcome) ∙ sym c.status.ensures ∙ c.if-status-eq0.true)
-          c.in_ok-told.ensures.text.0
-          (c.as_str.ensures.value ∙ c.in_ok-told.ensures.text.1 ∙ ap (times_text c.in_ok-told.ensures.text.0) c.in_ok-costed.ensures.cost)
+          c.in_ok-told.ensures.text.0 c.in_ok-told.ensures.text.1
+          (c.as_str.ensures.value ∙ c.in_ok-told.ensures.text.2 ∙ ap (times_text c.in_ok-told.ensures.text.0) c.in_ok-costed.ensures.cost)
           refl;
     })
     c.answer.ensures.text c.answer.ensures.status c.answer.ensures.failure
