@@ -20,8 +20,10 @@ use Rattle.intake.specs.declared.failure.Failure.TheVariants.{Race, NoMemoryInCh
 use Rattle.intake.specs.declared.failure.Failure.TheVariants.{Trace, Illegal, CannotWrite}
 use Rattle.answers.specs.Answers.{IsCodeOf, IsExplored, TellsNotAccepted}
 use Rattle.answers.proofs.Answering.{IsOther, other_failure, passed_on}
-use Rattle.viewing.specs.Views.{AnswersTrace, Draws, ExplainsTrace, HasTrace, HoldsTrace, IsDrawnTo, TellsIllegal}
-use Rattle.viewing.specs.Views.{TellsNoLines, TellsNoTrace, Views, picture_name, trace_name}
+use Rattle.viewing.specs.Views.{AnswersPicture, AnswersTrace, Draws, ExplainsTrace, HasTrace, HoldsTrace, IsDrawnTo, TellsIllegal}
+use Rattle.viewing.specs.Views.{TellsNoLines, TellsNoTrace, Views, command_of, picture_name, trace_name}
+use Rattle.viewing.specs.declared.drawing.Form.{Form}
+use Rattle.viewing.specs.declared.drawing.Form.TheVariants.{Picture, Spans}
 
 -- ---- a trace's file
 
@@ -131,3 +133,14 @@ module _ (s : Settings) (held : Held) (text : List ℕ) where
       let why = unwritten c draws (record { header = h; events = es; trace = trace; name = refl }) f
       (subst (λ (n : List ℕ). TellsUnwritten n f) same tells) in
       passed_on (AnswersTrace c s held text) (ExplainsTrace c s held text) b r f is why.0 (other_failure f why.1)
+
+-- ---- a form in which a trace is drawn
+
+pub draws_form : (form : Form) → Draws (command_of form)
+draws_form Picture = tt
+draws_form Spans = tt
+
+pub form_answers : (form : Form) (s : Settings) (held : Held) (text told : List ℕ) (status : ℕ)
+    → AnswersPicture s held text told status → AnswersTrace (command_of form) s held text told status
+form_answers Picture s held text told status is = is
+form_answers Spans s held text told status is = is

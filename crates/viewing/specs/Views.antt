@@ -24,6 +24,8 @@ use Rattle.intake.specs.declared.failure.Failure.TheVariants.{CannotRead, NotUtf
 use Rattle.intake.specs.declared.failure.Failure.TheVariants.{Trace, Illegal}
 use Rattle.intake.specs.declared.failure.Failure.TheVariants.{CannotWrite, CannotWriteOutput, NoMemory}
 use Rattle.answers.specs.Answers.{Answer, Done, IsExplored, LacksInput, TellsNotAccepted}
+use Rattle.viewing.specs.declared.drawing.Form.{Form}
+use Rattle.viewing.specs.declared.drawing.Form.TheVariants.{Picture, Spans}
 
 -- ---- names
 
@@ -142,6 +144,11 @@ abbrev pub Draws : Command → Type 0
 Draws Draw = Unit {0}
 Draws Chrome = Unit {0}
 Draws _ = ⊥
+
+-- the command that has it drawn so
+abbrev pub command_of : Form → Command
+command_of Picture = Draw
+command_of Spans = Chrome
 
 -- a trace is drawn, and the file of the picture has this name
 pub record IsDrawnTo (s : Settings) (held : Held) (text told : List ℕ) : Type 0 where

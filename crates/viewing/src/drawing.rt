@@ -3,7 +3,7 @@
 ghost use Rattle.std.specs.Prelude.{◌≡◌, IfErr};
 ghost use Rattle.command_line.specs.Requests.{settings as settings_of};
 ghost use Rattle.viewing.specs.Files.{WritesTo};
-ghost use Rattle.viewing.specs.Views.{IsDrawn, Views, picture_name as name_of_picture};
+ghost use Rattle.viewing.specs.Views.{IsDrawn, Views, command_of, picture_name as name_of_picture};
 
 use crate::traces::{Trace, trace_name, trace_of};
 use answers::showing::answer;
@@ -15,6 +15,15 @@ use std::alloc::Global;
 use std::io::Write;
 use std::thread::Threads;
 use trace_spans::chrome;
+
+/// What a trace is drawn as.
+#[derive(Clone, Copy)]
+pub enum Form {
+    /// A picture: `view --svg`.
+    Picture,
+    /// What a trace viewer reads: `view --chrome`.
+    Spans,
+}
 
 /// `view --svg`: draws a trace as a picture, into its file; gives the exit status.
 pub fn draw<R: Threads + Sync, F: FileSource, O: Write>(
@@ -30,10 +39,7 @@ pub fn draw<R: Threads + Sync, F: FileSource, O: Write>(
     ensures picture { let s = settings_of settings.entry in WritesTo (name_of_picture s)
         (IsDrawn s (F.held files.old) text.now) (F.held files.old) (F.held files.new) result }
 {
-    let trace = trace_of(rt, alloc, settings, text, files)?;
-    let picture = svg_of(alloc, trace_name(settings), &trace)?;
-    write_file(alloc, files, picture_name(settings), picture.as_bytes())?;
-    answer(out, "")
+    draw_as(rt, alloc, Form::Picture, settings, text, files, out)
 }
 
 /// `view --chrome`: writes a trace for a trace viewer, into its file; gives the exit status.
@@ -50,9 +56,27 @@ pub fn draw_for_viewer<R: Threads + Sync, F: FileSource, O: Write>(
     ensures picture { let s = settings_of settings.entry in WritesTo (name_of_picture s)
         (IsDrawn s (F.held files.old) text.now) (F.held files.old) (F.held files.new) result }
 {
+    draw_as(rt, alloc, Form::Spans, settings, text, files, out)
+}
+
+/// Draws a trace so, into the file of the picture.
+fn draw_as<R: Threads + Sync, F: FileSource, O: Write>(
+    rt: &R,
+    alloc: Global,
+    form: Form,
+    settings: Settings<'_>,
+    text: &str,
+    files: &mut F,
+    out: &mut O,
+) -> Result<u8, Failure>
+    ensures done { Views (command_of form) (settings_of settings.entry) (F.held files.old) text.now
+        (O.contents out.old) (O.contents out.new) result }
+    ensures picture { let s = settings_of settings.entry in WritesTo (name_of_picture s)
+        (IsDrawn s (F.held files.old) text.now) (F.held files.old) (F.held files.new) result }
+{
     let trace = trace_of(rt, alloc, settings, text, files)?;
-    let spans = chrome_of(alloc, &trace)?;
-    write_file(alloc, files, picture_name(settings), spans.as_bytes())?;
+    let picture = drawn(alloc, form, trace_name(settings), &trace)?;
+    write_file(alloc, files, picture_name(settings), picture.as_bytes())?;
     answer(out, "")
 }
 
@@ -66,22 +90,16 @@ fn picture_name<'w>(settings: Settings<'w>) -> &'w str
     }
 }
 
-/// The picture of a trace with this heading.
-fn svg_of(alloc: Global, heading: &str, trace: &Trace) -> Result<String, Failure>
+/// A trace drawn so; the heading is that of a picture.
+fn drawn(alloc: Global, form: Form, heading: &str, trace: &Trace) -> Result<String, Failure>
     ensures { IfErr result (λ failure. failure ≡ Failure.NoMemory) }
 {
-    match timeline::draw(alloc, heading, &trace.header, &trace.events) {
+    let drawn = match form {
+        Form::Picture => timeline::draw(alloc, heading, &trace.header, &trace.events),
+        Form::Spans => chrome::spans(alloc, &trace.events),
+    };
+    match drawn {
         Ok(picture) => Ok(picture),
-        Err(_) => Err(Failure::NoMemory),
-    }
-}
-
-/// What a trace viewer reads of a trace.
-fn chrome_of(alloc: Global, trace: &Trace) -> Result<String, Failure>
-    ensures { IfErr result (λ failure. failure ≡ Failure.NoMemory) }
-{
-    match chrome::spans(alloc, &trace.events) {
-        Ok(spans) => Ok(spans),
         Err(_) => Err(Failure::NoMemory),
     }
 }

@@ -1,30 +1,34 @@
 use Rattle.std.proofs.Common.{refl}
 use Rattle.command_line.specs.Requests.{settings}
-use Rattle.command_line.specs.declared.request.Command.TheVariants.{Draw}
 use Rattle.answers.proofs.Answering.{answered}
-use Rattle.viewing.specs.Views.{AnswersTrace, ExplainsTrace, IsDrawn, picture_name}
-use Rattle.viewing.proofs.Viewing.{views_unwritten}
+use Rattle.viewing.specs.Views.{AnswersTrace, ExplainsTrace, IsDrawn, command_of, picture_name}
+use Rattle.viewing.proofs.Viewing.{draws_form, form_answers, views_no_trace, views_unwritten}
 use Rattle.viewing.proofs.Written.{wrote, wrote_anyway}
-use Rattle.viewing.proofs.drawing.draw.Goals as goal
+use Rattle.viewing.proofs.drawing.draw_as.Goals as goal
+
+pub returns-in_err-trace-clause-done : goal.returns-in_err-trace-clause-done
+returns-in_err-trace-clause-done g c =
+    let s = settings c.args.settings in let held = g.F.FileSource.held c.args.files.now in let text = c.args.text.now in
+    views_no_trace s held text (command_of c.args.form) _ _ _ c.from_residual.ensures.1 c.in_err-trace.ensures.why
 
 pub returns-in_err-write_file-clause-done : goal.returns-in_err-write_file-clause-done
 returns-in_err-write_file-clause-done g c =
     let s = settings c.args.settings in let held = g.F.FileSource.held c.args.files.now in let text = c.args.text.now in
-    views_unwritten s held text Draw tt _ _ c.in_ok-trace.ensures.trace _ c.picture_name.ensures _ _ _
-    c.from_residual-in_err-write_file.ensures.1 c.in_err-write_file.ensures.why
+    views_unwritten s held text (command_of c.args.form) (draws_form c.args.form) _ _ c.in_ok-trace.ensures.trace _
+    c.picture_name.ensures _ _ _ c.from_residual-in_err-write_file.ensures.1 c.in_err-write_file.ensures.why
 
 pub returns-clause-done : goal.returns-clause-done
 returns-clause-done g c =
     let s = settings c.args.settings in let held = g.F.FileSource.held c.args.files.now in let text = c.args.text.now in
-    let trace = c.in_ok-trace.trace in
-    answered (AnswersTrace Draw s held text) (ExplainsTrace Draw s held text) _ _ c.answer.result _ 0 tt
-    (record {
+    let trace = c.in_ok-trace.trace in let by = command_of c.args.form in
+    answered (AnswersTrace by s held text) (ExplainsTrace by s held text) _ _ c.answer.result _ 0 tt
+    (form_answers c.args.form s held text _ 0 (record {
       header = trace.header;
       events = trace.events.items;
       trace = c.in_ok-trace.ensures.trace;
       told_is = refl;
       status_is = refl;
-    })
+    }))
     c.answer.ensures.text c.answer.ensures.status c.answer.ensures.failure
 
 pub returns-clause-picture : goal.returns-clause-picture
