@@ -1,7 +1,6 @@
 -- From a file and a command to the object that the program told.
 use Rattle.std.proofs.Common.{◌≡◌, ℕ, ◌≤◌, length, List, [], Option, Some, None, Result, Ok, Err, IfOk, IfErr, sym, subst}
 use Rattle.std.specs.Prelude.{IsErrAnd, false}
-use Rattle.std.specs.Str.{IsUtf8}
 use Rattle.texts.specs.Appending.{Writes}
 use Rattle.types.specs.Code.{Array}
 use Rattle.types.specs.Outcome.{Outcome}
