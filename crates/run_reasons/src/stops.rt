@@ -20,10 +20,13 @@ pub fn push_overrun(
     match overrun.part {
         Part::Steps => {
             let steps = budget.steps;
-            write!(
-                told,
-                "Task {path} had taken all of its {steps} steps before this statement, label {label}.\n"
-            )?;
+            write!(told, "Task {path} had taken ")?;
+            if steps == 1 {
+                told.push_str("its only step")?;
+            } else {
+                write!(told, "all of its {steps} steps")?;
+            }
+            write!(told, " before this statement, label {label}.\n")?;
             push_call(told, statements, overrun.call)?;
             push_more_steps(told, steps)
         }
@@ -31,7 +34,7 @@ pub fn push_overrun(
             let nest = budget.nest;
             write!(
                 told,
-                "Task {path} would begin another at label {label}, and only {nest} asyncs may stand inside one another.\n"
+                "Task {path} would begin another at label {label}, and asyncs may stand inside one another at most {nest} deep.\n"
             )?;
             push_call(told, statements, overrun.call)?;
             push_more_nest(told, nest)

@@ -8,9 +8,10 @@ const MOST_TASKS: u64 = 1_048_576;
 /// What stands behind the line of a run that would have begun more tasks than it was allowed.
 pub fn explained_tasks(alloc: Global, tasks: u64) -> Result<String, AllocError> {
     let mut told = String::new(alloc);
+    let noun = if tasks == 1 { "task" } else { "tasks" };
     write!(
         told,
-        "\nThe run would have begun more than {tasks} tasks.\n"
+        "\nThe run would have begun more than {tasks} {noun}.\n"
     )?;
     if tasks >= MOST_TASKS {
         told.push_str("To mend it: begin fewer tasks, each with more to do; no run has more.\n")?;
@@ -18,7 +19,7 @@ pub fn explained_tasks(alloc: Global, tasks: u64) -> Result<String, AllocError> 
         let more = tasks.saturating_mul(2).min(MOST_TASKS);
         write!(
             told,
-            "To mend it: allow more, as by `--tasks {more}`; or begin fewer tasks, each with more to do.\n"
+            "To mend it: begin fewer tasks, each with more to do; or allow more, as `run` does by `--tasks {more}`.\n"
         )?;
     }
     Ok(told)
