@@ -36,6 +36,15 @@ impl Front {
         self.tokens.last().map(|spanned| &spanned.token)
     }
 
+    /// Whether they are a whole program with its `main`, behind which nothing may stand.
+    pub fn is_ended(&self) -> Result<bool, AllocError> {
+        match program(self.alloc, &self.tokens) {
+            Ok(read) => Ok(read.main.is_some()),
+            Err(Stuck::Unexpected { .. }) => Ok(false),
+            Err(Stuck::OutOfMemory) => Err(AllocError),
+        }
+    }
+
     /// Whether a program can go on with a name behind them.
     pub fn takes_name(&mut self) -> Result<bool, AllocError> {
         let name = String::from_str(self.alloc, "x")?;

@@ -68,6 +68,9 @@ fn push_unexpected(alloc: Global, told: &mut String, text: &str) -> Result<(), A
         [] => told.push_str("The text ends here, and a program can't end so.\n")?,
         [stood, ..] => push_stood(told, &stood.token)?,
     }
+    if front.is_ended()? {
+        return push_ended(told, &behind);
+    }
     if at > MOST_TOKENS {
         return told.push_str("To mend it: look at what stands before it.\n");
     }
@@ -91,6 +94,24 @@ fn push_stood(told: &mut String, stood: &Token) -> Result<(), AllocError> {
             let mark = mark_text(*mark);
             write!(told, "`{mark}` may not stand here.\n")
         }
+    }
+}
+
+/// Adds that nothing may stand behind main.
+fn push_ended(told: &mut String, behind: &[Spanned]) -> Result<(), AllocError> {
+    told.push_str("A program ends with the `}` of main, and nothing may stand behind it.\n")?;
+    told.push_str(if is_procedure(behind) {
+        "To mend it: write the procedure before main.\n"
+    } else {
+        "To mend it: take this away; or is a `}` before it one too many?\n"
+    })
+}
+
+/// Whether a `proc` stands first.
+fn is_procedure(behind: &[Spanned]) -> bool {
+    match behind {
+        [first, ..] => matches!(&first.token, Token::Word(Word::Proc)),
+        [] => false,
     }
 }
 
