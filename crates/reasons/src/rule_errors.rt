@@ -2,6 +2,7 @@
 
 ghost use Rattle.std.specs.Prelude.{◌≤◌, length};
 
+use crate::limits::push_over_limit;
 use crate::rule_texts;
 use excerpts::arguments::{Argument, Parameter, Procedure, arguments, procedure_of};
 use excerpts::declared::{Declared, Kind, Scope, find};
@@ -26,11 +27,16 @@ pub fn explained_rule(alloc: Global, text: &str, error: TypeError) -> Result<Str
         Err(Unread::OutOfMemory) => return Err(AllocError),
         Err(_) => return Ok(told),
     };
+    let places = places_of(alloc, text)?;
     match error.label() {
-        None => rule_texts::push_without_label(&mut told, text, &source, error)?,
+        None => match error {
+            TypeError::OverLimit => push_over_limit(alloc, &mut told, text, &source, &places)?,
+            _ => rule_texts::push_without_label(&mut told, text, &source, error)?,
+        },
         Some(label) => {
-            if let Some(place) = place_of(alloc, text, label)? {
-                let broken = Broken::at(alloc, text, &source, place)?;
+            let number = usize::try_from(label).unwrap_or(0).saturating_sub(1);
+            if let Some(place) = places.get(number) {
+                let broken = Broken::at(alloc, text, &source, *place)?;
                 broken.push(&mut told, error)?;
             }
         }
@@ -38,17 +44,14 @@ pub fn explained_rule(alloc: Global, text: &str, error: TypeError) -> Result<Str
     Ok(told)
 }
 
-/// Where the statement of a label begins.
-fn place_of(alloc: Global, text: &str, label: u32) -> Result<Option<Place>, AllocError>
+/// Where the statements of a text begin, in the order of their labels.
+fn places_of(alloc: Global, text: &str) -> Result<Vec<Place>, AllocError>
     requires { length text.now ≤ 1048576 }
 {
     match statement_places(alloc, text) {
-        Ok(places) => {
-            let number = usize::try_from(label).unwrap_or(0).saturating_sub(1);
-            Ok(places.get(number).copied())
-        }
+        Ok(places) => Ok(places),
         Err(Unread::OutOfMemory) => Err(AllocError),
-        Err(_) => Ok(None),
+        Err(_) => Ok(Vec::new(alloc)),
     }
 }
 

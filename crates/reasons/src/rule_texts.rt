@@ -14,12 +14,6 @@ truth values; the guards of `if` and `while` and the operands of `not`, `and` an
 To mend it: compare a number, as `x != 0`; keep an answer as a number, by an `if`.
 ";
 
-const LIMITS: &str = "
-A program has at most 256 procedures, each at most 16 parameters; main has at most 32 arrays; an array has at most
-4194304 elements; there are at most 65535 statements.
-To mend it: stay below these.
-";
-
 const NO_MAIN: &str = "
 The text has no `main`, with which a run begins.
 To mend it: add `main { .. }` behind the procedures.
@@ -34,7 +28,6 @@ pub fn push_without_label(
 ) -> Result<(), AllocError> {
     match error {
         TypeError::NoMain => told.push_str(NO_MAIN),
-        TypeError::OverLimit => told.push_str(LIMITS),
         TypeError::DeclaredTwice { .. } => push_twice(told, text, source),
         _ => Ok(()),
     }
@@ -109,7 +102,7 @@ fn behind_word<'t>(word: Word, name: &Spanned, tokens: &'t [Spanned]) -> Option<
 }
 
 /// Whether a token is a word.
-fn is_word(token: &Token, word: Word) -> bool {
+pub fn is_word(token: &Token, word: Word) -> bool {
     match token {
         Token::Word(found) => *found == word,
         _ => false,
