@@ -4,6 +4,7 @@
 
 mod expected;
 pub mod input_errors;
+mod kinds;
 mod limits;
 pub mod races;
 pub mod rule_errors;

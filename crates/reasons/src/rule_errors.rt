@@ -2,6 +2,7 @@
 
 ghost use Rattle.std.specs.Prelude.{◌≤◌, length};
 
+use crate::kinds::{Part, Value, parts_of, wrong_part};
 use crate::limits::push_over_limit;
 use crate::rule_texts;
 use excerpts::arguments::{Argument, Parameter, Procedure, arguments, procedure_of};
@@ -212,6 +213,10 @@ impl<'t> Broken<'t> {
 
     /// A section for a scalar or a truth value for a number, or the other way.
     fn push_wrong_kind(&self, told: &mut String) -> Result<(), AllocError> {
+        let most = self.head.len().saturating_mul(2).saturating_add(1);
+        if let Some(part) = wrong_part(self.alloc, self.parts()?, most)? {
+            return self.push_wrong_part(told, part);
+        }
         for named in &self.names {
             if let Some(declared) = self.scope.find(named.name) {
                 let is_other = if declared.kind.is_section() {
@@ -225,7 +230,62 @@ impl<'t> Broken<'t> {
             }
         }
         self.push_start(told)?;
-        told.push_str(rule_texts::TRUTH)
+        told.push_str(rule_texts::TRUTHS)?;
+        told.push_str(rule_texts::COMPARED)
+    }
+
+    /// The expressions of the statement, with what each must give.
+    fn parts(&self) -> Result<Vec<Part<'t>>, AllocError> {
+        let Some((called, given)) = self.call()? else {
+            return parts_of(self.alloc, self.head);
+        };
+        let mut parts = Vec::new(self.alloc);
+        for (argument, parameter) in given.iter().zip(called.parameters.iter()) {
+            if !parameter.kind.is_section() {
+                let tokens = argument.tokens;
+                let wanted = Value::Number;
+                parts.push(Part { tokens, wanted })?;
+            }
+        }
+        Ok(parts)
+    }
+
+    /// A truth value where a number must stand, or the other way.
+    fn push_wrong_part(&self, told: &mut String, part: Part<'t>) -> Result<(), AllocError> {
+        match part.tokens.first() {
+            Some(first) => self.push_at(told, first.at)?,
+            None => self.push_start(told)?,
+        }
+        if let Some(name) = part.name() {
+            if let Some(declared) = self.scope.find(name) {
+                if declared.kind.is_section() {
+                    return self.push_no_truth(told, declared);
+                }
+            }
+        }
+        match part.wanted {
+            Value::Number => {
+                told.push_str("A truth value stands here, and a number must.\n")?;
+                told.push_str(rule_texts::TRUTHS)?;
+                told.push_str(rule_texts::KEPT)
+            }
+            Value::Truth => {
+                told.push_str("A number stands here, and a truth value must.\n")?;
+                told.push_str(rule_texts::TRUTHS)?;
+                told.push_str(rule_texts::COMPARED)
+            }
+        }
+    }
+
+    /// A section where a truth value must stand.
+    fn push_no_truth(&self, told: &mut String, section: Declared<'t>) -> Result<(), AllocError> {
+        let name = section.name;
+        self.push_kind(told, section)?;
+        told.push_str("a truth value must stand here.\n")?;
+        write!(
+            told,
+            "To mend it: compare an element of it, as `{name}[0] != 0`, or its length, as `len({name}) != 0`.\n"
+        )
     }
 
     /// Whether a scalar must stand where a name stands.
@@ -257,27 +317,40 @@ impl<'t> Broken<'t> {
         named: Named<'t>,
         declared: Declared<'t>,
     ) -> Result<(), AllocError> {
-        let is_section = declared.kind.is_section();
-        let (kind, wanted) = if is_section {
-            ("section", "number")
-        } else {
-            ("scalar", "section")
-        };
         self.push_at(told, named.at)?;
+        self.push_kind(told, declared)?;
         let name = named.name;
+        if !declared.kind.is_section() {
+            told.push_str("a section must stand here.\n")?;
+            return told.push_str(
+                "To mend it: name an array, a side of a split, or a `mut` or `read` parameter.\n",
+            );
+        }
+        if named.role == Role::Assigned {
+            told.push_str("only a variable takes a number so.\n")?;
+            return write!(
+                told,
+                "To mend it: store it in an element, as `{name}[0] = ..;`, or name a variable.\n"
+            );
+        }
+        told.push_str("a number must stand here.\n")?;
+        write!(
+            told,
+            "To mend it: write an element of it, as `{name}[0]`, or its length, `len({name})`.\n"
+        )
+    }
+
+    /// Adds what a name is, and where it is declared.
+    fn push_kind(&self, told: &mut String, declared: Declared<'t>) -> Result<(), AllocError> {
+        let name = declared.name;
+        let kind = if declared.kind.is_section() {
+            "section"
+        } else {
+            "scalar"
+        };
         write!(told, "`{name}` is a {kind}, declared at ")?;
         self.push_place(told, declared)?;
-        write!(told, "; a {wanted} must stand here.\n")?;
-        if is_section {
-            write!(
-                told,
-                "To mend it: write an element of it, as `{name}[0]`, or its length, `len({name})`.\n"
-            )
-        } else {
-            told.push_str(
-                "To mend it: name an array, a side of a split, or a `mut` or `read` parameter.\n",
-            )
-        }
+        told.push_str("; ")
     }
 
     /// A call with arguments that don't fit.

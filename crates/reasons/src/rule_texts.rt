@@ -7,12 +7,17 @@ use std::alloc::AllocError;
 use syntax::token::{Mark, Spanned, Token, Word};
 use types::error::TypeError;
 
-/// What a truth value is, and where it stands.
-pub const TRUTH: &str =
-    "A number stands where a truth value must, or the other way. Comparisons, `true`, `false`, `not`, `and` and `or` give
-truth values; the guards of `if` and `while` and the operands of `not`, `and` and `or` want them; all else is numbers.
-To mend it: compare a number, as `x != 0`; keep an answer as a number, by an `if`.
+/// What gives a truth value, and where one must stand.
+pub const TRUTHS: &str =
+    "Comparisons, `true`, `false`, `not`, `and` and `or` give truth values; the guards of `if` and `while` and the operands
+of `not`, `and` and `or` want them; all else is numbers.
 ";
+
+/// What would be right for a truth value where a number must stand.
+pub const KEPT: &str = "To mend it: keep the answer as a number, by an `if`.\n";
+
+/// What would be right for a number where a truth value must stand.
+pub const COMPARED: &str = "To mend it: compare the number, as `x != 0`.\n";
 
 const NO_MAIN: &str = "
 The text has no `main`, with which a run begins.
