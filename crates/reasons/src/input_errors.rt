@@ -1,5 +1,6 @@
 //! Inputs that don't fit their program.
 
+use crate::nouns::noun;
 use excerpts::source::push_line;
 use serde_json::Value;
 use std::alloc::{AllocError, Global};
@@ -112,15 +113,19 @@ fn push_length(
         match value.get(name).and_then(Value::as_array) {
             Some(list) => {
                 let given = list.len();
+                let elements = noun(wanted, "element", "elements");
                 write!(
                     told,
-                    "\nThe array `{name}` has {wanted} elements, and the list has {given}.\n"
+                    "\nThe array `{name}` has {wanted} {elements}, and the list has {given}.\n"
                 )?;
             }
-            None => write!(
-                told,
-                "\nThe array `{name}` wants a list of {wanted} numbers.\n"
-            )?,
+            None => {
+                let numbers = noun(wanted, "number", "numbers");
+                write!(
+                    told,
+                    "\nThe array `{name}` wants a list of {wanted} {numbers}.\n"
+                )?;
+            }
         }
     }
     told.push_str(

@@ -4,6 +4,7 @@ ghost use Rattle.std.specs.Prelude.{◌≤◌, length};
 
 use crate::kinds::{Part, Value, parts_of, wrong_part};
 use crate::limits::push_over_limit;
+use crate::nouns::noun;
 use crate::rule_texts;
 use excerpts::arguments::{Argument, Parameter, Procedure, arguments, procedure_of};
 use excerpts::declared::{Declared, Kind, Scope, find};
@@ -356,7 +357,7 @@ impl<'t> Broken<'t> {
     /// A call with arguments that don't fit.
     fn push_wrong_arguments(&self, told: &mut String) -> Result<(), AllocError> {
         let Some((called, given)) = self.call()? else {
-            return self.push_start(told);
+            return self.push_unfit(told);
         };
         if called.parameters.len() != given.len() {
             return self.push_count(told, &called, given.len());
@@ -366,7 +367,13 @@ impl<'t> Broken<'t> {
                 return self.push_argument(told, argument, *parameter, &called);
             }
         }
-        self.push_start(told)
+        self.push_unfit(told)
+    }
+
+    /// Arguments that don't fit, whichever they are.
+    fn push_unfit(&self, told: &mut String) -> Result<(), AllocError> {
+        self.push_start(told)?;
+        told.push_str(rule_texts::ARGUMENTS)
     }
 
     /// A wrong number of arguments.
@@ -378,20 +385,27 @@ impl<'t> Broken<'t> {
     ) -> Result<(), AllocError> {
         self.push_start(told)?;
         let wanted = called.parameters.len();
+        let arguments = noun(wanted, "argument", "arguments");
         let place = self.source.place(called.at);
         write!(
             told,
-            "The procedure, declared at {place}, wants {wanted} arguments, and the call gives {given}.\n"
+            "The procedure, declared at {place}, wants {wanted} {arguments}, and the call gives {given}.\n"
         )?;
         rule_texts::push_parameters(told, &called.parameters)?;
-        told.push_str("To mend it: give one argument for each parameter, in their order.\n")
+        told.push_str(if wanted == 0 {
+            "To mend it: give no argument.\n"
+        } else {
+            "To mend it: give one argument for each parameter, in their order.\n"
+        })
     }
 
     /// Whether an argument is the name of a section of the parameter's element type.
     fn fits(&self, argument: &Argument<'t>, parameter: Parameter<'t>) -> bool {
         match argument.name() {
             Some(name) => match self.scope.find(name) {
-                Some(declared) => declared.kind.bytes() == parameter.kind.bytes(),
+                Some(declared) => {
+                    declared.kind.is_section() && declared.kind.bytes() == parameter.kind.bytes()
+                }
                 None => false,
             },
             None => false,
@@ -410,6 +424,7 @@ impl<'t> Broken<'t> {
             Some(first) => self.push_at(told, first.at)?,
             None => self.push_start(told)?,
         }
+        self.push_found(told, argument)?;
         let name = parameter.name;
         let element = parameter.kind.element();
         write!(
@@ -420,6 +435,24 @@ impl<'t> Broken<'t> {
         told.push_str(
             "To mend it: name an array, a side of a split or a section parameter with such elements.\n",
         )
+    }
+
+    /// Adds what stands as an argument where the name of a section must.
+    fn push_found(&self, told: &mut String, argument: &Argument<'t>) -> Result<(), AllocError> {
+        let Some(name) = argument.name() else {
+            return Ok(());
+        };
+        let Some(declared) = self.scope.find(name) else {
+            return Ok(());
+        };
+        if declared.kind.is_section() {
+            let element = declared.kind.element();
+            write!(told, "`{name}` is a section of `{element}`, declared at ")?;
+        } else {
+            write!(told, "`{name}` is a scalar, declared at ")?;
+        }
+        self.push_place(told, declared)?;
+        told.push_str(".\n")
     }
 
     /// A scalar that is assigned in an async outside of which it is declared.

@@ -19,6 +19,11 @@ pub const KEPT: &str = "To mend it: keep the answer as a number, by an `if`.\n";
 /// What would be right for a number where a truth value must stand.
 pub const COMPARED: &str = "To mend it: compare the number, as `x != 0`.\n";
 
+/// What a call gives.
+pub const ARGUMENTS: &str = "An argument of the call doesn't fit its parameter.
+To mend it: give a number, or the name of a section of the same elements, as the parameter says.
+";
+
 const NO_MAIN: &str = "
 The text has no `main`, with which a run begins.
 To mend it: add `main { .. }` behind the procedures.
