@@ -1,7 +1,7 @@
 //! The replies to words that ask nothing of a program.
 
 use clap::{ArgMatches, Command, Error};
-use pages::find::{contents, page_of, push_names, tables};
+use pages::find::{contents, page_about, push_name_lines, tables};
 use pages::manual::{self, Closing};
 use pages::shell::Shell;
 use std::alloc::{AllocError, Global};
@@ -13,7 +13,7 @@ pub enum Reply {
     Said(Error),
     /// A text that was asked for, for the standard output.
     Page(String),
-    /// A line for the standard error, where no page is asked for by these words.
+    /// Lines for the standard error, where no page is asked for by these words.
     NoPage(String),
 }
 
@@ -36,15 +36,27 @@ pub fn explained(alloc: Global, given: &ArgMatches<'_>) -> Result<Reply, AllocEr
         return Ok(Reply::Page(contents(alloc, &tables())?));
     }
     let word = words.join(alloc, " ")?;
-    match page_of(&tables(), &word) {
+    match page_about(alloc, &tables(), &word)? {
         Some(page) => Ok(Reply::Page(page.text(alloc)?)),
-        None => {
-            let mut line = String::from_str(alloc, "no page; there are:")?;
-            push_names(&mut line, &tables())?;
-            line.push('\n')?;
-            Ok(Reply::NoPage(line))
-        }
+        None => Ok(Reply::NoPage(pages_but(alloc, &word)?)),
     }
+}
+
+/// That a word has no page, and which words have one.
+fn pages_but(alloc: Global, word: &str) -> Result<String, AllocError> {
+    let mut text = String::from_str(alloc, "no page of '")?;
+    push_shown(&mut text, word)?;
+    text.push_str("'; there are:")?;
+    push_name_lines(&mut text, &tables())?;
+    Ok(text)
+}
+
+/// Adds a word with a dot for each character that steers a terminal.
+fn push_shown(text: &mut String, word: &str) -> Result<(), AllocError> {
+    for c in word.chars() {
+        text.push(if c.is_control() { '.' } else { c })?;
+    }
+    Ok(())
 }
 
 /// The completions of a shell, which `clap` has seen to be one, for a program with these commands.

@@ -82,7 +82,7 @@ are counted from 0 too.",
         name: "F6",
         others: &[],
         about: "a `fault` statement",
-        rule: "The number behind the kind is that of the statement. A fault ends the statements of its task up to the end
+        rule: "The number after the kind is that of the statement. A fault ends the statements of its task up to the end
 of the nearest finish there; other tasks go on.",
         example: Example::Program(Told {
             lines: &["main {", "  fault 7;", "}"],
@@ -90,7 +90,7 @@ of the nearest finish there; other tasks go on.",
             line: "fault 0 at 1: F6 7",
         }),
         mend: Some(
-            "It is what the program says. Behind `fault` stand the path of the task and the label of the statement.",
+            "It is what the program says. After `fault` stand the path of the task and the label of the statement.",
         ),
     },
     Page {

@@ -6,11 +6,11 @@ ghost use Rattle.std.specs.String.{string_bytes};
 ghost use Rattle.pages.specs.Pages.{answers_to, head_text, spaced_name};
 
 use crate::page::{Page, push_all};
-use crate::{faults, idioms, inputs, races, rules, runs, texts, traces, words};
+use crate::{faults, files, idioms, inputs, races, rules, runs, texts, traces, words};
 use std::alloc::{AllocError, Global};
 
 /// All pages, topic by topic.
-pub fn tables() -> [&'static [Page]; 9] {
+pub fn tables() -> [&'static [Page]; 10] {
     [
         texts::pages(),
         rules::pages(),
@@ -18,6 +18,7 @@ pub fn tables() -> [&'static [Page]; 9] {
         inputs::pages(),
         faults::pages(),
         runs::pages(),
+        files::pages(),
         traces::pages(),
         words::pages(),
         idioms::pages(),
@@ -44,6 +45,45 @@ fn page_in(table: &'static [Page], word: &str) -> Option<&'static Page>
         ≡ find (λ page. answers_to page word.now) table.now }
 {
     table.iter().find(|page| page.answers_to(word))
+}
+
+/// The page for which a line asks that may be pasted from what the program told, as `C1 race in main: ..`, `fault 0 at 2: F4`
+/// or `race.afx: C1 race in main: ..`; letters of a code may be small.
+pub fn page_about(
+    alloc: Global,
+    tables: &[&'static [Page]],
+    line: &str,
+) -> Result<Option<&'static Page>, AllocError> {
+    let line = line.trim();
+    if let Some(page) = page_of_line(tables, line) {
+        return Ok(Some(page));
+    }
+    let capitals = line.to_ascii_uppercase(alloc)?;
+    Ok(page_of_line(tables, capitals.as_str()))
+}
+
+/// The page of the word with which a line begins, or else of that behind its first colon.
+fn page_of_line(tables: &[&'static [Page]], line: &str) -> Option<&'static Page> {
+    if let Some(page) = page_begun(tables, line) {
+        return Some(page);
+    }
+    match line.split_once(": ") {
+        Some((_, behind)) => page_begun(tables, behind),
+        None => None,
+    }
+}
+
+/// The page of a line's word, or else the first page of a word with which the line begins.
+fn page_begun(tables: &[&'static [Page]], line: &str) -> Option<&'static Page> {
+    if let Some(page) = page_of(tables, line) {
+        return Some(page);
+    }
+    for table in tables {
+        if let Some(page) = table.iter().find(|page| page.is_begun(line)) {
+            return Some(page);
+        }
+    }
+    None
 }
 
 /// The list of pages: what each is about, a line each.
@@ -89,4 +129,30 @@ fn push_names_of(text: &mut String, table: &[Page]) -> Result<(), AllocError>
         push_all(text, &[" ", page.name])?;
     }
     Ok(())
+}
+
+/// How many bytes a line of names has at most.
+const WIDTH: usize = 100;
+
+/// Adds lines of the names of pages.
+pub fn push_name_lines(text: &mut String, tables: &[&[Page]]) -> Result<(), AllocError> {
+    let mut width = WIDTH;
+    for table in tables {
+        for page in *table {
+            width = push_name(text, width, page.name)?;
+        }
+    }
+    text.push('\n')
+}
+
+/// Adds a name to a line that has so many bytes, or on the next line where it has no room there, and answers how many
+/// that line has then.
+fn push_name(text: &mut String, width: usize, name: &str) -> Result<usize, AllocError> {
+    let longer = width.saturating_add(1).saturating_add(name.len());
+    if longer <= WIDTH {
+        push_all(text, &[" ", name])?;
+        return Ok(longer);
+    }
+    push_all(text, &["\n", name])?;
+    Ok(name.len())
 }

@@ -168,7 +168,7 @@ down and cut alongside.",
         others: &["swap"],
         about: "two arrays that change their parts",
         rule: "A turn reads the old array whole and writes parts of the new one. The next turn calls with the names turned:
-behind an even number of turns the answer is in the first array.",
+after an even number of turns the answer is in the first array.",
         example: Example::Shape(Shape {
             lines: &[
                 "proc rows(mut old: int, mut new: int, turns: int) {",

@@ -4,6 +4,7 @@
 
 pub mod bash;
 pub mod faults;
+pub mod files;
 pub mod find;
 pub mod fish;
 pub mod idioms;

@@ -84,6 +84,11 @@ impl Page {
         self.name == word || has_word(self.others, word)
     }
 
+    /// Whether a line begins with a word that asks for it.
+    pub fn is_begun(&self, line: &str) -> bool {
+        begins(line, self.name) || self.others.iter().any(|other| begins(line, *other))
+    }
+
     /// Its text: its head, the rule, the program with what is told of it, and how it is mended.
     pub fn text(&self, alloc: Global) -> Result<String, AllocError>
         ensures { IfOk result (λ text. string_bytes text ≡ page_text self.now) }
@@ -123,6 +128,14 @@ fn has_word(words: &[&str], word: &str) -> bool
     ensures { result ≡ list_any (λ one. bytes_eq one.now word.now) words.now }
 {
     words.iter().any(|one| *one == word)
+}
+
+/// Whether a line is this word, or has more behind it and a space.
+fn begins(line: &str, word: &str) -> bool {
+    match line.strip_prefix(word) {
+        Some(rest) => rest.is_empty() || rest.starts_with(' '),
+        None => false,
+    }
 }
 
 /// Adds a program with what is told of it.

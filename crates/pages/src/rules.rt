@@ -12,7 +12,7 @@ const PAGES: &[Page] = &[
         name: "Y1",
         others: &[],
         about: "a name that isn't in scope",
-        rule: "Each name and each procedure is declared where it is used. A variable is in scope from behind its `var`
+        rule: "Each name and each procedure is declared where it is used. A variable is in scope from the end of its `var`
 to the end of its block, a side of a split in the block of the split, an array in `main`.",
         example: Example::Program(Told {
             lines: &["main {", "  print x;", "}"],
@@ -34,15 +34,13 @@ declares the name: arrays, parameters and procedures have none.",
             command: "check program.afx",
             line: "Y2 at label 2",
         }),
-        mend: Some(
-            "Take another name, or assign: `x = 2;`. Behind its block a name is free again.",
-        ),
+        mend: Some("Take another name, or assign: `x = 2;`. After its block a name is free again."),
     },
     Page {
         name: "Y3",
         others: &[],
         about: "a number, a truth value or a section for another of these",
-        rule: "Truth values stand only in guards, and behind and before `and`, `or` and `not`. A section is no value: its
+        rule: "Truth values stand only in guards, and as operands of `and`, `or` and `not`. A section is no value: its
 elements are, as `a[0]`. A variable is no section.",
         example: Example::Program(Told {
             lines: &["main {", "  print 1 < 2;", "}"],
@@ -91,7 +89,7 @@ that element type.",
             line: "Y5 at label 3",
         }),
         mend: Some(
-            "Give the task a section of its own to write into, and read that behind the finish: `afx explain answers`.",
+            "Give the task a section of its own to write into, and read that after the finish: `afx explain answers`.",
         ),
     },
     Page {
@@ -136,7 +134,7 @@ split are apart; a section and its part are not, nor are sides of two splits of 
             command: "check program.afx",
             line: "Y8",
         }),
-        mend: Some("Write `main { .. }` behind the procedures."),
+        mend: Some("Write `main { .. }` after the procedures."),
     },
     Page {
         name: "Y9",

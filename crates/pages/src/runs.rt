@@ -1,8 +1,8 @@
-//! What ends a run, or keeps it from its answer.
+//! What ends a run as tasks, or one by choices.
 
 use crate::page::{Example, Page, Told};
 
-/// `E1` to `E5`, choices, files and memory
+/// `E1` to `E5`, and what is told of choices
 pub fn pages() -> &'static [Page] {
     PAGES
 }
@@ -68,15 +68,16 @@ lead to the run's outcome. No program is known that comes to it. The status is 5
         name: "no-leaf",
         others: &["no leaf"],
         about: "a choice that names no task",
-        rule: "Each choice of `explore` is the number of one of the tasks that may step, from the left and from 0. Told
-is which choice it was, from 0.",
+        rule: "Each choice of `explore` is the number of the task that steps next, among those that may step, from 0 and
+in the order in which one thread comes to them. A task may step if it has not ended and waits for no finish; it is
+a leaf then. Told is which choice names none, from 0.",
         example: Example::Program(Told {
             lines: &["main {", "  skip;", "}"],
             command: "explore program.afx --choices 0,0",
             line: "no leaf at choice 1",
         }),
         mend: Some(
-            "Leave it and those behind it out: `open N` then tells how many tasks may step.",
+            "Leave out that choice and those after it: `open N` then tells how many tasks may step.",
         ),
     },
     Page {
@@ -103,50 +104,5 @@ them too.",
             line: "choices not understood",
         }),
         mend: Some("Write `--choices 0,0`."),
-    },
-    Page {
-        name: "cannot-read",
-        others: &["cannot read"],
-        about: "a file that can't be read",
-        rule: "There is none of this name, or it may not be opened or read.",
-        example: Example::Program(Told {
-            lines: &["main {", "}"],
-            command: "check absent.afx",
-            line: "cannot read absent.afx",
-        }),
-        mend: Some(
-            "Look at the name: it counts from the folder in which `afx` runs. `-` is the standard input.",
-        ),
-    },
-    Page {
-        name: "cannot-write",
-        others: &["cannot write output", "cannot write"],
-        about: "a file or an answer that can't be written",
-        rule: "A trace or a picture: no file of this name may be written, or the disk is full. Then no answer is written either.
-`cannot write output`: the standard output failed or took nothing. A beginning of the answer may stand there.",
-        example: Example::Program(Told {
-            lines: &["main {", "}"],
-            command: "run program.afx --trace -",
-            line: "cannot write -",
-        }),
-        mend: Some(
-            "Look at the name: its folder must be there, and `-`, the standard input, is never written.",
-        ),
-    },
-    Page {
-        name: "not-UTF-8",
-        others: &["not UTF-8"],
-        about: "a file or a word that is no text",
-        rule: "A program, an input, a trace and each word of the command line are UTF-8.",
-        example: Example::Nothing,
-        mend: Some("Write it anew in UTF-8. Outside of comments a program has ASCII alone."),
-    },
-    Page {
-        name: "no-memory",
-        others: &["no memory"],
-        about: "no memory",
-        rule: "For what no code of its own stands: `S6`, `Y10`, `C2`, `N6`, `E1` and `J2` are others. The status is 4.",
-        example: Example::Nothing,
-        mend: Some("Try again where there is more memory."),
     },
 ];

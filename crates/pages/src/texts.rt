@@ -13,28 +13,28 @@ const PAGES: &[Page] = &[
         others: &[],
         about: "a character that begins no token",
         rule: "Outside of comments stand names, numbers, reserved words and marks. A letter past ASCII, a quote and a
-`!` without `=` behind it begin none of these. The place is that of the character.",
+`!` without `=` after it begin none of these. The place is that of the character.",
         example: Example::Program(Told {
             lines: &["main {", "  print 1 ! 2;", "}"],
             command: "check program.afx",
             line: "S1 at 2:11",
         }),
         mend: Some(
-            "Write the mark that was meant, as `1 != 2` in a guard, or put the text behind `//`.",
+            "Write the mark that was meant, as `1 != 2` in a guard, or put the text after `//`.",
         ),
     },
     Page {
         name: "S2",
         others: &[],
         about: "a token that may not stand where it stands",
-        rule: "The place is that of the first token at which no program can go on, or just behind the last character
+        rule: "The place is that of the first token at which no program can go on, or just after the last character
 where the text ends too soon. A reserved word is no name: see `afx explain words`.",
         example: Example::Program(Told {
             lines: &["main {", "  skip", "}"],
             command: "check program.afx",
             line: "S2 at 3:1",
         }),
-        mend: Some("Look before that place too: here the `;` behind `skip` is missing."),
+        mend: Some("Look before that place too: here the `;` after `skip` is missing."),
     },
     Page {
         name: "S3",

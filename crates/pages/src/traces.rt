@@ -24,7 +24,7 @@ open P          P begins a finish
 park P          P is at the end of a finish, and waits for the tasks begun in it
 end P           P has ended
 pass O#N        all of finish N of O has ended
-resume W P      worker W goes on with P behind its finish
+resume W P      worker W goes on with P after its finish
 
 A trace has no clock: time is the number of the event.",
         example: Example::WithTrace(Traced {
