@@ -65,7 +65,7 @@ const FOLDER: Entry = Entry {
 
 const LIST: Entry = Entry {
     name: "list",
-    help: "Writes the program, each statement behind its label",
+    help: "Writes the program, with its label before each statement",
     takes: Takes::NothingBut(&["format"]),
 };
 
@@ -77,67 +77,67 @@ const LINES: Entry = Entry {
 
 const CHECK: Entry = Entry {
     name: "check",
-    help: "Writes nothing, and tells by the exit status whether the file is so laid out",
+    help: "Writes no layout, and tells whether the file has it: if not, by `not laid out` and status 1",
     takes: Takes::NothingBut(&["write"]),
 };
 
 const WRITE: Entry = Entry {
     name: "write",
-    help: "Writes it into the file in place of the standard output; a file that is so laid out stays untouched",
+    help: "Writes the layout into the file in place of the standard output; a file that has it stays untouched",
     takes: Takes::Nothing,
 };
 
 const INPUT: Entry = Entry {
     name: "input",
-    help: "The file of the arrays' first contents; without it they hold zeros",
+    help: "The file of what the arrays hold at first; without it zeros",
     takes: Takes::Text("JSON"),
 };
 
 const STEPS: Entry = Entry {
     name: "steps",
-    help: "How many steps each task may take; without it 1000000",
+    help: "How many steps each task may take, 1 to 1000000000; without it 1000000",
     takes: Takes::Number(1, 1_000_000_000),
 };
 
 const NEST: Entry = Entry {
     name: "nest",
-    help: "How many asyncs may stand inside one another; without it 100",
+    help: "How many asyncs may stand inside one another, 0 to 1000; without it 100",
     takes: Takes::Number(0, 1_000),
 };
 
 const TASKS: Entry = Entry {
     name: "tasks",
-    help: "How many tasks there may be, with the one of main; without it 65536",
+    help: "How many tasks there may be, with the one of main, 1 to 1048576; without it 65536",
     takes: Takes::Number(1, 1_048_576),
 };
 
 const W0: Entry = Entry {
     name: "w0",
-    help: "How much weight a finish issues at a time, for its tasks to divide; without it 1048576",
+    help: "How much weight a finish issues at a time, for its tasks to divide, 1 to 4294967296; without it 1048576",
     takes: Takes::Number(1, 4_294_967_296),
 };
 
 const WORKERS: Entry = Entry {
     name: "workers",
-    help: "On how many threads the tasks run; without it 4",
+    help: "On how many threads the tasks run, 1 to 64; without it 4",
     takes: Takes::Number(1, 64),
 };
 
 const CHOICES: Entry = Entry {
     name: "choices",
-    help: "Which part steps next, step by step: numbers joined by commas; without it none does",
+    help: "Which task steps next, step by step: numbers joined by commas; without it none does",
     takes: Takes::TextBut("LIST", &["choices-from", "random"]),
 };
 
 const CHOICES_FROM: Entry = Entry {
     name: "choices-from",
-    help: "The same in a file: numbers with commas or white space between them",
+    help: "The file of the choices: numbers with commas or white space between them",
     takes: Takes::TextBut("FILE", &["random"]),
 };
 
 const RANDOM: Entry = Entry {
     name: "random",
-    help: "Draws them by a generator from this number on, to the end or 1000000 of them",
+    help: "Draws the choices from this number, 0 to 18446744073709551615, to the end or 1000000 of them",
     takes: Takes::Seed,
 };
 
@@ -155,79 +155,79 @@ const TRACE: Entry = Entry {
 
 const SUMMARY: Entry = Entry {
     name: "summary",
-    help: "Writes its numbers in place of the table: tasks, work, span, parallelism, steals and others",
+    help: "Writes the numbers of the trace in place of the table: tasks, work, span, parallelism, steals and others",
     takes: Takes::NothingBut(&["svg", "chrome"]),
 };
 
 const SVG: Entry = Entry {
     name: "svg",
-    help: "Draws it into this file in place of the table: a lane for each worker, from event to event",
+    help: "Draws the trace into this file in place of the table: a lane for each worker, from event to event",
     takes: Takes::TextBut("OUT", &["chrome"]),
 };
 
 const CHROME: Entry = Entry {
     name: "chrome",
-    help: "Writes it into this file in place of the table, for Perfetto or the tracing page of chrome",
+    help: "Writes the trace into this file in place of the table, for Perfetto or the tracing page of Chrome",
     takes: Takes::Text("OUT"),
 };
 
 const BY_LINE: Entry = Entry {
     name: "by-line",
-    help: "Writes behind that the work and the span of each statement, by its label",
+    help: "Writes after the numbers the work and the span of each statement, by its label",
     takes: Takes::NothingBut(&["by-procedure", "format"]),
 };
 
 const BY_PROCEDURE: Entry = Entry {
     name: "by-procedure",
-    help: "Writes behind that the work and the span of each procedure, with all statements inside",
+    help: "Writes after the numbers the work and the span of each procedure, with all statements inside",
     takes: Takes::NothingBut(&["format"]),
 };
 
 const ARRAYS: Entry = Entry {
     name: "arrays",
-    help: "Shows the arrays behind the outcome",
+    help: "Shows the arrays after the outcome",
     takes: Takes::Nothing,
 };
 
 const PROGRESS: Entry = Entry {
     name: "progress",
-    help: "Tells at the terminal, twice a second, how many steps are done",
+    help: "Tells at a terminal, at most twice a second, how many steps are done",
     takes: Takes::Nothing,
 };
 
 const EXPLAIN: Entry = Entry {
     name: "explain",
-    help: "Says behind a refusal where it stands, why, and what would be right",
+    help: "Says after a refusal, a fault or a stopped run where it stands, why, and what would be right",
     takes: Takes::Nothing,
 };
 
 const COLOR: Entry = Entry {
     name: "color",
-    help: "Whether that has colours; without it auto: at a terminal, unless NO_COLOR is set",
+    help: "Whether what --explain says has colours; without it auto: at a terminal, unless NO_COLOR is set",
     takes: Takes::OneOf("WHEN", &["auto", "always", "never"]),
 };
 
 const FORMAT: Entry = Entry {
     name: "format",
-    help: "Whether the answer, or the refusal, is lines of text, or one object; without it text",
+    help: "Whether the answer, or the refusal, is lines of text, or one JSON object; without it text",
     takes: Takes::OneOf("KIND", &["text", "json"]),
 };
 
 const WORD: Entry = Entry {
     name: "WORD",
-    help: "A code, as Y5, or another word that has a page; without it a list of them",
+    help: "A code, as Y5, another word that has a page, or a line that was told; without it a list of the pages",
     takes: Takes::Words,
 };
 
 const PAGES: Entry = Entry {
     name: "list",
-    help: "Lists the words that have a page",
+    help: "Lists the words that have a page, with what each is about",
     takes: Takes::Nothing,
 };
 
 const SHELL: Entry = Entry {
     name: "SHELL",
-    help: "The shell",
+    help: "The shell for which the script is",
     takes: Takes::Shell,
 };
 
@@ -266,13 +266,14 @@ NAME.out holds. The file of its input is NAME.json, if there is one.
 Example: afx test examples/tested";
 
 const EXPLORE_EXAMPLE: &str =
-    "A choice is the number of a part that steps next, of those that may, from the left and from 0.
+    "A choice is the number of the task that steps next, among those that may step, from 0 and in the order in which one
+thread comes to them. A task may step if it has not ended and waits for no finish.
 
 Example: afx explore examples/two_arrays.afx --choices 0,0,1";
 
 const VIEW_EXAMPLE: &str =
-    "The trace tells the budget and the workers of the run; program and input are those that it was of. It is refused where
-they can't have led to its events.
+    "The trace tells the budget and the workers of the run; FILE and JSON are the program and the input of that run. The trace
+is refused where they can't have led to its events.
 
 Example: afx run examples/two_arrays.afx --trace two_arrays.trace && afx view examples/two_arrays.afx two_arrays.trace
 Example: afx view examples/two_arrays.afx two_arrays.trace --svg two_arrays.svg";
@@ -310,7 +311,7 @@ const CHECKED: Row = Row {
 
 const LISTED: Row = Row {
     name: "list",
-    about: "Writes a program, each statement behind its label",
+    about: "Writes a program, with its label before each statement",
     example: LIST_EXAMPLE,
     entries: &[FILE, LINES, EXPLAIN, COLOR],
 };
@@ -411,7 +412,8 @@ const ROWS: [Row; 14] = [
 ];
 
 /// What stands behind the help of the program.
-const STATUSES: &str = "No word is `run -`: the program is read from the standard input.
+const STATUSES: &str =
+    "No word is `run -`: the program is read from the standard input. At a terminal it is `--help`.
 
 Example: afx serial examples/doubling.afx --input examples/doubling.json --arrays
 
