@@ -4,15 +4,16 @@ use crate::find::tables;
 use crate::offers::{takes_value, value_name};
 use crate::page::push_all;
 use crate::quoting::Quoting;
+use clap::builder::ValueParser;
 use clap::{Arg, Command};
 use std::alloc::{AllocError, Global};
 
 /// What is told behind the commands.
 #[derive(Clone, Copy)]
 pub struct Closing<'a> {
-    /// What stands behind the help of the program, with the statuses at its end.
+    /// What stands behind the help of the program: a text, an example, and the statuses at its end.
     pub notes: &'a str,
-    /// What stands behind the help of the commands, with a line that begins with `Example: ` in each.
+    /// What stands behind the help of each command, in their order: a text or none, and lines that begin with `Example: `.
     pub examples: &'a [&'a str],
 }
 
@@ -24,24 +25,36 @@ pub fn page(
 ) -> Result<String, AllocError> {
     let mut text = String::new(alloc);
     push_title(&mut text, program)?;
+    text.push_str(".SH DESCRIPTION\n")?;
+    push_paragraph(&mut text, closing.notes)?;
     text.push_str(".SH COMMANDS\n")?;
+    let mut examples = closing.examples.iter();
     for command in program.get_subcommands() {
         push_command(alloc, &mut text, command)?;
+        if let Some(behind) = examples.next() {
+            push_paragraph(&mut text, *behind)?;
+        }
     }
     push_statuses(&mut text, closing.notes)?;
+    push_messages(&mut text)?;
+    push_examples(&mut text, closing.examples)?;
+    Ok(text)
+}
+
+/// What each page is about.
+fn push_messages(text: &mut String) -> Result<(), AllocError> {
     text.push_str(
         ".SH MESSAGES\nEach word has a page that tells more, by \\fBafx explain\\fR \\fIWORD\\fR.\n",
     )?;
     for table in &tables() {
         for page in *table {
             text.push_str(".TP 16\n.B ")?;
-            Quoting::Roff.push(&mut text, page.name)?;
+            Quoting::Roff.push(text, page.name)?;
             text.push('\n')?;
-            push_line(&mut text, page.about)?;
+            push_line(text, page.about)?;
         }
     }
-    push_examples(&mut text, closing.examples)?;
-    Ok(text)
+    Ok(())
 }
 
 /// The title, and what the program does.
@@ -98,7 +111,37 @@ fn push_argument(alloc: Global, text: &mut String, arg: &Arg<'_>) -> Result<(), 
         push_all(text, &["\\fI", name.as_str(), "\\fR"])?;
     }
     text.push('\n')?;
-    push_line(text, arg.get_help().unwrap_or(""))
+    push_line(text, arg.get_help().unwrap_or(""))?;
+    push_values(text, arg)
+}
+
+/// The words of which an argument takes one, where it does: `(one of: text, json)`
+fn push_values(text: &mut String, arg: &Arg<'_>) -> Result<(), AllocError> {
+    if let ValueParser::Names(names) = arg.get_value_parser() {
+        let mut mark = "(one of: ";
+        for name in names {
+            push_all(text, &[mark, *name])?;
+            mark = ", ";
+        }
+        text.push_str(")\n")?;
+    }
+    Ok(())
+}
+
+/// The text before the examples, as a paragraph at the margin; nothing where there is none.
+fn push_paragraph(text: &mut String, behind: &str) -> Result<(), AllocError> {
+    if behind.starts_with("Example: ") {
+        return Ok(());
+    }
+    text.push_str(".PP\n")?;
+    let mut here = true;
+    for line in behind.lines() {
+        here = here && !line.starts_with("Example: ");
+        if here && !line.is_empty() {
+            push_line(text, line)?;
+        }
+    }
+    Ok(())
 }
 
 /// The statuses, which stand at the end of the notes, a line each.
