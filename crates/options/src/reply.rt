@@ -1,5 +1,7 @@
 //! The replies to words that ask nothing of a program.
 
+use crate::table::commands;
+use clap::error::ErrorKind;
 use clap::{ArgMatches, Command, Error};
 use pages::find::{contents, page_about, push_name_lines, tables};
 use pages::manual::{self, Closing};
@@ -13,7 +15,7 @@ pub enum Reply {
     Said(Error),
     /// A text that was asked for, for the standard output.
     Page(String),
-    /// Lines for the standard error, where no page is asked for by these words.
+    /// Lines for the standard error: no page is asked for by these words, or a program stands in a command's place.
     NoPage(String),
 }
 
@@ -27,6 +29,37 @@ impl From<AllocError> for Reply {
     fn from(error: AllocError) -> Reply {
         Reply::Said(Error::from(error))
     }
+}
+
+/// What `clap` finds in words by the table, or the reply to them.
+pub fn matched<'w>(alloc: Global, words: &'w [String]) -> Result<ArgMatches<'w>, Reply> {
+    match commands(alloc)?.try_get_matches_from(words) {
+        Ok(matches) => Ok(matches),
+        Err(error) => Err(mistaken(alloc, words, error)?),
+    }
+}
+
+/// What `clap` says of words; where a program stands in a command's place, how that is run too.
+fn mistaken(alloc: Global, words: &[String], error: Error) -> Result<Reply, AllocError> {
+    match words.first() {
+        Some(word)
+            if error.kind() == ErrorKind::InvalidSubcommand && word.as_str().ends_with(".afx") => {
+            let said = format!(in alloc; "{error}")?;
+            Ok(Reply::NoPage(with_hint(alloc, &said, word)?))
+        }
+        _ => Ok(Reply::Said(error)),
+    }
+}
+
+/// What is said of a mistake, with how a program is run behind its first paragraph.
+fn with_hint(alloc: Global, said: &str, program: &str) -> Result<String, AllocError> {
+    let (first, others) = said.split_once("\n\n").unwrap_or((said, ""));
+    let mut text = String::from_str(alloc, first)?;
+    text.push_str("\n\n  to run it: afx run ")?;
+    push_shown(&mut text, program)?;
+    text.push_str("\n\n")?;
+    text.push_str(others)?;
+    Ok(text)
 }
 
 /// The page for which the words behind `explain` ask; of none, or with `--list`, the list of all.

@@ -11,7 +11,7 @@ use types::budget::Budget;
 
 /// The order that `clap` finds in the words, or the reply to them.
 pub fn order_by_clap<'w>(alloc: Global, words: &'w [String]) -> Result<Order<'w>, Reply> {
-    let matches = commands(alloc)?.try_get_matches_from(words)?;
+    let matches = reply::matched(alloc, words)?;
     match matches.subcommand() {
         Some(("explain", given)) => Err(reply::explained(alloc, given)?),
         Some(("completions", given)) => {
