@@ -2,7 +2,7 @@
 use Rattle.std.proofs.Common.{◌≡◌, ℕ, zero, suc, ◌+◌, ◌≤◌, List, [], ◌∷◌, ◌++◌, Some, refl, sym, ap, ◌∙◌, subst}
 use Rattle.std.proofs.Common.{arith}
 use Rattle.std.specs.Prelude.{Bool, true, flat_map, if◌then◌else◌, ℤ}
-use Rattle.own_run.proofs.MeasuredResults.{measured-inserted, each_inserted, no_more}
+use Rattle.own_run.proofs.MeasuredResults.{each_inserted}
 use Rattle.types.specs.Code.{Codes, Program}
 use Rattle.types.specs.Run.{Block}
 use Rattle.types.specs.Outcome.{Budget}
@@ -23,6 +23,15 @@ use Rattle.interleave.proofs.ReplayLaws.{measured}
 use Rattle.interleave.proofs.Lookups.{by_test, path_refl}
 use Rattle.interleave.proofs.Outcomes.{sound, root_hands_on}
 use Rattle.interleave.proofs.Measured.{root_holds_all}
+
+-- a list with one element put in, and one that comes to nothing
+measured-inserted : (f : TaskResult → ℕ) (x : TaskResult) (ys zs : List TaskResult) → Inserted x ys zs → measured f zs ≡ f x + measured f ys
+measured-inserted f x ys zs here = refl
+measured-inserted f x _ _ (later {y = y} {ys = ys} {zs = zs} i) = let a = measured-inserted f x ys zs i in omega (arith, a)
+
+empty : (ys : List TaskResult) → 0 ≡ measured (λ r. 1) ys → ys ≡ []
+empty [] e = refl
+empty (y ∷ ys) e = absurd (omega (arith, e))
 
 record Picked (path : List ℕ) (zs : List TaskResult) : Type 0 where
   it : TaskResult
@@ -53,7 +62,7 @@ module _ (p : Program) (needs : Codes → Needs) (fresh : ℕ) (root : Start) wh
 
   -- results that measure alike stand in some order
   pub shuffled : (xs ys : List TaskResult) → Each IsReal xs → Each IsReal ys → ((f : TaskResult → ℕ) → measured f xs ≡ measured f ys) → Shuffled xs ys
-  shuffled [] ys h k e = subst (Shuffled []) (sym (no_more ys (e (λ r. 1)))) none
+  shuffled [] ys h k e = subst (Shuffled []) (sym (empty ys (e (λ r. 1)))) none
   shuffled (x ∷ xs) ys h k e =
       let first = counts_one (same_path x.path x.path) (path_refl x.path) in
       let some = e (λ r. if same_path r.path x.path then 1 else 0) in
