@@ -46,7 +46,7 @@ ended_or_going es n last s Ended h = inl h.1
 ended_or_going es n last s Left h = inl h.1
 ended_or_going es n last s Going h = inr refl
 
-going_to_last : (es : List Event) (n last : ℕ) (s : Spell) (e : Ending) → e ≡ Going → IsEndingSoFar es n last s e → s.last ≡ last
+pub going_to_last : (es : List Event) (n last : ℕ) (s : Spell) (e : Ending) → e ≡ Going → IsEndingSoFar es n last s e → s.last ≡ last
 going_to_last es n last s e is h = subst (λ (x : Ending). IsEndingSoFar es n last s x) is h
 
 pub past_or_going : (es : List Event) (n last : ℕ) (s : Spell) → IsSpellSoFar es n last s → (s.last < n) ⊎ (s.ending ≡ Going)
@@ -160,7 +160,7 @@ began es n last workers ss s le hand first is past h = record {
 }
 
 -- ---- a hand that is left
-is_going_or_not : (e : Ending) → (e ≡ Going) ⊎ (e ≡ Going → ⊥)
+pub is_going_or_not : (e : Ending) → (e ≡ Going) ⊎ (e ≡ Going → ⊥)
 is_going_or_not Parked = inr (λ h. cc)
 is_going_or_not Ended = inr (λ h. cc)
 is_going_or_not Left = inr (λ h. cc)

@@ -7,20 +7,21 @@ use Rattle.std.proofs.Common.{nat_eq}
 use Rattle.std.proofs.lemmas.List.{get_or_append_left, get_or_push, length-set, length_push}
 use Rattle.std.proofs.lemmas.List.Sums.{count_by_more_no, count_by_more_yes}
 use Rattle.std.proofs.lemmas.List.{get_or-set_same, take_all}
-use Rattle.std.proofs.lemmas.List.Elements.{All-nil, All-weaker}
+use Rattle.std.proofs.lemmas.List.Elements.{All-nil}
 use Rattle.std.specs.Map.{lookup}
-use Rattle.std.proofs.lemmas.Option.{get_or_from_slice_get, none-some, option_and_then_some, same_Some, slice_get_within}
+use Rattle.std.proofs.lemmas.Option.{get_or_from_slice_get, none-some, same_Some, slice_get_within}
 use Rattle.std.proofs.lemmas.Slice.Eq.{bytes_eq-Decides}
 use Rattle.events.specs.declared.event.Event.{Event}
-use Rattle.events.specs.declared.event.Event.TheVariants.{Take, Park, End, Resume}
 use Rattle.trace_numbers.specs.Tables.{is_path}
 use Rattle.types.specs.declared.path.Path.{Path}
-use Rattle.trace_layout.specs.Hands.{AreHands, AreSpellsSoFar, IsEmptyHand, IsEndingSoFar, IsLeaving, IsOfTask, IsSpellSoFar}
-use Rattle.trace_layout.specs.Spells.{AreApart, AreInOrder, AreSpells, Hold, IsEnding, IsSpell, ended, ended_at, is_taking, parked, parked_at, taken, taken_at}
+use Rattle.trace_layout.specs.Hands.{AreHands, AreInTurn, AreSpellsSoFar, IsEmptyHand, IsEndingSoFar, IsInTurn, IsOfTask, IsSpellSoFar}
+use Rattle.trace_layout.specs.Spells.{AreApart, AreInOrder, AreSpells, Hold, IsEnding, IsLatest, IsLeaving, IsSpell, ended_at, is_taking, parked_at, taken_at}
 use Rattle.trace_layout.specs.declared.spells.Spells.{Spells}
 use Rattle.trace_layout.specs.declared.hands.Hands.{Hands}
 use Rattle.trace_layout.specs.declared.spells.Spell.{Spell}
 use Rattle.trace_layout.proofs.Changes.{IsLeft, Keeps, all_later, began, changed, kept_at, left_spell, past_without}
+use Rattle.trace_layout.proofs.WhichEvent.{is_leaving, leaves_none, leaving_at, never_going, takes_none, taking_at}
+use Rattle.trace_layout.proofs.Turns.{latest_kept, latest_more, turns_began, turns_ended, turns_later, turns_left, turns_own, turns_past}
 use Rattle.trace_layout.specs.declared.spells.Ending.{Ending}
 use Rattle.trace_layout.specs.declared.spells.Ending.TheVariants.{Parked, Ended, Left, Going}
 
@@ -47,6 +48,7 @@ hands_at_first es h last items tasks workers = record {
   spells = subst (λ (w : List (Option ℕ)). AreSpellsSoFar es 0 h.last w h.spells.items) (sym workers)
       (subst (AreSpellsSoFar es 0 h.last (replicate 64 None)) (sym items) (nothing_so_far es h.last));
   tasks = λ path k found. absurd (none-some k (sym (ap (lookup (is_path path)) tasks) ∙ found));
+  turns = λ k d there. absurd (omega (arith, ap length items));
   count = ap length items;
 }
 
@@ -64,30 +66,50 @@ one_more es n e at is =
     (ap is_taking (get_or_from_slice_get es n e e at) ∙ is)
 
 -- ---- no spell changes
-pub later : (es : List Event) (n : ℕ) (e : Event) (h : Hands) → slice_get es n ≡ Some e → is_taking e ≡ false
-    → AreHands es n h → AreHands es (n + 1) h
-later es n e h at is was = record {
+-- no worker takes a task that has come so far
+latest_on : (es : List Event) (n : ℕ) (e : Event) → slice_get es n ≡ Some e → is_taking e ≡ false
+    → (s : Spell) → IsLatest es s n → IsLatest es s (n + 1)
+latest_on es n e at is s =
+    latest_more es n s (λ worker. takes_none es n e (record { worker = worker; path = s.path.turns.items }) at is)
+
+task_later : (es : List Event) (n m : ℕ) (ss : List Spell) (path : List ℕ) (k : ℕ) → ((s : Spell) → IsLatest es s n → IsLatest es s m)
+    → IsOfTask es n ss path k → IsOfTask es m ss path k
+task_later es n m ss path k on h = record { there = h.there; same = h.same; latest = λ d. on (get_or ss k d) (h.latest d) }
+
+with_turns : (es : List Event) (n : ℕ) (e : Event) (h : Hands) → slice_get es n ≡ Some e → is_taking e ≡ false
+    → AreInTurn es (n + 1) (get is_path h.tasks) h.spells.items → AreHands es n h → AreHands es (n + 1) h
+with_turns es n e h at is turns was = record {
   last = was.last;
   hands = was.hands;
   spells = all_later es n (n + 1) h.last h.workers h.spells.items (omega arith) was.spells;
-  tasks = was.tasks;
+  tasks = λ path k found.
+      task_later es n (n + 1) h.spells.items path.turns.items k (latest_on es n e at is) (was.tasks path k found);
+  turns = turns;
   count = was.count ∙ sym (as_many es n e at is);
 }
 
+pub later : (es : List Event) (n : ℕ) (e : Event) (h : Hands) → slice_get es n ≡ Some e → is_taking e ≡ false → is_leaving e ≡ false
+    → AreHands es n h → AreHands es (n + 1) h
+later es n e h at is stays was =
+    with_turns es n e h at is
+    (turns_later es n (get is_path h.tasks) h.spells.items (λ path f. leaves_none es n e path f at stays) was.turns) was
+
 -- ---- a spell changes
-task_kept : (ss : List Spell) (k : ℕ) (t : Spell) (path : List ℕ) (j : ℕ) → k < length ss → ((d : Spell) → Keeps (get_or ss k d) t)
-    → IsOfTask ss path j → IsOfTask (set ss k t) path j
-task_kept ss k t path j there keeps h = record {
+task_kept : (es : List Event) (n : ℕ) (ss : List Spell) (k : ℕ) (t : Spell) (path : List ℕ) (j : ℕ) → k < length ss → ((d : Spell) → Keeps (get_or ss k d) t)
+    → IsOfTask es n ss path j → IsOfTask es n (set ss k t) path j
+task_kept es n ss k t path j there keeps h = record {
   there = omega (arith, length-set ss k t, h.there);
   same = λ d. (kept_at ss k t there keeps j d).path ∙ h.same d;
+  latest = λ d. latest_kept es n (get_or ss j d) (get_or (set ss k t) j d) (kept_at ss k t there keeps j d) (h.latest d);
 }
 
 pub hands_changed : (es : List Event) (n m : ℕ) (h g : Hands) (k : ℕ) (t : Spell) → n ≤ m → k < length h.spells.items
     → ((d : Spell) → Keeps (get_or h.spells.items k d) t) → IsSpellSoFar es m h.last t
-    → count_by is_taking (take m es) ≡ count_by is_taking (take n es)
+    → count_by is_taking (take m es) ≡ count_by is_taking (take n es) → ((s : Spell) → IsLatest es s n → IsLatest es s m)
+    → AreInTurn es m (get is_path h.tasks) (set h.spells.items k t)
     → g.spells.items ≡ set h.spells.items k t → g.tasks ≡ h.tasks → g.workers ≡ h.workers → g.last ≡ h.last
     → AreHands es n h → AreHands es m g
-hands_changed es n m h g k t le there keeps is many items tasks workers last was = record {
+hands_changed es n m h g k t le there keeps is many on turns items tasks workers last was = record {
   last = last ∙ was.last;
   hands = ap length workers ∙ was.hands;
   spells =
@@ -96,43 +118,73 @@ hands_changed es n m h g k t le there keeps is many items tasks workers last was
       (subst (AreSpellsSoFar es m h.last h.workers) (sym items)
       (changed es n m h.last h.workers h.spells.items k t le there keeps is was.spells)));
   tasks = λ path j found.
-      subst (λ (ss : List Spell). IsOfTask ss path.turns.items j) (sym items)
-      (task_kept h.spells.items k t path.turns.items j there keeps
-      (was.tasks path j (subst (λ m. get is_path m path ≡ Some j) tasks found)));
+      subst (λ (ss : List Spell). IsOfTask es m ss path.turns.items j) (sym items)
+      (task_kept es m h.spells.items k t path.turns.items j there keeps
+      (task_later es n m h.spells.items path.turns.items j on
+      (was.tasks path j (subst (λ m. get is_path m path ≡ Some j) tasks found))));
+  turns =
+      subst (AreInTurn es m (get is_path g.tasks)) (sym items)
+      (subst (λ m_tasks. AreInTurn es m (get is_path m_tasks) (set h.spells.items k t)) (sym tasks) turns);
   count = ap length items ∙ length-set h.spells.items k t ∙ was.count ∙ sym many;
 }
 
 -- ---- a spell begins
-task_stays : (ss : List Spell) (s : Spell) (path : List ℕ) (j : ℕ) → IsOfTask ss path j → IsOfTask (ss ++ s ∷ []) path j
-task_stays ss s path j h = record {
+task_stays : (es : List Event) (n : ℕ) (ss : List Spell) (s : Spell) (path : List ℕ) (j : ℕ)
+    → ((worker : ℕ) → taken_at es n ≡ Some (record { worker = worker; path = path }) → ⊥)
+    → IsOfTask es n ss path j → IsOfTask es (n + 1) (ss ++ s ∷ []) path j
+task_stays es n ss s path j never h = record {
   there = omega (arith, length_push ss s, h.there);
   same = λ d. ap (λ (x : Spell). x.path.turns.items) (get_or_append_left ss (s ∷ []) d j h.there) ∙ h.same d;
+  latest = λ d.
+      subst (λ (x : Spell). IsLatest es x (n + 1)) (sym (get_or_append_left ss (s ∷ []) d j h.there))
+      (latest_more es n (get_or ss j d)
+      (λ worker takes. never worker (takes ∙ ap (λ (p : List ℕ). Some (record { worker = worker; path = p })) (h.same d)))
+      (h.latest d));
 }
 
-new_task : (ss : List Spell) (s : Spell) → IsOfTask (ss ++ s ∷ []) s.path.turns.items (length ss)
-new_task ss s = record {
+new_task : (es : List Event) (n : ℕ) (ss : List Spell) (s : Spell) → s.first ≡ n → IsOfTask es (n + 1) (ss ++ s ∷ []) s.path.turns.items (length ss)
+new_task es n ss s first = record {
   there = omega (arith, length_push ss s);
   same = λ d. ap (λ (x : Spell). x.path.turns.items) (get_or_push ss s d (length ss) refl);
+  latest = λ d.
+      subst (λ (x : Spell). IsLatest es x (n + 1)) (sym (get_or_push ss s d (length ss) refl))
+      (λ m worker behind before takes. absurd (omega arith));
 }
 
-tasks_after : (b : Bool) (ss : List Spell) (s : Spell) (key other : List ℕ) (j : ℕ) (old : Option ℕ)
-    → pointwise nat_eq key other ≡ b → s.path.turns.items ≡ key
-    → ((i : ℕ) → old ≡ Some i → IsOfTask ss other i)
-    → cond b (Some (length ss)) old ≡ Some j → IsOfTask (ss ++ s ∷ []) other j
-tasks_after true ss s key other j old same is was found =
-    subst (λ (p : List ℕ). IsOfTask (ss ++ s ∷ []) p j) (is ∙ (bytes_eq-Decides key other).0 same)
-    (subst (IsOfTask (ss ++ s ∷ []) s.path.turns.items) (same_Some (length ss) j found) (new_task ss s))
-tasks_after false ss s key other j old same is was found = task_stays ss s other j (was j found)
+-- by one event no other task is taken
+takes_one : (es : List Event) (n worker other : ℕ) (key path : List ℕ) → pointwise nat_eq key path ≡ false
+    → taken_at es n ≡ Some (record { worker = worker; path = key }) → taken_at es n ≡ Some (record { worker = other; path = path }) → ⊥
+takes_one es n worker other key path never takes others =
+    let one = same_Some (record { worker = worker; path = key }) (record { worker = other; path = path }) (sym takes ∙ others) in
+    let same : key ≡ path = ap (λ (y : Hold). y.path) one in
+    let both : true ≡ false = sym ((bytes_eq-Decides key path).1 same) ∙ never in
+    cc
+
+tasks_after : (es : List Event) (n : ℕ) (b : Bool) (ss : List Spell) (s : Spell) (key other : List ℕ) (j : ℕ) (old : Option ℕ)
+    → pointwise nat_eq key other ≡ b → s.path.turns.items ≡ key → s.first ≡ n
+    → taken_at es n ≡ Some (record { worker = s.worker; path = s.path.turns.items })
+    → ((i : ℕ) → old ≡ Some i → IsOfTask es n ss other i)
+    → cond b (Some (length ss)) old ≡ Some j → IsOfTask es (n + 1) (ss ++ s ∷ []) other j
+tasks_after es n true ss s key other j old same is first takes was found =
+    subst (λ (p : List ℕ). IsOfTask es (n + 1) (ss ++ s ∷ []) p j) (is ∙ (bytes_eq-Decides key other).0 same)
+    (subst (IsOfTask es (n + 1) (ss ++ s ∷ []) s.path.turns.items) (same_Some (length ss) j found) (new_task es n ss s first))
+tasks_after es n false ss s key other j old same is first takes was found =
+    task_stays es n ss s other j
+    (λ worker others. takes_one es n s.worker worker key other same
+    (takes ∙ ap (λ (p : List ℕ). Some (record { worker = s.worker; path = p })) is) others)
+    (was j found)
 
 pub hands_began : (es : List Event) (n : ℕ) (e : Event) (h g : Hands) (s : Spell) (key : Path) → slice_get es n ≡ Some e → is_taking e ≡ true
     → s.worker < length h.workers → s.first ≡ n → s.path.turns.items ≡ key.turns.items
-    → IsSpellSoFar es (n + 1) h.last s
+    → IsSpellSoFar es (n + 1) h.last s → s.ending ≡ Going
     → g.spells.items ≡ h.spells.items ++ s ∷ []
     → ((other : Path) → get is_path g.tasks other ≡ cond (is_path key other) (Some (length h.spells.items)) (get is_path h.tasks other))
     → g.workers ≡ set h.workers s.worker (Some (length h.spells.items)) → g.last ≡ h.last
     → IsEmptyHand es n s.worker h → AreHands es (n + 1) g
-hands_began es n e h g s key at takes hand first path is items tasks workers last empty =
+hands_began es n e h g s key at takes hand first path is going items tasks workers last empty =
     let was = empty.hands in
+    let takes_it : taken_at es n ≡ Some (record { worker = s.worker; path = s.path.turns.items }) =
+    ap (taken_at es) (sym first) ∙ is.begins in
     let le : n ≤ h.last = omega (arith, was.last, slice_get_within es n e at) in
     record {
       last = last ∙ was.last;
@@ -143,46 +195,23 @@ hands_began es n e h g s key at takes hand first path is items tasks workers las
           (subst (AreSpellsSoFar es (n + 1) h.last (set h.workers s.worker (Some (length h.spells.items)))) (sym items)
           (began es n h.last h.workers h.spells.items s le hand first is empty.past was.spells)));
       tasks = λ other j found.
-          subst (λ (ss : List Spell). IsOfTask ss other.turns.items j) (sym items)
-          (tasks_after (is_path key other) h.spells.items s key.turns.items other.turns.items j (get is_path h.tasks other) refl path
-          (λ i old. was.tasks other i old) (sym (tasks other) ∙ found));
+          subst (λ (ss : List Spell). IsOfTask es (n + 1) ss other.turns.items j) (sym items)
+          (tasks_after es n (is_path key other) h.spells.items s key.turns.items other.turns.items j (get is_path h.tasks other) refl path first
+          takes_it (λ i old. was.tasks other i old) (sym (tasks other) ∙ found));
+      turns = subst (AreInTurn es (n + 1) (get is_path g.tasks)) (sym items)
+          (turns_began es n (get is_path h.tasks) (get is_path g.tasks) h.spells.items s key takes_it first going path tasks
+          (λ k d there. (was.spells.each k d there).before) was.turns);
       count = ap length items ∙ length_push h.spells.items s ∙ ap (λ (c : ℕ). c + 1) was.count ∙ sym (one_more es n e at takes);
     }
 
--- ---- which event it is
--- the event of a number, and whether it is a take or resume
-pub record IsAtNumber (es : List Event) (n : ℕ) (b : Bool) : Type 0 where
-  pub event : Event
-  pub at : slice_get es n ≡ Some event
-  pub is : is_taking event ≡ b
-
-taken_is : (e : Event) (y : Hold) → taken e ≡ Some y → is_taking e ≡ true
-taken_is (Take worker path) y h = refl
-taken_is (Resume worker path) y h = refl
-taken_is _ y h = absurd (none-some y h)
-
-parked_is : (e : Event) (y : List ℕ) → parked e ≡ Some y → is_taking e ≡ false
-parked_is (Park path) y h = refl
-parked_is _ y h = absurd (none-some y h)
-
-ended_is : (e : Event) (y : List ℕ) → ended e ≡ Some y → is_taking e ≡ false
-ended_is (End path) y h = refl
-ended_is _ y h = absurd (none-some y h)
-
-pub taking_at : (es : List Event) (n : ℕ) (y : Hold) → taken_at es n ≡ Some y → IsAtNumber es n true
-taking_at es n y h = option_and_then_some {P = IsAtNumber es n true} taken (slice_get es n) y h
-    (λ e at is. record { event = e; at = at; is = taken_is e y is })
-
-pub leaving_at : (es : List Event) (n : ℕ) (path : List ℕ) (e : Ending) → IsLeaving es n path e → IsAtNumber es n false
-leaving_at es n path Parked h = option_and_then_some {P = IsAtNumber es n false} parked (slice_get es n) path h
-    (λ e at is. record { event = e; at = at; is = parked_is e path is })
-leaving_at es n path Ended h = option_and_then_some {P = IsAtNumber es n false} ended (slice_get es n) path h
-    (λ e at is. record { event = e; at = at; is = ended_is e path is })
-leaving_at es n path Left h = absurd h
-leaving_at es n path Going h = absurd h
-
-pub later_unless : (es : List Event) (n : ℕ) (path : List ℕ) (e : Ending) (h : Hands) → IsLeaving es n path e → AreHands es n h → AreHands es (n + 1) h
-later_unless es n path e h leaving was = let at = leaving_at es n path e leaving in later es n at.event h at.at at.is was
+-- ---- a task that is in no hand would leave it
+pub later_unless : (es : List Event) (n : ℕ) (path : Path) (e : Ending) (h : Hands) → IsLeaving es n path.turns.items e
+    → ((k : ℕ) (d : Spell) → get is_path h.tasks path ≡ Some k → k < length h.spells.items → (get_or h.spells.items k d).ending ≡ Going → ⊥)
+    → AreHands es n h → AreHands es (n + 1) h
+later_unless es n path e h leaving none was =
+    let at = leaving_at es n path.turns.items e leaving in
+    with_turns es n at.event h at.at at.is
+    (turns_past es n h.last (get is_path h.tasks) h.spells.items path e leaving none was.spells.each was.turns) was
 
 -- ---- a task leaves its worker's hand
 ends_so : (es : List Event) (n last : ℕ) (t : Spell) (e : Ending) → IsLeaving es n t.path.turns.items e → t.last ≡ n → IsEndingSoFar es (n + 1) last t e
@@ -191,19 +220,13 @@ ends_so es n last t Ended h is = (ap (ended_at es) is ∙ h, omega arith)
 ends_so es n last t Left h is = absurd h
 ends_so es n last t Going h is = absurd h
 
-never_going : (es : List Event) (n : ℕ) (path : List ℕ) (e : Ending) → IsLeaving es n path e → e ≡ Going → ⊥
-never_going es n path Parked h is = cc
-never_going es n path Ended h is = cc
-never_going es n path Left h is = h
-never_going es n path Going h is = h
-
-pub hands_ended : (es : List Event) (n : ℕ) (path : List ℕ) (e : Ending) (h g : Hands) (k own : ℕ) (s : Spell)
-    → IsLeaving es n path e → k < length h.spells.items → ((d : Spell) → get_or h.spells.items k d ≡ s)
-    → s.ending ≡ Going → s.path.turns.items ≡ path
+pub hands_ended : (es : List Event) (n : ℕ) (path : Path) (e : Ending) (h g : Hands) (k own : ℕ) (s : Spell)
+    → IsLeaving es n path.turns.items e → get is_path h.tasks path ≡ Some k → k < length h.spells.items → ((d : Spell) → get_or h.spells.items k d ≡ s)
+    → s.ending ≡ Going → s.path.turns.items ≡ path.turns.items
     → g.spells.items ≡ set h.spells.items k (record s { own = own; last = n; ending = e }) → g.tasks ≡ h.tasks → g.workers ≡ h.workers → g.last ≡ h.last
     → AreHands es n h → AreHands es (n + 1) g
-hands_ended es n path e h g k own s leaving there at going same items tasks workers last was =
-    let number = leaving_at es n path e leaving in
+hands_ended es n path e h g k own s leaving found there at going same items tasks workers last was =
+    let number = leaving_at es n path.turns.items e leaving in
     let within : n < length es = slice_get_within es n number.event number.at in
     let t : Spell = record s { own = own; last = n; ending = e } in
     let is : IsSpellSoFar es n h.last s = subst (IsSpellSoFar es n h.last) (at s) (was.spells.each k s there) in
@@ -214,7 +237,7 @@ hands_ended es n path e h g k own s leaving there at going same items tasks work
       path = refl;
       first = refl;
       last = omega (arith, was.last);
-      going = λ x. absurd (never_going es n path e leaving x);
+      going = λ x. absurd (never_going es n path.turns.items e leaving x);
     }))
     (record {
       begins = is.begins;
@@ -223,7 +246,11 @@ hands_ended es n path e h g k own s leaving there at going same items tasks work
       before = omega (arith, is.before);
       within = omega (arith, was.last);
     })
-    (as_many es n number.event number.at number.is) items tasks workers last was
+    (as_many es n number.event number.at number.is) (latest_on es n number.event number.at number.is)
+    (turns_ended es n h.last (get is_path h.tasks) h.spells.items k own path e s (omega (arith, was.last)) there found going same leaving
+    (subst (λ (x : Spell). IsLatest es x n) (at s) ((was.tasks path k found).latest s)) is
+    (subst (IsInTurn es n (get is_path h.tasks) k) (at s) (was.turns k s there)) was.turns)
+    items tasks workers last was
 
 -- ---- a task stays in its worker's hand
 pub hands_went_on : (es : List Event) (n : ℕ) (h g : Hands) (k own : ℕ) (s : Spell)
@@ -237,7 +264,10 @@ hands_went_on es n h g k own s there at items tasks workers last was =
     (λ d. subst (λ (x : Spell). Keeps x t) (sym (at d))
     (record { worker = refl; path = refl; first = refl; last = omega arith; going = λ x. x }))
     (record { begins = is.begins; ends = is.ends; forward = is.forward; before = is.before; within = is.within })
-    refl items tasks workers last was
+    refl (λ x latest. latest)
+    (turns_own es n (get is_path h.tasks) h.spells.items k own s there
+    (subst (IsInTurn es n (get is_path h.tasks) k) (at s) (was.turns k s there)) was.turns)
+    items tasks workers last was
 
 -- ---- a worker leaves what it has in its hand
 past_last : (es : List Event) (n : ℕ) (y : Hold) (h : Hands) → taken_at es n ≡ Some y → AreHands es n h → n ≤ h.last + 1
@@ -264,7 +294,10 @@ hand_left es n y h g k s t taking hand at left items tasks workers last was =
     let same : y.worker ≡ s.worker = sym (ap (λ (x : Spell). x.worker) (sym (at s)) ∙ held.same s) in
     let new = left_spell es n h.last s t y (past_last es n y h taking was) taking same is left in
     let now : AreHands es n g = hands_changed es n n h g k t (omega arith) held.there
-    (λ d. subst (λ (x : Spell). Keeps x t) (sym (at d)) new.0) new.1.0 refl items tasks workers last was in
+    (λ d. subst (λ (x : Spell). Keeps x t) (sym (at d)) new.0) new.1.0 refl (λ x latest. latest)
+    (turns_left es n h.last (get is_path h.tasks) h.spells.items k s t (past_last es n y h taking was) held.there left is
+    (subst (IsInTurn es n (get is_path h.tasks) k) (at s) (was.turns k s held.there)) was.turns)
+    items tasks workers last was in
     record {
       hands = now;
       past = past_without es n g.last g.workers g.spells.items y.worker now.spells
@@ -283,14 +316,19 @@ is_whole es s last Ended is h = h.0
 is_whole es s last Left is h = h.0
 is_whole es s last Going is h = omega (arith, h)
 
-whole_spell : (es : List Event) (last : ℕ) (s : Spell) → last ≡ length es - 1 → IsSpellSoFar es (length es) last s → IsSpell es s
-whole_spell es last s is h =
+whole_spell : (es : List Event) (last : ℕ) (found : Path → Option ℕ) (k : ℕ) (s : Spell) → last ≡ length es - 1 → IsSpellSoFar es (length es) last s
+    → IsInTurn es (length es) found k s → IsSpell es s
+whole_spell es last found k s is h turn =
     let there : last + 1 ≡ length es = omega (arith, h.before) in
     record {
       begins = h.begins;
       ends = is_whole es s last s.ending there h.ends;
       forward = h.forward;
       within = omega (arith, h.within);
+      inside = λ n e behind leaves latest.
+          let at = leaving_at es n s.path.turns.items e leaves in
+          turn.inside n e (slice_get_within es n at.event at.at) behind leaves latest;
+      latest = turn.latest;
     }
 
 pub all_spells : (es : List Event) (n : ℕ) (h : Hands) (r : Spells) → n ≡ length es → r.all.items ≡ h.spells.items → length r.places.items ≡ n
@@ -299,7 +337,8 @@ all_spells es n h r n_is items places now =
     let was : AreHands es (length es) h = subst (λ (m : ℕ). AreHands es m h) n_is now in
     record {
       each = subst (All (IsSpell es)) (sym items)
-          (All-weaker (IsSpellSoFar es (length es) h.last) (IsSpell es) (λ s p. whole_spell es h.last s was.last p) h.spells.items was.spells.each);
+          (λ k d there.
+          whole_spell es h.last (get is_path h.tasks) k (get_or h.spells.items k d) was.last (was.spells.each k d there) (was.turns k d there));
       order = subst AreInOrder (sym items) was.spells.order;
       apart = subst AreApart (sym items) was.spells.apart;
       count = ap length items ∙ was.count ∙ ap (count_by is_taking) (take_all (length es) es (omega arith));

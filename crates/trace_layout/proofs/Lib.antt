@@ -3,4 +3,6 @@ pub mod Handled
 pub mod InRows
 pub mod Moved
 pub mod Opened
+pub mod Turns
+pub mod WhichEvent
 pub mod Within

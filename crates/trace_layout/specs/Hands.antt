@@ -5,7 +5,7 @@ use Rattle.std.specs.HashMap.{get}
 use Rattle.events.specs.declared.event.Event.{Event}
 use Rattle.trace_numbers.specs.Tables.{is_path}
 use Rattle.types.specs.declared.path.Path.{Path}
-use Rattle.trace_layout.specs.Spells.{AreApart, AreInOrder, IsEnding, ended_at, is_taking, parked_at, taken_at}
+use Rattle.trace_layout.specs.Spells.{AreApart, AreInOrder, IsEnding, IsLatest, IsLeaving, IsOver, is_taking, taken_at}
 use Rattle.trace_layout.specs.declared.hands.Hands.{Hands}
 use Rattle.trace_layout.specs.declared.spells.Ending.{Ending}
 use Rattle.trace_layout.specs.declared.spells.Ending.TheVariants.{Parked, Ended, Left, Going}
@@ -39,26 +39,30 @@ pub record AreSpellsSoFar (es : List Event) (n last : ℕ) (workers : List (Opti
       → slice_index_or workers (slice_index_or ss k d).worker None ≡ Some k
   pub held : (w k : ℕ) → slice_index_or workers w None ≡ Some k → IsOfWorker ss w k
 
--- the spell of a number is a task's
-pub record IsOfTask (ss : List Spell) (path : List ℕ) (k : ℕ) : Type 0 where
+-- the spell of a number is a task's latest
+pub record IsOfTask (es : List Event) (n : ℕ) (ss : List Spell) (path : List ℕ) (k : ℕ) : Type 0 where
   pub there : k < length ss
   pub same : (d : Spell) → (slice_index_or ss k d).path.turns.items ≡ path
+  pub latest : (d : Spell) → IsLatest es (slice_index_or ss k d) n
+
+-- the spell of a number has passed no park or end of its task, and is found where it is the task's latest
+pub record IsInTurn (es : List Event) (n : ℕ) (found : Path → Option ℕ) (k : ℕ) (s : Spell) : Type 0 where
+  pub inside : (m : ℕ) (e : Ending) → m < n → s.first ≤ m → IsLeaving es m s.path.turns.items e → IsLatest es s m → IsOver s m e
+  pub latest : IsLeaving es s.last s.path.turns.items s.ending → IsLatest es s s.last
+  pub named : (path : Path) → path.turns.items ≡ s.path.turns.items → IsLatest es s n → found path ≡ Some k
+
+abbrev pub AreInTurn : List Event → (n : ℕ) → (found : Path → Option ℕ) → List Spell → Type 0
+AreInTurn es n found ss = (k : ℕ) (d : Spell) → k < length ss → IsInTurn es n found k (slice_index_or ss k d)
 
 pub record AreHands (es : List Event) (n : ℕ) (h : Hands) : Type 0 where
   pub last : h.last ≡ length es - 1
   pub hands : length h.workers ≡ 64
   pub spells : AreSpellsSoFar es n h.last h.workers h.spells.items
-  pub tasks : (path : Path) (k : ℕ) → get is_path h.tasks path ≡ Some k → IsOfTask h.spells.items path.turns.items k
+  pub tasks : (path : Path) (k : ℕ) → get is_path h.tasks path ≡ Some k → IsOfTask es n h.spells.items path.turns.items k
+  pub turns : AreInTurn es n (get is_path h.tasks) h.spells.items
   pub count : length h.spells.items ≡ count_by is_taking (take n es)
 
 -- a worker's hand is empty
 pub record IsEmptyHand (es : List Event) (n worker : ℕ) (h : Hands) : Type 0 where
   pub hands : AreHands es n h
   pub past : All (λ s. s.worker ≡ worker → s.last < n) h.spells.items
-
--- by the event of this number a task leaves its worker's hand
-abbrev pub IsLeaving : List Event → (n : ℕ) → (path : List ℕ) → Ending → Type 0
-IsLeaving es n path Parked = parked_at es n ≡ Some path
-IsLeaving es n path Ended = ended_at es n ≡ Some path
-IsLeaving es n path Left = ⊥
-IsLeaving es n path Going = ⊥

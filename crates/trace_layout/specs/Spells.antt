@@ -1,5 +1,5 @@
 -- Spells: a task in a worker's hand.
-use Rattle.std.specs.Prelude.{ℕ, ◌≡◌, ◌+◌, ◌<◌, ◌≤◌, List, length, Bool, true, false, Option, Some, None}
+use Rattle.std.specs.Prelude.{ℕ, ◌≡◌, ◌+◌, ◌<◌, ◌≤◌, ◌⊎◌, List, length, Bool, true, false, Option, Some, None}
 use Rattle.std.specs.Prelude.{All, AllPairs, count_by, slice_get, option_and_then}
 use Rattle.events.specs.declared.event.Event.{Event}
 use Rattle.events.specs.declared.event.Event.TheVariants.{Take, Park, End, Resume}
@@ -51,6 +51,22 @@ IsEnding es s Ended = ended_at es s.last ≡ Some s.path.turns.items
 IsEnding es s Left = (next : Hold) × (taken_at es (s.last + 1) ≡ Some next) × (next.worker ≡ s.worker)
 IsEnding es s Going = s.last + 1 ≡ length es
 
+-- by the event of this number a task leaves its worker's hand
+abbrev pub IsLeaving : List Event → (n : ℕ) → (path : List ℕ) → Ending → Type 0
+IsLeaving es n path Parked = parked_at es n ≡ Some path
+IsLeaving es n path Ended = ended_at es n ≡ Some path
+IsLeaving es n path Left = ⊥
+IsLeaving es n path Going = ⊥
+
+-- between its first event and this one no worker takes its task once more
+abbrev pub IsLatest : List Event → Spell → (n : ℕ) → Type 0
+IsLatest es s n = (m worker : ℕ) → s.first < m → m < n
+    → taken_at es m ≡ Some (record { worker = worker; path = s.path.turns.items }) → ⊥
+
+-- it is over before an event, or ends so by that one
+abbrev pub IsOver : Spell → (n : ℕ) → Ending → Type 0
+IsOver s n e = (s.last < n) ⊎ ((s.last ≡ n) × (s.ending ≡ e))
+
 -- a spell of a list of events
 pub record IsSpell (es : List Event) (s : Spell) : Type 0 where
   -- it begins with the take or resume of its task by its worker
@@ -59,6 +75,10 @@ pub record IsSpell (es : List Event) (s : Spell) : Type 0 where
   pub ends : IsEnding es s s.ending
   pub forward : s.first ≤ s.last
   pub within : s.last < length es
+  -- it goes no further than to the next park or end of its task, unless a worker takes the task once more before that
+  pub inside : (n : ℕ) (e : Ending) → s.first ≤ n → IsLeaving es n s.path.turns.items e → IsLatest es s n → IsOver s n e
+  -- nor does it end by a park or end that comes behind such a take
+  pub latest : IsLeaving es s.last s.path.turns.items s.ending → IsLatest es s s.last
 
 -- the earlier begins first
 abbrev pub AreInOrder : List Spell → Type 0

@@ -1,11 +1,13 @@
 //! What is in the workers' hands, event by event.
 
-ghost use Rattle.std.specs.Prelude.{ℕ, ◌≡◌, ◌+◌, ◌-◌, ◌<◌, ◌↔◌, List, All, IfSome, IsTrue, None, OnOk, Some};
+ghost use Rattle.std.specs.Prelude.{ℕ, ◌≡◌, ◌+◌, ◌-◌, ◌<◌, ◌↔◌, List, All, IfNone, IfSome, IsTrue, None, OnOk, Some};
 ghost use Rattle.std.specs.Prelude.{length, slice_get, slice_index_or};
+ghost use Rattle.std.specs.HashMap.{get};
 ghost use Rattle.events.specs.declared.event.Event.{Event as AnyEvent};
-ghost use Rattle.trace_layout.specs.Hands.{AreHands, IsEmptyHand, IsLeaving};
-ghost use Rattle.trace_layout.specs.Spells.{taken_at};
+ghost use Rattle.trace_layout.specs.Hands.{AreHands, IsEmptyHand};
+ghost use Rattle.trace_layout.specs.Spells.{IsLeaving, taken_at};
 ghost use Rattle.trace_layout.specs.declared.spells.Spell.{Spell as AnySpell};
+ghost use Rattle.trace_numbers.specs.Tables.{is_path};
 
 use crate::spells::{Beginning, Ending, Spell};
 use events::event::Event;
@@ -125,6 +127,9 @@ impl Hands {
 
     /// The number of a task's spell, where that goes on.
     fn going(&self, path: &Path) -> Option<usize>
+        ensures none { IfNone result ((k : ℕ) (d : AnySpell) → get is_path self.now.tasks path.now ≡ Some k
+            → k < length self.now.spells.items → (slice_index_or self.now.spells.items k d).ending ≡ Ending.Going → ⊥) }
+        ensures found { IfSome result (λ k. get is_path self.now.tasks path.now ≡ Some k) }
         ensures there { IfSome result (λ k. k < length self.now.spells.items) }
         ensures going { IfSome result (λ k. (d : AnySpell)
             → (slice_index_or self.now.spells.items k d).ending ≡ Ending.Going) }

@@ -8,7 +8,8 @@ use Rattle.trace_layout.specs.Hands.{IsSpellSoFar}
 use Rattle.trace_layout.specs.Spells.{Hold}
 use Rattle.trace_layout.specs.declared.spells.Ending.TheVariants.{Going}
 use Rattle.trace_layout.specs.declared.spells.Spell.{Spell}
-use Rattle.trace_layout.proofs.Handled.{hands_began, taking_at}
+use Rattle.trace_layout.proofs.Handled.{hands_began}
+use Rattle.trace_layout.proofs.WhichEvent.{taking_at}
 use Rattle.trace_layout.proofs.hands.Hands.begin.Goals as goal
 
 pub returns : goal.returns
@@ -45,7 +46,7 @@ returns c =
     let few = c.number.ensures.few in
     let same = c.number.ensures.same in
     let hands = empty.hands.hands in
-    hands_began es c.args.number at.event h _ s key at.at at.is (omega arith) refl (path_is ∙ sym key_is) is
+    hands_began es c.args.number at.event h _ s key at.at at.is (omega arith) refl (path_is ∙ sym key_is) is refl
     c.in_ok-push.ensures.items
     (λ other. c.in_ok-insert.ensures.updates.0 other
     ∙ ap (λ p. cond (is_path key other) (Some p) (get is_path h.tasks other)) place_is)
