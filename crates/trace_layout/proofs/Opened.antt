@@ -1,34 +1,36 @@
 -- Scopes behind one event more.
-use Rattle.std.proofs.Common.{◌≡◌, ℕ, ◌+◌, ◌-◌, ◌<◌, ◌≤◌, List, [], ◌∷◌, ◌++◌, length, get_or, set, Option, Some, None, true, false, ap, sym, ◌∙◌, refl, subst, arith, ⊎_elim, inl, inr}
-use Rattle.std.specs.Prelude.{◌⊎◌, All, count_by, slice_get}
-use Rattle.std.proofs.lemmas.Bool.{cases_eq}
-use Rattle.std.proofs.lemmas.List.{get_or-set_other, get_or-set_same, length-set, length_push, take_all}
-use Rattle.std.proofs.lemmas.List.Elements.{All-cons, All-nil, All-push, All-set, All-weaker}
-use Rattle.std.proofs.lemmas.List.Quantifiers.{all_pairs_push}
+use Rattle.std.proofs.Common.{◌≡◌, ℕ, zero, suc, ◌+◌, ◌-◌, ◌<◌, ◌≤◌, List, [], ◌∷◌, ◌++◌, length, get_or, set, take, Option, Some, None, true, false, ap, sym, ◌∙◌, refl, subst, arith, ⊎_elim}
+use Rattle.std.specs.Prelude.{count_by, slice_get}
+use Rattle.std.proofs.lemmas.Bool.{cases_eq, cases_lt}
+use Rattle.std.proofs.lemmas.List.{get_or-set_other, get_or-set_same, get_or_append_left, get_or_push, length-set, length_push, take_all}
 use Rattle.std.proofs.lemmas.List.Sums.{count_by_more_no, count_by_more_yes}
 use Rattle.std.proofs.lemmas.Option.{get_or_from_slice_get, none-some, option_and_then_some, slice_get_within}
 use Rattle.events.specs.declared.event.Event.{Event}
 use Rattle.events.specs.declared.event.Event.TheVariants.{Open}
 use Rattle.types.specs.declared.path.Path.{Path}
 use Rattle.types.specs.declared.scope_id.ScopeId.{ScopeId}
-use Rattle.trace_layout.specs.Finishes.{AreFinishes, AreOpenedInOrder, IsFinish, IsRoots, is_opening, opener, opener_at}
-use Rattle.trace_layout.specs.Scopes.{AreScopes, IsBegun, IsFinishSoFar}
+use Rattle.trace_layout.specs.Finishes.{AreFinishes, AreOpenedInOrder, IsBegun, IsFinish, is_opening, opener, opener_at}
+use Rattle.trace_layout.specs.Scopes.{AreScopes, IsAdded, IsFinishSoFar}
 use Rattle.trace_layout.specs.declared.finishes.Finish.{Finish}
 use Rattle.trace_layout.specs.declared.finishes.Finishes.{Finishes}
 use Rattle.trace_layout.specs.declared.finishes.Scopes.{Scopes}
 
-finish_later : (es : List Event) (n : ℕ) (f : Finish) → IsFinishSoFar es n f → IsFinishSoFar es (n + 1) f
-finish_later es n f h = record { is = h.is; before = omega (arith, h.before) }
+finish_later : (es : List Event) (n k : ℕ) (f : Finish) → IsFinishSoFar es n k f → IsFinishSoFar es (n + 1) k f
+finish_later es n k f h = record { is = h.is; before = omega (arith, h.before); opened = λ there. omega (arith, h.opened there) }
 
-all_later : (es : List Event) (n : ℕ) (fs : List Finish) → All (IsFinishSoFar es n) fs → All (IsFinishSoFar es (n + 1)) fs
-all_later es n fs h = All-weaker (IsFinishSoFar es n) (IsFinishSoFar es (n + 1)) (finish_later es n) fs h
+-- each is the scope of its number
+abbrev pub AreSoFar : List Event → (n : ℕ) → List Finish → Type 0
+AreSoFar es n fs = (k : ℕ) (d : Finish) → k < length fs → IsFinishSoFar es n k (get_or fs k d)
+
+all_later : (es : List Event) (n : ℕ) (fs : List Finish) → AreSoFar es n fs → AreSoFar es (n + 1) fs
+all_later es n fs h k d there = finish_later es n k (get_or fs k d) (h k d there)
 
 -- ---- no scope changes
 pub scopes_later : (es : List Event) (n : ℕ) (e : Event) (old new : Scopes) → slice_get es n ≡ Some e → is_opening e ≡ false
     → new.all.items ≡ old.all.items → new.last ≡ old.last → AreScopes es n old → AreScopes es (n + 1) new
 scopes_later es n e old new at is items last was = record {
   last = last ∙ was.last;
-  each = subst (All (IsFinishSoFar es (n + 1))) (sym items) (all_later es n old.all.items was.each);
+  each = subst (AreSoFar es (n + 1)) (sym items) (all_later es n old.all.items was.each);
   order = subst AreOpenedInOrder (sym items) was.order;
   count = ap length items ∙ was.count ∙ ap (λ (c : ℕ). c + 1) (sym
       (count_by_more_no is_opening es n e (slice_get_within es n e at) (ap is_opening (get_or_from_slice_get es n e e at) ∙ is)));
@@ -48,46 +50,54 @@ kept_first fs k g there same i d =
     (λ other. ap (λ (f : Finish). f.first) (get_or-set_other fs k i g d other))
     (cases_eq i k)
 
+all_set : (es : List Event) (n : ℕ) (fs : List Finish) (k : ℕ) (g : Finish) → k < length fs → IsFinishSoFar es n k g
+    → AreSoFar es n fs → AreSoFar es n (set fs k g)
+all_set es n fs k g there is was j d within =
+    ⊎_elim
+    (λ same. subst (λ (i : ℕ). IsFinishSoFar es n i (get_or (set fs k g) i d)) (sym same)
+    (subst (IsFinishSoFar es n k) (sym (get_or-set_same fs k g d there)) is))
+    (λ other. subst (IsFinishSoFar es n j) (sym (get_or-set_other fs k j g d other)) (was j d (omega (arith, length-set fs k g))))
+    (cases_eq j k)
+
 pub scopes_changed : (es : List Event) (n : ℕ) (old new : Scopes) (k : ℕ) (g : Finish) → k < length old.all.items
-    → ((d : Finish) → (get_or old.all.items k d).first ≡ g.first) → IsFinishSoFar es n g
+    → ((d : Finish) → (get_or old.all.items k d).first ≡ g.first) → IsFinishSoFar es n k g
     → new.all.items ≡ set old.all.items k g → new.last ≡ old.last → AreScopes es n old → AreScopes es n new
 scopes_changed es n old new k g there same is items last was =
     let kept = kept_first old.all.items k g there same in
     record {
       last = last ∙ was.last;
-      each = subst (All (IsFinishSoFar es n)) (sym items) (All-set (IsFinishSoFar es n) old.all.items k g is was.each);
-      order = subst AreOpenedInOrder (sym items) (λ i j d lt p.
-          let o = was.order i j d lt (omega (arith, length-set old.all.items k g)) in
+      each = subst (AreSoFar es n) (sym items) (all_set es n old.all.items k g there is was.each);
+      order = subst AreOpenedInOrder (sym items) (λ i j d behind lt p.
+          let o = was.order i j d behind lt (omega (arith, length-set old.all.items k g)) in
           let a = kept i d in
           let b = kept j d in
           omega arith);
       count = ap length items ∙ length-set old.all.items k g ∙ was.count;
     }
 
-begins_still : (es : List Event) (f g : Finish) → g.name ≡ f.name → g.first ≡ f.first
-    → IsRoots f ⊎ (opener_at es f.first ≡ Some f.name.owner.turns.items) → IsRoots g ⊎ (opener_at es g.first ≡ Some g.name.owner.turns.items)
-begins_still es f g name first h =
-    ⊎_elim
-    (λ r. inl (record {
-      owner = ap (λ (i : ScopeId). i.owner.turns.items) name ∙ r.owner;
-      number = ap (λ (i : ScopeId). i.number) name ∙ r.number;
-      first = first ∙ r.first;
-    }))
-    (λ o. inr (ap (opener_at es) first ∙ o ∙ ap (λ (i : ScopeId). Some i.owner.turns.items) (sym name)))
-    h
+begins_still : (es : List Event) (k : ℕ) (f g : Finish) → g.name ≡ f.name → g.first ≡ f.first → IsBegun es k f → IsBegun es k g
+begins_still es zero f g name first r = record {
+  owner = ap (λ (i : ScopeId). i.owner.turns.items) name ∙ r.owner;
+  number = ap (λ (i : ScopeId). i.number) name ∙ r.number;
+  first = first ∙ r.first;
+}
+begins_still es (suc k) f g name first o =
+    ap (opener_at es) first ∙ o ∙ ap (λ (i : ScopeId). Some i.owner.turns.items) (sym name)
 
 -- its owner parks there
-pub parks : (es : List Event) (n : ℕ) (f : Finish) (at : Option ℕ) → IsFinishSoFar es n f → IsFinishSoFar es n (record f { parked = at })
-parks es n f at h = record {
-  is = record { begins = begins_still es f (record f { parked = at }) refl refl h.is.begins; forward = h.is.forward };
+pub parks : (es : List Event) (n k : ℕ) (f : Finish) (at : Option ℕ) → IsFinishSoFar es n k f → IsFinishSoFar es n k (record f { parked = at })
+parks es n k f at h = record {
+  is = record { begins = begins_still es k f (record f { parked = at }) refl refl h.is.begins; forward = h.is.forward };
   before = h.before;
+  opened = h.opened;
 }
 
 -- it passes
-pub passes : (es : List Event) (n : ℕ) (f : Finish) → IsFinishSoFar es n f → IsFinishSoFar es n (record f { last = n; is_passed = true })
-passes es n f h = record {
-  is = record { begins = begins_still es f (record f { last = n; is_passed = true }) refl refl h.is.begins; forward = h.before };
+pub passes : (es : List Event) (n k : ℕ) (f : Finish) → IsFinishSoFar es n k f → IsFinishSoFar es n k (record f { last = n; is_passed = true })
+passes es n k f h = record {
+  is = record { begins = begins_still es k f (record f { last = n; is_passed = true }) refl refl h.is.begins; forward = h.before };
   before = h.before;
+  opened = h.opened;
 }
 
 -- ---- a scope begins
@@ -104,39 +114,77 @@ opening_at : (es : List Event) (n : ℕ) (y : List ℕ) → opener_at es n ≡ S
 opening_at es n y h = option_and_then_some {P = IsOpening es n} opener (slice_get es n) y h
     (λ e at is. record { event = e; at = at; is = opener_is e y is })
 
+all_added : (es : List Event) (n : ℕ) (fs : List Finish) (f : Finish) → IsFinishSoFar es n (length fs) f
+    → AreSoFar es n fs → AreSoFar es n (fs ++ f ∷ [])
+all_added es n fs f is was k d there =
+    ⊎_elim
+    (λ before. subst (IsFinishSoFar es n k) (sym (get_or_append_left fs (f ∷ []) d k before)) (was k d before))
+    (λ behind.
+    let at : length fs ≡ k = omega (arith, length_push fs f) in
+    subst (IsFinishSoFar es n k) (sym (get_or_push fs f d k at)) (subst (λ (i : ℕ). IsFinishSoFar es n i f) at is))
+    (cases_lt k (length fs))
+
+order_added : (fs : List Finish) (f : Finish) → AreOpenedInOrder fs
+    → ((k : ℕ) (d : Finish) → 0 < k → k < length fs → (get_or fs k d).first < f.first)
+    → AreOpenedInOrder (fs ++ f ∷ [])
+order_added fs f was earlier i j d behind lt there =
+    let left : get_or (fs ++ f ∷ []) i d ≡ get_or fs i d = get_or_append_left fs (f ∷ []) d i (omega (arith, length_push fs f)) in
+    subst (λ (x : Finish). x.first < (get_or (fs ++ f ∷ []) j d).first) (sym left)
+    (⊎_elim
+    (λ before. subst (λ (x : Finish). (get_or fs i d).first < x.first) (sym (get_or_append_left fs (f ∷ []) d j before)) (was i j d behind lt before))
+    (λ past.
+    let at : length fs ≡ j = omega (arith, length_push fs f) in
+    subst (λ (x : Finish). (get_or fs i d).first < x.first) (sym (get_or_push fs f d j at)) (earlier i d behind (omega arith)))
+    (cases_lt j (length fs)))
+
+next : (n : ℕ) → n + 1 ≡ suc n
+next n = omega arith
+
+-- behind the root's
+opened_number : (es : List Event) (n count k : ℕ) (f : Finish) → k ≡ count + 1 → opener_at es f.first ≡ Some f.name.owner.turns.items
+    → f.first ≤ f.last → f.first < n → IsFinishSoFar es n k f
+opened_number es n count k f is opens forward before =
+    subst (λ (i : ℕ). IsFinishSoFar es n i f) (sym (is ∙ next count))
+    (record { is = record { begins = opens; forward = forward }; before = omega arith; opened = λ there. before })
+
 pub scopes_opened : (es : List Event) (n : ℕ) (path : List ℕ) (name : ScopeId) (old new : Scopes) → opener_at es n ≡ Some path
-    → name.owner.turns.items ≡ path → IsBegun n name old new → AreScopes es n old → AreScopes es (n + 1) new
+    → name.owner.turns.items ≡ path → IsAdded n name old new → AreScopes es n old → AreScopes es (n + 1) new
 scopes_opened es n path name old new opens same begun was =
     let f : Finish = record { name = name; first = n; last = old.last; is_passed = false; parked = None } in
     let o = opening_at es n path opens in
     let within : n < length es = slice_get_within es n o.event o.at in
-    let is : IsFinishSoFar es (n + 1) f = record {
-      is = record { begins = inr (opens ∙ ap (λ (p : List ℕ). Some p) (sym same)); forward = omega (arith, was.last) };
-      before = omega arith;
-    } in
+    let is : IsFinishSoFar es (n + 1) (length old.all.items) f =
+    opened_number es (n + 1) (count_by is_opening (take n es)) (length old.all.items) f was.count
+    (opens ∙ ap (λ (p : List ℕ). Some p) (sym same)) (omega (arith, was.last)) (omega arith) in
     record {
       last = begun.last ∙ was.last;
-      each = subst (All (IsFinishSoFar es (n + 1))) (sym begun.all)
-          (All-push (IsFinishSoFar es (n + 1)) old.all.items f (all_later es n old.all.items was.each) is);
-      order = subst AreOpenedInOrder (sym begun.all)
-          (all_pairs_push (λ a b. a.first ≤ b.first) old.all.items f was.order (λ k d there. (was.each k d there).before));
+      each = subst (AreSoFar es (n + 1)) (sym begun.all)
+          (all_added es (n + 1) old.all.items f is (all_later es n old.all.items was.each));
+      order = subst AreOpenedInOrder (sym begun.all) (order_added old.all.items f was.order (λ k d behind there. (was.each k d there).opened behind));
       count = ap length begun.all ∙ length_push old.all.items f ∙ ap (λ (c : ℕ). c + 1) (was.count ∙ sym
           (count_by_more_yes is_opening es n o.event (slice_get_within es n o.event o.at)
           (ap is_opening (get_or_from_slice_get es n o.event o.event o.at) ∙ o.is)));
     }
 
 -- ---- the root's scope, and the end
+first_alone : (k : ℕ) → k < 1 → 0 ≡ k
+first_alone k lt = omega arith
+
 pub scopes_at_first : (es : List Event) (name : ScopeId) (old new : Scopes) → old.all.items ≡ [] → old.last ≡ length es - 1
-    → name.owner.turns.items ≡ [] → name.number ≡ 0 → IsBegun 0 name old new → AreScopes es 0 new
+    → name.owner.turns.items ≡ [] → name.number ≡ 0 → IsAdded 0 name old new → AreScopes es 0 new
 scopes_at_first es name old new none last owner number begun =
     let f : Finish = record { name = name; first = 0; last = old.last; is_passed = false; parked = None } in
     let items : new.all.items ≡ f ∷ [] = begun.all ∙ ap (λ (fs : List Finish). fs ++ f ∷ []) none in
     record {
       last = begun.last ∙ last;
-      each = subst (All (IsFinishSoFar es 0)) (sym items) (All-cons (IsFinishSoFar es 0) f []
-          (record { is = record { begins = inl (record { owner = owner; number = number; first = refl }); forward = omega arith }; before = omega arith })
-          (All-nil (IsFinishSoFar es 0)));
-      order = subst AreOpenedInOrder (sym items) (λ i j d lt p. absurd (omega arith));
+      each = subst (AreSoFar es 0) (sym items) (λ k d there.
+          subst (λ (i : ℕ). IsFinishSoFar es 0 i (get_or (f ∷ []) i d)) (first_alone k there)
+          (record {
+            is = record { begins = record { owner = owner; number = number; first = refl }; forward = omega arith };
+            before = omega arith;
+            opened = λ behind. absurd (omega arith);
+          }));
+      order = subst AreOpenedInOrder (sym items) (λ i j d behind lt p. absurd (omega arith));
       count = ap length items;
     }
 
@@ -144,8 +192,8 @@ pub all_finishes : (es : List Event) (n : ℕ) (s : Scopes) (r : Finishes) → n
 all_finishes es n s r n_is items now =
     let was : AreScopes es (length es) s = subst (λ (m : ℕ). AreScopes es m s) n_is now in
     record {
-      each = subst (All (IsFinish es)) (sym items)
-          (All-weaker (IsFinishSoFar es (length es)) (IsFinish es) (λ f h. h.is) s.all.items was.each);
+      each = subst (λ (fs : List Finish). (k : ℕ) (d : Finish) → k < length fs → IsFinish es k (get_or fs k d)) (sym items)
+          (λ k d there. (was.each k d there).is);
       order = subst AreOpenedInOrder (sym items) was.order;
       count = ap length items ∙ was.count ∙ ap (λ (l : List Event). count_by is_opening l + 1) (take_all (length es) es (omega arith));
     }

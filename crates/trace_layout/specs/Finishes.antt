@@ -1,6 +1,6 @@
 -- Finish scopes: from where to where they stand.
-use Rattle.std.specs.Prelude.{ℕ, ◌≡◌, ◌+◌, ◌≤◌, ◌⊎◌, List, [], length, Bool, true, false, Option, Some, None}
-use Rattle.std.specs.Prelude.{All, AllPairs, count_by, slice_get, option_and_then}
+use Rattle.std.specs.Prelude.{ℕ, zero, suc, ◌≡◌, ◌+◌, ◌<◌, ◌≤◌, List, [], length, Bool, true, false, Option, Some, None}
+use Rattle.std.specs.Prelude.{count_by, slice_get, slice_index_or, option_and_then}
 use Rattle.events.specs.declared.event.Event.{Event}
 use Rattle.events.specs.declared.event.Event.TheVariants.{Open}
 use Rattle.trace_layout.specs.declared.finishes.Finish.{Finish}
@@ -24,17 +24,22 @@ pub record IsRoots (f : Finish) : Type 0 where
   pub number : f.name.number ≡ 0
   pub first : f.first ≡ 0
 
--- a scope of a list of events: the root's, or one that its owner opened
-pub record IsFinish (es : List Event) (f : Finish) : Type 0 where
-  pub begins : IsRoots f ⊎ (opener_at es f.first ≡ Some f.name.owner.turns.items)
+-- the scope of this number is the root's, or its owner opened it
+abbrev pub IsBegun : List Event → (k : ℕ) → Finish → Type 0
+IsBegun es zero f = IsRoots f
+IsBegun es (suc k) f = opener_at es f.first ≡ Some f.name.owner.turns.items
+
+-- the scope of a number, of a list of events
+pub record IsFinish (es : List Event) (k : ℕ) (f : Finish) : Type 0 where
+  pub begins : IsBegun es k f
   pub forward : f.first ≤ f.last
 
--- the earlier begins first
+-- of those behind the root's, each is opened by an event of its own, the earlier first
 abbrev pub AreOpenedInOrder : List Finish → Type 0
-AreOpenedInOrder = AllPairs (λ f g. f.first ≤ g.first)
+AreOpenedInOrder fs = (i j : ℕ) (d : Finish) → 0 < i → i < j → j < length fs → (slice_index_or fs i d).first < (slice_index_or fs j d).first
 
 -- all scopes of a list of events: the root's, and one for each that was opened
 pub record AreFinishes (es : List Event) (r : Finishes) : Type 0 where
-  pub each : All (IsFinish es) r.all.items
+  pub each : (k : ℕ) (d : Finish) → k < length r.all.items → IsFinish es k (slice_index_or r.all.items k d)
   pub order : AreOpenedInOrder r.all.items
   pub count : length r.all.items ≡ count_by is_opening es + 1

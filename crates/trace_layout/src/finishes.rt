@@ -3,7 +3,7 @@
 ghost use Rattle.std.specs.Prelude.{ℕ, ◌≡◌, ◌+◌, List, IfOk, OnOk, Some, length, slice_get};
 ghost use Rattle.events.specs.declared.event.Event.{Event as AnyEvent};
 ghost use Rattle.trace_layout.specs.Finishes.{AreFinishes, opener_at};
-ghost use Rattle.trace_layout.specs.Scopes.{AreScopes, IsBegun};
+ghost use Rattle.trace_layout.specs.Scopes.{AreScopes, IsAdded};
 
 use events::event::Event;
 use std::alloc::{AllocError, Global};
@@ -143,7 +143,7 @@ impl Scopes {
 
     /// A scope is there from an event on.
     fn begin(&mut self, number: usize, name: ScopeId) -> Result<(), AllocError>
-        ensures { OnOk result (IsBegun number name self.old self.new) }
+        ensures { OnOk result (IsAdded number name self.old self.new) }
     {
         self.numbers.insert(name.clone()?, self.all.len())?;
         self.all.push(Finish {
