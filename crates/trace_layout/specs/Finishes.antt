@@ -1,6 +1,7 @@
 -- Finish scopes: from where to where they stand.
 use Rattle.std.specs.Prelude.{ℕ, zero, suc, ◌≡◌, ◌+◌, ◌<◌, ◌≤◌, List, [], length, Bool, true, false, Option, Some, None}
-use Rattle.std.specs.Prelude.{count_by, slice_get, slice_index_or, option_and_then}
+use Rattle.std.specs.Prelude.{count_by, nat_eq, slice_get, slice_index_or, option_and_then, take}
+use Rattle.std.specs.Cmp.Lexicographic.{pointwise}
 use Rattle.events.specs.declared.event.Event.{Event}
 use Rattle.events.specs.declared.event.Event.TheVariants.{Open}
 use Rattle.trace_layout.specs.declared.finishes.Finish.{Finish}
@@ -18,16 +19,26 @@ is_opening _ = false
 abbrev pub opener_at : List Event → ℕ → Option (List ℕ)
 opener_at es n = option_and_then opener (slice_get es n)
 
+-- whether this task opens a scope by an event
+abbrev pub opens : (path : List ℕ) → Event → Bool
+opens path (Open other) = pointwise nat_eq other.turns.items path
+opens path _ = false
+
 -- the root's scope, which is there from the first event on
 pub record IsRoots (f : Finish) : Type 0 where
   pub owner : f.name.owner.turns.items ≡ []
   pub number : f.name.number ≡ 0
   pub first : f.first ≡ 0
 
+-- a scope that its owner opened, and which of its owner's it is, counted from 1
+pub record IsOpened (es : List Event) (f : Finish) : Type 0 where
+  pub owner : opener_at es f.first ≡ Some f.name.owner.turns.items
+  pub number : f.name.number ≡ count_by (opens f.name.owner.turns.items) (take f.first es) + 1
+
 -- the scope of this number is the root's, or its owner opened it
 abbrev pub IsBegun : List Event → (k : ℕ) → Finish → Type 0
 IsBegun es zero f = IsRoots f
-IsBegun es (suc k) f = opener_at es f.first ≡ Some f.name.owner.turns.items
+IsBegun es (suc k) f = IsOpened es f
 
 -- the scope of a number, of a list of events
 pub record IsFinish (es : List Event) (k : ℕ) (f : Finish) : Type 0 where

@@ -15,4 +15,4 @@ returns-then-finish-len c =
     let at : (d : Finish) → get_or s.all.items k d ≡ f = λ d. sym (get_or_read s.all.items k f there c.index_mut-finish.ensures.value d) in
     λ es n was.
     scopes_changed es n s _ k (record f { parked = Some c.args.number }) there (λ d. ap (λ (x : Finish). x.first) (at d))
-    (parks es n k f (Some c.args.number) (subst (IsFinishSoFar es n k) (at f) (was.each k f there))) refl refl was
+    (parks es n k f (Some c.args.number) (subst (IsFinishSoFar es n k) (at f) (was.each k f there))) refl refl refl was

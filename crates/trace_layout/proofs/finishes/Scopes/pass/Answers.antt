@@ -16,4 +16,4 @@ returns-then-place-len c =
     let at : (d : Finish) → get_or s.all.items k d ≡ f = λ d. sym (get_or_read s.all.items k f there c.index_mut-finish.ensures.value d) in
     λ es was.
     scopes_changed es n s _ k (record f { last = n; is_passed = true }) there (λ d. ap (λ (x : Finish). x.first) (at d))
-    (passes es n k f (subst (IsFinishSoFar es n k) (at f) (was.each k f there))) refl refl was
+    (passes es n k f (subst (IsFinishSoFar es n k) (at f) (was.each k f there))) refl refl refl was
