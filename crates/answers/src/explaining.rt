@@ -4,6 +4,9 @@ ghost use Rattle.std.specs.Prelude.{◌≡◌, ◌≤◌, [], IfOk};
 ghost use Rattle.std.specs.String.{string_bytes};
 
 use crate::programs::typed_of;
+use crate::unchosen::{choices_explained, no_leaf_explained, open_explained};
+use crate::unlaid::layout_explained;
+use crate::unread::{reread_explained, unreadable_explained, unwritten_explained};
 use command_line::request::{Command, Settings};
 use gather::run_error::RunError;
 use intake::failure::Failure;
@@ -27,7 +30,7 @@ use types::input_error::InputError;
 use witness::witness::witness_of;
 
 /// What went wrong, why, and what would be right: in the text of a program, in the file of its input or in that of a
-/// trace. Nothing where more can't be said than the failure's line does.
+/// trace, in its choices, or in its layout. Nothing where more can't be said than the failure's line does.
 pub fn explanation<R: Threads + Sync, F: FileSource>(
     rt: &R,
     alloc: Global,
@@ -51,6 +54,25 @@ pub fn explanation<R: Threads + Sync, F: FileSource>(
             trace_explained(alloc, files, settings, Wrong::Line(*line))
         }
         Failure::Illegal(event) => trace_explained(alloc, files, settings, Wrong::Event(*event)),
+        Failure::NotLaidOut => layout_explained(alloc, text),
+        Failure::ChoicesNotUnderstood => choices_explained(alloc, files, settings.choices),
+        Failure::NoLeaf(choice) => no_leaf_explained(alloc, *choice),
+        _ => file_explained(alloc, files, failure),
+    }
+}
+
+/// What is wrong with a file that a command names beside that of the program. Nothing of any other failure.
+fn file_explained<F: FileSource>(
+    alloc: Global,
+    files: &mut F,
+    failure: &Failure,
+) -> Result<String, AllocError>
+    ensures { F.held files.new ≡ F.held files.old }
+{
+    match failure {
+        Failure::CannotRead { .. } => unreadable_explained(alloc),
+        Failure::NotUtf8 { name } => reread_explained(alloc, files, name.as_str()),
+        Failure::CannotWrite { name } => unwritten_explained(alloc, name.as_str()),
         _ => Ok(String::new(alloc)),
     }
 }
@@ -135,8 +157,16 @@ pub fn run_explanation<F: FileSource>(
         return Ok(String::new(alloc));
     }
     match budget_of(command, settings, status) {
-        None => Ok(String::new(alloc)),
+        None => without_run(alloc, command, status),
         Some(budget) => run_again(alloc, files, settings, text, budget),
+    }
+}
+
+/// What explains an answer behind which no run is done again: a run by choices that is open.
+fn without_run(alloc: Global, command: Command, status: u8) -> Result<String, AllocError> {
+    match command {
+        Command::Explore if status == 3 => open_explained(alloc),
+        _ => Ok(String::new(alloc)),
     }
 }
 

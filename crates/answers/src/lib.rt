@@ -11,3 +11,6 @@ pub mod programs;
 pub mod running;
 pub mod showing;
 pub mod telling;
+mod unchosen;
+mod unlaid;
+pub mod unread;

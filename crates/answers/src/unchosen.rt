@@ -1,0 +1,150 @@
+//! Choices that are none, or name no task, said at length.
+
+ghost use Rattle.std.specs.Prelude.{◌≡◌};
+
+use crate::unread::{first_of, place_behind, text_before};
+use command_line::request::Choosing;
+use excerpts::source::push_line;
+use intake::files::FileSource;
+use std::alloc::{AllocError, Global};
+
+/// The most bytes of a file of choices.
+const MOST_BYTES: usize = 16_777_216;
+
+const TOO_LONG: &str = "
+A file of choices has at most 16777216 bytes, and this one has more.
+To mend it: give fewer choices; or let a generator draw them, by `--random 1`.
+";
+
+const LISTED: &str =
+    "To mend it: write numbers joined by single commas, with no blank, as `--choices 0,1`.\n";
+
+const FILED: &str =
+    "To mend it: write numbers alone, with commas, blanks or line ends between them.\n";
+
+const NO_LEAF: &str = "so many, or the run has ended.
+To mend it: leave out this choice and those after it: `open N` then tells how many tasks may step.
+More: `afx explain no-leaf`.
+";
+
+const OPEN: &str = "
+All choices were made, and the run has not ended: so many tasks may step still.
+To mend it: choose on, by one choice more, or let `--random 1` choose to the end.
+More: `afx explain open`.
+";
+
+/// Which entry of a list or of a file is no choice, and what one is.
+pub fn choices_explained<F: FileSource>(
+    alloc: Global,
+    files: &mut F,
+    choosing: Option<Choosing<'_>>,
+) -> Result<String, AllocError>
+    ensures { F.held files.new ≡ F.held files.old }
+{
+    match choosing {
+        Some(Choosing::Listed(list)) => entry_explained(alloc, list, wrong_in_list(list), LISTED),
+        Some(Choosing::InFile(name)) => match first_of(files, name, MOST_BYTES + 1) {
+            Some(bytes) => filed_explained(alloc, &bytes),
+            None => entry_explained(alloc, "", None, FILED),
+        },
+        _ => Ok(String::new(alloc)),
+    }
+}
+
+/// Which entry of a file is no choice, or that it is too long.
+fn filed_explained(alloc: Global, bytes: &[u8]) -> Result<String, AllocError> {
+    if bytes.len() > MOST_BYTES {
+        return String::from_str(alloc, TOO_LONG);
+    }
+    let text = text_before(bytes);
+    let behind = if text.len() < bytes.len() {
+        Some(text.len())
+    } else {
+        None
+    };
+    entry_explained(alloc, text, wrong_in_file(text).or(behind), FILED)
+}
+
+/// Where the entry stands that is no choice, and how choices are written.
+fn entry_explained(
+    alloc: Global,
+    text: &str,
+    at: Option<usize>,
+    mend: &str,
+) -> Result<String, AllocError> {
+    let mut told = String::new(alloc);
+    told.push('\n')?;
+    match at {
+        Some(at) => {
+            push_line(&mut told, text, place_behind(text.get(..at).unwrap_or("")))?;
+            told.push_str("Here a choice must stand: a whole number from 0 to 4294967295.\n")?;
+        }
+        None => told.push_str("A choice is a whole number from 0 to 4294967295.\n")?,
+    }
+    told.push_str(mend)?;
+    Ok(told)
+}
+
+/// Where the first entry of a list begins that is no choice, in bytes.
+fn wrong_in_list(list: &str) -> Option<usize> {
+    let mut at: usize = 0;
+    for entry in list.split(',') {
+        if entry.is_empty() || wrong_in_file(entry).is_some() || has_blank(entry) {
+            return Some(at);
+        }
+        at = at.saturating_add(entry.len()).saturating_add(1);
+    }
+    None
+}
+
+/// Whether an entry has what may stand between those of a file.
+fn has_blank(entry: &str) -> bool {
+    for byte in entry.as_bytes() {
+        if separates(*byte) {
+            return true;
+        }
+    }
+    false
+}
+
+/// Where the first entry of a file begins that is no choice, in bytes.
+fn wrong_in_file(text: &str) -> Option<usize> {
+    let mut begun: usize = 0;
+    let mut value: u64 = 0;
+    for (at, byte) in text.as_bytes().iter().enumerate() {
+        if separates(*byte) {
+            begun = at.saturating_add(1);
+            value = 0;
+        } else if b'0' <= *byte && *byte <= b'9' {
+            let digit = u64::from(*byte - b'0');
+            value = value.saturating_mul(10).saturating_add(digit);
+        } else {
+            return Some(begun);
+        }
+        if value > u64::from(u32::MAX) {
+            return Some(begun);
+        }
+    }
+    None
+}
+
+/// Whether a byte may stand between two numbers of a file.
+fn separates(byte: u8) -> bool {
+    byte == b'\t' || byte == b'\n' || byte == b'\r' || byte == b' ' || byte == b','
+}
+
+/// Why a choice names no task.
+pub fn no_leaf_explained(alloc: Global, choice: usize) -> Result<String, AllocError> {
+    let mut told = String::new(alloc);
+    write!(
+        told,
+        "\nA choice is the number of one of the tasks that may step, from 0. Where choice {choice} stands, from 0, there are not\n"
+    )?;
+    told.push_str(NO_LEAF)?;
+    Ok(told)
+}
+
+/// Why a run by choices is open.
+pub fn open_explained(alloc: Global) -> Result<String, AllocError> {
+    String::from_str(alloc, OPEN)
+}

@@ -1,0 +1,52 @@
+//! Texts that aren't their own layout, said at length.
+
+use crate::formatting::laid_of;
+use crate::programs::program_of;
+use crate::unread::place_behind;
+use excerpts::source::push_line;
+use std::alloc::{AllocError, Global};
+
+/// Where a text goes another way than its layout, and what lays it out.
+pub fn layout_explained(alloc: Global, text: &str) -> Result<String, AllocError> {
+    let Ok(_program) = program_of(alloc, text) else {
+        return Ok(String::new(alloc));
+    };
+    let Ok(laid) = laid_of(alloc, text) else {
+        return Ok(String::new(alloc));
+    };
+    let at = alike(text, laid.as_str());
+    let mut told = String::new(alloc);
+    told.push('\n')?;
+    push_line(&mut told, text, place_behind(text.get(..at).unwrap_or("")))?;
+    told.push_str("Here stands ")?;
+    push_first(&mut told, text.get(at..).unwrap_or(""))?;
+    told.push_str(", and in its layout ")?;
+    push_first(&mut told, laid.as_str().get(at..).unwrap_or(""))?;
+    told.push_str(".\nTo mend it: have it laid out in its file, by `fmt --write`.\n")?;
+    Ok(told)
+}
+
+/// How many bytes at the beginning of two texts are alike, in whole characters.
+fn alike(text: &str, laid: &str) -> usize {
+    let mut at: usize = 0;
+    for (stands, wanted) in text.chars().zip(laid.chars()) {
+        if stands != wanted {
+            break;
+        }
+        at = at.saturating_add(stands.len_utf8());
+    }
+    at
+}
+
+/// Adds what the first character of a text is called, or that there is none.
+fn push_first(told: &mut String, text: &str) -> Result<(), AllocError> {
+    match text.chars().next() {
+        None => told.push_str("the end"),
+        Some('\n') => told.push_str("a line feed"),
+        Some('\r') => told.push_str("a carriage return"),
+        Some('\t') => told.push_str("a tab"),
+        Some(' ') => told.push_str("a blank"),
+        Some(character) if character.is_control() => told.push_str("another character"),
+        Some(character) => write!(told, "`{character}`"),
+    }
+}

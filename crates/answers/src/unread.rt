@@ -1,0 +1,166 @@
+//! Files that can't be had, or are no text, said at length.
+
+ghost use Rattle.std.specs.Prelude.{◌≡◌};
+
+use excerpts::source::push_line;
+use intake::failure::Failure;
+use intake::files::FileSource;
+use std::alloc::{AllocError, Global};
+use syntax::Place;
+use syntax::error::SyntaxError;
+
+/// The most bytes of a program's text.
+const MOST_BYTES: usize = 1_048_576;
+
+/// The most bytes that are read of a text that is too long, to tell how many it has.
+const MOST_COUNTED: usize = 16_777_216;
+
+const UNREAD: &str = "
+There is no such file, or it is a folder, or it may not be read.
+To mend it: look at the name: it counts from the folder in which afx runs. `-` is the standard input.
+";
+
+const UNWRITTEN: &str = "
+Its folder isn't there, or it is a folder itself, or it may not be written, or the disk is full.
+To mend it: give the name of a file in a folder that is there, and in which you may write.
+";
+
+const NEVER_WRITTEN: &str = "
+`-` is the standard input, and is never written.
+To mend it: give the name of a file.
+";
+
+const NO_TEXT: &str = "
+Programs, inputs and traces are UTF-8.
+To mend it: write the file anew in UTF-8; outside of comments a program has ASCII alone.
+";
+
+/// Why the file of a program gives no text, and what would be right. Nothing where more can't be said than the failure's
+/// line does.
+pub fn unread_explanation<F: FileSource>(
+    alloc: Global,
+    files: &mut F,
+    name: &str,
+    failure: &Failure,
+) -> Result<String, AllocError>
+    ensures { F.held files.new ≡ F.held files.old }
+{
+    match failure {
+        Failure::CannotRead { .. } => String::from_str(alloc, UNREAD),
+        Failure::Syntax(SyntaxError::TooLong) => too_long_explained(alloc, files, name),
+        Failure::NotUtf8 { .. } => match first_of(files, name, MOST_BYTES) {
+            Some(bytes) => no_text_explained(alloc, &bytes),
+            None => String::from_str(alloc, NO_TEXT),
+        },
+        _ => Ok(String::new(alloc)),
+    }
+}
+
+/// The first bytes of a file, where they can be had again: the standard input gives them once.
+pub fn first_of<F: FileSource>(files: &mut F, name: &str, most: usize) -> Option<Vec<u8>>
+    ensures { F.held files.new ≡ F.held files.old }
+{
+    if name == "-" {
+        return None;
+    }
+    files.read_first(name, most).ok()
+}
+
+/// How many bytes the text of a program has that is too long, where they can be counted.
+fn too_long_explained<F: FileSource>(
+    alloc: Global,
+    files: &mut F,
+    name: &str,
+) -> Result<String, AllocError>
+    ensures { F.held files.new ≡ F.held files.old }
+{
+    let many = match first_of(files, name, MOST_COUNTED) {
+        Some(bytes) => bytes.len(),
+        None => 0,
+    };
+    let mut told = String::new(alloc);
+    told.push_str("\nA text has at most 1048576 bytes, and this one has ")?;
+    if many >= MOST_COUNTED {
+        told.push_str("16777216 at least.\n")?;
+    } else if many > MOST_BYTES {
+        write!(told, "{many}.\n")?;
+    } else {
+        told.push_str("more.\n")?;
+    }
+    told.push_str("To mend it: shorten it; numbers are read from a file by --input.\n")?;
+    Ok(told)
+}
+
+/// Which byte of a file that was read again is no UTF-8.
+pub fn reread_explained<F: FileSource>(
+    alloc: Global,
+    files: &mut F,
+    name: &str,
+) -> Result<String, AllocError>
+    ensures { F.held files.new ≡ F.held files.old }
+{
+    match files.read(name) {
+        Ok(bytes) => no_text_explained(alloc, &bytes),
+        Err(_) => String::from_str(alloc, NO_TEXT),
+    }
+}
+
+/// Where bytes are no UTF-8.
+fn no_text_explained(alloc: Global, bytes: &[u8]) -> Result<String, AllocError> {
+    let front = text_before(bytes);
+    let at = front.len();
+    let Some(byte) = bytes.get(at) else {
+        return String::from_str(alloc, NO_TEXT);
+    };
+    let mut told = String::new(alloc);
+    told.push('\n')?;
+    push_line(&mut told, front, place_behind(front))?;
+    write!(
+        told,
+        "Byte {at} of the file, from 0, is {byte}, and begins no character of UTF-8 there.\n"
+    )?;
+    told.push_str(
+        "To mend it: write the file anew in UTF-8; outside of comments a program has ASCII alone.\n",
+    )?;
+    Ok(told)
+}
+
+/// The bytes before the first that are no UTF-8, as text.
+pub fn text_before(bytes: &[u8]) -> &str {
+    match std::str::from_utf8(bytes) {
+        Ok(text) => text,
+        Err(error) => {
+            let front = bytes.get(..error.valid_up_to()).unwrap_or(&[]);
+            std::str::from_utf8(front).unwrap_or("")
+        }
+    }
+}
+
+/// The line and the column behind a text.
+pub fn place_behind(text: &str) -> Place {
+    let mut line: u32 = 1;
+    let mut column: u32 = 1;
+    for character in text.chars() {
+        if character == '\n' {
+            line = line.saturating_add(1);
+            column = 1;
+        } else {
+            column = column.saturating_add(1);
+        }
+    }
+    Place { line, column }
+}
+
+/// Why a file can't be read.
+pub fn unreadable_explained(alloc: Global) -> Result<String, AllocError> {
+    String::from_str(alloc, UNREAD)
+}
+
+/// Why a file can't be written.
+pub fn unwritten_explained(alloc: Global, name: &str) -> Result<String, AllocError> {
+    if name == "-" {
+        String::from_str(alloc, NEVER_WRITTEN)
+    } else {
+        String::from_str(alloc, UNWRITTEN)
+    }
+}
