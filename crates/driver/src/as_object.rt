@@ -16,6 +16,7 @@ use crate::refusal::Refusal;
 use crate::terminal::Terminal;
 use crate::tracing::run_of;
 use command_line::request::{Command, Request, Settings};
+use excerpts::paint::Paint;
 use intake::failure::Failure;
 use intake::files::FileSource;
 use objects::outcomes::outcome_told;
@@ -50,7 +51,10 @@ pub fn perform_as_object<R: Threads + Wait + Sync, F: FileSource, O: Write, T: T
 {
     let read = match text_in(alloc, files, request.file) {
         Ok(text) => text,
-        Err(failure) => return Err(unread(rt, alloc, request.file, failure, out)),
+        Err(failure) => {
+            let paint = paint_of(request.telling, terminal);
+            return Err(unread(rt, alloc, request, paint, failure, files, out));
+        }
     };
     let text = read.as_str();
     let paint = paint_of(request.telling, terminal);
@@ -61,20 +65,23 @@ pub fn perform_as_object<R: Threads + Wait + Sync, F: FileSource, O: Write, T: T
 }
 
 /// Tells why the file of a program gives no text.
-fn unread<R: Threads + Sync, O: Write>(
+fn unread<R: Threads + Sync, F: FileSource, O: Write>(
     rt: &R,
     alloc: Global,
-    name: &str,
+    request: Request<'_>,
+    paint: Paint,
     failure: Failure,
+    files: &mut F,
     out: &mut O,
 ) -> Refusal
     ensures failure { result.failure ≡ failure }
-    ensures more { string_bytes result.more ≡ [] }
-    ensures told { IsToldAsObject (TellsFailure name.now [] failure)
+    ensures more { request.entry.telling.explain ≡ false → string_bytes result.more ≡ [] }
+    ensures told { IsToldAsObject (TellsFailure request.entry.file.now [] failure)
         (O.contents out.old) (O.contents out.new) }
+    ensures keeps { F.held files.new ≡ F.held files.old }
 {
-    tell_refusal(rt, alloc, name, "", &failure, out);
-    Refusal::bare(alloc, failure)
+    tell_refusal(rt, alloc, request.file, "", &failure, out);
+    Refusal::unread(alloc, files, request, paint, failure)
 }
 
 /// Tells what is asked of a text as one object, or why there is no answer.

@@ -7,6 +7,7 @@ ghost use Rattle.intake.specs.Messages.{failure_text};
 ghost use Rattle.texts.specs.Appending.{AppendsBeginning};
 
 use answers::explaining::explanation;
+use answers::unread::unread_explanation;
 use command_line::request::{Request, Settings};
 use excerpts::paint::{Paint, painted};
 use intake::failure::Failure;
@@ -59,6 +60,27 @@ impl Refusal {
         }
     }
 
+    /// It is explained so where the file of a program gave no text.
+    pub fn unread<F: FileSource>(
+        alloc: Global,
+        files: &mut F,
+        request: Request<'_>,
+        paint: Paint,
+        failure: Failure,
+    ) -> Refusal
+        ensures failure { result.failure ≡ failure }
+        ensures more { request.entry.telling.explain ≡ false → string_bytes result.more ≡ [] }
+        ensures keeps { F.held files.new ≡ F.held files.old }
+    {
+        if !request.telling.explain {
+            return Refusal::bare(alloc, failure);
+        }
+        match unread_coloured(alloc, files, request.file, paint, &failure) {
+            Ok(more) => Refusal { failure, more },
+            Err(AllocError) => Refusal::bare(alloc, failure),
+        }
+    }
+
     /// Writes the line and what is said behind it, as far as they are taken, and answers the status.
     pub fn tell<E: Write>(&self, err: &mut E) -> u8
         ensures status { result ≡ failure_status self.now.failure }
@@ -89,5 +111,19 @@ fn coloured<R: Threads + Sync, F: FileSource>(
     ensures { F.held files.new ≡ F.held files.old }
 {
     let more = explanation(rt, alloc, files, settings, text, failure)?;
+    painted(alloc, more, paint)
+}
+
+/// What explains why the file of a program gave no text, so coloured.
+fn unread_coloured<F: FileSource>(
+    alloc: Global,
+    files: &mut F,
+    name: &str,
+    paint: Paint,
+    failure: &Failure,
+) -> Result<String, AllocError>
+    ensures { F.held files.new ≡ F.held files.old }
+{
+    let more = unread_explanation(alloc, files, name, failure)?;
     painted(alloc, more, paint)
 }

@@ -67,7 +67,10 @@ pub fn time<R: Threads + Wait + Sync, F: FileSource, O: Write, T: Terminal>(
 {
     let read = match text_in(alloc, files, request.file) {
         Ok(text) => text,
-        Err(failure) => return Err(Refusal::bare(alloc, failure)),
+        Err(failure) => {
+            let paint = paint_of(request.telling, terminal);
+            return Err(Refusal::unread(alloc, files, request, paint, failure));
+        }
     };
     let text = read.as_str();
     let paint = paint_of(request.telling, terminal);

@@ -1,4 +1,4 @@
-use Rattle.std.proofs.Common.{List, ℕ, ◌≤◌, length, Ok, Err, subst, sym}
+use Rattle.std.proofs.Common.{List, ℕ, ◌≤◌, length, Ok, Err, subst, sym, trans}
 use Rattle.intake.specs.Held.{HasText}
 use Rattle.command_line.specs.Requests.{asked_of}
 use Rattle.driver.specs.Acts.{in_short}
@@ -9,8 +9,8 @@ pub returns-in-Err-clause-done : goal.returns-in-Err-clause-done
 returns-in-Err-clause-done g c =
     tells_refused c.args.subject (asked_of c.args.request) _ _ _ _ c.unread.result.failure c.in-Err.failure
     c.unread.ensures.failure
-    (told_without_text c.args.subject (asked_of c.args.request) _ _ _ _ c.in-Err.failure c.in-Err.ensures.keeps
-    c.in-Err.ensures.why c.unread.ensures.told)
+    (told_without_text c.args.subject (asked_of c.args.request) _ _ _ _ c.in-Err.failure
+    (trans c.unread.ensures.keeps c.in-Err.ensures.keeps) c.in-Err.ensures.why c.unread.ensures.told)
 
 pub returns-in-Ok-told-clause-done : goal.returns-in-Ok-told-clause-done
 returns-in-Ok-told-clause-done g c =

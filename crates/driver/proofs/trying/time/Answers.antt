@@ -1,4 +1,4 @@
-use Rattle.std.proofs.Common.{List, ℕ, ◌≤◌, length, Err, subst, sym}
+use Rattle.std.proofs.Common.{List, ℕ, ◌≤◌, length, Err, subst, sym, trans}
 use Rattle.driver.proofs.Tried.{same_failure, same_result, timed_on_text, timed_without_text, times_on}
 use Rattle.driver.specs.Trying.{ReadsAndTimes}
 use Rattle.intake.specs.Held.{HasText}
@@ -7,8 +7,9 @@ use Rattle.driver.proofs.trying.time.Goals as goal
 
 pub returns-in-Err-clause-done : goal.returns-in-Err-clause-done
 returns-in-Err-clause-done g c =
-    same_failure (ReadsAndTimes (asked_of c.args.request) _ _ _ _) _ c.in-Err.failure c.bare.ensures.failure
-    (timed_without_text (asked_of c.args.request) _ _ _ c.in-Err.failure c.in-Err.ensures.keeps c.in-Err.ensures.why)
+    same_failure (ReadsAndTimes (asked_of c.args.request) _ _ _ _) _ c.in-Err.failure c.unread.ensures.failure
+    (timed_without_text (asked_of c.args.request) _ _ _ c.in-Err.failure
+    (trans c.unread.ensures.keeps c.in-Err.ensures.keeps) c.in-Err.ensures.why)
 
 pub returns-in-Ok-bench-clause-done : goal.returns-in-Ok-bench-clause-done
 returns-in-Ok-bench-clause-done g c =
