@@ -38,12 +38,14 @@ const ROWS: &[(&str, &str)] = &[
 ];
 
 /// Where the options of COMMAND stand: in the reply to these words, from a text to another one, each behind a
-/// mark; and whether `--help` is told there too, as the last.
+/// mark, of which so many a line count, since the text of an option may name another one; and whether `--help` is told
+/// there too, as the last.
 struct Source {
     words: &'static str,
     begin: &'static str,
     end: &'static str,
     mark: &'static str,
+    a_line: usize,
     with_help: bool,
 }
 
@@ -53,6 +55,7 @@ const SOURCES: &[Source] = &[
         begin: "Options:\n",
         end: "\n\n",
         mark: " --",
+        a_line: 1,
         with_help: true,
     },
     Source {
@@ -60,6 +63,7 @@ const SOURCES: &[Source] = &[
         begin: "\n    COMMAND) options=",
         end: "\n",
         mark: "--",
+        a_line: usize::MAX,
         with_help: true,
     },
     Source {
@@ -67,6 +71,7 @@ const SOURCES: &[Source] = &[
         begin: "\n        COMMAND) _arguments",
         end: ";;",
         mark: "'--",
+        a_line: usize::MAX,
         with_help: true,
     },
     Source {
@@ -74,6 +79,7 @@ const SOURCES: &[Source] = &[
         begin: "\ncomplete -c afx -n '__fish_seen_subcommand_from COMMAND'",
         end: "Prints help",
         mark: " -l ",
+        a_line: usize::MAX,
         with_help: true,
     },
     Source {
@@ -81,6 +87,7 @@ const SOURCES: &[Source] = &[
         begin: "\n.SS afx COMMAND",
         end: "\n.S",
         mark: "fB--",
+        a_line: usize::MAX,
         with_help: false,
     },
 ];
@@ -106,9 +113,11 @@ fn options_at(rt: &impl Abort, alloc: Global, source: &Source, command: &str) ->
     let (_, behind) = reply.split_once(begin.as_str()).expect(rt, "a beginning");
     let (here, _) = behind.split_once(source.end).expect(rt, "an end");
     let mut options = String::new(alloc);
-    for piece in here.split(source.mark).skip(1) {
-        options.push(' ').expect(rt, "memory");
-        push_name(rt, &mut options, piece);
+    for line in here.lines() {
+        for piece in line.split(source.mark).skip(1).take(source.a_line) {
+            options.push(' ').expect(rt, "memory");
+            push_name(rt, &mut options, piece);
+        }
     }
     options
 }
