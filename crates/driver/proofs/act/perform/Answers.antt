@@ -7,8 +7,8 @@ use Rattle.driver.proofs.act.perform.Goals as goal
 pub returns-in-Ok-perform-clause-done : goal.returns-in-Ok-perform-clause-done
 returns-in-Ok-perform-clause-done g c =
     let held = g.F.FileSource.held c.args.files.now in
-    let text = c.as_str.result.now in
-    let same = sym c.as_str.ensures.value in
+    let text = c.as_str-text.result.now in
+    let same = sym c.as_str-text.ensures.value in
     short_of (asked_of c.args.request) held _ _ _ c.followed.result c.handed_on.result c.followed.ensures.same
     (performed_on_text (asked_of c.args.request) held _ _ _ c.in-Ok.ensures.keeps c.followed.ensures.keeps _ _ c.handed_on.result text
     (subst (HasText held c.args.request.file.now) same c.in-Ok.ensures.text)
@@ -20,8 +20,8 @@ returns-in-Ok-perform-clause-done g c =
 pub returns-clause-done : goal.returns-clause-done
 returns-clause-done g c =
     let held = g.F.FileSource.held c.args.files.now in
-    let text = c.as_str.result.now in
-    let same = sym c.as_str.ensures.value in
+    let text = c.as_str-text.result.now in
+    let same = sym c.as_str-text.ensures.value in
     refused_of (asked_of c.args.request) held _ _ _ c.explained.result c.in-Err-perform.failure c.explained.ensures.failure
     (performed_on_text (asked_of c.args.request) held _ _ _ c.in-Ok.ensures.keeps c.explained.ensures.keeps _ _
     (Err c.in-Err-perform.failure) text

@@ -1,4 +1,5 @@
-use Rattle.std.proofs.Common.{Global, List, ℕ, ◌≤◌, length, Ok, Vec, ap, string_bytes, subst, sym}
+use Rattle.std.proofs.Common.{Global, List, ℕ, ◌≤◌, length, Ok, Vec, ap, subst, sym}
+use Rattle.std.proofs.lemmas.Bool.{false≢true}
 use Rattle.std.proofs.lemmas.Str.{IsUtf8-string_bytes}
 use Rattle.std.specs.Prelude.{IsOk}
 use Rattle.intake.proofs.Programs.{no_program_text}
@@ -26,5 +27,5 @@ returns-clause-why g c =
       bytes = c.in_ok-bytes.bytes.items;
       given = c.in_ok-bytes.ensures.given;
       short = c.in_ok-bytes.ensures.short;
-      no_text = λ is_text. subst IsOk c.in-Err.is (c.from_utf8.ensures.succeeds is_text);
+      no_text = λ is_text. false≢true (subst IsOk c.in-Err.is (c.from_utf8.ensures.succeeds is_text));
     })
