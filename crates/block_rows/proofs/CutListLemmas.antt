@@ -31,13 +31,9 @@ copied-push (d ∷ cs) c q =
     ∙ sym (or_assoc (not (moves d) && is_in (piece_of d) q) (copied_places cs q) _)
 
 both : (a b m i : Bool) → ((a || (m && i)) || (b || (not m && i))) ≡ ((a || b) || i)
-both true b m i = refl
 both false true true true = refl
-both false true true false = refl
-both false true false i = refl
 both false false true true = refl
-both false false true false = refl
-both false false false i = refl
+both a b m i = refl
 
 pub cut-push : (cs : List Carving) (c : Carving) (q : Place) → cut_places (cs ++ c ∷ []) q ≡ (cut_places cs q || is_in (piece_of c) q)
 cut-push cs c q =

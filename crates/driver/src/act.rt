@@ -1,15 +1,16 @@
 //! The whole program, over files and writers that it is lent.
 
 ghost use Rattle.std.specs.Io.KnownBytes.{Keeps};
-ghost use Rattle.std.specs.Prelude.{ℕ, ◌≡◌, ◌≤◌, ◌⊎◌, List, [], length, codes, false, map, Err, IfOk, IfErr};
+ghost use Rattle.std.specs.Prelude.{ℕ, ◌≡◌, ◌≤◌, ◌⊎◌, List, [], length, codes, true, false, map, Err, IfOk, IfErr};
 ghost use Rattle.std.specs.String.{string_bytes};
 ghost use Rattle.driver.specs.Acts.{Acts, ReadsAndPerforms, Reports, in_short};
 ghost use Rattle.intake.specs.Failures.{TellsNotUtf8};
 ghost use Rattle.intake.specs.Held.{HasText, TellsNoProgram};
 ghost use Rattle.intake.specs.declared.failure.Failure.{Failure as FailureOf};
 ghost use Rattle.command_line.specs.Requests.{Asked, Asks, asked_of};
+ghost use Rattle.reading.specs.Files.{names_once};
 ghost use Rattle.reading.specs.Orders.{AsksForObject, AsksToTest, AsksToTime};
-ghost use Rattle.reading.specs.Orders.{Order as OrderIn, order as order_said};
+ghost use Rattle.reading.specs.Orders.{Order as OrderIn, Orders, names_once as order_names_once, order as order_said};
 ghost use Rattle.reading.specs.declared.order.Subject.{Subject};
 ghost use Rattle.driver.specs.Orders.{ActsOn, TellsAs, TestsAs, TimesAs};
 ghost use Rattle.command_line.specs.declared.request.Color.TheVariants.{Always, Never};
@@ -36,8 +37,8 @@ use std::thread::Threads;
 use texts::emit::append;
 use trials::folders::FolderSource;
 
-/// Does what the words behind the program's name order, and answers the exit status. `--progress` has
-/// `terminal` told how far a run has come, and `bench` has the time from it.
+/// Does what the words behind the program's name order, and answers the exit status. Words that name a file twice are a
+/// mistake, so that none is lost that is read. `--progress` has `terminal` told how far a run has come, and `bench` has the time from it.
 pub fn act<R: Threads + Wait + Sync, F: FolderSource, O: Write, E: Write, T: Terminal>(
     rt: &R,
     alloc: Global,
@@ -47,18 +48,20 @@ pub fn act<R: Threads + Wait + Sync, F: FolderSource, O: Write, E: Write, T: Ter
     err: &mut E,
     terminal: &mut T,
 ) -> u8
-    ensures asked { (a : Asked) → Asks (map string_bytes words.now) a
+    ensures asked { (a : Asked) → Asks (map string_bytes words.now) a → names_once a ≡ true
         → Acts a (F.held files.old) (F.held files.new) (O.contents out.old) (O.contents out.new)
         (E.contents err.old) (E.contents err.new) result }
     ensures as_object { (x : Subject) (a : Asked) → AsksForObject (map string_bytes words.now) x a
-        → TellsAs x a (F.held files.old) (F.held files.new) (O.contents out.old) (O.contents out.new)
+        → names_once a ≡ true → TellsAs x a (F.held files.old) (F.held files.new) (O.contents out.old) (O.contents out.new)
         (E.contents err.old) (E.contents err.new) result }
-    ensures timed { (a : Asked) → AsksToTime (map string_bytes words.now) a
+    ensures timed { (a : Asked) → AsksToTime (map string_bytes words.now) a → names_once a ≡ true
         → TimesAs a (F.held files.old) (F.held files.new) (O.contents out.old) (O.contents out.new)
         (E.contents err.old) (E.contents err.new) result }
     ensures tested { (folder : List ℕ) → AsksToTest (map string_bytes words.now) folder
         → TestsAs folder (F.named files.old) (F.held files.old) (F.held files.new)
         (O.contents out.old) (O.contents out.new) (E.contents err.old) (E.contents err.new) result }
+    ensures twice { (o : OrderIn) → Orders (map string_bytes words.now) o → order_names_once o ≡ false
+        → (result ≤ 1) × (F.held files.new ≡ F.held files.old) }
     ensures always { ((result ≤ 1) × (F.held files.new ≡ F.held files.old)) ⊎ ((o : OrderIn)
         × ActsOn o (F.named files.old) (F.held files.old) (F.held files.new)
         (O.contents out.old) (O.contents out.new) (E.contents err.old) (E.contents err.new) result) }

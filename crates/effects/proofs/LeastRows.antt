@@ -4,7 +4,7 @@ use Rattle.std.specs.Prelude.{◌↔◌, Bool, true}
 use Rattle.sections.specs.Member.{Member}
 use Rattle.types.specs.Code.{Code, Do, If, While, Split, Call, Async, Finish, Codes, End, Then, Program}
 use Rattle.effects.specs.Effects.{Inner, Subject, AllOf, All, PendingOf, Pending}
-use Rattle.effects.specs.Rows.{AllInside, LeftBy, SolvesAll, SolvesPending}
+use Rattle.effects.specs.Rows.{Inside, AllInside, LeftBy, SolvesAll, SolvesPending}
 
 module _ (p : Program) (subject : Subject) where
   -- the names of an `if` or a loop are those around it
@@ -12,17 +12,17 @@ module _ (p : Program) (subject : Subject) where
   as_kept xs x h = subst xs (sym (subject.kept x)) h
 
   -- an item of a block, in the names around the statement
-  all_inner : {s : Code} {b : Codes} {out : ℕ → ℕ} → Inner p s b out → (x : subject.Item) → All p subject b x
-      → AllInside p subject s (subject.renamed out x)
-  all_inner (Inner.if_body {b = b} {c = c}) x h = inl (as_kept (All p subject b) x h)
-  all_inner (Inner.if_other {b = b} {c = c}) x h = inr (as_kept (All p subject c) x h)
-  all_inner (Inner.while {b = b}) x h = as_kept (All p subject b) x h
-  all_inner Inner.split x h = record { item = x; among = h; same = refl }
-  all_inner Inner.call x h = record { item = x; among = h; same = refl }
+  inside : (has : Codes → subject.Item → Type 0) {s : Code} {b : Codes} {out : ℕ → ℕ} → Inner p s b out
+      → (x : subject.Item) → has b x → Inside p subject has s (subject.renamed out x)
+  inside has (Inner.if_body {b = b} {c = c}) x h = inl (as_kept (has b) x h)
+  inside has (Inner.if_other {b = b} {c = c}) x h = inr (as_kept (has c) x h)
+  inside has (Inner.while {b = b}) x h = as_kept (has b) x h
+  inside has Inner.split x h = record { item = x; among = h; same = refl }
+  inside has Inner.call x h = record { item = x; among = h; same = refl }
 
   from_all_of : {l : ℕ} {s : Code} {x : subject.Item} → AllOf p subject l s x → Member x (subject.own l s) ⊎ AllInside p subject s x
   from_all_of (AllOf.own_access h) = inl h
-  from_all_of (AllOf.inner {s = s} {x = x} i h e) = inr (subst (AllInside p subject s) (sym e) (all_inner i x h))
+  from_all_of (AllOf.inner {s = s} {x = x} i h e) = inr (subst (AllInside p subject s) (sym e) (inside (All p subject) i x h))
   from_all_of (AllOf.async h) = inr h
   from_all_of (AllOf.finish h) = inr h
 
@@ -39,16 +39,18 @@ module _ (p : Program) (subject : Subject) where
   pub all_rows : (l : ℕ) (s : Code) (x : subject.Item) → AllOf p subject l s x ↔ (Member x (subject.own l s) ⊎ AllInside p subject s x)
   all_rows l s x = (from_all_of, λ h. elim h [ inl k ↦ AllOf.own_access k | inr k ↦ to_all_of l s x k ])
 
-  pending_inner : {s : Code} {b : Codes} {out : ℕ → ℕ} → Inner p s b out → (x : subject.Item) → Pending p subject b x
-      → LeftBy p subject s (subject.renamed out x)
-  pending_inner (Inner.if_body {b = b} {c = c}) x h = inl (as_kept (Pending p subject b) x h)
-  pending_inner (Inner.if_other {b = b} {c = c}) x h = inr (as_kept (Pending p subject c) x h)
-  pending_inner (Inner.while {b = b}) x h = as_kept (Pending p subject b) x h
-  pending_inner Inner.split x h = record { item = x; among = h; same = refl }
-  pending_inner Inner.call x h = record { item = x; among = h; same = refl }
+  -- no statement that has a block inside it is an async or a finish
+  inside_left : {s : Code} {b : Codes} {out : ℕ → ℕ} → Inner p s b out → (x : subject.Item)
+      → Inside p subject (Pending p subject) s x → LeftBy p subject s x
+  inside_left Inner.if_body x h = h
+  inside_left Inner.if_other x h = h
+  inside_left Inner.while x h = h
+  inside_left Inner.split x h = h
+  inside_left Inner.call x h = h
 
   from_pending_of : {s : Code} {x : subject.Item} → PendingOf p subject s x → LeftBy p subject s x
-  from_pending_of (PendingOf.inner {s = s} {x = x} i h e) = subst (LeftBy p subject s) (sym e) (pending_inner i x h)
+  from_pending_of (PendingOf.inner {s = s} {out = out} {x = x} i h e) =
+      subst (LeftBy p subject s) (sym e) (inside_left i (subject.renamed out x) (inside (Pending p subject) i x h))
   from_pending_of (PendingOf.async h) = h
 
   to_pending_of : (s : Code) (x : subject.Item) → LeftBy p subject s x → PendingOf p subject s x

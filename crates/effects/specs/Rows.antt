@@ -12,25 +12,26 @@ module _ (p : Program) (subject : Subject) where
     pub among : those item
     pub same : y ≡ subject.renamed out item
 
-  -- what the blocks of a statement and its call may do, in the names around it
-  abbrev pub AllInside : Code → subject.Item → Type 0
-  AllInside (Do s) x = ⊥
-  AllInside (If t b c) x = All p subject b x ⊎ All p subject c x
-  AllInside (While t b) x = All p subject b x
-  AllInside (Split s e l r b) x = Renamed (past_split s l r) (All p subject b) x
-  AllInside (Call f es ss) x = Renamed (past_call ss) (All p subject (procedure_of p f).body) x
-  AllInside (Async b) x = All p subject b x
-  AllInside (Finish b) x = All p subject b x
+  -- what the blocks of a statement and its call have, in the names around it
+  abbrev pub Inside : (Codes → subject.Item → Type 0) → Code → subject.Item → Type 0
+  Inside has (Do s) x = ⊥
+  Inside has (If t b c) x = has b x ⊎ has c x
+  Inside has (While t b) x = has b x
+  Inside has (Split s e l r b) x = Renamed (past_split s l r) (has b) x
+  Inside has (Call f es ss) x = Renamed (past_call ss) (has (procedure_of p f).body) x
+  Inside has (Async b) x = has b x
+  Inside has (Finish b) x = has b x
 
-  -- what a statement leaves pending
+  -- what they may do
+  abbrev pub AllInside : Code → subject.Item → Type 0
+  AllInside s x = Inside (All p subject) s x
+
+  -- what a statement leaves pending: an async all of its body, a finish nothing, and another what
+  -- is left inside it
   abbrev pub LeftBy : Code → subject.Item → Type 0
-  LeftBy (Do s) x = ⊥
-  LeftBy (If t b c) x = Pending p subject b x ⊎ Pending p subject c x
-  LeftBy (While t b) x = Pending p subject b x
-  LeftBy (Split s e l r b) x = Renamed (past_split s l r) (Pending p subject b) x
-  LeftBy (Call f es ss) x = Renamed (past_call ss) (Pending p subject (procedure_of p f).body) x
   LeftBy (Async b) x = All p subject b x
   LeftBy (Finish b) x = ⊥
+  LeftBy s x = Inside (Pending p subject) s x
 
   -- a set for each list of statements that has all that the rows ask of All
   pub record SolvesAll (has : Codes → subject.Item → Bool) : Type 0 where

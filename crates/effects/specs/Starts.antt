@@ -5,14 +5,17 @@ use Rattle.effects.specs.Visits.{Visit}
 use Rattle.effects.specs.declared.starts.Start.{Start}
 use Rattle.effects.specs.declared.summary.Row.TheVariants.{All, Pending, Labels, PendingLabels}
 use Rattle.effects.specs.declared.visits.Standing.{Standing}
-use Rattle.effects.specs.declared.visits.Standing.TheVariants.{Open, Begun, Awaited}
+use Rattle.effects.specs.declared.visits.Standing.TheVariants.{Begun}
+
+-- what stands among all, and where a begun task does it, among what is pending
+abbrev pub starts_at : Standing → (all pending : Start) → List Start
+starts_at Begun all pending = all ∷ pending ∷ []
+starts_at w all pending = all ∷ []
 
 -- the rows of a statement's label
 abbrev pub starts_of_label : Standing → (label : ℕ) → List Start
-starts_of_label Open l = record { row = Labels; label = l } ∷ []
-starts_of_label Begun l =
-    record { row = Labels; label = l } ∷ record { row = PendingLabels; label = l } ∷ []
-starts_of_label Awaited l = record { row = Labels; label = l } ∷ []
+starts_of_label w l =
+    starts_at w (record { row = Labels; label = l }) (record { row = PendingLabels; label = l })
 
 module _ (root : ℕ → ℕ) where
   -- an access among all
@@ -26,9 +29,7 @@ module _ (root : ℕ → ℕ) where
 
   -- the rows of an access
   abbrev pub starts_of_access : Standing → Access → List Start
-  starts_of_access Open x = among_all x ∷ []
-  starts_of_access Begun x = among_all x ∷ among_pending x ∷ []
-  starts_of_access Awaited x = among_all x ∷ []
+  starts_of_access w x = starts_at w (among_all x) (among_pending x)
 
   -- what a statement does by itself
   abbrev pub starts_of : Visit → List Start

@@ -22,14 +22,12 @@ visit v = record {
 -- where the body of an async stands
 abbrev pub in_async : Standing → Standing
 in_async Open = Begun
-in_async Begun = Begun
-in_async Awaited = Awaited
+in_async w = w
 
 -- and that of a finish, which waits for what isn't pending anyway
 abbrev pub in_finish : Standing → Standing
 in_finish Open = Awaited
-in_finish Begun = Begun
-in_finish Awaited = Awaited
+in_finish w = w
 
 abbrev mutual
   -- the statements inside a statement

@@ -2,7 +2,7 @@
 
 ghost use Rattle.std.specs.Prelude.{◌≡◌, ◌++◌, OnOk};
 ghost use Rattle.effects.specs.Roots.{root_in};
-ghost use Rattle.effects.specs.Starts.{starts_of, starts_of_label, starts_of_access};
+ghost use Rattle.effects.specs.Starts.{starts_at, starts_of, starts_of_label, starts_of_access};
 ghost use Rattle.effects.specs.Translation.{access as access_of};
 ghost use Rattle.effects.specs.Visits.{visit as visit_of};
 
@@ -44,21 +44,15 @@ pub fn start_visit(
 fn start_label(standing: Standing, label: Label, into: &mut Vec<Start>) -> Result<(), AllocError>
     ensures { OnOk result (into.new.items ≡ into.old.items ++ starts_of_label standing label) }
 {
-    into.push(Start {
+    let all = Start {
         row: Row::Labels,
         label,
-    })?;
-    match standing {
-        Standing::Open => Ok(()),
-        Standing::Begun => {
-            into.push(Start {
-                row: Row::PendingLabels,
-                label,
-            })?;
-            Ok(())
-        }
-        Standing::Awaited => Ok(()),
-    }
+    };
+    let pending = Start {
+        row: Row::PendingLabels,
+        label,
+    };
+    add_rows(standing, all, pending, into)
 }
 
 /// Adds the rows of an access.
@@ -73,17 +67,31 @@ fn start_access(
 {
     let Access { label, write, .. } = access;
     let section = roots.of(access.section);
-    into.push(Start {
+    let all = Start {
         row: Row::All { section, write },
         label,
-    })?;
+    };
+    let pending = Start {
+        row: Row::Pending { section, write },
+        label,
+    };
+    add_rows(standing, all, pending, into)
+}
+
+/// Adds what stands among all and, where a begun task does it, among what is pending.
+fn add_rows(
+    standing: Standing,
+    all: Start,
+    pending: Start,
+    into: &mut Vec<Start>,
+) -> Result<(), AllocError>
+    ensures { OnOk result (into.new.items ≡ into.old.items ++ starts_at standing all pending) }
+{
+    into.push(all)?;
     match standing {
         Standing::Open => Ok(()),
         Standing::Begun => {
-            into.push(Start {
-                row: Row::Pending { section, write },
-                label,
-            })?;
+            into.push(pending)?;
             Ok(())
         }
         Standing::Awaited => Ok(()),

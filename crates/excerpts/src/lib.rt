@@ -1,9 +1,10 @@
-//! Parts of a program's text, as reasons show them: lines with a caret, and what the names in them are.
+//! Parts of a program's text, as reasons show them: lines with a caret, statements, and the names in them.
 
 #![tactic(auto)]
 
-pub mod arguments;
-pub mod declared;
+pub mod escaped;
 pub mod named;
+pub mod nouns;
 pub mod paint;
 pub mod source;
+pub mod statements;

@@ -133,3 +133,14 @@ pub fn begins_with(tokens: &[Spanned], mark: Mark) -> bool {
         None => false,
     }
 }
+
+/// Whether a token is an operator of numbers.
+pub fn is_operator(token: &Token) -> bool {
+    match token {
+        Token::Mark(mark) => match mark {
+            Mark::Plus | Mark::Minus | Mark::Star | Mark::Slash | Mark::Percent => true,
+            _ => false,
+        },
+        _ => false,
+    }
+}

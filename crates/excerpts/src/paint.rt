@@ -31,8 +31,8 @@ const MARGIN: usize = 6;
 
 const MEND: &str = "To mend it:";
 
-/// A text that explains, with its colours where it is to have them: the numbers and bars before lines of a program, the
-/// carets under them, and the words `To mend it:`.
+/// A text that explains, with its colours where it is to have them: the numbers and bars before
+/// lines of a program, the carets under them, and the words `To mend it:`.
 pub fn painted(alloc: Global, told: String, paint: Paint) -> Result<String, AllocError>
     ensures { paint ≡ Plain → IfOk result (λ text. string_bytes text ≡ string_bytes told) }
 {

@@ -70,6 +70,12 @@ impl Source {
     }
 }
 
+/// Adds an empty line, and the line of a place with a caret.
+pub fn push_excerpt(told: &mut String, text: &str, place: Place) -> Result<(), AllocError> {
+    told.push('\n')?;
+    push_line(told, text, place)
+}
+
 /// Adds the line of a place behind its number, and under it a caret at the place.
 pub fn push_line(told: &mut String, text: &str, place: Place) -> Result<(), AllocError> {
     let number = place.line;
@@ -82,7 +88,7 @@ pub fn push_line(told: &mut String, text: &str, place: Place) -> Result<(), Allo
 }
 
 /// The line of a place, or nothing behind the last.
-fn line_of(text: &str, place: Place) -> &str {
+pub fn line_of(text: &str, place: Place) -> &str {
     let mut number: u32 = 1;
     for line in text.lines() {
         if number == place.line {

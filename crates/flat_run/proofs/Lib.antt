@@ -16,6 +16,7 @@ pub mod Registers
 pub mod Stepping
 pub mod Straight
 pub mod Fusing
+pub mod Finding
 pub mod Measures
 pub mod Machining
 pub mod Starting

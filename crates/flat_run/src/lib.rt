@@ -10,6 +10,7 @@ pub mod fused;
 pub mod guards;
 pub mod machine;
 pub mod numbers;
+pub mod parts;
 pub mod passing;
 pub mod procedures;
 pub mod programs;

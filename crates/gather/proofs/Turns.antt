@@ -58,14 +58,6 @@ module _ (w : Waiting) (rs : List TaskResult) where
       ∙ ap (λ (o : Comes). and_then o none_left) (sym (and_then-assoc (finished (opened x) left) (gone_on w) (come ws)))
       ∙ ap (comes_from ws) (opened_by (comes_back_twice w) x left e)
 
-  lost_by : (b : Bool) → take w.hole.path rs ≡ None → and_then (if b then None else next_of (take w.hole.path rs)) close ≡ None
-  lost_by true e = refl
-  lost_by false e = ap (λ found. and_then (next_of found) close) e
-
-  pub comes_to-lost : (ws : List Waiting) → take w.hole.path rs ≡ None
-      → comes_to (record { left = rs; waiting = ws; part = unopened w }) ≡ None
-  comes_to-lost ws e = ap (comes_from ws) (lost_by (comes_back_twice w) e)
-
 -- ---- a hole is filled
 module _ (f : Part) (rs : List TaskResult) (full : f.holes ≡ []) where
   finished-full : finished f rs ≡ Some (closed f f.so_far, rs)

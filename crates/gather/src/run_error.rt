@@ -5,7 +5,7 @@ ghost use Rattle.gather.specs.RunErrors.{error_code, refused_by};
 ghost use Rattle.gather.specs.declared.run_error.RunError.TheVariants.{OutOfMemory};
 
 use crate::error::GatherError;
-use std::alloc::{AllocError, AllocFailed};
+use std::alloc::AllocError;
 use tickets::Ticket;
 
 /// Why a run has no outcome: what came first. With a run to which it happens, where one is known.
@@ -42,14 +42,6 @@ impl From<AllocError> for RunError {
     ghost from_gives = { λ _ e. e ≡ OutOfMemory };
 
     fn from(_error: AllocError) -> RunError {
-        RunError::OutOfMemory
-    }
-}
-
-impl<T: Drop> From<AllocFailed<T>> for RunError {
-    ghost from_gives = { λ _ e. e ≡ OutOfMemory };
-
-    fn from(_error: AllocFailed<T>) -> RunError {
         RunError::OutOfMemory
     }
 }

@@ -1,25 +1,8 @@
-//! Names from outside as messages show them.
+//! Mistakes in inputs as messages show them.
 
+use excerpts::escaped::Escaped;
 use std::fmt;
 use types::input_error::InputError;
-
-/// A name from outside, as that of a file, in which a character that steers a terminal is told by its number, as `\x1b`.
-#[derive(Clone, Copy)]
-pub struct Escaped<'n>(pub &'n str);
-
-impl fmt::Display for Escaped<'_> {
-    fn fmt<W: fmt::Write>(&self, f: &mut fmt::Formatter<W>) -> fmt::Result {
-        for character in self.0.chars() {
-            let code = u32::from(character);
-            if code < 32 || code == 127 {
-                write!(f, "\\x{code:02x}")?;
-            } else {
-                write!(f, "{character}")?;
-            }
-        }
-        Ok(())
-    }
-}
 
 /// A mistake in an input, whose members may have any name: `N3 z`
 #[derive(Clone, Copy)]

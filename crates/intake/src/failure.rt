@@ -10,7 +10,8 @@ ghost use Rattle.intake.specs.Failures.{IsRaceOf, TellsNotUtf8, TellsRaceIn, Tel
 ghost use Rattle.intake.specs.Failures.{access_text, kind_of, section_text, told_procedure};
 ghost use Rattle.intake.specs.Failures.{section_name as name_of_section};
 
-use crate::escaped::{Escaped, EscapedInput};
+use crate::escaped::EscapedInput;
+use excerpts::escaped::Escaped;
 use gather::run_error::RunError;
 use race_checker::race::Race;
 use sections::id::SectionId;

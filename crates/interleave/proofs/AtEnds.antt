@@ -1,5 +1,5 @@
 -- The events at the ends of finishes and of tasks, as the tables in Rust show them.
-use Rattle.std.proofs.Common.{◌≡◌, ℕ, List, [], ◌∷◌, ◌++◌, Option, Some, None, refl, sym, ap, ◌∙◌, subst, arith}
+use Rattle.std.proofs.Common.{◌≡◌, ℕ, ◌+◌, ◌≤◌, List, [], ◌∷◌, ◌++◌, Option, Some, None, refl, sym, ap, ◌∙◌, subst, arith}
 use Rattle.std.proofs.lemmas.Option.{none-some, same_Some}
 use Rattle.std.specs.Prelude.{Bool, true, false, ◌||◌, not, nat_eq, map, if◌then◌else◌, Contains, slice_index_or}
 use Rattle.std.specs.Prelude.{Result, Ok, Err, IfErr}
@@ -23,7 +23,7 @@ use Rattle.interleave.specs.Acting.{IsReady}
 use Rattle.interleave.specs.Courses.{Course, IsKnown, course_of, IsDoing, IsNext}
 use Rattle.interleave.specs.Ending.{GivesBack, IsSeen, IsSetDown, IsUnseen, IsInNoHand}
 use Rattle.interleave.specs.Ending.{NoneIsLate, ScopeBecomes, StandsAt, TaskBecomes, has_ended, is_root, is_waiting}
-use Rattle.interleave.specs.Events.{Ends, Parks, only_if, did, give_back, owns, with_next, in_innermost, next_action, by_end, by_park}
+use Rattle.interleave.specs.Events.{Event, Ends, Parks, only_if, did, give_back, owns, with_next, in_innermost, next_action, by_end, by_park}
 use Rattle.interleave.specs.Jobs.{IsWeightedJob}
 use Rattle.interleave.specs.Replay.{does, hands_on}
 use Rattle.interleave.specs.Shown.{AreBoth, IsTaskOf, IsBookOf, IsDoingThere, IsTold, Becomes, Refuses, ScopeStays, Shows, WorldStays, is_path, is_scope, next_world}
@@ -43,6 +43,7 @@ use Rattle.interleave.specs.declared.task.Whereabouts.{Whereabouts as rWhereabou
 use Rattle.interleave.specs.declared.task.Whereabouts.TheVariants.{Queue as rQueue, Hand as rHand, Parked as rParked}
 use Rattle.interleave.specs.declared.world.World.{World as rWorld}
 use Rattle.interleave.proofs.Came.{ends_with}
+use Rattle.interleave.proofs.InHand.{InHand, acts as goes_by, acts_nowhere, ahead_of, in_the_hand, known_next}
 use Rattle.interleave.proofs.GoingOn.{ends_are_own}
 use Rattle.interleave.proofs.Hands.{hands_are_apart, free_without, free_parked}
 use Rattle.interleave.proofs.LateWeights.{none_is_late}
@@ -57,26 +58,6 @@ use Rattle.interleave.proofs.Tables.{there, not_there, tasks_put, paths_put, pat
 use Rattle.own_run.proofs.SettledResults.{paths_same}
 
 -- ---- the next action
--- by what a task of a path is about to do
-abbrev action_of : List ℕ → Doing → Option Action
-action_of path (Starts s) = None
-action_of path (Runs r) = None
-action_of path (Steps r) = Some Step
-action_of path (Spawns r s) = Some (Spawn (start s))
-action_of path (Opens r) = Some EnterFinish
-action_of path (AtFinish q made) = Some EndFinish
-action_of path (AtEnd made) = Some (last_action path)
-
-next_is : (j : Job) (c : Course) (d : Doing) → IsDoing j c d → IsKnown d
-    → (a : Action) × (action_of c.start.path d ≡ Some a) × IsNext j c a
-next_is j c (Starts s) h k = absurd k
-next_is j c (Runs r) h k = absurd k
-next_is j c (Steps r) h k = (Step, refl, h.0)
-next_is j c (Spawns r s) h k = (Spawn (start s), refl, h.0)
-next_is j c (Opens r) h k = (EnterFinish, refl, h.0)
-next_is j c (AtFinish q made) h k = (EndFinish, refl, h.0)
-next_is j c (AtEnd made) h k = (last_action c.start.path, refl, h.0)
-
 abbrev is_end : Action → Bool
 is_end EndTask = true
 is_end _ = false
@@ -87,53 +68,29 @@ is_finish _ = false
 
 ends_so : (a : Action) → is_end a ≡ true → a ≡ EndTask
 ends_so EndTask e = refl
-ends_so Step e = false_true e
-ends_so (Spawn c) e = false_true e
-ends_so EnterFinish e = false_true e
-ends_so EndFinish e = false_true e
+ends_so a e = false_true e
 
 finishes_so : (a : Action) → is_finish a ≡ true → a ≡ EndFinish
 finishes_so EndFinish e = refl
-finishes_so Step e = false_true e
-finishes_so (Spawn c) e = false_true e
-finishes_so EnterFinish e = false_true e
-finishes_so EndTask e = false_true e
+finishes_so a e = false_true e
 
-last_end : (path : List ℕ) → is_end (last_action path) ≡ not (is_root path)
-last_end [] = refl
-last_end (k ∷ path) = refl
+last_is : (path : List ℕ) → (is_end (last_action path) ≡ not (is_root path)) × (is_finish (last_action path) ≡ is_root path)
+last_is [] = (refl, refl)
+last_is (k ∷ path) = (refl, refl)
 
-last_finish : (path : List ℕ) → is_finish (last_action path) ≡ is_root path
-last_finish [] = refl
-last_finish (k ∷ path) = refl
-
-ends_as : (path : List ℕ) (d : Doing) (a : Action) → action_of path d ≡ Some a → is_end a ≡ has_ended path d
+-- by what a task of a path is about to do
+ends_as : (path : List ℕ) (d : Doing) (a : Action) → ahead_of path d ≡ Some a
+    → (is_end a ≡ has_ended path d) × (is_finish a ≡ is_waiting path d)
 ends_as path (Starts s) a e = absurd (none-some _ e)
 ends_as path (Runs r) a e = absurd (none-some _ e)
-ends_as path (Steps r) a e = ap is_end (sym (same_Some _ _ e))
-ends_as path (Spawns r s) a e = ap is_end (sym (same_Some _ _ e))
-ends_as path (Opens r) a e = ap is_end (sym (same_Some _ _ e))
-ends_as path (AtFinish q made) a e = ap is_end (sym (same_Some _ _ e))
-ends_as path (AtEnd made) a e = ap is_end (sym (same_Some _ _ e)) ∙ last_end path
-
-finishes_as : (path : List ℕ) (d : Doing) (a : Action) → action_of path d ≡ Some a → is_finish a ≡ is_waiting path d
-finishes_as path (Starts s) a e = absurd (none-some _ e)
-finishes_as path (Runs r) a e = absurd (none-some _ e)
-finishes_as path (Steps r) a e = ap is_finish (sym (same_Some _ _ e))
-finishes_as path (Spawns r s) a e = ap is_finish (sym (same_Some _ _ e))
-finishes_as path (Opens r) a e = ap is_finish (sym (same_Some _ _ e))
-finishes_as path (AtFinish q made) a e = ap is_finish (sym (same_Some _ _ e))
-finishes_as path (AtEnd made) a e = ap is_finish (sym (same_Some _ _ e)) ∙ last_finish path
+ends_as path (AtEnd made) a e =
+    let is = sym (same_Some _ _ e) in (ap is_end is ∙ (last_is path).0, ap is_finish is ∙ (last_is path).1)
+ends_as path d a e = let is = sym (same_Some _ _ e) in (ap is_end is, ap is_finish is)
 
 -- a task at its end has made something
 pub has_made : (path : List ℕ) (d : Doing) → has_ended path d ≡ true → (made : Made) × (d ≡ AtEnd made)
 has_made path (AtEnd made) e = (made, refl)
-has_made path (Starts s) e = false_true e
-has_made path (Runs r) e = false_true e
-has_made path (Steps r) e = false_true e
-has_made path (Spawns r s) e = false_true e
-has_made path (Opens r) e = false_true e
-has_made path (AtFinish q made) e = false_true e
+has_made path d e = false_true e
 
 -- ---- a world that is shown
 module _ (r : rWorld) (ok : IsWeightedJob r.job) (w : World) (h : Shows r w) where
@@ -194,108 +151,74 @@ module _ (r : rWorld) (ok : IsWeightedJob r.job) (w : World) (h : Shows r w) whe
           record { its = k; at = at; inner = s; outer = outer; stakes = e; book = book.0; there = book.1 }
 
   -- no task in a hand, no event of one
-  not_in_hand : (path : Path) (go : Live → Action → Option World) → IsUnseen r path Illegal
-      → with_next r.job.w0 acts hands_on_so path.turns.items w go ≡ None
-  not_in_hand path go none = by_table (get is_path r.tasks path) (h.tasks path) none
-    where
-      rest : Live → Option World
-      rest t = and_then (hand_of t.place) (λ v. and_then (next_action r.job.w0 acts hands_on_so t) (go t))
-
-      by_table : (o : Option rTask) → AreBoth (IsTaskOf r.job.job) o (task path.turns.items w.live)
-          → ((k : rTask) → o ≡ Some k → IsInNoHand k.place Illegal)
-          → with_next r.job.w0 acts hands_on_so path.turns.items w go ≡ None
-      by_table None both out =
-          ap (λ o. and_then o (λ t. and_then (hand_of t.place) (λ v. and_then (next_action r.job.w0 acts hands_on_so t) (go t))))
-          (not_there (IsTaskOf r.job.job) None (task path.turns.items w.live) both refl)
-      by_table (Some k) both out =
-          let t = there (IsTaskOf r.job.job) k (Some k) (task path.turns.items w.live) both refl in
-          ap (λ o. and_then o (λ t. and_then (hand_of t.place) (λ v. and_then (next_action r.job.w0 acts hands_on_so t) (go t)))) t.1
-          ∙ ap (λ o. and_then o (λ v. and_then (next_action r.job.w0 acts hands_on_so t.0) (go t.0)))
-          (ap hand_of (sym t.2.place) ∙ out k refl)
-
   pub unseen_ends : (path : Path) → IsUnseen r path Illegal → next_world r.job (Ends path.turns.items) w ≡ None
   unseen_ends path =
-      not_in_hand path (λ t a. in_innermost r.job.w0 acts hands_on_so t.stakes (λ s outer. by_end r.job.w0 acts hands_on_so t s outer w a))
+      acts_nowhere r w h path (λ t a. in_innermost r.job.w0 acts hands_on_so t.stakes (λ s outer. by_end r.job.w0 acts hands_on_so t s outer w a))
 
   pub unseen_parks : (path : Path) → IsUnseen r path Illegal → next_world r.job (Parks path.turns.items) w ≡ None
   unseen_parks path =
-      not_in_hand path (λ t a. in_innermost r.job.w0 acts hands_on_so t.stakes (λ s outer. by_park r.job.w0 acts hands_on_so t s outer w a))
+      acts_nowhere r w h path (λ t a. in_innermost r.job.w0 acts hands_on_so t.stakes (λ s outer. by_park r.job.w0 acts hands_on_so t s outer w a))
 
   -- ---- a task in a hand, whose next action is known
   module _ (path : Path) (worker : ℕ) (seen : IsSeen r path worker) where
     record Found : Type 0 where
-      its : Live
-      lives : task path.turns.items w.live ≡ Some its
-      is : IsTaskOf r.job.job seen.its its
-      named : its.path ≡ path.turns.items
-      hand : hand_of its.place ≡ Some worker
-      doing : IsDoing r.job.job (course_of its) seen.its.doing
+      here : InHand r w path worker seen.its
+      open here use *
       action : Action
-      does_so : action_of path.turns.items seen.its.doing ≡ Some action
-      next : next_action r.job.w0 acts hands_on_so its ≡ Some action
+      does_so : ahead_of path.turns.items seen.its.doing ≡ Some action
+      next : IsNext r.job.job (course_of here.its) action
 
     found : Found
     found =
-        let t = there (IsTaskOf r.job.job) seen.its (get is_path r.tasks path) (task path.turns.items w.live) (h.tasks path) seen.at in
-        let placed : t.0.place ≡ Hand worker = sym t.2.place ∙ ap whereabouts seen.place in
-        let doing = subst (λ q. IsDoingThere r.job.job q (course_of t.0) seen.its.doing) placed t.2.doing in
-        let next = next_is r.job.job (course_of t.0) seen.its.doing doing seen.known in
-        let named = task_path path.turns.items w.live t.0 t.1 in
-        let own = (sound p (needs_of p) r.job.w0 ok.least (lists_of r.job.job) (budget_of r.job.job) h.events w h.led).own.tasks path.turns.items t.0 t.1
-        in
+        let here = in_the_hand r w h path worker seen.its seen.at (ap (λ q. hand_of (whereabouts q)) seen.place) in
+        let next = known_next r.job.job (course_of here.its) seen.its.doing seen.known here.doing in
+        let own = (sound p (needs_of p) r.job.w0 ok.least (lists_of r.job.job) (budget_of r.job.job) h.events w h.led).own.tasks
+        path.turns.items here.its here.lives in
         let started = start_path p (needs_of p) (budget_of r.job.job).steps r.job.w0
-        (root_of p (lists_of r.job.job) (budget_of r.job.job).nest) refl t.0 own in
+        (root_of p (lists_of r.job.job) (budget_of r.job.job).nest) refl here.its own in
         record {
-          its = t.0;
-          lives = t.1;
-          is = t.2;
-          named = named;
-          hand = ap hand_of placed;
-          doing = doing;
+          here = here;
           action = next.0;
-          does_so = ap (λ q. action_of q seen.its.doing) (sym (started ∙ named)) ∙ next.1;
-          next = next.2;
+          does_so = ap (λ q. ahead_of q seen.its.doing) (sym (started ∙ here.named)) ∙ next.2;
+          next = next.1;
         }
 
-    goes : (go : Live → Action → Option World)
-        → with_next r.job.w0 acts hands_on_so path.turns.items w go ≡ go found.its found.action
+    -- what comes of an event that asks for its innermost scope
+    abbrev goes_in : (Live → Stake → List Stake → World → Action → Option World) → Option World
+    goes_in go = with_next r.job.w0 acts hands_on_so path.turns.items w
+        (λ t a. in_innermost r.job.w0 acts hands_on_so t.stakes (λ s outer. go t s outer w a))
+
+    goes : (go : Live → Stake → List Stake → World → Action → Option World)
+        → goes_in go ≡ in_innermost r.job.w0 acts hands_on_so found.its.stakes (λ s outer. go found.its s outer w found.action)
     goes go =
-        ap (λ o. and_then o (λ t. and_then (hand_of t.place) (λ v. and_then (next_action r.job.w0 acts hands_on_so t) (go t)))) found.lives
-        ∙ ap (λ o. and_then o (λ v. and_then (next_action r.job.w0 acts hands_on_so found.its) (go found.its))) found.hand
-        ∙ ap (λ o. and_then o (go found.its)) found.next
+        goes_by r w h path worker seen.its found.here found.action
+        (λ t a. in_innermost r.job.w0 acts hands_on_so t.stakes (λ s outer. go t s outer w a)) found.next
 
     none_inside : (ss : List Stake) (go : Stake → List Stake → Option World) → ((s : Stake) (outer : List Stake) → go s outer ≡ None)
         → in_innermost r.job.w0 acts hands_on_so ss go ≡ None
     none_inside [] go none = refl
     none_inside (s ∷ outer) go none = none s outer
 
+    no_other : (a : Action) (s : Stake) (outer : List Stake)
+        → (is_end a ≡ false → by_end r.job.w0 acts hands_on_so found.its s outer w a ≡ None)
+        × (is_finish a ≡ false → by_park r.job.w0 acts hands_on_so found.its s outer w a ≡ None)
+    no_other EndTask s outer = (λ e. false_true (sym e), λ e. refl)
+    no_other EndFinish s outer = (λ e. refl, λ e. false_true (sym e))
+    no_other a s outer = (λ e. refl, λ e. refl)
+
+    does_as : (is_end found.action ≡ has_ended path.turns.items seen.its.doing)
+        × (is_finish found.action ≡ is_waiting path.turns.items seen.its.doing)
+    does_as = ends_as path.turns.items seen.its.doing found.action found.does_so
+
     pub not_ended : has_ended path.turns.items seen.its.doing ≡ false → next_world r.job (Ends path.turns.items) w ≡ None
     not_ended e =
-        goes (λ t a. in_innermost r.job.w0 acts hands_on_so t.stakes (λ s outer. by_end r.job.w0 acts hands_on_so t s outer w a))
-        ∙ none_inside found.its.stakes _
-        (λ s outer. by_action found.action s outer (ends_as path.turns.items seen.its.doing found.action found.does_so ∙ e))
-      where
-        by_action : (a : Action) (s : Stake) (outer : List Stake) → is_end a ≡ false
-            → by_end r.job.w0 acts hands_on_so found.its s outer w a ≡ None
-        by_action Step s outer e = refl
-        by_action (Spawn c) s outer e = refl
-        by_action EnterFinish s outer e = refl
-        by_action EndFinish s outer e = refl
-        by_action EndTask s outer e = false_true (sym e)
+        goes (by_end r.job.w0 acts hands_on_so)
+        ∙ none_inside found.its.stakes _ (λ s outer. (no_other found.action s outer).0 (does_as.0 ∙ e))
 
     pub not_waiting : is_waiting path.turns.items seen.its.doing ≡ false → next_world r.job (Parks path.turns.items) w ≡ None
     not_waiting e =
-        goes (λ t a. in_innermost r.job.w0 acts hands_on_so t.stakes (λ s outer. by_park r.job.w0 acts hands_on_so t s outer w a))
-        ∙ none_inside found.its.stakes _
-        (λ s outer. by_action found.action s outer (finishes_as path.turns.items seen.its.doing found.action found.does_so ∙ e))
-      where
-        by_action : (a : Action) (s : Stake) (outer : List Stake) → is_finish a ≡ false
-            → by_park r.job.w0 acts hands_on_so found.its s outer w a ≡ None
-        by_action Step s outer e = refl
-        by_action (Spawn c) s outer e = refl
-        by_action EnterFinish s outer e = refl
-        by_action EndFinish s outer e = false_true (sym e)
-        by_action EndTask s outer e = refl
+        goes (by_park r.job.w0 acts hands_on_so)
+        ∙ none_inside found.its.stakes _ (λ s outer. (no_other found.action s outer).1 (does_as.1 ∙ e))
 
     module _ (inner : rStake) (outer : List rStake) (stakes : seen.its.stakes.items ≡ inner ∷ outer) (book : rScope)
         (kept : get is_scope r.scopes inner.scope ≡ Some book) (to_book : rScope) (new : rWorld)
@@ -303,6 +226,12 @@ module _ (r : rWorld) (ok : IsWeightedJob r.job) (w : World) (h : Shows r w) whe
         (each_scope : (q : rScopeId) → get is_scope new.scopes q ≡ (if is_scope inner.scope q then Some to_book else get is_scope r.scopes q)) where
       are : found.its.stakes ≡ stake inner ∷ map stake outer
       are = sym found.is.stakes ∙ ap (map stake) stakes
+
+      goes_inside : (go : Live → Stake → List Stake → World → Action → Option World) (a : Action) → found.action ≡ a
+          → goes_in go ≡ go found.its (stake inner) (map stake outer) w a
+      goes_inside go a next =
+          goes go ∙ ap (λ a. in_innermost r.job.w0 acts hands_on_so found.its.stakes (λ s outer. go found.its s outer w a)) next
+          ∙ ap (λ ss. in_innermost r.job.w0 acts hands_on_so ss (λ s outer. go found.its s outer w a)) are
 
       its_book : (b : Scope) × (scope (scope_id inner.scope) w.scopes ≡ Some b) × IsBookOf book b
       its_book = there IsBookOf book (get is_scope r.scopes inner.scope) (scope (scope_id inner.scope) w.scopes) (h.scopes inner.scope) kept
@@ -334,6 +263,11 @@ module _ (r : rWorld) (ok : IsWeightedJob r.job) (w : World) (h : Shows r w) whe
           ends_are_own p (needs_of p) r.job.w0 ok.least (lists_of r.job.job) (budget_of r.job.job) h.events w h.led path.turns.items found.its worker
           (stake inner) (map stake outer) found.lives found.hand are
 
+      -- after an event the tables show the world that it leads to
+      abbrev IsShownAfter : Event → Type 0
+      IsShownAfter e = (to : World) × (next_world r.job e w ≡ Some to)
+          × Shows (record r { tasks = new.tasks; scopes = new.scopes; hands = new.hands }) to
+
       -- ---- a task ends
       module _ (made : Made) (at_end : seen.its.doing ≡ AtEnd made) (ended : has_ended path.turns.items seen.its.doing ≡ true)
           (gives : GivesBack inner.weight (task_result made ∷ []) book to_book)
@@ -355,15 +289,11 @@ module _ (r : rWorld) (ok : IsWeightedJob r.job) (w : World) (h : Shows r w) whe
             d.1.come.follows)
 
         end_next : found.action ≡ EndTask
-        end_next = ends_so found.action (ends_as path.turns.items seen.its.doing found.action found.does_so ∙ ended)
+        end_next = ends_so found.action (does_as.0 ∙ ended)
 
         end_legal : next_world r.job (Ends path.turns.items) w ≡ Some without
         end_legal =
-            goes (λ t a. in_innermost r.job.w0 acts hands_on_so t.stakes (λ s outer. by_end r.job.w0 acts hands_on_so t s outer w a))
-            ∙ ap (λ a. in_innermost r.job.w0 acts hands_on_so found.its.stakes
-            (λ s outer. by_end r.job.w0 acts hands_on_so found.its s outer w a)) end_next
-            ∙ ap (λ ss. in_innermost r.job.w0 acts hands_on_so ss
-            (λ s outer. by_end r.job.w0 acts hands_on_so found.its s outer w EndTask)) are
+            goes_inside (by_end r.job.w0 acts hands_on_so) EndTask end_next
             ∙ ap (λ o. and_then o (λ (b : Scope). only_if (not (owns found.its (scope_id inner.scope))) (Some (with_book b)))) its_book.1
             ∙ ap (λ x. only_if (not x) (Some without)) (own_so.1 (found.next ∙ ap Some end_next))
           where
@@ -387,8 +317,7 @@ module _ (r : rWorld) (ok : IsWeightedJob r.job) (w : World) (h : Shows r w) whe
             (λ e. subst (λ o. AreBoth (IsTaskOf r.job.job) (get is_path r.tasks q) o)
             (sym (task-without_task found.its.path q.turns.items w.live (λ same. other_path e (sym found.named ∙ same)))) (h.tasks q)))
 
-        pub ended_shown : (to : World) × (next_world r.job (Ends path.turns.items) w ≡ Some to)
-            × Shows (record r { tasks = new.tasks; scopes = new.scopes; hands = new.hands }) to
+        pub ended_shown : IsShownAfter (Ends path.turns.items)
         ended_shown = (
           without,
           end_legal,
@@ -422,15 +351,11 @@ module _ (r : rWorld) (ok : IsWeightedJob r.job) (w : World) (h : Shows r w) whe
         }
 
         park_next : found.action ≡ EndFinish
-        park_next = finishes_so found.action (finishes_as path.turns.items seen.its.doing found.action found.does_so ∙ waits)
+        park_next = finishes_so found.action (does_as.1 ∙ waits)
 
         park_legal : next_world r.job (Parks path.turns.items) w ≡ Some with_parked
         park_legal =
-            goes (λ t a. in_innermost r.job.w0 acts hands_on_so t.stakes (λ s outer. by_park r.job.w0 acts hands_on_so t s outer w a))
-            ∙ ap (λ a. in_innermost r.job.w0 acts hands_on_so found.its.stakes
-            (λ s outer. by_park r.job.w0 acts hands_on_so found.its s outer w a)) park_next
-            ∙ ap (λ ss. in_innermost r.job.w0 acts hands_on_so ss
-            (λ s outer. by_park r.job.w0 acts hands_on_so found.its s outer w EndFinish)) are
+            goes_inside (by_park r.job.w0 acts hands_on_so) EndFinish park_next
             ∙ ap (λ o. and_then o (λ (b : Scope). only_if (owns found.its (scope_id inner.scope)) (Some (with_book b)))) its_book.1
             ∙ ap (λ x. only_if x (Some with_parked)) (own_so.0 (found.next ∙ ap Some park_next))
           where
@@ -440,8 +365,7 @@ module _ (r : rWorld) (ok : IsWeightedJob r.job) (w : World) (h : Shows r w) whe
               scopes = put_scope (give_back inner.weight [] b) w.scopes;
             }
 
-        pub parked_shown : (to : World) × (next_world r.job (Parks path.turns.items) w ≡ Some to)
-            × Shows (record r { tasks = new.tasks; scopes = new.scopes; hands = new.hands }) to
+        pub parked_shown : IsShownAfter (Parks path.turns.items)
         parked_shown = (
           with_parked,
           park_legal,
@@ -488,21 +412,27 @@ unseen_by r path Illegal none = none refl
 unseen_by r path NoMemory none = λ k at. tt
 
 -- what was found is where the task stands
-pub found_here : (r : rWorld) (path : Path) (a : StandsAt r path) (k : rTask) (s : rStake) (b : rScope)
+pub found_here : {k : rTask} {s : rStake} {b : rScope} (r : rWorld) (path : Path) (a : StandsAt r path)
     → get is_path r.tasks path ≡ Some k → s ≡ slice_index_or k.stakes.items 0 s → get is_scope r.scopes s.scope ≡ Some b
     → (s ≡ a.inner) × (b ≡ a.book)
-found_here r path a k s b at front there =
+found_here {s = s} r path a at front there =
     let task = same_Some _ _ (sym at ∙ a.at) in
     let stake_is = front ∙ ap (λ xs. slice_index_or xs 0 s) (ap (λ (k : rTask). k.stakes.items) task ∙ a.stakes) in (
       stake_is,
       same_Some _ _ (sym there ∙ ap (λ (x : rStake). get is_scope r.scopes x.scope) stake_is ∙ a.there),
     )
 
--- at an exit by `?`
-pub at_exit : {X : Type 0} (P : EventError → Type 0) (r : Result X EventError) (e : EventError) → IsErrAnd r (λ y. y ≡ e) → P e
-    → IfErr r P
-at_exit P (Ok x) e passed h = tt
-at_exit P (Err y) e passed h = subst P (sym passed) h
+-- and its weight there isn't more than what is out
+pub late_here : {k : rTask} {s : rStake} {b : rScope} (r : rWorld) (path : Path) → NoneIsLate r → (a : StandsAt r path)
+    → get is_path r.tasks path ≡ Some k → s ≡ slice_index_or k.stakes.items 0 s → get is_scope r.scopes s.scope ≡ Some b
+    → b.returned + s.weight ≤ b.issued
+late_here r path none a at front there =
+    let same = found_here r path a at front there in
+    let late = none path a in
+    let weight = ap (λ (s : rStake). s.weight) same.0 in
+    let returned = ap (λ (b : rScope). b.returned) same.1 in
+    let issued = ap (λ (b : rScope). b.issued) same.1 in
+    omega (arith, late, weight, returned, issued)
 
 -- a hand was asked for
 module _ (old : rWorld) (ok : IsWeightedJob old.job) (path : Path) (r1 : rWorld) (others1 : r1 ≡ record old { tasks = r1.tasks })

@@ -143,19 +143,9 @@ may_leave_so r path k at place two s front b there passed =
       passed = passed;
     }
 
-awake_place : (q : rWhereabouts) → (q ≡ rParked → ⊥) → is_parked (whereabouts q) ≡ false
-awake_place (rQueue v) n = refl
-awake_place (rHand v) n = refl
-awake_place rParked n = absurd (n refl)
-
 none_passed : (x f : Bool) → (x && (false && f)) ≡ false
 none_passed true f = refl
 none_passed false f = refl
-
-none_free : (x y : Bool) → (x && (y && false)) ≡ false
-none_free true true = refl
-none_free true false = refl
-none_free false y = refl
 
 module _ (r : rWorld) (w : World) (h : Shows r w) (path : Path) (worker : ℕ) where
   abbrev p : Program
@@ -196,26 +186,6 @@ module _ (r : rWorld) (w : World) (h : Shows r w) (path : Path) (worker : ℕ) w
       let t = there (IsTaskOf r.job.job) k (get is_path r.tasks path) (task path.turns.items w.live) (h.tasks path) at in
       ap (λ o. and_then o (λ t. leave_with t t.stakes)) t.1 ∙ go t.0 t.2
 
-  pub no_task_leaves : get is_path r.tasks path ≡ None → next_world r.job (Resume worker path.turns.items) w ≡ None
-  no_task_leaves none =
-      ap (λ o. and_then o (λ t. leave_with t t.stakes))
-      (not_there (IsTaskOf r.job.job) (get is_path r.tasks path) (task path.turns.items w.live) (h.tasks path) none)
-
-  pub awake_stays : (k : rTask) → get is_path r.tasks path ≡ Some k → (k.place ≡ rParked → ⊥)
-      → next_world r.job (Resume worker path.turns.items) w ≡ None
-  awake_stays k at n =
-      by_task k at (λ t is. by_tests t t.stakes (λ s rest e b f.
-      ap (λ x. x && (b.passed && hand_is_free worker w.live)) (ap is_parked (sym is.place) ∙ awake_place k.place n)))
-
-  pub lone_stays : (k : rTask) → get is_path r.tasks path ≡ Some k → length k.stakes.items ≤ 1
-      → next_world r.job (Resume worker path.turns.items) w ≡ None
-  lone_stays k at few = by_task k at (λ t is. ap (leave_with t) (sym is.stakes) ∙ by_items t k.stakes.items few)
-    where
-      by_items : (t : Live) (xs : List rStake) → length xs ≤ 1 → leave_with t (map stake xs) ≡ None
-      by_items t [] le = refl
-      by_items t (x ∷ []) le = refl
-      by_items t (x ∷ y ∷ xs) le = absurd (omega (arith, le))
-
   pub unpassed_stays : (k : rTask) → get is_path r.tasks path ≡ Some k → (s : rStake) → s ≡ slice_index_or k.stakes.items 0 s
       → ((b : rScope) → get is_scope r.scopes s.scope ≡ Some b → b.passed ≡ false)
       → next_world r.job (Resume worker path.turns.items) w ≡ None
@@ -240,17 +210,6 @@ module _ (r : rWorld) (w : World) (h : Shows r w) (path : Path) (worker : ℕ) w
           let there_so = ap (λ (z : Stake). scope z.scope w.scopes) (ap stake same ∙ head) ∙ f in
           ap (λ z. is_parked t.place && (z && hand_is_free worker w.live)) (by_book (get is_scope r.scopes s.scope) refl b there_so)
           ∙ none_passed (is_parked t.place) (hand_is_free worker w.live)
-
-  pub full_stays : contains nat_eq r.hands worker ≡ true → next_world r.job (Resume worker path.turns.items) w ≡ None
-  full_stays full = by_live (task path.turns.items w.live)
-    where
-      kept : hand_is_free worker w.live ≡ false
-      kept = not-true (hand_is_free worker w.live) (sym (h.hands worker) ∙ full)
-
-      by_live : (o : Option Live) → and_then o (λ t. leave_with t t.stakes) ≡ None
-      by_live None = refl
-      by_live (Some t) =
-          by_tests t t.stakes (λ s rest e b f. ap (λ x. is_parked t.place && (b.passed && x)) kept ∙ none_free (is_parked t.place) b.passed)
 
 -- a scope stands for the same
 both_still : {A B : Type 0} (Are : A → B → Type 0) (b : Bool) (to was : A) (o : Option A) (q : Option B)

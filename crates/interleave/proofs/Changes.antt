@@ -175,74 +175,41 @@ module _ (w0 : ℕ) (actions : Start → List (List TaskResult) → List Action)
       let k = gives (next_action w0 actions result g.one) _ b h.next in
       record { was = g.one; worker = h.one; action = k.one; found = g.first; hand = h.first; does = k.first; goes = k.next }
 
-  pub record Within (stakes : List Stake) (go : Stake → List Stake → Option World) (b : World) : Type 0 where
-    pub inner : Stake
-    pub outer : List Stake
-    pub are : stakes ≡ inner ∷ outer
-    pub goes : go inner outer ≡ Some b
-
-  within : (stakes : List Stake) (go : Stake → List Stake → Option World) (b : World) → in_innermost w0 actions result stakes go ≡ Some b → Within stakes go b
-  within [] go b e = absurd (none-some _ e)
-  within (s ∷ outer) go b e = record { inner = s; outer = outer; are = refl; goes = e }
-
-  abbrev is_at : (path : List ℕ) (a b : World) (go : Live → Action → Option World) (go' : Stake → List Stake → Option World)
-      → (h : InHand path a b go) → Within h.was.stakes go' b → IsAt path a
-  is_at path a b go go' h k = record {
-    was = h.was;
-    worker = h.worker;
-    inner = k.inner;
-    outer = k.outer;
-    found = h.found;
-    named = task_path path a.live h.was h.found;
-    hand = h.hand;
-    awake = hand_awake h.was.place h.worker h.hand;
-    stakes = k.are;
-  }
-
   abbrev is_in : (a : World) (s : Stake) (r : Scope) → scope s.scope a.scopes ≡ Some r → IsIn a s
   is_in a s r e = record { book = r; found = e; id = scope_id s.scope a.scopes r e }
+
+  -- a task is put elsewhere, or does a step
+  quiet : (path : List ℕ) (a b : World) (was : Live) (to : Whereabouts) (done : ℕ) → task path a.live ≡ Some was
+      → (done ≡ was.done) ⊎ ((nexts was ≡ Some Step) × (done ≡ was.done + 1)) → is_parked was.place ≡ false → is_parked to ≡ false
+      → Some (record a { live = put_task (record was { place = to; done = done }) a.live }) ≡ Some b → IsQuiet nexts path a b
+  quiet path a b was to done found way was_awake awake now = record {
+    was = was;
+    to = record was { place = to; done = done };
+    found = found;
+    named = task_path path a.live was found;
+    renamed = refl;
+    spawned = refl;
+    opened = refl;
+    stakes = refl;
+    start = refl;
+    receipts = refl;
+    way = way;
+    was_awake = was_awake;
+    awake = awake;
+    now = same_Some _ _ now;
+  }
 
   took : (w : ℕ) (path : List ℕ) (a b : World) → nx (Take w path) a ≡ Some b → IsQuiet nexts path a b
   took w path a b e =
       let g = gives (task path a.live) _ b e in
       let h = holds _ _ b g.next in
-      record {
-        was = g.one;
-        to = record g.one { place = Hand w };
-        found = g.first;
-        named = task_path path a.live g.one g.first;
-        renamed = refl;
-        spawned = refl;
-        opened = refl;
-        stakes = refl;
-        start = refl;
-        receipts = refl;
-        way = inl refl;
-        was_awake = queue_awake g.one.place w (and_parts _ _ h.test).0;
-        awake = refl;
-        now = same_Some _ _ h.gives;
-      }
+      quiet path a b g.one (Hand w) g.one.done g.first (inl refl) (queue_awake g.one.place w (and_parts _ _ h.test).0) refl h.gives
 
   stole : (w f : ℕ) (path : List ℕ) (a b : World) → nx (Steal w f path) a ≡ Some b → IsQuiet nexts path a b
   stole w f path a b e =
       let g = gives (task path a.live) _ b e in
       let h = holds _ _ b g.next in
-      record {
-        was = g.one;
-        to = record g.one { place = Queue w };
-        found = g.first;
-        named = task_path path a.live g.one g.first;
-        renamed = refl;
-        spawned = refl;
-        opened = refl;
-        stakes = refl;
-        start = refl;
-        receipts = refl;
-        way = inl refl;
-        was_awake = queue_awake g.one.place f (and_parts _ _ h.test).0;
-        awake = refl;
-        now = same_Some _ _ h.gives;
-      }
+      quiet path a b g.one (Queue w) g.one.done g.first (inl refl) (queue_awake g.one.place f (and_parts _ _ h.test).0) refl h.gives
 
   stepped : (path : List ℕ) (a b : World) → nx (Steps path) a ≡ Some b → IsQuiet nexts path a b
   stepped path a b e = by_action h.action h.does h.goes
@@ -253,80 +220,76 @@ module _ (w0 : ℕ) (actions : Start → List (List TaskResult) → List Action)
       by_action : (c : Action) → nexts h.was ≡ Some c → by_step w0 actions result h.was a c ≡ Some b → IsQuiet nexts path a b
       by_action Step does_now g =
           let awake = hand_awake h.was.place h.worker h.hand in
-          record {
-            was = h.was;
-            to = did h.was h.was.stakes;
-            found = h.found;
-            named = task_path path a.live h.was h.found;
-            renamed = refl;
-            spawned = refl;
-            opened = refl;
-            stakes = refl;
-            start = refl;
-            receipts = refl;
-            way = inr (does_now, refl);
-            was_awake = awake;
-            awake = awake;
-            now = same_Some _ _ g;
-          }
-      by_action (Spawn c) d g = absurd (none-some _ g)
-      by_action EnterFinish d g = absurd (none-some _ g)
-      by_action EndFinish d g = absurd (none-some _ g)
-      by_action EndTask d g = absurd (none-some _ g)
+          quiet path a b h.was h.was.place (h.was.done + 1) h.found (inr (does_now, refl)) awake awake g
+      by_action c d g = absurd (none-some _ g)
+
+  -- a task in a hand goes on where it stands in its innermost scope
+  pub record Goes (path : List ℕ) (a b : World) (go : Live → Stake → List Stake → World → Action → Option World) : Type 0 where
+    pub at : IsAt path a
+    pub action : Action
+    pub does : nexts at.was ≡ Some action
+    pub goes : go at.was at.inner at.outer a action ≡ Some b
+
+  goes_within : (path : List ℕ) (a b : World) (go : Live → Stake → List Stake → World → Action → Option World)
+      → with_next w0 actions result path a (λ t c. in_innermost w0 actions result t.stakes (λ s outer. go t s outer a c)) ≡ Some b
+      → Goes path a b go
+  goes_within path a b go e = by_stakes h.was.stakes refl h.goes
+    where
+      h : InHand path a b (λ t c. in_innermost w0 actions result t.stakes (λ s outer. go t s outer a c))
+      h = in_hand path a b (λ t c. in_innermost w0 actions result t.stakes (λ s outer. go t s outer a c)) e
+
+      by_stakes : (stakes : List Stake) → h.was.stakes ≡ stakes
+          → in_innermost w0 actions result stakes (λ s outer. go h.was s outer a h.action) ≡ Some b → Goes path a b go
+      by_stakes [] are g = absurd (none-some _ g)
+      by_stakes (s ∷ outer) are g = record {
+        at = record {
+          was = h.was;
+          worker = h.worker;
+          inner = s;
+          outer = outer;
+          found = h.found;
+          named = task_path path a.live h.was h.found;
+          hand = h.hand;
+          awake = hand_awake h.was.place h.worker h.hand;
+          stakes = are;
+        };
+        action = h.action;
+        does = h.does;
+        goes = g;
+      }
 
   replenished : (path : List ℕ) (a b : World) → nx (Replenish path) a ≡ Some b → IsReplenish w0 path a b
-  replenished path a b e = by_action h.action k.goes
+  replenished path a b e = by_action h.action h.goes
     where
-      h : InHand path a b (λ t c. in_innermost w0 actions result t.stakes (λ s outer. by_replenish w0 actions result t s outer a c))
-      h = in_hand path a b (λ t c. in_innermost w0 actions result t.stakes (λ s outer. by_replenish w0 actions result t s outer a c)) e
+      h : Goes path a b (by_replenish w0 actions result)
+      h = goes_within path a b (by_replenish w0 actions result) e
 
-      k : Within h.was.stakes (λ s outer. by_replenish w0 actions result h.was s outer a h.action) b
-      k = within h.was.stakes (λ s outer. by_replenish w0 actions result h.was s outer a h.action) b h.goes
-
-      by_action : (c : Action) → by_replenish w0 actions result h.was k.inner k.outer a c ≡ Some b → IsReplenish w0 path a b
+      by_action : (c : Action) → by_replenish w0 actions result h.at.was h.at.inner h.at.outer a c ≡ Some b → IsReplenish w0 path a b
       by_action (Spawn c) g =
-          let r = gives (scope k.inner.scope a.scopes) _ b g in
+          let r = gives (scope h.at.inner.scope a.scopes) _ b g in
           let t = holds _ _ b r.next in
-          record { at = is_at path a b _ _ h k; of = is_in a k.inner r.one r.first; one = eqb-true k.inner.weight 1 (and_parts _ _ t.test).0; now = same_Some _ _ t.gives }
-      by_action Step g = absurd (none-some _ g)
-      by_action EnterFinish g = absurd (none-some _ g)
-      by_action EndFinish g = absurd (none-some _ g)
-      by_action EndTask g = absurd (none-some _ g)
+          record { at = h.at; of = is_in a h.at.inner r.one r.first; one = eqb-true h.at.inner.weight 1 (and_parts _ _ t.test).0; now = same_Some _ _ t.gives }
+      by_action c g = absurd (none-some _ g)
 
   spawned : (path : List ℕ) (a b : World) → nx (Spawns path) a ≡ Some b → IsSpawn nexts path a b
-  spawned path a b e = by_action h.action h.does k.goes
+  spawned path a b e = by_action h.action h.does h.goes
     where
-      h : InHand path a b (λ t c. in_innermost w0 actions result t.stakes (λ s outer. by_spawn w0 actions result t s outer a c))
-      h = in_hand path a b (λ t c. in_innermost w0 actions result t.stakes (λ s outer. by_spawn w0 actions result t s outer a c)) e
+      h : Goes path a b (by_spawn w0 actions result)
+      h = goes_within path a b (by_spawn w0 actions result) e
 
-      k : Within h.was.stakes (λ s outer. by_spawn w0 actions result h.was s outer a h.action) b
-      k = within h.was.stakes (λ s outer. by_spawn w0 actions result h.was s outer a h.action) b h.goes
-
-      by_action : (c : Action) → nexts h.was ≡ Some c → by_spawn w0 actions result h.was k.inner k.outer a c ≡ Some b → IsSpawn nexts path a b
+      by_action : (c : Action) → nexts h.at.was ≡ Some c → by_spawn w0 actions result h.at.was h.at.inner h.at.outer a c ≡ Some b
+          → IsSpawn nexts path a b
       by_action (Spawn c) d g =
-          let r = gives (hand_of h.was.place) _ b g in
+          let r = gives (hand_of h.at.was.place) _ b g in
           let t = holds _ _ b r.next in
           record {
-            at = record {
-              was = h.was;
-              worker = r.one;
-              inner = k.inner;
-              outer = k.outer;
-              found = h.found;
-              named = task_path path a.live h.was h.found;
-              hand = r.first;
-              awake = hand_awake h.was.place h.worker h.hand;
-              stakes = k.are;
-            };
+            at = record h.at { worker = r.one; hand = r.first };
             child = c;
             next = d;
-            two = leb-true 2 k.inner.weight t.test;
+            two = leb-true 2 h.at.inner.weight t.test;
             now = same_Some _ _ t.gives;
           }
-      by_action Step d g = absurd (none-some _ g)
-      by_action EnterFinish d g = absurd (none-some _ g)
-      by_action EndFinish d g = absurd (none-some _ g)
-      by_action EndTask d g = absurd (none-some _ g)
+      by_action c d g = absurd (none-some _ g)
 
   opens : (path : List ℕ) (a b : World) → nx (Opens path) a ≡ Some b → IsOpen nexts w0 path a b
   opens path a b e = by_action h.action h.does h.goes
@@ -337,54 +300,35 @@ module _ (w0 : ℕ) (actions : Start → List (List TaskResult) → List Action)
       by_action : (c : Action) → nexts h.was ≡ Some c → by_open w0 actions result h.was a c ≡ Some b → IsOpen nexts w0 path a b
       by_action EnterFinish d g =
           record { was = h.was; found = h.found; named = task_path path a.live h.was h.found; awake = hand_awake h.was.place h.worker h.hand; next = d; now = same_Some _ _ g }
-      by_action (Spawn c) d g = absurd (none-some _ g)
-      by_action Step d g = absurd (none-some _ g)
-      by_action EndFinish d g = absurd (none-some _ g)
-      by_action EndTask d g = absurd (none-some _ g)
+      by_action c d g = absurd (none-some _ g)
 
   parks : (path : List ℕ) (a b : World) → nx (Parks path) a ≡ Some b → IsPark nexts path a b
-  parks path a b e = by_action h.action h.does k.goes
+  parks path a b e = by_action h.action h.does h.goes
     where
-      h : InHand path a b (λ t c. in_innermost w0 actions result t.stakes (λ s outer. by_park w0 actions result t s outer a c))
-      h = in_hand path a b (λ t c. in_innermost w0 actions result t.stakes (λ s outer. by_park w0 actions result t s outer a c)) e
+      h : Goes path a b (by_park w0 actions result)
+      h = goes_within path a b (by_park w0 actions result) e
 
-      k : Within h.was.stakes (λ s outer. by_park w0 actions result h.was s outer a h.action) b
-      k = within h.was.stakes (λ s outer. by_park w0 actions result h.was s outer a h.action) b h.goes
-
-      by_action : (c : Action) → nexts h.was ≡ Some c → by_park w0 actions result h.was k.inner k.outer a c ≡ Some b → IsPark nexts path a b
+      by_action : (c : Action) → nexts h.at.was ≡ Some c → by_park w0 actions result h.at.was h.at.inner h.at.outer a c ≡ Some b
+          → IsPark nexts path a b
       by_action EndFinish d g =
-          let r = gives (scope k.inner.scope a.scopes) _ b g in
+          let r = gives (scope h.at.inner.scope a.scopes) _ b g in
           let t = holds _ _ b r.next in
-          record { at = is_at path a b _ _ h k; of = is_in a k.inner r.one r.first; own = t.test; next = d; now = same_Some _ _ t.gives }
-      by_action (Spawn c) d g = absurd (none-some _ g)
-      by_action Step d g = absurd (none-some _ g)
-      by_action EnterFinish d g = absurd (none-some _ g)
-      by_action EndTask d g = absurd (none-some _ g)
+          record { at = h.at; of = is_in a h.at.inner r.one r.first; own = t.test; next = d; now = same_Some _ _ t.gives }
+      by_action c d g = absurd (none-some _ g)
 
   ends : (path : List ℕ) (a b : World) → nx (Ends path) a ≡ Some b → IsEnd nexts hands path a b
-  ends path a b e = by_action h.action h.does k.goes
+  ends path a b e = by_action h.action h.does h.goes
     where
-      h : InHand path a b (λ t c. in_innermost w0 actions result t.stakes (λ s outer. by_end w0 actions result t s outer a c))
-      h = in_hand path a b (λ t c. in_innermost w0 actions result t.stakes (λ s outer. by_end w0 actions result t s outer a c)) e
+      h : Goes path a b (by_end w0 actions result)
+      h = goes_within path a b (by_end w0 actions result) e
 
-      k : Within h.was.stakes (λ s outer. by_end w0 actions result h.was s outer a h.action) b
-      k = within h.was.stakes (λ s outer. by_end w0 actions result h.was s outer a h.action) b h.goes
-
-      by_action : (c : Action) → nexts h.was ≡ Some c → by_end w0 actions result h.was k.inner k.outer a c ≡ Some b → IsEnd nexts hands path a b
+      by_action : (c : Action) → nexts h.at.was ≡ Some c → by_end w0 actions result h.at.was h.at.inner h.at.outer a c ≡ Some b
+          → IsEnd nexts hands path a b
       by_action EndTask d g =
-          let r = gives (scope k.inner.scope a.scopes) _ b g in
+          let r = gives (scope h.at.inner.scope a.scopes) _ b g in
           let t = holds _ _ b r.next in
-          record {
-            at = is_at path a b _ _ h k;
-            of = is_in a k.inner r.one r.first;
-            own = not-true _ t.test;
-            next = d;
-            now = same_Some _ _ t.gives;
-          }
-      by_action (Spawn c) d g = absurd (none-some _ g)
-      by_action Step d g = absurd (none-some _ g)
-      by_action EnterFinish d g = absurd (none-some _ g)
-      by_action EndFinish d g = absurd (none-some _ g)
+          record { at = h.at; of = is_in a h.at.inner r.one r.first; own = not-true _ t.test; next = d; now = same_Some _ _ t.gives }
+      by_action c d g = absurd (none-some _ g)
 
   passes : (id : ScopeId) (a b : World) → nx (Pass id) a ≡ Some b → IsPass id a b
   passes id a b e =

@@ -199,15 +199,7 @@ module _ (es : List Event) (e : Event) (a : World) (k : Kept es a) (h : Handed e
 
 abbrev IsNoEnd : Event → Type 0
 IsNoEnd (Ends p) = ⊥
-IsNoEnd (Take w p) = Unit {0}
-IsNoEnd (Steal w f p) = Unit {0}
-IsNoEnd (Steps p) = Unit {0}
-IsNoEnd (Replenish p) = Unit {0}
-IsNoEnd (Spawns p) = Unit {0}
-IsNoEnd (Opens p) = Unit {0}
-IsNoEnd (Parks p) = Unit {0}
-IsNoEnd (Pass id) = Unit {0}
-IsNoEnd (Resume w p) = Unit {0}
+IsNoEnd e = Unit {0}
 
 no_end : (e : Event) → IsNoEnd e → (q : List ℕ) → e ≡ Ends q → ⊥
 no_end e h q f = subst IsNoEnd f h

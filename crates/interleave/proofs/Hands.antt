@@ -45,10 +45,6 @@ free_is v (t ∷ ts) =
 free_none : (v : ℕ) (ts : List Live) → hand_is_free v ts ≡ true → sum_of (in_one v) ts ≡ 0
 free_none v ts e = eqb-true (sum_of (in_one v) ts) 0 (sym (free_is v ts) ∙ e)
 
-at_most_one : (b : Bool) → (if b then 1 else 0) ≤ 1
-at_most_one true = omega arith
-at_most_one false = omega arith
-
 queue_out : (q : Whereabouts) (w v : ℕ) → in_queue q w ≡ true → in_hand q v ≡ false
 queue_out (Queue u) w v e = refl
 queue_out (Hand u) w v e = false_true e

@@ -42,7 +42,7 @@ use Rattle.interleave.proofs.Lookups.{by_test, task_path, passed-put_scope, pass
 use Rattle.interleave.proofs.Numbered.{given_path}
 use Rattle.interleave.proofs.Outcomes.{starts_are_given}
 use Rattle.interleave.proofs.Staying.{alike_stays, its_self, refuses_after, refuses_by, stays_put, stays_self, stays_shown}
-use Rattle.interleave.proofs.Tables.{there, not_there, tasks_put, paths_put, paths_more, scopes_put, led_on}
+use Rattle.interleave.proofs.Tables.{pick, there, not_there, tasks_put, paths_put, paths_more, scopes_put, led_on}
 
 -- ---- in a hand
 doing_there : (j : Job) (q : Whereabouts) (v : ℕ) (c : Course) (d : Doing) → hand_of q ≡ Some v → IsDoingThere j q c d → IsDoing j c d
@@ -58,12 +58,6 @@ there_doing j Parked v c d e h = absurd (none-some _ e)
 pub its_doing : (j : Job) (k : rTask) (t : Live) (v : ℕ) → IsTaskOf j k t → hand_of (whereabouts k.place) ≡ Some v
     → IsDoing j (course_of t) k.doing
 its_doing j k t v is e = doing_there j t.place v (course_of t) k.doing (ap hand_of (sym is.place) ∙ e) is.doing
-
--- ---- tables that show the same world
-pick : {A B : Type 0} (Are : A → B → Type 0) (b : Bool) (x u : Option A) (y v : Option B) → AreBoth Are x y → AreBoth Are u v
-    → AreBoth Are (if b then x else u) (if b then y else v)
-pick Are true x u y v h k = h
-pick Are false x u y v h k = k
 
 -- ---- an event after a look
 pub becomes_after : (old mid new : rWorld) (e : Event) → mid.job ≡ old.job → ((w : World) → Shows old w → Shows mid w)
@@ -82,7 +76,7 @@ ahead_of path (rOpens r) = Some EnterFinish
 ahead_of path (AtFinish q made) = Some EndFinish
 ahead_of path (AtEnd made) = Some (last_action path)
 
-known_next : (j : Job) (c : Course) (d : Doing) → IsKnown d → IsDoing j c d
+pub known_next : (j : Job) (c : Course) (d : Doing) → IsKnown d → IsDoing j c d
     → (a : Action) × IsNext j c a × (ahead_of c.start.path d ≡ Some a)
 known_next j c (Starts s) k h = absurd k
 known_next j c (Runs r) k h = absurd k
@@ -145,9 +139,6 @@ module _ (r : rWorld) (w : World) (h : Shows r w) (path : Path) where
       → acting r.job path.turns.items w go ≡ None
   acts_nowhere go none = by_table (get is_path r.tasks path) (h.tasks path) none
     where
-      after_task : Live → Option World
-      after_task t = and_then (hand_of t.place) (λ v. and_then (next_action r.job.w0 (D r.job) (H r.job) t) (go t))
-
       by_table : (o : Option rTask) → AreBoth (IsTaskOf r.job.job) o (task path.turns.items w.live)
           → ((k : rTask) → o ≡ Some k → hand_of (whereabouts k.place) ≡ None)
           → acting r.job path.turns.items w go ≡ None

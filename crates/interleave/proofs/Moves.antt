@@ -56,19 +56,6 @@ module _ (old : rWorld) (w : World) (h : Shows old w) (path : Path) where
       let t = there (IsTaskOf old.job.job) k (get is_path old.tasks path) (task path.turns.items w.live) (h.tasks path) at in
       record { its = t.0; lives = t.1; is = t.2; queued = ap (λ q. in_queue q worker) (sym t.2.place) ∙ queued }
 
-  -- where no task of the path is in that queue, none is in the definition
-  not_queued : (worker : ℕ) (P : Live → Option World)
-      → ((k : rTask) → get is_path old.tasks path ≡ Some k → in_queue (whereabouts k.place) worker ≡ false)
-      → ((t : Live) → in_queue t.place worker ≡ false → P t ≡ None) → and_then (task path.turns.items w.live) P ≡ None
-  not_queued worker P none go = by_table (get is_path old.tasks path) (h.tasks path) none
-    where
-      by_table : (o : Option rTask) → AreBoth (IsTaskOf old.job.job) o (task path.turns.items w.live)
-          → ((k : rTask) → o ≡ Some k → in_queue (whereabouts k.place) worker ≡ false) → and_then (task path.turns.items w.live) P ≡ None
-      by_table None both out = ap (λ o. and_then o P) (not_there (IsTaskOf old.job.job) None (task path.turns.items w.live) both refl)
-      by_table (Some k) both out =
-          let t = there (IsTaskOf old.job.job) k (Some k) (task path.turns.items w.live) both refl in
-          ap (λ o. and_then o P) t.1 ∙ go t.0 (ap (λ q. in_queue q worker) (sym t.2.place) ∙ out k refl)
-
   -- a task that is in a queue is somewhere else
   module _ (from : ℕ) (k : rTask) (at : get is_path old.tasks path ≡ Some k) (queued : in_queue (whereabouts k.place) from ≡ true)
       (place : rWhereabouts) (new : rWorld)
@@ -162,34 +149,6 @@ module _ (old : rWorld) (w : World) (h : Shows old w) (path : Path) where
             ap (λ s. contains nat_eq s v) same ∙ h.hands v
             ∙ ap (λ (q : rWhereabouts). not (not (in_hand (whereabouts q) v) && hand_is_free v w.live)) (sym put)
 
-  -- what isn't legal
-  pub not_taken : (worker : ℕ)
-      → ((k : rTask) → get is_path old.tasks path ≡ Some k → in_queue (whereabouts k.place) worker ≡ false)
-      → next_world old.job (Take worker path.turns.items) w ≡ None
-  not_taken worker none = not_queued worker _ none
-      (λ t e. ap (λ b. only_if (b && hand_is_free worker w.live) (Some (moved (Hand worker) t w))) e)
-
-  pub hand_full : (worker : ℕ) → contains nat_eq old.hands worker ≡ true → next_world old.job (Take worker path.turns.items) w ≡ None
-  hand_full worker full = by_live (task path.turns.items w.live)
-    where
-      kept : hand_is_free worker w.live ≡ false
-      kept = not-true (hand_is_free worker w.live) (sym (h.hands worker) ∙ full)
-
-      by_place : (b : Bool) (t : Live) → only_if (b && hand_is_free worker w.live) (Some (moved (Hand worker) t w)) ≡ None
-      by_place true t = ap (λ b. only_if b (Some (moved (Hand worker) t w))) kept
-      by_place false t = refl
-
-      by_live : (o : Option Live)
-          → and_then o (λ (t : Live). only_if (in_queue t.place worker && hand_is_free worker w.live) (Some (moved (Hand worker) t w))) ≡ None
-      by_live None = refl
-      by_live (Some t) = by_place (in_queue t.place worker) t
-
-  pub not_stolen : (worker from : ℕ)
-      → ((k : rTask) → get is_path old.tasks path ≡ Some k → in_queue (whereabouts k.place) from ≡ false)
-      → next_world old.job (Steal worker from path.turns.items) w ≡ None
-  not_stolen worker from none = not_queued from _ none
-      (λ t e. ap (λ b. only_if (b && not (nat_eq from worker)) (Some (moved (Queue worker) t w))) e)
-
 -- ---- a scope passes
 abbrev passing : rWorld → World → Scope → Option World
 passing old w =
@@ -281,16 +240,3 @@ module _ (old : rWorld) (w : World) (h : Shows old w) (id : rScopeId) where
         → (next : World) × (next_world old.job (Pass (scope_id id)) w ≡ Some next) × Shows (record old { scopes = scopes }) next
     passes_beside scopes each other =
         passes scopes each old.told (subst (λ b. IsTold old.job.job b old.told) (sym (passed_elsewhere other)) h.told)
-
-  pub passes_not : ((s : rScope) → get is_scope old.scopes id ≡ Some s → (not s.passed && nat_eq s.issued s.returned) ≡ false)
-      → next_world old.job (Pass (scope_id id)) w ≡ None
-  passes_not none = by_table (get is_scope old.scopes id) (h.scopes id) none
-    where
-      by_table : (o : Option rScope) → AreBoth IsBookOf o (scope (scope_id id) w.scopes)
-          → ((s : rScope) → o ≡ Some s → (not s.passed && nat_eq s.issued s.returned) ≡ false)
-          → next_world old.job (Pass (scope_id id)) w ≡ None
-      by_table None both out = ap (λ o. and_then o (passing old w)) (not_there IsBookOf None (scope (scope_id id) w.scopes) both refl)
-      by_table (Some s) both out =
-          let b = there IsBookOf s (Some s) (scope (scope_id id) w.scopes) both refl in
-          ap (λ o. and_then o (passing old w)) b.1 ∙ ap (λ x. only_if x (Some (record w { scopes = put_scope (record b.0 { passed = true }) w.scopes })))
-          (sym (same_test s b.0 b.2) ∙ out s refl)

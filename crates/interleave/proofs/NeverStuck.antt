@@ -29,7 +29,7 @@ use Rattle.interleave.specs.World.{ScopeId, Stake, Live, Scope, World, Hand, roo
 use Rattle.interleave.specs.Events.{Event, next_action, next, first_world, after}
 use Rattle.interleave.specs.Replay.{does, hands_on}
 use Rattle.interleave.specs.Worlds.{IsFree, IsSpent, LeadsTo, Settles, event_of, next_of, outcome_of}
-use Rattle.interleave.proofs.ReplayLaws.{IsFree as IsFreeBy, IsSpent as IsSpentBy, IsUnsettled}
+use Rattle.interleave.proofs.ReplayLaws.{IsFree as IsFreeBy, IsUnsettled}
 use Rattle.interleave.proofs.Changes.{IsResume, becomes}
 use Rattle.interleave.proofs.Lookups.{scope_id, task_path}
 use Rattle.interleave.proofs.Outcomes.{IsSound, first_sound, list_sound, replays_are_worlds, sound as is_sound}
@@ -169,29 +169,13 @@ module _ (p : Program) (sound : IsSoundProgram p) (accepted : IsAccepted p) (w0 
   never : IsUnsettled p (needs_of p) b.steps w0 w → ⊥
   never u = let a = next_there u.path u.its u.lives u.awake in none-some _ (sym u.nothing ∙ a.1)
 
-  spent : IsSpentBy p (needs_of p) b.steps w0 w → IsSpent p w0 b w
-  spent x = record {
-    path = x.path;
-    its = x.its;
-    lives = x.lives;
-    child = x.child;
-    wants = x.wants;
-    inner = x.inner;
-    outer = x.outer;
-    stakes = x.stakes;
-    one = x.one;
-    book = x.book;
-    found = x.found;
-    spent = x.spent;
-  }
-
   pub goes : (s : Scope) → scope root_scope w.scopes ≡ Some s → s.passed ≡ false → IsFree p w0 b w ⊎ IsSpent p w0 b w
   goes s there open_yet = by_case (goes_on p (needs_of p) w0 least input b es w leads s there open_yet)
     where
-      by_case : IsFreeBy p (needs_of p) b.steps w0 w ⊎ IsSpentBy p (needs_of p) b.steps w0 w
+      by_case : IsFreeBy p (needs_of p) b.steps w0 w ⊎ IsSpent p w0 b w
           ⊎ IsUnsettled p (needs_of p) b.steps w0 w → IsFree p w0 b w ⊎ IsSpent p w0 b w
       by_case (inl x) = inl (record { first = x.first; to = x.to; legal = x.legal })
-      by_case (inr (inl x)) = inr (spent x)
+      by_case (inr (inl x)) = inr x
       by_case (inr (inr x)) = absurd (never x)
 
   -- the root's scope is there, since the root stands in it
@@ -208,12 +192,12 @@ module _ (p : Program) (sound : IsSoundProgram p) (accepted : IsAccepted p) (w0 
       → (has_passed root_scope w ≡ true) ⊎ IsSpent p w0 b w
   stuck none = by_passed root_there.0.passed refl
     where
-      by_case : IsFreeBy p (needs_of p) b.steps w0 w ⊎ IsSpentBy p (needs_of p) b.steps w0 w
+      by_case : IsFreeBy p (needs_of p) b.steps w0 w ⊎ IsSpent p w0 b w
           ⊎ IsUnsettled p (needs_of p) b.steps w0 w → (has_passed root_scope w ≡ true) ⊎ IsSpent p w0 b w
       by_case (inl x) =
           absurd (none-some _ (sym (each_has (λ e. event_of p w0 b e w ≡ None) (candidates 0 x.path x.its.place x.its.stakes)
           x.first (none x.path x.its x.lives) x.among) ∙ x.legal))
-      by_case (inr (inl x)) = inr (spent x)
+      by_case (inr (inl x)) = inr x
       by_case (inr (inr x)) = absurd (never x)
 
       by_passed : (passed : Bool) → root_there.0.passed ≡ passed → (has_passed root_scope w ≡ true) ⊎ IsSpent p w0 b w

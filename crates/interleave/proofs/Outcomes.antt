@@ -20,6 +20,7 @@ use Rattle.interleave.specs.Events.{Event, new_task, new_scope, next, first_worl
 use Rattle.interleave.specs.Replay.{does, hands_on, event, Replayed, Legal, IllegalAt, go_or, replay_from, start_of}
 use Rattle.interleave.specs.Replay.{replay}
 use Rattle.interleave.specs.History.{BegunIn}
+use Rattle.interleave.specs.Worlds.{IsFirstRefused}
 use Rattle.interleave.proofs.ReplayLaws.{ReplaysAreWorlds, PassedHasEnded, StartsAreGiven, ResultsAreOwn}
 use Rattle.interleave.proofs.ReplayLaws.{ResultsComeOnce, ResultsAreHanded, RefusesTheFirst}
 use Rattle.interleave.proofs.Lookups.{by_test, held_least, task_path}
@@ -232,15 +233,10 @@ module _ (p : Program) (needs : Codes → Needs) (w0 : ℕ) where
   worlds_are_replays input b es w e = lead b.steps 0 es (start_of p w0 input b) w e
 
   -- ---- the first event that isn't legal
-  record IsIllegalFrom (fresh : ℕ) (es : List Event) (a : World) (n : ℕ) : Type 0 where
-    before : List Event
-    first : Event
-    later : List Event
-    are : es ≡ before ++ first ∷ later
-    count : length before ≡ n
-    to : World
-    legal : after w0 (does p needs fresh w0) (hands_on p needs fresh w0) before a ≡ Some to
-    illegal : event p needs fresh w0 first to ≡ None
+  abbrev IsIllegalFrom : (fresh : ℕ) → List Event → (a : World) → ℕ → Type 0
+  IsIllegalFrom fresh es a =
+      IsFirstRefused (λ before to. after w0 (does p needs fresh w0) (hands_on p needs fresh w0) before a ≡ Some to)
+      (event p needs fresh w0) es
 
   illegal_same : {m n : ℕ} → IllegalAt m ≡ IllegalAt n → m ≡ n
   illegal_same {m} e = ap number_of e
@@ -291,16 +287,9 @@ module _ (p : Program) (needs : Codes → Needs) (w0 : ℕ) where
 
   pub refuses_the_first : RefusesTheFirst p needs w0
   refuses_the_first input b es n = (
-    λ e. (let r = refuses b.steps 0 es (start_of p w0 input b) n e in let i = r.2 in record {
-      before = i.before;
-      first = i.first;
-      later = i.later;
-      are = i.are;
-      count = (let c = i.count in let d = r.1 in omega (arith, c, d));
-      to = i.to;
-      legal = i.legal;
-      illegal = i.illegal;
-    }),
+    λ e. (let r = refuses b.steps 0 es (start_of p w0 input b) n e in
+        let same : r.0 ≡ n = (let d = r.1 in omega (arith, d)) in
+        subst (IsIllegalFrom b.steps es (start_of p w0 input b)) same r.2),
     λ i. (let count : 0 + length i.before ≡ n = (let c = i.count in omega (arith, c)) in
         ap (λ l. replay p needs w0 input b l) i.are ∙ refused b.steps 0 i.before i.first i.later (start_of p w0 input b) i.to i.legal i.illegal ∙ ap IllegalAt count),
   )

@@ -14,6 +14,7 @@ use Rattle.interleave.specs.World.{ScopeId, Stake, Live, Scope, World, is_parked
 use Rattle.interleave.specs.Events.{Event, Ends, owns, next_action, after}
 use Rattle.interleave.specs.History.{Begun, BegunIn, Ended}
 use Rattle.interleave.specs.Replay.{does, hands_on, event, Legal, IllegalAt, start_of, replay}
+use Rattle.interleave.specs.Worlds.{IsFirstRefused, IsSpentBy}
 
 -- what results come to by a measure
 abbrev pub measured : (TaskResult → ℕ) → List TaskResult → ℕ
@@ -32,19 +33,8 @@ module _ (p : Program) (needs : Codes → Needs) (fresh w0 : ℕ) (w : World) wh
     pub among : Contains (candidates 0 path its.place its.stakes) first
 
   -- a task wants weight from a scope that has issued 2^31 times
-  pub record IsSpent : Type 0 where
-    pub path : List ℕ
-    pub its : Live
-    pub lives : task path w.live ≡ Some its
-    pub child : Start
-    pub wants : next_action w0 (does p needs fresh w0) (hands_on p needs fresh w0) its ≡ Some (Spawn child)
-    pub inner : Stake
-    pub outer : List Stake
-    pub stakes : its.stakes ≡ inner ∷ outer
-    pub one : inner.weight ≡ 1
-    pub book : Scope
-    pub found : scope inner.scope w.scopes ≡ Some book
-    pub spent : 2 ^ 31 * w0 ≤ book.issued
+  abbrev pub IsSpent : Type 0
+  IsSpent = IsSpentBy (next_action w0 (does p needs fresh w0) (hands_on p needs fresh w0)) w0 w
 
   -- a task has gone on with results that don't settle: its own run still waits
   pub record IsUnsettled : Type 0 where
@@ -106,15 +96,10 @@ module _ (p : Program) (needs : Codes → Needs) (w0 : ℕ) where
       × (next_action w0 (does p needs b.steps w0) (hands_on p needs b.steps w0) t ≡ Some EndTask → owns t s.scope ≡ false))
 
   -- the events before the n-th are legal, and that isn't
-  pub record IsFirstIllegal (input : List (List ℤ)) (b : Budget) (es : List Event) (n : ℕ) : Type 0 where
-    pub before : List Event
-    pub first : Event
-    pub later : List Event
-    pub are : es ≡ before ++ first ∷ later
-    pub count : length before ≡ n
-    pub to : World
-    pub legal : after w0 (does p needs b.steps w0) (hands_on p needs b.steps w0) before (start_of p w0 input b) ≡ Some to
-    pub illegal : event p needs b.steps w0 first to ≡ None
+  abbrev pub IsFirstIllegal : (input : List (List ℤ)) → Budget → List Event → ℕ → Type 0
+  IsFirstIllegal input b =
+      IsFirstRefused (λ before to. after w0 (does p needs b.steps w0) (hands_on p needs b.steps w0) before (start_of p w0 input b) ≡ Some to)
+      (event p needs b.steps w0)
 
   -- a replay refuses the first event that isn't legal
   abbrev pub RefusesTheFirst : Type 0

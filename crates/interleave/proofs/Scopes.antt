@@ -28,15 +28,7 @@ use Rattle.interleave.proofs.Events.{opened_still}
 -- ---- constructors
 abbrev IsNoSpawn : Event → Type 0
 IsNoSpawn (Spawns o) = ⊥
-IsNoSpawn (Opens p) = Unit {0}
-IsNoSpawn (Resume w p) = Unit {0}
-IsNoSpawn (Take w p) = Unit {0}
-IsNoSpawn (Steal w f p) = Unit {0}
-IsNoSpawn (Steps p) = Unit {0}
-IsNoSpawn (Replenish p) = Unit {0}
-IsNoSpawn (Parks p) = Unit {0}
-IsNoSpawn (Ends p) = Unit {0}
-IsNoSpawn (Pass id) = Unit {0}
+IsNoSpawn e = Unit {0}
 
 pub no_spawn : (e : Event) → IsNoSpawn e → (o : List ℕ) → e ≡ Spawns o → ⊥
 no_spawn e h o f = subst IsNoSpawn f h

@@ -1,6 +1,6 @@
 -- Each live task stands somewhere in its own run, so that it always has a next action.
 use Rattle.std.proofs.Common.{◌≡◌, ℕ, zero, suc, ◌+◌, ◌<◌, ◌≤◌, List, [], ◌∷◌, ◌++◌, length, Some, refl, sym, ap, ◌∙◌}
-use Rattle.std.proofs.Common.{subst, inl, inr, arith, le_refl}
+use Rattle.std.proofs.Common.{subst, inl, inr, ⊎_elim}
 use Rattle.std.proofs.lemmas.Option.{same_Some}
 use Rattle.std.proofs.lemmas.List.{append-nil, length_push}
 use Rattle.std.specs.Prelude.{◌⊎◌, false}
@@ -22,7 +22,7 @@ use Rattle.own_run.specs.Reached.{Reached, turns, leaves}
 use Rattle.own_run.proofs.NextAction.{next_is_done, next_is_end, next_is_last}
 use Rattle.own_run.proofs.ReachedTasks.{goes}
 use Rattle.own_run.proofs.TaskRuns.{turns_follow, leaves_follow}
-use Rattle.own_run.proofs.TasksEnd.{weight, Falls, spends, sheds, flow_falls}
+use Rattle.own_run.proofs.NeverStuck.{by_turns}
 use Rattle.own_run.proofs.TurnActions.{turn_does}
 
 -- an action that ends nothing
@@ -119,47 +119,13 @@ module _ (p : Program) (needs : Codes → Needs) (scoped : IsScoped p) (calm : I
         let k = turned f fs st [] h e in
         record { reached = k.reached; follows = k.follows; after = k.after ∙ ap length (append-nil st.extra.actions) ∙ h.after }
 
-    abbrev PoisesBelow : ℕ → Type 0
-    PoisesBelow n = (fs : List (Frame Own)) (st : State Own) → st.steps < n → At fs st done → Poised s receipts done
-
-    abbrev PoisesWithin : (n w : ℕ) → Type 0
-    PoisesWithin n w = (fs : List (Frame Own)) (st : State Own) → st.steps ≤ n → weight fs < w → At fs st done → Poised s receipts done
-
-    after_turn : (n w : ℕ) → PoisesBelow n → PoisesWithin n w → (f : Frame Own) (fs : List (Frame Own)) (st : State Own) → st.steps ≤ n
-        → At (f ∷ fs) st done → Falls st w (go f fs st) → Poised s receipts done
-    after_turn n w deeper lighter f fs st le h falls = by_done (done_in_little needs s.nest f st) falls
-      where
-        by_done : (done_in needs s.nest f st ≡ []) ⊎ DoesOne (done_in needs s.nest f st) → Falls st w (go f fs st) → Poised s receipts done
-        by_done (inr one) k = acts f fs st h one
-        by_done (inl e) (spends lt) = deeper (go f fs st).frames (go f fs st).state (omega (arith, lt, le)) (silent f fs st h e)
-        by_done (inl e) (sheds k lt) = lighter (go f fs st).frames (go f fs st).state (omega (arith, k, le)) lt (silent f fs st h e)
-
-    falls : (g : Flow) (l : ℕ) (c : Code) (fs below : List (Frame Own)) (st : State Own) (w : ℕ) → weight fs < w → weight below < w
-        → Falls st w (by_flow p (own_rules needs s.nest (in_truth p needs fresh)) g l c fs below st)
-    falls = flow_falls p needs scoped calm provided fresh root s
-
-    within : (n w : ℕ) → PoisesBelow n → PoisesWithin n w
-    within n zero deeper fs st le lt h = absurd (omega (arith, lt))
-    within n (suc w) deeper [] st le lt h = over st h
-    within n (suc w) deeper (AtEnd before ∷ fs) st le lt h = ends before fs st h
-    within n (suc w) deeper (Rest End ∷ fs) st le lt h =
-        after_turn n w deeper (within n w deeper) (Rest End) fs st le h (sheds (le_refl st.steps) (omega (arith, lt)))
-    within n (suc w) deeper (Rest (Then l c rest) ∷ fs) st le lt h =
-        after_turn n w deeper (within n w deeper) (Rest (Then l c rest)) fs st le h
-        (falls st.flow l c (Rest rest ∷ fs) fs st w (omega (arith, lt)) (omega (arith, lt)))
-    within n (suc w) deeper (Again l t b ∷ fs) st le lt h =
-        after_turn n w deeper (within n w deeper) (Again l t b) fs st le h
-        (falls st.flow l (While t b) fs fs st w (omega (arith, lt)) (omega (arith, lt)))
-    within n (suc w) deeper (Back env ∷ fs) st le lt h =
-        after_turn n w deeper (within n w deeper) (Back env) fs st le h (sheds (le_refl st.steps) (omega (arith, lt)))
-
-    within_steps : (n : ℕ) → PoisesBelow n
-    within_steps zero fs st lt h = absurd (omega (arith, lt))
-    within_steps (suc n) fs st lt h = within n (suc (weight fs)) (within_steps n) fs st (omega (arith, lt)) (omega arith) h
-
     -- wherever it stands, by turns that do nothing it comes to act, or to an end
     pub poise : (u : Standing Own) → Stands s receipts done u → Poised s receipts done
-    poise u h = within_steps (suc u.state.steps) u.frames u.state (omega arith) h
+    poise u h =
+        by_turns p needs scoped calm provided fresh root named may_begin s (Poised s receipts done) (λ fs st. At fs st done) over
+        (λ before fs st h lighter. ends before fs st h)
+        (λ f fs st h. ⊎_elim (λ e. inr (silent f fs st h e)) (λ one. inl (acts f fs st h one)) (done_in_little needs s.nest f st))
+        u.frames u.state h
 
     awake : (u : Standing Own) → Stands s receipts done u → u.state.extra.waits ≡ false
     awake u h = (goes p needs scoped calm provided fresh root named may_begin h.reached).task.awake

@@ -21,7 +21,7 @@ use Rattle.interleave.specs.declared.task.Task.{Task as rTask}
 use Rattle.interleave.proofs.Lookups.{by_test, other_path, task-put_task, task-without_task, scope-put_scope}
 use Rattle.interleave.proofs.Outcomes.{replays_are_worlds, worlds_are_replays}
 
-pick : {A B : Type 0} (Are : A → B → Type 0) (b : Bool) (x u : Option A) (y v : Option B) → AreBoth Are x y → AreBoth Are u v
+pub pick : {A B : Type 0} (Are : A → B → Type 0) (b : Bool) (x u : Option A) (y v : Option B) → AreBoth Are x y → AreBoth Are u v
     → AreBoth Are (if b then x else u) (if b then y else v)
 pick Are true x u y v h k = h
 pick Are false x u y v h k = k
@@ -32,6 +32,11 @@ pub there : {A B : Type 0} (Are : A → B → Type 0) (a : A) (o : Option A) (q 
 there Are a (Some x) (Some b) h e = (b, refl, subst (λ z. Are z b) (same_Some x a e) h)
 there Are a (Some x) None h e = absurd h
 there Are a None q h e = absurd (none-some a e)
+
+-- the task that a table has at a path, as the definition has it
+pub task_there : (j : Job) (k : rTask) (o : Option rTask) (q : Option Live) → AreBoth (IsTaskOf j) o q → o ≡ Some k
+    → (t : Live) × IsTaskOf j k t
+task_there j k o q h e = let t = there (IsTaskOf j) k o q h e in (t.0, t.2)
 
 pub not_there : {A B : Type 0} (Are : A → B → Type 0) (o : Option A) (q : Option B) → AreBoth Are o q → o ≡ None → q ≡ None
 not_there Are None None h e = refl

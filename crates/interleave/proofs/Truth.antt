@@ -201,12 +201,7 @@ module _ (p : Program) (needs : Codes → Needs) (fresh : ℕ) (root s : Start) 
   -- ---- statements
   counted_same : (l : ℕ) (c : Code) (st : State Own) → counted r1 l c st ≡ counted r2 l c st
   counted_same l (Do x) st = refl
-  counted_same l (If t b c) st = refl
-  counted_same l (While t b) st = refl
-  counted_same l (Split x e y z b) st = refl
-  counted_same l (Call f es ss) st = refl
-  counted_same l (Async b) st = refl
-  counted_same l (Finish b) st = refl
+  counted_same l c st = refl
 
   module _ (d1 d2 : Work → State Own → State Own) (h : (w : Work) → Follow (d1 w) (d2 w)) where
     step_moves : (l : ℕ) (c : Code) → Follow (act p r1 d1 l c) (act p r2 d2 l c) → Follow (with_step (λ st. act p r1 d1 l c (counted r1 l c st))) (with_step (λ st. act p r2 d2 l c (counted r2 l c st)))

@@ -1,5 +1,5 @@
 -- What a turn shows of a task that was to run.
-use Rattle.std.proofs.Common.{◌≡◌, ℕ, ◌+◌, ◌≤◌, List, [], ◌∷◌, ◌++◌, length, Some, refl, sym, ap, ◌∙◌, subst}
+use Rattle.std.proofs.Common.{◌≡◌, ℕ, ◌+◌, ◌<◌, ◌≤◌, List, [], ◌∷◌, ◌++◌, length, Some, refl, sym, ap, ◌∙◌, subst}
 use Rattle.std.proofs.Common.{inl, inr, arith}
 use Rattle.std.specs.Prelude.{false, ◌⊎◌}
 use Rattle.std.proofs.lemmas.List.{length-append}
@@ -11,12 +11,13 @@ use Rattle.effects.specs.Rounds.{needs_of}
 use Rattle.own_run.specs.Copies.{IsCopy}
 use Rattle.own_run.specs.Frames.{Frame, Rest, Again, AtEnd, Back, Standing, done_in, turn, IsTask, Follows}
 use Rattle.own_run.specs.Given.{in_truth}
+use Rattle.own_run.specs.Left.{left_after, left_of}
 use Rattle.own_run.specs.MayRun.{MayRun, Stays}
 use Rattle.own_run.specs.OwnRun.{Own, Start, Action, Step, Spawn, EnterFinish, EndFinish, begun_by, own_rules, last_action}
 use Rattle.own_run.specs.OwnRun.{next_action}
 use Rattle.own_run.specs.Reached.{begun, turns}
 use Rattle.own_run.specs.Runs.{root, MayStand}
-use Rattle.own_run.specs.RunTurns.{GoesAs, GoesTo, IsAtEnd, IsTurn, TurnOf}
+use Rattle.own_run.specs.RunTurns.{CanTurn, GoesAs, GoesTo, IsAtEnd, IsTurn, TurnOf}
 use Rattle.own_run.specs.Standings.{IsAt, state_of, with_own}
 use Rattle.own_run.specs.Stops.{stops}
 use Rattle.own_run.specs.Translation.{start}
@@ -26,6 +27,7 @@ use Rattle.own_run.specs.declared.start.Start.{Start as rStart}
 use Rattle.own_run.specs.declared.turn.Turn.{Turn}
 use Rattle.own_run.specs.declared.turn.Turn.TheVariants.{Going, Spawns, EntersFinish, EndsFinish, Ended, Over}
 use Rattle.own_run.proofs.AcceptedPrograms.{provides_needs}
+use Rattle.own_run.proofs.BelongingTasks.{IsAsync, can_turn}
 use Rattle.own_run.proofs.Begun.{begun_by-append}
 use Rattle.own_run.proofs.HoldingTurns.{root_begins}
 use Rattle.own_run.proofs.NextAction.{next_is_done, next_is_end, next_is_last}
@@ -34,6 +36,7 @@ use Rattle.own_run.proofs.RunTops.{none_stacked, on_top}
 use Rattle.own_run.proofs.RunsGoOn.{stays}
 use Rattle.own_run.proofs.TaskRuns.{begins_follow, turns_follow}
 use Rattle.own_run.proofs.TurnActions.{turn_does}
+use Rattle.own_run.proofs.TurnsLeft.{leaves_fewer}
 use Rattle.race_checker.proofs.Calming.{is_calm}
 use Rattle.race_checker.proofs.Scoping.{is_scoped}
 use Rattle.gather.specs.Jobs.{IsJob, program_of, lists_of, budget_of}
@@ -235,10 +238,6 @@ module _ (j : Job) (ok : IsJob j) where
     by_frames t (Rest b ∷ fs) st steps come stay h = by_turn r c (Rest b) fs st is nest steps come t stay h
     by_frames t (Again l g b ∷ fs) st steps come stay h = by_turn r c (Again l g b) fs st is nest steps come t stay h
     by_frames t (Back env ∷ fs) st steps come stay h = by_turn r c (Back env) fs st is nest steps come t stay h
-    by_frames (Going q) (AtEnd before ∷ fs) st steps come stay h = absurd h
-    by_frames (Spawns q x) (AtEnd before ∷ fs) st steps come stay h = absurd h
-    by_frames (EntersFinish q) (AtEnd before ∷ fs) st steps come stay h = absurd h
-    by_frames (Over q) (AtEnd before ∷ fs) st steps come stay h = absurd h
     by_frames (EndsFinish w x) (AtEnd before ∷ fs) st steps come stay h = (
       ends_finish c before fs st come,
       record {
@@ -252,13 +251,9 @@ module _ (j : Job) (ok : IsJob j) where
         made = h.3;
       },
     )
-    by_frames (Ended x) (AtEnd before ∷ fs) st steps come stay h = absurd h
-    by_frames (Going q) [] st steps come stay h = absurd h
-    by_frames (Spawns q x) [] st steps come stay h = absurd h
-    by_frames (EntersFinish q) [] st steps come stay h = absurd h
-    by_frames (Over q) [] st steps come stay h = absurd h
-    by_frames (EndsFinish w x) [] st steps come stay h = absurd h
+    by_frames t (AtEnd before ∷ fs) st steps come stay h = absurd h
     by_frames (Ended x) [] st steps come stay h = (ends_last c st come, record { state = st; come = come; is = h })
+    by_frames t [] st steps come stay h = absurd h
 
   -- a run of the program's on this input
   pub may_run : (c : Course) (r : Run) → IsRunOf j c r → MayRun p (lists_of j) (budget_of j) r
@@ -364,3 +359,39 @@ module _ (j : Job) (ok : IsJob j) where
     shows = e.shows h.frames h.own h.shows;
     come = subst (λ st. HasCome j c (record { frames = h.frames; state = with_own h.own st })) (sym e.state) h.come;
   }
+
+-- ---- turn after turn, up to the first action of its own
+module _ (j first_job : Job) where
+  -- the run stands as far as its task has come, which did nothing since
+  pub record HasGone (first now : Run) : Type 0 where
+    pub job : IsJob j
+    pub there : (c : Course) × IsRunOf j c now
+    pub same : (c : Course) → IsRunOf first_job c first → IsRunOf j c now
+
+  module _ (first now : Run) (i : HasGone first now) where
+    pub can_go : CanTurn (needs_of (program_of j)) (IsAsync (program_of j)) now
+    can_go =
+        can_turn (program_of j) i.job.sound i.job.accepted (lists_of j) (budget_of j) i.job.fits now
+        (may_run j i.job i.there.0 now i.there.1)
+
+    pub goes_fewer : (t : Turn) → IsTurn (needs_of (program_of j)) now t → left_after now.plan.budget.steps t < left_of now
+    goes_fewer t = leaves_fewer (needs_of (program_of j)) now t i.there.1.frames i.there.1.own i.there.1.shows
+
+    pub shows_so : (t : Turn) → IsTurn (needs_of (program_of j)) now t → (c : Course) → IsRunOf first_job c first
+        → IsShown j c now.thread.steps t
+    shows_so t is c m = shown j i.job c now t (i.same c m) is
+
+    pub goes_again : (next : Run) → IsTurn (needs_of (program_of j)) now (Going next) → now.thread.steps ≤ next.thread.steps
+        → HasGone first next
+    goes_again next is more = record {
+      job = i.job;
+      there = (i.there.0, (shown j i.job i.there.0 now (Going next) i.there.1 is).1 more);
+      same = λ c m. (shows_so (Going next) is c m).1 more;
+    }
+
+    pub goes_over : (next : Run) → IsTurn (needs_of (program_of j)) now (Over next) → HasGone first next
+    goes_over next is = record {
+      job = i.job;
+      there = (i.there.0, shown j i.job i.there.0 now (Over next) i.there.1 is);
+      same = λ c m. shows_so (Over next) is c m;
+    }

@@ -47,10 +47,6 @@ replayed_on j es e old new i b same =
       job = same ∙ i.job;
     }
 
--- the walk of a job
-pub of_job : (w : Walk) (j : WeightedJob) → IsWalk w → w.world.job ≡ j → IsReplayed j w.events.items w.world
-of_job w j i is = subst (λ k. IsReplayed k w.events.items w.world) is i.replayed
-
 module _ (old new : Walk) (e : rEvent) (i : IsWalk old) (same : new.world.job ≡ old.world.job) where
   -- after an event that was legal
   pub happened : Becomes (event e) old.world new.world → new.events.items ≡ old.events.items ++ e ∷ [] → HasOneMore old new
@@ -88,19 +84,8 @@ pub was_illegal : (old new : rWorld) (e : Event) (x : EventError) → x ≡ Ille
 was_illegal old new e x is r w s = (subst (Refuses e old new) is r).1 w s
 
 -- ---- one behind the other
-pub still_so : (a : Walk) → IsWalk a → IsAsBefore a a
-still_so a i = record { walk = i; job = refl; same = refl; shows = λ w s. s }
-
 pub still_on : (a b c : Walk) → IsAsBefore a b → IsAsBefore b c → IsAsBefore a c
 still_on a b c h k = record { walk = k.walk; job = k.job ∙ h.job; same = k.same ∙ h.same; shows = λ w s. k.shows w (h.shows w s) }
-
-pub then_more : (a b c : Walk) → IsAsBefore a b → HasOneMore b c → HasOneMore a c
-then_more a b c h k = record { walk = k.walk; job = k.job ∙ h.job; more = k.more ∙ ap (λ (es : List rEvent). length es + 1) h.same }
-
--- what happened behind what left all as it was
-pub then_happened : (a b c : Walk) → IsAsBefore a b → (x : Bool) → Happened x b c → Happened x a c
-then_happened a b c h true k = then_more a b c h k
-then_happened a b c h false k = still_on a b c h k
 
 pub idle_before : (a b : Walk) → IsAsBefore a b → (worker : ℕ) (path : List ℕ) → IsIdle b.world worker path → IsIdle a.world worker path
 idle_before a b h worker path i w s t lives =
@@ -169,13 +154,6 @@ module _ (most : ℕ) (a b c : Walk) (h : HasGoneOn most a b) where
     grown = subst (λ (es : List rEvent). length a.events.items ≤ length es) (sym k.same) h.grown;
     few = subst (λ (es : List rEvent). length es ≤ most) (sym k.same) h.few;
   }
-
-  -- nothing happened at the picks, and then something or nothing
-  pub went_round : length a.events.items < most → length b.events.items ≤ length a.events.items → (x : Bool) → Happened x b c
-      → (x ≡ false → HasStopped c) → WentRound most x a c
-  went_round lt none true k stop =
-      let g = h.grown in let m = k.more in (picked (omega (arith, lt, none)) true k, omega (arith, g, m))
-  went_round lt none false k stop = (picked (omega (arith, lt, none)) false k, stop refl)
 
 -- what follows of an Ok's value
 pub if_ok : {A E : Type 0} {P Q : A → Type 0} (o : Result A E) → IfOk o P → ((x : A) → P x → Q x) → IfOk o Q

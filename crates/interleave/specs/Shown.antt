@@ -1,6 +1,6 @@
 -- What a world in Rust stands for: live tasks by their paths, scopes by their names.
 use Rattle.std.specs.Prelude.{ℕ, ◌≡◌, ◌⊎◌, List, Bool, true, false, ◌&&◌, option_map}
-use Rattle.std.specs.Prelude.{not, nat_eq, map, Option, Some, None, Vec}
+use Rattle.std.specs.Prelude.{not, nat_eq, map, Option, Some, None, Vec, codes}
 use Rattle.std.specs.Global.{Global}
 use Rattle.std.specs.Cmp.Lexicographic.{pointwise}
 use Rattle.std.specs.HashMap.{get}
@@ -153,6 +153,11 @@ abbrev pub Refuses : Event → (old new : rWorld) → EventError → Type 0
 Refuses e old new Illegal =
     WorldStays old new × ((w : World) → Shows old w → next_world old.job e w ≡ None)
 Refuses e old new NoMemory = WorldStays old new
+
+-- what is printed of an error
+abbrev pub event_error_text : EventError → List ℕ
+event_error_text Illegal = codes "I1"
+event_error_text NoMemory = codes "I2"
 
 -- a right job, and a world that is shown
 pub record IsWorld (r : rWorld) : Type 0 where

@@ -31,6 +31,33 @@ module _ (p : Program) (input : List (List ℤ)) (b : Budget) where
     pub settled : Settled
     pub settles : settle (result_of state) results ≡ Some settled
 
+-- a task wants weight from a scope that has issued w0 for 2^31 times
+pub record IsSpentBy (next : Live → Option Action) (w0 : ℕ) (w : World) : Type 0 where
+  pub path : List ℕ
+  pub its : Live
+  pub lives : task path w.live ≡ Some its
+  pub child : Start
+  pub wants : next its ≡ Some (Spawn child)
+  pub inner : Stake
+  pub outer : List Stake
+  pub stakes : its.stakes ≡ inner ∷ outer
+  pub one : inner.weight ≡ 1
+  pub book : Scope
+  pub found : scope inner.scope w.scopes ≡ Some book
+  pub spent : 2 ^ 31 * w0 ≤ book.issued
+
+-- the events before the n-th lead to a world, and that leads on to none
+pub record IsFirstRefused (leads : List Event → World → Type 0) (next : Event → World → Option World)
+    (es : List Event) (n : ℕ) : Type 0 where
+  pub before : List Event
+  pub first : Event
+  pub later : List Event
+  pub are : es ≡ before ++ first ∷ later
+  pub count : length before ≡ n
+  pub to : World
+  pub legal : leads before to
+  pub illegal : next first to ≡ None
+
 module _ (p : Program) (w0 : ℕ) (b : Budget) where
   -- the world after an event, where it is legal
   abbrev pub event_of : Event → World → Option World
@@ -51,19 +78,8 @@ module _ (p : Program) (w0 : ℕ) (b : Budget) where
     pub legal : event_of first w ≡ Some to
 
   -- a task wants weight from a scope that has issued 2^31 times
-  pub record IsSpent (w : World) : Type 0 where
-    pub path : List ℕ
-    pub its : Live
-    pub lives : task path w.live ≡ Some its
-    pub child : Start
-    pub wants : next_of its ≡ Some (Spawn child)
-    pub inner : Stake
-    pub outer : List Stake
-    pub stakes : its.stakes ≡ inner ∷ outer
-    pub one : inner.weight ≡ 1
-    pub book : Scope
-    pub found : scope inner.scope w.scopes ≡ Some book
-    pub spent : 2 ^ 31 * w0 ≤ book.issued
+  abbrev pub IsSpent : World → Type 0
+  IsSpent = IsSpentBy next_of w0
 
 module _ (p : Program) (w0 : ℕ) (input : List (List ℤ)) (b : Budget) where
   -- the world that events lead to, or the number of the first that isn't legal
@@ -75,12 +91,5 @@ module _ (p : Program) (w0 : ℕ) (input : List (List ℤ)) (b : Budget) where
   LeadsTo es w = replayed es ≡ Legal w
 
   -- the events before the n-th are legal, and that isn't
-  pub record IsFirstIllegal (es : List Event) (n : ℕ) : Type 0 where
-    pub before : List Event
-    pub first : Event
-    pub later : List Event
-    pub are : es ≡ before ++ first ∷ later
-    pub count : length before ≡ n
-    pub to : World
-    pub legal : LeadsTo before to
-    pub illegal : event_of p w0 b first to ≡ None
+  abbrev pub IsFirstIllegal : List Event → ℕ → Type 0
+  IsFirstIllegal = IsFirstRefused LeadsTo (event_of p w0 b)

@@ -80,18 +80,12 @@ slash_quiet = quiet (λ c. c == 47) refl
 -- the text has begun
 abbrev pub IsSomething : Last → Type 0
 IsSomething Nothing = ⊥
-IsSomething Brace = Unit {0}
-IsSomething Comment = Unit {0}
-IsSomething Code = Unit {0}
+IsSomething _ = Unit {0}
 
 -- what stands to the left is no opening
 abbrev pub IsNoOpening : Left → Type 0
 IsNoOpening Opening = ⊥
-IsNoOpening Margin = Unit {0}
-IsNoOpening Called = Unit {0}
-IsNoOpening Operand = Unit {0}
-IsNoOpening Ended = Unit {0}
-IsNoOpening Other = Unit {0}
+IsNoOpening _ = Unit {0}
 
 line_start : (q : ℕ → Bool) → q 10 ≡ false → (empty : Bool) (levels : ℕ) (text rest : List ℕ)
     → starts q ((gap_text (Line empty levels) ++ text) ++ rest) ≡ false

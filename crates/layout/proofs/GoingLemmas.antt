@@ -64,19 +64,6 @@ passes q text rest old new begins none added ps cut =
 pub passes_nothing : (w : Writer) (text : List ℕ) → Passes w text w text
 passes_nothing w text ps cut = record { pieces = ps; cut = cut; tokens = refl; laid = refl }
 
--- what was passed, and what is passed then
-pub passes_more : (old mid new : Writer) (text between rest : List ℕ) → Passes old text mid between → Passes mid between new rest
-    → Passes old text new rest
-passes_more old mid new text between rest one two ps cut =
-    let first = one ps cut in
-    let second = two first.pieces first.cut in
-    record {
-      pieces = second.pieces;
-      cut = second.cut;
-      tokens = second.tokens ∙ first.tokens;
-      laid = second.laid ∙ first.laid;
-    }
-
 -- a writer that goes on passes what has no tokens
 pub goes_on : (whole : List ℕ) (ts : List Token) (old new : Writer) (text rest : List ℕ) → GoesOn whole ts old text
     → Passes old text new rest → GoesOn whole ts new rest
@@ -88,6 +75,12 @@ goes_on whole ts old new text rest going passed =
       tokens = then.tokens ∙ going.tokens;
       laid = then.laid ∙ going.laid;
     }
+
+-- what was passed, and what is passed then
+pub passes_more : (old mid new : Writer) (text between rest : List ℕ) → Passes old text mid between → Passes mid between new rest
+    → Passes old text new rest
+passes_more old mid new text between rest one two ps cut =
+    goes_on (with_rest old ps) (flat_map token_of ps) mid new between rest (one ps cut) two
 
 -- ---- tokens
 

@@ -104,11 +104,8 @@ fn token_levels(spot: Spot, token: &Token) -> usize
 fn is_right_brace(token: &Token) -> bool
     ensures { result ≡ is_right_brace (token_tree token.now) }
 {
-    let Token::Mark(mark) = token else {
-        return false;
-    };
-    match mark {
-        Mark::RightBrace => true,
+    match token {
+        Token::Mark(Mark::RightBrace) => true,
         _ => false,
     }
 }
@@ -127,11 +124,8 @@ fn begins_line(left: Left, token: &Token) -> bool
 fn is_else(token: &Token) -> bool
     ensures { result ≡ is_else (token_tree token.now) }
 {
-    let Token::Word(word) = token else {
-        return false;
-    };
-    match word {
-        Word::Else => true,
+    match token {
+        Token::Word(Word::Else) => true,
         _ => false,
     }
 }
@@ -157,12 +151,9 @@ fn space_unless(joined: bool) -> Gap
 fn is_closing(token: &Token) -> bool
     ensures { result ≡ is_closing (token_tree token.now) }
 {
-    let Token::Mark(mark) = token else {
-        return false;
-    };
-    match mark {
-        Mark::Comma | Mark::Semicolon | Mark::Colon => true,
-        Mark::RightParen | Mark::RightBracket => true,
+    match token {
+        Token::Mark(Mark::Comma | Mark::Semicolon | Mark::Colon) => true,
+        Token::Mark(Mark::RightParen | Mark::RightBracket) => true,
         _ => false,
     }
 }
@@ -171,11 +162,8 @@ fn is_closing(token: &Token) -> bool
 fn is_opening(token: &Token) -> bool
     ensures { result ≡ is_opening (token_tree token.now) }
 {
-    let Token::Mark(mark) = token else {
-        return false;
-    };
-    match mark {
-        Mark::LeftParen | Mark::LeftBracket => true,
+    match token {
+        Token::Mark(Mark::LeftParen | Mark::LeftBracket) => true,
         _ => false,
     }
 }

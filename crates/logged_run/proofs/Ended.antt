@@ -13,8 +13,8 @@ use Rattle.interleave.specs.World.{World}
 use Rattle.interleave.specs.Worlds.{outcome_of as told_in}
 use Rattle.interleave.specs.declared.world.World.{World as rWorld}
 use Rattle.trace.specs.Logs.{IsClean, Recorded}
-use Rattle.trace.specs.declared.log_error.LogError.{LogError}
-use Rattle.trace.specs.declared.log_error.LogError.TheVariants.{Illegal, NoMemory}
+use Rattle.interleave.specs.declared.error.EventError.{EventError}
+use Rattle.interleave.specs.declared.error.EventError.TheVariants.{Illegal, NoMemory}
 use Rattle.logged_run.specs.Ending.{LeadsToOutcome}
 use Rattle.logged_run.specs.Errors.{IsCauseOrUnlogged, of_log}
 
@@ -46,6 +46,6 @@ has_ended l r shown clean told is same ended asked =
     (λ yes. leads l clean told (subst (IsToldOf told) shown is) (subst (IsOneThread told) shown same) (sym asked ∙ yes))
 
 -- whatever a log refuses is a cause
-pub any_cause : (tasks : ℕ) (e : LogError) → IsCauseOrUnlogged tasks (of_log e)
+pub any_cause : (tasks : ℕ) (e : EventError) → IsCauseOrUnlogged tasks (of_log e)
 any_cause tasks Illegal = tt
 any_cause tasks NoMemory = tt

@@ -2,8 +2,8 @@
 use Rattle.std.specs.Prelude.{ℕ, List, codes}
 use Rattle.gather.specs.RunErrors.{IsCause, error_code as code_of_run}
 use Rattle.gather.specs.declared.run_error.RunError.TheVariants.{OutOfMemory}
-use Rattle.trace.specs.declared.log_error.LogError.{LogError}
-use Rattle.trace.specs.declared.log_error.LogError.TheVariants.{Illegal, NoMemory}
+use Rattle.interleave.specs.declared.error.EventError.{EventError}
+use Rattle.interleave.specs.declared.error.EventError.TheVariants.{Illegal, NoMemory}
 use Rattle.logged_run.specs.declared.error.LoggedRunError.{LoggedRunError}
 use Rattle.logged_run.specs.declared.error.LoggedRunError.TheVariants.{Run, Unlogged}
 
@@ -13,7 +13,7 @@ error_code (Run e) = code_of_run e
 error_code Unlogged = codes "E5"
 
 -- why a run is refused where its log refuses an event
-abbrev pub of_log : LogError → LoggedRunError
+abbrev pub of_log : EventError → LoggedRunError
 of_log Illegal = Unlogged
 of_log NoMemory = Run OutOfMemory
 

@@ -3,7 +3,7 @@
 ghost use Rattle.std.specs.Prelude.{◌≡◌};
 ghost use Rattle.logged_run.specs.Errors.{error_code};
 
-use trace::log_error::LogError;
+use interleave::error::EventError;
 use workers::error::RunError;
 
 /// Why a run under a log has no outcome: what came first.
@@ -38,15 +38,15 @@ impl From<RunError> for LoggedRunError {
     }
 }
 
-impl From<LogError> for LoggedRunError {
+impl From<EventError> for LoggedRunError {
     ghost use Rattle.logged_run.specs.Errors.{of_log};
 
     ghost from_gives = { λ e r. r ≡ of_log e };
 
-    fn from(error: LogError) -> LoggedRunError {
+    fn from(error: EventError) -> LoggedRunError {
         match error {
-            LogError::Illegal => LoggedRunError::Unlogged,
-            LogError::NoMemory => LoggedRunError::Run(RunError::OutOfMemory),
+            EventError::Illegal => LoggedRunError::Unlogged,
+            EventError::NoMemory => LoggedRunError::Run(RunError::OutOfMemory),
         }
     }
 }

@@ -14,7 +14,7 @@ use intake::failure::Failure;
 use json_answers::refusals::refusal_object;
 use race_checker::check::{Refused, check};
 use race_checker::race::Race;
-use race_objects::races::race_object;
+use race_objects::races::{Found, race_object};
 use std::alloc::{AllocError, Global};
 use std::thread::Threads;
 use syntax::Place;
@@ -73,7 +73,15 @@ fn shown_line(
         (string_bytes line)) }
 {
     match witness_of(alloc, typed, race)? {
-        Some(witness) => race_object(alloc, file, places, typed.code(), race, &witness),
+        Some(witness) => {
+            let found = Found {
+                places,
+                code: typed.code(),
+                race,
+                witness: &witness,
+            };
+            race_object(alloc, file, found)
+        }
         None => unreachable!(),
     }
 }

@@ -51,6 +51,13 @@ fn mistaken(alloc: Global, words: &[String], error: Error) -> Result<Reply, Allo
     }
 }
 
+/// That the words name a file twice.
+pub fn named_twice(alloc: Global) -> Result<Reply, Error> {
+    let mistake =
+        "a file is named twice: what is written must not be read, and the standard input is read once";
+    Ok(Reply::Said(commands(alloc)?.error(ErrorKind::ArgumentConflict, mistake)?))
+}
+
 /// What is said of a mistake, with how a program is run behind its first paragraph.
 fn with_hint(alloc: Global, said: &str, program: &str) -> Result<String, AllocError> {
     let (first, others) = said.split_once("\n\n").unwrap_or((said, ""));

@@ -2,14 +2,14 @@
 use Rattle.std.proofs.Common.{◌≡◌, ℕ, zero, suc, ◌<◌, List, [], ◌∷◌, refl, sym, subst, inl, inr, arith}
 use Rattle.std.proofs.lemmas.Bool.{eqb-false}
 use Rattle.std.specs.Prelude.{Bool, true, false, ◌||◌, nat_eq, Contains, if◌then◌else◌}
-use Rattle.sections.specs.Place.{Place}
+use Rattle.sections.specs.Place.{In, Place}
 use Rattle.sections.specs.Member.{Member, first, next}
 use Rattle.types.specs.Code.{Code, Codes, End, Then, Program}
 use Rattle.types.specs.Value.{Environment}
 use Rattle.types.specs.Run.{procedure_of}
 use Rattle.effects.specs.Accesses.{Access, reads, own_accesses}
 use Rattle.effects.specs.Effects.{past_split, if_body, if_other, while, split, call, AllOf, All, PendingOf, Pending}
-use Rattle.effects.specs.Effects.{accesses}
+use Rattle.effects.specs.Effects.{accesses, renamed}
 use Rattle.effects.specs.Footprint.{Touches, Overwrites}
 use Rattle.race_checker.specs.Scope.{Scope, Top, Inside, InScope, may_writes, ScopedOf, Scoped}
 use Rattle.race_checker.proofs.Scoping.{length_may_writes}
@@ -72,6 +72,20 @@ overwrites_more env part all q f t = record { access = t.access; among = f t.acc
 
 pub overwrites_touch : (env : Environment) (all : Access → Type 0) (q : Place) → Overwrites env all q → Touches env all q
 overwrites_touch env all q t = record { access = t.access; among = t.among; place = t.place }
+
+-- those of accesses under other names, which name the same
+module _ (env inner : Environment) (past : ℕ → ℕ) (part all : Access → Type 0) (q : Place)
+    (out : (z : ℕ) → In (inner.windows z) q → In (env.windows (past z)) q)
+    (among : (y : Access) → part y → all (renamed past y)) where
+  pub touches_renamed : Touches inner part q → Touches env all q
+  touches_renamed t =
+      record { access = renamed past t.access; among = among t.access t.among; place = out t.access.section t.place }
+
+  pub overwrites_renamed : Overwrites inner part q → Overwrites env all q
+  unfolding touches_renamed overwrites_touch
+  overwrites_renamed t =
+      let at = touches_renamed (overwrites_touch inner part q t) in
+      record { access = at.access; among = at.among; place = at.place; writes = t.writes }
 
 -- ---- the reads of an expression
 pub read_listed : (l s : ℕ) (ss : List ℕ) → Contains ss s → Member (record { label = l; section = s; write = false }) (reads l ss)

@@ -22,12 +22,15 @@ use Rattle.own_run.specs.Frames.{Frame, Rest, Again, AtEnd, Back, Standing, done
 use Rattle.own_run.specs.Left.{left_of}
 use Rattle.own_run.specs.Passed.{HasPiece, IsPassed}
 use Rattle.own_run.specs.Quiet.{IsLittle, Quietly, here, further}
-use Rattle.own_run.specs.RunTurns.{FirstIsOf, GoesOn, GoesTo, IsTurn, NextIsOf, TurnOf}
+use Rattle.own_run.specs.RunTurns.{FirstIsOf, GoesOn, GoesTo, IsStep, IsTurn, NextIsOf, TurnOf, turn_of}
 use Rattle.own_run.specs.Standings.{Shows, Stacked, state_of, with_own}
 use Rattle.own_run.specs.Translation.{listed, owned_by}
 use Rattle.own_run.specs.declared.frame.Frame.{Frame as rFrame}
 use Rattle.own_run.specs.declared.frame.Frame.TheVariants.{Rest as rRest}
 use Rattle.own_run.specs.declared.run.Run.{Run}
+use Rattle.own_run.specs.declared.turn.Done.{Done}
+use Rattle.own_run.specs.declared.turn.Step.{Step as rStep}
+use Rattle.own_run.specs.declared.turn.Step.TheVariants.{Did as rDid}
 use Rattle.own_run.specs.declared.turn.Turn.TheVariants.{Going, Over}
 use Rattle.own_run.proofs.ListedTurns.{over_does_nothing}
 use Rattle.own_run.proofs.PlainTurns.{quietly_more, statement_after, statement_passes}
@@ -42,6 +45,12 @@ Stands needs close old new fs st =
     (t : Standing Own)
     × Quietly (program old.plan.program.now) needs old.thread.nest close (record { frames = fs; state = st }) t
     × GoesTo old t new
+
+-- a step in place that did this was this turn
+pub did : (needs : Codes → Needs) (old new : Run) (s : rStep) (d e : Done) → IsStep needs old s new → s ≡ rDid d → d ≡ e
+    → IsTurn needs old (turn_of new e)
+did needs old new s d e is to same =
+    subst (λ (d : Done). IsTurn needs old (turn_of new d)) same (subst (λ (s : rStep). IsStep needs old s new) to is)
 
 -- by nothing
 pub goes_nowhere : (needs : Codes → Needs) (r : Run) → GoesOn needs r r

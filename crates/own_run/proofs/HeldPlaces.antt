@@ -81,10 +81,6 @@ within-append (w ∷ ws) vs q =
 
 -- ---- parts: what is carved and shared
 
-there_some : (o : Option ℤ) → IsThere o → o ≡ None → ⊥
-there_some (Some v) h n = absurd (let bad : ⊥ = cc in bad)
-there_some None h n = absurd h
-
 -- a place that is owned is there
 pub all_owned : (set : Place → Bool) (m : Map Held) → ((q : Place) → set q ≡ true → is_some (owned m q) ≡ true)
     → AreThere set (owned m)
@@ -98,39 +94,40 @@ pub all_there : (set : Place → Bool) (m : Map Held) → ((q : Place) → set q
     → AreThere set m
 all_there set m there q e n = held_some (m q) (there q e) n
 
+-- what was carved, pasted over copies
+pub pasted : (ws rs : List Window) (m child own to : Map Held) → to ≡ over_at (as_owned (owned own)) child
+    → own ≡ only_at (has ws) m → child ≡ as_shared (only_at (has rs) (numbers m))
+    → to ≡ over_at (as_owned (owned (only_at (within ws) m))) (as_shared (only_at (within rs) (numbers m)))
+pasted ws rs m child own to is taken shared =
+    is
+    ∙ ap (λ (o : Map Held). over_at (as_owned (owned o)) child) (taken ∙ ap (λ (s : Places). only_at s m) (has-is-within ws))
+    ∙ ap (over_at (as_owned (owned (only_at (within ws) m))))
+    (shared ∙ ap (λ (s : Places). as_shared (only_at s (numbers m))) (has-is-within rs))
+
 module _ (ws rs : Place → Bool) (m : Map Held) (own : (q : Place) → ws q ≡ true → is_some (owned m q) ≡ true) where
   -- what a child has: what was carved, over copies
   abbrev pub childs : Map Held
   childs = over_at (as_owned (owned (only_at ws m))) (as_shared (only_at rs (numbers m)))
 
-  child_number : (w r : Bool) (o : Option Held) → (w ≡ true → is_some (owned_number o) ≡ true)
-      → option_map number_of (first_of (option_map Owned (owned_number (if w then o else None)))
+  child_at : (w r : Bool) (o : Option Held) → (w ≡ true → is_some (owned_number o) ≡ true)
+      → (option_map number_of (first_of (option_map Owned (owned_number (if w then o else None)))
       (option_map Shared (if r then option_map number_of o else None)))
-      ≡ (if w || r then option_map number_of o else None)
-  child_number true r (Some (Owned v)) is = refl
-  child_number true r (Some (Shared v)) is = absurd (let bad : false ≡ true = is refl in let worse : ⊥ = cc in worse)
-  child_number true r None is = absurd (let bad : false ≡ true = is refl in let worse : ⊥ = cc in worse)
-  child_number false true (Some (Owned v)) is = refl
-  child_number false true (Some (Shared v)) is = refl
-  child_number false true None is = refl
-  child_number false false o is = refl
+      ≡ (if w || r then option_map number_of o else None))
+      × (is_some (owned_number (first_of (option_map Owned (owned_number (if w then o else None)))
+      (option_map Shared (if r then option_map number_of o else None)))) ≡ w)
+  child_at true r (Some (Owned v)) is = (refl, refl)
+  child_at true r (Some (Shared v)) is = absurd (let bad : false ≡ true = is refl in let worse : ⊥ = cc in worse)
+  child_at true r None is = absurd (let bad : false ≡ true = is refl in let worse : ⊥ = cc in worse)
+  child_at false true (Some (Owned v)) is = (refl, refl)
+  child_at false true (Some (Shared v)) is = (refl, refl)
+  child_at false true None is = (refl, refl)
+  child_at false false o is = (refl, refl)
 
   pub child_contents : numbers childs ≡ only (λ q. ws q || rs q) (numbers m)
-  child_contents = λ t q. child_number (ws q) (rs q) (m q) (own q) t
-
-  child_is_own : (w r : Bool) (o : Option Held) → (w ≡ true → is_some (owned_number o) ≡ true)
-      → is_some (owned_number (first_of (option_map Owned (owned_number (if w then o else None)))
-      (option_map Shared (if r then option_map number_of o else None)))) ≡ w
-  child_is_own true r (Some (Owned v)) is = refl
-  child_is_own true r (Some (Shared v)) is = absurd (let bad : false ≡ true = is refl in let worse : ⊥ = cc in worse)
-  child_is_own true r None is = absurd (let bad : false ≡ true = is refl in let worse : ⊥ = cc in worse)
-  child_is_own false true (Some (Owned v)) is = refl
-  child_is_own false true (Some (Shared v)) is = refl
-  child_is_own false true None is = refl
-  child_is_own false false o is = refl
+  child_contents = λ t q. (child_at (ws q) (rs q) (m q) (own q)).0 t
 
   pub child_owned : owns childs ≡ ws
-  child_owned = λ t q. child_is_own (ws q) (rs q) (m q) (own q) t
+  child_owned = λ t q. (child_at (ws q) (rs q) (m q) (own q)).1 t
 
   left_number : (w : Bool) (o : Option Held) → option_map number_of (if w then None else o) ≡ (if w then None else option_map number_of o)
   left_number true o = refl

@@ -30,7 +30,7 @@ use Rattle.own_run.proofs.Windows.{named_some, in_covered, not_nowhere}
 use Rattle.own_run.proofs.AccessNames.{named_all, overwrites_more}
 use Rattle.own_run.proofs.ApartOutcome.{arrays_fit, array_here}
 use Rattle.own_run.proofs.Simulation.{behind, first_ready, rest_ready}
-use Rattle.own_run.proofs.Stacks.{anywhere, anchor, anchor_ready, unlock}
+use Rattle.own_run.proofs.Stacks.{anywhere, anchor, unlock, unlock_ready}
 use Rattle.own_run.proofs.ComesBack.{back_there, there_left, there_right}
 use Rattle.own_run.proofs.KeepingHold.{none, lists, parted_less, returns_move, Before, plain, relimit, acted_holds}
 use Rattle.own_run.proofs.KeepingHold.{written_overwrites}
@@ -108,8 +108,7 @@ module _ (p : Program) (needs : Codes → Needs) (is_scoped : IsScoped p) (is_ca
             record {
               inside = λ z i. i;
               known = left.known;
-              ready = anchor_ready p needs st.store st.store st.extra.owned st.extra.owned sc env mid mid final rest
-                  (record { there = λ q n j. j; owned = λ q n j. j; fewer_locks = λ q j. j })
+              ready = unlock_ready p needs st.store st.extra.owned sc env mid mid final rest (λ q j. j)
                   (rest_ready p needs x none final l s rest left.ready);
             },
             unlock p needs st.environment.windows (InScope sc) st.store st.extra.owned final (locked_after p needs env mid rest) fs

@@ -33,7 +33,7 @@ use Rattle.own_run.proofs.Lists.{each_last}
 use Rattle.own_run.proofs.Windows.{named_some, some_named, passed_same, sides_some, around_split, split_agree}
 use Rattle.own_run.proofs.AccessNames.{named_all, touches_more, overwrites_more}
 use Rattle.own_run.proofs.Simulation.{behind, part_ready, again_ready, split_ready, call_ready, ReadyOf}
-use Rattle.own_run.proofs.Stacks.{anywhere, restack, anchor, anchor_ready, unlock}
+use Rattle.own_run.proofs.Stacks.{anywhere, restack, anchor, unlock, unlock_ready}
 use Rattle.own_run.proofs.ComesBack.{written_touched}
 
 abbrev pub none : Place → Type 0
@@ -230,8 +230,7 @@ module _ (p : Program) (needs : Codes → Needs) where
       left_of limit b i k = record {
         inside = i;
         known = h.known;
-        ready = anchor_ready p needs st.store st.store st.extra.owned st.extra.owned sc env none none mid b
-            (record { there = λ q n j. j; owned = λ q n j. j; fewer_locks = λ q j. j }) k;
+        ready = unlock_ready p needs st.store st.extra.owned sc env none none mid b (λ q j. j) k;
       }
 
       -- a block of it, in the same scope
@@ -317,8 +316,7 @@ module _ (p : Program) (needs : Codes → Needs) where
               record {
                 inside = λ z i. i;
                 known = h.known;
-                ready = anchor_ready p needs st.store st.store st.extra.owned st.extra.owned sc env m lock m turn
-                    (record { there = λ q n j. j; owned = λ q n j. j; fewer_locks = down }) again;
+                ready = unlock_ready p needs st.store st.extra.owned sc env m lock m turn down again;
               },
               unlock p needs st.environment.windows (InScope sc) st.store st.extra.owned m (locked_after p needs env lock turn) gs
                   (λ q k. elim k as (λ _. m q) [ inl j ↦ down q j | inr j ↦ again.added q j ]) h.lower,
@@ -349,8 +347,7 @@ module _ (p : Program) (needs : Codes → Needs) where
             record {
               inside = λ z i. tt;
               known = λ z i. split_agree u v ws st.environment.windows env.windows z (in_scope z i);
-              ready = anchor_ready p needs st.store st.store st.extra.owned st.extra.owned (Inside s u v sc) new none none m b
-                  (record { there = λ q n j. j; owned = λ q n j. j; fewer_locks = λ q j. j }) body;
+              ready = unlock_ready p needs st.store st.extra.owned (Inside s u v sc) new none none m b (λ q j. j) body;
             },
             restack p needs st.environment.windows to.windows (InScope sc) (InScope (Inside s u v sc)) st.store st.extra.owned
                 (after sc env l c gs st h new b) gs
@@ -396,8 +393,7 @@ module _ (p : Program) (needs : Codes → Needs) where
               inside = λ z i. tt;
               known = λ z i. passed_same st.environment.windows env.windows ss z
                   (h.known (past_call ss z) (h.ready.scoped z (subst (λ n. z < n) (length_may_writes (procedure_of p f)) i)));
-              ready = anchor_ready p needs st.store st.store st.extra.owned st.extra.owned top new none none m b
-                  (record { there = λ q n j. j; owned = λ q n j. j; fewer_locks = λ q j. j }) body;
+              ready = unlock_ready p needs st.store st.extra.owned top new none none m b (λ q j. j) body;
             },
             relimit st.environment.windows (InScope sc) st.store st.extra.owned (after sc env l c gs st h new b) gs
                 (lower_for sc env l c gs st h new b body.added),

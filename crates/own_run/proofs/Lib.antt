@@ -1,7 +1,6 @@
 pub mod AcceptedPrograms
 pub mod AccessNames
 pub mod ApartOutcome
-pub mod AsyncsFound
 pub mod Begun
 pub mod BelongingTasks
 pub mod Children

@@ -129,34 +129,3 @@ module _ (p : Program) (needs : Codes → Needs) (close : State Own → Option S
   turn_lists nest (Again l t b) fs st = flow_lists nest st.flow l (While t b) fs fs st refl
   turn_lists nest (AtEnd before) fs st = refl
   turn_lists nest (Back env) fs st = refl
-
-  -- ---- as a turn of a run in Rust tells it
-  module _ (nest : ℕ) (f : Frame Own) (fs : List (Frame Own)) (st : State Own) where
-    abbrev before : Lists
-    before = lists (record { frames = f ∷ fs; state = st })
-
-    abbrev behind : Lists
-    behind = lists (turn p (r nest) f fs st)
-
-    does : (actions : List Action) → done_in needs nest f st ≡ actions → ListsAs actions before behind
-    does actions e = subst (λ actions. ListsAs actions before behind) e (turn_lists nest f fs st)
-
-    -- it went on, and began nothing
-    pub gone_lists : DoneAs (done_in needs nest f st) (stops nest f st) Gone → behind ≡ before
-    gone_lists h = by_step h.1
-      where
-        by_step : (done_in needs nest f st ≡ []) ⊎ (done_in needs nest f st ≡ Step ∷ []) → behind ≡ before
-        by_step (inl e) = does [] e
-        by_step (inr e) = does (Step ∷ []) e
-
-    -- it began a task
-    pub spawned_lists : (s : rStart) → BeginsAs (done_in needs nest f st) (stops nest f st) s → ListsChild (start s) before behind
-    spawned_lists s h = does (Spawn (start s) ∷ []) h.1
-
-    -- it entered a finish
-    pub entered_lists : DoneAs (done_in needs nest f st) (stops nest f st) Entered → behind ≡ inside before
-    entered_lists h = does (EnterFinish ∷ []) h.1
-
-    -- it went over the budget
-    pub exceeded_lists : DoneAs (done_in needs nest f st) (stops nest f st) Exceeded → behind ≡ before
-    exceeded_lists h = does [] (over_does_nothing needs nest f st h)

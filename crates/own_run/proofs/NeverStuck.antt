@@ -1,9 +1,9 @@
 -- No finish is stuck: wherever a task that may come about stands at the end of a finish, results of own runs settle.
 use Rattle.std.proofs.lemmas.Option.{same_Some}
 use Rattle.std.proofs.Common.{◌≡◌, ℕ, zero, suc, ◌+◌, ◌<◌, ◌≤◌, List, [], ◌∷◌, length, Some, Ok, Err, refl, sym, ap}
-use Rattle.std.proofs.Common.{◌∙◌, subst, arith, le_refl}
+use Rattle.std.proofs.Common.{◌∙◌, subst, arith, inl, inr, le_refl}
 use Rattle.std.proofs.lemmas.List.{append-nil}
-use Rattle.std.specs.Prelude.{Bool, true, false, map, flat_map, ok_or}
+use Rattle.std.specs.Prelude.{◌⊎◌, Bool, true, false, map, flat_map, ok_or}
 use Rattle.sections.specs.Place.{sides_of}
 use Rattle.types.specs.declared.fault.FaultKind.TheVariants.{SplitPoint}
 use Rattle.types.specs.Code.{Code, Do, If, While, Split, Call, Async, Finish, Codes, End, Then, Program}
@@ -219,13 +219,13 @@ module _ (p : Program) (needs : Codes → Needs) (scoped : IsScoped p) (calm : I
         leaves_at s.nest s t.frames t.state refl k.task k.holds (distinct r).ours
 
     -- ---- to its end
-    module _ (s : Start) where
-      abbrev Goal : Type 0
-      Goal = CanEnd p needs fresh root s
-
-      abbrev At : List (Frame Own) → State Own → Type 0
-      At fs st = Reached p needs fresh root s (record { frames = fs; state = st })
-
+    -- what follows where no turn can be done, at the end of a finish, and from what follows a turn, follows
+    module _ (s : Start) (Goal : Type 0) (At : List (Frame Own) → State Own → Type 0) (over : (st : State Own) → At [] st → Goal)
+        (at_end : (before : State Own) (fs : List (Frame Own)) (st : State Own) → At (AtEnd before ∷ fs) st
+        → ((to : State Own) → to.steps ≤ st.steps → At fs to → Goal) → Goal)
+        (goes_on : (f : Frame Own) (fs : List (Frame Own)) (st : State Own) → At (f ∷ fs) st
+        → Goal ⊎ At (turn p (own_rules needs s.nest (in_truth p needs fresh)) f fs st).frames
+        (turn p (own_rules needs s.nest (in_truth p needs fresh)) f fs st).state) where
       abbrev EndsBelow : ℕ → Type 0
       EndsBelow n = (fs : List (Frame Own)) (st : State Own) → st.steps < n → At fs st → Goal
 
@@ -237,36 +237,46 @@ module _ (p : Program) (needs : Codes → Needs) (scoped : IsScoped p) (calm : I
 
       after_turn : (n w : ℕ) → EndsBelow n → EndsWithin n w → (f : Frame Own) (fs : List (Frame Own)) (st : State Own) → st.steps ≤ n
           → At (f ∷ fs) st → Falls st w (next f fs st) → Goal
-      after_turn n w deeper lighter f fs st le r (spends lt) =
-          deeper (next f fs st).frames (next f fs st).state (omega (arith, lt, le)) (turns r)
-      after_turn n w deeper lighter f fs st le r (sheds k lt) =
-          lighter (next f fs st).frames (next f fs st).state (omega (arith, k, le)) lt (turns r)
+      after_turn n w deeper lighter f fs st le a falls = by_turn (goes_on f fs st a) falls
+        where
+          by_turn : Goal ⊎ At (next f fs st).frames (next f fs st).state → Falls st w (next f fs st) → Goal
+          by_turn (inl goal) falls = goal
+          by_turn (inr at) (spends lt) = deeper (next f fs st).frames (next f fs st).state (omega (arith, lt, le)) at
+          by_turn (inr at) (sheds k lt) = lighter (next f fs st).frames (next f fs st).state (omega (arith, k, le)) lt at
 
       falls : (g : Flow) (l : ℕ) (c : Code) (fs below : List (Frame Own)) (st : State Own) (w : ℕ) → weight fs < w → weight below < w
           → Falls st w (by_flow p (own_rules needs s.nest (in_truth p needs fresh)) g l c fs below st)
       falls = flow_falls p needs scoped calm provided fresh root s
 
       within : (n w : ℕ) → EndsBelow n → EndsWithin n w
-      within n zero deeper fs st le lt r = absurd (omega (arith, lt))
-      within n (suc w) deeper [] st le lt r = record { state = st; ended = r }
-      within n (suc w) deeper (Rest End ∷ fs) st le lt r =
-          after_turn n w deeper (within n w deeper) (Rest End) fs st le r (sheds (le_refl st.steps) (omega (arith, lt)))
-      within n (suc w) deeper (Rest (Then l c rest) ∷ fs) st le lt r =
-          after_turn n w deeper (within n w deeper) (Rest (Then l c rest)) fs st le r
+      within n zero deeper fs st le lt a = absurd (omega (arith, lt))
+      within n (suc w) deeper [] st le lt a = over st a
+      within n (suc w) deeper (Rest End ∷ fs) st le lt a =
+          after_turn n w deeper (within n w deeper) (Rest End) fs st le a (sheds (le_refl st.steps) (omega (arith, lt)))
+      within n (suc w) deeper (Rest (Then l c rest) ∷ fs) st le lt a =
+          after_turn n w deeper (within n w deeper) (Rest (Then l c rest)) fs st le a
           (falls st.flow l c (Rest rest ∷ fs) fs st w (omega (arith, lt)) (omega (arith, lt)))
-      within n (suc w) deeper (Again l t b ∷ fs) st le lt r =
-          after_turn n w deeper (within n w deeper) (Again l t b) fs st le r
+      within n (suc w) deeper (Again l t b ∷ fs) st le lt a =
+          after_turn n w deeper (within n w deeper) (Again l t b) fs st le a
           (falls st.flow l (While t b) fs fs st w (omega (arith, lt)) (omega (arith, lt)))
-      within n (suc w) deeper (Back env ∷ fs) st le lt r =
-          after_turn n w deeper (within n w deeper) (Back env) fs st le r (sheds (le_refl st.steps) (omega (arith, lt)))
-      within n (suc w) deeper (AtEnd before ∷ fs) st le lt r =
-          let k = can_leave s (record { frames = AtEnd before ∷ fs; state = st }) r in
-          within n w deeper fs (handed before k.comes st) le (omega (arith, lt)) (leaves k.results r k.owns k.settles)
+      within n (suc w) deeper (Back env ∷ fs) st le lt a =
+          after_turn n w deeper (within n w deeper) (Back env) fs st le a (sheds (le_refl st.steps) (omega (arith, lt)))
+      within n (suc w) deeper (AtEnd before ∷ fs) st le lt a =
+          at_end before fs st a (λ to few at. within n w deeper fs to (omega (arith, few, le)) (omega (arith, lt)) at)
 
       ends : (n : ℕ) → EndsBelow n
-      ends zero fs st lt r = absurd (omega (arith, lt))
-      ends (suc n) fs st lt r = within n (suc (weight fs)) (ends n) fs st (omega (arith, lt)) (omega arith) r
+      ends zero fs st lt a = absurd (omega (arith, lt))
+      ends (suc n) fs st lt a = within n (suc (weight fs)) (ends n) fs st (omega (arith, lt)) (omega arith) a
 
-      -- each task that may come about can come to its end
-      pub can_end : (t : Standing Own) → Reached p needs fresh root s t → Goal
-      can_end t r = ends (suc t.state.steps) t.frames t.state (omega arith) r
+      pub by_turns : (fs : List (Frame Own)) (st : State Own) → At fs st → Goal
+      by_turns fs st a = ends (suc st.steps) fs st (omega arith) a
+
+    -- each task that may come about can come to its end
+    pub can_end : (s : Start) (t : Standing Own) → Reached p needs fresh root s t → CanEnd p needs fresh root s
+    can_end s t r =
+        by_turns s (CanEnd p needs fresh root s) (λ fs st. Reached p needs fresh root s (record { frames = fs; state = st }))
+        (λ st r. record { state = st; ended = r })
+        (λ before fs st r lighter.
+        let k = can_leave s (record { frames = AtEnd before ∷ fs; state = st }) r in
+        lighter (handed before k.comes st) (le_refl st.steps) (leaves k.results r k.owns k.settles))
+        (λ f fs st r. inr (turns r)) t.frames t.state r

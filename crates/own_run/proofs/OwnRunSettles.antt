@@ -1,13 +1,12 @@
 -- An own run with its holes filled is the settled meaning.
 use Rattle.std.proofs.Common.{◌≡◌, ℕ, zero, suc, ◌+◌, List, [], ◌∷◌, ◌++◌, refl, sym, ap, ◌∙◌, inl, inr, append_assoc}
 use Rattle.std.proofs.lemmas.List.{append-nil}
-use Rattle.std.specs.Prelude.{ℤ, ◌⊎◌, Bool, true, false, ◌&&◌, ◌||◌, if◌then◌else◌}
+use Rattle.std.specs.Prelude.{◌⊎◌, Bool, true, false, ◌&&◌, ◌||◌, if◌then◌else◌}
 use Rattle.std.proofs.lemmas.Bool.{and_parts}
 use Rattle.types.specs.Code.{Codes, Program}
-use Rattle.types.specs.Run.{Flow, On, Faulted, Stopped, Fault, State, Rules, Work, Block, at_flow, go_on, spend}
-use Rattle.types.specs.Run.{with_step, within, run}
+use Rattle.types.specs.Run.{Flow, On, Faulted, Stopped, Fault, State, Rules, Work, Block, at_flow, go_on, run}
 use Rattle.types.specs.Meaning.{after_finish}
-use Rattle.types.proofs.Views.{Follows, FollowsAt, IsView, work_follows}
+use Rattle.types.proofs.Views.{View, viewed, same_told, Follows, IsView, within_follows}
 use Rattle.effects.specs.Needs.{Needs}
 use Rattle.effects.proofs.Members.{false_true}
 use Rattle.own_run.specs.Apart.{Aside, is_stopped, stops_anywhere, merged, gather, apart_rules, begin_apart, apart}
@@ -21,28 +20,24 @@ abbrev A : Type 0
 A = State Aside
 
 module _ (p : Program) (needs : Codes → Needs) (fresh : ℕ) where
+  -- what really comes of those that are listed, over nothing
+  abbrev come : Own → Settled
+  come x = filled p needs fresh x.pending none_yet
+
+  abbrev settling : View (Unit {0}) Own Aside
+  settling = record {
+    lines = λ u x. (come x).lines;
+    faults = λ u x. (come x).faults;
+    steps = λ u n. n;
+    extra = λ u x. record { contents = (come x).contents; stopped = (come x).stopped };
+  }
+
   -- with what really comes of those that it lists
   abbrev pub settled : Unit {0} → State Own → A
-  settled u st =
-      let g = filled p needs fresh st.extra.pending none_yet in
-      record {
-        flow = st.flow;
-        environment = st.environment;
-        store = st.store;
-        lines = g.lines ++ st.lines;
-        faults = g.faults ++ st.faults;
-        steps = st.steps;
-        path = st.path;
-        spawned = st.spawned;
-        extra = record { contents = g.contents; stopped = g.stopped };
-      }
+  settled = viewed settling
 
   abbrev IsLost : State Own → Type 0
   IsLost st = is_waiting st ≡ true
-
-  told : (a : A) (l m : List (List ℤ)) (f g : List Fault) → l ≡ m → f ≡ g
-      → record a { lines = l; faults = f } ≡ record a { lines = m; faults = g }
-  told a l m f g e h = ap {B = A} (λ x. record a { lines = x; faults = f }) e ∙ ap {B = A} (λ x. record a { lines = m; faults = x }) h
 
   filled_last : (cs : List Child) (c : Child) (g : Settled)
       → filled p needs fresh (cs ++ c ∷ []) g ≡ fill c.listed (comes_to p needs fresh c.start) (filled p needs fresh cs g)
@@ -79,7 +74,7 @@ module _ (p : Program) (needs : Codes → Needs) (fresh : ℕ) where
         let g = filled p needs fresh st.extra.pending none_yet in
         let v = settled tt out in
         ap {B = A} (λ f. record (gather (settled tt st) v) { flow = f }) (flow_is out.flow v.extra.stopped v.faults)
-        ∙ told (record (gather (settled tt st) v) { flow = if stops_anywhere v then Stopped else after_finish On v.faults }) _ _ _ _
+        ∙ same_told (record (gather (settled tt st) v) { flow = if stops_anywhere v then Stopped else after_finish On v.faults }) _ _ _ _
         (append_assoc g.lines st.lines v.lines) (append_assoc g.faults st.faults v.faults)
 
     begin_settled : (n : ℕ) (b : Codes) (st : State Own)
@@ -93,39 +88,21 @@ module _ (p : Program) (needs : Codes → Needs) (fresh : ℕ) where
           extra = record { contents = g.contents; stopped = g.stopped };
         })
         (filled_last st.extra.pending c none_yet)
-        ∙ told (begin_apart p needs fresh (suc n) b (settled tt st)) _ _ _ _ (append-nil _) (append-nil _))
+        ∙ same_told (begin_apart p needs fresh (suc n) b (settled tt st)) _ _ _ _ (append-nil _) (append-nil _))
 
-    view : IsView settled IsLost r s
+    view : IsView settling IsLost r s
     view = record {
-      flow = λ u st. refl;
-      environment = λ u st. refl;
-      store = λ u st. refl;
-      moved = λ u st env. refl;
-      written = λ u st c. refl;
-      printed =
-          λ u st vs. told (settled tt st) _ _ _ _
-          (append_assoc (filled p needs fresh st.extra.pending none_yet).lines st.lines (vs ∷ [])) refl;
-      faulted =
-          λ u st l k. told (record (settled tt st) { flow = Faulted }) _ _ _ _ refl
-          (append_assoc (filled p needs fresh st.extra.pending none_yet).faults st.faults _);
+      out_of_steps = λ u st. inr refl;
+      one_less = λ u n. refl;
       stepped = λ u l st. refl;
-      spends = spends_settled;
       begin = λ l b u st. inr (begin_settled nest b st);
       finish = finish_settled;
       lost = stays_lost;
       lost_moved = λ st env e. e;
     }
       where
-        spends_settled : (u : Unit {0}) (st : State Own) (go : State Own → State Own) (to : A → A) → Follows settled IsLost go to
-            → FollowsAt settled IsLost u st (with_step go) (with_step to)
-        spends_settled u st go to h = by_steps st.steps
-          where
-            by_steps : (n : ℕ) → IsLost (spend n st go) ⊎ (spend n (settled u st) to ≡ settled u (spend n st go))
-            by_steps zero = inr refl
-            by_steps (suc n) = h u (record st { steps = n })
-
-        finish_settled : (l : ℕ) (go : State Own → State Own) (to : A → A) → Follows settled IsLost go to
-            → Follows settled IsLost (λ st. r.leave st (go (r.enter l st))) (λ st. s.leave st (to (s.enter l st)))
+        finish_settled : (l : ℕ) (go : State Own → State Own) (to : A → A) → Follows settling IsLost go to
+            → Follows settling IsLost (λ st. r.leave st (go (r.enter l st))) (λ st. s.leave st (to (s.enter l st)))
         finish_settled l go to h u st = by_body (h u (r.enter l st))
           where
             out : State Own
@@ -149,14 +126,10 @@ module _ (p : Program) (needs : Codes → Needs) (fresh : ℕ) where
             by_body (inl e) = inl (lost_out (is_waiting out) refl e)
             by_body (inr e) = by_waiting (is_waiting out) refl e
 
-    within_settled : (k : ℕ) (w : Work) → Follows settled IsLost (within p r k w) (within p s k w)
-    within_settled zero w u st = inr refl
-    within_settled (suc k) w u st = work_follows p r s settled IsLost view (within p r k) (within p s k) (within_settled k) w u st
-
     -- an own run from where nothing waits
     pub run_settles : (w : Work) (st : State Own) → st.extra.waits ≡ false
         → apart p needs fresh nest w (settled tt st) ≡ settled tt (run p r w st)
-    run_settles w st e = surely (within_settled (st.steps + 1) w tt st)
+    run_settles w st e = surely (within_follows p r s settling IsLost view (st.steps + 1) w tt st)
       where
         out : State Own
         out = run p r w st

@@ -192,11 +192,6 @@ module _ (p : Program) (needs : Codes → Needs) (nest : ℕ) (close : State Own
       (paid_passes st.steps l (While t b) fs st
       (λ s flow less. acted_passes k (passes_below k) (While t b) l plain fs s flow (omega (arith, less, lt))) on)))
 
-  -- plain work on top of frames
-  pub plain_passes : (w : Work) → IsPlainWork p w → (fs : List (Frame Own)) (st : State Own)
-      → Q (at (frame_of w ∷ fs) st) (at fs (go_on (m w) st))
-  plain_passes w plain fs st = passes_below (suc st.steps) w plain fs st (omega arith)
-
   -- a plain statement that is next, where the flow is on: behind its first turn
   pub statement_after : (l : ℕ) (c : Code) (rest : Codes) → IsPlain p l c → (fs : List (Frame Own)) (st : State Own)
       → st.flow ≡ On → Q (turn p r (Rest (Then l c rest)) fs st) (at (Rest rest ∷ fs) (m (Block (Then l c End)) st))

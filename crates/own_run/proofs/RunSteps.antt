@@ -45,10 +45,6 @@ module _ {X A B : Type 0} (l : ℕ) (fs : List (Frame X)) (st : State X) (go : B
   abbrev by_both : Valued A → Standing X
   by_both r = by_value l r (λ v. by_value l (second v) go fs st) fs st
 
-  pub both_ok : (v : B) (r : Valued A) → Ok v ≡ then_try r second → by_both r ≡ go v
-  both_ok v (Ok x) e = value_ok l fs st go v (second x) e
-  both_ok v (Err f) e = absurd (let bad : ⊥ = cc in bad)
-
   pub both_fault : (k : FaultKind) (r : Valued A) → Err k ≡ then_try r second → by_both r ≡ record { frames = fs; state = fault l k st }
   both_fault k (Ok x) e = value_faults l fs st go k (second x) e
   both_fault k (Err f) e =
@@ -136,9 +132,6 @@ module _ (needs : Codes → Needs) (l : ℕ) (old new : Run) where
         };
         noted = done;
       }
-
-  step_alone : (actions : List Action) (over : Bool) → over ≡ false → actions ≡ Step ∷ [] → DoneAs actions over Gone
-  step_alone actions over e a = (e, inr a)
 
   done_Do : (nest : ℕ) (s : Primitive) (st : State Own) → done_by needs nest 1 (Do s) st ≡ Step ∷ []
   done_Do zero s st = refl

@@ -88,10 +88,6 @@ module _ (p : Program) (input : List (List ℤ)) (b : Budget) (r : Run) where
   by_frames t s (Rest c ∷ fs) st is nest stands h = goes_on t _ s (Rest c) fs st is nest stands h
   by_frames t s (Again l g c ∷ fs) st is nest stands h = goes_on t _ s (Again l g c) fs st is nest stands h
   by_frames t s (Back env ∷ fs) st is nest stands h = goes_on t _ s (Back env) fs st is nest stands h
-  by_frames (Going q) s (AtEnd before ∷ fs) st is nest stands h = absurd h
-  by_frames (Spawns q c) s (AtEnd before ∷ fs) st is nest stands h = absurd h
-  by_frames (EntersFinish q) s (AtEnd before ∷ fs) st is nest stands h = absurd h
-  by_frames (Over q) s (AtEnd before ∷ fs) st is nest stands h = absurd h
   by_frames (EndsFinish w x) s (AtEnd before ∷ fs) st is nest stands h = (
     record {
       program = ap (λ plan. program plan.program.now) h.1 ∙ is;
@@ -106,13 +102,9 @@ module _ (p : Program) (input : List (List ℤ)) (b : Budget) (r : Run) where
     },
     refl,
   )
-  by_frames (Ended x) s (AtEnd before ∷ fs) st is nest stands h = absurd h
-  by_frames (Going q) s [] st is nest stands h = absurd h
-  by_frames (Spawns q c) s [] st is nest stands h = absurd h
-  by_frames (EntersFinish q) s [] st is nest stands h = absurd h
-  by_frames (Over q) s [] st is nest stands h = absurd h
-  by_frames (EndsFinish w x) s [] st is nest stands h = absurd h
+  by_frames t s (AtEnd before ∷ fs) st is nest stands h = absurd h
   by_frames (Ended x) s [] st is nest stands h = (st, stands, h)
+  by_frames t s [] st is nest stands h = absurd h
 
   -- whatever the turn, the run stays one of the program's
   pub stays : (t : Turn) (m : MayRun p input b r) → IsTurn (needs_of p) r t → Stays p input b m.start t

@@ -12,10 +12,10 @@ use Rattle.types.specs.Contents.{read, write}
 use Rattle.types.specs.Value.{Environment, Valued, then_try, number, truth}
 use Rattle.types.specs.Indexed.{indexed, indexed_truth}
 use Rattle.types.specs.Laws.{SameOn}
-use Rattle.types.specs.Run.{Flow, On, Faulted, Stopped, State, fault, at_flow, go_on, spend, with_step, with_value}
+use Rattle.types.specs.Run.{Fault, Flow, On, Faulted, Stopped, State, fault, at_flow, go_on, spend, with_step, with_value}
 use Rattle.types.specs.Run.{assign, bind, print, put, choose, number_at, numbers_at, truth_at}
 use Rattle.types.proofs.Readings.{number_same, truth_same}
-use Rattle.race_checker.specs.Scope.{InScope}
+use Rattle.race_checker.specs.Scope.{InScope, Scope}
 use Rattle.own_run.specs.Places.{or_else}
 use Rattle.own_run.specs.Ready.{Around}
 use Rattle.own_run.specs.Apart.{Aside, is_stopped, stops_anywhere, merged}
@@ -70,9 +70,45 @@ module _ (x : Around) where
     out = λ q n. s.out q (λ l. n (f q l));
   }
 
-  pub widen_agree : (locked final : Set) (o : S) (a : A) → ((q : Place) → locked q → final q) → Agree x locked o a → Agree x final o a
-  widen_agree locked final o a f (same s) = same (widen locked final o a f s)
-  widen_agree locked final o a f (both_stop e y) = both_stop e y
+  -- ---- what is changed in both
+  -- how they go on, what they told, and their steps
+  pub told : {f g : Flow} {ls ms : List (List ℤ)} {fs gs : List Fault} {j k : ℕ} (locked : Set) (o : S) (a : A)
+      → f ≡ g → ls ≡ ms → fs ≡ gs → j ≡ k → Same x locked o a
+      → Same x locked (record o { flow = f; lines = ls; faults = fs; steps = j })
+      (record a { flow = g; lines = ms; faults = gs; steps = k })
+  told locked o a flow lines faults steps s = record {
+    flow = flow;
+    environment = s.environment;
+    windows = s.windows;
+    store = s.store;
+    stays = s.stays;
+    lines = lines;
+    faults = faults;
+    steps = steps;
+    path = s.path;
+    spawned = s.spawned;
+    alive = s.alive;
+    out = s.out;
+  }
+
+  -- where they stand, under what names
+  pub stand : {e f : Environment} (sc : Scope) (env : Environment) (locked : Set) (o : S) (a : A)
+      → e ≡ f → ((z : ℕ) → InScope sc z → e.windows z ≡ env.windows z) → Same x locked o a
+      → Same (record x { scope = sc; env = env }) locked (record o { environment = e }) (record a { environment = f })
+  stand sc env locked o a environment windows s = record {
+    flow = s.flow;
+    environment = environment;
+    windows = windows;
+    store = s.store;
+    stays = s.stays;
+    lines = s.lines;
+    faults = s.faults;
+    steps = s.steps;
+    path = s.path;
+    spawned = s.spawned;
+    alive = s.alive;
+    out = s.out;
+  }
 
   -- ---- going on
   stops_on : (f : Flow) (a : A) (to : A → A) → f ≡ a.flow → Dies to → stops_anywhere a ≡ true → stops_anywhere (at_flow f a to) ≡ true
@@ -100,20 +136,9 @@ module _ (x : Around) where
   spend_same locked final o a go to zero zero e s h = both_stop refl refl
   spend_same locked final o a go to zero (suc k) e s h = absurd (omega (arith, e))
   spend_same locked final o a go to (suc j) zero e s h = absurd (omega (arith, e))
-  spend_same locked final o a go to (suc j) (suc k) e s h = h (record o { steps = j }) (record a { steps = k }) (record {
-    flow = s.flow;
-    environment = s.environment;
-    windows = s.windows;
-    store = s.store;
-    stays = s.stays;
-    lines = s.lines;
-    faults = s.faults;
-    steps = omega (arith, e);
-    path = s.path;
-    spawned = s.spawned;
-    alive = s.alive;
-    out = s.out;
-  })
+  spend_same locked final o a go to (suc j) (suc k) e s h =
+      let fewer : j ≡ k = omega (arith, e) in
+      h (record o { steps = j }) (record a { steps = k }) (told locked o a s.flow s.lines s.faults fewer s)
 
   pub step_same : (locked final : Set) (o : S) (a : A) (go : S → S) (to : A → A) → Same x locked o a
       → ((u : S) (v : A) → Same x locked u v → Agree x final (go u) (to v)) → Agree x final (with_step go o) (with_step to a)
@@ -121,22 +146,10 @@ module _ (x : Around) where
 
   -- ---- values
   pub fault_same : (locked : Set) (o : S) (a : A) (l : ℕ) (k : FaultKind) → Same x locked o a → Same x locked (fault l k o) (fault l k a)
-  fault_same locked o a l k s = record {
-    flow = refl;
-    environment = s.environment;
-    windows = s.windows;
-    store = s.store;
-    stays = s.stays;
-    lines = s.lines;
-    faults =
-        ap (λ fs. fs ++ record { path = o.path; label = l; kind = k } ∷ []) s.faults
-        ∙ ap (λ path. a.faults ++ record { path = path; label = l; kind = k } ∷ []) s.path;
-    steps = s.steps;
-    path = s.path;
-    spawned = s.spawned;
-    alive = s.alive;
-    out = s.out;
-  }
+  fault_same locked o a l k s =
+      told locked o a refl s.lines
+      (ap (λ fs. fs ++ record { path = o.path; label = l; kind = k } ∷ []) s.faults
+      ∙ ap (λ path. a.faults ++ record { path = path; label = l; kind = k } ∷ []) s.path) s.steps s
 
   pub value_same : {B : Type 0} (final : Set) (o : S) (a : A) (l : ℕ) (u v : Valued B) (go : B → S → S) (to : B → A → A) → u ≡ v
       → Same x final o a → ((y : B) → u ≡ Ok y → Agree x final (go y o) (to y a))
@@ -193,36 +206,12 @@ module _ (x : Around) where
 
     -- ---- what a step changes
     pub assign_same : (n : ℕ) (v : ℤ) → Same x locked (assign n v o) (assign n v a)
-    assign_same n v = record {
-      flow = s.flow;
-      environment = ap {A = Environment} (λ env. record env { scalars = bind n v env.scalars }) s.environment;
-      windows = s.windows;
-      store = s.store;
-      stays = s.stays;
-      lines = s.lines;
-      faults = s.faults;
-      steps = s.steps;
-      path = s.path;
-      spawned = s.spawned;
-      alive = s.alive;
-      out = s.out;
-    }
+    assign_same n v =
+        stand x.scope x.env locked o a (ap {A = Environment} (λ env. record env { scalars = bind n v env.scalars }) s.environment)
+        s.windows s
 
     pub print_same : (vs : List ℤ) → Same x locked (print vs o) (print vs a)
-    print_same vs = record {
-      flow = s.flow;
-      environment = s.environment;
-      windows = s.windows;
-      store = s.store;
-      stays = s.stays;
-      lines = ap (λ ls. ls ++ vs ∷ []) s.lines;
-      faults = s.faults;
-      steps = s.steps;
-      path = s.path;
-      spawned = s.spawned;
-      alive = s.alive;
-      out = s.out;
-    }
+    print_same vs = told locked o a s.flow (ap (λ ls. ls ++ vs ∷ []) s.lines) s.faults s.steps s
 
     write_at : (b : Bool) (n u v w : Option ℤ) → (b ≡ true → u ≡ None) → v ≡ or_else u w
         → (if b then n else v) ≡ or_else u (if b then n else w)

@@ -33,9 +33,9 @@ use Rattle.own_run.specs.Ready.{Around, Ready}
 use Rattle.own_run.proofs.Windows.{named_some, some_named, sides_some, sides_in, split_in, call_in}
 use Rattle.own_run.proofs.Windows.{passed_same, fits_split, around_split, split_agree}
 use Rattle.own_run.proofs.AccessNames.{all_alone, pending_alone, named_all, touches_more, overwrites_more}
-use Rattle.own_run.proofs.AccessNames.{overwrites_touch, read_listed}
+use Rattle.own_run.proofs.AccessNames.{overwrites_renamed, overwrites_touch, read_listed, touches_renamed}
 use Rattle.own_run.proofs.SideBySide.{S, A, Set, Same, Agree, same, both_stop, widen, then_same, step_same}
-use Rattle.own_run.proofs.SideBySide.{fault_same, value_same, choose_same, reads_same, Readable, number_alike}
+use Rattle.own_run.proofs.SideBySide.{fault_same, value_same, choose_same, reads_same, stand, Readable, number_alike}
 use Rattle.own_run.proofs.SideBySide.{truth_alike, numbers_alike, assign_same, print_same, put_same}
 use Rattle.own_run.proofs.StaysStopped.{Marks, dies, within_marks, block_marks, begin_marks}
 
@@ -62,8 +62,23 @@ module _ (p : Program) (needs : Codes → Needs) where
   behind x locked s q = locked q ⊎ Overwrites x.env (PendingOf p accesses s) q
 
   module _ (x : Around) (locked final : Set) (l : ℕ) (s : Code) where
-    pub first_ready : (rest : Codes) → Ready p needs x locked final (Then l s rest) → ReadyOf p needs x locked (behind x locked s) l s
-    first_ready rest r = record {
+    -- behind itself it leaves locked what it leaves pending
+    relock : ReadyOf p needs x locked final l s → ReadyOf p needs x locked (behind x locked s) l s
+    relock r = record {
+      fits = r.fits;
+      names = r.names;
+      scoped = r.scoped;
+      calm = r.calm;
+      provided = r.provided;
+      free = r.free;
+      held = r.held;
+      wrote = r.wrote;
+      kept = λ q. inl;
+      added = λ q. inr;
+    }
+
+    here_ready : (rest : Codes) → Ready p needs x locked final (Then l s rest) → ReadyOf p needs x locked final l s
+    here_ready rest r = record {
       fits = r.fits;
       names = r.scoped.0;
       scoped = r.scoped.1;
@@ -72,9 +87,12 @@ module _ (p : Program) (needs : Codes → Needs) where
       free = λ q t. r.free q (touches_more x.env _ _ q (λ y h. All.here h) t);
       held = λ q t. r.held q (touches_more x.env _ _ q (λ y h. All.here h) t);
       wrote = λ q t. r.wrote q (overwrites_more x.env _ _ q (λ y h. All.here h) t);
-      kept = λ q. inl;
-      added = λ q. inr;
+      kept = r.kept;
+      added = λ q t. r.added q (overwrites_more x.env _ _ q (λ y h. Pending.here h) t);
     }
+
+    pub first_ready : (rest : Codes) → Ready p needs x locked final (Then l s rest) → ReadyOf p needs x locked (behind x locked s) l s
+    first_ready rest r = relock (here_ready rest r)
 
     pub rest_ready : (rest : Codes) → Ready p needs x locked final (Then l s rest) → Ready p needs x (behind x locked s) final rest
     rest_ready rest r = record {
@@ -93,21 +111,6 @@ module _ (p : Program) (needs : Codes → Needs) where
         | inr m ↦ r.added q (overwrites_more x.env _ _ q (λ y h. Pending.here h) m)
       ];
       added = λ q t. r.added q (overwrites_more x.env _ _ q (λ y h. Pending.later h) t);
-    }
-
-    -- a statement alone
-    pub alone_ready : Ready p needs x locked final (Then l s End) → ReadyOf p needs x locked final l s
-    alone_ready r = record {
-      fits = r.fits;
-      names = r.scoped.0;
-      scoped = r.scoped.1;
-      calm = r.calm.0;
-      provided = r.provided.0;
-      free = λ q t. r.free q (touches_more x.env _ _ q (λ y h. All.here h) t);
-      held = λ q t. r.held q (touches_more x.env _ _ q (λ y h. All.here h) t);
-      wrote = λ q t. r.wrote q (overwrites_more x.env _ _ q (λ y h. All.here h) t);
-      kept = r.kept;
-      added = λ q t. r.added q (overwrites_more x.env _ _ q (λ y h. Pending.here h) t);
     }
 
     -- a block of a statement, in the same scope
@@ -168,13 +171,7 @@ module _ (p : Program) (needs : Codes → Needs) where
     outward q z i = let k = sides_in (x.env.windows s) at ws.0 ws.1 cut q in split_in s u v ws.0 ws.1 x.env.windows q k.0 k.1 z i
 
     touches_outward : (q : Place) → Touches within_split.env (All p accesses b) q → Touches x.env (AllOf p accesses l (Split s e u v b)) q
-    touches_outward q t =
-        record {
-          access = renamed (past_split s u v) t.access;
-          among = AllOf.inner split t.among refl;
-          place =
-              outward q t.access.section t.place;
-        }
+    touches_outward q = touches_renamed x.env within_split.env (past_split s u v) _ _ q (outward q) (λ y i. AllOf.inner split i refl)
 
     pub split_ready : Ready p needs within_split locked final b
     split_ready = record {
@@ -185,41 +182,18 @@ module _ (p : Program) (needs : Codes → Needs) where
       free = λ q t. r.free q (touches_outward q t);
       held = λ q t. r.held q (touches_outward q t);
       wrote = λ q t. r.wrote q
-          (record {
-            access = renamed (past_split s u v) t.access;
-            among = AllOf.inner split t.among refl;
-            place =
-                outward q t.access.section t.place;
-            writes = t.writes;
-          });
+          (overwrites_renamed x.env within_split.env (past_split s u v) _ _ q (outward q) (λ y i. AllOf.inner split i refl) t);
       kept = r.kept;
       added = λ q t. r.added q
-          (record {
-            access = renamed (past_split s u v) t.access;
-            among = PendingOf.inner split t.among refl;
-            place =
-                outward q t.access.section t.place;
-            writes = t.writes;
-          });
+          (overwrites_renamed x.env within_split.env (past_split s u v) _ _ q (outward q) (λ y i. PendingOf.inner split i refl) t);
     }
 
     enter_split : (o : S) (a : A) → Same x locked o a
         → Same within_split locked (record o { environment = with_sides u v ws o.environment })
         (record a { environment = with_sides u v ws a.environment })
-    enter_split o a k = record {
-      flow = k.flow;
-      environment = ap (with_sides u v ws) k.environment;
-      windows = λ z i. split_agree u v ws o.environment.windows x.env.windows z (in_scope z i);
-      store = k.store;
-      stays = k.stays;
-      lines = k.lines;
-      faults = k.faults;
-      steps = k.steps;
-      path = k.path;
-      spawned = k.spawned;
-      alive = k.alive;
-      out = k.out;
-    }
+    enter_split o a k =
+        stand x within_split.scope within_split.env locked o a (ap (with_sides u v ws) k.environment)
+        (λ z i. split_agree u v ws o.environment.windows x.env.windows z (in_scope z i)) k
       where
         in_scope : (z : ℕ) → InScope (Inside s u v x.scope) z → (z ≡ u) ⊎ (z ≡ v) ⊎ (o.environment.windows z ≡ x.env.windows z)
         in_scope z (inl e) = inl e
@@ -227,20 +201,9 @@ module _ (p : Program) (needs : Codes → Needs) where
         in_scope z (inr (inr i)) = inr (inr (k.windows z i))
 
     leave_split : (o : S) (a : A) → Same within_split final o a → Same x final o a
-    leave_split o a k = record {
-      flow = k.flow;
-      environment = k.environment;
-      windows = λ z i. k.windows z (inr (inr i)) ∙ around_split x.scope u v ws x.env r.scoped.1 r.scoped.2 z i;
-      store = k.store;
-      stays = k.stays;
-      lines = k.lines;
-      faults = k.faults;
-      steps = k.steps;
-      path = k.path;
-      spawned = k.spawned;
-      alive = k.alive;
-      out = k.out;
-    }
+    leave_split o a k =
+        stand within_split x.scope x.env final o a k.environment
+        (λ z i. k.windows z (inr (inr i)) ∙ around_split x.scope u v ws x.env r.scoped.1 r.scoped.2 z i) k
 
     leave_split_agree : (o : S) (a : A) → Agree within_split final o a → Agree x final o a
     leave_split_agree o a (same k) = same (leave_split o a k)
@@ -263,69 +226,27 @@ module _ (p : Program) (needs : Codes → Needs) where
       free = λ q t. r.free q (around q t);
       held = λ q t. r.held q (around q t);
       wrote = λ q t. r.wrote q
-          (record {
-            access = renamed (past_call ss) t.access;
-            among = AllOf.inner call t.among refl;
-            place =
-                call_in x.env.windows q ss t.access.section t.place;
-            writes = t.writes;
-          });
+          (overwrites_renamed x.env within_call.env (past_call ss) _ _ q (call_in x.env.windows q ss) (λ y i. AllOf.inner call i refl) t);
       kept = r.kept;
       added = λ q t. r.added q
-          (record {
-            access = renamed (past_call ss) t.access;
-            among = PendingOf.inner call t.among refl;
-            place =
-                call_in x.env.windows q ss t.access.section t.place;
-            writes = t.writes;
-          });
+          (overwrites_renamed x.env within_call.env (past_call ss) _ _ q (call_in x.env.windows q ss) (λ y i. PendingOf.inner call i refl) t);
     }
       where
         around : (q : Place) → Touches within_call.env (All p accesses (procedure_of p f).body) q
             → Touches x.env (AllOf p accesses l (Call f es ss)) q
-        around q t =
-            record {
-              access = renamed (past_call ss) t.access;
-              among = AllOf.inner call t.among refl;
-              place =
-                  call_in x.env.windows q ss t.access.section t.place;
-            }
+        around q = touches_renamed x.env within_call.env (past_call ss) _ _ q (call_in x.env.windows q ss) (λ y i. AllOf.inner call i refl)
 
     enter_call : (vs : List ℤ) (o : S) (a : A) → Same x locked o a
         → Same within_call locked (record o { environment = entry vs (map (window_at o) ss) })
         (record a { environment = entry vs (map (window_at a) ss) })
-    enter_call vs o a k = record {
-      flow = k.flow;
-      environment = ap (λ env. entry vs (map env.windows ss)) k.environment;
-      windows = λ z i. passed_same o.environment.windows x.env.windows ss z
-          (k.windows (past_call ss z) (r.scoped z (subst (λ n. z < n) (length_may_writes (procedure_of p f)) i)));
-      store = k.store;
-      stays = k.stays;
-      lines = k.lines;
-      faults = k.faults;
-      steps = k.steps;
-      path = k.path;
-      spawned = k.spawned;
-      alive = k.alive;
-      out = k.out;
-    }
+    enter_call vs o a k =
+        stand x within_call.scope within_call.env locked o a (ap (λ env. entry vs (map env.windows ss)) k.environment)
+        (λ z i. passed_same o.environment.windows x.env.windows ss z
+        (k.windows (past_call ss z) (r.scoped z (subst (λ n. z < n) (length_may_writes (procedure_of p f)) i)))) k
 
     leave_call : (o oo : S) (a aa : A) → Same x locked o a → Agree within_call final oo aa
         → Agree x final (record oo { environment = o.environment }) (record aa { environment = a.environment })
-    leave_call o oo a aa k (same h) = same (record {
-      flow = h.flow;
-      environment = k.environment;
-      windows = k.windows;
-      store = h.store;
-      stays = h.stays;
-      lines = h.lines;
-      faults = h.faults;
-      steps = h.steps;
-      path = h.path;
-      spawned = h.spawned;
-      alive = h.alive;
-      out = h.out;
-    })
+    leave_call o oo a aa k (same h) = same (stand within_call x.scope x.env final oo aa k.environment k.windows h)
     leave_call o oo a aa k (both_stop e y) = both_stop e y
 
   -- ---- what a block by itself may do: that of an async, or of a finish
@@ -506,10 +427,6 @@ module _ (p : Program) (needs : Codes → Needs) where
       abbrev left : S
       left = joined o (record oo { flow = after_finish oo.flow oo.faults })
 
-      stays_here : (q : Place) → (Overwrites x.env (All p accesses b) q → ⊥)
-          → Same within_finish (Overwrites x.env (Pending p accesses b)) oo aa → oo.store q ≡ o.store q
-      stays_here q m h = h.stays q m
-
       leave_store : Same within_finish (Overwrites x.env (Pending p accesses b)) oo aa → (q : Place) → x.held q
           → oo.store q ≡ or_else (a.extra.contents q) (merged aa q)
       leave_store h q t = by_aside (a.extra.contents q) refl
@@ -566,21 +483,6 @@ module _ (p : Program) (needs : Codes → Needs) where
   abbrev work_code : Work → Codes
   work_code (Block b) = b
   work_code (Turn l t b) = Then l (While t b) End
-
-  pub relock : (x : Around) (locked final : Set) (l : ℕ) (s : Code) → ReadyOf p needs x locked final l s
-      → ReadyOf p needs x locked (behind x locked s) l s
-  relock x locked final l s r = record {
-    fits = r.fits;
-    names = r.names;
-    scoped = r.scoped;
-    calm = r.calm;
-    provided = r.provided;
-    free = r.free;
-    held = r.held;
-    wrote = r.wrote;
-    kept = λ q. inl;
-    added = λ q. inr;
-  }
 
   module _ (is_scoped : IsScoped p) (is_calm : IsCalm p) (provides : Provides p needs) (begin : Codes → S → S) (start : Codes → A → A)
       (marks : (b : Codes) → Marks (start b))
@@ -708,7 +610,7 @@ module _ (p : Program) (needs : Codes → Needs) where
       work_sim (Block b) x locked final r o a k = block_sim b x locked final r o a k
       work_sim (Turn l t b) x locked final r o a k =
           step_same x locked final o a _ _ k
-          (λ u v h. act_sim (While t b) l x locked final (alone_ready x locked final l (While t b) r) u v h)
+          (λ u v h. act_sim (While t b) l x locked final (here_ready x locked final l (While t b) End r) u v h)
 
     pub within_sim : (k : ℕ) → Sim (within p r1 k) (within p r2 k)
     within_sim zero w x locked final r o a k = both_stop refl refl

@@ -101,8 +101,18 @@ module _ (p : Program) (needs : Codes → Needs) where
     anchor f limit locked fewer (AtEnd before ∷ fs) k h = h
     anchor f limit locked fewer (Back env ∷ fs) k h = anchor env.windows anywhere locked fewer fs k h
 
-  -- the same contents, with fewer locks
+  -- ---- the same contents, with fewer locks
+  unlocks : (c : Contents) (o : Places) (locked fewer : Place → Type 0) → ((q : Place) → fewer q → locked q)
+      → Keeps c c o o locked fewer
+  unlocks c o locked fewer h = record { there = λ q m i. i; owned = λ q m i. i; fewer_locks = h }
+
+  pub unlock_ready : (c : Contents) (o : Places) (sc : Scope) (env : Environment) (locked fewer final : Place → Type 0) (b : Codes)
+      → ((q : Place) → fewer q → locked q) → Ready p needs (having sc env c o) locked final b
+      → Ready p needs (having sc env c o) fewer (locked_after p needs env fewer b) b
+  unlock_ready c o sc env locked fewer final b h =
+      anchor_ready c c o o sc env locked fewer final b (unlocks c o locked fewer h)
+
   pub unlock : (f : ℕ → Window) (limit : ℕ → Type 0) (c : Contents) (o : Places) (locked fewer : Place → Type 0) (fs : List (Frame Own))
       → ((q : Place) → fewer q → locked q) → Stack p needs f limit c o locked fs → Stack p needs f limit c o fewer fs
   unlock f limit c o locked fewer fs h k =
-      anchor c c o o f limit locked fewer fs (record { there = λ q m i. i; owned = λ q m i. i; fewer_locks = h }) k
+      anchor c c o o f limit locked fewer fs (unlocks c o locked fewer h) k

@@ -19,10 +19,6 @@ use Rattle.race_checker.specs.Scope.{Scope, Top, Inside, InScope, FitsScope, Fit
 use Rattle.own_run.specs.Places.{covered, named}
 
 -- ---- tests
-pub either_way : (b : Bool) → (b ≡ true) ⊎ (b ≡ false)
-either_way true = inl refl
-either_way false = inr refl
-
 -- ---- the test of a window
 pub covered_in : (w : Window) (q : Place) → covered w q ≡ true → In w q
 covered_in w q h =

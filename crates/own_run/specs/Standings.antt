@@ -2,6 +2,7 @@
 use Rattle.std.specs.Prelude.{◌+◌, ◌≡◌, ◌≤◌, List, [], ◌∷◌, ◌++◌, map}
 use Rattle.types.specs.Run.{State}
 use Rattle.types.specs.Translation.{codes, truth, environment, fault}
+use Rattle.plain_code.specs.Means.{beside}
 use Rattle.serial_run.specs.Standing.{state_by}
 use Rattle.serial_run.specs.declared.thread.Thread.{Thread}
 use Rattle.own_run.specs.OwnRun.{Own}
@@ -16,17 +17,7 @@ use Rattle.own_run.specs.declared.run.Run.{Run}
 
 -- a state, and what an own run keeps beside
 abbrev pub with_own : Own → State (Unit {0}) → State Own
-with_own x st = record {
-  flow = st.flow;
-  environment = st.environment;
-  store = st.store;
-  lines = st.lines;
-  faults = st.faults;
-  steps = st.steps;
-  path = st.path;
-  spawned = st.spawned;
-  extra = x;
-}
+with_own = beside
 
 -- where its statements stand
 abbrev pub state_of : Thread TaskMemory → State (Unit {0})

@@ -2,9 +2,14 @@
 
 ghost use Rattle.std.specs.Prelude.{◌≡◌, ℕ, map};
 ghost use Rattle.sections.specs.Translation.{section};
-ghost use Rattle.types.specs.Code.{Codes};
+ghost use Rattle.types.specs.Code.{Async, Codes};
 ghost use Rattle.types.specs.Translation.{codes as codes_of};
+ghost use Rattle.types.specs.Typed.{code_of};
+ghost use Rattle.effects.specs.Rounds.{needs_of};
+ghost use Rattle.effects.specs.Statements.{HasStatement};
+ghost use Rattle.effects.specs.Translation.{needs as needs_in};
 
+use effects::needs::Needs as AsyncNeeds;
 use race_checker::accepted::Accepted;
 use sections::id::SectionId;
 use types::code::{Label, Stmt};
@@ -32,26 +37,26 @@ pub trait Needed {
 
 /// An accepted program knows what each of its asyncs needs.
 impl Needed for Accepted {
-    ghost use Rattle.types.specs.Code.{Async};
-    ghost use Rattle.types.specs.Typed.{code_of};
-    ghost use Rattle.effects.specs.Rounds.{needs_of};
-    ghost use Rattle.effects.specs.Statements.{HasStatement};
-
     ghost needs = { λ a. needs_of (code_of a.typed) };
 
     ghost IsAsync = { λ a label body. HasStatement (code_of a.typed) label (Async body) };
 
-    fn writes(&self, label: Label, _body: &[Stmt]) -> &[SectionId] {
-        match self.summaries().needs(label) {
-            Some(needs) => &needs.writes,
-            None => &[],
-        }
+    fn writes(&self, label: Label, body: &[Stmt]) -> &[SectionId] {
+        &needs_at(self, label, body).writes
     }
 
-    fn reads(&self, label: Label, _body: &[Stmt]) -> &[SectionId] {
-        match self.summaries().needs(label) {
-            Some(needs) => &needs.reads,
-            None => &[],
-        }
+    fn reads(&self, label: Label, body: &[Stmt]) -> &[SectionId] {
+        &needs_at(self, label, body).reads
+    }
+}
+
+/// What the async of a label needs.
+fn needs_at<'a>(accepted: &'a Accepted, label: Label, _body: &[Stmt]) -> &'a AsyncNeeds
+    requires { HasStatement (code_of accepted.now.typed) label (Async (codes_of _body.now)) }
+    ensures { needs_in result.now ≡ needs_of (code_of accepted.now.typed) (codes_of _body.now) }
+{
+    match accepted.summaries().needs(label) {
+        Some(needs) => needs,
+        None => unreachable!(),
     }
 }

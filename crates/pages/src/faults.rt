@@ -1,111 +1,73 @@
 //! What ends the statements of a task.
 
-use crate::page::{Example, Page, Told};
+use crate::page::{Page, page};
 
 /// `F1` to `F6`, and `stopped`
-pub fn pages() -> &'static [Page] {
-    PAGES
-}
-
-const PAGES: &[Page] = &[
-    Page {
+pub(crate) const PAGES: &[Page] = &[
+    page! {
         name: "F1",
-        others: &[],
         about: "an index that the section does not have",
         rule: "Elements are counted from 0, and the last is one below the section's length. In a part of a section they
 are counted from 0 too.",
-        example: Example::Program(Told {
-            lines: &["main {", "  array a: int[1];", "  a[1] = 7;", "}"],
-            command: "serial program.afx",
-            line: "fault 0 at 1: F1",
-        }),
-        mend: Some(
-            "Keep the index below `len(a)`, and pass on where a part begins: `afx explain parallel_loop`.",
-        ),
+        program: ["main {", "  array a: int[1];", "  a[1] = 7;", "}"],
+        tells: "serial program.afx" => "fault 0 at 1: F1",
+        mend: "Keep the index below `len(a)`, and pass on where a part begins: `afx explain parallel_loop`.",
     },
-    Page {
+    page! {
         name: "F2",
-        others: &[],
         about: "a result that 64 bits with sign do not hold",
         rule: "No sum, difference, product or quotient is cut to 64 bits.",
-        example: Example::Program(Told {
-            lines: &["main {", "  print 9223372036854775807 + 1;", "}"],
-            command: "serial program.afx",
-            line: "fault 0 at 1: F2",
-        }),
-        mend: Some("Reduce as you go, as `x = (x * 31 + a[i]) % 65521;`."),
+        program: ["main {", "  print 9223372036854775807 + 1;", "}"],
+        tells: "serial program.afx" => "fault 0 at 1: F2",
+        mend: "Reduce as you go, as `x = (x * 31 + a[i]) % 65521;`.",
     },
-    Page {
+    page! {
         name: "F3",
-        others: &[],
         about: "a divisor 0",
         rule: "Of `/` and of `%`.",
-        example: Example::Program(Told {
-            lines: &["main {", "  print 1 / 0;", "}"],
-            command: "serial program.afx",
-            line: "fault 0 at 1: F3",
-        }),
-        mend: Some("Ask before: `if n != 0 { print 1 / n; }`."),
+        program: ["main {", "  print 1 / 0;", "}"],
+        tells: "serial program.afx" => "fault 0 at 1: F3",
+        mend: "Ask before: `if n != 0 { print 1 / n; }`.",
     },
-    Page {
+    page! {
         name: "F4",
-        others: &[],
         about: "a value that the element does not hold",
         rule: "An element of a `byte` array holds 0 to 255. Nothing is cut to that.",
-        example: Example::Program(Told {
-            lines: &["main {", "  array a: byte[1];", "  a[0] = 256;", "}"],
-            command: "serial program.afx",
-            line: "fault 0 at 1: F4",
-        }),
-        mend: Some("Declare the array as `int`, or store `256 % 256`."),
+        program: ["main {", "  array a: byte[1];", "  a[0] = 256;", "}"],
+        tells: "serial program.afx" => "fault 0 at 1: F4",
+        mend: "Declare the array as `int`, or store `256 % 256`.",
     },
-    Page {
+    page! {
         name: "F5",
-        others: &[],
         about: "a split point outside of the section",
         rule: "It is at least 0 and at most the length of the section.",
-        example: Example::Program(Told {
-            lines: &[
-                "main {",
-                "  array a: int[1];",
-                "  split a at 2 as l, r {",
-                "    skip;",
-                "  }",
-                "}",
-            ],
-            command: "serial program.afx",
-            line: "fault 0 at 1: F5",
-        }),
-        mend: Some("Split at `len(a) / 2`, or ask for the length before."),
+        program: [
+            "main {",
+            "  array a: int[1];",
+            "  split a at 2 as l, r {",
+            "    skip;",
+            "  }",
+            "}",
+        ],
+        tells: "serial program.afx" => "fault 0 at 1: F5",
+        mend: "Split at `len(a) / 2`, or ask for the length before.",
     },
-    Page {
+    page! {
         name: "F6",
-        others: &[],
         about: "a `fault` statement",
         rule: "The number after the kind is that of the statement. A fault ends the statements of its task up to the end
 of the nearest finish there; other tasks go on.",
-        example: Example::Program(Told {
-            lines: &["main {", "  fault 7;", "}"],
-            command: "serial program.afx",
-            line: "fault 0 at 1: F6 7",
-        }),
-        mend: Some(
-            "It is what the program says. After `fault` stand the path of the task and the label of the statement.",
-        ),
+        program: ["main {", "  fault 7;", "}"],
+        tells: "serial program.afx" => "fault 0 at 1: F6 7",
+        mend: "It is what the program says. After `fault` stand the path of the task and the label of the statement.",
     },
-    Page {
+    page! {
         name: "stopped",
-        others: &[],
         about: "a run over its budget",
         rule: "A task took more steps than `--steps` says, 1,000,000 without it, or asyncs stood deeper inside one another
 than `--nest`, 100 without it. Nothing else is told of the run. The status is 3.",
-        example: Example::Program(Told {
-            lines: &["main {", "  while true {", "    skip;", "  }", "}"],
-            command: "serial program.afx --steps 1000",
-            line: "stopped",
-        }),
-        mend: Some(
-            "Give it more, as `--steps 100000000`, or look for the loop that does not end. `serial --progress` counts steps.",
-        ),
+        program: ["main {", "  while true {", "    skip;", "  }", "}"],
+        tells: "serial program.afx --steps 1000" => "stopped",
+        mend: "Give it more, as `--steps 100000000`, or look for the loop that does not end. `serial --progress` counts steps.",
     },
 ];

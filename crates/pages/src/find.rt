@@ -12,16 +12,16 @@ use std::alloc::{AllocError, Global};
 /// All pages, topic by topic.
 pub fn tables() -> [&'static [Page]; 10] {
     [
-        texts::pages(),
-        rules::pages(),
-        races::pages(),
-        inputs::pages(),
-        faults::pages(),
-        runs::pages(),
-        files::pages(),
-        traces::pages(),
-        words::pages(),
-        idioms::pages(),
+        texts::PAGES,
+        rules::PAGES,
+        races::PAGES,
+        inputs::PAGES,
+        faults::PAGES,
+        runs::PAGES,
+        files::PAGES,
+        traces::PAGES,
+        words::PAGES,
+        idioms::PAGES,
     ]
 }
 
@@ -47,8 +47,9 @@ fn page_in(table: &'static [Page], word: &str) -> Option<&'static Page>
     table.iter().find(|page| page.answers_to(word))
 }
 
-/// The page for which a line asks that may be pasted from what the program told, as `C1 race in main: ..`, `fault 0 at 2: F4`
-/// or `race.afx: C1 race in main: ..`; letters of a code may be small.
+/// The page for which a line asks that may be pasted from what the program told, as `C1 race in
+/// main: ..`, `fault 0 at 2: F4` or `race.afx: C1 race in main: ..`; letters of a code may be
+/// small.
 pub fn page_about(
     alloc: Global,
     tables: &[&'static [Page]],
@@ -79,8 +80,10 @@ fn page_begun(tables: &[&'static [Page]], line: &str) -> Option<&'static Page> {
         return Some(page);
     }
     for table in tables {
-        if let Some(page) = table.iter().find(|page| page.is_begun(line)) {
-            return Some(page);
+        for page in *table {
+            if page.is_begun(line) {
+                return Some(page);
+            }
         }
     }
     None
@@ -145,8 +148,8 @@ pub fn push_name_lines(text: &mut String, tables: &[&[Page]]) -> Result<(), Allo
     text.push('\n')
 }
 
-/// Adds a name to a line that has so many bytes, or on the next line where it has no room there, and answers how many
-/// that line has then.
+/// Adds a name to a line that has so many bytes, or on the next line where it has no room there,
+/// and answers how many that line has then.
 fn push_name(text: &mut String, width: usize, name: &str) -> Result<usize, AllocError> {
     let longer = width.saturating_add(1).saturating_add(name.len());
     if longer <= WIDTH {

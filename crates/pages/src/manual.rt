@@ -13,7 +13,8 @@ use std::alloc::{AllocError, Global};
 pub struct Closing<'a> {
     /// What stands behind the help of the program: a text, an example, and the statuses at its end.
     pub notes: &'a str,
-    /// What stands behind the help of each command, in their order: a text or none, and lines that begin with `Example: `.
+    /// What stands behind the help of each command, in their order: a text or none, and lines that
+    /// begin with `Example: `.
     pub examples: &'a [&'a str],
 }
 

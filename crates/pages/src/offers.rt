@@ -85,8 +85,10 @@ pub fn value_name(alloc: Global, arg: &Arg<'_>) -> Result<String, AllocError> {
     let mut name = String::new(alloc);
     if takes_value(arg) {
         let shown = format!(in alloc; "{arg}")?;
-        for c in shown.chars().filter(|c| c.is_ascii_uppercase()) {
-            name.push(c)?;
+        for c in shown.chars() {
+            if c.is_ascii_uppercase() {
+                name.push(c)?;
+            }
         }
     }
     Ok(name)

@@ -76,6 +76,63 @@ pub struct Shape {
     pub name: &'static str,
 }
 
+/// A page of a table. What it lacks is left out: other words, an input, a trace, a program at all,
+/// how it is mended.
+macro_rules! page {
+    (
+        name: $name:literal,
+        $(others: [$($other:literal),*],)?
+        about: $about:literal,
+        rule: $rule:literal,
+        $(
+            program: $lines:tt,
+            $(input: $input:literal,)?
+            $(trace: $trace:tt,)?
+            tells: $command:literal => $line:literal,
+        )?
+        $(shape: $shape:tt of $place:literal,)?
+        $(mend: $mend:literal,)?
+    ) => {
+        $crate::page::Page {
+            name: $name,
+            others: &[$($($other),*)?],
+            about: $about,
+            rule: $rule,
+            example: $crate::page::page!(@example
+                $($lines $command $line $(input $input)? $(trace $trace)?)?
+                $(shape $shape $place)?
+            ),
+            mend: $crate::page::page!(@mend $($mend)?),
+        }
+    };
+    (@example) => { $crate::page::Example::Nothing };
+    (@example shape $lines:tt $name:literal) => {
+        $crate::page::Example::Shape($crate::page::Shape { lines: &$lines, name: $name })
+    };
+    (@example $lines:tt $command:literal $line:literal) => {
+        $crate::page::Example::Program($crate::page::page!(@told $lines $command $line))
+    };
+    (@example $lines:tt $command:literal $line:literal input $input:literal) => {
+        $crate::page::Example::WithInput($crate::page::Given {
+            told: $crate::page::page!(@told $lines $command $line),
+            input: $input,
+        })
+    };
+    (@example $lines:tt $command:literal $line:literal trace $trace:tt) => {
+        $crate::page::Example::WithTrace($crate::page::Traced {
+            told: $crate::page::page!(@told $lines $command $line),
+            trace: &$trace,
+        })
+    };
+    (@told $lines:tt $command:literal $line:literal) => {
+        $crate::page::Told { lines: &$lines, command: $command, line: $line }
+    };
+    (@mend) => { None };
+    (@mend $mend:literal) => { Some($mend) };
+}
+
+pub(crate) use page;
+
 impl Page {
     /// Whether a word asks for it.
     pub fn answers_to(&self, word: &str) -> bool
@@ -86,7 +143,7 @@ impl Page {
 
     /// Whether a line begins with a word that asks for it.
     pub fn is_begun(&self, line: &str) -> bool {
-        begins(line, self.name) || self.others.iter().any(|other| begins(line, *other))
+        begins(line, self.name) || begins_with_one(line, self.others)
     }
 
     /// Its text: its head, the rule, the program with what is told of it, and how it is mended.
@@ -128,6 +185,16 @@ fn has_word(words: &[&str], word: &str) -> bool
     ensures { result ≡ list_any (λ one. bytes_eq one.now word.now) words.now }
 {
     words.iter().any(|one| *one == word)
+}
+
+/// Whether a line begins with one of these words.
+fn begins_with_one(line: &str, words: &[&str]) -> bool {
+    for word in words {
+        if begins(line, *word) {
+            return true;
+        }
+    }
+    false
 }
 
 /// Whether a line is this word, or has more behind it and a space.

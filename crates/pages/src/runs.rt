@@ -1,108 +1,66 @@
 //! What ends a run as tasks, or one by choices.
 
-use crate::page::{Example, Page, Told};
+use crate::page::{Page, page};
 
 /// `E1` to `E5`, and what is told of choices
-pub fn pages() -> &'static [Page] {
-    PAGES
-}
-
-const PAGES: &[Page] = &[
-    Page {
+pub(crate) const PAGES: &[Page] = &[
+    page! {
         name: "E1",
-        others: &[],
         about: "no memory for a run as tasks",
         rule: "Or a thread could not be started. The status is 4.",
-        example: Example::Nothing,
-        mend: Some("Take fewer workers, fewer tasks that read a large section, or `serial`."),
+        mend: "Take fewer workers, fewer tasks that read a large section, or `serial`.",
     },
-    Page {
+    page! {
         name: "E2",
-        others: &[],
         about: "too many tasks",
         rule: "A run has as many tasks as `--tasks` says, the one of `main` among them: 65,536 without it. The status is 4.",
-        example: Example::Program(Told {
-            lines: &[
-                "main {",
-                "  async {",
-                "    skip;",
-                "  }",
-                "  async {",
-                "    skip;",
-                "  }",
-                "}",
-            ],
-            command: "run program.afx --tasks 2",
-            line: "E2",
-        }),
-        mend: Some(
-            "Say more, as `--tasks 1048576`, or let each task do more: `afx explain parallel_loop`.",
-        ),
+        program: ["main {", "  async {", "    skip;", "  }", "  async {", "    skip;", "  }", "}"],
+        tells: "run program.afx --tasks 2" => "E2",
+        mend: "Say more, as `--tasks 1048576`, or let each task do more: `afx explain parallel_loop`.",
     },
-    Page {
+    page! {
         name: "E3",
-        others: &[],
         about: "the results of tasks make no whole",
         rule: "A result was missing, double or strange. No program is known that comes to it. The status is 5.",
-        example: Example::Nothing,
-        mend: None,
     },
-    Page {
+    page! {
         name: "E4",
-        others: &[],
         about: "a finish was given back what wasn't due",
         rule: "No program is known that comes to it. The status is 5.",
-        example: Example::Nothing,
-        mend: None,
     },
-    Page {
+    page! {
         name: "E5",
-        others: &[],
         about: "the events of a run are not its own",
         rule: "A run with `--trace` notes its events and replays them: one could not come where it was noted, or they did not
 lead to the run's outcome. No program is known that comes to it. The status is 5.",
-        example: Example::Nothing,
-        mend: None,
     },
-    Page {
+    page! {
         name: "no-leaf",
-        others: &["no leaf"],
+        others: ["no leaf"],
         about: "a choice that names no task",
         rule: "Each choice of `explore` is the number of the task that steps next, among those that may step, from 0 and
 in the order in which one thread comes to them. A task may step if it has not ended and waits for no finish; it is
 a leaf then. Told is which choice names none, from 0.",
-        example: Example::Program(Told {
-            lines: &["main {", "  skip;", "}"],
-            command: "explore program.afx --choices 0,0",
-            line: "no leaf at choice 1",
-        }),
-        mend: Some(
-            "Leave out that choice and those after it: `open N` then tells how many tasks may step.",
-        ),
+        program: ["main {", "  skip;", "}"],
+        tells: "explore program.afx --choices 0,0" => "no leaf at choice 1",
+        mend: "Leave out that choice and those after it: `open N` then tells how many tasks may step.",
     },
-    Page {
+    page! {
         name: "open",
-        others: &[],
         about: "a run by choices that has not ended",
         rule: "So many tasks may step still. The status is 3.",
-        example: Example::Program(Told {
-            lines: &["main {", "  skip;", "}"],
-            command: "explore program.afx",
-            line: "open 1",
-        }),
-        mend: Some("Choose on, as `--choices 0`, or let `--random 1` choose to the end."),
+        program: ["main {", "  skip;", "}"],
+        tells: "explore program.afx" => "open 1",
+        mend: "Choose on, as `--choices 0`, or let `--random 1` choose to the end.",
     },
-    Page {
+    page! {
         name: "choices",
-        others: &["choices not understood"],
+        others: ["choices not understood"],
         about: "choices that are not understood",
         rule: "A list of choices is numbers joined by single commas. In a file they may have blanks and line ends between
 them too.",
-        example: Example::Program(Told {
-            lines: &["main {", "  skip;", "}"],
-            command: "explore program.afx --choices 0,,0",
-            line: "choices not understood",
-        }),
-        mend: Some("Write `--choices 0,0`."),
+        program: ["main {", "  skip;", "}"],
+        tells: "explore program.afx --choices 0,,0" => "choices not understood",
+        mend: "Write `--choices 0,0`.",
     },
 ];

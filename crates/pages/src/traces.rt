@@ -1,16 +1,11 @@
 //! What a trace is, and why one is refused.
 
-use crate::page::{Example, Page, Told, Traced};
+use crate::page::{Page, page};
 
 /// `trace`, `J1`, `J2` and `illegal`
-pub fn pages() -> &'static [Page] {
-    PAGES
-}
-
-const PAGES: &[Page] = &[
-    Page {
+pub(crate) const PAGES: &[Page] = &[
+    page! {
         name: "trace",
-        others: &[],
         about: "what the workers of a run did, event by event",
         rule: "`run --trace FILE` writes it: a line with the budget, the weight and the workers of the run, and one for each event,
 some 40 bytes a step. `view` replays it by the program and the input that the run had, and shows it where each event
@@ -27,67 +22,44 @@ pass O#N        all of finish N of O has ended
 resume W P      worker W goes on with P after its finish
 
 A trace has no clock: time is the number of the event.",
-        example: Example::WithTrace(Traced {
-            told: Told {
-                lines: &["main {", "}"],
-                command: "view program.afx program.trace",
-                line: "       0 take       0    0",
-            },
-            trace: &[
-                "{\"format\":1,\"nest\":100,\"steps\":1000000,\"w0\":8,\"workers\":1}",
-                "{\"e\":\"take\",\"path\":\"0\",\"worker\":0}",
-            ],
-        }),
-        mend: None,
+        program: ["main {", "}"],
+        trace: [
+            "{\"format\":1,\"nest\":100,\"steps\":1000000,\"w0\":8,\"workers\":1}",
+            "{\"e\":\"take\",\"path\":\"0\",\"worker\":0}",
+        ],
+        tells: "view program.afx program.trace" => "       0 take       0    0",
     },
-    Page {
+    page! {
         name: "J1",
-        others: &[],
         about: "a line of a trace that is none",
         rule: "A trace has a line for its run and one for each event, each spelled as `run --trace` spells it: the keys in their
 order, no blank, numbers in their ranges, a line feed at the end. Told is the first line that is not so, from 1.",
-        example: Example::WithTrace(Traced {
-            told: Told {
-                lines: &["main {", "}"],
-                command: "view program.afx program.trace",
-                line: "J1 line 2",
-            },
-            trace: &[
-                "{\"format\":1,\"nest\":100,\"steps\":1000000,\"w0\":8,\"workers\":1}",
-                "{\"e\":\"take\", \"path\":\"0\", \"worker\":0}",
-            ],
-        }),
-        mend: Some(
-            "Look whether it is the right file, and the whole of it; or run the program anew.",
-        ),
+        program: ["main {", "}"],
+        trace: [
+            "{\"format\":1,\"nest\":100,\"steps\":1000000,\"w0\":8,\"workers\":1}",
+            "{\"e\":\"take\", \"path\":\"0\", \"worker\":0}",
+        ],
+        tells: "view program.afx program.trace" => "J1 line 2",
+        mend: "Look whether it is the right file, and the whole of it; or run the program anew.",
     },
-    Page {
+    page! {
         name: "J2",
-        others: &[],
         about: "no memory for a trace",
         rule: "The trace may be right. The status is 4.",
-        example: Example::Nothing,
-        mend: Some("Try again where there is more memory."),
+        mend: "Try again where there is more memory.",
     },
-    Page {
+    page! {
         name: "illegal",
-        others: &["illegal at event"],
+        others: ["illegal at event"],
         about: "an event of a trace that can't come where it stands",
         rule: "The events are replayed, each where those before it have led: a task steps in a worker's hand, and a finish passes
 when all of its weight is back. Told is the first event that can't come, from 0.",
-        example: Example::WithTrace(Traced {
-            told: Told {
-                lines: &["main {", "}"],
-                command: "view program.afx program.trace",
-                line: "illegal at event 0",
-            },
-            trace: &[
-                "{\"format\":1,\"nest\":100,\"steps\":1000000,\"w0\":8,\"workers\":1}",
-                "{\"e\":\"end\",\"path\":\"0\"}",
-            ],
-        }),
-        mend: Some(
-            "View it with the program and the input of its run. Of a trace that was changed, run the program anew.",
-        ),
+        program: ["main {", "}"],
+        trace: [
+            "{\"format\":1,\"nest\":100,\"steps\":1000000,\"w0\":8,\"workers\":1}",
+            "{\"e\":\"end\",\"path\":\"0\"}",
+        ],
+        tells: "view program.afx program.trace" => "illegal at event 0",
+        mend: "View it with the program and the input of its run. Of a trace that was changed, run the program anew.",
     },
 ];

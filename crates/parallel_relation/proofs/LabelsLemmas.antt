@@ -8,14 +8,14 @@ use Rattle.effects.specs.Effects.{labels, All}
 use Rattle.effects.specs.Summarized.{body_of}
 use Rattle.parallel_relation.specs.Around.{Gains, none, both, one}
 use Rattle.parallel_relation.proofs.StatementParts.{Done, all_one, of_label, of_done}
-use Rattle.parallel_relation.proofs.Sums.{gains_joined}
+use Rattle.parallel_relation.proofs.Sums.{gains_joined, gains_union}
 
 module _ (p : Program) where
   -- a statement's own label and those inside
-  pub gains_statement : {a c e : ℕ → Type 0} (l : ℕ) {s t : Code} → s ≡ t → Gains a (λ x. x ≡ l) c → Gains c (Done p t) e
+  pub gains_statement : {a c e : ℕ → Type 0} (l : ℕ) {s t : Code} → s ≡ t → ((x : ℕ) → c x ↔ (a x ⊎ (x ≡ l))) → Gains c (Done p t) e
       → Gains a (All p labels (one l s)) e
   gains_statement {a} {c} {e} l {s} {t} same g h = subst (λ s. Gains a (All p labels (one l s)) e) (sym same)
-      (gains_joined (All p labels (one l t)) g h
+      (gains_joined (All p labels (one l t)) (gains_union a (λ x. x ≡ l) c g) h
       (λ x k. elim k [ inl own ↦ All.here (of_label p l t x own) | inr d ↦ All.here (of_done p l t x d) ])
       (all_one p l t))
 

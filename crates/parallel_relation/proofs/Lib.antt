@@ -5,6 +5,7 @@ pub mod ListLemmas
 pub mod ListingLemmas
 pub mod MeetingLemmas
 pub mod MeetingsExact
+pub mod OneList
 pub mod Ordering
 pub mod PairsLemmas
 pub mod Programs

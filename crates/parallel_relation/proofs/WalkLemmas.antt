@@ -1,6 +1,6 @@
 -- The pairs of blocks and statements, added up.
-use Rattle.std.proofs.Common.{◌≡◌, inl, inr, ℕ, sym, subst}
-use Rattle.types.specs.Code.{Truth, Code, While, Async, Finish, Codes, End, Then, Program}
+use Rattle.std.proofs.Common.{inl, inr, ℕ}
+use Rattle.types.specs.Code.{Code, Codes, End, Then, Program}
 use Rattle.effects.specs.Effects.{labels, All}
 use Rattle.parallel_relation.specs.Around.{Adds, Gains, none, both, at, one, BlockMeets, InsideMeets}
 use Rattle.parallel_relation.proofs.StatementParts.{from_one, label_in_one, inside_one, from_list, in_later, in_first}
@@ -13,6 +13,11 @@ gains_copied g h = record {
   has = λ x k. h.has x k;
   only = λ x k. elim (h.only x k) [ inl o ↦ elim (g.only x o) [ inl n ↦ absurd n | inr m ↦ inl m ] | inr n ↦ inr n ];
 }
+
+-- all is there
+all_gained : {k m c : ℕ → Type 0} → Gains k m c → (y : ℕ) → both k m y → c y
+all_gained gained y (inl o) = gained.keeps y o
+all_gained gained y (inr n) = gained.has y n
 
 module _ (p : Program) where
   block_of : (e e' l l' : ℕ → Type 0) (b : Codes) (x y : ℕ) → (e y → e' y) → (l y → l' y)
@@ -33,28 +38,20 @@ module _ (p : Program) where
   no_block e l x y (BlockMeets.pending h k) = elim h [ ]
   no_block e l x y (BlockMeets.within h) = elim h [ ]
 
-  -- a statement in other words
-  pub adds_inside : {f g : ℕ → ℕ → Type 0} (e k : ℕ → Type 0) (l : ℕ) {s t : Code} → s ≡ t
-      → Adds f (InsideMeets p e k l t) g → Adds f (InsideMeets p e k l s) g
-  adds_inside {f} {g} e k l is h = subst (λ s. Adds f (InsideMeets p e k l s) g) (sym is) h
+  -- what is left pending meets these and then those
+  pub adds_later : {f g : ℕ → ℕ → Type 0} (e : ℕ → Type 0) {k m again : ℕ → Type 0} (b : Codes) → Gains k m again
+      → Adds f (BlockMeets p e again b) g → Adds f (BlockMeets p e (both k m) b) g
+  adds_later e {k} {m} {again} b gained h =
+      adds_block e e again (both k m) b h (λ y o. o) (λ y o. o) gained.only (all_gained gained)
 
-  pub adds_while : {f g : ℕ → ℕ → Type 0} (e k again : ℕ → Type 0) (l : ℕ) (s : Code) (t : Truth) (b : Codes) → s ≡ While t b
-      → Gains k (All p labels (one l s)) again → Adds f (BlockMeets p e again b) g → Adds f (InsideMeets p e k l s) g
-  adds_while {f} {g} e k again l s t b is more h =
-      let gained : Gains k (All p labels (one l (While t b))) again = subst (λ s. Gains k (All p labels (one l s)) again) is more in
-      adds_inside e k l is (adds_block e e again (both k (All p labels (one l (While t b)))) b h (λ y k. k) (λ y k. k)
-      gained.only (λ y k. elim k [ inl o ↦ gained.keeps y o | inr n ↦ gained.has y n ]))
+  pub adds_async : {f g : ℕ → ℕ → Type 0} {e k beside empty : ℕ → Type 0} (b : Codes) → Gains e k beside
+      → ((y : ℕ) → empty y → ⊥) → Adds f (BlockMeets p beside empty b) g → Adds f (BlockMeets p (both e k) none b) g
+  adds_async {e} {k} {beside} {empty} b gained nothing h =
+      adds_block beside (both e k) empty none b h gained.only (all_gained gained) nothing (λ y o. absurd o)
 
-  pub adds_async : {f g : ℕ → ℕ → Type 0} (e k beside empty : ℕ → Type 0) (l : ℕ) (s : Code) (b : Codes) → s ≡ Async b
-      → Gains e k beside → ((y : ℕ) → empty y → ⊥) → Adds f (BlockMeets p beside empty b) g → Adds f (InsideMeets p e k l s) g
-  adds_async e k beside empty l s b is gained nothing h =
-      adds_inside e k l is (adds_block beside (both e k) empty none b h gained.only
-      (λ y k. elim k [ inl o ↦ gained.keeps y o | inr n ↦ gained.has y n ]) nothing (λ y k. absurd k))
-
-  pub adds_finish : {f g : ℕ → ℕ → Type 0} (e k empty : ℕ → Type 0) (l : ℕ) (s : Code) (b : Codes) → s ≡ Finish b
-      → ((y : ℕ) → empty y → ⊥) → Adds f (BlockMeets p e empty b) g → Adds f (InsideMeets p e k l s) g
-  adds_finish e k empty l s b is nothing h =
-      adds_inside e k l is (adds_block e e empty none b h (λ y k. k) (λ y k. k) nothing (λ y k. absurd k))
+  pub adds_finish : {f g : ℕ → ℕ → Type 0} (e empty : ℕ → Type 0) (b : Codes) → ((y : ℕ) → empty y → ⊥)
+      → Adds f (BlockMeets p e empty b) g → Adds f (BlockMeets p e none b) g
+  adds_finish e empty b nothing h = adds_block e e empty none b h (λ y o. o) (λ y o. o) nothing (λ y o. absurd o)
 
   -- a label's own pairs and those inside are those of the statement
   pub adds_statement : {f g h : ℕ → ℕ → Type 0} (e k : ℕ → Type 0) (l : ℕ) (s : Code) → Adds f (at l e) g
@@ -68,7 +65,6 @@ module _ (p : Program) where
       → Gains k (All p labels rest) behind → Adds f (BlockMeets p e k rest) g → Adds g (BlockMeets p e behind (one l s)) h
       → Adds f (BlockMeets p e k (Then l s rest)) h
   adds_before e k behind l s rest gained others first = adds_joined (BlockMeets p e k (Then l s rest)) others
-      (adds_block e e behind (both k (All p labels rest)) (one l s) first (λ y m. m) (λ y m. m)
-      gained.only (λ y m. elim m [ inl o ↦ gained.keeps y o | inr n ↦ gained.has y n ]))
+      (adds_later e (one l s) gained first)
       (λ x y m. elim m [ inl o ↦ in_later p e k l s rest x y o | inr n ↦ in_first p e k l s rest x y n ])
       (λ x y m. from_list p e k l s rest x y m)

@@ -67,11 +67,11 @@ pub fn add_labels_of(
             add_labels(code, summaries, body, set)?;
             add_labels(code, summaries, other, set)
         }
-        StmtKind::While { body, .. } => add_labels(code, summaries, body, set),
-        StmtKind::Split { body, .. } => add_labels(code, summaries, body, set),
+        StmtKind::While { body, .. }
+        | StmtKind::Split { body, .. }
+        | StmtKind::Async { body }
+        | StmtKind::Finish { body } => add_labels(code, summaries, body, set),
         StmtKind::Call { procedure, .. } => add_labels_of_call(code, summaries, *procedure, set),
-        StmtKind::Async { body } => add_labels(code, summaries, body, set),
-        StmtKind::Finish { body } => add_labels(code, summaries, body, set),
     }
 }
 

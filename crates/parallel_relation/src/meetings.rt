@@ -117,29 +117,15 @@ fn add_meetings_inside(
         (plain_code kind.now))) }
 {
     match kind {
-        StmtKind::Do(_) => Ok(()),
+        StmtKind::Do(_) | StmtKind::Call { .. } => Ok(()),
         StmtKind::If { body, other, .. } => {
             add_meetings(alloc, lists, label, body, into)?;
-            add_meetings(alloc, lists, label, other, into)?;
-            Ok(())
+            add_meetings(alloc, lists, label, other, into)
         }
-        StmtKind::While { body, .. } => {
-            add_meetings(alloc, lists, label, body, into)?;
-            Ok(())
-        }
-        StmtKind::Split { body, .. } => {
-            add_meetings(alloc, lists, label, body, into)?;
-            Ok(())
-        }
-        StmtKind::Call { .. } => Ok(()),
-        StmtKind::Async { body } => {
-            add_meetings(alloc, lists, label, body, into)?;
-            Ok(())
-        }
-        StmtKind::Finish { body } => {
-            add_meetings(alloc, lists, label, body, into)?;
-            Ok(())
-        }
+        StmtKind::While { body, .. }
+        | StmtKind::Split { body, .. }
+        | StmtKind::Async { body }
+        | StmtKind::Finish { body } => add_meetings(alloc, lists, label, body, into),
     }
 }
 

@@ -65,12 +65,10 @@ fn add_inside(
         StmtKind::Do(_) => Ok(()),
         StmtKind::If { body, other, .. } => {
             add_block(alloc, lists, body, into)?;
-            add_block(alloc, lists, other, into)?;
-            Ok(())
+            add_block(alloc, lists, other, into)
         }
-        StmtKind::While { body, .. } => {
-            add_block(alloc, lists, body, into)?;
-            Ok(())
+        StmtKind::While { body, .. } | StmtKind::Async { body } | StmtKind::Finish { body } => {
+            add_block(alloc, lists, body, into)
         }
         StmtKind::Split {
             section,
@@ -81,8 +79,7 @@ fn add_inside(
         } => {
             let mut inside = Vec::new(alloc);
             add_block(alloc, lists, body, &mut inside)?;
-            add_around(&inside, *section, *left, *right, into)?;
-            Ok(())
+            add_around(&inside, *section, *left, *right, into)
         }
         StmtKind::Call {
             procedure,
@@ -92,14 +89,6 @@ fn add_inside(
             Some(callee) => add_passed(&callee.all, sections, into),
             None => Ok(()),
         },
-        StmtKind::Async { body } => {
-            add_block(alloc, lists, body, into)?;
-            Ok(())
-        }
-        StmtKind::Finish { body } => {
-            add_block(alloc, lists, body, into)?;
-            Ok(())
-        }
     }
 }
 
@@ -135,13 +124,9 @@ pub fn add_left_by(
         StmtKind::Do(_) => Ok(()),
         StmtKind::If { body, other, .. } => {
             add_left(alloc, lists, body, into)?;
-            add_left(alloc, lists, other, into)?;
-            Ok(())
+            add_left(alloc, lists, other, into)
         }
-        StmtKind::While { body, .. } => {
-            add_left(alloc, lists, body, into)?;
-            Ok(())
-        }
+        StmtKind::While { body, .. } => add_left(alloc, lists, body, into),
         StmtKind::Split {
             section,
             left,
@@ -151,8 +136,7 @@ pub fn add_left_by(
         } => {
             let mut inside = Vec::new(alloc);
             add_left(alloc, lists, body, &mut inside)?;
-            add_around(&inside, *section, *left, *right, into)?;
-            Ok(())
+            add_around(&inside, *section, *left, *right, into)
         }
         StmtKind::Call {
             procedure,
@@ -162,10 +146,7 @@ pub fn add_left_by(
             Some(callee) => add_passed(&callee.pending, sections, into),
             None => Ok(()),
         },
-        StmtKind::Async { body } => {
-            add_block(alloc, lists, body, into)?;
-            Ok(())
-        }
+        StmtKind::Async { body } => add_block(alloc, lists, body, into),
         StmtKind::Finish { .. } => Ok(()),
     }
 }

@@ -1,6 +1,6 @@
 //! The walk that finds which labels may run together.
 
-ghost use Rattle.std.specs.Prelude.{◌↔◌, ◌∷◌, [], ℕ, IfOk, OnOk};
+ghost use Rattle.std.specs.Prelude.{◌↔◌, ℕ, IfOk, OnOk};
 ghost use Rattle.types.specs.Translation.{program, codes, code as plain_code};
 ghost use Rattle.effects.specs.LabelSets.{HasLabel};
 ghost use Rattle.effects.specs.Summarized.{AreSummaries};
@@ -20,28 +20,14 @@ pub fn walk_all(alloc: Global, code: &Program, summaries: &Summaries) -> Result<
     ensures { let p = program code.now in
         IfOk result (λ found. (x y : ℕ) → FoundMeets p found x y ↔ Arises p x y) }
 {
-    let nothing = LabelSet::new(alloc);
+    let none = LabelSet::new(alloc);
     let mut found = Found::new(alloc);
     for procedure in &code.procedures {
-        walk(
-            alloc,
-            code,
-            summaries,
-            &nothing,
-            &nothing,
-            &procedure.body,
-            &mut found,
-        )?;
+        let body = &procedure.body;
+        walk(alloc, code, summaries, &none, &none, body, &mut found)?;
     }
-    walk(
-        alloc,
-        code,
-        summaries,
-        &nothing,
-        &nothing,
-        &code.main.body,
-        &mut found,
-    )?;
+    let body = &code.main.body;
+    walk(alloc, code, summaries, &none, &none, body, &mut found)?;
     Ok(found)
 }
 
@@ -66,32 +52,13 @@ pub fn walk(
     let mut behind = copy_of(alloc, later)?;
     for k in (0..block.len()).rev() {
         let statement = &block[k];
-        walk_statement(
+        found.add_label(alloc, statement.label, everything)?;
+        walk_inside(
             alloc, code, summaries, everything, &behind, statement, found,
         )?;
         add_labels_of(code, summaries, statement, &mut behind)?;
     }
     Ok(())
-}
-
-/// Finds the pairs of a statement.
-#[cycle(walk)]
-fn walk_statement(
-    alloc: Global,
-    code: &Program,
-    summaries: &Summaries,
-    everything: &LabelSet,
-    later: &LabelSet,
-    statement: &Stmt,
-    found: &mut Found,
-) -> Result<(), AllocError>
-    requires { AreSummaries (program code.now) summaries.now }
-    ensures { let p = program code.now in OnOk result (Adds (FoundMeets p found.old)
-        (BlockMeets p (HasLabel everything.now) (HasLabel later.now) (codes (statement.now ∷ [])))
-        (FoundMeets p found.new)) }
-{
-    found.add_label(alloc, statement.label, everything)?;
-    walk_inside(alloc, code, summaries, everything, later, statement, found)
 }
 
 /// Finds the pairs of a statement's blocks and of its call.
@@ -127,26 +94,12 @@ fn walk_inside(
         StmtKind::Call { procedure, .. } => found.add_call(alloc, *procedure, everything, later),
         StmtKind::Async { body } => {
             let beside = union_of(alloc, everything, later)?;
-            walk(
-                alloc,
-                code,
-                summaries,
-                &beside,
-                &LabelSet::new(alloc),
-                body,
-                found,
-            )
+            let none = LabelSet::new(alloc);
+            walk(alloc, code, summaries, &beside, &none, body, found)
         }
         StmtKind::Finish { body } => {
-            walk(
-                alloc,
-                code,
-                summaries,
-                everything,
-                &LabelSet::new(alloc),
-                body,
-                found,
-            )
+            let none = LabelSet::new(alloc);
+            walk(alloc, code, summaries, everything, &none, body, found)
         }
     }
 }

@@ -1,11 +1,11 @@
 -- No statement begins inside an expression.
 use Rattle.std.proofs.Common.{◌≡◌, true, false, List, [], ◌∷◌, refl, ◌∙◌}
 use Rattle.syntax_tree.specs.declared.tree.Relation.{Relation}
-use Rattle.syntax_tree.specs.declared.tree.Relation.TheVariants.{Less, AtMost, Greater, AtLeast, Equal, Differs}
+use Rattle.syntax_tree.specs.declared.tree.Relation.TheVariants.{Less}
 use Rattle.syntax_tree.specs.declared.tree.Sign.{Sign}
 use Rattle.syntax_tree.specs.declared.tree.Sign.TheVariants.{Plus, Minus}
 use Rattle.syntax_tree.specs.declared.tree.Operator.{Operator}
-use Rattle.syntax_tree.specs.declared.tree.Operator.TheVariants.{Times, Over, Modulo}
+use Rattle.syntax_tree.specs.declared.tree.Operator.TheVariants.{Times}
 use Rattle.syntax.specs.Spelling.{relation_mark, sign_mark, operator_mark, expr_then, conjs_then, conj_then, negs_then}
 use Rattle.syntax.specs.Spelling.{neg_then, cmp_then, sum_then, terms_then, prod_then, factors_then, unary_then}
 use Rattle.syntax.specs.Spelling.{atom_then, more_then, exprs_then}
@@ -19,11 +19,7 @@ use Rattle.places.specs.Starts.{token_starts}
 relation_starts : (o : Relation) (ts : List Token) → token_starts false (MarkToken (relation_mark o) ∷ ts) ≡ token_starts false ts
 unfolding token_starts
 relation_starts Less ts = refl
-relation_starts AtMost ts = refl
-relation_starts Greater ts = refl
-relation_starts AtLeast ts = refl
-relation_starts Equal ts = refl
-relation_starts Differs ts = refl
+relation_starts _ ts = refl
 
 sign_starts : (o : Sign) (ts : List Token) → token_starts false (MarkToken (sign_mark o) ∷ ts) ≡ token_starts false ts
 unfolding token_starts
@@ -33,8 +29,7 @@ sign_starts Minus ts = refl
 operator_starts : (o : Operator) (ts : List Token) → token_starts false (MarkToken (operator_mark o) ∷ ts) ≡ token_starts false ts
 unfolding token_starts
 operator_starts Times ts = refl
-operator_starts Over ts = refl
-operator_starts Modulo ts = refl
+operator_starts _ ts = refl
 
 mutual
   unfolding token_starts expr_then conjs_then conj_then negs_then neg_then cmp_then sum_then terms_then prod_then factors_then unary_then atom_then

@@ -80,11 +80,8 @@ fn begins_statement(token: &Token) -> bool
 fn ends_line(token: &Token) -> bool
     ensures { result ≡ ends_lines (token_tree token.now) }
 {
-    let Token::Mark(mark) = token else {
-        return false;
-    };
-    match mark {
-        Mark::Semicolon | Mark::LeftBrace | Mark::RightBrace => true,
+    match token {
+        Token::Mark(Mark::Semicolon | Mark::LeftBrace | Mark::RightBrace) => true,
         _ => false,
     }
 }

@@ -2,34 +2,28 @@
 use Rattle.std.specs.Prelude.{ℕ, zero, suc, ◌+◌, ◌≡◌}
 use Rattle.types.specs.Run.{State}
 
-module _ {X : Type 0} where
-  -- a state, and this kept beside
-  abbrev pub beside : X → State (Unit {0}) → State X
-  beside x st = record {
-    flow = st.flow;
-    environment = st.environment;
-    store = st.store;
-    lines = st.lines;
-    faults = st.faults;
-    steps = st.steps;
-    path = st.path;
-    spawned = st.spawned;
-    extra = x;
-  }
+-- a state, and this kept beside
+abbrev pub keeping : {X Y : Type 0} → Y → State X → State Y
+keeping y st = record {
+  flow = st.flow;
+  environment = st.environment;
+  store = st.store;
+  lines = st.lines;
+  faults = st.faults;
+  steps = st.steps;
+  path = st.path;
+  spawned = st.spawned;
+  extra = y;
+}
 
-  -- a state with nothing beside
-  abbrev pub bare : State X → State (Unit {0})
-  bare st = record {
-    flow = st.flow;
-    environment = st.environment;
-    store = st.store;
-    lines = st.lines;
-    faults = st.faults;
-    steps = st.steps;
-    path = st.path;
-    spawned = st.spawned;
-    extra = tt;
-  }
+-- a state with nothing beside
+abbrev pub bare : {X : Type 0} → State X → State (Unit {0})
+bare = keeping tt
+
+module _ {X : Type 0} where
+  -- a state, and this beside
+  abbrev pub beside : X → State (Unit {0}) → State X
+  beside = keeping
 
   -- a function, so many times
   abbrev pub times : ℕ → (X → X) → X → X

@@ -46,3 +46,13 @@ fn typed(rt: &impl Abort, alloc: Global, text: &str) -> Typed {
     let program = parse(alloc, text).expect(rt, "a text of the language");
     type_check(alloc, program).expect(rt, "a program")
 }
+
+/// The lists of these numbers.
+fn lists_of(rt: &impl Abort, alloc: Global, rows: &[&[i64]]) -> Vec<Vec<i64>> {
+    let mut lists = Vec::new(alloc);
+    for row in rows {
+        let list = Vec::from_slice(alloc, row).expect(rt, "memory");
+        lists.push(list).expect(rt, "memory");
+    }
+    lists
+}

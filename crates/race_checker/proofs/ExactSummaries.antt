@@ -1,9 +1,9 @@
 -- Where summaries are known to be those of a program, they are: what they say can be found from them.
-use Rattle.std.proofs.Common.{◌≡◌, ℕ, ◌∙◌, refl, Some, None, Option}
+use Rattle.std.proofs.Common.{ℕ, refl, Some, None, Option}
 use Rattle.std.proofs.Math.Logic.{∥∥₁_elim, ∥∥₁_map}
 use Rattle.std.proofs.lemmas.Bool.{eq-eqb, eqb-true}
 use Rattle.std.specs.Coded.{Coded-set, coded_ℕ}
-use Rattle.std.specs.Prelude.{◌&&◌, ◌↔◌, nat_eq, slice_get}
+use Rattle.std.specs.Prelude.{◌↔◌, nat_eq, slice_get}
 use Rattle.effects.proofs.Stability.{same_access-equal, same_access-refl}
 use Rattle.types.specs.Code.{Codes, Program}
 use Rattle.effects.specs.Accesses.{Access}

@@ -1,7 +1,6 @@
 -- What is found of statements is put together from what is found of their parts.
-use Rattle.std.proofs.Common.{◌≡◌, ◌⊎◌, inl, inr, ℕ, zero, suc, ◌+◌, ◌<◌, ◌≤◌, List, [], ◌∷◌, ◌++◌, map, length, drop, get_or, refl}
+use Rattle.std.proofs.Common.{◌≡◌, ◌⊎◌, inl, inr, ℕ, zero, suc, ◌<◌, ◌≤◌, List, [], ◌∷◌, ◌++◌, map, length, drop, refl}
 use Rattle.std.proofs.Common.{sym, ap, ◌∙◌, subst, arith, Result, IfOk, All as AllOfList}
-use Rattle.std.proofs.Math.Seq.{drop-cons}
 use Rattle.std.specs.Prelude.{Option, None, slice_index_or, ◌-◌}
 use Rattle.sections.proofs.Numbered.{left_is_there, right_is_there}
 use Rattle.rayon.proofs.ListFacts.{IfOk-then}
@@ -24,6 +23,7 @@ use Rattle.effects.proofs.AccessesInScope.{allowed, allowed_of, pending_of_all, 
 use Rattle.effects.proofs.DoingLemmas.{all_in_callee}
 use Rattle.effects.proofs.FirstLabels.{firsts_same, firsts_of_firsts, firsts_both, firsts_renamed, as_early_itself}
 use Rattle.effects.proofs.OwnAllowed.{own_allowed}
+use Rattle.effects.proofs.Statements.{codes_before}
 use Rattle.effects.proofs.LeastRows.{all_rows, pending_rows, all_lists, pending_lists}
 use Rattle.parallel_relation.specs.Together.{Block, Together}
 use Rattle.race_checker.specs.Found.{Stands, StandsOf, TogetherInside, TogetherInTurn, IsFoundIn, IsFoundInside}
@@ -77,16 +77,16 @@ module _ (p : Program) (origins : List Origin) where
   stands_later : (l : ℕ) (s : Code) (b : Codes) → Stands p origins (Then l s b) → Stands p origins b
   stands_later l s b st = record { around = st.around; follows = st.follows.1 }
 
-  pub stands_at : (ss : List Stmt) (k : ℕ) (d : Stmt) → k < length ss → Stands p origins (codes ss)
-      → StandsOf p origins (get_or ss k d).label (code (get_or ss k d).kind)
-  stands_at [] k d h st = absurd (omega arith)
-  stands_at (s ∷ ss) zero d h st = stands_here s.label (code s.kind) (codes ss) st
-  stands_at (s ∷ ss) (suc k) d h st = stands_at ss k d (omega arith) (stands_later s.label (code s.kind) (codes ss) st)
-
   pub stands_behind : (ss : List Stmt) (k : ℕ) → Stands p origins (codes ss) → Stands p origins (codes (drop k ss))
   stands_behind ss zero st = st
   stands_behind [] (suc k) st = st
   stands_behind (s ∷ ss) (suc k) st = stands_behind ss k (stands_later s.label (code s.kind) (codes ss) st)
+
+  pub stands_at : (ss : List Stmt) (k : ℕ) (s : Stmt) → 0 < k → k ≤ length ss → s ≡ slice_index_or ss (k - 1) s
+      → Stands p origins (codes ss) → StandsOf p origins s.label (code s.kind)
+  stands_at ss k s some within is st =
+      stands_here s.label (code s.kind) (codes (drop k ss))
+      (subst (Stands p origins) (codes_before ss k s some within is) (stands_behind ss (k - 1) st))
 
   module _ (l : ℕ) (k : Code) (st : StandsOf p origins l k) where
     at_kind : (s : Code) → k ≡ s → StandsOf p origins l s
@@ -418,41 +418,8 @@ pub none_behind : (ss : List Stmt) → codes (drop (length ss) ss) ≡ End
 none_behind [] = refl
 none_behind (s ∷ ss) = none_behind ss
 
-pub codes_from : (ss : List Stmt) (n : ℕ) (s : Stmt) → 0 < n → n ≤ length ss → s ≡ get_or ss (n - 1) s
-    → codes (drop (n - 1) ss) ≡ Then s.label (code s.kind) (codes (drop n ss))
-codes_from ss n s h g is =
-    let lt : n - 1 < length ss = omega arith in
-    let e : suc (n - 1) ≡ n = omega arith in
-    ap codes (drop-cons ss (n - 1) s lt)
-    ∙ ap (λ (t : Stmt). Then t.label (code t.kind) (codes (drop (suc (n - 1)) ss))) (sym is)
-    ∙ ap (λ m. Then s.label (code s.kind) (codes (drop m ss))) e
-
 -- Calls
 
 pub pending_in_callee : (p : Program) (sound : IsSound p) (f n : ℕ) → n ≡ length (procedure_of p f).parameters → (x : Access)
     → Pending p accesses (procedure_of p f).body x → x.section < n
 pending_in_callee p sound f n e x h = all_in_callee p sound f n e x (pending_all p h)
-
--- How large code is, as the walk goes down it
-
-abbrev mutual
-  pub size_of : Code → ℕ
-  size_of (Do s) = 1
-  size_of (If t b c) = 1 + size_in b + size_in c
-  size_of (While t b) = 1 + size_in b
-  size_of (Split s e l r b) = 1 + size_in b
-  size_of (Call f es ss) = 1
-  size_of (Async b) = 1 + size_in b
-  size_of (Finish b) = 1 + size_in b
-
-  pub size_in : Codes → ℕ
-  size_in End = 0
-  size_in (Then l s rest) = 1 + size_of s + size_in rest
-
-pub size_at : (ss : List Stmt) (k : ℕ) (d s : Stmt) → k < length ss → s ≡ get_or ss k d → size_of (code s.kind) < size_in (codes ss)
-size_at [] k d s h e = absurd (omega arith)
-size_at (t ∷ ss) zero d s h e = subst (λ (u : Stmt). size_of (code u.kind) < size_in (codes (t ∷ ss))) (sym e) (omega arith)
-size_at (t ∷ ss) (suc k) d s h e = let g : size_of (code s.kind) < size_in (codes ss) = size_at ss k d s (omega arith) e in omega arith
-
-pub smaller : (k s : Code) (n : ℕ) → k ≡ s → n < size_of s → n < size_of k
-smaller k s n e h = subst (λ (c : Code). n < size_of c) (sym e) h

@@ -14,6 +14,7 @@ use Rattle.effects.specs.Firsts.{kept_in}
 use Rattle.effects.specs.Sound.{Follows, IsSound}
 use Rattle.effects.specs.declared.access.Access.{Access as rAccess}
 use Rattle.effects.proofs.FirstLabels.{firsts_same, firsts_of_firsts, firsts_both}
+use Rattle.effects.proofs.Statements.{size}
 use Rattle.effects.proofs.LeastRows.{all_lists, pending_lists}
 use Rattle.effects.proofs.AccessesInScope.{pending_all}
 use Rattle.parallel_relation.specs.Together.{Together}
@@ -23,7 +24,7 @@ use Rattle.race_checker.specs.Search.{lesser_of}
 use Rattle.race_checker.specs.Translation.{found as race_found}
 use Rattle.race_checker.specs.declared.found.Found.{Found}
 use Rattle.race_checker.proofs.Finding.{fronted_in, fronted_out, none_all, none_pending, none_together, least_map, least_pairs}
-use Rattle.race_checker.proofs.Finding.{crossing_least, in_range, below_all, size_in}
+use Rattle.race_checker.proofs.Finding.{crossing_least, in_range, below_all}
 
 -- Two lists, one behind the other
 
@@ -160,13 +161,13 @@ module _ (p : Program) where
     follows = follows_back st.around.procedure st.around.scope xs ys st.follows;
   }
 
-size_front : (xs ys : List Stmt) → size_in (codes xs) ≤ size_in (codes (xs ++ ys))
+size_front : (xs ys : List Stmt) → size (codes xs) ≤ size (codes (xs ++ ys))
 size_front [] ys = omega arith
-size_front (s ∷ ss) ys = let h : size_in (codes ss) ≤ size_in (codes (ss ++ ys)) = size_front ss ys in omega arith
+size_front (s ∷ ss) ys = let h : size (codes ss) ≤ size (codes (ss ++ ys)) = size_front ss ys in omega arith
 
-size_back : (xs ys : List Stmt) → size_in (codes ys) ≤ size_in (codes (xs ++ ys))
+size_back : (xs ys : List Stmt) → size (codes ys) ≤ size (codes (xs ++ ys))
 size_back [] ys = omega arith
-size_back (s ∷ ss) ys = let h : size_in (codes ys) ≤ size_in (codes (ss ++ ys)) = size_back ss ys in omega arith
+size_back (s ∷ ss) ys = let h : size (codes ys) ≤ size (codes (ss ++ ys)) = size_back ss ys in omega arith
 
 -- Pieces of a list
 
@@ -177,26 +178,26 @@ side_by_side = flat_map (λ l. l)
 -- a piece stands where the list does, and is no larger
 pub record IsPiece (p : Program) (origins : List Origin) (body piece : List Stmt) : Type 0 where
   pub stands : Stands p origins (codes piece)
-  pub size : size_in (codes piece) ≤ size_in (codes body)
+  pub small : size (codes piece) ≤ size (codes body)
 
 module _ (p : Program) (origins : List Origin) where
   front_piece : (xs ys body : List Stmt) → xs ++ ys ≡ body → Stands p origins (codes body) → IsPiece p origins body xs
   front_piece xs ys body e st = record {
     stands = stands_front p origins xs ys (subst (λ b. Stands p origins (codes b)) (sym e) st);
-    size = subst (λ b. size_in (codes xs) ≤ size_in (codes b)) e (size_front xs ys);
+    small = subst (λ b. size (codes xs) ≤ size (codes b)) e (size_front xs ys);
   }
 
   back_piece : (xs ys body : List Stmt) → xs ++ ys ≡ body → Stands p origins (codes body) → IsPiece p origins body ys
   back_piece xs ys body e st = record {
     stands = stands_back p origins xs ys (subst (λ b. Stands p origins (codes b)) (sym e) st);
-    size = subst (λ b. size_in (codes ys) ≤ size_in (codes b)) e (size_back xs ys);
+    small = subst (λ b. size (codes ys) ≤ size (codes b)) e (size_back xs ys);
   }
 
-  smaller_body : (big body piece : List Stmt) → size_in (codes body) ≤ size_in (codes big) → IsPiece p origins body piece
+  smaller_body : (big body piece : List Stmt) → size (codes body) ≤ size (codes big) → IsPiece p origins body piece
       → IsPiece p origins big piece
   smaller_body big body piece le h = record {
     stands = h.stands;
-    size = let k : size_in (codes piece) ≤ size_in (codes body) = h.size in omega arith;
+    small = let k : size (codes piece) ≤ size (codes body) = h.small in omega arith;
   }
 
   pub pieces_of : (pieces : List (List Stmt)) (body : List Stmt) → side_by_side pieces ≡ body → Stands p origins (codes body)
@@ -205,7 +206,7 @@ module _ (p : Program) (origins : List Origin) where
   pieces_of (b ∷ bs) body e st zero d lt = front_piece b (side_by_side bs) body e st
   pieces_of (b ∷ bs) body e st (suc k) d lt =
       let rest = back_piece b (side_by_side bs) body e st in
-      smaller_body body (side_by_side bs) _ rest.size (pieces_of bs (side_by_side bs) refl rest.stands k d (omega arith))
+      smaller_body body (side_by_side bs) _ rest.small (pieces_of bs (side_by_side bs) refl rest.stands k d (omega arith))
 
 -- The pieces as they are put together
 

@@ -40,26 +40,18 @@ impl Found {
     }
 
     /// Of two blocks, of which one is run.
-    pub fn or(self, other: Found) -> Result<Found, AllocError>
+    pub fn or(mut self, other: Found) -> Result<Found, AllocError>
         ensures { IfOk result (IsBoth self other) }
     {
-        let Found {
-            mut all,
-            mut pending,
-            race,
-        } = self;
-        all.add_all(other.all.items())?;
-        pending.add_all(other.pending.items())?;
-        Ok(Found {
-            all,
-            pending,
-            race: lesser(race, other.race),
-        })
+        self.all.add_all(other.all.items())?;
+        self.pending.add_all(other.pending.items())?;
+        self.race = lesser(self.race, other.race);
+        Ok(self)
     }
 
     /// Of a list of statements with one more in front: what that leaves pending meets all of the list.
     pub fn with_first(
-        self,
+        mut self,
         sections: &SectionTree,
         procedure: ProcedureId,
         here: Found,
@@ -71,35 +63,22 @@ impl Found {
         ensures { IfOk result (IsInFront (origins_of sections.now) procedure.number here self) }
     {
         let crossing = least_clash(sections, procedure, here.pending.items(), self.all.items());
-        let Found {
-            mut all,
-            mut pending,
-            race,
-        } = self;
-        all.add_all(here.all.items())?;
-        pending.add_all(here.pending.items())?;
-        Ok(Found {
-            all,
-            pending,
-            race: lesser(crossing, lesser(here.race, race)),
-        })
+        self.all.add_all(here.all.items())?;
+        self.pending.add_all(here.pending.items())?;
+        self.race = lesser(crossing, lesser(here.race, self.race));
+        Ok(self)
     }
 
     /// Of a statement with these blocks, and its own accesses.
-    pub fn with_own(self, own: &[Access]) -> Result<Found, AllocError>
+    pub fn with_own(mut self, own: &[Access]) -> Result<Found, AllocError>
         ensures { IfOk result (IsWithOwn (map access_of own.now) self) }
     {
-        let Found {
-            mut all,
-            pending,
-            race,
-        } = self;
-        all.add_all(own)?;
-        Ok(Found { all, pending, race })
+        self.all.add_all(own)?;
+        Ok(self)
     }
 
     /// Of a loop, which follows itself: what it leaves pending meets all of its next turn.
-    pub fn in_turn(self, sections: &SectionTree, procedure: ProcedureId) -> Found
+    pub fn in_turn(mut self, sections: &SectionTree, procedure: ProcedureId) -> Found
         requires pending { All (λ x. x.section.number < length (origins_of sections.now))
             self.pending.items.items }
         requires all { All (λ x. x.section.number < length (origins_of sections.now))
@@ -107,12 +86,8 @@ impl Found {
         ensures { IsInTurn (origins_of sections.now) procedure.number self result }
     {
         let crossing = least_clash(sections, procedure, self.pending.items(), self.all.items());
-        let Found { all, pending, race } = self;
-        Found {
-            all,
-            pending,
-            race: lesser(crossing, race),
-        }
+        self.race = lesser(crossing, self.race);
+        self
     }
 
     /// Of a split with these statements, in the names around it.
@@ -134,35 +109,22 @@ impl Found {
     }
 
     /// Of an async with these statements: all that they do is left pending.
-    pub fn in_async(self, alloc: Global) -> Result<Found, AllocError>
+    pub fn in_async(mut self, alloc: Global) -> Result<Found, AllocError>
         ensures all { IfOk result (λ found. found.all ≡ self.all) }
         ensures pending { IfOk result (λ found. kept_in found.pending ≡ kept_in self.all) }
         ensures race { IfOk result (λ found. found.race ≡ self.race) }
     {
-        let Found {
-            all,
-            pending: _,
-            race,
-        } = self;
-        let pending = all.copy(alloc)?;
-        Ok(Found { all, pending, race })
+        self.pending = self.all.copy(alloc)?;
+        Ok(self)
     }
 
     /// Of a finish with these statements: it leaves nothing pending.
-    pub fn in_finish(self, alloc: Global) -> Found
+    pub fn in_finish(mut self, alloc: Global) -> Found
         ensures all { result.all ≡ self.all }
         ensures pending { kept_in result.pending ≡ [] }
         ensures race { result.race ≡ self.race }
     {
-        let Found {
-            all,
-            pending: _,
-            race,
-        } = self;
-        Found {
-            all,
-            pending: Firsts::new(alloc),
-            race,
-        }
+        self.pending = Firsts::new(alloc);
+        self
     }
 }

@@ -24,42 +24,38 @@ use syntax::Place;
 use types::code::{Label, Procedure, Program};
 use witness::witness::Witness;
 
+/// A race of a program, where the statements of its text begin, and why it is one.
+#[derive(Clone, Copy)]
+pub struct Found<'f> {
+    pub places: &'f [Place],
+    pub code: &'f Program,
+    pub race: Race,
+    pub witness: &'f Witness,
+}
+
 /// A race of a program, as the refusal that it is: with both accesses, in the names of the procedure that has it, its
 /// witness, and the place of the first access. An access is
 /// `{"column":7,"kind":"write","label":3,"line":4,"section":"a"}`.
-pub fn race_object(
-    alloc: Global,
-    file: &str,
-    places: &[Place],
-    code: &Program,
-    race: Race,
-    witness: &Witness,
-) -> Result<String, AllocError>
-    ensures text { IfOk result (λ text. string_bytes text
-        ≡ line (race_json file.now places.now (program code.now) (race_of race) witness.now)) }
-    ensures reads { OnOk result
-        (IsReadBack (race_json file.now places.now (program code.now) (race_of race) witness.now)) }
+pub fn race_object(alloc: Global, file: &str, found: Found<'_>) -> Result<String, AllocError>
+    ensures text { IfOk result (λ text. string_bytes text ≡ line (race_json file.now found.entry.places.now
+        (program found.entry.code.now) (race_of found.entry.race) found.entry.witness.now)) }
+    ensures reads { OnOk result (IsReadBack (race_json file.now found.entry.places.now
+        (program found.entry.code.now) (race_of found.entry.race) found.entry.witness.now)) }
 {
-    let value = race_value(alloc, file, places, code, race, witness)?;
+    let value = race_value(alloc, file, found)?;
     line_of(alloc, &value)
 }
 
 /// A race.
-fn race_value(
-    alloc: Global,
-    file: &str,
-    places: &[Place],
-    code: &Program,
-    race: Race,
-    witness: &Witness,
-) -> Result<Value, AllocError>
-    ensures { IfOk result (λ v. view v
-        ≡ race_json file.now places.now (program code.now) (race_of race) witness.now) }
+fn race_value(alloc: Global, file: &str, found: Found<'_>) -> Result<Value, AllocError>
+    ensures { IfOk result (λ v. view v ≡ race_json file.now found.entry.places.now
+        (program found.entry.code.now) (race_of found.entry.race) found.entry.witness.now) }
 {
-    let accesses = accesses_value(alloc, places, code, race, witness)?;
-    let message = message_of_race(alloc, code, race)?;
-    let place = place_at(places, race.first.label);
-    told_value(alloc, file, place, race.first.label, message, accesses)
+    let accesses = accesses_value(alloc, found)?;
+    let message = message_of_race(alloc, found.code, found.race)?;
+    let label = found.race.first.label;
+    let place = place_at(found.places, label);
+    told_value(alloc, file, place, label, message, accesses)
 }
 
 /// A refusal by a race, of what is told of it.
@@ -87,20 +83,15 @@ fn told_value(
 }
 
 /// Both accesses of a race, the procedure that has it, and its witness.
-fn accesses_value(
-    alloc: Global,
-    places: &[Place],
-    code: &Program,
-    race: Race,
-    witness: &Witness,
-) -> Result<Value, AllocError>
-    ensures { IfOk result (λ v. view v
-        ≡ accesses_json places.now (program code.now) (race_of race) witness.now) }
+fn accesses_value(alloc: Global, found: Found<'_>) -> Result<Value, AllocError>
+    ensures { IfOk result (λ v. view v ≡ accesses_json found.entry.places.now
+        (program found.entry.code.now) (race_of found.entry.race) found.entry.witness.now) }
 {
-    let procedure = procedure_in(code, race.procedure);
+    let Found { places, race, .. } = found;
+    let procedure = procedure_in(found.code, race.procedure);
     let first = access_value(alloc, places, procedure, race.first)?;
     let second = access_value(alloc, places, procedure, race.second)?;
-    let witness = witness_value(alloc, places, code, race, witness)?;
+    let witness = witness_value(alloc, found)?;
     json!(in alloc; {
         "first": first,
         "procedure": procedure.name.as_str(),

@@ -8,13 +8,12 @@ ghost use Rattle.race_objects.specs.Witnesses.{common_section, first_way, meetin
 ghost use Rattle.race_objects.specs.Witnesses.{second_way, sharing_json, sharing_word, witness_json};
 
 use crate::names::{procedure_in, section_name};
+use crate::races::Found;
 use crate::steps::way_value;
 use json_answers::refusals::text_or_null;
-use race_checker::race::Race;
 use serde_json::{Value, json};
 use std::alloc::{AllocError, Global};
-use syntax::Place;
-use types::code::{Procedure, Program};
+use types::code::Procedure;
 use witness::crossing::Meeting;
 use witness::sharing::Sharing;
 use witness::step::Step;
@@ -22,16 +21,16 @@ use witness::witness::Witness;
 
 /// A witness: the ways to the first and to the second access of the race, from where they part, how they come to run
 /// together, which of them is left pending, and why the sections share places.
-pub(crate) fn witness_value(
-    alloc: Global,
-    places: &[Place],
-    code: &Program,
-    race: Race,
-    witness: &Witness,
-) -> Result<Value, AllocError>
-    ensures { IfOk result (λ v. view v
-        ≡ witness_json places.now (program code.now) (race_of race) witness.now) }
+pub(crate) fn witness_value(alloc: Global, found: Found<'_>) -> Result<Value, AllocError>
+    ensures { IfOk result (λ v. view v ≡ witness_json found.entry.places.now
+        (program found.entry.code.now) (race_of found.entry.race) found.entry.witness.now) }
 {
+    let Found {
+        places,
+        code,
+        race,
+        witness,
+    } = found;
     let way = way_to_first(witness);
     let first = way_value(alloc, places, code, race.procedure, race.first.write, way)?;
     let way = way_to_second(witness);

@@ -1,8 +1,8 @@
 //! Why two sections share places, and what would be right.
 
-use crate::lines::Page;
 use crate::names::{procedure_of, section_name};
 use crate::way::is_begun;
+use excerpts::statements::Statements;
 use race_checker::race::Race;
 use std::alloc::AllocError;
 use types::code::Program;
@@ -55,13 +55,17 @@ const WHOLE: &str = "The check sees whole sections, whatever the indices are.\n"
 const SIDES: &str = "Only the two sides of one split are known to be apart.\n";
 
 /// Adds what would be right.
-pub fn push_mend(told: &mut String, page: &Page<'_>, witness: &Witness) -> Result<(), AllocError> {
+pub fn push_mend(
+    told: &mut String,
+    statements: &Statements<'_>,
+    witness: &Witness,
+) -> Result<(), AllocError> {
     if matches!(witness.meeting, Meeting::Turns) {
         return told.push_str(LOOP);
     }
     let first = first_label(&witness.pending);
     let second = first_label(&witness.later);
-    let line = match page.place_of(first) {
+    let line = match statements.place(first) {
         Some(place) => place.line,
         None => 0,
     };

@@ -1,15 +1,13 @@
 //! What stands behind the line of a race.
 
-use crate::lines::{Page, push_lines};
+use crate::lines::push_lines;
 use crate::mends::{push_mend, push_sharing, push_unfinished};
 use crate::names::{kind_word, procedure_name, procedure_of, section_name};
 use crate::way::{Line, end_of, push_way};
 use effects::access::Access;
-use excerpts::source::push_line;
-use places::statement_places;
+use excerpts::statements::Statements;
 use race_checker::race::Race;
 use std::alloc::{AllocError, Global};
-use syntax::lexer::Unread;
 use types::code::Program;
 use types::ids::ProcedureId;
 use types::typed::Typed;
@@ -17,8 +15,8 @@ use witness::crossing::Meeting;
 use witness::step::Step;
 use witness::witness::Witness;
 
-/// Where both accesses of a race stand, how they come to run together, why they share places, and what would be right.
-/// Nothing of a text over a mebibyte.
+/// Where both accesses of a race stand, how they come to run together, why they share places, and
+/// what would be right. Nothing of a text over a mebibyte.
 pub fn explained(
     alloc: Global,
     text: &str,
@@ -27,33 +25,24 @@ pub fn explained(
     witness: &Witness,
 ) -> Result<String, AllocError> {
     let mut told = String::new(alloc);
-    if text.len() > 1_048_576 {
+    let Some(statements) = Statements::of(alloc, text)? else {
         return Ok(told);
-    }
-    let places = match statement_places(alloc, text) {
-        Ok(places) => places,
-        Err(Unread::OutOfMemory) => return Err(AllocError),
-        Err(_) => return Ok(told),
-    };
-    let page = Page {
-        text,
-        places: &places,
     };
     let code = typed.code();
     told.push('\n')?;
-    push_accesses(&mut told, &page, code, race, witness)?;
+    push_accesses(&mut told, &statements, code, race, witness)?;
     told.push_str("They may run together:\n")?;
-    push_ways(alloc, &mut told, &page, code, race, witness)?;
+    push_ways(alloc, &mut told, &statements, code, race, witness)?;
     push_unfinished(&mut told, witness)?;
     push_sharing(&mut told, code, race, witness.sharing)?;
-    push_mend(&mut told, &page, witness)?;
+    push_mend(&mut told, &statements, witness)?;
     Ok(told)
 }
 
 /// Adds both accesses.
 fn push_accesses(
     told: &mut String,
-    page: &Page<'_>,
+    statements: &Statements<'_>,
     code: &Program,
     race: Race,
     witness: &Witness,
@@ -64,9 +53,9 @@ fn push_accesses(
         (&witness.later, &witness.pending)
     };
     push_access(told, code, race.procedure, race.first, first)?;
-    push_place(told, page, race.first.label)?;
+    statements.push_at(told, race.first.label, None)?;
     push_access(told, code, race.procedure, race.second, second)?;
-    push_place(told, page, race.second.label)
+    statements.push_at(told, race.second.label, None)
 }
 
 /// Adds what an access of a procedure does, and its section's name where it is made.
@@ -92,19 +81,11 @@ fn push_access(
     told.push_str(":\n")
 }
 
-/// Adds the line of a statement, with a caret.
-fn push_place(told: &mut String, page: &Page<'_>, label: u32) -> Result<(), AllocError> {
-    match page.place_of(label) {
-        Some(place) => push_line(told, page.text, *place),
-        None => Ok(()),
-    }
-}
-
 /// Adds the ways to both accesses; the second only where it is more than the access.
 fn push_ways(
     alloc: Global,
     told: &mut String,
-    page: &Page<'_>,
+    statements: &Statements<'_>,
     code: &Program,
     race: Race,
     witness: &Witness,
@@ -124,7 +105,7 @@ fn push_ways(
         pending.write,
         &mut lines,
     )?;
-    push_lines(told, page, &lines)?;
+    push_lines(told, statements, &lines)?;
     if witness.later.len() < 2 || (pending == later && witness.pending == witness.later) {
         return Ok(());
     }
@@ -138,7 +119,7 @@ fn push_ways(
         later.write,
         &mut lines,
     )?;
-    push_lines(told, page, &lines)
+    push_lines(told, statements, &lines)
 }
 
 /// Adds the line of the loop in whose turns the two meet.

@@ -77,8 +77,8 @@ pub fn push_way(
     Ok(())
 }
 
-/// What a step in a procedure does, where the section of the access has the name of `inside` behind it. Nothing of a
-/// step that only goes into a block.
+/// What a step in a procedure does, where the section of the access has the name of `inside` behind
+/// it. Nothing of a step that only goes into a block.
 fn words_of(
     alloc: Global,
     code: &Program,

@@ -1,6 +1,6 @@
 -- Words that order are read as what they order.
 use Rattle.std.proofs.Common.{◌≡◌, ℕ, ◌<◌, List, [], ◌∷◌, Option, Some, None, Bor, arith, length, map, refl, sym, ap, ◌∙◌, subst, codes}
-use Rattle.std.specs.Prelude.{Bool, true, false, option_map, IsSomeAnd, IsTrue}
+use Rattle.std.specs.Prelude.{Bool, true, false, option_map, IsTrue}
 use Rattle.std.specs.Str.{bytes_eq}
 use Rattle.std.specs.String.{string_bytes}
 use Rattle.std.proofs.Common.{true≢false, Global, String}
@@ -8,8 +8,8 @@ use Rattle.std.proofs.lemmas.Slice.Eq.{bytes_eq-Decides}
 use Rattle.command_line.specs.Requests.{Asked, Asks, is_file_name}
 use Rattle.command_line.specs.declared.request.Action.TheVariants.{Answer}
 use Rattle.command_line.specs.declared.request.Command.TheVariants.{Cost}
-use Rattle.reading.specs.Orders.{Order, AsText, AsObject, Times, Tests, Orders, AsksForObject, AsksToTime, AsksToTest}
-use Rattle.reading.specs.Orders.{subject_of, order}
+use Rattle.reading.specs.Orders.{Order, AsText, AsObject, Times, Tests, Orders, AsksForObject}
+use Rattle.reading.specs.Orders.{subject_of}
 use Rattle.reading.specs.Reading.{taken}
 use Rattle.reading.specs.declared.order.Subject.{Subject}
 use Rattle.reading.proofs.Reading.{Lacks, asks_no_form, bench_asks_nothing, test_asks_nothing}

@@ -18,7 +18,7 @@ use Rattle.command_line.specs.declared.request.Color.TheVariants.{Auto, Always, 
 use Rattle.command_line.specs.declared.request.Telling.{Telling}
 use Rattle.command_line.specs.declared.manner.Manner.{Manner}
 use Rattle.command_line.specs.declared.request.Request.{Request}
-use Rattle.reading.specs.Reading.{Line, bare, flag_taken, line_of, no_texts, read, read_choosing, read_file, read_whole}
+use Rattle.reading.specs.Reading.{Line, bare, flag_taken, line_of, no_texts, read, read_choosing, read_file}
 use Rattle.std.proofs.Common.{true≢false}
 use Rattle.std.proofs.lemmas.Slice.Eq.{bytes_eq-Decides}
 use Rattle.reading.specs.Reading.{told_line, manner_if, read_by, read_color, read_manner, read_rest}
@@ -81,125 +81,10 @@ takes_flag : (option : List ℕ) (b : Bool) (behind : List (List ℕ)) → bytes
 takes_flag option false behind same lacks = lacks
 takes_flag option true behind same lacks = if_true (bytes_eq option option) _ _ same
 
--- reading goes on with what was taken
-goes : {A : Type 0} (option : List ℕ) (words : List (List ℕ)) (value : Option (List ℕ)) (behind : List (List ℕ))
-    (on : Option (List ℕ) → List (List ℕ) → A) → taken option words ≡ (value, behind)
-    → on (taken option words).0 (taken option words).1 ≡ on value behind
-goes option words value behind on is = ap (λ (t : Option (List ℕ) × List (List ℕ)). on t.0 t.1) is
-
-goes_flag : {A : Type 0} (option : List ℕ) (words : List (List ℕ)) (b : Bool) (behind : List (List ℕ))
-    (on : Bool → List (List ℕ) → A) → flag_taken option words ≡ (b, behind)
-    → on (flag_taken option words).0 (flag_taken option words).1 ≡ on b behind
-goes_flag option words b behind on is = ap (λ (t : Bool × List (List ℕ)). on t.0 t.1) is
-
 -- what stands behind options doesn't begin with another one
 abbrev Differ : (others : List (List ℕ)) → (option : List ℕ) → Type 0
 Differ [] option = Unit {0}
 Differ (other ∷ others) option = (bytes_eq other option ≡ false) × Differ others option
-
--- how each reading goes on behind an option
-abbrev from_arrays : (input steps nest tasks w0 workers trace : Option (List ℕ)) → Bool → List (List ℕ) → Option Texts
-from_arrays input steps nest tasks w0 workers trace arrays words =
-    read_whole
-    (record no_texts {
-      input = input;
-      steps = steps;
-      nest = nest;
-      tasks = tasks;
-      w0 = w0;
-      workers = workers;
-      trace = trace;
-      arrays = arrays;
-    }) words
-
-abbrev from_trace : (input steps nest tasks w0 workers : Option (List ℕ)) → Option (List ℕ) → List (List ℕ) → Option Texts
-from_trace input steps nest tasks w0 workers trace words =
-    let t = flag_taken (codes "--arrays") words in from_arrays input steps nest tasks w0 workers trace t.0 t.1
-
-abbrev from_workers : (input steps nest tasks w0 : Option (List ℕ)) → Option (List ℕ) → List (List ℕ) → Option Texts
-from_workers input steps nest tasks w0 workers words =
-    let t = taken (codes "--trace") words in from_trace input steps nest tasks w0 workers t.0 t.1
-
-abbrev from_w0 : (input steps nest tasks : Option (List ℕ)) → Option (List ℕ) → List (List ℕ) → Option Texts
-from_w0 input steps nest tasks w0 words =
-    let t = taken (codes "--workers") words in from_workers input steps nest tasks w0 t.0 t.1
-
-abbrev from_tasks : (input steps nest : Option (List ℕ)) → Option (List ℕ) → List (List ℕ) → Option Texts
-from_tasks input steps nest tasks words =
-    let t = taken (codes "--w0") words in from_w0 input steps nest tasks t.0 t.1
-
-abbrev from_nest : (input steps : Option (List ℕ)) → Option (List ℕ) → List (List ℕ) → Option Texts
-from_nest input steps nest words =
-    let t = taken (codes "--tasks") words in from_tasks input steps nest t.0 t.1
-
-abbrev from_steps : (input : Option (List ℕ)) → Option (List ℕ) → List (List ℕ) → Option Texts
-from_steps input steps words =
-    let t = taken (codes "--nest") words in from_nest input steps t.0 t.1
-
-abbrev from_input : Option (List ℕ) → List (List ℕ) → Option Texts
-from_input input words =
-    let t = taken (codes "--steps") words in from_steps input t.0 t.1
-
-abbrev measured_from_nest : (file : List ℕ) (input steps : Option (List ℕ)) → Option (List ℕ) → List (List ℕ)
-    → Option Line
-measured_from_nest file input steps nest words =
-    measured_if file (record no_texts { input = input; steps = steps; nest = nest }) (read_parts words)
-
-abbrev measured_from_steps : (file : List ℕ) (input : Option (List ℕ)) → Option (List ℕ) → List (List ℕ)
-    → Option Line
-measured_from_steps file input steps words =
-    let t = taken (codes "--nest") words in measured_from_nest file input steps t.0 t.1
-
-abbrev measured_from_input : (file : List ℕ) → Option (List ℕ) → List (List ℕ) → Option Line
-measured_from_input file input words =
-    let t = taken (codes "--steps") words in measured_from_steps file input t.0 t.1
-
-abbrev from_color : (explain : Bool) → Option (List ℕ) → List (List ℕ) → Option (Manner × List (List ℕ))
-from_color explain color words = manner_if explain (read_color color) words
-
-abbrev from_explain : Bool → List (List ℕ) → Option (Manner × List (List ℕ))
-from_explain explain words =
-    let t = taken (codes "--color") words in from_color explain t.0 t.1
-
-abbrev serial_from_progress : (input steps nest : Option (List ℕ)) (arrays : Bool) → Bool → List (List ℕ) → Option Texts
-serial_from_progress input steps nest arrays progress words =
-    read_whole (record no_texts { input = input; steps = steps; nest = nest; arrays = arrays; progress = progress }) words
-
-abbrev serial_from_arrays : (input steps nest : Option (List ℕ)) → Bool → List (List ℕ) → Option Texts
-serial_from_arrays input steps nest arrays words =
-    let t = flag_taken (codes "--progress") words in serial_from_progress input steps nest arrays t.0 t.1
-
-abbrev serial_from_nest : (input steps : Option (List ℕ)) → Option (List ℕ) → List (List ℕ) → Option Texts
-serial_from_nest input steps nest words =
-    let t = flag_taken (codes "--arrays") words in serial_from_arrays input steps nest t.0 t.1
-
-abbrev serial_from_steps : (input : Option (List ℕ)) → Option (List ℕ) → List (List ℕ) → Option Texts
-serial_from_steps input steps words =
-    let t = taken (codes "--nest") words in serial_from_nest input steps t.0 t.1
-
-abbrev serial_from_input : Option (List ℕ) → List (List ℕ) → Option Texts
-serial_from_input input words =
-    let t = taken (codes "--steps") words in serial_from_steps input t.0 t.1
-
-abbrev choosing_from_arrays : (input list file random : Option (List ℕ)) → Bool → List (List ℕ) → Option Texts
-choosing_from_arrays input list file random arrays words =
-    read_whole (record no_texts { input = input; choices = list; choices_from = file; random = random; arrays = arrays }) words
-
-abbrev choosing_from_random : (input list file : Option (List ℕ)) → Option (List ℕ) → List (List ℕ) → Option Texts
-choosing_from_random input list file random words =
-    let t = flag_taken (codes "--arrays") words in choosing_from_arrays input list file random t.0 t.1
-
-abbrev choosing_from_file : (input list : Option (List ℕ)) → Option (List ℕ) → List (List ℕ) → Option Texts
-choosing_from_file input list file words =
-    let t = taken (codes "--random") words in choosing_from_random input list file t.0 t.1
-
-abbrev choosing_from_list : (input : Option (List ℕ)) → Option (List ℕ) → List (List ℕ) → Option Texts
-choosing_from_list input list words =
-    let t = taken (codes "--choices-from") words in choosing_from_file input list t.0 t.1
-
-abbrev choosing_from_input : Option (List ℕ) → List (List ℕ) → Option Texts
-choosing_from_input input words =
-    let t = taken (codes "--choices") words in choosing_from_list input t.0 t.1
 
 module _ (arrays : Bool) where
   abbrev arrays_words : List (List ℕ)
@@ -255,28 +140,22 @@ module _ (arrays : Bool) where
     read_words input steps nest =
         let nest_words = valued (codes "--nest") nest tasks_words in
         let steps_words = valued (codes "--steps") steps nest_words in
-        goes (codes "--input") (valued (codes "--input") input steps_words) input steps_words from_input
-        (takes_value (codes "--input") input steps_words refl
+        rw (takes_value (codes "--input") input steps_words refl
         (lacks_valued (codes "--input") (codes "--steps") steps nest_words refl
         (lacks_valued (codes "--input") (codes "--nest") nest tasks_words refl
         (lacks_tasks (codes "--input") (refl, (refl, (refl, (refl, (refl, tt)))))))))
-        ∙ goes (codes "--steps") steps_words steps nest_words (from_steps input)
-        (takes_value (codes "--steps") steps nest_words refl
+        (rw (takes_value (codes "--steps") steps nest_words refl
         (lacks_valued (codes "--steps") (codes "--nest") nest tasks_words refl
         (lacks_tasks (codes "--steps") (refl, (refl, (refl, (refl, (refl, tt))))))))
-        ∙ goes (codes "--nest") nest_words nest tasks_words (from_nest input steps)
-        (takes_value (codes "--nest") nest tasks_words refl (lacks_tasks (codes "--nest") (refl, (refl, (refl, (refl, (refl, tt)))))))
-        ∙ goes (codes "--tasks") tasks_words tasks w0_words (from_tasks input steps nest)
-        (takes_value (codes "--tasks") tasks w0_words refl (lacks_w0 (codes "--tasks") (refl, (refl, (refl, (refl, tt))))))
-        ∙ goes (codes "--w0") w0_words w0 workers_words (from_w0 input steps nest tasks)
-        (takes_value (codes "--w0") w0 workers_words refl (lacks_workers (codes "--w0") (refl, (refl, (refl, tt)))))
-        ∙ goes (codes "--workers") workers_words workers trace_words (from_workers input steps nest tasks w0)
-        (takes_value (codes "--workers") workers trace_words refl (lacks_trace (codes "--workers") (refl, (refl, tt))))
-        ∙ goes (codes "--trace") trace_words trace arrays_words (from_trace input steps nest tasks w0 workers)
-        (takes_value (codes "--trace") trace arrays_words refl
+        (rw (takes_value (codes "--nest") nest tasks_words refl
+        (lacks_tasks (codes "--nest") (refl, (refl, (refl, (refl, (refl, tt)))))))
+        (rw (takes_value (codes "--tasks") tasks w0_words refl
+        (lacks_w0 (codes "--tasks") (refl, (refl, (refl, (refl, tt))))))
+        (rw (takes_value (codes "--w0") w0 workers_words refl (lacks_workers (codes "--w0") (refl, (refl, (refl, tt)))))
+        (rw (takes_value (codes "--workers") workers trace_words refl (lacks_trace (codes "--workers") (refl, (refl, tt))))
+        (rw (takes_value (codes "--trace") trace arrays_words refl
         (lacks_flagged (codes "--trace") (codes "--arrays") arrays [] refl refl))
-        ∙ goes_flag (codes "--arrays") arrays_words arrays [] (from_arrays input steps nest tasks w0 workers trace)
-        (takes_flag (codes "--arrays") arrays [] refl refl)
+        (rw (takes_flag (codes "--arrays") arrays [] refl refl) refl)))))))
 
   -- those of a run by choices
   read_choosing_words : (input : Option (List ℕ)) (choices : Option Choosing)
@@ -292,28 +171,21 @@ module _ (arrays : Bool) where
       let random_words = valued (codes "--random") random arrays_words in
       let file_words = valued (codes "--choices-from") (file_of choices) random_words in
       let list_words = valued (codes "--choices") (list_of choices) file_words in
-      goes (codes "--input") (valued (codes "--input") input list_words) input list_words choosing_from_input
-      (takes_value (codes "--input") input list_words refl
+      rw (takes_value (codes "--input") input list_words refl
       (lacks_valued (codes "--input") (codes "--choices") (list_of choices) file_words refl
       (lacks_valued (codes "--input") (codes "--choices-from") (file_of choices) random_words refl
       (lacks_valued (codes "--input") (codes "--random") random arrays_words refl
       (lacks_flagged (codes "--input") (codes "--arrays") arrays [] refl refl)))))
-      ∙ goes (codes "--choices") list_words (list_of choices) file_words (choosing_from_list input)
-      (takes_value (codes "--choices") (list_of choices) file_words refl
+      (rw (takes_value (codes "--choices") (list_of choices) file_words refl
       (lacks_valued (codes "--choices") (codes "--choices-from") (file_of choices) random_words refl
       (lacks_valued (codes "--choices") (codes "--random") random arrays_words refl
       (lacks_flagged (codes "--choices") (codes "--arrays") arrays [] refl refl))))
-      ∙ goes (codes "--choices-from") file_words (file_of choices) random_words (choosing_from_file input (list_of choices))
-      (takes_value (codes "--choices-from") (file_of choices) random_words refl
+      (rw (takes_value (codes "--choices-from") (file_of choices) random_words refl
       (lacks_valued (codes "--choices-from") (codes "--random") random arrays_words refl
       (lacks_flagged (codes "--choices-from") (codes "--arrays") arrays [] refl refl)))
-      ∙ goes (codes "--random") random_words random arrays_words
-      (choosing_from_random input (list_of choices) (file_of choices))
-      (takes_value (codes "--random") random arrays_words refl
+      (rw (takes_value (codes "--random") random arrays_words refl
       (lacks_flagged (codes "--random") (codes "--arrays") arrays [] refl refl))
-      ∙ goes_flag (codes "--arrays") arrays_words arrays []
-      (choosing_from_arrays input (list_of choices) (file_of choices) random)
-      (takes_flag (codes "--arrays") arrays [] refl refl)
+      (rw (takes_flag (codes "--arrays") arrays [] refl refl) refl))))
 
   module _ (progress : Bool) where
     abbrev flags_words : List (List ℕ)
@@ -337,23 +209,17 @@ module _ (arrays : Bool) where
     read_serial_words input steps nest =
         let nest_words = valued (codes "--nest") nest flags_words in
         let steps_words = valued (codes "--steps") steps nest_words in
-        goes (codes "--input") (valued (codes "--input") input steps_words) input steps_words serial_from_input
-        (takes_value (codes "--input") input steps_words refl
+        rw (takes_value (codes "--input") input steps_words refl
         (lacks_valued (codes "--input") (codes "--steps") steps nest_words refl
         (lacks_valued (codes "--input") (codes "--nest") nest flags_words refl
         (lacks_flags (codes "--input") (refl, (refl, tt))))))
-        ∙ goes (codes "--steps") steps_words steps nest_words (serial_from_steps input)
-        (takes_value (codes "--steps") steps nest_words refl
+        (rw (takes_value (codes "--steps") steps nest_words refl
         (lacks_valued (codes "--steps") (codes "--nest") nest flags_words refl
         (lacks_flags (codes "--steps") (refl, (refl, tt)))))
-        ∙ goes (codes "--nest") nest_words nest flags_words (serial_from_nest input steps)
-        (takes_value (codes "--nest") nest flags_words refl (lacks_flags (codes "--nest") (refl, (refl, tt))))
-        ∙ goes_flag (codes "--arrays") flags_words arrays (flagged (codes "--progress") progress [])
-        (serial_from_arrays input steps nest)
-        (takes_flag (codes "--arrays") arrays (flagged (codes "--progress") progress []) refl
+        (rw (takes_value (codes "--nest") nest flags_words refl (lacks_flags (codes "--nest") (refl, (refl, tt))))
+        (rw (takes_flag (codes "--arrays") arrays (flagged (codes "--progress") progress []) refl
         (lacks_flag (codes "--arrays") (codes "--progress") progress refl))
-        ∙ goes_flag (codes "--progress") (flagged (codes "--progress") progress []) progress []
-        (serial_from_progress input steps nest arrays) (takes_flag (codes "--progress") progress [] refl refl)
+        (rw (takes_flag (codes "--progress") progress [] refl refl) refl))))
 
 -- those of a run that is measured, before a last word or none
 record IsLast (last : List (List ℕ)) : Type 0 where
@@ -367,15 +233,12 @@ read_measured_words : (file : List ℕ) (last : List (List ℕ)) → IsLast last
 read_measured_words file last lacks input steps nest =
     let nest_words = valued (codes "--nest") nest last in
     let steps_words = valued (codes "--steps") steps nest_words in
-    goes (codes "--input") (valued (codes "--input") input steps_words) input steps_words (measured_from_input file)
-    (takes_value (codes "--input") input steps_words refl
+    rw (takes_value (codes "--input") input steps_words refl
     (lacks_valued (codes "--input") (codes "--steps") steps nest_words refl
     (lacks_valued (codes "--input") (codes "--nest") nest last refl lacks.input)))
-    ∙ goes (codes "--steps") steps_words steps nest_words (measured_from_steps file input)
-    (takes_value (codes "--steps") steps nest_words refl
+    (rw (takes_value (codes "--steps") steps nest_words refl
     (lacks_valued (codes "--steps") (codes "--nest") nest last refl lacks.steps))
-    ∙ goes (codes "--nest") nest_words nest last (measured_from_nest file input steps)
-    (takes_value (codes "--nest") nest last refl lacks.nest)
+    (rw (takes_value (codes "--nest") nest last refl lacks.nest) refl))
 
 -- ---- lines
 
@@ -391,96 +254,29 @@ read_with action file texts read_as named is =
 -- options of a run as tasks
 run_options : (o : Options) → AreForRun o → read_texts (words_of (texts_by o)) ≡ Some (texts_by o)
 run_options o for =
-    let P : Option Choosing → (picture : Option (List ℕ)) → Bool → Type 0 = λ c picture p.
-    let t : Texts = record (texts_by o) {
-      choices = list_of c;
-      choices_from = file_of c;
-      random = option_map decimal (seed_of c);
-      picture = picture;
-      progress = p;
-    } in read_texts (words_of t) ≡ Some t in
-    subst (λ c. P c o.picture o.progress) (sym for.choices)
-    (subst (λ f. P None f o.progress) (sym for.picture)
-    (subst (P None None) (sym for.progress)
+    rw (for.choices, for.picture, for.progress)
     (read_words o.arrays (option_map decimal o.tasks) (option_map decimal o.w0) (option_map decimal o.workers) o.trace
-    o.input (option_map decimal o.steps) (option_map decimal o.nest))))
+    o.input (option_map decimal o.steps) (option_map decimal o.nest))
 
 -- of a run on one thread
 serial_options : (o : Options) → AreForSerial o → read_serial_texts (serial_words_of (texts_by o)) ≡ Some (texts_by o)
 serial_options o for =
-    let P : (tasks w0 workers : Option ℕ) → Option Choosing → (trace picture : Option (List ℕ)) → Type 0 =
-    λ tasks w0 workers c trace picture.
-    let t : Texts = record (texts_by o) {
-      tasks = option_map decimal tasks;
-      w0 = option_map decimal w0;
-      workers = option_map decimal workers;
-      choices = list_of c;
-      choices_from = file_of c;
-      random = option_map decimal (seed_of c);
-      trace = trace;
-      picture = picture;
-    } in read_serial_texts (serial_words_of t) ≡ Some t in
-    subst (λ n. P n o.w0 o.workers o.choices o.trace o.picture) (sym for.spread.tasks)
-    (subst (λ n. P None n o.workers o.choices o.trace o.picture) (sym for.spread.w0)
-    (subst (λ n. P None None n o.choices o.trace o.picture) (sym for.spread.workers)
-    (subst (λ c. P None None None c o.trace o.picture) (sym for.choices)
-    (subst (λ f. P None None None None f o.picture) (sym for.trace.trace)
-    (subst (λ f. P None None None None None f) (sym for.trace.picture)
-    (read_serial_words o.arrays o.progress o.input (option_map decimal o.steps) (option_map decimal o.nest)))))))
+    rw (for.spread.tasks, for.spread.w0, for.spread.workers, for.choices, for.trace.trace, for.trace.picture)
+    (read_serial_words o.arrays o.progress o.input (option_map decimal o.steps) (option_map decimal o.nest))
 
 -- of a run by choices
 explore_options : (o : Options) → AreForExplore o → read_choosing (choosing_words_of (texts_by o)) ≡ Some (texts_by o)
 explore_options o for =
-    let P : (steps nest tasks w0 workers : Option ℕ) → (trace picture : Option (List ℕ)) → Bool → Type 0 =
-    λ steps nest tasks w0 workers trace picture p.
-    let t : Texts = record (texts_by o) {
-      steps = option_map decimal steps;
-      nest = option_map decimal nest;
-      tasks = option_map decimal tasks;
-      w0 = option_map decimal w0;
-      workers = option_map decimal workers;
-      trace = trace;
-      picture = picture;
-      progress = p;
-    } in read_choosing (choosing_words_of t) ≡ Some t in
-    subst (λ n. P n o.nest o.tasks o.w0 o.workers o.trace o.picture o.progress) (sym for.budget.steps)
-    (subst (λ n. P None n o.tasks o.w0 o.workers o.trace o.picture o.progress) (sym for.budget.nest)
-    (subst (λ n. P None None n o.w0 o.workers o.trace o.picture o.progress) (sym for.spread.tasks)
-    (subst (λ n. P None None None n o.workers o.trace o.picture o.progress) (sym for.spread.w0)
-    (subst (λ n. P None None None None n o.trace o.picture o.progress) (sym for.spread.workers)
-    (subst (λ f. P None None None None None f o.picture o.progress) (sym for.trace.trace)
-    (subst (λ f. P None None None None None None f o.progress) (sym for.trace.picture)
-    (subst (λ p. P None None None None None None None p) (sym for.progress)
-    (read_choosing_words o.arrays o.input o.choices))))))))
+    rw (for.budget.steps, for.budget.nest, for.spread.tasks, for.spread.w0, for.spread.workers)
+    (rw (for.trace.trace, for.trace.picture, for.progress) (read_choosing_words o.arrays o.input o.choices))
 
 -- of a run that is measured
 measured_options : (file : List ℕ) (last : List (List ℕ)) → IsLast last → (o : Options) → AreForMeasuring o
     → read_cost file (measured_words_behind (texts_by o) last) ≡ measured_if file (texts_by o) (read_parts last)
 measured_options file last lacks o for =
-    let P : (tasks w0 workers : Option ℕ) → Option Choosing → (trace picture : Option (List ℕ)) → (arrays progress : Bool)
-    → Type 0 =
-    λ tasks w0 workers c trace picture arrays progress.
-    let t : Texts = record (texts_by o) {
-      tasks = option_map decimal tasks;
-      w0 = option_map decimal w0;
-      workers = option_map decimal workers;
-      choices = list_of c;
-      choices_from = file_of c;
-      random = option_map decimal (seed_of c);
-      trace = trace;
-      picture = picture;
-      arrays = arrays;
-      progress = progress;
-    } in read_cost file (measured_words_behind t last) ≡ measured_if file t (read_parts last) in
-    subst (λ n. P n o.w0 o.workers o.choices o.trace o.picture o.arrays o.progress) (sym for.spread.tasks)
-    (subst (λ n. P None n o.workers o.choices o.trace o.picture o.arrays o.progress) (sym for.spread.w0)
-    (subst (λ n. P None None n o.choices o.trace o.picture o.arrays o.progress) (sym for.spread.workers)
-    (subst (λ c. P None None None c o.trace o.picture o.arrays o.progress) (sym for.choices)
-    (subst (λ f. P None None None None f o.picture o.arrays o.progress) (sym for.trace.trace)
-    (subst (λ f. P None None None None None f o.arrays o.progress) (sym for.trace.picture)
-    (subst (λ b. P None None None None None None b o.progress) (sym for.arrays)
-    (subst (λ b. P None None None None None None false b) (sym for.progress)
-    (read_measured_words file last lacks o.input (option_map decimal o.steps) (option_map decimal o.nest)))))))))
+    rw (for.spread.tasks, for.spread.w0, for.spread.workers, for.choices)
+    (rw (for.trace.trace, for.trace.picture, for.arrays, for.progress)
+    (read_measured_words file last lacks o.input (option_map decimal o.steps) (option_map decimal o.nest)))
 
 -- what share is told
 read_part : (x : Parts) → read_parts (parts_word x ∷ []) ≡ Some (Answer (command_by x))
@@ -504,11 +300,9 @@ shown_without_input (ForViewer out) = refl
 read_viewing : (file : List ℕ) (v : Viewing) → IsTrue (is_file_name file)
     → read_view file (viewing_words v) ≡ Some (line (Answer (command_for v.shown)) file (texts_by (viewing_options v)))
 read_viewing file v named =
-    goes (codes "--input") (valued (codes "--input") v.input (showing_words v.shown)) v.input (showing_words v.shown)
-    (λ input words. shown_if file v.trace input (read_showing words))
-    (takes_value (codes "--input") v.input (showing_words v.shown) refl (shown_without_input v.shown))
-    ∙ ap (shown_if file v.trace v.input) (read_shown v.shown)
-    ∙ read_with (Answer (command_for v.shown)) file (texts_by (viewing_options v)) _ named refl
+    rw (takes_value (codes "--input") v.input (showing_words v.shown) refl (shown_without_input v.shown))
+    (ap (shown_if file v.trace v.input) (read_shown v.shown)
+    ∙ read_with (Answer (command_for v.shown)) file (texts_by (viewing_options v)) _ named refl)
 
 read_named : (action : Action) (file : List ℕ) → IsTrue (is_file_name file)
     → read_file action file ≡ Some (bare action file)
@@ -600,62 +394,36 @@ pub record IsLineOf (words : List (List ℕ)) (a : Asked) : Type 0 where
   pub asked : a ≡ acting action file options
 
 none_right : AreRight no_options
-none_right = record {
-  input = tt;
-  steps = tt;
-  nest = tt;
-  tasks = tt;
-  w0 = tt;
-  workers = tt;
-  choices = tt;
-  trace = tt;
-  picture = tt;
-}
+none_right = assumption tt
 
-bare_line : (words : List (List ℕ)) (a : Asked) (action : Action) (file : List ℕ)
-    → read_plain words ≡ Some (bare action file) → a ≡ acting action file no_options → IsLineOf words a
-bare_line words a action file is_read asked = record {
+line_with : (words : List (List ℕ)) (a : Asked) (action : Action) (file : List ℕ) (o : Options) → AreRight o
+    → read_plain words ≡ Some (line action file (texts_by o)) → a ≡ acting action file o → IsLineOf words a
+line_with words a action file o right is_read asked = record {
   action = action;
   file = file;
-  options = no_options;
-  right = none_right;
+  options = o;
+  right = right;
   is_read = is_read;
   asked = asked;
 }
 
+bare_line : (words : List (List ℕ)) (a : Asked) (action : Action) (file : List ℕ)
+    → read_plain words ≡ Some (bare action file) → a ≡ acting action file no_options → IsLineOf words a
+bare_line words a action file is_read asked = line_with words a action file no_options none_right is_read asked
+
 asks_line : (words : List (List ℕ)) (a : Asked) → AsksPlainly words a → IsLineOf words a
-asks_line words a (to_run file o named for is asked) = record {
-  action = Answer Run;
-  file = file;
-  options = o;
-  right = for.right;
-  is_read = ap read_plain is ∙ read_with (Answer Run) file (texts_by o) _ named (run_options o for);
-  asked = asked;
-}
-asks_line words a (to_run_on_one_thread file o named for is asked) = record {
-  action = Answer Serial;
-  file = file;
-  options = o;
-  right = for.right;
-  is_read = ap read_plain is ∙ read_with (Answer Serial) file (texts_by o) _ named (serial_options o for);
-  asked = asked;
-}
-asks_line words a (to_explore file o named for is asked) = record {
-  action = Answer Explore;
-  file = file;
-  options = o;
-  right = for.right;
-  is_read = ap read_plain is ∙ read_with (Answer Explore) file (texts_by o) _ named (explore_options o for);
-  asked = asked;
-}
-asks_line words a (to_view file v named right is asked) = record {
-  action = Answer (command_for v.shown);
-  file = file;
-  options = viewing_options v;
-  right = right;
-  is_read = ap read_plain is ∙ read_viewing file v named;
-  asked = asked;
-}
+asks_line words a (to_run file o named for is asked) =
+    line_with words a (Answer Run) file o for.right
+    (ap read_plain is ∙ read_with (Answer Run) file (texts_by o) _ named (run_options o for)) asked
+asks_line words a (to_run_on_one_thread file o named for is asked) =
+    line_with words a (Answer Serial) file o for.right
+    (ap read_plain is ∙ read_with (Answer Serial) file (texts_by o) _ named (serial_options o for)) asked
+asks_line words a (to_explore file o named for is asked) =
+    line_with words a (Answer Explore) file o for.right
+    (ap read_plain is ∙ read_with (Answer Explore) file (texts_by o) _ named (explore_options o for)) asked
+asks_line words a (to_view file v named right is asked) =
+    line_with words a (Answer (command_for v.shown)) file (viewing_options v) right
+    (ap read_plain is ∙ read_viewing file v named) asked
 asks_line words a (to_check file named is asked) = bare_line words a (Answer Check) file (ap read_plain is ∙ read_named (Answer Check) file named) asked
 asks_line words a (to_list file named is asked) =
     bare_line words a (Answer Listing) file (ap read_plain is ∙ if_true (is_file_name file) _ _ named) asked
@@ -676,28 +444,16 @@ asks_line words a (to_rewrite file named is asked) =
     bare_line words a Rewrite file (ap read_plain is ∙ read_write_before file named) asked
 asks_line words a (to_rewrite_behind file named is asked) =
     bare_line words a Rewrite file (ap read_plain is ∙ read_write_behind file named) asked
-asks_line words a (to_cost file o named for is asked) = record {
-  action = Answer Cost;
-  file = file;
-  options = o;
-  right = for.right;
-  is_read =
-      ap read_plain is ∙ measured_options file [] (record { input = refl; steps = refl; nest = refl }) o for
-      ∙ read_with (Answer Cost) file (texts_by o) (Some (texts_by o)) named refl;
-  asked = asked;
-}
-asks_line words a (to_cost_by file o parts named for is asked) = record {
-  action = Answer (command_by parts);
-  file = file;
-  options = o;
-  right = for.right;
-  is_read =
-      ap read_plain is
-      ∙ measured_options file (parts_word parts ∷ []) (record { input = refl; steps = refl; nest = refl }) o for
-      ∙ ap (measured_if file (texts_by o)) (read_part parts)
-      ∙ read_with (Answer (command_by parts)) file (texts_by o) (Some (texts_by o)) named refl;
-  asked = asked;
-}
+asks_line words a (to_cost file o named for is asked) =
+    line_with words a (Answer Cost) file o for.right
+    (ap read_plain is ∙ measured_options file [] (record { input = refl; steps = refl; nest = refl }) o for
+    ∙ read_with (Answer Cost) file (texts_by o) (Some (texts_by o)) named refl) asked
+asks_line words a (to_cost_by file o parts named for is asked) =
+    line_with words a (Answer (command_by parts)) file o for.right
+    (ap read_plain is
+    ∙ measured_options file (parts_word parts ∷ []) (record { input = refl; steps = refl; nest = refl }) o for
+    ∙ ap (measured_if file (texts_by o)) (read_part parts)
+    ∙ read_with (Answer (command_by parts)) file (texts_by o) (Some (texts_by o)) named refl) asked
 
 -- ---- how it is told
 
@@ -719,12 +475,10 @@ read_manner_words : (m : Manner) (behind : List (List ℕ)) → HasNoManner behi
 read_manner_words m behind none =
     let color = option_map color_word m.color in
     let color_words = valued (codes "--color") color behind in
-    goes_flag (codes "--explain") (flagged (codes "--explain") m.explain color_words) m.explain color_words from_explain
-    (takes_flag (codes "--explain") m.explain color_words refl
+    rw (takes_flag (codes "--explain") m.explain color_words refl
     (lacks_flag_valued (codes "--explain") (codes "--color") color behind refl none.explain))
-    ∙ goes (codes "--color") color_words color behind (from_color m.explain)
-    (takes_value (codes "--color") color behind refl none.color)
-    ∙ ap (λ (c : Option (Option Color)). manner_if m.explain c behind) (color_is_read m.color)
+    (rw (takes_value (codes "--color") color behind refl none.color)
+    (ap (λ (c : Option (Option Color)). manner_if m.explain c behind) (color_is_read m.color)))
 
 -- the name of a file says nothing of it
 lacks_named : (option file : List ℕ) (behind : List (List ℕ)) → is_file_name option ≡ false → IsTrue (is_file_name file)

@@ -1,11 +1,12 @@
 -- What the words of a command line order: what they ask of one program, told as text or as one object; that its runs
 -- are timed; or that the programs of a folder are tested.
-use Rattle.std.specs.Prelude.{ℕ, ◌≡◌, List, [], ◌∷◌, Option, None, Some, IsTrue, codes}
+use Rattle.std.specs.Prelude.{ℕ, ◌≡◌, Bool, true, List, [], ◌∷◌, Option, None, Some, IsTrue, codes}
 use Rattle.command_line.specs.Requests.{Asked, Asks, asked_of, is_file_name}
 use Rattle.command_line.specs.declared.request.Action.{Action}
 use Rattle.command_line.specs.declared.request.Action.TheVariants.{Answer, Rewrite}
 use Rattle.command_line.specs.declared.request.Command.{Command}
 use Rattle.command_line.specs.declared.request.Command.TheVariants.{Run, Serial, Check, Pairs, Cost}
+use Rattle.reading.specs.Files.{names_once as asks_once}
 use Rattle.reading.specs.declared.order.Order.{Order as rOrder}
 use Rattle.reading.specs.declared.order.Order.TheVariants.{AsText as rAsText, AsObject as rAsObject}
 use Rattle.reading.specs.declared.order.Order.TheVariants.{Times as rTimes, Tests as rTests}
@@ -71,3 +72,10 @@ Orders words (AsText a) = Asks words a
 Orders words (AsObject x a) = AsksForObject words x a
 Orders words (Times a) = AsksToTime words a
 Orders words (Tests folder) = AsksToTest words folder
+
+-- it names no file twice
+abbrev pub names_once : Order → Bool
+names_once (AsText a) = asks_once a
+names_once (AsObject x a) = asks_once a
+names_once (Times a) = asks_once a
+names_once (Tests folder) = true

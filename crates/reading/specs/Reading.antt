@@ -3,7 +3,7 @@ use Rattle.std.specs.Prelude.{ℕ, ◌&&◌, List, [], ◌∷◌, Bool, true, fa
 use Rattle.std.specs.Prelude.{Option, Some, None, option_map}
 use Rattle.std.specs.Borrow.{Bor}
 use Rattle.std.specs.Str.{bytes_eq}
-use Rattle.command_line.specs.Requests.{Texts, is_file_name, no_manner}
+use Rattle.command_line.specs.Requests.{Texts, is_file_name, no_manner, no_options, texts_by}
 use Rattle.command_line.specs.declared.manner.Manner.{Manner}
 use Rattle.command_line.specs.declared.request.Color.{Color}
 use Rattle.command_line.specs.declared.request.Color.TheVariants.{Auto, Always, Never}
@@ -52,21 +52,7 @@ shown_of shown = (shown.0, option_map (λ name. name.now) shown.1)
 
 -- that there is no option
 abbrev pub no_texts : Texts
-no_texts = record {
-  input = None;
-  steps = None;
-  nest = None;
-  tasks = None;
-  w0 = None;
-  workers = None;
-  choices = None;
-  choices_from = None;
-  random = None;
-  trace = None;
-  picture = None;
-  arrays = false;
-  progress = false;
-}
+no_texts = texts_by no_options
 
 -- a line without options
 abbrev pub bare : Action → (file : List ℕ) → Line

@@ -3,6 +3,7 @@
 #![tactic(auto)]
 
 pub mod by_clap;
+mod files;
 pub mod manners;
 pub mod order;
 pub mod plain;

@@ -1,8 +1,10 @@
 //! What words order.
 
 ghost use Rattle.std.specs.Prelude.{◌≡◌};
+ghost use Rattle.reading.specs.Orders.{names_once as names_once_in, order as order_said};
 ghost use Rattle.reading.specs.Orders.{command_of, subject_of};
 
+use crate::files::names_once;
 use command_line::request::{Action, Command, Request};
 
 /// What the words of a command line order.
@@ -16,6 +18,19 @@ pub enum Order<'w> {
     Times(Request<'w>),
     /// `test`: the programs of this folder are run, and what they tell is compared with what they should.
     Tests(&'w str),
+}
+
+impl Order<'_> {
+    /// Whether it names no file twice.
+    pub fn names_once(&self) -> bool
+        ensures { result ≡ names_once_in (order_said self.now) }
+    {
+        match self {
+            Order::AsText(request) | Order::AsObject(_, request) | Order::Times(request) =>
+                names_once(request),
+            Order::Tests(_) => true,
+        }
+    }
 }
 
 /// What can be told as one object.

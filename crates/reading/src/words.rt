@@ -1,9 +1,9 @@
 //! The words of a command line.
 
-ghost use Rattle.std.specs.Prelude.{ℕ, ◌≡◌, ◌∷◌, [], codes, IsOkAnd, IsSomeAnd, IsTrue, List, map, Some};
+ghost use Rattle.std.specs.Prelude.{ℕ, ◌≡◌, ◌∷◌, [], codes, IfOk, IsErr, IsOkAnd, IsSomeAnd, IsTrue, List, map, Some, true, false};
 ghost use Rattle.std.specs.String.{string_bytes};
 ghost use Rattle.reading.specs.Orders.{AsText, AsObject, Times, Tests, Order as OrderIn, Orders};
-ghost use Rattle.reading.specs.Orders.{AsksForObject, order as order_said, subject_of};
+ghost use Rattle.reading.specs.Orders.{AsksForObject, names_once, order as order_said, subject_of};
 ghost use Rattle.reading.specs.declared.order.Subject.{Subject as SubjectOf};
 ghost use Rattle.reading.specs.Reading.{line_of};
 ghost use Rattle.command_line.specs.Requests.{AreRight, Asked, Asks, Options, asked_of};
@@ -17,18 +17,27 @@ use crate::plain::{Line, is_file_name, line_in, line_of_none};
 use crate::settings::settings_in;
 use crate::taking::take;
 use command_line::request::{Request, Telling};
-use options::reply::Reply;
+use options::reply::{self, Reply};
 use std::alloc::Global;
 
 /// Reads the words behind the program's name. What names a command, how it is told, a file and options behind it, in
-/// their order, is read here; all else, as other orders, help, pages and mistakes, by `clap`.
+/// their order, is read here; all else, as other orders, help, pages and mistakes, by `clap`. Words that name a file
+/// twice are a mistake: `run a.afx --trace a.afx`.
 pub fn order_of<'w>(alloc: Global, words: &'w [String]) -> Result<Order<'w>, Reply>
-    ensures { (o : OrderIn) → Orders (map string_bytes words.now) o
+    ensures read { (o : OrderIn) → Orders (map string_bytes words.now) o → names_once o ≡ true
         → IsOkAnd result (λ r. order_said r ≡ o) }
+    ensures once { IfOk result (λ r. names_once (order_said r) ≡ true) }
+    ensures twice { (o : OrderIn) → Orders (map string_bytes words.now) o → names_once o ≡ false
+        → IsErr result }
 {
-    match order_in(words) {
-        Some(order) => Ok(order),
-        None => order_by_clap(alloc, words),
+    let order = match order_in(words) {
+        Some(order) => order,
+        None => order_by_clap(alloc, words)?,
+    };
+    if order.names_once() {
+        Ok(order)
+    } else {
+        Err(reply::named_twice(alloc)?)
     }
 }
 

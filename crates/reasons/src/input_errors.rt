@@ -1,7 +1,8 @@
 //! Inputs that don't fit their program.
 
-use crate::nouns::noun;
-use excerpts::source::push_line;
+use excerpts::escaped::Escaped;
+use excerpts::nouns::noun;
+use excerpts::source::push_excerpt;
 use serde_json::Value;
 use std::alloc::{AllocError, Global};
 use syntax::Place;
@@ -9,8 +10,8 @@ use syntax_tree::tree::ElementType;
 use types::code::Array;
 use types::input_error::InputError;
 
-/// What stands behind the line of an error of an input: where, why, and what would be right. The text is that of the
-/// input, the arrays are those of the program.
+/// What stands behind the line of an error of an input: where, why, and what would be right. The
+/// text is that of the input, the arrays are those of the program.
 pub fn explained_input(
     alloc: Global,
     arrays: &[Array],
@@ -54,8 +55,7 @@ fn push_no_json(
         line: u32::try_from(line).unwrap_or(1),
         column: u32::try_from(column).unwrap_or(1),
     };
-    told.push('\n')?;
-    push_line(told, text, place)?;
+    push_excerpt(told, text, place)?;
     told.push_str("The input goes wrong as JSON here.\n")?;
     told.push_str("To mend it: write {\"a\": [1, 2]}, with the names of arrays for a.\n")
 }
@@ -86,6 +86,7 @@ fn element_text(element: ElementType) -> &'static str {
 
 /// Adds that the program has no such array.
 fn push_unknown(told: &mut String, arrays: &[Array], name: &str) -> Result<(), AllocError> {
+    let name = Escaped(name);
     write!(told, "\nThe program has no array `{name}`.\n")?;
     push_arrays(told, arrays)?;
     told.push_str("To mend it: take the member away, or give it the name of an array.\n")

@@ -4,10 +4,5 @@
 
 mod expected;
 pub mod input_errors;
-mod kinds;
-mod limits;
-mod nouns;
 pub mod races;
-pub mod rule_errors;
-mod rule_texts;
 pub mod syntax_errors;

@@ -1,13 +1,10 @@
 //! Programs that have a race.
 
-use excerpts::source::push_line;
-use places::statement_places;
+use excerpts::statements::Statements;
 use std::alloc::{AllocError, Global};
-use syntax::Place;
-use syntax::lexer::Unread;
 
-/// What stands behind the line of a race: where both accesses stand, why they may meet, and what would be right. The
-/// accesses are given as that line tells them, as `2 write a`.
+/// What stands behind the line of a race: where both accesses stand, why they may meet, and what
+/// would be right. The accesses are given as that line tells them, as `2 write a`.
 pub fn explained_race(
     alloc: Global,
     text: &str,
@@ -15,17 +12,12 @@ pub fn explained_race(
     second: &str,
 ) -> Result<String, AllocError> {
     let mut told = String::new(alloc);
-    if text.len() > 1_048_576 {
+    let Some(statements) = Statements::of(alloc, text)? else {
         return Ok(told);
-    }
-    let places = match statement_places(alloc, text) {
-        Ok(places) => places,
-        Err(Unread::OutOfMemory) => return Err(AllocError),
-        Err(_) => return Ok(told),
     };
     told.push('\n')?;
-    push_access(&mut told, text, &places, first)?;
-    push_access(&mut told, text, &places, second)?;
+    push_access(&mut told, &statements, first)?;
+    push_access(&mut told, &statements, second)?;
     told.push_str(if label_of(first) == label_of(second) {
         ONE
     } else {
@@ -51,8 +43,7 @@ task a part of its own by split.
 /// Adds the line of the statement that has an access, told as `2 write a`.
 fn push_access(
     told: &mut String,
-    text: &str,
-    places: &[Place],
+    statements: &Statements<'_>,
     access: &str,
 ) -> Result<(), AllocError> {
     let label = label_of(access);
@@ -63,16 +54,13 @@ fn push_access(
         return Ok(());
     };
     write!(told, "{label} {kind}s `{name}`:\n")?;
-    if let Some(place) = places.get(label.saturating_sub(1)) {
-        push_line(told, text, *place)?;
-    }
-    Ok(())
+    statements.push_at(told, label, None)
 }
 
 /// The label of an access that is told as `2 write a`.
-fn label_of(access: &str) -> usize {
+fn label_of(access: &str) -> u32 {
     match access.split_once(' ') {
-        Some((label, _)) => usize::from_str_radix(label, 10).unwrap_or(0),
+        Some((label, _)) => u32::from_str_radix(label, 10).unwrap_or(0),
         None => 0,
     }
 }

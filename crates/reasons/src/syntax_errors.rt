@@ -1,7 +1,8 @@
 //! Texts that spell no program.
 
 use crate::expected::{Front, WORDS, mark_text, word_text};
-use excerpts::source::push_line;
+use excerpts::named::is_operator;
+use excerpts::source::push_excerpt;
 use std::alloc::{AllocError, Global};
 use syntax::cursor::Stuck;
 use syntax::error::SyntaxError;
@@ -17,8 +18,7 @@ pub fn explained_syntax(
 ) -> Result<String, AllocError> {
     let mut told = String::new(alloc);
     if let Some(place) = error.place() {
-        told.push('\n')?;
-        push_line(&mut told, text, place)?;
+        push_excerpt(&mut told, text, place)?;
     }
     match error {
         SyntaxError::NotACharacter { .. } => told.push_str(NO_TOKEN)?,
@@ -31,8 +31,8 @@ pub fn explained_syntax(
     Ok(told)
 }
 
-/// How many tokens may stand before the place at which a text goes wrong, where it is said what may stand there: the
-/// parser goes over all of them for each.
+/// How many tokens may stand before the place at which a text goes wrong, where it is said what may
+/// stand there: the parser goes over all of them for each.
 const MOST_TOKENS: usize = 50_000;
 
 const NO_TOKEN: &str = "No token begins with this character.
@@ -170,17 +170,6 @@ fn is_else_if(last: Option<&Token>, behind: &[Spanned]) -> bool {
 fn is_short_assignment(behind: &[Spanned]) -> bool {
     match behind {
         [first, second, ..] => is_operator(&first.token) && is_becomes(&second.token),
-        _ => false,
-    }
-}
-
-/// Whether a token is an operator of numbers.
-fn is_operator(token: &Token) -> bool {
-    match token {
-        Token::Mark(mark) => match mark {
-            Mark::Plus | Mark::Minus | Mark::Star | Mark::Slash | Mark::Percent => true,
-            _ => false,
-        },
         _ => false,
     }
 }

@@ -1,7 +1,7 @@
 //! What faults come from, in words.
 
-use crate::statements::Statements;
 use excerpts::named::Named;
+use excerpts::statements::Statements;
 use second_run::cause::Cause;
 use sections::id::ArrayId;
 use sections::window::Window;

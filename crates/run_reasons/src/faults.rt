@@ -1,7 +1,7 @@
 //! Faults.
 
 use crate::causes::{push_cause, push_mend, spot_of};
-use crate::statements::Statements;
+use excerpts::statements::Statements;
 use second_run::seen::{Seen, SeenFault};
 use std::alloc::AllocError;
 use types::code::{Label, Program};

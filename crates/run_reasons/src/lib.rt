@@ -5,7 +5,6 @@
 mod causes;
 mod faults;
 pub mod runs;
-mod statements;
 mod stops;
 pub mod tasks;
 mod trace_lines;

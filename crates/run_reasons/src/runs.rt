@@ -1,15 +1,16 @@
 //! Runs that had faults, or were stopped.
 
 use crate::faults::push_faults;
-use crate::statements::Statements;
 use crate::stops::push_overrun;
+use excerpts::statements::Statements;
 use second_run::seen::Seen;
 use std::alloc::{AllocError, Global};
 use types::budget::Budget;
 use types::code::Program;
 
-/// What stands behind the outcome of a run with faults, or of one that was stopped: where, why, and what would be right.
-/// The text is that of the program, the budget is that of the run. Nothing of a run that ended without faults.
+/// What stands behind the outcome of a run with faults, or of one that was stopped: where, why, and
+/// what would be right. The text is that of the program, the budget is that of the run. Nothing of
+/// a run that ended without faults.
 pub fn explained_run(
     alloc: Global,
     text: &str,

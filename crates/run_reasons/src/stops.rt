@@ -1,7 +1,7 @@
 //! Tasks over their budget.
 
 use crate::faults::push_call;
-use crate::statements::Statements;
+use excerpts::statements::Statements;
 use second_run::seen::{Overrun, Part};
 use std::alloc::AllocError;
 use types::budget::{Budget, MOST_NEST, MOST_STEPS};

@@ -1,7 +1,7 @@
 //! Traces that aren't those of a run.
 
 use crate::trace_lines::{push_kind_rule, push_line_form};
-use excerpts::source::push_line;
+use excerpts::source::push_excerpt;
 use std::alloc::{AllocError, Global};
 use syntax::Place;
 
@@ -26,8 +26,7 @@ pub fn explained_trace(alloc: Global, trace: &str, wrong: Wrong) -> Result<Strin
 
 /// A line that is none.
 fn push_no_line(told: &mut String, trace: &str, number: usize) -> Result<(), AllocError> {
-    told.push('\n')?;
-    push_line(told, trace, beginning(number))?;
+    push_excerpt(told, trace, beginning(number))?;
     if is_cut(trace, number) {
         told.push_str(
             "Each line of a trace ends with a line feed, and this one, the last, doesn't.\n",
@@ -40,8 +39,7 @@ fn push_no_line(told: &mut String, trace: &str, number: usize) -> Result<(), All
 /// An event that can't come where it stands.
 fn push_event(told: &mut String, trace: &str, event: usize) -> Result<(), AllocError> {
     let number = event.saturating_add(2);
-    told.push('\n')?;
-    push_line(told, trace, beginning(number))?;
+    push_excerpt(told, trace, beginning(number))?;
     told.push_str(
         "All before it can happen in a run of this program on this input, and this can't come next.\n",
     )?;

@@ -11,8 +11,9 @@ use Rattle.types.specs.Value.{Environment, Valued, then_try, number, numbers, tr
 use Rattle.types.specs.Run.{Flow, On, Faulted, Stopped, Fault, State, Block, Turn, at_flow as flow_goes, go_on, with_step, fault, with_value, choose, in_environment, act, block, entry, with_sides, procedure_of, counted}
 use Rattle.types.specs.Meaning.{hushed, joined, child as child_state, after_async, after_body, after_finish, begin_one, one_rules, one as one_run}
 use Rattle.types.specs.Outcome.{Budget, IsLarger, Outcome, Ended, start, outcome_by, outcome_of, outcome}
-use Rattle.types.proofs.Adds.{only_adds, same_told}
+use Rattle.types.proofs.Adds.{only_adds}
 use Rattle.types.proofs.Larger.{one_is_thrifty}
+use Rattle.types.proofs.Views.{same_told}
 use Rattle.types.proofs.Solutions.{solves}
 use Rattle.types.specs.Trees.{Caller, Leaf, Tree, Single, Beside, append, single, is_done, done, failed, owner_environment, outermost, returned, returned_by, return_to, before_rest, all_done, faults_of, lines_of, rightmost, unless_faulted, and_then, called, child, parent, inside, held_back}
 use Rattle.types.specs.TreeSteps.{on_value, as_state, with_state, tree_after, store_after, first_leaf, first_tree}

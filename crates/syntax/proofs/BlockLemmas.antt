@@ -1,5 +1,5 @@
 -- What spells statements and blocks.
-use Rattle.std.proofs.Common.{◌≡◌, List, [], ◌∷◌, ◌++◌, Some, None, Vec, String, Global, refl, ap, sym, ◌∙◌}
+use Rattle.std.proofs.Common.{◌≡◌, List, [], ◌∷◌, ◌++◌, Some, None, Vec, String, Global, refl, ap, sym}
 use Rattle.std.specs.String.{string_bytes}
 use Rattle.syntax_tree.specs.declared.tree.Expr.{Expr as rExpr}
 use Rattle.syntax_tree.specs.declared.tree.Stmt.{Stmt as rStmt}
@@ -11,6 +11,7 @@ use Rattle.syntax.specs.declared.token.Mark.TheVariants.{LeftBrace, RightBrace, 
 use Rattle.syntax.specs.Token.{Token, NameToken, WordToken, MarkToken}
 use Rattle.syntax_tree.specs.Tree.{expr, stmt, block}
 use Rattle.syntax.specs.Spelling.{expr_then, stmt_then, block_then}
+use Rattle.syntax.proofs.ChainLemmas.{read_more}
 use Rattle.syntax_tree.proofs.RowLemmas.{stmt_While, stmt_Async, stmt_Finish, stmt_Split, stmt_If, stmt_IfElse}
 
 -- statements without the brace that closes their block
@@ -31,7 +32,7 @@ block_then-block (s ∷ ss) r = ap (stmt_then (stmt s)) (block_then-block ss r)
 pub stmts_read : (ts before r : List Token) (ss qs : List rStmt) (s : rStmt) → ts ≡ stmts_then ss before
     → before ≡ stmt_then (stmt s) r → qs ≡ ss ++ s ∷ [] → ts ≡ stmts_then qs r
 stmts_read ts before r ss qs s spelled statement pushed =
-    spelled ∙ ap (stmts_then ss) statement ∙ sym (stmts_then-push ss s r) ∙ ap (λ l. stmts_then l r) (sym pushed)
+    read_more stmts_then ss s r spelled statement (stmts_then-push ss s r) pushed
 
 pub stmt_then_If : (e : rExpr) (v : Vec rStmt Global) (r : List Token)
     → WordToken WordIf ∷ expr_then (expr e)

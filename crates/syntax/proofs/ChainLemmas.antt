@@ -26,6 +26,16 @@ use Rattle.syntax_tree.proofs.RowLemmas.{expr_built, conj_built, neg_built, cmp_
 pub behind : {t : Token} {ts us : List Token} → ts ≡ us → t ∷ ts ≡ t ∷ us
 behind {t} e = ap (λ l. t ∷ l) e
 
+-- tokens that begin with one token, in two ways, are equal behind it
+pub behind_first : {t u : Token} {ts us vs : List Token} → ts ≡ t ∷ us → ts ≡ u ∷ vs → us ≡ vs
+behind_first found same = cc
+
+-- one more item was read and put behind those of a list
+pub read_more : {X : Type 0} (spell : List X → List Token → List Token) (xs : List X) (x : X) (r : List Token) {ys : List X}
+    {ts before used : List Token} → ts ≡ spell xs before → before ≡ used → spell (xs ++ x ∷ []) r ≡ spell xs used
+    → ys ≡ xs ++ x ∷ [] → ts ≡ spell ys r
+read_more spell xs x r spelled is push pushed = spelled ∙ ap (spell xs) is ∙ sym push ∙ ap (λ l. spell l r) (sym pushed)
+
 pub conjs_then-push : (cs : List rConj) (c : rConj) (r : List Token)
     → conjs_then (conjs (cs ++ c ∷ [])) r ≡ conjs_then (conjs cs) (WordToken WordOr ∷ conj_then (conj c) r)
 unfolding conjs_then
@@ -67,11 +77,7 @@ terms_then-push (t ∷ ts) sign p r = term_then t _ _ _ _ (terms_then-push ts si
 -- What spells a value is what spells its parts.
 
 pub expr_then_built : (c : rConj) (v : Vec rConj Global) (r : List Token)
-    → conj_then (conj c) (conjs_then (conjs v.items) r) ≡ expr_then (expr (roll-Expr (record {
-      first = c;
-      rest =
-          v;
-    }))) r
+    → conj_then (conj c) (conjs_then (conjs v.items) r) ≡ expr_then (expr (roll-Expr (record { first = c; rest = v }))) r
 unfolding expr_then
 expr_then_built c v r = ap (λ e. expr_then e r) (sym (expr_built c v))
 
@@ -98,11 +104,7 @@ pub cmp_then_compared : (s : rSum) (relation : Relation) (t : Box rSum Global) (
     → sum_then (sum s) (MarkToken (relation_mark relation) ∷ sum_then (sum u) r)
     ≡ cmp_then (cmp (roll-Cmp (record {
       left = s;
-      right = Some (roll-Compared (record {
-        relation = relation;
-        right =
-            t;
-      }));
+      right = Some (roll-Compared (record { relation = relation; right = t }));
     }))) r
 unfolding cmp_then
 cmp_then_compared s relation t u r is =
@@ -115,11 +117,8 @@ unfolding sum_then
 sum_then_built p v r = ap (λ e. sum_then e r) (sym (sum_built p v))
 
 pub prod_then_built : (u : rUnary) (v : Vec rFactor Global) (r : List Token)
-    → unary_then (unary u) (factors_then (factors v.items) r) ≡ prod_then (prod (roll-Prod (record {
-      first = u;
-      rest =
-          v;
-    }))) r
+    → unary_then (unary u) (factors_then (factors v.items) r)
+    ≡ prod_then (prod (roll-Prod (record { first = u; rest = v }))) r
 unfolding prod_then
 prod_then_built u v r = ap (λ e. prod_then e r) (sym (prod_built u v))
 
@@ -129,35 +128,31 @@ module _ (ts before after r : List Token) where
       → ts ≡ conj_then (conj first) (conjs_then (conjs cs) before) → before ≡ WordToken WordOr ∷ after
       → after ≡ conj_then (conj c) r → ds ≡ cs ++ c ∷ [] → ts ≡ conj_then (conj first) (conjs_then (conjs ds) r)
   conjs_read first cs ds c spelled word operand pushed =
-      spelled ∙ ap (conj_then (conj first))
-      (ap (conjs_then (conjs cs)) (word ∙ behind operand) ∙ sym (conjs_then-push cs c r)
-      ∙ ap (λ l. conjs_then (conjs l) r) (sym pushed))
+      read_more (λ l t. conj_then (conj first) (conjs_then (conjs l) t)) cs c r spelled (word ∙ behind operand)
+      (ap (conj_then (conj first)) (conjs_then-push cs c r)) pushed
 
   pub negs_read : (first : rNeg) (ns ms : List rNeg) (n : rNeg) → ts ≡ neg_then (neg first) (negs_then (negs ns) before)
       → before ≡ WordToken WordAnd ∷ after → after ≡ neg_then (neg n) r → ms ≡ ns ++ n ∷ []
       → ts ≡ neg_then (neg first) (negs_then (negs ms) r)
   negs_read first ns ms n spelled word operand pushed =
-      spelled ∙ ap (neg_then (neg first))
-      (ap (negs_then (negs ns)) (word ∙ behind operand) ∙ sym (negs_then-push ns n r)
-      ∙ ap (λ l. negs_then (negs l) r) (sym pushed))
+      read_more (λ l t. neg_then (neg first) (negs_then (negs l) t)) ns n r spelled (word ∙ behind operand)
+      (ap (neg_then (neg first)) (negs_then-push ns n r)) pushed
 
   pub terms_read : (first : rProd) (us vs : List rTerm) (sign : Sign) (p : rProd)
       → ts ≡ prod_then (prod first) (terms_then (terms us) before) → before ≡ MarkToken (sign_mark sign) ∷ after
       → after ≡ prod_then (prod p) r → vs ≡ us ++ roll-Term (record { sign = sign; operand = p }) ∷ []
       → ts ≡ prod_then (prod first) (terms_then (terms vs) r)
   terms_read first us vs sign p spelled mark operand pushed =
-      spelled ∙ ap (prod_then (prod first))
-      (ap (terms_then (terms us)) (mark ∙ behind operand) ∙ sym (terms_then-push us sign p r)
-      ∙ ap (λ l. terms_then (terms l) r) (sym pushed))
+      read_more (λ l t. prod_then (prod first) (terms_then (terms l) t)) us _ r spelled (mark ∙ behind operand)
+      (ap (prod_then (prod first)) (terms_then-push us sign p r)) pushed
 
   pub factors_read : (first : rUnary) (fs gs : List rFactor) (f : rFactor)
       → ts ≡ unary_then (unary first) (factors_then (factors fs) before)
       → before ≡ MarkToken (operator_mark f.operator) ∷ after → after ≡ unary_then (unary f.operand) r
       → gs ≡ fs ++ f ∷ [] → ts ≡ unary_then (unary first) (factors_then (factors gs) r)
   factors_read first fs gs f spelled mark operand pushed =
-      spelled ∙ ap (unary_then (unary first))
-      (ap (factors_then (factors fs)) (mark ∙ behind operand) ∙ sym (factors_then-push fs f r)
-      ∙ ap (λ l. factors_then (factors l) r) (sym pushed))
+      read_more (λ l t. unary_then (unary first) (factors_then (factors l) t)) fs f r spelled (mark ∙ behind operand)
+      (ap (unary_then (unary first)) (factors_then-push fs f r)) pushed
 
   pub more_read : (earlier es fs : List rExpr) (e : rExpr) → AddsExprs earlier es ts before
       → before ≡ MarkToken Comma ∷ after → after ≡ expr_then (expr e) r → fs ≡ es ++ e ∷ [] → AddsExprs earlier fs ts r

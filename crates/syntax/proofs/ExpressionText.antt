@@ -1,7 +1,8 @@
 -- The text of the tokens of each production of an expression is that of its parts.
 use Rattle.std.proofs.Common.{◌≡◌, ℕ, Bool, true, false, if◌then◌else◌, List, [], ◌∷◌, ◌++◌, codes, Result, Ok, Err}
 use Rattle.std.proofs.Common.{OnOk, is_ok, Some, None, Box, String, Global, refl, ap, sym, ◌∙◌, append_assoc}
-use Rattle.std.proofs.Common.{append-nil}
+use Rattle.std.proofs.Common.{append-nil, ◌+◌, ◌<◌, ◌≤◌, length, drop, get_or}
+use Rattle.std.proofs.lemmas.List.{at_drop_more, at_drop_all}
 use Rattle.std.specs.Fmt.{decimal}
 use Rattle.std.specs.String.{string_bytes}
 use Rattle.syntax_tree.specs.declared.tree.Expr.{Expr as rExpr, out-Expr}
@@ -22,12 +23,12 @@ use Rattle.syntax.specs.Lexical.{mark_text}
 use Rattle.syntax.specs.Spelling.{expr_then, conj_then, conjs_then, neg_then, negs_then, cmp_then, sum_then, prod_then}
 use Rattle.syntax.specs.Spelling.{terms_then, unary_then, factors_then, atom_then, more_then, exprs_then, relation_mark}
 use Rattle.syntax.specs.Spelling.{sign_mark, operator_mark}
-use Rattle.syntax.specs.Token.{MarkToken}
+use Rattle.syntax.specs.Token.{Token, MarkToken}
 use Rattle.syntax_tree.specs.Tree.{Atom, Cmp, expr, conj, neg, cmp, sum, prod, term, unary, atom, negated, negative, conjs}
 use Rattle.syntax_tree.specs.Tree.{negs, terms, factors, exprs}
 use Rattle.syntax_tree.proofs.Atoms.{expr_is, conj_is, neg_is, cmp_is_alone, cmp_is_compared, sum_is, prod_is}
 use Rattle.syntax.proofs.LaidLemmas.{at_left, line, end_follows, conjs_follow, negs_follow, terms_follow}
-use Rattle.syntax.proofs.LaidLemmas.{factors_follow, more_follow, relation_follows, expr_apart, neg_apart, conj_apart}
+use Rattle.syntax.proofs.LaidLemmas.{factors_follow, more_behind, relation_follows, expr_apart, neg_apart, conj_apart}
 use Rattle.syntax.proofs.LaidLemmas.{cmp_apart, sum_apart, prod_apart, unary_apart, relation_laid, sign_laid}
 use Rattle.syntax.proofs.LaidLemmas.{operator_laid, expr_laid, conj_laid, neg_laid, sum_laid, prod_laid, unary_laid}
 use Rattle.syntax_tree.proofs.RowLemmas.{term_built}
@@ -46,6 +47,25 @@ adds_part before part rest was added parts =
 -- where nothing is left, all is added
 pub adds_all : (now : List ℕ) {left all : List ℕ} → now ++ left ≡ all → left ≡ [] → now ≡ all
 adds_all now was none = sym (append-nil now) ∙ ap (λ l. now ++ l) (sym none) ∙ was
+
+-- The texts of the items of a list, one behind the other.
+module _ {A : Type 0} (text : List A → List ℕ) where
+  -- what is written, and the text of the items that are left, are what was written before, and these tokens
+  abbrev pub IsWriting : List A → ℕ → String Global → String Global → List Token → Type 0
+  IsWriting xs i now before tokens = string_bytes now ++ text (drop i xs) ≡ string_bytes before ++ in_line tokens
+
+  -- one more is written
+  pub adds_next : (next : List A → List ℕ) (xs : List A) (i : ℕ) (before part : List ℕ) {x : A} {behind all : List ℕ}
+      → x ≡ get_or xs i x → i < length xs → before ++ text (drop i xs) ≡ all → behind ≡ before ++ part
+      → text (x ∷ drop (i + 1) xs) ≡ part ++ next (drop (i + 1) xs) → behind ++ next (drop (i + 1) xs) ≡ all
+  adds_next next xs i before part {x} is inside so_far added more =
+      adds_part before part (next (drop (i + 1) xs)) so_far added
+      (at_drop_more text xs i x inside ∙ ap (λ y. text (y ∷ drop (i + 1) xs)) (sym is) ∙ more)
+
+  -- none is left
+  pub adds_last : (xs : List A) (i : ℕ) (before : List ℕ) {all : List ℕ} → length xs ≤ i → before ++ text (drop i xs) ≡ all
+      → text [] ≡ [] → before ≡ all
+  adds_last xs i before at_end so_far none = adds_all before so_far (at_drop_all text xs i at_end ∙ none)
 
 pub ok_map : {X E P Q : Type 0} (r : Result X E) → (P → Q) → OnOk r P → OnOk r Q
 ok_map (Ok x) f p = f p
@@ -87,10 +107,9 @@ terms_text ts = laid (at_left line Operand) (terms_then (terms ts) [])
 abbrev pub factors_text : List rFactor → List ℕ
 factors_text fs = laid (at_left line Operand) (factors_then (factors fs) [])
 
--- expressions with a comma before each, or before each but the first
-abbrev pub exprs_text : Bool → List rExpr → List ℕ
-exprs_text true es = in_line (exprs_then (exprs es) [])
-exprs_text false es = laid (at_left line Operand) (more_then (exprs es) [])
+-- expressions with a comma before each
+abbrev pub more_text : List rExpr → List ℕ
+more_text es = in_line (more_then (exprs es) [])
 
 pub expr_text : (e : rExpr) → in_line (expr_then (expr e) [])
     ≡ in_line (conj_then (conj (out-Expr e).first) []) ++ conjs_text (out-Expr e).rest.items
@@ -233,15 +252,21 @@ pub atom_text_Parens : (b : Box rExpr Global) → in_line (atom_then (atom (rPar
 unfolding laid atom_then atom
 atom_text_Parens b = ap (λ l. 40 ∷ l) (expr_laid line (expr b.value) (MarkToken RightParen ∷ []) refl)
 
-pub exprs_text_none : (first : Bool) → exprs_text first [] ≡ []
-unfolding laid more_then exprs_then
-exprs_text_none true = refl
-exprs_text_none false = refl
+pub listed_none : in_line (exprs_then [] []) ≡ []
+unfolding laid exprs_then
+listed_none = refl
 
-pub exprs_text_more : (first : Bool) (e : rExpr) (es : List rExpr) → exprs_text first (e ∷ es)
-    ≡ ((if first then [] else codes ", ") ++ in_line (expr_then (expr e) [])) ++ exprs_text false es
-unfolding laid more_then exprs_then
-exprs_text_more true e es = expr_laid line (expr e) (more_then (exprs es) []) (more_follow line (exprs es) [] (end_follows line))
-exprs_text_more false e es =
-    ap (λ l. 44 ∷ l) (expr_apart line (expr e) (more_then (exprs es) [])
-    ∙ ap (λ l. 32 ∷ l) (expr_laid line (expr e) (more_then (exprs es) []) (more_follow line (exprs es) [] (end_follows line))))
+pub listed_more : (e : rExpr) (es : List rExpr)
+    → in_line (exprs_then (exprs (e ∷ es)) []) ≡ in_line (expr_then (expr e) []) ++ more_text es
+unfolding exprs_then
+listed_more e es = more_behind (expr e) (exprs es)
+
+pub more_text_none : more_text [] ≡ []
+unfolding laid more_then
+more_text_none = refl
+
+pub more_text_more : (e : rExpr) (es : List rExpr)
+    → more_text (e ∷ es) ≡ (codes ", " ++ in_line (expr_then (expr e) [])) ++ more_text es
+unfolding laid more_then
+more_text_more e es =
+    ap (λ l. 44 ∷ l) (expr_apart line (expr e) (more_then (exprs es) []) ∙ ap (λ l. 32 ∷ l) (more_behind (expr e) (exprs es)))

@@ -39,6 +39,12 @@ append_joined a b c x y z p q s = p ∙ ap (λ l. x ++ l) s ∙ sym (append_asso
 pub append_under : (x a c z : List ℕ) → a ≡ c ++ z → x ++ a ≡ (x ++ c) ++ z
 append_under x a c z e = ap (λ l. x ++ l) e ∙ sym (append_assoc x c z)
 
+-- the same behind a word or a mark and a space
+pub append_apart : (w x y z : List ℕ) {a b c d e : List ℕ} → d ≡ 32 ∷ a → e ≡ 32 ∷ c → a ≡ x ++ b → c ≡ x ++ y → b ≡ y ++ z
+    → w ++ d ≡ (w ++ e) ++ z
+append_apart w x y z {e = e} apart alone p q s =
+    append_under w _ e z (apart ∙ ap (λ l. 32 ∷ l) (append_joined _ _ _ _ _ _ p q s) ∙ ap (λ l. l ++ z) (sym alone))
+
 pub before_nil : (x z : List ℕ) → x ++ z ≡ (x ++ []) ++ z
 before_nil x z = ap (λ l. l ++ z) (sym (append-nil x))
 
@@ -156,10 +162,8 @@ mutual
   conjs_laid at NoConj r f = refl
   conjs_laid at (OrConj c cs) r f =
       let rest = conjs_then cs r in let none = conjs_then cs [] in
-      ap (λ l. 32 ∷ 111 ∷ 114 ∷ l) (conj_apart at c rest ∙ ap (λ l. 32 ∷ l)
-      (append_joined _ _ _ _ _ _ (conj_laid at c rest (conjs_follow at cs r f)) (conj_laid line c none (conjs_follow line cs []
-      (end_follows line))) (conjs_laid at cs r f)))
-      ∙ ap (λ l. (32 ∷ 111 ∷ 114 ∷ l) ++ laid (at_left at Operand) r) (sym (conj_apart line c none))
+      append_apart (32 ∷ 111 ∷ 114 ∷ []) _ _ _ (conj_apart at c rest) (conj_apart line c none)
+      (conj_laid at c rest (conjs_follow at cs r f)) (conj_laid line c none (conjs_follow line cs [] (end_follows line))) (conjs_laid at cs r f)
 
   pub conj_laid : (at : Place) (c : Conj) (r : List Token) → Follows at r → laid (at_left at Opening) (conj_then c r)
       ≡ in_line (conj_then c []) ++ laid (at_left at Operand) r
@@ -172,10 +176,8 @@ mutual
   negs_laid at NoNeg r f = refl
   negs_laid at (AndNeg n ns) r f =
       let rest = negs_then ns r in let none = negs_then ns [] in
-      ap (λ l. 32 ∷ 97 ∷ 110 ∷ 100 ∷ l) (neg_apart at n rest ∙ ap (λ l. 32 ∷ l)
-      (append_joined _ _ _ _ _ _ (neg_laid at n rest (negs_follow at ns r f)) (neg_laid line n none (negs_follow line ns []
-      (end_follows line))) (negs_laid at ns r f)))
-      ∙ ap (λ l. (32 ∷ 97 ∷ 110 ∷ 100 ∷ l) ++ laid (at_left at Operand) r) (sym (neg_apart line n none))
+      append_apart (32 ∷ 97 ∷ 110 ∷ 100 ∷ []) _ _ _ (neg_apart at n rest) (neg_apart line n none)
+      (neg_laid at n rest (negs_follow at ns r f)) (neg_laid line n none (negs_follow line ns [] (end_follows line))) (negs_laid at ns r f)
 
   pub neg_laid : (at : Place) (n : Neg) (r : List Token) → Follows at r → laid (at_left at Opening) (neg_then n r)
       ≡ in_line (neg_then n []) ++ laid (at_left at Operand) r
@@ -257,7 +259,18 @@ unfolding laid more_then
 more_laid at [] r f = refl
 more_laid at (e ∷ es) r f =
     let rest = more_then es r in let none = more_then es [] in
-    ap (λ l. 44 ∷ l) (expr_apart at e rest ∙ ap (λ l. 32 ∷ l)
-    (append_joined _ _ _ _ _ _ (expr_laid at e rest (more_follow at es r f)) (expr_laid line e none (more_follow line es []
-    (end_follows line))) (more_laid at es r f)))
-    ∙ ap (λ l. (44 ∷ l) ++ laid (at_left at Operand) r) (sym (expr_apart line e none))
+    append_apart (44 ∷ []) _ _ _ (expr_apart at e rest) (expr_apart line e none) (expr_laid at e rest (more_follow at es r f))
+    (expr_laid line e none (more_follow line es [] (end_follows line))) (more_laid at es r f)
+
+-- a comma stands at an operand as at the beginning of a line
+more_begun : (es : List Expr) → laid (at_left line Operand) (more_then es []) ≡ in_line (more_then es [])
+unfolding laid more_then
+more_begun [] = refl
+more_begun (e ∷ es) = refl
+
+-- an expression, and others behind commas
+pub more_behind : (e : Expr) (es : List Expr)
+    → in_line (expr_then e (more_then es [])) ≡ in_line (expr_then e []) ++ in_line (more_then es [])
+more_behind e es =
+    expr_laid line e (more_then es []) (more_follow line es [] (end_follows line))
+    ∙ ap (λ l. in_line (expr_then e []) ++ l) (more_begun es)

@@ -25,8 +25,8 @@ use Rattle.syntax_tree.specs.Tree.{Expr, Stmt, Skip, Var, Assign, Store, Print, 
 use Rattle.syntax_tree.specs.Tree.{Finish, Block, End, Then, Array, Parameter, Written, Read, Scalar, Procedure, Main}
 use Rattle.syntax_tree.specs.Tree.{parameter}
 use Rattle.syntax.specs.Writing.{place, with_rest, Adds, IsCounted}
-use Rattle.syntax.proofs.LaidLemmas.{at_left, line, Follows, append_joined, append_under, before_nil, end_follows, more_follow}
-use Rattle.syntax.proofs.LaidLemmas.{expr_apart, expr_laid, more_laid}
+use Rattle.syntax.proofs.LaidLemmas.{at_left, line, Follows, append_joined, append_apart, append_under, before_nil}
+use Rattle.syntax.proofs.LaidLemmas.{end_follows, expr_apart, expr_laid, more_behind, more_follow, more_laid}
 
 -- text that a layout begins with is written
 pub wrote : (old new : Lines) (from to : Left) (ts us : List Token) (t : List ℕ) (d : ℕ) (n : Option ℕ) → string_bytes new.text
@@ -258,11 +258,10 @@ abbrev pub print_then : Expr → List Expr → List Token → List Token
 print_then e es r = WordToken WordPrint ∷ expr_then e (more_then es r)
 
 pub print_text : (e : Expr) (es : List Expr) → in_line (print_then e es [])
-    ≡ codes "print " ++ (in_line (expr_then e []) ++ laid (at_left line Operand) (more_then es []))
+    ≡ codes "print " ++ (in_line (expr_then e []) ++ in_line (more_then es []))
 unfolding laid
 print_text e es =
-    ap (λ l. 112 ∷ 114 ∷ 105 ∷ 110 ∷ 116 ∷ l) (expr_apart line e (more_then es [])
-    ∙ ap (λ l. 32 ∷ l) (expr_laid line e (more_then es []) (more_follow line es [] (end_follows line))))
+    ap (λ l. 112 ∷ 114 ∷ 105 ∷ 110 ∷ 116 ∷ l) (expr_apart line e (more_then es []) ∙ ap (λ l. 32 ∷ l) (more_behind e es))
 
 pub laid_Print : (at : Place) (e : Expr) (es : List Expr) (r : List Token) → laid (at_left at Opening) (stmt_then (Print e es) r)
     ≡ in_line (print_then e es []) ++ up_to_end at r
@@ -347,10 +346,9 @@ unfolding laid more_parameters_then
 more_parameters_laid at [] r f = refl
 more_parameters_laid at (p ∷ ps) r f =
     let rest = more_parameters_then ps r in let none = more_parameters_then ps [] in
-    ap (λ l. 44 ∷ l) (parameter_apart at p rest ∙ ap (λ l. 32 ∷ l)
-    (append_joined _ _ _ _ _ _ (parameter_laid at p rest (parameters_follow at ps r f)) (parameter_laid line p none
-    (parameters_follow line ps [] (end_follows line))) (more_parameters_laid at ps r f)))
-    ∙ ap (λ l. (44 ∷ l) ++ laid (at_left at Operand) r) (sym (parameter_apart line p none))
+    append_apart (44 ∷ []) _ _ _ (parameter_apart at p rest) (parameter_apart line p none)
+    (parameter_laid at p rest (parameters_follow at ps r f)) (parameter_laid line p none
+    (parameters_follow line ps [] (end_follows line))) (more_parameters_laid at ps r f)
 
 parameters_laid : (at : Place) (ps : List Parameter) (r : List Token)
     → laid (at_left at Opening) (parameters_then ps (MarkToken RightParen ∷ r))

@@ -1,5 +1,5 @@
 -- What spells lists of arrays, parameters and procedures, with one more behind them.
-use Rattle.std.proofs.Common.{◌≡◌, ◌<◌, List, [], ◌∷◌, ◌++◌, length, map, refl, ap, sym, ◌∙◌, arith}
+use Rattle.std.proofs.Common.{◌≡◌, ◌<◌, List, [], ◌∷◌, ◌++◌, length, map, refl, ap, ◌∙◌, arith}
 use Rattle.syntax_tree.specs.declared.tree.Array.{Array as rArray}
 use Rattle.syntax_tree.specs.declared.tree.Parameter.{Parameter as rParameter}
 use Rattle.syntax_tree.specs.declared.tree.Procedure.{Procedure as rProcedure}
@@ -9,7 +9,7 @@ use Rattle.syntax.specs.declared.token.Mark.TheVariants.{Comma}
 use Rattle.syntax.specs.Token.{Token, WordToken, MarkToken, plain}
 use Rattle.syntax_tree.specs.Tree.{array, parameter, procedure}
 use Rattle.syntax.specs.Spelling.{arrays_then, parameter_then, parameters_then, more_parameters_then, procedures_then}
-use Rattle.syntax.proofs.ChainLemmas.{behind}
+use Rattle.syntax.proofs.ChainLemmas.{behind, read_more}
 
 pub plain_none : (ts : List Spanned) → length ts ≡ 0 → plain ts ≡ []
 plain_none [] e = refl
@@ -52,19 +52,17 @@ module _ (ts before after r : List Token) where
       → before ≡ WordToken WordArray ∷ after → WordToken WordArray ∷ after ≡ arrays_then (array x ∷ []) r
       → ys ≡ xs ++ x ∷ [] → ts ≡ arrays_then (map array ys) r
   arrays_read xs ys x spelled word one pushed =
-      spelled ∙ ap (arrays_then (map array xs)) (word ∙ one) ∙ sym (arrays_then-push xs x r)
-      ∙ ap (λ l. arrays_then (map array l) r) (sym pushed)
+      read_more (λ l. arrays_then (map array l)) xs x r spelled (word ∙ one) (arrays_then-push xs x r) pushed
 
   pub procedures_read : (xs ys : List rProcedure) (x : rProcedure) → ts ≡ procedures_then (map procedure xs) before
       → before ≡ WordToken WordProc ∷ after → WordToken WordProc ∷ after ≡ procedures_then (procedure x ∷ []) r
       → ys ≡ xs ++ x ∷ [] → ts ≡ procedures_then (map procedure ys) r
   procedures_read xs ys x spelled word one pushed =
-      spelled ∙ ap (procedures_then (map procedure xs)) (word ∙ one) ∙ sym (procedures_then-push xs x r)
-      ∙ ap (λ l. procedures_then (map procedure l) r) (sym pushed)
+      read_more (λ l. procedures_then (map procedure l)) xs x r spelled (word ∙ one) (procedures_then-push xs x r) pushed
 
   pub parameters_read : (xs ys : List rParameter) (x : rParameter) → 0 < length xs
       → ts ≡ parameters_then (map parameter xs) before → before ≡ MarkToken Comma ∷ after
       → after ≡ parameter_then (parameter x) r → ys ≡ xs ++ x ∷ [] → ts ≡ parameters_then (map parameter ys) r
   parameters_read xs ys x some spelled comma one pushed =
-      spelled ∙ ap (parameters_then (map parameter xs)) (comma ∙ behind one) ∙ sym (parameters_then-push xs x r some)
-      ∙ ap (λ l. parameters_then (map parameter l) r) (sym pushed)
+      read_more (λ l. parameters_then (map parameter l)) xs x r spelled (comma ∙ behind one)
+      (parameters_then-push xs x r some) pushed

@@ -1,5 +1,6 @@
 -- What the first tokens of a statement, a block or a list of arguments say of the tree that the tokens spell.
-use Rattle.std.proofs.Common.{◌≡◌, ◌≢◌, ◌<◌, ◌⊎◌, inl, inr, ℕ, List, [], ◌∷◌, refl, ap, ◌∙◌, arith}
+use Rattle.std.proofs.Common.{◌≡◌, ◌≢◌, ◌<◌, ◌⊎◌, inl, inr, ℕ, List, [], ◌∷◌, refl, ap, sym, ◌∙◌, arith}
+use Rattle.syntax.specs.declared.cursor.Stuck.{Stuck}
 use Rattle.syntax.specs.declared.token.Word.{Word}
 use Rattle.syntax.specs.declared.token.Word.TheVariants.{As as WordAs, Async as WordAsync, At as WordAt}
 use Rattle.syntax.specs.declared.token.Word.TheVariants.{Else as WordElse, Fault as WordFault, Finish as WordFinish}
@@ -11,7 +12,8 @@ use Rattle.syntax.specs.Token.{Token, NameToken, WordToken, MarkToken}
 use Rattle.syntax_tree.specs.Tree.{Expr, Stmt, Skip, Var, Assign, Store, Print, Fault, If, IfElse, While, Split, Call, Async}
 use Rattle.syntax_tree.specs.Tree.{Finish, Block, End, Then}
 use Rattle.syntax.specs.Spelling.{expr_then, more_then, exprs_then, stmt_then, block_then}
-use Rattle.syntax.specs.Reading.{binds, list_level, or_level, else_level}
+use Rattle.syntax.specs.Reading.{binds, list_level, or_level, else_level, IsRead, IsReadClosed, Refuses, RefusesClosed}
+use Rattle.syntax.proofs.ChainLemmas.{behind}
 use Rattle.syntax.proofs.ExprSpellings.{begins, expr_begins}
 use Rattle.syntax.proofs.StmtSpellings.{stmt_begins_with_no_brace, more_bind}
 use Rattle.syntax.proofs.RefusalLemmas.{rests_equal}
@@ -97,17 +99,42 @@ split_opened (Split x e y z b) ts r same = record {
 }
 split_opened _ ts r same = cc
 
-pub async_opened : (s : Stmt) (ts r : List Token) → WordToken WordAsync ∷ ts ≡ stmt_then s r
-    → (b : Block) × (ts ≡ MarkToken LeftBrace ∷ block_then b r)
+-- a block with its braces
+abbrev pub braced : Block → List Token → List Token
+braced b r = MarkToken LeftBrace ∷ block_then b r
+
+-- behind this word stands a block, where a statement is spelled
+abbrev pub OpensBlock : Word → Type 0
+OpensBlock word = (s : Stmt) (ts r : List Token) → WordToken word ∷ ts ≡ stmt_then s r → (b : Block) × (ts ≡ braced b r)
+
+pub async_opened : OpensBlock WordAsync
 unfolding stmt_then
 async_opened (Async b) ts r same = (b, rests_equal same)
 async_opened _ ts r same = cc
 
-pub finish_opened : (s : Stmt) (ts r : List Token) → WordToken WordFinish ∷ ts ≡ stmt_then s r
-    → (b : Block) × (ts ≡ MarkToken LeftBrace ∷ block_then b r)
+pub finish_opened : OpensBlock WordFinish
 unfolding stmt_then
 finish_opened (Finish b) ts r same = (b, rests_equal same)
 finish_opened _ ts r same = cc
+
+-- a word was read, and a block behind it
+pub block_read : {tokens after left : List Token} {first word : Word} {b : Block} {s : Stmt}
+    → tokens ≡ WordToken first ∷ after → first ≡ word → IsReadClosed braced after b left
+    → WordToken word ∷ braced b left ≡ stmt_then s left → OpensBlock word → IsRead stmt_then else_level tokens s left
+block_read {after = after} found is read spelled opened =
+    let worded = found ∙ ap (λ w. WordToken w ∷ after) is in
+    record {
+      spelled = worded ∙ behind read.spelled ∙ spelled;
+      whole = λ t r ends same. let body = opened t _ r (sym worded ∙ same) in read.whole body.0 r body.1;
+    }
+
+-- a word was read, and no block behind it
+pub block_refused : {tokens after : List Token} {first word : Word} {stuck : Stuck}
+    → tokens ≡ WordToken first ∷ after → first ≡ word → RefusesClosed braced after stuck → OpensBlock word
+    → Refuses stmt_then else_level tokens stuck
+block_refused {after = after} found is refused opened room t r ends same =
+    let body = opened t _ r (sym (found ∙ ap (λ w. WordToken w ∷ after) is) ∙ same) in
+    refused room body.0 r body.1
 
 pub skip_opened : (s : Stmt) (ts r : List Token) → WordToken WordSkip ∷ ts ≡ stmt_then s r → ts ≡ MarkToken Semicolon ∷ r
 unfolding stmt_then
@@ -131,12 +158,26 @@ unfolding stmt_then
 fault_opened (Fault e) ts r same = (e, rests_equal same)
 fault_opened _ ts r same = cc
 
-pub store_opened : (s : Stmt) (x : List ℕ) (ts r : List Token)
-    → NameToken x ∷ MarkToken LeftBracket ∷ ts ≡ stmt_then s r
-    → (i : Expr) × (e : Expr) × (ts ≡ expr_then i (MarkToken RightBracket ∷ MarkToken Becomes
-    ∷ expr_then e (MarkToken Semicolon ∷ r)))
+-- the parts of a store whose section and first bracket were read
+pub record Storing (ts r : List Token) : Type 0 where
+  pub index : Expr
+  pub value : Expr
+  pub after : List Token
+  pub spelled : ts ≡ expr_then index after
+  pub ends : binds after < or_level
+  pub closed : after ≡ MarkToken RightBracket ∷ MarkToken Becomes ∷ expr_then value (MarkToken Semicolon ∷ r)
+
+pub store_opened : (s : Stmt) (x : List ℕ) (ts r : List Token) → NameToken x ∷ MarkToken LeftBracket ∷ ts ≡ stmt_then s r
+    → Storing ts r
 unfolding stmt_then
-store_opened (Store y i e) x ts r same = (i, e, rests_equal (rests_equal same))
+store_opened (Store y i e) x ts r same = record {
+  index = i;
+  value = e;
+  after = MarkToken RightBracket ∷ MarkToken Becomes ∷ expr_then e (MarkToken Semicolon ∷ r);
+  spelled = rests_equal (rests_equal same);
+  ends = omega arith;
+  closed = refl;
+}
 store_opened _ x ts r same = cc
 
 pub call_opened : (s : Stmt) (x : List ℕ) (ts r : List Token) → NameToken x ∷ MarkToken LeftParen ∷ ts ≡ stmt_then s r

@@ -1,12 +1,13 @@
 -- No two statements, and no two blocks, are spelled alike, where no `else` stands behind them.
 use Rattle.std.proofs.Common.{◌≡◌, ◌≢◌, ◌<◌, List, [], ◌∷◌, refl, ap, sym, arith}
 use Rattle.syntax.specs.declared.token.Word.TheVariants.{As as WordAs, Else as WordElse}
+use Rattle.syntax.specs.declared.token.Mark.{Mark}
 use Rattle.syntax.specs.declared.token.Mark.TheVariants.{RightParen, LeftBrace, RightBrace, RightBracket, Comma, Semicolon, Becomes}
 use Rattle.syntax.specs.Token.{Token, NameToken, WordToken, MarkToken}
 use Rattle.syntax_tree.specs.Tree.{Expr, Stmt, Skip, Var, Assign, Store, Print, Fault, If, IfElse, While, Split, Call, Async}
 use Rattle.syntax_tree.specs.Tree.{Finish, Block, End, Then}
 use Rattle.syntax.specs.Spelling.{expr_then, more_then, exprs_then, stmt_then, block_then}
-use Rattle.syntax.specs.Reading.{binds, list_level, or_level, else_level}
+use Rattle.syntax.specs.Reading.{binds, mark_binds, list_level, or_level, else_level}
 use Rattle.syntax.proofs.ExprSpellings.{begins, expr_begins, expr_one}
 use Rattle.syntax.proofs.ListSpellings.{lists_one}
 
@@ -37,6 +38,14 @@ exprs_one (e ∷ es) (f ∷ fs) r s ends other closed closes same =
     let more = more_one es fs r s ends other first.1 in
     (cc (first.0, more.0), more.1)
 
+-- expressions before a mark that doesn't go on with them
+closed_one : (e f : Expr) (m : Mark) (ts us : List Token) → mark_binds m ≡ 0
+    → expr_then e (MarkToken m ∷ ts) ≡ expr_then f (MarkToken m ∷ us) → (e ≡ f) × (ts ≡ us)
+closed_one e f m ts us loose same =
+    let one = expr_one e f (MarkToken m ∷ ts) (MarkToken m ∷ us) (omega (arith, loose)) (omega (arith, loose)) same in
+    let rests = one.1 in
+    (one.0, cc)
+
 pub stmt_binds : (x : Stmt) (r : List Token) → binds (stmt_then x r) ≡ 0
 unfolding stmt_then
 stmt_binds Skip r = refl
@@ -60,21 +69,15 @@ mutual
       → stmt_then x r ≡ stmt_then y s → (x ≡ y) × (r ≡ s)
   stmt_one Skip Skip r s ends other same = (refl, cc)
   stmt_one (Var x e) (Var y f) r s ends other same =
-      let value = expr_one e f (MarkToken Semicolon ∷ r) (MarkToken Semicolon ∷ s) (omega arith) (omega arith) (cc) in
-      let last = value.1 in
-      (cc (value.0), cc)
+      let value = closed_one e f Semicolon r s refl (cc) in (cc (value.0), value.1)
   stmt_one (Assign x e) (Assign y f) r s ends other same =
-      let value = expr_one e f (MarkToken Semicolon ∷ r) (MarkToken Semicolon ∷ s) (omega arith) (omega arith) (cc) in
-      let last = value.1 in
-      (cc (value.0), cc)
+      let value = closed_one e f Semicolon r s refl (cc) in (cc (value.0), value.1)
   stmt_one (Store x i e) (Store y j f) r s ends other same =
-      let index = expr_one i j (MarkToken RightBracket ∷ MarkToken Becomes ∷ expr_then e (MarkToken Semicolon ∷ r))
-      (MarkToken RightBracket ∷ MarkToken Becomes ∷ expr_then f (MarkToken Semicolon ∷ s)) (omega arith)
-      (omega arith) (cc) in
-      let bracket = index.1 in
-      let value = expr_one e f (MarkToken Semicolon ∷ r) (MarkToken Semicolon ∷ s) (omega arith) (omega arith) (cc) in
-      let last = value.1 in
-      (cc (index.0, value.0), cc)
+      let index = closed_one i j RightBracket (MarkToken Becomes ∷ expr_then e (MarkToken Semicolon ∷ r))
+      (MarkToken Becomes ∷ expr_then f (MarkToken Semicolon ∷ s)) refl (cc) in
+      let mark = index.1 in
+      let value = closed_one e f Semicolon r s refl (cc) in
+      (cc (index.0, value.0), value.1)
   stmt_one (Print e es) (Print f fs) r s ends other same =
       let first = expr_one e f (more_then es (MarkToken Semicolon ∷ r)) (more_then fs (MarkToken Semicolon ∷ s))
       (more_bind es _ (omega arith)) (more_bind fs _ (omega arith)) (cc) in
@@ -82,43 +85,32 @@ mutual
       let last = others.1 in
       (cc (first.0, others.0), cc)
   stmt_one (Fault e) (Fault f) r s ends other same =
-      let value = expr_one e f (MarkToken Semicolon ∷ r) (MarkToken Semicolon ∷ s) (omega arith) (omega arith) (cc) in
-      let last = value.1 in
-      (cc (value.0), cc)
+      let value = closed_one e f Semicolon r s refl (cc) in (cc (value.0), value.1)
   stmt_one (If e b) (If f c) r s ends other same =
-      let guard = expr_one e f (MarkToken LeftBrace ∷ block_then b r) (MarkToken LeftBrace ∷ block_then c s)
-      (omega arith) (omega arith) (cc) in
-      let brace = guard.1 in
-      let body = block_one b c r s (cc) in
+      let guard = closed_one e f LeftBrace (block_then b r) (block_then c s) refl (cc) in
+      let body = block_one b c r s guard.1 in
       (cc (guard.0, body.0), body.1)
   stmt_one (If e b) (IfElse f c d) r s ends other same =
-      let guard = expr_one e f (MarkToken LeftBrace ∷ block_then b r)
-      (MarkToken LeftBrace ∷ block_then c (WordToken WordElse ∷ MarkToken LeftBrace ∷ block_then d s)) (omega arith)
-      (omega arith) (cc) in
-      let brace = guard.1 in
-      let body = block_one b c r (WordToken WordElse ∷ MarkToken LeftBrace ∷ block_then d s) (cc) in
+      let behind = WordToken WordElse ∷ MarkToken LeftBrace ∷ block_then d s in
+      let guard = closed_one e f LeftBrace (block_then b r) (block_then c behind) refl (cc) in
+      let body = block_one b c r behind guard.1 in
       absurd (omega (arith, ap binds body.1))
   stmt_one (IfElse e b d) (If f c) r s ends other same =
-      let guard = expr_one e f (MarkToken LeftBrace ∷ block_then b (WordToken WordElse ∷ MarkToken LeftBrace
-      ∷ block_then d r)) (MarkToken LeftBrace ∷ block_then c s) (omega arith) (omega arith) (cc) in
-      let brace = guard.1 in
-      let body = block_one b c (WordToken WordElse ∷ MarkToken LeftBrace ∷ block_then d r) s (cc) in
+      let behind = WordToken WordElse ∷ MarkToken LeftBrace ∷ block_then d r in
+      let guard = closed_one e f LeftBrace (block_then b behind) (block_then c s) refl (cc) in
+      let body = block_one b c behind s guard.1 in
       absurd (omega (arith, ap binds body.1))
   stmt_one (IfElse e b d) (IfElse f c g) r s ends other same =
-      let guard = expr_one e f (MarkToken LeftBrace ∷ block_then b (WordToken WordElse ∷ MarkToken LeftBrace
-      ∷ block_then d r)) (MarkToken LeftBrace ∷ block_then c (WordToken WordElse ∷ MarkToken LeftBrace
-      ∷ block_then g s)) (omega arith) (omega arith) (cc) in
-      let brace = guard.1 in
-      let body = block_one b c (WordToken WordElse ∷ MarkToken LeftBrace ∷ block_then d r)
-      (WordToken WordElse ∷ MarkToken LeftBrace ∷ block_then g s) (cc) in
+      let one = WordToken WordElse ∷ MarkToken LeftBrace ∷ block_then d r in
+      let two = WordToken WordElse ∷ MarkToken LeftBrace ∷ block_then g s in
+      let guard = closed_one e f LeftBrace (block_then b one) (block_then c two) refl (cc) in
+      let body = block_one b c one two guard.1 in
       let word = body.1 in
       let otherwise = block_one d g r s (cc) in
       (cc (guard.0, body.0, otherwise.0), otherwise.1)
   stmt_one (While e b) (While f c) r s ends other same =
-      let guard = expr_one e f (MarkToken LeftBrace ∷ block_then b r) (MarkToken LeftBrace ∷ block_then c s)
-      (omega arith) (omega arith) (cc) in
-      let brace = guard.1 in
-      let body = block_one b c r s (cc) in
+      let guard = closed_one e f LeftBrace (block_then b r) (block_then c s) refl (cc) in
+      let body = block_one b c r s guard.1 in
       (cc (guard.0, body.0), body.1)
   stmt_one (Split x e y z b) (Split u f v w c) r s ends other same =
       let at = expr_one e f (WordToken WordAs ∷ NameToken y ∷ MarkToken Comma ∷ NameToken z ∷ MarkToken LeftBrace

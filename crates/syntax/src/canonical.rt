@@ -460,9 +460,5 @@ fn print(first: &Expr, rest: &[Expr], out: &mut String) -> Result<(), AllocError
 {
     out.push_str("print ")?;
     expressions::expr(first, out)?;
-    for value in rest {
-        out.push_str(", ")?;
-        expressions::expr(value, out)?;
-    }
-    Ok(())
+    expressions::more(rest, out)
 }

@@ -3,6 +3,7 @@
 ghost use Rattle.std.specs.Prelude.{◌≡◌, ◌≢◌, ◌<◌, ℕ, List, [], ◌∷◌, length, IfOk, IfErr, IfSome};
 ghost use Rattle.std.specs.Prelude.{IfNone, MatchOption};
 ghost use Rattle.std.specs.String.{string_bytes};
+ghost use Rattle.syntax.specs.declared.cursor.Stuck.TheVariants.{OutOfMemory};
 ghost use Rattle.syntax.specs.declared.token.Word.{Word as AnyWord};
 ghost use Rattle.syntax.specs.Token.{Token as PlainToken, NameToken, NumberToken, WordToken};
 ghost use Rattle.syntax.specs.Token.{MarkToken, token, plain};
@@ -21,21 +22,17 @@ pub enum Stuck {
 }
 
 impl From<AllocError> for Stuck {
-    ghost use Rattle.syntax.specs.declared.cursor.Stuck.TheVariants.{OutOfMemory};
-
     ghost from_gives = { λ _ e. e ≡ OutOfMemory };
 
-    fn from(_e: AllocError) -> Stuck {
+    fn from(_error: AllocError) -> Stuck {
         Stuck::OutOfMemory
     }
 }
 
 impl<T: Drop> From<AllocFailed<T>> for Stuck {
-    ghost use Rattle.syntax.specs.declared.cursor.Stuck.TheVariants.{OutOfMemory};
-
     ghost from_gives = { λ _ e. e ≡ OutOfMemory };
 
-    fn from(_e: AllocFailed<T>) -> Stuck {
+    fn from(_error: AllocFailed<T>) -> Stuck {
         Stuck::OutOfMemory
     }
 }

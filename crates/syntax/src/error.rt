@@ -1,7 +1,8 @@
 //! Why a text is no program.
 
-ghost use Rattle.std.specs.Prelude.{◌≡◌};
-ghost use Rattle.syntax.specs.Refusals.{error_code, place_of};
+ghost use Rattle.std.specs.Prelude.{◌≡◌, Some};
+ghost use Rattle.syntax.specs.Refusals.{error_code, error_text, place_of};
+ghost use Rattle.syntax.specs.declared.error.SyntaxError.TheVariants.{OutOfMemory};
 
 use crate::place::Place;
 use std::alloc::{AllocError, AllocFailed};
@@ -57,10 +58,7 @@ impl SyntaxError {
 
 /// `S2 at 4:13`
 impl fmt::Display for SyntaxError {
-    ghost use Rattle.std.specs.Prelude.{Some};
-    ghost use Rattle.syntax.specs.Refusals.{error_text};
-
-    ghost output = { λ error. Some (error_text error) };
+    ghost output = { λ e. Some (error_text e) };
 
     fn fmt<W: fmt::Write>(&self, f: &mut fmt::Formatter<W>) -> fmt::Result {
         let code = self.code();
@@ -74,21 +72,17 @@ impl fmt::Display for SyntaxError {
 impl Error for SyntaxError {}
 
 impl From<AllocError> for SyntaxError {
-    ghost use Rattle.syntax.specs.declared.error.SyntaxError.TheVariants.{OutOfMemory};
-
     ghost from_gives = { λ _ e. e ≡ OutOfMemory };
 
-    fn from(_e: AllocError) -> SyntaxError {
+    fn from(_error: AllocError) -> SyntaxError {
         SyntaxError::OutOfMemory
     }
 }
 
 impl<T: Drop> From<AllocFailed<T>> for SyntaxError {
-    ghost use Rattle.syntax.specs.declared.error.SyntaxError.TheVariants.{OutOfMemory};
-
     ghost from_gives = { λ _ e. e ≡ OutOfMemory };
 
-    fn from(_e: AllocFailed<T>) -> SyntaxError {
+    fn from(_error: AllocFailed<T>) -> SyntaxError {
         SyntaxError::OutOfMemory
     }
 }

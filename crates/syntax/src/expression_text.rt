@@ -5,7 +5,7 @@ ghost use Rattle.std.specs.String.{string_bytes};
 ghost use Rattle.syntax.specs.Canonical.{in_line, token_text};
 ghost use Rattle.syntax.specs.Spelling.{expr_then, conj_then, neg_then, cmp_then};
 ghost use Rattle.syntax.specs.Spelling.{sum_then, prod_then};
-ghost use Rattle.syntax.specs.Spelling.{unary_then, atom_then, exprs_then};
+ghost use Rattle.syntax.specs.Spelling.{unary_then, atom_then, exprs_then, more_then};
 ghost use Rattle.syntax.specs.Spelling.{relation_mark, sign_mark};
 ghost use Rattle.syntax.specs.Spelling.{operator_mark};
 ghost use Rattle.syntax_tree.specs.Tree.{expr as expr_tree, conj as conj_tree};
@@ -141,12 +141,20 @@ pub fn listed(exprs: &[Expr], out: &mut String) -> Result<(), AllocError>
     ensures { OnOk result (string_bytes out.new
         ≡ string_bytes out.old ++ in_line (exprs_then (expr_trees exprs.now) [])) }
 {
-    let mut first = true;
+    let Some((first, rest)) = exprs.split_first() else {
+        return Ok(());
+    };
+    expr(first, out)?;
+    more(rest, out)
+}
+
+/// Expressions with a comma before each.
+pub fn more(exprs: &[Expr], out: &mut String) -> Result<(), AllocError>
+    ensures { OnOk result (string_bytes out.new
+        ≡ string_bytes out.old ++ in_line (more_then (expr_trees exprs.now) [])) }
+{
     for e in exprs {
-        if !first {
-            out.push_str(", ")?;
-        }
-        first = false;
+        out.push_str(", ")?;
         expr(e, out)?;
     }
     Ok(())

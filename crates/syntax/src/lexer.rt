@@ -12,6 +12,7 @@ ghost use Rattle.syntax.specs.Lexical.{Reads, SpellsWord};
 ghost use Rattle.syntax.specs.Lexical.{AreTokensOf};
 ghost use Rattle.syntax.specs.Refusals.{ArePlaced, BeginsNoToken, TellsUnread};
 ghost use Rattle.syntax.specs.Token.{token as token_tree, plain};
+ghost use Rattle.syntax.specs.declared.lexer.Unread.TheVariants.{OutOfMemory};
 
 use crate::token::{Mark, Spanned, Token, Word};
 use std::alloc::{AllocError, AllocFailed, Global};
@@ -31,21 +32,17 @@ pub enum Unread {
 }
 
 impl From<AllocError> for Unread {
-    ghost use Rattle.syntax.specs.declared.lexer.Unread.TheVariants.{OutOfMemory};
-
     ghost from_gives = { λ _ e. e ≡ OutOfMemory };
 
-    fn from(_e: AllocError) -> Unread {
+    fn from(_error: AllocError) -> Unread {
         Unread::OutOfMemory
     }
 }
 
 impl<T: Drop> From<AllocFailed<T>> for Unread {
-    ghost use Rattle.syntax.specs.declared.lexer.Unread.TheVariants.{OutOfMemory};
-
     ghost from_gives = { λ _ e. e ≡ OutOfMemory };
 
-    fn from(_e: AllocFailed<T>) -> Unread {
+    fn from(_error: AllocFailed<T>) -> Unread {
         Unread::OutOfMemory
     }
 }

@@ -101,9 +101,7 @@ fn array(tokens: &[Spanned]) -> Result<(Array, &[Spanned]), Stuck>
         (WordToken Word.Array ∷ plain tokens.now)) }
 {
     // array = "array" name ":" elem "[" number "]" ";", its first word read
-    let (name, rest) = cursor::name(tokens)?;
-    let rest = cursor::mark(rest, Mark::Colon)?;
-    let (element, rest) = element_type(rest)?;
+    let (name, element, rest) = section(tokens)?;
     let rest = cursor::mark(rest, Mark::LeftBracket)?;
     let (length, rest) = cursor::number(rest)?;
     let rest = cursor::mark(rest, Mark::RightBracket)?;
@@ -207,7 +205,7 @@ fn parameter(tokens: &[Spanned]) -> Result<(Parameter, &[Spanned]), Stuck>
     Ok((Parameter::Scalar { name }, rest))
 }
 
-/// The name and the element type of a section.
+/// The name and the element type of an array or a section.
 fn section(tokens: &[Spanned]) -> Result<(String, ElementType, &[Spanned]), Stuck>
     ensures shorter { IfOk result (λ read. length read.2.now < length tokens.now) }
     ensures spelled { IfOk result (λ read.

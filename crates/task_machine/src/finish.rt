@@ -7,13 +7,13 @@ ghost use Rattle.task_machine.specs.Ends.{Comes, GoesBehind, IsAtFinish, IsAtMai
 ghost use Rattle.task_machine.specs.Tasks.{IsTask};
 ghost use Rattle.task_machine.specs.Units.{held, units_of};
 
-use crate::error::NoMemory;
 use crate::outcome::outcome;
 use crate::stake::{ScopeMark, Share, Stake};
 use crate::task::{Body, Task};
 use gather::job::Job;
 use own_run::result::{Settled, TaskResult as RunResult};
 use own_run::turn::Paused as RunPaused;
+use std::alloc::AllocError;
 use types::outcome::Outcome;
 use types::path::Path;
 use weights::weight::Weight;
@@ -121,7 +121,7 @@ impl<'p> Parked<'p> {
 
 impl<'p> Waiting<'p> {
     /// Goes on behind the finish, with what came of it.
-    pub fn go_on(self, settled: Settled) -> Result<Task<'p>, NoMemory>
+    pub fn go_on(self, settled: Settled) -> Result<Task<'p>, AllocError>
         requires finish { IsAtFinish self }
         requires comes { Comes self settled }
         ensures behind { IfOk result (GoesBehind self.entry settled) }
@@ -162,7 +162,7 @@ impl<'p> Waiting<'p> {
     }
 
     /// What the run came to: the root goes no further.
-    pub fn outcome(self, settled: Settled) -> Result<Outcome, NoMemory>
+    pub fn outcome(self, settled: Settled) -> Result<Outcome, AllocError>
         requires main { IsAtMain self }
         requires comes { Comes self settled }
         ensures told { IfOk result (λ o. outcome_in o ≡ outcome_of self.entry.job) }

@@ -5,7 +5,6 @@
 
 #![tactic(auto)]
 
-pub mod error;
 pub mod finish;
 pub mod laws;
 mod outcome;

@@ -6,16 +6,16 @@ ghost use Rattle.types.specs.Typed.{code_of};
 ghost use Rattle.own_run.specs.Given.{told_of};
 ghost use Rattle.own_run.specs.Translation.{settled as settled_of};
 
-use crate::error::NoMemory;
 use gather::job::Job;
 use gather::told::told;
 use own_run::result::Settled;
+use std::alloc::AllocError;
 use types::outcome::Outcome;
 
 /// What is told of a run of the job in which all this has come.
-pub fn outcome(job: Job<'_>, settled: Settled) -> Result<Outcome, NoMemory>
+pub fn outcome(job: Job<'_>, settled: Settled) -> Result<Outcome, AllocError>
     ensures told { IfOk result (λ o. outcome_of o
         ≡ told_of (code_of job.entry.accepted.now.typed) (settled_of settled)) }
 {
-    Ok(told(job.alloc, job.plan().program, settled)?)
+    told(job.alloc, job.plan().program, settled)
 }

@@ -13,7 +13,6 @@ ghost use Rattle.task_machine.specs.Turns.{IsEndOf, Opens, Parts, RunsToEnd, Tak
 ghost use Rattle.task_machine.specs.Turns.{TurnsInPlace, turning};
 ghost use Rattle.task_machine.specs.Units.{held, units_after, units_of};
 
-use crate::error::NoMemory;
 use crate::finish::{Ending, Entering, Owner, Parked};
 use crate::stake::{ScopeMark, Share, Stake};
 use crate::turn::{TaskResult, Turn, Wanting};
@@ -23,6 +22,7 @@ use own_run::run::Run;
 use own_run::start::Start;
 use own_run::turn::{Done, Step, Turn as RunTurn};
 use program_code::pieces::ProgramCode;
+use std::alloc::AllocError;
 use types::path::Path;
 use weights::weight::Weight;
 
@@ -79,7 +79,7 @@ impl<'p> Task<'p> {
 
     /// Turns on, as long as nobody else sees it; gives the first turn that is more. It goes by the program's flat code
     /// where it may.
-    pub fn go(self, code: &ProgramCode<'p>) -> Result<Turn<'p>, NoMemory>
+    pub fn go(self, code: &ProgramCode<'p>) -> Result<Turn<'p>, AllocError>
         requires task { IsTask self }
         requires code { IsCodeOfProgram (program_of self.body.value.job) code.now }
         ensures turn { IfOk result (TakesTurn self.entry) }
@@ -94,7 +94,7 @@ impl<'p> Task<'p> {
     }
 
     /// One turn.
-    pub fn advance(self) -> Result<Turn<'p>, NoMemory>
+    pub fn advance(self) -> Result<Turn<'p>, AllocError>
         requires task { IsTask self }
         ensures turn { IfOk result (TakesOneTurn self.entry) }
         ensures tasks { IfOk result AreTasks }
@@ -151,7 +151,7 @@ impl<'p> Task<'p> {
 
 impl<'p> Body<'p> {
     /// Its run turns on where it lies.
-    fn go(&mut self, code: &ProgramCode<'p>) -> Result<Step<'p>, NoMemory>
+    fn go(&mut self, code: &ProgramCode<'p>) -> Result<Step<'p>, AllocError>
         requires body { IsBody self.old }
         requires code { IsCodeOfProgram (program_of self.old.job) code.now }
         ensures { IfOk result (λ s. GoesInPlace self.old s self.new) }
@@ -162,12 +162,12 @@ impl<'p> Body<'p> {
         };
         match run.go(accepted, code) {
             Ok(step) => Ok(step),
-            Err(_) => Err(NoMemory),
+            Err(_) => Err(AllocError),
         }
     }
 
     /// Its run takes one turn where it lies.
-    fn advance(&mut self) -> Result<Step<'p>, NoMemory>
+    fn advance(&mut self) -> Result<Step<'p>, AllocError>
         requires { IsBody self.old }
         ensures { IfOk result (λ s. TurnsInPlace self.old s self.new) }
     {
@@ -177,14 +177,14 @@ impl<'p> Body<'p> {
         };
         match run.step(accepted) {
             Ok(step) => Ok(step),
-            Err(_) => Err(NoMemory),
+            Err(_) => Err(AllocError),
         }
     }
 }
 
 impl<'p> Child<'p> {
     /// The task, before its first turn.
-    pub fn begin(self) -> Result<Task<'p>, NoMemory>
+    pub fn begin(self) -> Result<Task<'p>, AllocError>
         requires child { IsChild self }
         ensures task { IfOk result (IsBegun self.entry) }
     {
@@ -201,7 +201,7 @@ impl<'p> Child<'p> {
 }
 
 /// The root's body.
-fn root_body<'p>(job: Job<'p>) -> Result<Box<Body<'p>>, NoMemory>
+fn root_body<'p>(job: Job<'p>) -> Result<Box<Body<'p>>, AllocError>
     requires { IsJob job }
     ensures { IfOk result (λ b. IsRootBody job.entry b.value) }
 {
@@ -214,7 +214,7 @@ fn root_body<'p>(job: Job<'p>) -> Result<Box<Body<'p>>, NoMemory>
 }
 
 /// A task that has begun no finish.
-fn first_body<'p>(job: Job<'p>, run: Run<'p>, scope: ScopeMark) -> Result<Box<Body<'p>>, NoMemory>
+fn first_body<'p>(job: Job<'p>, run: Run<'p>, scope: ScopeMark) -> Result<Box<Body<'p>>, AllocError>
     ensures { IfOk result (λ b. IsFirst job.entry run.entry scope b.value) }
 {
     let body = Body {
@@ -228,7 +228,7 @@ fn first_body<'p>(job: Job<'p>, run: Run<'p>, scope: ScopeMark) -> Result<Box<Bo
 }
 
 /// What a turn of its run makes of a task that goes on.
-fn did<'p>(body: Box<Body<'p>>, share: Share, done: Done<'p>) -> Result<Turn<'p>, NoMemory>
+fn did<'p>(body: Box<Body<'p>>, share: Share, done: Done<'p>) -> Result<Turn<'p>, AllocError>
     requires done { HasDone body.value done }
     ensures becomes { IfOk result (λ t. (r : AnyRun) → body.entry.value.run ≡ Some r
         → Becomes (turning body.entry.value) share.weight (turn_of r done.entry) t) }
@@ -263,7 +263,7 @@ fn spawned<'p>(body: Box<Body<'p>>, share: Share, start: Box<Start<'p>>) -> Turn
 }
 
 /// A task that began a finish: it stands in one more scope.
-fn entered<'p>(body: Box<Body<'p>>, share: Share) -> Result<Entering<'p>, NoMemory>
+fn entered<'p>(body: Box<Body<'p>>, share: Share) -> Result<Entering<'p>, AllocError>
     requires run { (r : AnyRun) × (body.value.run ≡ Some r) }
     requires few { body.value.opened < 4294967295 }
     ensures { IfOk result (λ e. (r : AnyRun) → body.entry.value.run ≡ Some r
@@ -283,7 +283,7 @@ fn entered<'p>(body: Box<Body<'p>>, share: Share) -> Result<Entering<'p>, NoMemo
 }
 
 /// What becomes of a task whose run is at the end of a finish, or at its own.
-fn at_end<'p>(body: Box<Body<'p>>, share: Share) -> Result<Turn<'p>, NoMemory>
+fn at_end<'p>(body: Box<Body<'p>>, share: Share) -> Result<Turn<'p>, AllocError>
     requires end { RunsToEnd body.value }
     ensures ends { IfOk result (EndsBy body.entry.value share.weight) }
     ensures tasks { IfOk result AreTasks }
@@ -313,7 +313,7 @@ fn ending<'p>(
     share: Share,
     owner: Owner<'p>,
     made: RunResult,
-) -> Result<Ending<'p>, NoMemory>
+) -> Result<Ending<'p>, AllocError>
     ensures { IfOk result (IsEndOf body.entry.value share.weight owner.entry made) }
 {
     let Body {
@@ -338,7 +338,7 @@ fn ending<'p>(
 }
 
 /// A task at its end: the root is at that of `main`.
-fn ended<'p>(body: Box<Body<'p>>, share: Share, made: RunResult) -> Result<Turn<'p>, NoMemory>
+fn ended<'p>(body: Box<Body<'p>>, share: Share, made: RunResult) -> Result<Turn<'p>, AllocError>
     ensures { IfOk result (Becomes body.entry.value share.weight (Ended made)) }
 {
     if made.path.turns.is_empty() {

@@ -15,8 +15,7 @@ use Rattle.events.specs.declared.event.Event.{Event}
 use Rattle.interleave.specs.declared.world.World.{World}
 use Rattle.interleave.proofs.Staying.{stays_shown}
 use Rattle.interleave.proofs.Walking.{replayed_on}
-use Rattle.trace.specs.Logs.{IsClean, Leaves, Recorded, world_error}
-use Rattle.trace.specs.declared.log_error.LogError.{LogError}
+use Rattle.trace.specs.Logs.{IsClean, Recorded}
 
 -- what a log of these shows
 abbrev pub recorded : World → List Event → Recorded
@@ -54,14 +53,6 @@ clean_still old new es clean stays =
 pub if_error_then : {T E : Type 0} {P Q : E → Type 0} (r : Result T E) → IsErrAnd r P → ((e : E) → P e → Q e) → IfErr r Q
 if_error_then (Ok v) p f = tt
 if_error_then (Err e) p f = f e p
-
--- what an error of the world makes of a log
-pub left_by : (e : Event) (old new : Recorded) (x : LogError) (y : EventError) → world_error x ≡ y → new.events ≡ old.events
-    → Refuses (event e) old.world new.world y → Leaves e old new x
-left_by e old new x y same events r = record {
-  events = events;
-  world = subst (Refuses (event e) old.world new.world) (sym same) r;
-}
 
 -- events that were refused
 pub refused_by : (j k : WeightedJob) (es fs : List Event) (x : ReplayError) (n : ℕ) → IsRefused j es x → x ≡ IllegalAt n → j ≡ k

@@ -1,17 +1,14 @@
 -- Logs: the events of a run so far, and the world that they led to.
-use Rattle.std.specs.Prelude.{ℕ, ◌≡◌, List, codes}
+use Rattle.std.specs.Prelude.{ℕ, ◌≡◌, List}
 use Rattle.interleave.specs.Jobs.{IsWeightedJob}
 use Rattle.interleave.specs.Replay.{IllegalAt}
 use Rattle.interleave.specs.Replaying.{IsReplayed, comes, event}
 use Rattle.interleave.specs.Shown.{Refuses}
 use Rattle.interleave.specs.declared.error.EventError.{EventError}
-use Rattle.interleave.specs.declared.error.EventError.TheVariants.{Illegal as IsIllegal}
-use Rattle.interleave.specs.declared.error.EventError.TheVariants.{NoMemory as IsNoMemory}
+use Rattle.interleave.specs.declared.error.EventError.TheVariants.{Illegal, NoMemory}
 use Rattle.events.specs.declared.event.Event.{Event}
 use Rattle.interleave.specs.declared.job.WeightedJob.{WeightedJob}
 use Rattle.interleave.specs.declared.world.World.{World}
-use Rattle.trace.specs.declared.log_error.LogError.{LogError}
-use Rattle.trace.specs.declared.log_error.LogError.TheVariants.{Illegal, NoMemory}
 
 -- what a log shows
 pub record Recorded : Type 0 where
@@ -24,21 +21,12 @@ pub record IsClean (l : Recorded) : Type 0 where
   pub job : IsWeightedJob l.world.job
   pub replayed : IsReplayed l.world.job l.events l.world
 
--- why a world refuses what a log refuses
-abbrev pub world_error : LogError → EventError
-world_error Illegal = IsIllegal
-world_error NoMemory = IsNoMemory
-
 -- an error leaves the log as it was; where it calls the event illegal it was
-pub record Leaves (e : Event) (old new : Recorded) (error : LogError) : Type 0 where
+pub record Leaves (e : Event) (old new : Recorded) (error : EventError) : Type 0 where
   pub events : new.events ≡ old.events
-  pub world : Refuses (event e) old.world new.world (world_error error)
+  pub world : Refuses (event e) old.world new.world error
 
 -- events that lead to no log: some first one isn't legal; or memory was missing
-abbrev pub IsRefusedBy : WeightedJob → List Event → LogError → Type 0
+abbrev pub IsRefusedBy : WeightedJob → List Event → EventError → Type 0
 IsRefusedBy j es Illegal = (n : ℕ) × (comes j es ≡ IllegalAt n)
 IsRefusedBy j es NoMemory = Unit {0}
-
-abbrev pub log_error_text : LogError → List ℕ
-log_error_text Illegal = codes "I1"
-log_error_text NoMemory = codes "I2"

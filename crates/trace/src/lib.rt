@@ -3,4 +3,3 @@
 #![tactic(auto)]
 
 pub mod log;
-pub mod log_error;

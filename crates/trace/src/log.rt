@@ -6,12 +6,11 @@ ghost use Rattle.types.specs.Translation.{input as lists_in};
 ghost use Rattle.types.specs.Typed.{code_of};
 ghost use Rattle.interleave.specs.Replaying.{event as event_of};
 ghost use Rattle.interleave.specs.Shown.{Becomes};
+ghost use Rattle.interleave.specs.declared.error.EventError.TheVariants.{NoMemory};
 ghost use Rattle.trace.specs.Logs.{IsClean, IsRefusedBy, Leaves};
-ghost use Rattle.trace.specs.declared.log_error.LogError.TheVariants.{NoMemory};
 
-use crate::log_error::LogError;
 use events::event::Event;
-use interleave::error::ReplayError;
+use interleave::error::{EventError, ReplayError};
 use interleave::job::WeightedJob;
 use interleave::replay::replay;
 use interleave::world::World;
@@ -51,7 +50,7 @@ impl<'p> Log<'p> {
         header: &Header,
         accepted: &'p Accepted,
         input: &'p Input,
-    ) -> Result<Log<'p>, LogError>
+    ) -> Result<Log<'p>, EventError>
         requires { FitsArrays (code_of accepted.now.typed).arrays (lists_in input.now) }
         ensures begun { IfOk result (λ l. l.events ≡ []) }
         ensures job { IfOk result (λ l. l.world.job ≡ record {
@@ -83,7 +82,7 @@ impl<'p> Log<'p> {
         accepted: &'p Accepted,
         input: &'p Input,
         events: Vec<Event>,
-    ) -> Result<Log<'p>, LogError>
+    ) -> Result<Log<'p>, EventError>
         requires { FitsArrays (code_of accepted.now.typed).arrays (lists_in input.now) }
         ensures events { IfOk result (λ l. l.events ≡ events.items) }
         ensures job { IfOk result (λ l. l.world.job ≡ record {
@@ -110,13 +109,13 @@ impl<'p> Log<'p> {
         };
         match replay(job, &events) {
             Ok(world) => Ok(Log { world, events }),
-            Err(ReplayError::IllegalAt(_)) => Err(LogError::Illegal),
-            Err(ReplayError::NoMemory) => Err(LogError::NoMemory),
+            Err(ReplayError::IllegalAt(_)) => Err(EventError::Illegal),
+            Err(ReplayError::NoMemory) => Err(EventError::NoMemory),
         }
     }
 
     /// An event happens: it is added to the list, and the world goes on by it.
-    pub fn record(&mut self, event: Event) -> Result<(), LogError>
+    pub fn record(&mut self, event: Event) -> Result<(), EventError>
         ensures recorded { OnOk result (self.new.events ≡ self.old.events ++ event ∷ []) }
         ensures moved { OnOk result (Becomes (event_of event) self.old.world self.new.world) }
         ensures refused { IfErr result (Leaves event self.old self.new) }

@@ -83,7 +83,3 @@ held_more es i e d old new there is at goes = record {
       (sym (drop_more es i d there ∙ ap (λ (x : Event). x ∷ drop (i + 1) es) (sym is)))
       ∙ at.rest;
 }
-
-pub held_at_last : (es : List Event) (i : ℕ) (r : rHands) → length es ≤ i → IsHeld es i r → r.did.items ≡ steps_by_worker es
-held_at_last es i r past at =
-    at.shows.did ∙ ap (λ (l : List Event). (hands_after l at.hands).did) (sym (drop_all i es past)) ∙ at.rest

@@ -14,9 +14,6 @@ pub record IsAt (es : List Event) (i : ℕ) (r : rChains) : Type 0 where
   pub shows : Shows r chains
   pub rest : (chains_after (drop i es) chains).came_back 0 ≡ span_of es
 
-pub at_first : (es : List Event) (r : rChains) → Shows r no_chains → IsAt es 0 r
-at_first es r shows = record { chains = no_chains; within = within_start; shows = shows; rest = refl }
-
 pub at_more : (es : List Event) (i : ℕ) (e d : Event) (old new : rChains) → i < length es → e ≡ get_or es i d → IsAt es i old
     → ((c : Chains) → Shows old c → Shows new (chained e c)) → IsAt es (i + 1) new
 at_more es i e d old new there is at goes = record {
@@ -26,16 +23,6 @@ at_more es i e d old new there is at goes = record {
   rest = ap (λ (l : List Event). (chains_after l at.chains).came_back 0)
       (sym (drop_more es i d there ∙ ap (λ (x : Event). x ∷ drop (i + 1) es) (sym is)))
       ∙ at.rest;
-}
-
--- the next event may happen
-pub may_go_on : (es : List Event) (i : ℕ) (r : rChains) → i < length es → length es < 18446744073709551616 → IsAt es i r → AreAfter r
-may_go_on es i r there fits at = record {
-  count = i;
-  few = omega arith;
-  chains = at.chains;
-  within = at.within;
-  shows = at.shows;
 }
 
 -- the root's scope is there

@@ -9,7 +9,7 @@ use Rattle.events.specs.declared.event.Event.{Event as rEvent}
 use Rattle.serde_json.specs.Written.{compact_text}
 use Rattle.trace_text.specs.Fields.{fields, pass_fields, steal_fields, task_fields, worker_fields}
 use Rattle.trace_text.specs.Headers.{TraceHeader}
-use Rattle.trace_text.specs.Kinds.{kind_name, kind_of}
+use Rattle.trace_text.specs.Kinds.{kind_name, kind_of, task_of}
 use Rattle.trace_text.specs.Lines.{event_object, header_object}
 use Rattle.trace_text.specs.Spelled.{Lacks, IsPath, IsScope, IsSpelled, IsTheft, IsWorkers}
 use Rattle.trace_text.specs.declared.kind.Kind.{Kind}
@@ -66,66 +66,11 @@ pub text_of_event : (e : Event)
     → compact_text (event_object e) ≡ codes "{\"e\":\"" ++ (kind_name (kind_of e) ++ (34 ∷ fields e))
 text_of_event (Take worker path) = bare (text_of_worker IsTake worker path [])
 text_of_event (Steal worker from path) = bare (text_of_steal worker from path [])
-text_of_event (Steps path) = bare (text_of_task IsStep path [])
-text_of_event (Replenish path) = bare (text_of_task IsReplenish path [])
-text_of_event (Spawns path) = bare (text_of_task IsSpawn path [])
-text_of_event (Opens path) = bare (text_of_task IsOpen path [])
-text_of_event (Parks path) = bare (text_of_task IsPark path [])
-text_of_event (Ends path) = bare (text_of_task IsEnd path [])
-text_of_event (Pass scope) = bare (text_of_pass scope.number scope.owner [])
 text_of_event (Resume worker path) = bare (text_of_worker IsResume worker path [])
+text_of_event (Pass scope) = bare (text_of_pass scope.number scope.owner [])
+text_of_event e = bare (text_of_task (kind_of e) (task_of e) [])
 
--- a path that was read, as part of an event
-pub with_path : (o : Option Path) (make : Path → rEvent) (shape : List ℕ → Event)
-    → ((q : Path) → event (make q) ≡ shape (turns_of q)) → (p : List ℕ) → option_map turns_of o ≡ Some p
-    → option_map event (option_map make o) ≡ Some (shape p)
-with_path None make shape is p same = absurd cc
-with_path (Some q) make shape is p same =
-    let one : turns_of q ≡ p = cc in ap Some (is q ∙ ap shape one)
-
--- an event with such a path can be spelled
-pub path_spelled : (o : Option Path) (make : Path → rEvent) → IfSome o (λ p. IsPath p.turns.items)
-    → ((q : Path) → IsPath (turns_of q) → IsSpelled (event (make q)))
-    → IfSome (option_map make o) (λ e. IsSpelled (event e))
-path_spelled None make fits is = fits
-path_spelled (Some q) make fits is = is q fits
-
-pub told_step : (rest : List ℕ) (o : Option Event)
-    → ((p : List ℕ) → IsPath p → rest ≡ task_fields p → o ≡ Some (Steps p))
-    → (e : Event) → IsSpelled e → IsStep ≡ kind_of e → rest ≡ fields e → o ≡ Some e
-told_step rest o found (Steps p) h kind same = found p h same
-told_step rest o found e h kind same = absurd cc
-
-pub told_replenish : (rest : List ℕ) (o : Option Event)
-    → ((p : List ℕ) → IsPath p → rest ≡ task_fields p → o ≡ Some (Replenish p))
-    → (e : Event) → IsSpelled e → IsReplenish ≡ kind_of e → rest ≡ fields e → o ≡ Some e
-told_replenish rest o found (Replenish p) h kind same = found p h same
-told_replenish rest o found e h kind same = absurd cc
-
-pub told_spawn : (rest : List ℕ) (o : Option Event)
-    → ((p : List ℕ) → IsPath p → rest ≡ task_fields p → o ≡ Some (Spawns p))
-    → (e : Event) → IsSpelled e → IsSpawn ≡ kind_of e → rest ≡ fields e → o ≡ Some e
-told_spawn rest o found (Spawns p) h kind same = found p h same
-told_spawn rest o found e h kind same = absurd cc
-
-pub told_open : (rest : List ℕ) (o : Option Event)
-    → ((p : List ℕ) → IsPath p → rest ≡ task_fields p → o ≡ Some (Opens p))
-    → (e : Event) → IsSpelled e → IsOpen ≡ kind_of e → rest ≡ fields e → o ≡ Some e
-told_open rest o found (Opens p) h kind same = found p h same
-told_open rest o found e h kind same = absurd cc
-
-pub told_park : (rest : List ℕ) (o : Option Event)
-    → ((p : List ℕ) → IsPath p → rest ≡ task_fields p → o ≡ Some (Parks p))
-    → (e : Event) → IsSpelled e → IsPark ≡ kind_of e → rest ≡ fields e → o ≡ Some e
-told_park rest o found (Parks p) h kind same = found p h same
-told_park rest o found e h kind same = absurd cc
-
-pub told_end : (rest : List ℕ) (o : Option Event)
-    → ((p : List ℕ) → IsPath p → rest ≡ task_fields p → o ≡ Some (Ends p))
-    → (e : Event) → IsSpelled e → IsEnd ≡ kind_of e → rest ≡ fields e → o ≡ Some e
-told_end rest o found (Ends p) h kind same = found p h same
-told_end rest o found e h kind same = absurd cc
-
+-- what is told of a line's fields is told of the one event that has them
 pub told_take : (rest : List ℕ) (o : Option Event)
     → ((w : ℕ) (p : List ℕ) → IsWorkers w p → rest ≡ worker_fields w p → o ≡ Some (Take w p))
     → (e : Event) → IsSpelled e → IsTake ≡ kind_of e → rest ≡ fields e → o ≡ Some e
@@ -143,9 +88,3 @@ pub told_steal : (rest : List ℕ) (o : Option Event)
     → (e : Event) → IsSpelled e → IsSteal ≡ kind_of e → rest ≡ fields e → o ≡ Some e
 told_steal rest o found (Steal w f p) h kind same = found w f p h same
 told_steal rest o found e h kind same = absurd cc
-
-pub told_pass : (rest : List ℕ) (o : Option Event)
-    → ((id : ScopeId) → IsScope id → rest ≡ pass_fields id.number id.owner → o ≡ Some (Pass id))
-    → (e : Event) → IsSpelled e → IsPass ≡ kind_of e → rest ≡ fields e → o ≡ Some e
-told_pass rest o found (Pass id) h kind same = found id h same
-told_pass rest o found e h kind same = absurd cc

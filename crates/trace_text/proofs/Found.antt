@@ -96,14 +96,6 @@ front_pushed text rest before behind es pushed e front cut spelled same is =
     subst (Front text behind) (sym (ap (λ (l : List rEvent). map event l) is ∙ map-append event es (e ∷ [])))
     (front_more text rest before behind (map event es) (event e) front cut spelled same)
 
--- with nothing left
-pub front_all : (text rest : List ℕ) (es : List Event) → Front text rest es → rest ≡ [] → AreEvents es text
-front_all text rest es front none =
-    record {
-      spelled = front.spelled;
-      lines = front.parts ∙ ap (λ (l : List ℕ). flat_map event_line es ++ l) none ∙ append-nil (flat_map event_line es);
-    }
-
 -- something is left in which no event's line stands first
 pub front_bad : (text rest : List ℕ) (es : List rEvent) → Front text rest (map event es) → rest ≢ []
     → (BeginsWithEvent rest → ⊥) → IsBadEvent (length es + 2) text
@@ -128,10 +120,6 @@ cut_some text before behind cut none =
 pub long_some : (text : List ℕ) → 0 < length text → text ≢ []
 long_some text long none = absurd (omega (arith, ap length none))
 
-pub none_left : (text : List ℕ) → length text ≤ 0 → text ≡ []
-none_left [] short = refl
-none_left (x ∷ xs) short = absurd (omega arith)
-
 -- what is known of an error where more follows from it
 pub if_err_then : {T E : Type 0} (r : Result T E) (P Q : E → Type 0) → IsErrAnd r P → ((e : E) → P e → Q e) → IfErr r Q
 if_err_then (Ok v) P Q h f = tt
@@ -143,12 +131,6 @@ pub refused_behind : (text rest : List ℕ) (h : TraceHeader) (e : TraceError) �
 refused_behind text rest h (NotALine n) fits parts bad =
     inr (record { first = record { header = h; behind = rest; fits = fits; parts = parts }; later = bad })
 refused_behind text rest h NoMemory fits parts bad = bad
-
--- less is left behind a cut
-pub cut_shorter : (text before behind : List ℕ) → IsCutAt 10 before behind text → length behind < length text
-cut_shorter text before behind cut =
-    let total = ap length cut.parts ∙ length-append before (10 ∷ behind) in
-    omega (arith, total)
 
 -- ---- a line that is written again
 -- what a text tells, as a header or an event, if it is the line of any

@@ -2,19 +2,14 @@
 use Rattle.std.proofs.Common.{◌≡◌, ℕ, true, List, [], ◌++◌, codes, refl, ap, sym, ◌∙◌, append-nil}
 use Rattle.std.specs.Fmt.{decimal}
 use Rattle.types.specs.Names.{path_text}
-use Rattle.events.specs.Events.{Event, Take, Steal, Steps, Replenish, Spawns, Opens, Parks}
-use Rattle.events.specs.Events.{Ends, Pass, Resume}
+use Rattle.events.specs.Events.{Event, Take, Steal, Pass, Resume}
 use Rattle.serde_json.specs.Written.{compact_text}
 use Rattle.trace_text.specs.Headers.{TraceHeader}
-use Rattle.trace_text.specs.Kinds.{kind_name}
+use Rattle.trace_text.specs.Kinds.{kind_name, kind_of, task_of}
 use Rattle.trace_text.specs.Lines.{event_object, header_object, task_object, worker_object, steal_object, pass_object}
 use Rattle.trace_text.specs.Spelled.{Lacks}
 use Rattle.trace_text.specs.declared.kind.Kind.{Kind}
-use Rattle.trace_text.specs.declared.kind.Kind.TheVariants.{Take as IsTake}
-use Rattle.trace_text.specs.declared.kind.Kind.TheVariants.{Step as IsStep, Replenish as IsReplenish}
-use Rattle.trace_text.specs.declared.kind.Kind.TheVariants.{Spawn as IsSpawn, Open as IsOpen}
-use Rattle.trace_text.specs.declared.kind.Kind.TheVariants.{Park as IsPark, End as IsEnd}
-use Rattle.trace_text.specs.declared.kind.Kind.TheVariants.{Resume as IsResume}
+use Rattle.trace_text.specs.declared.kind.Kind.TheVariants.{Take as IsTake, Resume as IsResume}
 use Rattle.trace_text.proofs.Marks.{visible, visible-append, visible-path, visible-number, Lacks-visible}
 use Rattle.trace_text.proofs.Texts.{text_of_task, text_of_worker, text_of_steal, text_of_pass, text_of_header}
 
@@ -65,14 +60,9 @@ lacks_pass n owner =
 pub Lacks-event : (e : Event) → Lacks 10 (compact_text (event_object e))
 Lacks-event (Take worker path) = lacks_worker IsTake worker path
 Lacks-event (Steal worker from path) = lacks_steal worker from path
-Lacks-event (Steps path) = lacks_task IsStep path
-Lacks-event (Replenish path) = lacks_task IsReplenish path
-Lacks-event (Spawns path) = lacks_task IsSpawn path
-Lacks-event (Opens path) = lacks_task IsOpen path
-Lacks-event (Parks path) = lacks_task IsPark path
-Lacks-event (Ends path) = lacks_task IsEnd path
-Lacks-event (Pass scope) = lacks_pass scope.number scope.owner
 Lacks-event (Resume worker path) = lacks_worker IsResume worker path
+Lacks-event (Pass scope) = lacks_pass scope.number scope.owner
+Lacks-event e = lacks_task (kind_of e) (task_of e)
 
 pub Lacks-header : (h : TraceHeader) → Lacks 10 (compact_text (header_object h))
 Lacks-header h =

@@ -91,22 +91,7 @@ read_more turns more piece text behind r turn so_far cut parses parsed fits few 
           };
     }
 
-nothing_left : (turns p left : List ℕ) → p ≡ turns ++ left → None ≡ left_text left → turns ≡ p
-nothing_left turns p [] parts text = sym (parts ∙ append-nil turns)
-nothing_left turns p (n ∷ ns) parts text = absurd cc
-
-pub read_all : (turns text : List ℕ) → ReadSoFar turns None text → (p : List ℕ) → IsPath p → text ≡ path_text p → turns ≡ p
-read_all turns text so_far p h same =
-    let l = so_far.spelled p h same in nothing_left turns p l.left l.parts l.text
-
 -- how much is left
 abbrev pub left_length : Option (List ℕ) → ℕ
 left_length None = 0
 left_length (Some rest) = suc (length rest)
-
-pub less_left : (piece : List ℕ) (behind : Option (List ℕ)) (more : List ℕ) → IsCut piece behind more
-    → left_length behind < left_length (Some more)
-less_left piece None more cut = omega arith
-less_left piece (Some behind) more cut =
-    let total = ap length cut.parts ∙ length-append piece (46 ∷ behind) in
-    omega (arith, total)

@@ -5,7 +5,7 @@ use Rattle.std.proofs.lemmas.Fmt.{decimal_digit}
 use Rattle.std.specs.Fmt.{decimal}
 use Rattle.types.specs.Names.{path_text}
 use Rattle.json.specs.Print.{escape, escape_byte, quoted}
-use Rattle.serde_json.specs.Data.{Members, no_members}
+use Rattle.serde_json.specs.Data.{Members, no_members, object}
 use Rattle.serde_json.specs.Written.{comma_if, compact_text, members_text}
 use Rattle.trace_text.proofs.Marks.{escape-path}
 use Rattle.trace_text.specs.Headers.{TraceHeader}
@@ -52,50 +52,24 @@ number_then : (later : Bool) (k rest : List ℕ) (n : ℕ) (ms : Members) → Is
     ≡ comma_if later ++ (34 ∷ (k ++ (34 ∷ (58 ∷ (decimal n ++ (members_text true ms ++ rest))))))
 number_then later k rest n ms plain_key = member_then later k (decimal n) (members_text true ms) rest plain_key
 
--- the keys
-key_e : IsPlain (codes "e")
+-- the kind stands first
+kind_then : (kind : Kind) (rest : List ℕ) (ms : Members)
+    → compact_text (object (text_under (codes "e") (kind_name kind) ms)) ++ rest
+    ≡ codes "{\"e\":\"" ++ (kind_name kind ++ (34 ∷ (members_text true ms ++ rest)))
 unfolding escape_byte
-key_e = refl
+kind_then kind rest ms =
+    ap (λ (l : List ℕ). 123 ∷ l) (text_then false (codes "e") (kind_name kind) rest ms refl (IsPlain-kind kind))
 
-key_path : IsPlain (codes "path")
+-- a task and a worker stand last
+worker_then : (worker : ℕ) (path rest : List ℕ)
+    → members_text true (text_under (codes "path") (path_text path) (number_under (codes "worker") worker no_members)) ++ rest
+    ≡ codes ",\"path\":\"" ++ (path_text path ++ (codes "\",\"worker\":" ++ (decimal worker ++ (codes "}" ++ rest))))
 unfolding escape_byte
-key_path = refl
-
-key_worker : IsPlain (codes "worker")
-unfolding escape_byte
-key_worker = refl
-
-key_from : IsPlain (codes "from")
-unfolding escape_byte
-key_from = refl
-
-key_number : IsPlain (codes "number")
-unfolding escape_byte
-key_number = refl
-
-key_owner : IsPlain (codes "owner")
-unfolding escape_byte
-key_owner = refl
-
-key_format : IsPlain (codes "format")
-unfolding escape_byte
-key_format = refl
-
-key_nest : IsPlain (codes "nest")
-unfolding escape_byte
-key_nest = refl
-
-key_steps : IsPlain (codes "steps")
-unfolding escape_byte
-key_steps = refl
-
-key_w0 : IsPlain (codes "w0")
-unfolding escape_byte
-key_w0 = refl
-
-key_workers : IsPlain (codes "workers")
-unfolding escape_byte
-key_workers = refl
+worker_then worker path rest =
+    let last = number_under (codes "worker") worker no_members in
+    text_then true (codes "path") (path_text path) rest last refl (escape-path path)
+    ∙ ap (λ (l : List ℕ). codes ",\"path\":\"" ++ (path_text path ++ (34 ∷ l)))
+    (number_then true (codes "worker") rest worker no_members refl)
 
 -- ---- lines, with what stands behind the object
 abbrev pub task_words : (kind path rest : List ℕ) → List ℕ
@@ -104,11 +78,11 @@ task_words kind path rest =
 
 pub text_of_task : (kind : Kind) (path rest : List ℕ)
     → compact_text (task_object kind path) ++ rest ≡ task_words (kind_name kind) (path_text path) rest
+unfolding escape_byte
 text_of_task kind path rest =
-    let behind = text_under (codes "path") (path_text path) no_members in
-    ap (λ (l : List ℕ). 123 ∷ l) (text_then false (codes "e") (kind_name kind) rest behind key_e (IsPlain-kind kind))
+    kind_then kind rest (text_under (codes "path") (path_text path) no_members)
     ∙ ap (λ (l : List ℕ). codes "{\"e\":\"" ++ (kind_name kind ++ (34 ∷ l)))
-    (text_then true (codes "path") (path_text path) rest no_members key_path (escape-path path))
+    (text_then true (codes "path") (path_text path) rest no_members refl (escape-path path))
 
 abbrev pub worker_words : (kind path worker rest : List ℕ) → List ℕ
 worker_words kind path worker rest =
@@ -119,12 +93,8 @@ pub text_of_worker : (kind : Kind) (worker : ℕ) (path rest : List ℕ)
     ≡ worker_words (kind_name kind) (path_text path) (decimal worker) rest
 text_of_worker kind worker path rest =
     let last = number_under (codes "worker") worker no_members in
-    let behind = text_under (codes "path") (path_text path) last in
-    ap (λ (l : List ℕ). 123 ∷ l) (text_then false (codes "e") (kind_name kind) rest behind key_e (IsPlain-kind kind))
-    ∙ ap (λ (l : List ℕ). codes "{\"e\":\"" ++ (kind_name kind ++ (34 ∷ l)))
-    (text_then true (codes "path") (path_text path) rest last key_path (escape-path path)
-    ∙ ap (λ (l : List ℕ). codes ",\"path\":\"" ++ (path_text path ++ (34 ∷ l)))
-    (number_then true (codes "worker") rest worker no_members key_worker))
+    kind_then kind rest (text_under (codes "path") (path_text path) last)
+    ∙ ap (λ (l : List ℕ). codes "{\"e\":\"" ++ (kind_name kind ++ (34 ∷ l))) (worker_then worker path rest)
 
 abbrev pub steal_words : (from path worker rest : List ℕ) → List ℕ
 steal_words from path worker rest =
@@ -133,17 +103,14 @@ steal_words from path worker rest =
 pub text_of_steal : (worker from : ℕ) (path rest : List ℕ)
     → compact_text (steal_object worker from path) ++ rest
     ≡ steal_words (decimal from) (path_text path) (decimal worker) rest
+unfolding escape_byte
 text_of_steal worker from path rest =
     let last = number_under (codes "worker") worker no_members in
     let third = text_under (codes "path") (path_text path) last in
-    let second = number_under (codes "from") from third in
-    ap (λ (l : List ℕ). 123 ∷ l) (text_then false (codes "e") (kind_name Steal) rest second key_e (IsPlain-kind Steal))
+    kind_then Steal rest (number_under (codes "from") from third)
     ∙ ap (λ (l : List ℕ). codes "{\"e\":\"steal\"" ++ l)
-    (number_then true (codes "from") rest from third key_from
-    ∙ ap (λ (l : List ℕ). codes ",\"from\":" ++ (decimal from ++ l))
-    (text_then true (codes "path") (path_text path) rest last key_path (escape-path path)
-    ∙ ap (λ (l : List ℕ). codes ",\"path\":\"" ++ (path_text path ++ (34 ∷ l)))
-    (number_then true (codes "worker") rest worker no_members key_worker)))
+    (number_then true (codes "from") rest from third refl
+    ∙ ap (λ (l : List ℕ). codes ",\"from\":" ++ (decimal from ++ l)) (worker_then worker path rest))
 
 abbrev pub pass_words : (n owner rest : List ℕ) → List ℕ
 pass_words n owner rest =
@@ -151,14 +118,14 @@ pass_words n owner rest =
 
 pub text_of_pass : (n : ℕ) (owner rest : List ℕ)
     → compact_text (pass_object n owner) ++ rest ≡ pass_words (decimal n) (path_text owner) rest
+unfolding escape_byte
 text_of_pass n owner rest =
     let last = text_under (codes "owner") (path_text owner) no_members in
-    let second = number_under (codes "number") n last in
-    ap (λ (l : List ℕ). 123 ∷ l) (text_then false (codes "e") (kind_name Pass) rest second key_e (IsPlain-kind Pass))
+    kind_then Pass rest (number_under (codes "number") n last)
     ∙ ap (λ (l : List ℕ). codes "{\"e\":\"pass\"" ++ l)
-    (number_then true (codes "number") rest n last key_number
+    (number_then true (codes "number") rest n last refl
     ∙ ap (λ (l : List ℕ). codes ",\"number\":" ++ (decimal n ++ l))
-    (text_then true (codes "owner") (path_text owner) rest no_members key_owner (escape-path owner)))
+    (text_then true (codes "owner") (path_text owner) rest no_members refl (escape-path owner)))
 
 abbrev pub header_words : (nest steps w0 workers rest : List ℕ) → List ℕ
 header_words nest steps w0 workers rest =
@@ -167,21 +134,22 @@ header_words nest steps w0 workers rest =
 pub text_of_header : (h : TraceHeader) (rest : List ℕ)
     → compact_text (header_object h) ++ rest
     ≡ header_words (decimal h.nest) (decimal h.steps) (decimal h.w0) (decimal h.workers) rest
+unfolding escape_byte
 text_of_header h rest =
     let fifth = number_under (codes "workers") h.workers no_members in
     let fourth = number_under (codes "w0") h.w0 fifth in
     let third = number_under (codes "steps") h.steps fourth in
     let second = number_under (codes "nest") h.nest third in
-    ap (λ (l : List ℕ). 123 ∷ l) (number_then false (codes "format") rest 1 second key_format)
+    ap (λ (l : List ℕ). 123 ∷ l) (number_then false (codes "format") rest 1 second refl)
     ∙ ap (λ (l : List ℕ). codes "{\"format\":" ++ (l ++ (members_text true second ++ rest))) (decimal_digit 1 (lit< tt))
     ∙ ap (λ (l : List ℕ). codes "{\"format\":1" ++ l)
-    (number_then true (codes "nest") rest h.nest third key_nest
+    (number_then true (codes "nest") rest h.nest third refl
     ∙ ap (λ (l : List ℕ). codes ",\"nest\":" ++ (decimal h.nest ++ l))
-    (number_then true (codes "steps") rest h.steps fourth key_steps
+    (number_then true (codes "steps") rest h.steps fourth refl
     ∙ ap (λ (l : List ℕ). codes ",\"steps\":" ++ (decimal h.steps ++ l))
-    (number_then true (codes "w0") rest h.w0 fifth key_w0
+    (number_then true (codes "w0") rest h.w0 fifth refl
     ∙ ap (λ (l : List ℕ). codes ",\"w0\":" ++ (decimal h.w0 ++ l))
-    (number_then true (codes "workers") rest h.workers no_members key_workers))))
+    (number_then true (codes "workers") rest h.workers no_members refl))))
 
 -- ---- whole lines
 pub line_of_task : (kind : Kind) (path : List ℕ)

@@ -2,8 +2,8 @@
 use Rattle.std.specs.Prelude.{ℕ, List, ◌++◌, codes}
 use Rattle.std.specs.Fmt.{decimal}
 use Rattle.types.specs.Names.{path_text}
-use Rattle.events.specs.Events.{Event, Take, Steal, Steps, Replenish, Spawns, Opens, Parks}
-use Rattle.events.specs.Events.{Ends, Pass, Resume}
+use Rattle.events.specs.Events.{Event, Take, Steal, Pass, Resume}
+use Rattle.trace_text.specs.Kinds.{task_of}
 
 -- `,"worker":0}`
 abbrev pub worker_field : (worker : ℕ) → List ℕ
@@ -31,11 +31,6 @@ pass_fields n owner =
 abbrev pub fields : Event → List ℕ
 fields (Take worker path) = worker_fields worker path
 fields (Steal worker from path) = steal_fields worker from path
-fields (Steps path) = task_fields path
-fields (Replenish path) = task_fields path
-fields (Spawns path) = task_fields path
-fields (Opens path) = task_fields path
-fields (Parks path) = task_fields path
-fields (Ends path) = task_fields path
-fields (Pass scope) = pass_fields scope.number scope.owner
 fields (Resume worker path) = worker_fields worker path
+fields (Pass scope) = pass_fields scope.number scope.owner
+fields e = task_fields (task_of e)

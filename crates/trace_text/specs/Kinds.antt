@@ -21,6 +21,19 @@ kind_of (Ends path) = IsEnd
 kind_of (Pass scope) = IsPass
 kind_of (Resume worker path) = IsResume
 
+-- the task of an event; of `pass`, the owner of the scope
+abbrev pub task_of : Event → List ℕ
+task_of (Take worker path) = path
+task_of (Steal worker from path) = path
+task_of (Steps path) = path
+task_of (Replenish path) = path
+task_of (Spawns path) = path
+task_of (Opens path) = path
+task_of (Parks path) = path
+task_of (Ends path) = path
+task_of (Pass scope) = scope.owner
+task_of (Resume worker path) = path
+
 abbrev pub kind_name : Kind → List ℕ
 kind_name IsTake = codes "take"
 kind_name IsSteal = codes "steal"

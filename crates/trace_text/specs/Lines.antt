@@ -2,12 +2,11 @@
 use Rattle.std.specs.Prelude.{ℕ, List, ◌++◌, codes}
 use Rattle.std.specs.List.{flat_map}
 use Rattle.types.specs.Names.{path_text}
-use Rattle.events.specs.Events.{Event, Take, Steal, Steps, Replenish, Spawns, Opens, Parks}
-use Rattle.events.specs.Events.{Ends, Pass, Resume}
+use Rattle.events.specs.Events.{Event, Take, Steal, Pass, Resume}
 use Rattle.serde_json.specs.Data.{Data, Members, object, member, no_members, string, number, unsigned}
 use Rattle.serde_json.specs.Written.{compact_text}
 use Rattle.trace_text.specs.Headers.{TraceHeader}
-use Rattle.trace_text.specs.Kinds.{kind_name, kind_of}
+use Rattle.trace_text.specs.Kinds.{kind_name, kind_of, task_of}
 use Rattle.trace_text.specs.declared.kind.Kind.{Kind}
 use Rattle.trace_text.specs.declared.kind.Kind.TheVariants.{Pass as IsPass, Steal as IsSteal}
 
@@ -49,14 +48,9 @@ pass_object n owner =
 abbrev pub event_object : Event → Data
 event_object (Take worker path) = worker_object (kind_of (Take worker path)) worker path
 event_object (Steal worker from path) = steal_object worker from path
-event_object (Steps path) = task_object (kind_of (Steps path)) path
-event_object (Replenish path) = task_object (kind_of (Replenish path)) path
-event_object (Spawns path) = task_object (kind_of (Spawns path)) path
-event_object (Opens path) = task_object (kind_of (Opens path)) path
-event_object (Parks path) = task_object (kind_of (Parks path)) path
-event_object (Ends path) = task_object (kind_of (Ends path)) path
-event_object (Pass scope) = pass_object scope.number scope.owner
 event_object (Resume worker path) = worker_object (kind_of (Resume worker path)) worker path
+event_object (Pass scope) = pass_object scope.number scope.owner
+event_object e = task_object (kind_of e) (task_of e)
 
 -- `{"format":1,"nest":100,"steps":1000000,"w0":8,"workers":1}`
 abbrev pub header_object : TraceHeader → Data

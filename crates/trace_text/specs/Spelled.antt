@@ -1,7 +1,7 @@
 -- Which events a trace can spell: their workers, paths and scopes are in the ranges of the format.
 use Rattle.std.specs.Prelude.{ℕ, ◌≡◌, ◌≢◌, ◌^◌, ◌<◌, ◌≤◌, List, ◌∷◌, ◌++◌, length, All, slice_index, Option, None, Some}
-use Rattle.events.specs.Events.{Event, Take, Steal, Steps, Replenish, Spawns, Opens, Parks}
-use Rattle.events.specs.Events.{Ends, Pass, Resume, ScopeId}
+use Rattle.events.specs.Events.{Event, Take, Steal, Pass, Resume, ScopeId}
+use Rattle.trace_text.specs.Kinds.{task_of}
 
 -- the number of a child on the way to a task: from 1, of 32 bits
 abbrev pub IsTurn : ℕ → Type 0
@@ -27,14 +27,9 @@ pub record IsTheft (worker from : ℕ) (path : List ℕ) : Type 0 where
 abbrev pub IsSpelled : Event → Type 0
 IsSpelled (Take worker path) = IsWorkers worker path
 IsSpelled (Steal worker from path) = IsTheft worker from path
-IsSpelled (Steps path) = IsPath path
-IsSpelled (Replenish path) = IsPath path
-IsSpelled (Spawns path) = IsPath path
-IsSpelled (Opens path) = IsPath path
-IsSpelled (Parks path) = IsPath path
-IsSpelled (Ends path) = IsPath path
-IsSpelled (Pass scope) = IsScope scope
 IsSpelled (Resume worker path) = IsWorkers worker path
+IsSpelled (Pass scope) = IsScope scope
+IsSpelled e = IsPath (task_of e)
 
 -- a byte stands nowhere in a text
 abbrev pub Lacks : ℕ → List ℕ → Type 0

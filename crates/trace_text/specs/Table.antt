@@ -2,9 +2,8 @@
 use Rattle.std.specs.Prelude.{ℕ, ◌+◌, ◌-◌, List, [], ◌∷◌, ◌++◌, Option, Some, None, codes, length, replicate}
 use Rattle.std.specs.Fmt.{decimal}
 use Rattle.types.specs.Names.{path_text, scope_text}
-use Rattle.events.specs.Events.{Event, Take, Steal, Steps, Replenish, Spawns, Opens, Parks}
-use Rattle.events.specs.Events.{Ends, Pass, Resume}
-use Rattle.trace_text.specs.Kinds.{kind_name, kind_of}
+use Rattle.events.specs.Events.{Event, Take, Steal, Pass, Resume}
+use Rattle.trace_text.specs.Kinds.{kind_name, kind_of, task_of}
 
 -- a text right in so many places, behind spaces, or left in them
 abbrev pub right_in : ℕ → List ℕ → List ℕ
@@ -27,16 +26,8 @@ from_of _ = None
 
 -- the task, or the scope
 abbrev pub whose : Event → List ℕ
-whose (Take worker path) = path_text path
-whose (Steal worker from path) = path_text path
-whose (Steps path) = path_text path
-whose (Replenish path) = path_text path
-whose (Spawns path) = path_text path
-whose (Opens path) = path_text path
-whose (Parks path) = path_text path
-whose (Ends path) = path_text path
 whose (Pass scope) = scope_text scope.owner scope.number
-whose (Resume worker path) = path_text path
+whose e = path_text (task_of e)
 
 -- a worker right in two places, or blanks, and a space
 abbrev pub column : Option ℕ → List ℕ

@@ -3,12 +3,12 @@
 ghost use Rattle.std.specs.Prelude.{◌≡◌, ◌<◌, ◌+◌, ◌∷◌, ◌++◌, ◌↔◌, ◌^◌, ℕ, List, All, IfErr};
 ghost use Rattle.std.specs.Prelude.{IfNone, IfOk, IfSome, IsSomeAnd, IsTrue, Some, codes, length, map, option_map};
 ghost use Rattle.std.specs.Fmt.{decimal};
-ghost use Rattle.events.specs.Events.{Event as AnyEvent, Take as IsTake, Steal as IsSteal};
-ghost use Rattle.events.specs.Events.{Pass as IsPass, Resume as IsResume};
+ghost use Rattle.types.specs.Names.{path_text};
+ghost use Rattle.events.specs.Events.{Event as AnyEvent, Steal as IsSteal, Pass as IsPass};
 ghost use Rattle.events.specs.Events.{ScopeId as AnyScopeId, event as event_of, turns_of};
 ghost use Rattle.serde_json.specs.Written.{compact_text};
 ghost use Rattle.trace_text.specs.Fields.{fields, pass_fields, steal_fields, task_fields};
-ghost use Rattle.trace_text.specs.Fields.{worker_field, worker_fields};
+ghost use Rattle.trace_text.specs.Fields.{worker_field};
 ghost use Rattle.trace_text.specs.Headers.{IsHeader, TraceHeader, header_of};
 ghost use Rattle.trace_text.specs.Kinds.{kind_of};
 ghost use Rattle.trace_text.specs.Lines.{event_line, event_object, header_line, header_object};
@@ -150,7 +150,10 @@ fn event_behind(alloc: Global, kind: Kind, rest: &str) -> Result<Option<Event>, 
         → rest.now ≡ fields e → option_map event_of o ≡ Some e) }
 {
     match kind {
-        Kind::Take => take_in(alloc, rest),
+        Kind::Take => {
+            let by = by_worker_in(alloc, rest, ",\"path\":\"")?;
+            Ok(by.map(|(worker, path)| Event::Take { worker, path }))
+        }
         Kind::Steal => steal_in(alloc, rest),
         Kind::Step => Ok(path_in(alloc, rest)?.map(|path| Event::Step { path })),
         Kind::Replenish => Ok(path_in(alloc, rest)?.map(|path| Event::Replenish { path })),
@@ -159,38 +162,31 @@ fn event_behind(alloc: Global, kind: Kind, rest: &str) -> Result<Option<Event>, 
         Kind::Park => Ok(path_in(alloc, rest)?.map(|path| Event::Park { path })),
         Kind::End => Ok(path_in(alloc, rest)?.map(|path| Event::End { path })),
         Kind::Pass => pass_in(alloc, rest),
-        Kind::Resume => resume_in(alloc, rest),
+        Kind::Resume => {
+            let by = by_worker_in(alloc, rest, ",\"path\":\"")?;
+            Ok(by.map(|(worker, path)| Event::Resume { worker, path }))
+        }
     }
 }
 
-/// `,"path":"0.1","worker":0}`
-fn take_in(alloc: Global, rest: &str) -> Result<Option<Event>, AllocError>
-    ensures spelled { IfOk result (λ o. IfSome o (λ e. IsSpelled (event_of e))) }
+/// The worker and the task behind a text's front: `0.1","worker":0}`
+fn by_worker_in(
+    alloc: Global,
+    text: &str,
+    front: &str,
+) -> Result<Option<(WorkerId, Path)>, AllocError>
+    ensures spelled { IfOk result (λ o. IfSome o (λ by. IsWorkers by.0 (turns_of by.1))) }
     ensures told { IfOk result (λ o. (w : ℕ) (p : List ℕ) → IsWorkers w p
-        → rest.now ≡ worker_fields w p → option_map event_of o ≡ Some (IsTake w p)) }
+        → text.now ≡ front.now ++ (path_text p ++ (codes "\"" ++ worker_field w))
+        → option_map {U = ℕ × List ℕ} (λ by. (by.0, turns_of by.1)) o ≡ Some (w, p)) }
 {
-    let Some((path, rest)) = between(rest, ",\"path\":\"", '"') else {
+    let Some((path, rest)) = between(text, front, '"') else {
         return Ok(None);
     };
     let Some(worker) = worker_in(rest) else {
         return Ok(None);
     };
-    Ok(read_path(alloc, path)?.map(|path| Event::Take { worker, path }))
-}
-
-/// `,"path":"0","worker":0}`
-fn resume_in(alloc: Global, rest: &str) -> Result<Option<Event>, AllocError>
-    ensures spelled { IfOk result (λ o. IfSome o (λ e. IsSpelled (event_of e))) }
-    ensures told { IfOk result (λ o. (w : ℕ) (p : List ℕ) → IsWorkers w p
-        → rest.now ≡ worker_fields w p → option_map event_of o ≡ Some (IsResume w p)) }
-{
-    let Some((path, rest)) = between(rest, ",\"path\":\"", '"') else {
-        return Ok(None);
-    };
-    let Some(worker) = worker_in(rest) else {
-        return Ok(None);
-    };
-    Ok(read_path(alloc, path)?.map(|path| Event::Resume { worker, path }))
+    Ok(read_path(alloc, path)?.map(|path| (worker, path)))
 }
 
 /// `,"from":0,"path":"0.1","worker":1}`
@@ -205,13 +201,8 @@ fn steal_in(alloc: Global, rest: &str) -> Result<Option<Event>, AllocError>
     let Some(from) = worker_of(from) else {
         return Ok(None);
     };
-    let Some((path, rest)) = between(rest, "\"path\":\"", '"') else {
-        return Ok(None);
-    };
-    let Some(worker) = worker_in(rest) else {
-        return Ok(None);
-    };
-    Ok(read_path(alloc, path)?.map(|path| Event::Steal { worker, from, path }))
+    let by = by_worker_in(alloc, rest, "\"path\":\"")?;
+    Ok(by.map(|(worker, path)| Event::Steal { worker, from, path }))
 }
 
 /// `,"number":1,"owner":"0"}`

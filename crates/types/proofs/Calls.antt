@@ -33,19 +33,12 @@ module _ (names : Names) (e : Expr) (es : List Expr) where
   sections_more (Scalar x) ps = refl
 
 and_passed_more : (m : Option Meant) (w : Bool) (rest : List Passed) → and_passed m w rest ≡ and_passed m w [] ++ rest
-and_passed_more None w rest = refl
-and_passed_more (Some (AScalar k)) w rest = refl
 and_passed_more (Some (ASection s)) w rest = refl
+and_passed_more m w rest = refl
 
 and_named_more : (names : Names) (a : Option Atom) (w : Bool) (rest : List Passed) → and_named names a w rest ≡ and_named names a w [] ++ rest
 and_named_more names (Some (Name x)) w rest = and_passed_more (meant x names) w rest
-and_named_more names (Some (Number n)) w rest = refl
-and_named_more names (Some True) w rest = refl
-and_named_more names (Some False) w rest = refl
-and_named_more names (Some (Element s i)) w rest = refl
-and_named_more names (Some (Length s)) w rest = refl
-and_named_more names (Some (Parens e)) w rest = refl
-and_named_more names None w rest = refl
+and_named_more names a w rest = refl
 
 pub passed_more : (names : Names) (e : Expr) (es : List Expr) (p : Declared) (ps : List Declared)
     → passed names (p ∷ ps) (e ∷ es) ≡ passed names (p ∷ []) (e ∷ []) ++ passed names ps es

@@ -1,7 +1,7 @@
 -- A chain stands for what its operands in turn stand for.
 use Rattle.std.proofs.Common.{◌≡◌, ℕ, suc, ◌<◌, List, length, drop, get_or, Vec, Box, Global, Ok, refl, sym, ap, ◌∙◌}
 use Rattle.std.proofs.Math.Seq.{drop-cons}
-use Rattle.std.specs.Prelude.{ℤ, true, false}
+use Rattle.std.specs.Prelude.{ℤ, Bool, true, false}
 use mathlib.Core.Former.{Count}
 use Rattle.types.specs.declared.code.Number.{Number as rNumber, Row_of-Link, end_of-Link, more_of-Link}
 use Rattle.types.specs.declared.code.Number.{items-the_row-Link, items_hidden-the_row-Link-0}
@@ -12,7 +12,7 @@ use Rattle.types.specs.declared.code.Truth.{items-the_row-Truth, items_hidden-th
 use Rattle.types.specs.declared.code.Truth.TheVariants.{Both as rBoth, Both' as rBoth', Either as rEither, Either' as rEither'}
 use Rattle.types.specs.Code.{Chain, Link, Both, Either, Truths, NoMore, Also}
 use Rattle.sections.specs.Place.{Place}
-use Rattle.types.specs.Value.{Environment, then_try, all, any, truth as truth_value}
+use Rattle.types.specs.Value.{Environment, Valued, then_try, all, any, truth as truth_value}
 use Rattle.types.specs.Translation.{number, truth, links as row_links, truths as row_truths}
 use Rattle.types.specs.Rows.{links, truths}
 
@@ -55,11 +55,11 @@ operands_from : (ts : List rTruth) (i : ℕ) (t : rTruth) → i < length ts → 
 operands_from ts i t lt at = ap truths (drop-cons ts i t lt) ∙ ap (λ u. Also (truth u) (truths (drop (suc i) ts))) (sym at)
 
 module _ (env : Environment) (read : Place → ℤ) where
-  all-false : (ts : Truths) → all env read ts false ≡ Ok false
+  all-false : (ts : Truths) → Ok false ≡ all env read ts false
   all-false NoMore = refl
   all-false (Also t rest) = refl
 
-  any-true : (ts : Truths) → any env read ts true ≡ Ok true
+  any-true : (ts : Truths) → Ok true ≡ any env read ts true
   any-true NoMore = refl
   any-true (Also t rest) = refl
 
@@ -74,18 +74,21 @@ module _ (env : Environment) (read : Place → ℤ) where
   value-Either operands is at = ap (λ ts. any env read (truths ts) false) at
       ∙ ap (truth_value env read) (sym (ap truth is ∙ truth-Either operands))
 
+  -- an operand that is known, before those behind it
+  decided : (b : Bool) (t : rTruth) (rest : Bool → Valued Bool) → Ok b ≡ truth_value env read (truth t) → Ok b ≡ rest b
+      → Ok b ≡ then_try (truth_value env read (truth t)) rest
+  decided b t rest e ends = ends ∙ ap (λ v. then_try v rest) e
+
   -- the first operand that doesn't hold ends it
   pub all_end : (ts : List rTruth) (i : ℕ) (t : rTruth) → i < length ts → t ≡ get_or ts i t
       → Ok false ≡ truth_value env read (truth t) → Ok false ≡ all env read (truths (drop i ts)) true
   all_end ts i t lt at e =
-      sym (all-false (truths (drop (suc i) ts)))
-      ∙ ap (λ v. then_try v (all env read (truths (drop (suc i) ts)))) e
-      ∙ ap (λ l. all env read l true) (sym (operands_from ts i t lt at))
+      let rest = truths (drop (suc i) ts) in
+      decided false t (all env read rest) e (all-false rest) ∙ ap (λ l. all env read l true) (sym (operands_from ts i t lt at))
 
   -- the first operand that holds ends it
   pub any_ends : (ts : List rTruth) (i : ℕ) (t : rTruth) → i < length ts → t ≡ get_or ts i t
       → Ok true ≡ truth_value env read (truth t) → Ok true ≡ any env read (truths (drop i ts)) false
   any_ends ts i t lt at e =
-      sym (any-true (truths (drop (suc i) ts)))
-      ∙ ap (λ v. then_try v (any env read (truths (drop (suc i) ts)))) e
-      ∙ ap (λ l. any env read l false) (sym (operands_from ts i t lt at))
+      let rest = truths (drop (suc i) ts) in
+      decided true t (any env read rest) e (any-true rest) ∙ ap (λ l. any env read l false) (sym (operands_from ts i t lt at))

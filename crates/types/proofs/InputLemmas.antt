@@ -193,36 +193,20 @@ least-strangers arrays (e ∷ es) sorted =
 -- ---- what members say
 
 pub object-from_as_object : (d : Data) (ms : Members) → as_object d ≡ Some ms → d ≡ object ms
-object-from_as_object null ms e = cc
-object-from_as_object (boolean b) ms e = cc
-object-from_as_object (number n) ms e = cc
-object-from_as_object (string s) ms e = cc
-object-from_as_object (array ds) ms e = cc
 object-from_as_object (object ns) ms e = cc
+object-from_as_object d ms e = cc
 
 pub data_says-no_object : (arrays : List Array) (d : Data) → as_object d ≡ None → data_says arrays d ≡ Err NoObject
-data_says-no_object arrays null e = refl
-data_says-no_object arrays (boolean b) e = refl
-data_says-no_object arrays (number n) e = refl
-data_says-no_object arrays (string s) e = refl
-data_says-no_object arrays (array ds) e = refl
 data_says-no_object arrays (object ms) e = cc
+data_says-no_object arrays d e = refl
 
 pub array-from_as_array : (d : Data) (ds : Items) → as_array d ≡ Some ds → d ≡ array ds
-array-from_as_array null ds e = cc
-array-from_as_array (boolean b) ds e = cc
-array-from_as_array (number n) ds e = cc
-array-from_as_array (string s) ds e = cc
 array-from_as_array (array es) ds e = cc
-array-from_as_array (object ms) ds e = cc
+array-from_as_array d ds e = cc
 
 pub value_says-no_array : (x : Array) (d : Data) → as_array d ≡ None → value_says x d ≡ Err (OtherLength x.name)
-value_says-no_array x null e = refl
-value_says-no_array x (boolean b) e = refl
-value_says-no_array x (number n) e = refl
-value_says-no_array x (string s) e = refl
 value_says-no_array x (array ds) e = cc
-value_says-no_array x (object ms) e = refl
+value_says-no_array x d e = refl
 
 -- what a JSON list of an array's length says of it
 pub value_says-list : (x : Array) (d : Data) (ds : Items) → as_array d ≡ Some ds → items_count ds ≡ x.length

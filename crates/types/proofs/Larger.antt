@@ -1,21 +1,24 @@
 -- Under a larger budget an ended outcome is the same.
-use Rattle.std.proofs.Common.{◌≡◌, ℕ, zero, suc, ◌+◌, ◌-◌, ◌≤◌, List, refl, sym, ap, ◌∙◌, subst, inl, inr, arith, le_refl}
+use Rattle.std.proofs.Common.{◌≡◌, ℕ, zero, suc, ◌+◌, ◌-◌, ◌≤◌, List, [], refl, sym, ap, ◌∙◌, subst, inl, inr, arith, le_refl}
 use Rattle.std.specs.Prelude.{ℤ, ◌⊎◌}
 use Rattle.types.specs.Code.{Codes, Program}
 use Rattle.types.specs.Contents.{held_by}
-use Rattle.types.specs.Run.{Flow, State, Rules, Work, Block, at_flow, go_on, spend, with_step, within, run}
+use Rattle.types.specs.Run.{Flow, State, Rules, Work, Block, at_flow, go_on, within, run}
 use Rattle.types.specs.Meaning.{hushed, joined, child, after_async, after_body, after_finish, begin_one, one_rules, one}
 use Rattle.types.specs.Outcome.{Budget, IsLarger, Ending, Outcome, Ended, Stopped, start, outcome_by, ending_of, outcome_of, outcome, Means}
 use Rattle.types.specs.Laws.{IsThrifty}
 use Rattle.types.proofs.Solutions.{solves}
-use Rattle.types.proofs.Views.{Follows, FollowsAt, IsView, begin_at, work_follows}
+use Rattle.types.proofs.Views.{View, viewed, Follows, IsView, begin_at, work_follows}
 
 abbrev S : Type 0
 S = State (Unit {0})
 
+abbrev rich : View ℕ (Unit {0}) (Unit {0})
+rich = record { lines = λ d x. []; faults = λ d x. []; steps = λ d n. n + d; extra = λ d x. x }
+
 -- the same with so many steps more
 abbrev richer : ℕ → S → S
-richer d st = record st { steps = st.steps + d }
+richer = viewed rich
 
 abbrev IsStopped : S → Type 0
 IsStopped st = st.flow ≡ Flow.Stopped
@@ -37,42 +40,26 @@ one_is_thrifty p fresh nest = record {
 
 module _ (p : Program) (fresh more : ℕ) where
   -- a run with more steps, fresh ones too, does the same or is stopped
-  module _ (n m : ℕ) (begins : (b : Codes) → Follows richer IsStopped (begin_one p fresh n b) (begin_one p (fresh + more) m b)) where
+  module _ (n m : ℕ) (begins : (b : Codes) → Follows rich IsStopped (begin_one p fresh n b) (begin_one p (fresh + more) m b)) where
     abbrev r : Rules (Unit {0})
     r = one_rules p fresh n
 
     abbrev s : Rules (Unit {0})
     s = one_rules p (fresh + more) m
 
-    view : IsView richer IsStopped r s
+    view : IsView rich IsStopped r s
     view = record {
-      flow = λ d st. refl;
-      environment = λ d st. refl;
-      store = λ d st. refl;
-      moved = λ d st env. refl;
-      written = λ d st c. refl;
-      printed = λ d st vs. refl;
-      faulted = λ d st l k. refl;
+      out_of_steps = λ d st. inl refl;
+      one_less = λ d n. omega arith;
       stepped = λ d l st. refl;
-      spends = spends_richer;
       begin = λ l. begins;
       finish = finish_richer;
       lost = stays_stopped;
       lost_moved = λ st env e. e;
     }
       where
-        spends_richer : (d : ℕ) (st : S) (go to : S → S) → Follows richer IsStopped go to
-            → FollowsAt richer IsStopped d st (with_step go) (with_step to)
-        spends_richer d st go to h = by_steps st.steps
-          where
-            by_steps : (k : ℕ) → IsStopped (spend k st go) ⊎ (spend (k + d) (richer d st) to ≡ richer d (spend k st go))
-            by_steps zero = inl refl
-            by_steps (suc k) =
-                let e : suc k + d ≡ suc (k + d) = omega arith in
-                begin_at (ap (λ j. spend j (richer d st) to) e) (h d (record st { steps = k }))
-
-        finish_richer : (l : ℕ) (go to : S → S) → Follows richer IsStopped go to
-            → Follows richer IsStopped (λ st. r.leave st (go (r.enter l st))) (λ st. s.leave st (to (s.enter l st)))
+        finish_richer : (l : ℕ) (go to : S → S) → Follows rich IsStopped go to
+            → Follows rich IsStopped (λ st. r.leave st (go (r.enter l st))) (λ st. s.leave st (to (s.enter l st)))
         finish_richer l go to h d st = left (go (hushed st)) (to (hushed (richer d st))) (h d (hushed st))
           where
             left : (out other : S) → IsStopped out ⊎ (other ≡ richer d out)
@@ -80,16 +67,16 @@ module _ (p : Program) (fresh more : ℕ) where
             left out other (inl e) = inl (ap (λ f. after_finish f out.faults) e)
             left out other (inr e) = inr (ap (s.leave (richer d st)) e)
 
-    within_richer : (k : ℕ) (w : Work) → Follows richer IsStopped (within p r k w) (run p s w)
+    within_richer : (k : ℕ) (w : Work) → Follows rich IsStopped (within p r k w) (run p s w)
     within_richer zero w d st = inl refl
     within_richer (suc k) w d st =
         begin_at (solves p s (one_is_thrifty p (fresh + more) m) w (richer d st))
-        (work_follows p r s richer IsStopped view (within p r k) (run p s) (within_richer k) w d st)
+        (work_follows p r s rich IsStopped view (within p r k) (run p s) (within_richer k) w d st)
 
-    run_richer : (w : Work) → Follows richer IsStopped (run p r w) (run p s w)
+    run_richer : (w : Work) → Follows rich IsStopped (run p r w) (run p s w)
     run_richer w d st = within_richer (st.steps + 1) w d st
 
-  begin_richer : (n m : ℕ) → n ≤ m → (b : Codes) → Follows richer IsStopped (begin_one p fresh n b) (begin_one p (fresh + more) m b)
+  begin_richer : (n m : ℕ) → n ≤ m → (b : Codes) → Follows rich IsStopped (begin_one p fresh n b) (begin_one p (fresh + more) m b)
   begin_richer zero m le b d st = inl refl
   begin_richer (suc n) zero le b d st = absurd (omega (arith, le))
   begin_richer (suc n) (suc m) le b d st =

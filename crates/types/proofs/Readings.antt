@@ -67,6 +67,14 @@ module _ (env : Environment) (read other : Place → ℤ) where
         (λ y. then_try-same (operate o x y) (operate o x y) (links env read rest)
         (links env other rest) refl (links_same rest (same_right (indexed e) (indexed_links rest) h)))
 
+  -- the first of several, and what follows it
+  first_same : (t : Truth) (rest : Truths) → (Same (indexed_truth t) → truth env read t ≡ truth env other t)
+      → Same (indexed_truths (Also t rest)) → (f g : Bool → Valued Bool)
+      → (Same (indexed_truths rest) → (b : Bool) → f b ≡ g b) → then_try (truth env read t) f ≡ then_try (truth env other t) g
+  first_same t rest one h f g go =
+      then_try-same (truth env read t) (truth env other t) f g (one (same_left (indexed_truth t) (indexed_truths rest) h))
+      (go (same_right (indexed_truth t) (indexed_truths rest) h))
+
   mutual
     pub truth_same : (t : Truth) → Same (indexed_truth t) → truth env read t ≡ truth env other t
     truth_same (Constant b) h = refl
@@ -80,15 +88,9 @@ module _ (env : Environment) (read other : Place → ℤ) where
     all_same : (ts : Truths) → Same (indexed_truths ts) → (b : Bool) → all env read ts b ≡ all env other ts b
     all_same NoMore h b = refl
     all_same (Also t rest) h false = refl
-    all_same (Also t rest) h true =
-        then_try-same (truth env read t) (truth env other t) (all env read rest) (all env other rest)
-        (truth_same t (same_left (indexed_truth t) (indexed_truths rest) h))
-        (all_same rest (same_right (indexed_truth t) (indexed_truths rest) h))
+    all_same (Also t rest) h true = first_same t rest (truth_same t) h (all env read rest) (all env other rest) (all_same rest)
 
     any_same : (ts : Truths) → Same (indexed_truths ts) → (b : Bool) → any env read ts b ≡ any env other ts b
     any_same NoMore h b = refl
     any_same (Also t rest) h true = refl
-    any_same (Also t rest) h false =
-        then_try-same (truth env read t) (truth env other t) (any env read rest) (any env other rest)
-        (truth_same t (same_left (indexed_truth t) (indexed_truths rest) h))
-        (any_same rest (same_right (indexed_truth t) (indexed_truths rest) h))
+    any_same (Also t rest) h false = first_same t rest (truth_same t) h (any env read rest) (any env other rest) (any_same rest)

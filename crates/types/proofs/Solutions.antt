@@ -76,13 +76,9 @@ module _ (p : Program) {X : Type 0} (r : Rules X) where
   primitive_less l (Raise e) st = value_less l (number_at st e) _ st (λ v. le_refl st.steps)
 
   counted_less : (l : ℕ) (s : Code) (st : State X) → (counted r l s st).steps ≡ st.steps
-  counted_less l (Do s) st = refl
-  counted_less l (If t b c) st = refl
-  counted_less l (While t b) st = refl
-  counted_less l (Split s e x y b) st = refl
-  counted_less l (Call f es ss) st = refl
   counted_less l (Async b) st = refl
   counted_less l (Finish b) st = refl
+  counted_less l s st = refl
 
   counted_act_less : (d : Work → State X → State X) (l : ℕ) (s : Code) → Less (act p r d l s) → Less (λ st. act p r d l s (counted r l s st))
   counted_act_less d l s h st = let i = h (counted r l s st) in let j = counted_less l s st in omega (arith, i, j)

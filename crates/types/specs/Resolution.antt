@@ -24,7 +24,7 @@ use Rattle.syntax_tree.specs.Tree.{Async as Asyncs, Finish as Finishes, Block}
 use Rattle.syntax_tree.specs.Tree.{End as Ends, Then as Thens}
 use Rattle.syntax_tree.specs.Tree.{Array as DeclaredArray, Parameter as DeclaredParameter}
 use Rattle.syntax_tree.specs.Tree.{Scalar as ScalarParameter}
-use Rattle.syntax_tree.specs.Tree.{Procedure as DeclaredProcedure, Main, Program as Text, Written, Read}
+use Rattle.syntax_tree.specs.Tree.{Procedure as DeclaredProcedure, Main, Program as Text}
 use Rattle.syntax_tree.specs.Tree.{lone_atom}
 use Rattle.types.specs.declared.code.Operator.{Operator}
 use Rattle.types.specs.declared.code.Operator.TheVariants.{Plus, Minus, Times, Over, Modulo}
@@ -162,14 +162,12 @@ named_by names (Some (Parens e)) = 0
 -- the arguments for the scalar parameters, and those for the section parameters
 abbrev pub values_for : Names → List DeclaredParameter → List Expr → List Number
 values_for names (ScalarParameter x ∷ ps) (e ∷ es) = number names e ∷ values_for names ps es
-values_for names (Written x t ∷ ps) (e ∷ es) = values_for names ps es
-values_for names (Read x t ∷ ps) (e ∷ es) = values_for names ps es
+values_for names (p ∷ ps) (e ∷ es) = values_for names ps es
 values_for names ps es = []
 
 abbrev pub sections_for : Names → List DeclaredParameter → List Expr → List ℕ
 sections_for names (ScalarParameter x ∷ ps) (e ∷ es) = sections_for names ps es
-sections_for names (Written x t ∷ ps) (e ∷ es) = named_by names (lone_atom e) ∷ sections_for names ps es
-sections_for names (Read x t ∷ ps) (e ∷ es) = named_by names (lone_atom e) ∷ sections_for names ps es
+sections_for names (p ∷ ps) (e ∷ es) = named_by names (lone_atom e) ∷ sections_for names ps es
 sections_for names ps es = []
 
 -- the number and the parameters of the first procedure of a name, where those before it are n

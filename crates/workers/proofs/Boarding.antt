@@ -49,9 +49,6 @@ use Rattle.finish_scope.proofs.Boarding.{scope_send, shelf_send}
 use Rattle.workers.proofs.Flats.{program_code_sync}
 
 module _ (κ : NamedLft) (J : RattleType) (gh : Ghosts J.Denot) where
-  scope_row : RattleType
-  scope_row = Arc.the_row (Mutex.the_row (Inner.the_row κ J gh)) Heap.the_row ghosts
-
   scope_field : IsSend (denote.Hole.as_row (Arc.the_field (Mutex.the_row (Inner.the_row κ J gh)) Heap.the_row ghosts))
   scope_field = as_row_send (Arc.the_field (Mutex.the_row (Inner.the_row κ J gh)) Heap.the_row ghosts) (scope_send κ J gh)
 

@@ -85,7 +85,3 @@ pub next_own : (o : Option Job) (j : Job) (n : Next) → o ≡ Some j → IsNext
 next_own o j (Goes t) of n = record { job = of ∙ ap Some (sym n.0); task = n.1 }
 next_own o j Idle of n = tt
 next_own o j (Told x) of n = λ k at. n ∙ ap outcome_of (same_Some _ _ (sym of ∙ at))
-
--- what has ended is a result of the run
-pub ended_own : (o : Option Job) (r : TaskResult) → IsOwnEnded o r → IsOwnResult o r.made
-ended_own o r own j is = subst (λ (i : Job). IsResultOf i r.made) (same_Some _ _ (sym own.job ∙ is)) own.result

@@ -1,12 +1,12 @@
 //! Why a run has no outcome.
 
-ghost use Rattle.std.specs.Prelude.{ℕ};
+ghost use Rattle.std.specs.Prelude.{ℕ, ◌≡◌};
 ghost use Rattle.gather.specs.RunErrors.{IsCause};
+ghost use Rattle.workers.specs.declared.error.Trouble.TheVariants.{Gather, OutOfMemory};
 
 use gather::error::GatherError;
 pub use gather::run_error::RunError;
 use std::alloc::{AllocError, AllocFailed};
-use task_machine::error::NoMemory;
 
 /// Why a worker ends a run, but for a ticket.
 #[derive(Drop)]
@@ -33,24 +33,24 @@ impl From<Trouble> for RunError {
 }
 
 impl From<AllocError> for Trouble {
+    ghost from_gives = { λ _ e. e ≡ OutOfMemory };
+
     fn from(_error: AllocError) -> Trouble {
         Trouble::OutOfMemory
     }
 }
 
 impl<T: Drop> From<AllocFailed<T>> for Trouble {
+    ghost from_gives = { λ _ e. e ≡ OutOfMemory };
+
     fn from(_error: AllocFailed<T>) -> Trouble {
         Trouble::OutOfMemory
     }
 }
 
-impl From<NoMemory> for Trouble {
-    fn from(_error: NoMemory) -> Trouble {
-        Trouble::OutOfMemory
-    }
-}
-
 impl From<GatherError> for Trouble {
+    ghost from_gives = { λ error e. e ≡ Gather error };
+
     fn from(error: GatherError) -> Trouble {
         Trouble::Gather(error)
     }

@@ -31,7 +31,6 @@ use program_code::pieces::ProgramCode;
 use std::alloc::AllocError;
 use std::sync::{Arc, Mutex, Wait};
 use std::thread;
-use task_machine::error::NoMemory;
 use task_machine::finish::{Ending, Entering, Parked};
 use task_machine::stake::ScopeMark;
 use task_machine::task::{Child, Task};
@@ -453,7 +452,7 @@ impl<'p, J: Running, G: Gate> Floor<'p, J, G> {
 }
 
 /// A task turns on, up to a turn that is more than a step.
-fn go<'p, J: Running>(task: Task<'p>, code: &ProgramCode<'p>) -> Result<Turn<'p>, NoMemory>
+fn go<'p, J: Running>(task: Task<'p>, code: &ProgramCode<'p>) -> Result<Turn<'p>, AllocError>
     requires own { IsOwnTask J.job task }
     requires code { HasCode J.job code.now }
     ensures { IfOk result (IsOwnTurn J.job) }
@@ -462,7 +461,7 @@ fn go<'p, J: Running>(task: Task<'p>, code: &ProgramCode<'p>) -> Result<Turn<'p>
 }
 
 /// A task does one turn.
-fn advance<'p, J: Running>(task: Task<'p>) -> Result<Turn<'p>, NoMemory>
+fn advance<'p, J: Running>(task: Task<'p>) -> Result<Turn<'p>, AllocError>
     requires { IsOwnTask J.job task }
     ensures { IfOk result (IsOwnTurn J.job) }
 {

@@ -7,9 +7,9 @@ use crate::post::Post;
 use finish_scope::inner::Scope;
 use finish_scope::resting::Place;
 use finish_scope::running::Running;
+use std::alloc::AllocError;
 use std::marker::Model;
 use std::sync::Arc;
-use task_machine::error::NoMemory;
 use task_machine::task::{Child, Task};
 
 /// A task of the run that was begun, and the scope that it stands in.
@@ -57,7 +57,7 @@ impl<'p, J: Running> Ready<'p, J> {
     }
 
     /// The task before its first turn, and where it stands.
-    pub fn begin(self) -> Result<(Task<'p>, Post<'p, J>), NoMemory>
+    pub fn begin(self) -> Result<(Task<'p>, Post<'p, J>), AllocError>
         ensures { IfOk result (λ r. IsOwnTask J.job r.0) }
     {
         let Ready {

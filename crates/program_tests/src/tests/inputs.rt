@@ -1,6 +1,6 @@
 //! What the arrays hold at first, by lists and by JSON; budgets, and names of scopes.
 
-use crate::tests::{compare, typed};
+use crate::tests::{compare, lists_of, typed};
 use std::alloc::Global;
 use std::process::Abort;
 use types::budget::Budget;
@@ -56,16 +56,6 @@ const LISTS: &[(&str, &[&[i64]], &str)] = &[
     (TWO, &[&[1], &[2]], "N4 a"),
     (TWO, &[&[256]], "N4"),
 ];
-
-/// The lists of these numbers.
-fn lists_of(rt: &impl Abort, alloc: Global, rows: &[&[i64]]) -> Vec<Vec<i64>> {
-    let mut lists = Vec::new(alloc);
-    for row in rows {
-        let list = Vec::from_slice(alloc, row).expect(rt, "memory");
-        lists.push(list).expect(rt, "memory");
-    }
-    lists
-}
 
 #[test]
 fn inputs_of_lists(rt: HostRuntime) {

@@ -1,5 +1,6 @@
 //! What commands answer as JSON.
 
+use crate::tests::typed;
 use effects::laws::typed_programs_are_sound;
 use effects::summaries::summarize;
 use intake::failure::Failure;
@@ -9,7 +10,7 @@ use json_answers::refusals::refusal_object;
 use parallel_relation::pairs::may_run_together;
 use places::statement_places;
 use race_checker::check::{Refused, check};
-use race_objects::races::race_object;
+use race_objects::races::{Found, race_object};
 use serde_json::Value;
 use std::alloc::Global;
 use std::process::Abort;
@@ -21,7 +22,6 @@ use types::fault::{Fault, FaultKind};
 use types::input::Input;
 use types::outcome::Outcome;
 use types::path::Path;
-use types::typed::Typed;
 use witness::witness::witness_of;
 
 /// Its labels: 1 at 4:3, 2 at 5:3, 3 at 5:11, 4 at 6:3.
@@ -44,12 +44,6 @@ main {
   a[0] = 2;
 }
 ";
-
-/// The program of a text.
-fn typed_of(rt: &impl Abort, alloc: Global, text: &str) -> Typed {
-    let program = syntax::parse(alloc, text).expect(rt, "a program");
-    type_check(alloc, program).expect(rt, "its rules")
-}
 
 /// Where its statements begin.
 fn places_of(rt: &impl Abort, alloc: Global, text: &str) -> Vec<Place> {
@@ -87,7 +81,7 @@ fn ended(alloc: Global) -> Result<Outcome, Fail> {
 #[test]
 fn outcomes_are_told(rt: HostRuntime) -> Result<(), Fail> {
     let alloc = rt.alloc();
-    let typed = typed_of(&rt, alloc, PROGRAM);
+    let typed = typed(&rt, alloc, PROGRAM);
     let places = places_of(&rt, alloc, PROGRAM);
     let told = outcome_object(alloc, &typed.code().arrays, &places, &ended(alloc)?)?;
     let wanted = "{\"arrays\":{\"a\":[255],\"z\":[-9223372036854775808,9223372036854775807]},\
@@ -103,7 +97,7 @@ fn outcomes_are_told(rt: HostRuntime) -> Result<(), Fail> {
 #[test]
 fn told_arrays_are_an_input(rt: HostRuntime) -> Result<(), Fail> {
     let alloc = rt.alloc();
-    let typed = typed_of(&rt, alloc, PROGRAM);
+    let typed = typed(&rt, alloc, PROGRAM);
     let outcome = ended(alloc)?;
     let told = outcome_object(alloc, &typed.code().arrays, &[], &outcome)?;
     let object = Value::from_str(alloc, told.as_str()).expect(&rt, "an object");
@@ -119,7 +113,7 @@ fn told_arrays_are_an_input(rt: HostRuntime) -> Result<(), Fail> {
 #[test]
 fn programs_are_told(rt: HostRuntime) -> Result<(), Fail> {
     let alloc = rt.alloc();
-    let typed = typed_of(&rt, alloc, RACY);
+    let typed = typed(&rt, alloc, RACY);
     let told = accepted_object(alloc, typed.code())?;
     let wanted = "{\"accepted\":true,\"labels\":4,\"procedures\":1,\"status\":0}\n";
     assert_eq!(rt; told.as_str(), wanted);
@@ -134,13 +128,19 @@ fn programs_are_told(rt: HostRuntime) -> Result<(), Fail> {
 #[test]
 fn races_are_told(rt: HostRuntime) -> Result<(), Fail> {
     let alloc = rt.alloc();
-    let typed = typed_of(&rt, alloc, RACY);
+    let typed = typed(&rt, alloc, RACY);
     typed_programs_are_sound(&typed);
     let places = places_of(&rt, alloc, RACY);
     match check(&rt, alloc, typed) {
         Err(Refused::Race { race, typed }) => {
             let witness = witness_of(alloc, &typed, race)?.expect(&rt, "a witness");
-            let told = race_object(alloc, "r.afx", &places, typed.code(), race, &witness)?;
+            let found = Found {
+                places: &places,
+                code: typed.code(),
+                race,
+                witness: &witness,
+            };
+            let told = race_object(alloc, "r.afx", found)?;
             let wanted = "{\"code\":\"C1\",\"column\":3,\"file\":\"r.afx\",\
                 \"label\":1,\"line\":2,\"message\":\"C1 race in main: 1 write a, 4 write a\",\
                 \"race\":{\"first\":{\"column\":3,\"kind\":\"write\",\"label\":1,\"line\":2,\
@@ -204,7 +204,7 @@ fn errors_of_texts_and_inputs_are_told(rt: HostRuntime) -> Result<(), Fail> {
         }
         Ok(_) => assert!(rt; false),
     }
-    let typed = typed_of(&rt, alloc, PROGRAM);
+    let typed = typed(&rt, alloc, PROGRAM);
     match Input::from_json(alloc, &typed, "{\"q\": []}") {
         Err(error) => {
             let told = refusal_object(alloc, "p.afx", &[], &Failure::Input(error))?;

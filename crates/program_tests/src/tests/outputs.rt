@@ -1,5 +1,6 @@
 //! Outcomes as text, and writers that end.
 
+use crate::tests::lists_of;
 use std::alloc::Global;
 use std::io;
 use std::io::ErrorKind;
@@ -69,16 +70,6 @@ fn faults_of(rt: &impl Abort, alloc: Global, kinds: &[FaultKind]) -> Vec<Fault> 
         faults.push(fault).expect(rt, "memory");
     }
     faults
-}
-
-/// The lists of these numbers.
-fn lists_of(rt: &impl Abort, alloc: Global, rows: &[&[i64]]) -> Vec<Vec<i64>> {
-    let mut lists = Vec::new(alloc);
-    for row in rows {
-        let list = Vec::from_slice(alloc, row).expect(rt, "memory");
-        lists.push(list).expect(rt, "memory");
-    }
-    lists
 }
 
 /// An ending with two lines, two arrays, and a fault of each kind.

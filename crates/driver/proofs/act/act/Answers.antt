@@ -4,32 +4,38 @@ use Rattle.driver.proofs.Objects.{ordered}
 use Rattle.driver.proofs.act.act.Goals as goal
 
 pub returns-in-Err-clause-asked : goal.returns-in-Err-clause-asked
-returns-in-Err-clause-asked g c a asks = absurd (c.in-Err.ensures (AsText a) asks)
+returns-in-Err-clause-asked g c a asks once = absurd (c.in-Err.ensures.read (AsText a) asks once)
 
 pub returns-in-Err-clause-as_object : goal.returns-in-Err-clause-as_object
-returns-in-Err-clause-as_object g c x a asks = absurd (c.in-Err.ensures (AsObject x a) asks)
+returns-in-Err-clause-as_object g c x a asks once = absurd (c.in-Err.ensures.read (AsObject x a) asks once)
 
 pub returns-in-Err-clause-timed : goal.returns-in-Err-clause-timed
-returns-in-Err-clause-timed g c a asks = absurd (c.in-Err.ensures (Times a) asks)
+returns-in-Err-clause-timed g c a asks once = absurd (c.in-Err.ensures.read (Times a) asks once)
 
 pub returns-in-Err-clause-tested : goal.returns-in-Err-clause-tested
-returns-in-Err-clause-tested g c folder asks = absurd (c.in-Err.ensures (Tests folder) asks)
+returns-in-Err-clause-tested g c folder asks = absurd (c.in-Err.ensures.read (Tests folder) asks refl)
 
 pub returns-in-Ok-clause-asked : goal.returns-in-Ok-clause-asked
-returns-in-Ok-clause-asked g c a asks =
-    ordered _ _ _ _ _ _ _ _ (order c.in-Ok.order) (AsText a) (c.in-Ok.ensures (AsText a) asks) c.carry_out.ensures
+returns-in-Ok-clause-asked g c a asks once =
+    ordered _ _ _ _ _ _ _ _ (order c.in-Ok.order) (AsText a) (c.in-Ok.ensures.read (AsText a) asks once) c.carry_out.ensures
 
 pub returns-in-Ok-clause-as_object : goal.returns-in-Ok-clause-as_object
-returns-in-Ok-clause-as_object g c x a asks =
-    ordered _ _ _ _ _ _ _ _ (order c.in-Ok.order) (AsObject x a) (c.in-Ok.ensures (AsObject x a) asks) c.carry_out.ensures
+returns-in-Ok-clause-as_object g c x a asks once =
+    ordered _ _ _ _ _ _ _ _ (order c.in-Ok.order) (AsObject x a) (c.in-Ok.ensures.read (AsObject x a) asks once) c.carry_out.ensures
 
 pub returns-in-Ok-clause-timed : goal.returns-in-Ok-clause-timed
-returns-in-Ok-clause-timed g c a asks =
-    ordered _ _ _ _ _ _ _ _ (order c.in-Ok.order) (Times a) (c.in-Ok.ensures (Times a) asks) c.carry_out.ensures
+returns-in-Ok-clause-timed g c a asks once =
+    ordered _ _ _ _ _ _ _ _ (order c.in-Ok.order) (Times a) (c.in-Ok.ensures.read (Times a) asks once) c.carry_out.ensures
 
 pub returns-in-Ok-clause-tested : goal.returns-in-Ok-clause-tested
 returns-in-Ok-clause-tested g c folder asks =
-    ordered _ _ _ _ _ _ _ _ (order c.in-Ok.order) (Tests folder) (c.in-Ok.ensures (Tests folder) asks) c.carry_out.ensures
+    ordered _ _ _ _ _ _ _ _ (order c.in-Ok.order) (Tests folder) (c.in-Ok.ensures.read (Tests folder) asks refl) c.carry_out.ensures
+
+pub returns-in-Err-clause-twice : goal.returns-in-Err-clause-twice
+returns-in-Err-clause-twice g c o orders twice = (c.tell_command_line.ensures, refl)
+
+pub returns-in-Ok-clause-twice : goal.returns-in-Ok-clause-twice
+returns-in-Ok-clause-twice g c o orders twice = absurd (c.in-Ok.ensures.twice o orders twice)
 
 pub returns-in-Err-clause-always : goal.returns-in-Err-clause-always
 returns-in-Err-clause-always g c = inl (c.tell_command_line.ensures, refl)

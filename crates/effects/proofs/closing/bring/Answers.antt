@@ -1,4 +1,4 @@
-use Rattle.std.proofs.Common.{◌≡◌, ℕ, refl}
+use Rattle.std.proofs.Common.{◌≡◌, ℕ, refl, rules}
 use Rattle.std.specs.Prelude.{Bool, false, true}
 use Rattle.effects.specs.Closing.{HasIn, Brings}
 use Rattle.effects.specs.LabelSets.{HasLabel, HasNew}
@@ -7,20 +7,8 @@ use Rattle.effects.proofs.ClosingLemmas.{brought, got, has_some}
 use Rattle.effects.proofs.UseLemmas.{on_ok, if_ok}
 use Rattle.effects.proofs.closing.bring.Goals as goal
 
-pub returns-in-Some-get_mut-clause-both : goal.returns-in-Some-get_mut-clause-both
-returns-in-Some-get_mut-clause-both c =
-    let table = c.args.table.now.items in
-    let x = c.args.flow in
-    let from = c.in-Some.ensures.lookup in
-    let to = c.in-Some-get_mut.ensures.item in
-    on_ok c.unite.result
-    (brought table x c.in-Some.callee.now c.in-Some-get_mut.caller.now c.unite.new.self c.in_ok-labels-in-Some.labels
-    (got _ table x.callee.number c.in-Some.callee.now c.deref.ensures.value from.3.0 from.1)
-    (got table table x.caller.number c.in-Some-get_mut.caller.now refl to.3.0 to.1) to.3.0 c.in_ok-labels-in-Some.ensures)
-    c.unite.ensures.both
-
-pub returns-in-Some-get_mut-clause-grown : goal.returns-in-Some-get_mut-clause-grown
-returns-in-Some-get_mut-clause-grown c =
+pub returns-in-Some-get_mut : goal.returns-in-Some-get_mut
+returns-in-Some-get_mut c =
     let table = c.args.table.now.items in
     let x = c.args.flow in
     let from = c.in-Some.ensures.lookup in
@@ -28,31 +16,32 @@ returns-in-Some-get_mut-clause-grown c =
     let labels = c.in_ok-labels-in-Some.labels in
     let callee = got _ table x.callee.number c.in-Some.callee.now c.deref.ensures.value from.3.0 from.1 in
     let caller = got table table x.caller.number c.in-Some-get_mut.caller.now refl to.3.0 to.1 in
-    if_ok (λ (g : Bool). g ≡ false → (l : ℕ) → HasLabel labels l → HasRow c.in-Some-get_mut.caller.now x.to l)
-    (λ (g : Bool). g ≡ false → (l : ℕ) → Brings x table x.caller.number x.to l → HasIn table x.caller.number x.to l) c.unite.result
-    (λ g h none l b. (has_some _ c.in-Some-get_mut.caller.now x.to l caller).0
-    (h none l ((c.in_ok-labels-in-Some.ensures l).1 ((has_some _ c.in-Some.callee.now x.from l callee).1 b.label))))
-    c.unite.ensures.grown
-
-pub returns-in-Some-get_mut-clause-new : goal.returns-in-Some-get_mut-clause-new
-returns-in-Some-get_mut-clause-new c =
-    let table = c.args.table.now.items in
-    let x = c.args.flow in
-    let from = c.in-Some.ensures.lookup in
-    let to = c.in-Some-get_mut.ensures.item in
-    let labels = c.in_ok-labels-in-Some.labels in
-    let callee = got _ table x.callee.number c.in-Some.callee.now c.deref.ensures.value from.3.0 from.1 in
-    let caller = got table table x.caller.number c.in-Some-get_mut.caller.now refl to.3.0 to.1 in
-    if_ok (λ (g : Bool). g ≡ true → HasNew (HasRow c.in-Some-get_mut.caller.now x.to) (HasLabel labels))
-    (λ (g : Bool). g ≡ true → HasNew (HasIn table x.caller.number x.to) (Brings x table x.caller.number x.to)) c.unite.result
-    (λ g h new. let r = h new in record {
-      label = r.label;
-      among = record {
-        there = to.3.0;
-        caller = refl;
-        to = refl;
-        label = (has_some _ c.in-Some.callee.now x.from r.label callee).0 ((c.in_ok-labels-in-Some.ensures r.label).0 r.among);
-      };
-      missing = λ k. r.missing ((has_some _ c.in-Some-get_mut.caller.now x.to r.label caller).1 k);
-    })
-    c.unite.ensures.new
+    record {
+      number = search rules;
+      both =
+          on_ok c.unite.result
+          (brought table x c.in-Some.callee.now c.in-Some-get_mut.caller.now c.unite.new.self labels callee caller to.3.0
+          c.in_ok-labels-in-Some.ensures)
+          c.unite.ensures.both;
+      grown =
+          if_ok (λ (g : Bool). g ≡ false → (l : ℕ) → HasLabel labels l → HasRow c.in-Some-get_mut.caller.now x.to l)
+          (λ (g : Bool). g ≡ false → (l : ℕ) → Brings x table x.caller.number x.to l → HasIn table x.caller.number x.to l)
+          c.unite.result
+          (λ g h none l b. (has_some _ c.in-Some-get_mut.caller.now x.to l caller).0
+          (h none l ((c.in_ok-labels-in-Some.ensures l).1 ((has_some _ c.in-Some.callee.now x.from l callee).1 b.label))))
+          c.unite.ensures.grown;
+      new =
+          if_ok (λ (g : Bool). g ≡ true → HasNew (HasRow c.in-Some-get_mut.caller.now x.to) (HasLabel labels))
+          (λ (g : Bool). g ≡ true → HasNew (HasIn table x.caller.number x.to) (Brings x table x.caller.number x.to)) c.unite.result
+          (λ g h new. let r = h new in record {
+            label = r.label;
+            among = record {
+              there = to.3.0;
+              caller = refl;
+              to = refl;
+              label = (has_some _ c.in-Some.callee.now x.from r.label callee).0 ((c.in_ok-labels-in-Some.ensures r.label).0 r.among);
+            };
+            missing = λ k. r.missing ((has_some _ c.in-Some-get_mut.caller.now x.to r.label caller).1 k);
+          })
+          c.unite.ensures.new;
+    }

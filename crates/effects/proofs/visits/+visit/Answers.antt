@@ -1,10 +1,16 @@
-use Rattle.std.proofs.Common.{◌++◌, map, ap, sym, ◌∙◌}
+use Rattle.std.proofs.Common.{◌≡◌, List, ◌++◌, map, ap, sym, ◌∙◌}
+use Rattle.types.specs.Code.{Code}
 use Rattle.types.specs.Translation.{codes, code}
 use Rattle.types.proofs.Blocks.{code_If, code_While, code_Split, code_Async, code_Finish}
-use Rattle.effects.specs.Visits.{visits_in, visits_inside, visit}
+use Rattle.effects.specs.declared.visits.Standing.{Standing}
+use Rattle.effects.specs.Visits.{Visit, visits_in, visits_inside, visit}
 use Rattle.effects.proofs.Appending.{in_two_steps}
 use Rattle.effects.proofs.VisitLemmas.{visits_same}
 use Rattle.effects.proofs.visits.+visit.Goals as goal
+
+-- what is visited inside a statement, by what its code is
+inside_of : (before : List Visit) (w : Standing) {of is : Code} → of ≡ is → before ++ visits_inside w is ≡ before ++ visits_inside w of
+inside_of before w e = ap (λ k. before ++ visits_inside w k) (sym e)
 
 pub visit_inside-returns-in_ok-visit_block-in-If-2 : goal.visit_inside-returns-in_ok-visit_block-in-If-2
 visit_inside-returns-in_ok-visit_block-in-If-2 t c =
@@ -20,25 +26,24 @@ visit_inside-returns-in_ok-visit_block-in-While t c =
     let before = map visit c.args.into.now.items in
     c.in_ok-visit_block-in-While.ensures
     ∙ ap (λ b. before ++ visits_in c.args.standing (codes b)) c.deref-in-While.ensures.value
-    ∙ ap (λ k. before ++ visits_inside c.args.standing k) (sym (ap code c.in-While.is ∙ code_While c.in-While.guard c.in-While.body))
+    ∙ inside_of before c.args.standing (ap code c.in-While.is ∙ code_While c.in-While.guard c.in-While.body)
 
 pub visit_inside-returns-in_ok-visit_block-in-Split : goal.visit_inside-returns-in_ok-visit_block-in-Split
 visit_inside-returns-in_ok-visit_block-in-Split t c =
     let before = map visit c.args.into.now.items in
     c.in_ok-visit_block-in-Split.ensures
     ∙ ap (λ b. before ++ visits_in c.args.standing (codes b)) c.deref-in-Split.ensures.value
-    ∙ ap (λ k. before ++ visits_inside c.args.standing k) (sym (ap code c.in-Split.is ∙ code_Split c.in-Split.section c.in-Split.at c.in-Split.left c.in-Split.right c.in-Split.body))
+    ∙ inside_of before c.args.standing
+    (ap code c.in-Split.is ∙ code_Split c.in-Split.section c.in-Split.at c.in-Split.left c.in-Split.right c.in-Split.body)
 
 pub visit_inside-returns-in_ok-visit_block-in-Async : goal.visit_inside-returns-in_ok-visit_block-in-Async
 visit_inside-returns-in_ok-visit_block-in-Async t c =
     c.in_ok-visit_block-in-Async.ensures
     ∙ visits_same (map visit c.args.into.now.items) c.in_async.ensures c.deref-in-Async.ensures.value
-    ∙ ap (λ k. map visit c.args.into.now.items ++ visits_inside c.args.standing k)
-    (sym (ap code c.in-Async.is ∙ code_Async c.in-Async.body))
+    ∙ inside_of (map visit c.args.into.now.items) c.args.standing (ap code c.in-Async.is ∙ code_Async c.in-Async.body)
 
 pub visit_inside-returns-in_ok-visit_block-in-Finish : goal.visit_inside-returns-in_ok-visit_block-in-Finish
 visit_inside-returns-in_ok-visit_block-in-Finish t c =
     c.in_ok-visit_block-in-Finish.ensures
     ∙ visits_same (map visit c.args.into.now.items) c.in_finish.ensures c.deref-in-Finish.ensures.value
-    ∙ ap (λ k. map visit c.args.into.now.items ++ visits_inside c.args.standing k)
-    (sym (ap code c.in-Finish.is ∙ code_Finish c.in-Finish.body))
+    ∙ inside_of (map visit c.args.into.now.items) c.args.standing (ap code c.in-Finish.is ∙ code_Finish c.in-Finish.body)

@@ -1,79 +1,45 @@
-use Rattle.std.proofs.Common.{◌≡◌, ◌++◌, ◌∙◌, List, OnOk, map, refl, sym, ap, subst}
+use Rattle.std.proofs.Common.{◌≡◌, map, refl, sym, ap}
 use Rattle.std.proofs.lemmas.List.{append-nil}
 use Rattle.std.proofs.lemmas.Option.{slice_get_past}
-use Rattle.sections.specs.Translation.{section}
-use Rattle.sections.specs.declared.id.SectionId.{SectionId}
 use Rattle.types.specs.Translation.{code, codes}
-use Rattle.types.proofs.Blocks.{code_If, code_While, code_Split, code_Async}
-use Rattle.effects.specs.Accesses.{Access}
-use Rattle.effects.specs.Effects.{accesses, past_split, past_call, renamed}
-use Rattle.effects.specs.Tables.{all_in, left_in, left_by}
+use Rattle.effects.specs.Effects.{accesses}
+use Rattle.effects.specs.Tables.{left_in}
 use Rattle.effects.specs.Translation.{access}
-use Rattle.effects.specs.declared.access.Access.{Access as rAccess}
 use Rattle.effects.proofs.Appending.{in_two_steps}
 use Rattle.effects.proofs.ClosingLemmas.{got}
-use Rattle.parallel_relation.specs.Listing.{alls_of, pendings_of, pending_listed}
+use Rattle.effects.proofs.Statements.{is_If, is_While, is_Split, is_Async}
+use Rattle.parallel_relation.specs.Listing.{alls_of, pendings_of}
+use Rattle.parallel_relation.proofs.Sums.{on_ok}
 use Rattle.parallel_relation.proofs.statements.+left.Goals as goal
 
-pub add_left_by-returns-in_ok-add_left-in-If-2 : goal.add_left_by-returns-in_ok-add_left-in-If-2
-add_left_by-returns-in_ok-add_left-in-If-2 t c =
-    let lists = c.args.lists.now in
-    let first = c.add_left.new.into.items in
-    in_two_steps (map access c.args.into.now.items) (map access first) _ _ _ _
-    (c.in_ok-add_left-in-If.ensures ∙ ap (λ b. map access c.args.into.now.items ++ left_in accesses (alls_of lists) (pendings_of lists) (codes b)) c.deref.ensures.value)
-    (c.in_ok-add_left-in-If-2.ensures ∙ ap (λ b. map access first ++ left_in accesses (alls_of lists) (pendings_of lists) (codes b)) c.deref-in-If.ensures.value)
-    (ap (λ k. left_by accesses (alls_of lists) (pendings_of lists) (code k)) c.in-If.is ∙ ap (left_by accesses (alls_of lists) (pendings_of lists)) (code_If c.in-If.guard c.in-If.body c.in-If.other))
+pub add_left_by-returns-in_ok-add_left-in-If : goal.add_left_by-returns-in_ok-add_left-in-If
+add_left_by-returns-in_ok-add_left-in-If t c =
+    rw (is_If _ c.in-If.guard c.in-If.body c.in-If.other c.deref.result.now c.deref-in-If.result.now c.in-If.is c.deref.ensures.value c.deref-in-If.ensures.value)
+    (on_ok c.add_left-in-If.result (λ second. in_two_steps _ _ _ _ _ _ c.in_ok-add_left-in-If.ensures second refl) c.add_left-in-If.ensures)
 
-pub add_left_by-returns-in_ok-add_left-in-While : goal.add_left_by-returns-in_ok-add_left-in-While
-add_left_by-returns-in_ok-add_left-in-While t c =
-    let lists = c.args.lists.now in
-    let before = map access c.args.into.now.items in
-    c.in_ok-add_left-in-While.ensures
-    ∙ ap (λ b. before ++ left_in accesses (alls_of lists) (pendings_of lists) (codes b)) c.deref-in-While.ensures.value
-    ∙ ap (λ k. before ++ left_by accesses (alls_of lists) (pendings_of lists) k) (sym (ap code c.in-While.is ∙ code_While c.in-While.guard c.in-While.body))
+pub add_left_by-returns-in-While : goal.add_left_by-returns-in-While
+add_left_by-returns-in-While t c =
+    rw (is_While _ c.in-While.guard c.in-While.body c.deref-in-While.result.now c.in-While.is c.deref-in-While.ensures.value) c.add_left-in-While.ensures
 
-pub add_left_by-returns-in_ok-add_block-in-Async : goal.add_left_by-returns-in_ok-add_block-in-Async
-add_left_by-returns-in_ok-add_block-in-Async t c =
-    let lists = c.args.lists.now in
-    let before = map access c.args.into.now.items in
-    c.in_ok-add_block-in-Async.ensures
-    ∙ ap (λ b. before ++ all_in accesses (alls_of lists) (codes b)) c.deref-in-Async.ensures.value
-    ∙ ap (λ k. before ++ left_by accesses (alls_of lists) (pendings_of lists) k) (sym (ap code c.in-Async.is ∙ code_Async c.in-Async.body))
+pub add_left_by-returns-in-Async : goal.add_left_by-returns-in-Async
+add_left_by-returns-in-Async t c =
+    rw (is_Async _ c.in-Async.body c.deref-in-Async.result.now c.in-Async.is c.deref-in-Async.ensures.value) c.add_block.ensures
 
-pub add_left_by-returns-in_ok-add_around-in-Split : goal.add_left_by-returns-in_ok-add_around-in-Split
-add_left_by-returns-in_ok-add_around-in-Split t c =
-    let lists = c.args.lists.now in
-    let before = map access c.args.into.now.items in
-    let out = past_split c.in-Split.section.number c.in-Split.left.number c.in-Split.right.number in
-    let inside : map access c.deref-in-Split-2.result.now ≡ left_in accesses (alls_of lists) (pendings_of lists) (codes c.in-Split.body.items) =
-    ap (map access) c.deref-in-Split-2.ensures.value ∙ c.in_ok-add_left-in-Split.ensures
-    ∙ ap (λ (xs : List rAccess). map access xs ++ left_in accesses (alls_of lists) (pendings_of lists) (codes c.deref-in-Split.result.now)) c.new-inside.ensures.items
-    ∙ ap (λ b. left_in accesses (alls_of lists) (pendings_of lists) (codes b)) c.deref-in-Split.ensures.value in
-    c.in_ok-add_around-in-Split.ensures
-    ∙ ap (λ (xs : List Access). before ++ map (renamed out) xs) inside
-    ∙ ap (λ k. before ++ left_by accesses (alls_of lists) (pendings_of lists) k)
-    (sym (ap code c.in-Split.is ∙ code_Split c.in-Split.section c.in-Split.at c.in-Split.left c.in-Split.right c.in-Split.body))
+pub add_left_by-returns-in_ok-add_left-in-Split : goal.add_left_by-returns-in_ok-add_left-in-Split
+add_left_by-returns-in_ok-add_left-in-Split t c =
+    let s = c.in-Split in
+    let inside : map access c.deref-in-Split-2.result.now ≡ left_in accesses (alls_of c.args.lists.now) (pendings_of c.args.lists.now) (codes c.deref-in-Split.result.now) =
+    rw (c.deref-in-Split-2.ensures.value, c.in_ok-add_left-in-Split.ensures, c.new-inside.ensures.items) refl in
+    rw (is_Split _ s.section s.at s.left s.right s.body c.deref-in-Split.result.now s.is c.deref-in-Split.ensures.value, ← inside) c.add_around.ensures
 
 pub add_left_by-returns-in-Some : goal.add_left_by-returns-in-Some
 add_left_by-returns-in-Some t c =
     let lists = c.args.lists.now in
-    let before = map access c.args.into.now.items in
     let found = c.in-Some.ensures.lookup in
-    let at = got lists lists c.in-Call.procedure.number c.in-Some.callee.now refl found.3.0 found.1 in
-    let out = past_call (map section c.in-Call.sections.items) in
-    subst (λ (xs : List Access). OnOk c.add_passed.result (map access c.add_passed.new.into.items ≡ before ++ xs))
-    (ap (λ (ss : List SectionId). map (renamed (past_call (map section ss))) (map access c.deref-in-Some.result.now)) c.deref-in-Some-2.ensures.value
-    ∙ ap (λ (xs : List rAccess). map (renamed out) (map access xs)) c.deref-in-Some.ensures.value
-    ∙ ap (λ o. map (renamed out) (pending_listed o)) (sym at)
-    ∙ sym (ap (λ k. left_by accesses (alls_of lists) (pendings_of lists) (code k)) c.in-Call.is))
-    c.add_passed.ensures
+    let there = got lists lists c.in-Call.procedure.number c.in-Some.callee.now refl found.3.0 found.1 in
+    rw (ap code c.in-Call.is, there, ← c.deref-in-Some.ensures.value, ← c.deref-in-Some-2.ensures.value) c.add_passed.ensures
 
 pub add_left_by-returns-in-None : goal.add_left_by-returns-in-None
 add_left_by-returns-in-None t c =
-    let lists = c.args.lists.now in
-    let before = map access c.args.into.now.items in
-    let out = past_call (map section c.in-Call.sections.items) in
-    let none = slice_get_past lists c.in-Call.procedure.number c.in-None.ensures.lookup.3 in
-    sym (append-nil before)
-    ∙ ap (λ o. before ++ map (renamed out) (pending_listed o)) (sym none)
-    ∙ ap (λ xs. before ++ xs) (sym (ap (λ k. left_by accesses (alls_of lists) (pendings_of lists) (code k)) c.in-Call.is))
+    let none = slice_get_past c.args.lists.now c.in-Call.procedure.number c.in-None.ensures.lookup.3 in
+    rw (ap code c.in-Call.is, none) (sym (append-nil (map access c.args.into.now.items)))

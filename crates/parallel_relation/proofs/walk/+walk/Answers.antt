@@ -1,16 +1,16 @@
 use Rattle.std.proofs.Common.{◌≡◌, ◌-◌, List, [], length, drop, ap, sym, subst, refl, arith}
 use Rattle.std.proofs.lemmas.List.{drop_all}
-use Rattle.types.specs.Code.{End, Do, If}
-use Rattle.types.specs.Translation.{program, code, codes, primitive, truth}
+use Rattle.types.specs.Code.{End}
+use Rattle.types.specs.Translation.{program, code, codes}
 use Rattle.types.specs.declared.code.Stmt.{Stmt}
 use Rattle.effects.specs.Effects.{labels, All}
 use Rattle.effects.specs.LabelSets.{HasLabel}
-use Rattle.parallel_relation.specs.Around.{Adds, Gains, BlockMeets, InsideMeets}
+use Rattle.parallel_relation.specs.Around.{Adds, Gains, BlockMeets}
 use Rattle.parallel_relation.specs.Found.{FoundMeets}
 use Rattle.parallel_relation.proofs.LabelsLemmas.{nothing_behind, one_more}
 use Rattle.effects.proofs.Statements.{size_in, codes_before, smaller, size-drop, is_If, is_While, is_Split, is_Async, is_Finish}
 use Rattle.parallel_relation.proofs.Sums.{adds_nothing, adds_joined, on_ok}
-use Rattle.parallel_relation.proofs.WalkLemmas.{gains_copied, no_block, adds_inside, adds_while, adds_async, adds_finish, adds_statement, adds_before}
+use Rattle.parallel_relation.proofs.WalkLemmas.{gains_copied, no_block, adds_later, adds_async, adds_finish, adds_statement, adds_before}
 use Rattle.parallel_relation.proofs.walk.+walk.Goals as goal
 
 pub walk-loop-k-init : goal.walk-loop-k-init
@@ -27,8 +27,8 @@ walk-loop-k-init t c =
           (adds_nothing (FoundMeets p c.args.found.now) (BlockMeets p e k End) (no_block p e k));
     }
 
-pub walk-walk_statement-requires : goal.walk-walk_statement-requires
-walk-walk_statement-requires t c =
+pub walk-walk_inside-requires : goal.walk-walk_inside-requires
+walk-walk_inside-requires t c =
     let xs = c.args.block.now in
     let k = c.loop-k.k in
     let fewer = smaller xs k c.index-block-k.result c.loop-k-test.true c.loop-k.auto.k c.index-block-k.is in
@@ -40,16 +40,17 @@ walk-loop-k-preserved t c =
     let xs = c.args.block.now in
     let e = HasLabel c.args.everything.now in
     let later = HasLabel c.args.later.now in
+    let behind = HasLabel c.loop-k.behind in
     let k = c.loop-k.k in
     let x = c.index-block-k.result in
     let rest = codes (drop k xs) in
     let here = codes_before xs k x c.loop-k-test.true c.loop-k.auto.k c.index-block-k.is in
+    let first = adds_statement p e behind x.label (code x.kind) (c.in_ok-add_label.ensures p) c.in_ok-walk_inside.ensures in
     record {
       behind = subst (λ b. Gains later (All p labels b) (HasLabel c.add_labels_of.new.set)) (sym here)
           (one_more p x.label (code x.kind) rest c.loop-k.invariant.behind c.in_ok-add_labels_of.ensures);
-      found = subst (λ b. Adds (FoundMeets p c.args.found.now) (BlockMeets p e later b) (FoundMeets p c.walk_statement.new.found)) (sym here)
-          (adds_before p e later (HasLabel c.loop-k.behind) x.label (code x.kind) rest c.loop-k.invariant.behind
-          c.loop-k.invariant.found c.in_ok-walk_statement.ensures);
+      found = subst (λ b. Adds (FoundMeets p c.args.found.now) (BlockMeets p e later b) (FoundMeets p c.walk_inside.new.found)) (sym here)
+          (adds_before p e later behind x.label (code x.kind) rest c.loop-k.invariant.behind c.loop-k.invariant.found first);
     }
 
 pub walk-returns : goal.walk-returns
@@ -59,27 +60,13 @@ walk-returns t c =
     subst (λ k. Adds (FoundMeets p c.args.found.now) (BlockMeets p (HasLabel c.args.everything.now) (HasLabel c.args.later.now)
     (codes (drop k c.args.block.now))) (FoundMeets p c.loop-k.found)) first c.loop-k.invariant.found
 
-pub walk_statement-returns : goal.walk_statement-returns
-walk_statement-returns t c =
-    let p = program c.args.code.now in
-    on_ok c.walk_inside.result
-    (λ h. adds_statement p (HasLabel c.args.everything.now) (HasLabel c.args.later.now) c.args.statement.now.label
-    (code c.args.statement.now.kind) (c.in_ok-add_label.ensures p) h) c.walk_inside.ensures
-
 pub walk_inside-returns-in-Do : goal.walk_inside-returns-in-Do
 walk_inside-returns-in-Do t c =
-    let p = program c.args.code.now in
-    let e = HasLabel c.args.everything.now in
-    let k = HasLabel c.args.later.now in
-    let l = c.args.statement.now.label in
-    adds_inside p e k l (ap code c.in-Do.is) (adds_nothing (FoundMeets p c.args.found.now)
-    (InsideMeets p e k l (Do (primitive c.in-Do.field-0))) (λ x y m. m))
+    rw (ap code c.in-Do.is) (adds_nothing (FoundMeets (program c.args.code.now) c.args.found.now) _ (λ x y m. m))
 
 pub walk_inside-returns-in-Call : goal.walk_inside-returns-in-Call
 walk_inside-returns-in-Call t c =
-    let p = program c.args.code.now in
-    on_ok c.add_call.result (λ h. adds_inside p (HasLabel c.args.everything.now) (HasLabel c.args.later.now) c.args.statement.now.label
-    (ap code c.in-Call.is) (h p)) c.add_call.ensures
+    rw (ap code c.in-Call.is) (on_ok c.add_call.result (λ h. h (program c.args.code.now)) c.add_call.ensures)
 
 pub walk_inside-walk-requires : goal.walk_inside-walk-requires
 walk_inside-walk-requires t c =
@@ -93,16 +80,8 @@ walk_inside-walk-requires-in-If t c =
 
 pub walk_inside-returns-in_ok-walk-in-If : goal.walk_inside-returns-in_ok-walk-in-If
 walk_inside-returns-in_ok-walk-in-If t c =
-    let p = program c.args.code.now in
-    let e = HasLabel c.args.everything.now in
-    let k = HasLabel c.args.later.now in
-    let l = c.args.statement.now.label in
-    let is = is_If _ c.in-If.guard c.in-If.body c.in-If.other c.deref.result.now c.deref-in-If.result.now c.in-If.is c.deref.ensures.value c.deref-in-If.ensures.value in
-    let b = codes c.deref.result.now in
-    let d = codes c.deref-in-If.result.now in
-    on_ok c.walk-in-If.result
-    (λ h. adds_inside p e k l is (adds_joined (InsideMeets p e k l (If (truth c.in-If.guard) b d)) c.in_ok-walk-in-If.ensures h (λ x y m. m) (λ x y m. m)))
-    c.walk-in-If.ensures
+    rw (is_If _ c.in-If.guard c.in-If.body c.in-If.other c.deref.result.now c.deref-in-If.result.now c.in-If.is c.deref.ensures.value c.deref-in-If.ensures.value)
+    (on_ok c.walk-in-If.result (λ h. adds_joined _ c.in_ok-walk-in-If.ensures h (λ x y m. m) (λ x y m. m)) c.walk-in-If.ensures)
 
 pub walk_inside-walk-requires-in-While : goal.walk_inside-walk-requires-in-While
 walk_inside-walk-requires-in-While t c =
@@ -112,27 +91,21 @@ walk_inside-walk-requires-in-While t c =
 pub walk_inside-returns-in_ok-add_labels_of-in-While : goal.walk_inside-returns-in_ok-add_labels_of-in-While
 walk_inside-returns-in_ok-add_labels_of-in-While t c =
     let p = program c.args.code.now in
-    let e = HasLabel c.args.everything.now in
-    let k = HasLabel c.args.later.now in
     let is = is_While _ c.in-While.guard c.in-While.body c.deref-in-While.result.now c.in-While.is c.deref-in-While.ensures.value in
-    let l = c.args.statement.now.label in
-    let s = code c.args.statement.now.kind in
-    let again = gains_copied c.in_ok-again-in-While.ensures c.in_ok-add_labels_of-in-While.ensures in
-    on_ok c.walk-in-While.result (λ h. adds_while p e k (HasLabel c.add_labels_of.new.set) l s (truth c.in-While.guard)
-    (codes c.deref-in-While.result.now) is again h) c.walk-in-While.ensures
+    let copied = gains_copied c.in_ok-again-in-While.ensures c.in_ok-add_labels_of-in-While.ensures in
+    let again = rw is at copied in
+    rw is (on_ok c.walk-in-While.result (adds_later p (HasLabel c.args.everything.now) (codes c.deref-in-While.result.now) again) c.walk-in-While.ensures)
 
 pub walk_inside-walk-requires-in-Split : goal.walk_inside-walk-requires-in-Split
 walk_inside-walk-requires-in-Split t c =
-    let is = is_Split _ c.in-Split.section c.in-Split.at c.in-Split.left c.in-Split.right c.in-Split.body c.deref-in-Split.result.now c.in-Split.is c.deref-in-Split.ensures.value in
+    let s = c.in-Split in
+    let is = is_Split _ s.section s.at s.left s.right s.body c.deref-in-Split.result.now s.is c.deref-in-Split.ensures.value in
     (omega (arith, ap size_in is), c.requires)
 
 pub walk_inside-returns-in-Split : goal.walk_inside-returns-in-Split
 walk_inside-returns-in-Split t c =
-    let p = program c.args.code.now in
-    let e = HasLabel c.args.everything.now in
-    let k = HasLabel c.args.later.now in
-    let is = is_Split _ c.in-Split.section c.in-Split.at c.in-Split.left c.in-Split.right c.in-Split.body c.deref-in-Split.result.now c.in-Split.is c.deref-in-Split.ensures.value in
-    on_ok c.walk-in-Split.result (λ h. adds_inside p e k c.args.statement.now.label is h) c.walk-in-Split.ensures
+    let s = c.in-Split in
+    rw (is_Split _ s.section s.at s.left s.right s.body c.deref-in-Split.result.now s.is c.deref-in-Split.ensures.value) c.walk-in-Split.ensures
 
 pub walk_inside-walk-requires-in-Async : goal.walk_inside-walk-requires-in-Async
 walk_inside-walk-requires-in-Async t c =
@@ -141,12 +114,9 @@ walk_inside-walk-requires-in-Async t c =
 
 pub walk_inside-returns-in_ok-beside-in-Async : goal.walk_inside-returns-in_ok-beside-in-Async
 walk_inside-returns-in_ok-beside-in-Async t c =
-    let p = program c.args.code.now in
-    let e = HasLabel c.args.everything.now in
-    let k = HasLabel c.args.later.now in
-    let is = is_Async _ c.in-Async.body c.deref-in-Async.result.now c.in-Async.is c.deref-in-Async.ensures.value in
-    on_ok c.walk-in-Async.result (λ h. adds_async p e k (HasLabel c.in_ok-beside-in-Async.beside) (HasLabel c.new.result)
-    c.args.statement.now.label (code c.args.statement.now.kind) (codes c.deref-in-Async.result.now) is c.in_ok-beside-in-Async.ensures c.new.ensures h) c.walk-in-Async.ensures
+    rw (is_Async _ c.in-Async.body c.deref-in-Async.result.now c.in-Async.is c.deref-in-Async.ensures.value)
+    (on_ok c.walk-in-Async.result (adds_async (program c.args.code.now) (codes c.deref-in-Async.result.now) c.in_ok-beside-in-Async.ensures
+    c.new-none.ensures) c.walk-in-Async.ensures)
 
 pub walk_inside-walk-requires-in-Finish : goal.walk_inside-walk-requires-in-Finish
 walk_inside-walk-requires-in-Finish t c =
@@ -155,9 +125,6 @@ walk_inside-walk-requires-in-Finish t c =
 
 pub walk_inside-returns-in-Finish : goal.walk_inside-returns-in-Finish
 walk_inside-returns-in-Finish t c =
-    let p = program c.args.code.now in
-    let e = HasLabel c.args.everything.now in
-    let k = HasLabel c.args.later.now in
-    let is = is_Finish _ c.in-Finish.body c.deref-in-Finish.result.now c.in-Finish.is c.deref-in-Finish.ensures.value in
-    on_ok c.walk-in-Finish.result (λ h. adds_finish p e k (HasLabel c.new-in-Finish.result)
-    c.args.statement.now.label (code c.args.statement.now.kind) (codes c.deref-in-Finish.result.now) is c.new-in-Finish.ensures h) c.walk-in-Finish.ensures
+    rw (is_Finish _ c.in-Finish.body c.deref-in-Finish.result.now c.in-Finish.is c.deref-in-Finish.ensures.value)
+    (on_ok c.walk-in-Finish.result (adds_finish (program c.args.code.now) (HasLabel c.args.everything.now) (HasLabel c.new-none-in-Finish.result)
+    (codes c.deref-in-Finish.result.now) c.new-none-in-Finish.ensures) c.walk-in-Finish.ensures)

@@ -19,10 +19,7 @@ invariant-walk-loop-k l =
     }
 
 abbrev pub decreases-walk : goal.decreases-walk
-decreases-walk l = 3 * size (codes l.block.now)
-
-abbrev pub decreases-walk_statement : goal.decreases-walk_statement
-decreases-walk_statement l = 3 * size_in (code l.statement.now.kind) + 2
+decreases-walk l = 2 * size (codes l.block.now)
 
 abbrev pub decreases-walk_inside : goal.decreases-walk_inside
-decreases-walk_inside l = 3 * size_in (code l.statement.now.kind) + 1
+decreases-walk_inside l = 2 * size_in (code l.statement.now.kind) + 1

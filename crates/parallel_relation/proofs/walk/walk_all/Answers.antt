@@ -28,7 +28,7 @@ loop-procedure-preserved c =
     ap (λ (fs : List rProcedure). (slice_index_or (map procedure fs) i no_procedure).body) (sym c.deref-procedure-items.ensures.value)
     ∙ ap (λ (g : Procedure). g.body) here ∙ ap codes (sym c.deref.ensures.value) in
     adds_procedure p i (codes c.deref.result.now) is c.loop-procedure.invariant
-    (adds_within p (HasLabel c.new-nothing.result) (codes c.deref.result.now) c.new-nothing.ensures c.in_ok-walk.ensures)
+    (adds_within p (HasLabel c.new-none.result) (codes c.deref.result.now) c.new-none.ensures c.in_ok-walk.ensures)
 
 pub returns : goal.returns
 returns c =
@@ -39,6 +39,6 @@ returns c =
     let h = FoundMeets p c.walk-2.new.found in
     let past : length p.procedures ≤ n =
     omega (arith, length-map c.args.code.now.procedures.items procedure, ap length c.deref-procedure-items.ensures.value, c.loop-procedure-test.false) in
-    let main = adds_within p (HasLabel c.new-nothing.result) (codes c.deref-2.result.now) c.new-nothing.ensures c.in_ok-walk-2.ensures in
+    let main = adds_within p (HasLabel c.new-none.result) (codes c.deref-2.result.now) c.new-none.ensures c.in_ok-walk-2.ensures in
     all_arises p n f g h past (c.new-found.ensures p) c.loop-procedure.invariant
     (subst (λ (xs : List Stmt). Adds g (Together p labels (codes xs)) h) c.deref-2.ensures.value main)

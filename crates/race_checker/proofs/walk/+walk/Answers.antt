@@ -1,26 +1,22 @@
-use Rattle.std.proofs.Common.{◌≡◌, ◌<◌, ◌≤◌, ◌-◌, ℕ, List, All as AllOfList, map, drop, length, sym, ap, ◌∙◌, subst, arith}
-use Rattle.sections.specs.Origins.{Origin}
+use Rattle.std.proofs.Common.{◌≡◌, ◌≤◌, ◌-◌, ℕ, List, map, drop, refl, sym, ap, ◌∙◌, subst, arith}
 use Rattle.sections.specs.Translation.{section}
-use Rattle.sections.specs.Tree.{origins_of}
-use Rattle.types.specs.Code.{Codes, Procedure, If, While, Split, Async, Finish}
+use Rattle.types.specs.Code.{Codes, Procedure}
 use Rattle.types.specs.Run.{procedure_of}
 use Rattle.types.specs.Translation.{code, codes, number, primitive, program, truth}
 use Rattle.types.specs.declared.code.Stmt.{Stmt}
-use Rattle.types.proofs.Blocks.{code_If, code_While, code_Split, code_Async, code_Finish}
-use Rattle.effects.specs.Effects.{accesses, AllOf, All, PendingOf, Pending, past_call}
+use Rattle.effects.specs.Effects.{accesses, All, Pending, past_call}
 use Rattle.effects.specs.Firsts.{AreFirsts, kept_in}
 use Rattle.effects.specs.Rows.{Renamed}
 use Rattle.effects.specs.Translation.{access}
-use Rattle.effects.specs.declared.access.Access.{Access as rAccess}
-use Rattle.race_checker.specs.Found.{Stands, StandsOf, IsFoundIn, IsInFront, IsInTurn}
+use Rattle.effects.proofs.Statements.{size, size_in, size-drop, smaller, codes_before, is_If, is_While, is_Split, is_Async, is_Finish}
+use Rattle.race_checker.specs.Found.{IsFoundIn, IsInFront}
 use Rattle.race_checker.specs.Races.{numbered}
 use Rattle.race_checker.specs.Translation.{found as race_found}
-use Rattle.race_checker.proofs.Finding.{in_range, below_all, below_of, below_pending, stands_at, stands_behind}
+use Rattle.race_checker.proofs.Finding.{in_range, in_these, below_all, below_of, below_pending, stands_at, stands_behind}
 use Rattle.race_checker.proofs.Finding.{stands_if_body, stands_if_other, stands_while, stands_split, stands_async, stands_finish}
 use Rattle.race_checker.proofs.Finding.{found_in_front, found_in_none, found_inside_nothing, found_inside_if, found_inside_split}
 use Rattle.race_checker.proofs.Finding.{found_inside_async, found_inside_finish, found_of_arm, found_of_loop, all_of_turn}
-use Rattle.race_checker.proofs.Finding.{pending_of_turn, none_behind, codes_from, least_none}
-use Rattle.race_checker.proofs.Finding.{size_of, size_in, size_at, smaller}
+use Rattle.race_checker.proofs.Finding.{pending_of_turn, none_behind, least_none}
 use Rattle.std.proofs.Crossing.{crosses}
 use denote.Param.Send.{sendable}
 use Rattle.std.specs.Prelude.{slice_index_or}
@@ -50,7 +46,7 @@ found_in-collect-requires-clause-ready g t c κs within =
     rw (c.map.ensures.f, c.map.ensures.base, c.with_min_len.ensures.base, c.par_chunks.ensures.slice, c.par_chunks.ensures.size)
     (λ k d lt x e. rw e (let h = pieces k d lt in (
       (
-        let le : size_in (codes (slice_index_or (chunks_of 256 body) k d)) ≤ size_in (codes body) = h.size in omega arith,
+        let le : size (codes (slice_index_or (chunks_of 256 body) k d)) ≤ size (codes body) = h.small in omega arith,
         (λ a m. m, (search (sendable, crosses) depth 40, (c.requires.sound, (c.requires.summaries, (c.requires.procedure, (h.stands, search (sendable, crosses) depth 40)))))),
       ),
       λ y q. tt,
@@ -89,57 +85,33 @@ found_in_piece-loop-place-init g t c =
 
 pub found_in_piece-found_of-requires : goal.found_in_piece-found_of-requires
 found_in_piece-found_of-requires g t c κs within =
-    let p = program c.args.code.now in
-    let f = c.args.procedure.number in
-    let os = (numbered p f).sections in
-    let st : StandsOf p os c.index-piece-place.result.label (code c.index-piece-place.result.kind) =
-    subst (λ (s : Stmt). StandsOf p os s.label (code s.kind)) (sym c.index-piece-place.is)
-    (stands_at p os c.args.piece.now (c.loop-place.place - 1) c.index-piece-place.result (omega arith) c.requires.stands) in
-    let falls : size_of (code c.index-piece-place.result.kind) < size_in (codes c.args.piece.now) =
-    size_at c.args.piece.now (c.loop-place.place - 1) c.index-piece-place.result c.index-piece-place.result (omega arith) c.index-piece-place.is in
-    (omega arith, (within, (search (sendable, crosses) depth 40, (c.requires.sound, (c.requires.summaries, (c.requires.procedure, st))))))
+    let k = c.loop-place.place in
+    let fewer = smaller c.args.piece.now k c.index-piece-place.result (omega arith) (omega arith) c.index-piece-place.is in
+    let stands = stands_at _ _ c.args.piece.now k c.index-piece-place.result (omega arith) (omega arith) c.index-piece-place.is c.requires.stands in
+    (omega (arith, fewer, size-drop (k - 1) c.args.piece.now), (within, (search (sendable, crosses) depth 40, (c.requires.sound, (c.requires.summaries, (c.requires.procedure, stands))))))
 
 pub found_in_piece-with_first-requires-clause-pending : goal.found_in_piece-with_first-requires-clause-pending
 found_in_piece-with_first-requires-clause-pending g t c =
-    let p = program c.args.code.now in
-    let f = c.args.procedure.number in
-    let os = (numbered p f).sections in
-    let same : origins_of c.procedure_of.result.now.sections ≡ os =
-    ap (λ (g : Procedure). g.sections) c.procedure_of.ensures in
-    let st : StandsOf p os c.index-piece-place.result.label (code c.index-piece-place.result.kind) =
-    subst (λ (s : Stmt). StandsOf p os s.label (code s.kind)) (sym c.index-piece-place.is)
-    (stands_at p os c.args.piece.now (c.loop-place.place - 1) c.index-piece-place.result (omega arith) c.requires.stands) in
-    subst (λ (o : List Origin). AllOfList (λ (x : rAccess). x.section.number < length o) c.in_ok-here.here.pending.items.items) (sym same)
-    (in_range (PendingOf p accesses (code c.index-piece-place.result.kind)) c.in_ok-here.here.pending (length os)
-    c.in_ok-here.ensures.pending_firsts
-    (below_pending p c.requires.sound os c.index-piece-place.result.label (code c.index-piece-place.result.kind) st))
+    let stands = stands_at _ _ c.args.piece.now c.loop-place.place c.index-piece-place.result (omega arith) (omega arith) c.index-piece-place.is c.requires.stands in
+    in_these _ c.procedure_of.ensures (in_range _ c.in_ok-here.here.pending _ c.in_ok-here.ensures.pending_firsts (below_pending _ c.requires.sound _ _ _ stands))
 
 pub found_in_piece-with_first-requires-clause-all : goal.found_in_piece-with_first-requires-clause-all
 found_in_piece-with_first-requires-clause-all g t c =
-    let p = program c.args.code.now in
-    let f = c.args.procedure.number in
-    let os = (numbered p f).sections in
-    let same : origins_of c.procedure_of.result.now.sections ≡ os =
-    ap (λ (g : Procedure). g.sections) c.procedure_of.ensures in
-    subst (λ (o : List Origin). AllOfList (λ (x : rAccess). x.section.number < length o) c.loop-place.found.all.items.items) (sym same)
-    (in_range (All p accesses (codes (drop c.loop-place.place c.args.piece.now))) c.loop-place.found.all (length os)
-    c.loop-place.invariant.all_firsts
-    (below_all p c.requires.sound os (codes (drop c.loop-place.place c.args.piece.now))
-    (stands_behind p os c.args.piece.now c.loop-place.place c.requires.stands)))
+    in_these _ c.procedure_of.ensures
+    (in_range _ c.loop-place.found.all _ c.loop-place.invariant.all_firsts
+    (below_all _ c.requires.sound _ _ (stands_behind _ _ c.args.piece.now c.loop-place.place c.requires.stands)))
 
 pub found_in_piece-loop-place-preserved : goal.found_in_piece-loop-place-preserved
 found_in_piece-loop-place-preserved g t c =
     let p = program c.args.code.now in
     let f = c.args.procedure.number in
     let os = (numbered p f).sections in
-    let same : origins_of c.procedure_of.result.now.sections ≡ os =
-    ap (λ (g : Procedure). g.sections) c.procedure_of.ensures in
     let s = c.index-piece-place.result in
     subst (λ (b : Codes). IsFoundIn p os f b c.in_ok-found.found)
-    (sym (codes_from c.args.piece.now c.loop-place.place s (omega arith) (omega arith) c.index-piece-place.is))
+    (sym (codes_before c.args.piece.now c.loop-place.place s (omega arith) (omega arith) c.index-piece-place.is))
     (found_in_front p os f s.label (code s.kind) (codes (drop c.loop-place.place c.args.piece.now)) c.in_ok-here.here
     c.loop-place.found c.in_ok-found.found c.in_ok-here.ensures c.loop-place.invariant
-    (subst (λ (o : List Origin). IsInFront o f c.in_ok-here.here c.loop-place.found c.in_ok-found.found) same c.in_ok-found.ensures))
+    (subst (λ (g : Procedure). IsInFront g.sections f c.in_ok-here.here c.loop-place.found c.in_ok-found.found) c.procedure_of.ensures c.in_ok-found.ensures))
 
 pub found_in_piece-returns : goal.found_in_piece-returns
 found_in_piece-returns g t c =
@@ -151,235 +123,104 @@ found_in_piece-returns g t c =
 
 pub found_of-returns-in-Do : goal.found_of-returns-in-Do
 found_of-returns-in-Do g t c =
-    let p = program c.args.code.now in
-    let f = c.args.procedure.number in
-    let os = (numbered p f).sections in
-    let l = c.args.statement.now.label in
-    let k = code c.args.statement.now.kind in
-    found_of_arm p os f l k _ (ap code c.in-Do.is) (λ x y h. h) _ (ap (map access) c.deref.ensures.value ∙ c.in_ok-own.ensures) c.nothing.result
-    (found_inside_nothing p os f (primitive c.in-Do.field-0) c.nothing.result c.nothing.ensures.all c.nothing.ensures.pending c.nothing.ensures.race)
-    c.with_own.result c.with_own.ensures
+    found_of_arm _ _ _ _ _ _ (ap code c.in-Do.is) (λ x y h. h) _ (ap (map access) c.deref.ensures.value ∙ c.in_ok-own.ensures) _
+    (found_inside_nothing (program c.args.code.now) _ _ (primitive c.in-Do.field-0) _ c.nothing.ensures.all c.nothing.ensures.pending c.nothing.ensures.race) _ c.with_own.ensures
 
 pub found_of-found_in-requires : goal.found_of-found_in-requires
 found_of-found_in-requires g t c κs within =
-    let p = program c.args.code.now in
-    let f = c.args.procedure.number in
-    let os = (numbered p f).sections in
-    let l = c.args.statement.now.label in
-    let k = code c.args.statement.now.kind in
-    let is : k ≡ If (truth c.in-If.guard) (codes c.in-If.body.items) (codes c.in-If.other.items) =
-    ap code c.in-If.is ∙ code_If c.in-If.guard c.in-If.body c.in-If.other in
-    let same : codes c.deref-in-If.result.now ≡ codes c.in-If.body.items = ap codes c.deref-in-If.ensures.value in
-    let falls : size_in (codes c.deref-in-If.result.now) < size_of k =
-    subst (λ (b : Codes). size_in b < size_of k) (sym same) (smaller k _ _ is (omega arith)) in
-    (omega arith, (within, (search (sendable, crosses) depth 40, (c.requires.sound, (c.requires.summaries, (c.requires.procedure, subst (Stands p os) (sym same) (stands_if_body p os l k c.requires.stands _ _ _ is)))))))
+    let is = is_If _ c.in-If.guard c.in-If.body c.in-If.other c.deref-in-If.result.now c.in-If.other.items c.in-If.is c.deref-in-If.ensures.value refl in
+    let stands = stands_if_body _ _ _ _ c.requires.stands _ _ _ is in
+    (omega (arith, ap size_in is), (within, (search (sendable, crosses) depth 40, (c.requires.sound, (c.requires.summaries, (c.requires.procedure, stands))))))
 
 pub found_of-found_in-requires-in-If : goal.found_of-found_in-requires-in-If
 found_of-found_in-requires-in-If g t c κs within =
-    let p = program c.args.code.now in
-    let f = c.args.procedure.number in
-    let os = (numbered p f).sections in
-    let l = c.args.statement.now.label in
-    let k = code c.args.statement.now.kind in
-    let is : k ≡ If (truth c.in-If.guard) (codes c.in-If.body.items) (codes c.in-If.other.items) =
-    ap code c.in-If.is ∙ code_If c.in-If.guard c.in-If.body c.in-If.other in
-    let same : codes c.deref-in-If-2.result.now ≡ codes c.in-If.other.items = ap codes c.deref-in-If-2.ensures.value in
-    let falls : size_in (codes c.deref-in-If-2.result.now) < size_of k =
-    subst (λ (b : Codes). size_in b < size_of k) (sym same) (smaller k _ _ is (omega arith)) in
-    (omega arith, (within, (search (sendable, crosses) depth 40, (c.requires.sound, (c.requires.summaries, (c.requires.procedure, subst (Stands p os) (sym same) (stands_if_other p os l k c.requires.stands _ _ _ is)))))))
+    let is = is_If _ c.in-If.guard c.in-If.body c.in-If.other c.in-If.body.items c.deref-in-If-2.result.now c.in-If.is refl c.deref-in-If-2.ensures.value in
+    let stands = stands_if_other _ _ _ _ c.requires.stands _ _ _ is in
+    (omega (arith, ap size_in is), (within, (search (sendable, crosses) depth 40, (c.requires.sound, (c.requires.summaries, (c.requires.procedure, stands))))))
 
 pub found_of-returns-in-If : goal.found_of-returns-in-If
 found_of-returns-in-If g t c =
-    let p = program c.args.code.now in
-    let f = c.args.procedure.number in
-    let os = (numbered p f).sections in
-    let l = c.args.statement.now.label in
-    let k = code c.args.statement.now.kind in
-    let is : k ≡ If (truth c.in-If.guard) (codes c.in-If.body.items) (codes c.in-If.other.items) =
-    ap code c.in-If.is ∙ code_If c.in-If.guard c.in-If.body c.in-If.other in
-    found_of_arm p os f l k _ is (λ x y h. h) _ (ap (map access) c.deref-in-If-3.ensures.value ∙ c.in_ok-own.ensures) c.in_ok-or-in-If.field-0
-    (found_inside_if p os f (truth c.in-If.guard) (codes c.in-If.body.items) (codes c.in-If.other.items) c.in_ok-body-in-If.body
-    c.in_ok-other-in-If.other c.in_ok-or-in-If.field-0
-    (subst (λ (ss : List Stmt). IsFoundIn p os f (codes ss) c.in_ok-body-in-If.body) c.deref-in-If.ensures.value c.in_ok-body-in-If.ensures)
-    (subst (λ (ss : List Stmt). IsFoundIn p os f (codes ss) c.in_ok-other-in-If.other) c.deref-in-If-2.ensures.value c.in_ok-other-in-If.ensures)
-    c.in_ok-or-in-If.ensures)
-    c.with_own-in-If.result c.with_own-in-If.ensures
+    let is = is_If _ c.in-If.guard c.in-If.body c.in-If.other c.deref-in-If.result.now c.deref-in-If-2.result.now c.in-If.is c.deref-in-If.ensures.value c.deref-in-If-2.ensures.value in
+    found_of_arm _ _ _ _ _ _ is (λ x y h. h) _ (ap (map access) c.deref-in-If-3.ensures.value ∙ c.in_ok-own.ensures) _
+    (found_inside_if _ _ _ (truth c.in-If.guard) _ _ _ _ _ c.in_ok-body-in-If.ensures c.in_ok-other-in-If.ensures c.in_ok-or-in-If.ensures) _ c.with_own-in-If.ensures
 
 pub found_of-found_in-requires-in-While : goal.found_of-found_in-requires-in-While
 found_of-found_in-requires-in-While g t c κs within =
-    let p = program c.args.code.now in
-    let f = c.args.procedure.number in
-    let os = (numbered p f).sections in
-    let l = c.args.statement.now.label in
-    let k = code c.args.statement.now.kind in
-    let is : k ≡ While (truth c.in-While.guard) (codes c.in-While.body.items) =
-    ap code c.in-While.is ∙ code_While c.in-While.guard c.in-While.body in
-    let same : codes c.deref-in-While.result.now ≡ codes c.in-While.body.items = ap codes c.deref-in-While.ensures.value in
-    let falls : size_in (codes c.deref-in-While.result.now) < size_of k =
-    subst (λ (b : Codes). size_in b < size_of k) (sym same) (smaller k _ _ is (omega arith)) in
-    (omega arith, (within, (search (sendable, crosses) depth 40, (c.requires.sound, (c.requires.summaries, (c.requires.procedure, subst (Stands p os) (sym same) (stands_while p os l k c.requires.stands _ _ is)))))))
+    let is = is_While _ c.in-While.guard c.in-While.body c.deref-in-While.result.now c.in-While.is c.deref-in-While.ensures.value in
+    let stands = stands_while _ _ _ _ c.requires.stands _ _ is in
+    (omega (arith, ap size_in is), (within, (search (sendable, crosses) depth 40, (c.requires.sound, (c.requires.summaries, (c.requires.procedure, stands))))))
 
 pub found_of-in_turn-requires-clause-pending : goal.found_of-in_turn-requires-clause-pending
 found_of-in_turn-requires-clause-pending g t c =
-    let p = program c.args.code.now in
-    let f = c.args.procedure.number in
-    let os = (numbered p f).sections in
-    let l = c.args.statement.now.label in
-    let k = code c.args.statement.now.kind in
-    let is : k ≡ While (truth c.in-While.guard) (codes c.in-While.body.items) =
-    ap code c.in-While.is ∙ code_While c.in-While.guard c.in-While.body in
-    let same : origins_of c.procedure_of.result.now.sections ≡ os =
-    ap (λ (g : Procedure). g.sections) c.procedure_of.ensures in
-    subst (λ (o : List Origin). AllOfList (λ (x : rAccess). x.section.number < length o) c.in_ok-turn-in-While.turn.pending.items.items) (sym same)
-    (in_range (PendingOf p accesses k) c.in_ok-turn-in-While.turn.pending (length os)
-    (pending_of_turn p os f l k (truth c.in-While.guard) (codes c.in-While.body.items) is _ (ap (map access) c.deref-in-While-2.ensures.value ∙ c.in_ok-own.ensures)
-    c.in_ok-found_in-in-While.field-0 c.in_ok-turn-in-While.turn
-    (subst (λ (ss : List Stmt). IsFoundIn p os f (codes ss) c.in_ok-found_in-in-While.field-0) c.deref-in-While.ensures.value c.in_ok-found_in-in-While.ensures)
-    c.in_ok-turn-in-While.ensures)
-    (below_pending p c.requires.sound os l k c.requires.stands))
+    let is = is_While _ c.in-While.guard c.in-While.body c.deref-in-While.result.now c.in-While.is c.deref-in-While.ensures.value in
+    in_these _ c.procedure_of.ensures
+    (in_range _ c.in_ok-turn-in-While.turn.pending _ (pending_of_turn _ _ _ _ _ _ _ is _ (ap (map access) c.deref-in-While-2.ensures.value ∙ c.in_ok-own.ensures) _ _ c.in_ok-found_in-in-While.ensures
+    c.in_ok-turn-in-While.ensures) (below_pending _ c.requires.sound _ _ _ c.requires.stands))
 
 pub found_of-in_turn-requires-clause-all : goal.found_of-in_turn-requires-clause-all
 found_of-in_turn-requires-clause-all g t c =
-    let p = program c.args.code.now in
-    let f = c.args.procedure.number in
-    let os = (numbered p f).sections in
-    let l = c.args.statement.now.label in
-    let k = code c.args.statement.now.kind in
-    let is : k ≡ While (truth c.in-While.guard) (codes c.in-While.body.items) =
-    ap code c.in-While.is ∙ code_While c.in-While.guard c.in-While.body in
-    let same : origins_of c.procedure_of.result.now.sections ≡ os =
-    ap (λ (g : Procedure). g.sections) c.procedure_of.ensures in
-    subst (λ (o : List Origin). AllOfList (λ (x : rAccess). x.section.number < length o) c.in_ok-turn-in-While.turn.all.items.items) (sym same)
-    (in_range (AllOf p accesses l k) c.in_ok-turn-in-While.turn.all (length os)
-    (all_of_turn p os f l k (truth c.in-While.guard) (codes c.in-While.body.items) is _ (ap (map access) c.deref-in-While-2.ensures.value ∙ c.in_ok-own.ensures)
-    c.in_ok-found_in-in-While.field-0 c.in_ok-turn-in-While.turn
-    (subst (λ (ss : List Stmt). IsFoundIn p os f (codes ss) c.in_ok-found_in-in-While.field-0) c.deref-in-While.ensures.value c.in_ok-found_in-in-While.ensures)
-    c.in_ok-turn-in-While.ensures)
-    (below_of p c.requires.sound os l k c.requires.stands))
+    let is = is_While _ c.in-While.guard c.in-While.body c.deref-in-While.result.now c.in-While.is c.deref-in-While.ensures.value in
+    in_these _ c.procedure_of.ensures
+    (in_range _ c.in_ok-turn-in-While.turn.all _ (all_of_turn _ _ _ _ _ _ _ is _ (ap (map access) c.deref-in-While-2.ensures.value ∙ c.in_ok-own.ensures) _ _ c.in_ok-found_in-in-While.ensures
+    c.in_ok-turn-in-While.ensures) (below_of _ c.requires.sound _ _ _ c.requires.stands))
 
 pub found_of-returns-in-While : goal.found_of-returns-in-While
 found_of-returns-in-While g t c =
-    let p = program c.args.code.now in
-    let f = c.args.procedure.number in
-    let os = (numbered p f).sections in
-    let l = c.args.statement.now.label in
-    let k = code c.args.statement.now.kind in
-    let is : k ≡ While (truth c.in-While.guard) (codes c.in-While.body.items) =
-    ap code c.in-While.is ∙ code_While c.in-While.guard c.in-While.body in
-    let same : origins_of c.procedure_of.result.now.sections ≡ os =
-    ap (λ (g : Procedure). g.sections) c.procedure_of.ensures in
-    found_of_loop p os f l k (truth c.in-While.guard) (codes c.in-While.body.items) is _ (ap (map access) c.deref-in-While-2.ensures.value ∙ c.in_ok-own.ensures)
-    c.in_ok-found_in-in-While.field-0 c.in_ok-turn-in-While.turn c.in_turn.result
-    (subst (λ (ss : List Stmt). IsFoundIn p os f (codes ss) c.in_ok-found_in-in-While.field-0) c.deref-in-While.ensures.value c.in_ok-found_in-in-While.ensures)
-    c.in_ok-turn-in-While.ensures
-    (subst (λ (o : List Origin). IsInTurn o f c.in_ok-turn-in-While.turn c.in_turn.result) same c.in_turn.ensures)
+    let is = is_While _ c.in-While.guard c.in-While.body c.deref-in-While.result.now c.in-While.is c.deref-in-While.ensures.value in
+    found_of_loop _ _ _ _ _ _ _ is _ (ap (map access) c.deref-in-While-2.ensures.value ∙ c.in_ok-own.ensures) _ _ _ c.in_ok-found_in-in-While.ensures
+    c.in_ok-turn-in-While.ensures (rw (ap (λ (g : Procedure). g.sections) c.procedure_of.ensures) at c.in_turn.ensures)
 
 pub found_of-found_in-requires-in-Split : goal.found_of-found_in-requires-in-Split
 found_of-found_in-requires-in-Split g t c κs within =
-    let p = program c.args.code.now in
-    let f = c.args.procedure.number in
-    let os = (numbered p f).sections in
-    let l = c.args.statement.now.label in
-    let k = code c.args.statement.now.kind in
-    let is : k ≡ Split c.in-Split.section.number (number c.in-Split.at) c.in-Split.left.number c.in-Split.right.number
-    (codes c.in-Split.body.items) =
-    ap code c.in-Split.is ∙ code_Split c.in-Split.section c.in-Split.at c.in-Split.left c.in-Split.right c.in-Split.body in
-    let same : codes c.deref-in-Split.result.now ≡ codes c.in-Split.body.items = ap codes c.deref-in-Split.ensures.value in
-    let falls : size_in (codes c.deref-in-Split.result.now) < size_of k =
-    subst (λ (b : Codes). size_in b < size_of k) (sym same) (smaller k _ _ is (omega arith)) in
-    (omega arith, (within, (search (sendable, crosses) depth 40, (c.requires.sound, (c.requires.summaries, (c.requires.procedure, subst (Stands p os) (sym same) (stands_split p os l k c.requires.stands _ _ _ _ _ is)))))))
+    let s = c.in-Split in
+    let is = is_Split _ s.section s.at s.left s.right s.body c.deref-in-Split.result.now s.is c.deref-in-Split.ensures.value in
+    let stands = stands_split _ _ _ _ c.requires.stands _ _ _ _ _ is in
+    (omega (arith, ap size_in is), (within, (search (sendable, crosses) depth 40, (c.requires.sound, (c.requires.summaries, (c.requires.procedure, stands))))))
 
 pub found_of-returns-in-Split : goal.found_of-returns-in-Split
 found_of-returns-in-Split g t c =
-    let p = program c.args.code.now in
-    let f = c.args.procedure.number in
-    let os = (numbered p f).sections in
-    let l = c.args.statement.now.label in
-    let k = code c.args.statement.now.kind in
-    let is : k ≡ Split c.in-Split.section.number (number c.in-Split.at) c.in-Split.left.number c.in-Split.right.number
-    (codes c.in-Split.body.items) =
-    ap code c.in-Split.is ∙ code_Split c.in-Split.section c.in-Split.at c.in-Split.left c.in-Split.right c.in-Split.body in
-    found_of_arm p os f l k _ is (λ x y h. h) _ (ap (map access) c.deref-in-Split-2.ensures.value ∙ c.in_ok-own.ensures) c.in_ok-outside-in-Split.outside
-    (found_inside_split p os f c.in-Split.section.number (number c.in-Split.at) c.in-Split.left.number c.in-Split.right.number
-    (codes c.in-Split.body.items) c.in_ok-found-in-Split.found c.in_ok-outside-in-Split.outside
-    (subst (λ (ss : List Stmt). IsFoundIn p os f (codes ss) c.in_ok-found-in-Split.found) c.deref-in-Split.ensures.value c.in_ok-found-in-Split.ensures)
-    c.in_ok-outside-in-Split.ensures)
-    c.with_own-in-Split.result c.with_own-in-Split.ensures
+    let s = c.in-Split in
+    let is = is_Split _ s.section s.at s.left s.right s.body c.deref-in-Split.result.now s.is c.deref-in-Split.ensures.value in
+    found_of_arm _ _ _ _ _ _ is (λ x y h. h) _ (ap (map access) c.deref-in-Split-2.ensures.value ∙ c.in_ok-own.ensures) _
+    (found_inside_split _ _ _ s.section.number (number s.at) s.left.number s.right.number _ _ _ c.in_ok-found-in-Split.ensures c.in_ok-outside-in-Split.ensures) _
+    c.with_own-in-Split.ensures
 
 pub found_of-returns-in-Call : goal.found_of-returns-in-Call
 found_of-returns-in-Call g t c =
     let p = program c.args.code.now in
-    let f = c.args.procedure.number in
-    let os = (numbered p f).sections in
-    let l = c.args.statement.now.label in
-    let k = code c.args.statement.now.kind in
     let callee = (procedure_of p c.in-Call.callee.number).body in
     let value = ap (map section) c.deref-in-Call.ensures.value in
+    let found = c.in_ok-found-in-Call.ensures in
     let whole = c.in_ok-found-in-Call.found in
-    found_of_arm p os f l k _ (ap code c.in-Call.is) (λ x y h. h) _ (ap (map access) c.deref-in-Call-2.ensures.value ∙ c.in_ok-own.ensures) whole
+    found_of_arm _ _ _ _ _ _ (ap code c.in-Call.is) (λ x y h. h) _ (ap (map access) c.deref-in-Call-2.ensures.value ∙ c.in_ok-own.ensures) whole
     (record {
-      all_firsts = subst (λ (ss : List ℕ). AreFirsts (Renamed p accesses (past_call ss) (All p accesses callee)) (kept_in whole.all))
-          value c.in_ok-found-in-Call.ensures.all;
-      pending_firsts = subst (λ (ss : List ℕ). AreFirsts (Renamed p accesses (past_call ss) (Pending p accesses callee)) (kept_in whole.pending))
-          value c.in_ok-found-in-Call.ensures.pending;
-      least_race = least_none os f (λ x y. ⊥) (race_found whole.race) c.in_ok-found-in-Call.ensures.race (λ x y h. h);
-    })
-    c.with_own-in-Call.result c.with_own-in-Call.ensures
+      all_firsts = subst (λ (ss : List ℕ). AreFirsts (Renamed p accesses (past_call ss) (All p accesses callee)) (kept_in whole.all)) value found.all;
+      pending_firsts = subst (λ (ss : List ℕ). AreFirsts (Renamed p accesses (past_call ss) (Pending p accesses callee)) (kept_in whole.pending)) value found.pending;
+      least_race = least_none _ _ (λ x y. ⊥) (race_found whole.race) found.race (λ x y h. h);
+    }) _ c.with_own-in-Call.ensures
 
 pub found_of-found_in-requires-in-Async : goal.found_of-found_in-requires-in-Async
 found_of-found_in-requires-in-Async g t c κs within =
-    let p = program c.args.code.now in
-    let f = c.args.procedure.number in
-    let os = (numbered p f).sections in
-    let l = c.args.statement.now.label in
-    let k = code c.args.statement.now.kind in
-    let is : k ≡ Async (codes c.in-Async.body.items) =
-    ap code c.in-Async.is ∙ code_Async c.in-Async.body in
-    let same : codes c.deref-in-Async.result.now ≡ codes c.in-Async.body.items = ap codes c.deref-in-Async.ensures.value in
-    let falls : size_in (codes c.deref-in-Async.result.now) < size_of k =
-    subst (λ (b : Codes). size_in b < size_of k) (sym same) (smaller k _ _ is (omega arith)) in
-    (omega arith, (within, (search (sendable, crosses) depth 40, (c.requires.sound, (c.requires.summaries, (c.requires.procedure, subst (Stands p os) (sym same) (stands_async p os l k c.requires.stands _ is)))))))
+    let is = is_Async _ c.in-Async.body c.deref-in-Async.result.now c.in-Async.is c.deref-in-Async.ensures.value in
+    let stands = stands_async _ _ _ _ c.requires.stands _ is in
+    (omega (arith, ap size_in is), (within, (search (sendable, crosses) depth 40, (c.requires.sound, (c.requires.summaries, (c.requires.procedure, stands))))))
 
 pub found_of-returns-in-Async : goal.found_of-returns-in-Async
 found_of-returns-in-Async g t c =
-    let p = program c.args.code.now in
-    let f = c.args.procedure.number in
-    let os = (numbered p f).sections in
-    let l = c.args.statement.now.label in
-    let k = code c.args.statement.now.kind in
-    let is : k ≡ Async (codes c.in-Async.body.items) =
-    ap code c.in-Async.is ∙ code_Async c.in-Async.body in
-    found_of_arm p os f l k _ is (λ x y h. h) _ (ap (map access) c.deref-in-Async-2.ensures.value ∙ c.in_ok-own.ensures) c.in_ok-in_async-in-Async.field-0
-    (found_inside_async p os f (codes c.in-Async.body.items) c.in_ok-found-in-Async.found c.in_ok-in_async-in-Async.field-0
-    (subst (λ (ss : List Stmt). IsFoundIn p os f (codes ss) c.in_ok-found-in-Async.found) c.deref-in-Async.ensures.value c.in_ok-found-in-Async.ensures)
-    c.in_ok-in_async-in-Async.ensures.all c.in_ok-in_async-in-Async.ensures.pending c.in_ok-in_async-in-Async.ensures.race)
-    c.with_own-in-Async.result c.with_own-in-Async.ensures
+    let is = is_Async _ c.in-Async.body c.deref-in-Async.result.now c.in-Async.is c.deref-in-Async.ensures.value in
+    let e = c.in_ok-in_async-in-Async.ensures in
+    found_of_arm _ _ _ _ _ _ is (λ x y h. h) _ (ap (map access) c.deref-in-Async-2.ensures.value ∙ c.in_ok-own.ensures) _
+    (found_inside_async _ _ _ _ _ _ c.in_ok-found-in-Async.ensures e.all e.pending e.race) _ c.with_own-in-Async.ensures
 
 pub found_of-found_in-requires-in-Finish : goal.found_of-found_in-requires-in-Finish
 found_of-found_in-requires-in-Finish g t c κs within =
-    let p = program c.args.code.now in
-    let f = c.args.procedure.number in
-    let os = (numbered p f).sections in
-    let l = c.args.statement.now.label in
-    let k = code c.args.statement.now.kind in
-    let is : k ≡ Finish (codes c.in-Finish.body.items) =
-    ap code c.in-Finish.is ∙ code_Finish c.in-Finish.body in
-    let same : codes c.deref-in-Finish.result.now ≡ codes c.in-Finish.body.items = ap codes c.deref-in-Finish.ensures.value in
-    let falls : size_in (codes c.deref-in-Finish.result.now) < size_of k =
-    subst (λ (b : Codes). size_in b < size_of k) (sym same) (smaller k _ _ is (omega arith)) in
-    (omega arith, (within, (search (sendable, crosses) depth 40, (c.requires.sound, (c.requires.summaries, (c.requires.procedure, subst (Stands p os) (sym same) (stands_finish p os l k c.requires.stands _ is)))))))
+    let is = is_Finish _ c.in-Finish.body c.deref-in-Finish.result.now c.in-Finish.is c.deref-in-Finish.ensures.value in
+    let stands = stands_finish _ _ _ _ c.requires.stands _ is in
+    (omega (arith, ap size_in is), (within, (search (sendable, crosses) depth 40, (c.requires.sound, (c.requires.summaries, (c.requires.procedure, stands))))))
 
 pub found_of-returns : goal.found_of-returns
 found_of-returns g t c =
-    let p = program c.args.code.now in
-    let f = c.args.procedure.number in
-    let os = (numbered p f).sections in
-    let l = c.args.statement.now.label in
-    let k = code c.args.statement.now.kind in
-    let is : k ≡ Finish (codes c.in-Finish.body.items) =
-    ap code c.in-Finish.is ∙ code_Finish c.in-Finish.body in
-    found_of_arm p os f l k _ is (λ x y h. h) _ (ap (map access) c.deref-in-Finish-2.ensures.value ∙ c.in_ok-own.ensures) c.in_finish.result
-    (found_inside_finish p os f (codes c.in-Finish.body.items) c.in_ok-found-in-Finish.found c.in_finish.result
-    (subst (λ (ss : List Stmt). IsFoundIn p os f (codes ss) c.in_ok-found-in-Finish.found) c.deref-in-Finish.ensures.value c.in_ok-found-in-Finish.ensures)
-    c.in_finish.ensures.all c.in_finish.ensures.pending c.in_finish.ensures.race)
-    c.with_own-in-Finish.result c.with_own-in-Finish.ensures
+    let is = is_Finish _ c.in-Finish.body c.deref-in-Finish.result.now c.in-Finish.is c.deref-in-Finish.ensures.value in
+    let e = c.in_finish.ensures in
+    found_of_arm _ _ _ _ _ _ is (λ x y h. h) _ (ap (map access) c.deref-in-Finish-2.ensures.value ∙ c.in_ok-own.ensures) _
+    (found_inside_finish _ _ _ _ _ _ c.in_ok-found-in-Finish.ensures e.all e.pending e.race) _ c.with_own-in-Finish.ensures

@@ -2,7 +2,7 @@ use Rattle.std.proofs.Common.{◌+◌, ◌*◌, drop}
 use Rattle.types.specs.Translation.{code, codes, program}
 use Rattle.race_checker.specs.Found.{IsFoundIn}
 use Rattle.race_checker.specs.Races.{numbered}
-use Rattle.race_checker.proofs.Finding.{size_of, size_in}
+use Rattle.effects.proofs.Statements.{size, size_in}
 use Rattle.race_checker.proofs.walk.+walk.Given as goal
 
 -- what is found is that of the statements behind
@@ -13,13 +13,13 @@ invariant-found_in_piece-loop-place g l =
 
 -- a list calls for its pieces, a piece for its statements, a statement for its blocks
 abbrev pub decreases-found_in : goal.decreases-found_in
-decreases-found_in g l = 3 * size_in (codes l.body.now) + 2
+decreases-found_in g l = 4 * size (codes l.body.now) + 3
 
 abbrev pub decreases-found_in-map : goal.decreases-found_in-map
-decreases-found_in-map g l = 3 * size_in (codes l.piece.now) + 1
+decreases-found_in-map g l = 4 * size (codes l.piece.now) + 2
 
 abbrev pub decreases-found_in_piece : goal.decreases-found_in_piece
-decreases-found_in_piece g l = 3 * size_in (codes l.piece.now)
+decreases-found_in_piece g l = 4 * size (codes l.piece.now) + 1
 
 abbrev pub decreases-found_of : goal.decreases-found_of
-decreases-found_of g l = 3 * size_of (code l.statement.now.kind)
+decreases-found_of g l = 4 * size_in (code l.statement.now.kind) + 4

@@ -1,4 +1,4 @@
-use Rattle.std.proofs.Common.{◌<◌, ◌≤◌, map, length, arith}
+use Rattle.std.proofs.Common.{map, arith}
 use Rattle.sections.specs.Translation.{section}
 use Rattle.types.specs.Translation.{program}
 use Rattle.effects.specs.Effects.{past_call}
@@ -9,32 +9,20 @@ use Rattle.race_checker.proofs.walk.found_of_call.Goals as goal
 
 pub returns-clause-all : goal.returns-clause-all
 returns-clause-all c =
-    let below : c.args.callee.number < length c.args.code.now.procedures.items =
-    omega (arith, c.if-callee-len.false, c.len.ensures) in
-    callee_all c.args.code.now c.args.callee.number c.args.sections.now c.of-summary.result.now below
-    c.requires.sound
-    (c.of-summary.ensures.exact _ c.requires.summaries) c.requires.number _ c.in_ok-past_call.ensures
+    callee_all c.args.code.now c.args.callee.number c.args.sections.now c.of-summary.result.now
+    (omega (arith, c.if-callee-len.false, c.len.ensures)) c.requires.sound (c.of-summary.ensures.exact _ c.requires.summaries) c.requires.number _ c.in_ok-past_call.ensures
 
 pub returns-clause-pending : goal.returns-clause-pending
 returns-clause-pending c =
-    let below : c.args.callee.number < length c.args.code.now.procedures.items =
-    omega (arith, c.if-callee-len.false, c.len.ensures) in
-    callee_pending c.args.code.now c.args.callee.number c.args.sections.now c.of-summary.result.now below
-    c.requires.sound
-    (c.of-summary.ensures.exact _ c.requires.summaries) c.requires.number _ c.in_ok-past_call-2.ensures
+    callee_pending c.args.code.now c.args.callee.number c.args.sections.now c.of-summary.result.now
+    (omega (arith, c.if-callee-len.false, c.len.ensures)) c.requires.sound (c.of-summary.ensures.exact _ c.requires.summaries) c.requires.number _ c.in_ok-past_call-2.ensures
 
 pub returns-then-callee-len-clause-all : goal.returns-then-callee-len-clause-all
 returns-then-callee-len-clause-all c =
-    let behind : length c.args.code.now.procedures.items ≤ c.args.callee.number =
-    omega (arith, c.if-callee-len.true, c.len.ensures) in
-    nothing_behind_all (program c.args.code.now) c.args.callee.number
-    (past_call (map section c.args.sections.now))
-    (past_procedures c.args.code.now behind) (kept_in c.nothing.result.all) c.nothing.ensures.all
+    nothing_behind_all (program c.args.code.now) c.args.callee.number (past_call (map section c.args.sections.now))
+    (past_procedures c.args.code.now (omega (arith, c.if-callee-len.true, c.len.ensures))) (kept_in c.nothing.result.all) c.nothing.ensures.all
 
 pub returns-then-callee-len-clause-pending : goal.returns-then-callee-len-clause-pending
 returns-then-callee-len-clause-pending c =
-    let behind : length c.args.code.now.procedures.items ≤ c.args.callee.number =
-    omega (arith, c.if-callee-len.true, c.len.ensures) in
-    nothing_behind_pending (program c.args.code.now) c.args.callee.number
-    (past_call (map section c.args.sections.now))
-    (past_procedures c.args.code.now behind) (kept_in c.nothing.result.pending) c.nothing.ensures.pending
+    nothing_behind_pending (program c.args.code.now) c.args.callee.number (past_call (map section c.args.sections.now))
+    (past_procedures c.args.code.now (omega (arith, c.if-callee-len.true, c.len.ensures))) (kept_in c.nothing.result.pending) c.nothing.ensures.pending

@@ -10,11 +10,11 @@ use Rattle.race_objects.proofs.races.race_object.Goals as goal
 
 pub line_of-requires : goal.line_of-requires
 line_of-requires c =
-    let a = c.args in
+    let f = c.args.found in
     let same = c.in_ok-value.ensures in
     record {
       no_float = ap has_float same
-          ∙ race_has_none a.file.now a.places.now (program a.code.now) (race a.race) a.witness.now;
+          ∙ race_has_none c.args.file.now f.places.now (program f.code.now) (race f.race) f.witness.now;
       shallow = subst (λ d. depth d ≤ max_depth) (sym same)
-          (race_within a.file.now a.places.now (program a.code.now) (race a.race) a.witness.now);
+          (race_within c.args.file.now f.places.now (program f.code.now) (race f.race) f.witness.now);
     }

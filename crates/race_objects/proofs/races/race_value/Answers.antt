@@ -11,11 +11,12 @@ use Rattle.race_objects.proofs.races.race_value.Goals as goal
 pub returns : goal.returns
 returns c =
     let file = c.args.file.now in
-    let label = c.args.race.first.label in
+    let found = c.args.found in
+    let label = found.race.first.label in
     let told = view c.in_ok-accesses.accesses in
-    let said = race_message (program c.args.code.now) (race c.args.race) in
+    let said = race_message (program found.code.now) (race found.race) in
     IfOk-weaker c.told_value.result _ _ (λ v same. same
     ∙ ap (λ m. object_of (told_members file c.place_at-place.result label m told)) c.in_ok-message.ensures
     ∙ ap (λ p. object_of (told_members file p label said told)) c.place_at-place.ensures
-    ∙ ap (λ a. object_of (told_members file (place_at c.args.places.now label) label said a)) c.in_ok-accesses.ensures)
+    ∙ ap (λ a. object_of (told_members file (place_at found.places.now label) label said a)) c.in_ok-accesses.ensures)
     c.told_value.ensures

@@ -1,5 +1,4 @@
-use Rattle.std.proofs.Common.{◌≡◌, ◌+◌, ◌<◌, ◌≤◌, if◌then◌else◌, [], ◌++◌, ◌∷◌, codes, drop, length, refl, ap, sym, ◌∙◌, rules, append-nil}
-use Rattle.std.proofs.lemmas.List.{at_drop_more, at_drop_all}
+use Rattle.std.proofs.Common.{◌≡◌, if◌then◌else◌, [], ◌++◌, codes, refl, ap, sym, ◌∙◌, rules, append-nil}
 use Rattle.std.specs.String.{string_bytes}
 use Rattle.syntax_tree.specs.declared.tree.Expr.{out-Expr}
 use Rattle.syntax_tree.specs.declared.tree.Conj.{out-Conj}
@@ -9,7 +8,7 @@ use Rattle.syntax_tree.specs.declared.tree.Prod.{out-Prod}
 use Rattle.syntax.specs.Canonical.{in_line}
 use Rattle.syntax.specs.Spelling.{expr_then, conj_then, neg_then, sum_then, prod_then, unary_then, atom_then}
 use Rattle.syntax_tree.specs.Tree.{expr, conj, neg, sum, prod, unary, atom}
-use Rattle.syntax.proofs.ExpressionText.{then_adds, adds_part, adds_all, pushed, then_ok, ok_adds_equal, conjs_text}
+use Rattle.syntax.proofs.ExpressionText.{then_adds, adds_part, adds_next, adds_last, pushed, then_ok, ok_adds_equal, conjs_text}
 use Rattle.syntax.proofs.ExpressionText.{conjs_text_more, conjs_text_none, negs_text, negs_text_more, negs_text_none}
 use Rattle.syntax.proofs.ExpressionText.{terms_text, terms_text_more, terms_text_none, factors_text, factors_text_more}
 use Rattle.syntax.proofs.ExpressionText.{factors_text_none, expr_text, conj_text, neg_text, cmp_text_alone}
@@ -28,21 +27,15 @@ expr-loop-operand-init t c =
 
 pub expr-loop-operand-preserved : goal.expr-loop-operand-preserved
 expr-loop-operand-preserved t c =
-    let xs = c.deref-operand-items.result.now in
-    let i = c.loop-operand.operand-index in
-    let x = c.operand-item.result in
-    let inside : i < length xs = search rules in
-    let parts = at_drop_more conjs_text xs i x inside ∙ ap (λ y. conjs_text (y ∷ drop (i + 1) xs)) (sym c.operand-item.is)
-    ∙ conjs_text_more x (drop (i + 1) xs) in
-    let added = then_adds (string_bytes c.loop-operand.out) _ _ (c.in_ok-push_str.ensures.bytes) c.in_ok-conj-2.ensures in
-    adds_part (string_bytes c.loop-operand.out) _ (conjs_text (drop (i + 1) xs)) c.loop-operand.invariant added parts
+    let old = string_bytes c.loop-operand.out in
+    let added = then_adds old _ _ c.in_ok-push_str.ensures.bytes c.in_ok-conj-2.ensures in
+    adds_next conjs_text conjs_text c.deref-operand-items.result.now c.loop-operand.operand-index old _ c.operand-item.is
+    (search rules) c.loop-operand.invariant added (conjs_text_more _ _)
 
 pub expr-returns : goal.expr-returns
 expr-returns t c =
-    let xs = c.deref-operand-items.result.now in
-    let at_end : length xs ≤ c.loop-operand.operand-index = search rules in
-    adds_all (string_bytes c.loop-operand.out) c.loop-operand.invariant (at_drop_all conjs_text xs c.loop-operand.operand-index at_end
-    ∙ conjs_text_none)
+    adds_last conjs_text c.deref-operand-items.result.now c.loop-operand.operand-index (string_bytes c.loop-operand.out)
+    (search rules) c.loop-operand.invariant conjs_text_none
 
 pub conj-loop-operand-init : goal.conj-loop-operand-init
 conj-loop-operand-init t c =
@@ -52,21 +45,15 @@ conj-loop-operand-init t c =
 
 pub conj-loop-operand-preserved : goal.conj-loop-operand-preserved
 conj-loop-operand-preserved t c =
-    let xs = c.deref-operand-items.result.now in
-    let i = c.loop-operand.operand-index in
-    let x = c.operand-item.result in
-    let inside : i < length xs = search rules in
-    let parts = at_drop_more negs_text xs i x inside ∙ ap (λ y. negs_text (y ∷ drop (i + 1) xs)) (sym c.operand-item.is)
-    ∙ negs_text_more x (drop (i + 1) xs) in
-    let added = then_adds (string_bytes c.loop-operand.out) _ _ (c.in_ok-push_str.ensures.bytes) c.in_ok-neg-2.ensures in
-    adds_part (string_bytes c.loop-operand.out) _ (negs_text (drop (i + 1) xs)) c.loop-operand.invariant added parts
+    let old = string_bytes c.loop-operand.out in
+    let added = then_adds old _ _ c.in_ok-push_str.ensures.bytes c.in_ok-neg-2.ensures in
+    adds_next negs_text negs_text c.deref-operand-items.result.now c.loop-operand.operand-index old _ c.operand-item.is
+    (search rules) c.loop-operand.invariant added (negs_text_more _ _)
 
 pub conj-returns : goal.conj-returns
 conj-returns t c =
-    let xs = c.deref-operand-items.result.now in
-    let at_end : length xs ≤ c.loop-operand.operand-index = search rules in
-    adds_all (string_bytes c.loop-operand.out) c.loop-operand.invariant (at_drop_all negs_text xs c.loop-operand.operand-index at_end
-    ∙ negs_text_none)
+    adds_last negs_text c.deref-operand-items.result.now c.loop-operand.operand-index (string_bytes c.loop-operand.out)
+    (search rules) c.loop-operand.invariant negs_text_none
 
 pub neg-returns : goal.neg-returns
 neg-returns t c =
@@ -103,23 +90,16 @@ sum-loop-term-init t c =
 
 pub sum-loop-term-preserved : goal.sum-loop-term-preserved
 sum-loop-term-preserved t c =
-    let xs = c.deref-term-items.result.now in
-    let i = c.loop-term.term-index in
-    let x = c.term-item.result in
-    let inside : i < length xs = search rules in
-    let parts = at_drop_more terms_text xs i x inside ∙ ap (λ y. terms_text (y ∷ drop (i + 1) xs)) (sym c.term-item.is)
-    ∙ terms_text_more x (drop (i + 1) xs) in
     let old = string_bytes c.loop-term.out in
     let mark = ◌∙◌ {b = old ++ c.sign.result.now} c.in_ok-push_str.ensures.bytes (ap (λ l. old ++ l) c.sign.ensures) in
     let added = then_adds old _ _ mark c.in_ok-prod-2.ensures in
-    adds_part (string_bytes c.loop-term.out) _ (terms_text (drop (i + 1) xs)) c.loop-term.invariant added parts
+    adds_next terms_text terms_text c.deref-term-items.result.now c.loop-term.term-index old _ c.term-item.is
+    (search rules) c.loop-term.invariant added (terms_text_more _ _)
 
 pub sum-returns : goal.sum-returns
 sum-returns t c =
-    let xs = c.deref-term-items.result.now in
-    let at_end : length xs ≤ c.loop-term.term-index = search rules in
-    adds_all (string_bytes c.loop-term.out) c.loop-term.invariant (at_drop_all terms_text xs c.loop-term.term-index at_end
-    ∙ terms_text_none)
+    adds_last terms_text c.deref-term-items.result.now c.loop-term.term-index (string_bytes c.loop-term.out)
+    (search rules) c.loop-term.invariant terms_text_none
 
 pub prod-loop-factor-init : goal.prod-loop-factor-init
 prod-loop-factor-init t c =
@@ -130,23 +110,16 @@ prod-loop-factor-init t c =
 
 pub prod-loop-factor-preserved : goal.prod-loop-factor-preserved
 prod-loop-factor-preserved t c =
-    let xs = c.deref-factor-items.result.now in
-    let i = c.loop-factor.factor-index in
-    let x = c.factor-item.result in
-    let inside : i < length xs = search rules in
-    let parts = at_drop_more factors_text xs i x inside ∙ ap (λ y. factors_text (y ∷ drop (i + 1) xs)) (sym c.factor-item.is)
-    ∙ factors_text_more x (drop (i + 1) xs) in
     let old = string_bytes c.loop-factor.out in
     let mark = ◌∙◌ {b = old ++ c.operator.result.now} c.in_ok-push_str.ensures.bytes (ap (λ l. old ++ l) c.operator.ensures) in
     let added = then_adds old _ _ mark c.in_ok-unary-2.ensures in
-    adds_part (string_bytes c.loop-factor.out) _ (factors_text (drop (i + 1) xs)) c.loop-factor.invariant added parts
+    adds_next factors_text factors_text c.deref-factor-items.result.now c.loop-factor.factor-index old _ c.factor-item.is
+    (search rules) c.loop-factor.invariant added (factors_text_more _ _)
 
 pub prod-returns : goal.prod-returns
 prod-returns t c =
-    let xs = c.deref-factor-items.result.now in
-    let at_end : length xs ≤ c.loop-factor.factor-index = search rules in
-    adds_all (string_bytes c.loop-factor.out) c.loop-factor.invariant (at_drop_all factors_text xs c.loop-factor.factor-index at_end
-    ∙ factors_text_none)
+    adds_last factors_text c.deref-factor-items.result.now c.loop-factor.factor-index (string_bytes c.loop-factor.out)
+    (search rules) c.loop-factor.invariant factors_text_none
 
 pub unary-returns : goal.unary-returns
 unfolding lib.Utf8.encode

@@ -1,7 +1,7 @@
-use Rattle.std.proofs.Common.{◌∷◌, ◌∙◌, ap, sym, map}
+use Rattle.std.proofs.Common.{◌∷◌, ◌∙◌, ap, map}
 use Rattle.syntax.specs.Spelling.{block_then, parameters_then, procedures_then}
 use Rattle.syntax_tree.specs.Tree.{parameter}
-use Rattle.syntax.proofs.ChainLemmas.{behind}
+use Rattle.syntax.proofs.ChainLemmas.{behind, behind_first}
 use Rattle.syntax.specs.declared.token.Mark.TheVariants.{LeftBrace}
 use Rattle.syntax.specs.Token.{MarkToken}
 use Rattle.syntax.proofs.RefusalLemmas.{passed_on, rests_equal}
@@ -15,8 +15,8 @@ returns-clause-read c = record {
       (behind c.in_ok-body.ensures.read.spelled) in
       behind (c.in_ok-name.ensures.found ∙ behind (c.in_ok-rest.ensures.found ∙ behind parameters));
   whole = λ p r spelled.
-      let opening = rests_equal (sym c.in_ok-name.ensures.found ∙ rests_equal spelled) in
-      let parameters = rests_equal (sym c.in_ok-rest.ensures.found ∙ opening) in
+      let opening = behind_first c.in_ok-name.ensures.found (rests_equal spelled) in
+      let parameters = behind_first c.in_ok-rest.ensures.found opening in
       let body = c.in_ok-parameters.ensures.read.whole p.parameters (MarkToken LeftBrace ∷ block_then p.body r) parameters in
       c.in_ok-body.ensures.read.whole p.body r body;
 }
@@ -31,22 +31,21 @@ pub returns-in_err-rest-clause-refused : goal.returns-in_err-rest-clause-refused
 unfolding procedures_then
 returns-in_err-rest-clause-refused c =
     passed_on _ _ c.from_residual-in_err-rest.ensures.1 (λ room p r spelled.
-    let opening = rests_equal (sym c.in_ok-name.ensures.found ∙ rests_equal spelled) in
-    c.in_err-rest.ensures.refused _ opening)
+    c.in_err-rest.ensures.refused _ (behind_first c.in_ok-name.ensures.found (rests_equal spelled)))
 
 pub returns-in_err-parameters-clause-refused : goal.returns-in_err-parameters-clause-refused
 unfolding procedures_then
 returns-in_err-parameters-clause-refused c =
     passed_on _ _ c.from_residual-in_err-parameters.ensures.1 (λ room p r spelled.
-    let opening = rests_equal (sym c.in_ok-name.ensures.found ∙ rests_equal spelled) in
-    let parameters = rests_equal (sym c.in_ok-rest.ensures.found ∙ opening) in
-    c.in_err-parameters.ensures.refused room p.parameters (MarkToken LeftBrace ∷ block_then p.body r) parameters)
+    let opening = behind_first c.in_ok-name.ensures.found (rests_equal spelled) in
+    c.in_err-parameters.ensures.refused room p.parameters (MarkToken LeftBrace ∷ block_then p.body r)
+    (behind_first c.in_ok-rest.ensures.found opening))
 
 pub returns-in_err-body-clause-refused : goal.returns-in_err-body-clause-refused
 unfolding procedures_then
 returns-in_err-body-clause-refused c =
     passed_on _ _ c.from_residual-in_err-body.ensures.1 (λ room p r spelled.
-    let opening = rests_equal (sym c.in_ok-name.ensures.found ∙ rests_equal spelled) in
-    let parameters = rests_equal (sym c.in_ok-rest.ensures.found ∙ opening) in
+    let opening = behind_first c.in_ok-name.ensures.found (rests_equal spelled) in
+    let parameters = behind_first c.in_ok-rest.ensures.found opening in
     let body = c.in_ok-parameters.ensures.read.whole p.parameters (MarkToken LeftBrace ∷ block_then p.body r) parameters in
     c.in_err-body.ensures.refused room p.body r body)

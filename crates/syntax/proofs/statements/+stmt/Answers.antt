@@ -1,14 +1,14 @@
 use Rattle.std.proofs.Common.{◌∷◌, ◌∙◌, ap, sym, arith}
 use Rattle.syntax.specs.Spelling.{expr_then, block_then}
 use Rattle.syntax.specs.declared.token.Mark.TheVariants.{LeftBrace}
-use Rattle.syntax.specs.Token.{WordToken, MarkToken, plain}
+use Rattle.syntax.specs.Token.{MarkToken, plain}
 use Rattle.syntax_tree.specs.Tree.{expr, block}
 use Rattle.syntax.proofs.ChainLemmas.{behind}
 use Rattle.syntax.proofs.BlockLemmas.{stmts_then, stmts_read, block_then-block, stmt_then_If, stmt_then_IfElse}
 use Rattle.syntax.proofs.BlockLemmas.{stmt_then_While, stmt_then_Split, stmt_then_Async, stmt_then_Finish}
 use Rattle.syntax.proofs.RefusalLemmas.{passed_on, rests_equal}
 use Rattle.syntax.proofs.StmtRefusals.{block_closed, block_opened, if_opened, if_alone, if_otherwise, while_opened}
-use Rattle.syntax.proofs.StmtRefusals.{split_opened, async_opened, finish_opened}
+use Rattle.syntax.proofs.StmtRefusals.{split_opened, async_opened, finish_opened, block_read, block_refused}
 use Rattle.syntax.proofs.StmtSpellings.{block_binds}
 use Rattle.syntax.proofs.statements.+stmt.Goals as goal
 
@@ -65,28 +65,12 @@ split-returns-clause-read t c = record {
 }
 
 pub statement-returns-in_ok-body-in-Async-clause-read : goal.statement-returns-in_ok-body-in-Async-clause-read
-statement-returns-in_ok-body-in-Async-clause-read t c = record {
-  spelled = c.in-Some.ensures.found
-      ∙ ap (λ w. WordToken w ∷ plain c.in-Some.rest.now) c.in-Async.is
-      ∙ behind c.in_ok-body-in-Async.ensures.read.spelled
-      ∙ stmt_then_Async _ _;
-  whole = λ s r ends spelled.
-      let first = c.in-Some.ensures.found ∙ ap (λ w. WordToken w ∷ plain c.in-Some.rest.now) c.in-Async.is in
-      let body = async_opened s _ r (sym first ∙ spelled) in
-      c.in_ok-body-in-Async.ensures.read.whole body.0 r body.1;
-}
+statement-returns-in_ok-body-in-Async-clause-read t c =
+    block_read c.in-Some.ensures.found c.in-Async.is c.in_ok-body-in-Async.ensures.read (stmt_then_Async _ _) async_opened
 
 pub statement-returns-in_ok-body-in-Finish-clause-read : goal.statement-returns-in_ok-body-in-Finish-clause-read
-statement-returns-in_ok-body-in-Finish-clause-read t c = record {
-  spelled = c.in-Some.ensures.found
-      ∙ ap (λ w. WordToken w ∷ plain c.in-Some.rest.now) c.in-Finish.is
-      ∙ behind c.in_ok-body-in-Finish.ensures.read.spelled
-      ∙ stmt_then_Finish _ _;
-  whole = λ s r ends spelled.
-      let first = c.in-Some.ensures.found ∙ ap (λ w. WordToken w ∷ plain c.in-Some.rest.now) c.in-Finish.is in
-      let body = finish_opened s _ r (sym first ∙ spelled) in
-      c.in_ok-body-in-Finish.ensures.read.whole body.0 r body.1;
-}
+statement-returns-in_ok-body-in-Finish-clause-read t c =
+    block_read c.in-Some.ensures.found c.in-Finish.is c.in_ok-body-in-Finish.ensures.read (stmt_then_Finish _ _) finish_opened
 
 pub statements-returns-in-Some-clause-read : goal.statements-returns-in-Some-clause-read
 statements-returns-in-Some-clause-read t c = record {
@@ -241,14 +225,10 @@ split-returns-in_err-body-clause-refused t c =
 
 pub statement-returns-in_err-body-in-Async-clause-refused : goal.statement-returns-in_err-body-in-Async-clause-refused
 statement-returns-in_err-body-in-Async-clause-refused t c =
-    passed_on _ _ c.from_residual.ensures.1 (λ room s r ends spelled.
-    let first = c.in-Some.ensures.found ∙ ap (λ w. WordToken w ∷ plain c.in-Some.rest.now) c.in-Async.is in
-    let body = async_opened s _ r (sym first ∙ spelled) in
-    c.in_err-body-in-Async.ensures.refused room body.0 r body.1)
+    passed_on _ _ c.from_residual.ensures.1
+    (block_refused c.in-Some.ensures.found c.in-Async.is c.in_err-body-in-Async.ensures.refused async_opened)
 
 pub statement-returns-in_err-body-in-Finish-clause-refused : goal.statement-returns-in_err-body-in-Finish-clause-refused
 statement-returns-in_err-body-in-Finish-clause-refused t c =
-    passed_on _ _ c.from_residual-in_err-body-in-Finish.ensures.1 (λ room s r ends spelled.
-    let first = c.in-Some.ensures.found ∙ ap (λ w. WordToken w ∷ plain c.in-Some.rest.now) c.in-Finish.is in
-    let body = finish_opened s _ r (sym first ∙ spelled) in
-    c.in_err-body-in-Finish.ensures.refused room body.0 r body.1)
+    passed_on _ _ c.from_residual-in_err-body-in-Finish.ensures.1
+    (block_refused c.in-Some.ensures.found c.in-Finish.is c.in_err-body-in-Finish.ensures.refused finish_opened)

@@ -1,8 +1,8 @@
-use Rattle.std.proofs.Common.{◌∷◌, sym, ◌∙◌, ap, arith}
+use Rattle.std.proofs.Common.{◌∷◌, sym, ◌∙◌, ap}
 use Rattle.syntax.specs.Spelling.{expr_then, exprs_then, stmt_then}
 use Rattle.syntax_tree.specs.Tree.{expr, exprs, stmt}
-use Rattle.syntax.proofs.ChainLemmas.{behind}
-use Rattle.syntax.specs.declared.token.Mark.TheVariants.{RightBracket, Semicolon, Becomes}
+use Rattle.syntax.proofs.ChainLemmas.{behind, behind_first}
+use Rattle.syntax.specs.declared.token.Mark.TheVariants.{Semicolon}
 use Rattle.syntax.specs.Token.{MarkToken}
 use Rattle.syntax.proofs.RefusalLemmas.{passed_on, rests_equal}
 use Rattle.syntax.proofs.StmtRefusals.{no_statement, store_opened, call_opened, assign_opened}
@@ -18,11 +18,9 @@ returns-in-Some-clause-read c = record {
       ∙ behind (c.in_ok-rest-2.ensures.found ∙ behind c.in_ok-value.ensures.read.spelled))));
   whole = λ s r ends spelled.
       let parts = store_opened s _ _ r (sym (c.in_ok-name.ensures.found ∙ behind c.in-Some.ensures.found) ∙ spelled) in
-      let bracket = c.in_ok-index.ensures.read.whole parts.0 (MarkToken RightBracket ∷ MarkToken Becomes
-      ∷ expr_then parts.1 (MarkToken Semicolon ∷ r)) (omega arith) parts.2 in
-      let mark = rests_equal (sym c.in_ok-rest.ensures.found ∙ bracket) in
-      let value = rests_equal (sym c.in_ok-rest-2.ensures.found ∙ mark) in
-      c.in_ok-value.ensures.read.whole parts.1 r value;
+      let bracket = c.in_ok-index.ensures.read.whole parts.index parts.after parts.ends parts.spelled in
+      let mark = behind_first c.in_ok-rest.ensures.found (bracket ∙ parts.closed) in
+      c.in_ok-value.ensures.read.whole parts.value r (behind_first c.in_ok-rest-2.ensures.found mark);
 }
 
 pub returns-in-Some-after_mark-clause-read : goal.returns-in-Some-after_mark-clause-read
@@ -58,36 +56,29 @@ pub returns-in_err-index-clause-refused : goal.returns-in_err-index-clause-refus
 returns-in_err-index-clause-refused c =
     passed_on _ _ c.from_residual-in_err-index.ensures.1 (λ room no_word s r ends spelled.
     let parts = store_opened s _ _ r (sym (c.in_ok-name.ensures.found ∙ behind c.in-Some.ensures.found) ∙ spelled) in
-    c.in_err-index.ensures.refused room parts.0
-    (MarkToken RightBracket ∷ MarkToken Becomes ∷ expr_then parts.1 (MarkToken Semicolon ∷ r))
-    (omega arith) parts.2)
+    c.in_err-index.ensures.refused room parts.index parts.after parts.ends parts.spelled)
 
 pub returns-in_err-rest-clause-refused : goal.returns-in_err-rest-clause-refused
 returns-in_err-rest-clause-refused c =
     passed_on _ _ c.from_residual-in_err-rest.ensures.1 (λ room no_word s r ends spelled.
     let parts = store_opened s _ _ r (sym (c.in_ok-name.ensures.found ∙ behind c.in-Some.ensures.found) ∙ spelled) in
-    let bracket = c.in_ok-index.ensures.read.whole parts.0 (MarkToken RightBracket ∷ MarkToken Becomes
-    ∷ expr_then parts.1 (MarkToken Semicolon ∷ r)) (omega arith) parts.2 in
-    c.in_err-rest.ensures.refused _ bracket)
+    let bracket = c.in_ok-index.ensures.read.whole parts.index parts.after parts.ends parts.spelled in
+    c.in_err-rest.ensures.refused _ (bracket ∙ parts.closed))
 
 pub returns-in_err-rest-2-clause-refused : goal.returns-in_err-rest-2-clause-refused
 returns-in_err-rest-2-clause-refused c =
     passed_on _ _ c.from_residual-in_err-rest-2.ensures.1 (λ room no_word s r ends spelled.
     let parts = store_opened s _ _ r (sym (c.in_ok-name.ensures.found ∙ behind c.in-Some.ensures.found) ∙ spelled) in
-    let bracket = c.in_ok-index.ensures.read.whole parts.0 (MarkToken RightBracket ∷ MarkToken Becomes
-    ∷ expr_then parts.1 (MarkToken Semicolon ∷ r)) (omega arith) parts.2 in
-    let mark = rests_equal (sym c.in_ok-rest.ensures.found ∙ bracket) in
-    c.in_err-rest-2.ensures.refused _ mark)
+    let bracket = c.in_ok-index.ensures.read.whole parts.index parts.after parts.ends parts.spelled in
+    c.in_err-rest-2.ensures.refused _ (behind_first c.in_ok-rest.ensures.found (bracket ∙ parts.closed)))
 
 pub returns-in_err-value-clause-refused : goal.returns-in_err-value-clause-refused
 returns-in_err-value-clause-refused c =
     passed_on _ _ c.from_residual-in_err-value.ensures.1 (λ room no_word s r ends spelled.
     let parts = store_opened s _ _ r (sym (c.in_ok-name.ensures.found ∙ behind c.in-Some.ensures.found) ∙ spelled) in
-    let bracket = c.in_ok-index.ensures.read.whole parts.0 (MarkToken RightBracket ∷ MarkToken Becomes
-    ∷ expr_then parts.1 (MarkToken Semicolon ∷ r)) (omega arith) parts.2 in
-    let mark = rests_equal (sym c.in_ok-rest.ensures.found ∙ bracket) in
-    let value = rests_equal (sym c.in_ok-rest-2.ensures.found ∙ mark) in
-    c.in_err-value.ensures.refused room parts.1 r value)
+    let bracket = c.in_ok-index.ensures.read.whole parts.index parts.after parts.ends parts.spelled in
+    let mark = behind_first c.in_ok-rest.ensures.found (bracket ∙ parts.closed) in
+    c.in_err-value.ensures.refused room parts.value r (behind_first c.in_ok-rest-2.ensures.found mark))
 
 pub returns-in_err-arguments-clause-refused : goal.returns-in_err-arguments-clause-refused
 returns-in_err-arguments-clause-refused c =

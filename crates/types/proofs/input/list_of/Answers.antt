@@ -1,4 +1,4 @@
-use Rattle.std.proofs.Common.{◌≡◌, ◌∙◌, length, arith, sym, ap, subst, Some, Err, Option, IfSome}
+use Rattle.std.proofs.Common.{◌≡◌, ◌∙◌, length, arith, sym, subst, Some, Err, Option, IfSome}
 use Rattle.std.proofs.lemmas.Grind.{common_steps}
 use Rattle.serde_json.specs.Find.{as_array}
 use Rattle.serde_json.specs.View.{items_view, view}
@@ -19,18 +19,12 @@ returns-then-len-array-clause-error c =
     let P : Option Mistake → Type 0 = λ t. IfSome t (λ m. value_says x d ≡ Err m) in
     subst P (sym c.in_ok-refusal-in-Some.ensures) says
 
-pub returns-else-len-array-clause-says : goal.returns-else-len-array-clause-says
-returns-else-len-array-clause-says c =
+pub returns-else-len-array : goal.returns-else-len-array
+returns-else-len-array c =
     let x = array_of c.args.array.now in
     let long = c.deref.ensures.len ∙ sym c.len.ensures ∙ c.if-len-array.false in
-    value_says-read x _ _ c.numbers_of.result
-    (value_says-items x (view c.args.value.now) c.in-Some.ensures c.deref.ensures.value long)
-    c.numbers_of.ensures.says
-
-pub returns-else-len-array-clause-error : goal.returns-else-len-array-clause-error
-returns-else-len-array-clause-error c =
-    let x = array_of c.args.array.now in
-    let long = c.deref.ensures.len ∙ sym c.len.ensures ∙ c.if-len-array.false in
-    value_says-refused x _ _ c.numbers_of.result
-    (value_says-items x (view c.args.value.now) c.in-Some.ensures c.deref.ensures.value long)
-    c.numbers_of.ensures.error
+    let items = value_says-items x (view c.args.value.now) c.in-Some.ensures c.deref.ensures.value long in
+    record {
+      says = value_says-read x _ _ c.numbers_of.result items c.numbers_of.ensures.says;
+      error = value_says-refused x _ _ c.numbers_of.result items c.numbers_of.ensures.error;
+    }

@@ -129,48 +129,36 @@ way_inside-way_behind-requires-in-Finish t c =
 
 pub way_inside-returns-in_ok-next-in-If : goal.way_inside-returns-in_ok-next-in-If
 way_inside-returns-in_ok-next-in-If t c =
-    let p = program c.args.code.now in
-    let x = access c.args.sought.access in
-    let m = c.args.sought.pending in
-    let l = c.args.statement.now.label in
-    let C = AreShortest p x c.args.known.now in
     let is = is_If _ c.in-If.guard c.in-If.body c.in-If.other c.deref.result.now c.deref-in-If.result.now c.in-If.is c.deref.ensures.value c.deref-in-If.ensures.value in
-    at_code p C m l x _ _ _ is
-    (least_if p C m l x _ _ _ _ _ _ c.shorter.ensures (stepped C _ _ _ _ c.step-step.ensures c.in_ok-way-in-If.ensures)
-    (stepped C _ _ _ _ c.step-step-in-If.ensures c.in_ok-next-in-If.ensures))
+    at_code _ _ _ _ _ _ _ _ is
+    (least_if _ _ _ _ _ _ _ _ _ _ _ c.shorter.ensures (stepped _ _ _ _ _ c.step-step.ensures c.in_ok-way-in-If.ensures)
+    (stepped _ _ _ _ _ c.step-step-in-If.ensures c.in_ok-next-in-If.ensures))
 
 pub way_inside-returns-in-While : goal.way_inside-returns-in-While
 way_inside-returns-in-While t c =
-    let p = program c.args.code.now in
-    let x = access c.args.sought.access in
-    let m = c.args.sought.pending in
-    let l = c.args.statement.now.label in
-    let C = AreShortest p x c.args.known.now in
     let is = is_While _ c.in-While.guard c.in-While.body c.deref-in-While.result.now c.in-While.is c.deref-in-While.ensures.value in
     IfOk-weaker c.way_behind-in-While.result _ _
-    (λ found h. at_code p C m l x _ _ _ is (least_while p C m l x _ _ _ (stepped C _ _ _ _ c.step-step-in-While.ensures h)))
+    (λ found h. at_code _ _ _ _ _ _ _ _ is (least_while _ _ _ _ _ _ _ _ (stepped _ _ _ _ _ c.step-step-in-While.ensures h)))
     c.way_behind-in-While.ensures
 
 pub way_inside-returns-in_ok-by_itself-in-Split : goal.way_inside-returns-in_ok-by_itself-in-Split
 way_inside-returns-in_ok-by_itself-in-Split t c =
     let p = program c.args.code.now in
-    let x = access c.args.sought.access in
-    let m = c.args.sought.pending in
+    let k = c.args.known.now in
+    let sought = c.args.sought in
     let l = c.args.statement.now.label in
-    let s = c.in-Split.section.number in
-    let i = c.in-Split.left.number in
-    let r = c.in-Split.right.number in
-    let C = AreShortest p x c.args.known.now in
-    let b = codes c.in-Split.body.items in
-    let is = is_Split _ c.in-Split.section c.in-Split.at c.in-Split.left c.in-Split.right c.in-Split.body c.in-Split.body.items c.in-Split.is refl in
-    let ys = c.in-Split.body.items in
-    at_code p C m l x _ _ _ is
-    (least_split p C m l x s _ i r b _ _ _ _ _ c.shorter-in-Split.ensures c.shorter-in-Split-2.ensures
-    (side_found_in p c.args.known.now c.args.sought l s i r c.deref-in-Split.result.now ys c.in-Split.left _ c.inside-aim.result _
+    let b = c.in-Split in
+    let s = b.section.number in
+    let i = b.left.number in
+    let r = b.right.number in
+    let ys = b.body.items in
+    at_code _ _ _ _ _ _ _ _ (is_Split _ b.section b.at b.left b.right b.body ys b.is refl)
+    (least_split _ _ _ _ _ s _ i r (codes ys) _ _ _ _ _ c.shorter-in-Split.ensures c.shorter-in-Split-2.ensures
+    (side_found_in p k sought l s i r c.deref-in-Split.result.now ys b.left _ c.inside-aim.result _
     c.deref-in-Split.ensures.value c.inside-aim.ensures c.step-step-in-Split.ensures c.in_ok-by_left-in-Split.ensures)
-    (side_found_in p c.args.known.now c.args.sought l s i r c.deref-in-Split-2.result.now ys c.in-Split.right _ c.inside-aim-in-Split.result _
+    (side_found_in p k sought l s i r c.deref-in-Split-2.result.now ys b.right _ c.inside-aim-in-Split.result _
     c.deref-in-Split-2.ensures.value c.inside-aim-in-Split.ensures c.step-step-in-Split.ensures c.in_ok-by_right-in-Split.ensures)
-    (side_found_in p c.args.known.now c.args.sought l s i r c.deref-in-Split-3.result.now ys c.args.sought.access.section _ c.inside-aim-in-Split-2.result _
+    (side_found_in p k sought l s i r c.deref-in-Split-3.result.now ys sought.access.section _ c.inside-aim-in-Split-2.result _
     c.deref-in-Split-3.ensures.value c.inside-aim-in-Split-2.ensures c.step-step-in-Split.ensures c.in_ok-by_itself-in-Split.ensures))
 
 pub way_inside-returns-in-Call : goal.way_inside-returns-in-Call
@@ -178,11 +166,10 @@ way_inside-returns-in-Call t c =
     let p = program c.args.code.now in
     let x = access c.args.sought.access in
     let m = c.args.sought.pending in
-    let l = c.args.statement.now.label in
     let f = c.in-Call.procedure.number in
     IfOk-weaker c.way_past_call.result _ _
-    (λ found h. at_code p (AreShortest p x c.args.known.now) m l x _ _ _ (ap code c.in-Call.is)
-    (least_call p m l x c.args.known.now f (map number c.in-Call.values.items) (map section c.in-Call.sections.items) c.requires.ways _
+    (λ found h. at_code _ _ _ _ _ _ _ _ (ap code c.in-Call.is)
+    (least_call p m c.args.statement.now.label x c.args.known.now f (map number c.in-Call.values.items) (map section c.in-Call.sections.items) c.requires.ways _
     (subst (λ (s : Step).
     IsLeast length all_covered (GoesIn c.args.known.now m f (map section c.in-Call.sections.items) x.section
     s) (steps found)) c.entering-step.ensures (subst (λ ss.
@@ -191,31 +178,21 @@ way_inside-returns-in-Call t c =
 
 pub way_inside-returns-in-Async : goal.way_inside-returns-in-Async
 way_inside-returns-in-Async t c =
-    let p = program c.args.code.now in
-    let x = access c.args.sought.access in
-    let m = c.args.sought.pending in
-    let l = c.args.statement.now.label in
-    let C = AreShortest p x c.args.known.now in
     let is = is_Async _ c.in-Async.body c.deref-in-Async.result.now c.in-Async.is c.deref-in-Async.ensures.value in
+    let begun : Option (List Step) → Sought → Type 0 = λ found a.
+    IsLeast length (AreShortest (program c.args.code.now) (access a.access) c.args.known.now)
+    (IsLed c.step-step-in-Async.result (λ way. Way (program c.args.code.now) a.pending (codes c.deref-in-Async.result.now) way (access a.access))) found in
     IfOk-weaker c.way_behind-in-Async.result _ _
-    (λ found h. at_code p C m l x _ _ _ is (least_async p C m l x _ _
-    (stepped C _ _ _ _ c.step-step-in-Async.ensures
-    (subst (λ (a : Sought). IsFound p (access a.access) c.args.known.now (IsLed c.step-step-in-Async.result
-    (λ way. Way p a.pending (codes c.deref-in-Async.result.now) way (access a.access))) found) c.done.ensures
-    h)))) c.way_behind-in-Async.ensures
+    (λ found h. at_code _ _ _ _ _ _ _ _ is
+    (least_async _ _ _ _ _ _ _ (stepped _ _ _ _ _ c.step-step-in-Async.ensures (subst (begun (steps found)) c.done.ensures h))))
+    c.way_behind-in-Async.ensures
 
 pub way_inside-returns-in-Finish : goal.way_inside-returns-in-Finish
 way_inside-returns-in-Finish t c =
-    let p = program c.args.code.now in
-    let x = access c.args.sought.access in
-    let m = c.args.sought.pending in
-    let l = c.args.statement.now.label in
-    let C = AreShortest p x c.args.known.now in
     let is = is_Finish _ c.in-Finish.body c.deref-in-Finish.result.now c.in-Finish.is c.deref-in-Finish.ensures.value in
     IfOk-weaker c.way_behind-in-Finish.result _ _
-    (λ found h. at_code p C m l x _ _ _ is (finish_found p c.args.known.now c.args.sought l
-    (codes c.deref-in-Finish.result.now) _ _ (steps found) c.awaited.ensures c.step-step-in-Finish.ensures h))
-    c.way_behind-in-Finish.ensures
+    (λ found h. at_code _ _ _ _ _ _ _ _ is (finish_found _ c.args.known.now c.args.sought _ _ _ _ (steps found) c.awaited.ensures
+    c.step-step-in-Finish.ensures h)) c.way_behind-in-Finish.ensures
 
 pub way_of-returns-then-branch : goal.way_of-returns-then-branch
 way_of-returns-then-branch t c =

@@ -8,8 +8,9 @@ use Rattle.blocks.specs.declared.block.Block.TheVariants.{Empty}
 use Rattle.block_rows.specs.Carvings.{piece_of}
 use Rattle.block_rows.specs.Pieces.{taking}
 use Rattle.block_rows.specs.Rows.{Replaces, block_of, held_in}
-use Rattle.block_rows.proofs.CarvingLemmas.{carve_keeps, has_carved, held-elsewhere, held-left, held-taken, replaced-here, replaced-some}
+use Rattle.block_rows.proofs.CarvingLemmas.{HasCarved, carve_keeps, has_carved, held-elsewhere, held-left, held-taken, replaced-here, replaced-some}
 use Rattle.block_rows.proofs.rows.Rows.carve_piece.Goals as goal
+use Rattle.block_rows.proofs.rows.Rows.carve_piece.Goals.{Joined-swap}
 
 pub swap-mine-requires : goal.swap-mine-requires
 swap-mine-requires c =
@@ -33,99 +34,62 @@ swap-requires c =
     ap is_some (replaced-here c.args.carving.piece.array.number c.block_number-number.result Empty c.args.self.now.list.items
     c.swap-mine.new.self.list.items c.swap-mine.ensures.new)
 
-pub returns-then-not-moves-clause-left : goal.returns-then-not-moves-clause-left
-returns-then-not-moves-clause-left c =
-    let m = c.requires in
-    let w = piece_of c.args.carving in
-    let own = c.args.self.now.list.items in
-    let new_own = c.swap.new.self.list.items in
-    let r = c.swap-mine.result in
-    let s = c.carve-block.new.self in
-    let out = c.carve-block.result in
-    let h = has_carved own c.swap-mine.new.self.list.items new_own w c.block_number-number.result c.offsets-from.result.0 c.offsets-from.result.1
-    r s out Empty c.block_number-number.ensures c.offsets-from.ensures.from c.offsets-from.ensures.to c.swap-mine.ensures.old
-    c.swap-mine.ensures.new c.swap.ensures.new c.carve-block.ensures.taken c.carve-block.ensures.left c.carve-block.ensures.keeps in
-    held-left w r s own new_own m.piece.block h.there h.back h.left
-
-pub returns-clause-left : goal.returns-clause-left
-returns-clause-left c =
-    let m = c.requires in
-    let w = piece_of c.args.carving in
-    let own = c.args.self.now.list.items in
-    let new_own = c.swap.new.self.list.items in
-    let r = c.swap-mine.result in
-    let s = c.carve-block.new.self in
-    let out = c.carve-block.result in
-    let h = has_carved own c.swap-mine.new.self.list.items new_own w c.block_number-number.result c.offsets-from.result.0 c.offsets-from.result.1
-    r s out Empty c.block_number-number.ensures c.offsets-from.ensures.from c.offsets-from.ensures.to c.swap-mine.ensures.old
-    c.swap-mine.ensures.new c.swap.ensures.new c.carve-block.ensures.taken c.carve-block.ensures.left c.carve-block.ensures.keeps in
-    held-left w r s own new_own m.piece.block h.there h.back h.left
-
-pub returns-then-not-moves-clause-taken : goal.returns-then-not-moves-clause-taken
-returns-then-not-moves-clause-taken c =
-    let w = piece_of c.args.carving in
-    let own = held_in c.args.self.now in
-    let others = held_in c.args.others.now in
-    sym (ap (λ b. if b then taking (is_in w) own others else others) (ne_eqb c.args.carving.cut.copied 0 c.if-not-moves.true))
-
-pub returns-then-not-moves-clause-keeps : goal.returns-then-not-moves-clause-keeps
-returns-then-not-moves-clause-keeps c = λ d clear n.
-    let m = c.requires in
-    let w = piece_of c.args.carving in
-    let own = c.args.self.now.list.items in
-    let new_own = c.swap.new.self.list.items in
-    let r = c.swap-mine.result in
-    let s = c.carve-block.new.self in
-    let out = c.carve-block.result in
-    let h = has_carved own c.swap-mine.new.self.list.items new_own w c.block_number-number.result c.offsets-from.result.0 c.offsets-from.result.1
-    r s out Empty c.block_number-number.ensures c.offsets-from.ensures.from c.offsets-from.ensures.to c.swap-mine.ensures.old
-    c.swap-mine.ensures.new c.swap.ensures.new c.carve-block.ensures.taken c.carve-block.ensures.left c.carve-block.ensures.keeps in
-    let same : r ≡ m.ready.mine =
-    same_Some _ _ (sym c.swap-mine.ensures.old ∙ ap (block_of own w.array) c.block_number-number.ensures ∙ m.ready.there) in
-    let others = c.args.others.now.list.items in
-    carve_keeps own others new_own others c.args.carving m r s out same h (λ i j some. some) (λ q e. refl) d clear n
-
 pub swap-requires-2 : goal.swap-requires-2
 swap-requires-2 c =
     let w = piece_of c.args.carving in
     subst (λ n. IsSome (block_of c.args.others.now.list.items w.array n)) (sym c.block_number-number.ensures) c.requires.room
 
-pub returns-clause-taken : goal.returns-clause-taken
-returns-clause-taken c =
-    let m = c.requires in
-    let w = piece_of c.args.carving in
-    let own = c.args.self.now.list.items in
-    let new_own = c.swap.new.self.list.items in
-    let r = c.swap-mine.result in
-    let s = c.carve-block.new.self in
-    let out = c.carve-block.result in
-    let h = has_carved own c.swap-mine.new.self.list.items new_own w c.block_number-number.result c.offsets-from.result.0 c.offsets-from.result.1
-    r s out Empty c.block_number-number.ensures c.offsets-from.ensures.from c.offsets-from.ensures.to c.swap-mine.ensures.old
-    c.swap-mine.ensures.new c.swap.ensures.new c.carve-block.ensures.taken c.carve-block.ensures.left c.carve-block.ensures.keeps in
-    let others = c.args.others.now.list.items in
-    let new_others = c.swap-2.new.self.list.items in
-    let rep = subst (λ n. Replaces w.array n out others new_others) c.block_number-number.ensures c.swap-2.ensures.new in
-    held-taken w r out own others new_others m.piece.block h.there rep h.taken (m.alone (eq-eqb c.args.carving.cut.copied 0 c.if-not-moves.false))
-    ∙ sym (ap (λ b. if b then taking (is_in w) (held_in c.args.self.now) (held_in c.args.others.now) else held_in c.args.others.now)
-    (eq-eqb c.args.carving.cut.copied 0 c.if-not-moves.false))
+-- what became of the block
+carved : (c : Joined-swap)
+    → HasCarved c.args.self.now.list.items c.swap.new.self.list.items (piece_of c.args.carving) c.swap-mine.result
+    c.carve-block.new.self c.carve-block.result
+carved c =
+    has_carved c.args.self.now.list.items c.swap-mine.new.self.list.items c.swap.new.self.list.items (piece_of c.args.carving)
+    c.block_number-number.result c.offsets-from.result.0 c.offsets-from.result.1
+    c.swap-mine.result c.carve-block.new.self c.carve-block.result Empty c.block_number-number.ensures c.offsets-from.ensures.from
+    c.offsets-from.ensures.to c.swap-mine.ensures.old c.swap-mine.ensures.new c.swap.ensures.new c.carve-block.ensures.taken
+    c.carve-block.ensures.left c.carve-block.ensures.keeps
 
-pub returns-clause-keeps : goal.returns-clause-keeps
-returns-clause-keeps c = λ d clear n.
+its_mine : (c : Joined-swap) → c.swap-mine.result ≡ c.requires.ready.mine
+its_mine c =
+    same_Some _ _ (sym c.swap-mine.ensures.old
+    ∙ ap (block_of c.args.self.now.list.items (piece_of c.args.carving).array) c.block_number-number.ensures ∙ c.requires.ready.there)
+
+pub returns-then-not-moves : goal.returns-then-not-moves
+returns-then-not-moves c =
     let m = c.requires in
     let w = piece_of c.args.carving in
     let own = c.args.self.now.list.items in
     let new_own = c.swap.new.self.list.items in
-    let r = c.swap-mine.result in
-    let s = c.carve-block.new.self in
+    let others = c.args.others.now.list.items in
+    let h = carved (goal.at.returns-then-not-moves c).Joined-swap in
+    record {
+      left = held-left w c.swap-mine.result c.carve-block.new.self own new_own m.piece.block h.there h.back h.left;
+      taken = sym (ap (λ b. if b then taking (is_in w) (held_in c.args.self.now) (held_in c.args.others.now) else held_in c.args.others.now)
+          (ne_eqb c.args.carving.cut.copied 0 c.if-not-moves.true));
+      keeps = λ d clear n. carve_keeps own others new_own others c.args.carving m c.swap-mine.result c.carve-block.new.self
+          c.carve-block.result (its_mine (goal.at.returns-then-not-moves c).Joined-swap) h (λ i j some. some) (λ q e. refl) d clear n;
+    }
+
+pub returns : goal.returns
+returns c =
+    let m = c.requires in
+    let w = piece_of c.args.carving in
     let out = c.carve-block.result in
-    let h = has_carved own c.swap-mine.new.self.list.items new_own w c.block_number-number.result c.offsets-from.result.0 c.offsets-from.result.1
-    r s out Empty c.block_number-number.ensures c.offsets-from.ensures.from c.offsets-from.ensures.to c.swap-mine.ensures.old
-    c.swap-mine.ensures.new c.swap.ensures.new c.carve-block.ensures.taken c.carve-block.ensures.left c.carve-block.ensures.keeps in
-    let same : r ≡ m.ready.mine =
-    same_Some _ _ (sym c.swap-mine.ensures.old ∙ ap (block_of own w.array) c.block_number-number.ensures ∙ m.ready.there) in
+    let moves = eq-eqb c.args.carving.cut.copied 0 c.if-not-moves.false in
+    let rep = subst (λ n. Replaces w.array n out c.args.others.now.list.items c.swap-2.new.self.list.items) c.block_number-number.ensures
+    c.swap-2.ensures.new in
+    let own = c.args.self.now.list.items in
+    let new_own = c.swap.new.self.list.items in
     let others = c.args.others.now.list.items in
     let new_others = c.swap-2.new.self.list.items in
-    let rep = subst (λ n. Replaces w.array n out others new_others) c.block_number-number.ensures c.swap-2.ensures.new in
-    carve_keeps own others new_own new_others c.args.carving m r s out same h
-    (λ i j some. replaced-some w.array (w.at / 256) out others new_others rep i j some)
-    (λ q e. held-elsewhere w.array (w.at / 256) out others new_others rep q e) d clear n
+    let h = carved (goal.at.returns c).Joined-swap in
+    record {
+      left = held-left w c.swap-mine.result c.carve-block.new.self own new_own m.piece.block h.there h.back h.left;
+      taken = held-taken w c.swap-mine.result out own others new_others m.piece.block h.there rep h.taken (m.alone moves)
+          ∙ sym (ap (λ b. if b then taking (is_in w) (held_in c.args.self.now) (held_in c.args.others.now) else held_in c.args.others.now) moves);
+      keeps = λ d clear n. carve_keeps own others new_own new_others c.args.carving m c.swap-mine.result c.carve-block.new.self out
+          (its_mine (goal.at.returns c).Joined-swap) h
+          (λ i j some. replaced-some w.array (w.at / 256) out others new_others rep i j some)
+          (λ q e. held-elsewhere w.array (w.at / 256) out others new_others rep q e) d clear n;
+    }

@@ -19,14 +19,12 @@ returns-in-None c =
 
 pub returns-in-Owned : goal.returns-in-Owned
 returns-in-Owned c =
-    let w = window_of c.args.piece in
-    piece-owned c.args.self.now.list.items w c.in-Some.block.now _ _ _ c.requires c.block_number.ensures
-    c.in-Some.ensures
-    c.offsets-from.ensures.from c.offsets-from.ensures.to c.args.want c.in-Owned.is c.owns_all.ensures
+    piece-owned c.args.self.now.list.items (window_of c.args.piece) c.in-Some.block.now _ _ _ c.requires
+    c.block_number.ensures c.in-Some.ensures c.offsets-from.ensures.from c.offsets-from.ensures.to c.args.want
+    c.in-Owned.is c.owns_all.ensures
 
 pub returns-in-Held : goal.returns-in-Held
 returns-in-Held c =
-    let w = window_of c.args.piece in
-    piece-held c.args.self.now.list.items w c.in-Some.block.now _ _ _ c.requires c.block_number.ensures
-    c.in-Some.ensures
-    c.offsets-from.ensures.from c.offsets-from.ensures.to c.args.want c.in-Held.is c.holds_all.ensures
+    piece-held c.args.self.now.list.items (window_of c.args.piece) c.in-Some.block.now _ _ _ c.requires
+    c.block_number.ensures c.in-Some.ensures c.offsets-from.ensures.from c.offsets-from.ensures.to c.args.want
+    c.in-Held.is c.holds_all.ensures

@@ -9,7 +9,7 @@ use Rattle.interleave.proofs.world.World.drop_results.Goals as goal
 
 pub returns-clause-taken : goal.returns-clause-taken
 returns-clause-taken c = λ a.
-    let same = found_here c.args.self.now c.args.path.now a c.in-Some.task.now c.in-Some-front.stake.now c.in-Some-get_mut.scope.now
+    let same = found_here c.args.self.now c.args.path.now a
     (sym c.in-Some.ensures.value) c.in-Some-front.ensures.lookup (sym c.in-Some-get_mut.ensures.value) in
     let to : rScope = record c.in-Some-get_mut.scope.now { results = None } in
     record {

@@ -5,8 +5,9 @@ use Rattle.interleave.specs.Events.{Ends}
 use Rattle.interleave.specs.Shown.{Refuses}
 use Rattle.interleave.specs.declared.error.EventError.TheVariants.{NoMemory}
 use Rattle.interleave.specs.declared.world.World.{World as rWorld}
-use Rattle.interleave.proofs.AtEnds.{at_exit, end_done, end_refused, end_roomless, end_unseen, has_made, its_late, its_stand}
+use Rattle.interleave.proofs.AtEnds.{end_done, end_refused, end_roomless, end_unseen, has_made, its_late, its_stand}
 use Rattle.interleave.proofs.AtEnds.{seen_by, unseen_by}
+use Rattle.interleave.proofs.InHand.{err_is}
 use Rattle.interleave.proofs.world.World.end.Goals as goal
 
 pub returns-in_err-worker-clause-refused : goal.returns-in_err-worker-clause-refused
@@ -14,8 +15,7 @@ returns-in_err-worker-clause-refused c =
     let old = c.args.self.now in
     let path = c.args.path.now in
     let e = c.in_err-worker.field-0.0 in
-    at_exit (Refuses (Ends path.turns.items) old c.look_at.new.self) c.from_residual.result e
-    c.from_residual.ensures.1
+    err_is c.from_residual.result e (Refuses (Ends path.turns.items) old c.look_at.new.self) c.from_residual.ensures.1
     (end_unseen old c.requires.job path c.look_at.new.self c.look_at.ensures.others c.look_at.ensures.stays e
     (unseen_by old path e c.in_err-worker.ensures.nowhere))
 
@@ -38,7 +38,7 @@ made-requires c =
 pub returns-in_err-made-clause-refused : goal.returns-in_err-made-clause-refused
 returns-in_err-made-clause-refused c =
     let old = c.args.self.now in
-    at_exit (Refuses (Ends c.args.path.now.turns.items) old c.look_at.new.self) c.from_residual-in_err-made.result NoMemory
+    err_is c.from_residual-in_err-made.result NoMemory (Refuses (Ends c.args.path.now.turns.items) old c.look_at.new.self)
     c.from_residual-in_err-made.ensures.1 c.look_at.ensures.stays
 
 pub hand_on-requires-clause-stands : goal.hand_on-requires-clause-stands
@@ -66,7 +66,7 @@ returns-in_err-hand_on-clause-refused c =
     let a = its_stand old c.requires.job path c.look_at.new.self l.others l.stays c.in_ok-worker.worker seen
     c.requires.world c.requires.shows in
     let refused = c.in_err-hand_on.ensures.refused in
-    at_exit (Refuses (Ends path.turns.items) old c.hand_on.new.self) c.from_residual-in_err-hand_on.result c.in_err-hand_on.field-0.0
+    err_is c.from_residual-in_err-hand_on.result c.in_err-hand_on.field-0.0 (Refuses (Ends path.turns.items) old c.hand_on.new.self)
     c.from_residual-in_err-hand_on.ensures.1
     (subst (Refuses (Ends path.turns.items) old c.hand_on.new.self) (sym refused.0)
     (end_roomless old c.requires.job path c.look_at.new.self l.others l.stays c.in_ok-worker.worker seen a

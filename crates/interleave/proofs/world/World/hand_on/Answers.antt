@@ -7,26 +7,20 @@ use Rattle.interleave.specs.Ending.{GivesBack}
 use Rattle.interleave.specs.Shown.{ScopeStays, is_scope}
 use Rattle.interleave.specs.declared.scope.Scope.{Scope as rScope}
 use Rattle.interleave.specs.declared.task.Stake.{Stake as rStake}
-use Rattle.interleave.proofs.AtEnds.{found_here}
+use Rattle.interleave.proofs.AtEnds.{found_here, late_here}
 use Rattle.interleave.proofs.world.World.hand_on.Goals as goal
 
 pub end-requires : goal.end-requires
 end-requires c =
-    let a = c.requires.stands in
-    let same = found_here c.args.self.now c.args.path.now a c.in-Some.task.now c.in-Some-front.stake.now c.in-Some-get_mut.scope.now
-    (sym c.in-Some.ensures.value) c.in-Some-front.ensures.lookup (sym c.in-Some-get_mut.ensures.value) in
-    let late = c.requires.late c.args.path.now a in
-    let weight = ap (λ (s : rStake). s.weight) same.0 in
-    let returned = ap (λ (b : rScope). b.returned) same.1 in
-    let issued = ap (λ (b : rScope). b.issued) same.1 in
-    omega (arith, late, weight, returned, issued)
+    late_here c.args.self.now c.args.path.now c.requires.late c.requires.stands (sym c.in-Some.ensures.value)
+    c.in-Some-front.ensures.lookup (sym c.in-Some-get_mut.ensures.value)
 
 pub returns-clause-given : goal.returns-clause-given
 returns-clause-given c =
     on_ok_weaker c.end.result
     (λ given a.
-    let same = found_here c.args.self.now c.args.path.now a c.in-Some.task.now c.in-Some-front.stake.now c.in-Some-get_mut.scope.now
-    (sym c.in-Some.ensures.value) c.in-Some-front.ensures.lookup (sym c.in-Some-get_mut.ensures.value) in
+    let same = found_here c.args.self.now c.args.path.now a (sym c.in-Some.ensures.value)
+    c.in-Some-front.ensures.lookup (sym c.in-Some-get_mut.ensures.value) in
     record {
       to = c.end.new.self;
       fits = subst (λ (s : rStake). GivesBack s.weight (task_result c.args.made ∷ []) a.book c.end.new.self) same.0
@@ -41,8 +35,8 @@ returns-clause-refused c =
     IfErr-weaker c.end.result _ _
     (λ e h. (
       h.0,
-      λ a. (let same = found_here c.args.self.now c.args.path.now a c.in-Some.task.now c.in-Some-front.stake.now c.in-Some-get_mut.scope.now
-          (sym c.in-Some.ensures.value) c.in-Some-front.ensures.lookup (sym c.in-Some-get_mut.ensures.value) in
+      λ a. (let same = found_here c.args.self.now c.args.path.now a (sym c.in-Some.ensures.value)
+          c.in-Some-front.ensures.lookup (sym c.in-Some-get_mut.ensures.value) in
           record {
             to = c.end.new.self;
             fits = subst (λ b. ScopeStays b c.end.new.self) same.1 h.1;

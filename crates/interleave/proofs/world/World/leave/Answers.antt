@@ -16,7 +16,7 @@ use Rattle.interleave.proofs.world.World.leave.Goals as goal
 pub settled_on-requires : goal.settled_on-requires
 settled_on-requires c =
     let a = c.requires.stands in
-    let same = found_here c.args.self.now c.args.path.now a c.in-Some.task c.in-Some-pop_front.stake c.in-Some-get_mut.scope.now
+    let same = found_here c.args.self.now c.args.path.now a
     (sym c.in-Some.ensures.value) c.in-Some-pop_front.ensures.lookup (sym c.in-Some-get_mut.ensures.value) in
     let task = same_Some _ _ (c.in-Some.ensures.value ∙ a.at) in
     c.requires.may a c.in-AtFinish-Some.paused c.in-AtFinish-Some.made c.in-AtFinish-Some.results
@@ -27,7 +27,7 @@ pub returns-clause-left : goal.returns-clause-left
 returns-clause-left c = λ a.
     let old : rWorld = c.args.self.now in
     let path = c.args.path.now in
-    let same = found_here old path a c.in-Some.task c.in-Some-pop_front.stake c.in-Some-get_mut.scope.now
+    let same = found_here old path a
     (sym c.in-Some.ensures.value) c.in-Some-pop_front.ensures.lookup (sym c.in-Some-get_mut.ensures.value) in
     let task = same_Some _ _ (c.in-Some.ensures.value ∙ a.at) in
     let scope : rScope = record c.in-Some-get_mut.scope.now { results = c.take-kept.new.self } in

@@ -2,15 +2,12 @@ use Rattle.std.proofs.Common.{sym}
 use Rattle.interleave.specs.Shown.{IsTaskOf}
 use Rattle.interleave.specs.declared.world.World.{World as rWorld}
 use Rattle.interleave.proofs.LookingAhead.{stays_back}
-use Rattle.interleave.proofs.Tables.{there}
+use Rattle.interleave.proofs.Tables.{task_there}
 use Rattle.interleave.proofs.world.World.look_ahead.Goals as goal
 
 pub known-requires-clause-task : goal.known-requires-clause-task
 known-requires-clause-task c =
-    let r = c.args.self.now in
-    let path = c.args.path.now in
-    let t = there (IsTaskOf r.job.job) c.in-Some.task _ _ (c.requires.shows.tasks path) (sym c.in-Some.ensures.value) in
-    (t.0, t.2)
+    task_there c.args.self.now.job.job c.in-Some.task _ _ (c.requires.shows.tasks c.args.path.now) (sym c.in-Some.ensures.value)
 
 pub returns-clause-stays : goal.returns-clause-stays
 returns-clause-stays c =

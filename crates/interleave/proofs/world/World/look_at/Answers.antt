@@ -3,15 +3,12 @@ use Rattle.std.specs.Prelude.{is_some}
 use Rattle.interleave.specs.Shown.{IsTaskOf}
 use Rattle.interleave.proofs.InHand.{ready_by}
 use Rattle.interleave.proofs.Staying.{stays_put}
-use Rattle.interleave.proofs.Tables.{there}
+use Rattle.interleave.proofs.Tables.{task_there}
 use Rattle.interleave.proofs.world.World.look_at.Goals as goal
 
 pub in_hand-requires-clause-task : goal.in_hand-requires-clause-task
 in_hand-requires-clause-task c =
-    let r = c.args.self.now in
-    let path = c.args.path.now in
-    let t = there (IsTaskOf r.job.job) c.in-Some.task.now _ _ (c.requires.shows.tasks path) (sym c.in-Some.ensures.value) in
-    (t.0, t.2)
+    task_there c.args.self.now.job.job c.in-Some.task.now _ _ (c.requires.shows.tasks c.args.path.now) (sym c.in-Some.ensures.value)
 
 pub returns-in-Some-clause-stays : goal.returns-in-Some-clause-stays
 returns-in-Some-clause-stays c =

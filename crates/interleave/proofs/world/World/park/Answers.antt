@@ -2,7 +2,8 @@ use Rattle.std.proofs.Common.{◌∙◌, sym}
 use Rattle.interleave.specs.Events.{Parks}
 use Rattle.interleave.specs.Shown.{Refuses}
 use Rattle.interleave.specs.declared.world.World.{World as rWorld}
-use Rattle.interleave.proofs.AtEnds.{at_exit, its_late, its_stand, park_done, park_refused, park_unseen, seen_by, unseen_by}
+use Rattle.interleave.proofs.AtEnds.{its_late, its_stand, park_done, park_refused, park_unseen, seen_by, unseen_by}
+use Rattle.interleave.proofs.InHand.{err_is}
 use Rattle.interleave.proofs.world.World.park.Goals as goal
 
 pub returns-in_err-worker-clause-refused : goal.returns-in_err-worker-clause-refused
@@ -10,8 +11,7 @@ returns-in_err-worker-clause-refused c =
     let old = c.args.self.now in
     let path = c.args.path.now in
     let e = c.in_err-worker.field-0.0 in
-    at_exit (Refuses (Parks path.turns.items) old c.look_at.new.self) c.from_residual.result e
-    c.from_residual.ensures.1
+    err_is c.from_residual.result e (Refuses (Parks path.turns.items) old c.look_at.new.self) c.from_residual.ensures.1
     (park_unseen old c.requires.job path c.look_at.new.self c.look_at.ensures.others c.look_at.ensures.stays e
     (unseen_by old path e c.in_err-worker.ensures.nowhere))
 

@@ -5,24 +5,18 @@ use Rattle.interleave.specs.Ending.{GivesBack}
 use Rattle.interleave.specs.Shown.{is_scope}
 use Rattle.interleave.specs.declared.scope.Scope.{Scope as rScope}
 use Rattle.interleave.specs.declared.task.Stake.{Stake as rStake}
-use Rattle.interleave.proofs.AtEnds.{found_here}
+use Rattle.interleave.proofs.AtEnds.{found_here, late_here}
 use Rattle.interleave.proofs.world.World.return_weight.Goals as goal
 
 pub give_back-requires : goal.give_back-requires
 give_back-requires c =
-    let a = c.requires.stands in
-    let same = found_here c.args.self.now c.args.path.now a c.in-Some.task.now c.in-Some-front.stake.now c.in-Some-get_mut.scope.now
-    (sym c.in-Some.ensures.value) c.in-Some-front.ensures.lookup (sym c.in-Some-get_mut.ensures.value) in
-    let late = c.requires.late c.args.path.now a in
-    let weight = ap (λ (s : rStake). s.weight) same.0 in
-    let returned = ap (λ (b : rScope). b.returned) same.1 in
-    let issued = ap (λ (b : rScope). b.issued) same.1 in
-    omega (arith, late, weight, returned, issued)
+    late_here c.args.self.now c.args.path.now c.requires.late c.requires.stands (sym c.in-Some.ensures.value)
+    c.in-Some-front.ensures.lookup (sym c.in-Some-get_mut.ensures.value)
 
 pub returns-clause-given : goal.returns-clause-given
 returns-clause-given c = λ a.
-    let same = found_here c.args.self.now c.args.path.now a c.in-Some.task.now c.in-Some-front.stake.now c.in-Some-get_mut.scope.now
-    (sym c.in-Some.ensures.value) c.in-Some-front.ensures.lookup (sym c.in-Some-get_mut.ensures.value) in
+    let same = found_here c.args.self.now c.args.path.now a (sym c.in-Some.ensures.value)
+    c.in-Some-front.ensures.lookup (sym c.in-Some-get_mut.ensures.value) in
     record {
       to = c.give_back.new.self;
       fits = subst (λ (s : rStake). GivesBack s.weight [] a.book c.give_back.new.self) same.0

@@ -12,7 +12,7 @@ use Rattle.interleave.proofs.world.World.settled_run.Goals as goal
 pub run_behind-requires : goal.run_behind-requires
 run_behind-requires c =
     let a = c.requires.stands in
-    let same = found_here c.args.self.now c.args.path.now a c.in-Some.task.now c.in-Some-front.stake.now c.in-Some-get.scope.now
+    let same = found_here c.args.self.now c.args.path.now a
     (sym c.in-Some.ensures.value) c.in-Some-front.ensures.lookup (sym c.in-Some-get.ensures.value) in
     let task = same_Some _ _ (c.in-Some.ensures.value ∙ a.at) in
     let made = c.in-AtFinish-Some.made in
@@ -24,7 +24,7 @@ pub returns-clause-goes : goal.returns-clause-goes
 returns-clause-goes c =
     IfOk-weaker c.run_behind.result _ _
     (λ run goes a.
-    let same = found_here c.args.self.now c.args.path.now a c.in-Some.task.now c.in-Some-front.stake.now c.in-Some-get.scope.now
+    let same = found_here c.args.self.now c.args.path.now a
     (sym c.in-Some.ensures.value) c.in-Some-front.ensures.lookup (sym c.in-Some-get.ensures.value) in
     let task = same_Some _ _ (c.in-Some.ensures.value ∙ a.at) in
     record {

@@ -5,15 +5,12 @@ use Rattle.interleave.specs.Shown.{IsTaskOf}
 use Rattle.interleave.specs.declared.task.Task.{Task as rTask}
 use Rattle.interleave.specs.declared.world.World.{World as rWorld}
 use Rattle.interleave.proofs.InPlace.{no_step, stepped_if}
-use Rattle.interleave.proofs.Tables.{there}
+use Rattle.interleave.proofs.Tables.{task_there}
 use Rattle.interleave.proofs.world.World.take_step.Goals as goal
 
 pub take_step-requires-clause-task : goal.take_step-requires-clause-task
 take_step-requires-clause-task c =
-    let r = c.args.self.now in
-    let path = c.args.path.now in
-    let t = there (IsTaskOf r.job.job) c.in-Some.task.now _ _ (c.requires.shows.tasks path) (sym c.in-Some.ensures.value) in
-    (t.0, t.2)
+    task_there c.args.self.now.job.job c.in-Some.task.now _ _ (c.requires.shows.tasks c.args.path.now) (sym c.in-Some.ensures.value)
 
 pub returns-in-Some-clause-stepped : goal.returns-in-Some-clause-stepped
 returns-in-Some-clause-stepped c =

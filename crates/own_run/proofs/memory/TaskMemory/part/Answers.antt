@@ -4,11 +4,11 @@ use Rattle.std.specs.Prelude.{◌||◌}
 use Rattle.sections.specs.Covers.{has}
 use Rattle.sections.specs.Place.{Place}
 use Rattle.sections.specs.Translation.{window}
-use Rattle.holdings.specs.Held.{Held, Map, numbers, owned, only, as_owned, as_shared, over, AreApart, IsThere, without as without_at}
+use Rattle.holdings.specs.Held.{Held, Map, numbers, owned, AreApart, IsThere, without as without_at}
 use Rattle.holdings.specs.Holdings.{held}
 use Rattle.own_run.specs.Places.{Places, within, only as only_in}
 use Rattle.own_run.proofs.HeldPlaces.{has-is-within, within-append, owns, all_owned, all_there, child_contents}
-use Rattle.own_run.proofs.HeldPlaces.{child_owned, left_contents, left_owned, copies_apart}
+use Rattle.own_run.proofs.HeldPlaces.{child_owned, left_contents, left_owned, copies_apart, pasted}
 use Rattle.own_run.proofs.memory.TaskMemory.part.Goals as goal
 
 pub returns-in_err-child-clause-refused : goal.returns-in_err-child-clause-refused
@@ -31,11 +31,8 @@ returns-in-Ok-clause-contents c =
     let ws = map window c.args.writes.now in let rs = map window c.args.reads.now in
     let together : (λ (q : Place). within ws q || within rs q) ≡ within (map window (c.args.writes.now ++ c.args.reads.now))
     = (λ t q. sym (within-append ws rs q) t) ∙ ap within (sym (map-append window c.args.writes.now c.args.reads.now)) in
-    ap numbers (c.in-Ok.ensures.pasted
-    ∙ ap (λ (o : Map Held). over (as_owned (owned o)) (held c.in_ok-child.child))
-    (c.in_ok-own.ensures.taken ∙ ap (λ (s : Places). only s m) (has-is-within ws))
-    ∙ ap (over (as_owned (owned (only (within ws) m))))
-    (c.in_ok-child.ensures.shared ∙ ap (λ (s : Places). as_shared (only s (numbers m))) (has-is-within rs)))
+    ap numbers (pasted ws rs m (held c.in_ok-child.child) (held c.in_ok-own.own) _ c.in-Ok.ensures.pasted
+    c.in_ok-own.ensures.taken c.in_ok-child.ensures.shared)
     ∙ child_contents (within ws) (within rs) m c.requires.owned
     ∙ ap (λ (s : Places). only_in s (numbers m)) together
 
@@ -43,11 +40,8 @@ pub returns-in-Ok-clause-owned : goal.returns-in-Ok-clause-owned
 returns-in-Ok-clause-owned c =
     let m = held c.args.self.now.holdings in
     let ws = map window c.args.writes.now in let rs = map window c.args.reads.now in
-    ap owns (c.in-Ok.ensures.pasted
-    ∙ ap (λ (o : Map Held). over (as_owned (owned o)) (held c.in_ok-child.child))
-    (c.in_ok-own.ensures.taken ∙ ap (λ (s : Places). only s m) (has-is-within ws))
-    ∙ ap (over (as_owned (owned (only (within ws) m))))
-    (c.in_ok-child.ensures.shared ∙ ap (λ (s : Places). as_shared (only s (numbers m))) (has-is-within rs)))
+    ap owns (pasted ws rs m (held c.in_ok-child.child) (held c.in_ok-own.own) _ c.in-Ok.ensures.pasted
+    c.in_ok-own.ensures.taken c.in_ok-child.ensures.shared)
     ∙ child_owned (within ws) (within rs) m c.requires.owned
 
 pub returns-in-Ok-clause-left : goal.returns-in-Ok-clause-left

@@ -6,7 +6,7 @@ use Rattle.own_run.specs.RunTurns.{IsMore, IsStep, IsTurn, turn_of}
 use Rattle.own_run.specs.declared.run.Run.{Run}
 use Rattle.own_run.specs.declared.turn.Done.{Done}
 use Rattle.own_run.specs.declared.turn.Done.TheVariants.{Gone, Spawned, Entered, Exceeded}
-use Rattle.own_run.proofs.GoingOn.{at_once_leaves_fewer, goes_at_once, goes_more, goes_nowhere, goes_over, goes_plan, goes_turn}
+use Rattle.own_run.proofs.GoingOn.{at_once_leaves_fewer, did, goes_at_once, goes_more, goes_nowhere, goes_over, goes_plan, goes_turn}
 use Rattle.own_run.proofs.TurnsLeft.{leaves_fewer}
 use Rattle.own_run.proofs.run.Run.go.Goals as goal
 
@@ -60,33 +60,27 @@ pub turns-smaller-in-Gone : goal.turns-smaller-in-Gone
 turns-smaller-in-Gone g c =
     let needs = g.N.Needed.needs c.args.needed.now in
     let can = c.requires.can c.turns.self c.turns.invariant in
-    let did = subst (λ s. IsStep needs c.turns.self s c.step.new.self) c.in-Did.is c.in_ok-done-in-None.ensures.step in
     leaves_fewer needs c.turns.self _ can.frames can.own can.shows
-    (subst (λ d. IsTurn needs c.turns.self (turn_of c.step.new.self d)) c.in-Gone.is did)
+    (did needs c.turns.self c.step.new.self _ _ _ c.in_ok-done-in-None.ensures.step c.in-Did.is c.in-Gone.is)
 
 pub turns-preserved-in-Gone : goal.turns-preserved-in-Gone
 turns-preserved-in-Gone g c =
     let needs = g.N.Needed.needs c.args.needed.now in
-    let did = subst (λ s. IsStep needs c.turns.self s c.step.new.self) c.in-Did.is c.in_ok-done-in-None.ensures.step in
-    goes_more needs c.args.self.now c.turns.self c.step.new.self c.turns.invariant
-    (goes_turn needs c.turns.self c.step.new.self
-    (subst (λ d. IsTurn needs c.turns.self (turn_of c.step.new.self d)) c.in-Gone.is did))
+    goes_more needs c.args.self.now c.turns.self c.step.new.self c.turns.invariant (goes_turn needs c.turns.self c.step.new.self
+    (did needs c.turns.self c.step.new.self _ _ _ c.in_ok-done-in-None.ensures.step c.in-Did.is c.in-Gone.is))
 
 pub turns-smaller : goal.turns-smaller
 turns-smaller g c =
     let needs = g.N.Needed.needs c.args.needed.now in
     let can = c.requires.can c.turns.self c.turns.invariant in
-    let did = subst (λ s. IsStep needs c.turns.self s c.step.new.self) c.in-Did.is c.in_ok-done-in-None.ensures.step in
     leaves_fewer needs c.turns.self _ can.frames can.own can.shows
-    (subst (λ d. IsTurn needs c.turns.self (turn_of c.step.new.self d)) c.in-Exceeded.is did)
+    (did needs c.turns.self c.step.new.self _ _ _ c.in_ok-done-in-None.ensures.step c.in-Did.is c.in-Exceeded.is)
 
 pub turns-preserved : goal.turns-preserved
 turns-preserved g c =
     let needs = g.N.Needed.needs c.args.needed.now in
-    let did = subst (λ s. IsStep needs c.turns.self s c.step.new.self) c.in-Did.is c.in_ok-done-in-None.ensures.step in
-    goes_more needs c.args.self.now c.turns.self c.step.new.self c.turns.invariant
-    (goes_over needs c.turns.self c.step.new.self
-    (subst (λ d. IsTurn needs c.turns.self (turn_of c.step.new.self d)) c.in-Exceeded.is did))
+    goes_more needs c.args.self.now c.turns.self c.step.new.self c.turns.invariant (goes_over needs c.turns.self c.step.new.self
+    (did needs c.turns.self c.step.new.self _ _ _ c.in_ok-done-in-None.ensures.step c.in-Did.is c.in-Exceeded.is))
 
 pub returns-in_default : goal.returns-in_default
 returns-in_default g c =

@@ -1,4 +1,4 @@
-use Rattle.std.proofs.Common.{◌≡◌, ◌<◌, ◌≤◌, ◌+◌, ◌-◌, ◌^◌, ℕ, List, length, Bor, ap, ◌∙◌, sym, arith, rules}
+use Rattle.std.proofs.Common.{◌≡◌, ◌^◌, ℕ, List, length, Bor, ap, ◌∙◌, sym, arith, rules}
 use Rattle.std.proofs.lemmas.Option.{slice_get_within}
 use Rattle.std.specs.Option.{option_copied}
 use Rattle.std.specs.Prelude.{Option, Some, None, slice_get}
@@ -21,36 +21,19 @@ returns-in-Some-next_in-clause-steps c =
 
 pub returns-in-Some-next_in-clause-goes : goal.returns-in-Some-next_in-clause-goes
 returns-in-Some-next_in-clause-goes c =
-    let list = c.loop-row.self in
-    let rows = rows_of list.pairs.now.rows in
-    let row = c.in-Some.row.now in
-    let there : slice_get rows list.first ≡ Some row = sym c.get.ensures ∙ ap (λ (o : Option (Bor LabelSet)). option_copied o) c.in-Some.is in
-    let z = c.in-Some-next_in.second in
-    let h = c.in-Some-next_in.ensures in
-    let step = sym c.loop-row.invariant
-    ∙ place_next (2 ^ 32) rows list.first list.second z row there h.0.0 (label_within row z h.0.1) h.0.1 (λ l a k. h.1 l (a, k)) in
-    let fewer = ap (λ (ms : List (ℕ × ℕ)). length ms) step in
+    let fewer = ap (λ (ms : List (ℕ × ℕ)). length ms) (returns-in-Some-next_in-clause-steps c) in
     record { on = λ _. (tt, tt, omega (arith, fewer)); keeps = tt; rests = λ _. tt }
 
 pub overflow_add-self-in-None : goal.overflow_add-self-in-None
 overflow_add-self-in-None c =
-    let list = c.loop-row.self in
-    let rows = rows_of list.pairs.now.rows in
-    let there : slice_get rows list.first ≡ Some c.in-Some.row.now =
-    sym c.get.ensures ∙ ap (λ (o : Option (Bor LabelSet)). option_copied o) c.in-Some.is in
-    let within : list.first < length rows = slice_get_within rows list.first c.in-Some.row.now there in
-    let few : length rows ≤ 2 ^ 32 = list.pairs.now.rows.within in
-    omega (arith, within, few)
+    let there = sym c.get.ensures ∙ ap (λ (o : Option (Bor LabelSet)). option_copied o) c.in-Some.is in
+    let within = slice_get_within (rows_of c.loop-row.self.pairs.now.rows) c.loop-row.self.first c.in-Some.row.now there in
+    omega (arith, within, c.loop-row.self.pairs.now.rows.within)
 
 pub loop-row-smaller : goal.loop-row-smaller
 loop-row-smaller c =
-    let list = c.loop-row.self in
-    let rows = rows_of list.pairs.now.rows in
-    let there : slice_get rows list.first ≡ Some c.in-Some.row.now =
-    sym c.get.ensures ∙ ap (λ (o : Option (Bor LabelSet)). option_copied o) c.in-Some.is in
-    let within : list.first < length rows = slice_get_within rows list.first c.in-Some.row.now there in
-    let fewer : length rows - (list.first + 1) < length rows - list.first = omega (arith, within) in
-    fewer
+    let there = sym c.get.ensures ∙ ap (λ (o : Option (Bor LabelSet)). option_copied o) c.in-Some.is in
+    omega (arith, slice_get_within (rows_of c.loop-row.self.pairs.now.rows) c.loop-row.self.first c.in-Some.row.now there)
 
 pub loop-row-preserved : goal.loop-row-preserved
 loop-row-preserved c =

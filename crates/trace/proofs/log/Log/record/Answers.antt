@@ -3,7 +3,7 @@ use Rattle.events.specs.declared.event.Event.{Event}
 use Rattle.interleave.specs.Replaying.{event as event_of}
 use Rattle.interleave.specs.Shown.{Becomes}
 use Rattle.trace.specs.Logs.{IsClean, Leaves, Recorded}
-use Rattle.trace.proofs.LogLemmas.{clean_more, clean_still, if_error_then, left_by, recorded, stayed_by}
+use Rattle.trace.proofs.LogLemmas.{clean_more, clean_still, if_error_then, recorded, stayed_by}
 use Rattle.trace.proofs.log.Log.record.Goals as goal
 
 pub invariant_of-self-in_err-event : goal.invariant_of-self-in_err-event
@@ -20,8 +20,8 @@ returns-in_err-event-clause-refused c =
     let new = recorded c.event.new.self c.reserve.new.self.items in
     if_error_then c.from_residual-in_err-event.result c.from_residual-in_err-event.ensures.1
     (λ x same. subst (λ (l : Recorded). Leaves c.args.event l new x) c.self.view_is
-    (left_by c.args.event (recorded old.world old.events.items) new x c.in_err-event.field-0.0 same c.in_ok-reserve.ensures.items
-    c.in_err-event.ensures.refused))
+    (subst (Leaves c.args.event (recorded old.world old.events.items) new) (sym same)
+    (record { events = c.in_ok-reserve.ensures.items; world = c.in_err-event.ensures.refused })))
 
 pub invariant_of-self-2 : goal.invariant_of-self-2
 invariant_of-self-2 c =

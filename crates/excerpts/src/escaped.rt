@@ -1,0 +1,22 @@
+//! Names from outside as messages show them.
+
+use std::fmt;
+
+/// A name from outside, as that of a file, in which a character that steers a terminal is told by
+/// its number, as `\x1b`.
+#[derive(Clone, Copy)]
+pub struct Escaped<'n>(pub &'n str);
+
+impl fmt::Display for Escaped<'_> {
+    fn fmt<W: fmt::Write>(&self, f: &mut fmt::Formatter<W>) -> fmt::Result {
+        for character in self.0.chars() {
+            let code = u32::from(character);
+            if code < 32 || code == 127 {
+                write!(f, "\\x{code:02x}")?;
+            } else {
+                write!(f, "{character}")?;
+            }
+        }
+        Ok(())
+    }
+}

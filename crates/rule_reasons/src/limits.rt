@@ -1,0 +1,180 @@
+//! Programs that have more of a thing than they may.
+
+use crate::rule_texts::is_word;
+use excerpts::source::push_excerpt;
+use excerpts::statements::Statements;
+use scopes::arguments::parameters;
+use std::alloc::{AllocError, Global};
+use syntax::Place;
+use syntax::token::{Spanned, Token, Word};
+
+/// A limit, and what is said of a program that is over it.
+#[derive(Clone, Copy)]
+struct Limit {
+    most: u64,
+    /// Who may have no more, and of what.
+    owner: &'static str,
+    what: &'static str,
+    mend: &'static str,
+}
+
+const PROCEDURES: Limit = Limit {
+    most: 256,
+    owner: "A program",
+    what: "procedures beside main",
+    mend: "take those away that nothing calls, or write one for several.",
+};
+
+const PARAMETERS: Limit = Limit {
+    most: 16,
+    owner: "A procedure",
+    what: "parameters",
+    mend: "pass several numbers as the elements of one section.",
+};
+
+const ARRAYS: Limit = Limit {
+    most: 32,
+    owner: "A program",
+    what: "arrays",
+    mend: "write a larger one for several, and name its parts by split.",
+};
+
+const ELEMENTS: Limit = Limit {
+    most: 4_194_304,
+    owner: "A program",
+    what: "elements of all arrays together",
+    mend: "declare smaller arrays, or fewer.",
+};
+
+const STATEMENTS: Limit = Limit {
+    most: 65_535,
+    owner: "A program",
+    what: "statements",
+    mend: "write loops and procedures for what stands there several times.",
+};
+
+const LIMITS: &str = "
+A program has at most 256 procedures beside main, each with at most 16 parameters, 32 arrays, 4194304 elements of all
+arrays together, and 65535 statements.
+To mend it: stay below these.
+";
+
+/// How many a program has of what is limited, and the number of the character at which the first
+/// stands that is too many.
+#[derive(Clone, Copy)]
+struct Count {
+    limit: Limit,
+    many: u64,
+    over: Option<usize>,
+}
+
+impl Count {
+    /// None yet.
+    fn of(limit: Limit) -> Count {
+        Count {
+            limit,
+            many: 0,
+            over: None,
+        }
+    }
+
+    /// Counts so many more, which stand at a character.
+    fn add(&mut self, many: u64, at: usize) {
+        self.many = self.many.saturating_add(many);
+        if self.many > self.limit.most && self.over.is_none() {
+            self.over = Some(at);
+        }
+    }
+}
+
+/// Adds which limit a program is over, by how many, and what would be right.
+pub fn push_over_limit(
+    alloc: Global,
+    told: &mut String,
+    statements: &Statements<'_>,
+) -> Result<(), AllocError> {
+    let (text, source) = (statements.text, &statements.source);
+    for count in &counts(alloc, &source.tokens)? {
+        if let Some(at) = count.over {
+            return push_limit(told, text, source.place(at), count.limit, count.many);
+        }
+    }
+    match statements.place(65_536) {
+        Some(place) => {
+            let many = u64::try_from(statements.places.len()).unwrap_or(u64::MAX);
+            push_limit(told, text, place, STATEMENTS, many)
+        }
+        None => told.push_str(LIMITS),
+    }
+}
+
+/// Adds a limit, and where what is too many begins.
+fn push_limit(
+    told: &mut String,
+    text: &str,
+    place: Place,
+    limit: Limit,
+    many: u64,
+) -> Result<(), AllocError> {
+    push_excerpt(told, text, place)?;
+    let (owner, most, what) = (limit.owner, limit.most, limit.what);
+    write!(
+        told,
+        "{owner} has at most {most} {what}, and this one has {many}.\n"
+    )?;
+    let mend = limit.mend;
+    write!(told, "To mend it: {mend}\n")
+}
+
+/// What a program has of all but statements.
+fn counts(alloc: Global, tokens: &[Spanned]) -> Result<Vec<Count>, AllocError> {
+    let mut found = Vec::new(alloc);
+    found.push(words(tokens, Word::Proc, PROCEDURES))?;
+    found.push(most_parameters(alloc, tokens)?)?;
+    found.push(words(tokens, Word::Array, ARRAYS))?;
+    found.push(elements(tokens))?;
+    Ok(found)
+}
+
+/// How often a word stands there.
+fn words(tokens: &[Spanned], word: Word, limit: Limit) -> Count {
+    let mut count = Count::of(limit);
+    for spanned in tokens {
+        if is_word(&spanned.token, word) {
+            count.add(1, spanned.at);
+        }
+    }
+    count
+}
+
+/// The parameters of the first procedure that has too many.
+fn most_parameters(alloc: Global, tokens: &[Spanned]) -> Result<Count, AllocError> {
+    for (number, spanned) in tokens.iter().enumerate() {
+        if is_word(&spanned.token, Word::Proc) {
+            let mut count = Count::of(PARAMETERS);
+            let behind = tokens.get(number.saturating_add(2)..).unwrap_or(&[]);
+            for parameter in &parameters(alloc, behind)? {
+                count.add(1, parameter.at);
+            }
+            if count.over.is_some() {
+                return Ok(count);
+            }
+        }
+    }
+    Ok(Count::of(PARAMETERS))
+}
+
+/// The elements of the arrays, each declared as `array a: int[8];`.
+fn elements(tokens: &[Spanned]) -> Count {
+    let mut count = Count::of(ELEMENTS);
+    for (number, spanned) in tokens.iter().enumerate() {
+        if is_word(&spanned.token, Word::Array) {
+            if let Some(length) = tokens.get(number.saturating_add(5)) {
+                if let Token::Number(many) = &length.token {
+                    count.add(*many, length.at);
+                }
+            }
+        }
+    }
+    count
+}

@@ -1,0 +1,581 @@
+//! Programs that break a rule.
+
+use crate::limits::push_over_limit;
+use crate::rule_texts;
+use excerpts::named::{Named, Role, head, names};
+use excerpts::nouns::noun;
+use excerpts::source::{Source, push_excerpt};
+use excerpts::statements::Statements;
+use scopes::arguments::{Argument, Parameter, Procedure, arguments, procedure_of};
+use scopes::declared::{Declared, Kind, Scope, find};
+use scopes::expressions::{Part, Value, parts_of, wrong_part};
+use std::alloc::{AllocError, Global};
+use syntax::Place;
+use syntax::token::Spanned;
+use types::error::TypeError;
+
+/// What stands behind the line of a rule that a text's program breaks: where, why, and what would
+/// be right. Nothing where the text isn't that of such a program.
+pub fn explained_rule(alloc: Global, text: &str, error: TypeError) -> Result<String, AllocError> {
+    let mut told = String::new(alloc);
+    let Some(statements) = Statements::of(alloc, text)? else {
+        return Ok(told);
+    };
+    match error.label() {
+        None => match error {
+            TypeError::OverLimit => push_over_limit(alloc, &mut told, &statements)?,
+            _ => rule_texts::push_without_label(&mut told, &statements, error)?,
+        },
+        Some(label) => {
+            if let Some(place) = statements.place(label) {
+                let broken = Broken::at(alloc, text, &statements.source, place)?;
+                broken.push(&mut told, error)?;
+            }
+        }
+    }
+    Ok(told)
+}
+
+/// A statement that breaks a rule.
+#[derive(Drop)]
+pub struct Broken<'t> {
+    alloc: Global,
+    text: &'t str,
+    source: &'t Source,
+    place: Place,
+    head: &'t [Spanned],
+    names: Vec<Named<'t>>,
+    scope: Scope<'t>,
+    /// What was declared before the statement, and is in scope no more.
+    over: Vec<Declared<'t>>,
+}
+
+impl<'t> Broken<'t> {
+    /// The statement that begins at a place.
+    fn at(
+        alloc: Global,
+        text: &'t str,
+        source: &'t Source,
+        place: Place,
+    ) -> Result<Broken<'t>, AllocError> {
+        let tokens = source.tokens_from(place);
+        let head = head(tokens);
+        let many = source.tokens.len().saturating_sub(tokens.len());
+        let before = source.tokens.get(..many).unwrap_or(&[]);
+        let mut over = Vec::new(alloc);
+        let scope = Scope::behind(alloc, before, &mut over)?;
+        let names = names(alloc, head)?;
+        Ok(Broken {
+            alloc,
+            text,
+            source,
+            place,
+            head,
+            names,
+            scope,
+            over,
+        })
+    }
+
+    /// Adds where the statement stands, why it breaks the rule, and what would be right.
+    fn push(&self, told: &mut String, error: TypeError) -> Result<(), AllocError> {
+        match error {
+            TypeError::NotInScope { .. } => self.push_not_in_scope(told),
+            TypeError::DeclaredTwice { .. } => self.push_declared_twice(told),
+            TypeError::WrongKind { .. } => self.push_wrong_kind(told),
+            TypeError::WrongArguments { .. } => self.push_wrong_arguments(told),
+            TypeError::AssignedOutsideAsync { .. } => self.push_assigned(told),
+            TypeError::ReadOnly { .. } => self.push_read_only(told),
+            TypeError::Overlapping { .. } => self.push_overlapping(told),
+            _ => Ok(()),
+        }
+    }
+
+    // ---- where
+
+    /// Adds the line of a character, with a caret under it.
+    fn push_at(&self, told: &mut String, at: usize) -> Result<(), AllocError> {
+        push_excerpt(told, self.text, self.source.place(at))
+    }
+
+    /// Adds the line at which the statement begins.
+    fn push_start(&self, told: &mut String) -> Result<(), AllocError> {
+        push_excerpt(told, self.text, self.place)
+    }
+
+    /// Adds the place at which a declaration stands.
+    fn push_place(&self, told: &mut String, declared: Declared<'t>) -> Result<(), AllocError> {
+        let place = self.source.place(declared.at);
+        write!(told, "{place}")
+    }
+
+    // ---- the rules
+
+    /// A name or a procedure that isn't in scope.
+    fn push_not_in_scope(&self, told: &mut String) -> Result<(), AllocError> {
+        for named in &self.names {
+            if named.role == Role::Called {
+                if procedure_of(self.alloc, &self.source.tokens, named.name)?.is_none() {
+                    return self.push_no_procedure(told, *named);
+                }
+            } else if named.role != Role::Declared && self.scope.find(named.name).is_none() {
+                return self.push_no_name(told, *named);
+            }
+        }
+        self.push_start(told)
+    }
+
+    /// A procedure that the text doesn't have.
+    fn push_no_procedure(&self, told: &mut String, named: Named<'t>) -> Result<(), AllocError> {
+        self.push_at(told, named.at)?;
+        let name = named.name;
+        write!(told, "No procedure of the text is called `{name}`.\n")?;
+        rule_texts::push_procedures(told, &self.source.tokens)?;
+        told.push_str("To mend it: call one that the text has, or add it before main.\n")
+    }
+
+    /// A name that isn't in scope.
+    fn push_no_name(&self, told: &mut String, named: Named<'t>) -> Result<(), AllocError> {
+        self.push_at(told, named.at)?;
+        let name = named.name;
+        write!(told, "`{name}` is not in scope here.")?;
+        if let Some(declared) = find(&self.over, name) {
+            told.push_str(" It was declared at ")?;
+            self.push_place(told, declared)?;
+            told.push_str(", in a block that has ended.")?;
+        }
+        told.push('\n')?;
+        self.push_scope(told)?;
+        told.push_str(
+            "To mend it: declare it before, in this block or in one around it; or take a name that is in scope.\n",
+        )
+    }
+
+    /// Adds the names that are in scope.
+    fn push_scope(&self, told: &mut String) -> Result<(), AllocError> {
+        if self.scope.declared.is_empty() {
+            return told.push_str("Nothing is in scope here.\n");
+        }
+        told.push_str("In scope here:")?;
+        for declared in &self.scope.declared {
+            let name = declared.name;
+            write!(told, " {name}")?;
+        }
+        told.push('\n')
+    }
+
+    /// A name that is declared while the same name is in scope.
+    fn push_declared_twice(&self, told: &mut String) -> Result<(), AllocError> {
+        let mut is_told = false;
+        for named in &self.names {
+            if !is_told && named.role == Role::Declared {
+                if let Some(declared) = self.scope.find(named.name) {
+                    is_told = true;
+                    self.push_at(told, named.at)?;
+                    let name = named.name;
+                    write!(
+                        told,
+                        "`{name}` is in scope here already: it was declared at "
+                    )?;
+                    self.push_place(told, declared)?;
+                    told.push_str(".\n")?;
+                }
+            }
+        }
+        if !is_told {
+            self.push_start(told)?;
+            told.push_str("Both sides of the split have one name.\n")?;
+        }
+        told.push_str("To mend it: take another name.\n")
+    }
+
+    /// A section for a scalar or a truth value for a number, or the other way.
+    fn push_wrong_kind(&self, told: &mut String) -> Result<(), AllocError> {
+        let most = self.head.len().saturating_mul(2).saturating_add(1);
+        if let Some(part) = wrong_part(self.alloc, self.parts()?, most)? {
+            return self.push_wrong_part(told, part);
+        }
+        for named in &self.names {
+            if let Some(declared) = self.scope.find(named.name) {
+                let is_other = if declared.kind.is_section() {
+                    self.wants_scalar(*named)?
+                } else {
+                    wants_section(named.role)
+                };
+                if is_other {
+                    return self.push_other_kind(told, *named, declared);
+                }
+            }
+        }
+        self.push_start(told)?;
+        told.push_str(rule_texts::TRUTHS)?;
+        told.push_str(rule_texts::COMPARED)
+    }
+
+    /// The expressions of the statement, with what each must give.
+    fn parts(&self) -> Result<Vec<Part<'t>>, AllocError> {
+        let Some((called, given)) = self.call()? else {
+            return parts_of(self.alloc, self.head);
+        };
+        let mut parts = Vec::new(self.alloc);
+        for (argument, parameter) in given.iter().zip(called.parameters.iter()) {
+            if !parameter.kind.is_section() {
+                let tokens = argument.tokens;
+                let wanted = Value::Number;
+                parts.push(Part { tokens, wanted })?;
+            }
+        }
+        Ok(parts)
+    }
+
+    /// A truth value where a number must stand, or the other way.
+    fn push_wrong_part(&self, told: &mut String, part: Part<'t>) -> Result<(), AllocError> {
+        match part.tokens.first() {
+            Some(first) => self.push_at(told, first.at)?,
+            None => self.push_start(told)?,
+        }
+        if let Some(name) = part.name() {
+            if let Some(declared) = self.scope.find(name) {
+                if declared.kind.is_section() {
+                    return self.push_no_truth(told, declared);
+                }
+            }
+        }
+        match part.wanted {
+            Value::Number => {
+                told.push_str("A truth value stands here, and a number must.\n")?;
+                told.push_str(rule_texts::TRUTHS)?;
+                told.push_str(rule_texts::KEPT)
+            }
+            Value::Truth => {
+                told.push_str("A number stands here, and a truth value must.\n")?;
+                told.push_str(rule_texts::TRUTHS)?;
+                told.push_str(rule_texts::COMPARED)
+            }
+        }
+    }
+
+    /// A section where a truth value must stand.
+    fn push_no_truth(&self, told: &mut String, section: Declared<'t>) -> Result<(), AllocError> {
+        let name = section.name;
+        self.push_kind(told, section)?;
+        told.push_str("a truth value must stand here.\n")?;
+        write!(
+            told,
+            "To mend it: compare an element of it, as `{name}[0] != 0`, or its length, as `len({name}) != 0`.\n"
+        )
+    }
+
+    /// Whether a scalar must stand where a name stands.
+    fn wants_scalar(&self, named: Named<'t>) -> Result<bool, AllocError> {
+        match named.role {
+            Role::Assigned => Ok(true),
+            Role::Value => Ok(!self.is_section_argument(named)?),
+            _ => Ok(false),
+        }
+    }
+
+    /// Whether a name is an argument where the parameter is a section.
+    fn is_section_argument(&self, named: Named<'t>) -> Result<bool, AllocError> {
+        let Some((called, given)) = self.call()? else {
+            return Ok(false);
+        };
+        for (argument, parameter) in given.iter().zip(called.parameters.iter()) {
+            if parameter.kind.is_section() && argument.stands_at(named.at) {
+                return Ok(true);
+            }
+        }
+        Ok(false)
+    }
+
+    /// A section where a scalar must stand, or a scalar where a section must.
+    fn push_other_kind(
+        &self,
+        told: &mut String,
+        named: Named<'t>,
+        declared: Declared<'t>,
+    ) -> Result<(), AllocError> {
+        self.push_at(told, named.at)?;
+        self.push_kind(told, declared)?;
+        let name = named.name;
+        if !declared.kind.is_section() {
+            told.push_str("a section must stand here.\n")?;
+            return told.push_str(
+                "To mend it: name an array, a side of a split, or a `mut` or `read` parameter.\n",
+            );
+        }
+        if named.role == Role::Assigned {
+            told.push_str("only a variable takes a number so.\n")?;
+            return write!(
+                told,
+                "To mend it: store it in an element, as `{name}[0] = ..;`, or name a variable.\n"
+            );
+        }
+        told.push_str("a number must stand here.\n")?;
+        write!(
+            told,
+            "To mend it: write an element of it, as `{name}[0]`, or its length, `len({name})`.\n"
+        )
+    }
+
+    /// Adds what a name is, and where it is declared.
+    fn push_kind(&self, told: &mut String, declared: Declared<'t>) -> Result<(), AllocError> {
+        let name = declared.name;
+        let kind = if declared.kind.is_section() {
+            "section"
+        } else {
+            "scalar"
+        };
+        write!(told, "`{name}` is a {kind}, declared at ")?;
+        self.push_place(told, declared)?;
+        told.push_str("; ")
+    }
+
+    /// A call with arguments that don't fit.
+    fn push_wrong_arguments(&self, told: &mut String) -> Result<(), AllocError> {
+        let Some((called, given)) = self.call()? else {
+            return self.push_unfit(told);
+        };
+        if called.parameters.len() != given.len() {
+            return self.push_count(told, &called, given.len());
+        }
+        for (argument, parameter) in given.iter().zip(called.parameters.iter()) {
+            if parameter.kind.is_section() && !self.fits(argument, *parameter) {
+                return self.push_argument(told, argument, *parameter, &called);
+            }
+        }
+        self.push_unfit(told)
+    }
+
+    /// Arguments that don't fit, whichever they are.
+    fn push_unfit(&self, told: &mut String) -> Result<(), AllocError> {
+        self.push_start(told)?;
+        told.push_str(rule_texts::ARGUMENTS)
+    }
+
+    /// A wrong number of arguments.
+    fn push_count(
+        &self,
+        told: &mut String,
+        called: &Procedure<'t>,
+        given: usize,
+    ) -> Result<(), AllocError> {
+        self.push_start(told)?;
+        let wanted = called.parameters.len();
+        let arguments = noun(wanted, "argument", "arguments");
+        let place = self.source.place(called.at);
+        write!(
+            told,
+            "The procedure, declared at {place}, wants {wanted} {arguments}, and the call gives {given}.\n"
+        )?;
+        rule_texts::push_parameters(told, &called.parameters)?;
+        told.push_str(if wanted == 0 {
+            "To mend it: give no argument.\n"
+        } else {
+            "To mend it: give one argument for each parameter, in their order.\n"
+        })
+    }
+
+    /// Whether an argument is the name of a section of the parameter's element type.
+    fn fits(&self, argument: &Argument<'t>, parameter: Parameter<'t>) -> bool {
+        match argument.name() {
+            Some(name) => match self.scope.find(name) {
+                Some(declared) => {
+                    declared.kind.is_section() && declared.kind.bytes() == parameter.kind.bytes()
+                }
+                None => false,
+            },
+            None => false,
+        }
+    }
+
+    /// An argument that isn't a section of the right elements.
+    fn push_argument(
+        &self,
+        told: &mut String,
+        argument: &Argument<'t>,
+        parameter: Parameter<'t>,
+        called: &Procedure<'t>,
+    ) -> Result<(), AllocError> {
+        match argument.tokens.first() {
+            Some(first) => self.push_at(told, first.at)?,
+            None => self.push_start(told)?,
+        }
+        self.push_found(told, argument)?;
+        let name = parameter.name;
+        let element = parameter.kind.element();
+        write!(
+            told,
+            "The parameter `{name}` wants the name of a section of `{element}` here.\n"
+        )?;
+        rule_texts::push_parameters(told, &called.parameters)?;
+        told.push_str(
+            "To mend it: name an array, a side of a split or a section parameter with such elements.\n",
+        )
+    }
+
+    /// Adds what stands as an argument where the name of a section must.
+    fn push_found(&self, told: &mut String, argument: &Argument<'t>) -> Result<(), AllocError> {
+        let Some(name) = argument.name() else {
+            return Ok(());
+        };
+        let Some(declared) = self.scope.find(name) else {
+            return Ok(());
+        };
+        if declared.kind.is_section() {
+            let element = declared.kind.element();
+            write!(told, "`{name}` is a section of `{element}`, declared at ")?;
+        } else {
+            write!(told, "`{name}` is a scalar, declared at ")?;
+        }
+        self.push_place(told, declared)?;
+        told.push_str(".\n")
+    }
+
+    /// A scalar that is assigned in an async outside of which it is declared.
+    fn push_assigned(&self, told: &mut String) -> Result<(), AllocError> {
+        self.push_start(told)?;
+        let Some(named) = self.names.first() else {
+            return Ok(());
+        };
+        let Some(declared) = self.scope.find(named.name) else {
+            return Ok(());
+        };
+        let name = named.name;
+        write!(told, "`{name}` is declared at ")?;
+        self.push_place(told, declared)?;
+        if let Some(at) = self.scope.task_around(declared) {
+            let place = self.source.place(at);
+            write!(told, ", outside of the async at {place}")?;
+        }
+        told.push_str(
+            ": a task has its own copies of such variables, and nobody would see what it assigns.\n",
+        )?;
+        write!(
+            told,
+            "To mend it: write the answer into a section, as `out[0] = ..;`, or declare a variable inside of the async.\n"
+        )
+    }
+
+    /// A section that is only read, and is written or passed as `mut`.
+    fn push_read_only(&self, told: &mut String) -> Result<(), AllocError> {
+        let Some((name, at)) = self.written_one()? else {
+            return self.push_start(told);
+        };
+        self.push_at(told, at)?;
+        write!(told, "`{name}` is only read")?;
+        if let Some(declared) = self.scope.find(name) {
+            told.push_str(": it is declared at ")?;
+            self.push_place(told, declared)?;
+            told.push_str(if declared.part_of.is_some() {
+                ", as a side of a `read` section"
+            } else {
+                ", as `read`"
+            })?;
+        }
+        told.push_str(
+            ".\nTo mend it: declare the parameter as `mut`, and pass it as `mut` all the way; or write into another section.\n",
+        )
+    }
+
+    /// The `read` section that the statement writes, or passes as `mut`, with its place.
+    fn written_one(&self) -> Result<Option<(&'t str, usize)>, AllocError> {
+        let Some((called, given)) = self.call()? else {
+            return Ok(self.names.first().map(|named| (named.name, named.at)));
+        };
+        for (argument, parameter) in given.iter().zip(called.parameters.iter()) {
+            if let (Some(name), Some(first)) = (argument.name(), argument.tokens.first()) {
+                if parameter.kind.is_written() && self.is_only_read(name) {
+                    return Ok(Some((name, first.at)));
+                }
+            }
+        }
+        Ok(None)
+    }
+
+    /// Whether a name is of a section that is only read.
+    fn is_only_read(&self, name: &str) -> bool {
+        match self.scope.find(name) {
+            Some(declared) => declared.kind.is_read(),
+            None => false,
+        }
+    }
+
+    /// A `mut` argument that overlaps another.
+    fn push_overlapping(&self, told: &mut String) -> Result<(), AllocError> {
+        self.push_start(told)?;
+        if let Some((one, other)) = self.overlapping_ones()? {
+            let (first, second) = (one.name, other.name);
+            write!(
+                told,
+                "`{first}` and `{second}` may share places, and one of them is passed as `mut`.\n"
+            )?;
+        }
+        told.push_str(
+            "To mend it: pass sections that are apart: other arrays, or the two sides of one split.\n",
+        )
+    }
+
+    /// Two arguments that may share places, one of which is written.
+    fn overlapping_ones(&self) -> Result<Option<(Declared<'t>, Declared<'t>)>, AllocError> {
+        let Some((called, given)) = self.call()? else {
+            return Ok(None);
+        };
+        let mut passed = Vec::new(self.alloc);
+        for (argument, parameter) in given.iter().zip(called.parameters.iter()) {
+            if let Some(declared) = self.section(argument) {
+                if let Some(other) = self.clash(&passed, declared, *parameter) {
+                    return Ok(Some((other, declared)));
+                }
+                passed.push((declared, *parameter))?;
+            }
+        }
+        Ok(None)
+    }
+
+    /// The section that an argument is.
+    fn section(&self, argument: &Argument<'t>) -> Option<Declared<'t>> {
+        self.scope
+            .find(argument.name()?)
+            .filter(|declared| declared.kind.is_section())
+    }
+
+    /// The first of the sections that were passed before that shares places with one, where one of
+    /// both is written.
+    fn clash(
+        &self,
+        passed: &[(Declared<'t>, Parameter<'t>)],
+        declared: Declared<'t>,
+        parameter: Parameter<'t>,
+    ) -> Option<Declared<'t>> {
+        for (other, taken) in passed {
+            let is_written = parameter.kind.is_written() || taken.kind.is_written();
+            if is_written && self.scope.may_share(*other, declared) {
+                return Some(*other);
+            }
+        }
+        None
+    }
+
+    /// The procedure that the statement calls, and the arguments.
+    fn call(&self) -> Result<Option<(Procedure<'t>, Vec<Argument<'t>>)>, AllocError> {
+        let Some(named) = self.names.first() else {
+            return Ok(None);
+        };
+        if named.role != Role::Called {
+            return Ok(None);
+        }
+        match procedure_of(self.alloc, &self.source.tokens, named.name)? {
+            Some(called) => Ok(Some((called, arguments(self.alloc, self.head)?))),
+            None => Ok(None),
+        }
+    }
+}
+
+/// Whether a section must stand where a name does this.
+fn wants_section(role: Role) -> bool {
+    match role {
+        Role::Stored | Role::Element | Role::Measured | Role::Cut => true,
+        _ => false,
+    }
+}

@@ -1,0 +1,127 @@
+//! Parameters of procedures, and arguments of calls.
+
+use crate::declared::Kind;
+use crate::expressions::{Between, inside, only_name};
+use std::alloc::{AllocError, Global};
+use syntax::token::{Mark, Spanned, Token, Word};
+
+/// A parameter of a procedure.
+#[derive(Clone, Copy)]
+pub struct Parameter<'t> {
+    pub name: &'t str,
+    pub kind: Kind,
+    /// The number of the first character of its name.
+    pub at: usize,
+}
+
+/// An argument of a call: the tokens between two commas.
+#[derive(Drop)]
+pub struct Argument<'t> {
+    pub tokens: &'t [Spanned],
+}
+
+impl<'t> Argument<'t> {
+    /// The name that it is, where it is one alone.
+    pub fn name(&self) -> Option<&'t str> {
+        only_name(self.tokens)
+    }
+
+    /// Whether it begins at a character.
+    pub fn stands_at(&self, at: usize) -> bool {
+        match self.tokens.first() {
+            Some(first) => first.at == at,
+            None => false,
+        }
+    }
+}
+
+/// A procedure of a text.
+#[derive(Drop)]
+pub struct Procedure<'t> {
+    /// The number of the first character of its name.
+    pub at: usize,
+    pub parameters: Vec<Parameter<'t>>,
+}
+
+/// The procedure of a name, where the text has one.
+pub fn procedure_of<'t>(
+    alloc: Global,
+    tokens: &'t [Spanned],
+    name: &str,
+) -> Result<Option<Procedure<'t>>, AllocError> {
+    let mut is_behind_proc = false;
+    let mut left = tokens;
+    'tokens: while let [first, behind @ ..] = left {
+        if is_behind_proc && is_name(first, name) {
+            return Ok(Some(Procedure {
+                at: first.at,
+                parameters: parameters(alloc, behind)?,
+            }));
+        }
+        is_behind_proc = matches!(&first.token, Token::Word(Word::Proc));
+        left = behind;
+    }
+    Ok(None)
+}
+
+/// Whether a token is this name.
+pub fn is_name(spanned: &Spanned, name: &str) -> bool {
+    match &spanned.token {
+        Token::Name(found) => found.as_str() == name,
+        _ => false,
+    }
+}
+
+/// The parameters that stand here, behind the name of their procedure.
+pub fn parameters<'t>(
+    alloc: Global,
+    tokens: &'t [Spanned],
+) -> Result<Vec<Parameter<'t>>, AllocError> {
+    let mut found = Vec::new(alloc);
+    let mut kind = Kind::Scalar;
+    let mut left = tokens;
+    'tokens: while let [first, behind @ ..] = left {
+        match &first.token {
+            Token::Mark(Mark::RightParen) => break,
+            Token::Word(Word::Mut) => kind = Kind::Written {
+                bytes: is_of_bytes(behind),
+            },
+            Token::Word(Word::Read) => kind = Kind::Read {
+                bytes: is_of_bytes(behind),
+            },
+            Token::Name(name) => {
+                found.push(Parameter {
+                    name: name.as_str(),
+                    kind,
+                    at: first.at,
+                })?;
+                kind = Kind::Scalar;
+            }
+            _ => {}
+        }
+        left = behind;
+    }
+    Ok(found)
+}
+
+/// Whether the type behind the name that stands first is `byte`.
+pub fn is_of_bytes(tokens: &[Spanned]) -> bool {
+    match tokens.get(2) {
+        Some(third) => matches!(&third.token, Token::Word(Word::Byte)),
+        None => false,
+    }
+}
+
+/// The arguments of a call, whose head is `f(a, b)`.
+pub fn arguments<'t>(alloc: Global, head: &'t [Spanned]) -> Result<Vec<Argument<'t>>, AllocError> {
+    let mut found = Vec::new(alloc);
+    let given = inside(head.get(2..).unwrap_or(head));
+    if given.is_empty() {
+        return Ok(found);
+    }
+    for piece in &Between::Arguments.pieces(alloc, given)? {
+        let tokens = *piece;
+        found.push(Argument { tokens })?;
+    }
+    Ok(found)
+}
