@@ -2,12 +2,11 @@
 
 ghost use Rattle.std.specs.Prelude.{◌≡◌, IfOk};
 ghost use Rattle.std.specs.String.{string_bytes};
-ghost use Rattle.excerpts.specs.declared.paint.Paint.TheVariants.{Plain};
 
 use std::alloc::{AllocError, Global};
 
 /// Whether a text is coloured.
-#[derive(Clone, Copy, PartialEq, Eq, Debug)]
+#[derive(Clone, Copy)]
 pub enum Paint {
     /// It isn't: what is written is the text.
     Plain,
@@ -34,7 +33,7 @@ const MEND: &str = "To mend it:";
 /// A text that explains, with its colours where it is to have them: the numbers and bars before
 /// lines of a program, the carets under them, and the words `To mend it:`.
 pub fn painted(alloc: Global, told: String, paint: Paint) -> Result<String, AllocError>
-    ensures { paint ≡ Plain → IfOk result (λ text. string_bytes text ≡ string_bytes told) }
+    ensures { paint ≡ Paint.Plain → IfOk result (λ text. string_bytes text ≡ string_bytes told) }
 {
     match paint {
         Paint::Plain => Ok(told),

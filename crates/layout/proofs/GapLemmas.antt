@@ -9,8 +9,10 @@ use Rattle.syntax.specs.declared.token.Word.TheVariants.{Len as WordLen}
 use Rattle.syntax.specs.declared.token.Mark.{Mark}
 use Rattle.syntax.specs.declared.token.Mark.TheVariants.{LeftParen, RightParen, LeftBracket, RightBracket, Comma}
 use Rattle.syntax.specs.declared.token.Mark.TheVariants.{Semicolon, Colon, Minus}
-use Rattle.syntax.specs.Canonical.{Left, Margin, Opening, Called, Operand, Ended, Other, begins_line, depth_by}
-use Rattle.syntax.specs.Canonical.{is_closing, is_opening, left_by_mark, left_by_word}
+use Rattle.syntax.specs.Canonical.{begins_line, depth_by}
+use Rattle.syntax.specs.declared.token.Left.{Left}
+use Rattle.syntax.specs.declared.token.Left.TheVariants.{Margin, Opening, Called, Operand, Ended, Other}
+use Rattle.syntax.specs.Canonical.{is_closing, is_opening, left_by, left_by_mark}
 use Rattle.syntax.specs.Lexical.{is_in_line, is_in_name, mark_text, number_of, starts, word_text, IsMark}
 use Rattle.syntax.specs.Lexical.{Piece, BlankPiece, CommentPiece, NamePiece, NumberPiece, WordPiece, MarkPiece}
 use Rattle.syntax.specs.Token.{Token, NameToken, NumberToken, WordToken, MarkToken}
@@ -206,6 +208,6 @@ mark_stands at m ps =
       starts_quiet (λ c. c == 47) slash_quiet ps d (left_by_mark at.left m) (last_by_mark m) Same tt tt,
     )
 
-pub word_is_no_opening : (w : Word) → IsNoOpening (left_by_word w)
-word_is_no_opening WordLen = tt
-word_is_no_opening _ = tt
+pub word_is_no_opening : (left : Left) (w : Word) → IsNoOpening (left_by left (WordToken w))
+word_is_no_opening left WordLen = tt
+word_is_no_opening left _ = tt

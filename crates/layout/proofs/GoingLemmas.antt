@@ -68,13 +68,8 @@ passes_nothing w text ps cut = record { pieces = ps; cut = cut; tokens = refl; l
 pub goes_on : (whole : List ℕ) (ts : List Token) (old new : Writer) (text rest : List ℕ) → GoesOn whole ts old text
     → Passes old text new rest → GoesOn whole ts new rest
 goes_on whole ts old new text rest going passed =
-    let then = passed going.pieces going.cut in
-    record {
-      pieces = then.pieces;
-      cut = then.cut;
-      tokens = then.tokens ∙ going.tokens;
-      laid = then.laid ∙ going.laid;
-    }
+    subst (λ l. GoesOn l ts new rest) going.laid
+    (subst (λ us. GoesOn (with_rest old going.pieces) us new rest) going.tokens (passed going.pieces going.cut))
 
 -- what was passed, and what is passed then
 pub passes_more : (old mid new : Writer) (text between rest : List ℕ) → Passes old text mid between → Passes mid between new rest

@@ -5,9 +5,11 @@ use Rattle.std.specs.Char.{is_ascii_digit}
 use Rattle.std.specs.List.{flat_map, list_all}
 use Rattle.std.proofs.lemmas.Bool.{and_parts}
 use Rattle.syntax.proofs.LayoutLemmas.{blanks as blanks_are_blank}
-use Rattle.syntax.specs.Canonical.{Left, Called, Operand, begins_line, left_by_word}
+use Rattle.syntax.specs.Canonical.{begins_line, left_by}
+use Rattle.syntax.specs.declared.token.Left.{Left}
+use Rattle.syntax.specs.declared.token.Left.TheVariants.{Called, Operand}
 use Rattle.syntax.specs.Lexical.{is_blank, is_in_line, is_in_name, letters, mark_text, number_of, token_of, word_text}
-use Rattle.syntax.specs.Lexical.{AreCut, MayStand}
+use Rattle.syntax.specs.Lexical.{starts, AreCut, IsName, IsNumber, MayStand}
 use Rattle.syntax.specs.Lexical.{Piece, BlankPiece, CommentPiece, NamePiece, NumberPiece, WordPiece, MarkPiece}
 use Rattle.syntax.specs.Token.{Token, NameToken, NumberToken, WordToken, MarkToken}
 use Rattle.syntax.proofs.Pieces.{one_piece, piece_is_some}
@@ -73,6 +75,13 @@ end_cut Brace = ([], record { spelled = refl; fits = refl }, refl)
 end_cut Comment = ([], record { spelled = refl; fits = refl }, refl)
 end_cut Code = ([], record { spelled = refl; fits = refl }, refl)
 
+-- a name and a number may stand before whatever doesn't go on with them
+name_stands : {cs old new : List ℕ} → IsName cs old → starts is_in_name new ≡ false → IsName cs new
+name_stands name ends = record { begins = name.begins; in_name = name.in_name; ends = ends; no_word = name.no_word }
+
+number_stands : {cs old new : List ℕ} → IsNumber cs old → starts is_ascii_digit new ≡ false → IsNumber cs new
+number_stands number ends = record { begins = number.begins; digits = number.digits; ends = ends; fits = number.fits }
+
 pub relaid_cut : (ps : List Piece) (at : Spot) (text : List ℕ) → AreCut text ps [] → AreCut (laid_from at ps) (relaid at ps) []
 unfolding laid_from
 relaid_cut [] at text cut = end_cut at.last
@@ -84,32 +93,20 @@ relaid_cut (CommentPiece cs ∷ ps) at text cut =
 relaid_cut (NamePiece cs ∷ ps) at text cut =
     let t : Token = NameToken cs in
     let after : Spot = behind_token at t in
-    let name = cut.1.fits in
     with_item (token_gap at t) (NamePiece cs) (laid_from after ps) (relaid after ps)
-    (record {
-      begins = name.begins;
-      in_name = name.in_name;
-      ends = starts_quiet is_in_name in_name_quiet ps at.depth Called Code Same tt tt;
-      no_word = name.no_word;
-    })
+    (name_stands cut.1.fits (starts_quiet is_in_name in_name_quiet ps at.depth Called Code Same tt tt))
     (relaid_cut ps after cut.0 cut.2)
 relaid_cut (NumberPiece cs ∷ ps) at text cut =
     let t : Token = NumberToken (number_of cs) in
     let after : Spot = behind_token at t in
-    let number = cut.1.fits in
     with_item (token_gap at t) (NumberPiece cs) (laid_from after ps) (relaid after ps)
-    (record {
-      begins = number.begins;
-      digits = number.digits;
-      ends = starts_quiet is_ascii_digit digit_quiet ps at.depth Operand Code Same tt tt;
-      fits = number.fits;
-    })
+    (number_stands cut.1.fits (starts_quiet is_ascii_digit digit_quiet ps at.depth Operand Code Same tt tt))
     (relaid_cut ps after cut.0 cut.2)
 relaid_cut (WordPiece w ∷ ps) at text cut =
     let t : Token = WordToken w in
     let after : Spot = behind_token at t in
     with_item (token_gap at t) (WordPiece w) (laid_from after ps) (relaid after ps)
-    (starts_quiet is_in_name in_name_quiet ps at.depth (left_by_word w) Code Same (word_is_no_opening w) tt)
+    (starts_quiet is_in_name in_name_quiet ps at.depth (left_by at.left t) Code Same (word_is_no_opening at.left w) tt)
     (relaid_cut ps after cut.0 cut.2)
 relaid_cut (MarkPiece m ∷ ps) at text cut =
     let t : Token = MarkToken m in
@@ -286,24 +283,22 @@ laid-relaid (NamePiece cs ∷ ps) at =
     let t : Token = NameToken cs in
     let more = relaid (behind_token at t) ps in
     through_blanks (gap_text (token_gap at t)) (NamePiece cs ∷ more) at.depth at.left at.last Same
-    ∙ token_stays at t cs (laid_from (behind_token at t) more) (laid_from (behind_token at t) ps) (laid-relaid ps (behind_token at t))
+    ∙ token_stays at t cs _ _ (laid-relaid ps (behind_token at t))
 laid-relaid (NumberPiece cs ∷ ps) at =
     let t : Token = NumberToken (number_of cs) in
     let more = relaid (behind_token at t) ps in
     through_blanks (gap_text (token_gap at t)) (NumberPiece cs ∷ more) at.depth at.left at.last Same
-    ∙ token_stays at t cs (laid_from (behind_token at t) more) (laid_from (behind_token at t) ps) (laid-relaid ps (behind_token at t))
+    ∙ token_stays at t cs _ _ (laid-relaid ps (behind_token at t))
 laid-relaid (WordPiece w ∷ ps) at =
     let t : Token = WordToken w in
     let more = relaid (behind_token at t) ps in
     through_blanks (gap_text (token_gap at t)) (WordPiece w ∷ more) at.depth at.left at.last Same
-    ∙ token_stays at t (word_text w) (laid_from (behind_token at t) more) (laid_from (behind_token at t) ps)
-    (laid-relaid ps (behind_token at t))
+    ∙ token_stays at t (word_text w) _ _ (laid-relaid ps (behind_token at t))
 laid-relaid (MarkPiece m ∷ ps) at =
     let t : Token = MarkToken m in
     let more = relaid (behind_token at t) ps in
     through_blanks (gap_text (token_gap at t)) (MarkPiece m ∷ more) at.depth at.left at.last Same
-    ∙ token_stays at t (mark_text m) (laid_from (behind_token at t) more) (laid_from (behind_token at t) ps)
-    (laid-relaid ps (behind_token at t))
+    ∙ token_stays at t (mark_text m) _ _ (laid-relaid ps (behind_token at t))
 
 -- a text is cut in one way
 one_cut : (text : List ℕ) (ps qs : List Piece) → AreCut text ps [] → AreCut text qs [] → ps ≡ qs

@@ -2,7 +2,8 @@
 use Rattle.std.specs.Prelude.{ℕ, ◌+◌, ◌-◌, Bool, true, false, not, ◌||◌, ◌&&◌, if◌then◌else◌, List, []}
 use Rattle.std.specs.Prelude.{◌++◌, codes}
 use Rattle.syntax.specs.declared.token.Mark.TheVariants.{LeftBrace, RightBrace}
-use Rattle.syntax.specs.Canonical.{Left, Margin, Opening, Called, Operand, Ended, Other}
+use Rattle.syntax.specs.declared.token.Left.{Left}
+use Rattle.syntax.specs.declared.token.Left.TheVariants.{Margin, Opening, Called, Operand, Ended, Other}
 use Rattle.syntax.specs.Canonical.{begins_line, indent, is_closing, is_opening}
 use Rattle.syntax.specs.Token.{Token, MarkToken}
 use Rattle.layout.specs.declared.gap.Gap.{Gap}
@@ -24,8 +25,7 @@ line_gap empty levels = Line empty levels
 
 abbrev pub is_apart : Feeds → Bool
 is_apart Apart = true
-is_apart Same = false
-is_apart Next = false
+is_apart _ = false
 
 -- an empty line is kept, but for one behind a `{`
 abbrev pub keeps_empty_by : Last → Feeds → Bool

@@ -3,12 +3,9 @@ use Rattle.std.specs.Prelude.{ℕ, ◌==◌, if◌then◌else◌}
 use Rattle.syntax.specs.declared.token.Mark.{Mark}
 use Rattle.syntax.specs.declared.token.Mark.TheVariants.{LeftBrace}
 use Rattle.syntax.specs.Canonical.{depth_by, left_by}
-use Rattle.syntax.specs.Canonical.{Left, Margin, Opening, Called, Operand, Ended, Other}
+use Rattle.syntax.specs.declared.token.Left.{Left}
+use Rattle.syntax.specs.declared.token.Left.TheVariants.{Margin}
 use Rattle.syntax.specs.Token.{Token, MarkToken}
-use Rattle.layout.specs.declared.spot.Left.{Left as rLeft}
-use Rattle.layout.specs.declared.spot.Left.TheVariants.{Margin as rMargin, Opening as rOpening}
-use Rattle.layout.specs.declared.spot.Left.TheVariants.{Called as rCalled, Operand as rOperand}
-use Rattle.layout.specs.declared.spot.Left.TheVariants.{Ended as rEnded, Other as rOther}
 use Rattle.layout.specs.declared.spot.Last.{Last}
 use Rattle.layout.specs.declared.spot.Last.TheVariants.{Nothing, Brace, Comment, Code}
 use Rattle.layout.specs.declared.spot.Feeds.{Feeds}
@@ -23,16 +20,8 @@ pub record Spot : Type 0 where
   pub last : Last
   pub feeds : Feeds
 
-abbrev pub canonical_left : rLeft → Left
-canonical_left rMargin = Margin
-canonical_left rOpening = Opening
-canonical_left rCalled = Called
-canonical_left rOperand = Operand
-canonical_left rEnded = Ended
-canonical_left rOther = Other
-
 abbrev pub spot : rSpot → Spot
-spot s = record { depth = s.depth; left = canonical_left s.left; last = s.last; feeds = s.feeds }
+spot s = record { depth = s.depth; left = s.left; last = s.last; feeds = s.feeds }
 
 -- the beginning of a text
 abbrev pub first : Spot

@@ -1,15 +1,15 @@
 //! What stands before an item of a layout: before a comment or a token.
 
 ghost use Rattle.std.specs.Prelude.{◌≡◌, ◌<◌, ◌+◌, ◌^◌};
-ghost use Rattle.syntax.specs.Canonical.{begins_line, is_closing, is_else, is_opening};
+ghost use Rattle.syntax.specs.Canonical.{begins_line, is_closing, is_opening};
 ghost use Rattle.syntax.specs.Token.{token as token_tree};
 ghost use Rattle.layout.specs.Gap.{comment_gap, token_gap, line_gap, space_gap, space_unless};
 ghost use Rattle.layout.specs.Gap.{keeps_empty};
 ghost use Rattle.layout.specs.Gap.{inner_levels, token_levels, is_right_brace};
-ghost use Rattle.layout.specs.Spot.{canonical_left, spot as spot_of};
+ghost use Rattle.layout.specs.Spot.{spot as spot_of};
 
-use crate::spot::{Feeds, Last, Left, Spot};
-use syntax::token::{Mark, Token, Word};
+use crate::spot::{Feeds, Last, Spot};
+use syntax::token::{Left, Mark, Token, Word};
 
 /// What stands between an item and the one before it.
 #[derive(Clone, Copy, PartialEq, Eq, Debug)]
@@ -112,27 +112,21 @@ fn is_right_brace(token: &Token) -> bool
 
 /// Whether a token begins a line in the canonical text: only `else` goes on with a line that was ended.
 fn begins_line(left: Left, token: &Token) -> bool
-    ensures { result ≡ begins_line (canonical_left left) (token_tree token.now) }
+    ensures { result ≡ begins_line left (token_tree token.now) }
 {
     match left {
         Left::Margin => true,
-        Left::Ended => !is_else(token),
+        Left::Ended => match token {
+            Token::Word(Word::Else) => false,
+            _ => true,
+        },
         Left::Opening | Left::Called | Left::Operand | Left::Other => false,
-    }
-}
-
-fn is_else(token: &Token) -> bool
-    ensures { result ≡ is_else (token_tree token.now) }
-{
-    match token {
-        Token::Word(Word::Else) => true,
-        _ => false,
     }
 }
 
 /// What stands between two tokens of a line in the canonical text.
 fn space_gap(left: Left, token: &Token) -> Gap
-    ensures { result ≡ space_gap (canonical_left left) (token_tree token.now) }
+    ensures { result ≡ space_gap left (token_tree token.now) }
 {
     match left {
         Left::Opening => Gap::Joined,

@@ -1,21 +1,14 @@
 //! What stands first in a text.
 
 ghost use Rattle.std.specs.Prelude.{◌≡◌, ℕ, List, [], ◌∷◌, length};
-ghost use Rattle.std.specs.Char.{is_ascii_digit};
 ghost use Rattle.std.specs.List.{prefix_len};
-ghost use Rattle.syntax.specs.Lexical.{begins_comment, is_blank, is_in_line, is_in_name, mark_text};
+ghost use Rattle.syntax.specs.Lexical.{begins_comment, is_in_name, mark_text};
 ghost use Rattle.syntax.specs.Lexical.{letters, token_of, Begins, Piece};
 ghost use Rattle.syntax.specs.Token.{token as token_tree};
 ghost use Rattle.layout.specs.Laid.{trimmed};
 
+use syntax::lexer;
 use syntax::token::{Mark, Token};
-
-/// Whether this character stands between tokens.
-pub fn is_blank(c: char) -> bool
-    ensures { result ≡ is_blank c }
-{
-    c == ' ' || c == '\t' || c == '\r' || c == '\n'
-}
 
 /// Whether a comment stands first.
 pub fn begins_comment(text: &[char]) -> bool
@@ -27,20 +20,13 @@ pub fn begins_comment(text: &[char]) -> bool
     }
 }
 
-/// How many characters stand before the first line feed.
-pub fn line_length(text: &[char]) -> usize
-    ensures { result ≡ prefix_len is_in_line text.now }
-{
-    text.iter().take_while(|c| **c != '\n').count()
-}
-
 /// Characters without the blanks at their end.
 pub fn trimmed(text: &[char]) -> &[char]
     ensures { result.now ≡ trimmed text.now }
 {
     let mut kept = text;
     while let Some((last, front)) = kept.split_last() {
-        if !is_blank(*last) {
+        if !lexer::is_blank(*last) {
             break;
         }
         kept = front;
@@ -56,7 +42,7 @@ pub fn token_length(token: &Token, text: &[char]) -> usize
     match token {
         Token::Name(_) => name_length(text),
         Token::Word(_) => name_length(text),
-        Token::Number(_) => digits_length(text),
+        Token::Number(_) => lexer::digits_length(text),
         Token::Mark(mark) => mark_length(*mark),
     }
 }
@@ -65,12 +51,6 @@ fn name_length(text: &[char]) -> usize
     ensures { result ≡ prefix_len is_in_name text.now }
 {
     text.iter().take_while(|c| is_in_name(**c)).count()
-}
-
-fn digits_length(text: &[char]) -> usize
-    ensures { result ≡ prefix_len is_ascii_digit text.now }
-{
-    text.iter().take_while(|c| c.is_ascii_digit()).count()
 }
 
 /// Whether this character may stand in a name.

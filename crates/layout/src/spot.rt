@@ -2,29 +2,12 @@
 
 ghost use Rattle.std.specs.Prelude.{◌≡◌, ◌≤◌, ◌<◌, ◌+◌, ◌^◌};
 ghost use Rattle.syntax.specs.Canonical.{depth_by, left_by, left_by_mark, left_by_minus};
-ghost use Rattle.syntax.specs.Canonical.{left_by_word};
-ghost use Rattle.syntax.specs.Token.{token as token_tree};
-ghost use Rattle.layout.specs.Spot.{canonical_left, first as first_spot, spot as spot_of};
+ghost use Rattle.syntax.specs.Token.{WordToken, token as token_tree};
+ghost use Rattle.syntax.specs.declared.token.Left.{Left as AnyLeft};
+ghost use Rattle.layout.specs.Spot.{first as first_spot, spot as spot_of};
 ghost use Rattle.layout.specs.Spot.{behind_blank, behind_comment, behind_token, last_by, one_more};
 
-use syntax::token::{Mark, Token, Word};
-
-/// What stands to the left, comments aside.
-#[derive(Clone, Copy, PartialEq, Eq, Debug)]
-pub enum Left {
-    /// The beginning of the text.
-    Margin,
-    /// `(`, `[`, or the `-` of `-1`
-    Opening,
-    /// `total`, `len`, `int` or `byte`
-    Called,
-    /// `7`, `true`, `false`, `)` or `]`
-    Operand,
-    /// `;`, `{` or `}`
-    Ended,
-    /// `while`, or the `-` of `a - b`
-    Other,
-}
+use syntax::token::{Left, Mark, Token, Word};
 
 /// What stands last, comments too.
 #[derive(Clone, Copy, PartialEq, Eq, Debug)]
@@ -54,6 +37,7 @@ pub enum Feeds {
 #[derive(Clone, Copy, PartialEq, Eq, Debug)]
 pub struct Spot {
     pub depth: usize,
+    /// What stands to the left, comments aside.
     pub left: Left,
     pub last: Last,
     pub feeds: Feeds,
@@ -141,7 +125,7 @@ fn depth_by(depth: usize, token: &Token) -> usize
 
 /// What a token is to the one behind it.
 fn left_by(left: Left, token: &Token) -> Left
-    ensures { canonical_left result ≡ left_by (canonical_left left) (token_tree token.now) }
+    ensures { result ≡ left_by left (token_tree token.now) }
 {
     match token {
         Token::Name(_) => Left::Called,
@@ -152,7 +136,7 @@ fn left_by(left: Left, token: &Token) -> Left
 }
 
 fn left_by_word(word: Word) -> Left
-    ensures { canonical_left result ≡ left_by_word word }
+    ensures { (left : AnyLeft) → result ≡ left_by left (WordToken word) }
 {
     match word {
         Word::Len | Word::Int | Word::Byte => Left::Called,
@@ -162,7 +146,7 @@ fn left_by_word(word: Word) -> Left
 }
 
 fn left_by_mark(left: Left, mark: Mark) -> Left
-    ensures { canonical_left result ≡ left_by_mark (canonical_left left) mark }
+    ensures { result ≡ left_by_mark left mark }
 {
     match mark {
         Mark::LeftParen | Mark::LeftBracket => Left::Opening,
@@ -175,7 +159,7 @@ fn left_by_mark(left: Left, mark: Mark) -> Left
 
 /// A `-` behind an operand is no unary's.
 fn left_by_minus(left: Left) -> Left
-    ensures { canonical_left result ≡ left_by_minus (canonical_left left) }
+    ensures { result ≡ left_by_minus left }
 {
     match left {
         Left::Called | Left::Operand => Left::Other,

@@ -20,8 +20,7 @@ pub fn laid_out(alloc: Global, text: &str) -> Result<String, AllocError>
     requires { (ts : List PlainToken) × AreTokensOf (chars text.now) ts }
     ensures laid { IfOk result (λ laid. IsLaidOut (chars text.now) (chars (string_bytes laid))) }
     ensures kept { IfOk result (λ laid. KeepsAll (chars text.now) (chars (string_bytes laid))) }
-    ensures tokens { IfOk result
-        (λ laid. HaveSameTokens (chars text.now) (chars (string_bytes laid))) }
+    ensures tokens { IfOk result (λ it. HaveSameTokens (chars text.now) (chars (string_bytes it))) }
     ensures stays { IfOk result
         (λ laid. IsLaidOut (chars (string_bytes laid)) (chars (string_bytes laid))) }
 {
@@ -94,7 +93,7 @@ fn between<'t>(writer: &mut Writer, text: &'t [char]) -> Result<&'t [char], Allo
 {
     let mut rest = text;
     while let Some((first, behind)) = rest.split_first() {
-        if pieces::is_blank(*first) {
+        if lexer::is_blank(*first) {
             writer.blank(*first);
             rest = behind;
         } else if pieces::begins_comment(rest) {
@@ -115,7 +114,7 @@ fn comment<'t>(writer: &mut Writer, text: &'t [char]) -> Result<&'t [char], Allo
     ensures passed { IfOk result (λ left. Passes writer.old text.now writer.new left.now) }
 {
     let (_, behind) = text.split_at(2);
-    let (line, left) = behind.split_at(pieces::line_length(behind));
+    let (line, left) = behind.split_at(lexer::line_length(behind));
     writer.comment(line)?;
     Ok(left)
 }

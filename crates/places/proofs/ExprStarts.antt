@@ -11,7 +11,7 @@ use Rattle.syntax.specs.Spelling.{neg_then, cmp_then, sum_then, terms_then, prod
 use Rattle.syntax.specs.Spelling.{atom_then, more_then, exprs_then}
 use Rattle.syntax.specs.Token.{Token, MarkToken}
 use Rattle.syntax_tree.specs.Tree.{Expr, Or, Conjs, NoConj, OrConj, Conj, And, Negs, NoNeg, AndNeg, Neg, Plainly, Not, Cmp}
-use Rattle.syntax_tree.specs.Tree.{Alone, Compare, Sum, Add, Terms, NoTerm, AddTerm, Prod, Multiply, Factors, NoFactor}
+use Rattle.syntax_tree.specs.Tree.{Alone, Compare, Sum, Add, Terms, NoTerm, AddTerm, Multiply, Factors, NoFactor}
 use Rattle.syntax_tree.specs.Tree.{MultiplyFactor, Unary, Positive, Negative, Atom, Number, True, False, Name, Element}
 use Rattle.syntax_tree.specs.Tree.{Length, Parens}
 use Rattle.places.specs.Starts.{token_starts}
@@ -58,15 +58,16 @@ mutual
       sum_starts s (MarkToken (relation_mark o) ∷ sum_then t r) ∙ relation_starts o (sum_then t r) ∙ sum_starts t r
 
   sum_starts : (s : Sum) (r : List Token) → token_starts false (sum_then s r) ≡ token_starts false r
-  sum_starts (Add p ts) r = prod_starts p (terms_then ts r) ∙ terms_starts ts r
+  sum_starts (Add (Multiply u fs) ts) r =
+      let more = terms_then ts r in
+      unary_starts u (factors_then fs more) ∙ factors_starts fs more ∙ terms_starts ts r
 
   terms_starts : (ts : Terms) (r : List Token) → token_starts false (terms_then ts r) ≡ token_starts false r
   terms_starts NoTerm r = refl
-  terms_starts (AddTerm o p ts) r =
-      sign_starts o (prod_then p (terms_then ts r)) ∙ prod_starts p (terms_then ts r) ∙ terms_starts ts r
-
-  prod_starts : (p : Prod) (r : List Token) → token_starts false (prod_then p r) ≡ token_starts false r
-  prod_starts (Multiply u fs) r = unary_starts u (factors_then fs r) ∙ factors_starts fs r
+  terms_starts (AddTerm o (Multiply u fs) ts) r =
+      let more = terms_then ts r in
+      sign_starts o (unary_then u (factors_then fs more)) ∙ unary_starts u (factors_then fs more)
+      ∙ factors_starts fs more ∙ terms_starts ts r
 
   factors_starts : (fs : Factors) (r : List Token) → token_starts false (factors_then fs r) ≡ token_starts false r
   factors_starts NoFactor r = refl

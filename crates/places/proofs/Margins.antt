@@ -1,30 +1,19 @@
 -- Numbers that are padded, and lines one behind the other.
 use Rattle.std.proofs.Common.{◌≡◌, ℕ, replicate, ◌+◌, ◌-◌, ◌<◌, List, [], ◌∷◌, ◌++◌, length, map, get_or, drop, Bor}
-use Rattle.std.proofs.Common.{arith, ap, sym, ◌∙◌, append_assoc, append-nil}
+use Rattle.std.proofs.Common.{arith, ap, sym, ◌∙◌, append_assoc}
 use Rattle.std.specs.Fmt.{char_count, decimal, format_spec, styled_decimal, padded_integral}
 use Rattle.std.specs.List.{repeat}
-use Rattle.std.proofs.lemmas.List.{drop-map, drop_more}
-use Rattle.syntax.proofs.LineText.{repeat_is}
+use Rattle.std.proofs.lemmas.List.{append_cancel_right, drop-map, drop_more}
+use Rattle.syntax.proofs.LineText.{label_padded, repeat_is}
 use Rattle.syntax.specs.declared.place.Place.{Place}
 use Rattle.places.specs.Lines.{has_label, left_behind, place_margin, placed_line, placed_lines}
-
-right_shape : (p k : ℕ) (digits : List ℕ) → p ≡ k
-    → (((repeat {A = ℕ} p (32 ∷ []) ++ []) ++ []) ++ []) ++ (digits ++ repeat {A = ℕ} (p - p) (32 ∷ []))
-    ≡ replicate k 32 ++ digits
-right_shape p k digits e =
-    let space : List ℕ = 32 ∷ [] in
-    let fill : List ℕ = repeat p space in
-    let none : p - p ≡ 0 = omega arith in
-    let trimmed = append-nil ((fill ++ []) ++ []) ∙ append-nil (fill ++ []) ∙ append-nil fill in
-    ap (λ m. (((fill ++ []) ++ []) ++ []) ++ (digits ++ repeat m space)) none
-    ∙ ap (λ l. l ++ (digits ++ [])) (trimmed ∙ repeat_is p ∙ ap (λ m. replicate m 32) e)
-    ∙ ap (λ l. replicate k 32 ++ l) (append-nil digits)
 
 -- a number right in five places
 pub right_padded : (n : ℕ) → styled_decimal (format_spec 32 3 0 5 18446744073709551615) n
     ≡ replicate (5 - length (decimal n)) 32 ++ decimal n
-unfolding padded_integral char_count lib.Utf8.encode
-right_padded n = right_shape (5 - length (decimal n) - 0 - 0) (5 - length (decimal n)) (decimal n) (omega arith)
+right_padded n =
+    let padding = replicate (5 - length (decimal n)) 32 in
+    append_cancel_right _ _ (32 ∷ []) (label_padded n ∙ sym (append_assoc padding (decimal n) (32 ∷ [])))
 
 left_shape : (p k : ℕ) (digits : List ℕ) → p ≡ k → digits ++ repeat {A = ℕ} p (32 ∷ []) ≡ digits ++ replicate k 32
 left_shape p k digits e = ap (λ l. digits ++ l) (repeat_is p ∙ ap (λ m. replicate m 32) e)

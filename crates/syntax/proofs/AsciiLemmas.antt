@@ -11,7 +11,9 @@ use Rattle.syntax.specs.declared.token.Mark.TheVariants.{LeftParen, RightParen, 
 use Rattle.syntax.specs.declared.token.Mark.TheVariants.{RightBracket, Comma, Semicolon, Colon, Becomes, Plus, Minus}
 use Rattle.syntax.specs.declared.token.Mark.TheVariants.{Star, Slash, Percent, Less, AtMost, Greater, AtLeast, Equal}
 use Rattle.syntax.specs.declared.token.Mark.TheVariants.{Differs}
-use Rattle.syntax.specs.Canonical.{Left, Margin, Place, canonical, laid, next, before, begins_line, begins_statement, line_end, token_text}
+use Rattle.syntax.specs.Canonical.{Place, canonical, laid, next, before, begins_line, begins_statement, line_end, token_text}
+use Rattle.syntax.specs.declared.token.Left.{Left}
+use Rattle.syntax.specs.declared.token.Left.TheVariants.{Margin}
 use Rattle.syntax.specs.Lexical.{AreTokensOf, is_blank, mark_text, word_text}
 use Rattle.syntax.specs.Spelling.{spelling}
 use Rattle.syntax.specs.Token.{Token, NameToken, NumberToken, WordToken, MarkToken}

@@ -18,7 +18,8 @@ use Rattle.syntax_tree.specs.declared.tree.Atom.TheVariants.{Number as rNumber, 
 use Rattle.syntax_tree.specs.declared.tree.Atom.TheVariants.{Name as rName, Element as rElement, Length as rLength}
 use Rattle.syntax_tree.specs.declared.tree.Atom.TheVariants.{Parens as rParens}
 use Rattle.syntax.specs.declared.token.Mark.TheVariants.{RightParen, RightBracket}
-use Rattle.syntax.specs.Canonical.{Operand, laid, in_line}
+use Rattle.syntax.specs.Canonical.{laid, in_line}
+use Rattle.syntax.specs.declared.token.Left.TheVariants.{Operand}
 use Rattle.syntax.specs.Lexical.{mark_text}
 use Rattle.syntax.specs.Spelling.{expr_then, conj_then, conjs_then, neg_then, negs_then, cmp_then, sum_then, prod_then}
 use Rattle.syntax.specs.Spelling.{terms_then, unary_then, factors_then, atom_then, more_then, exprs_then, relation_mark}

@@ -9,7 +9,9 @@ use Rattle.syntax_tree.specs.declared.tree.Sign.TheVariants.{Plus as PlusSign, M
 use Rattle.syntax_tree.specs.declared.tree.Operator.{Operator}
 use Rattle.syntax_tree.specs.declared.tree.Operator.TheVariants.{Times, Over, Modulo}
 use Rattle.syntax.specs.declared.token.Mark.TheVariants.{RightParen, RightBracket}
-use Rattle.syntax.specs.Canonical.{Left, Opening, Called, Operand, Other, Place, laid, in_line}
+use Rattle.syntax.specs.Canonical.{Place, laid, in_line}
+use Rattle.syntax.specs.declared.token.Left.{Left}
+use Rattle.syntax.specs.declared.token.Left.TheVariants.{Opening, Called, Operand, Other}
 use Rattle.syntax.specs.Lexical.{mark_text}
 use Rattle.syntax.specs.Spelling.{expr_then, conj_then, conjs_then, neg_then, negs_then, cmp_then, sum_then, prod_then}
 use Rattle.syntax.specs.Spelling.{terms_then, unary_then, factors_then, atom_then, more_then, relation_mark, sign_mark}

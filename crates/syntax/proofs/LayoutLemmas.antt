@@ -13,13 +13,14 @@ use Rattle.std.proofs.lemmas.List.Folds.{list_all-append}
 use Rattle.std.proofs.lemmas.Fmt.{decimal_is_IsNumeral}
 use Rattle.std.proofs.lemmas.Str.Parse.{digit_from_value}
 use Rattle.syntax.specs.declared.token.Word.{Word}
-use Rattle.syntax.specs.declared.token.Word.TheVariants.{Byte as WordByte, Else as WordElse, False as WordFalse}
-use Rattle.syntax.specs.declared.token.Word.TheVariants.{Int as WordInt, Len as WordLen, True as WordTrue}
+use Rattle.syntax.specs.declared.token.Word.TheVariants.{Else as WordElse, Len as WordLen}
 use Rattle.syntax.specs.declared.token.Mark.{Mark}
 use Rattle.syntax.specs.declared.token.Mark.TheVariants.{LeftParen, RightParen, LeftBrace, RightBrace, LeftBracket}
 use Rattle.syntax.specs.declared.token.Mark.TheVariants.{RightBracket, Comma, Semicolon, Minus}
-use Rattle.syntax.specs.Canonical.{Left, Margin, Opening, Called, Operand, Ended, Other, Place, laid, next, before}
-use Rattle.syntax.specs.Canonical.{space, left_by, left_by_word, left_by_mark, token_text, begins_line}
+use Rattle.syntax.specs.Canonical.{Place, laid, next, before}
+use Rattle.syntax.specs.declared.token.Left.{Left}
+use Rattle.syntax.specs.declared.token.Left.TheVariants.{Margin, Opening, Called, Operand, Ended, Other}
+use Rattle.syntax.specs.Canonical.{space, left_by, left_by_mark, token_text, begins_line}
 use Rattle.syntax.specs.Canonical.{begins_statement, indentation, is_closing, is_opening, line_end, line_start}
 use Rattle.syntax.specs.Canonical.{canonical, statement_margin, plain_margin}
 use Rattle.syntax.specs.Lexical.{word_text, is_blank, begins_name, is_in_name, starts}
@@ -90,13 +91,9 @@ IsApart Operand = Unit {0}
 IsApart Other = Unit {0}
 IsApart _ = ⊥
 
-word_apart : (w : Word) → IsApart (left_by_word w)
-word_apart WordLen = tt
-word_apart WordInt = tt
-word_apart WordByte = tt
-word_apart WordTrue = tt
-word_apart WordFalse = tt
-word_apart _ = tt
+word_apart : (left : Left) (w : Word) → IsApart (left_by left (WordToken w))
+word_apart left WordLen = tt
+word_apart left _ = tt
 
 mark_no_letter : (d : ℕ) (n : Option ℕ) (left : Left) (m : Mark) (ts : List Token) → IsApart left
     → starts is_in_name (laid (record { depth = d; label = n; left = left }) (MarkToken m ∷ ts)) ≡ false
@@ -295,8 +292,8 @@ with_token d n left (NumberToken k) ts small has =
       fits = omega (arith, value, small);
     } in
     with_piece (NumberPiece (decimal k)) (NumberToken k) _ ts (ap (λ v. NumberToken v ∷ []) value) fits has
-with_token d n left (WordToken w) ts fits has = with_piece (WordPiece w) (WordToken w) _ ts refl (no_letter d n (left_by_word w) ts
-    (word_apart w)) has
+with_token d n left (WordToken w) ts fits has = with_piece (WordPiece w) (WordToken w) _ ts refl
+    (no_letter d n (left_by left (WordToken w)) ts (word_apart left w)) has
 with_token d n left (MarkToken m) ts fits has = with_piece (MarkPiece m) (MarkToken m) _ ts refl (mark_stands d n left m ts) has
 
 end_read : (left : Left) → AreTokensOf (line_end left) []

@@ -15,7 +15,9 @@ use Rattle.syntax.specs.declared.token.Word.TheVariants.{Else as WordElse, Main 
 use Rattle.syntax.specs.declared.token.Word.TheVariants.{Split as WordSplit}
 use Rattle.syntax.specs.declared.token.Mark.TheVariants.{LeftParen, RightParen, LeftBrace, RightBrace, LeftBracket}
 use Rattle.syntax.specs.declared.token.Mark.TheVariants.{RightBracket, Comma, Semicolon, Colon, Becomes}
-use Rattle.syntax.specs.Canonical.{Left, Margin, Opening, Operand, Ended, Other, Place, laid, in_line, indent}
+use Rattle.syntax.specs.Canonical.{Place, laid, in_line, indent}
+use Rattle.syntax.specs.declared.token.Left.{Left}
+use Rattle.syntax.specs.declared.token.Left.TheVariants.{Margin, Opening, Operand, Ended, Other}
 use Rattle.syntax.specs.Canonical.{plain_margin, statement_margin, label_text}
 use Rattle.syntax.specs.Lexical.{word_text}
 use Rattle.syntax.specs.Spelling.{expr_then, more_then, exprs_then, stmt_then, block_then, arrays_then, parameter_then}

@@ -1,5 +1,5 @@
 -- A text begins with one piece at most, so it is cut into pieces in one way.
-use Rattle.std.proofs.Common.{◌≡◌, ℕ, ◌+◌, ◌*◌, ◌<◌, ◌≤◌, ⊎_elim, Bool, true, false, cond, ◌&&◌, ◌||◌, ◌==◌, List, []}
+use Rattle.std.proofs.Common.{◌≡◌, ℕ, ◌+◌, ◌*◌, ◌<◌, ◌≤◌, ◌⊎◌, inl, inr, map, ⊎_elim, Bool, true, false, cond, ◌&&◌, ◌||◌, ◌==◌, List, []}
 use Rattle.std.proofs.Common.{◌∷◌, ◌++◌, length, take, drop, fold, refl, ap, sym, ◌∙◌, subst, arith}
 use Rattle.std.specs.List.{prefix_len, list_all, flat_map}
 use Rattle.std.specs.Char.{is_ascii_alphabetic, is_ascii_digit}
@@ -28,47 +28,46 @@ use Rattle.syntax.specs.Lexical.{BeginsNoPiece, BeginsLargeNumber, StopsAt}
 code : List ℕ → ℕ
 code = fold (λ n c. n * 128 + c) 0
 
-abbrev word_with : ℕ → List Word → Word
-word_with n [] = And
-word_with n (w ∷ ws) = cond (code (word_text w) == n) w (word_with n ws)
+-- a word or a mark
+abbrev fixed_text : Word ⊎ Mark → List ℕ
+fixed_text (inl w) = word_text w
+fixed_text (inr m) = mark_text m
+
+abbrev fixed_with : ℕ → List (Word ⊎ Mark) → Word ⊎ Mark
+fixed_with n [] = inl And
+fixed_with n (f ∷ more) = cond (code (fixed_text f) == n) f (fixed_with n more)
 
 abbrev more_words : List Word
 more_words = Parts ∷ Print ∷ Proc ∷ Read ∷ Rescue ∷ Skip ∷ Split ∷ True ∷ Var ∷ While ∷ []
 
-abbrev word_of : List ℕ → Word
-word_of cs =
-    word_with
-    (code cs)
-    (Array ∷ As ∷ Async ∷ At ∷ By ∷ Byte ∷ Else ∷ False ∷ Fault ∷ Finish ∷ If ∷ Int ∷ Len ∷ Main ∷ Mut ∷ Not ∷ Or ∷ more_words)
-
-word_of-word_text : (w : Word) → word_of (word_text w) ≡ w
-unfolding code
-word_of-word_text And = refl
-word_of-word_text _ = refl
-
-word_text-injective : (v w : Word) → word_text v ≡ word_text w → v ≡ w
-word_text-injective v w same = sym (word_of-word_text v) ∙ ap word_of same ∙ word_of-word_text w
-
-abbrev mark_with : ℕ → List Mark → Mark
-mark_with n [] = LeftParen
-mark_with n (m ∷ ms) = cond (code (mark_text m) == n) m (mark_with n ms)
+abbrev words : List Word
+words = Array ∷ As ∷ Async ∷ At ∷ By ∷ Byte ∷ Else ∷ False ∷ Fault ∷ Finish ∷ If ∷ Int ∷ Len ∷ Main ∷ Mut ∷ Not ∷ Or ∷ more_words
 
 abbrev more_marks : List Mark
 more_marks = Plus ∷ Minus ∷ Star ∷ Slash ∷ Percent ∷ Less ∷ AtMost ∷ Greater ∷ AtLeast ∷ Equal ∷ Differs ∷ []
 
-abbrev mark_of : List ℕ → Mark
-mark_of cs =
-    mark_with
-    (code cs)
-    (RightParen ∷ LeftBrace ∷ RightBrace ∷ LeftBracket ∷ RightBracket ∷ Comma ∷ Semicolon ∷ Colon ∷ Becomes ∷ more_marks)
+abbrev marks : List Mark
+marks =
+    LeftParen ∷ RightParen ∷ LeftBrace ∷ RightBrace ∷ LeftBracket ∷ RightBracket ∷ Comma ∷ Semicolon ∷ Colon ∷ Becomes ∷ more_marks
 
-mark_of-mark_text : (m : Mark) → mark_of (mark_text m) ≡ m
+abbrev fixed_of : List ℕ → Word ⊎ Mark
+fixed_of cs = fixed_with (code cs) (map inl words ++ map inr marks)
+
+fixed_of-fixed_text : (f : Word ⊎ Mark) → fixed_of (fixed_text f) ≡ f
 unfolding code
-mark_of-mark_text LeftParen = refl
-mark_of-mark_text _ = refl
+fixed_of-fixed_text (inl And) = refl
+fixed_of-fixed_text (inl _) = refl
+fixed_of-fixed_text (inr LeftParen) = refl
+fixed_of-fixed_text (inr _) = refl
+
+fixed_text-injective : (f g : Word ⊎ Mark) → fixed_text f ≡ fixed_text g → f ≡ g
+fixed_text-injective f g same = sym (fixed_of-fixed_text f) ∙ ap fixed_of same ∙ fixed_of-fixed_text g
+
+word_text-injective : (v w : Word) → word_text v ≡ word_text w → v ≡ w
+word_text-injective v w same = cc (fixed_text-injective (inl v) (inl w) same)
 
 mark_text-injective : (m n : Mark) → mark_text m ≡ mark_text n → m ≡ n
-mark_text-injective m n same = sym (mark_of-mark_text m) ∙ ap mark_of same ∙ mark_of-mark_text n
+mark_text-injective m n same = cc (fixed_text-injective (inr m) (inr n) same)
 
 -- a reserved word has the letters of a name
 word_begins : (w : Word) → starts begins_name (word_text w) ≡ true
@@ -91,10 +90,9 @@ data Kind : Type 0 where
 abbrev kind : Piece → Kind
 kind (BlankPiece c) = IsBlank
 kind (CommentPiece cs) = IsComment
-kind (NamePiece cs) = IsWord
 kind (NumberPiece cs) = IsNumber
-kind (WordPiece w) = IsWord
 kind (MarkPiece m) = IsOther
+kind _ = IsWord
 
 record Look : Type 0 where
   kind : Kind
@@ -254,26 +252,7 @@ record IsOtherFirst (text : List ℕ) : Type 0 where
 
 mark_is_other : (m : Mark) (rest : List ℕ) → IsOtherFirst (mark_text m ++ rest)
 mark_is_other LeftParen rest = record { some = refl; blank = refl; name = refl; digit = refl }
-mark_is_other RightParen rest = record { some = refl; blank = refl; name = refl; digit = refl }
-mark_is_other LeftBrace rest = record { some = refl; blank = refl; name = refl; digit = refl }
-mark_is_other RightBrace rest = record { some = refl; blank = refl; name = refl; digit = refl }
-mark_is_other LeftBracket rest = record { some = refl; blank = refl; name = refl; digit = refl }
-mark_is_other RightBracket rest = record { some = refl; blank = refl; name = refl; digit = refl }
-mark_is_other Comma rest = record { some = refl; blank = refl; name = refl; digit = refl }
-mark_is_other Semicolon rest = record { some = refl; blank = refl; name = refl; digit = refl }
-mark_is_other Colon rest = record { some = refl; blank = refl; name = refl; digit = refl }
-mark_is_other Becomes rest = record { some = refl; blank = refl; name = refl; digit = refl }
-mark_is_other Plus rest = record { some = refl; blank = refl; name = refl; digit = refl }
-mark_is_other Minus rest = record { some = refl; blank = refl; name = refl; digit = refl }
-mark_is_other Star rest = record { some = refl; blank = refl; name = refl; digit = refl }
-mark_is_other Slash rest = record { some = refl; blank = refl; name = refl; digit = refl }
-mark_is_other Percent rest = record { some = refl; blank = refl; name = refl; digit = refl }
-mark_is_other Less rest = record { some = refl; blank = refl; name = refl; digit = refl }
-mark_is_other AtMost rest = record { some = refl; blank = refl; name = refl; digit = refl }
-mark_is_other Greater rest = record { some = refl; blank = refl; name = refl; digit = refl }
-mark_is_other AtLeast rest = record { some = refl; blank = refl; name = refl; digit = refl }
-mark_is_other Equal rest = record { some = refl; blank = refl; name = refl; digit = refl }
-mark_is_other Differs rest = record { some = refl; blank = refl; name = refl; digit = refl }
+mark_is_other _ rest = record { some = refl; blank = refl; name = refl; digit = refl }
 
 lone_mark : (c : ℕ) (rest : List ℕ) → may_grow c ≡ false → mark_first (c ∷ rest) ≡ c ∷ []
 lone_mark c [] e = refl
@@ -284,27 +263,14 @@ short_mark c [] e = refl
 short_mark c (d ∷ rest) e = ap (λ b. cond b (c ∷ d ∷ []) (c ∷ [])) (and_right (may_grow c) (d == 61) e)
 
 mark_is_first : (m : Mark) (rest : List ℕ) → IsMark m rest → mark_first (mark_text m ++ rest) ≡ mark_text m
-mark_is_first LeftParen rest fits = lone_mark 40 rest refl
-mark_is_first RightParen rest fits = lone_mark 41 rest refl
-mark_is_first LeftBrace rest fits = lone_mark 123 rest refl
-mark_is_first RightBrace rest fits = lone_mark 125 rest refl
-mark_is_first LeftBracket rest fits = lone_mark 91 rest refl
-mark_is_first RightBracket rest fits = lone_mark 93 rest refl
-mark_is_first Comma rest fits = lone_mark 44 rest refl
-mark_is_first Semicolon rest fits = lone_mark 59 rest refl
-mark_is_first Colon rest fits = lone_mark 58 rest refl
 mark_is_first Becomes rest fits = short_mark 61 rest (false_from_ne_true _ (λ e. fits.longest e Equal refl))
-mark_is_first Plus rest fits = lone_mark 43 rest refl
-mark_is_first Minus rest fits = lone_mark 45 rest refl
-mark_is_first Star rest fits = lone_mark 42 rest refl
-mark_is_first Slash rest fits = lone_mark 47 rest refl
-mark_is_first Percent rest fits = lone_mark 37 rest refl
 mark_is_first Less rest fits = short_mark 60 rest (false_from_ne_true _ (λ e. fits.longest e AtMost refl))
-mark_is_first AtMost rest fits = refl
 mark_is_first Greater rest fits = short_mark 62 rest (false_from_ne_true _ (λ e. fits.longest e AtLeast refl))
+mark_is_first AtMost rest fits = refl
 mark_is_first AtLeast rest fits = refl
 mark_is_first Equal rest fits = refl
 mark_is_first Differs rest fits = refl
+mark_is_first _ rest fits = lone_mark _ rest refl
 
 look-mark : (m : Mark) (rest : List ℕ) → IsMark m rest → look (mark_text m ++ rest) ≡ looked IsOther (mark_text m)
 unfolding look

@@ -6,7 +6,8 @@ use Rattle.syntax.specs.declared.error.SyntaxError.{SyntaxError}
 use Rattle.syntax.specs.declared.error.SyntaxError.TheVariants.{NotACharacter, UnexpectedToken, NumberTooLarge, TooDeep}
 use Rattle.syntax.specs.declared.error.SyntaxError.TheVariants.{TooLong, OutOfMemory}
 use Rattle.syntax.specs.Brackets.{AreShallow}
-use Rattle.syntax.specs.Lexical.{starts, AreTokensOf}
+use Rattle.syntax.specs.Lexical.{starts, AreTokensOf, StopsAt}
+use Rattle.syntax.specs.Token.{Token}
 use Rattle.syntax_tree.specs.declared.tree.Program.{Program as rProgram}
 use Rattle.syntax.specs.Spelling.{spelling}
 use Rattle.syntax_tree.specs.Tree.{Program, program}
@@ -25,6 +26,10 @@ deep_or_shallow : (text : List ℕ) (at other : ℕ) → SpellsNoProgram text at
 deep_or_shallow text at other shallow deep =
     deep.all_deep (subst (AreShallow 0) (one_reading text shallow.tokens deep.tokens shallow.read deep.read) shallow.shallow)
 
+-- a text that stops somewhere has no tokens
+stops_or_read : {text : List ℕ} {at : ℕ} {tokens : List Token} {A : Type 0} → StopsAt text at → AreTokensOf text tokens → A
+stops_or_read stops read = absurd (no_reading _ _ _ stops read)
+
 pub one_error : (text : List ℕ) (e f : SyntaxError) → TellsOf text e → TellsOf text f → e ≢ OutOfMemory
     → f ≢ OutOfMemory → error_code e ≡ error_code f
 one_error text (NotACharacter _) (NotACharacter _) told too m n = refl
@@ -33,18 +38,14 @@ one_error text (NumberTooLarge _) (NumberTooLarge _) told too m n = refl
 one_error text (TooDeep _) (TooDeep _) told too m n = refl
 one_error text (NotACharacter _) (NumberTooLarge _) told too m n = absurd (digit_or_none text told.at too.at told.fact too.fact)
 one_error text (NumberTooLarge _) (NotACharacter _) told too m n = absurd (digit_or_none text too.at told.at too.fact told.fact)
-one_error text (NotACharacter _) (UnexpectedToken _) told too m n =
-    absurd (no_reading text told.at too.fact.tokens told.fact.stops too.fact.read)
-one_error text (UnexpectedToken _) (NotACharacter _) told too m n =
-    absurd (no_reading text too.at told.fact.tokens too.fact.stops told.fact.read)
-one_error text (NotACharacter _) (TooDeep _) told too m n = absurd (no_reading text told.at too.fact.tokens told.fact.stops too.fact.read)
-one_error text (TooDeep _) (NotACharacter _) told too m n = absurd (no_reading text too.at told.fact.tokens too.fact.stops told.fact.read)
-one_error text (NumberTooLarge _) (UnexpectedToken _) told too m n =
-    absurd (no_reading text told.at too.fact.tokens told.fact.stops too.fact.read)
-one_error text (UnexpectedToken _) (NumberTooLarge _) told too m n =
-    absurd (no_reading text too.at told.fact.tokens too.fact.stops told.fact.read)
-one_error text (NumberTooLarge _) (TooDeep _) told too m n = absurd (no_reading text told.at too.fact.tokens told.fact.stops too.fact.read)
-one_error text (TooDeep _) (NumberTooLarge _) told too m n = absurd (no_reading text too.at told.fact.tokens too.fact.stops told.fact.read)
+one_error text (NotACharacter _) (UnexpectedToken _) told too m n = stops_or_read told.fact.stops too.fact.read
+one_error text (UnexpectedToken _) (NotACharacter _) told too m n = stops_or_read too.fact.stops told.fact.read
+one_error text (NotACharacter _) (TooDeep _) told too m n = stops_or_read told.fact.stops too.fact.read
+one_error text (TooDeep _) (NotACharacter _) told too m n = stops_or_read too.fact.stops told.fact.read
+one_error text (NumberTooLarge _) (UnexpectedToken _) told too m n = stops_or_read told.fact.stops too.fact.read
+one_error text (UnexpectedToken _) (NumberTooLarge _) told too m n = stops_or_read too.fact.stops told.fact.read
+one_error text (NumberTooLarge _) (TooDeep _) told too m n = stops_or_read told.fact.stops too.fact.read
+one_error text (TooDeep _) (NumberTooLarge _) told too m n = stops_or_read too.fact.stops told.fact.read
 one_error text (UnexpectedToken _) (TooDeep _) told too m n = absurd (deep_or_shallow text told.at too.at told.fact too.fact)
 one_error text (TooDeep _) (UnexpectedToken _) told too m n = absurd (deep_or_shallow text too.at told.at too.fact told.fact)
 one_error text TooLong f told too m n = absurd told
@@ -55,9 +56,9 @@ one_error text e OutOfMemory told too m n = absurd (n refl)
 -- A text whose tokens spell a program p.
 module _ (text : List ℕ) (p : Program) (has : AreTokensOf text (spelling p)) (shallow : AreShallow 0 (spelling p)) where
   only_memory : (e : SyntaxError) → TellsOf text e → e ≡ OutOfMemory
-  only_memory (NotACharacter _) told = absurd (no_reading text told.at (spelling p) told.fact.stops has)
+  only_memory (NotACharacter _) told = stops_or_read told.fact.stops has
   only_memory (UnexpectedToken _) told = absurd (told.fact.no_program p (one_reading text told.fact.tokens (spelling p) told.fact.read has))
-  only_memory (NumberTooLarge _) told = absurd (no_reading text told.at (spelling p) told.fact.stops has)
+  only_memory (NumberTooLarge _) told = stops_or_read told.fact.stops has
   only_memory (TooDeep _) told =
       absurd (told.fact.all_deep (subst (AreShallow 0) (one_reading text (spelling p) told.fact.tokens has told.fact.read) shallow))
   only_memory TooLong told = absurd told

@@ -5,7 +5,8 @@ use Rattle.std.specs.Prelude.{List, [], ◌++◌, ◌∷◌}
 use Rattle.std.specs.Prelude.{length, replicate, codes, Option, None, Some}
 use Rattle.std.specs.Fmt.{decimal}
 use Rattle.std.specs.Option.{option_map}
-use Rattle.syntax.specs.declared.token.Word.{Word}
+use Rattle.syntax.specs.declared.token.Left.{Left}
+use Rattle.syntax.specs.declared.token.Left.TheVariants.{Margin, Opening, Called, Operand, Ended, Other}
 use Rattle.syntax.specs.declared.token.Word.TheVariants.{Array as WordArray, Byte as WordByte}
 use Rattle.syntax.specs.declared.token.Word.TheVariants.{Else as WordElse}
 use Rattle.syntax.specs.declared.token.Word.TheVariants.{False as WordFalse, Int as WordInt}
@@ -21,21 +22,6 @@ use Rattle.syntax.specs.Lexical.{word_text, mark_text}
 use Rattle.syntax.specs.Spelling.{spelling}
 use Rattle.syntax.specs.Token.{Token, NameToken, NumberToken, WordToken, MarkToken}
 use Rattle.syntax_tree.specs.Tree.{Program}
-
--- what stands to the left of a token
-pub data Left : Type 0 where
-  -- nothing in its line
-  Margin : Left
-  -- `(`, `[`, or the `-` that begins a unary
-  Opening : Left
-  -- a name, `len`, `int` or `byte`
-  Called : Left
-  -- a number, `true`, `false`, `)` or `]`
-  Operand : Left
-  -- `;`, `{` or `}`, which end a line
-  Ended : Left
-  -- any other token
-  Other : Left
 
 -- where a layout stands: how many blocks are open, the label of the last statement, if labels are
 -- written, and what stands to the left
@@ -61,19 +47,16 @@ left_by_mark left RightBrace = Ended
 left_by_mark left Minus = left_by_minus left
 left_by_mark left _ = Other
 
-abbrev pub left_by_word : Word → Left
-left_by_word WordLen = Called
-left_by_word WordInt = Called
-left_by_word WordByte = Called
-left_by_word WordTrue = Operand
-left_by_word WordFalse = Operand
-left_by_word _ = Other
-
 -- what a token is to the one behind it
 abbrev pub left_by : Left → Token → Left
 left_by left (NameToken x) = Called
 left_by left (NumberToken n) = Operand
-left_by left (WordToken w) = left_by_word w
+left_by left (WordToken WordLen) = Called
+left_by left (WordToken WordInt) = Called
+left_by left (WordToken WordByte) = Called
+left_by left (WordToken WordTrue) = Operand
+left_by left (WordToken WordFalse) = Operand
+left_by left (WordToken _) = Other
 left_by left (MarkToken m) = left_by_mark left m
 
 -- no space stands before these

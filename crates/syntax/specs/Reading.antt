@@ -1,7 +1,9 @@
 -- What it means that tokens were read as a tree, and which tokens go on with what stands before them.
 use Rattle.std.specs.Prelude.{◌≡◌, ◌≢◌, ◌<◌, ℕ, List, [], ◌∷◌, ◌++◌}
+use Rattle.std.specs.Borrow.{Bor}
 use Rattle.syntax.specs.declared.cursor.Stuck.{Stuck}
 use Rattle.syntax.specs.declared.cursor.Stuck.TheVariants.{OutOfMemory}
+use Rattle.syntax.specs.declared.token.Spanned.{Spanned}
 use Rattle.syntax.specs.declared.token.Word.{Word}
 use Rattle.syntax.specs.declared.token.Word.TheVariants.{And as WordAnd, Array as WordArray}
 use Rattle.syntax.specs.declared.token.Word.TheVariants.{Else as WordElse}
@@ -12,7 +14,7 @@ use Rattle.syntax.specs.declared.token.Mark.TheVariants.{Slash, Percent, Less}
 use Rattle.syntax.specs.declared.token.Mark.TheVariants.{AtMost, Greater, AtLeast, Equal, Differs}
 use Rattle.syntax_tree.specs.declared.tree.Expr.{Expr}
 use Rattle.syntax.specs.Spelling.{more_then}
-use Rattle.syntax.specs.Token.{Token, NameToken, NumberToken, WordToken, MarkToken}
+use Rattle.syntax.specs.Token.{Token, NameToken, NumberToken, WordToken, MarkToken, plain}
 use Rattle.syntax_tree.specs.Tree.{exprs}
 
 -- behind the earlier expressions stand others, which are spelled with a comma before each
@@ -110,6 +112,10 @@ pub record IsRead {Tree : Type 0} (spell : Spells Tree) (level : ℕ) (tokens : 
   pub spelled : tokens ≡ spell tree left
   pub whole : Leaves spell level tokens left
 
+-- what was read of these tokens, with those that are left, is this of a tree
+abbrev pub ReadsAs : {T Tree : Type 0} → (T → Tree) → Spells Tree → ℕ → List Token → T × Bor (List Spanned) → Type 0
+ReadsAs tree spell level tokens read = IsRead spell level tokens (tree read.0) (plain read.1.now)
+
 -- tokens are refused only where they spell no tree, memory aside
 abbrev pub Refuses : {Tree : Type 0} → Spells Tree → ℕ → List Token → Stuck → Type 0
 Refuses spell level tokens stuck = stuck ≢ OutOfMemory → SpellsNone spell level tokens
@@ -127,6 +133,9 @@ pub record IsReadClosed {Tree : Type 0} (spell : Spells Tree) (tokens : List Tok
     (left : List Token) : Type 0 where
   pub spelled : tokens ≡ spell tree left
   pub whole : LeavesClosed spell tokens left
+
+abbrev pub ReadsClosed : {T Tree : Type 0} → (T → Tree) → Spells Tree → List Token → T × Bor (List Spanned) → Type 0
+ReadsClosed tree spell tokens read = IsReadClosed spell tokens (tree read.0) (plain read.1.now)
 
 abbrev pub RefusesClosed : {Tree : Type 0} → Spells Tree → List Token → Stuck → Type 0
 RefusesClosed spell tokens stuck = stuck ≢ OutOfMemory → SpellsNoneClosed spell tokens

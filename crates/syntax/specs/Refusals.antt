@@ -134,8 +134,7 @@ place_of (NotACharacter place) = Some place
 place_of (UnexpectedToken place) = Some place
 place_of (NumberTooLarge place) = Some place
 place_of (TooDeep place) = Some place
-place_of TooLong = None
-place_of OutOfMemory = None
+place_of _ = None
 
 -- `at` and the place, if there is one
 abbrev pub at_text : Option Place → List ℕ

@@ -194,6 +194,9 @@ arrays_then (a ∷ rest) r =
     ∷ MarkToken LeftBracket ∷ NumberToken a.length ∷ MarkToken RightBracket ∷ MarkToken Semicolon
     ∷ arrays_then rest r
 
+abbrev pub array_then : Array → List Token → List Token
+array_then a = arrays_then (a ∷ [])
+
 -- param = ( "mut" | "read" ) name ":" elem | name ":" "int"
 unfoldable pub parameter_then : Parameter → List Token → List Token
 parameter_then (Written x e) r =
@@ -219,6 +222,9 @@ procedures_then (p ∷ ps) r =
     WordToken WordProc ∷ NameToken p.name ∷ MarkToken LeftParen
     ∷ parameters_then p.parameters
     (MarkToken RightParen ∷ MarkToken LeftBrace ∷ block_then p.body (procedures_then ps r))
+
+abbrev pub procedure_then : Procedure → List Token → List Token
+procedure_then p = procedures_then (p ∷ [])
 
 -- [ "main" "{" { array } { stmt } "}" ]
 unfoldable pub main_tokens : Option Main → List Token

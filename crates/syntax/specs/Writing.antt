@@ -2,7 +2,8 @@
 use Rattle.std.specs.Prelude.{◌≡◌, ◌≤◌, ℕ, Bool, true, false, List, ◌++◌, length, unwrap_or}
 use Rattle.std.specs.String.{string_bytes}
 use Rattle.syntax.specs.declared.canonical.Lines.{Lines}
-use Rattle.syntax.specs.Canonical.{Left, Place, laid}
+use Rattle.syntax.specs.Canonical.{Place, laid}
+use Rattle.syntax.specs.declared.token.Left.{Left}
 use Rattle.syntax.specs.Token.{Token}
 use Rattle.syntax_tree.specs.Tree.{Stmt, Skip, Var, Assign, Store, Print, Fault, If, IfElse, While}
 use Rattle.syntax_tree.specs.Tree.{Split, Call, Async}

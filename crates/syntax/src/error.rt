@@ -5,7 +5,7 @@ ghost use Rattle.syntax.specs.Refusals.{error_code, error_text, place_of};
 ghost use Rattle.syntax.specs.declared.error.SyntaxError.TheVariants.{OutOfMemory};
 
 use crate::place::Place;
-use std::alloc::{AllocError, AllocFailed};
+use std::alloc::AllocError;
 use std::error::Error;
 use std::fmt;
 
@@ -75,14 +75,6 @@ impl From<AllocError> for SyntaxError {
     ghost from_gives = { λ _ e. e ≡ OutOfMemory };
 
     fn from(_error: AllocError) -> SyntaxError {
-        SyntaxError::OutOfMemory
-    }
-}
-
-impl<T: Drop> From<AllocFailed<T>> for SyntaxError {
-    ghost from_gives = { λ _ e. e ≡ OutOfMemory };
-
-    fn from(_error: AllocFailed<T>) -> SyntaxError {
         SyntaxError::OutOfMemory
     }
 }

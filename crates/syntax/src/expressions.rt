@@ -6,7 +6,7 @@ ghost use Rattle.syntax.specs.declared.token.Mark.{Mark as AnyMark};
 ghost use Rattle.syntax_tree.specs.declared.tree.Relation.{Relation as AnyRelation};
 ghost use Rattle.syntax_tree.specs.declared.tree.Sign.{Sign as AnySign};
 ghost use Rattle.syntax_tree.specs.declared.tree.Operator.{Operator as AnyOperator};
-ghost use Rattle.syntax.specs.Reading.{AddsExprs, IsRead, Refuses, Leaves};
+ghost use Rattle.syntax.specs.Reading.{ReadsAs, AddsExprs, Refuses, Leaves};
 ghost use Rattle.syntax.specs.Reading.{LeavesClosed, SpellsNone};
 ghost use Rattle.syntax.specs.Reading.{SpellsNoneClosed};
 ghost use Rattle.syntax.specs.Reading.{mark_binds, list_level, or_level, and_level, relation_level};
@@ -33,8 +33,7 @@ use syntax_tree::tree::{
 #[cycle(expr)]
 pub fn expr(alloc: Global, tokens: &[Spanned]) -> Result<(Expr, &[Spanned]), Stuck>
     ensures shorter { IfOk result (λ read. length read.1.now < length tokens.now) }
-    ensures read { IfOk result (λ read.
-        IsRead expr_then or_level (plain tokens.now) (expr_tree read.0) (plain read.1.now)) }
+    ensures read { IfOk result (ReadsAs expr_tree expr_then or_level (plain tokens.now)) }
     ensures refused { IfErr result (Refuses expr_then or_level (plain tokens.now)) }
 {
     // expr = conj { "or" conj }
@@ -51,8 +50,7 @@ pub fn expr(alloc: Global, tokens: &[Spanned]) -> Result<(Expr, &[Spanned]), Stu
 #[cycle(expr)]
 fn conj(alloc: Global, tokens: &[Spanned]) -> Result<(Conj, &[Spanned]), Stuck>
     ensures shorter { IfOk result (λ read. length read.1.now < length tokens.now) }
-    ensures read { IfOk result (λ read.
-        IsRead conj_then and_level (plain tokens.now) (conj_tree read.0) (plain read.1.now)) }
+    ensures read { IfOk result (ReadsAs conj_tree conj_then and_level (plain tokens.now)) }
     ensures refused { IfErr result (Refuses conj_then and_level (plain tokens.now)) }
 {
     // conj = neg { "and" neg }
@@ -69,8 +67,7 @@ fn conj(alloc: Global, tokens: &[Spanned]) -> Result<(Conj, &[Spanned]), Stuck>
 #[cycle(expr)]
 fn neg(alloc: Global, tokens: &[Spanned]) -> Result<(Neg, &[Spanned]), Stuck>
     ensures shorter { IfOk result (λ read. length read.1.now < length tokens.now) }
-    ensures read { IfOk result (λ read.
-        IsRead neg_then relation_level (plain tokens.now) (neg_tree read.0) (plain read.1.now)) }
+    ensures read { IfOk result (ReadsAs neg_tree neg_then relation_level (plain tokens.now)) }
     ensures refused { IfErr result (Refuses neg_then relation_level (plain tokens.now)) }
 {
     // neg = [ "not" ] cmp
@@ -101,8 +98,7 @@ fn neg(alloc: Global, tokens: &[Spanned]) -> Result<(Neg, &[Spanned]), Stuck>
 #[cycle(expr)]
 fn cmp(alloc: Global, tokens: &[Spanned]) -> Result<(Cmp, &[Spanned]), Stuck>
     ensures shorter { IfOk result (λ read. length read.1.now < length tokens.now) }
-    ensures read { IfOk result (λ read.
-        IsRead cmp_then relation_level (plain tokens.now) (cmp_tree read.0) (plain read.1.now)) }
+    ensures read { IfOk result (ReadsAs cmp_tree cmp_then relation_level (plain tokens.now)) }
     ensures refused { IfErr result (Refuses cmp_then relation_level (plain tokens.now)) }
 {
     // cmp = sum [ ( "<" | "<=" | ">" | ">=" | "==" | "!=" ) sum ]
@@ -124,8 +120,7 @@ fn cmp(alloc: Global, tokens: &[Spanned]) -> Result<(Cmp, &[Spanned]), Stuck>
 #[cycle(expr)]
 fn sum(alloc: Global, tokens: &[Spanned]) -> Result<(Sum, &[Spanned]), Stuck>
     ensures shorter { IfOk result (λ read. length read.1.now < length tokens.now) }
-    ensures read { IfOk result (λ read.
-        IsRead sum_then sign_level (plain tokens.now) (sum_tree read.0) (plain read.1.now)) }
+    ensures read { IfOk result (ReadsAs sum_tree sum_then sign_level (plain tokens.now)) }
     ensures refused { IfErr result (Refuses sum_then sign_level (plain tokens.now)) }
 {
     // sum = prod { ( "+" | "-" ) prod }
@@ -142,8 +137,7 @@ fn sum(alloc: Global, tokens: &[Spanned]) -> Result<(Sum, &[Spanned]), Stuck>
 #[cycle(expr)]
 fn prod(alloc: Global, tokens: &[Spanned]) -> Result<(Prod, &[Spanned]), Stuck>
     ensures shorter { IfOk result (λ read. length read.1.now < length tokens.now) }
-    ensures read { IfOk result (λ read.
-        IsRead prod_then operator_level (plain tokens.now) (prod_tree read.0) (plain read.1.now)) }
+    ensures read { IfOk result (ReadsAs prod_tree prod_then operator_level (plain tokens.now)) }
     ensures refused { IfErr result (Refuses prod_then operator_level (plain tokens.now)) }
 {
     // prod = unary { ( "*" | "/" | "%" ) unary }
@@ -160,8 +154,7 @@ fn prod(alloc: Global, tokens: &[Spanned]) -> Result<(Prod, &[Spanned]), Stuck>
 #[cycle(expr)]
 fn unary(alloc: Global, tokens: &[Spanned]) -> Result<(Unary, &[Spanned]), Stuck>
     ensures shorter { IfOk result (λ read. length read.1.now < length tokens.now) }
-    ensures read { IfOk result (λ read.
-        IsRead unary_then bracket_level (plain tokens.now) (unary_tree read.0) (plain read.1.now)) }
+    ensures read { IfOk result (ReadsAs unary_tree unary_then bracket_level (plain tokens.now)) }
     ensures refused { IfErr result (Refuses unary_then bracket_level (plain tokens.now)) }
 {
     // unary = [ "-" ] atom
@@ -192,8 +185,7 @@ fn unary(alloc: Global, tokens: &[Spanned]) -> Result<(Unary, &[Spanned]), Stuck
 #[cycle(expr)]
 fn atom(alloc: Global, tokens: &[Spanned]) -> Result<(Atom, &[Spanned]), Stuck>
     ensures shorter { IfOk result (λ read. length read.1.now < length tokens.now) }
-    ensures read { IfOk result (λ read.
-        IsRead atom_then bracket_level (plain tokens.now) (atom_tree read.0) (plain read.1.now)) }
+    ensures read { IfOk result (ReadsAs atom_tree atom_then bracket_level (plain tokens.now)) }
     ensures refused { IfErr result (Refuses atom_then bracket_level (plain tokens.now)) }
 {
     // atom = number | "true" | "false" | name | name "[" expr "]"
@@ -213,8 +205,7 @@ fn atom(alloc: Global, tokens: &[Spanned]) -> Result<(Atom, &[Spanned]), Stuck>
 #[cycle(expr)]
 fn named(alloc: Global, tokens: &[Spanned]) -> Result<(Atom, &[Spanned]), Stuck>
     ensures shorter { IfOk result (λ read. length read.1.now < length tokens.now) }
-    ensures read { IfOk result (λ read.
-        IsRead atom_then bracket_level (plain tokens.now) (atom_tree read.0) (plain read.1.now)) }
+    ensures read { IfOk result (ReadsAs atom_tree atom_then bracket_level (plain tokens.now)) }
     ensures refused { IfErr result (λ stuck. stuck ≢ Stuck.OutOfMemory
         → (name : List ℕ) (rest : List PlainToken) → plain tokens.now ≡ NameToken name ∷ rest
         → SpellsNone atom_then bracket_level (plain tokens.now)) }
@@ -264,8 +255,7 @@ fn enclosed(
 /// An atom that holds no expression and begins with no name.
 fn constant(tokens: &[Spanned]) -> Result<(Atom, &[Spanned]), Stuck>
     ensures shorter { IfOk result (λ read. length read.1.now < length tokens.now) }
-    ensures read { IfOk result (λ read.
-        IsRead atom_then bracket_level (plain tokens.now) (atom_tree read.0) (plain read.1.now)) }
+    ensures read { IfOk result (ReadsAs atom_tree atom_then bracket_level (plain tokens.now)) }
     ensures refused { IfErr result (λ stuck. stuck ≢ Stuck.OutOfMemory
         → ((name : List ℕ) (rest : List PlainToken) → plain tokens.now ≢ NameToken name ∷ rest)
         → ((mark : AnyMark) (rest : List PlainToken) → plain tokens.now ≢ MarkToken mark ∷ rest)

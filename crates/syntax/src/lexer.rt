@@ -88,14 +88,14 @@ fn blank(chars: &[char]) -> Option<&[char]>
 }
 
 /// Whether this character stands between tokens.
-fn is_blank(c: char) -> bool
+pub fn is_blank(c: char) -> bool
     ensures { result ≡ is_blank c }
 {
     c == ' ' || c == '\t' || c == '\r' || c == '\n'
 }
 
 /// How many characters stand before the first line feed.
-fn line_length(chars: &[char]) -> usize
+pub fn line_length(chars: &[char]) -> usize
     ensures { result ≡ prefix_len is_in_line chars.now }
 {
     chars.iter().take_while(|c| **c != '\n').count()
@@ -153,7 +153,7 @@ fn name_length(chars: &[char]) -> usize
 }
 
 /// How many digits stand first.
-fn digits_length(chars: &[char]) -> usize
+pub fn digits_length(chars: &[char]) -> usize
     ensures { result ≡ prefix_len is_ascii_digit chars.now }
 {
     chars.iter().take_while(|c| c.is_ascii_digit()).count()

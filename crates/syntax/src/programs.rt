@@ -1,12 +1,13 @@
 //! Programs, procedures and declarations, one function for each production.
 
-ghost use Rattle.std.specs.Prelude.{◌≡◌, ◌≢◌, ◌<◌, ◌≤◌, ℕ, List, ◌∷◌, [], length, map, IfOk, IfErr};
+ghost use Rattle.std.specs.Prelude.{◌≡◌, ◌≢◌, ◌<◌, ◌≤◌, ℕ, List, ◌∷◌, length, map, IfOk, IfErr};
 ghost use Rattle.std.specs.String.{string_bytes};
 ghost use Rattle.syntax_tree.specs.declared.tree.ElementType.{ElementType as AnyElement};
-ghost use Rattle.syntax.specs.Reading.{IsRead, IsReadClosed, Refuses, RefusesClosed, list_level};
-ghost use Rattle.syntax.specs.Spelling.{arrays_then, block_then, element_word};
+ghost use Rattle.syntax.specs.Reading.{IsRead, IsReadClosed, ReadsClosed, Refuses};
+ghost use Rattle.syntax.specs.Reading.{RefusesClosed, list_level};
+ghost use Rattle.syntax.specs.Spelling.{array_then, arrays_then, block_then, element_word};
 ghost use Rattle.syntax.specs.Spelling.{main_tokens, parameter_then};
-ghost use Rattle.syntax.specs.Spelling.{parameters_then, procedures_then, spelling};
+ghost use Rattle.syntax.specs.Spelling.{parameters_then, procedure_then, spelling};
 ghost use Rattle.syntax.specs.Token.{Token as PlainToken, NameToken, WordToken, MarkToken, plain};
 ghost use Rattle.syntax_tree.specs.Tree.{Main as MainTree, Program as ProgramTree};
 ghost use Rattle.syntax_tree.specs.Tree.{array as array_tree, block};
@@ -93,12 +94,10 @@ fn arrays(alloc: Global, tokens: &[Spanned]) -> Result<(Vec<Array>, &[Spanned]),
 
 fn array(tokens: &[Spanned]) -> Result<(Array, &[Spanned]), Stuck>
     ensures shorter { IfOk result (λ read. length read.1.now < length tokens.now) }
-    ensures read { IfOk result (λ read.
-        IsReadClosed (λ array rest. arrays_then (array ∷ []) rest)
-        (WordToken Word.Array ∷ plain tokens.now) (array_tree read.0) (plain read.1.now)) }
-    ensures refused { IfErr result (RefusesClosed
-        (λ array rest. arrays_then (array ∷ []) rest)
-        (WordToken Word.Array ∷ plain tokens.now)) }
+    ensures read { IfOk result
+        (ReadsClosed array_tree array_then (WordToken Word.Array ∷ plain tokens.now)) }
+    ensures refused { IfErr result
+        (RefusesClosed array_then (WordToken Word.Array ∷ plain tokens.now)) }
 {
     // array = "array" name ":" elem "[" number "]" ";", its first word read
     let (name, element, rest) = section(tokens)?;
@@ -136,12 +135,10 @@ fn element_type(tokens: &[Spanned]) -> Result<(ElementType, &[Spanned]), Stuck>
 
 fn procedure(alloc: Global, tokens: &[Spanned]) -> Result<(Procedure, &[Spanned]), Stuck>
     ensures shorter { IfOk result (λ read. length read.1.now < length tokens.now) }
-    ensures read { IfOk result (λ read.
-        IsReadClosed (λ procedure rest. procedures_then (procedure ∷ []) rest)
-        (WordToken Word.Proc ∷ plain tokens.now) (procedure_tree read.0) (plain read.1.now)) }
-    ensures refused { IfErr result (RefusesClosed
-        (λ procedure rest. procedures_then (procedure ∷ []) rest)
-        (WordToken Word.Proc ∷ plain tokens.now)) }
+    ensures read { IfOk result
+        (ReadsClosed procedure_tree procedure_then (WordToken Word.Proc ∷ plain tokens.now)) }
+    ensures refused { IfErr result
+        (RefusesClosed procedure_then (WordToken Word.Proc ∷ plain tokens.now)) }
 {
     // proc = "proc" name "(" [ param { "," param } ] ")" block, its first word read
     let (name, rest) = cursor::name(tokens)?;
@@ -169,10 +166,10 @@ fn parameters(alloc: Global, tokens: &[Spanned]) -> Result<(Vec<Parameter>, &[Sp
         (plain tokens.now)) }
 {
     // [ param { "," param } ] ")"
-    let mut parameters = Vec::new(alloc);
     if let Some(rest) = cursor::after_mark(tokens, Mark::RightParen) {
-        return Ok((parameters, rest));
+        return Ok((Vec::new(alloc), rest));
     }
+    let mut parameters = Vec::new(alloc);
     let (first, mut left) = parameter(tokens)?;
     parameters.push(first)?;
     while let Some(after) = cursor::after_mark(left, Mark::Comma) {
@@ -186,8 +183,7 @@ fn parameters(alloc: Global, tokens: &[Spanned]) -> Result<(Vec<Parameter>, &[Sp
 
 fn parameter(tokens: &[Spanned]) -> Result<(Parameter, &[Spanned]), Stuck>
     ensures shorter { IfOk result (λ read. length read.1.now < length tokens.now) }
-    ensures read { IfOk result (λ read.
-        IsReadClosed parameter_then (plain tokens.now) (parameter_tree read.0) (plain read.1.now)) }
+    ensures read { IfOk result (ReadsClosed parameter_tree parameter_then (plain tokens.now)) }
     ensures refused { IfErr result (RefusesClosed parameter_then (plain tokens.now)) }
 {
     // param = ( "mut" | "read" ) name ":" elem | name ":" "int"

@@ -2,7 +2,7 @@
 
 ghost use Rattle.std.specs.Prelude.{◌≡◌, ◌≢◌, ◌<◌, List, ◌∷◌, length, IfOk, IfErr};
 ghost use Rattle.syntax.specs.declared.token.Word.{Word as AnyWord};
-ghost use Rattle.syntax.specs.Reading.{IsRead, IsReadClosed, Refuses, RefusesClosed};
+ghost use Rattle.syntax.specs.Reading.{ReadsAs, ReadsClosed, IsReadClosed, Refuses, RefusesClosed};
 ghost use Rattle.syntax.specs.Reading.{SpellsNone, else_level};
 ghost use Rattle.syntax.specs.Spelling.{expr_then, exprs_then, stmt_then, block_then};
 ghost use Rattle.syntax.specs.Token.{Token as PlainToken, WordToken, MarkToken, plain};
@@ -54,8 +54,7 @@ pub fn block(alloc: Global, tokens: &[Spanned]) -> Result<(Vec<Stmt>, &[Spanned]
 #[cycle(stmt)]
 fn statement(alloc: Global, tokens: &[Spanned]) -> Result<(Stmt, &[Spanned]), Stuck>
     ensures shorter { IfOk result (λ read. length read.1.now < length tokens.now) }
-    ensures read { IfOk result (λ read.
-        IsRead stmt_then else_level (plain tokens.now) (stmt read.0) (plain read.1.now)) }
+    ensures read { IfOk result (ReadsAs stmt stmt_then else_level (plain tokens.now)) }
     ensures refused { IfErr result (Refuses stmt_then else_level (plain tokens.now)) }
 {
     let Some((word, rest)) = cursor::first_word(tokens) else {
@@ -82,9 +81,8 @@ fn statement(alloc: Global, tokens: &[Spanned]) -> Result<(Stmt, &[Spanned]), St
 #[cycle(stmt)]
 fn conditional(alloc: Global, tokens: &[Spanned]) -> Result<(Stmt, &[Spanned]), Stuck>
     ensures shorter { IfOk result (λ read. length read.1.now < length tokens.now) }
-    ensures read { IfOk result (λ read.
-        IsRead stmt_then else_level (WordToken Word.If ∷ plain tokens.now)
-        (stmt read.0) (plain read.1.now)) }
+    ensures read { IfOk result
+        (ReadsAs stmt stmt_then else_level (WordToken Word.If ∷ plain tokens.now)) }
     ensures refused { IfErr result
         (Refuses stmt_then else_level (WordToken Word.If ∷ plain tokens.now)) }
 {
@@ -117,9 +115,8 @@ fn conditional(alloc: Global, tokens: &[Spanned]) -> Result<(Stmt, &[Spanned]), 
 #[cycle(stmt)]
 fn repeated(alloc: Global, tokens: &[Spanned]) -> Result<(Stmt, &[Spanned]), Stuck>
     ensures shorter { IfOk result (λ read. length read.1.now < length tokens.now) }
-    ensures read { IfOk result (λ read.
-        IsRead stmt_then else_level (WordToken Word.While ∷ plain tokens.now)
-        (stmt read.0) (plain read.1.now)) }
+    ensures read { IfOk result
+        (ReadsAs stmt stmt_then else_level (WordToken Word.While ∷ plain tokens.now)) }
     ensures refused { IfErr result
         (Refuses stmt_then else_level (WordToken Word.While ∷ plain tokens.now)) }
 {
@@ -132,9 +129,8 @@ fn repeated(alloc: Global, tokens: &[Spanned]) -> Result<(Stmt, &[Spanned]), Stu
 #[cycle(stmt)]
 fn split(alloc: Global, tokens: &[Spanned]) -> Result<(Stmt, &[Spanned]), Stuck>
     ensures shorter { IfOk result (λ read. length read.1.now < length tokens.now) }
-    ensures read { IfOk result (λ read.
-        IsRead stmt_then else_level (WordToken Word.Split ∷ plain tokens.now)
-        (stmt read.0) (plain read.1.now)) }
+    ensures read { IfOk result
+        (ReadsAs stmt stmt_then else_level (WordToken Word.Split ∷ plain tokens.now)) }
     ensures refused { IfErr result
         (Refuses stmt_then else_level (WordToken Word.Split ∷ plain tokens.now)) }
 {
@@ -162,8 +158,7 @@ fn split(alloc: Global, tokens: &[Spanned]) -> Result<(Stmt, &[Spanned]), Stuck>
 /// A statement without a block that a word begins.
 fn simple(alloc: Global, tokens: &[Spanned]) -> Result<(Stmt, &[Spanned]), Stuck>
     ensures shorter { IfOk result (λ read. length read.1.now < length tokens.now) }
-    ensures read { IfOk result (λ read.
-        IsRead stmt_then else_level (plain tokens.now) (stmt read.0) (plain read.1.now)) }
+    ensures read { IfOk result (ReadsAs stmt stmt_then else_level (plain tokens.now)) }
     ensures refused { IfErr result (λ stuck. stuck ≢ Stuck.OutOfMemory
         → (word : AnyWord) (rest : List PlainToken) → plain tokens.now ≡ WordToken word ∷ rest
         → word ≢ Word.If → word ≢ Word.While → word ≢ Word.Split
@@ -190,9 +185,9 @@ fn simple(alloc: Global, tokens: &[Spanned]) -> Result<(Stmt, &[Spanned]), Stuck
 /// An expression and the semicolon that ends its statement.
 fn ended(alloc: Global, tokens: &[Spanned]) -> Result<(Expr, &[Spanned]), Stuck>
     ensures shorter { IfOk result (λ read. length read.1.now < length tokens.now) }
-    ensures read { IfOk result (λ read.
-        IsReadClosed (λ value rest. expr_then value (MarkToken Mark.Semicolon ∷ rest))
-        (plain tokens.now) (expr_tree read.0) (plain read.1.now)) }
+    ensures read { IfOk result
+        (ReadsClosed expr_tree (λ value rest. expr_then value (MarkToken Mark.Semicolon ∷ rest))
+        (plain tokens.now)) }
     ensures refused { IfErr result (RefusesClosed
         (λ value rest. expr_then value (MarkToken Mark.Semicolon ∷ rest))
         (plain tokens.now)) }
@@ -205,9 +200,8 @@ fn ended(alloc: Global, tokens: &[Spanned]) -> Result<(Expr, &[Spanned]), Stuck>
 
 fn declared(alloc: Global, tokens: &[Spanned]) -> Result<(Stmt, &[Spanned]), Stuck>
     ensures shorter { IfOk result (λ read. length read.1.now < length tokens.now) }
-    ensures read { IfOk result (λ read.
-        IsRead stmt_then else_level (WordToken Word.Var ∷ plain tokens.now)
-        (stmt read.0) (plain read.1.now)) }
+    ensures read { IfOk result
+        (ReadsAs stmt stmt_then else_level (WordToken Word.Var ∷ plain tokens.now)) }
     ensures refused { IfErr result
         (Refuses stmt_then else_level (WordToken Word.Var ∷ plain tokens.now)) }
 {
@@ -220,9 +214,8 @@ fn declared(alloc: Global, tokens: &[Spanned]) -> Result<(Stmt, &[Spanned]), Stu
 
 fn printed(alloc: Global, tokens: &[Spanned]) -> Result<(Stmt, &[Spanned]), Stuck>
     ensures shorter { IfOk result (λ read. length read.1.now < length tokens.now) }
-    ensures read { IfOk result (λ read.
-        IsRead stmt_then else_level (WordToken Word.Print ∷ plain tokens.now)
-        (stmt read.0) (plain read.1.now)) }
+    ensures read { IfOk result
+        (ReadsAs stmt stmt_then else_level (WordToken Word.Print ∷ plain tokens.now)) }
     ensures refused { IfErr result
         (Refuses stmt_then else_level (WordToken Word.Print ∷ plain tokens.now)) }
 {
@@ -242,8 +235,7 @@ fn printed(alloc: Global, tokens: &[Spanned]) -> Result<(Stmt, &[Spanned]), Stuc
 /// A statement that a name begins.
 fn named(alloc: Global, tokens: &[Spanned]) -> Result<(Stmt, &[Spanned]), Stuck>
     ensures shorter { IfOk result (λ read. length read.1.now < length tokens.now) }
-    ensures read { IfOk result (λ read.
-        IsRead stmt_then else_level (plain tokens.now) (stmt read.0) (plain read.1.now)) }
+    ensures read { IfOk result (ReadsAs stmt stmt_then else_level (plain tokens.now)) }
     ensures refused { IfErr result (λ stuck. stuck ≢ Stuck.OutOfMemory
         → ((word : AnyWord) (rest : List PlainToken) → plain tokens.now ≢ WordToken word ∷ rest)
         → SpellsNone stmt_then else_level (plain tokens.now)) }

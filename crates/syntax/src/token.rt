@@ -20,6 +20,23 @@ pub enum Token {
     Mark(Mark),
 }
 
+/// What stands to the left of a token, in a text or in a line that is written.
+#[derive(Clone, Copy, PartialEq, Eq, Debug)]
+pub enum Left {
+    /// Nothing in its line.
+    Margin,
+    /// `(`, `[`, or the `-` of `-1`
+    Opening,
+    /// `total`, `len`, `int` or `byte`
+    Called,
+    /// `7`, `true`, `false`, `)` or `]`
+    Operand,
+    /// `;`, `{` or `}`, which end a line
+    Ended,
+    /// `while`, or the `-` of `a - b`
+    Other,
+}
+
 /// A word that is no name.
 #[derive(Clone, Copy, PartialEq, Eq, Debug)]
 pub enum Word {

@@ -1,14 +1,17 @@
-use Rattle.std.proofs.Common.{◌+◌, ◌-◌, ◌<◌, ◌≤◌, ◌∷◌, codes, drop, length, refl, ap, sym, ◌∙◌, rules}
+use Rattle.std.proofs.Common.{◌≡◌, ◌+◌, ◌-◌, ◌<◌, ◌≤◌, ℕ, List, ◌∷◌, ◌++◌, codes, drop, length, refl, ap, sym, ◌∙◌, rules}
+use Rattle.std.proofs.Common.{Result, OnOk, String, Global}
 use Rattle.std.proofs.lemmas.List.{at_drop_more, at_drop_all}
 use Rattle.std.specs.Option.{option_map}
 use Rattle.std.specs.String.{string_bytes}
 use Rattle.syntax_tree.specs.declared.tree.Stmt.TheVariants.{If as rIf}
 use Rattle.syntax.specs.declared.token.Word.TheVariants.{Else as WordElse}
 use Rattle.syntax.specs.declared.token.Mark.TheVariants.{LeftBrace}
-use Rattle.syntax.specs.Canonical.{Margin, Opening, Operand, Ended, Other}
+use Rattle.syntax.specs.declared.token.Left.TheVariants.{Margin, Opening, Operand, Ended, Other}
 use Rattle.syntax.specs.Spelling.{stmt_then, block_then}
-use Rattle.syntax.specs.Token.{WordToken, MarkToken}
-use Rattle.syntax_tree.specs.Tree.{If, IfElse, While, Split, Async, Finish, Then, expr, stmt, block}
+use Rattle.syntax.specs.Token.{Token, WordToken, MarkToken}
+use Rattle.syntax.specs.declared.canonical.Lines.{Lines}
+use Rattle.syntax.specs.Canonical.{laid}
+use Rattle.syntax_tree.specs.Tree.{Stmt, If, IfElse, While, Split, Async, Finish, Block, Then, expr, stmt, block}
 use Rattle.syntax.specs.Writing.{place, with_rest}
 use Rattle.syntax.proofs.ExpressionText.{ok_then, ok_map3, pushed}
 use Rattle.syntax.proofs.LineText.{wrote, wrote_adds, wrote_text, counted_by, stmt_begins, block_is_line, laid-opening_brace}
@@ -31,6 +34,18 @@ block-returns-clause-written t c =
     ∙ c.in_ok-statements.ensures.written r
     ∙ wrote behind c.close.new.self Margin Ended _ _ _ (behind.depth - 1) behind.label text depth label
     (laid-closing_brace behind.depth behind.label r))
+
+-- a statement of a word and a block, whose word is written
+block_written : {X E : Type 0} (result : Result X E) (old new : Lines) (now : String Global) (word : List ℕ) (s t : Stmt) (b : Block)
+    → s ≡ t → string_bytes now ≡ string_bytes old.text ++ word
+    → ((r : List Token) → laid (place old Opening) (stmt_then t r)
+    ≡ word ++ laid (place old Other) (MarkToken LeftBrace ∷ block_then b r))
+    → OnOk result ((r : List Token) → with_rest (record old { text = now }) Other (MarkToken LeftBrace ∷ block_then b r)
+    ≡ with_rest new Ended r)
+    → OnOk result ((r : List Token) → with_rest old Opening (stmt_then s r) ≡ with_rest new Ended r)
+block_written result old new now word s t b is text laid_so behind =
+    ok_then result behind (λ written r. ap (λ x. with_rest old Opening (stmt_then x r)) is
+    ∙ wrote_text old now Opening Other _ _ word text (laid_so r) ∙ written r)
 
 pub line-simple-requires-clause-simple : goal.line-simple-requires-clause-simple
 line-simple-requires-clause-simple t c = is_simple-true c.args.statement.now c.in-Skip.is
@@ -71,25 +86,17 @@ line-returns-in_ok-split-in-Split-clause-written t c =
 
 pub line-returns-in_ok-push_str-in-Async-clause-written : goal.line-returns-in_ok-push_str-in-Async-clause-written
 line-returns-in_ok-push_str-in-Async-clause-written t c =
-    let old = c.args.lines.now in
     let body = block c.deref-in-Async.result.now in
     let is = ap stmt c.in-Async.is ∙ stmt_Async c.in-Async.body ∙ ap (λ v. Async (block v)) (sym c.deref-in-Async.ensures.value) in
-    ok_then c.block-in-Async.result c.block-in-Async.ensures.written (λ written r.
-    ap (λ s. with_rest old Opening (stmt_then s r)) is
-    ∙ wrote_text old c.push_str.new.self Opening Other _ _ (codes "async") c.in_ok-push_str-in-Async.ensures.bytes (laid_Async
-    (place old Opening) body r)
-    ∙ written r)
+    block_written c.block-in-Async.result c.args.lines.now c.block-in-Async.new.lines c.push_str.new.self (codes "async") _ _ body is
+    c.in_ok-push_str-in-Async.ensures.bytes (laid_Async (place c.args.lines.now Opening) body) c.block-in-Async.ensures.written
 
 pub line-returns-in_ok-push_str-in-Finish-clause-written : goal.line-returns-in_ok-push_str-in-Finish-clause-written
 line-returns-in_ok-push_str-in-Finish-clause-written t c =
-    let old = c.args.lines.now in
     let body = block c.deref-in-Finish.result.now in
     let is = ap stmt c.in-Finish.is ∙ stmt_Finish c.in-Finish.body ∙ ap (λ v. Finish (block v)) (sym c.deref-in-Finish.ensures.value) in
-    ok_then c.block-in-Finish.result c.block-in-Finish.ensures.written (λ written r.
-    ap (λ s. with_rest old Opening (stmt_then s r)) is
-    ∙ wrote_text old c.push_str-in-Finish.new.self Opening Other _ _ (codes "finish") c.in_ok-push_str-in-Finish.ensures.bytes
-    (laid_Finish (place old Opening) body r)
-    ∙ written r)
+    block_written c.block-in-Finish.result c.args.lines.now c.block-in-Finish.new.lines c.push_str-in-Finish.new.self (codes "finish") _ _ body is
+    c.in_ok-push_str-in-Finish.ensures.bytes (laid_Finish (place c.args.lines.now Opening) body) c.block-in-Finish.ensures.written
 
 pub line-returns-in_ok-simple-in-Skip : goal.line-returns-in_ok-simple-in-Skip
 unfolding lib.Utf8.encode

@@ -1,7 +1,7 @@
 use Rattle.std.proofs.Common.{◌≡◌, ◌+◌, ◌*◌, List, drop}
 use Rattle.syntax_tree.proofs.tree.Stmt.TheLaws.{the_size}
 use Rattle.syntax_tree.specs.declared.tree.Stmt.TheVariants.{If as rIf}
-use Rattle.syntax.specs.Canonical.{Margin}
+use Rattle.syntax.specs.declared.token.Left.TheVariants.{Margin}
 use Rattle.syntax.specs.Spelling.{block_then}
 use Rattle.syntax.specs.Token.{Token}
 use Rattle.syntax_tree.specs.Tree.{block}

@@ -12,7 +12,7 @@ pub returns-in-Some-clause-read : goal.returns-in-Some-clause-read
 unfolding parameters_then
 returns-in-Some-clause-read c = record {
   spelled = c.in-Some.ensures.found
-      ∙ ap (λ l. parameters_then (map parameter l) (MarkToken RightParen ∷ plain c.in-Some.rest.now)) (sym c.new-parameters.ensures.items);
+      ∙ ap (λ l. parameters_then (map parameter l) (MarkToken RightParen ∷ plain c.in-Some.rest.now)) (sym c.new.ensures.items);
   whole = λ all r spelled.
       parameters_closed all _ r (sym c.in-Some.ensures.found ∙ spelled);
 }

@@ -6,19 +6,19 @@ use Rattle.syntax.proofs.BlockLemmas.{stmts_then}
 use Rattle.syntax.proofs.statements.+stmt.Given as goal
 
 abbrev pub decreases-block : goal.decreases-block
-decreases-block l = 2 * length l.tokens.now + 0
+decreases-block l = 2 * length l.tokens.now
 
 abbrev pub decreases-conditional : goal.decreases-conditional
-decreases-conditional l = 2 * length l.tokens.now + 0
+decreases-conditional l = 2 * length l.tokens.now
 
 abbrev pub decreases-repeated : goal.decreases-repeated
-decreases-repeated l = 2 * length l.tokens.now + 0
+decreases-repeated l = 2 * length l.tokens.now
 
 abbrev pub decreases-split : goal.decreases-split
-decreases-split l = 2 * length l.tokens.now + 0
+decreases-split l = 2 * length l.tokens.now
 
 abbrev pub decreases-statement : goal.decreases-statement
-decreases-statement l = 2 * length l.tokens.now + 0
+decreases-statement l = 2 * length l.tokens.now
 
 abbrev pub decreases-statements : goal.decreases-statements
 decreases-statements l = 2 * length l.tokens.now + 1

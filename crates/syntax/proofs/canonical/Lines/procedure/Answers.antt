@@ -1,6 +1,7 @@
 use Rattle.std.proofs.Common.{◌++◌, ◌∷◌, [], codes, map, ap, sym, ◌∙◌}
 use Rattle.std.specs.String.{string_bytes}
-use Rattle.syntax.specs.Canonical.{Margin, Ended, Other, in_line}
+use Rattle.syntax.specs.Canonical.{in_line}
+use Rattle.syntax.specs.declared.token.Left.TheVariants.{Margin, Ended, Other}
 use Rattle.syntax.specs.declared.token.Mark.TheVariants.{LeftBrace}
 use Rattle.syntax.specs.Token.{MarkToken}
 use Rattle.syntax.specs.Spelling.{block_then, parameters_then, procedures_then, main_tokens}

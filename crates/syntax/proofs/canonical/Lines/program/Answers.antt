@@ -2,7 +2,8 @@ use Rattle.std.proofs.Common.{◌+◌, ◌-◌, ◌≤◌, ◌∷◌, [], codes,
 use Rattle.std.proofs.lemmas.List.{at_drop_all}
 use Rattle.std.specs.Option.{option_map}
 use Rattle.std.specs.String.{string_bytes}
-use Rattle.syntax.specs.Canonical.{Margin, Ended, Other, laid}
+use Rattle.syntax.specs.Canonical.{laid}
+use Rattle.syntax.specs.declared.token.Left.TheVariants.{Margin, Ended, Other}
 use Rattle.syntax.specs.Spelling.{spelling, procedures_then, main_tokens, arrays_then, block_then}
 use Rattle.syntax.specs.declared.token.Mark.TheVariants.{RightBrace}
 use Rattle.syntax.specs.Token.{MarkToken}

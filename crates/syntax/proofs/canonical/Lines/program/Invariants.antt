@@ -1,6 +1,6 @@
 use Rattle.std.proofs.Common.{◌≡◌, [], drop, map}
 use Rattle.std.specs.Option.{option_map}
-use Rattle.syntax.specs.Canonical.{Margin}
+use Rattle.syntax.specs.declared.token.Left.TheVariants.{Margin}
 use Rattle.syntax.specs.Spelling.{spelling, procedures_then, main_tokens, arrays_then, block_then}
 use Rattle.syntax_tree.specs.Tree.{program, procedure, main, array, block}
 use Rattle.syntax.specs.Writing.{with_rest, IsCounted}
