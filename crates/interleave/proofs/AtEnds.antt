@@ -21,12 +21,12 @@ use Rattle.gather.specs.Jobs.{program_of, lists_of, budget_of}
 use Rattle.gather.specs.declared.job.Job.{Job}
 use Rattle.interleave.specs.Acting.{IsReady}
 use Rattle.interleave.specs.Courses.{Course, IsKnown, course_of, IsDoing, IsNext}
-use Rattle.interleave.specs.Ending.{GivesBack, IsSeen, IsSetDown, IsUnseen, IsInNoHand}
+use Rattle.interleave.specs.Ending.{GivesBack, IsSeen, IsSetDown}
 use Rattle.interleave.specs.Ending.{NoneIsLate, ScopeBecomes, StandsAt, TaskBecomes, has_ended, is_root, is_waiting}
 use Rattle.interleave.specs.Events.{Event, Ends, Parks, only_if, did, give_back, owns, with_next, in_innermost, next_action, by_end, by_park}
 use Rattle.interleave.specs.Jobs.{IsWeightedJob}
 use Rattle.interleave.specs.Replay.{does, hands_on}
-use Rattle.interleave.specs.Shown.{AreBoth, IsTaskOf, IsBookOf, IsDoingThere, IsTold, Becomes, Refuses, ScopeStays, Shows, WorldStays, is_path, is_scope, next_world}
+use Rattle.interleave.specs.Shown.{AreBoth, ArePaths, IsTaskOf, IsWorld, IsBookOf, IsDoingThere, IsTold, Becomes, Refuses, ScopeStays, Shows, WorldStays, is_path, is_scope, next_world}
 use Rattle.interleave.specs.Shown.{scope_id, stake, whereabouts}
 use Rattle.interleave.specs.World.{Stake, Live, Scope, World, Whereabouts, Hand, Parked, task, put_task}
 use Rattle.interleave.specs.World.{without_task, scope, put_scope, hand_of, hand_is_free, is_passed, root_scope}
@@ -43,7 +43,7 @@ use Rattle.interleave.specs.declared.task.Whereabouts.{Whereabouts as rWhereabou
 use Rattle.interleave.specs.declared.task.Whereabouts.TheVariants.{Queue as rQueue, Hand as rHand, Parked as rParked}
 use Rattle.interleave.specs.declared.world.World.{World as rWorld}
 use Rattle.interleave.proofs.Came.{ends_with}
-use Rattle.interleave.proofs.InHand.{InHand, acts as goes_by, acts_nowhere, ahead_of, in_the_hand, known_next}
+use Rattle.interleave.proofs.InHand.{InHand, acts as goes_by, acts_nowhere, ahead_of, does_in, err_is, gives_in, in_the_hand, known_next}
 use Rattle.interleave.proofs.GoingOn.{ends_are_own}
 use Rattle.interleave.proofs.Hands.{hands_are_apart, free_without, free_parked}
 use Rattle.interleave.proofs.LateWeights.{none_is_late}
@@ -53,7 +53,7 @@ use Rattle.interleave.proofs.Lookups.{passed-put_scope, scope_id as named_so}
 use Rattle.interleave.proofs.Outcomes.{IsSound, replays_are_worlds, sound}
 use Rattle.interleave.proofs.OwnTasks.{IsAtLevel, start_path}
 use Rattle.interleave.proofs.Present.{IsThere}
-use Rattle.interleave.proofs.Staying.{stays_book, stays_on, stays_shown}
+use Rattle.interleave.proofs.Staying.{refuses_after, refuses_by, stays_book, stays_on, stays_self, stays_shown}
 use Rattle.interleave.proofs.Tables.{there, not_there, tasks_put, paths_put, paths_without, scopes_put, led_on}
 use Rattle.own_run.proofs.SettledResults.{paths_same}
 
@@ -151,13 +151,12 @@ module _ (r : rWorld) (ok : IsWeightedJob r.job) (w : World) (h : Shows r w) whe
           record { its = k; at = at; inner = s; outer = outer; stakes = e; book = book.0; there = book.1 }
 
   -- no task in a hand, no event of one
-  pub unseen_ends : (path : Path) → IsUnseen r path Illegal → next_world r.job (Ends path.turns.items) w ≡ None
-  unseen_ends path =
-      acts_nowhere r w h path (λ t a. in_innermost r.job.w0 acts hands_on_so t.stakes (λ s outer. by_end r.job.w0 acts hands_on_so t s outer w a))
-
-  pub unseen_parks : (path : Path) → IsUnseen r path Illegal → next_world r.job (Parks path.turns.items) w ≡ None
-  unseen_parks path =
-      acts_nowhere r w h path (λ t a. in_innermost r.job.w0 acts hands_on_so t.stakes (λ s outer. by_park r.job.w0 acts hands_on_so t s outer w a))
+  unseen_goes : (path : Path) → ((k : rTask) → get is_path r.tasks path ≡ Some k → hand_of (whereabouts k.place) ≡ None)
+      → (go : Live → Stake → List Stake → World → Action → Option World)
+      → with_next r.job.w0 acts hands_on_so path.turns.items w
+      (λ t a. in_innermost r.job.w0 acts hands_on_so t.stakes (λ s outer. go t s outer w a)) ≡ None
+  unseen_goes path none go =
+      acts_nowhere r w h path (λ t a. in_innermost r.job.w0 acts hands_on_so t.stakes (λ s outer. go t s outer w a)) none
 
   -- ---- a task in a hand, whose next action is known
   module _ (path : Path) (worker : ℕ) (seen : IsSeen r path worker) where
@@ -268,6 +267,30 @@ module _ (r : rWorld) (ok : IsWeightedJob r.job) (w : World) (h : Shows r w) whe
       IsShownAfter e = (to : World) × (next_world r.job e w ≡ Some to)
           × Shows (record r { tasks = new.tasks; scopes = new.scopes; hands = new.hands }) to
 
+      -- its scope is given back weight and results
+      abbrev given_back : List Live → List TaskResult → World
+      given_back live results = record { live = live; scopes = put_scope (give_back inner.weight results its_book.0) w.scopes }
+
+      shown_after : (e : Event) (live : List Live) (results : List TaskResult) → next_world r.job e w ≡ Some (given_back live results)
+          → GivesBack inner.weight results book to_book
+          → ((q : Path) → AreBoth (IsTaskOf r.job.job) (get is_path new.tasks q) (task q.turns.items live)) → ArePaths live
+          → ((v : ℕ) → hand_is_free v live ≡ (nat_eq worker v || hand_is_free v w.live)) → IsShownAfter e
+      shown_after e live results legal gives tasks paths free = (
+        given_back live results,
+        legal,
+        record {
+          events = h.events ++ e ∷ [];
+          led = led_on p r.job.w0 (lists_of r.job.job) (budget_of r.job.job) e h.events w (given_back live results) h.led legal;
+          tasks = tasks;
+          paths = paths;
+          scopes = scopes_put (get is_scope r.scopes) (get is_scope new.scopes) inner.scope to_book its_book.0
+              (give_back inner.weight results its_book.0) w.scopes h.scopes its_book.1
+              (named_so (scope_id inner.scope) w.scopes its_book.0 its_book.1) (gives its_book.0 its_book.2) each_scope;
+          hands = hands_so live free;
+          told = told_so (give_back inner.weight results its_book.0) refl refl;
+        },
+      )
+
       -- ---- a task ends
       module _ (made : Made) (at_end : seen.its.doing ≡ AtEnd made) (ended : has_ended path.turns.items seen.its.doing ≡ true)
           (gives : GivesBack inner.weight (task_result made ∷ []) book to_book)
@@ -276,10 +299,7 @@ module _ (r : rWorld) (ok : IsWeightedJob r.job) (w : World) (h : Shows r w) whe
         handed = hands_on_so found.its.start found.its.receipts
 
         abbrev without : World
-        without = record {
-          live = without_task found.its.path w.live;
-          scopes = put_scope (give_back inner.weight (handed ∷ []) its_book.0) w.scopes;
-        }
+        without = given_back (without_task found.its.path w.live) (handed ∷ [])
 
         made_so : task_result made ≡ handed
         made_so =
@@ -318,24 +338,12 @@ module _ (r : rWorld) (ok : IsWeightedJob r.job) (w : World) (h : Shows r w) whe
             (sym (task-without_task found.its.path q.turns.items w.live (λ same. other_path e (sym found.named ∙ same)))) (h.tasks q)))
 
         pub ended_shown : IsShownAfter (Ends path.turns.items)
-        ended_shown = (
-          without,
-          end_legal,
-          record {
-            events = h.events ++ Ends path.turns.items ∷ [];
-            led = led_on p r.job.w0 (lists_of r.job.job) (budget_of r.job.job) (Ends path.turns.items) h.events w without h.led end_legal;
-            tasks = tasks_so;
-            paths = paths_without found.its.path found.its w.live (ap (λ x. task x w.live) found.named ∙ found.lives) h.paths;
-            scopes = scopes_put (get is_scope r.scopes) (get is_scope new.scopes) inner.scope to_book its_book.0
-                (give_back inner.weight (handed ∷ []) its_book.0) w.scopes h.scopes its_book.1
-                (named_so (scope_id inner.scope) w.scopes its_book.0 its_book.1)
-                (subst (λ x. IsBookOf to_book (give_back inner.weight (x ∷ []) its_book.0)) made_so (gives its_book.0 its_book.2)) each_scope;
-            hands = hands_so (without_task found.its.path w.live)
-                (λ v. free_without found.its w.live (hands_are_apart p r.job.w0 (lists_of r.job.job) (budget_of r.job.job) h.events w h.led) worker v
-                found.hand found.its.path (ap (λ x. task x w.live) found.named ∙ found.lives));
-            told = told_so (give_back inner.weight (handed ∷ []) its_book.0) refl refl;
-          },
-        )
+        ended_shown =
+            shown_after (Ends path.turns.items) (without_task found.its.path w.live) (handed ∷ []) end_legal
+            (subst (λ x. GivesBack inner.weight (x ∷ []) book to_book) made_so gives) tasks_so
+            (paths_without found.its.path found.its w.live (ap (λ x. task x w.live) found.named ∙ found.lives) h.paths)
+            (λ v. free_without found.its w.live (hands_are_apart p r.job.w0 (lists_of r.job.job) (budget_of r.job.job) h.events w h.led) worker v
+            found.hand found.its.path (ap (λ x. task x w.live) found.named ∙ found.lives))
 
       -- ---- a task is parked
       module _ (waits : is_waiting path.turns.items seen.its.doing ≡ true) (gives : GivesBack inner.weight [] book to_book)
@@ -345,10 +353,7 @@ module _ (r : rWorld) (ok : IsWeightedJob r.job) (w : World) (h : Shows r w) whe
         parked = record (did found.its (record (stake inner) { weight = 0 } ∷ map stake outer)) { place = Parked }
 
         abbrev with_parked : World
-        with_parked = record {
-          live = put_task parked w.live;
-          scopes = put_scope (give_back inner.weight [] its_book.0) w.scopes;
-        }
+        with_parked = given_back (put_task parked w.live) []
 
         park_next : found.action ≡ EndFinish
         park_next = finishes_so found.action (does_as.1 ∙ waits)
@@ -366,35 +371,24 @@ module _ (r : rWorld) (ok : IsWeightedJob r.job) (w : World) (h : Shows r w) whe
             }
 
         pub parked_shown : IsShownAfter (Parks path.turns.items)
-        parked_shown = (
-          with_parked,
-          park_legal,
-          record {
-            events = h.events ++ Parks path.turns.items ∷ [];
-            led = led_on p r.job.w0 (lists_of r.job.job) (budget_of r.job.job) (Parks path.turns.items) h.events w with_parked h.led park_legal;
-            tasks = tasks_put r.job.job (get is_path r.tasks) (get is_path new.tasks) path to_task found.its parked w.live h.tasks found.lives
-                found.named
-                (record {
-                  place = ap whereabouts down.place;
-                  stakes = down.stakes inner outer stakes;
-                  opened = down.opened ∙ found.is.opened;
-                  doing = record {
-                    before = course_of found.its;
-                    last = refl;
-                    at = subst (IsDoing r.job.job (course_of found.its)) (sym down.doing) found.doing;
-                  };
-                })
-                each;
-            paths = paths_put parked found.its w.live (ap (λ x. task x w.live) found.named ∙ found.lives) h.paths;
-            scopes = scopes_put (get is_scope r.scopes) (get is_scope new.scopes) inner.scope to_book its_book.0
-                (give_back inner.weight [] its_book.0) w.scopes h.scopes its_book.1
-                (named_so (scope_id inner.scope) w.scopes its_book.0 its_book.1) (gives its_book.0 its_book.2) each_scope;
-            hands = hands_so (put_task parked w.live)
-                (λ v. free_parked found.its w.live (hands_are_apart p r.job.w0 (lists_of r.job.job) (budget_of r.job.job) h.events w h.led) worker v
-                found.hand parked refl (ap (λ x. task x w.live) found.named ∙ found.lives));
-            told = told_so (give_back inner.weight [] its_book.0) refl refl;
-          },
-        )
+        parked_shown =
+            shown_after (Parks path.turns.items) (put_task parked w.live) [] park_legal gives
+            (tasks_put r.job.job (get is_path r.tasks) (get is_path new.tasks) path to_task found.its parked w.live h.tasks found.lives
+            found.named
+            (record {
+              place = ap whereabouts down.place;
+              stakes = down.stakes inner outer stakes;
+              opened = down.opened ∙ found.is.opened;
+              doing = record {
+                before = course_of found.its;
+                last = refl;
+                at = subst (IsDoing r.job.job (course_of found.its)) (sym down.doing) found.doing;
+              };
+            })
+            each)
+            (paths_put parked found.its w.live (ap (λ x. task x w.live) found.named ∙ found.lives) h.paths)
+            (λ v. free_parked found.its w.live (hands_are_apart p r.job.w0 (lists_of r.job.job) (budget_of r.job.job) h.events w h.led) worker v
+            found.hand parked refl (ap (λ x. task x w.live) found.named ∙ found.lives))
 
 -- ---- for the functions of worlds
 -- the hand that a task is in
@@ -406,21 +400,23 @@ hand_place rParked v e = absurd (none-some _ e)
 pub seen_by : (r : rWorld) (path : Path) (worker : ℕ) → IsReady r path worker → IsSeen r path worker
 seen_by r path worker g = record { its = g.task; at = g.at; place = hand_place g.task.place worker g.hand; known = g.known }
 
-pub unseen_by : (r : rWorld) (path : Path) (e : EventError)
-    → (e ≡ Illegal → (k : rTask) → get is_path r.tasks path ≡ Some k → hand_of (whereabouts k.place) ≡ None) → IsUnseen r path e
-unseen_by r path Illegal none = none refl
-unseen_by r path NoMemory none = λ k at. tt
-
 -- what was found is where the task stands
+pub record IsHere (r : rWorld) (path : Path) (a : StandsAt r path) (k : rTask) (s : rStake) (b : rScope) : Type 0 where
+  pub task : k ≡ a.its
+  pub stake : s ≡ a.inner
+  pub book : b ≡ a.book
+
 pub found_here : {k : rTask} {s : rStake} {b : rScope} (r : rWorld) (path : Path) (a : StandsAt r path)
     → get is_path r.tasks path ≡ Some k → s ≡ slice_index_or k.stakes.items 0 s → get is_scope r.scopes s.scope ≡ Some b
-    → (s ≡ a.inner) × (b ≡ a.book)
+    → IsHere r path a k s b
 found_here {s = s} r path a at front there =
-    let task = same_Some _ _ (sym at ∙ a.at) in
-    let stake_is = front ∙ ap (λ xs. slice_index_or xs 0 s) (ap (λ (k : rTask). k.stakes.items) task ∙ a.stakes) in (
-      stake_is,
-      same_Some _ _ (sym there ∙ ap (λ (x : rStake). get is_scope r.scopes x.scope) stake_is ∙ a.there),
-    )
+    let task_is = same_Some _ _ (sym at ∙ a.at) in
+    let stake_is = front ∙ ap (λ xs. slice_index_or xs 0 s) (ap (λ (k : rTask). k.stakes.items) task_is ∙ a.stakes) in
+    record {
+      task = task_is;
+      stake = stake_is;
+      book = same_Some _ _ (sym there ∙ ap (λ (x : rStake). get is_scope r.scopes x.scope) stake_is ∙ a.there);
+    }
 
 -- and its weight there isn't more than what is out
 pub late_here : {k : rTask} {s : rStake} {b : rScope} (r : rWorld) (path : Path) → NoneIsLate r → (a : StandsAt r path)
@@ -429,30 +425,65 @@ pub late_here : {k : rTask} {s : rStake} {b : rScope} (r : rWorld) (path : Path)
 late_here r path none a at front there =
     let same = found_here r path a at front there in
     let late = none path a in
-    let weight = ap (λ (s : rStake). s.weight) same.0 in
-    let returned = ap (λ (b : rScope). b.returned) same.1 in
-    let issued = ap (λ (b : rScope). b.issued) same.1 in
+    let weight = ap (λ (s : rStake). s.weight) same.stake in
+    let returned = ap (λ (b : rScope). b.returned) same.book in
+    let issued = ap (λ (b : rScope). b.issued) same.book in
     omega (arith, late, weight, returned, issued)
 
--- a hand was asked for
+-- a hand was asked for, and the tables are the same
+module _ {old r1 : rWorld} (known : IsWorld old) (still : WorldStays old r1) where
+  known_on : IsWorld r1
+  known_on = record {
+    job = subst IsWeightedJob (sym still.job) known.job;
+    world = known.world;
+    shows = stays_shown old r1 still known.world known.shows;
+  }
+
+  refused_so : (e : Event) → ((w : World) → Shows r1 w → next_world r1.job e w ≡ None) → Refuses e old r1 Illegal
+  refused_so e none = refuses_after old r1 r1 e Illegal still (stays_self r1, none)
+
+  -- no task is in a hand
+  module _ {A : Type 0} (o : Result A EventError) (path : Path) (e : EventError) (is : IsErrAnd o (λ x. x ≡ e))
+      (nowhere : e ≡ Illegal → (k : rTask) → get is_path old.tasks path ≡ Some k → hand_of (whereabouts k.place) ≡ None) where
+    unseen_so : (event : Event) → ((w : World) → Shows old w → e ≡ Illegal → next_world old.job event w ≡ None) → IfErr o (Refuses event old r1)
+    unseen_so event none = err_is o e (Refuses event old r1) is (refuses_by old r1 event e still (λ i w h. none w h i))
+
+    pub end_unseen : IfErr o (Refuses (Ends path.turns.items) old r1)
+    end_unseen =
+        unseen_so (Ends path.turns.items) (λ w h i. unseen_goes old known.job w h path (nowhere i)
+        (by_end old.job.w0 (does_in old.job) (gives_in old.job)))
+
+    pub park_unseen : IfErr o (Refuses (Parks path.turns.items) old r1)
+    park_unseen =
+        unseen_so (Parks path.turns.items) (λ w h i. unseen_goes old known.job w h path (nowhere i)
+        (by_park old.job.w0 (does_in old.job) (gives_in old.job)))
+
+  module _ {path : Path} {worker : ℕ} (ready : IsReady r1 path worker) where
+    abbrev asked : IsSeen r1 path worker
+    asked = seen_by r1 path worker ready
+
+    pub end_refused : {b : Bool} → ((k : rTask) → get is_path r1.tasks path ≡ Some k → b ≡ has_ended path.turns.items k.doing)
+        → b ≡ false → Refuses (Ends path.turns.items) old r1 Illegal
+    end_refused said none =
+        refused_so (Ends path.turns.items)
+        (λ w h. not_ended r1 known_on.job w h path worker asked (sym (said asked.its asked.at) ∙ none))
+
+    pub park_refused : {b : Bool} → ((k : rTask) → get is_path r1.tasks path ≡ Some k → b ≡ is_waiting path.turns.items k.doing)
+        → b ≡ false → Refuses (Parks path.turns.items) old r1 Illegal
+    park_refused said none =
+        refused_so (Parks path.turns.items)
+        (λ w h. not_waiting r1 known_on.job w h path worker asked (sym (said asked.its asked.at) ∙ none))
+
+    -- where it stands, and that it gives back no more than is out
+    pub stands_there : StandsAt r1 path × NoneIsLate r1
+    stands_there = (
+      stands_at r1 known_on.job known_on.world known_on.shows path ready.task ready.at,
+      none_late r1 known_on.job known_on.world known_on.shows,
+    )
+
+-- what was asked for is gone on with
 module _ (old : rWorld) (ok : IsWeightedJob old.job) (path : Path) (r1 : rWorld) (others1 : r1 ≡ record old { tasks = r1.tasks })
     (still1 : WorldStays old r1) where
-  keeps1 : (w : World) → Shows old w → Shows r1 w
-  keeps1 = stays_shown old r1 still1
-
-  -- no task is in one
-  unseen_there : IsUnseen old path Illegal → (w : World) → Shows old w
-      → (next_world old.job (Ends path.turns.items) w ≡ None) × (next_world old.job (Parks path.turns.items) w ≡ None)
-  unseen_there none w h = (unseen_ends old ok w h path none, unseen_parks old ok w h path none)
-
-  pub end_unseen : (e : EventError) → IsUnseen old path e → Refuses (Ends path.turns.items) old r1 e
-  end_unseen Illegal none = (still1, λ w h. (unseen_there none w h).0)
-  end_unseen NoMemory none = still1
-
-  pub park_unseen : (e : EventError) → IsUnseen old path e → Refuses (Parks path.turns.items) old r1 e
-  park_unseen Illegal none = (still1, λ w h. (unseen_there none w h).1)
-  park_unseen NoMemory none = still1
-
   module _ (worker : ℕ) (seen1 : IsSeen r1 path worker) where
     abbrev looked : rWorld
     looked = record old { tasks = r1.tasks }
@@ -461,22 +492,7 @@ module _ (old : rWorld) (ok : IsWeightedJob old.job) (path : Path) (r1 : rWorld)
     seen = record { its = seen1.its; at = seen1.at; place = seen1.place; known = seen1.known }
 
     shown : (w : World) → Shows old w → Shows looked w
-    shown w h = subst (λ r. Shows r w) others1 (keeps1 w h)
-
-    pub end_refused : has_ended path.turns.items seen1.its.doing ≡ false → Refuses (Ends path.turns.items) old r1 Illegal
-    end_refused e = (still1, λ w h. not_ended looked ok w (shown w h) path worker seen e)
-
-    pub park_refused : is_waiting path.turns.items seen1.its.doing ≡ false → Refuses (Parks path.turns.items) old r1 Illegal
-    park_refused e = (still1, λ w h. not_waiting looked ok w (shown w h) path worker seen e)
-
-    -- ---- where it stands
-    module _ (w0 : World) (h0 : Shows old w0) where
-      pub its_stand : StandsAt r1 path
-      its_stand =
-          subst (λ r. StandsAt r path) (sym others1) (stands_at looked ok w0 (shown w0 h0) path seen1.its seen1.at)
-
-      pub its_late : NoneIsLate r1
-      its_late = subst NoneIsLate (sym others1) (none_late looked ok w0 (shown w0 h0))
+    shown w h = subst (λ r. Shows r w) others1 (stays_shown old r1 still1 w h)
 
     -- ---- a task is parked
     module _ (waits : is_waiting path.turns.items seen1.its.doing ≡ true) (a : StandsAt r1 path) (r2 : rWorld)

@@ -35,7 +35,7 @@ use Rattle.interleave.specs.Ending.{GoesBehind, IsBehind, IsGoneOn, IsOutside, M
 use Rattle.interleave.specs.Events.{Resume, only_if, by_resume}
 use Rattle.interleave.specs.Jobs.{IsWeightedJob}
 use Rattle.interleave.specs.Replay.{does, hands_on}
-use Rattle.interleave.specs.Shown.{AreBoth, AreResultsOf, Becomes, IsTaskOf, IsBookOf, IsDoingThere, Shows, WorldStays, is_path, is_scope, next_world}
+use Rattle.interleave.specs.Shown.{AreBoth, AreResultsOf, Becomes, IsTaskOf, IsBookOf, IsDoingThere, IsParked, Shows, WorldStays, is_path, is_scope, next_world}
 use Rattle.interleave.specs.Shown.{scope_id, stake, whereabouts}
 use Rattle.interleave.specs.World.{Stake, Live, Scope, World, Whereabouts, Queue, Hand, Parked, task, put_task, scope, is_parked}
 use Rattle.interleave.specs.World.{in_hand, hand_is_free}
@@ -49,10 +49,10 @@ use Rattle.interleave.specs.declared.task.Whereabouts.TheVariants.{Queue as rQue
 use Rattle.interleave.specs.declared.world.World.{World as rWorld}
 use Rattle.interleave.proofs.Came.{results_came}
 use Rattle.interleave.proofs.Histories.{cons_head, nil_cons}
-use Rattle.interleave.proofs.InHand.{one_first}
+use Rattle.interleave.proofs.InHand.{does_in, gives_in, one_first}
 use Rattle.interleave.proofs.Lookups.{scopes_same, task_path}
 use Rattle.interleave.proofs.Outcomes.{results_are_own}
-use Rattle.interleave.proofs.Staying.{stays_hands}
+use Rattle.interleave.proofs.Staying.{stays_hands, stays_shown}
 use Rattle.interleave.proofs.Tables.{there, not_there, tasks_put, paths_put, free_put, led_on}
 use Rattle.interleave.proofs.Truth.{each_if_given}
 use Rattle.interleave.proofs.Turning.{its_task}
@@ -101,12 +101,6 @@ module _ (j : Job) (ok : IsJob j) (c : Course) (q : Paused) (made : Made) (at : 
       }
 
 -- ---- a parked task
-parked_doing : (j : Job) (p : Whereabouts) (c : Course) (d : Doing) → p ≡ Parked → IsDoingThere j p c d
-    → (b : Course) × (further b ≡ c) × IsDoing j b d
-parked_doing j Parked c d e h = (h.before, h.last, h.at)
-parked_doing j (Queue v) c d e h = absurd (false_true (ap is_parked e))
-parked_doing j (Hand v) c d e h = absurd (false_true (ap is_parked e))
-
 emptied : (s : rScope) → s.passed ≡ true → (b : Scope) → IsBookOf s b → IsBookOf (record s { results = None }) b
 emptied s e b h = record { issued = h.issued; returned = h.returned; passed = h.passed; results = sym h.passed ∙ e }
 
@@ -148,17 +142,8 @@ none_passed true f = refl
 none_passed false f = refl
 
 module _ (r : rWorld) (w : World) (h : Shows r w) (path : Path) (worker : ℕ) where
-  abbrev p : Program
-  p = program_of r.job.job
-
-  abbrev acts : Start → List (List TaskResult) → List Action
-  acts = does p (needs_of p) (budget_of r.job.job).steps r.job.w0
-
-  abbrev hands_on_so : Start → List (List TaskResult) → TaskResult
-  hands_on_so = hands_on p (needs_of p) (budget_of r.job.job).steps r.job.w0
-
   abbrev leave_with : Live → List Stake → Option World
-  leave_with t ss = by_resume r.job.w0 acts hands_on_so worker t w ss
+  leave_with t ss = by_resume r.job.w0 (does_in r.job) (gives_in r.job) worker t w ss
 
   -- the test that is asked of the innermost scope
   abbrev test_of : Live → Scope → Bool
@@ -242,19 +227,11 @@ module _ (old : rWorld) (ok : IsWeightedJob old.job) (path : Path) (m : MayLeave
   abbrev roomy : rWorld
   roomy = record old { hands = hs.hands }
 
-  pub roomy_shown : (w : World) → Shows old w → Shows roomy w
-  roomy_shown w h = record {
-    events = h.events;
-    led = h.led;
-    tasks = h.tasks;
-    paths = h.paths;
-    scopes = h.scopes;
-    hands = λ v. same_hands v ∙ h.hands v;
-    told = h.told;
-  }
-
   pub roomy_stays : WorldStays old roomy
   roomy_stays = stays_hands old hs.hands same_hands
+
+  pub roomy_shown : (w : World) → Shows old w → Shows roomy w
+  roomy_shown = stays_shown old roomy roomy_stays
 
   abbrev pub roomy_stands : StandsAt roomy path
   roomy_stands = record {
@@ -274,9 +251,8 @@ module _ (old : rWorld) (ok : IsWeightedJob old.job) (path : Path) (m : MayLeave
       lives : task path.turns.items w.live ≡ Some its
       is : IsTaskOf old.job.job m.at.its its
       place : its.place ≡ Parked
-      before : Course
-      last : further before ≡ course_of its
-      doing : IsDoing old.job.job before m.at.its.doing
+      parked : IsParked old.job.job (course_of its) m.at.its.doing
+      open parked use {before, last, at as doing}
       book : Scope
       found : scope (scope_id m.at.inner.scope) w.scopes ≡ Some book
       books : IsBookOf m.at.book book
@@ -288,15 +264,12 @@ module _ (old : rWorld) (ok : IsWeightedJob old.job) (path : Path) (m : MayLeave
         let b = there IsBookOf m.at.book (get is_scope old.scopes m.at.inner.scope) (scope (scope_id m.at.inner.scope) w.scopes)
         (h.scopes m.at.inner.scope) m.at.there in
         let place : t.0.place ≡ Parked = sym t.2.place ∙ ap whereabouts m.place in
-        let d = parked_doing old.job.job t.0.place (course_of t.0) m.at.its.doing place t.2.doing in
         record {
           its = t.0;
           lives = t.1;
           is = t.2;
           place = place;
-          before = d.0;
-          last = d.1;
-          doing = d.2;
+          parked = subst (λ q. IsDoingThere old.job.job q (course_of t.0) m.at.its.doing) place t.2.doing;
           book = b.0;
           found = b.1;
           books = b.2;

@@ -16,12 +16,20 @@ use Rattle.interleave.specs.Events.{by_replenish, by_spawn, by_open, by_park, by
 use Rattle.interleave.specs.Events.{by_resume, next}
 use Rattle.interleave.proofs.Lookups.{holds, task_path, scope_id}
 
--- a task changes, but not in what it has begun, where it stands or what it weighs; it isn't parked
-pub record IsQuiet (does : Live → Option Action) (path : List ℕ) (a b : World) : Type 0 where
+-- the live task of a path
+pub record IsLive (path : List ℕ) (a : World) : Type 0 where
   pub was : Live
-  pub to : Live
   pub found : task path a.live ≡ Some was
   pub named : was.path ≡ path
+
+abbrev pub is_live : (path : List ℕ) (a : World) (was : Live) → task path a.live ≡ Some was → IsLive path a
+is_live path a was found = record { was = was; found = found; named = task_path path a.live was found }
+
+-- a task changes, but not in what it has begun, where it stands or what it weighs; it isn't parked
+pub record IsQuiet (does : Live → Option Action) (path : List ℕ) (a b : World) : Type 0 where
+  pub its : IsLive path a
+  pub open its use *
+  pub to : Live
   pub renamed : to.path ≡ was.path
   pub spawned : to.spawned ≡ was.spawned
   pub opened : to.opened ≡ was.opened
@@ -35,12 +43,11 @@ pub record IsQuiet (does : Live → Option Action) (path : List ℕ) (a b : Worl
 
 -- a task in a hand, and its innermost scope
 pub record IsAt (path : List ℕ) (a : World) : Type 0 where
-  pub was : Live
+  pub its : IsLive path a
+  pub open its use *
   pub worker : ℕ
   pub inner : Stake
   pub outer : List Stake
-  pub found : task path a.live ≡ Some was
-  pub named : was.path ≡ path
   pub hand : hand_of was.place ≡ Some worker
   pub awake : is_parked was.place ≡ false
   pub stakes : was.stakes ≡ inner ∷ outer
@@ -71,9 +78,8 @@ pub record IsSpawn (does : Live → Option Action) (path : List ℕ) (a b : Worl
   } ≡ b
 
 pub record IsOpen (does : Live → Option Action) (w0 : ℕ) (path : List ℕ) (a b : World) : Type 0 where
-  pub was : Live
-  pub found : task path a.live ≡ Some was
-  pub named : was.path ≡ path
+  pub its : IsLive path a
+  pub open its use *
   pub awake : is_parked was.place ≡ false
   pub next : does was ≡ Some EnterFinish
   pub now :
@@ -111,14 +117,13 @@ pub record IsPass (id : ScopeId) (a b : World) : Type 0 where
   pub now : record a { scopes = put_scope (record book { passed = true }) a.scopes } ≡ b
 
 pub record IsResume (path : List ℕ) (a b : World) : Type 0 where
-  pub was : Live
+  pub its : IsLive path a
+  pub open its use *
+  pub parked : is_parked was.place ≡ true
   pub worker : ℕ
   pub inner : Stake
   pub next : Stake
   pub outer : List Stake
-  pub found : task path a.live ≡ Some was
-  pub named : was.path ≡ path
-  pub parked : is_parked was.place ≡ true
   pub stakes : was.stakes ≡ inner ∷ next ∷ outer
   pub of : IsIn a inner
   pub passed : of.book.passed ≡ true
@@ -183,10 +188,8 @@ module _ (w0 : ℕ) (actions : Start → List (List TaskResult) → List Action)
       → (done ≡ was.done) ⊎ ((nexts was ≡ Some Step) × (done ≡ was.done + 1)) → is_parked was.place ≡ false → is_parked to ≡ false
       → Some (record a { live = put_task (record was { place = to; done = done }) a.live }) ≡ Some b → IsQuiet nexts path a b
   quiet path a b was to done found way was_awake awake now = record {
-    was = was;
+    its = is_live path a was found;
     to = record was { place = to; done = done };
-    found = found;
-    named = task_path path a.live was found;
     renamed = refl;
     spawned = refl;
     opened = refl;
@@ -223,73 +226,60 @@ module _ (w0 : ℕ) (actions : Start → List (List TaskResult) → List Action)
           quiet path a b h.was h.was.place (h.was.done + 1) h.found (inr (does_now, refl)) awake awake g
       by_action c d g = absurd (none-some _ g)
 
-  -- a task in a hand goes on where it stands in its innermost scope
-  pub record Goes (path : List ℕ) (a b : World) (go : Live → Stake → List Stake → World → Action → Option World) : Type 0 where
-    pub at : IsAt path a
-    pub action : Action
-    pub does : nexts at.was ≡ Some action
-    pub goes : go at.was at.inner at.outer a action ≡ Some b
+  -- a task in a hand does what it does next where it stands in its innermost scope
+  abbrev ByAction : (path : List ℕ) (a b : World) → (Live → Stake → List Stake → World → Action → Option World) → Type 0 → Type 0
+  ByAction path a b go Is =
+      (at : IsAt path a) (c : Action) → nexts at.was ≡ Some c → go at.was at.inner at.outer a c ≡ Some b → Is
 
-  goes_within : (path : List ℕ) (a b : World) (go : Live → Stake → List Stake → World → Action → Option World)
+  within : (path : List ℕ) (a b : World) (go : Live → Stake → List Stake → World → Action → Option World) (Is : Type 0)
+      → ByAction path a b go Is
       → with_next w0 actions result path a (λ t c. in_innermost w0 actions result t.stakes (λ s outer. go t s outer a c)) ≡ Some b
-      → Goes path a b go
-  goes_within path a b go e = by_stakes h.was.stakes refl h.goes
+      → Is
+  within path a b go Is by_action e = by_stakes h.was.stakes refl h.goes
     where
       h : InHand path a b (λ t c. in_innermost w0 actions result t.stakes (λ s outer. go t s outer a c))
       h = in_hand path a b (λ t c. in_innermost w0 actions result t.stakes (λ s outer. go t s outer a c)) e
 
       by_stakes : (stakes : List Stake) → h.was.stakes ≡ stakes
-          → in_innermost w0 actions result stakes (λ s outer. go h.was s outer a h.action) ≡ Some b → Goes path a b go
+          → in_innermost w0 actions result stakes (λ s outer. go h.was s outer a h.action) ≡ Some b → Is
       by_stakes [] are g = absurd (none-some _ g)
-      by_stakes (s ∷ outer) are g = record {
-        at = record {
-          was = h.was;
-          worker = h.worker;
-          inner = s;
-          outer = outer;
-          found = h.found;
-          named = task_path path a.live h.was h.found;
-          hand = h.hand;
-          awake = hand_awake h.was.place h.worker h.hand;
-          stakes = are;
-        };
-        action = h.action;
-        does = h.does;
-        goes = g;
-      }
+      by_stakes (s ∷ outer) are g =
+          let at : IsAt path a = record {
+            its = is_live path a h.was h.found;
+            worker = h.worker;
+            inner = s;
+            outer = outer;
+            hand = h.hand;
+            awake = hand_awake h.was.place h.worker h.hand;
+            stakes = are;
+          } in
+          by_action at h.action h.does g
 
   replenished : (path : List ℕ) (a b : World) → nx (Replenish path) a ≡ Some b → IsReplenish w0 path a b
-  replenished path a b e = by_action h.action h.goes
+  replenished path a b = within path a b (by_replenish w0 actions result) (IsReplenish w0 path a b) by_action
     where
-      h : Goes path a b (by_replenish w0 actions result)
-      h = goes_within path a b (by_replenish w0 actions result) e
-
-      by_action : (c : Action) → by_replenish w0 actions result h.at.was h.at.inner h.at.outer a c ≡ Some b → IsReplenish w0 path a b
-      by_action (Spawn c) g =
-          let r = gives (scope h.at.inner.scope a.scopes) _ b g in
+      by_action : ByAction path a b (by_replenish w0 actions result) (IsReplenish w0 path a b)
+      by_action at (Spawn c) d g =
+          let r = gives (scope at.inner.scope a.scopes) _ b g in
           let t = holds _ _ b r.next in
-          record { at = h.at; of = is_in a h.at.inner r.one r.first; one = eqb-true h.at.inner.weight 1 (and_parts _ _ t.test).0; now = same_Some _ _ t.gives }
-      by_action c g = absurd (none-some _ g)
+          record { at = at; of = is_in a at.inner r.one r.first; one = eqb-true at.inner.weight 1 (and_parts _ _ t.test).0; now = same_Some _ _ t.gives }
+      by_action at c d g = absurd (none-some _ g)
 
   spawned : (path : List ℕ) (a b : World) → nx (Spawns path) a ≡ Some b → IsSpawn nexts path a b
-  spawned path a b e = by_action h.action h.does h.goes
+  spawned path a b = within path a b (by_spawn w0 actions result) (IsSpawn nexts path a b) by_action
     where
-      h : Goes path a b (by_spawn w0 actions result)
-      h = goes_within path a b (by_spawn w0 actions result) e
-
-      by_action : (c : Action) → nexts h.at.was ≡ Some c → by_spawn w0 actions result h.at.was h.at.inner h.at.outer a c ≡ Some b
-          → IsSpawn nexts path a b
-      by_action (Spawn c) d g =
-          let r = gives (hand_of h.at.was.place) _ b g in
+      by_action : ByAction path a b (by_spawn w0 actions result) (IsSpawn nexts path a b)
+      by_action at (Spawn c) d g =
+          let r = gives (hand_of at.was.place) _ b g in
           let t = holds _ _ b r.next in
           record {
-            at = record h.at { worker = r.one; hand = r.first };
+            at = record at { worker = r.one; hand = r.first };
             child = c;
             next = d;
-            two = leb-true 2 h.at.inner.weight t.test;
+            two = leb-true 2 at.inner.weight t.test;
             now = same_Some _ _ t.gives;
           }
-      by_action c d g = absurd (none-some _ g)
+      by_action at c d g = absurd (none-some _ g)
 
   opens : (path : List ℕ) (a b : World) → nx (Opens path) a ≡ Some b → IsOpen nexts w0 path a b
   opens path a b e = by_action h.action h.does h.goes
@@ -299,36 +289,28 @@ module _ (w0 : ℕ) (actions : Start → List (List TaskResult) → List Action)
 
       by_action : (c : Action) → nexts h.was ≡ Some c → by_open w0 actions result h.was a c ≡ Some b → IsOpen nexts w0 path a b
       by_action EnterFinish d g =
-          record { was = h.was; found = h.found; named = task_path path a.live h.was h.found; awake = hand_awake h.was.place h.worker h.hand; next = d; now = same_Some _ _ g }
+          record { its = is_live path a h.was h.found; awake = hand_awake h.was.place h.worker h.hand; next = d; now = same_Some _ _ g }
       by_action c d g = absurd (none-some _ g)
 
   parks : (path : List ℕ) (a b : World) → nx (Parks path) a ≡ Some b → IsPark nexts path a b
-  parks path a b e = by_action h.action h.does h.goes
+  parks path a b = within path a b (by_park w0 actions result) (IsPark nexts path a b) by_action
     where
-      h : Goes path a b (by_park w0 actions result)
-      h = goes_within path a b (by_park w0 actions result) e
-
-      by_action : (c : Action) → nexts h.at.was ≡ Some c → by_park w0 actions result h.at.was h.at.inner h.at.outer a c ≡ Some b
-          → IsPark nexts path a b
-      by_action EndFinish d g =
-          let r = gives (scope h.at.inner.scope a.scopes) _ b g in
+      by_action : ByAction path a b (by_park w0 actions result) (IsPark nexts path a b)
+      by_action at EndFinish d g =
+          let r = gives (scope at.inner.scope a.scopes) _ b g in
           let t = holds _ _ b r.next in
-          record { at = h.at; of = is_in a h.at.inner r.one r.first; own = t.test; next = d; now = same_Some _ _ t.gives }
-      by_action c d g = absurd (none-some _ g)
+          record { at = at; of = is_in a at.inner r.one r.first; own = t.test; next = d; now = same_Some _ _ t.gives }
+      by_action at c d g = absurd (none-some _ g)
 
   ends : (path : List ℕ) (a b : World) → nx (Ends path) a ≡ Some b → IsEnd nexts hands path a b
-  ends path a b e = by_action h.action h.does h.goes
+  ends path a b = within path a b (by_end w0 actions result) (IsEnd nexts hands path a b) by_action
     where
-      h : Goes path a b (by_end w0 actions result)
-      h = goes_within path a b (by_end w0 actions result) e
-
-      by_action : (c : Action) → nexts h.at.was ≡ Some c → by_end w0 actions result h.at.was h.at.inner h.at.outer a c ≡ Some b
-          → IsEnd nexts hands path a b
-      by_action EndTask d g =
-          let r = gives (scope h.at.inner.scope a.scopes) _ b g in
+      by_action : ByAction path a b (by_end w0 actions result) (IsEnd nexts hands path a b)
+      by_action at EndTask d g =
+          let r = gives (scope at.inner.scope a.scopes) _ b g in
           let t = holds _ _ b r.next in
-          record { at = h.at; of = is_in a h.at.inner r.one r.first; own = not-true _ t.test; next = d; now = same_Some _ _ t.gives }
-      by_action c d g = absurd (none-some _ g)
+          record { at = at; of = is_in a at.inner r.one r.first; own = not-true _ t.test; next = d; now = same_Some _ _ t.gives }
+      by_action at c d g = absurd (none-some _ g)
 
   passes : (id : ScopeId) (a b : World) → nx (Pass id) a ≡ Some b → IsPass id a b
   passes id a b e =
@@ -350,14 +332,12 @@ module _ (w0 : ℕ) (actions : Start → List (List TaskResult) → List Action)
           let t = holds _ _ b r.next in
           let k = and_parts _ _ t.test in
           record {
-            was = g.one;
+            its = is_live path a g.one g.first;
+            parked = k.0;
             worker = w;
             inner = x;
             next = y;
             outer = more;
-            found = g.first;
-            named = task_path path a.live g.one g.first;
-            parked = k.0;
             stakes = s;
             of = is_in a x r.one r.first;
             passed = (and_parts _ _ k.1).0;

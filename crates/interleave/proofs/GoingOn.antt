@@ -4,7 +4,7 @@ use Rattle.std.proofs.Common.{refl, sym, ap, ◌∙◌, subst, inl, inr, arith, 
 use Rattle.std.proofs.lemmas.Bool.{ltb-false, leb-true, leb-false, eq-eqb, and_from}
 use Rattle.std.proofs.lemmas.List.Elements.{Contains-append_cases}
 use Rattle.std.specs.Prelude.{Bool, true, false, ◌⊎◌, ◌&&◌, not, nat_eq, nat_le, map, take, slice_get, Contains}
-use Rattle.std.specs.Prelude.{if◌then◌else◌}
+use Rattle.std.specs.Prelude.{if◌then◌else◌, is_some}
 use Rattle.std.proofs.lemmas.Option.{none-some, same_Some}
 use Rattle.types.specs.Code.{Codes, Program}
 use Rattle.types.specs.Run.{Block}
@@ -28,14 +28,15 @@ use Rattle.interleave.specs.History.{told}
 use Rattle.interleave.specs.Replay.{does, hands_on, event}
 use Rattle.interleave.proofs.ReplayLaws.{IsFree, IsSpent, IsUnsettled, GoesOn, EndsAreOwn}
 use Rattle.interleave.proofs.Lookups.{by_test, path_refl, path_is, path_not, other_path, scopes_same, task_path}
-use Rattle.interleave.proofs.Lookups.{Unique}
+use Rattle.interleave.proofs.Lookups.{Unique, each_task}
 use Rattle.interleave.proofs.Histories.{contains_nil, contains_here, contains_later, contains_cons, contains_map}
 use Rattle.interleave.proofs.Histories.{cons_head, cons_tail, nil_cons, nil_snoc}
 use Rattle.interleave.proofs.Stakes.{scope_of, own as own_scope, IsPositive, Weighty, weighty_awake}
 use Rattle.interleave.proofs.Changes.{hand_awake}
 use Rattle.interleave.proofs.Kept.{base, Hangs, IsTold}
 use Rattle.interleave.proofs.Truth.{Rel}
-use Rattle.interleave.proofs.Levels.{depth, depth-append, bracketed, depth_next}
+use Rattle.interleave.proofs.Levels.{depth, depth-append, depth_next}
+use Rattle.interleave.proofs.Direct.{bracketed}
 use Rattle.interleave.proofs.Numbered.{get_last}
 use Rattle.interleave.proofs.OwnTasks.{IsOwnTask, truly, truly_is, own_is_awake, awake_level, next_in_truth}
 use Rattle.interleave.proofs.OwnTasks.{in_truth_or_behind, start_path, IsAtLevel, no_level}
@@ -74,12 +75,6 @@ pub each_of : (P : Live → Type 0) (ts : List Live) → Unique ts → ((q : Lis
 each_of P [] h f = tt
 each_of P (u ∷ ts) h f = (f u.path u (here_found u ts), each_of P ts h.1 (λ q t e. f q t (later_found u t q ts h e)))
 
-pub each_at : (P : Live → Type 0) (ts : List Live) (q : List ℕ) (t : Live) → Each P ts → task q ts ≡ Some t → P t
-each_at P [] q t h e = absurd (none-some _ e)
-each_at P (u ∷ ts) q t h e =
-    by_test (λ b. (if b then Some u else task q ts) ≡ Some t → P t) (same_path u.path q)
-    (λ f e. subst P (same_Some _ _ e) h.0) (λ f e. each_at P ts q t h.1 e) e
-
 -- one with the longest path
 record Longest (ts : List Live) : Type 0 where
   its : Live
@@ -102,12 +97,7 @@ longest u (v ∷ ts) h = compare_with (longest v ts h.1)
 
 -- ---- places
 is_hand : Live → Bool
-is_hand t = by_place t.place
-  where
-    by_place : Whereabouts → Bool
-    by_place (Hand w) = true
-    by_place (Queue w) = false
-    by_place Parked = false
+is_hand t = is_some (hand_of t.place)
 
 is_queued : Live → Bool
 is_queued t = by_place t.place
@@ -247,6 +237,16 @@ module _ (p : Program) (needs : Codes → Needs) (fresh w0 : ℕ) (least : 1 ≤
       inner_is : (go : Stake → List Stake → Option World) → in_innermost w0 (does p needs fresh w0) (hands_on p needs fresh w0) t.stakes go ≡ go s outer
       inner_is go = ap (λ ss. in_innermost w0 (does p needs fresh w0) (hands_on p needs fresh w0) ss go) are
 
+      its_scope : IsThere w.scopes s
+      its_scope = (subst (Each (IsThere w.scopes)) are (h.there q t lives)).0
+
+      -- an event that asks for its innermost scope
+      goes_inside : (a : Action) (go : Live → Stake → List Stake → World → Action → Option World) → does_next t ≡ Some a
+          → with_next w0 (does p needs fresh w0) (hands_on p needs fresh w0) q w (λ t a. in_innermost w0 (does p needs fresh w0) (hands_on p needs fresh w0) t.stakes (λ s outer. go t s outer w a)) ≡ go t s outer w a
+      goes_inside a go e =
+          next_is a (λ t a. in_innermost w0 (does p needs fresh w0) (hands_on p needs fresh w0) t.stakes (λ s outer. go t s outer w a)) e
+          ∙ inner_is (λ s outer. go t s outer w a)
+
       abbrev raw : List Action
       raw = (own p needs fresh t.start).extra.actions
 
@@ -355,9 +355,7 @@ module _ (p : Program) (needs : Codes → Needs) (fresh w0 : ℕ) (least : 1 ≤
     replenishes : (s : Stake) (outer : List Stake) → t.stakes ≡ s ∷ outer → (c : Start) → does_next t ≡ Some (Spawn c) → (r : Scope) → scope s.scope w.scopes ≡ Some r → s.weight ≡ 1 → may_issue w0 r ≡ true → Goes
     replenishes s outer are c e r found one may =
         free_at (Replenish q) (3, omega arith, refl) _
-        (next_is (Spawn c) (λ t a. in_innermost w0 (does p needs fresh w0) (hands_on p needs fresh w0) t.stakes (λ s outer. by_replenish w0 (does p needs fresh w0) (hands_on p needs fresh w0) t s outer w a)) e
-        ∙ inner_is s outer are (λ s outer. by_replenish w0 (does p needs fresh w0) (hands_on p needs fresh w0) t s outer w (Spawn c))
-        ∙ found_goes _ r _ found
+        (goes_inside s outer are (Spawn c) (by_replenish w0 (does p needs fresh w0) (hands_on p needs fresh w0)) e ∙ found_goes _ r _ found
         ∙ only_true _ _ (and_from (nat_eq s.weight 1) (may_issue w0 r) (eq-eqb s.weight 1 one) may))
 
     -- ---- what it does next is legal
@@ -366,40 +364,35 @@ module _ (p : Program) (needs : Codes → Needs) (fresh w0 : ℕ) (least : 1 ≤
     by_action s outer are (Some Step) e = free_at (Steps q) (5, omega arith, refl) _ (next_is Step (λ t. by_step w0 (does p needs fresh w0) (hands_on p needs fresh w0) t w) e)
     by_action s outer are (Some EnterFinish) e = free_at (Opens q) (2, omega arith, refl) _ (next_is EnterFinish (λ t. by_open w0 (does p needs fresh w0) (hands_on p needs fresh w0) t w) e)
     by_action s outer are (Some EndFinish) e =
-        let r = (subst (Each (IsThere w.scopes)) are (h.there q t lives)).0 in
+        let r = its_scope s outer are in
         free_at (Parks q) (1, omega arith, refl) _
-        (next_is EndFinish (λ t a. in_innermost w0 (does p needs fresh w0) (hands_on p needs fresh w0) t.stakes (λ s outer. by_park w0 (does p needs fresh w0) (hands_on p needs fresh w0) t s outer w a)) e
-        ∙ inner_is s outer are (λ s outer. by_park w0 (does p needs fresh w0) (hands_on p needs fresh w0) t s outer w EndFinish)
-        ∙ found_goes _ r.0 _ r.1
+        (goes_inside s outer are EndFinish (by_park w0 (does p needs fresh w0) (hands_on p needs fresh w0)) e ∙ found_goes _ r.0 _ r.1
         ∙ only_true _ _ (park_owned s outer are e))
     by_action s outer are (Some EndTask) e =
-        let r = (subst (Each (IsThere w.scopes)) are (h.there q t lives)).0 in
+        let r = its_scope s outer are in
         free_at (Ends q) (0, omega arith, refl) _
-        (next_is EndTask (λ t a. in_innermost w0 (does p needs fresh w0) (hands_on p needs fresh w0) t.stakes (λ s outer. by_end w0 (does p needs fresh w0) (hands_on p needs fresh w0) t s outer w a)) e
-        ∙ inner_is s outer are (λ s outer. by_end w0 (does p needs fresh w0) (hands_on p needs fresh w0) t s outer w EndTask)
-        ∙ found_goes _ r.0 _ r.1
+        (goes_inside s outer are EndTask (by_end w0 (does p needs fresh w0) (hands_on p needs fresh w0)) e ∙ found_goes _ r.0 _ r.1
         ∙ only_true _ _ (ap not (end_alone s outer are e)))
     by_action s outer are (Some (Spawn c)) e =
         by_test (λ b. nat_le 2 s.weight ≡ b → Goes) (nat_le 2 s.weight)
         (λ f g. free_at (Spawns q) (4, omega arith, refl) _
-        (next_is (Spawn c) (λ t a. in_innermost w0 (does p needs fresh w0) (hands_on p needs fresh w0) t.stakes (λ s outer. by_spawn w0 (does p needs fresh w0) (hands_on p needs fresh w0) t s outer w a)) e
-        ∙ inner_is s outer are (λ s outer. by_spawn w0 (does p needs fresh w0) (hands_on p needs fresh w0) t s outer w (Spawn c))
-        ∙ found_goes _ v _ hand
+        (goes_inside s outer are (Spawn c) (by_spawn w0 (does p needs fresh w0) (hands_on p needs fresh w0)) e ∙ found_goes _ v _ hand
         ∙ only_true _ _ f))
         (λ f g. wants f) refl
       where
         r : IsThere w.scopes s
-        r = (subst (Each (IsThere w.scopes)) are (h.there q t lives)).0
+        r = its_scope s outer are
 
         positive : 1 ≤ s.weight
         positive = (subst (Each IsPositive) are (weighty_awake t.place q t.stakes awake tells.weighty)).0
 
+        weighs_one : nat_le 2 s.weight ≡ false → s.weight ≡ 1
+        weighs_one f = let less = leb-false 2 s.weight f in let a = positive in omega (arith, less, a)
+
         wants : nat_le 2 s.weight ≡ false → Goes
         wants f =
-            let less = leb-false 2 s.weight f in
-            let one : s.weight ≡ 1 = (let a = positive in omega (arith, less, a)) in
             by_test (λ b. may_issue w0 r.0 ≡ b → Goes) (may_issue w0 r.0)
-            (λ g i. replenishes s outer are c e r.0 r.1 one g)
+            (λ g i. replenishes s outer are c e r.0 r.1 (weighs_one f) g)
             (λ g i. inr (inl (record {
               path = q;
               its = t;
@@ -409,7 +402,7 @@ module _ (p : Program) (needs : Codes → Needs) (fresh w0 : ℕ) (least : 1 ≤
               inner = s;
               outer = outer;
               stakes = are;
-              one = one;
+              one = weighs_one f;
               book = r.0;
               found = r.1;
               spent = ltb-false r.0.issued (2 ^ 31 * w0) g;
@@ -473,7 +466,7 @@ module _ (p : Program) (needs : Codes → Needs) (fresh w0 : ℕ) (least : 1 ≤
       base_other r u e c = by_kind (h.kept.hangs r u e)
         where
           short : length r ≤ length q
-          short = let a = each_at (λ (t : Live). length t.path ≤ length q) w.live r u l.all e in let b : length u.path ≡ length r = ap length (task_path r w.live u e) in omega (arith, a, b)
+          short = let a = each_task (λ (t : Live). length t.path ≤ length q) r w.live u l.all e in let b : length u.path ≡ length r = ap length (task_path r w.live u e) in omega (arith, a, b)
 
           by_kind : (r ≡ []) ⊎ Hangs es w.live h.kept.line r → ⊥
           by_kind (inl g) = contains_nil s.scope (subst (λ x. Contains (base x) s.scope) (ap h.kept.line g ∙ h.kept.no_line) c)
@@ -591,7 +584,7 @@ module _ (p : Program) (needs : Codes → Needs) (fresh w0 : ℕ) (least : 1 ≤
           by_list : (ts : List Live) → w.live ≡ ts → Goes
           by_list [] e = absurd (none-some _ (ap (task []) (sym e) ∙ h.rooted.lives))
           by_list (u ∷ ts) e =
-              longest_goes (λ q t lives. parked_is t (each_at (λ t. is_hand t ≡ false) w.live q t a lives) (each_at (λ t. is_queued t ≡ false) w.live q t b lives))
+              longest_goes (λ q t lives. parked_is t (each_task (λ t. is_hand t ≡ false) q w.live t a lives) (each_task (λ t. is_queued t ≡ false) q w.live t b lives))
               (λ v. free_hand v w.live a) top f g
               (subst Longest (sym e) (longest u ts (subst Unique e h.kept.unique)))
 

@@ -99,16 +99,16 @@ by_kind go (AtFinish p made) a q step spawn enter finish end e = ap go (sym (sam
 by_kind go (AtEnd made) a [] step spawn enter finish end e = ap go (sym (same_Some _ _ e)) ∙ finish
 by_kind go (AtEnd made) a (i ∷ q) step spawn enter finish end e = ap go (sym (same_Some _ _ e)) ∙ end
 
--- the events that its next action makes legal
+-- what the tasks of a job do and hand on, and the events that their next actions make legal
 module _ (j : WeightedJob) where
-  abbrev D : Start → List (List TaskResult) → List Action
-  D = does (program_of j.job) (needs_of (program_of j.job)) (budget_of j.job).steps j.w0
+  abbrev pub does_in : Start → List (List TaskResult) → List Action
+  does_in = does (program_of j.job) (needs_of (program_of j.job)) (budget_of j.job).steps j.w0
 
-  abbrev H : Start → List (List TaskResult) → TaskResult
-  H = hands_on (program_of j.job) (needs_of (program_of j.job)) (budget_of j.job).steps j.w0
+  abbrev pub gives_in : Start → List (List TaskResult) → TaskResult
+  gives_in = hands_on (program_of j.job) (needs_of (program_of j.job)) (budget_of j.job).steps j.w0
 
   abbrev pub acting : List ℕ → World → (Live → Action → Option World) → Option World
-  acting path w go = with_next j.w0 D H path w go
+  acting path w go = with_next j.w0 does_in gives_in path w go
 
 -- ---- where a task in a hand is in the definition
 pub record InHand (r : rWorld) (w : World) (path : Path) (worker : ℕ) (k : rTask) : Type 0 where
@@ -143,12 +143,12 @@ module _ (r : rWorld) (w : World) (h : Shows r w) (path : Path) where
           → ((k : rTask) → o ≡ Some k → hand_of (whereabouts k.place) ≡ None)
           → acting r.job path.turns.items w go ≡ None
       by_table None both out =
-          ap (λ o. and_then o (λ (t : Live). and_then (hand_of t.place) (λ v. and_then (next_action r.job.w0 (D r.job) (H r.job) t) (go t))))
+          ap (λ o. and_then o (λ (t : Live). and_then (hand_of t.place) (λ v. and_then (next_action r.job.w0 (does_in r.job) (gives_in r.job) t) (go t))))
           (not_there (IsTaskOf r.job.job) None (task path.turns.items w.live) both refl)
       by_table (Some k) both out =
           let t = there (IsTaskOf r.job.job) k (Some k) (task path.turns.items w.live) both refl in
-          ap (λ o. and_then o (λ (t : Live). and_then (hand_of t.place) (λ v. and_then (next_action r.job.w0 (D r.job) (H r.job) t) (go t)))) t.1
-          ∙ ap (λ o. and_then o (λ (v : ℕ). and_then (next_action r.job.w0 (D r.job) (H r.job) t.0) (go t.0)))
+          ap (λ o. and_then o (λ (t : Live). and_then (hand_of t.place) (λ v. and_then (next_action r.job.w0 (does_in r.job) (gives_in r.job) t) (go t)))) t.1
+          ∙ ap (λ o. and_then o (λ (v : ℕ). and_then (next_action r.job.w0 (does_in r.job) (gives_in r.job) t.0) (go t.0)))
           (ap hand_of (sym t.2.place) ∙ out k refl)
 
   module _ (worker : ℕ) (k : rTask) (x : InHand r w path worker k) where
@@ -156,8 +156,8 @@ module _ (r : rWorld) (w : World) (h : Shows r w) (path : Path) where
     pub acts : (a : Action) (go : Live → Action → Option World) → IsNext r.job.job (course_of x.its) a
         → acting r.job path.turns.items w go ≡ go x.its a
     acts a go next =
-        ap (λ o. and_then o (λ (t : Live). and_then (hand_of t.place) (λ v. and_then (next_action r.job.w0 (D r.job) (H r.job) t) (go t)))) x.lives
-        ∙ ap (λ o. and_then o (λ (v : ℕ). and_then (next_action r.job.w0 (D r.job) (H r.job) x.its) (go x.its))) x.hand
+        ap (λ o. and_then o (λ (t : Live). and_then (hand_of t.place) (λ v. and_then (next_action r.job.w0 (does_in r.job) (gives_in r.job) t) (go t)))) x.lives
+        ∙ ap (λ o. and_then o (λ (v : ℕ). and_then (next_action r.job.w0 (does_in r.job) (gives_in r.job) x.its) (go x.its))) x.hand
         ∙ ap (λ o. and_then o (go x.its)) next
 
     -- an event that asks for another next action isn't legal
@@ -264,7 +264,7 @@ module _ (old mid : rWorld) (path : Path) (worker : ℕ) (g : IsReady mid path w
           doing = there_doing mid.job.job x.its.place worker (course_of to) (Runs s.run) x.hand d.1;
         }) in
         let legal : next_world mid.job (Steps path.turns.items) w ≡ Some (record { live = put_task to w.live; scopes = w.scopes })
-        = acts mid w h path worker g.task x Step (λ t. by_step mid.job.w0 (D mid.job) (H mid.job) t w) d.0 in (
+        = acts mid w h path worker g.task x Step (λ t. by_step mid.job.w0 (does_in mid.job) (gives_in mid.job) t w) d.0 in (
           record { live = put_task to w.live; scopes = w.scopes },
           legal,
           shows_put w h (Steps path.turns.items) new to w.scopes next.tasks mid.scopes x.named refl now each h.scopes refl legal,
@@ -274,23 +274,22 @@ module _ (old mid : rWorld) (path : Path) (worker : ℕ) (g : IsReady mid path w
         → next_world mid.job (Steps path.turns.items) w ≡ None
     no_step_of none w h =
         let x = at_hand w h in
-        acts_not mid w h path worker g.task x (λ t. by_step mid.job.w0 (D mid.job) (H mid.job) t w) g.known
-        (λ a e. by_kind (by_step mid.job.w0 (D mid.job) (H mid.job) x.its w) g.task.doing a x.its.start.path
+        acts_not mid w h path worker g.task x (λ t. by_step mid.job.w0 (does_in mid.job) (gives_in mid.job) t w) g.known
+        (λ a e. by_kind (by_step mid.job.w0 (does_in mid.job) (gives_in mid.job) x.its w) g.task.doing a x.its.start.path
         (λ r m. absurd (none r (ap (λ (z : rTask). z.doing) (sym (one_task k at)) ∙ m))) (λ r s m. refl) (λ r m. refl) refl refl e)
 
-    pub steps : (o : Result (Unit {0}) EventError) → OnOk o (DidStep k new) → OnOk o (Becomes (Steps path.turns.items) old after_it)
-    steps (Ok u) s = becomes_after old mid after_it (Steps path.turns.items) same looked (step_of s)
-    steps (Err e) s = tt
-
-    pub steps_not : (o : Result (Unit {0}) EventError) → OnErr o (new ≡ k) → IfErr o (λ e. e ≡ Illegal)
-        → OnErr o ((r : Run) → k.doing ≡ rSteps r → ⊥) → IfErr o (Refuses (Steps path.turns.items) old after_it)
-    steps_not (Ok u) as_before is none = tt
-    steps_not (Err e) as_before is none =
-        refuses_after old mid after_it (Steps path.turns.items) e still
-        (refuses_by mid after_it (Steps path.turns.items) e
-        (stays_put mid path k new next.tasks mid.scopes at (subst (λ z. TaskStays mid.job.job k z) (sym as_before) (its_self mid.job.job k)) each
-        (λ q. refl))
-        (λ m w h. no_step_of none w h))
+    pub steps : (o : Result (Unit {0}) EventError) → OnOk o (DidStep k new) → OnErr o (new ≡ k) → IfErr o (λ e. e ≡ Illegal)
+        → OnErr o ((r : Run) → k.doing ≡ rSteps r → ⊥)
+        → OnOk o (Becomes (Steps path.turns.items) old after_it) × IfErr o (Refuses (Steps path.turns.items) old after_it)
+    steps (Ok u) s as_before is none = (becomes_after old mid after_it (Steps path.turns.items) same looked (step_of s), tt)
+    steps (Err e) s as_before is none = (
+      tt,
+      refuses_after old mid after_it (Steps path.turns.items) e still
+          (refuses_by mid after_it (Steps path.turns.items) e
+          (stays_put mid path k new next.tasks mid.scopes at (subst (λ z. TaskStays mid.job.job k z) (sym as_before) (its_self mid.job.job k)) each
+          (λ q. refl))
+          (λ m w h. no_step_of none w h)),
+    )
 
   -- ---- more weight
   module _ (next : rWorld) (job : next.job ≡ mid.job) (hands : next.hands ≡ mid.hands) (told : next.told ≡ mid.told) where
@@ -350,8 +349,8 @@ module _ (old mid : rWorld) (path : Path) (worker : ℕ) (g : IsReady mid path w
         legal : next_world mid.job (Replenish path.turns.items) w ≡ Some to
         legal =
             acts mid w h path worker g.task x kind
-            (λ t a. in_innermost w0 (D mid.job) (H mid.job) t.stakes (λ s outer. by_replenish w0 (D mid.job) (H mid.job) t s outer w a)) next_is
-            ∙ ap (λ ss. in_innermost w0 (D mid.job) (H mid.job) ss (λ s outer. by_replenish w0 (D mid.job) (H mid.job) x.its s outer w kind)) stakes_are
+            (λ t a. in_innermost w0 (does_in mid.job) (gives_in mid.job) t.stakes (λ s outer. by_replenish w0 (does_in mid.job) (gives_in mid.job) t s outer w a)) next_is
+            ∙ ap (λ ss. in_innermost w0 (does_in mid.job) (gives_in mid.job) ss (λ s outer. by_replenish w0 (does_in mid.job) (gives_in mid.job) x.its s outer w kind)) stakes_are
             ∙ ap (λ o. and_then o (λ (r : Scope). only_if (nat_eq inner.weight 1 && may_issue w0 r) (Some (record {
               live = put_task its_new w.live;
               scopes = put_scope (issue w0 r) w.scopes;
@@ -387,10 +386,10 @@ module _ (old mid : rWorld) (path : Path) (worker : ℕ) (g : IsReady mid path w
         x = at_hand w h
 
         by : Live → Action → Stake → List Stake → Option World
-        by t a s outer = by_replenish w0 (D mid.job) (H mid.job) t s outer w a
+        by t a s outer = by_replenish w0 (does_in mid.job) (gives_in mid.job) t s outer w a
 
         go : Live → List Stake → Action → Option World
-        go t ss a = in_innermost w0 (D mid.job) (H mid.job) ss (by t a)
+        go t ss a = in_innermost w0 (does_in mid.job) (gives_in mid.job) ss (by t a)
 
         other : (a : Action) → ((s : Stake) (o : List Stake) → by x.its a s o ≡ None) → (ss : List Stake) → go x.its ss a ≡ None
         other a none [] = refl
@@ -491,12 +490,12 @@ module _ (old mid : rWorld) (path : Path) (worker : ℕ) (g : IsReady mid path w
           to = record w { live = kid ∷ put_task its_new w.live }
 
           begin : Live → Action → Stake → List Stake → Option World
-          begin t a s outer = by_spawn mid.job.w0 (D mid.job) (H mid.job) t s outer w a
+          begin t a s outer = by_spawn mid.job.w0 (does_in mid.job) (gives_in mid.job) t s outer w a
 
           legal : next_world mid.job (Spawns path.turns.items) w ≡ Some to
           legal =
-              acts mid w h path worker g.task x kind (λ t a. in_innermost mid.job.w0 (D mid.job) (H mid.job) t.stakes (begin t a)) doing.0
-              ∙ ap (λ ss. in_innermost mid.job.w0 (D mid.job) (H mid.job) ss (begin x.its kind)) (sym is.stakes ∙ d.stakes)
+              acts mid w h path worker g.task x kind (λ t a. in_innermost mid.job.w0 (does_in mid.job) (gives_in mid.job) t.stakes (begin t a)) doing.0
+              ∙ ap (λ ss. in_innermost mid.job.w0 (does_in mid.job) (gives_in mid.job) ss (begin x.its kind)) (sym is.stakes ∙ d.stakes)
               ∙ ap (λ o. and_then o (λ (v : ℕ). only_if (nat_le 2 d.inner.weight) (Some (begun_at v)))) x.hand
               ∙ ap (λ b. only_if b (Some to)) (le-leb 2 d.inner.weight d.two)
             where
@@ -565,10 +564,10 @@ module _ (old mid : rWorld) (path : Path) (worker : ℕ) (g : IsReady mid path w
           x = at_hand w h
 
           begin : Live → Action → Stake → List Stake → Option World
-          begin t a s outer = by_spawn mid.job.w0 (D mid.job) (H mid.job) t s outer w a
+          begin t a s outer = by_spawn mid.job.w0 (does_in mid.job) (gives_in mid.job) t s outer w a
 
           go : Live → List Stake → Action → Option World
-          go t ss a = in_innermost mid.job.w0 (D mid.job) (H mid.job) ss (begin t a)
+          go t ss a = in_innermost mid.job.w0 (does_in mid.job) (gives_in mid.job) ss (begin t a)
 
           other : (a : Action) → ((s : Stake) (o : List Stake) → begin x.its a s o ≡ None) → (ss : List Stake) → go x.its ss a ≡ None
           other a out [] = refl
@@ -653,7 +652,7 @@ module _ (old mid : rWorld) (path : Path) (worker : ℕ) (g : IsReady mid path w
 
           legal : next_world mid.job (Opens path.turns.items) w
               ≡ Some (record { live = put_task its_new w.live; scopes = new_scope name mid.job.w0 ∷ w.scopes })
-          legal = acts mid w h path worker g.task x EnterFinish (λ t. by_open mid.job.w0 (D mid.job) (H mid.job) t w) doing.0
+          legal = acts mid w h path worker g.task x EnterFinish (λ t. by_open mid.job.w0 (does_in mid.job) (gives_in mid.job) t w) doing.0
 
           now : IsTaskOf mid.job.job new its_new
           now = record {
@@ -680,8 +679,8 @@ module _ (old mid : rWorld) (path : Path) (worker : ℕ) (g : IsReady mid path w
     no_open_of : ((r : Run) → k.doing ≡ rOpens r → ⊥) → (w : World) (h : Shows mid w) → next_world mid.job (Opens path.turns.items) w ≡ None
     no_open_of none w h =
         let x = at_hand w h in
-        acts_not mid w h path worker g.task x (λ t. by_open mid.job.w0 (D mid.job) (H mid.job) t w) g.known
-        (λ a e. by_kind (by_open mid.job.w0 (D mid.job) (H mid.job) x.its w) g.task.doing a x.its.start.path (λ r m. refl) (λ r s m. refl)
+        acts_not mid w h path worker g.task x (λ t. by_open mid.job.w0 (does_in mid.job) (gives_in mid.job) t w) g.known
+        (λ a e. by_kind (by_open mid.job.w0 (does_in mid.job) (gives_in mid.job) x.its w) g.task.doing a x.its.start.path (λ r m. refl) (λ r s m. refl)
         (λ r m. absurd (none r (ap (λ (z : rTask). z.doing) (sym (one_task k at)) ∙ m))) refl refl e)
 
     pub opens_not : (new : rTask) → IsSame k new → (next : rWorld)

@@ -65,7 +65,7 @@ module _ (r : rWorld) (path : Path) (k : rTask) (at : get is_path r.tasks path �
     -- as if its step had been known before
     stepped : TookStep r.job.job k new → Becomes (Steps path.turns.items) r (record r { tasks = (put new).tasks })
     stepped s =
-        steps r mid path s.worker (record { task = known; at = found known; hand = s.hand; known = tt }) refl
+        (steps r mid path s.worker (record { task = known; at = found known; hand = s.hand; known = tt }) refl
         (stays_put r path k known (put known).tasks r.scopes at
         (record { doing = inr s.looked; opened = refl; place = refl; stakes = refl }) (each known) (λ q. refl))
         known new (found known) (record r { tasks = (put new).tasks })
@@ -73,7 +73,7 @@ module _ (r : rWorld) (path : Path) (k : rTask) (at : get is_path r.tasks path �
         each new q
         ∙ by_test (λ b. (if b then Some new else get is_path r.tasks q) ≡ (if b then Some new else get is_path mid.tasks q)) (is_path path q)
         (λ e. refl) (λ e. sym (each known q ∙ ap (λ b. if b then Some known else get is_path r.tasks q) e)))
-        (Ok tt) (record { run = s.run; was = refl; now = s.now })
+        (Ok tt) (record { run = s.run; was = refl; now = s.now }) tt tt tt).0
       where
         known : rTask
         known = record k { doing = rSteps s.run }

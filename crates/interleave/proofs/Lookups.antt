@@ -65,32 +65,53 @@ pub by_test : (P : Bool → Type 0) (b : Bool) → (b ≡ true → P true) → (
 by_test P true h k = h refl
 by_test P false h k = k refl
 
+-- ---- what has a name, in a list
+module _ {A K : Type 0} (same : K → K → Bool) (are : (i j : K) → same i j ≡ true → i ≡ j) (name : A → K) where
+  -- what `task` and `scope` are for tasks and scopes
+  abbrev named : K → List A → Option A
+  named i [] = None
+  named i (x ∷ xs) = if same (name x) i then Some x else named i xs
+
+  -- what `put_task` and `put_scope` are
+  abbrev put : A → List A → List A
+  put to [] = []
+  put to (x ∷ xs) = if same (name x) (name to) then to ∷ xs else x ∷ put to xs
+
+  named_so : (i : K) (xs : List A) (x : A) → named i xs ≡ Some x → name x ≡ i
+  named_so i [] x e = absurd (none-some _ e)
+  named_so i (y ∷ ys) x e =
+      by_test (λ b. (if b then Some y else named i ys) ≡ Some x → name x ≡ i) (same (name y) i)
+      (λ f e. ap name (sym (same_Some _ _ e)) ∙ are (name y) i f)
+      (λ f e. named_so i ys x e) e
+
+  -- another in the place of one
+  named-put : (to x : A) (i : K) (xs : List A) → named (name to) xs ≡ Some x
+      → named i (put to xs) ≡ (if same (name to) i then Some to else named i xs)
+  named-put to x i [] e = absurd (none-some _ e)
+  named-put to x i (y ∷ ys) e =
+      by_test (λ b. (if b then Some y else named (name to) ys) ≡ Some x
+      → named i (if b then to ∷ ys else y ∷ put to ys) ≡ (if same (name to) i then Some to else named i (y ∷ ys)))
+      (same (name y) (name to))
+      (λ f e. here (are (name y) (name to) f) (same (name to) i) refl)
+      (λ f e. later (same (name y) i) (same (name to) i) refl refl f (named-put to x i ys e)) e
+    where
+      here : name y ≡ name to → (b : Bool) → same (name to) i ≡ b → named i (to ∷ ys) ≡ (if b then Some to else named i (y ∷ ys))
+      here is true f = ap (λ (b : Bool). if b then Some to else named i ys) f
+      here is false f = ap (λ (b : Bool). if b then Some to else named i ys) f ∙ ap (λ (b : Bool). if b then Some y else named i ys) (sym (ap (λ k. same k i) is ∙ f))
+
+      later : (b c : Bool) → same (name y) i ≡ b → same (name to) i ≡ c → same (name y) (name to) ≡ false → named i (put to ys) ≡ (if c then Some to else named i ys)
+          → (if b then Some y else named i (put to ys)) ≡ (if c then Some to else (if b then Some y else named i ys))
+      later true true f g ne h = absurd (true_not_false (ap (λ k. same (name y) k) (are (name to) i g) ∙ f) ne)
+      later true false f g ne h = refl
+      later false c f g ne h = h
+
 -- ---- tasks
 pub task_path : (q : List ℕ) (ts : List Live) (t : Live) → task q ts ≡ Some t → t.path ≡ q
-task_path q [] t e = absurd (none-some _ e)
-task_path q (u ∷ ts) t e =
-    by_test (λ b. (if b then Some u else task q ts) ≡ Some t → t.path ≡ q) (same_path u.path q)
-    (λ f e. ap (λ (t : Live). t.path) (sym (same_Some _ _ e)) ∙ paths_same u.path q f)
-    (λ f e. task_path q ts t e) e
+task_path = named_so same_path paths_same (λ (t : Live). t.path)
 
--- another task in the place of one
+-- another in the place of one
 pub task-put_task : (to t : Live) (j : List ℕ) (ts : List Live) → task to.path ts ≡ Some t → task j (put_task to ts) ≡ (if same_path to.path j then Some to else task j ts)
-task-put_task to t j [] e = absurd (none-some _ e)
-task-put_task to t j (u ∷ ts) e =
-    by_test (λ b. (if b then Some u else task to.path ts) ≡ Some t → task j (if b then to ∷ ts else u ∷ put_task to ts) ≡ (if same_path to.path j then Some to else task j (u ∷ ts)))
-    (same_path u.path to.path)
-    (λ f e. here (paths_same u.path to.path f) (same_path to.path j) refl)
-    (λ f e. later (same_path u.path j) (same_path to.path j) refl refl f (task-put_task to t j ts e)) e
-  where
-    here : u.path ≡ to.path → (b : Bool) → same_path to.path j ≡ b → task j (to ∷ ts) ≡ (if b then Some to else task j (u ∷ ts))
-    here same true f = ap (λ (b : Bool). if b then Some to else task j ts) f
-    here same false f = ap (λ (b : Bool). if b then Some to else task j ts) f ∙ ap (λ (b : Bool). if b then Some u else task j ts) (sym (ap (λ p. same_path p j) same ∙ f))
-
-    later : (b c : Bool) → same_path u.path j ≡ b → same_path to.path j ≡ c → same_path u.path to.path ≡ false → task j (put_task to ts) ≡ (if c then Some to else task j ts)
-        → (if b then Some u else task j (put_task to ts)) ≡ (if c then Some to else (if b then Some u else task j ts))
-    later true true f g ne h = absurd (other_path ne (paths_same u.path j f ∙ sym (paths_same to.path j g)))
-    later true false f g ne h = refl
-    later false c f g ne h = h
+task-put_task = named-put same_path paths_same (λ (t : Live). t.path)
 
 pub task-without_task : (q j : List ℕ) (ts : List Live) → (q ≡ j → ⊥) → task j (without_task q ts) ≡ task j ts
 task-without_task q j [] ne = refl
@@ -204,29 +225,10 @@ held_least id q t ts e = let h = held-without_task id q t ts e in omega (arith, 
 
 -- ---- scopes
 pub scope_id : (i : ScopeId) (ss : List Scope) (s : Scope) → scope i ss ≡ Some s → s.id ≡ i
-scope_id i [] s e = absurd (none-some _ e)
-scope_id i (r ∷ ss) s e =
-    by_test (λ b. (if b then Some r else scope i ss) ≡ Some s → s.id ≡ i) (same_scope r.id i)
-    (λ f e. ap (λ (s : Scope). s.id) (sym (same_Some _ _ e)) ∙ scopes_same r.id i f)
-    (λ f e. scope_id i ss s e) e
+scope_id = named_so same_scope scopes_same (λ (s : Scope). s.id)
 
 pub scope-put_scope : (to s : Scope) (j : ScopeId) (ss : List Scope) → scope to.id ss ≡ Some s → scope j (put_scope to ss) ≡ (if same_scope to.id j then Some to else scope j ss)
-scope-put_scope to s j [] e = absurd (none-some _ e)
-scope-put_scope to s j (r ∷ ss) e =
-    by_test (λ b. (if b then Some r else scope to.id ss) ≡ Some s → scope j (if b then to ∷ ss else r ∷ put_scope to ss) ≡ (if same_scope to.id j then Some to else scope j (r ∷ ss)))
-    (same_scope r.id to.id)
-    (λ f e. here (scopes_same r.id to.id f) (same_scope to.id j) refl)
-    (λ f e. later (same_scope r.id j) (same_scope to.id j) refl refl f (scope-put_scope to s j ss e)) e
-  where
-    here : r.id ≡ to.id → (b : Bool) → same_scope to.id j ≡ b → scope j (to ∷ ss) ≡ (if b then Some to else scope j (r ∷ ss))
-    here same true f = ap (λ (b : Bool). if b then Some to else scope j ss) f
-    here same false f = ap (λ (b : Bool). if b then Some to else scope j ss) f ∙ ap (λ (b : Bool). if b then Some r else scope j ss) (sym (ap (λ p. same_scope p j) same ∙ f))
-
-    later : (b c : Bool) → same_scope r.id j ≡ b → same_scope to.id j ≡ c → same_scope r.id to.id ≡ false → scope j (put_scope to ss) ≡ (if c then Some to else scope j ss)
-        → (if b then Some r else scope j (put_scope to ss)) ≡ (if c then Some to else (if b then Some r else scope j ss))
-    later true true f g ne h = absurd (other_scope ne (scopes_same r.id j f ∙ sym (scopes_same to.id j g)))
-    later true false f g ne h = refl
-    later false c f g ne h = h
+scope-put_scope = named-put same_scope scopes_same (λ (s : Scope). s.id)
 
 -- ---- whether scopes have passed
 -- another of the same scope, which has passed where that has

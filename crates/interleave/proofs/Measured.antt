@@ -12,8 +12,7 @@ use Rattle.own_run.specs.Given.{in_truth, own, below, root_of}
 use Rattle.own_run.specs.Frames.{IsBegun}
 use Rattle.own_run.proofs.Begun.{run_tells, at_first_fine}
 use Rattle.interleave.proofs.ReplayLaws.{measured, RootHoldsAll}
-use Rattle.interleave.proofs.Levels.{bracketed}
-use Rattle.interleave.proofs.Direct.{start_of, direct, direct-append, own_lists}
+use Rattle.interleave.proofs.Direct.{start_of, direct, direct-append, bracketed, own_lists}
 use Rattle.interleave.proofs.OwnTasks.{truly, truly_is, own_is_awake}
 use Rattle.interleave.proofs.Outcomes.{replays_are_worlds}
 use Rattle.interleave.proofs.Worth.{sum_of, sum_of-nil, sum_of-cons, coming, coming_is}

@@ -30,8 +30,8 @@ use Rattle.interleave.specs.Events.{Event, next_action, next, first_world, after
 use Rattle.interleave.specs.Replay.{does, hands_on}
 use Rattle.interleave.specs.Worlds.{IsFree, IsSpent, LeadsTo, Settles, event_of, next_of, outcome_of}
 use Rattle.interleave.proofs.ReplayLaws.{IsFree as IsFreeBy, IsUnsettled}
-use Rattle.interleave.proofs.Changes.{IsResume, becomes}
-use Rattle.interleave.proofs.Lookups.{scope_id, task_path}
+use Rattle.interleave.proofs.Changes.{IsResume, becomes, is_live}
+use Rattle.interleave.proofs.Lookups.{scope_id}
 use Rattle.interleave.proofs.Outcomes.{IsSound, first_sound, list_sound, replays_are_worlds, sound as is_sound}
 use Rattle.interleave.proofs.Rooted.{its_stakes}
 use Rattle.interleave.proofs.Stakes.{scope_of, own as own_scope}
@@ -138,14 +138,12 @@ module _ (p : Program) (sound : IsSoundProgram p) (accepted : IsAccepted p) (w0 
         live = put_task (record t { receipts = t.receipts ++ s.results ∷ []; stakes = around ∷ outer; place = Hand 0 }) w.live;
       } in
       let c : IsResume path w to = record {
-        was = t;
+        its = is_live path w t lives;
+        parked = parked;
         worker = 0;
         inner = inner;
         next = around;
         outer = outer;
-        found = lives;
-        named = task_path path w.live t lives;
-        parked = parked;
         stakes = stakes;
         of = record { book = s; found = there; id = scope_id inner.scope w.scopes s there };
         passed = passed;

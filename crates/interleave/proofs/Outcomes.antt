@@ -162,14 +162,14 @@ module _ (p : Program) (needs : Codes → Needs) (fresh w0 : ℕ) (least : 1 ≤
     pub root_hands_on : hands_on p needs fresh w0 h.rooted.its.start h.rooted.its.receipts ≡ result_of (own p needs fresh root)
     root_hands_on = ap result_of root_is_done.0 ∙ ap (λ s. result_of (own p needs fresh s)) root_start
 
-module _ (p : Program) (needs : Codes → Needs) (w0 : ℕ) where
-  legal_same : {v w : World} → Legal v ≡ Legal w → v ≡ w
-  legal_same {v} e = ap world_of e
-    where
-      world_of : Replayed → World
-      world_of (Legal w) = w
-      world_of (IllegalAt n) = v
+-- what a replay comes to is one world, or one number
+pub legal_same : (a b : World) → Legal a ≡ Legal b → a ≡ b
+legal_same a b e = cc e
 
+illegal_same : (m n : ℕ) → IllegalAt m ≡ IllegalAt n → m ≡ n
+illegal_same m n e = cc e
+
+module _ (p : Program) (needs : Codes → Needs) (w0 : ℕ) where
   illegal_not : {n : ℕ} {w : World} → IllegalAt n ≡ Legal w → ⊥
   illegal_not e = subst IsIllegal e tt
     where
@@ -178,7 +178,7 @@ module _ (p : Program) (needs : Codes → Needs) (w0 : ℕ) where
       IsIllegal (IllegalAt n) = Unit {0}
 
   replays : (fresh n : ℕ) (es : List Event) (a w : World) → replay_from p needs fresh w0 n es a ≡ Legal w → after w0 (does p needs fresh w0) (hands_on p needs fresh w0) es a ≡ Some w
-  replays fresh n [] a w e = ap Some (legal_same e)
+  replays fresh n [] a w e = ap Some (legal_same a w e)
   replays fresh n (x ∷ es) a w e = by_event (event p needs fresh w0 x a) e (λ b. replays fresh (n + 1) es b w)
     where
       by_event : (o : Option World) → go_or n (replay_from p needs fresh w0 (n + 1) es) o ≡ Legal w
@@ -233,27 +233,19 @@ module _ (p : Program) (needs : Codes → Needs) (w0 : ℕ) where
   worlds_are_replays input b es w e = lead b.steps 0 es (start_of p w0 input b) w e
 
   -- ---- the first event that isn't legal
-  abbrev IsIllegalFrom : (fresh : ℕ) → List Event → (a : World) → ℕ → Type 0
-  IsIllegalFrom fresh es a =
-      IsFirstRefused (λ before to. after w0 (does p needs fresh w0) (hands_on p needs fresh w0) before a ≡ Some to)
-      (event p needs fresh w0) es
+  abbrev IsIllegalFrom : (fresh m : ℕ) → List Event → (a : World) → ℕ → Type 0
+  IsIllegalFrom fresh m es a =
+      IsFirstRefused (λ before to. replay_from p needs fresh w0 m before a ≡ Legal to) (event p needs fresh w0) es
 
-  illegal_same : {m n : ℕ} → IllegalAt m ≡ IllegalAt n → m ≡ n
-  illegal_same {m} e = ap number_of e
-    where
-      number_of : Replayed → ℕ
-      number_of (Legal w) = m
-      number_of (IllegalAt k) = k
-
-  refuses : (fresh m : ℕ) (es : List Event) (a : World) (n : ℕ) → replay_from p needs fresh w0 m es a ≡ IllegalAt n → (k : ℕ) × (n ≡ m + k) × IsIllegalFrom fresh es a k
+  refuses : (fresh m : ℕ) (es : List Event) (a : World) (n : ℕ) → replay_from p needs fresh w0 m es a ≡ IllegalAt n → (k : ℕ) × (n ≡ m + k) × IsIllegalFrom fresh m es a k
   refuses fresh m [] a n e = absurd (illegal_not (sym e))
   refuses fresh m (x ∷ es) a n e = by_event (event p needs fresh w0 x a) refl e (λ b. refuses fresh (m + 1) es b n)
     where
       by_event : (o : Option World) → event p needs fresh w0 x a ≡ o → go_or m (replay_from p needs fresh w0 (m + 1) es) o ≡ IllegalAt n
-          → ((b : World) → replay_from p needs fresh w0 (m + 1) es b ≡ IllegalAt n → (k : ℕ) × (n ≡ m + 1 + k) × IsIllegalFrom fresh es b k)
-          → (k : ℕ) × (n ≡ m + k) × IsIllegalFrom fresh (x ∷ es) a k
+          → ((b : World) → replay_from p needs fresh w0 (m + 1) es b ≡ IllegalAt n → (k : ℕ) × (n ≡ m + 1 + k) × IsIllegalFrom fresh (m + 1) es b k)
+          → (k : ℕ) × (n ≡ m + k) × IsIllegalFrom fresh m (x ∷ es) a k
       by_event None f e rec =
-          let same : n ≡ m + 0 = (let i = illegal_same e in omega (arith, i)) in
+          let same : n ≡ m + 0 = (let i = illegal_same m n e in omega (arith, i)) in
           (0, same, record { before = []; first = x; later = es; are = refl; count = refl; to = a; legal = refl; illegal = f })
       by_event (Some b) f e rec =
           let r = rec b e in
@@ -268,7 +260,7 @@ module _ (p : Program) (needs : Codes → Needs) (w0 : ℕ) where
               are = ap (λ l. x ∷ l) i.are;
               count = ap suc i.count;
               to = i.to;
-              legal = ap (λ o. and_then o (after w0 (does p needs fresh w0) (hands_on p needs fresh w0) i.before)) f ∙ i.legal;
+              legal = ap (go_or m (replay_from p needs fresh w0 (m + 1) i.before)) f ∙ i.legal;
               illegal = i.illegal;
             },
           )
@@ -289,7 +281,9 @@ module _ (p : Program) (needs : Codes → Needs) (w0 : ℕ) where
   refuses_the_first input b es n = (
     λ e. (let r = refuses b.steps 0 es (start_of p w0 input b) n e in
         let same : r.0 ≡ n = (let d = r.1 in omega (arith, d)) in
-        subst (IsIllegalFrom b.steps es (start_of p w0 input b)) same r.2),
+        subst (IsIllegalFrom b.steps 0 es (start_of p w0 input b)) same r.2),
     λ i. (let count : 0 + length i.before ≡ n = (let c = i.count in omega (arith, c)) in
-        ap (λ l. replay p needs w0 input b l) i.are ∙ refused b.steps 0 i.before i.first i.later (start_of p w0 input b) i.to i.legal i.illegal ∙ ap IllegalAt count),
+        ap (λ l. replay p needs w0 input b l) i.are
+        ∙ refused b.steps 0 i.before i.first i.later (start_of p w0 input b) i.to (replays b.steps 0 i.before (start_of p w0 input b) i.to i.legal) i.illegal
+        ∙ ap IllegalAt count),
   )

@@ -19,7 +19,7 @@ use Rattle.interleave.specs.Events.{Event, issue, give_back, did, new_task, new_
 use Rattle.interleave.specs.History.{told}
 use Rattle.interleave.proofs.Lookups.{by_test, path_not, other_path, scope_is, scopes_same, other_scope}
 use Rattle.interleave.proofs.Lookups.{task-without_task, gone-without_task, unique-without_task, held_least}
-use Rattle.interleave.proofs.Lookups.{task_path, Unique}
+use Rattle.interleave.proofs.Lookups.{task_path, each_task, Unique}
 use Rattle.interleave.proofs.Histories.{contains_nil, contains_here, contains_later, contains_cons}
 use Rattle.interleave.proofs.Histories.{nil_snoc, last_same}
 use Rattle.interleave.proofs.Stakes.{scope_of, own as own_scope, Weighty, positive_in}
@@ -33,7 +33,7 @@ use Rattle.interleave.proofs.Levels.{depth}
 use Rattle.interleave.proofs.Direct.{start_of}
 use Rattle.interleave.proofs.OwnTasks.{IsOwnTask, AllOwn, IsAtLevel, truly, nexts, hands, more_done, ends_in_truth}
 use Rattle.interleave.proofs.OwnTasks.{at_level}
-use Rattle.interleave.proofs.GoingOn.{each_of, each_at}
+use Rattle.interleave.proofs.GoingOn.{each_of}
 use Rattle.interleave.proofs.Pending.{spawned, spawned-append}
 use Rattle.interleave.proofs.Worth.{sum_of, sum_of-nil, sum_of-cons, sum_of-last, sum_of-put_task}
 use Rattle.interleave.proofs.Worth.{sum_of-without_task}
@@ -316,7 +316,7 @@ module _ (p : Program) (needs : Codes → Needs) (fresh w0 : ℕ) (root : Start)
           omega (arith, x, y))
 
       nobody : (q : List ℕ) (u : Live) → task q a.live ≡ Some u → Contains (map scope_of u.stakes) new → ⊥
-      nobody q u e = is_new u.stakes (each_at (λ (t : Live). Each (IsKnown es) t.stakes) a.live q u k.known e)
+      nobody q u e = is_new u.stakes (each_task (λ (t : Live). Each (IsKnown es) t.stakes) q a.live u k.known e)
 
       opens : open_in opener ≡ [] ∷ open_in c.was
       opens = open_more c.was opener (o.tasks path c.was c.found) EnterFinish c.next c.awake c.awake refl refl

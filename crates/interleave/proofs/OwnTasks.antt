@@ -29,7 +29,8 @@ use Rattle.interleave.proofs.Changes.{Becomes}
 use Rattle.interleave.proofs.Steps.{put_cases}
 use Rattle.interleave.proofs.Events.{rebooked}
 use Rattle.interleave.proofs.Truth.{Rel, Behind, run_in_truth, each_if_given}
-use Rattle.interleave.proofs.Levels.{depth, depth-append, bracketed, take_next, depth_next}
+use Rattle.interleave.proofs.Levels.{depth, depth-append, take_next, depth_next}
+use Rattle.interleave.proofs.Direct.{bracketed}
 use Rattle.interleave.proofs.Numbered.{given_path, begun_at}
 
 module _ (p : Program) (needs : Codes → Needs) (fresh w0 : ℕ) (root : Start) (nameless : root.path ≡ []) where

@@ -34,9 +34,9 @@ use Rattle.interleave.proofs.Changes.{IsQuiet, IsReplenish, IsSpawn, IsOpen, IsP
 use Rattle.interleave.proofs.Changes.{Becomes}
 use Rattle.interleave.proofs.Kept.{Kept}
 use Rattle.interleave.proofs.Steps.{put_cases}
-use Rattle.interleave.proofs.Levels.{depth, depth-append, bracketed, take_next}
+use Rattle.interleave.proofs.Levels.{depth, depth-append, take_next}
 use Rattle.interleave.proofs.Once.{AllOnce}
-use Rattle.interleave.proofs.Direct.{start_of}
+use Rattle.interleave.proofs.Direct.{start_of, bracketed}
 use Rattle.interleave.proofs.OwnTasks.{IsOwnTask, AllOwn, truly, truly_is, own_is_awake, nexts, hands, next_in_truth}
 use Rattle.interleave.proofs.OwnTasks.{depth_more, at_level}
 use Rattle.interleave.proofs.GoingOn.{take_all}

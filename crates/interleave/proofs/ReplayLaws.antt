@@ -98,8 +98,7 @@ module _ (p : Program) (needs : Codes → Needs) (w0 : ℕ) where
   -- the events before the n-th are legal, and that isn't
   abbrev pub IsFirstIllegal : (input : List (List ℤ)) → Budget → List Event → ℕ → Type 0
   IsFirstIllegal input b =
-      IsFirstRefused (λ before to. after w0 (does p needs b.steps w0) (hands_on p needs b.steps w0) before (start_of p w0 input b) ≡ Some to)
-      (event p needs b.steps w0)
+      IsFirstRefused (λ before to. replay p needs w0 input b before ≡ Legal to) (event p needs b.steps w0)
 
   -- a replay refuses the first event that isn't legal
   abbrev pub RefusesTheFirst : Type 0

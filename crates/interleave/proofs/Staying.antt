@@ -142,15 +142,6 @@ stays_shown old new s w h = record {
       (subst (λ o. IsTold old.job.job (has_passed root_scope w) o) (sym s.told) h.told);
 }
 
-pub stays_self : (r : rWorld) → WorldStays r r
-stays_self r = record {
-  job = refl;
-  tasks = λ q. both_self (TaskStays r.job.job) (its_self r.job.job) (get is_path r.tasks q);
-  scopes = λ q. both_self ScopeStays scope_self (get is_scope r.scopes q);
-  hands = λ v. refl;
-  told = refl;
-}
-
 pub stays_on : (a b c : rWorld) → WorldStays a b → WorldStays b c → WorldStays a c
 stays_on a b c h k = record {
   job = k.job ∙ h.job;
@@ -162,67 +153,69 @@ stays_on a b c h k = record {
   told = k.told ∙ h.told;
 }
 
--- with tables that have the same
-pub stays_tasks : (r : rWorld) (tasks : _) → ((q : Path) → get is_path tasks q ≡ get is_path r.tasks q)
-    → WorldStays r (record r { tasks = tasks })
-stays_tasks r tasks kept = record {
-  job = refl;
-  tasks = λ q. subst (λ o. AreBoth (TaskStays r.job.job) (get is_path r.tasks q) o) (sym (kept q))
-      (both_self (TaskStays r.job.job) (its_self r.job.job) (get is_path r.tasks q));
-  scopes = λ q. both_self ScopeStays scope_self (get is_scope r.scopes q);
-  hands = λ v. refl;
-  told = refl;
-}
+-- with tables that have what stays
+module _ (r : rWorld) where
+  tasks_self : (q : Path) → AreBoth (TaskStays r.job.job) (get is_path r.tasks q) (get is_path r.tasks q)
+  tasks_self q = both_self (TaskStays r.job.job) (its_self r.job.job) (get is_path r.tasks q)
 
-pub stays_scopes : (r : rWorld) (scopes : _) → ((q : rScopeId) → get is_scope scopes q ≡ get is_scope r.scopes q)
-    → WorldStays r (record r { scopes = scopes })
-stays_scopes r scopes kept = record {
-  job = refl;
-  tasks = λ q. both_self (TaskStays r.job.job) (its_self r.job.job) (get is_path r.tasks q);
-  scopes = λ q. subst (λ o. AreBoth ScopeStays (get is_scope r.scopes q) o) (sym (kept q)) (both_self ScopeStays scope_self (get is_scope r.scopes q));
-  hands = λ v. refl;
-  told = refl;
-}
+  scopes_self : (q : rScopeId) → AreBoth ScopeStays (get is_scope r.scopes q) (get is_scope r.scopes q)
+  scopes_self q = both_self ScopeStays scope_self (get is_scope r.scopes q)
 
-pub stays_hands : (r : rWorld) (hands : _) → ((v : ℕ) → contains nat_eq hands v ≡ contains nat_eq r.hands v)
-    → WorldStays r (record r { hands = hands })
-stays_hands r hands kept = record {
-  job = refl;
-  tasks = λ q. both_self (TaskStays r.job.job) (its_self r.job.job) (get is_path r.tasks q);
-  scopes = λ q. both_self ScopeStays scope_self (get is_scope r.scopes q);
-  hands = kept;
-  told = refl;
-}
+  stays_with : (tasks : _) (scopes : _) (hands : _)
+      → ((q : Path) → AreBoth (TaskStays r.job.job) (get is_path r.tasks q) (get is_path tasks q))
+      → ((q : rScopeId) → AreBoth ScopeStays (get is_scope r.scopes q) (get is_scope scopes q))
+      → ((v : ℕ) → contains nat_eq hands v ≡ contains nat_eq r.hands v)
+      → WorldStays r (record r { tasks = tasks; scopes = scopes; hands = hands })
+  stays_with tasks scopes hands stay lie are = record { job = refl; tasks = stay; scopes = lie; hands = are; told = refl }
 
--- with one task that stays, and scopes that are where they were
-pub stays_put : (r : rWorld) (path : Path) (k new : rTask) (tasks : _) (scopes : _) → get is_path r.tasks path ≡ Some k
-    → TaskStays r.job.job k new → ((q : Path) → get is_path tasks q ≡ (if is_path path q then Some new else get is_path r.tasks q))
-    → ((q : rScopeId) → get is_scope scopes q ≡ get is_scope r.scopes q) → WorldStays r (record r { tasks = tasks; scopes = scopes })
-stays_put r path k new tasks scopes at s each kept = record {
-  job = refl;
-  tasks = λ q. subst (λ o. AreBoth (TaskStays r.job.job) (get is_path r.tasks q) o) (sym (each q))
-      (by_test (λ b. AreBoth (TaskStays r.job.job) (get is_path r.tasks q) (if b then Some new else get is_path r.tasks q)) (is_path path q)
-      (λ e. subst (λ o. AreBoth (TaskStays r.job.job) o (Some new)) (sym (at_path r.tasks path q e ∙ at)) s)
-      (λ e. both_self (TaskStays r.job.job) (its_self r.job.job) (get is_path r.tasks q)));
-  scopes = λ q. subst (λ o. AreBoth ScopeStays (get is_scope r.scopes q) o) (sym (kept q)) (both_self ScopeStays scope_self (get is_scope r.scopes q));
-  hands = λ v. refl;
-  told = refl;
-}
+  pub stays_self : WorldStays r r
+  stays_self = stays_with r.tasks r.scopes r.hands tasks_self scopes_self (λ v. refl)
 
--- with one scope that stays
-pub stays_book : (r : rWorld) (id : rScopeId) (s to : rScope) (scopes : _) → get is_scope r.scopes id ≡ Some s → ScopeStays s to
-    → ((q : rScopeId) → get is_scope scopes q ≡ (if is_scope id q then Some to else get is_scope r.scopes q))
-    → WorldStays r (record r { scopes = scopes })
-stays_book r id s to scopes at stays each = record {
-  job = refl;
-  tasks = λ q. both_self (TaskStays r.job.job) (its_self r.job.job) (get is_path r.tasks q);
-  scopes = λ q. subst (λ o. AreBoth ScopeStays (get is_scope r.scopes q) o) (sym (each q))
-      (by_test (λ b. AreBoth ScopeStays (get is_scope r.scopes q) (if b then Some to else get is_scope r.scopes q)) (is_scope id q)
-      (λ e. subst (λ o. AreBoth ScopeStays o (Some to)) (sym (at_scope r.scopes id q e ∙ at)) stays)
-      (λ e. both_self ScopeStays scope_self (get is_scope r.scopes q)));
-  hands = λ v. refl;
-  told = refl;
-}
+  -- with tables that have the same
+  same_tasks : {S : Type 0} (tasks : HashMap Path rTask S) → ((q : Path) → get is_path tasks q ≡ get is_path r.tasks q) → (q : Path)
+      → AreBoth (TaskStays r.job.job) (get is_path r.tasks q) (get is_path tasks q)
+  same_tasks tasks kept q = subst (λ o. AreBoth (TaskStays r.job.job) (get is_path r.tasks q) o) (sym (kept q)) (tasks_self q)
+
+  same_scopes : {S : Type 0} (scopes : HashMap rScopeId rScope S) → ((q : rScopeId) → get is_scope scopes q ≡ get is_scope r.scopes q) → (q : rScopeId)
+      → AreBoth ScopeStays (get is_scope r.scopes q) (get is_scope scopes q)
+  same_scopes scopes kept q = subst (λ o. AreBoth ScopeStays (get is_scope r.scopes q) o) (sym (kept q)) (scopes_self q)
+
+  pub stays_tasks : (tasks : _) → ((q : Path) → get is_path tasks q ≡ get is_path r.tasks q) → WorldStays r (record r { tasks = tasks })
+  stays_tasks tasks kept = stays_with tasks r.scopes r.hands (same_tasks tasks kept) scopes_self (λ v. refl)
+
+  pub stays_scopes : (scopes : _) → ((q : rScopeId) → get is_scope scopes q ≡ get is_scope r.scopes q)
+      → WorldStays r (record r { scopes = scopes })
+  stays_scopes scopes kept = stays_with r.tasks scopes r.hands tasks_self (same_scopes scopes kept) (λ v. refl)
+
+  pub stays_hands : (hands : _) → ((v : ℕ) → contains nat_eq hands v ≡ contains nat_eq r.hands v)
+      → WorldStays r (record r { hands = hands })
+  stays_hands hands kept = stays_with r.tasks r.scopes hands tasks_self scopes_self kept
+
+  -- with one task that stays, and scopes that are where they were
+  pub stays_put : (path : Path) (k new : rTask) (tasks : _) (scopes : _) → get is_path r.tasks path ≡ Some k
+      → TaskStays r.job.job k new → ((q : Path) → get is_path tasks q ≡ (if is_path path q then Some new else get is_path r.tasks q))
+      → ((q : rScopeId) → get is_scope scopes q ≡ get is_scope r.scopes q) → WorldStays r (record r { tasks = tasks; scopes = scopes })
+  stays_put path k new tasks scopes at s each kept = stays_with tasks scopes r.hands put (same_scopes scopes kept) (λ v. refl)
+    where
+      put : (q : Path) → AreBoth (TaskStays r.job.job) (get is_path r.tasks q) (get is_path tasks q)
+      put q =
+          subst (λ o. AreBoth (TaskStays r.job.job) (get is_path r.tasks q) o) (sym (each q))
+          (by_test (λ b. AreBoth (TaskStays r.job.job) (get is_path r.tasks q) (if b then Some new else get is_path r.tasks q)) (is_path path q)
+          (λ e. subst (λ o. AreBoth (TaskStays r.job.job) o (Some new)) (sym (at_path r.tasks path q e ∙ at)) s)
+          (λ e. tasks_self q))
+
+  -- with one scope that stays
+  pub stays_book : (id : rScopeId) (s to : rScope) (scopes : _) → get is_scope r.scopes id ≡ Some s → ScopeStays s to
+      → ((q : rScopeId) → get is_scope scopes q ≡ (if is_scope id q then Some to else get is_scope r.scopes q))
+      → WorldStays r (record r { scopes = scopes })
+  stays_book id s to scopes at stays each = stays_with r.tasks scopes r.hands tasks_self put (λ v. refl)
+    where
+      put : (q : rScopeId) → AreBoth ScopeStays (get is_scope r.scopes q) (get is_scope scopes q)
+      put q =
+          subst (λ o. AreBoth ScopeStays (get is_scope r.scopes q) o) (sym (each q))
+          (by_test (λ b. AreBoth ScopeStays (get is_scope r.scopes q) (if b then Some to else get is_scope r.scopes q)) (is_scope id q)
+          (λ e. subst (λ o. AreBoth ScopeStays o (Some to)) (sym (at_scope r.scopes id q e ∙ at)) stays)
+          (λ e. scopes_self q))
 
 -- ---- errors
 pub refuses_after : (old mid new : rWorld) (e : Event) (x : EventError) → WorldStays old mid → Refuses e mid new x → Refuses e old new x

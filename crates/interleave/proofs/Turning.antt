@@ -368,30 +368,35 @@ module _ (j first_job : Job) where
     pub there : (c : Course) × IsRunOf j c now
     pub same : (c : Course) → IsRunOf first_job c first → IsRunOf j c now
 
-  module _ (first now : Run) (i : HasGone first now) where
-    pub can_go : CanTurn (needs_of (program_of j)) (IsAsync (program_of j)) now
-    can_go =
-        can_turn (program_of j) i.job.sound i.job.accepted (lists_of j) (budget_of j) i.job.fits now
-        (may_run j i.job i.there.0 now i.there.1)
+module _ {j first_job : Job} {first now : Run} (i : HasGone j first_job first now) where
+  pub can_go : CanTurn (needs_of (program_of j)) (IsAsync (program_of j)) now
+  can_go =
+      can_turn (program_of j) i.job.sound i.job.accepted (lists_of j) (budget_of j) i.job.fits now
+      (may_run j i.job i.there.0 now i.there.1)
 
-    pub goes_fewer : (t : Turn) → IsTurn (needs_of (program_of j)) now t → left_after now.plan.budget.steps t < left_of now
-    goes_fewer t = leaves_fewer (needs_of (program_of j)) now t i.there.1.frames i.there.1.own i.there.1.shows
+  pub goes_fewer : (t : Turn) → IsTurn (needs_of (program_of j)) now t → left_after now.plan.budget.steps t < left_of now
+  goes_fewer t = leaves_fewer (needs_of (program_of j)) now t i.there.1.frames i.there.1.own i.there.1.shows
 
-    pub shows_so : (t : Turn) → IsTurn (needs_of (program_of j)) now t → (c : Course) → IsRunOf first_job c first
-        → IsShown j c now.thread.steps t
-    shows_so t is c m = shown j i.job c now t (i.same c m) is
+  pub shows_so : (t : Turn) → IsTurn (needs_of (program_of j)) now t → (c : Course) → IsRunOf first_job c first
+      → IsShown j c now.thread.steps t
+  shows_so t is c m = shown j i.job c now t (i.same c m) is
 
-    pub goes_again : (next : Run) → IsTurn (needs_of (program_of j)) now (Going next) → now.thread.steps ≤ next.thread.steps
-        → HasGone first next
-    goes_again next is more = record {
-      job = i.job;
-      there = (i.there.0, (shown j i.job i.there.0 now (Going next) i.there.1 is).1 more);
-      same = λ c m. (shows_so (Going next) is c m).1 more;
-    }
+  -- the same of a turn that is another
+  pub shows_as : {x y : Turn} → x ≡ y → IsTurn (needs_of (program_of j)) now x → (c : Course) → IsRunOf first_job c first
+      → IsShown j c now.thread.steps y
+  shows_as {y = y} e is = shows_so y (subst (IsTurn (needs_of (program_of j)) now) e is)
 
-    pub goes_over : (next : Run) → IsTurn (needs_of (program_of j)) now (Over next) → HasGone first next
-    goes_over next is = record {
-      job = i.job;
-      there = (i.there.0, shown j i.job i.there.0 now (Over next) i.there.1 is);
-      same = λ c m. shows_so (Over next) is c m;
-    }
+  pub goes_again : (next : Run) → IsTurn (needs_of (program_of j)) now (Going next) → now.thread.steps ≤ next.thread.steps
+      → HasGone j first_job first next
+  goes_again next is more = record {
+    job = i.job;
+    there = (i.there.0, (shown j i.job i.there.0 now (Going next) i.there.1 is).1 more);
+    same = λ c m. (shows_so (Going next) is c m).1 more;
+  }
+
+  pub goes_over : (next : Run) → IsTurn (needs_of (program_of j)) now (Over next) → HasGone j first_job first next
+  goes_over next is = record {
+    job = i.job;
+    there = (i.there.0, shown j i.job i.there.0 now (Over next) i.there.1 is);
+    same = λ c m. shows_so (Over next) is c m;
+  }

@@ -29,6 +29,7 @@ use Rattle.interleave.specs.declared.walk.Walk.{Walk}
 use Rattle.interleave.specs.declared.world.World.{World as rWorld}
 use Rattle.interleave.proofs.Histories.{contains_here}
 use Rattle.interleave.proofs.NeverStuck.{each_has, stuck}
+use Rattle.interleave.proofs.Outcomes.{legal_same}
 use Rattle.interleave.proofs.Staying.{stays_shown}
 use Rattle.interleave.proofs.Tables.{is_there, led_on}
 
@@ -104,9 +105,6 @@ pub idle : (r : rWorld) (worker : ℕ) (path : List ℕ) (es : List Event) → A
 idle r worker path es are h w s t lives = subst (Each (λ e. next_world r.job e w ≡ None)) (are w s t lives) (each_there r w s es h)
 
 -- ---- a walk that has stopped
-legal_same : (a b : World) → Legal a ≡ Legal b → a ≡ b
-legal_same a b e = cc e
-
 -- none of its tasks has a candidate that is legal
 pub stopped : (old new : Walk) → IsWalk old → IsAsBefore old new → (paths : List (List ℕ)) → AreTasks old.world paths
     → Each (IsIdle old.world 0) paths → HasStopped new

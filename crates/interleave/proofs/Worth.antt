@@ -15,7 +15,7 @@ use Rattle.interleave.specs.World.{is_parked}
 use Rattle.interleave.specs.Events.{Event, Take, Steal, Steps, Replenish, Spawns, Opens, Parks, Ends, Pass, Resume}
 use Rattle.interleave.specs.Events.{issue, give_back, did, new_task, new_scope, first_world}
 use Rattle.interleave.specs.History.{told}
-use Rattle.interleave.proofs.Lookups.{by_test, path_not, scope_is, scopes_same}
+use Rattle.interleave.proofs.Lookups.{by_test, path_not, scope_is, scopes_same, true_not_false}
 use Rattle.interleave.proofs.Histories.{cons_head, cons_tail, nil_cons, nil_snoc}
 use Rattle.interleave.proofs.Stakes.{scope_of, own as own_scope}
 use Rattle.interleave.proofs.Changes.{IsQuiet, IsReplenish, IsSpawn, IsOpen, IsPark, IsEnd, IsPass, IsResume, Becomes}
@@ -28,6 +28,14 @@ use Rattle.interleave.proofs.Direct.{direct}
 use Rattle.interleave.proofs.OwnTasks.{IsOwnTask, AllOwn, IsAtLevel, truly, nexts, hands, awake_level, next_in_truth}
 use Rattle.interleave.proofs.OwnTasks.{ends_in_truth, depth_more, at_level}
 use Rattle.interleave.proofs.Present.{Falls, told_falls}
+
+-- an action that begins no task
+abbrev is_spawn : Action → Bool
+is_spawn (Spawn d) = true
+is_spawn a = false
+
+begins_none : (a : Action) → is_spawn a ≡ false → (d : Start) → a ≡ Spawn d → ⊥
+begins_none a none d e = true_not_false (ap is_spawn e) none
 
 pub sum_of : {A : Type 0} → (A → ℕ) → List A → ℕ
 sum_of g [] = 0
@@ -205,30 +213,21 @@ module _ (p : Program) (needs : Codes → Needs) (fresh w0 : ℕ) (root : Start)
       abbrev Goes : World → Type 0
       Goes w = Balanced w.live w.scopes
 
+      level_of : (ss : List Stake) (t : Live) → is_parked t.place ≡ false → IsAtLevel p needs fresh w0 root nameless t.place ss t → (d : ℕ) × (depth 0 (take t.done (truly p needs fresh w0 root nameless t.start)) ≡ Some d)
+      level_of [] t e l = absurd l
+      level_of (s ∷ outer) t e l = (length outer, awake_level p needs fresh w0 root nameless t.place s outer t e l)
+
       quiet_balanced : (path : List ℕ) (b : World) → IsQuiet (λ t. nexts p needs fresh w0 root nameless t) path a b → Goes b
       quiet_balanced path b c =
           subst Goes c.now (put_balanced c.to c.was path a.live a.scopes c.found (c.renamed ∙ c.named)
           (share_same c.was c.to c.renamed c.start (by_way c.way) (based_same c.to.stakes c.was.stakes (ap (map scope_of) c.stakes))) h)
         where
-          its : IsOwnTask p needs fresh w0 root nameless c.was
-          its = o.tasks path c.was c.found
-
-          by_stakes : (ss : List Stake) → IsAtLevel p needs fresh w0 root nameless c.was.place ss c.was → (d : ℕ) × (depth 0 (take c.was.done (truly p needs fresh w0 root nameless c.was.start)) ≡ Some d)
-          by_stakes [] l = absurd l
-          by_stakes (s ∷ outer) l = (length outer, awake_level p needs fresh w0 root nameless c.was.place s outer c.was c.was_awake l)
-
-          not_spawn : (d : Start) → Step ≡ Spawn d → ⊥
-          not_spawn d e = subst IsStep e tt
-            where
-              IsStep : Action → Type 0
-              IsStep Step = Unit {0}
-              IsStep x = ⊥
-
           by_way : (c.to.done ≡ c.was.done) ⊎ ((nexts p needs fresh w0 root nameless c.was ≡ Some Step) × (c.to.done ≡ c.was.done + 1)) → left c.to ≡ left c.was
           by_way (inl e) = left_still c.was c.to c.start e
           by_way (inr (e, n)) =
-              let l = by_stakes c.was.stakes (o.tasks path c.was c.found).level in
-              left_same c.was c.to (o.tasks path c.was c.found) Step l.0 e l.1 c.start n not_spawn
+              let its = o.tasks path c.was c.found in
+              let l = level_of c.was.stakes c.was c.was_awake its.level in
+              left_same c.was c.to its Step l.0 e l.1 c.start n (begins_none Step refl)
 
       replenish_balanced : (path : List ℕ) (b : World) → IsReplenish w0 path a b → Goes b
       replenish_balanced path b c =
@@ -241,15 +240,8 @@ module _ (p : Program) (needs : Codes → Needs) (fresh w0 : ℕ) (root : Start)
           let to : Live = record (did c.at.was (record c.at.inner { weight = 0 } ∷ c.at.outer)) { place = Parked } in
           subst Goes c.now (same_results c.at.inner.scope c.of.book (give_back c.at.inner.weight [] c.of.book) _ a.scopes c.of.found c.of.id (append-nil c.of.book.results)
           (put_balanced to c.at.was path a.live a.scopes c.at.found c.at.named
-          (share_same c.at.was to refl refl (left_same c.at.was to (o.tasks path c.at.was c.at.found) EndFinish (length c.at.outer) c.next (at_level p needs fresh w0 root nameless a o path c.at) refl refl not_spawn)
+          (share_same c.at.was to refl refl (left_same c.at.was to (o.tasks path c.at.was c.at.found) EndFinish (length c.at.outer) c.next (at_level p needs fresh w0 root nameless a o path c.at) refl refl (begins_none EndFinish refl))
           (based_same to.stakes c.at.was.stakes (ap (map scope_of) (sym c.at.stakes)))) h))
-        where
-          not_spawn : (d : Start) → EndFinish ≡ Spawn d → ⊥
-          not_spawn d e = subst IsFin e tt
-            where
-              IsFin : Action → Type 0
-              IsFin EndFinish = Unit {0}
-              IsFin x = ⊥
 
       pass_balanced : (id : ScopeId) (b : World) → IsPass id a b → Goes b
       pass_balanced id b c = subst Goes c.now (same_results id c.book (record c.book { passed = true }) a.live a.scopes c.found c.same refl h)
@@ -258,10 +250,6 @@ module _ (p : Program) (needs : Codes → Needs) (fresh w0 : ℕ) (root : Start)
       resume_balanced path b c =
           let to : Live = record c.was { receipts = c.was.receipts ++ c.of.book.results ∷ []; stakes = c.next ∷ c.outer; place = Hand c.worker } in
           subst Goes c.now (put_balanced to c.was path a.live a.scopes c.found c.named (share_same c.was to refl refl (left_still c.was to refl refl) (ap based (sym c.stakes))) h)
-
-      level_of : (ss : List Stake) (t : Live) → is_parked t.place ≡ false → IsAtLevel p needs fresh w0 root nameless t.place ss t → (d : ℕ) × (depth 0 (take t.done (truly p needs fresh w0 root nameless t.start)) ≡ Some d)
-      level_of [] t e l = absurd l
-      level_of (s ∷ outer) t e l = (length outer, awake_level p needs fresh w0 root nameless t.place s outer t e l)
 
       based_more : (x : Stake) (ss : List Stake) (t : Live) (w : Whereabouts) → IsAtLevel p needs fresh w0 root nameless w ss t → based (x ∷ ss) ≡ based ss
       based_more x [] t w l = absurd l
@@ -274,19 +262,12 @@ module _ (p : Program) (needs : Codes → Needs) (fresh w0 : ℕ) (root : Start)
           let its = o.tasks path c.was c.found in
           let l = level_of c.was.stakes c.was c.awake its.level in
           let put = put_balanced to c.was path a.live a.scopes c.found c.named
-          (share_same c.was to refl refl (left_same c.was to its EnterFinish l.0 c.next l.1 refl refl not_spawn) (based_more (record { scope = id; weight = w0 }) c.was.stakes c.was c.was.place its.level)) h in
+          (share_same c.was to refl refl (left_same c.was to its EnterFinish l.0 c.next l.1 refl refl (begins_none EnterFinish refl)) (based_more (record { scope = id; weight = w0 }) c.was.stakes c.was c.was.place its.level)) h in
           subst Goes c.now (λ s e.
           by_test (λ x. (if x then Some (new_scope id w0) else scope root_scope a.scopes) ≡ Some s → sum_of f s.results + sum_of share (put_task to a.live) ≡ coming (Some 0) (truly p needs fresh w0 root nameless root))
           (same_scope id root_scope)
           (λ g e. let n : c.was.opened + 1 ≡ 0 = ap (λ (i : ScopeId). i.number) (scopes_same id root_scope g) in absurd (omega (arith, n)))
           (λ g e. put s e) e)
-        where
-          not_spawn : (d : Start) → EnterFinish ≡ Spawn d → ⊥
-          not_spawn d e = subst IsEnter e tt
-            where
-              IsEnter : Action → Type 0
-              IsEnter EnterFinish = Unit {0}
-              IsEnter x = ⊥
 
       module _ (path : List ℕ) (b : World) (c : IsSpawn (λ t. nexts p needs fresh w0 root nameless t) path a b) where
         abbrev kid : Live

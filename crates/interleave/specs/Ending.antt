@@ -1,6 +1,6 @@
 -- What the events at the ends of finishes and of tasks find in the tables, and leave there.
 use Rattle.std.specs.Prelude.{ℕ, ◌≡◌, ◌+◌, ◌≤◌, List, [], ◌∷◌, Bool, true, false, not, map, drop}
-use Rattle.std.specs.Prelude.{Some, None, if◌then◌else◌}
+use Rattle.std.specs.Prelude.{Some, None}
 use Rattle.std.specs.Prelude.{Vec}
 use Rattle.std.specs.Global.{Global}
 use Rattle.std.specs.HashMap.{get}
@@ -21,17 +21,14 @@ use Rattle.own_run.specs.declared.turn.Paused.{Paused}
 use Rattle.gather.specs.GivesBack.{GiveBack, all_owned}
 use Rattle.interleave.specs.Events.{give_back}
 use Rattle.interleave.specs.Courses.{IsKnown}
-use Rattle.interleave.specs.Shown.{IsBookOf, is_path, is_scope, stake, whereabouts}
-use Rattle.interleave.specs.World.{Scope, hand_of}
+use Rattle.interleave.specs.Shown.{IsBookOf, PutsScope, PutsTask, is_path, is_scope, stake}
+use Rattle.interleave.specs.World.{Scope}
 use Rattle.interleave.specs.declared.doing.Doing.{Doing}
 use Rattle.interleave.specs.declared.doing.Doing.TheVariants.{AtEnd, AtFinish, Runs}
-use Rattle.interleave.specs.declared.error.EventError.{EventError}
-use Rattle.interleave.specs.declared.error.EventError.TheVariants.{Illegal, NoMemory}
 use Rattle.types.specs.declared.scope_id.ScopeId.{ScopeId as rScopeId}
 use Rattle.interleave.specs.declared.scope.Scope.{Scope as rScope}
 use Rattle.interleave.specs.declared.task.Stake.{Stake as rStake}
 use Rattle.interleave.specs.declared.task.Task.{Task as rTask}
-use Rattle.interleave.specs.declared.task.Whereabouts.{Whereabouts as rWhereabouts}
 use Rattle.interleave.specs.declared.task.Whereabouts.TheVariants.{Hand as rHand, Parked as rParked}
 use Rattle.interleave.specs.declared.world.World.{World as rWorld}
 
@@ -52,11 +49,6 @@ abbrev pub has_ended : (path : List ℕ) → Doing → Bool
 has_ended path (AtEnd made) = not (is_root path)
 has_ended path _ = false
 
--- no hand is told of a task that is in none; or memory was missing
-abbrev pub IsInNoHand : rWhereabouts → EventError → Type 0
-IsInNoHand place Illegal = hand_of (whereabouts place) ≡ None
-IsInNoHand place NoMemory = Unit {0}
-
 -- ---- what is found
 -- a live task in a worker's hand, whose next action is known
 pub record IsSeen (r : rWorld) (path : Path) (worker : ℕ) : Type 0 where
@@ -64,10 +56,6 @@ pub record IsSeen (r : rWorld) (path : Path) (worker : ℕ) : Type 0 where
   pub at : get is_path r.tasks path ≡ Some its
   pub place : its.place ≡ rHand worker
   pub known : IsKnown its.doing
-
--- the task of a path is in no hand; or memory was missing
-abbrev pub IsUnseen : rWorld → Path → EventError → Type 0
-IsUnseen r path e = (k : rTask) → get is_path r.tasks path ≡ Some k → IsInNoHand k.place e
 
 -- a live task, its innermost scope, and its weight there
 pub record StandsAt (r : rWorld) (path : Path) : Type 0 where
@@ -113,15 +101,13 @@ MayGoOn r path =
 pub record TaskBecomes (old new : rWorld) (path : Path) (Fits : rTask → Type 0) : Type 0 where
   pub to : rTask
   pub fits : Fits to
-  pub each : (q : Path) → get is_path new.tasks q
-      ≡ (if is_path path q then Some to else get is_path old.tasks q)
+  pub each : PutsTask old new path to
 
 -- the scope of a name became another, and no other did
 pub record ScopeBecomes (old new : rWorld) (id : rScopeId) (Fits : rScope → Type 0) : Type 0 where
   pub to : rScope
   pub fits : Fits to
-  pub each : (q : rScopeId) → get is_scope new.scopes q
-      ≡ (if is_scope id q then Some to else get is_scope old.scopes q)
+  pub each : PutsScope old new id to
 
 -- weight comes back to a scope, and results with it
 abbrev pub GivesBack : ℕ → List TaskResult → (old new : rScope) → Type 0

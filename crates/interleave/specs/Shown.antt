@@ -1,6 +1,6 @@
 -- What a world in Rust stands for: live tasks by their paths, scopes by their names.
 use Rattle.std.specs.Prelude.{ℕ, ◌≡◌, ◌⊎◌, List, Bool, true, false, ◌&&◌, option_map}
-use Rattle.std.specs.Prelude.{not, nat_eq, map, Option, Some, None, Vec, codes}
+use Rattle.std.specs.Prelude.{not, nat_eq, map, Option, Some, None, Vec, codes, if◌then◌else◌}
 use Rattle.std.specs.Global.{Global}
 use Rattle.std.specs.Cmp.Lexicographic.{pointwise}
 use Rattle.std.specs.HashMap.{get}
@@ -110,6 +110,17 @@ module _ (j : Job) where
   IsTold passed None = passed ≡ false
   IsTold passed (Some told) =
       (passed ≡ true) × (outcome_of told ≡ one_thread (program_of j) (lists_of j) (budget_of j))
+
+-- ---- tables
+-- the task of a path is this, and the others are as they were
+abbrev pub PutsTask : (old new : rWorld) → Path → rTask → Type 0
+PutsTask old new path to =
+    (q : Path) → get is_path new.tasks q ≡ (if is_path path q then Some to else get is_path old.tasks q)
+
+-- the same of the scope of a name
+abbrev pub PutsScope : (old new : rWorld) → rScopeId → rScope → Type 0
+PutsScope old new id to =
+    (q : rScopeId) → get is_scope new.scopes q ≡ (if is_scope id q then Some to else get is_scope old.scopes q)
 
 -- ---- worlds
 -- each live task has a path that a table can be asked for

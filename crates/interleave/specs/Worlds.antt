@@ -6,7 +6,7 @@ use Rattle.types.specs.Run.{State}
 use Rattle.effects.specs.Rounds.{needs_of}
 use Rattle.own_run.specs.Frames.{AtEnd, Follows, Frame}
 use Rattle.own_run.specs.OwnRun.{Start, Action, Own, Spawn, result_of}
-use Rattle.own_run.specs.Given.{given}
+use Rattle.own_run.specs.Given.{given, IsOfOwnRun}
 use Rattle.own_run.specs.Results.{Settled, TaskResult}
 use Rattle.own_run.specs.Runs.{MayStand, root}
 use Rattle.own_run.specs.Settling.{settle}
@@ -18,6 +18,10 @@ module _ (p : Program) (input : List (List ℤ)) (b : Budget) where
   -- what the task of a path starts with, in the run of the program
   abbrev pub given_to : List ℕ → Option Start
   given_to = given p (needs_of p) b.steps (root p input b)
+
+  -- it is that of the own run of a task, whose path is given its start
+  abbrev pub IsOwnResult : TaskResult → Type 0
+  IsOwnResult = IsOfOwnRun p (needs_of p) b.steps (root p input b)
 
   -- a parked task stands at the end of a finish, and these results settle what it has made in that
   pub record Settles (t : Live) (results : List TaskResult) : Type 0 where

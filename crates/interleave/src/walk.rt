@@ -297,9 +297,8 @@ fn in_hand(alloc: Global, path: &Path) -> Result<Vec<Event>, AllocError>
     let spawn = Event::Spawn {
         path: path.clone()?,
     };
-    let step = Event::Step {
-        path: path.clone()?,
-    };
+    let path = path.clone()?;
+    let step = Event::Step { path };
     Ok(vec![in alloc; end, park, open, replenish, spawn, step]?)
 }
 

@@ -1,21 +1,17 @@
 //! A world of tasks and scopes, and the events that touch no task's run.
 
-ghost use Rattle.std.specs.Prelude.{◌≡◌, ◌&&◌, IfErr, IfOk, OnOk, Some, true, false, not, nat_eq};
-ghost use Rattle.std.specs.Prelude.{[], if◌then◌else◌};
+ghost use Rattle.std.specs.Prelude.{◌≡◌, ◌&&◌, [], IfErr, IfOk, OnOk, Some, true, false, not, nat_eq};
 ghost use Rattle.std.specs.Bool.{OnTrue, OnFalse};
 ghost use Rattle.std.specs.HashMap.{get};
 ghost use Rattle.types.specs.Contents.{FitsArrays};
-ghost use Rattle.types.specs.declared.path.Path.{Path as AnyPath};
 ghost use Rattle.gather.specs.Jobs.{program_of, lists_of, budget_of};
 ghost use Rattle.interleave.specs.Events.{Pass as IsPass, Steal as IsSteal, Take as IsTake};
-ghost use Rattle.interleave.specs.Shown.{Becomes, IsWorld, Refuses, Shows, is_path, is_scope};
-ghost use Rattle.interleave.specs.Shown.{scope_id};
-ghost use Rattle.interleave.specs.Shown.{whereabouts};
+ghost use Rattle.interleave.specs.Shown.{Becomes, IsWorld, PutsScope, PutsTask, Refuses, Shows};
+ghost use Rattle.interleave.specs.Shown.{is_path, is_scope, scope_id, whereabouts};
 ghost use Rattle.interleave.specs.World.{World as AnyWorld, book, has_passed, in_queue, weight_of};
 ghost use Rattle.interleave.specs.World.{root_scope as the_root_scope};
 ghost use Rattle.interleave.specs.Replay.{start_of as first_of};
 ghost use Rattle.interleave.specs.declared.error.EventError.TheVariants.{NoMemory};
-ghost use Rattle.types.specs.declared.scope_id.ScopeId.{ScopeId as AnyScopeId};
 ghost use Rattle.interleave.specs.declared.scope.Scope.{Scope as AnyScope};
 ghost use Rattle.interleave.specs.declared.task.Task.{Task as AnyTask};
 
@@ -176,9 +172,7 @@ impl<'p> World<'p> {
     fn move_to(&mut self, path: &Path, place: Whereabouts)
         ensures others { self.new ≡ record self.old { tasks = self.new.tasks } }
         ensures moved { (k : AnyTask) → get is_path self.old.tasks path.now ≡ Some k
-            → (q : AnyPath) → get is_path self.new.tasks q
-            ≡ (if is_path path.now q then Some (record k { place = place })
-            else get is_path self.old.tasks q) }
+            → PutsTask self.old self.new path.now (record k { place = place }) }
     {
         if let Some(task) = self.tasks.get_mut(path) {
             task.place = place;
@@ -204,9 +198,7 @@ impl<'p> World<'p> {
     pub(crate) fn mark_passed(&mut self, scope: &ScopeId)
         ensures others { self.new ≡ record self.old { scopes = self.new.scopes } }
         ensures marked { (s : AnyScope) → get is_scope self.old.scopes scope.now ≡ Some s
-            → (q : AnyScopeId) → get is_scope self.new.scopes q
-            ≡ (if is_scope scope.now q then Some (record s { passed = true })
-            else get is_scope self.old.scopes q) }
+            → PutsScope self.old self.new scope.now (record s { passed = true }) }
     {
         if let Some(book) = self.scopes.get_mut(scope) {
             book.passed = true;

@@ -4,11 +4,10 @@ ghost use Rattle.std.specs.Prelude.{◌≡◌, IfErr, IfOk};
 ghost use Rattle.std.specs.Bool.{OnTrue};
 ghost use Rattle.types.specs.Contents.{FitsArrays};
 ghost use Rattle.types.specs.Outcome.{outcome as one_thread_outcome};
-ghost use Rattle.types.specs.Translation.{budget as budget_of, input as lists_in};
-ghost use Rattle.types.specs.Translation.{outcome as outcome_in};
+ghost use Rattle.types.specs.Translation.{budget as budget_of, input as lists_in, outcome as outcome_in};
 ghost use Rattle.types.specs.Typed.{code_of};
 ghost use Rattle.gather.specs.Jobs.{outcome_of};
-ghost use Rattle.trace.specs.Logs.{IsClean};
+ghost use Rattle.trace.specs.Logs.{IsClean, job_of};
 ghost use Rattle.logged_run.specs.Ending.{LeadsToOutcome};
 ghost use Rattle.logged_run.specs.Errors.{IsCauseOrUnlogged};
 
@@ -39,15 +38,8 @@ pub fn run_logged<'p, G: Gate + Sync, R: Threads + Wait + Sync>(
     ensures outcome { IfOk result (λ r. outcome_in r.0 ≡ one_thread_outcome
         (code_of accepted.now.typed) (lists_in input.now) (budget_of settings.budget)) }
     ensures clean { IfOk result (λ r. IsClean r.1) }
-    ensures job { IfOk result (λ r. r.1.world.job ≡ record {
-      job = record {
-        alloc = alloc;
-        accepted = accepted.entry;
-        input = input.entry;
-        budget = settings.budget;
-      };
-      w0 = settings.w0;
-    }) }
+    ensures job { IfOk result (λ r. r.1.world.job
+        ≡ job_of alloc accepted.entry input.entry settings.budget settings.w0) }
     ensures told { IfOk result (λ r. LeadsToOutcome r.1 (outcome_in r.0)) }
     ensures cause { IfErr result (IsCauseOrUnlogged settings.tasks) }
 {

@@ -1,5 +1,10 @@
 -- Logs: the events of a run so far, and the world that they led to.
 use Rattle.std.specs.Prelude.{ℕ, ◌≡◌, List}
+use Rattle.std.specs.Borrow.{Bor}
+use Rattle.std.specs.Global.{Global}
+use Rattle.types.specs.declared.budget.Budget.{Budget}
+use Rattle.types.specs.declared.input.Input.{Input}
+use Rattle.race_checker.specs.declared.accepted.Accepted.{Accepted}
 use Rattle.interleave.specs.Jobs.{IsWeightedJob}
 use Rattle.interleave.specs.Replay.{IllegalAt}
 use Rattle.interleave.specs.Replaying.{IsReplayed, comes, event}
@@ -9,6 +14,13 @@ use Rattle.interleave.specs.declared.error.EventError.TheVariants.{Illegal, NoMe
 use Rattle.events.specs.declared.event.Event.{Event}
 use Rattle.interleave.specs.declared.job.WeightedJob.{WeightedJob}
 use Rattle.interleave.specs.declared.world.World.{World}
+
+-- the job of a run that is asked for so
+abbrev pub job_of : Global → Bor Accepted → Bor Input → Budget → (w0 : ℕ) → WeightedJob
+job_of alloc accepted input budget w0 = record {
+  job = record { alloc = alloc; accepted = accepted; input = input; budget = budget };
+  w0 = w0;
+}
 
 -- what a log shows
 pub record Recorded : Type 0 where

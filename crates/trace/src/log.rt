@@ -7,7 +7,7 @@ ghost use Rattle.types.specs.Typed.{code_of};
 ghost use Rattle.interleave.specs.Replaying.{event as event_of};
 ghost use Rattle.interleave.specs.Shown.{Becomes};
 ghost use Rattle.interleave.specs.declared.error.EventError.TheVariants.{NoMemory};
-ghost use Rattle.trace.specs.Logs.{IsClean, IsRefusedBy, Leaves};
+ghost use Rattle.trace.specs.Logs.{IsClean, IsRefusedBy, Leaves, job_of};
 
 use events::event::Event;
 use interleave::error::{EventError, ReplayError};
@@ -53,15 +53,8 @@ impl<'p> Log<'p> {
     ) -> Result<Log<'p>, EventError>
         requires { FitsArrays (code_of accepted.now.typed).arrays (lists_in input.now) }
         ensures begun { IfOk result (λ l. l.events ≡ []) }
-        ensures job { IfOk result (λ l. l.world.job ≡ record {
-          job = record {
-            alloc = alloc;
-            accepted = accepted.entry;
-            input = input.entry;
-            budget = header.now.budget;
-          };
-          w0 = header.now.w0;
-        }) }
+        ensures job { IfOk result (λ l. l.world.job
+            ≡ job_of alloc accepted.entry input.entry header.now.budget header.now.w0) }
         ensures refused { IfErr result (λ e. e ≡ NoMemory) }
     {
         let Some(job) = WeightedJob::new(alloc, accepted, input, header.budget, header.w0) else {
@@ -85,24 +78,10 @@ impl<'p> Log<'p> {
     ) -> Result<Log<'p>, EventError>
         requires { FitsArrays (code_of accepted.now.typed).arrays (lists_in input.now) }
         ensures events { IfOk result (λ l. l.events ≡ events.items) }
-        ensures job { IfOk result (λ l. l.world.job ≡ record {
-          job = record {
-            alloc = alloc;
-            accepted = accepted.entry;
-            input = input.entry;
-            budget = header.now.budget;
-          };
-          w0 = header.now.w0;
-        }) }
-        ensures refused { IfErr result (IsRefusedBy (record {
-          job = record {
-            alloc = alloc;
-            accepted = accepted.entry;
-            input = input.entry;
-            budget = header.now.budget;
-          };
-          w0 = header.now.w0;
-        }) events.items) }
+        ensures job { IfOk result (λ l. l.world.job
+            ≡ job_of alloc accepted.entry input.entry header.now.budget header.now.w0) }
+        ensures refused { IfErr result (IsRefusedBy
+            (job_of alloc accepted.entry input.entry header.now.budget header.now.w0) events.items) }
     {
         let Some(job) = WeightedJob::new(alloc, accepted, input, header.budget, header.w0) else {
             unreachable!()

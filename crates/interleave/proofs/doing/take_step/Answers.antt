@@ -11,18 +11,18 @@ pub turns-init : goal.turns-init
 turns-init c = record { job = c.requires.job; there = c.requires.task; same = λ d m. m }
 
 pub step-requires : goal.step-requires
-step-requires c = can_go c.args.job _ _ c.turns.run c.turns.invariant
+step-requires c = can_go c.turns.invariant
 
 pub returns-then-run-steps-clause-stepped : goal.returns-then-run-steps-clause-stepped
 returns-then-run-steps-clause-stepped c =
     let is = did (needs_of (program_of c.args.job)) c.turns.run c.step.new.self _ _ _
     c.in-Ok-Did.ensures.step c.in-Ok-Did.field-0-is c.in-Gone.is in
     let less = c.if-run-steps.true in
-    record { known = tt; same = λ d m. (shows_so c.args.job _ _ c.turns.run c.turns.invariant _ is d m).0 (omega (arith, less)) }
+    record { known = tt; same = λ d m. (shows_so c.turns.invariant _ is d m).0 (omega (arith, less)) }
 
 pub turns-smaller-else-run-steps : goal.turns-smaller-else-run-steps
 turns-smaller-else-run-steps c =
-    goes_fewer c.args.job _ _ c.turns.run c.turns.invariant _
+    goes_fewer c.turns.invariant _
     (did (needs_of (program_of c.args.job)) c.turns.run c.step.new.self _ _ _
     c.in-Ok-Did.ensures.step c.in-Ok-Did.field-0-is c.in-Gone.is)
 
@@ -31,17 +31,17 @@ turns-preserved-else-run-steps c =
     let is = did (needs_of (program_of c.args.job)) c.turns.run c.step.new.self _ _ _
     c.in-Ok-Did.ensures.step c.in-Ok-Did.field-0-is c.in-Gone.is in
     let more = c.if-run-steps.false in
-    goes_again c.args.job _ _ c.turns.run c.turns.invariant _ is (omega (arith, more))
+    goes_again c.turns.invariant _ is (omega (arith, more))
 
 pub turns-smaller : goal.turns-smaller
 turns-smaller c =
-    goes_fewer c.args.job _ _ c.turns.run c.turns.invariant _
+    goes_fewer c.turns.invariant _
     (did (needs_of (program_of c.args.job)) c.turns.run c.step.new.self _ _ _
     c.in-Ok-Did.ensures.step c.in-Ok-Did.field-0-is c.in-Exceeded.is)
 
 pub turns-preserved : goal.turns-preserved
 turns-preserved c =
-    goes_over c.args.job _ _ c.turns.run c.turns.invariant _
+    goes_over c.turns.invariant _
     (did (needs_of (program_of c.args.job)) c.turns.run c.step.new.self _ _ _
     c.in-Ok-Did.ensures.step c.in-Ok-Did.field-0-is c.in-Exceeded.is)
 
@@ -50,14 +50,14 @@ returns-in-Spawned-clause-refused c = λ refused d m next.
     let is = did (needs_of (program_of c.args.job)) c.turns.run c.step.new.self _ _ _
     c.in-Ok-Did.ensures.step c.in-Ok-Did.field-0-is c.in-Spawned.is in
     spawns_not c.args.job c.turns.invariant.job d c.turns.run.thread.steps c.step.new.self c.in-Spawned.field-0.value
-    (shows_so c.args.job _ _ c.turns.run c.turns.invariant _ is d m) next
+    (shows_so c.turns.invariant _ is d m) next
 
 pub returns-in-Entered-clause-refused : goal.returns-in-Entered-clause-refused
 returns-in-Entered-clause-refused c = λ refused d m next.
     let is = did (needs_of (program_of c.args.job)) c.turns.run c.step.new.self _ _ _
     c.in-Ok-Did.ensures.step c.in-Ok-Did.field-0-is c.in-Entered.is in
     enters_not c.args.job c.turns.invariant.job d c.turns.run.thread.steps c.step.new.self
-    (shows_so c.args.job _ _ c.turns.run c.turns.invariant _ is d m) next
+    (shows_so c.turns.invariant _ is d m) next
 
 pub returns-in-Ok-AtEnd-clause-refused : goal.returns-in-Ok-AtEnd-clause-refused
 returns-in-Ok-AtEnd-clause-refused c = λ refused d m next.

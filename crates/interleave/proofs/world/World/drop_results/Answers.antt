@@ -14,8 +14,8 @@ returns-clause-taken c = λ a.
     let to : rScope = record c.in-Some-get_mut.scope.now { results = None } in
     record {
       to = to;
-      fits = ap (λ (b : rScope). record b { results = None }) same.1;
+      fits = ap (λ (b : rScope). record b { results = None }) same.book;
       each = λ q.
           ((c.get_mut.follows.holds to).3 (search rules)).0 q
-          ∙ ap (λ (s : rStake). if is_scope s.scope q then Some to else get is_scope c.args.self.now.scopes q) same.0;
+          ∙ ap (λ (s : rStake). if is_scope s.scope q then Some to else get is_scope c.args.self.now.scopes q) same.stake;
     }

@@ -5,35 +5,25 @@ use Rattle.interleave.specs.Events.{Ends}
 use Rattle.interleave.specs.Shown.{Refuses}
 use Rattle.interleave.specs.declared.error.EventError.TheVariants.{NoMemory}
 use Rattle.interleave.specs.declared.world.World.{World as rWorld}
-use Rattle.interleave.proofs.AtEnds.{end_done, end_refused, end_roomless, end_unseen, has_made, its_late, its_stand}
-use Rattle.interleave.proofs.AtEnds.{seen_by, unseen_by}
+use Rattle.interleave.proofs.AtEnds.{end_done, end_refused, end_roomless, end_unseen, has_made, seen_by, stands_there}
 use Rattle.interleave.proofs.InHand.{err_is}
 use Rattle.interleave.proofs.world.World.end.Goals as goal
 
 pub returns-in_err-worker-clause-refused : goal.returns-in_err-worker-clause-refused
 returns-in_err-worker-clause-refused c =
-    let old = c.args.self.now in
-    let path = c.args.path.now in
-    let e = c.in_err-worker.field-0.0 in
-    err_is c.from_residual.result e (Refuses (Ends path.turns.items) old c.look_at.new.self) c.from_residual.ensures.1
-    (end_unseen old c.requires.job path c.look_at.new.self c.look_at.ensures.others c.look_at.ensures.stays e
-    (unseen_by old path e c.in_err-worker.ensures.nowhere))
+    end_unseen c.requires c.look_at.ensures.stays c.from_residual.result c.args.path.now c.in_err-worker.field-0.0
+    c.from_residual.ensures.1 c.in_err-worker.ensures.nowhere
 
 pub returns-then-not-has_ended-clause-refused : goal.returns-then-not-has_ended-clause-refused
 returns-then-not-has_ended-clause-refused c =
-    let l = c.look_at.ensures in
-    let path = c.args.path.now in
-    let seen = seen_by c.look_at.new.self path c.in_ok-worker.worker c.in_ok-worker.ensures.ready in
-    end_refused c.args.self.now c.requires.job path c.look_at.new.self l.others l.stays c.in_ok-worker.worker seen
-    (sym (c.has_ended.ensures seen.its seen.at) ∙ c.if-not-has_ended.true)
+    end_refused c.requires c.look_at.ensures.stays c.in_ok-worker.ensures.ready c.has_ended.ensures c.if-not-has_ended.true
 
 pub made-requires : goal.made-requires
 made-requires c =
-    let path = c.args.path.now in
-    let seen = seen_by c.look_at.new.self path c.in_ok-worker.worker c.in_ok-worker.ensures.ready in
-    let made = has_made path.turns.items seen.its.doing
-    (sym (c.has_ended.ensures seen.its seen.at) ∙ c.if-not-has_ended.false) in
-    record { its = seen.its; at = seen.at; made = made.0; is = made.1 }
+    let ready = c.in_ok-worker.ensures.ready in
+    let made = has_made c.args.path.now.turns.items ready.task.doing
+    (sym (c.has_ended.ensures ready.task ready.at) ∙ c.if-not-has_ended.false) in
+    record { its = ready.task; at = ready.at; made = made.0; is = made.1 }
 
 pub returns-in_err-made-clause-refused : goal.returns-in_err-made-clause-refused
 returns-in_err-made-clause-refused c =
@@ -41,21 +31,10 @@ returns-in_err-made-clause-refused c =
     err_is c.from_residual-in_err-made.result NoMemory (Refuses (Ends c.args.path.now.turns.items) old c.look_at.new.self)
     c.from_residual-in_err-made.ensures.1 c.look_at.ensures.stays
 
-pub hand_on-requires-clause-stands : goal.hand_on-requires-clause-stands
-hand_on-requires-clause-stands c =
-    let l = c.look_at.ensures in
-    let path = c.args.path.now in
-    let seen = seen_by c.look_at.new.self path c.in_ok-worker.worker c.in_ok-worker.ensures.ready in
-    its_stand c.args.self.now c.requires.job path c.look_at.new.self l.others l.stays c.in_ok-worker.worker seen
-    c.requires.world c.requires.shows
-
-pub hand_on-requires-clause-late : goal.hand_on-requires-clause-late
-hand_on-requires-clause-late c =
-    let l = c.look_at.ensures in
-    let path = c.args.path.now in
-    let seen = seen_by c.look_at.new.self path c.in_ok-worker.worker c.in_ok-worker.ensures.ready in
-    its_late c.args.self.now c.requires.job path c.look_at.new.self l.others l.stays c.in_ok-worker.worker seen
-    c.requires.world c.requires.shows
+pub hand_on-requires : goal.hand_on-requires
+hand_on-requires c =
+    let there = stands_there c.requires c.look_at.ensures.stays c.in_ok-worker.ensures.ready in
+    record { stands = there.0; late = there.1 }
 
 pub returns-in_err-hand_on-clause-refused : goal.returns-in_err-hand_on-clause-refused
 returns-in_err-hand_on-clause-refused c =
@@ -63,8 +42,7 @@ returns-in_err-hand_on-clause-refused c =
     let path = c.args.path.now in
     let l = c.look_at.ensures in
     let seen = seen_by c.look_at.new.self path c.in_ok-worker.worker c.in_ok-worker.ensures.ready in
-    let a = its_stand old c.requires.job path c.look_at.new.self l.others l.stays c.in_ok-worker.worker seen
-    c.requires.world c.requires.shows in
+    let a = (stands_there c.requires l.stays c.in_ok-worker.ensures.ready).0 in
     let refused = c.in_err-hand_on.ensures.refused in
     err_is c.from_residual-in_err-hand_on.result c.in_err-hand_on.field-0.0 (Refuses (Ends path.turns.items) old c.hand_on.new.self)
     c.from_residual-in_err-hand_on.ensures.1
@@ -82,7 +60,7 @@ returns-clause-ended c =
     let has = sym (c.has_ended.ensures seen.its seen.at) ∙ c.if-not-has_ended.false in
     let made = has_made path.turns.items seen.its.doing has in
     let same = c.in_ok-made.ensures seen.its made.0 seen.at made.1 in
-    let a = its_stand old c.requires.job path r1 l.others l.stays c.in_ok-worker.worker seen c.requires.world c.requires.shows in
+    let a = (stands_there c.requires l.stays c.in_ok-worker.ensures.ready).0 in
     let r3 = c.hand_on.new.self in
     let last : rWorld = record r3 { tasks = c.remove.new.self; hands = c.remove-2.new.self } in
     end_done old c.requires.job path r1 l.others l.stays c.in_ok-worker.worker seen a r3

@@ -23,11 +23,11 @@ returns-clause-given c =
     c.in-Some-front.ensures.lookup (sym c.in-Some-get_mut.ensures.value) in
     record {
       to = c.end.new.self;
-      fits = subst (λ (s : rStake). GivesBack s.weight (task_result c.args.made ∷ []) a.book c.end.new.self) same.0
-          (subst (λ b. GivesBack c.in-Some-front.stake.now.weight (task_result c.args.made ∷ []) b c.end.new.self) same.1 given);
+      fits = subst (λ (s : rStake). GivesBack s.weight (task_result c.args.made ∷ []) a.book c.end.new.self) same.stake
+          (subst (λ b. GivesBack c.in-Some-front.stake.now.weight (task_result c.args.made ∷ []) b c.end.new.self) same.book given);
       each = λ q.
           ((c.get_mut.follows.holds c.end.new.self).3 (search rules)).0 q
-          ∙ ap (λ (s : rStake). if is_scope s.scope q then Some c.end.new.self else get is_scope c.args.self.now.scopes q) same.0;
+          ∙ ap (λ (s : rStake). if is_scope s.scope q then Some c.end.new.self else get is_scope c.args.self.now.scopes q) same.stake;
     }) c.end.ensures.ended
 
 pub returns-clause-refused : goal.returns-clause-refused
@@ -39,9 +39,9 @@ returns-clause-refused c =
           c.in-Some-front.ensures.lookup (sym c.in-Some-get_mut.ensures.value) in
           record {
             to = c.end.new.self;
-            fits = subst (λ b. ScopeStays b c.end.new.self) same.1 h.1;
+            fits = subst (λ b. ScopeStays b c.end.new.self) same.book h.1;
             each = λ q.
                 ((c.get_mut.follows.holds c.end.new.self).3 (search rules)).0 q
-                ∙ ap (λ (s : rStake). if is_scope s.scope q then Some c.end.new.self else get is_scope c.args.self.now.scopes q) same.0;
+                ∙ ap (λ (s : rStake). if is_scope s.scope q then Some c.end.new.self else get is_scope c.args.self.now.scopes q) same.stake;
           }),
     )) c.end.ensures.refused

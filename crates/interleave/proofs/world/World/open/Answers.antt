@@ -10,12 +10,9 @@ use Rattle.interleave.proofs.world.World.open.Goals as goal
 
 pub returns-in_err-reserve-clause-refused : goal.returns-in_err-reserve-clause-refused
 returns-in_err-reserve-clause-refused c =
-    let old : rWorld = c.args.self.now in
     let mid : rWorld = c.look_at.new.self in
-    let next : rWorld = record mid { scopes = c.reserve.new.self } in
-    err_is c.from_residual-in_err-reserve.result NoMemory (Refuses (Opens c.args.path.now.turns.items) old next)
-    c.from_residual-in_err-reserve.ensures.1
-    (stays_on old mid next c.look_at.ensures.stays (stays_scopes mid c.reserve.new.self c.reserve.ensures.entries.2))
+    err_is c.from_residual-in_err-reserve.result NoMemory _ c.from_residual-in_err-reserve.ensures.1
+    (stays_on c.args.self.now mid _ c.look_at.ensures.stays (stays_scopes mid c.reserve.new.self c.reserve.ensures.entries.2))
 
 pub open-requires : goal.open-requires
 open-requires c = λ r is.
@@ -43,13 +40,12 @@ returns-in_err-scope-clause-refused c =
 
 pub returns-clause-opened : goal.returns-clause-opened
 returns-clause-opened c =
-    let old : rWorld = c.args.self.now in
     let mid : rWorld = c.look_at.new.self in
     let new = c.open.new.self in
     let id = c.in_ok-scope.scope in
     let book = c.new.result in
     let next : rWorld = record mid { tasks = c.get_mut.follows.lender new; scopes = c.insert.new.self } in
-    opens old mid c.args.path.now c.in_ok-look_at.field-0 c.in_ok-look_at.ensures.ready
+    opens c.args.self.now mid c.args.path.now c.in_ok-look_at.field-0 c.in_ok-look_at.ensures.ready
     (ap (λ (r : rWorld). r.job) c.look_at.ensures.others) c.look_at.ensures.stays c.in-Some.task.now
     (sym c.in-Some.ensures.value) new id c.in_ok-scope.ensures.opened book c.new.ensures next
     ((c.get_mut.follows.holds new).3 (ap is_some (sym c.in-Some.ensures.value))).0

@@ -19,9 +19,9 @@ returns-clause-given c = λ a.
     c.in-Some-front.ensures.lookup (sym c.in-Some-get_mut.ensures.value) in
     record {
       to = c.give_back.new.self;
-      fits = subst (λ (s : rStake). GivesBack s.weight [] a.book c.give_back.new.self) same.0
-          (subst (λ b. GivesBack c.in-Some-front.stake.now.weight [] b c.give_back.new.self) same.1 c.give_back.ensures);
+      fits = subst (λ (s : rStake). GivesBack s.weight [] a.book c.give_back.new.self) same.stake
+          (subst (λ b. GivesBack c.in-Some-front.stake.now.weight [] b c.give_back.new.self) same.book c.give_back.ensures);
       each = λ q.
           ((c.get_mut.follows.holds c.give_back.new.self).3 (search rules)).0 q
-          ∙ ap (λ (s : rStake). if is_scope s.scope q then Some c.give_back.new.self else get is_scope c.args.self.now.scopes q) same.0;
+          ∙ ap (λ (s : rStake). if is_scope s.scope q then Some c.give_back.new.self else get is_scope c.args.self.now.scopes q) same.stake;
     }

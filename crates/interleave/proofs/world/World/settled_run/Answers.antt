@@ -1,5 +1,4 @@
 use Rattle.std.proofs.Common.{◌∙◌, ap, map, sym, subst}
-use Rattle.std.proofs.lemmas.Option.{same_Some}
 use Rattle.std.proofs.lemmas.Result.{IfOk-weaker}
 use Rattle.own_run.specs.Translation.{task_result}
 use Rattle.gather.specs.GivesBack.{GiveBack}
@@ -14,11 +13,10 @@ run_behind-requires c =
     let a = c.requires.stands in
     let same = found_here c.args.self.now c.args.path.now a
     (sym c.in-Some.ensures.value) c.in-Some-front.ensures.lookup (sym c.in-Some-get.ensures.value) in
-    let task = same_Some _ _ (c.in-Some.ensures.value ∙ a.at) in
     let made = c.in-AtFinish-Some.made in
     subst (λ xs. GiveBack (task_result made) (map task_result xs)) (sym c.deref.ensures.value)
     (c.requires.may a c.in-AtFinish-Some.paused made c.in-AtFinish-Some.results
-    (ap (λ (k : rTask). k.doing) (sym task) ∙ c.in-AtFinish-Some.is-0) (ap (λ (b : rScope). b.results) (sym same.1) ∙ c.in-AtFinish-Some.is-1))
+    (ap (λ (k : rTask). k.doing) (sym same.task) ∙ c.in-AtFinish-Some.is-0) (ap (λ (b : rScope). b.results) (sym same.book) ∙ c.in-AtFinish-Some.is-1))
 
 pub returns-clause-goes : goal.returns-clause-goes
 returns-clause-goes c =
@@ -26,12 +24,11 @@ returns-clause-goes c =
     (λ run goes a.
     let same = found_here c.args.self.now c.args.path.now a
     (sym c.in-Some.ensures.value) c.in-Some-front.ensures.lookup (sym c.in-Some-get.ensures.value) in
-    let task = same_Some _ _ (c.in-Some.ensures.value ∙ a.at) in
     record {
       paused = c.in-AtFinish-Some.paused;
       made = c.in-AtFinish-Some.made;
-      was = ap (λ (k : rTask). k.doing) (sym task) ∙ c.in-AtFinish-Some.is-0;
+      was = ap (λ (k : rTask). k.doing) (sym same.task) ∙ c.in-AtFinish-Some.is-0;
       results = c.in-AtFinish-Some.results;
-      kept = ap (λ (b : rScope). b.results) (sym same.1) ∙ c.in-AtFinish-Some.is-1;
+      kept = ap (λ (b : rScope). b.results) (sym same.book) ∙ c.in-AtFinish-Some.is-1;
       goes = subst (λ xs. GoesBehind c.in-AtFinish-Some.paused c.in-AtFinish-Some.made (map task_result xs) run) c.deref.ensures.value goes;
     }) c.run_behind.ensures.goes

@@ -11,12 +11,9 @@ use Rattle.interleave.proofs.world.World.spawn.Goals as goal
 
 pub returns-in_err-reserve-clause-refused : goal.returns-in_err-reserve-clause-refused
 returns-in_err-reserve-clause-refused c =
-    let old : rWorld = c.args.self.now in
     let mid : rWorld = c.look_at.new.self in
-    let next : rWorld = record mid { tasks = c.reserve.new.self } in
-    err_is c.from_residual-in_err-reserve.result NoMemory (Refuses (Spawns c.args.path.now.turns.items) old next)
-    c.from_residual-in_err-reserve.ensures.1
-    (stays_on old mid next c.look_at.ensures.stays (stays_tasks mid c.reserve.new.self c.reserve.ensures.entries.2))
+    err_is c.from_residual-in_err-reserve.result NoMemory _ c.from_residual-in_err-reserve.ensures.1
+    (stays_on c.args.self.now mid _ c.look_at.ensures.stays (stays_tasks mid c.reserve.new.self c.reserve.ensures.entries.2))
 
 pub returns-in_err-child-clause-refused : goal.returns-in_err-child-clause-refused
 returns-in_err-child-clause-refused c =
