@@ -19,11 +19,12 @@ use Rattle.cost.specs.declared.frame.Frame.TheVariants.{Rest}
 use Rattle.cost.specs.declared.account.Account.{Account as rAccount}
 use Rattle.cost.specs.Accounts.{Account, nothing_noted}
 use Rattle.cost.specs.Costs.{nothing_done}
-use Rattle.cost.specs.Laws.{totals, untallied, with_tally}
+use Rattle.plain_code.specs.Means.{keeping}
+use Rattle.cost.specs.Laws.{totals, untallied}
 use Rattle.cost.specs.Resume.{Standing, doing, placed, resume, standing}
 use Rattle.cost.specs.Translation.{account}
 use Rattle.cost.specs.declared.machine.Machine.{Machine}
-use Rattle.cost.specs.Machines.{HasEnded, IsSound, comes_to, end_of, nothing, stack, stands}
+use Rattle.cost.specs.Machines.{HasEnded, IsAtStart, IsSound, comes_to, end_of, nothing, stack, stands}
 use Rattle.cost.proofs.Frames.{resume-pushed}
 use Rattle.cost.proofs.Untabled.{totals-accounted}
 use Rattle.cost.proofs.Untallied.{untallied-tallied}
@@ -35,7 +36,7 @@ pub main_on_top : (p : Program) (steps nest rows : ℕ) (input : List (List ℤ)
     → state_of t ≡ start tt p steps (held_by input) → y ≡ nothing_noted rows → t.nest ≡ nest
     → resume p steps gs (placed y t) ≡ end_of p steps nest rows input
 main_on_top p steps nest rows input gs b t y g body state none same =
-    let at : State (Unit {0}) → Account → ℕ → Standing = λ st y n. record { state = with_tally y st; nest = n } in
+    let at : State (Unit {0}) → Account → ℕ → Standing = λ st y n. record { state = keeping y st; nest = n } in
     resume-pushed p steps [] gs (Rest b) (placed y t) g
     ∙ ap (λ (c : Codes). doing p steps (Block c) (placed y t)) body
     ∙ ap (λ (st : State (Unit {0})). doing p steps (Block p.main.body) (at st y t.nest)) state
@@ -75,12 +76,7 @@ module _ (job : Plan) (rows : ℕ) (input : List (List ℤ)) (first m end : Mach
 
   -- a machine that began at `main`, and has nothing left to do
   pub record HasRun : Type 0 where
-    pub plan : first.plan ≡ job
-    pub state : state_of first.thread ≡ start tt p job.budget.steps (held_by input)
-    pub nest : first.thread.nest ≡ job.budget.nest
-    pub block : codes first.block.now ≡ p.main.body
-    pub frames : first.frames.items ≡ []
-    pub kept : account first.account ≡ nothing_noted rows
+    pub begins : IsAtStart job rows input first
     pub same : m.plan ≡ first.plan
     pub comes : comes_to m nothing ≡ comes_to first nothing
     pub sound : IsSound m
@@ -91,12 +87,12 @@ module _ (job : Plan) (rows : ℕ) (input : List (List ℤ)) (first m end : Mach
   stands_at_end r =
       ended m end r.ended
       ∙ r.comes
-      ∙ ap (λ (q : Plan). resume (program q.program.now) q.budget.steps (stack first) (stands first)) r.plan
+      ∙ ap (λ (q : Plan). resume (program q.program.now) q.budget.steps (stack first) (stands first)) r.begins.plan
       ∙ main_on_top p job.budget.steps job.budget.nest rows input (stack first) first.block first.thread (account first.account)
-      (ap (λ (fs : List Frame). fs ++ Rest first.block ∷ []) r.frames) r.block r.state r.kept r.nest
+      (ap (λ (fs : List Frame). fs ++ Rest first.block ∷ []) r.begins.frames) r.begins.block r.begins.state r.begins.account r.begins.nest
 
   -- with all places there
   pub bounds_at_end : HasRun → IsInBounds p end.thread
   bounds_at_end r =
       subst (λ (t : Thread Store). IsInBounds p t) (sym r.ended.thread)
-      (subst (λ (q : Plan). IsInBounds (program q.program.now) m.thread) (r.same ∙ r.plan) r.sound.thread)
+      (subst (λ (q : Plan). IsInBounds (program q.program.now) m.thread) (r.same ∙ r.begins.plan) r.sound.thread)

@@ -10,7 +10,8 @@ use Rattle.types.specs.Run.{State, Block, run}
 use Rattle.types.specs.Laws.{IsKept}
 use Rattle.types.proofs.Keeps.{run_keeps}
 use Rattle.cost.specs.declared.tally.Tally.{Tally}
-use Rattle.cost.specs.Costs.{beginning, begin_tallied, nothing_done, tally_of, tallied_rules}
+use Rattle.cost.specs.Books.{begin_booked, beginning_booked}
+use Rattle.cost.specs.Costs.{nothing_done, tally_of, tallied_rules, tallying}
 use Rattle.cost.specs.Laws.{IsFair}
 
 -- one tally follows another fairly: it is fair where that was, and no less was done
@@ -28,7 +29,7 @@ grows_further : (t u v : Tally) → Grows t u → Grows u v → Grows t v
 grows_further t u v g h = record { fair = λ f. h.fair (g.fair f); more = omega (arith, g.more, h.more) }
 
 module _ (p : Program) (fresh : ℕ) where
-  kept_by : (n : ℕ) → ((l : ℕ) (b : Codes) (st : State Tally) → Fairly st (begin_tallied p fresh n l b st))
+  kept_by : (n : ℕ) → ((l : ℕ) (b : Codes) (st : State Tally) → Fairly st (begin_booked tallying p fresh n l b st))
       → IsKept (tallied_rules p fresh n) Fairly
   kept_by n begins = record {
     idle = λ st to path spawned extra there. grows_same st.extra to.extra extra;
@@ -58,10 +59,10 @@ module _ (p : Program) (fresh : ℕ) where
     };
   }
 
-  begins_fairly : (n l : ℕ) (b : Codes) (st : State Tally) → Fairly st (begin_tallied p fresh n l b st)
+  begins_fairly : (n l : ℕ) (b : Codes) (st : State Tally) → Fairly st (begin_booked tallying p fresh n l b st)
   begins_fairly zero l b st = grows_same st.extra st.extra refl
   begins_fairly (suc n) l b st =
-      let begun = child fresh (beginning p l st) in
+      let begun = child fresh (beginning_booked tallying p l st) in
       let out = run p (tallied_rules p fresh n) (Block b) begun in
       let g = run_keeps p (tallied_rules p fresh n) Fairly (kept_by n (begins_fairly n)) (Block b) begun in
       record {

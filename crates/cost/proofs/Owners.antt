@@ -7,7 +7,8 @@ use Rattle.types.specs.Run.{Fault, State}
 use Rattle.types.specs.Translation.{environment as environment_of}
 use Rattle.types.specs.Value.{Environment}
 use Rattle.cost.specs.declared.frame.Owner.{Owner}
-use Rattle.cost.specs.Accounts.{Account, after_child, beginning_at, ends_behind}
+use Rattle.cost.specs.Books.{after_booked, beginning_booked}
+use Rattle.cost.specs.Accounts.{Account, ends_behind, accounting}
 use Rattle.cost.specs.Resume.{Standing, end_async, faults_in, lines_in}
 
 -- it goes on as a task stood which began a child
@@ -18,8 +19,8 @@ pub record Waiting (p : Program) (o : Owner) (l : ℕ) (st : State Account) (n :
   pub spawned : o.spawned ≡ st.spawned + 1
   pub lines : lines_in o.told ≡ st.lines
   pub faults : faults_in o.told ≡ st.faults
-  pub here : o.here ≡ (beginning_at p l st).extra.tally.here
-  pub by_label : o.here_by_label.items ≡ (beginning_at p l st).extra.here
+  pub here : o.here ≡ (beginning_booked accounting p l st).extra.tally.here
+  pub by_label : o.here_by_label.items ≡ (beginning_booked accounting p l st).extra.here
   pub nest : o.nest ≡ n
 
 -- where it goes on, by what it is made of
@@ -45,13 +46,13 @@ abbrev pub after_owner : Owner → State Account → Standing
 after_owner o out = record { state = end_async o out; nest = o.nest }
 
 abbrev pub after_begun : (p : Program) → (l : ℕ) → (st : State Account) → (nest : ℕ) → State Account → Standing
-after_begun p l st n out = record { state = after_child (beginning_at p l st) out; nest = n }
+after_begun p l st n out = record { state = after_booked accounting (beginning_booked accounting p l st) out; nest = n }
 
 pub goes_on : (p : Program) (o : Owner) (l : ℕ) (st out : State Account) (n : ℕ) → Waiting p o l st n
     → after_owner o out ≡ after_begun p l st n out
 goes_on p o l st out n w =
     let lines = lines_in o.told in let faults = faults_in o.told in let env = environment_of o.environment in
-    let k = st.spawned + 1 in let rows = o.here_by_label.items in let begun = (beginning_at p l st).extra in
+    let k = st.spawned + 1 in let rows = o.here_by_label.items in let begun = (beginning_booked accounting p l st).extra in
     ap (λ x. going x env o.steps o.spawned lines faults o.here rows o.nest out) w.path
     ∙ ap (λ x. going st.path x o.steps o.spawned lines faults o.here rows o.nest out) w.environment
     ∙ ap (λ x. going st.path st.environment x o.spawned lines faults o.here rows o.nest out) w.steps

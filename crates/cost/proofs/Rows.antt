@@ -13,7 +13,8 @@ use Rattle.types.specs.Outcome.{Budget, start}
 use Rattle.types.specs.Run.{State, Block, run}
 use Rattle.types.proofs.Keeps.{run_keeps}
 use Rattle.spawn_copies.specs.Copied.{copied_at}
-use Rattle.cost.specs.Accounts.{Account, account_of, accounted_rules, begin_accounted, beginning_at, begins_at, ends_behind}
+use Rattle.cost.specs.Books.{begin_booked, beginning_booked}
+use Rattle.cost.specs.Accounts.{Account, account_of, accounted_rules, begins_at, ends_behind, accounting}
 use Rattle.cost.specs.Accounts.{enters_at, leaves_behind, longer, noted, nothing_noted, row_of, span_by_label, steps_at}
 use Rattle.cost.specs.Costs.{cost_of}
 use Rattle.cost.specs.Laws.{AddsUp}
@@ -144,7 +145,7 @@ abbrev Rowed : State Account → State Account → Type 0
 Rowed st to = HasRows st.extra → HasRows to.extra
 
 module _ (p : Program) (fresh : ℕ) where
-  kept_by : (n : ℕ) → ((l : ℕ) (b : Codes) (st : State Account) → Rowed st (begin_accounted p fresh n l b st))
+  kept_by : (n : ℕ) → ((l : ℕ) (b : Codes) (st : State Account) → Rowed st (begin_booked accounting p fresh n l b st))
       → IsKept (accounted_rules p fresh n) Rowed
   kept_by n begins = record {
     idle = λ st to path spawned extra there h. subst (λ (a : Account). HasRows a) (sym extra) h;
@@ -155,14 +156,14 @@ module _ (p : Program) (fresh : ℕ) where
         has_left st.extra.tally.ended st.extra.ended out.extra (g (has_entered l st.extra h)) h.adds.ended;
   }
 
-  begins_rowed : (n l : ℕ) (b : Codes) (st : State Account) → Rowed st (begin_accounted p fresh n l b st)
+  begins_rowed : (n l : ℕ) (b : Codes) (st : State Account) → Rowed st (begin_booked accounting p fresh n l b st)
   begins_rowed zero l b st h = h
   begins_rowed (suc n) l b st h =
-      let begun = child fresh (beginning_at p l st) in
+      let begun = child fresh (beginning_booked accounting p l st) in
       let out = run p (accounted_rules p fresh n) (Block b) begun in
-      let k : HasRows (beginning_at p l st).extra = has_begun l (length st.path + 1) (copied_at p l st.environment) st.extra h in
+      let k : HasRows (beginning_booked accounting p l st).extra = has_begun l (length st.path + 1) (copied_at p l st.environment) st.extra h in
       let o : HasRows out.extra = run_keeps p (accounted_rules p fresh n) Rowed (kept_by n (begins_rowed n)) (Block b) begun k in
-      has_ended (beginning_at p l st).extra.tally.here (beginning_at p l st).extra.here out.extra o k.here k.adds.here
+      has_ended (beginning_booked accounting p l st).extra.tally.here (beginning_booked accounting p l st).extra.here out.extra o k.here k.adds.here
 
 -- so it is of whole runs
 has_run : (p : Program) (rows : ℕ) (input : List (List ℤ)) (b : Budget) → 0 < rows → HasRows (account_of p rows input b)

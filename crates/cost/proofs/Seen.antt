@@ -1,14 +1,14 @@
 -- A run that keeps more beside its states is the run that keeps less.
-use Rattle.std.proofs.Common.{◌≡◌, ℕ, ◌+◌, [], refl, ap, ◌∙◌, inr}
+use Rattle.std.proofs.Common.{◌≡◌, ℕ, zero, suc, ◌+◌, [], refl, ap, ◌∙◌, inr}
 use Rattle.types.specs.Code.{Codes, Program}
 use Rattle.types.specs.Run.{State, Rules, Work, run}
 use Rattle.types.proofs.Views.{View, Never, surely, IsView, whole_view, within_follows}
-use Rattle.cost.specs.Laws.{with_tally}
+use Rattle.plain_code.specs.Means.{keeping}
 
 module _ {X Y : Type 0} (less : X → Y) where
   -- a state, with less of what is kept beside it
   abbrev pub seen : State X → State Y
-  seen st = with_tally (less st.extra) st
+  seen st = keeping (less st.extra) st
 
   abbrev by_less : View (Unit {0}) X Y
   by_less = record { lines = λ i x. []; faults = λ i x. []; steps = λ i n. n; extra = λ i x. less x }
@@ -23,7 +23,7 @@ module _ {X Y : Type 0} (less : X → Y) where
   module _ (p : Program) (r : Rules X) (s : Rules Y) (keeps : Keeps r s) where
     view : IsView by_less Never r s
     view =
-        whole_view by_less r s (λ i n. refl) (λ i l st. ap (λ y. with_tally y st) (keeps.stepped l st.extra))
+        whole_view by_less r s (λ i n. refl) (λ i l st. ap (λ y. keeping y st) (keeps.stepped l st.extra))
         (λ l b i st. inr (keeps.begin l b st))
         (λ l go to h i st.
         inr (ap (λ out. s.leave (seen st) out) (ap to (keeps.enter l st) ∙ surely (h tt (r.enter l st)))
@@ -31,3 +31,19 @@ module _ {X Y : Type 0} (less : X → Y) where
 
     pub run-seen : (w : Work) (st : State X) → run p s w (seen st) ≡ seen (run p r w st)
     run-seen w st = surely (within_follows p r s by_less Never view (st.steps + 1) w tt st)
+
+  -- rules under which so many asyncs may stand inside one another
+  module _ (p : Program) (r : ℕ → Rules X) (s : ℕ → Rules Y) where
+    abbrev Begins : ℕ → Type 0
+    Begins n = (l : ℕ) (b : Codes) (st : State X) → (s n).begin l b (seen st) ≡ seen ((r n).begin l b st)
+
+    abbrev Runs : ℕ → Type 0
+    Runs n = (w : Work) (st : State X) → run p (s n) w (seen st) ≡ seen (run p (r n) w st)
+
+    -- those of each number keep less, where what is begun under them does, which runs under fewer
+    pub nested-seen : ((n : ℕ) → Begins n → Keeps (r n) (s n)) → Begins zero → ((n : ℕ) → Runs n → Begins (suc n)) → (n : ℕ) → Runs n
+    nested-seen keeps first next n = run-seen p (r n) (s n) (keeps n (begins n))
+      where
+        begins : (n : ℕ) → Begins n
+        begins zero = first
+        begins (suc n) = next n (run-seen p (r n) (s n) (keeps n (begins n)))

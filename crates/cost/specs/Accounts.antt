@@ -1,14 +1,13 @@
 -- What a run on one thread costs at each label: a tally, and beside it, by label, the steps that were taken and those of
 -- its chains. Where two chains are equally long, a task's own is told and none of a task that it waited for; and of two
 -- tasks that ended in a finish, that of the one that ended first.
-use Rattle.std.specs.Prelude.{ℕ, zero, suc, ◌+◌, List, [], length, replicate, ℤ, if◌then◌else◌}
+use Rattle.std.specs.Prelude.{ℕ, ◌+◌, List, [], length, replicate, ℤ, if◌then◌else◌}
 use Rattle.std.specs.Prelude.{nat_lt, slice_index, slice_set}
 use Rattle.types.specs.Code.{Code, Do, If, While, Split, Call, Async, Finish, Codes, Program}
 use Rattle.types.specs.Contents.{held_by}
-use Rattle.types.specs.Meaning.{hushed, joined, child, after_async, after_finish}
 use Rattle.types.specs.Outcome.{Budget, start}
-use Rattle.types.specs.Run.{State, Rules, Work, Block, stopped, run}
-use Rattle.spawn_copies.specs.Copied.{copied_at}
+use Rattle.types.specs.Run.{State, Rules, Work, Block}
+use Rattle.cost.specs.Books.{Book, booked, booked_rules}
 use Rattle.cost.specs.declared.tally.Tally.{Tally}
 use Rattle.cost.specs.Costs.{begins_task, ends_task, enters_finish, leaves_finish, nothing_done}
 use Rattle.cost.specs.Costs.{one_more}
@@ -91,51 +90,24 @@ counted_at l (While g b) a = steps_at l a
 counted_at l (Split s e x y b) a = steps_at l a
 counted_at l (Call f es ss) a = steps_at l a
 
--- a parent goes on as it was, but with what its child wrote, told and cost
-abbrev pub after_child : (before out : State Account) → State Account
-after_child before out =
-    joined before (record before {
-      flow = after_async out.flow;
-      store = out.store;
-      lines = out.lines;
-      faults = out.faults;
-      spawned = before.spawned + 1;
-      extra = ends_behind before.extra.tally.here before.extra.here out.extra;
-    })
-
--- the rules of one thread, which keep an account, where `begin` runs an async's body
-abbrev pub accounted_by : ((label : ℕ) → Codes → State Account → State Account) → Rules Account
-accounted_by begin = record {
-  stepped = steps_at;
-  begin = begin;
-  enter = λ l st. hushed (record st { extra = enters_at l st.extra });
-  leave = λ before out. joined before (record out {
-    flow = after_finish out.flow out.faults;
-    extra = leaves_behind before.extra.tally.ended before.extra.ended out.extra;
-  });
+-- an account as a book
+abbrev pub accounting : Book Account
+accounting = record {
+  steps = steps_at;
+  begins = begins_at;
+  ends = λ before. ends_behind before.tally.here before.here;
+  enters = enters_at;
+  leaves = λ before. leaves_behind before.tally.ended before.ended;
 }
 
 module _ (p : Program) where
-  -- a task that begins its next child, the step of whose async was taken
-  abbrev pub beginning_at : (label : ℕ) → State Account → State Account
-  beginning_at l st = record st {
-    extra = begins_at l (length st.path + 1) (copied_at p l st.environment) st.extra;
-  }
-
-  -- an async where so many may stand inside one another; a child begins with `fresh` steps
-  abbrev pub begin_accounted : (fresh nest : ℕ) → (label : ℕ) → Codes → State Account → State Account
-  begin_accounted fresh zero l b st = stopped st
-  begin_accounted fresh (suc n) l b st =
-      after_child (beginning_at l st)
-      (run p (accounted_by (begin_accounted fresh n)) (Block b) (child fresh (beginning_at l st)))
-
   -- the rules of one thread, which keep an account
   abbrev pub accounted_rules : (fresh nest : ℕ) → Rules Account
-  accounted_rules fresh nest = accounted_by (begin_accounted fresh nest)
+  accounted_rules = booked_rules accounting p
 
   -- the one-thread meaning, which keeps an account
   abbrev pub accounted : (fresh nest : ℕ) → Work → State Account → State Account
-  accounted fresh nest = run p (accounted_rules fresh nest)
+  accounted = booked accounting p
 
 -- the account of a whole run with so many rows, up to where it ended or was stopped
 abbrev pub account_of : Program → (rows : ℕ) → (input : List (List ℤ)) → Budget → Account

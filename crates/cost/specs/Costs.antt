@@ -1,13 +1,11 @@
--- What a run on one thread costs: the one recursion over statements, by rules that keep a tally of steps. A step comes
--- behind the steps of its task before it, behind the async that began its task, and, behind a finish, behind all that
--- was done in that.
-use Rattle.std.specs.Prelude.{ℕ, zero, suc, ◌+◌, max, List, length, ℤ}
-use Rattle.types.specs.Code.{Codes, Program}
+-- What a run on one thread costs: a tally of steps, which it keeps as its book. A step comes behind the steps of its task
+-- before it, behind the async that began its task, and, behind a finish, behind all that was done in that.
+use Rattle.std.specs.Prelude.{ℕ, ◌+◌, max, List, ℤ}
+use Rattle.types.specs.Code.{Program}
 use Rattle.types.specs.Contents.{held_by}
-use Rattle.types.specs.Meaning.{hushed, joined, child, after_async, after_finish}
 use Rattle.types.specs.Outcome.{Budget, start}
-use Rattle.types.specs.Run.{State, Rules, Work, Block, stopped, run}
-use Rattle.spawn_copies.specs.Copied.{copied_at}
+use Rattle.types.specs.Run.{State, Rules, Work, Block}
+use Rattle.cost.specs.Books.{Book, booked, booked_rules}
 use Rattle.cost.specs.declared.cost.Cost.{Cost}
 use Rattle.cost.specs.declared.tally.Tally.{Tally}
 
@@ -49,51 +47,24 @@ enters_finish t = record (one_more t) { ended = 0; finishes = t.finishes + 1 }
 abbrev pub leaves_finish : (ended : ℕ) → Tally → Tally
 leaves_finish ended t = record t { here = max t.here t.ended; ended = ended }
 
--- a parent goes on as it was, but with what its child wrote, told and cost
-abbrev pub after_task : (before out : State Tally) → State Tally
-after_task before out =
-    joined before (record before {
-      flow = after_async out.flow;
-      store = out.store;
-      lines = out.lines;
-      faults = out.faults;
-      spawned = before.spawned + 1;
-      extra = ends_task before.extra.here out.extra;
-    })
-
--- the rules of one thread, which keep a tally, where `begin` runs an async's body
-abbrev pub tallied_by : ((label : ℕ) → Codes → State Tally → State Tally) → Rules Tally
-tallied_by begin = record {
-  stepped = λ l. one_more;
-  begin = begin;
-  enter = λ l st. hushed (record st { extra = enters_finish st.extra });
-  leave = λ before out. joined before (record out {
-    flow = after_finish out.flow out.faults;
-    extra = leaves_finish before.extra.ended out.extra;
-  });
+-- a tally as a book
+abbrev pub tallying : Book Tally
+tallying = record {
+  steps = λ l. one_more;
+  begins = λ l. begins_task;
+  ends = λ before. ends_task before.here;
+  enters = λ l. enters_finish;
+  leaves = λ before. leaves_finish before.ended;
 }
 
 module _ (p : Program) where
-  -- a task that begins its next child, the step of whose async was taken
-  abbrev pub beginning : (label : ℕ) → State Tally → State Tally
-  beginning l st = record st {
-    extra = begins_task (length st.path + 1) (copied_at p l st.environment) st.extra;
-  }
-
-  -- an async where so many may stand inside one another; a child begins with `fresh` steps
-  abbrev pub begin_tallied : (fresh nest : ℕ) → (label : ℕ) → Codes → State Tally → State Tally
-  begin_tallied fresh zero l b st = stopped st
-  begin_tallied fresh (suc n) l b st =
-      after_task (beginning l st)
-      (run p (tallied_by (begin_tallied fresh n)) (Block b) (child fresh (beginning l st)))
-
   -- the rules of one thread, which keep a tally
   abbrev pub tallied_rules : (fresh nest : ℕ) → Rules Tally
-  tallied_rules fresh nest = tallied_by (begin_tallied fresh nest)
+  tallied_rules = booked_rules tallying p
 
   -- the one-thread meaning, which keeps a tally
   abbrev pub tallied : (fresh nest : ℕ) → Work → State Tally → State Tally
-  tallied fresh nest = run p (tallied_rules fresh nest)
+  tallied = booked tallying p
 
 -- the tally of a whole run, up to where it ended or was stopped
 abbrev pub tally_of : Program → (input : List (List ℤ)) → Budget → Tally

@@ -2,30 +2,17 @@
 use Rattle.std.specs.List.{sum}
 use Rattle.std.specs.Prelude.{◌+◌, ◌≡◌, ◌≤◌}
 use Rattle.types.specs.Run.{State}
+use Rattle.plain_code.specs.Means.{bare, keeping}
 use Rattle.cost.specs.declared.tally.Tally.{Tally}
 use Rattle.cost.specs.Accounts.{Account}
 
--- a state, with this kept beside
-abbrev pub with_tally : {X Y : Type 0} → Y → State X → State Y
-with_tally y st = record {
-  flow = st.flow;
-  environment = st.environment;
-  store = st.store;
-  lines = st.lines;
-  faults = st.faults;
-  steps = st.steps;
-  path = st.path;
-  spawned = st.spawned;
-  extra = y;
-}
-
--- the same where nothing is kept beside
+-- a state with nothing kept beside
 abbrev pub untallied : State Tally → State (Unit {0})
-untallied = with_tally tt
+untallied = bare
 
--- the same with the tally alone
+-- one with the tally alone
 abbrev pub totals : State Account → State Tally
-totals st = with_tally st.extra.tally st
+totals st = keeping st.extra.tally st
 
 -- no chain is longer than all that was done; each task but the root, and each finish but that around `main`, took a
 -- step of its own

@@ -1,3 +1,4 @@
+pub mod Books
 pub mod Costs
 pub mod Accounts
 pub mod Translation

@@ -14,7 +14,7 @@ use Rattle.cost.specs.declared.frame.Owner.{Owner}
 use Rattle.cost.specs.declared.frame.Told.{Told}
 use Rattle.cost.specs.declared.account.Account.{Account as rAccount}
 use Rattle.cost.specs.Accounts.{Account, accounted, accounted_rules, ends_behind, leaves_behind}
-use Rattle.cost.specs.Laws.{with_tally}
+use Rattle.plain_code.specs.Means.{keeping}
 use Rattle.cost.specs.Translation.{account}
 
 -- a state, and how many asyncs may still stand inside one another
@@ -24,7 +24,7 @@ pub record Standing : Type 0 where
 
 -- where a thread stands, of which this is the account
 abbrev pub placed : Account → Thread Store → Standing
-placed y t = record { state = with_tally y (state_of t); nest = t.nest }
+placed y t = record { state = keeping y (state_of t); nest = t.nest }
 
 abbrev pub standing : rAccount → Thread Store → Standing
 standing a t = placed (account a) t

@@ -88,12 +88,9 @@ impl Account {
     pub fn end_task(&mut self, here: usize, by_label: Vec<u64>)
         ensures { account self.new ≡ ends_behind here by_label.items (account self.old) }
     {
-        let is_longer = self.tally.ended < self.tally.here;
         let chain = std::mem::replace(&mut self.here, by_label);
+        lengthen(&mut self.ended, self.tally.ended, chain, self.tally.here);
         self.tally.end_task(here);
-        if is_longer {
-            self.ended = chain;
-        }
     }
 
     /// A finish took its step, and begins.
@@ -111,12 +108,9 @@ impl Account {
     pub fn leave_finish(&mut self, ended: usize, by_label: Vec<u64>)
         ensures { account self.new ≡ leaves_behind ended by_label.items (account self.old) }
     {
-        let is_longer = self.tally.here < self.tally.ended;
         let chain = std::mem::replace(&mut self.ended, by_label);
+        lengthen(&mut self.here, self.tally.here, chain, self.tally.ended);
         self.tally.leave_finish(ended);
-        if is_longer {
-            self.here = chain;
-        }
     }
 
     /// The steps at each label, and those of the longest chain behind all that was done.
@@ -148,6 +142,15 @@ fn row_of(label: Label, rows: usize) -> usize
 {
     let row = label as usize;
     if row < rows { row } else { 0 }
+}
+
+/// Another chain takes the place of one that is shorter, by label.
+fn lengthen(chain: &mut Vec<u64>, steps: usize, other: Vec<u64>, of_other: usize)
+    ensures { chain.new.items ≡ rows_of_longer steps of_other chain.old.items other.items }
+{
+    if steps < of_other {
+        *chain = other;
+    }
 }
 
 /// The longer of two chains, by label; of two that are equally long, the first.

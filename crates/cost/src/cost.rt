@@ -73,17 +73,8 @@ pub fn measure(
     ensures cost { IfOk result (λ c. c.cost
         ≡ cost_of (tally_of (code_of typed.now) (lists_in input.now) (budget_of budget))) }
 {
-    let plan = Plan {
-        alloc,
-        program: typed.code(),
-        budget,
-    };
-    let summaries = summarize(alloc, typed)?;
-    let machine = ran(plan, &summaries, input, 0)?;
-    Ok(Costed {
-        cost: machine.account.tally.cost(),
-        outcome: machine.thread.outcome(),
-    })
+    let CostByLabel { costed, .. } = measure_by_label(alloc, typed, input, budget, 0)?;
+    Ok(costed)
 }
 
 /// The same by label, where the labels are less than `rows`: a step at any other is counted at 0. Of two chains that are

@@ -53,8 +53,7 @@ impl Cause {
     pub fn kind(self) -> FaultKind {
         match self {
             Cause::Index { .. } => FaultKind::Index,
-            Cause::Overflow { .. } => FaultKind::Overflow,
-            Cause::Negative { .. } => FaultKind::Overflow,
+            Cause::Overflow { .. } | Cause::Negative { .. } => FaultKind::Overflow,
             Cause::ZeroDivisor { .. } => FaultKind::ZeroDivisor,
             Cause::OutOfElement { .. } => FaultKind::OutOfElement,
             Cause::SplitPoint { .. } => FaultKind::SplitPoint,

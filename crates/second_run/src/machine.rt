@@ -264,26 +264,20 @@ impl<'p> Machine<'p> {
 
     /// The value of a number expression; None where it faults.
     fn number(&mut self, label: Label, number: &Number) -> Result<Option<i64>, AllocError> {
-        match self.thread.number(number) {
-            Ok(value) => Ok(Some(value)),
-            Err(_) => {
-                let tried = self.tried().number(number);
-                self.faulted(label, tried.err())?;
-                Ok(None)
-            }
+        if let Ok(value) = self.thread.number(number) {
+            return Ok(Some(value));
         }
+        let tried = self.tried().number(number);
+        self.no_value(label, tried.err())
     }
 
     /// The value of a truth expression; None where it faults.
     fn truth(&mut self, label: Label, truth: &Truth) -> Result<Option<bool>, AllocError> {
-        match self.thread.truth(truth) {
-            Ok(value) => Ok(Some(value)),
-            Err(_) => {
-                let tried = self.tried().truth(truth);
-                self.faulted(label, tried.err())?;
-                Ok(None)
-            }
+        if let Ok(value) = self.thread.truth(truth) {
+            return Ok(Some(value));
         }
+        let tried = self.tried().truth(truth);
+        self.no_value(label, tried.err())
     }
 
     /// The values of several expressions; None where one faults.
@@ -307,8 +301,7 @@ impl<'p> Machine<'p> {
         if fault.is_none() {
             return Ok(Some(values));
         }
-        self.faulted(label, fault)?;
-        Ok(None)
+        self.no_value(label, fault)
     }
 
     /// Where a store writes, and what: the index, the value, F1 by the index, then F4 by the value.
@@ -358,12 +351,12 @@ impl<'p> Machine<'p> {
 
     // ---- what is seen
 
-    /// A fault, where there is a cause.
-    fn faulted(&mut self, label: Label, cause: Option<Cause>) -> Result<(), AllocError> {
-        match cause {
-            Some(cause) => self.fault(label, cause),
-            None => Ok(()),
+    /// A fault in place of a value, where there is a cause.
+    fn no_value<T>(&mut self, label: Label, cause: Option<Cause>) -> Result<Option<T>, AllocError> {
+        if let Some(cause) = cause {
+            self.fault(label, cause)?;
         }
+        Ok(None)
     }
 
     /// A fault of the task.

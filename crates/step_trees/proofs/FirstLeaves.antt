@@ -47,77 +47,9 @@ module _ (p : Program) where
   stuck e ended = (refl, refl, refl)
   stuck e (goes s r) = absurd (let h = step_below p s in omega arith)
 
-  -- One tree beside another
+  -- A run of a tree to its end, and what comes behind it in the steps that are left
 
-  pub record Halves (n : ℕ) (t u : Tree) (a : Contents) (e : Tree) (z : Contents) : Type 0 where
-    pub first_count : ℕ
-    pub second_count : ℕ
-    pub count : first_count + second_count ≡ n
-    pub middle : Contents
-    pub first_tree : Tree
-    pub second_tree : Tree
-    pub first : LeftRun first_count t a first_tree middle
-    pub second : LeftRun second_count u middle second_tree z
-    pub first_done : all_done first_tree ≡ true
-    pub second_done : all_done second_tree ≡ true
-    pub both : e ≡ Beside first_tree second_tree
-
-  later_half : {n : ℕ} {t u v e : Tree} {a b z : Contents} {k : Leaf} → 0 ≡ ready t → Step p 0 k u a v b
-      → Halves n t v b e z → Halves (suc n) t u a e z
-  later_half {n = n} {t = t} {u = u} {e = e} {a = a} {z = z} q s h =
-      let x = stuck (sym q) h.first in
-      record {
-        first_count = 0;
-        second_count = suc h.second_count;
-        count = (let c = h.count in let y = x.0 in omega arith);
-        middle = a;
-        first_tree = t;
-        second_tree = h.second_tree;
-        first = ended;
-        second = goes s (subst (λ b. LeftRun h.second_count _ b h.second_tree z) x.2 h.second);
-        first_done = ap all_done (sym x.1) ∙ h.first_done;
-        second_done = h.second_done;
-        both = h.both ∙ ap (λ t. Beside t h.second_tree) x.1;
-      }
-
-  pub halves : (n : ℕ) {t u e : Tree} {a z : Contents} → LeftRun n (Beside t u) a e z → all_done e ≡ true
-      → Halves n t u a e z
-  halves zero {t} {u} {a = a} ended d =
-      let h = and_parts (all_done t) (all_done u) d in
-      record {
-        first_count = 0;
-        second_count = 0;
-        count = refl;
-        middle = a;
-        first_tree = t;
-        second_tree = u;
-        first = ended;
-        second = ended;
-        first_done = h.0;
-        second_done = h.1;
-        both = refl;
-      }
-  halves (suc n) (goes (Step.left s) r) d =
-      let h = halves n r d in
-      record {
-        first_count = suc h.first_count;
-        second_count = h.second_count;
-        count = (let c = h.count in omega arith);
-        middle = h.middle;
-        first_tree = h.first_tree;
-        second_tree = h.second_tree;
-        first = goes s h.first;
-        second = h.second;
-        first_done = h.first_done;
-        second_done = h.second_done;
-        both = h.both;
-      }
-  halves (suc n) (goes (Step.right {m = m} {k = k} {t = t} {v = v} {w = w} {a = a} {b = b} e s) r) d =
-      later_half (omega arith) (subst (λ m. Step p m k v a w b) (omega arith) s) (halves n r d)
-
-  -- A finish
-
-  pub record Finished (n : ℕ) (t : Tree) (j : Leaf) (a : Contents) (e : Tree) (z : Contents) : Type 0 where
+  pub record Ended (n : ℕ) (t : Tree) (a : Contents) (Behind : ℕ → Tree → Contents → Type 0) : Type 0 where
     pub first_count : ℕ
     pub second_count : ℕ
     pub count : first_count + second_count ≡ n
@@ -125,33 +57,76 @@ module _ (p : Program) where
     pub tree : Tree
     pub first : LeftRun first_count t a tree middle
     pub done : all_done tree ≡ true
-    pub second : LeftRun second_count (Single (closed tree j)) middle e z
+    pub behind : Behind second_count tree middle
 
-  pub finished : (n : ℕ) (t : Tree) (j : Leaf) (b : Bool) → all_done t ≡ b → (a : Contents) (e : Tree) (z : Contents)
-      → LeftRun n (if b then Single (closed t j) else AndThen t j) a e z → all_done e ≡ true → Finished n t j a e z
-  finished n t j true h a e z r d = record {
+  at_end : {n m : ℕ} {t : Tree} {a : Contents} {Behind : ℕ → Tree → Contents → Type 0} → m ≡ n → all_done t ≡ true
+      → Behind m t a → Ended n t a Behind
+  at_end {m = m} {t = t} {a = a} e done behind = record {
     first_count = 0;
-    second_count = n;
-    count = omega arith;
+    second_count = m;
+    count = omega (arith, e);
     middle = a;
     tree = t;
     first = ended;
-    done = h;
-    second = r;
+    done = done;
+    behind = behind;
   }
+
+  one_more : {n : ℕ} {k : Leaf} {t u : Tree} {a b : Contents} {Behind : ℕ → Tree → Contents → Type 0} → Step p 0 k t a u b
+      → Ended n u b Behind → Ended (suc n) t a Behind
+  one_more s r = record {
+    first_count = suc r.first_count;
+    second_count = r.second_count;
+    count = (let c = r.count in omega arith);
+    middle = r.middle;
+    tree = r.tree;
+    first = goes s r.first;
+    done = r.done;
+    behind = r.behind;
+  }
+
+  -- One tree beside another
+
+  pub record SecondHalf (e : Tree) (z : Contents) (u : Tree) (n : ℕ) (t : Tree) (a : Contents) : Type 0 where
+    pub tree : Tree
+    pub run : LeftRun n u a tree z
+    pub done : all_done tree ≡ true
+    pub both : e ≡ Beside t tree
+
+  abbrev pub Halves : (n : ℕ) (t u : Tree) (a : Contents) (e : Tree) (z : Contents) → Type 0
+  Halves n t u a e z = Ended n t a (SecondHalf e z u)
+
+  later_half : {n : ℕ} {t u v e : Tree} {a b z : Contents} {k : Leaf} → 0 ≡ ready t → Step p 0 k u a v b
+      → Halves n t v b e z → Halves (suc n) t u a e z
+  later_half {n = n} {t = t} {u = u} {e = e} {a = a} {z = z} q s h =
+      let x = stuck (sym q) h.first in
+      at_end {m = suc h.second_count} {Behind = SecondHalf e z u} (let c = h.count in let y = x.0 in omega arith) (ap all_done (sym x.1) ∙ h.done) (record {
+        tree = h.behind.tree;
+        run = goes s (subst (λ b. LeftRun h.second_count _ b h.behind.tree z) x.2 h.behind.run);
+        done = h.behind.done;
+        both = h.behind.both ∙ ap (λ t. Beside t h.behind.tree) x.1;
+      })
+
+  pub halves : (n : ℕ) {t u e : Tree} {a z : Contents} → LeftRun n (Beside t u) a e z → all_done e ≡ true
+      → Halves n t u a e z
+  halves zero {t} {u} {a = a} ended d =
+      let h = and_parts (all_done t) (all_done u) d in
+      at_end {Behind = SecondHalf (Beside t u) a u} refl h.0 (record { tree = u; run = ended; done = h.1; both = refl })
+  halves (suc n) (goes (Step.left s) r) d = one_more s (halves n r d)
+  halves (suc n) (goes (Step.right {m = m} {k = k} {t = t} {v = v} {w = w} {a = a} {b = b} e s) r) d =
+      later_half (omega arith) (subst (λ m. Step p m k v a w b) (omega arith) s) (halves n r d)
+
+  -- A finish
+
+  abbrev pub Finished : (n : ℕ) (t : Tree) (j : Leaf) (a : Contents) (e : Tree) (z : Contents) → Type 0
+  Finished n t j a e z = Ended n t a (λ m u b. LeftRun m (Single (closed u j)) b e z)
+
+  pub finished : (n : ℕ) (t : Tree) (j : Leaf) (b : Bool) → all_done t ≡ b → (a : Contents) (e : Tree) (z : Contents)
+      → LeftRun n (if b then Single (closed t j) else AndThen t j) a e z → all_done e ≡ true → Finished n t j a e z
+  finished n t j true h a e z r d = at_end {Behind = λ m u b. LeftRun m (Single (closed u j)) b e z} refl h r
   finished zero t j false h a e z ended d = true_false (sym d)
   finished (suc n) t j false h a e z (goes (Step.first {u = u} {b = b} s q) r) d =
-      let f = finished n u j (all_done u) refl b e z (subst (λ w. LeftRun n w b e z) q r) d in
-      record {
-        first_count = suc f.first_count;
-        second_count = f.second_count;
-        count = (let c = f.count in omega arith);
-        middle = f.middle;
-        tree = f.tree;
-        first = goes s f.first;
-        done = f.done;
-        second = f.second;
-      }
+      one_more s (finished n u j (all_done u) refl b e z (subst (λ w. LeftRun n w b e z) q r) d)
 
 module _ (p : Program) (sound : IsSound p) (accepted : IsAccepted p) where
   -- where a run ends, the first leaves lead to the same end in as many steps

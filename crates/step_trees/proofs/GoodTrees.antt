@@ -15,13 +15,12 @@ use Rattle.types.specs.TreeSteps.{on_value, as_state, by_flow, tree_after, first
 use Rattle.types.specs.TreeRuns.{Runs, here, next as go_next, Reachable}
 use Rattle.effects.specs.Effects.{Inner, AllOf, PendingOf, accesses}
 use Rattle.effects.specs.Sound.{Follows, IsSound, parameters_of}
-use Rattle.effects.specs.Fits.{Fits}
 use Rattle.effects.specs.Kept.{SameWindows}
 use Rattle.effects.proofs.EnvironmentsFit.{fits_at_start, fits_inside_split, fits_in_call, at_other}
 use Rattle.effects.proofs.Footprints.{call-reads, call-writes, call-pending_reads, call-pending_writes, split-reads, split-writes, split-pending_reads, split-pending_writes}
 use Rattle.race_checker.specs.Clash.{IsAccepted}
 use Rattle.race_checker.specs.Calm.{Calm, IsCalm}
-use Rattle.race_checker.specs.Scope.{Scope, Top, Inside, Lists, may_writes}
+use Rattle.race_checker.specs.Scope.{Top, Inside, Lists, may_writes}
 use Rattle.race_checker.proofs.Calming.{is_calm}
 use Rattle.race_checker.proofs.Scoping.{arrays_written}
 use Rattle.step_trees.proofs.Scopes.{fits_scope}
@@ -29,7 +28,7 @@ use Rattle.step_trees.specs.Still.{Footprint, both, foot, Separate, all, waiting
 use Rattle.step_trees.proofs.Steps.{Step, step_from}
 use Rattle.step_trees.proofs.Deeds.{primitive_windows}
 use Rattle.step_trees.proofs.Footprints.{Within, within_itself, within_trans, first_within, second_within, both_within, beside_within, nothing_within, separate_within, separate_both, separate_nothing, among, append_all, append_pending, statement_all, rest_all, statement_pending, rest_pending, cons_all, separate_from}
-use Rattle.step_trees.proofs.PlacedStatements.{Among, pending, IsPlaced, Focus, focus, keep_below, end_within, end_placed, same_placed, same_all, same_pending, rest_placed, focused, rest_apart, prefixed, alone}
+use Rattle.step_trees.proofs.PlacedStatements.{Among, pending, IsPlaced, Focus, focus, keep_below, end_within, end_placed, same_placed, same_all, same_pending, rest_placed, focused, rest_apart, FitsIn, fits_there, prefixed, alone}
 
 module _ (p : Program) where
   -- a leaf's statements with those that wait for its calls; outside of all calls the windows of `keep` stay
@@ -223,11 +222,7 @@ module _ (p : Program) where
         inner : List ℕ
         larger : Among scope inner
         same : SameWindows scope env to
-        fits : Fits p g inner to
-        follows : Follows p g inner b
-        names : Scope
-        lists : Lists g names inner
-        calm : Calm p names b
+        fits : FitsIn p g to inner b
         all : Within (all p to b) (foot env (AllOf p accesses l s))
         pending : Within (pending p to b) (foot env (PendingOf p accesses s))
 
@@ -240,7 +235,7 @@ module _ (p : Program) where
           let r = same_placed p sound {env = env} {other = to} i.same (rest_placed p f) in (
             i.inner,
             record {
-              placed = prefixed p r i.inner b i.larger i.fits i.follows i.names i.lists i.calm
+              placed = prefixed p r i.inner b i.larger i.fits
                   (separate_within i.pending (same_all p sound {env = env} {other = to} i.same (rest_placed p f)) (rest_apart p f));
               all = within_trans (append_all p to b rest)
                   (both_within (within_trans i.all (statement_all p env l s rest)) (within_trans (same_all p sound {env = env} {other = to} i.same (rest_placed p f)) (rest_all p env l s rest)));
@@ -314,9 +309,9 @@ module _ (p : Program) where
         let pend : Within (pending p env b) (foot env (PendingOf p accesses (While t b))) = among env (λ x h. PendingOf.inner Inner.while h refl) in (
           f.scope,
           record {
-            placed = prefixed p whole f.scope b (λ x m. m) f.stands.fits f.stands.follows.0.1 f.stands.names f.stands.lists f.stands.calm.0.0
+            placed = prefixed p whole f.scope b (λ x m. m) (fits_there p f f.stands.block.follows.0.1 f.stands.block.calm.0.0)
                 (separate_within pend (cons_all p env l (While t b) rest)
-                (separate_both (separate_from (f.stands.calm.0.1 env (fits_scope p f.procedure f.is_sound f.stands.lists env f.stands.fits.placed))) (rest_apart p f)));
+                (separate_both (separate_from (f.stands.block.calm.0.1 env (fits_scope p f.procedure f.is_sound f.stands.block.lists env f.stands.block.fits.placed))) (rest_apart p f)));
             all = within_trans (append_all p env b (Then l (While t b) rest))
                 (both_within (within_trans (among env (λ x h. AllOf.inner Inner.while h refl)) (statement_all p env l (While t b) rest)) (within_itself _));
             pending = within_trans (append_pending p env b (Then l (While t b) rest))
@@ -345,12 +340,9 @@ module _ (p : Program) where
             inner = f.scope;
             larger = λ x m. m;
             same = λ x m. refl;
-            fits = f.stands.fits;
-            follows =
-                of_branch (λ x. Follows p f.procedure f.scope x) v f.stands.follows.0.1 f.stands.follows.0.2;
-            names = f.stands.names;
-            lists = f.stands.lists;
-            calm = of_branch (λ x. Calm p f.stands.names x) v f.stands.calm.0.0 f.stands.calm.0.1;
+            fits =
+                fits_there p f (of_branch (λ x. Follows p f.procedure f.scope x) v f.stands.block.follows.0.1 f.stands.block.follows.0.2)
+                (of_branch (λ x. Calm p f.stands.block.names x) v f.stands.block.calm.0.0 f.stands.block.calm.0.1);
             all = among _ (λ x h. AllOf.inner (branch v) h refl);
             pending = among _ (λ x h. PendingOf.inner (branch v) h refl);
           }) st
@@ -379,12 +371,14 @@ module _ (p : Program) where
           into_leaf l (Split s e x y b) keep scope k (with_sides x y ws k.environment) b (λ keep f. record {
             inner = x ∷ y ∷ f.scope;
             larger = λ z m. next (next m);
-            same = at_other p f.procedure f.scope k.environment s x y f.stands.follows.0.0 ws;
-            fits = fits_inside_split p f.procedure f.scope k.environment s x y f.stands.follows.0.0 ws v cut f.stands.fits;
-            follows = f.stands.follows.0.2;
-            names = Inside s x y f.stands.names;
-            lists = Lists.inside f.stands.follows.0.0 f.stands.lists;
-            calm = f.stands.calm.0;
+            same = at_other p f.procedure f.scope k.environment s x y f.stands.block.follows.0.0 ws;
+            fits = record {
+              fits = fits_inside_split p f.procedure f.scope k.environment s x y f.stands.block.follows.0.0 ws v cut f.stands.block.fits;
+              follows = f.stands.block.follows.0.2;
+              names = Inside s x y f.stands.block.names;
+              lists = Lists.inside f.stands.block.follows.0.0 f.stands.block.lists;
+              calm = f.stands.block.calm.0;
+            };
             all = record {
               touches = split-reads p k.environment s e x y b v ws cut l;
               writes = split-writes p k.environment s e x y b v ws cut l;
@@ -400,11 +394,15 @@ module _ (p : Program) where
       callee l f es ss vs env rest keep at =
           let g = procedure_of p f in
           let is = sound.procedures f in
-          let passes = at.stands.follows.0.passes in
+          let passes = at.stands.block.follows.0.passes in
           record {
-            placed = alone p [] (parameters_of g) (entry vs (map env.windows ss)) g g.body is (λ x m. elim m [ ])
-                (fits_in_call p at.procedure at.scope env at.is_sound.numbered at.stands.fits g is vs ss passes) is.body (Top (may_writes g))
-                Lists.top (calm.procedures f);
+            placed = alone p [] (parameters_of g) (entry vs (map env.windows ss)) g g.body is (λ x m. elim m [ ]) (record {
+              fits = fits_in_call p at.procedure at.scope env at.is_sound.numbered at.stands.block.fits g is vs ss passes;
+              follows = is.body;
+              names = Top (may_writes g);
+              lists = Lists.top;
+              calm = calm.procedures f;
+            });
             does = record {
               touches = λ q t. (call-reads p sound env l f es ss vs passes.number q).1 (inr t);
               writes = λ q t. (call-writes p sound env l f es ss vs passes.number q).1 t;
@@ -442,8 +440,7 @@ module _ (p : Program) where
           let s = Async b in
           let env = k.environment in
           let m = stack_moved keep scope (Spawned env b k.rest) k.callers (past_with (Spawned env b k.rest) (λ keep f. record {
-            placed = alone p [] f.scope env f.procedure b f.is_sound (λ x m. elim m [ ]) f.stands.fits f.stands.follows.0 f.stands.names
-                f.stands.lists f.stands.calm.0;
+            placed = alone p [] f.scope env f.procedure b f.is_sound (λ x m. elim m [ ]) (fits_there p f f.stands.block.follows.0 f.stands.block.calm.0);
             apart = rest_apart p f;
           })) st in
           let pend : Within (all p env b) (foot env (PendingOf p accesses s)) = among env (λ x h. PendingOf.async h) in
@@ -466,8 +463,7 @@ module _ (p : Program) where
           let s = Finish b in
           let env = k.environment in
           let m = stack_moved keep scope (λ i. IsPlaced p i i env b) k.callers (past_with (λ i. IsPlaced p i i env b) (λ keep f.
-          alone p f.scope f.scope env f.procedure b f.is_sound (λ x m. m) f.stands.fits f.stands.follows.0 f.stands.names f.stands.lists
-          f.stands.calm.0)) st in
+          alone p f.scope f.scope env f.procedure b f.is_sound (λ x m. m) (fits_there p f f.stands.block.follows.0 f.stands.block.calm.0))) st in
           let body = one_kept m.scope m.scope (inside b k) m.more in
           kept_trans m.same
           (both_within
@@ -513,9 +509,13 @@ module _ (p : Program) where
 
 pub first_good : (p : Program) → IsSound p → IsCalm p → Good p [] (first_tree p)
 first_good p sound calm = (one_kept p [] (parameters_of p.main) (first_leaf p)
-    (alone p [] (parameters_of p.main) (entry [] (whole_arrays 0 p.arrays)) p.main p.main.body sound.main (λ x m. elim m [ ])
-    (fits_at_start p sound.main sound.arrays) sound.main.body (Top (may_writes p.main)) Lists.top
-    (subst (λ ms. Calm p (Top ms) p.main.body) (sym (arrays_written p sound.arrays)) calm.main))).good
+    (alone p [] (parameters_of p.main) (entry [] (whole_arrays 0 p.arrays)) p.main p.main.body sound.main (λ x m. elim m [ ]) (record {
+      fits = fits_at_start p sound.main sound.arrays;
+      follows = sound.main.body;
+      names = Top (may_writes p.main);
+      lists = Lists.top;
+      calm = subst (λ ms. Calm p (Top ms) p.main.body) (sym (arrays_written p sound.arrays)) calm.main;
+    }))).good
 
 module _ (p : Program) (sound : IsSound p) (accepted : IsAccepted p) where
   pub run_good : {n : ℕ} {t u : Tree} {a b : Contents} → Runs p n t a u b → Good p [] t → Good p [] u

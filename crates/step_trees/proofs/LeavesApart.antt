@@ -108,7 +108,7 @@ module _ (p : Program) (sound : IsSound p) (accepted : IsAccepted p) (input : Co
       record {
         procedure = placed.procedure;
         scope = st.1;
-        fits = placed.stands.fits;
+        fits = placed.stands.block.fits;
         in_scope = all_scoped p sound placed;
       }
 

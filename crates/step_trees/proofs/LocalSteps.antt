@@ -1,5 +1,5 @@
 -- A step depends only on what its leaf may touch, and changes at most one place that it may write.
-use Rattle.std.proofs.Common.{◌≡◌, inl, inr, ℕ, zero, suc, ◌+◌, ◌<◌, List, [], ◌∷◌, ◌++◌, length, map, Option, Some, None, refl, sym, ap, ◌∙◌, subst, arith}
+use Rattle.std.proofs.Common.{◌≡◌, inl, ℕ, zero, suc, ◌+◌, ◌<◌, List, [], ◌∷◌, ◌++◌, length, map, Option, Some, None, refl, sym, ap, ◌∙◌, subst, arith}
 use Rattle.std.proofs.lemmas.List.Elements.{Contains-append_left, Contains-append_right}
 use Rattle.std.specs.Prelude.{ℤ, pos, Bool, true, false, Ok, Err, ok_or, unwrap_or, flat_map, slice_index_or, if◌then◌else◌}
 use Rattle.types.proofs.Bindings.{element_in}
@@ -20,6 +20,7 @@ use Rattle.effects.specs.Effects.{AllOf, All, accesses}
 use Rattle.effects.specs.Footprint.{Touches, Overwrites}
 use Rattle.effects.proofs.Members.{in_map}
 use Rattle.step_trees.specs.Still.{still, left_of}
+use Rattle.step_trees.proofs.Footprints.{Within, first_within, second_within}
 use Rattle.step_trees.proofs.Steps.{Step}
 use Rattle.step_trees.proofs.Deeds.{Deed, Nothing, Assigns, Writes, Prints, Fails, by_value, stores, deed, did, primitive-did}
 
@@ -212,6 +213,17 @@ module _ (p : Program) where
     pub elsewhere : (c : Contents) → ((q : Place) → (still p t).touches q → a q ≡ c q)
         → Step p n k t c u (updated update c)
 
+  -- a step of a part of a tree
+  of_part : {n m : ℕ} {k : Leaf} {t u v w : Tree} {a b : Contents} → Within (still p t) (still p v)
+      → ((c d : Contents) → Step p n k t c u d → Step p m k v c w d)
+      → Local n k t a u b → Local m k v a w b
+  of_part part whole s = record {
+    update = s.update;
+    writes = hits_map part.writes s.update s.writes;
+    store = s.store;
+    elsewhere = λ c h. whole c (updated s.update c) (s.elsewhere c (λ q t. h q (part.touches q t)));
+  }
+
   module _ (k : Leaf) (l : ℕ) (s : Code) (rest : Codes) (e : k.rest ≡ Then l s rest) where
     own_touches : (q : Place) → Touches k.environment (λ x. Member x (own_accesses l s)) q → (left_of p k).touches q
     own_touches q t = inl (record { access = t.access; among = subst (λ c. All p accesses c t.access) (sym e) (All.here (AllOf.own_access t.among)); place = t.place })
@@ -230,27 +242,6 @@ module _ (p : Program) where
             let x = m.elsewhere c (λ q t. h q (own_touches k l s rest r q t)) in
             Step.here r (e ∙ x.0) (sym x.1);
       }
-  local (Step.first s e) =
-      let m = local s in
-      record {
-        update = m.update;
-        writes = hits_map (λ q h. inl h) m.update m.writes;
-        store = m.store;
-        elsewhere = λ c h. Step.first (m.elsewhere c (λ q t. h q (inl t))) e;
-      }
-  local (Step.left s) =
-      let m = local s in
-      record {
-        update = m.update;
-        writes = hits_map (λ q h. inl h) m.update m.writes;
-        store = m.store;
-        elsewhere = λ c h. Step.left (m.elsewhere c (λ q t. h q (inl t)));
-      }
-  local (Step.right e s) =
-      let m = local s in
-      record {
-        update = m.update;
-        writes = hits_map (λ q h. inr h) m.update m.writes;
-        store = m.store;
-        elsewhere = λ c h. Step.right e (m.elsewhere c (λ q t. h q (inr t)));
-      }
+  local (Step.first s e) = of_part (first_within _ _) (λ c d s. Step.first s e) (local s)
+  local (Step.left s) = of_part (first_within _ _) (λ c d s. Step.left s) (local s)
+  local (Step.right e s) = of_part (second_within _ _) (λ c d s. Step.right e s) (local s)

@@ -330,15 +330,15 @@ module _ (p : Program) (fresh : ℕ) where
           spawned = k.spawned + 1;
         }
 
-        second : ComesTo h.second_count steps k.path h.second_tree z (task nest k.rest k.callers (state_of (parent k) h.middle steps))
-        second = deeper h.second_count right_less nest steps (parent k) h.middle h.second_tree z (omega (arith, right_less)) (omega (arith, right_less)) (omega (arith, right_less)) refl h.second h.second_done
+        second : ComesTo h.second_count steps k.path h.behind.tree z (task nest k.rest k.callers (state_of (parent k) h.middle steps))
+        second = deeper h.second_count right_less nest steps (parent k) h.middle h.behind.tree z (omega (arith, right_less)) (omega (arith, right_less)) (omega (arith, right_less)) refl h.behind.run h.behind.done
 
         after : (flow : Flow) → (flow ≡ Stopped → ⊥) → (path : List ℕ) (left : ℕ)
-            → behind_it (end_state path h.first_tree h.middle flow left)
-            ≡ behind (lines_of h.first_tree) (faults_of h.first_tree) (state_of (parent k) h.middle steps)
+            → behind_it (end_state path h.tree h.middle flow left)
+            ≡ behind (lines_of h.tree) (faults_of h.tree) (state_of (parent k) h.middle steps)
         after flow on path left =
-            ap (λ f. record (state_of k h.middle steps) { flow = f; lines = lines_of h.first_tree; faults = faults_of h.first_tree; spawned = k.spawned + 1 }) (async_on flow on)
-            ∙ sym (behind-nothing (lines_of h.first_tree) (faults_of h.first_tree) (state_of (parent k) h.middle steps))
+            ap (λ f. record (state_of k h.middle steps) { flow = f; lines = lines_of h.tree; faults = faults_of h.tree; spawned = k.spawned + 1 }) (async_on flow on)
+            ∙ sym (behind-nothing (lines_of h.tree) (faults_of h.tree) (state_of (parent k) h.middle steps))
 
         begun : (m : ℕ)
             → begin_one p fresh (suc m) b (state_of k a steps) ≡ behind_it (blk m b (state_of (child b k) a fresh))
@@ -348,22 +348,22 @@ module _ (p : Program) (fresh : ℕ) where
             ∙ ap (blk m b) (behind-nothing k.lines k.faults (child_state fresh (state_of k a steps))))
 
         first : (m : ℕ) → n ≤ m
-            → ComesTo h.first_count fresh (k.path ++ (k.spawned + 1) ∷ []) h.first_tree h.middle (blk m b (state_of (child b k) a fresh))
-        first m le = deeper h.first_count left_less m fresh (child b k) a h.first_tree h.middle (omega (arith, left_less)) (omega (arith, left_less)) (omega (arith, left_less)) faultless h.first h.first_done
+            → ComesTo h.first_count fresh (k.path ++ (k.spawned + 1) ∷ []) h.tree h.middle (blk m b (state_of (child b k) a fresh))
+        first m le = deeper h.first_count left_less m fresh (child b k) a h.tree h.middle (omega (arith, left_less)) (omega (arith, left_less)) (omega (arith, left_less)) faultless h.first h.done
 
         so : (m : ℕ) → n ≤ m → begin_one p fresh (suc m) b (state_of k a steps)
-            ≡ behind (lines_of h.first_tree) (faults_of h.first_tree) (state_of (parent k) h.middle steps)
+            ≡ behind (lines_of h.tree) (faults_of h.tree) (state_of (parent k) h.middle steps)
         so m le = let c = first m le in begun m ∙ ap behind_it c.meaning ∙ after c.flow c.goes (k.path ++ (k.spawned + 1) ∷ []) c.left
 
-        whole : calls nest k.callers (blk nest k.rest (behind (lines_of h.first_tree) (faults_of h.first_tree) (state_of (parent k) h.middle steps)))
+        whole : calls nest k.callers (blk nest k.rest (behind (lines_of h.tree) (faults_of h.tree) (state_of (parent k) h.middle steps)))
             ≡ end_state k.path t z second.flow second.left
         whole =
-            ap (calls nest k.callers) (block_adds nest k.rest (lines_of h.first_tree) (faults_of h.first_tree) (state_of (parent k) h.middle steps))
-            ∙ calls_adds nest k.callers (lines_of h.first_tree) (faults_of h.first_tree) (blk nest k.rest (state_of (parent k) h.middle steps))
-            ∙ ap (behind (lines_of h.first_tree) (faults_of h.first_tree)) second.meaning
-            ∙ ap (λ t. end_state k.path t z second.flow second.left) (sym h.both)
+            ap (calls nest k.callers) (block_adds nest k.rest (lines_of h.tree) (faults_of h.tree) (state_of (parent k) h.middle steps))
+            ∙ calls_adds nest k.callers (lines_of h.tree) (faults_of h.tree) (blk nest k.rest (state_of (parent k) h.middle steps))
+            ∙ ap (behind (lines_of h.tree) (faults_of h.tree)) second.meaning
+            ∙ ap (λ t. end_state k.path t z second.flow second.left) (sym h.behind.both)
 
-        comes : Comes (behind (lines_of h.first_tree) (faults_of h.first_tree) (state_of (parent k) h.middle steps))
+        comes : Comes (behind (lines_of h.tree) (faults_of h.tree) (state_of (parent k) h.middle steps))
         comes = record {
           flow = second.flow;
           goes = second.goes;
@@ -378,7 +378,7 @@ module _ (p : Program) (fresh : ℕ) where
 
     finish_comes : (b : Codes) (a : Contents) → LeftRun p n (and_then (single (inside b k)) (held_back k)) a t z
         → Comes (doing nest l (Finish b) (state_of k a steps))
-    finish_comes b a r = subst Comes (sym (finish_is nest l b (state_of k a steps) faultless ∙ ap left_by body.meaning)) (by (faults_of f.tree) refl f.second)
+    finish_comes b a r = subst Comes (sym (finish_is nest l b (state_of k a steps) faultless ∙ ap left_by body.meaning)) (by (faults_of f.tree) refl f.behind)
       where
         f : Finished p n (single (inside b k)) (held_back k) a t z
         f = finished p n (single (inside b k)) (held_back k) (all_done (single (inside b k))) refl a t z r d

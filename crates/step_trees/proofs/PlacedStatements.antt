@@ -57,14 +57,18 @@ is_then End = ⊥
 is_then (Then l s rest) = Unit {0}
 
 module _ (p : Program) where
+  -- a block fits in a scope
+  pub record FitsIn (g : Procedure) (env : Environment) (scope : List ℕ) (b : Codes) : Type 0 where
+    pub fits : Fits p g scope env
+    pub follows : Follows p g scope b
+    pub names : Scope
+    pub lists : Lists g names scope
+    pub calm : Calm p names b
+
   module _ (g : Procedure) (env : Environment) (keep : List ℕ) where
     -- a block fits where it stands before others, and what it leaves pending keeps apart from them
     pub record Stands (scope : List ℕ) (b : Codes) (bs : List Part) : Type 0 where
-      pub fits : Fits p g scope env
-      pub follows : Follows p g scope b
-      pub names : Scope
-      pub lists : Lists g names scope
-      pub calm : Calm p names b
+      pub block : FitsIn g env scope b
       pub outer : Among (top keep bs) scope
       pub apart : Separate (pending p env b) (all p env (flat bs))
 
@@ -90,7 +94,7 @@ module _ (p : Program) where
     module _ (sound : IsSound p) (numbered : IsNumbered g.sections) where
       pub block_scoped : {scope : List ℕ} {b : Codes} {bs : List Part} → Stands g env keep scope b bs → (x : Access)
           → All p accesses b x → Member x.section scope
-      block_scoped {scope = scope} s x h = (allowed p sound h g scope numbered s.follows).in_scope
+      block_scoped {scope = scope} s x h = (allowed p sound h g scope numbered s.block.follows).in_scope
 
       pub parts_scoped : {bs : List Part} → Parts g env keep bs → (x : Access) → All p accesses (flat bs) x
           → Member x.section (top keep bs)
@@ -109,11 +113,13 @@ module _ (p : Program) where
         → SameWindows scope env other
         → Stands g env keep scope b bs → Stands g other keep scope b bs
     same_stands {scope = scope} r same s = record {
-      fits = fits_same p g scope env other s.fits same;
-      follows = s.follows;
-      names = s.names;
-      lists = s.lists;
-      calm = s.calm;
+      block = record {
+        fits = fits_same p g scope env other s.block.fits same;
+        follows = s.block.follows;
+        names = s.block.names;
+        lists = s.block.lists;
+        calm = s.block.calm;
+      };
       outer = s.outer;
       apart = separate_within
           (shifted (λ x h. block_scoped g env keep sound numbered s x (pending_all p h)) same)
@@ -164,6 +170,17 @@ module _ (p : Program) where
       focus_in keep env k.procedure k.is_sound l s rest scope k.code k.parts k.stands k.standing k.flat
       (focus_parts keep env k.procedure k.is_sound l s rest k.parts)
 
+  -- a block fits where the first statement stands
+  abbrev pub fits_there : {keep : List ℕ} {env : Environment} {l : ℕ} {s : Code} {rest : Codes} → (f : Focus keep env l s rest)
+      → {b : Codes} → Follows p f.procedure f.scope b → Calm p f.stands.block.names b → FitsIn f.procedure env f.scope b
+  fits_there f follows calm = record {
+    fits = f.stands.block.fits;
+    follows = follows;
+    names = f.stands.block.names;
+    lists = f.stands.block.lists;
+    calm = calm;
+  }
+
   -- what is placed lets the windows of `keep` alone
   pub keep_below : {keep scope : List ℕ} {env : Environment} {c : Codes} → IsPlaced keep scope env c
       → Among keep scope
@@ -187,11 +204,13 @@ module _ (p : Program) where
     code = End;
     parts = [];
     stands = record {
-      fits = k.stands.fits;
-      follows = tt;
-      names = k.stands.names;
-      lists = k.stands.lists;
-      calm = tt;
+      block = record {
+        fits = k.stands.block.fits;
+        follows = tt;
+        names = k.stands.block.names;
+        lists = k.stands.block.lists;
+        calm = tt;
+      };
       outer = keep_below k;
       apart = record { writes_first = λ q w t. end_all t.among; writes_second = λ q t w. end_all w.among };
     };
@@ -239,11 +258,7 @@ module _ (p : Program) where
     code = f.more;
     parts = f.parts;
     stands = record {
-      fits = f.stands.fits;
-      follows = f.stands.follows.1;
-      names = f.stands.names;
-      lists = f.stands.lists;
-      calm = f.stands.calm.1;
+      block = fits_there f f.stands.block.follows.1 f.stands.block.calm.1;
       outer = f.stands.outer;
       apart = separate_within (rest_pending p env l s f.more) (within_itself _) f.stands.apart;
     };
@@ -269,49 +284,33 @@ module _ (p : Program) where
       → Separate (foot env (PendingOf p accesses s)) (all p env rest)
   rest_apart {env = env} {l = l} {s = s} f = subst (λ c. Separate (foot env (PendingOf p accesses s)) (all p env c)) (sym f.flat)
       (separate_within (within_itself _) (append_all p env f.more (flat f.parts))
-      (separate_both (separate_from (f.stands.calm.2 env (fits_scope p f.procedure f.is_sound f.stands.lists env f.stands.fits.placed)))
+      (separate_both (separate_from (f.stands.block.calm.2 env (fits_scope p f.procedure f.is_sound f.stands.block.lists env f.stands.block.fits.placed)))
       (separate_within (statement_pending p env l s f.more) (within_itself _) f.stands.apart)))
 
   -- a block before what is placed
   pub prefixed : {keep scope : List ℕ} {env : Environment} {c : Codes} (k : IsPlaced keep scope env c)
-      → (inner : List ℕ) (b : Codes) → Among scope inner
-      → Fits p k.procedure inner env → Follows p k.procedure inner b → (names : Scope)
-      → Lists k.procedure names inner → Calm p names b
+      → (inner : List ℕ) (b : Codes) → Among scope inner → FitsIn k.procedure env inner b
       → Separate (pending p env b) (all p env c) → IsPlaced keep inner env (append b c)
-  prefixed {scope = scope} {env = env} k inner b m fits follows names lists calm apart = record {
+  prefixed {scope = scope} {env = env} k inner b m fits apart = record {
     procedure = k.procedure;
     is_sound = k.is_sound;
     code = b;
     parts = record { scope = scope; code = k.code } ∷ k.parts;
-    stands = record {
-      fits = fits;
-      follows = follows;
-      names = names;
-      lists = lists;
-      calm = calm;
-      outer = m;
-      apart = subst (λ c. Separate (pending p env b) (all p env c)) k.flat apart;
-    };
+    stands = record { block = fits; outer = m; apart = subst (λ c. Separate (pending p env b) (all p env c)) k.flat apart };
     standing = also k.stands k.standing;
     flat = ap (append b) k.flat;
   }
 
   -- one block alone
   pub alone : (keep scope : List ℕ) (env : Environment) (g : Procedure) (b : Codes) → IsSoundIn p g
-      → Among keep scope
-      → Fits p g scope env → Follows p g scope b → (names : Scope) → Lists g names scope → Calm p names b
-      → IsPlaced keep scope env b
-  alone keep scope env g b is_sound m fits follows names lists calm = record {
+      → Among keep scope → FitsIn g env scope b → IsPlaced keep scope env b
+  alone keep scope env g b is_sound m fits = record {
     procedure = g;
     is_sound = is_sound;
     code = b;
     parts = [];
     stands = record {
-      fits = fits;
-      follows = follows;
-      names = names;
-      lists = lists;
-      calm = calm;
+      block = fits;
       outer = m;
       apart = record { writes_first = λ q w t. end_all t.among; writes_second = λ q t w. end_all w.among };
     };

@@ -4,6 +4,7 @@ use Rattle.std.specs.Prelude.{ℤ, Bool, true, false, not, ok_or, if◌then◌el
 use Rattle.sections.proofs.Windows.{places_same}
 use Rattle.sections.specs.Place.{Place, same_place, sides_of}
 use Rattle.sections.specs.Member.{Member, first}
+use Rattle.types.specs.declared.fault.FaultKind.{FaultKind}
 use Rattle.types.specs.declared.fault.FaultKind.TheVariants.{SplitPoint, Raised}
 use Rattle.types.specs.Code.{Number, Literal, Scalar, Element, Length, Negative, Chain, Links, Done, Link, Truth, Constant, Compare, Not, Both, Either, Truths, NoMore, Also, Primitive, Skip, Assign, Store, Print, Raise, Code, Do, If, While, Split, Call, Async, Finish, Codes, End, Then, Program}
 use Rattle.types.specs.Contents.{Contents, read}
@@ -34,14 +35,28 @@ module _ (env : Environment) (r o : Place → ℤ) where
   right : (ps qs : List Place) → Same (ps ++ qs) → Same qs
   right ps qs h q m = h q (in_right ps m)
 
+  -- what goes on with a value is the same, where it does nothing with one that there isn't
+  same_value : {A B : Type 0} (go : Valued A → (A → B) → B) → ((a : A) (f : A → B) → go (Ok a) f ≡ f a)
+      → ((e : FaultKind) (f g : A → B) → go (Err e) f ≡ go (Err e) g) → (x y : Valued A) (f g : A → B)
+      (reads : A → List Place) → x ≡ y → Same (after x reads)
+      → ((a : A) → Same (reads a) → f a ≡ g a) → go x f ≡ go y g
+  same_value go value fault x y f g reads e h k = by x h ∙ ap (λ y. go y g) e
+    where
+      by : (x : _) → Same (after x reads) → go x f ≡ go x g
+      by (Ok a) h = value a f ∙ k a h ∙ sym (value a g)
+      by (Err e) h = fault e f g
+
   same_try : {A B : Type 0} (x y : Valued A) (f g : A → Valued B) (reads : A → List Place) → x ≡ y
       → Same (after x reads)
       → ((a : A) → Same (reads a) → f a ≡ g a) → then_try x f ≡ then_try y g
-  same_try x y f g reads e h k = by x h ∙ ap (λ y. then_try y g) e
-    where
-      by : (x : _) → Same (after x reads) → then_try x f ≡ then_try x g
-      by (Ok a) h = k a h
-      by (Err e) h = refl
+  same_try x y f g reads e h k =
+      same_value (λ x f. then_try x f) (λ a f. refl) (λ e f g. refl) x y f g reads e h k
+
+  -- the same of a value by which first the places of its own are read
+  same_first : {A B : Type 0} (x y : Valued A) (f g : A → Valued B) (own : List Place) (reads : A → List Place)
+      → (Same own → x ≡ y) → Same (own ++ after x reads)
+      → ((a : A) → Same (reads a) → f a ≡ g a) → then_try x f ≡ then_try y g
+  same_first x y f g own reads e h k = same_try x y f g reads (e (left own _ h)) (right own _ h) k
 
   twice : {A B : Type 0} (x : Valued A) (f : A → Valued B) (go : B → List Place) → Same (after (then_try x f) go)
       → Same (after x (λ v. after (f v) go))
@@ -59,8 +74,8 @@ module _ (env : Environment) (r o : Place → ℤ) where
     number_by (Length s) h = refl
     number_by (Negative e) h = ap (λ x. then_try x (λ v. within_64_bits (neg_ℤ v))) (number_by e h)
     number_by (Chain e rest) h =
-        same_try (number env r e) (number env o e) (links env r rest) (links env o rest) (links_read env r rest)
-        (number_by e (left (number_reads env r e) _ h)) (right (number_reads env r e) _ h) (λ v h. links_by rest v h)
+        same_first (number env r e) (number env o e) (links env r rest) (links env o rest) _ (links_read env r rest) (number_by e) h
+        (links_by rest)
 
     links_by : (rest : Links) (x : ℤ) → Same (links_read env r rest x) → links env r rest x ≡ links env o rest x
     links_by Done x h = refl
@@ -72,14 +87,14 @@ module _ (env : Environment) (r o : Place → ℤ) where
   numbers_by : (es : List Number) → Same (numbers_read env r es) → numbers env r es ≡ numbers env o es
   numbers_by [] h = refl
   numbers_by (e ∷ es) h =
-      same_try (number env r e) (number env o e) _ _ (λ v. numbers_read env r es) (number_by e (left (number_reads env r e) _ h)) (right (number_reads env r e) _ h)
+      same_first (number env r e) (number env o e) _ _ _ (λ v. numbers_read env r es) (number_by e) h
       (λ v h. ap (λ x. then_try x (λ vs. Ok (v ∷ vs))) (numbers_by es h))
 
   mutual
     truth_by : (t : Truth) → Same (truth_reads env r t) → truth env r t ≡ truth env o t
     truth_by (Constant b) h = refl
     truth_by (Compare c a b) h =
-        same_try (number env r a) (number env o a) _ _ (λ x. number_reads env r b) (number_by a (left (number_reads env r a) _ h)) (right (number_reads env r a) _ h)
+        same_first (number env r a) (number env o a) _ _ _ (λ x. number_reads env r b) (number_by a) h
         (λ x h. ap (λ y. then_try y (λ y. Ok (holds c x y))) (number_by b h))
     truth_by (Not t) h = ap (λ x. then_try x (λ b. Ok (not b))) (truth_by t h)
     truth_by (Both ts) h = all_by ts true h
@@ -89,23 +104,17 @@ module _ (env : Environment) (r o : Place → ℤ) where
     all_by NoMore b h = refl
     all_by (Also t rest) false h = refl
     all_by (Also t rest) true h =
-        same_try (truth env r t) (truth env o t) (all env r rest) (all env o rest) (all_read env r rest)
-        (truth_by t (left (truth_reads env r t) _ h)) (right (truth_reads env r t) _ h) (λ b h. all_by rest b h)
+        same_first (truth env r t) (truth env o t) (all env r rest) (all env o rest) _ (all_read env r rest) (truth_by t) h (all_by rest)
 
     any_by : (ts : Truths) (b : Bool) → Same (any_read env r ts b) → any env r ts b ≡ any env o ts b
     any_by NoMore b h = refl
     any_by (Also t rest) true h = refl
     any_by (Also t rest) false h =
-        same_try (truth env r t) (truth env o t) (any env r rest) (any env o rest) (any_read env r rest)
-        (truth_by t (left (truth_reads env r t) _ h)) (right (truth_reads env r t) _ h) (λ b h. any_by rest b h)
+        same_first (truth env r t) (truth env o t) (any env r rest) (any env o rest) _ (any_read env r rest) (truth_by t) h (any_by rest)
 
   same_deed : {A : Type 0} (x y : Valued A) (f g : A → Deed) (reads : A → List Place) → x ≡ y → Same (after x reads)
       → ((a : A) → Same (reads a) → f a ≡ g a) → by_value x f ≡ by_value y g
-  same_deed x y f g reads e h k = by x h ∙ ap (λ y. by_value y g) e
-    where
-      by : (x : _) → Same (after x reads) → by_value x f ≡ by_value x g
-      by (Ok a) h = k a h
-      by (Err e) h = refl
+  same_deed x y f g reads e h k = same_value (λ x f. by_value x f) (λ a f. refl) (λ e f g. refl) x y f g reads e h k
 
   deed_by : (p : Program) (s : Primitive) → Same (primitive_reads env r s) → deed p env r s ≡ deed p env o s
   deed_by p Skip h = refl

@@ -40,6 +40,13 @@ module _ (env : Environment) (contents : Place → ℤ) (q : Place) where
       → (Member q ys → A) → A
   parts xs h f g = elim (in_parts xs h) [ inl h ↦ f h | inr h ↦ g h ]
 
+  -- it is read first, or behind a value that comes of what is read first
+  either_in : {A : Type 0} (x : Valued A) (go : A → List Place) (own : List Place) (ss ts : List ℕ) → (Member q own → LiesIn ss)
+      → ((v : A) → Member q (go v) → LiesIn ts) → Member q (own ++ after x go) → LiesIn (ss ++ ts)
+  either_in x go own ss ts early later h = parts own h
+      (λ h. more (λ x m. in_left ts m) (early h))
+      (λ h. after_in x go h (λ v k m. more (λ x m. in_right ss m) (later v m)))
+
   only : {A : Type 0} {r : Place} → Member q (r ∷ []) → (r ≡ q → A) → A
   only Member.first f = f refl
   only (Member.next h) f = none_in h
@@ -55,28 +62,24 @@ module _ (env : Environment) (contents : Place → ℤ) (q : Place) where
         only m (λ same. record { section = s; among = first; place = subst (In (env.windows s)) same (element_in (env.windows s) x.0 r x.2) })))
     number_in (Length s) h = none_in h
     number_in (Negative e) h = number_in e h
-    number_in (Chain e rest) h = parts (number_reads env contents e) h
-        (λ h. more (λ x m. in_left (indexed_links rest) m) (number_in e h))
-        (λ h. after_in (number env contents e) (links_read env contents rest) h (λ v k m. more (λ x m. in_right (indexed e) m) (links_in rest v m)))
+    number_in (Chain e rest) h =
+        either_in (number env contents e) (links_read env contents rest) _ _ _ (number_in e) (links_in rest) h
 
     links_in : (rest : Links) (x : ℤ) → Member q (links_read env contents rest x) → LiesIn (indexed_links rest)
     links_in Done x h = none_in h
-    links_in (Link o e rest) x h = parts (number_reads env contents e) h
-        (λ h. more (λ x m. in_left (indexed_links rest) m) (number_in e h))
-        (λ h. after_in (then_try (number env contents e) (operate o x)) (links_read env contents rest) h (λ v k m. more (λ x m. in_right (indexed e) m) (links_in rest v m)))
+    links_in (Link o e rest) x h =
+        either_in (then_try (number env contents e) (operate o x)) (links_read env contents rest) _ _ _ (number_in e) (links_in rest) h
 
   numbers_in : (es : List Number) → Member q (numbers_read env contents es) → LiesIn (flat_map indexed es)
   numbers_in [] h = none_in h
-  numbers_in (e ∷ es) h = parts (number_reads env contents e) h
-      (λ h. more (λ x m. in_left (flat_map indexed es) m) (number_in e h))
-      (λ h. after_in (number env contents e) (λ v. numbers_read env contents es) h (λ v k m. more (λ x m. in_right (indexed e) m) (numbers_in es m)))
+  numbers_in (e ∷ es) h =
+      either_in (number env contents e) (λ v. numbers_read env contents es) _ _ _ (number_in e) (λ v m. numbers_in es m) h
 
   mutual
     truth_in : (t : Truth) → Member q (truth_reads env contents t) → LiesIn (indexed_truth t)
     truth_in (Constant b) h = none_in h
-    truth_in (Compare r a b) h = parts (number_reads env contents a) h
-        (λ h. more (λ x m. in_left (indexed b) m) (number_in a h))
-        (λ h. after_in (number env contents a) (λ x. number_reads env contents b) h (λ v k m. more (λ x m. in_right (indexed a) m) (number_in b m)))
+    truth_in (Compare r a b) h =
+        either_in (number env contents a) (λ x. number_reads env contents b) _ _ _ (number_in a) (λ v m. number_in b m) h
     truth_in (Not t) h = truth_in t h
     truth_in (Both ts) h = all_in ts true h
     truth_in (Either ts) h = any_in ts false h
@@ -84,16 +87,14 @@ module _ (env : Environment) (contents : Place → ℤ) (q : Place) where
     all_in : (ts : Truths) (b : Bool) → Member q (all_read env contents ts b) → LiesIn (indexed_truths ts)
     all_in NoMore b h = none_in h
     all_in (Also t rest) false h = none_in h
-    all_in (Also t rest) true h = parts (truth_reads env contents t) h
-        (λ h. more (λ x m. in_left (indexed_truths rest) m) (truth_in t h))
-        (λ h. after_in (truth env contents t) (all_read env contents rest) h (λ v k m. more (λ x m. in_right (indexed_truth t) m) (all_in rest v m)))
+    all_in (Also t rest) true h =
+        either_in (truth env contents t) (all_read env contents rest) _ _ _ (truth_in t) (all_in rest) h
 
     any_in : (ts : Truths) (b : Bool) → Member q (any_read env contents ts b) → LiesIn (indexed_truths ts)
     any_in NoMore b h = none_in h
     any_in (Also t rest) true h = none_in h
-    any_in (Also t rest) false h = parts (truth_reads env contents t) h
-        (λ h. more (λ x m. in_left (indexed_truths rest) m) (truth_in t h))
-        (λ h. after_in (truth env contents t) (any_read env contents rest) h (λ v k m. more (λ x m. in_right (indexed_truth t) m) (any_in rest v m)))
+    any_in (Also t rest) false h =
+        either_in (truth env contents t) (any_read env contents rest) _ _ _ (truth_in t) (any_in rest) h
 
   -- as accesses
   as_reads : (l : ℕ) {ss : List ℕ} {xs : List Access} → ((x : Access) → Member x (reads l ss) → Member x xs)
@@ -108,9 +109,8 @@ module _ (env : Environment) (contents : Place → ℤ) (q : Place) where
       → Touches env (λ x. Member x (own_primitive l s)) q
   primitive_touches l Skip h = none_in h
   primitive_touches l (Assign x e) h = as_reads l (λ x m. m) (number_in e h)
-  primitive_touches l (Store s i e) h = as_reads l (λ x m. next m) (parts (number_reads env contents i) h
-      (λ h. more (λ x m. in_left (indexed e) m) (number_in i h))
-      (λ h. after_in (number env contents i) (λ at. number_reads env contents e) h (λ v k m. more (λ x m. in_right (indexed i) m) (number_in e m))))
+  primitive_touches l (Store s i e) h = as_reads l (λ x m. next m)
+      (either_in (number env contents i) (λ at. number_reads env contents e) _ _ _ (number_in i) (λ v m. number_in e m) h)
   primitive_touches l (Print es) h = as_reads l (λ x m. m) (numbers_in es h)
   primitive_touches l (Raise e) h = as_reads l (λ x m. m) (number_in e h)
 

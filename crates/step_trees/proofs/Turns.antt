@@ -100,30 +100,24 @@ call_of_nothing f env k none =
     ap Single (sym (returned-up (called f env k) (record { environment = k.environment; rest = k.rest }) k.callers none refl))
 
 -- an async's body beside its parent, of what stands in the leaf's place
-pub spawned_tree : (b : Codes) (k j : Leaf) (env : Environment) (rest : Codes) (fs : List Caller) (path : List ℕ) (n : ℕ)
-    (ls : List (List ℤ)) (gs : List Fault) (x y : Leaf)
-    → j ≡ k → env ≡ k.environment → rest ≡ b → fs ≡ [] → path ≡ k.path ++ n ∷ [] → n ≡ k.spawned + 1 → ls ≡ [] → gs ≡ []
-    → x ≡ returned (record j { environment = env; rest = rest; callers = fs; path = path; spawned = 0 })
-    → y ≡ returned (record j { spawned = n; lines = ls; faults = gs })
+pub spawned_tree : (b : Codes) (k j : Leaf) (path : List ℕ) (n : ℕ) (x a y : Leaf) → j ≡ k → path ≡ k.path ++ n ∷ [] → n ≡ k.spawned + 1
+    → x ≡ returned (record (inside b j) { path = path; spawned = 0 }) → a ≡ held_back j → y ≡ returned (record a { spawned = n })
     → Beside (Single x) (Single y) ≡ Beside (single (child b k)) (single (parent k))
-spawned_tree b k j env rest fs path n ls gs x y same env_is rest_is none path_is n_is ls_none gs_none x_is y_is =
+spawned_tree b k j path n x a y same path_is n_is x_is a_is y_is =
     let path_too : path ≡ k.path ++ (k.spawned + 1) ∷ [] = path_is ∙ ap (λ (m : ℕ). k.path ++ m ∷ []) n_is in
-    let child_is : returned (record j { environment = env; rest = rest; callers = fs; path = path; spawned = 0 }) ≡ returned (child b k) = cc in
-    let parent_is : returned (record j { spawned = n; lines = ls; faults = gs }) ≡ returned (parent k) = cc in
+    let child_is : returned (record (inside b j) { path = path; spawned = 0 }) ≡ returned (child b k) = cc in
+    let parent_is : returned (record (held_back j) { spawned = n }) ≡ returned (parent k) = cc in
     ap (λ (i : Leaf). Beside (Single i) (Single y)) (x_is ∙ child_is)
-    ∙ ap (λ (i : Leaf). Beside (single (child b k)) (Single i)) (y_is ∙ parent_is)
+    ∙ ap (λ (i : Leaf). Beside (single (child b k)) (Single i))
+    (y_is ∙ ap (λ (q : Leaf). returned (record q { spawned = n })) a_is ∙ parent_is)
 
 -- a finish's body, and what waits for its end
-pub entered_tree : (b : Codes) (k j : Leaf) (env : Environment) (rest : Codes) (fs : List Caller) (path : List ℕ)
-    (ls : List (List ℤ)) (gs : List Fault) (x : Leaf)
-    → j ≡ k → env ≡ k.environment → rest ≡ b → fs ≡ [] → path ≡ k.path → ls ≡ [] → gs ≡ []
-    → x ≡ returned (record j { environment = env; rest = rest; callers = fs; path = path })
-    → and_then (Single x) (record j { lines = ls; faults = gs }) ≡ and_then (single (inside b k)) (held_back k)
-entered_tree b k j env rest fs path ls gs x same env_is rest_is none path_is ls_none gs_none x_is =
-    let held : Leaf = record j { lines = ls; faults = gs } in
-    let body_is : returned (record j { environment = env; rest = rest; callers = fs; path = path }) ≡ returned (inside b k) = cc in
-    let behind_is : held ≡ held_back k = cc in
-    ap (λ (i : Leaf). and_then (Single i) held) (x_is ∙ body_is) ∙ ap (and_then (single (inside b k))) behind_is
+pub entered_tree : (b : Codes) (k j : Leaf) (path : List ℕ) (n : ℕ) (x a : Leaf) → j ≡ k → path ≡ k.path → n ≡ k.spawned
+    → x ≡ returned (record (inside b j) { path = path; spawned = n }) → a ≡ held_back j
+    → and_then (Single x) a ≡ and_then (single (inside b k)) (held_back k)
+entered_tree b k j path n x a same path_is n_is x_is a_is =
+    let body_is : returned (record (inside b j) { path = path; spawned = n }) ≡ returned (inside b k) = cc in
+    ap (λ (i : Leaf). and_then (Single i) a) (x_is ∙ body_is) ∙ ap (and_then (single (inside b k))) (a_is ∙ ap held_back same)
 
 -- the same statement, spelled in another way
 pub after_as : (turn : Turn) (l : ℕ) {s d : Code} (r : Result (Becomes × Store) AllocError) → s ≡ d

@@ -12,7 +12,9 @@ use Rattle.step_trees.specs.declared.tree.Tree.{Tree as rTree}
 use Rattle.step_trees.specs.declared.tree.Tree.TheVariants.{AndThen' as rAndThen, Beside' as rBeside}
 use Rattle.step_trees.specs.declared.tree.Around.{Around}
 use Rattle.step_trees.specs.declared.tree.Around.TheVariants.{Behind, Left, Right}
+use Rattle.step_trees.specs.declared.tree.Round.{Round}
 use Rattle.step_trees.specs.Held.{tree_of, within, inside, IsCounted, IsCountedRound, AreCounted}
+use Rattle.step_trees.specs.Places.{IsRound}
 
 -- the nearest is last
 pub inside-push : (xs : List Around) (x : Around) (t : Tree) → inside (xs ++ x ∷ []) t ≡ inside xs (within x t)
@@ -121,7 +123,19 @@ module _ (n : ℕ) (whole : Tree) (xs : List Around) (m : ℕ) where
             ∙ in_tree-push xs (Left b) (step p k (tree_of g) a);
       }
 
+-- on the way up: inside of what stands round it, a tree is the whole
+pub record IsInside (whole : Tree) (r : Round) (t : rTree) : Type 0 where
+  pub round : IsRound r
+  pub tree : IsCounted t
+  pub same : inside r.around.items (tree_of t) ≡ whole
+
 -- back up by one
-pub up-by : (xs ys : List Around) (x : Around) (t u w : Tree) → xs ≡ ys ++ x ∷ [] → u ≡ within x t → inside xs t ≡ w → inside ys u ≡ w
-up-by xs ys x t u w e g h =
-    ap (inside ys) g ∙ sym (inside-push ys x t) ∙ sym (ap (λ xs. inside xs t) e) ∙ h
+pub up-by : (whole : Tree) (r s : Round) (x : Around) (t u : rTree) → r.around.items ≡ s.around.items ++ x ∷ [] → IsRound s
+    → IsCounted u → tree_of u ≡ within x (tree_of t) → IsInside whole r t → IsInside whole s u
+up-by whole r s x t u e round tree g h = record {
+  round = round;
+  tree = tree;
+  same =
+      ap (inside s.around.items) g ∙ sym (inside-push s.around.items x (tree_of t))
+      ∙ sym (ap (λ xs. inside xs (tree_of t)) e) ∙ h.same;
+}

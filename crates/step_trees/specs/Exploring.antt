@@ -1,32 +1,38 @@
 -- Steps of trees as they are held, and what is told of given choices.
-use Rattle.std.specs.Prelude.{ℕ, ◌≡◌, Some}
-use Rattle.types.specs.Contents.{FitsArrays}
+use Rattle.std.specs.Prelude.{ℕ, ℤ, ◌≡◌, List, Some}
+use Rattle.types.specs.Code.{Program}
+use Rattle.types.specs.Contents.{FitsArrays, held_by}
 use Rattle.types.specs.Translation.{program, outcome}
 use Rattle.types.specs.TreeRuns.{Explored, Ends, Open, NoSuchChoice}
-use Rattle.types.specs.TreeSteps.{step}
-use Rattle.serial_run.specs.declared.store.Store.{Store}
+use Rattle.types.specs.TreeSteps.{step, first_tree}
 use Rattle.serial_run.specs.declared.thread.Plan.{Plan}
 use Rattle.serial_run.specs.Lists.{lists_of, contents_of}
 use Rattle.step_trees.specs.declared.explore.Explored.{Explored as rExplored}
 use Rattle.step_trees.specs.declared.explore.Explored.TheVariants.{Ended as rEnded, Open as rOpen}
 use Rattle.step_trees.specs.declared.explore.Explored.TheVariants.{NoSuchChoice as rNoSuchChoice}
-use Rattle.step_trees.specs.declared.walk.Place.{Place}
+use Rattle.step_trees.specs.declared.explore.Course.{Course}
 use Rattle.step_trees.specs.Places.{whole, IsPlace}
 use Rattle.step_trees.specs.Windows.{TreeLies}
 
 -- what is held of a place is so, the windows of its tree lie in their arrays, and these have a
 -- number for each element
-pub record IsHeld (plan : Plan) (a : Store) (c : Place) : Type 0 where
-  pub place : IsPlace c
-  pub windows : TreeLies (program plan.program.now) (whole c)
-  pub store : FitsArrays (program plan.program.now).arrays (lists_of a)
+pub record IsHeld (plan : Plan) (c : Course) : Type 0 where
+  pub place : IsPlace c.place
+  pub windows : TreeLies (program plan.program.now) (whole c.place)
+  pub store : FitsArrays (program plan.program.now).arrays (lists_of c.store)
 
--- the step of the n-th leaf that may step, after which a place is held as before
-pub record StepsTree (plan : Plan) (a : Store) (c : Place) (n : ℕ) (r : Place × Store)
-    : Type 0 where
-  pub step : step (program plan.program.now) n (whole c) (contents_of a)
-      ≡ Some (whole r.0, contents_of r.1)
-  pub held : IsHeld plan r.1 r.0
+-- a run of a program on an input at its beginning
+pub record Begins (p : Program) (input : List (List ℤ)) (r : Plan × Course) : Type 0 where
+  pub held : IsHeld r.0 r.1
+  pub code : program r.0.program.now ≡ p
+  pub tree : whole r.1.place ≡ first_tree p
+  pub store : contents_of r.1.store ≡ held_by input
+
+-- the step of the n-th leaf that may step, after which a run is held as before
+pub record StepsTree (plan : Plan) (c : Course) (n : ℕ) (next : Course) : Type 0 where
+  pub step : step (program plan.program.now) n (whole c.place) (contents_of c.store)
+      ≡ Some (whole next.place, contents_of next.store)
+  pub held : IsHeld plan next
 
 -- what is told
 abbrev pub explored_of : rExplored → Explored

@@ -5,14 +5,15 @@ ghost use Rattle.types.specs.Contents.{FitsArrays};
 ghost use Rattle.types.specs.Outcome.{Budget as BudgetOf, IsLarger, Outcome as OutcomeOf};
 ghost use Rattle.types.specs.Outcome.{outcome as one_thread_outcome};
 ghost use Rattle.types.specs.Translation.{program as program_of, input as lists_in};
-ghost use Rattle.types.specs.TreeRuns.{Ends, Open, NoSuchChoice, told as told_of, explored as explored_by};
+ghost use Rattle.types.specs.TreeRuns.{Ends, Open, NoSuchChoice, told as told_of};
+ghost use Rattle.types.specs.TreeRuns.{explored as explored_by, explored_from};
 ghost use Rattle.types.specs.TreeSteps.{first_tree};
 ghost use Rattle.types.specs.Trees.{ready as ready_leaves};
 ghost use Rattle.types.specs.Typed.{code_of};
 ghost use Rattle.serial_run.specs.Lists.{contents_of};
-ghost use Rattle.step_trees.specs.Drawing.{drawn_choices, next_number as number_behind};
+ghost use Rattle.step_trees.specs.Drawing.{drawn, drawn_choices, next_number as number_behind};
 ghost use Rattle.step_trees.specs.Drawing.{picked as picked_by};
-ghost use Rattle.step_trees.specs.Exploring.{explored_of, IsHeld, StepsTree};
+ghost use Rattle.step_trees.specs.Exploring.{explored_of, Begins, IsHeld, StepsTree};
 ghost use Rattle.step_trees.specs.Held.{tree_of, IsCounted};
 ghost use Rattle.step_trees.specs.Places.{whole, IsPlace};
 ghost use Rattle.step_trees.specs.Turns.{becomes as becomes_tree};
@@ -43,6 +44,13 @@ pub enum Explored {
     NoSuchChoice(usize),
 }
 
+/// How far a run has come.
+#[derive(Drop)]
+pub struct Course<'p> {
+    pub store: Store,
+    pub place: Place<'p>,
+}
+
 /// The run of an accepted program by choices, each the number of a leaf that steps next, from the
 /// left and from 0, of those that may. The input has a list for each array, of its length.
 ///
@@ -63,38 +71,30 @@ pub fn explore(
         → one_thread_outcome (code_of accepted.now.typed) (lists_in input.now) b ≡ o) }
 {
     typed_programs_are_sound(accepted.typed());
-    run_by(alloc, accepted, input, choices)
+    let (plan, course) = begun(alloc, accepted, input)?;
+    by_choices(plan, course, choices)
 }
 
-/// The same, choice by choice.
-fn run_by(
-    alloc: Global,
-    accepted: &Accepted,
-    input: &Input,
+/// What is told of a run that goes on by choices.
+fn by_choices<'p>(
+    plan: Plan<'p>,
+    course: Course<'p>,
     choices: &[u32],
 ) -> Result<Explored, AllocError>
-    requires { FitsArrays (code_of accepted.now.typed).arrays (lists_in input.now) }
-    ensures { IfOk result (λ e. explored_of e
-        ≡ explored_by (code_of accepted.now.typed) (lists_in input.now) choices.now) }
+    requires { IsHeld plan course }
+    ensures { IfOk result (λ e. explored_of e ≡ explored_from (program_of plan.entry.program.now) 0
+        choices.now (whole course.entry.place) (contents_of course.entry.store)) }
 {
-    let plan = Plan {
-        alloc,
-        program: accepted.typed().code(),
-        budget: Budget::usual(),
-    };
-    let mut place = start(plan)?;
-    let mut store = Store::of_input(alloc, input)?;
+    let mut course = course;
     let mut left = choices;
     'choices: while let Some((choice, later)) = left.split_first() {
-        if *choice >= place.ready {
+        if *choice >= course.place.ready {
             return Ok(Explored::NoSuchChoice(choices.len() - left.len()));
         }
-        let (next, after) = step(plan, store, place, *choice)?;
-        place = next;
-        store = after;
+        course = step(plan, course, *choice)?;
         left = later;
     }
-    told(plan, store, place)
+    told(plan, course)
 }
 
 /// The most choices that are drawn.
@@ -124,41 +124,30 @@ pub fn explore_random(
         → one_thread_outcome (code_of accepted.now.typed) (lists_in input.now) b ≡ o) }
 {
     typed_programs_are_sound(accepted.typed());
-    run_drawn(alloc, accepted, input, seed)
+    let (plan, course) = begun(alloc, accepted, input)?;
+    by_draws(plan, course, seed)
 }
 
-/// The same, choice by choice.
-fn run_drawn(
-    alloc: Global,
-    accepted: &Accepted,
-    input: &Input,
-    seed: u64,
-) -> Result<Explored, AllocError>
-    requires { FitsArrays (code_of accepted.now.typed).arrays (lists_in input.now) }
-    ensures { let p = code_of accepted.now.typed in let i = lists_in input.now in
-        IfOk result (λ e. explored_of e ≡ explored_by p i (drawn_choices p i seed)) }
+/// What is told of a run that goes on by choices that are drawn.
+fn by_draws<'p>(plan: Plan<'p>, course: Course<'p>, seed: u64) -> Result<Explored, AllocError>
+    requires { IsHeld plan course }
+    ensures { let p = program_of plan.entry.program.now in
+        let t = whole course.entry.place in let a = contents_of course.entry.store in
+        IfOk result (λ e. explored_of e ≡ explored_from p 0 (drawn p 1000000 seed t a) t a) }
 {
-    let plan = Plan {
-        alloc,
-        program: accepted.typed().code(),
-        budget: Budget::usual(),
-    };
-    let mut place = start(plan)?;
-    let mut store = Store::of_input(alloc, input)?;
+    let mut course = course;
     let mut number = seed;
     let mut left = MOST_DRAWN;
     'choices: while let Some(later) = left.checked_sub(1) {
-        let leaves = place.ready;
+        let leaves = course.place.ready;
         if leaves == 0 {
-            return told(plan, store, place);
+            return told(plan, course);
         }
         number = next_number(number);
-        let (next, after) = step(plan, store, place, picked(number, leaves))?;
-        place = next;
-        store = after;
+        course = step(plan, course, picked(number, leaves))?;
         left = later;
     }
-    told(plan, store, place)
+    told(plan, course)
 }
 
 /// The generator's number behind this one.
@@ -176,6 +165,25 @@ fn picked(number: u64, leaves: u32) -> u32
     ensures picked { result ≡ picked_by number leaves }
 {
     (number / 4_294_967_296 % u64::from(leaves)) as u32
+}
+
+/// A run of an accepted program on an input, at its beginning.
+fn begun<'p>(
+    alloc: Global,
+    accepted: &'p Accepted,
+    input: &Input,
+) -> Result<(Plan<'p>, Course<'p>), AllocError>
+    requires { FitsArrays (code_of accepted.now.typed).arrays (lists_in input.now) }
+    ensures { IfOk result (Begins (code_of accepted.entry.now.typed) (lists_in input.now)) }
+{
+    let plan = Plan {
+        alloc,
+        program: accepted.typed().code(),
+        budget: Budget::usual(),
+    };
+    let place = start(plan)?;
+    let store = Store::of_input(alloc, input)?;
+    Ok((plan, Course { store, place }))
 }
 
 /// Where a run begins.
@@ -209,21 +217,16 @@ fn first<'p>(plan: Plan<'p>) -> Result<Tree<'p>, AllocError>
 }
 
 /// One step of the leaf with a number, of those that may step.
-fn step<'p>(
-    plan: Plan<'p>,
-    store: Store,
-    place: Place<'p>,
-    choice: u32,
-) -> Result<(Place<'p>, Store), AllocError>
-    requires held { IsHeld plan store place }
-    requires choice { choice < ready_leaves (whole place) }
-    ensures { IfOk result (StepsTree plan.entry store place.entry choice) }
+fn step<'p>(plan: Plan<'p>, course: Course<'p>, choice: u32) -> Result<Course<'p>, AllocError>
+    requires held { IsHeld plan course }
+    requires choice { choice < ready_leaves (whole course.place) }
+    ensures { IfOk result (StepsTree plan.entry course.entry choice) }
 {
-    let (round, leaf) = found(plan.alloc, place, choice)?;
-    let (becomes, store) = leaf_turn(plan, store, leaf)?;
+    let (round, leaf) = found(plan.alloc, course.place, choice)?;
+    let (becomes, store) = leaf_turn(plan, course.store, leaf)?;
     let tree = grown(plan.alloc, becomes)?;
     let place = settled(plan.alloc, round, tree)?;
-    Ok((place, store))
+    Ok(Course { store, place })
 }
 
 /// The tree that a leaf becomes by a step.
@@ -243,11 +246,12 @@ fn grown<'p>(alloc: Global, becomes: Becomes<'p>) -> Result<Tree<'p>, AllocError
 }
 
 /// What is told of a tree once all choices are used.
-fn told<'p>(plan: Plan<'p>, store: Store, place: Place<'p>) -> Result<Explored, AllocError>
-    requires { IsHeld plan store place }
+fn told<'p>(plan: Plan<'p>, course: Course<'p>) -> Result<Explored, AllocError>
+    requires { IsHeld plan course }
     ensures { IfOk result (λ e. explored_of e ≡ told_of (program_of plan.entry.program.now)
-        (whole place.entry) (contents_of store)) }
+        (whole course.entry.place) (contents_of course.entry.store)) }
 {
+    let Course { store, place } = course;
     let Place {
         round: _,
         tree,

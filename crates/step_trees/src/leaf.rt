@@ -70,28 +70,12 @@ pub fn returned<'p>(leaf: Leaf<'p>) -> Leaf<'p>
 }
 
 /// A leaf that drops what it has left.
-pub fn done<'p>(alloc: Global, leaf: Leaf<'p>) -> Leaf<'p>
+pub fn done<'p>(alloc: Global, mut leaf: Leaf<'p>) -> Leaf<'p>
     ensures { leaf_of result ≡ done_leaf (leaf_of leaf.entry) }
 {
-    let Leaf {
-        mut environment,
-        rest: _,
-        mut callers,
-        path,
-        spawned,
-        lines,
-        faults,
-    } = leaf;
-    'calls: while let Some(caller) = callers.pop() {
-        environment = caller.environment;
+    'calls: while let Some(caller) = leaf.callers.pop() {
+        leaf.environment = caller.environment;
     }
-    Leaf {
-        environment,
-        rest: Vec::new(alloc),
-        callers,
-        path,
-        spawned,
-        lines,
-        faults,
-    }
+    leaf.rest = Vec::new(alloc);
+    leaf
 }

@@ -1,13 +1,14 @@
 //! One step of a leaf.
 
-ghost use Rattle.std.specs.Prelude.{◌≡◌, map, false, IfOk};
+ghost use Rattle.std.specs.Prelude.{◌≡◌, map, false, IfOk, OnOk};
 ghost use Rattle.sections.specs.Translation.{section as section_of};
 ghost use Rattle.types.specs.Code.{Async, Call, Do, Finish, If, Split, While};
 ghost use Rattle.types.specs.Translation.{code as code_of, codes as codes_of};
 ghost use Rattle.types.specs.Translation.{number as number_of, primitive as primitive_of};
 ghost use Rattle.types.specs.Translation.{truth as truth_of};
 ghost use Rattle.types.specs.Trees.{before_rest, done as done_leaf, failed as failed_leaf};
-ghost use Rattle.types.specs.Trees.{is_done, single, Single};
+ghost use Rattle.types.specs.Trees.{held_back, inside as inside_leaf, is_done};
+ghost use Rattle.types.specs.Trees.{returned as returned_leaf, single, Single};
 ghost use Rattle.step_trees.specs.Translation.{leaf_of};
 ghost use Rattle.step_trees.specs.Turns.{becomes, leaf_in, store_in, Comes, After, IsReady, Steps};
 ghost use Rattle.step_trees.specs.Turns.{MayTurn};
@@ -17,7 +18,7 @@ use crate::rest::{Block, begin, block_alone, enter, next};
 use sections::id::SectionId;
 use serial_run::store::Store;
 use serial_run::thread::{Flow, Plan, Thread};
-use std::alloc::AllocError;
+use std::alloc::{AllocError, Global};
 use types::code::{Label, Number, Primitive, Stmt, StmtKind, Truth};
 use types::fault::FaultKind;
 use types::ids::ProcedureId;
@@ -53,24 +54,16 @@ pub fn step<'p>(
     requires bounds { MayTurn plan store leaf }
     ensures { IfOk result (Steps plan.entry store leaf.entry) }
 {
-    let Leaf {
-        environment,
-        mut rest,
-        callers,
-        path,
-        spawned,
-        lines,
-        faults,
-    } = leaf;
-    let first = next(&mut rest)?;
+    let mut leaf = leaf;
+    let first = next(&mut leaf.rest)?;
     let thread = Thread {
         flow: Flow::On,
         store,
-        lines,
-        faults,
-        path,
-        spawned,
-        environment,
+        lines: leaf.lines,
+        faults: leaf.faults,
+        path: leaf.path,
+        spawned: leaf.spawned,
+        environment: leaf.environment,
         steps: 0,
         nest: 0,
         spare: Vec::new(plan.alloc),
@@ -78,8 +71,8 @@ pub fn step<'p>(
     let turn = Turn {
         plan,
         thread,
-        rest,
-        callers,
+        rest: leaf.rest,
+        callers: leaf.callers,
     };
     match first {
         None => Ok(going(turn)),
@@ -116,31 +109,18 @@ fn statement<'p>(turn: Turn<'p>, stmt: &'p Stmt) -> Result<(Becomes<'p>, Store),
 
 /// A statement of one step.
 fn primitive<'p>(
-    turn: Turn<'p>,
+    mut turn: Turn<'p>,
     label: Label,
     primitive: &Primitive,
 ) -> Result<(Becomes<'p>, Store), AllocError>
     requires { IsReady turn }
     ensures { IfOk result (After turn.entry label (Do (primitive_of primitive.now))) }
 {
-    let Turn {
-        plan,
-        mut thread,
-        rest,
-        callers,
-    } = turn;
-    thread.primitive(plan, label, primitive)?;
-    let flow = thread.flow;
-    let turn = Turn {
-        plan,
-        thread,
-        rest,
-        callers,
-    };
-    match flow {
+    let plan = turn.plan;
+    turn.thread.primitive(plan, label, primitive)?;
+    match turn.thread.flow {
         Flow::On => Ok(going(turn)),
-        Flow::Faulted => Ok(ended(turn)),
-        Flow::Stopped => Ok(ended(turn)),
+        Flow::Faulted | Flow::Stopped => Ok(ended(turn)),
     }
 }
 
@@ -165,7 +145,7 @@ fn choose<'p>(
 
 /// A guard of a loop: its body and the loop once more, where it holds.
 fn turn_loop<'p>(
-    turn: Turn<'p>,
+    mut turn: Turn<'p>,
     stmt: &'p Stmt,
     guard: &Truth,
     body: &'p [Stmt],
@@ -178,27 +158,15 @@ fn turn_loop<'p>(
         Err(kind) => failed(turn, stmt.label, kind),
         Ok(false) => Ok(going(turn)),
         Ok(true) => {
-            let Turn {
-                plan,
-                thread,
-                mut rest,
-                callers,
-            } = turn;
-            begin(&mut rest, stmt)?;
-            let again = Turn {
-                plan,
-                thread,
-                rest,
-                callers,
-            };
-            enters(again, body)
+            begin(&mut turn.rest, stmt)?;
+            enters(turn, body)
         }
     }
 }
 
 /// A block in which both sides of a section have names.
 fn split<'p>(
-    turn: Turn<'p>,
+    mut turn: Turn<'p>,
     label: Label,
     section: SectionId,
     at: &Number,
@@ -212,28 +180,16 @@ fn split<'p>(
     match turn.thread.sides(section, at) {
         Err(kind) => failed(turn, label, kind),
         Ok((left, right)) => {
-            let Turn {
-                plan,
-                mut thread,
-                rest,
-                callers,
-            } = turn;
-            thread.environment.name_window(names.1, right)?;
-            thread.environment.name_window(names.0, left)?;
-            let inside = Turn {
-                plan,
-                thread,
-                rest,
-                callers,
-            };
-            enters(inside, body)
+            turn.thread.environment.name_window(names.1, right)?;
+            turn.thread.environment.name_window(names.0, left)?;
+            enters(turn, body)
         }
     }
 }
 
 /// The scalar arguments from left to right, then the body with the sections' windows.
 fn call<'p>(
-    turn: Turn<'p>,
+    mut turn: Turn<'p>,
     label: Label,
     procedure: ProcedureId,
     values: &[Number],
@@ -254,20 +210,10 @@ fn call<'p>(
             let windows = Vec::new(plan.alloc);
             let entry = turn.thread.entry(procedure, values, windows, sections)?;
             let body = block_alone(plan.alloc, &procedure.body)?;
-            let Turn {
-                plan,
-                mut thread,
-                rest,
-                mut callers,
-            } = turn;
-            let environment = std::mem::replace(&mut thread.environment, entry);
-            callers.push(Caller { environment, rest })?;
-            Ok(going(Turn {
-                plan,
-                thread,
-                rest: body,
-                callers,
-            }))
+            let environment = std::mem::replace(&mut turn.thread.environment, entry);
+            let rest = std::mem::replace(&mut turn.rest, body);
+            turn.callers.push(Caller { environment, rest })?;
+            Ok(going(turn))
         }
     }
 }
@@ -276,42 +222,14 @@ fn call<'p>(
 fn begin_async<'p>(turn: Turn<'p>, body: &'p [Stmt]) -> Result<(Becomes<'p>, Store), AllocError>
     ensures { IfOk result (After turn.entry 0 (Async (codes_of body.entry.now))) }
 {
-    let plan = turn.plan;
+    let alloc = turn.plan.alloc;
     let Some(spawned) = turn.thread.spawned.checked_add(1) else {
         return Err(AllocError);
     };
-    let environment = turn.thread.environment.copied(plan.alloc)?;
     let path = turn.thread.path.child(spawned)?;
-    let rest = block_alone(plan.alloc, body)?;
-    let (leaf, store) = apart(turn);
-    let Leaf {
-        environment: own,
-        rest: left,
-        callers,
-        path: name,
-        spawned: _,
-        lines,
-        faults,
-    } = leaf;
-    let child = Leaf {
-        environment,
-        rest,
-        callers: Vec::new(plan.alloc),
-        path,
-        spawned: 0,
-        lines,
-        faults,
-    };
-    let parent = Leaf {
-        environment: own,
-        rest: left,
-        callers,
-        path: name,
-        spawned,
-        lines: Vec::new(plan.alloc),
-        faults: Vec::new(plan.alloc),
-    };
-    let child = returned(child);
+    let (mut parent, store) = apart(turn);
+    let child = inside(alloc, &mut parent, body, path, 0)?;
+    parent.spawned = spawned;
     let parent = returned(parent);
     Ok((Becomes::Spawned { child, parent }, store))
 }
@@ -320,62 +238,49 @@ fn begin_async<'p>(turn: Turn<'p>, body: &'p [Stmt]) -> Result<(Becomes<'p>, Sto
 fn begin_finish<'p>(turn: Turn<'p>, body: &'p [Stmt]) -> Result<(Becomes<'p>, Store), AllocError>
     ensures { IfOk result (After turn.entry 0 (Finish (codes_of body.entry.now))) }
 {
-    let plan = turn.plan;
-    let environment = turn.thread.environment.copied(plan.alloc)?;
-    let turns = Vec::from_slice(plan.alloc, &turn.thread.path.turns)?;
-    let rest = block_alone(plan.alloc, body)?;
-    let (leaf, store) = apart(turn);
-    let Leaf {
-        environment: own,
-        rest: left,
-        callers,
-        path: name,
-        spawned,
-        lines,
-        faults,
-    } = leaf;
-    let body = Leaf {
+    let alloc = turn.plan.alloc;
+    let turns = Vec::from_slice(alloc, &turn.thread.path.turns)?;
+    let spawned = turn.thread.spawned;
+    let (mut behind, store) = apart(turn);
+    let body = inside(alloc, &mut behind, body, Path { turns }, spawned)?;
+    Ok((Becomes::Entered { body, behind }, store))
+}
+
+/// A block as a leaf of its own, which takes all that the leaf told that it stands in.
+fn inside<'p>(
+    alloc: Global,
+    around: &mut Leaf<'p>,
+    block: &'p [Stmt],
+    path: Path,
+    spawned: u32,
+) -> Result<Leaf<'p>, AllocError>
+    ensures inside { IfOk result (λ leaf. leaf_of leaf
+        ≡ returned_leaf (record (inside_leaf (codes_of block.entry.now) (leaf_of around.old))
+        { path = path.turns.items; spawned = spawned })) }
+    ensures around { OnOk result (leaf_of around.new ≡ held_back (leaf_of around.old)) }
+{
+    let environment = around.environment.copied(alloc)?;
+    let rest = block_alone(alloc, block)?;
+    Ok(returned(Leaf {
         environment,
         rest,
-        callers: Vec::new(plan.alloc),
-        path: Path { turns },
+        callers: Vec::new(alloc),
+        path,
         spawned,
-        lines,
-        faults,
-    };
-    let behind = Leaf {
-        environment: own,
-        rest: left,
-        callers,
-        path: name,
-        spawned,
-        lines: Vec::new(plan.alloc),
-        faults: Vec::new(plan.alloc),
-    };
-    let body = returned(body);
-    Ok((Becomes::Entered { body, behind }, store))
+        lines: std::mem::replace(&mut around.lines, Vec::new(alloc)),
+        faults: std::mem::replace(&mut around.faults, Vec::new(alloc)),
+    }))
 }
 
 // ---- the end of a step
 
 /// It goes on with a block that is done first.
-fn enters<'p>(turn: Turn<'p>, block: &'p [Stmt]) -> Result<(Becomes<'p>, Store), AllocError>
+fn enters<'p>(mut turn: Turn<'p>, block: &'p [Stmt]) -> Result<(Becomes<'p>, Store), AllocError>
     ensures { IfOk result (Comes (single (before_rest (codes_of block.entry.now) (leaf_in turn.entry)))
         (store_in turn.entry) turn.entry) }
 {
-    let Turn {
-        plan,
-        thread,
-        mut rest,
-        callers,
-    } = turn;
-    enter(&mut rest, block)?;
-    Ok(going(Turn {
-        plan,
-        thread,
-        rest,
-        callers,
-    }))
+    enter(&mut turn.rest, block)?;
+    Ok(going(turn))
 }
 
 /// It goes on.
@@ -397,26 +302,16 @@ fn ended<'p>(turn: Turn<'p>) -> (Becomes<'p>, Store)
 
 /// It is done, with a fault.
 fn failed<'p>(
-    turn: Turn<'p>,
+    mut turn: Turn<'p>,
     label: Label,
     kind: FaultKind,
 ) -> Result<(Becomes<'p>, Store), AllocError>
     ensures { IfOk result (Comes (Single (failed_leaf label kind (leaf_in turn.entry)))
         (store_in turn.entry) turn.entry) }
 {
-    let Turn {
-        plan,
-        mut thread,
-        rest,
-        callers,
-    } = turn;
-    thread.fault(plan, label, kind)?;
-    Ok(ended(Turn {
-        plan,
-        thread,
-        rest,
-        callers,
-    }))
+    let plan = turn.plan;
+    turn.thread.fault(plan, label, kind)?;
+    Ok(ended(turn))
 }
 
 /// The leaf, and the store.

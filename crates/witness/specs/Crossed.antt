@@ -2,12 +2,22 @@
 use Rattle.std.specs.Prelude.{ℕ, ◌≡◌, ◌+◌, Bool, true, false, List, length, Option, Some, option_map}
 use Rattle.types.specs.Code.{Code, Codes, Program}
 use Rattle.effects.specs.Accesses.{Access}
+use Rattle.effects.specs.Translation.{access}
+use Rattle.ways.specs.Least.{IsLeast, all_covered}
+use Rattle.types.specs.Translation.{program}
+use Rattle.ways.specs.Settled.{IsAim}
 use Rattle.ways.specs.Ways.{WayOf}
 use Rattle.witness.specs.Meets.{Meets, MeetsAt}
 use Rattle.witness.specs.declared.crossing.Crossing.{Crossing}
+use Rattle.witness.specs.declared.crossing.Pairing.{Pairing}
 use Rattle.witness.specs.declared.crossing.Meeting.{Meeting}
 use Rattle.witness.specs.declared.crossing.Meeting.TheVariants.{Follows, Turns}
 use Rattle.ways.specs.declared.step.Step.{Step}
+
+-- the ways to both accesses are those of the program
+pub record ArePaired (two : Pairing) : Type 0 where
+  pub first : IsAim (program two.code.now) two.first.now
+  pub second : IsAim (program two.code.now) two.second.now
 
 -- two ways, and how they meet
 pub record Crossed : Type 0 where
@@ -37,6 +47,12 @@ pub record IsInTurn (p : Program) (l : ℕ) (s : Code) (x y : Access) (c : Cross
   pub meeting : c.meeting ≡ Turns
   pub pending : WayOf p true l s c.pending x
   pub later : WayOf p false l s c.later y
+
+-- as short as any by which the two meet in this way, and found if there is one
+abbrev pub IsShortestOf : Pairing → (Program → (x y : Access) → Crossed → Type 0) → Option Crossing → Type 0
+IsShortestOf two meet found =
+    IsLeast both all_covered
+    (meet (program two.code.now) (access two.first.now.access) (access two.second.now.access)) (crossed found)
 
 -- the same, with whether the first of two accesses is the one that is left pending
 abbrev pub directed : Option (Bool × Crossing) → Option (Bool × Crossed)

@@ -4,10 +4,10 @@ ghost use Rattle.std.specs.Prelude.{◌≡◌, ◌+◌, IfOk, Some, length};
 ghost use Rattle.types.specs.Translation.{code as plain_code, codes as codes_of};
 ghost use Rattle.types.specs.Translation.{program as program_of};
 ghost use Rattle.effects.specs.Translation.{access as access_of};
-ghost use Rattle.witness.specs.Crossed.{IsAcross, IsInTurn, MeetAt, MeetIn, both, crossed};
+ghost use Rattle.witness.specs.Crossed.{ArePaired, IsAcross, IsInTurn, IsShortestOf, MeetAt};
+ghost use Rattle.witness.specs.Crossed.{MeetIn, both, crossed};
 ghost use Rattle.ways.specs.Known.{steps};
 ghost use Rattle.ways.specs.Least.{IsLeast, IsLesserOf, all_covered};
-ghost use Rattle.ways.specs.Settled.{IsAim};
 
 use std::alloc::{AllocError, Global};
 use types::code::{Program, Stmt, StmtKind};
@@ -21,6 +21,28 @@ pub enum Meeting {
     Follows,
     /// A loop leaves one pending, and does the other in a further turn.
     Turns,
+}
+
+/// Two accesses of a program, of which the first is to be left pending.
+#[derive(Clone, Copy)]
+pub(crate) struct Pairing<'a> {
+    pub alloc: Global,
+    pub code: &'a Program,
+    pub first: &'a Aim,
+    pub second: &'a Aim,
+}
+
+impl<'a> Pairing<'a> {
+    /// The same two, the other way round.
+    pub fn swapped(&self) -> Pairing<'a>
+        ensures { result ≡ record self.now { first = self.now.second; second = self.now.first } }
+    {
+        Pairing {
+            first: self.second,
+            second: self.first,
+            ..*self
+        }
+    }
 }
 
 /// Two ways that begin where they meet.
@@ -44,44 +66,38 @@ impl Crossing {
 pub(crate) fn shorter_crossing(one: Option<Crossing>, other: Option<Crossing>) -> Option<Crossing>
     ensures { IsLesserOf both (crossed one) (crossed other) (crossed result) }
 {
-    match one {
-        None => other,
-        Some(crossing) => match other {
-            None => Some(crossing),
-            Some(next) => {
-                if crossing.len() <= next.len() {
-                    Some(crossing)
-                } else {
-                    Some(next)
-                }
-            }
-        },
+    let Some(crossing) = one else {
+        return other;
+    };
+    let Some(next) = other else {
+        return Some(crossing);
+    };
+    if crossing.len() <= next.len() {
+        Some(crossing)
+    } else {
+        Some(next)
     }
 }
 
 /// The shortest two ways from statements of a list, at any depth, of which the first is left pending.
 #[cycle(crossing)]
 pub(crate) fn crossing_in(
-    alloc: Global,
-    code: &Program,
-    first: &Aim,
-    second: &Aim,
+    pairing: &Pairing<'_>,
     list: &[Stmt],
 ) -> Result<Option<Crossing>, AllocError>
-    requires first { IsAim (program_of code.now) first.now }
-    requires second { IsAim (program_of code.now) second.now }
-    ensures { IfOk result (λ found. IsLeast both all_covered (MeetIn (program_of code.now)
-        (codes_of list.now) (access_of first.now.access) (access_of second.now.access))
-        (crossed found)) }
+    requires { ArePaired pairing.now }
+    ensures { IfOk result (IsShortestOf pairing.now (λ p. MeetIn p (codes_of list.now))) }
 {
     let mut best = None;
     let mut behind = None;
     for place in (0..list.len()).rev() {
         let statement = &list[place];
-        let follow = across(alloc, code, first, statement, &behind)?;
-        let here = crossing_of(alloc, code, first, second, statement)?;
+        let follow = across(pairing, statement, &behind)?;
+        let here = crossing_of(pairing, statement)?;
         best = shorter_crossing(follow, shorter_crossing(here, best));
-        let way = second.way_of(alloc, code, false, statement)?;
+        let way = pairing
+            .second
+            .way_of(pairing.alloc, pairing.code, false, statement)?;
         behind = shorter(way, behind);
     }
     Ok(best)
@@ -89,24 +105,25 @@ pub(crate) fn crossing_in(
 
 /// A statement that leaves the first pending, and the way from those behind it.
 fn across(
-    alloc: Global,
-    code: &Program,
-    first: &Aim,
+    pairing: &Pairing<'_>,
     statement: &Stmt,
     behind: &Option<Vec<Step>>,
 ) -> Result<Option<Crossing>, AllocError>
-    requires first { IsAim (program_of code.now) first.now }
-    ensures { IfOk result (λ found. IsLeast both all_covered (IsAcross (program_of code.now)
-        statement.now.label (plain_code statement.now.kind) (access_of first.now.access)
-        (steps behind.now)) (crossed found)) }
+    requires { ArePaired pairing.now }
+    ensures { IfOk result (λ found. IsLeast both all_covered (IsAcross (program_of pairing.now.code.now)
+        statement.now.label (plain_code statement.now.kind)
+        (access_of pairing.now.first.now.access) (steps behind.now)) (crossed found)) }
 {
     let Some(behind) = behind else {
         return Ok(None);
     };
-    let Some(pending) = first.way_of(alloc, code, true, statement)? else {
+    let Some(pending) = pairing
+        .first
+        .way_of(pairing.alloc, pairing.code, true, statement)?
+    else {
         return Ok(None);
     };
-    let mut later = Vec::new(alloc);
+    let mut later = Vec::new(pairing.alloc);
     later.extend_from_slice(behind)?;
     Ok(Some(Crossing {
         meeting: Meeting::Follows,
@@ -117,56 +134,46 @@ fn across(
 
 /// The shortest two ways from a loop, for two of its turns, or from statements inside a statement.
 #[cycle(crossing)]
-fn crossing_of(
-    alloc: Global,
-    code: &Program,
-    first: &Aim,
-    second: &Aim,
-    statement: &Stmt,
-) -> Result<Option<Crossing>, AllocError>
-    requires first { IsAim (program_of code.now) first.now }
-    requires second { IsAim (program_of code.now) second.now }
-    ensures { IfOk result (λ found. IsLeast both all_covered (MeetAt (program_of code.now)
-        statement.now.label (plain_code statement.now.kind) (access_of first.now.access)
-        (access_of second.now.access)) (crossed found)) }
+fn crossing_of(pairing: &Pairing<'_>, statement: &Stmt) -> Result<Option<Crossing>, AllocError>
+    requires { ArePaired pairing.now }
+    ensures { IfOk result (IsShortestOf pairing.now
+        (λ p. MeetAt p statement.now.label (plain_code statement.now.kind))) }
 {
     match &statement.kind {
         StmtKind::Do(_) => Ok(None),
         StmtKind::If { body, other, .. } => {
-            let one = crossing_in(alloc, code, first, second, body)?;
-            let next = crossing_in(alloc, code, first, second, other)?;
+            let one = crossing_in(pairing, body)?;
+            let next = crossing_in(pairing, other)?;
             Ok(shorter_crossing(one, next))
         }
         StmtKind::While { body, .. } => {
-            let turn = in_turn(alloc, code, first, second, statement)?;
-            let inside = crossing_in(alloc, code, first, second, body)?;
+            let turn = in_turn(pairing, statement)?;
+            let inside = crossing_in(pairing, body)?;
             Ok(shorter_crossing(turn, inside))
         }
-        StmtKind::Split { body, .. } => crossing_in(alloc, code, first, second, body),
+        StmtKind::Split { body, .. } | StmtKind::Async { body } | StmtKind::Finish { body } => {
+            crossing_in(pairing, body)
+        }
         StmtKind::Call { .. } => Ok(None),
-        StmtKind::Async { body } => crossing_in(alloc, code, first, second, body),
-        StmtKind::Finish { body } => crossing_in(alloc, code, first, second, body),
     }
 }
 
 /// The ways from a loop, in two of its turns.
-fn in_turn(
-    alloc: Global,
-    code: &Program,
-    first: &Aim,
-    second: &Aim,
-    statement: &Stmt,
-) -> Result<Option<Crossing>, AllocError>
-    requires first { IsAim (program_of code.now) first.now }
-    requires second { IsAim (program_of code.now) second.now }
-    ensures { IfOk result (λ found. IsLeast both all_covered (IsInTurn (program_of code.now)
-        statement.now.label (plain_code statement.now.kind) (access_of first.now.access)
-        (access_of second.now.access)) (crossed found)) }
+fn in_turn(pairing: &Pairing<'_>, statement: &Stmt) -> Result<Option<Crossing>, AllocError>
+    requires { ArePaired pairing.now }
+    ensures { IfOk result (IsShortestOf pairing.now
+        (λ p. IsInTurn p statement.now.label (plain_code statement.now.kind))) }
 {
-    let Some(pending) = first.way_of(alloc, code, true, statement)? else {
+    let Some(pending) = pairing
+        .first
+        .way_of(pairing.alloc, pairing.code, true, statement)?
+    else {
         return Ok(None);
     };
-    let Some(later) = second.way_of(alloc, code, false, statement)? else {
+    let Some(later) = pairing
+        .second
+        .way_of(pairing.alloc, pairing.code, false, statement)?
+    else {
         return Ok(None);
     };
     Ok(Some(Crossing {

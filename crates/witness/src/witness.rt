@@ -11,7 +11,7 @@ ghost use Rattle.witness.specs.Crossed.{both, directed, toward};
 ghost use Rattle.ways.specs.Least.{IsLeast, IsLesserOf, all_covered};
 ghost use Rattle.witness.specs.Witness.{IsShortest, IsWitness, ShowIn};
 
-use crate::crossing::{Crossing, Meeting, crossing_in};
+use crate::crossing::{Crossing, Meeting, Pairing, crossing_in};
 use crate::sharing::{Sharing, sharing_of};
 use effects::laws::typed_programs_are_sound;
 use race_checker::race::Race;
@@ -100,8 +100,14 @@ fn shortest(
 {
     let first = Aim::at(alloc, code, race.first)?;
     let second = Aim::at(alloc, code, race.second)?;
-    let forth = crossing_in(alloc, code, &first, &second, body)?;
-    let back = crossing_in(alloc, code, &second, &first, body)?;
+    let pairing = Pairing {
+        alloc,
+        code,
+        first: &first,
+        second: &second,
+    };
+    let forth = crossing_in(&pairing, body)?;
+    let back = crossing_in(&pairing.swapped(), body)?;
     Ok(shorter_direction(forth, back))
 }
 

@@ -8,14 +8,9 @@ run : (c : goal.Else-branch)
     → HasRun c.args.plan c.args.rows (input c.args.input.now) c.in_ok-machine.machine
     c.turns.machine c.turn.new.self
 run c =
-    let m = c.turns.machine in let end = c.turn.new.self in let begins = c.in_ok-machine.ensures in
+    let m = c.turns.machine in let end = c.turn.new.self in
     record {
-      plan = begins.plan;
-      state = begins.state;
-      nest = begins.nest;
-      block = begins.block;
-      frames = begins.frames;
-      kept = begins.account;
+      begins = c.in_ok-machine.ensures;
       same = c.turns.invariant.plan;
       comes = c.turns.invariant.comes;
       sound = c.turns.invariant.sound;

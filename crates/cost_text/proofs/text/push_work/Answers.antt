@@ -1,11 +1,7 @@
-use Rattle.std.proofs.Common.{◌++◌, List, ℕ, ap, ◌∙◌, append_assoc, codes}
-use Rattle.trace_numbers.specs.Text.{parallelism}
+use Rattle.std.proofs.Common.{◌∙◌, append_assoc}
 use Rattle.trace_numbers.proofs.Pieces.{ok_then}
 use Rattle.cost_text.proofs.text.push_work.Goals as goal
 
 pub returns : goal.returns
 returns c =
-    let k = c.args.cost.now in
-    let last = parallelism k.work k.span ++ codes "\n" in
-    ok_then c.push_parallelism.result c.push_parallelism.ensures
-    (λ more. more ∙ ap (λ (l : List ℕ). l ++ last) c.in_ok-write.ensures.bytes ∙ simp append_assoc)
+    ok_then c.push_parallelism.result c.push_parallelism.ensures (λ more. more ∙ rw c.in_ok-write.ensures.bytes (simp append_assoc))

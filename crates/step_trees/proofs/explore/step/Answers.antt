@@ -17,14 +17,14 @@ step-requires-clause-bounds c =
     record {
       store = c.requires.held.store;
       windows =
-          (leaf-lies p c.args.choice (whole c.args.place) (leaf_of c.in_ok-round.leaf) c.in_ok-round.ensures.leaf
+          (leaf-lies p c.args.choice (whole c.args.course.place) (leaf_of c.in_ok-round.leaf) c.in_ok-round.ensures.leaf
           c.requires.held.windows).0;
     }
 
 pub returns : goal.returns
 returns c =
-    let p = program c.args.plan.program.now in let a = contents_of c.args.store in
-    let n = c.args.choice in let t = whole c.args.place in let b = contents_of c.in_ok-becomes.store in
+    let p = program c.args.plan.program.now in let a = contents_of c.args.course.store in
+    let n = c.args.choice in let t = whole c.args.course.place in let b = contents_of c.in_ok-becomes.store in
     let xs = c.in_ok-round.round.around.items in let next = whole c.in_ok-place.place in
     let is : next ≡ inside xs _ = c.in_ok-place.ensures.whole ∙ ap (inside xs) c.in_ok-tree.ensures.tree in
     let same : step p n t a ≡ Some (next, b)
@@ -36,7 +36,7 @@ returns c =
         place = c.in_ok-place.ensures.place;
         windows = step-lies p n t _ a b same c.requires.held.windows;
         store =
-            fits_too p.arrays (lists_of c.args.store) (lists_of c.in_ok-becomes.store) c.requires.held.store
+            fits_too p.arrays (lists_of c.args.course.store) (lists_of c.in_ok-becomes.store) c.requires.held.store
             c.in_ok-becomes.ensures.lengths;
       };
     }

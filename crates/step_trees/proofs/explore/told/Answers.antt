@@ -16,24 +16,24 @@ use Rattle.step_trees.proofs.explore.told.Goals as goal
 
 pub returns-then-not-is_done : goal.returns-then-not-is_done
 returns-then-not-is_done c =
-    let here = tree_of c.args.place.tree in
+    let here = tree_of c.args.course.place.tree in
     let unfinished : all_done here ≡ false = search rules in
-    told-open (program c.args.plan.program.now) (whole c.args.place) (contents_of c.args.store) c.args.place.ready
-    (inside_going c.args.place.round.around.items here unfinished) c.requires.place.ready
+    told-open (program c.args.plan.program.now) (whole c.args.course.place) (contents_of c.args.course.store) c.args.course.place.ready
+    (inside_going c.args.course.place.round.around.items here unfinished) c.requires.place.ready
 
 pub returns : goal.returns
 returns c =
-    let p = program c.args.plan.program.now in let t = tree_of c.args.place.tree in
+    let p = program c.args.plan.program.now in let t = tree_of c.args.course.place.tree in
     let ended : all_done t ≡ true = search rules in
-    let same : whole c.args.place ≡ t = ap (λ xs. inside xs t) (c.requires.place.settled ended) in
+    let same : whole c.args.course.place ≡ t = ap (λ xs. inside xs t) (c.requires.place.settled ended) in
     let left = c.in_ok-remains.ensures in
     let end : List (List ℤ) → List (List ℤ) → List Fault → Ending = λ arrays lines faults. record { arrays = arrays; lines = lines; faults = faults } in
-    let arrays = lists_of c.args.store in let shown_is = sym (shown-held_by p.arrays arrays c.requires.store) in
+    let arrays = lists_of c.args.course.store in let shown_is = sym (shown-held_by p.arrays arrays c.requires.store) in
     let lines = map (λ v. v.items) c.in_ok-remains.remains.lines.items in
     let faults = map fault c.in_ok-remains.remains.faults.items in
-    let all = shown p.arrays (contents_of c.args.store) in
-    told-ends p t (contents_of c.args.store) (end arrays lines faults) ended
+    let all = shown p.arrays (contents_of c.args.course.store) in
+    told-ends p t (contents_of c.args.course.store) (end arrays lines faults) ended
     (ap (λ (xs : List (List ℤ)). end xs lines faults) shown_is
     ∙ ap (λ (ls : List (List ℤ)). end all ls faults) left.lines
     ∙ ap (λ (fs : List Fault). end all (lines_of t) fs) left.faults)
-    ∙ sym (ap (λ u. told_of p u (contents_of c.args.store)) same)
+    ∙ sym (ap (λ u. told_of p u (contents_of c.args.course.store)) same)

@@ -1,7 +1,7 @@
-use Rattle.std.proofs.Common.{ap, ◌∙◌, map}
-use Rattle.types.specs.Translation.{codes, environment, fault}
+use Rattle.std.proofs.Common.{ap, ◌∙◌, refl}
+use Rattle.types.specs.Translation.{codes}
 use Rattle.serial_run.specs.Lists.{contents_of, lengths_of}
-use Rattle.step_trees.specs.Translation.{blocks, callers, leaf_of}
+use Rattle.step_trees.specs.Translation.{leaf_of}
 use Rattle.step_trees.specs.Turns.{leaf_in}
 use Rattle.step_trees.proofs.Turns.{entered_tree}
 use Rattle.step_trees.proofs.turn.begin_finish.Goals as goal
@@ -9,12 +9,9 @@ use Rattle.step_trees.proofs.turn.begin_finish.Goals as goal
 pub returns : goal.returns
 returns c = record {
   tree =
-      entered_tree (codes c.args.body.now) (leaf_in c.args.turn) (leaf_of c.apart-leaf.result.0)
-      (environment c.in_ok-environment.environment) (blocks c.in_ok-rest.rest.items) (callers c.new.result.items)
-      c.in_ok-turns.turns.items (map (λ v. v.items) c.new-2.result.items) (map fault c.new-3.result.items)
-      (leaf_of c.returned-body.result) c.apart-leaf.ensures.leaf c.in_ok-environment.ensures c.in_ok-rest.ensures
-      (ap callers c.new.ensures.items) (c.in_ok-turns.ensures.items ∙ c.deref.ensures.value)
-      (ap (map (λ v. v.items)) c.new-2.ensures.items) (ap (map fault) c.new-3.ensures.items) c.returned-body.ensures;
-  store = ap contents_of c.apart-leaf.ensures.store;
-  lengths = ap lengths_of c.apart-leaf.ensures.store;
+      entered_tree (codes c.args.body.now) (leaf_in c.args.turn) (leaf_of c.apart-behind.result.0) c.in_ok-turns.turns.items
+      c.args.turn.thread.spawned (leaf_of c.in_ok-body.body) (leaf_of c.inside.new.around) c.apart-behind.ensures.leaf
+      (c.in_ok-turns.ensures.items ∙ c.deref.ensures.value) refl c.in_ok-body.ensures.inside c.in_ok-body.ensures.around;
+  store = ap contents_of c.apart-behind.ensures.store;
+  lengths = ap lengths_of c.apart-behind.ensures.store;
 }

@@ -1,4 +1,4 @@
-use Rattle.std.proofs.Common.{◌≡◌, ℕ, ◌≤◌, ap, ◌∙◌, sym, refl, map, rules, length, List, ◌∷◌}
+use Rattle.std.proofs.Common.{◌≡◌, ℕ, ◌≤◌, ap, ◌∙◌, sym, refl, map, rules, length, List, ◌∷◌, Vec, Global}
 use Rattle.std.proofs.lemmas.Option.{slice_get_read, slice_get_past}
 use Rattle.std.specs.Prelude.{ℤ, slice_index_or}
 use Rattle.sections.specs.Translation.{section}
@@ -12,6 +12,7 @@ use Rattle.types.specs.Value.{Valued}
 use Rattle.serial_run.specs.Primitive.{listed}
 use Rattle.serial_run.proofs.Steps.{body_at, no_body_at}
 use Rattle.step_trees.specs.declared.leaf.Caller.{Caller as rCaller}
+use Rattle.step_trees.specs.declared.rest.Block.{Block}
 use Rattle.step_trees.specs.declared.turn.Turn.{Turn}
 use Rattle.step_trees.specs.Translation.{blocks, callers}
 use Rattle.step_trees.specs.Turns.{leaf_in}
@@ -59,16 +60,17 @@ returns-in_ok-push-in-Some c =
     let procedures = c.deref.result.now in
     let env_is = ap environment c.replace-environment.ensures.after ∙ c.in_ok-entry-in-Some.ensures in
     let rest_is =
-    c.in_ok-body-in-Some.ensures
+    ap (λ (bs : Vec Block Global). blocks bs.items) c.replace-rest.ensures.after
+    ∙ c.in_ok-body-in-Some.ensures
     ∙ ap codes c.deref-in-Some.ensures.value
     ∙ body_at procedures f c.in-Some.procedure.now
     (slice_get_read procedures _ f c.in-Some.procedure.now refl c.in-Some.ensures.lookup.3.0 c.in-Some.ensures.lookup.1)
     ∙ ap (λ ps. (slice_index_or (map procedure ps) f no_procedure).body) c.deref.ensures.value in
-    let frame : rCaller = record { environment = c.replace-environment.result; rest = t.rest } in
-    let frame_of : rEnvironment → Caller = λ e. let x : Caller = record { environment = environment e; rest = blocks t.rest.items } in x in
+    let frame : rCaller = record { environment = c.replace-environment.result; rest = c.replace-rest.result } in
+    let frame_of : rEnvironment → Vec Block Global → Caller = λ e bs. record { environment = environment e; rest = blocks bs.items } in
     let callers_is =
     ap callers c.in_ok-push-in-Some.ensures.items ∙ callers-push t.callers.items frame
-    ∙ ap (λ (x : Caller). x ∷ callers t.callers.items) (ap frame_of c.replace-environment.ensures.value) in
+    ∙ ap (λ (x : Caller). x ∷ callers t.callers.items) (ap (λ e. frame_of e c.replace-rest.result) c.replace-environment.ensures.value ∙ ap (frame_of t.thread.environment) c.replace-rest.ensures.value) in
     record {
       tree =
           c.going-in-Some.ensures.tree

@@ -1,4 +1,4 @@
-use Rattle.std.proofs.Common.{ap, ◌∙◌}
+use Rattle.std.proofs.Common.{inl, inr, ap, ◌∙◌}
 use Rattle.types.specs.Translation.{program, primitive}
 use Rattle.serial_run.specs.Standing.{flow}
 use Rattle.serial_run.proofs.BoundsLemmas.{can_store}
@@ -25,17 +25,10 @@ returns-in-Faulted c =
     let t = c.args.turn in let p = program t.plan.program.now in let s = primitive c.args.primitive.now in
     let is = c.in_ok-primitive.ensures.state in
     record {
-      tree = c.ended.ensures.tree ∙ faulted-tree p c.args.label s t c.requires c.primitive.new.self is (ap flow c.in-Faulted.is);
+      tree = c.ended.ensures.tree ∙ elim c.in-Faulted.is [
+        | inl off ↦ faulted-tree p c.args.label s t c.requires c.primitive.new.self is (ap flow off)
+        | inr off ↦ stopped-tree p c.args.label s t c.requires c.primitive.new.self is (ap flow off)
+      ];
       store = c.ended.ensures.store ∙ store-after p c.args.label s t c.requires c.primitive.new.self is;
       lengths = c.ended.ensures.lengths ∙ c.in_ok-primitive.ensures.task.memory;
-    }
-
-pub returns-in-Stopped : goal.returns-in-Stopped
-returns-in-Stopped c =
-    let t = c.args.turn in let p = program t.plan.program.now in let s = primitive c.args.primitive.now in
-    let is = c.in_ok-primitive.ensures.state in
-    record {
-      tree = c.ended-in-Stopped.ensures.tree ∙ stopped-tree p c.args.label s t c.requires c.primitive.new.self is (ap flow c.in-Stopped.is);
-      store = c.ended-in-Stopped.ensures.store ∙ store-after p c.args.label s t c.requires c.primitive.new.self is;
-      lengths = c.ended-in-Stopped.ensures.lengths ∙ c.in_ok-primitive.ensures.task.memory;
     }

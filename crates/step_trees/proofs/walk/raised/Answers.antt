@@ -7,10 +7,10 @@ use Rattle.step_trees.proofs.walk.raised.Goals as goal
 
 pub up-preserved : goal.up-preserved
 up-preserved c =
-    let h = c.up.invariant in let popped = c.in-Some.ensures.popped in let next = c.in_ok-tree-in-Some.ensures in
+    let next = c.in_ok-tree-in-Some.ensures in
     record {
-      round = c.pop.ensures.round;
-      tree = next.counted;
-      going = ap all_done next.tree ∙ within_going c.in-Some.around (tree_of c.up.tree) h.going;
-      same = up-by c.up.round.around.items c.pop.new.self.around.items c.in-Some.around (tree_of c.up.tree) _ _ popped.0 next.tree h.same;
+      up =
+          up-by _ c.up.round c.pop.new.self c.in-Some.around c.up.tree _ c.in-Some.ensures.popped.0 c.pop.ensures.round next.counted
+          next.tree c.up.invariant.up;
+      going = ap all_done next.tree ∙ within_going c.in-Some.around (tree_of c.up.tree) c.up.invariant.going;
     }

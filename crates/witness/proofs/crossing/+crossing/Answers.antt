@@ -1,4 +1,4 @@
-use Rattle.std.proofs.Common.{◌-◌, List, drop, length, refl, sym, ap, subst, arith, rules}
+use Rattle.std.proofs.Common.{◌-◌, inr, List, drop, length, refl, sym, ap, subst, arith, rules}
 use Rattle.std.proofs.lemmas.List.{drop_all}
 use Rattle.std.proofs.lemmas.Result.{IfOk-weaker}
 use Rattle.std.specs.Prelude.{false, None}
@@ -6,8 +6,9 @@ use Rattle.types.specs.Code.{Code, Codes}
 use Rattle.types.specs.Translation.{code, codes, program}
 use Rattle.types.specs.declared.code.Stmt.{Stmt}
 use Rattle.effects.specs.Translation.{access}
-use Rattle.effects.proofs.Statements.{size_in, size-drop, smaller, codes_before, is_If, is_While, is_Split, is_Async, is_Finish}
-use Rattle.witness.specs.Crossed.{IsInTurn, MeetIn, both, crossed}
+use Rattle.effects.proofs.Statements.{size_in, size-drop, smaller, codes_before, is_If, is_While}
+use Rattle.parallel_relation.proofs.OneList.{of_block, size_of_list}
+use Rattle.witness.specs.Crossed.{IsInTurn, MeetAt, MeetIn, both, crossed}
 use Rattle.ways.specs.Known.{steps}
 use Rattle.ways.specs.Least.{IsLeast, all_covered}
 use Rattle.ways.specs.Ways.{Way}
@@ -17,17 +18,14 @@ use Rattle.witness.proofs.crossing.+crossing.Goals as goal
 
 pub crossing_in-crossing_of-requires : goal.crossing_in-crossing_of-requires
 crossing_in-crossing_of-requires t c =
-    let xs = c.args.list.now in
-    let k = c.loop-place.place in
-    let x = c.index-list-place.result in
-    let fewer = smaller xs k x c.loop-place-test.true c.loop-place.auto.place c.index-list-place.is in
-    (omega (arith, fewer, size-drop (k - 1) xs), (c.requires.first, c.requires.second))
+    let xs = c.args.list.now in let k = c.loop-place.place in
+    let fewer = smaller xs k _ c.loop-place-test.true c.loop-place.auto.place c.index-list-place.is in
+    (omega (arith, fewer, size-drop (k - 1) xs), c.requires)
 
 pub crossing_in-loop-place-init : goal.crossing_in-loop-place-init
 crossing_in-loop-place-init t c =
-    let p = program c.args.code.now in
-    let x = access c.args.first.now.access in
-    let y = access c.args.second.now.access in
+    let p = program c.args.pairing.now.code.now in
+    let x = access c.args.pairing.now.first.now.access in let y = access c.args.pairing.now.second.now.access in
     let xs = c.args.list.now in
     record {
       best = subst (λ (ys : List Stmt). IsLeast both all_covered (MeetIn p (codes ys) x y) None) (sym (drop_all _ xs (search rules))) (crossing_end p x y);
@@ -37,9 +35,8 @@ crossing_in-loop-place-init t c =
 
 pub crossing_in-loop-place-preserved : goal.crossing_in-loop-place-preserved
 crossing_in-loop-place-preserved t c =
-    let p = program c.args.code.now in
-    let x = access c.args.first.now.access in
-    let y = access c.args.second.now.access in
+    let p = program c.args.pairing.now.code.now in
+    let x = access c.args.pairing.now.first.now.access in let y = access c.args.pairing.now.second.now.access in
     let xs = c.args.list.now in
     let k = c.loop-place.place in
     let s = c.index-list-place.result in
@@ -55,48 +52,31 @@ crossing_in-loop-place-preserved t c =
 
 pub crossing_of-crossing_in-requires : goal.crossing_of-crossing_in-requires
 crossing_of-crossing_in-requires t c =
-    let is = is_If _ c.in-If.guard c.in-If.body c.in-If.other c.deref.result.now c.in-If.other.items c.in-If.is c.deref.ensures.value refl in
-    (omega (arith, ap size_in is), (c.requires.first, c.requires.second))
+    (omega (arith, ap size_in (is_If _ c.in-If.guard c.in-If.body c.in-If.other _ _ c.in-If.is c.deref.ensures.value refl)), c.requires)
 
 pub crossing_of-crossing_in-requires-in-If : goal.crossing_of-crossing_in-requires-in-If
 crossing_of-crossing_in-requires-in-If t c =
-    let is = is_If _ c.in-If.guard c.in-If.body c.in-If.other c.in-If.body.items c.deref-in-If.result.now c.in-If.is refl c.deref-in-If.ensures.value in
-    (omega (arith, ap size_in is), (c.requires.first, c.requires.second))
+    (omega (arith, ap size_in (is_If _ c.in-If.guard c.in-If.body c.in-If.other _ _ c.in-If.is refl c.deref-in-If.ensures.value)), c.requires)
 
 pub crossing_of-crossing_in-requires-in-While : goal.crossing_of-crossing_in-requires-in-While
 crossing_of-crossing_in-requires-in-While t c =
-    let is = is_While _ c.in-While.guard c.in-While.body c.deref-in-While.result.now c.in-While.is c.deref-in-While.ensures.value in
-    (omega (arith, ap size_in is), (c.requires.first, c.requires.second))
+    (omega (arith, ap size_in (is_While _ c.in-While.guard c.in-While.body _ c.in-While.is c.deref-in-While.ensures.value)), c.requires)
 
 pub crossing_of-crossing_in-requires-in-Split : goal.crossing_of-crossing_in-requires-in-Split
 crossing_of-crossing_in-requires-in-Split t c =
-    let is = is_Split _ c.in-Split.section c.in-Split.at c.in-Split.left c.in-Split.right c.in-Split.body c.deref-in-Split.result.now c.in-Split.is c.deref-in-Split.ensures.value in
-    (omega (arith, ap size_in is), (c.requires.first, c.requires.second))
-
-pub crossing_of-crossing_in-requires-in-Async : goal.crossing_of-crossing_in-requires-in-Async
-crossing_of-crossing_in-requires-in-Async t c =
-    let is = is_Async _ c.in-Async.body c.deref-in-Async.result.now c.in-Async.is c.deref-in-Async.ensures.value in
-    (omega (arith, ap size_in is), (c.requires.first, c.requires.second))
-
-pub crossing_of-crossing_in-requires-in-Finish : goal.crossing_of-crossing_in-requires-in-Finish
-crossing_of-crossing_in-requires-in-Finish t c =
-    let is = is_Finish _ c.in-Finish.body c.deref-in-Finish.result.now c.in-Finish.is c.deref-in-Finish.ensures.value in
-    (omega (arith, ap size_in is), (c.requires.first, c.requires.second))
+    let small = size_of_list c.args.statement.now.kind c.in-Split.body c.deref-in-Split.result.now c.deref-in-Split.ensures.value (inr c.in-Split.is) in
+    (omega (arith, small), c.requires)
 
 pub crossing_of-returns-in_ok-next-in-If : goal.crossing_of-returns-in_ok-next-in-If
 crossing_of-returns-in_ok-next-in-If t c =
-    let p = program c.args.code.now in
-    let x = access c.args.first.now.access in
-    let y = access c.args.second.now.access in
-    let l = c.args.statement.now.label in
     let is = is_If _ c.in-If.guard c.in-If.body c.in-If.other c.deref.result.now c.deref-in-If.result.now c.in-If.is c.deref.ensures.value c.deref-in-If.ensures.value in
-    at_statement p x y l _ _ _ is (at_if p x y l _ _ _ _ _ _ c.shorter_crossing.ensures c.in_ok-one-in-If.ensures c.in_ok-next-in-If.ensures)
+    at_statement _ _ _ _ _ _ _ is
+    (at_if _ _ _ _ _ _ _ _ _ _ c.shorter_crossing.ensures c.in_ok-one-in-If.ensures c.in_ok-next-in-If.ensures)
 
 pub crossing_of-returns-in_ok-inside-in-While : goal.crossing_of-returns-in_ok-inside-in-While
 crossing_of-returns-in_ok-inside-in-While t c =
-    let p = program c.args.code.now in
-    let x = access c.args.first.now.access in
-    let y = access c.args.second.now.access in
+    let p = program c.args.pairing.now.code.now in
+    let x = access c.args.pairing.now.first.now.access in let y = access c.args.pairing.now.second.now.access in
     let l = c.args.statement.now.label in
     let is = is_While _ c.in-While.guard c.in-While.body c.deref-in-While.result.now c.in-While.is c.deref-in-While.ensures.value in
     at_statement p x y l _ _ _ is
@@ -105,27 +85,10 @@ crossing_of-returns-in_ok-inside-in-While t c =
 
 pub crossing_of-returns-in-Split : goal.crossing_of-returns-in-Split
 crossing_of-returns-in-Split t c =
-    let p = program c.args.code.now in
-    let x = access c.args.first.now.access in
-    let y = access c.args.second.now.access in
+    let p = program c.args.pairing.now.code.now in
+    let x = access c.args.pairing.now.first.now.access in let y = access c.args.pairing.now.second.now.access in
     let l = c.args.statement.now.label in
-    let is = is_Split _ c.in-Split.section c.in-Split.at c.in-Split.left c.in-Split.right c.in-Split.body c.deref-in-Split.result.now c.in-Split.is c.deref-in-Split.ensures.value in
-    IfOk-weaker c.crossing_in-in-Split.result _ _ (λ found h. at_statement p x y l _ _ _ is (at_split p x y l _ _ _ _ _ _ h)) c.crossing_in-in-Split.ensures
-
-pub crossing_of-returns-in-Async : goal.crossing_of-returns-in-Async
-crossing_of-returns-in-Async t c =
-    let p = program c.args.code.now in
-    let x = access c.args.first.now.access in
-    let y = access c.args.second.now.access in
-    let l = c.args.statement.now.label in
-    let is = is_Async _ c.in-Async.body c.deref-in-Async.result.now c.in-Async.is c.deref-in-Async.ensures.value in
-    IfOk-weaker c.crossing_in-in-Async.result _ _ (λ found h. at_statement p x y l _ _ _ is (at_async p x y l _ _ h)) c.crossing_in-in-Async.ensures
-
-pub crossing_of-returns-in-Finish : goal.crossing_of-returns-in-Finish
-crossing_of-returns-in-Finish t c =
-    let p = program c.args.code.now in
-    let x = access c.args.first.now.access in
-    let y = access c.args.second.now.access in
-    let l = c.args.statement.now.label in
-    let is = is_Finish _ c.in-Finish.body c.deref-in-Finish.result.now c.in-Finish.is c.deref-in-Finish.ensures.value in
-    IfOk-weaker c.crossing_in-in-Finish.result _ _ (λ found h. at_statement p x y l _ _ _ is (at_finish p x y l _ _ h)) c.crossing_in-in-Finish.ensures
+    IfOk-weaker c.crossing_in-in-Split.result _ _
+    (λ found h. of_block c.args.statement.now.kind c.in-Split.body (λ k. IsLeast both all_covered (MeetAt p l k x y) (crossed found))
+    c.deref-in-Split.result.now c.deref-in-Split.ensures.value c.in-Split.is (λ s n i r. at_split p x y l s n i r _ _ h) (at_async p x y l _ _ h)
+    (at_finish p x y l _ _ h)) c.crossing_in-in-Split.ensures

@@ -18,6 +18,6 @@ decreases-crossing_of l = 2 * size_in (code l.statement.now.kind) + 1
 -- the shortest from the last statements
 abbrev pub invariant-crossing_in-loop-place : goal.invariant-crossing_in-loop-place
 invariant-crossing_in-loop-place l = record {
-  best : IsLeast both all_covered (MeetIn (program l.code) (codes (drop l.place l.list)) (access l.first.access) (access l.second.access)) (crossed l.best);
-  behind : IsLeast length all_covered (λ way. Way (program l.code) false (codes (drop l.place l.list)) way (access l.second.access)) (steps l.behind);
+  best : IsLeast both all_covered (MeetIn (program l.pairing.code.now) (codes (drop l.place l.list)) (access l.pairing.first.now.access) (access l.pairing.second.now.access)) (crossed l.best);
+  behind : IsLeast length all_covered (λ way. Way (program l.pairing.code.now) false (codes (drop l.place l.list)) way (access l.pairing.second.now.access)) (steps l.behind);
 }

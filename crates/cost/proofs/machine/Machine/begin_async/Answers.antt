@@ -15,9 +15,10 @@ use Rattle.serial_run.specs.Standing.{state_of, flow}
 use Rattle.cost.specs.declared.frame.Frame.TheVariants.{Rest, EndAsync}
 use Rattle.cost.specs.declared.frame.Owner.{Owner}
 use Rattle.spawn_copies.specs.Copied.{copied_at}
-use Rattle.cost.specs.Accounts.{Account, beginning_at, begins_at}
+use Rattle.cost.specs.Books.{beginning_booked}
+use Rattle.cost.specs.Accounts.{Account, begins_at, accounting}
 use Rattle.cost.specs.Frames.{cost, costs, rate}
-use Rattle.cost.specs.Laws.{with_tally}
+use Rattle.plain_code.specs.Means.{keeping}
 use Rattle.cost.specs.Machines.{IsSoundFrame, stack}
 use Rattle.cost.specs.Resume.{standing}
 use Rattle.cost.specs.Translation.{account}
@@ -31,7 +32,7 @@ use Rattle.cost.proofs.machine.Machine.begin_async.Goals as goal
 pub returns-clause-does : goal.returns-clause-does
 returns-clause-does c =
     let m = c.args.self.now in let p = program m.plan.program.now in let fresh = m.plan.budget.steps in
-    let st = with_tally (account m.account) (state_of m.thread) in
+    let st = keeping (account m.account) (state_of m.thread) in
     let told = c.take_told.ensures in
     let taken = c.take_told.new.thread in
     let kept = c.begin_task.new.self in
@@ -51,12 +52,12 @@ returns-clause-does c =
     ∙ ap (λ (n : ℕ). begins_at c.args.label (length m.thread.path.turns.items + 1) n (account m.account)) c.in_ok-copied.ensures in
     let is_path = ap (λ (q : Path). q.turns.items) c.replace-path.ensures.after ∙ c.in_ok-child.ensures in
     let at : Flow → List ℕ → Account → State Account = λ f q y.
-    with_tally y (record (hushed (state_of m.thread)) { flow = f; path = q; steps = fresh; spawned = 0 }) in
-    let is : (standing kept begun).state ≡ child fresh (beginning_at p c.args.label st)
-    = ap (λ (s : State (Unit {0})). with_tally (account kept) (record s { steps = fresh; spawned = 0 })) told.nothing
+    keeping y (record (hushed (state_of m.thread)) { flow = f; path = q; steps = fresh; spawned = 0 }) in
+    let is : (standing kept begun).state ≡ child fresh (beginning_booked accounting p c.args.label st)
+    = ap (λ (s : State (Unit {0})). keeping (account kept) (record s { steps = fresh; spawned = 0 })) told.nothing
     ∙ ap (at (flow m.thread.flow) c.replace-path.new.dest.turns.items) deeper
-    ∙ ap (λ q. at (flow m.thread.flow) q (beginning_at p c.args.label st).extra) is_path
-    ∙ ap (λ f. at f (child fresh (beginning_at p c.args.label st)).path (beginning_at p c.args.label st).extra) (ap flow c.requires.step.on) in
+    ∙ ap (λ q. at (flow m.thread.flow) q (beginning_booked accounting p c.args.label st).extra) is_path
+    ∙ ap (λ f. at f (child fresh (beginning_booked accounting p c.args.label st)).path (beginning_booked accounting p c.args.label st).extra) (ap flow c.requires.step.on) in
     record {
       plan = refl;
       sound = record {

@@ -9,7 +9,7 @@ use Rattle.serial_run.specs.Standing.{flow, state_of}
 use Rattle.cost.specs.declared.frame.Frame.TheVariants.{Rest, EndFinish}
 use Rattle.cost.specs.declared.frame.Outer.{Outer}
 use Rattle.cost.specs.Frames.{rate}
-use Rattle.cost.specs.Laws.{with_tally}
+use Rattle.plain_code.specs.Means.{keeping}
 use Rattle.cost.specs.Machines.{stack}
 use Rattle.cost.specs.Resume.{standing}
 use Rattle.cost.specs.Translation.{account}
@@ -52,7 +52,7 @@ returns-clause-does c =
           (ap (λ (v : Vec (Vec ℤ Global) Global). map (λ (w : Vec ℤ Global). w.items) v.items) told.lines)
           (ap (λ (v : Vec Fault Global). map fault v.items) told.faults) refl
           (ap (λ (v : Vec ℕ Global). v.items) c.replace-ended_by_label.ensures.value)
-          (ap (with_tally (account kept)) told.nothing ∙ ap (λ y. with_tally y hushed_state) c.in_ok-enter_finish.ensures)
+          (ap (keeping (account kept)) told.nothing ∙ ap (λ y. keeping y hushed_state) c.in_ok-enter_finish.ensures)
           (ap (λ (t : Thread Store). t.nest) told.rest)
           refl refl refl;
     }

@@ -1,19 +1,30 @@
-use Rattle.std.proofs.Common.{arith, ap, ◌∙◌, sym, refl, Ok, [], ◌∷◌, ◌++◌}
-use Rattle.std.specs.Prelude.{true, false}
-use Rattle.types.specs.Code.{If}
+use Rattle.std.proofs.Common.{◌≡◌, ℕ, List, Bor, ap, ◌∙◌, sym, refl, Ok, [], ◌∷◌, ◌++◌}
+use Rattle.std.proofs.lemmas.Result.{on_ok_weaker}
+use Rattle.std.specs.Prelude.{Bool, true, false, if◌then◌else◌}
+use Rattle.types.specs.declared.code.Stmt.{Stmt}
+use Rattle.types.specs.Code.{Codes, If, Truth}
+use Rattle.types.specs.Run.{truth_at}
 use Rattle.types.specs.Translation.{program, truth, codes}
 use Rattle.cost.specs.declared.frame.Frame.TheVariants.{Rest}
-use Rattle.cost.specs.Machines.{stack, statement}
+use Rattle.cost.specs.declared.machine.Machine.{Machine}
+use Rattle.cost.specs.Machines.{Does, Enters, HasStep, stack, stands, statement}
 use Rattle.serial_run.specs.Standing.{flow}
 use Rattle.cost.specs.Translation.{account}
 use Rattle.cost.proofs.Beside.{beside}
 use Rattle.cost.proofs.Frames.{chosen, choice_faults}
-use Rattle.cost.proofs.MachineLemmas.{sound_waits, does_fault}
+use Rattle.cost.proofs.MachineLemmas.{does_enter, does_fault, less_entered}
 use Rattle.serial_run.proofs.Steps.{on_ok_both}
-use Rattle.cost.proofs.Turns.{five-rate}
-use Rattle.cost.proofs.Waiting.{resume-block, costs-block}
 use Rattle.cost.specs.Resume.{standing}
 use Rattle.cost.proofs.machine.Machine.choose.Goals as goal
+
+-- the block that is chosen is entered
+enters_chosen : (m new : Machine) (label : ℕ) (guard : Truth) (body other : Codes) (b : Bor (List Stmt)) (v : Bool) → HasStep m
+    → codes b.now ≡ (if v then body else other) → Ok v ≡ truth_at (stands m).state guard → Enters b m new
+    → Does (statement label (If guard body other)) m new
+enters_chosen m new label guard body other b v step is value =
+    does_enter b m m new (statement label (If guard body other)) refl step.sound
+    (chosen (program m.plan.program.now) m.plan.budget.steps (stack m) (stack m ++ Rest b ∷ []) b guard body other label (stands m) v
+    (ap flow step.on) refl is value)
 
 pub returns-in-Err-clause-does : goal.returns-in-Err-clause-does
 returns-in-Err-clause-does c =
@@ -26,50 +37,26 @@ returns-in-Err-clause-does c =
     (standing m.account m.thread) (standing m.account c.fault.new.self) (sym c.in-Err.is ∙ c.truth.ensures) (ap (beside (account m.account)) st) n))
     c.fault.ensures.state c.fault.ensures.task
 
-pub returns-in_ok-wait-in-Ok-true-clause-does : goal.returns-in_ok-wait-in-Ok-true-clause-does
-returns-in_ok-wait-in-Ok-true-clause-does c =
-    let m = c.args.self.now in let p = program m.plan.program.now in
-    let frames = c.wait.new.frames in let waits = c.in_ok-wait-in-Ok-true.ensures in
-    record {
-      plan = refl;
-      sound = sound_waits m.plan m.account m.thread m.block c.args.body m.frames frames waits c.requires.sound;
-      comes =
-          resume-block m.block m.frames.items p m.plan.budget.steps frames.items waits c.args.body (standing m.account m.thread)
-          ∙ chosen p m.plan.budget.steps (stack m) (stack m ++ Rest c.args.body ∷ []) c.args.body
-          (truth c.args.guard.now) (codes c.args.body.now) (codes c.args.other.now) c.args.label
-          (standing m.account m.thread) true
-          (ap flow c.requires.on) refl refl (ap Ok (sym c.in-Ok-true.field-0-test) ∙ sym c.in-Ok-true.is ∙ c.truth.ensures);
-    }
+pub returns-in-Ok-true-clause-does : goal.returns-in-Ok-true-clause-does
+returns-in-Ok-true-clause-does c =
+    on_ok_weaker c.enter.result
+    (enters_chosen c.args.self.now c.enter.new.self c.args.label (truth c.args.guard.now) (codes c.args.body.now) (codes c.args.other.now)
+    c.args.body true c.requires refl (ap Ok (sym c.in-Ok-true.field-0-test) ∙ sym c.in-Ok-true.is ∙ c.truth.ensures))
+    c.enter.ensures
 
-pub returns-in_ok-wait-in-Ok-true-clause-ends : goal.returns-in_ok-wait-in-Ok-true-clause-ends
-returns-in_ok-wait-in-Ok-true-clause-ends c =
-    let m = c.args.self.now in let fresh = m.plan.budget.steps in
-    omega (
-      arith,
-      costs-block m.block m.frames.items fresh c.wait.new.frames.items c.in_ok-wait-in-Ok-true.ensures c.args.body,
-      five-rate fresh m.thread.nest,
-    )
+pub returns-in-Ok-true-clause-ends : goal.returns-in-Ok-true-clause-ends
+returns-in-Ok-true-clause-ends c =
+    on_ok_weaker c.enter.result (less_entered c.args.body c.args.self.now c.enter.new.self) c.enter.ensures
 
-pub returns-in_ok-wait-in-Ok-false-clause-does : goal.returns-in_ok-wait-in-Ok-false-clause-does
-returns-in_ok-wait-in-Ok-false-clause-does c =
-    let m = c.args.self.now in let p = program m.plan.program.now in
-    let frames = c.wait-in-Ok-false.new.frames in let waits = c.in_ok-wait-in-Ok-false.ensures in
-    record {
-      plan = refl;
-      sound = sound_waits m.plan m.account m.thread m.block c.args.other m.frames frames waits c.requires.sound;
-      comes =
-          resume-block m.block m.frames.items p m.plan.budget.steps frames.items waits c.args.other (standing m.account m.thread)
-          ∙ chosen p m.plan.budget.steps (stack m) (stack m ++ Rest c.args.other ∷ []) c.args.other
-          (truth c.args.guard.now) (codes c.args.body.now) (codes c.args.other.now) c.args.label
-          (standing m.account m.thread) false
-          (ap flow c.requires.on) refl refl (ap Ok (sym c.in-Ok-false.field-0-test) ∙ sym c.in-Ok-false.is ∙ c.truth.ensures);
-    }
+pub returns-in-Ok-false-clause-does : goal.returns-in-Ok-false-clause-does
+returns-in-Ok-false-clause-does c =
+    on_ok_weaker c.enter-in-Ok-false.result
+    (enters_chosen c.args.self.now c.enter-in-Ok-false.new.self c.args.label (truth c.args.guard.now) (codes c.args.body.now)
+    (codes c.args.other.now) c.args.other false c.requires refl
+    (ap Ok (sym c.in-Ok-false.field-0-test) ∙ sym c.in-Ok-false.is ∙ c.truth.ensures))
+    c.enter-in-Ok-false.ensures
 
-pub returns-in_ok-wait-in-Ok-false-clause-ends : goal.returns-in_ok-wait-in-Ok-false-clause-ends
-returns-in_ok-wait-in-Ok-false-clause-ends c =
-    let m = c.args.self.now in let fresh = m.plan.budget.steps in
-    omega (
-      arith,
-      costs-block m.block m.frames.items fresh c.wait-in-Ok-false.new.frames.items c.in_ok-wait-in-Ok-false.ensures c.args.other,
-      five-rate fresh m.thread.nest,
-    )
+pub returns-in-Ok-false-clause-ends : goal.returns-in-Ok-false-clause-ends
+returns-in-Ok-false-clause-ends c =
+    on_ok_weaker c.enter-in-Ok-false.result (less_entered c.args.other c.args.self.now c.enter-in-Ok-false.new.self)
+    c.enter-in-Ok-false.ensures

@@ -15,7 +15,7 @@ use Rattle.serial_run.specs.Lists.{lists_of}
 use Rattle.types.specs.Run.{Flow, State}
 use Rattle.cost.specs.Resume.{Standing, end_finish, faults_in, frame, lines_in, resume, standing}
 use Rattle.cost.specs.Accounts.{Account, ends_behind, leaves_behind}
-use Rattle.cost.specs.Laws.{with_tally}
+use Rattle.plain_code.specs.Means.{keeping}
 use Rattle.serial_run.specs.Standing.{flow, state_of}
 use Rattle.serial_run.specs.declared.store.Store.{Store}
 use Rattle.serial_run.specs.declared.thread.Thread.{Thread}
@@ -85,7 +85,7 @@ returns-in_ok-tell_before-in-EndFinish-clause-does c =
     let thread = c.tell_before.new.thread in let kept = c.leave_finish.new.self in
     let new = record m { thread = thread; account = kept } in
     let st = state_of m.thread in
-    let at : Flow → Account → State Account = λ f y. record (with_tally y st) {
+    let at : Flow → Account → State Account = λ f y. record (keeping y st) {
       flow = f;
       lines = lines_in o.told ++ st.lines;
       faults = faults_in o.told ++ st.faults;
@@ -103,7 +103,7 @@ returns-in_ok-tell_before-in-EndFinish-clause-does c =
           ap (resume p fresh (stack m))
           (standing_by_state (standing m.account m.thread) (standing kept thread)
           (end_finish o (standing m.account m.thread).state)
-          (ap (with_tally (account kept)) (told_before o.told old thread told)
+          (ap (keeping (account kept)) (told_before o.told old thread told)
           ∙ ap (at (flow c.after_finish-self.result)) c.leave_finish.ensures
           ∙ ap (λ f. at f (leaves_behind o.ended o.ended_by_label.items (account m.account))) (c.after_finish-self.ensures
           ∙ ap (λ (xs : List Fault). after_finish (flow m.thread.flow) (map fault xs)) c.deref.ensures.value))

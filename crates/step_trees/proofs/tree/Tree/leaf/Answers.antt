@@ -2,7 +2,6 @@ use Rattle.std.proofs.Common.{◌≡◌, ◌+◌, ◌<◌, ◌≤◌, ◌-◌, r
 use Rattle.types.specs.Trees.{ready}
 use Rattle.types.specs.TreeSteps.{in_tree}
 use Rattle.step_trees.specs.Held.{tree_of, inside}
-use Rattle.step_trees.specs.Places.{lefts}
 use Rattle.step_trees.specs.Translation.{leaf_of}
 use Rattle.step_trees.proofs.Places.{inside_leaf, inside_step}
 use Rattle.step_trees.proofs.Walks.{Way, way-as, way-first, way-left, way-right, single-open, single-leaf, single-step}
@@ -23,10 +22,8 @@ down-init c =
 
 pub returns-in-Single : goal.returns-in-Single
 returns-in-Single c =
-    let n = lefts c.args.round.around.items + c.args.choice in
-    let whole = inside c.args.round.around.items (tree_of c.args.self) in
     let xs = c.down.round.around.items in let m = c.down.choice in let k = leaf_of c.in-Single.leaf in
-    let w = subst (Way n whole xs m) c.in-Single.is c.down.invariant.way in
+    let w = subst (Way _ _ xs m) c.in-Single.is c.down.invariant.way in
     record {
       leaf = w.leaf ∙ single-leaf k m w.below;
       left = single-open k m w.below;
@@ -36,21 +33,17 @@ returns-in-Single c =
 
 pub down-preserved-in-AndThen : goal.down-preserved-in-AndThen
 down-preserved-in-AndThen c =
-    let n = lefts c.args.round.around.items + c.args.choice in
-    let whole = inside c.args.round.around.items (tree_of c.args.self) in
     let xs = c.down.round.around.items in let m = c.down.choice in
     record {
       round = c.in_ok-push-in-AndThen.ensures.round;
       way =
-          way-as n whole _ _ (sym c.in_ok-push-in-AndThen.ensures.items) refl (sym c.into_inner-self.ensures)
-          (way-first n whole xs m _ c.in-AndThen.first.value c.in-AndThen.behind c.in-AndThen.ready
-          (subst (Way n whole xs m) c.in-AndThen.is c.down.invariant.way));
+          way-as _ _ _ _ (sym c.in_ok-push-in-AndThen.ensures.items) refl (sym c.into_inner-self.ensures)
+          (way-first _ _ xs m _ c.in-AndThen.first.value c.in-AndThen.behind c.in-AndThen.ready
+          (subst (Way _ _ xs m) c.in-AndThen.is c.down.invariant.way));
     }
 
 pub down-preserved-then-choice-before : goal.down-preserved-then-choice-before
 down-preserved-then-choice-before c =
-    let n = lefts c.args.round.around.items + c.args.choice in
-    let whole = inside c.args.round.around.items (tree_of c.args.self) in
     let xs = c.down.round.around.items in let m = c.down.choice in
     let left = c.in-Beside.left.value in
     let before : c.ready-before.result ≡ ready (tree_of left)
@@ -59,15 +52,13 @@ down-preserved-then-choice-before c =
     record {
       round = c.in_ok-push-in-Beside.ensures.round;
       way =
-          way-as n whole _ _ (sym c.in_ok-push-in-Beside.ensures.items) refl (sym c.into_inner-self-then-choice-before.ensures)
-          (way-left n whole xs m _ left _ c.in-Beside.right c.in-Beside.ready c.in-Beside.done (omega (arith, less, before))
-          (subst (Way n whole xs m) c.in-Beside.is c.down.invariant.way));
+          way-as _ _ _ _ (sym c.in_ok-push-in-Beside.ensures.items) refl (sym c.into_inner-self-then-choice-before.ensures)
+          (way-left _ _ xs m _ left _ c.in-Beside.right c.in-Beside.ready c.in-Beside.done (omega (arith, less, before))
+          (subst (Way _ _ xs m) c.in-Beside.is c.down.invariant.way));
     }
 
 pub down-preserved : goal.down-preserved
 down-preserved c =
-    let n = lefts c.args.round.around.items + c.args.choice in
-    let whole = inside c.args.round.around.items (tree_of c.args.self) in
     let xs = c.down.round.around.items in let m = c.down.choice in
     let left = c.in-Beside.left.value in
     let before : c.ready-before.result ≡ ready (tree_of left)
@@ -76,8 +67,8 @@ down-preserved c =
     record {
       round = c.in_ok-push-in-Beside-2.ensures.round;
       way =
-          way-as n whole _ _ (sym c.in_ok-push-in-Beside-2.ensures.items) refl (sym c.into_inner-self-else-choice-before.ensures)
-          (way-right n whole xs m _ c.in-Beside.left _ c.in-Beside.right.value c.in-Beside.ready c.in-Beside.done
+          way-as _ _ _ _ (sym c.in_ok-push-in-Beside-2.ensures.items) refl (sym c.into_inner-self-else-choice-before.ensures)
+          (way-right _ _ xs m _ c.in-Beside.left _ c.in-Beside.right.value c.in-Beside.ready c.in-Beside.done
           (m - c.ready-before.result) (omega (arith, more, before)) (ap (λ x. m - x) (sym before))
-          (subst (Way n whole xs m) c.in-Beside.is c.down.invariant.way));
+          (subst (Way _ _ xs m) c.in-Beside.is c.down.invariant.way));
     }

@@ -1,22 +1,23 @@
 use Rattle.std.proofs.Common.{◌≡◌, ◌-◌, ◌≤◌}
-use Rattle.types.specs.Translation.{program, input}
-use Rattle.types.specs.TreeRuns.{explored_from, explored}
+use Rattle.types.specs.Translation.{program}
+use Rattle.types.specs.TreeRuns.{explored_from}
 use Rattle.serial_run.specs.Lists.{contents_of}
-use Rattle.step_trees.specs.Drawing.{drawn, drawn_choices}
+use Rattle.step_trees.specs.Drawing.{drawn}
 use Rattle.step_trees.specs.Exploring.{IsHeld}
 use Rattle.step_trees.specs.Places.{whole}
-use Rattle.step_trees.proofs.explore.run_drawn.Given as goal
+use Rattle.step_trees.proofs.explore.by_draws.Given as goal
 
 -- by the choices that are still drawn it is told what is told by all
 abbrev pub invariant-choices : goal.invariant-choices
 invariant-choices l =
-    let p = program l.plan.program.now in let i = input l.fn.input in
-    let t = whole l.place in let a = contents_of l.store in
+    let p = program l.plan.program.now in
+    let t = whole l.course.place in let a = contents_of l.course.store in
+    let first = whole l.fn.course.place in let begins = contents_of l.fn.course.store in
     record {
-      held : IsHeld l.plan l.store l.place;
+      held : IsHeld l.plan l.course;
       few : l.left ≤ 1000000;
       same : explored_from p (1000000 - l.left) (drawn p l.left l.number t a) t a
-          ≡ explored p i (drawn_choices p i l.fn.seed);
+          ≡ explored_from p 0 (drawn p 1000000 l.fn.seed first begins) first begins;
     }
 
 abbrev pub decreases-choices : goal.decreases-choices

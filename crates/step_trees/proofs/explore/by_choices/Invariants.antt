@@ -1,20 +1,20 @@
 use Rattle.std.proofs.Common.{◌≡◌, ◌-◌, ◌≤◌, length}
-use Rattle.types.specs.Translation.{program, input}
-use Rattle.types.specs.TreeRuns.{explored_from, explored}
+use Rattle.types.specs.Translation.{program}
+use Rattle.types.specs.TreeRuns.{explored_from}
 use Rattle.serial_run.specs.Lists.{contents_of}
 use Rattle.step_trees.specs.Exploring.{IsHeld}
 use Rattle.step_trees.specs.Places.{whole}
-use Rattle.step_trees.proofs.explore.run_by.Given as goal
+use Rattle.step_trees.proofs.explore.by_choices.Given as goal
 
 -- by the choices that are left it is told what is told by all
 abbrev pub invariant-choices : goal.invariant-choices
 invariant-choices l =
     let p = program l.plan.program.now in
     record {
-      held : IsHeld l.plan l.store l.place;
+      held : IsHeld l.plan l.course;
       short : length l.left ≤ length l.fn.choices;
-      same : explored_from p (length l.fn.choices - length l.left) l.left (whole l.place) (contents_of l.store)
-          ≡ explored p (input l.fn.input) l.fn.choices;
+      same : explored_from p (length l.fn.choices - length l.left) l.left (whole l.course.place) (contents_of l.course.store)
+          ≡ explored_from p 0 l.fn.choices (whole l.fn.course.place) (contents_of l.fn.course.store);
     }
 
 abbrev pub decreases-choices : goal.decreases-choices
